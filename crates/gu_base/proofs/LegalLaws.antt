@@ -1,0 +1,41 @@
+-- A list is legal exactly where none of its changes is refused after those before it.
+use Rattle.std.proofs.Common.{◌≡◌, ℕ, Bool, true, false, List, [], ◌∷◌, ◌++◌, refl, sym, ◌∙◌, ap, subst, cond, append_assoc, append-nil, Option}
+use Rattle.std.specs.Prelude.{Some, None, is_some}
+use Rattle.gu_base.specs.House.{House}
+use Rattle.gu_base.specs.Refusals.{refusal_of}
+use Rattle.gu_base.specs.Standing.{first_refused, IsLegal}
+use Rattle.gu_base.specs.declared.entry.Record.{Record}
+use Rattle.gu_base.specs.declared.refusal.Refusal.{Refusal}
+
+-- how the replay goes on, by the answer at one change
+abbrev replayed : Option Refusal → ℕ → Option ℕ → Option ℕ
+replayed refused n rest = cond (is_some refused) (Some n) rest
+
+none_here : (o : Option Refusal) (n : ℕ) (rest : Option ℕ) → replayed o n rest ≡ None → o ≡ None
+none_here None n rest h = refl
+none_here (Some r) n rest h = cc
+
+none_later : (o : Option Refusal) (n : ℕ) (rest : Option ℕ) → replayed o n rest ≡ None → rest ≡ None
+none_later None n rest h = h
+none_later (Some r) n rest h = cc
+
+-- where nothing is refused, the replay can be cut anywhere
+pub first_refused-cut : (t : House) (done before : List Record) (r : Record) (after : List Record)
+    → first_refused t done (before ++ r ∷ after) ≡ None → refusal_of t (done ++ before) r.firm r.command ≡ None
+first_refused-cut t done [] r after h =
+    subst (λ l. refusal_of t l r.firm r.command ≡ None) (sym (append-nil done)) (none_here (refusal_of t done r.firm r.command) r.number (first_refused t (done ++ r ∷ []) after) h)
+first_refused-cut t done (d ∷ before) r after h =
+    subst (λ l. refusal_of t l r.firm r.command ≡ None) (append_assoc done (d ∷ []) before)
+    (first_refused-cut t (done ++ d ∷ []) before r after (none_later (refusal_of t done d.firm d.command) d.number (first_refused t (done ++ d ∷ []) (before ++ r ∷ after)) h))
+
+pub legal_from_replay : (t : House) (l : List Record) → first_refused t [] l ≡ None → IsLegal t l
+legal_from_replay t l h = record { accepted = λ before after r e. first_refused-cut t [] before r after (subst (λ k. first_refused t [] k ≡ None) e h) }
+
+replay_from : (t : House) (l : List Record) → IsLegal t l → (done rest : List Record) → l ≡ done ++ rest → first_refused t done rest ≡ None
+replay_from t l legal done [] e = refl
+replay_from t l legal done (r ∷ rest) e =
+    subst (λ o. replayed o r.number (first_refused t (done ++ r ∷ []) rest) ≡ None) (sym (legal.accepted done rest r e))
+    (replay_from t l legal (done ++ r ∷ []) rest (e ∙ sym (append_assoc done (r ∷ []) rest)))
+
+pub replay_from_legal : (t : House) (l : List Record) → IsLegal t l → first_refused t [] l ≡ None
+replay_from_legal t l legal = replay_from t l legal [] l refl

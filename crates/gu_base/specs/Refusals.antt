@@ -1,0 +1,114 @@
+-- Why a change is refused over a list of changes: each command's row of the table, in order.
+use Rattle.std.specs.Prelude.{ℕ, ◌+◌, Bool, false, not, ◌&&◌, ◌||◌, ◌==◌, nat_le, nat_lt, if◌then◌else◌, List, [], ◌∷◌, map, length, sum_by, Option, Some, None, option_map, unwrap_or, bytes_eq}
+use Rattle.gu_base.specs.Numbers.{EntryPart, is_lots}
+use Rattle.gu_base.specs.House.{House, agreement, knows_firm, knows_account, knows_instrument}
+use Rattle.gu_base.specs.Nodes.{node_of, split_of, is_offered}
+use Rattle.gu_base.specs.Places.{owner_of, depth_of}
+use Rattle.gu_base.specs.Fees.{used_of}
+use Rattle.gu_base.specs.declared.house.Agreement.{Agreement}
+use Rattle.gu_base.specs.declared.entry.Record.{Record}
+use Rattle.gu_base.specs.declared.node.Kind.{Kind}
+use Rattle.gu_base.specs.declared.node.Kind.TheVariants.{Root, Own, Given}
+use Rattle.gu_base.specs.declared.node.Node.{Node}
+use Rattle.gu_base.specs.declared.command.Part.{Part}
+use Rattle.gu_base.specs.declared.command.Command.{Command}
+use Rattle.gu_base.specs.declared.command.Command.TheVariants.{Trade, Split, Claim, Refuse, Cancel, Initiate, Decline, Reverse}
+use Rattle.gu_base.specs.declared.refusal.Refusal.{Refusal}
+use Rattle.gu_base.specs.declared.refusal.Refusal.TheVariants.{UnknownFirm, UnknownAccount, UnknownInstrument, UnknownNode, NotYours, AlreadySplit, StillOffered, NotOffered, BadLots, SumDiffers, BadPartCount, NoAgreement, LimitExceeded, TooDeep, HouseOnly}
+
+-- the refusal, unless the test holds
+abbrev pub unless : Bool → Refusal → Option Refusal
+unless holds r = if holds then None else Some r
+
+-- the first refusal of a table's row
+abbrev pub first : List (Option Refusal) → Option Refusal
+first [] = None
+first (None ∷ rest) = first rest
+first (Some r ∷ rest) = Some r
+
+-- the row of a node that must be there
+abbrev pub at_node : (Node → Option Refusal) → Option Node → Option Refusal
+at_node row None = Some UnknownNode
+at_node row (Some x) = row x
+
+-- whether the firm is the node's owner
+abbrev pub owns : List Record → List ℕ → EntryPart → Bool
+owns l firm n = unwrap_or (option_map (λ owner. bytes_eq owner firm) (owner_of l n)) false
+
+abbrev pub is_giver : List ℕ → Kind → Bool
+is_giver firm (Given _ giver _) = bytes_eq giver firm
+is_giver firm _ = false
+
+abbrev pub is_taker : List ℕ → Kind → Bool
+is_taker firm (Given _ _ taker) = bytes_eq taker firm
+is_taker firm _ = false
+
+-- an own part names an account of its firm; the account of a part for another firm is ignored
+abbrev pub knows_own_account : House → List ℕ → Part → Bool
+knows_own_account t by p = not (bytes_eq p.firm by) || unwrap_or (option_map (knows_account t by) p.account) false
+
+abbrev pub refusal_of_part : House → List ℕ → Part → Option Refusal
+refusal_of_part t by p = first (
+    unless (knows_firm t p.firm) UnknownFirm
+    ∷ unless (knows_own_account t by p) UnknownAccount
+    ∷ unless (is_lots p.lots) BadLots ∷ [])
+
+abbrev pub trade_row : House → List ℕ → (firm account instrument : List ℕ) → ℕ → Option Refusal
+trade_row t by firm account instrument lots = first (
+    unless (bytes_eq by t.house) HouseOnly
+    ∷ unless (knows_firm t firm) UnknownFirm
+    ∷ unless (knows_account t firm account) UnknownAccount
+    ∷ unless (knows_instrument t instrument) UnknownInstrument
+    ∷ unless (is_lots lots) BadLots ∷ [])
+
+abbrev pub split_row : House → List Record → List ℕ → List Part → Node → Option Refusal
+split_row t l by parts x = first (
+    unless (owns l by x.name) NotYours
+    ∷ option_map (λ r. AlreadySplit r.number) (split_of l x.name)
+    ∷ unless (not (is_offered l x)) StillOffered
+    ∷ unless (nat_le 1 (length parts) && nat_le (length parts) 100) BadPartCount
+    ∷ unless (nat_lt (depth_of l x.name) 64) TooDeep
+    ∷ first (map (refusal_of_part t by) parts)
+    ∷ unless (sum_by (λ p. p.lots) parts == x.lots) SumDiffers ∷ [])
+
+-- the agreement's refusal, for these lots with those already used
+abbrev pub agreement_row : ℕ → Option Agreement → Option Refusal
+agreement_row lots None = Some NoAgreement
+agreement_row lots (Some a) = unless (nat_le lots a.limit) LimitExceeded
+
+-- the agreement of a given part's giver and taker
+abbrev pub terms : House → Kind → Option Agreement
+terms t (Given _ giver taker) = agreement t giver taker
+terms t _ = None
+
+abbrev pub used_by : House → List Record → Kind → ℕ
+used_by t l (Given _ giver taker) = used_of t l giver taker
+used_by t l _ = 0
+
+abbrev pub claim_row : House → List Record → List ℕ → List ℕ → Node → Option Refusal
+claim_row t l by account x = first (
+    unless (is_offered l x) NotOffered
+    ∷ unless (is_taker by x.kind) NotYours
+    ∷ unless (knows_account t by account) UnknownAccount
+    ∷ agreement_row (used_by t l x.kind + x.lots) (terms t x.kind) ∷ [])
+
+abbrev pub refuse_row : List Record → List ℕ → Node → Option Refusal
+refuse_row l by x = first (unless (is_offered l x) NotOffered ∷ unless (is_taker by x.kind) NotYours ∷ [])
+
+abbrev pub cancel_row : List Record → List ℕ → Node → Option Refusal
+cancel_row l by x = first (unless (is_offered l x) NotOffered ∷ unless (is_giver by x.kind) NotYours ∷ [])
+
+-- the row of each change; Initiate, Decline and Reverse have theirs over the history
+abbrev pub row : House → List Record → List ℕ → Command → Option Refusal
+row t l by (Trade firm account instrument side lots) = trade_row t by firm account instrument lots
+row t l by (Split n parts) = at_node (split_row t l by parts) (node_of l n)
+row t l by (Claim n account) = at_node (claim_row t l by account) (node_of l n)
+row t l by (Refuse n) = at_node (refuse_row l by) (node_of l n)
+row t l by (Cancel n) = at_node (cancel_row l by) (node_of l n)
+row t l by (Initiate _) = None
+row t l by (Decline _) = None
+row t l by (Reverse _) = None
+
+-- why a change is refused, if it is: the calling firm has to be in the house table, then the command's row decides
+abbrev pub refusal_of : House → List Record → List ℕ → Command → Option Refusal
+refusal_of t l by command = first (unless (knows_firm t by) UnknownFirm ∷ row t l by command ∷ [])

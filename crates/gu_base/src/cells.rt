@@ -1,0 +1,109 @@
+//! Texts of bounded length that lie in the value itself.
+ghost use Rattle.std.specs.Prelude.{◌≡◌, ◌≤◌, ◌++◌, ◌-◌, List, ℕ, length, take, drop, replicate, Some, refl, nat_eq};
+ghost use Rattle.std.specs.Ordering.{nat_cmp};
+ghost use Rattle.std.specs.Cmp.Lexicographic.{pointwise, slice_cmp, nat_list_eq_equiv, nat_list_cmp_total, texts_po, texts_ties};
+ghost use Rattle.std.specs.Cmp.{on_equiv, on_total, on_po, on_per, partial_equiv_from_equiv};
+ghost use Rattle.std.specs.Cmp.Rules.{hashing};
+ghost use Rattle.std.specs.Hash as fed;
+ghost use Rattle.std.proofs.Common.{rules};
+
+use std::cmp::Ordering;
+use std::hash::{Hash, Hasher};
+use std::marker::Model;
+
+/// At most `CAP` bytes in place; the places behind them hold 0, so that equal texts are equal values.
+#[derive(Clone, Copy, Debug)]
+pub(crate) struct Cells<const CAP: usize> {
+    cells: [u8; CAP],
+    len: usize,
+}
+
+impl<const CAP: usize> Model for Cells<CAP> {
+    ghost use Rattle.std.specs.Prelude.{◌≡◌, ◌≤◌, ◌++◌, ◌-◌, List, ℕ, length, take, drop, replicate};
+    ghost use Rattle.std.proofs.Common.{arith, length-take-le};
+    ghost use Rattle.gu_base.specs.Cells.{cells_back};
+
+    ghost Value = { List ℕ };
+
+    ghost view = { λ s. take s.len s.cells };
+
+    ghost invariant = { λ s. (s.len ≤ CAP) × (length s.cells ≡ CAP) × (drop s.len s.cells ≡ replicate (CAP - s.len) 0) };
+
+    ghost inverse = { λ s. record { cells = s ++ replicate (CAP - length s) 0; len = length s } };
+
+    ghost inverse_ok = { λ s h i. record {
+      cells = cells_back CAP s.len s.cells h.0 h.1 h.2 i;
+      len = length-take-le s.len s.cells (omega (arith, h.0, h.1)) i;
+    } };
+}
+
+impl<const CAP: usize> Cells<CAP> {
+    /// A copy of `text`.
+    pub(crate) fn from_slice(text: &[u8]) -> Self
+        requires { length text.now ≤ CAP }
+        ensures { result ≡ text.now }
+    {
+        let mut cells = [0; CAP];
+        cells[..text.len()].copy_from_slice(text);
+        Cells {
+            cells,
+            len: text.len(),
+        }
+    }
+
+    /// The text.
+    pub(crate) fn as_slice(&self) -> &[u8]
+        ensures value { result.now ≡ self.now }
+        ensures fits { length self.now ≤ CAP }
+    {
+        &self.cells[..self.len]
+    }
+}
+
+impl<const CAP: usize> PartialEq for Cells<CAP> {
+    ghost eq = { λ s t. pointwise nat_eq s t };
+
+    ghost laws = { on_per (λ s. s) (partial_equiv_from_equiv nat_list_eq_equiv) };
+
+    fn eq(&self, other: &Self) -> bool {
+        self.as_slice() == other.as_slice()
+    }
+}
+
+impl<const CAP: usize> Eq for Cells<CAP> {
+    ghost laws = { on_equiv (λ s. s) nat_list_eq_equiv };
+}
+
+impl<const CAP: usize> PartialOrd for Cells<CAP> {
+    ghost partial_cmp = { λ s t. Some (slice_cmp nat_cmp s t) };
+
+    ghost laws = { on_po (λ s. s) texts_po };
+
+    fn partial_cmp(&self, other: &Self) -> Option<Ordering> {
+        Some(self.cmp(other))
+    }
+}
+
+impl<const CAP: usize> Ord for Cells<CAP> {
+    ghost cmp = { λ s t. slice_cmp nat_cmp s t };
+
+    ghost total = { on_total (λ s. s) nat_list_cmp_total };
+
+    ghost matches_partial_cmp = { λ s t. refl };
+
+    ghost matches_eq = { λ s t. texts_ties s t };
+
+    fn cmp(&self, other: &Self) -> Ordering {
+        self.as_slice().cmp(&other.as_slice())
+    }
+}
+
+impl<const CAP: usize> Hash for Cells<CAP> {
+    ghost hash_input = { λ s. fed.slice fed.u8 s };
+
+    ghost respects_eq = { Prim.search (hashing, rules) };
+
+    fn hash<H: Hasher>(&self, state: &mut H) {
+        self.as_slice().hash(state);
+    }
+}

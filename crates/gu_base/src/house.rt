@@ -1,0 +1,25 @@
+//! The lines of the house table.
+use crate::names::{AccountId, FirmId};
+
+/// An account of a firm.
+#[derive(Clone, Copy, Debug, PartialEq, Eq, Hash)]
+pub struct Account {
+    pub firm: FirmId,
+    pub name: AccountId,
+}
+
+/// A firm that gives up trades and a firm that takes them.
+#[derive(Clone, Copy, Debug, PartialEq, Eq, Hash)]
+pub struct Pair {
+    pub giver: FirmId,
+    pub taker: FirmId,
+}
+
+/// The terms of a giver and a taker.
+#[derive(Clone, Copy, Debug, PartialEq, Eq)]
+pub struct Agreement {
+    /// What a claimed lot costs the taker, in hundredths: 0 to 100,000.
+    pub rate: u64,
+    /// The lots of live claims that the giver allows the taker: 0 to 10,000,000,000,000.
+    pub limit: u64,
+}

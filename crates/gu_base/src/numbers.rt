@@ -1,0 +1,230 @@
+//! Numbers in their ranges, and names of nodes. A clause sees each number as a natural number.
+ghost use Rattle.std.specs.Prelude.{◌≡◌, ◌≤◌, ◌<◌, ◌+◌, ◌++◌, IsTrue, Some, None, if◌then◌else◌, decimal, codes};
+ghost use Rattle.gu_base.specs.Numbers.{is_number, is_lots, is_rate, is_node_name};
+
+use std::fmt;
+use std::marker::Model;
+
+/// The number of an entry of the history: 1 to 1,000,000.
+#[derive(Clone, Copy, Debug, PartialEq, Eq, PartialOrd, Ord, Hash)]
+pub struct Number {
+    value: u32,
+}
+
+impl Model for Number {
+    ghost use Rattle.std.specs.Prelude.{ℕ, IsTrue};
+    ghost use Rattle.gu_base.specs.Numbers.{is_number};
+
+    ghost Value = { ℕ };
+
+    ghost view = { λ n. n.value };
+
+    ghost invariant = { λ n. IsTrue (is_number n.value) };
+
+    ghost inverse = { λ n. record { value = n } };
+}
+
+impl Number {
+    /// The entries that a history may have.
+    pub const MAX: u32 = 1_000_000;
+
+    /// The number of this value, `None` where it is out of range.
+    pub fn new(value: u32) -> Option<Number>
+        ensures { result ≡ (if is_number value then Some value else None) }
+    {
+        if 1 <= value && value <= Self::MAX {
+            Some(Number { value })
+        } else {
+            None
+        }
+    }
+
+    /// The number of the entry at this place of a history, counted from 0.
+    pub fn at_place(place: usize) -> Number
+        requires { place < 1000000 }
+        ensures { result ≡ place + 1 }
+    {
+        Number {
+            value: place as u32 + 1,
+        }
+    }
+
+    /// Its value.
+    pub fn get(&self) -> u32
+        ensures value { result ≡ self.now }
+        ensures in_range { IsTrue (is_number result) }
+    {
+        self.value
+    }
+}
+
+impl fmt::Display for Number {
+    ghost output = { λ n. Some (decimal n) };
+
+    fn fmt<W: fmt::Write>(&self, f: &mut fmt::Formatter<W>) -> fmt::Result {
+        fmt::Display::fmt(&self.value, f)
+    }
+}
+
+/// The lots of a trade or of a part: 1 to 10,000,000.
+#[derive(Clone, Copy, Debug, PartialEq, Eq, PartialOrd, Ord, Hash)]
+pub struct Lots {
+    value: u64,
+}
+
+impl Model for Lots {
+    ghost use Rattle.std.specs.Prelude.{ℕ, IsTrue};
+    ghost use Rattle.gu_base.specs.Numbers.{is_lots};
+
+    ghost Value = { ℕ };
+
+    ghost view = { λ n. n.value };
+
+    ghost invariant = { λ n. IsTrue (is_lots n.value) };
+
+    ghost inverse = { λ n. record { value = n } };
+}
+
+impl Lots {
+    /// The most lots of a trade or of a part.
+    pub const MAX: u64 = 10_000_000;
+
+    /// The lots of this value, `None` where it is out of range.
+    pub fn new(value: u64) -> Option<Lots>
+        ensures { result ≡ (if is_lots value then Some value else None) }
+    {
+        if 1 <= value && value <= Self::MAX {
+            Some(Lots { value })
+        } else {
+            None
+        }
+    }
+
+    /// Its value.
+    pub fn get(&self) -> u64
+        ensures value { result ≡ self.now }
+        ensures in_range { IsTrue (is_lots result) }
+    {
+        self.value
+    }
+}
+
+impl fmt::Display for Lots {
+    ghost output = { λ n. Some (decimal n) };
+
+    fn fmt<W: fmt::Write>(&self, f: &mut fmt::Formatter<W>) -> fmt::Result {
+        fmt::Display::fmt(&self.value, f)
+    }
+}
+
+/// What a claimed lot costs, in hundredths: 0 to 100,000.
+#[derive(Clone, Copy, Debug, PartialEq, Eq, PartialOrd, Ord, Hash)]
+pub struct Rate {
+    value: u64,
+}
+
+impl Model for Rate {
+    ghost use Rattle.std.specs.Prelude.{ℕ, IsTrue};
+    ghost use Rattle.gu_base.specs.Numbers.{is_rate};
+
+    ghost Value = { ℕ };
+
+    ghost view = { λ n. n.value };
+
+    ghost invariant = { λ n. IsTrue (is_rate n.value) };
+
+    ghost inverse = { λ n. record { value = n } };
+}
+
+impl Rate {
+    /// The highest rate, in hundredths per lot.
+    pub const MAX: u64 = 100_000;
+
+    /// The rate of this value, `None` where it is out of range.
+    pub fn new(value: u64) -> Option<Rate>
+        ensures { result ≡ (if is_rate value then Some value else None) }
+    {
+        if value <= Self::MAX {
+            Some(Rate { value })
+        } else {
+            None
+        }
+    }
+
+    /// Its value.
+    pub fn get(&self) -> u64
+        ensures value { result ≡ self.now }
+        ensures in_range { IsTrue (is_rate result) }
+    {
+        self.value
+    }
+}
+
+impl fmt::Display for Rate {
+    ghost output = { λ n. Some (decimal n) };
+
+    fn fmt<W: fmt::Write>(&self, f: &mut fmt::Formatter<W>) -> fmt::Result {
+        fmt::Display::fmt(&self.value, f)
+    }
+}
+
+/// The name of a node, written `entry.part`: `k.0` is the root of trade k, `k.i` the i-th part of split k, i from 1 to 100.
+#[derive(Clone, Copy, Debug, PartialEq, Eq, PartialOrd, Ord, Hash)]
+pub struct NodeName {
+    entry: Number,
+    part: u8,
+}
+
+impl Model for NodeName {
+    ghost use Rattle.std.specs.Prelude.{ℕ, ◌≤◌};
+    ghost use Rattle.gu_base.specs.Numbers.{EntryPart};
+
+    ghost Value = { EntryPart };
+
+    ghost view = { λ n. record { entry = n.entry; part = n.part } };
+
+    ghost invariant = { λ n. n.part ≤ 100 };
+
+    ghost inverse = { λ n. record { entry = n.entry; part = n.part } };
+}
+
+impl NodeName {
+    /// The parts that a split may have.
+    pub const MAX_PART: u8 = 100;
+
+    /// The name of part `part` of entry `entry`, `None` where either is out of range.
+    pub fn new(entry: u32, part: u8) -> Option<NodeName>
+        ensures { result ≡ (if is_node_name entry part then Some (record { entry = entry; part = part }) else None) }
+    {
+        if part > Self::MAX_PART {
+            return None;
+        }
+        match Number::new(entry) {
+            Some(entry) => Some(NodeName { entry, part }),
+            None => None,
+        }
+    }
+
+    /// The entry that made the node.
+    pub fn entry(&self) -> Number
+        ensures { result ≡ self.now.entry }
+    {
+        self.entry
+    }
+
+    /// Which of the entry's parts it is, 0 for the root of a trade.
+    pub fn part(&self) -> u8
+        ensures value { result ≡ self.now.part }
+        ensures in_range { result ≤ 100 }
+    {
+        self.part
+    }
+}
+
+impl fmt::Display for NodeName {
+    ghost output = { λ n. Some (decimal n.entry ++ codes "." ++ decimal n.part) };
+
+    fn fmt<W: fmt::Write>(&self, f: &mut fmt::Formatter<W>) -> fmt::Result {
+        write!(f, "{}.{}", self.entry, self.part)
+    }
+}
