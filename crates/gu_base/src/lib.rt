@@ -33,3 +33,6 @@ pub use numbers::{Lots, NodeName, Number, Rate};
 pub use refusal::Refusal;
 pub use report::{Report, ReportPart, ReportParts, Target};
 pub use state::State;
+
+#[cfg(test)]
+mod tests;

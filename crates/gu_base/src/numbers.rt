@@ -8,7 +8,7 @@ use std::marker::Model;
 /// The number of an entry of the history: 1 to 1,000,000.
 #[derive(Clone, Copy, Debug, PartialEq, Eq, PartialOrd, Ord, Hash)]
 pub struct Number {
-    value: u32,
+    number: u32,
 }
 
 impl Model for Number {
@@ -17,11 +17,11 @@ impl Model for Number {
 
     ghost Value = { ℕ };
 
-    ghost view = { λ n. n.value };
+    ghost view = { λ n. n.number };
 
-    ghost invariant = { λ n. IsTrue (is_number n.value) };
+    ghost invariant = { λ n. IsTrue (is_number n.number) };
 
-    ghost inverse = { λ n. record { value = n } };
+    ghost inverse = { λ n. record { number = n } };
 }
 
 impl Number {
@@ -33,7 +33,7 @@ impl Number {
         ensures { result ≡ (if is_number value then Some value else None) }
     {
         if 1 <= value && value <= Self::MAX {
-            Some(Number { value })
+            Some(Number { number: value })
         } else {
             None
         }
@@ -45,7 +45,7 @@ impl Number {
         ensures { result ≡ place + 1 }
     {
         Number {
-            value: place as u32 + 1,
+            number: place as u32 + 1,
         }
     }
 
@@ -54,7 +54,7 @@ impl Number {
         ensures value { result ≡ self.now }
         ensures in_range { IsTrue (is_number result) }
     {
-        self.value
+        self.number
     }
 }
 
@@ -62,14 +62,14 @@ impl fmt::Display for Number {
     ghost output = { λ n. Some (decimal n) };
 
     fn fmt<W: fmt::Write>(&self, f: &mut fmt::Formatter<W>) -> fmt::Result {
-        fmt::Display::fmt(&self.value, f)
+        fmt::Display::fmt(&self.get(), f)
     }
 }
 
 /// The lots of a trade or of a part: 1 to 10,000,000.
 #[derive(Clone, Copy, Debug, PartialEq, Eq, PartialOrd, Ord, Hash)]
 pub struct Lots {
-    value: u64,
+    lots: u64,
 }
 
 impl Model for Lots {
@@ -78,11 +78,11 @@ impl Model for Lots {
 
     ghost Value = { ℕ };
 
-    ghost view = { λ n. n.value };
+    ghost view = { λ n. n.lots };
 
-    ghost invariant = { λ n. IsTrue (is_lots n.value) };
+    ghost invariant = { λ n. IsTrue (is_lots n.lots) };
 
-    ghost inverse = { λ n. record { value = n } };
+    ghost inverse = { λ n. record { lots = n } };
 }
 
 impl Lots {
@@ -94,7 +94,7 @@ impl Lots {
         ensures { result ≡ (if is_lots value then Some value else None) }
     {
         if 1 <= value && value <= Self::MAX {
-            Some(Lots { value })
+            Some(Lots { lots: value })
         } else {
             None
         }
@@ -105,7 +105,7 @@ impl Lots {
         ensures value { result ≡ self.now }
         ensures in_range { IsTrue (is_lots result) }
     {
-        self.value
+        self.lots
     }
 }
 
@@ -113,14 +113,14 @@ impl fmt::Display for Lots {
     ghost output = { λ n. Some (decimal n) };
 
     fn fmt<W: fmt::Write>(&self, f: &mut fmt::Formatter<W>) -> fmt::Result {
-        fmt::Display::fmt(&self.value, f)
+        fmt::Display::fmt(&self.get(), f)
     }
 }
 
 /// What a claimed lot costs, in hundredths: 0 to 100,000.
 #[derive(Clone, Copy, Debug, PartialEq, Eq, PartialOrd, Ord, Hash)]
 pub struct Rate {
-    value: u64,
+    hundredths: u64,
 }
 
 impl Model for Rate {
@@ -129,11 +129,11 @@ impl Model for Rate {
 
     ghost Value = { ℕ };
 
-    ghost view = { λ n. n.value };
+    ghost view = { λ n. n.hundredths };
 
-    ghost invariant = { λ n. IsTrue (is_rate n.value) };
+    ghost invariant = { λ n. IsTrue (is_rate n.hundredths) };
 
-    ghost inverse = { λ n. record { value = n } };
+    ghost inverse = { λ n. record { hundredths = n } };
 }
 
 impl Rate {
@@ -145,7 +145,7 @@ impl Rate {
         ensures { result ≡ (if is_rate value then Some value else None) }
     {
         if value <= Self::MAX {
-            Some(Rate { value })
+            Some(Rate { hundredths: value })
         } else {
             None
         }
@@ -156,7 +156,7 @@ impl Rate {
         ensures value { result ≡ self.now }
         ensures in_range { IsTrue (is_rate result) }
     {
-        self.value
+        self.hundredths
     }
 }
 
@@ -164,7 +164,7 @@ impl fmt::Display for Rate {
     ghost output = { λ n. Some (decimal n) };
 
     fn fmt<W: fmt::Write>(&self, f: &mut fmt::Formatter<W>) -> fmt::Result {
-        fmt::Display::fmt(&self.value, f)
+        fmt::Display::fmt(&self.get(), f)
     }
 }
 
@@ -203,6 +203,14 @@ impl NodeName {
             Some(entry) => Some(NodeName { entry, part }),
             None => None,
         }
+    }
+
+    /// The name of part `part` of an entry that is known.
+    pub fn in_entry(entry: Number, part: u8) -> NodeName
+        requires { part ≤ 100 }
+        ensures { result ≡ record { entry = entry; part = part } }
+    {
+        NodeName { entry, part }
     }
 
     /// The entry that made the node.
