@@ -1,0 +1,12 @@
+pub mod Templates
+pub mod Fronts
+pub mod FieldSteps
+pub mod Checks
+pub mod Uniqueness
+pub mod Written
+pub mod ReadBack
+pub mod Cuts
+pub mod Streams
+pub mod EachReading
+pub mod Cutting
+pub mod Waiting

@@ -1,0 +1,9 @@
+pub mod Grammar
+pub mod Fields
+pub mod Answer
+pub mod Writing
+pub mod Messages
+pub mod Stream
+pub mod Feeding
+pub mod Next
+pub mod Pieces
