@@ -1,0 +1,9 @@
+pub mod Words
+pub mod Numbers
+pub mod Terms
+pub mod Table
+pub mod Causes
+pub mod HouseFile
+pub mod Steps
+pub mod Line
+pub mod Parsing

@@ -1,0 +1,28 @@
+-- The written numbers of a house file.
+use Rattle.std.specs.Prelude.{ℕ, ◌+◌, ◌-◌, ◌*◌, Bool, ◌&&◌, ◌||◌, not, nat_le, eqb, List, [], ◌∷◌, Option, None, Some, length, bytes_eq, codes, slice_index, if◌then◌else◌}
+use Rattle.std.specs.List.{list_all}
+
+-- a decimal digit
+abbrev pub is_digit : ℕ → Bool
+is_digit b = nat_le 48 b && nat_le b 57
+
+-- `0`, or 1 to 14 digits without a leading zero
+abbrev pub is_number_text : List ℕ → Bool
+is_number_text s = bytes_eq s (codes "0") || (nat_le 1 (length s) && nat_le (length s) 14 && list_all is_digit s && not (eqb (slice_index s 0) 48))
+
+-- the value of the digits behind those whose value is n
+abbrev pub value_from : ℕ → List ℕ → ℕ
+value_from n [] = n
+value_from n (b ∷ bs) = value_from (10 * n + (b - 48)) bs
+
+-- the number of this text, if it is one of at most `most`
+unfoldable pub number_upto : ℕ → List ℕ → Option ℕ
+number_upto most text = if is_number_text text && nat_le (value_from 0 text) most then Some (value_from 0 text) else None
+
+-- a rate, in hundredths a lot
+abbrev pub rate_of : List ℕ → Option ℕ
+rate_of text = number_upto 100000 text
+
+-- a limit, in lots
+abbrev pub limit_of : List ℕ → Option ℕ
+limit_of text = number_upto 10000000000000 text

@@ -1,0 +1,141 @@
+//! The house table: who takes part, and on which terms.
+ghost use Rattle.std.specs.Prelude.{◌≡◌, ◌≤◌, IsTrue, IfSome, IfOk, slice_get};
+ghost use Rattle.gu_base.specs.House.{knows_firm, knows_account, knows_instrument, agreement};
+ghost use Rattle.gu_parties.specs.Steps.{house_alone};
+ghost use Rattle.gu_parties.specs.Terms.{has_terms_in_range};
+
+use gu_base::{Account, AccountId, Agreement, FirmId, InstrumentId, Memory, Pair};
+use indexmap::{IndexMap, IndexSet};
+use std::alloc::Global;
+use std::marker::Model;
+
+/// Who takes part, and on which terms. It is read from a house file by `House::parse`, and never changes.
+///
+/// The look-ups are by hash, or by place in file order from 0. They take no memory.
+#[derive(Drop)]
+pub struct House {
+    pub(crate) house: FirmId,
+    pub(crate) firms: IndexSet<FirmId>,
+    pub(crate) accounts: IndexSet<Account>,
+    pub(crate) instruments: IndexSet<InstrumentId>,
+    pub(crate) agreements: IndexMap<Pair, Agreement>,
+}
+
+impl Model for House {
+    ghost use Rattle.std.specs.Prelude.{IsTrue};
+    ghost use Rattle.gu_base.specs.House.{House as Table};
+    ghost use Rattle.gu_parties.specs.Terms.{are_in_range};
+
+    ghost Value = { Table };
+
+    ghost view = { λ t. record { house = t.house; firms = t.firms.keys; accounts = t.accounts.keys; instruments = t.instruments.keys; agreements = t.agreements.entries } };
+
+    ghost invariant = { λ t. IsTrue (are_in_range t.agreements.entries) };
+}
+
+impl House {
+    /// The table of a house with nothing else.
+    pub(crate) fn alone(alloc: Global, house: FirmId) -> House
+        ensures { result ≡ house_alone house }
+    {
+        House {
+            house,
+            firms: IndexSet::new(alloc),
+            accounts: IndexSet::new(alloc),
+            instruments: IndexSet::new(alloc),
+            agreements: IndexMap::new(alloc),
+        }
+    }
+
+    /// The clearing house, which line 2 of the file names.
+    pub fn house(&self) -> FirmId
+        ensures { result ≡ self.now.house }
+    {
+        self.house
+    }
+
+    /// Whether a firm takes part. The house is a firm too.
+    pub fn firm(&self, firm: &FirmId) -> bool
+        ensures { result ≡ knows_firm self.now firm.now }
+    {
+        self.house == *firm || self.firms.contains(firm)
+    }
+
+    /// Whether a firm has an account. Two firms may each have an account of the same name.
+    pub fn account(&self, firm: &FirmId, account: &AccountId) -> bool
+        ensures { result ≡ knows_account self.now firm.now account.now }
+    {
+        let key = Account {
+            firm: *firm,
+            name: *account,
+        };
+        self.accounts.contains(&key)
+    }
+
+    /// Whether an instrument is traded.
+    pub fn instrument(&self, instrument: &InstrumentId) -> bool
+        ensures { result ≡ knows_instrument self.now instrument.now }
+    {
+        self.instruments.contains(instrument)
+    }
+
+    /// The terms on which `taker` takes what `giver` gives up: a rate of 0 to 100,000 hundredths a lot, and a limit of 0 to
+    /// 10,000,000,000,000 lots. `None` where the file has no agreement of the two in this direction.
+    pub fn agreement(&self, giver: &FirmId, taker: &FirmId) -> Option<Agreement>
+        ensures value { result ≡ agreement self.now giver.now taker.now }
+        ensures in_range { IfSome result (λ a. (a.rate ≤ 100000) × (a.limit ≤ 10000000000000)) }
+        ensures all_in_range { IsTrue (has_terms_in_range self.now) }
+    {
+        let key = Pair {
+            giver: *giver,
+            taker: *taker,
+        };
+        self.agreements.get(&key).copied()
+    }
+
+    /// The firm of the line `FIRM` at this place among those lines, from 0. The house has no such place.
+    pub fn firm_at(&self, place: usize) -> Option<FirmId>
+        ensures { result ≡ slice_get self.now.firms place }
+    {
+        self.firms.get_index(place).copied()
+    }
+
+    /// The account of the line `ACCOUNT` at this place among those lines, from 0.
+    pub fn account_at(&self, place: usize) -> Option<Account>
+        ensures { result ≡ slice_get self.now.accounts place }
+    {
+        self.accounts.get_index(place).copied()
+    }
+
+    /// The instrument of the line `INSTRUMENT` at this place among those lines, from 0.
+    pub fn instrument_at(&self, place: usize) -> Option<InstrumentId>
+        ensures { result ≡ slice_get self.now.instruments place }
+    {
+        self.instruments.get_index(place).copied()
+    }
+
+    /// The giver, the taker and the terms of the line `AGREEMENT` at this place among those lines, from 0.
+    pub fn agreement_at(&self, place: usize) -> Option<(Pair, Agreement)>
+        ensures { result ≡ slice_get self.now.agreements place }
+    {
+        let (pair, agreement) = self.agreements.get_index(place)?;
+        Some((*pair, *agreement))
+    }
+
+    /// The same table once more. The one call beside `parse` that takes memory.
+    pub fn copy(&self, _alloc: Global) -> Result<House, Memory>
+        ensures { IfOk result (λ copy. copy ≡ self.now) }
+    {
+        let firms = self.firms.clone()?;
+        let accounts = self.accounts.clone()?;
+        let instruments = self.instruments.clone()?;
+        let agreements = self.agreements.clone()?;
+        Ok(House {
+            house: self.house,
+            firms,
+            accounts,
+            instruments,
+            agreements,
+        })
+    }
+}

@@ -1,0 +1,24 @@
+//! The house file: who takes part in the book, and on which terms.
+//!
+//! `House::parse` reads a house file of any bytes. It gives the table that the file's lines name, or the first line with a cause and that
+//! line's first cause, in the order in which `Cause` lists them. A growth that was refused names its line, and no line up to it has a cause.
+//!
+//! A `House` never changes. It answers by hash whether a firm, an account or an instrument is there and on which terms two firms deal, and
+//! by place what was named there, in file order from 0. None of these look-ups takes memory. `House::copy` gives an equal table.
+//!
+//! In each table the terms are in range: a rate of at most 100,000 hundredths a lot, a limit of at most 10,000,000,000,000 lots.
+//! The format is described in docs/profile.md; the definition of the table that a text names is `house_of` in specs/HouseFile.antt.
+#![tactic(auto)]
+
+mod add;
+pub mod fault;
+pub mod house;
+mod line;
+mod number;
+mod parse;
+#[cfg(test)]
+mod tests;
+mod words;
+
+pub use fault::{Cause, HouseError};
+pub use house::House;
