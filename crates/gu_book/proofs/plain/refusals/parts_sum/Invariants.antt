@@ -1,0 +1,6 @@
+use Rattle.std.proofs.Common.{◌≡◌, ◌≤◌, ◌*◌, ◌^◌, ◌+◌, drop, take}
+use Rattle.std.specs.Prelude.{sum_by}
+use Rattle.gu_book.proofs.plain.refusals.parts_sum.Given as goal
+
+abbrev pub invariant-loop-part : goal.invariant-loop-part
+invariant-loop-part l = (l.sum ≡ sum_by (λ p. p.lots) (take l.part-index l.parts)) × (l.sum ≤ l.part-index * 2 ^ 64)
