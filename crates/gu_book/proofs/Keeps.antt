@@ -68,7 +68,7 @@ change_is_no_reverse n (Initiate _) h = refl
 change_is_no_reverse n (Decline _) h = refl
 change_is_no_reverse n (Reverse _) h = cc
 
-none_reversed : (n : ℕ) (h : List Entry) → list_all (λ e. is_change e.command) h ≡ true → is_reversed h n ≡ false
+pub none_reversed : (n : ℕ) (h : List Entry) → list_all (λ e. is_change e.command) h ≡ true → is_reversed h n ≡ false
 none_reversed n [] all = refl
 none_reversed n (e ∷ h) all =
     let p = both (is_change e.command) (list_all (λ e. is_change e.command) h) all in

@@ -4,3 +4,12 @@ pub mod Within
 pub mod Refused
 pub mod Keeps
 pub mod There
+pub mod Sums
+pub mod Known
+pub mod Balance
+pub mod Replays
+pub mod Sound
+pub mod SoundNext
+pub mod Leaves
+pub mod Placed
+pub mod Positions

@@ -18,7 +18,7 @@ one_test : (c : Bool) (x : Node) (rest : List Node) → sum_by (λ x. x.lots) (c
 one_test true x rest = sum_by-cons (λ x. x.lots) x rest
 one_test false x rest = omega arith
 
-two_tests : (b : Bool) (x : Node) (p : Node → Bool) (rest : List Node)
+pub two_tests : (b : Bool) (x : Node) (p : Node → Bool) (rest : List Node)
     → sum_by (λ x. x.lots) (filter p (cond b (x ∷ rest) rest)) ≡ cond (b && p x) x.lots 0 + sum_by (λ x. x.lots) (filter p rest)
 two_tests true x p rest = one_test (p x) x (filter p rest)
 two_tests false x p rest = omega arith

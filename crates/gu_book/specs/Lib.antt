@@ -5,3 +5,6 @@ pub mod There
 pub mod Ids
 pub mod Seen
 pub mod Kept
+pub mod Known
+pub mod Conserved
+pub mod Placed

@@ -1,5 +1,6 @@
 //! The book: the house table, the history, and beside it the live changes.
-ghost use Rattle.std.specs.Prelude.{◌≡◌, ◌≤◌, ◌<◌, [], ◌∷◌, ◌++◌, length, IsTrue, IfOk, OnOk, OnErr};
+ghost use Rattle.std.specs.Prelude.{true, ◌≡◌, ◌≤◌, ◌<◌, [], ◌∷◌, ◌++◌, length, IsTrue, IfOk, OnOk, OnErr};
+ghost use Rattle.std.specs.List.{list_all};
 ghost use Rattle.gu_base.specs.History.{is_change, live};
 ghost use Rattle.gu_base.specs.Positions.{position_of};
 ghost use Rattle.gu_base.specs.Fees.{paid_by, received_by, used_of};
@@ -68,6 +69,13 @@ impl Book {
         ensures legal { IsLegal self.now.house (live self.now.history) }
     {
         self.entries.as_slice()
+    }
+
+    /// No entry is an Initiate, a Decline or a Reverse.
+    pub(crate) fn has_changes_alone(&self)
+        ensures { list_all (λ e. is_change e.command) self.now.history ≡ true }
+    {
+        let _ = &self.entries;
     }
 
     /// Answers a call for a change, and keeps it where it is accepted.

@@ -12,6 +12,7 @@
 #![tactic(auto)]
 
 pub mod book;
+pub mod laws;
 mod plain;
 
 pub use book::Book;

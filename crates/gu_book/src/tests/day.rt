@@ -67,15 +67,24 @@ fn part(by: FirmId, share: Share<'_>) -> Result<Part, &'static str> {
     }
 }
 
+fn parts_of(alloc: Global, by: FirmId, shares: &[Share<'_>]) -> Result<Parts, &'static str> {
+    let mut parts = Vec::new(alloc);
+    for share in shares {
+        parts.push(part(by, *share)?).map_err(|_| "memory")?;
+    }
+    Ok(Parts::from_vec(parts))
+}
+
 impl Day {
     pub(crate) fn new(alloc: Global) -> Result<Day, &'static str> {
-        match House::parse(alloc, HOUSE) {
-            Ok(house) => Ok(Day {
-                alloc,
-                book: Book::new(alloc, house),
-            }),
-            Err(_) => Err("the house file"),
-        }
+        let house = match House::parse(alloc, HOUSE) {
+            Ok(house) => house,
+            Err(_) => House::parse(alloc, HOUSE).map_err(|_| "the house file")?,
+        };
+        Ok(Day {
+            alloc,
+            book: Book::new(alloc, house),
+        })
     }
 
     /// Calls, and where no memory is found sees that nothing has changed and calls again.
@@ -141,13 +150,13 @@ impl Day {
         shares: &[Share<'_>],
     ) -> Result<Answer, &'static str> {
         let maker = firm(by)?;
-        let mut parts = Vec::new(self.alloc);
-        for share in shares {
-            parts.push(part(maker, *share)?).map_err(|_| "memory")?;
-        }
+        let parts = match parts_of(self.alloc, maker, shares) {
+            Ok(parts) => parts,
+            Err(_) => parts_of(self.alloc, maker, shares)?,
+        };
         let command = Command::Split {
             node: node(entry, of)?,
-            parts: Parts::from_vec(parts),
+            parts,
         };
         self.call(rt, id, by, &command)
     }

@@ -1,6 +1,7 @@
 //! Parts that are given up, and what their takers and givers do with them.
 use super::day::Share::{Given, Own};
 use super::day::{Day, accepted};
+use crate::laws;
 use gu_base::{Answer, Refusal, State};
 use std::process::Abort;
 use std::test::Fail;
@@ -55,6 +56,10 @@ fn second_hop(rt: HostRuntime) -> Result<(), Fail> {
     assert_eq!(rt; day.fees(b"CCC")?, (1_600, 0));
     assert_eq!(rt; day.used(b"AAA", b"BBB")?, 40);
     assert_eq!(rt; day.used(b"BBB", b"CCC")?, 40);
+    laws::leaves_sum(&day.book);
+    laws::positions_sum(&day.book);
+    laws::fees_balance(&day.book);
+    laws::changes_make_the_book(&day.book);
     Ok(())
 }
 

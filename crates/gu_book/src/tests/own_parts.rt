@@ -1,6 +1,6 @@
 //! Trades and splits into own parts.
 use super::day::Share::{Given, Own};
-use super::day::{Day, Share, accepted, number};
+use super::day::{Day, Share, accepted, firm, number};
 use gu_base::{Answer, Refusal, State};
 use std::test::Fail;
 
@@ -91,11 +91,12 @@ fn repeats_get_the_first_answer(rt: HostRuntime) -> Result<(), Fail> {
 #[test]
 fn the_house_table_is_asked_in_order(rt: HostRuntime) -> Result<(), Fail> {
     let mut day = Day::new(rt.alloc())?;
+    assert_eq!(rt; day.book.house().house(), firm(b"HSE")?);
     day.trade(&rt, b"T", 100)?;
     let stranger = day.split(&rt, b"S", b"DDD", 1, 0, &[Own(100, b"A1")])?;
     assert_eq!(rt; stranger, Answer::Refused(Refusal::UnknownFirm));
-    let firm = day.trade_of(&rt, b"U", b"AAA", b"A1", b"ESZ6", 100)?;
-    assert_eq!(rt; firm, Answer::Refused(Refusal::HouseOnly));
+    let member = day.trade_of(&rt, b"U", b"AAA", b"A1", b"ESZ6", 100)?;
+    assert_eq!(rt; member, Answer::Refused(Refusal::HouseOnly));
     let account = day.trade_of(&rt, b"U", b"HSE", b"B1", b"ESZ6", 100)?;
     assert_eq!(rt; account, Answer::Refused(Refusal::UnknownAccount));
     let instrument = day.trade_of(&rt, b"U", b"HSE", b"A1", b"ESU6", 0)?;
