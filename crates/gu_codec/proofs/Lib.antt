@@ -10,3 +10,4 @@ pub mod Streams
 pub mod EachReading
 pub mod Cutting
 pub mod Waiting
+pub mod FrameParts

@@ -20,7 +20,7 @@ pub record Cut (a : List ℕ) (ds : List Class) (p : List ℕ) : Type 0 where
   pub parts : p ≡ a ++ rest
   pub word : IsWord ds rest
 
-word_cut : (a : List ℕ) (ds : List Class) (p : List ℕ) → IsWord (texts a ++ ds) p → Cut a ds p
+pub word_cut : (a : List ℕ) (ds : List Class) (p : List ℕ) → IsWord (texts a ++ ds) p → Cut a ds p
 word_cut [] ds p w = record { rest = p; parts = refl; word = w }
 word_cut (c ∷ a) ds [] w = absurd w
 word_cut (c ∷ a) ds (b ∷ p) w =
