@@ -42,6 +42,7 @@ is_of_trade l trade x = unwrap_or (option_map (λ root. root.entry == trade) (ro
 abbrev pub leaf_lots : List Record → ℕ → ℕ
 leaf_lots l trade = sum_by (λ x. x.lots) (filter (is_of_trade l trade) (leaves l))
 
+-- the lots of a trade, and 0 of another command
 abbrev pub lots_traded : Command → ℕ
 lots_traded (Trade _ _ _ _ lots) = lots
 lots_traded _ = 0

@@ -14,6 +14,7 @@ pub record PairKnown (t : House) (giver taker : List ℕ) : Type 0 where
   pub giver_known : knows_firm t giver ≡ true
   pub taker_known : knows_firm t taker ≡ true
 
+-- giver and taker of a node are known, if it is given
 abbrev pub KindKnown : House → Kind → Type 0
 KindKnown t (Root _) = Unit {0}
 KindKnown t (Own _ _ _) = Unit {0}
@@ -30,5 +31,6 @@ FirmsKnown t by (Initiate _) = Unit {0}
 FirmsKnown t by (Decline _) = Unit {0}
 FirmsKnown t by (Reverse _) = Unit {0}
 
+-- the firms of each split of the list are known
 abbrev pub AllFirmsKnown : House → List Record → Type 0
 AllFirmsKnown t l = All (λ r. FirmsKnown t r.firm r.command) l

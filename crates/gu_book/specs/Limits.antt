@@ -22,5 +22,6 @@ IsWithinLimits (Initiate _) = Unit {0}
 IsWithinLimits (Decline _) = Unit {0}
 IsWithinLimits (Reverse _) = Unit {0}
 
+-- each change of the list is within them
 abbrev pub AllWithinLimits : List Record → Type 0
 AllWithinLimits l = All (λ r. IsWithinLimits r.command) l

@@ -1,5 +1,5 @@
 //! The answer to a call for a change.
-ghost use Rattle.std.specs.Prelude.{◌≡◌, ◌+◌, ◌<◌, ◌≤◌, length, find, not, option_map, bytes_eq, Option, Some, None, IsTrue};
+ghost use Rattle.std.specs.Prelude.{◌≡◌, ◌&&◌, ◌+◌, ◌<◌, ◌≤◌, length, find, not, option_map, bytes_eq, Option, Some, None, IsTrue};
 ghost use Rattle.std.specs.List.{list_any};
 ghost use Rattle.gu_base.specs.History.{records, is_change, live};
 ghost use Rattle.gu_base.specs.Answers.{Call, answer_to, is_same_call, is_same_id, status_of, is_accepted};
@@ -28,11 +28,10 @@ fn repeated(entries: &[Entry], by: &FirmId, id: &AllocId, command: &Command) -> 
 }
 
 /// The number of the entry that has this id of this firm.
-fn duplicate(entries: &[Entry], by: &FirmId, id: &AllocId, command: &Command) -> Option<Number>
+fn duplicate(entries: &[Entry], by: &FirmId, id: &AllocId) -> Option<Number>
     requires { length entries.now ≤ 1000000 }
-    ensures { result ≡ option_map (λ r. r.number) (find (is_same_id (record { firm = by.now; id = id.now; command = command.now })) (records entries.now)) }
+    ensures { result ≡ option_map (λ r. r.number) (find (λ r. bytes_eq r.firm by.now && bytes_eq r.id id.now) (records entries.now)) }
 {
-    let _ = command;
     for (i, e) in entries.iter().enumerate() {
         if e.firm == *by && e.id == *id {
             return Some(Number::at_place(i));
@@ -90,7 +89,7 @@ pub(crate) fn answer_to(
     if let Some(answer) = repeated(entries, by, id, command) {
         return answer;
     }
-    if let Some(number) = duplicate(entries, by, id, command) {
+    if let Some(number) = duplicate(entries, by, id) {
         return Answer::Refused(Refusal::DuplicateId(number));
     }
     if entries.len() >= 1_000_000 {
