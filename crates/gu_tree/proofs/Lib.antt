@@ -1,0 +1,10 @@
+pub mod Parts
+pub mod Edits
+pub mod Splits
+pub mod Names
+pub mod Leaves
+pub mod Shows
+pub mod ShowsChanges
+pub mod Orderly
+pub mod ShowsRows
+pub mod Conditions
