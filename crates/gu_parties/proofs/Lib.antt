@@ -5,3 +5,4 @@ pub mod LongLine
 pub mod Names
 pub mod Stated
 pub mod LinesRead
+pub mod Worked
