@@ -18,6 +18,7 @@ pub record HeaderText : Type 0 where
   pub sent : List ℕ
   pub resent : Option (List ℕ)
 
+-- a header's texts and number
 abbrev pub view : Header → HeaderText
 view h = record { kind = h.kind.now; sender = h.sender; target = h.target; number = h.number; sent = h.sent.now; resent = option_map (λ t. t.now) h.resent }
 
@@ -49,14 +50,17 @@ abbrev pub first_sent : Option (List ℕ) → List ℕ
 first_sent None = []
 first_sent (Some t) = field 122 t
 
+-- the header's fields in their order, with a text for its number
 abbrev pub fields_with : HeaderText → List ℕ → List ℕ
 fields_with h number =
     field 35 h.kind ++ (field 49 h.sender ++ (field 56 h.target ++ (field 34 number
     ++ (resend_flag h.resent ++ (field 52 h.sent ++ first_sent h.resent)))))
 
+-- the header's fields in their order
 abbrev pub header_fields : HeaderText → List ℕ
 header_fields h = fields_with h (decimal h.number)
 
+-- a number below 1,000 in three digits
 abbrev pub three_digits : ℕ → List ℕ
 three_digits n = (48 + n / 100) ∷ (48 + n / 10 % 10) ∷ (48 + n % 10) ∷ []
 
@@ -64,6 +68,7 @@ three_digits n = (48 + n / 100) ∷ (48 + n / 10 % 10) ∷ (48 + n % 10) ∷ []
 abbrev pub before_sum : List ℕ → List ℕ
 before_sum body = opening ++ (decimal (length body) ++ 1 ∷ body)
 
+-- the frame with this body
 abbrev pub frame_text : List ℕ → List ℕ
 frame_text body = before_sum body ++ (codes "10=" ++ (three_digits (sum (before_sum body) % 256) ++ 1 ∷ []))
 
@@ -72,5 +77,6 @@ abbrev pub resend_pairs : Option (List ℕ) → List ℕ → List (ℕ × List �
 resend_pairs None sent = (52, sent) ∷ []
 resend_pairs (Some t) sent = (43, codes "Y") ∷ (52, sent) ∷ (122, t) ∷ []
 
+-- the header's fields as tag and value
 abbrev pub header_pairs : HeaderText → List (ℕ × List ℕ)
 header_pairs h = (35, h.kind) ∷ (49, h.sender) ∷ (56, h.target) ∷ (34, decimal h.number) ∷ resend_pairs h.resent h.sent
