@@ -1,0 +1,7 @@
+pub mod Fronts
+pub mod Streams
+pub mod Output
+pub mod Counts
+pub mod Held
+pub mod Runs
+pub mod Faults
