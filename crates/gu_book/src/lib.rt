@@ -17,6 +17,3 @@ mod plain;
 
 pub use book::Book;
 pub use gu_base::{Answer, Entry};
-
-#[cfg(test)]
-mod tests;
