@@ -1,0 +1,4 @@
+pub mod MoreParts
+pub mod Outcomes
+pub mod Unlisted
+pub mod UnlistedMeaning

@@ -1,0 +1,15 @@
+pub mod Finding
+pub mod Values
+pub mod Timestamp
+pub mod Checks
+pub mod Outcome
+pub mod Heading
+pub mod TradeReport
+pub mod SplitParts
+pub mod Instructions
+pub mod Meaning
+pub mod Bodies
+pub mod AllocationAck
+pub mod TradeReportAck
+pub mod SessionReject
+pub mod Listed
