@@ -81,7 +81,7 @@ absent name t h n xs o other rest = subst (IsAbsent name) o (omega (arith, is_na
 
 -- a path from a part is a path from the node
 pub leads_on : (name : EntryPart) (t : Rose) (h : Head) (n : ℕ) (xs : List Rose) (i : ℕ) (u : Rose) (old ys : List ℕ) → parted h n (from_list xs) ≡ t → i < length xs → u ≡ get_or xs i u →
-  LeadsOn (old ++ i ∷ []) ys u name → LeadsOn old ys t name
+    LeadsOn (old ++ i ∷ []) ys u name → LeadsOn old ys t name
 leads_on name t h n xs i u old ys o l e (p, is, leads) =
     let g : Goes (i ∷ p) t h n i p xs = record { first = refl; opened = sym o; there = l } in
     (i ∷ p, is ∙ append_assoc old (i ∷ []) p, rw (goes-below u g e) leads)
@@ -142,7 +142,7 @@ mutual
 -- ---- what an edit does to the names
 
 named_below-edit : (name : EntryPart) (g : Rose → Rose) (p : List ℕ) (v : Rose) (a b : ℕ) → ((t : Rose) → node_at p t ≡ Some v → named name (g t) + a ≡ named name t + b) →
-  (i : ℕ) (ts : Roses) → option_and_then (node_at p) (part_at i ts) ≡ Some v → named_below name (edit_part g i ts) + a ≡ named_below name ts + b
+    (i : ℕ) (ts : Roses) → option_and_then (node_at p) (part_at i ts) ≡ Some v → named_below name (edit_part g i ts) + a ≡ named_below name ts + b
 named_below-edit name g p v a b ih i no_parts e = absurd (cc)
 named_below-edit name g p v a b ih zero (part_then t ts) e = omega (arith, ih t e)
 named_below-edit name g p v a b ih (suc i) (part_then t ts) e = omega (arith, named_below-edit name g p v a b ih i ts e)
@@ -160,7 +160,7 @@ named-with_head name h (parted k n ts) e = ap (λ m. count (same_name m name) + 
 -- ---- one path at most leads to a name that stands once
 
 only_part : (name : EntryPart) (p q : List ℕ) (v w : Rose) → ((t : Rose) → node_at p t ≡ Some v → node_at q t ≡ Some w → named name t ≤ 1 → p ≡ q) → 1 ≤ named name v → 1 ≤ named name w →
-  (i j : ℕ) (ts : Roses) → option_and_then (node_at p) (part_at i ts) ≡ Some v → option_and_then (node_at q) (part_at j ts) ≡ Some w → named_below name ts ≤ 1 → i ∷ p ≡ j ∷ q
+    (i j : ℕ) (ts : Roses) → option_and_then (node_at p) (part_at i ts) ≡ Some v → option_and_then (node_at q) (part_at j ts) ≡ Some w → named_below name ts ≤ 1 → i ∷ p ≡ j ∷ q
 only_part name p q v w ih a b i j no_parts e d once = absurd (cc)
 only_part name p q v w ih a b zero zero (part_then t ts) e d once = ap (λ r. zero ∷ r) (ih t e d (omega arith))
 only_part name p q v w ih a b zero (suc j) (part_then t ts) e d once = absurd (omega (arith, named-at name p t v e, named-part name q w (λ u. named-at name q u w) j ts d))

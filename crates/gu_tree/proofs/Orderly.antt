@@ -31,8 +31,9 @@ chosen_case false s r o e = inr (refl, e)
 among-name : (n : EntryPart) (xs : List Node) (x : Node) → among n xs ≡ Some x → x.name ≡ n
 among-name n [] x e = absurd (cc)
 among-name n (y ∷ ys) x e = elim (chosen_case (same_name y.name n) y x (among n ys) e) [
-    inl a ↦ ap (λ (z : Node). z.name) (sym a.1) ∙ same_name-told y.name n a.0
-  | inr a ↦ among-name n ys x a.1 ]
+  | inl a ↦ ap (λ (z : Node). z.name) (sym a.1) ∙ same_name-told y.name n a.0
+  | inr a ↦ among-name n ys x a.1
+]
 
 parent-part : (u : EntryPart) (maker : List ℕ) (p : Part) → parent (kind_of_part u maker p) ≡ Some u
 parent-part u maker p = elim (bytes_eq p.firm maker) as (λ b. parent (if b then Own u maker p.account else Given u maker p.firm) ≡ Some u) [ true ↦ refl | false ↦ refl ]
@@ -40,8 +41,9 @@ parent-part u maker p = elim (bytes_eq p.firm maker) as (λ b. parent (if b then
 parts-found : (k i : ℕ) (u : EntryPart) (maker : List ℕ) (ps : List Part) (n : EntryPart) (x : Node) → among n (nodes_of_parts k i u maker ps) ≡ Some x → (n.entry ≡ k) × (parent x.kind ≡ Some u)
 parts-found k i u maker [] n x e = absurd (cc)
 parts-found k i u maker (p ∷ ps) n x e = elim (chosen_case (same_name (record { entry = k; part = i }) n) (record { name = record { entry = k; part = i }; lots = p.lots; kind = kind_of_part u maker p }) x (among n (nodes_of_parts k (i + 1) u maker ps)) e) [
-    inl a ↦ (ap (λ (m : EntryPart). m.entry) (sym (same_name-told (record { entry = k; part = i }) n a.0)), ap (λ (z : Node). parent z.kind) (sym a.1) ∙ parent-part u maker p)
-  | inr a ↦ parts-found k (i + 1) u maker ps n x a.1 ]
+  | inl a ↦ (ap (λ (m : EntryPart). m.entry) (sym (same_name-told (record { entry = k; part = i }) n a.0)), ap (λ (z : Node). parent z.kind) (sym a.1) ∙ parent-part u maker p)
+  | inr a ↦ parts-found k (i + 1) u maker ps n x a.1
+]
 
 -- what a change makes bears its number, and has the node that it names for a parent
 record IsMadeBy (k : ℕ) (c : Command) (n : EntryPart) (x : Node) : Type 0 where
@@ -50,11 +52,12 @@ record IsMadeBy (k : ℕ) (c : Command) (n : EntryPart) (x : Node) : Type 0 wher
 
 made : (k : ℕ) (by : List ℕ) (c : Command) (n : EntryPart) (x : Node) → among n (nodes_of k by c) ≡ Some x → IsMadeBy k c n x
 made k by (Trade f a i s l) n x e = elim (chosen_case (same_name (record { entry = k; part = 0 }) n) (record { name = record { entry = k; part = 0 }; lots = l; kind = Root (record { firm = f; account = a }) }) x None e) [
-    inl q ↦ record {
-      entry = ap (λ (m : EntryPart). m.entry) (sym (same_name-told (record { entry = k; part = 0 }) n q.0));
-      parent_named = λ m up. let z : None ≡ Some m = ap (λ (y : Node). parent y.kind) q.1 ∙ up in absurd (cc);
-    }
-  | inr q ↦ absurd (cc (q.1)) ]
+  | inl q ↦ record {
+    entry = ap (λ (m : EntryPart). m.entry) (sym (same_name-told (record { entry = k; part = 0 }) n q.0));
+    parent_named = λ m up. let z : None ≡ Some m = ap (λ (y : Node). parent y.kind) q.1 ∙ up in absurd (cc);
+  }
+  | inr q ↦ absurd (cc (q.1))
+]
 made k by (Split u ps) n x e =
     let q = parts-found k 1 u by ps n x e in
     record { entry = q.0; parent_named = λ m up. sym q.1 ∙ up }
@@ -145,12 +148,12 @@ pub record IsFound (k : ℕ) (l : List Record) (m : EntryPart) (r : Record) : Ty
 pub found-split : (k : ℕ) (l : List Record) → IsOrderlyFrom k l → (m : EntryPart) (r : Record) → split_of l m ≡ Some r → IsFound k l m r
 found-split k [] ord m r e = absurd (cc)
 found-split k (s ∷ l) ord m r e = elim (chosen_case (splits m s.command) s r (split_of l m) e) [
-    inl a ↦ subst (IsFound k (s ∷ l) m) a.1 (record {
-      splits_it = a.0;
-      above = ord.0;
-      lower = ord.1;
-      its_nodes = λ n q. node_of-first s l n ∙ (ap (λ o. option_or (among n (nodes_of s.number s.firm s.command)) o) (nodes-above s.number l ord.2 n (omega (arith, q))) ∙ or_none (among n (nodes_of s.number s.firm s.command)));
-    })
+  | inl a ↦ subst (IsFound k (s ∷ l) m) a.1 (record {
+    splits_it = a.0;
+    above = ord.0;
+    lower = ord.1;
+    its_nodes = λ n q. node_of-first s l n ∙ (ap (λ o. option_or (among n (nodes_of s.number s.firm s.command)) o) (nodes-above s.number l ord.2 n (omega (arith, q))) ∙ or_none (among n (nodes_of s.number s.firm s.command)));
+  })
   | inr a ↦ (
       let rest = found-split s.number l ord.2 m r a.1 in
       let rises : k < s.number = ord.0 in
@@ -160,7 +163,8 @@ found-split k (s ∷ l) ord m r e = elim (chosen_case (splits m s.command) s r (
         above = omega arith;
         lower = rest.lower;
         its_nodes = λ n q. node_of-later s l n (λ t. absurd (omega (arith, q))) ∙ rest.its_nodes n q;
-      }) ]
+      })
+]
 
 -- these nodes are of the list, and parts of this entry and parent
 abbrev pub AreIn : List Record → EntryPart → ℕ → List Node → Type 0
@@ -172,11 +176,13 @@ parts-in : (l : List Record) (k i : ℕ) (u : EntryPart) (maker : List ℕ) (ps 
 parts-in l k i u maker [] at = tt
 parts-in l k i u maker (p ∷ ps) at =
     let first : EntryPart = record { entry = k; part = i } in
-    let y : Node = record { name = first; lots = p.lots; kind = kind_of_part u maker p } in
-    (at first refl (omega arith) ∙ ap (λ b. cond b (Some y) (among first (nodes_of_parts k (i + 1) u maker ps))) (same_name-same first),
-    parent-part u maker p, refl,
-    parts-in l k (i + 1) u maker ps (λ n q later. at n q (omega arith) ∙ ap (λ b. cond b (Some y) (among n (nodes_of_parts k (i + 1) u maker ps)))
-      (differ-same_name first n (λ t. let same : i ≡ n.part = ap (λ (m : EntryPart). m.part) t in absurd (omega arith)))))
+    let y : Node = record { name = first; lots = p.lots; kind = kind_of_part u maker p } in (
+      at first refl (omega arith) ∙ ap (λ b. cond b (Some y) (among first (nodes_of_parts k (i + 1) u maker ps))) (same_name-same first),
+      parent-part u maker p,
+      refl,
+      parts-in l k (i + 1) u maker ps (λ n q later. at n q (omega arith) ∙ ap (λ b. cond b (Some y) (among n (nodes_of_parts k (i + 1) u maker ps)))
+          (differ-same_name first n (λ t. let same : i ≡ n.part = ap (λ (m : EntryPart). m.part) t in absurd (omega arith)))),
+    )
 
 pub split-in : (l : List Record) (m : EntryPart) (k : ℕ) (by : List ℕ) (c : Command) → splits m c ≡ true → ((n : EntryPart) → n.entry ≡ k → node_of l n ≡ among n (nodes_of k by c)) → AreIn l m k (nodes_of k by c)
 split-in l m k by (Split u ps) e at = subst (λ w. AreIn l w k (nodes_of_parts k 1 u by ps)) (same_name-told u m e) (parts-in l k 1 u by ps (λ n q later. at n q))
@@ -198,6 +204,7 @@ enough-above f g l ord same n x found a b (Some m) up = go (node_of l m) refl
   where
     lower : m.entry < n.entry
     lower = falls l ord n m x found up
+
     go : (o : Option Node) → node_of l m ≡ o → line_within f l o ≡ line_within g l o
     go None e = refl
     go (Some y) e = same m y e (omega (arith, lower)) (omega (arith, lower))
@@ -253,5 +260,6 @@ count-later n k (r ∷ rs) h = omega (arith, count-later n k rs h)
 pub count-falls : (n : ℕ) (l : List Record) (m : EntryPart) (r : Record) → split_of l m ≡ Some r → n < r.number → count_after r.number l + 1 ≤ count_after n l
 count-falls n [] m r e h = absurd (cc)
 count-falls n (s ∷ l) m r e h = elim (chosen_case (splits m s.command) s r (split_of l m) e) [
-    inl a ↦ (let same : s.number ≡ r.number = ap (λ (z : Record). z.number) a.1 in omega (arith, count-later n r.number l (omega arith)))
-  | inr a ↦ omega (arith, count-falls n l m r a.1 h) ]
+  | inl a ↦ (let same : s.number ≡ r.number = ap (λ (z : Record). z.number) a.1 in omega (arith, count-later n r.number l (omega arith)))
+  | inr a ↦ omega (arith, count-falls n l m r a.1 h)
+]

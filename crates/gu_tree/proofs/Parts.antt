@@ -48,11 +48,12 @@ pub record Goes (path : List ℕ) (t : Rose) (h : Head) (n : ℕ) (i : ℕ) (res
   pub there : i < length xs
 
 pub goes : (path : List ℕ) (t v : Rose) (h : Head) (n : ℕ) (i : ℕ) (rest : List ℕ) (xs : List Rose) →
-  path ≡ i ∷ rest → parted h n (from_list xs) ≡ t → node_at path t ≡ Some v → Goes path t h n i rest xs
+    path ≡ i ∷ rest → parted h n (from_list xs) ≡ t → node_at path t ≡ Some v → Goes path t h n i rest xs
 goes path t v h n i rest xs e o led = record { first = e; opened = sym o; there = in_xs (part_at i (from_list xs)) refl }
   where
     below : node_at (i ∷ rest) (parted h n (from_list xs)) ≡ Some v
     below = rw (e, ← o) at led
+
     in_xs : (w : Option Rose) → part_at i (from_list xs) ≡ w → i < length xs
     in_xs None q = let z : node_at (i ∷ rest) (parted h n (from_list xs)) ≡ None = rw q refl in cc
     in_xs (Some u) q = part_at-in_range xs i u q
@@ -70,7 +71,7 @@ goes-edit {path} {t} {h} {n} {i} {rest} {xs} f u w g e q =
 
 -- an edit that keeps the node's lots keeps the sum
 pub goes-sum : {path : List ℕ} {t : Rose} {h : Head} {n i : ℕ} {rest : List ℕ} {xs : List Rose} (f : Rose → Rose) (u v w : Rose) → Goes path t h n i rest xs → u ≡ get_or xs i u → w ≡ edit_at f rest u →
-  node_at path t ≡ Some v → lots_of (f v) ≡ lots_of v → sum_of (from_list (set xs i w)) ≡ sum_of (from_list xs)
+    node_at path t ≡ Some v → lots_of (f v) ≡ lots_of v → sum_of (from_list (set xs i w)) ≡ sum_of (from_list xs)
 goes-sum {path} {t} {h} {n} {i} {rest} {xs} f u v w g e q led same =
     sum_of-set xs i w u g.there (ap lots_of q ∙ lots_of-edit_at f rest u v (sym (goes-below u g e) ∙ led) same ∙ ap lots_of e)
 
@@ -101,6 +102,7 @@ popped xs ys zs i e p = p ∙ rw e (take_append xs i)
   where
     len : (xs : List ℕ) (i : ℕ) → length (xs ++ i ∷ []) - 1 ≡ length xs
     len xs i = omega (arith, length-append xs (i ∷ []))
+
     take_append : (xs : List ℕ) (i : ℕ) → take (length (xs ++ i ∷ []) - 1) (xs ++ i ∷ []) ≡ xs
     take_append xs i = rw (len xs i) (take-append-le (length xs) xs (i ∷ []) (omega arith) ∙ take-length xs)
 

@@ -64,8 +64,9 @@ node_of-kept l r n x found =
 
 pub differ-same_name : (a b : EntryPart) → a ≢ b → same_name a b ≡ false
 differ-same_name a b other = elim (same_name a b) as (λ c. same_name a b ≡ c → c ≡ false) [
-    true ↦ (λ q. absurd (other (same_name-told a b q)))
-  | false ↦ (λ q. refl) ] refl
+  | true ↦ (λ q. absurd (other (same_name-told a b q)))
+  | false ↦ (λ q. refl)
+] refl
 
 -- the record neither splits nor decides a node of another name
 pub record Concerns (r : Record) (name : EntryPart) : Type 0 where
@@ -133,9 +134,10 @@ mutual
       let s = spares x.name (omega (arith, is_named-same h x.name (is.0).name)) in
       (head-kept l r above x h s.decides_not is.0, split_of-kept l r x.name s.splits_not ∙ is.1)
   node-kept l r above x (parted h n ts) spares is =
-      let s = spares x.name (omega (arith, is_named-same h x.name (is.0).name)) in
-      (head-kept l r above x h s.decides_not is.0,
-      (is.1.0, split_of-kept l r x.name s.splits_not ∙ is.1.1, is.1.2, parts-kept l r (Some h.place) _ ts (λ m one. spares m (omega arith)) is.1.3))
+      let s = spares x.name (omega (arith, is_named-same h x.name (is.0).name)) in (
+        head-kept l r above x h s.decides_not is.0,
+        (is.1.0, split_of-kept l r x.name s.splits_not ∙ is.1.1, is.1.2, parts-kept l r (Some h.place) _ ts (λ m one. spares m (omega arith)) is.1.3),
+      )
 
   pub parts-kept : (l : List Record) (r : Record) (above : Option Place) (xs : List Node) (ts : Roses) → ((n : EntryPart) → 1 ≤ named_below n ts → Spares r n) → ArePartsOf l above xs ts → ArePartsOf (more l r) above xs ts
   parts-kept l r above [] no_parts spares is = tt
@@ -177,10 +179,15 @@ node-edited l r name co f (i ∷ p) v one follows above x (parted h n ts) e once
     let below : named name v ≤ named_below name ts = named-part name p v (λ u. named-at name p u v) i ts e in
     let at_most : named_below name ts ≤ 1 = omega arith in
     let none : is_named name h ≡ 0 = omega arith in
-    let other = absent-differs name h x.name none (is.0).name in
-    (head-kept l r above x h (co.decides_no_other x.name other) is.0,
-    (is.1.0, split_of-kept l r x.name (co.splits_no_other x.name other) ∙ is.1.1, is.1.2,
-    parts-edited l r name co (edit_at f p) p v one (λ a y t d c j. node-edited l r name co f p v one follows a y t d c j) (Some h.place) i _ ts e at_most is.1.3))
+    let other = absent-differs name h x.name none (is.0).name in (
+      head-kept l r above x h (co.decides_no_other x.name other) is.0,
+      (
+        is.1.0,
+        split_of-kept l r x.name (co.splits_no_other x.name other) ∙ is.1.1,
+        is.1.2,
+        parts-edited l r name co (edit_at f p) p v one (λ a y t d c j. node-edited l r name co f p v one follows a y t d c j) (Some h.place) i _ ts e at_most is.1.3,
+      ),
+    )
 
 pub tree-edited : (l : List Record) (r : Record) (trade : ℕ) (name : EntryPart) → named_node r.command ≡ Some name → (f : Rose → Rose) (p : List ℕ) (v : Rose) → (head_of v).name ≡ name → Follows l r f v
     → (t : Rose) → node_at p t ≡ Some v → named name t ≤ 1 → IsTreeOf l trade t → IsTreeOf (more l r) trade (edit_at f p t)

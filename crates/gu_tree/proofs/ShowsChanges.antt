@@ -92,26 +92,30 @@ part-made : (l : List Record) (h : Head) (entry i : ℕ) (p : Part) → Untouche
     → IsNodeOf l (Some h.place) (part_node entry i h p b) (leaf (part_head_by entry i p h b))
 part-made l h entry i p new account true own =
     let n : EntryPart = record { entry = entry; part = i } in
-    let d = new.undecided i in
-    (record {
-      name = refl;
-      lots = refl;
-      place = own-place p.account p.firm h.place.firm h.place.account (account own) ((bytes_eq-Decides p.firm h.place.firm).0 own);
-      state = refl;
-      taker = refl;
-      decision = sym (ap (option_map (λ (s : Record). s.number)) d);
-    }, new.unsplit i)
+    let d = new.undecided i in (
+      record {
+        name = refl;
+        lots = refl;
+        place = own-place p.account p.firm h.place.firm h.place.account (account own) ((bytes_eq-Decides p.firm h.place.firm).0 own);
+        state = refl;
+        taker = refl;
+        decision = sym (ap (option_map (λ (s : Record). s.number)) d);
+      },
+      new.unsplit i,
+    )
 part-made l h entry i p new account false other =
     let d = new.undecided i in
-    let given : Kind = Given h.name h.place.firm p.firm in
-    (record {
-      name = refl;
-      lots = refl;
-      place = ap (λ o. place_of_kind given (option_and_then (λ (s : Record). claimed_account s.command) o) (Some h.place)) d;
-      state = sym (ap (state_of given) d);
-      taker = refl;
-      decision = sym (ap (option_map (λ (s : Record). s.number)) d);
-    }, new.unsplit i)
+    let given : Kind = Given h.name h.place.firm p.firm in (
+      record {
+        name = refl;
+        lots = refl;
+        place = ap (λ o. place_of_kind given (option_and_then (λ (s : Record). claimed_account s.command) o) (Some h.place)) d;
+        state = sym (ap (state_of given) d);
+        taker = refl;
+        decision = sym (ap (option_map (λ (s : Record). s.number)) d);
+      },
+      new.unsplit i,
+    )
 
 both : (p q : Bool) → (p && q) ≡ true → (p ≡ true) × (q ≡ true)
 both true q h = (refl, h)
@@ -141,10 +145,15 @@ split-follows l r h entry ps s unnamed lower accounts above x is =
     let new : Untouched (more l r) entry = record {
       unsplit = λ i. split_of-kept l r _ (splits-other r.command h.name _ names (λ q. lower (sym (ap (λ (m : EntryPart). m.entry) q)))) ∙ unnamed-split l _ unnamed;
       undecided = λ i. decision_of-kept l r _ (decides-other r.command h.name _ names (λ q. lower (sym (ap (λ (m : EntryPart). m.entry) q)))) ∙ unnamed-decision l _ unnamed;
-    } in
-    (head-kept l r above x h no_decision is.0,
-    (r, split_of-added l r x.name is.1 splits_it, s.number,
-    subst (λ xs. ArePartsOf (more l r) (Some h.place) xs (from_list (part_leaves entry h 1 ps))) (sym (nodes_of-same _ _ _ _ _ _ s.number s.firm s.command)) (parts-made (more l r) h entry 1 ps new accounts)))
+    } in (
+      head-kept l r above x h no_decision is.0,
+      (
+        r,
+        split_of-added l r x.name is.1 splits_it,
+        s.number,
+        subst (λ xs. ArePartsOf (more l r) (Some h.place) xs (from_list (part_leaves entry h 1 ps))) (sym (nodes_of-same _ _ _ _ _ _ s.number s.firm s.command)) (parts-made (more l r) h entry 1 ps new accounts),
+      ),
+    )
 
 -- ---- a decision
 
@@ -183,7 +192,7 @@ head-decided l r above x h k is op holds name lots taker state decision place =
     let d : decision_of (more l r) x.name ≡ Some r = decision_of-added l r x.name op.undecided holds in
     let taken : h.taker ≡ Some op.taker = is.taker ∙ ap taker_of op.kind in
     let stood : place_of_kind (Given op.up op.giver op.taker) None above ≡ Some h.place =
-      sym (λ i. place_of_kind (op.kind i) (option_and_then (λ (s : Record). claimed_account s.command) (op.undecided i)) above) ∙ is.place in
+    sym (λ i. place_of_kind (op.kind i) (option_and_then (λ (s : Record). claimed_account s.command) (op.undecided i)) above) ∙ is.place in
     record {
       name = name ∙ is.name;
       lots = lots ∙ is.lots;
@@ -197,10 +206,11 @@ pub claim-follows : (l : List Record) (r : Record) (h : Head) (number : ℕ) (pl
 claim-follows l r h number place c offered above x is =
     let no_split : splits x.name r.command ≡ false = ap (splits x.name) c.command in
     let holds : decides x.name r.command ≡ true = ap (decides x.name) c.command ∙ subst (λ n. same_name h.name n ≡ true) (is.0).name (same_name-same h.name) in
-    let op = open_from l x x.kind (decision_of l x.name) refl refl (sym offered ∙ (is.0).state) in
-    (head-decided l r above x h (claimed_head number place h) is.0 op holds refl refl refl (sym (ap state_after c.command)) (ap (λ (n : ℕ). Some n) (sym c.number))
-      (λ up giver taker taken stood. ap (λ o. place_of_kind (Given up giver taker) (claimed_account o) above) c.command ∙ claimed_place taker taken),
-    split_of-kept l r x.name no_split ∙ is.1)
+    let op = open_from l x x.kind (decision_of l x.name) refl refl (sym offered ∙ (is.0).state) in (
+      head-decided l r above x h (claimed_head number place h) is.0 op holds refl refl refl (sym (ap state_after c.command)) (ap (λ (n : ℕ). Some n) (sym c.number))
+          (λ up giver taker taken stood. ap (λ o. place_of_kind (Given up giver taker) (claimed_account o) above) c.command ∙ claimed_place taker taken),
+      split_of-kept l r x.name no_split ∙ is.1,
+    )
   where
     claimed_place : (taker : List ℕ) → h.taker ≡ Some taker → Some (place_in taker place.account) ≡ Some place
     claimed_place taker taken = let e : taker ≡ place.firm = cc (c.taker) in ap (λ (f : List ℕ). Some (place_in f place.account)) e
@@ -234,10 +244,11 @@ gives_back h Reversed c e = absurd e
 pub give_back-follows : (l : List Record) (r : Record) (h : Head) (number : ℕ) (state : State) → IsGivingBackOf h number state r → h.state ≡ Offered → Follows l r (give_back_node number state) (leaf h)
 give_back-follows l r h number state c offered above x is =
     let b = gives_back h state r.command c.command in
-    let op = open_from l x x.kind (decision_of l x.name) refl refl (sym offered ∙ (is.0).state) in
-    (head-decided l r above x h (given_back_head number state h) is.0 op (b.decides_it x.name (is.0).name) refl refl refl b.is_state (ap (λ (n : ℕ). Some n) (sym c.number))
-      (λ up giver taker taken stood. ap (λ o. place_of_kind (Given up giver taker) o above) b.claims_none ∙ stood),
-    split_of-kept l r x.name (b.splits_none x.name) ∙ is.1)
+    let op = open_from l x x.kind (decision_of l x.name) refl refl (sym offered ∙ (is.0).state) in (
+      head-decided l r above x h (given_back_head number state h) is.0 op (b.decides_it x.name (is.0).name) refl refl refl b.is_state (ap (λ (n : ℕ). Some n) (sym c.number))
+          (λ up giver taker taken stood. ap (λ o. place_of_kind (Given up giver taker) o above) b.claims_none ∙ stood),
+      split_of-kept l r x.name (b.splits_none x.name) ∙ is.1,
+    )
 
 -- ---- the whole tree
 
@@ -300,12 +311,15 @@ new-shows l r entry place lots t unnamed none =
       root = root_node entry place lots;
       found = node_of-added l r n none ∙ root-made entry r place lots t;
       top = refl;
-      tree = (record {
-        name = refl;
-        lots = refl;
-        place = refl;
-        state = sym (ap (state_of (Root place)) d);
-        taker = refl;
-        decision = sym (ap (option_map (λ (s : Record). s.number)) d);
-      }, split_of-kept l r n (ap (splits n) t.command) ∙ unnamed-split l n unnamed);
+      tree = (
+        record {
+          name = refl;
+          lots = refl;
+          place = refl;
+          state = sym (ap (state_of (Root place)) d);
+          taker = refl;
+          decision = sym (ap (option_map (λ (s : Record). s.number)) d);
+        },
+        split_of-kept l r n (ap (splits n) t.command) ∙ unnamed-split l n unnamed,
+      );
     }

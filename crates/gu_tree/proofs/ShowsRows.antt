@@ -112,7 +112,7 @@ module _ (l : List Record) (ord : IsOrderly l) where
     leaves-node d above x (parted h n ts) is =
         leaves-parts (d + 1) (Some h.place) _ ts is.1.3
         ∙ ap (λ b. cond b (shown (record { depth = d; head = h }) ∷ filter unsplit (map shown (rows_below (d + 1) ts))) (filter unsplit (map shown (rows_below (d + 1) ts))))
-          (sym (ap (λ m. is_none (split_of l m)) (is.0).name ∙ ap is_none is.1.1))
+        (sym (ap (λ m. is_none (split_of l m)) (is.0).name ∙ ap is_none is.1.1))
 
     leaves-parts : (d : ℕ) (above : Option Place) (xs : List Node) (ts : Roses) → ArePartsOf l above xs ts → map shown (leaves_below d ts) ≡ filter unsplit (map shown (rows_below d ts))
     leaves-parts d above [] no_parts is = refl

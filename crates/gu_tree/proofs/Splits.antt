@@ -53,7 +53,7 @@ part_leaves-append e h k [] p m q = let s : m ≡ k = omega arith in rw s refl
 part_leaves-append e h k (x ∷ ps) p m q = ap (λ xs. leaf (part_head e k x h) ∷ xs) (part_leaves-append e h (k + 1) ps p m (omega arith))
 
 pub part_leaves-push : (e : ℕ) (h : Head) (ps : List Part) (i : ℕ) (p : Part) (m : ℕ) (k : Head) (u : Rose) → i < length ps → p ≡ get_or ps i p → m ≡ i + 1 → k ≡ part_head e m p h → u ≡ leaf k →
-  part_leaves e h 1 (take (i + 1) ps) ≡ part_leaves e h 1 (take i ps) ++ u ∷ []
+    part_leaves e h 1 (take (i + 1) ps) ≡ part_leaves e h 1 (take i ps) ++ u ∷ []
 part_leaves-push e h ps i p m k u l at q a b =
     rw (take_more ps i p l, ← at, b, a) (part_leaves-append e h 1 (take i ps) p m (omega (arith, length-take-le i ps (omega arith))))
 
@@ -72,26 +72,30 @@ can_split-named ps (parted h n ts) name can = absurd can
 -- the parts from the k-th on have names of their own
 is_named-part : (e k : ℕ) (p : Part) (h : Head) (name : EntryPart) → (named name (leaf (part_head e k p h)) ≡ 0) ⊎ (name ≡ record { entry = e; part = k })
 is_named-part e k p h name = elim (same_name (record { entry = e; part = k }) name) as (λ b. same_name (record { entry = e; part = k }) name ≡ b → (named name (leaf (part_head e k p h)) ≡ 0) ⊎ (name ≡ record { entry = e; part = k })) [
-    true ↦ (λ q. inr (sym (same_name-told _ _ q)))
-  | false ↦ (λ q. inl (rw (part_head-name e k p h, q) refl)) ] refl
+  | true ↦ (λ q. inr (sym (same_name-told _ _ q)))
+  | false ↦ (λ q. inl (rw (part_head-name e k p h, q) refl))
+] refl
 
 pub named-part_leaves-other : (e : ℕ) (h : Head) (k : ℕ) (ps : List Part) (name : EntryPart) → name.entry ≢ e → named_below name (from_list (part_leaves e h k ps)) ≡ 0
 named-part_leaves-other e h k [] name other = refl
 named-part_leaves-other e h k (p ∷ ps) name other = elim (is_named-part e k p h name) [
-    inl none ↦ omega (arith, none, named-part_leaves-other e h (k + 1) ps name other)
-  | inr q ↦ absurd (other (ap (λ (m : EntryPart). m.entry) q)) ]
+  | inl none ↦ omega (arith, none, named-part_leaves-other e h (k + 1) ps name other)
+  | inr q ↦ absurd (other (ap (λ (m : EntryPart). m.entry) q))
+]
 
 named-part_leaves-later : (e : ℕ) (h : Head) (k : ℕ) (ps : List Part) (name : EntryPart) → name.part < k → named_below name (from_list (part_leaves e h k ps)) ≡ 0
 named-part_leaves-later e h k [] name lower = refl
 named-part_leaves-later e h k (p ∷ ps) name lower = elim (is_named-part e k p h name) [
-    inl none ↦ omega (arith, none, named-part_leaves-later e h (k + 1) ps name (omega arith))
-  | inr q ↦ absurd (omega (arith, ap (λ (m : EntryPart). m.part) q)) ]
+  | inl none ↦ omega (arith, none, named-part_leaves-later e h (k + 1) ps name (omega arith))
+  | inr q ↦ absurd (omega (arith, ap (λ (m : EntryPart). m.part) q))
+]
 
 pub named-part_leaves : (e : ℕ) (h : Head) (k : ℕ) (ps : List Part) (name : EntryPart) → named_below name (from_list (part_leaves e h k ps)) ≤ 1
 named-part_leaves e h k [] name = omega arith
 named-part_leaves e h k (p ∷ ps) name = elim (is_named-part e k p h name) [
-    inl none ↦ omega (arith, none, named-part_leaves e h (k + 1) ps name)
-  | inr q ↦ omega (arith, is_named-same (part_head e k p h) name (part_head-name e k p h ∙ sym q), named-part_leaves-later e h (k + 1) ps name (omega (arith, ap (λ (m : EntryPart). m.part) q))) ]
+  | inl none ↦ omega (arith, none, named-part_leaves e h (k + 1) ps name)
+  | inr q ↦ omega (arith, is_named-same (part_head e k p h) name (part_head-name e k p h ∙ sym q), named-part_leaves-later e h (k + 1) ps name (omega (arith, ap (λ (m : EntryPart). m.part) q)))
+]
 
 named-split_node : (e : ℕ) (ps : List Part) (v : Rose) (name : EntryPart) → CanSplit ps v → named name (split_node e ps v) ≡ named name v + named_below name (from_list (part_leaves e (head_of v) 1 ps))
 named-split_node e ps v name can = omega (arith, can_split-named ps v name can)
@@ -122,8 +126,9 @@ module _ {path : List ℕ} {t v : Rose} {e : ℕ} {h : Head} {ps : List Part} {x
 
   ready-once : (new : Rose) (name : EntryPart) → new ≡ edit_at (split_node e ps) path t → has_entry e t ≡ false → named name t ≤ 1 → named name new ≤ 1
   ready-once new name is fresh once = elim (name.entry == e) as (λ b. (name.entry == e) ≡ b → named name new ≤ 1) [
-      true ↦ (λ q. omega (arith, ready-named new name is, named-part_leaves e (head_of v) 1 ps name, named-new e name t ((Decides-eqb _ _).0 q) fresh))
-    | false ↦ (λ q. omega (arith, ready-named new name is, named-part_leaves-other e (head_of v) 1 ps name (λ s. let y : (name.entry == e) ≡ true = (Decides-eqb _ _).1 s in cc))) ] refl
+    | true ↦ (λ q. omega (arith, ready-named new name is, named-part_leaves e (head_of v) 1 ps name, named-new e name t ((Decides-eqb _ _).0 q) fresh))
+    | false ↦ (λ q. omega (arith, ready-named new name is, named-part_leaves-other e (head_of v) 1 ps name (λ s. let y : (name.entry == e) ≡ true = (Decides-eqb _ _).1 s in cc)))
+  ] refl
 
   pub ready-tree : (new : Rose) → length path < 64 → new ≡ edit_at (split_node e ps) path t → has_entry e t ≡ false → IsTree t → IsTree new
   ready-tree new short is fresh was = record { low = ready-low new short is was.low; once = λ name. ready-once new name is fresh (was.once name) }

@@ -143,7 +143,11 @@ impl<A: Allocator> Node<A> {
     }
 
     /// Appends the rows of this node and of all below it.
-    pub(crate) fn rows_into<B: Allocator>(&self, depth: u8, rows: &mut Vec<Row, B>) -> Result<(), Memory>
+    pub(crate) fn rows_into<B: Allocator>(
+        &self,
+        depth: u8,
+        rows: &mut Vec<Row, B>,
+    ) -> Result<(), Memory>
         requires { depth + height_of self.now < 256 }
         ensures rows { OnOk result (rows.new.items ≡ rows.old.items ++ rows_from depth self.now) }
         ensures adds_up { OnOk result (AddsUp self.now) }
@@ -161,7 +165,11 @@ impl<A: Allocator> Node<A> {
     }
 
     /// Appends the rows of the leaves at and below this node.
-    pub(crate) fn leaves_into<B: Allocator>(&self, depth: u8, rows: &mut Vec<Row, B>) -> Result<(), Memory>
+    pub(crate) fn leaves_into<B: Allocator>(
+        &self,
+        depth: u8,
+        rows: &mut Vec<Row, B>,
+    ) -> Result<(), Memory>
         requires { depth + height_of self.now < 256 }
         ensures rows { OnOk result (rows.new.items ≡ rows.old.items ++ leaves_from depth self.now) }
         ensures adds_up { OnOk result (AddsUp self.now) }
@@ -234,7 +242,10 @@ impl<A: Allocator> Node<A> {
 }
 
 /// An empty `Vec` with room for `count` nodes: the one growth for a node's parts.
-pub(crate) fn with_room<B: Allocator + Clone>(alloc: &B, count: usize) -> Result<Vec<Node<B>, B>, Memory>
+pub(crate) fn with_room<B: Allocator + Clone>(
+    alloc: &B,
+    count: usize,
+) -> Result<Vec<Node<B>, B>, Memory>
     ensures empty { IfOk result (λ v. v.items ≡ []) }
     ensures len { IfOk result (λ v. vec_len v ≡ 0) }
     ensures room { IfOk result (λ v. count ≤ vec_capacity v) }

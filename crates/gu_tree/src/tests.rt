@@ -46,13 +46,22 @@ fn is_placed(parts: &[Part], whole: &Head) -> bool
 }
 
 /// Splits the node of that name, where all that `split` asks for holds.
-fn split(tree: &mut Tree<Global>, node: NodeName, entry: Number, parts: &[Part]) -> Result<bool, Memory> {
+fn split(
+    tree: &mut Tree<Global>,
+    node: NodeName,
+    entry: Number,
+    parts: &[Part],
+) -> Result<bool, Memory> {
     let Some(path) = tree.find(node) else {
         return Ok(false);
     };
     let head = *tree.head(&path);
     let parted = tree.parted(&path);
-    if parted.is_some() || head.state == State::Offered || path.len() >= 64 || tree.has_entry(entry) {
+    if parted.is_some()
+        || head.state == State::Offered
+        || path.len() >= 64
+        || tree.has_entry(entry)
+    {
         return Ok(false);
     }
     if parts.is_empty() || parts.len() > 100 {
@@ -121,7 +130,14 @@ fn an_offered_part_stands_where_its_parent_stands(rt: HostRuntime) -> Result<(),
 #[test]
 fn a_claimed_part_stands_in_its_account(rt: HostRuntime) -> Result<(), Fail> {
     let mut tree = given_up(rt.alloc())?;
-    assert!(rt; claim(&mut tree, name(2, 2)?, Number::at_place(2), place("BBB", "B1")?));
+    assert!(rt;
+        claim(
+            &mut tree,
+            name(2, 2)?,
+            Number::at_place(2),
+            place("BBB", "B1")?
+        )
+    );
     let part = head(&tree, name(2, 2)?)?;
     assert_eq!(rt; part.state, State::Claimed);
     assert_eq!(rt; part.place, place("BBB", "B1")?);
@@ -174,7 +190,10 @@ fn a_name_that_is_not_there_has_no_path(rt: HostRuntime) -> Result<(), Fail> {
 fn a_copy_has_equal_rows(rt: HostRuntime) -> Result<(), Fail> {
     let tree = given_up(rt.alloc())?;
     let copy = tree.copy(rt.alloc())?;
-    assert_eq!(rt; copy.rows(rt.alloc())?.as_slice(), tree.rows(rt.alloc())?.as_slice());
+    assert_eq!(rt;
+        copy.rows(rt.alloc())?.as_slice(),
+        tree.rows(rt.alloc())?.as_slice()
+    );
     Ok(())
 }
 
@@ -196,7 +215,14 @@ fn lots_parts_depth_sixty_four_levels(rt: HostRuntime) -> Result<(), Fail> {
     let parts = [part(1, "AAA", "A1")?];
     assert!(rt; split(&mut tree, name(1, 0)?, Number::at_place(1), &parts)?);
     for entry in 2..65 {
-        assert!(rt; split(&mut tree, name(entry, 1)?, Number::at_place(entry as usize), &parts)?);
+        assert!(rt;
+            split(
+                &mut tree,
+                name(entry, 1)?,
+                Number::at_place(entry as usize),
+                &parts
+            )?
+        );
     }
     assert!(rt; !split(&mut tree, name(65, 1)?, Number::at_place(65), &parts)?);
     let rows = tree.rows(rt.alloc())?;

@@ -129,7 +129,8 @@ impl<A: Allocator + Clone> Tree<A> {
     {
         let head = *self.root.at(path.as_slice()).head();
         let leaves = leaves_of(&self.alloc, entry, parts, &head)?;
-        self.root.replace(path.as_slice(), Node::with_parts(head, entry, leaves));
+        self.root
+            .replace(path.as_slice(), Node::with_parts(head, entry, leaves));
         Ok(())
     }
 
@@ -238,7 +239,12 @@ fn part_head(entry: Number, i: u8, part: &Part, whole: &Head) -> Head
 }
 
 /// The parts as leaves. Their memory is asked for once.
-fn leaves_of<A: Allocator + Clone>(alloc: &A, entry: Number, parts: &[Part], whole: &Head) -> Result<Vec<Node<A>, A>, Memory>
+fn leaves_of<A: Allocator + Clone>(
+    alloc: &A,
+    entry: Number,
+    parts: &[Part],
+    whole: &Head,
+) -> Result<Vec<Node<A>, A>, Memory>
     requires { length parts.now ≤ 100 }
     ensures { IfOk result (λ v. v.items ≡ part_leaves entry whole.now 1 parts.now) }
 {
