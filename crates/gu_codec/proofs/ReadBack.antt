@@ -1,5 +1,5 @@
 -- What is written is read back.
-use Rattle.std.proofs.Common.{◌≡◌, ◌≢◌, ℕ, zero, suc, ◌+◌, ◌-◌, ◌*◌, ◌<◌, ◌≤◌, ◌%◌, ◌/◌, ◌^◌, Bool, true, false, List, [], ◌∷◌, ◌++◌, length, get_or, take, drop, Option, Some, None, refl, sym, ap, subst, ◌∙◌, append_assoc, arith, rules, length-append, length-take}
+use Rattle.std.proofs.Common.{◌≡◌, ◌≢◌, ℕ, ◌+◌, ◌-◌, ◌<◌, ◌≤◌, ◌%◌, ◌/◌, ◌^◌, true, List, [], ◌∷◌, ◌++◌, length, get_or, take, drop, Option, Some, None, refl, sym, ap, subst, ◌∙◌, append_assoc, arith, length-append}
 use Rattle.std.specs.Prelude.{sum, codes, decimal, IfSome, IsTrue, nat_le, ◌&&◌}
 use Rattle.gu_base.specs.Names.{is_printed, is_firm_text}
 use Rattle.std.specs.List.{AllByRecursion, list_all}
@@ -7,14 +7,13 @@ use Rattle.std.specs.Str.Parse.{AllDigits, digits_value}
 use Rattle.std.specs.Char.{digit_value}
 use Rattle.std.proofs.lemmas.Fmt.{decimal_is_IsNumeral, length-decimal-le, first_decimal}
 use Rattle.std.proofs.lemmas.Bool.{le-leb, leb-true, and_from, and_parts}
-use Rattle.std.proofs.lemmas.List.{drop_at, take_at, take-append-le}
-use Rattle.gu_codec.specs.declared.template.Class.{Class}
-use Rattle.gu_codec.specs.declared.template.Class.TheVariants.{Only, Digit, Any}
+use Rattle.std.proofs.lemmas.List.{drop_at, take_at}
+use Rattle.gu_codec.specs.declared.template.Class.TheVariants.{Digit}
 use Rattle.gu_codec.specs.declared.frame.Frame.{Frame}
-use Rattle.gu_codec.specs.Grammar.{fits, IsWord, opening, trailer, body_len, after_count, frame, IsShortNumber, IsCount, HasRightSum, body_of}
-use Rattle.gu_codec.specs.Fields.{IsTag, IsValue, AreFields, IsBody}
+use Rattle.gu_codec.specs.Grammar.{fits, IsWord, opening, trailer, body_len, after_count, frame, IsCount, HasRightSum, body_of}
+use Rattle.gu_codec.specs.Fields.{IsTag, IsValue, AreFields}
 use Rattle.gu_codec.specs.Answer.{HasFrame, IsGood, Answers, IsWholeOf}
-use Rattle.gu_codec.specs.Writing.{field, HeaderText, IsText, HasTexts, IsLawful, resend_flag, first_sent, fields_with, header_fields, three_digits, before_sum, frame_text, resend_pairs, header_pairs}
+use Rattle.gu_codec.specs.Writing.{field, HeaderText, IsText, IsLawful, resend_flag, first_sent, header_fields, three_digits, before_sum, frame_text, resend_pairs, header_pairs}
 use Rattle.gu_codec.proofs.Templates.{Begins, word_from_begins, any_join, digit_range}
 use Rattle.gu_codec.proofs.Fronts.{length-frame, begins_in_body}
 use Rattle.gu_codec.proofs.FieldSteps.{digit_value_is}
