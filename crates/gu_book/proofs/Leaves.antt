@@ -334,7 +334,7 @@ weighed_from t takes done (r ∷ rest) bound positive s equal none rises =
     subst (λ (l : List Record). Weighed takes l) (append_assoc done (r ∷ []) rest)
     (weighed_from t takes (done ++ r ∷ []) rest (r.number + 1) (omega arith) (sound_push done bound r s behind next) (omega (arith, step, pushed, equal)) p.1 rises.1)
 
-sound_first : Sound [] 1
+pub sound_first : Sound [] 1
 sound_first = record {
   found = sound_none.found;
   low = λ n x e. absurd (cc);

@@ -13,3 +13,5 @@ pub mod SoundNext
 pub mod Leaves
 pub mod Placed
 pub mod Positions
+pub mod Orders
+pub mod Named

@@ -8,3 +8,5 @@ pub mod Kept
 pub mod Known
 pub mod Conserved
 pub mod Placed
+pub mod Beside
+pub mod TreeRows

@@ -14,6 +14,7 @@
 pub mod book;
 pub mod laws;
 mod plain;
+mod trees;
 
 pub use book::Book;
 pub use gu_base::{Answer, Entry};

@@ -1,0 +1,157 @@
+//! The trees beside the live changes: one for each live trade.
+ghost use Rattle.std.specs.Prelude.{◌≡◌, ◌≤◌, ◌<◌, ◌==◌, length, find, IfOk, OnOk, OnErr, IfSome, IfNone, option_map, get_or};
+ghost use Rattle.std.specs.List.{All};
+ghost use Rattle.gu_base.specs.declared.command.Command.TheVariants.{Trade, Split, Claim, Refuse, Cancel};
+ghost use Rattle.gu_base.specs.declared.state.State.TheVariants.{Refused, Cancelled};
+ghost use Rattle.gu_tree.specs.Rose.{lots_of, rows};
+ghost use Rattle.gu_tree.specs.Changes.{is_given_back};
+ghost use Rattle.gu_tree.specs.Shown.{GivesBack};
+ghost use Rattle.gu_book.specs.Beside.{IsDue, Follows, IsFoundIn, named_in, lots_in};
+
+use gu_base::{
+    AccountId, Command, InstrumentId, Memory, NodeName, Number, Part, Place, Record, Side, State,
+};
+use gu_tree::{Path, Row, Tree};
+use std::alloc::Global;
+
+/// The tree of a live trade, and what was traded.
+#[derive(Drop)]
+pub(crate) struct TradeTree {
+    trade: Number,
+    instrument: InstrumentId,
+    side: Side,
+    tree: Tree<Global>,
+}
+
+/// Which of the trees has the node, and the path to it there. `None` where none has it.
+fn find(trees: &[TradeTree], name: NodeName) -> Option<(usize, Path)>
+    ensures found { IfSome result (λ f. IsFoundIn trees.now f.0 f.1.items name) }
+    ensures absent { IfNone result (named_in name trees.now ≡ 0) }
+{
+    for (i, t) in trees.iter().enumerate() {
+        if let Some(path) = t.tree.find(name) {
+            return Some((i, path));
+        }
+    }
+    None
+}
+
+/// Adds the tree of a Trade.
+fn plant(
+    trees: &mut Vec<TradeTree>,
+    alloc: Global,
+    made: &Record,
+    place: Place,
+    instrument: InstrumentId,
+    side: Side,
+    lots: u64,
+) -> Result<(), Memory>
+    requires { made.now.command ≡ Trade place.firm place.account instrument side lots }
+    ensures follows { OnOk result (Follows made.now trees.old.items trees.new.items) }
+    ensures unchanged { OnErr result (trees.new.items ≡ trees.old.items) }
+{
+    trees.push(TradeTree {
+        trade: made.number,
+        instrument,
+        side,
+        tree: Tree::new(alloc, made.number, place, lots),
+    })?;
+    Ok(())
+}
+
+/// Gives the node its parts.
+fn split(
+    trees: &mut [TradeTree],
+    made: &Record,
+    node: NodeName,
+    parts: &[Part],
+) -> Result<(), Memory>
+    requires due { IsDue made.now trees.old }
+    requires split { made.now.command ≡ Split node parts.now }
+    ensures follows { OnOk result (Follows made.now trees.old trees.new) }
+    ensures unchanged { OnErr result (trees.new ≡ trees.old) }
+{
+    let Some((i, path)) = find(trees, node) else {
+        unreachable!()
+    };
+    trees[i].tree.split(&path, made.number, parts)
+}
+
+/// Moves the node into the account of its claim.
+fn claim(trees: &mut [TradeTree], made: &Record, node: NodeName, account: AccountId)
+    requires due { IsDue made.now trees.old }
+    requires claim { made.now.command ≡ Claim node account }
+    ensures { Follows made.now trees.old trees.new }
+{
+    let Some((i, path)) = find(trees, node) else {
+        unreachable!()
+    };
+    let place = Place {
+        firm: made.firm,
+        account,
+    };
+    trees[i].tree.claim(&path, made.number, place);
+}
+
+/// Gives the node back to its giver: `state` is Refused or Cancelled.
+fn give_back(trees: &mut [TradeTree], made: &Record, node: NodeName, state: State)
+    requires due { IsDue made.now trees.old }
+    requires back { GivesBack node state made.now.command }
+    ensures { Follows made.now trees.old trees.new }
+{
+    let Some((i, path)) = find(trees, node) else {
+        unreachable!()
+    };
+    trees[i].tree.give_back(&path, made.number, state);
+}
+
+/// Does to the trees what an accepted change says. Its one growth comes before anything changes.
+pub(crate) fn change(
+    trees: &mut Vec<TradeTree>,
+    alloc: Global,
+    made: &Record,
+) -> Result<(), Memory>
+    requires { IsDue made.now trees.old.items }
+    ensures follows { OnOk result (Follows made.now trees.old.items trees.new.items) }
+    ensures unchanged { OnErr result (trees.new.items ≡ trees.old.items) }
+{
+    match &made.command {
+        Command::Trade {
+            firm,
+            account,
+            instrument,
+            side,
+            lots,
+        } => {
+            let place = Place {
+                firm: *firm,
+                account: *account,
+            };
+            plant(trees, alloc, made, place, *instrument, *side, *lots)?;
+        }
+        Command::Split { node, parts } => {
+            split(trees.as_mut_slice(), made, *node, parts.as_slice())?;
+        }
+        Command::Claim { node, account } => claim(trees.as_mut_slice(), made, *node, *account),
+        Command::Refuse { node } => give_back(trees.as_mut_slice(), made, *node, State::Refused),
+        Command::Cancel { node } => give_back(trees.as_mut_slice(), made, *node, State::Cancelled),
+        _ => {}
+    }
+    Ok(())
+}
+
+/// The rows of the tree of that trade; `None` where there is none.
+pub(crate) fn rows(
+    trees: &[TradeTree],
+    alloc: Global,
+    trade: Number,
+) -> Result<Option<Vec<Row>>, Memory>
+    ensures { IfOk result (λ o. option_map (λ v. v.items) o ≡ option_map (λ t. rows t.tree) (find (λ t. t.trade == trade) trees.now)) }
+{
+    for t in trees {
+        if t.trade == trade {
+            return Ok(Some(t.tree.rows(alloc)?));
+        }
+    }
+    Ok(None)
+}
