@@ -7,4 +7,5 @@ pub mod Shows
 pub mod ShowsChanges
 pub mod Orderly
 pub mod ShowsRows
+pub mod Along
 pub mod Conditions
