@@ -8,4 +8,5 @@ pub mod ShowsChanges
 pub mod Orderly
 pub mod ShowsRows
 pub mod Along
+pub mod Counts
 pub mod Conditions
