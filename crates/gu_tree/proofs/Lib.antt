@@ -9,4 +9,5 @@ pub mod Orderly
 pub mod ShowsRows
 pub mod Along
 pub mod Counts
+pub mod Weights
 pub mod Conditions
