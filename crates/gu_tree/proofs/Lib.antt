@@ -7,4 +7,7 @@ pub mod Shows
 pub mod ShowsChanges
 pub mod Orderly
 pub mod ShowsRows
+pub mod Along
+pub mod Counts
+pub mod Weights
 pub mod Conditions

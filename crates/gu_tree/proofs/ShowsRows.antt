@@ -46,7 +46,7 @@ module _ (l : List Record) (ord : IsOrderly l) where
   all-below x place k (y ∷ ys) found at is =
       (record { found = is.0; stands = stands-part l ord x y (Some place) found is.0 is.1 at }, all-below x place k ys found at is.3)
 
-  its-parts : (x : Node) (r : Record) → split_of l x.name ≡ Some r → AreIn l x.name r.number (nodes_of r.number r.firm r.command)
+  pub its-parts : (x : Node) (r : Record) → split_of l x.name ≡ Some r → AreIn l x.name r.number (nodes_of r.number r.firm r.command)
   its-parts x r e = let f = found-split 0 l ord x.name r e in split-in l x.name r.number r.firm r.command f.splits_it f.its_nodes
 
   mutual
