@@ -1,5 +1,5 @@
 -- The live changes stand in the order of their numbers, and each names a node of a lower one.
-use Rattle.std.proofs.Common.{◌≡◌, ◌≢◌, ℕ, ◌+◌, ◌<◌, ◌≤◌, false, List, [], ◌∷◌, ◌++◌, refl, sym, ◌∙◌, ap, subst, arith, Option}
+use Rattle.std.proofs.Common.{◌≡◌, ◌≢◌, ℕ, ◌+◌, ◌<◌, ◌≤◌, false, List, [], ◌∷◌, ◌++◌, refl, sym, ◌∙◌, ap, subst, arith, Option, append-nil, append_assoc}
 use Rattle.std.specs.Prelude.{Some, None}
 use Rattle.std.specs.List.{All}
 use Rattle.std.proofs.lemmas.List.Elements.{All-nil, All-cons, All-head, All-tail}
@@ -46,6 +46,17 @@ orderly_from t done (r ∷ rest) k s none rises =
       (λ n e. let x = names_there t done r.firm r.command n (row_none t done r.firm r.command p.0) e in let low = s.low n x.0 x.1 in let a : n.entry < k + 1 = low.1 in omega arith),
       orderly_from t (done ++ r ∷ []) rest r.number (sound_push done (k + 1) r s behind next) p.1 rises.1,
     )
+
+-- the nodes of a list that may be continued have lower numbers than what comes next
+pub sound_before : (t : House) (done rest : List Record) (r : Record) (k : ℕ) → 1 ≤ k → Sound done k → first_refused t done rest ≡ None → RisesFrom k (rest ++ r ∷ [])
+    → (bound : ℕ) × (1 ≤ bound) × (bound ≤ r.number) × Sound (done ++ rest) bound
+sound_before t done [] r k positive s none rises = (k, positive, rises.0, subst (λ (l : List Record). Sound l k) (sym (append-nil done)) s)
+sound_before t done (d ∷ rest) r k positive s none rises =
+    let p = none_both (refusal_of t done d.firm d.command) d.number (first_refused t (done ++ d ∷ []) rest) none in
+    let behind : k ≤ d.number = rises.0 in
+    let next = next_from_accepted t done d (omega arith) p.0 in
+    let more = sound_before t (done ++ d ∷ []) rest r (d.number + 1) (omega arith) (sound_push done k d s behind next) p.1 rises.1 in
+    (more.0, more.1, more.2, subst (λ (l : List Record). Sound l more.0) (append_assoc done (d ∷ []) rest) more.3)
 
 -- what holds of the live changes: they are sound and in order
 pub record InOrder (l : List Record) : Type 0 where

@@ -82,6 +82,7 @@ pub record SplitPasses (t : House) (l : List Record) (by : List ℕ) (ps : List 
   pub whole : option_map (λ r. AlreadySplit r.number) (split_of l x.name) ≡ None
   pub free : not (is_offered l x) ≡ true
   pub count : (nat_le 1 (length ps) && nat_le (length ps) 100) ≡ true
+  pub shallow : nat_lt (depth_of l x.name) 64 ≡ true
   pub parts : first (map (refusal_of_part t by) ps) ≡ None
   pub sums : (sum_by (λ p. p.lots) ps == x.lots) ≡ true
 
@@ -105,6 +106,7 @@ split_passes t l by ps x h =
       whole = b.0;
       free = unless_none (not (is_offered l x)) StillOffered c.0;
       count = unless_none (nat_le 1 (length ps) && nat_le (length ps) 100) BadPartCount d.0;
+      shallow = unless_none (nat_lt (depth_of l x.name) 64) TooDeep e.0;
       parts = f.0;
       sums = unless_none (sum_by (λ p. p.lots) ps == x.lots) SumDiffers g.0;
     }

@@ -1,21 +1,15 @@
-use Rattle.std.proofs.Common.{rules, ◌≡◌, ◌≤◌, ◌<◌, ◌==◌, length, find, IfOk, OnOk, OnErr, IfSome, IfNone, option_map, get_or, ℕ, ◌+◌, ◌-◌, ◌*◌, ◌/◌, ◌%◌, Bool, true, false, nat_eq, nat_lt, List, [], ◌∷◌, ◌++◌, slice_set, bit_and, bit_or, Fits, w8, w32, w64, Bor, MutBor}
-use Rattle.std.specs.List.{All}
-use Rattle.gu_base.specs.declared.command.Command.TheVariants.{Trade, Split, Claim, Refuse, Cancel}
-use Rattle.gu_base.specs.declared.state.State.TheVariants.{Refused, Cancelled}
-use Rattle.gu_tree.specs.Rose.{lots_of, rows}
-use Rattle.gu_tree.specs.Changes.{is_given_back}
-use Rattle.gu_tree.specs.Shown.{GivesBack}
-use Rattle.gu_book.specs.Beside.{IsDue, Follows, IsFoundIn, named_in, lots_in}
+use Rattle.std.proofs.Common.{arith, ap, sym, ◌∙◌, take_all}
+use Rattle.std.proofs.lemmas.List.Sums.{sum_by_more}
+use Rattle.gu_tree.specs.Rose.{named}
+use Rattle.gu_book.specs.Beside.{named_in}
+use Rattle.gu_book.specs.declared.trees.TradeTree.{TradeTree}
 use Rattle.gu_book.proofs.trees.find.Goals as goal
 
--- src/trees.rt:31:5
-pub loop-i-init : goal.loop-i-init
-loop-i-init c = ?
-
--- src/trees.rt:31:5
 pub loop-i-preserved : goal.loop-i-preserved
-loop-i-preserved c = ?
+loop-i-preserved c =
+    let more = sum_by_more (λ (t : TradeTree). named c.args.name t.tree) c.args.trees.now c.loop-i.i c.index-trees-i.result c.loop-i-test.true in
+    let here = ap (λ (t : TradeTree). named c.args.name t.tree) c.index-trees-i.is in
+    omega (arith, more, here, c.loop-i.invariant, c.in_default.ensures.absent)
 
--- src/trees.rt:27:1
 pub returns-clause-absent : goal.returns-clause-absent
-returns-clause-absent c = ?
+returns-clause-absent c = sym (ap (named_in c.args.name) (take_all c.loop-i.i c.args.trees.now c.loop-i-test.false)) ∙ c.loop-i.invariant
