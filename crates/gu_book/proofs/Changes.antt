@@ -1,0 +1,237 @@
+-- What each change makes of the trees.
+use Rattle.std.proofs.Common.{◌≡◌, ◌≢◌, ℕ, zero, suc, ◌+◌, ◌<◌, ◌≤◌, Bool, true, false, not, ◌&&◌, ◌||◌, List, [], ◌∷◌, ◌++◌, length, get_or, refl, sym, ◌∙◌, ap, subst, arith, cond, Option, IsTrue}
+use Rattle.std.specs.Prelude.{Some, None, find, map, sum_by, ◌==◌, nat_le, nat_lt, is_some, is_none, IsSomeAnd, option_map, unwrap_or, bytes_eq}
+use Rattle.std.specs.List.{All, list_all}
+use Rattle.std.proofs.Math.ListN.{set}
+use Rattle.std.proofs.lemmas.Bool.Decides.{Decides-eqb}
+use Rattle.std.proofs.lemmas.List.Elements.{All-nil, All-cons, All-head, All-tail}
+use Rattle.std.proofs.lemmas.List.Folds.{find-append}
+use Rattle.std.proofs.lemmas.Slice.Eq.{bytes_eq-Decides}
+use Rattle.gu_base.specs.Numbers.{EntryPart}
+use Rattle.gu_base.specs.House.{House, knows_account}
+use Rattle.gu_base.specs.Nodes.{node_of, nodes_of, same_name, decision_of, split_of, is_given, is_offered}
+use Rattle.gu_base.specs.Places.{owner_of, place_of, depth_of}
+use Rattle.gu_base.specs.Positions.{is_trade_of}
+use Rattle.gu_base.specs.Refusals.{row, split_row, claim_row, refuse_row, cancel_row, first, unless, owns, is_taker, is_giver, agreement_row, used_by, terms, refusal_of_part, knows_own_account}
+use Rattle.gu_base.specs.Rows.{state_of, state_after, taker_of}
+use Rattle.gu_base.specs.declared.command.Part.{Part}
+use Rattle.gu_base.specs.declared.command.Side.{Side}
+use Rattle.gu_base.specs.declared.command.Command.{Command}
+use Rattle.gu_base.specs.declared.command.Command.TheVariants.{Trade, Split, Claim, Refuse, Cancel, Initiate, Decline, Reverse}
+use Rattle.gu_base.specs.declared.entry.Record.{Record}
+use Rattle.gu_base.specs.declared.node.Kind.{Kind}
+use Rattle.gu_base.specs.declared.node.Kind.TheVariants.{Root, Own, Given}
+use Rattle.gu_base.specs.declared.node.Node.{Node}
+use Rattle.gu_base.specs.declared.node.Place.{Place}
+use Rattle.gu_base.specs.declared.refusal.Refusal.TheVariants.{AlreadySplit, NotOffered, NotYours, UnknownAccount}
+use Rattle.gu_base.specs.declared.state.State.{State}
+use Rattle.gu_base.specs.declared.state.State.TheVariants.{Held, Offered, Claimed, Refused, Cancelled, ReversalPending, Reversed}
+use Rattle.gu_tree.specs.Rose.{Rose, Roses, leaf, parted, from_list, head_of, lots_of, is_named, named, named_below, has_entry}
+use Rattle.gu_tree.specs.Paths.{node_at, edit_at, HasAt, LeadsTo}
+use Rattle.gu_tree.specs.Changes.{root_head, with_head, CanSplit, own_parts_have_accounts, is_own, split_node, claim_node, claimed_head, give_back_node, given_back_head, IsOffered}
+use Rattle.gu_tree.specs.Shown.{IsTreeOf, IsHeadOf, named_node, ShowsMore, IsUnnamed, IsTradeOf, IsSplitOf, IsClaimOf, GivesBack, IsGivingBackOf}
+use Rattle.gu_tree.specs.declared.head.Head.{Head}
+use Rattle.gu_tree.proofs.Along.{its-head}
+use Rattle.gu_tree.proofs.Names.{named-edit_at, named-with_head}
+use Rattle.gu_tree.proofs.Parts.{lots_of-edit_at, lots_of-with_head}
+use Rattle.gu_tree.proofs.Shows.{or_none}
+use Rattle.gu_book.specs.Beside.{named_in, count_of, trades_at, is_of, IsTradeTree, IsBeside, IsNext, IsFoundIn}
+use Rattle.gu_book.specs.declared.trees.TradeTree.{TradeTree}
+use Rattle.gu_book.proofs.Refused.{both, first_none, unless_none, at_node_none, row_none, split_passes, SplitPasses, accepted_small}
+use Rattle.gu_book.proofs.Sound.{made}
+use Rattle.gu_book.proofs.Orders.{earlier, unnamed}
+use Rattle.gu_book.proofs.Named.{entry_named, parts_named}
+use Rattle.gu_book.proofs.Beside.{trades_same, order, lower, named_lower, Spot, spot, has_tree, changed, planted, stays}
+
+-- ---- of kinds and states
+
+offered_state : (k : Kind) (d : Option Record) → (is_given k && is_none d) ≡ true → state_of k d ≡ Offered
+offered_state (Root _) d h = absurd (cc)
+offered_state (Own _ _ _) d h = absurd (cc)
+offered_state (Given _ _ _) None h = refl
+offered_state (Given _ _ _) (Some r) h = absurd (cc)
+
+decided_state : (c : Command) → state_after c ≢ Offered
+decided_state (Claim _ _) = λ e. cc
+decided_state (Refuse _) = λ e. cc
+decided_state (Cancel _) = λ e. cc
+decided_state (Trade _ _ _ _ _) = λ e. cc
+decided_state (Split _ _) = λ e. cc
+decided_state (Initiate _) = λ e. cc
+decided_state (Decline _) = λ e. cc
+decided_state (Reverse _) = λ e. cc
+
+free_state : (k : Kind) (d : Option Record) → not (is_given k && is_none d) ≡ true → state_of k d ≢ Offered
+free_state (Root _) d h = λ e. cc
+free_state (Own _ _ _) d h = λ e. cc
+free_state (Given _ _ _) None h = absurd (cc)
+free_state (Given _ _ _) (Some r) h = decided_state r.command
+
+taker_named : (by : List ℕ) (k : Kind) → is_taker by k ≡ true → taker_of k ≡ Some by
+taker_named by (Root _) h = absurd (cc)
+taker_named by (Own _ _ _) h = absurd (cc)
+taker_named by (Given _ giver taker) h = ap (λ (f : List ℕ). Some f) ((bytes_eq-Decides taker by).0 h)
+
+and_false : (b : Bool) → (b && false) ≡ false
+and_false true = refl
+and_false false = refl
+
+some_node : (x y : Node) → Some x ≡ Some y → x ≡ y
+some_node x y e = cc
+
+same_there : {X : Type 0} (xs : List X) (i : ℕ) (a b : X) → i < length xs → a ≡ get_or xs i a → b ≡ get_or xs i b → a ≡ b
+same_there [] i a b within ea eb = absurd (omega arith)
+same_there (x ∷ xs) zero a b within ea eb = ea ∙ sym eb
+same_there (x ∷ xs) (suc i) a b within ea eb = same_there xs i a b (omega arith) ea eb
+
+-- ---- the node that the change names
+
+module _ {t : House} {l : List Record} {r : Record} {ts : List TradeTree} (next : IsNext t l r ts) where
+  -- where `find` found the node
+  pub found_spot : (i : ℕ) (p : List ℕ) (n : EntryPart) (u : TradeTree) → u ≡ get_or ts i u → IsFoundIn ts i p n → Spot l ts i p n u
+  found_spot i p n u there f =
+      spot next i p n u f.within there (subst (λ (x : TradeTree). LeadsTo p x.tree n) (same_there ts i f.tree u f.within f.there there) f.led)
+
+  -- `find` finds it
+  pub not_absent : (n : EntryPart) → named_node r.command ≡ Some n → named_in n ts ≡ 0 → ⊥
+  not_absent n names none = omega (arith, has_tree next n names, none)
+
+  row_passes : (c : Command) → r.command ≡ c → row t l r.firm c ≡ None
+  row_passes c e = subst (λ (c : Command). row t l r.firm c ≡ None) e (row_none t l r.firm r.command next.lawful)
+
+module _ {l : List Record} {ts : List TradeTree} {i : ℕ} {p : List ℕ} {n : EntryPart} {u : TradeTree} (s : Spot l ts i p n u) where
+  -- what the tree keeps of the node
+  its_head : IsHeadOf l s.said.above s.said.node (head_of s.node)
+  its_head = its-head l s.said.above s.said.node s.node s.said.shown
+
+  its_node : (x : Node) → node_of l n ≡ Some x → x ≡ s.said.node
+  its_node x e = some_node x s.said.node (sym e ∙ (ap (node_of l) (sym s.called) ∙ s.said.found))
+
+  pub has_at : (P : Rose → Type 0) → P s.node → HasAt p P u.tree
+  has_at P is = subst (λ (o : Option Rose). IsSomeAnd o P) (sym s.at) is
+
+  -- an offered node
+  offered_head : (x : Node) → node_of l n ≡ Some x → is_offered l x ≡ true → (head_of s.node).state ≡ Offered
+  offered_head x e h =
+      its_head.state ∙ offered_state s.said.node.kind (decision_of l s.said.node.name) (subst (λ (y : Node). is_offered l y ≡ true) (its_node x e) h)
+
+  taken_head : (x : Node) (by : List ℕ) → node_of l n ≡ Some x → is_taker by x.kind ≡ true → (head_of s.node).taker ≡ Some by
+  taken_head x by e h = its_head.taker ∙ taker_named by s.said.node.kind (subst (λ (y : Node). is_taker by y.kind ≡ true) (its_node x e) h)
+
+-- ---- a node with another head
+
+module _ {t : House} {l : List Record} {r : Record} {ts : List TradeTree} (next : IsNext t l r ts) where
+  -- a tree that shows the longer list, with the lots of the one before
+  retreed : (u : TradeTree) → IsTradeTree l u → ((instrument : List ℕ) (side : Side) → is_trade_of instrument side r.command ≡ false)
+      → (new : Rose) → IsTreeOf (l ++ r ∷ []) u.trade new → lots_of new ≡ lots_of u.tree → IsTradeTree (l ++ r ∷ []) (record { trade = u.trade; instrument = u.instrument; side = u.side; tree = new })
+  retreed u is plain new shows lots = record {
+    shows = shows;
+    terms = λ instrument side.
+        trades_same l r instrument side u.trade (ap (λ b. (r.number == u.trade) && b) (plain instrument side) ∙ and_false (r.number == u.trade)) ∙ is.terms instrument side;
+    small = let a = is.small in omega (arith, a, lots);
+  }
+
+  reheaded : (i : ℕ) (p : List ℕ) (n : EntryPart) (u : TradeTree) → Spot l ts i p n u → named_node r.command ≡ Some n
+      → ((instrument : List ℕ) (side : Side) → is_trade_of instrument side r.command ≡ false) → made r ≡ []
+      → (f : Head → Head) → ((h : Head) → (f h).name ≡ h.name) → ((h : Head) → (f h).lots ≡ h.lots)
+      → (new : Rose) → new ≡ edit_at (λ v. with_head (f (head_of v)) v) p u.tree → IsTreeOf (l ++ r ∷ []) u.trade new
+      → IsBeside (l ++ r ∷ []) (set ts i (record { trade = u.trade; instrument = u.instrument; side = u.side; tree = new }))
+  reheaded i p n u s names plain makes f same_names same_lots new is shows =
+      let g : Rose → Rose = λ v. with_head (f (head_of v)) v in
+      changed next i p n u s names (record { trade = u.trade; instrument = u.instrument; side = u.side; tree = new })
+      (retreed u s.shown plain new shows
+      (ap lots_of is ∙ lots_of-edit_at g p u.tree s.node s.at (lots_of-with_head (f (head_of s.node)) s.node ∙ same_lots (head_of s.node))))
+      (λ m.
+      let a = ap (named m) is in
+      let b = named-edit_at m g p u.tree s.node s.at in
+      let c = named-with_head m (f (head_of s.node)) s.node (same_names (head_of s.node)) in
+      let d = ap (count_of m) makes in
+      omega (arith, a, b, c, d))
+
+  -- ---- claims
+
+  claim_lines : (n : EntryPart) (account : List ℕ) → r.command ≡ Claim n account → (x : Node) × (node_of l n ≡ Some x) × (is_offered l x ≡ true) × (is_taker r.firm x.kind ≡ true)
+  claim_lines n account e =
+      let there = at_node_none (claim_row t l r.firm account) (node_of l n) (row_passes next (Claim n account) e) in
+      let last = agreement_row (used_by t l there.0.kind + there.0.lots) (terms t there.0.kind) ∷ [] in
+      let third = unless (knows_account t r.firm account) UnknownAccount ∷ last in
+      let second = unless (is_taker r.firm there.0.kind) NotYours ∷ third in
+      let a = first_none (unless (is_offered l there.0) NotOffered) second there.1.1 in
+      let b = first_none (unless (is_taker r.firm there.0.kind) NotYours) third a.1 in
+      (there.0, there.1.0, unless_none (is_offered l there.0) NotOffered a.0, unless_none (is_taker r.firm there.0.kind) NotYours b.0)
+
+  pub may_claim : (i : ℕ) (p : List ℕ) (n : EntryPart) (u : TradeTree) (account : List ℕ) → Spot l ts i p n u → r.command ≡ Claim n account → HasAt p IsOffered u.tree
+  may_claim i p n u account s e = let x = claim_lines n account e in has_at s IsOffered (offered_head s x.0 x.1 x.2)
+
+  pub claimed : (i : ℕ) (p : List ℕ) (n : EntryPart) (u : TradeTree) (account : List ℕ) → Spot l ts i p n u → r.command ≡ Claim n account
+      → (new : Rose) → new ≡ edit_at (claim_node r.number (record { firm = r.firm; account = account })) p u.tree
+      → ShowsMore (λ k q. HasAt p (λ v. IsClaimOf (head_of v) r.number (record { firm = r.firm; account = account }) q) u.tree) u.tree new
+      → IsBeside (l ++ r ∷ []) (set ts i (record { trade = u.trade; instrument = u.instrument; side = u.side; tree = new }))
+  claimed i p n u account s e new is shows =
+      let x = claim_lines n account e in
+      let place : Place = record { firm = r.firm; account = account } in
+      reheaded i p n u s (ap named_node e) (λ instrument side. ap (is_trade_of instrument side) e) (ap (nodes_of r.number r.firm) e)
+      (claimed_head r.number place) (λ h. refl) (λ h. refl) new is
+      (shows l u.trade r
+      (has_at s (λ v. IsClaimOf (head_of v) r.number place r)
+      (record { number = refl; taker = taken_head s x.0 r.firm x.1 x.3; command = e ∙ ap (λ (m : EntryPart). Claim m account) (sym s.called) }))
+      s.shown.shows)
+
+  -- ---- what goes back
+
+  pub back_names : (n : EntryPart) (state : State) (c : Command) → GivesBack n state c → named_node c ≡ Some n
+  back_names n Refused c e = ap named_node e
+  back_names n Cancelled c e = ap named_node e
+  back_names n Held c e = absurd e
+  back_names n Offered c e = absurd e
+  back_names n Claimed c e = absurd e
+  back_names n ReversalPending c e = absurd e
+  back_names n Reversed c e = absurd e
+
+  back_plain : (n : EntryPart) (state : State) (c : Command) → GivesBack n state c → (instrument : List ℕ) (side : Side) → is_trade_of instrument side c ≡ false
+  back_plain n Refused c e instrument side = ap (is_trade_of instrument side) e
+  back_plain n Cancelled c e instrument side = ap (is_trade_of instrument side) e
+  back_plain n Held c e instrument side = absurd e
+  back_plain n Offered c e instrument side = absurd e
+  back_plain n Claimed c e instrument side = absurd e
+  back_plain n ReversalPending c e instrument side = absurd e
+  back_plain n Reversed c e instrument side = absurd e
+
+  back_makes : (n : EntryPart) (state : State) (c : Command) → GivesBack n state c → nodes_of r.number r.firm c ≡ []
+  back_makes n Refused c e = ap (nodes_of r.number r.firm) e
+  back_makes n Cancelled c e = ap (nodes_of r.number r.firm) e
+  back_makes n Held c e = absurd e
+  back_makes n Offered c e = absurd e
+  back_makes n Claimed c e = absurd e
+  back_makes n ReversalPending c e = absurd e
+  back_makes n Reversed c e = absurd e
+
+  back_offered : (n : EntryPart) (state : State) → GivesBack n state r.command → (x : Node) × (node_of l n ≡ Some x) × (is_offered l x ≡ true)
+  back_offered n Refused e =
+      let there = at_node_none (refuse_row l r.firm) (node_of l n) (row_passes next (Refuse n) e) in
+      let a = first_none (unless (is_offered l there.0) NotOffered) (unless (is_taker r.firm there.0.kind) NotYours ∷ []) there.1.1 in
+      (there.0, there.1.0, unless_none (is_offered l there.0) NotOffered a.0)
+  back_offered n Cancelled e =
+      let there = at_node_none (cancel_row l r.firm) (node_of l n) (row_passes next (Cancel n) e) in
+      let a = first_none (unless (is_offered l there.0) NotOffered) (unless (is_giver r.firm there.0.kind) NotYours ∷ []) there.1.1 in
+      (there.0, there.1.0, unless_none (is_offered l there.0) NotOffered a.0)
+  back_offered n Held e = absurd e
+  back_offered n Offered e = absurd e
+  back_offered n Claimed e = absurd e
+  back_offered n ReversalPending e = absurd e
+  back_offered n Reversed e = absurd e
+
+  pub may_give_back : (i : ℕ) (p : List ℕ) (n : EntryPart) (u : TradeTree) (state : State) → Spot l ts i p n u → GivesBack n state r.command → HasAt p IsOffered u.tree
+  may_give_back i p n u state s e = let x = back_offered n state e in has_at s IsOffered (offered_head s x.0 x.1 x.2)
+
+  pub given_back : (i : ℕ) (p : List ℕ) (n : EntryPart) (u : TradeTree) (state : State) → Spot l ts i p n u → GivesBack n state r.command
+      → (new : Rose) → new ≡ edit_at (give_back_node r.number state) p u.tree
+      → ShowsMore (λ k q. HasAt p (λ v. IsGivingBackOf (head_of v) r.number state q) u.tree) u.tree new
+      → IsBeside (l ++ r ∷ []) (set ts i (record { trade = u.trade; instrument = u.instrument; side = u.side; tree = new }))
+  given_back i p n u state s e new is shows =
+      reheaded i p n u s (back_names n state r.command e) (back_plain n state r.command e) (back_makes n state r.command e)
+      (given_back_head r.number state) (λ h. refl) (λ h. refl) new is
+      (shows l u.trade r
+      (has_at s (λ v. IsGivingBackOf (head_of v) r.number state r)
+      (record { number = refl; command = subst (λ (m : EntryPart). GivesBack m state r.command) (sym s.called) e }))
+      s.shown.shows)
