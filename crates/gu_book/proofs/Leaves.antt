@@ -62,7 +62,7 @@ sum_plus_on {X} f g h (x ∷ xs) all =
     let e = All-head (λ (x : X). f x + g x ≡ h x) x xs all in
     omega (arith, a, b, c, d, e)
 
-sum_of_names : (w : EntryPart → ℕ) (xs : List Node) → sum_by (λ x. w x.name) xs ≡ sum_by w (map (λ x. x.name) xs)
+pub sum_of_names : (w : EntryPart → ℕ) (xs : List Node) → sum_by (λ x. w x.name) xs ≡ sum_by w (map (λ x. x.name) xs)
 sum_of_names w [] = refl
 sum_of_names w (x ∷ xs) =
     let a = sum_by-cons (λ (x : Node). w x.name) x xs in

@@ -15,3 +15,4 @@ pub mod Placed
 pub mod Positions
 pub mod Orders
 pub mod Named
+pub mod Lots
