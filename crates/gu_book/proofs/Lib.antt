@@ -16,3 +16,4 @@ pub mod Positions
 pub mod Orders
 pub mod Named
 pub mod Lots
+pub mod TreeRows

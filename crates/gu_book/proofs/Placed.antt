@@ -35,7 +35,7 @@ has_at P p y xs x here later true h = subst P (some_same y x h) here
 has_at P p y xs x here later false h = later h
 
 -- what each element has, the one that is found has
-find_has : {X : Type 0} (P : X → Type 0) (p : X → Bool) (xs : List X) (x : X) → All P xs → find p xs ≡ Some x → P x
+pub find_has : {X : Type 0} (P : X → Type 0) (p : X → Bool) (xs : List X) (x : X) → All P xs → find p xs ≡ Some x → P x
 find_has P p [] x all h = absurd (cc)
 find_has P p (y ∷ xs) x all h = has_at P p y xs x (All-head P y xs all) (find_has P p xs x (All-tail P y xs all)) (p y) h
 
