@@ -36,7 +36,7 @@ use Rattle.gu_book.proofs.Named.{count_push, node_counts, counted_node, counts_o
 
 -- ---- what is traded
 
-trades_same : (l : List Record) (r : Record) (instrument : List ℕ) (side : Side) (k : ℕ) → ((r.number == k) && is_trade_of instrument side r.command) ≡ false
+pub trades_same : (l : List Record) (r : Record) (instrument : List ℕ) (side : Side) (k : ℕ) → ((r.number == k) && is_trade_of instrument side r.command) ≡ false
     → trades_at (l ++ r ∷ []) instrument side k ≡ trades_at l instrument side k
 trades_same l r instrument side k other =
     ap is_some (find-append (λ r. (r.number == k) && is_trade_of instrument side r.command) l (r ∷ [])
@@ -47,7 +47,7 @@ differs_at : (b c : Bool) → b ≡ false → (b && c) ≡ false
 differs_at true c e = cc
 differs_at false c e = refl
 
-apart_numbers : (a b : ℕ) → (a ≡ b → ⊥) → (a == b) ≡ false
+pub apart_numbers : (a b : ℕ) → (a ≡ b → ⊥) → (a == b) ≡ false
 apart_numbers a b differ = apart_by (a == b) (λ h. differ ((Decides-eqb a b).0 h))
 
 -- ---- the trees that a change doesn't touch

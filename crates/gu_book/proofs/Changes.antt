@@ -6,12 +6,14 @@ use Rattle.std.proofs.Math.ListN.{set}
 use Rattle.std.proofs.lemmas.Bool.Decides.{Decides-eqb}
 use Rattle.std.proofs.lemmas.List.Elements.{All-nil, All-cons, All-head, All-tail}
 use Rattle.std.proofs.lemmas.List.Folds.{find-append}
+use Rattle.std.proofs.lemmas.List.Sums.{get_or-le-sum_by}
+use Rattle.std.specs.Option.{option_or}
 use Rattle.std.proofs.lemmas.Slice.Eq.{bytes_eq-Decides}
 use Rattle.gu_base.specs.Numbers.{EntryPart}
 use Rattle.gu_base.specs.House.{House, knows_account}
 use Rattle.gu_base.specs.Nodes.{node_of, nodes_of, same_name, decision_of, split_of, is_given, is_offered}
 use Rattle.gu_base.specs.Places.{owner_of, place_of, depth_of}
-use Rattle.gu_base.specs.Positions.{is_trade_of}
+use Rattle.gu_base.specs.Positions.{is_trade_of, same_side}
 use Rattle.gu_base.specs.Refusals.{row, split_row, claim_row, refuse_row, cancel_row, first, unless, owns, is_taker, is_giver, agreement_row, used_by, terms, refusal_of_part, knows_own_account}
 use Rattle.gu_base.specs.Rows.{state_of, state_after, taker_of}
 use Rattle.gu_base.specs.declared.command.Part.{Part}
@@ -29,19 +31,22 @@ use Rattle.gu_base.specs.declared.state.State.TheVariants.{Held, Offered, Claime
 use Rattle.gu_tree.specs.Rose.{Rose, Roses, leaf, parted, from_list, head_of, lots_of, is_named, named, named_below, has_entry}
 use Rattle.gu_tree.specs.Paths.{node_at, edit_at, HasAt, LeadsTo}
 use Rattle.gu_tree.specs.Changes.{root_head, with_head, CanSplit, own_parts_have_accounts, is_own, split_node, claim_node, claimed_head, give_back_node, given_back_head, IsOffered}
-use Rattle.gu_tree.specs.Shown.{IsTreeOf, IsHeadOf, named_node, ShowsMore, IsUnnamed, IsTradeOf, IsSplitOf, IsClaimOf, GivesBack, IsGivingBackOf}
+use Rattle.gu_tree.specs.Shown.{IsTreeOf, IsNodeOf, IsHeadOf, named_node, ShowsMore, IsUnnamed, IsTradeOf, IsSplitOf, IsClaimOf, GivesBack, IsGivingBackOf}
 use Rattle.gu_tree.specs.declared.head.Head.{Head}
 use Rattle.gu_tree.proofs.Along.{its-head}
 use Rattle.gu_tree.proofs.Names.{named-edit_at, named-with_head}
 use Rattle.gu_tree.proofs.Parts.{lots_of-edit_at, lots_of-with_head}
-use Rattle.gu_tree.proofs.Shows.{or_none}
+use Rattle.gu_tree.proofs.ShowsChanges.{new-shows}
+use Rattle.gu_tree.proofs.Splits.{named-split_node}
 use Rattle.gu_book.specs.Beside.{named_in, count_of, trades_at, is_of, IsTradeTree, IsBeside, IsNext, IsFoundIn}
 use Rattle.gu_book.specs.declared.trees.TradeTree.{TradeTree}
 use Rattle.gu_book.proofs.Refused.{both, first_none, unless_none, at_node_none, row_none, split_passes, SplitPasses, accepted_small}
-use Rattle.gu_book.proofs.Sound.{made}
+use Rattle.gu_book.proofs.Sound.{made, apart_by}
+use Rattle.gu_book.proofs.Placed.{part_account}
+use Rattle.gu_book.specs.Limits.{IsWithinLimits}
 use Rattle.gu_book.proofs.Orders.{earlier, unnamed}
 use Rattle.gu_book.proofs.Named.{entry_named, parts_named}
-use Rattle.gu_book.proofs.Beside.{trades_same, order, lower, named_lower, Spot, spot, has_tree, changed, planted, stays}
+use Rattle.gu_book.proofs.Beside.{trades_same, apart_numbers, order, lower, named_lower, Spot, spot, has_tree, changed, planted, stays}
 
 -- ---- of kinds and states
 
@@ -235,3 +240,161 @@ module _ {t : House} {l : List Record} {r : Record} {ts : List TradeTree} (next 
       (has_at s (λ v. IsGivingBackOf (head_of v) r.number state r)
       (record { number = refl; command = subst (λ (m : EntryPart). GivesBack m state r.command) (sym s.called) e }))
       s.shown.shows)
+
+-- ---- splits
+
+apart_lots : (a b : ℕ) → (a == b) ≡ true → a ≡ b
+apart_lots a b h = (Decides-eqb a b).0 h
+
+no_split : {A B : Type 0} (f : A → B) (o : Option A) → option_map f o ≡ None → o ≡ None
+no_split f None h = refl
+no_split f (Some a) h = absurd (cc)
+
+none_some : {A : Type 0} (o : Option A) (a : A) → o ≡ None → o ≡ Some a → ⊥
+none_some o a e f = cc
+
+-- a node without a Split is a leaf of the tree
+can_split : (l : List Record) (above : Option Place) (x : Node) (v : Rose) (ps : List Part) → IsNodeOf l above x v → split_of l x.name ≡ None
+    → sum_by (λ p. p.lots) ps ≡ lots_of v → (head_of v).state ≢ Offered → CanSplit ps v
+can_split l above x (leaf h) ps shown none sum free = (sum, free)
+can_split l above x (parted h n ts) ps shown none sum free = absurd (none_some (split_of l x.name) shown.1.0 none shown.1.1)
+
+owner_is : (o : Option Place) (place : Place) (by : List ℕ) → o ≡ Some place → unwrap_or (option_map (λ owner. bytes_eq owner by) (option_map (λ p. p.firm) o)) false ≡ true → place.firm ≡ by
+owner_is None place by e h = absurd (cc)
+owner_is (Some q) place by e h = ap (λ (z : Place). z.firm) (sym (same_place e)) ∙ (bytes_eq-Decides q.firm by).0 h
+  where
+    same_place : Some q ≡ Some place → q ≡ place
+    same_place e = cc
+
+account_named : (t : House) (by : List ℕ) (o : Option (List ℕ)) (b : Bool) → (not b || unwrap_or (option_map (knows_account t by) o) false) ≡ true → (is_some o || not b) ≡ true
+account_named t by (Some account) b h = refl
+account_named t by None true h = cc
+account_named t by None false h = refl
+
+accounts_named : (t : House) (by : List ℕ) (ps : List Part) (h : Head) → h.place.firm ≡ by → first (map (refusal_of_part t by) ps) ≡ None → own_parts_have_accounts ps h ≡ true
+accounts_named t by [] h owner none = refl
+accounts_named t by (p ∷ ps) h owner none =
+    let a = first_none (refusal_of_part t by p) (map (refusal_of_part t by) ps) none in
+    let b = account_named t by p.account (bytes_eq p.firm by) (part_account t by p a.0) in
+    let c : (is_some p.account || not (is_own h p)) ≡ true = ap (λ (f : List ℕ). is_some p.account || not (bytes_eq p.firm f)) owner ∙ b in
+    ap (λ x. x && own_parts_have_accounts ps h) c ∙ accounts_named t by ps h owner a.1
+
+true_holds : (b : Bool) → b ≡ true → IsTrue b
+true_holds true e = tt
+true_holds false e = absurd (cc)
+
+least : (n : ℕ) → (nat_le 1 n && nat_le n 100) ≡ true → (1 ≤ n) × (n ≤ 100)
+least n h = (grind arith, grind arith)
+
+less_by : (a b : ℕ) → nat_lt a b ≡ true → a < b
+less_by a b h = grind arith
+
+module _ {t : House} {l : List Record} {r : Record} {ts : List TradeTree} (next : IsNext t l r ts) where
+  split_lines : (n : EntryPart) (ps : List Part) → r.command ≡ Split n ps → (x : Node) × (node_of l n ≡ Some x) × SplitPasses t l r.firm ps x
+  split_lines n ps e =
+      let there = at_node_none (split_row t l r.firm ps) (node_of l n) (row_passes next (Split n ps) e) in
+      (there.0, there.1.0, split_passes t l r.firm ps there.0 there.1.1)
+
+  module _ {i : ℕ} {p : List ℕ} {n : EntryPart} {u : TradeTree} (s : Spot l ts i p n u) (ps : List Part) (e : r.command ≡ Split n ps) where
+    -- the lines of the row, of the node that the tree shows
+    passes : SplitPasses t l r.firm ps s.said.node
+    passes = let x = split_lines n ps e in subst (SplitPasses t l r.firm ps) (its_node s x.0 x.1) x.2
+
+    its_owner : (head_of s.node).place.firm ≡ r.firm
+    its_owner = owner_is (place_of l s.said.node.name) (head_of s.node).place r.firm (ap (place_of l) s.said.named ∙ s.said.placed) passes.owned
+
+    can_be_split : CanSplit ps s.node
+    can_be_split =
+        can_split l s.said.above s.said.node s.node ps s.said.shown (no_split (λ r. AlreadySplit r.number) (split_of l s.said.node.name) passes.whole)
+        (apart_lots (sum_by (λ p. p.lots) ps) s.said.node.lots passes.sums ∙ sym (its_head s).lots)
+        (subst (λ (x : State). x ≢ Offered) (sym (its_head s).state) (free_state s.said.node.kind (decision_of l s.said.node.name) passes.free))
+
+    pub may_split : HasAt p (CanSplit ps) u.tree
+    may_split = has_at s (CanSplit ps) can_be_split
+
+    pub has_accounts : HasAt p (λ v. IsTrue (own_parts_have_accounts ps (head_of v))) u.tree
+    has_accounts = has_at s (λ v. IsTrue (own_parts_have_accounts ps (head_of v)))
+        (true_holds (own_parts_have_accounts ps (head_of s.node)) (accounts_named t r.firm ps (head_of s.node) its_owner passes.parts))
+
+    pub some_parts : 1 ≤ length ps
+    some_parts = (least (length ps) passes.count).0
+
+    pub few_parts : length ps ≤ 100
+    few_parts = (least (length ps) passes.count).1
+
+    pub not_deep : length p < 64
+    not_deep =
+        let deep : depth_of l s.said.node.name ≡ length p = ap (depth_of l) s.said.named ∙ s.said.deep in
+        let shallow : depth_of l s.said.node.name < 64 = less_by (depth_of l s.said.node.name) 64 passes.shallow in
+        omega (arith, deep, shallow)
+
+    pub fresh_entry : has_entry r.number u.tree ≡ false
+    fresh_entry = apart_by (has_entry r.number u.tree) (λ h.
+        let m = entry_named r.number u.tree h in
+        let all = get_or-le-sum_by (λ (x : TradeTree). named m.0 x.tree) ts i u s.within in
+        let here = ap (λ (x : TradeTree). named m.0 x.tree) s.there in
+        let low = named_lower next m.0 (omega (arith, all, here, m.2)) in
+        omega (arith, low, m.1))
+
+    splits_it : IsSplitOf (head_of s.node) r.number ps r
+    splits_it = record { number = refl; firm = sym its_owner; command = e ∙ ap (λ (m : EntryPart). Split m ps) (sym s.called) }
+
+    pub split_shown : (new : Rose) → new ≡ edit_at (split_node r.number ps) p u.tree
+        → ShowsMore (λ k q. HasAt p (λ v. IsSplitOf (head_of v) r.number ps q) u.tree × IsUnnamed k r.number) u.tree new
+        → IsBeside (l ++ r ∷ []) (set ts i (record { trade = u.trade; instrument = u.instrument; side = u.side; tree = new }))
+    split_shown new is shows =
+        let low = (earlier 1 l r next.rises).2 in
+        changed next i p n u s (ap named_node e) (record { trade = u.trade; instrument = u.instrument; side = u.side; tree = new })
+        (retreed next u s.shown (λ instrument side. ap (is_trade_of instrument side) e) new
+        (shows l u.trade r (has_at s (λ v. IsSplitOf (head_of v) r.number ps r) splits_it, unnamed 0 r.number l (order next).orderly low) s.shown.shows)
+        (ap lots_of is ∙ lots_of-edit_at (split_node r.number ps) p u.tree s.node s.at refl))
+        (λ m.
+        let a = ap (named m) is in
+        let b = named-edit_at m (split_node r.number ps) p u.tree s.node s.at in
+        let c = named-split_node r.number ps s.node m can_be_split in
+        let d = parts_named m r.number 1 (head_of s.node) n r.firm ps in
+        let f = ap (λ (c : Command). count_of m (nodes_of r.number r.firm c)) e in
+        omega (arith, a, b, c, d, f))
+
+-- ---- trades
+
+none_numbered : (k : ℕ) (q : Record → Bool) (l : List Record) → All (λ d. d.number < k) l → find (λ d. (d.number == k) && q d) l ≡ None
+none_numbered k q [] low = refl
+none_numbered k q (d ∷ l) low =
+    let less : d.number < k = All-head (λ (d : Record). d.number < k) d l low in
+    ap (λ b. cond (b && q d) (Some d) (find (λ d. (d.number == k) && q d) l)) (apart_numbers d.number k (λ e. omega arith))
+    ∙ none_numbered k q l (All-tail (λ (d : Record). d.number < k) d l low)
+
+one_trade : (b c : Bool) (r : Record) → b ≡ true → is_some (cond (b && c) (Some r) None) ≡ c
+one_trade true true r e = refl
+one_trade true false r e = refl
+one_trade false c r e = absurd (cc)
+
+module _ {t : House} {l : List Record} {r : Record} {ts : List TradeTree} (next : IsNext t l r ts) (place : Place) (instrument : List ℕ) (side : Side) (lots : ℕ) (e : r.command ≡ Trade place.firm place.account instrument side lots) where
+  its_terms : (i : List ℕ) (s : Side) → trades_at (l ++ r ∷ []) i s r.number ≡ (bytes_eq instrument i && same_side side s)
+  its_terms i s =
+      ap is_some (find-append (λ d. (d.number == r.number) && is_trade_of i s d.command) l (r ∷ [])
+      ∙ ap (λ o. option_or o (cond ((r.number == r.number) && is_trade_of i s r.command) (Some r) None)) (none_numbered r.number (λ d. is_trade_of i s d.command) l (earlier 1 l r next.rises).2))
+      ∙ (one_trade (r.number == r.number) (is_trade_of i s r.command) r ((Decides-eqb r.number r.number).1 refl)
+      ∙ ap (is_trade_of i s) e)
+
+  no_root : node_of l (record { entry = r.number; part = 0 }) ≡ None
+  no_root = absent (node_of l (record { entry = r.number; part = 0 })) (λ x h. let low : r.number < r.number = lower next (record { entry = r.number; part = 0 }) x h in omega arith)
+    where
+      absent : (o : Option Node) → ((x : Node) → o ≡ Some x → ⊥) → o ≡ None
+      absent None never = refl
+      absent (Some x) never = absurd (never x refl)
+
+  pub trade_planted : IsBeside (l ++ r ∷ []) (ts ++ record { trade = r.number; instrument = instrument; side = side; tree = leaf (root_head r.number place lots) } ∷ [])
+  trade_planted =
+      planted next (record { trade = r.number; instrument = instrument; side = side; tree = leaf (root_head r.number place lots) }) (ap named_node e)
+      (record {
+        shows = new-shows l r r.number place lots (record { number = refl; instrument = instrument; side = side; command = e }) (unnamed 0 r.number l (order next).orderly (earlier 1 l r next.rises).2) no_root;
+        terms = its_terms;
+        small = subst IsWithinLimits e (accepted_small t l r.firm r.command next.lawful);
+      })
+      (λ m. let f = ap (λ (c : Command). count_of m (nodes_of r.number r.firm c)) e in omega (arith, f))
+
+-- what neither splits nor decides nor trades is no change
+pub no_change : {t : House} {l : List Record} {r : Record} {ts : List TradeTree} → IsNext t l r ts → named_node r.command ≡ None → made r ≡ [] → IsBeside (l ++ r ∷ []) ts
+no_change next names makes = stays next names (λ m. ap (count_of m) makes)

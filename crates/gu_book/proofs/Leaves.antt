@@ -62,7 +62,7 @@ sum_plus_on {X} f g h (x ∷ xs) all =
     let e = All-head (λ (x : X). f x + g x ≡ h x) x xs all in
     omega (arith, a, b, c, d, e)
 
-sum_of_names : (w : EntryPart → ℕ) (xs : List Node) → sum_by (λ x. w x.name) xs ≡ sum_by w (map (λ x. x.name) xs)
+pub sum_of_names : (w : EntryPart → ℕ) (xs : List Node) → sum_by (λ x. w x.name) xs ≡ sum_by w (map (λ x. x.name) xs)
 sum_of_names w [] = refl
 sum_of_names w (x ∷ xs) =
     let a = sum_by-cons (λ (x : Node). w x.name) x xs in
@@ -109,7 +109,7 @@ old_same takes l bound r s absent =
     (All-weaker (λ (x : Node). node_of l x.name ≡ Some x) (λ (x : Node). weight takes (l ++ r ∷ []) x ≡ weight takes l x) (λ x e. weight_same takes l r x s.parents e (absent x.name)) (nodes l) s.found)
 
 -- the root of a root is the node itself
-root_of_root : (l : List Record) (f : ℕ) (x : Node) → parent x.kind ≡ None → 1 ≤ f → root_along (line_within f l (Some x)) ≡ Some x.name
+pub root_of_root : (l : List Record) (f : ℕ) (x : Node) → parent x.kind ≡ None → 1 ≤ f → root_along (line_within f l (Some x)) ≡ Some x.name
 root_of_root l zero x up h = absurd (omega arith)
 root_of_root l (suc f) x up h = ap (λ o. root_along (x ∷ line_within f l (option_and_then (node_of l) o))) up
 

@@ -17,3 +17,5 @@ pub mod Orders
 pub mod Named
 pub mod Beside
 pub mod Changes
+pub mod Lots
+pub mod TreeRows

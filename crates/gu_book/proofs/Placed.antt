@@ -35,7 +35,7 @@ has_at P p y xs x here later true h = subst P (some_same y x h) here
 has_at P p y xs x here later false h = later h
 
 -- what each element has, the one that is found has
-find_has : {X : Type 0} (P : X → Type 0) (p : X → Bool) (xs : List X) (x : X) → All P xs → find p xs ≡ Some x → P x
+pub find_has : {X : Type 0} (P : X → Type 0) (p : X → Bool) (xs : List X) (x : X) → All P xs → find p xs ≡ Some x → P x
 find_has P p [] x all h = absurd (cc)
 find_has P p (y ∷ xs) x all h = has_at P p y xs x (All-head P y xs all) (find_has P p xs x (All-tail P y xs all)) (p y) h
 
@@ -50,7 +50,7 @@ part_names : (t : House) (m : EntryPart) (by : List ℕ) (p : Part) → knows_ow
 part_names t m by p h true is = own_account t by p.account (bytes_eq p.firm by) is h
 part_names t m by p h false is = tt
 
-part_account : (t : House) (by : List ℕ) (p : Part) → refusal_of_part t by p ≡ None → knows_own_account t by p ≡ true
+pub part_account : (t : House) (by : List ℕ) (p : Part) → refusal_of_part t by p ≡ None → knows_own_account t by p ≡ true
 part_account t by p h =
     let a = first_none (unless (knows_firm t p.firm) UnknownFirm) (unless (knows_own_account t by p) UnknownAccount ∷ unless (is_lots p.lots) BadLots ∷ []) h in
     let b = first_none (unless (knows_own_account t by p) UnknownAccount) (unless (is_lots p.lots) BadLots ∷ []) a.1 in
