@@ -279,10 +279,6 @@ accounts_named t by (p ∷ ps) h owner none =
     let c : (is_some p.account || not (is_own h p)) ≡ true = ap (λ (f : List ℕ). is_some p.account || not (bytes_eq p.firm f)) owner ∙ b in
     ap (λ x. x && own_parts_have_accounts ps h) c ∙ accounts_named t by ps h owner a.1
 
-true_holds : (b : Bool) → b ≡ true → IsTrue b
-true_holds true e = tt
-true_holds false e = absurd (cc)
-
 least : (n : ℕ) → (nat_le 1 n && nat_le n 100) ≡ true → (1 ≤ n) × (n ≤ 100)
 least n h = (grind arith, grind arith)
 
@@ -314,7 +310,7 @@ module _ {t : House} {l : List Record} {r : Record} {ts : List TradeTree} (next 
 
     pub has_accounts : HasAt p (λ v. IsTrue (own_parts_have_accounts ps (head_of v))) u.tree
     has_accounts = has_at s (λ v. IsTrue (own_parts_have_accounts ps (head_of v)))
-        (true_holds (own_parts_have_accounts ps (head_of s.node)) (accounts_named t r.firm ps (head_of s.node) its_owner passes.parts))
+        (accounts_named t r.firm ps (head_of s.node) its_owner passes.parts)
 
     pub some_parts : 1 ≤ length ps
     some_parts = (least (length ps) passes.count).0
@@ -395,6 +391,24 @@ module _ {t : House} {l : List Record} {r : Record} {ts : List TradeTree} (next 
       })
       (λ m. let f = ap (λ (c : Command). count_of m (nodes_of r.number r.firm c)) e in omega (arith, f))
 
--- what neither splits nor decides nor trades is no change
-pub no_change : {t : House} {l : List Record} {r : Record} {ts : List TradeTree} → IsNext t l r ts → named_node r.command ≡ None → made r ≡ [] → IsBeside (l ++ r ∷ []) ts
-no_change next names makes = stays next names (λ m. ap (count_of m) makes)
+-- what neither trades nor splits nor decides names and makes nothing
+plain_command : (k : ℕ) (by : List ℕ) (c : Command)
+    → ((firm account instrument : List ℕ) (side : Side) (lots : ℕ) → c ≡ Trade firm account instrument side lots → ⊥)
+    → ((n : EntryPart) (ps : List Part) → c ≡ Split n ps → ⊥) → ((n : EntryPart) (account : List ℕ) → c ≡ Claim n account → ⊥)
+    → ((n : EntryPart) → c ≡ Refuse n → ⊥) → ((n : EntryPart) → c ≡ Cancel n → ⊥) → (named_node c ≡ None) × (nodes_of k by c ≡ [])
+plain_command k by (Trade a b i s n) trade split claim refuse cancel = absurd (trade a b i s n refl)
+plain_command k by (Split n ps) trade split claim refuse cancel = absurd (split n ps refl)
+plain_command k by (Claim n a) trade split claim refuse cancel = absurd (claim n a refl)
+plain_command k by (Refuse n) trade split claim refuse cancel = absurd (refuse n refl)
+plain_command k by (Cancel n) trade split claim refuse cancel = absurd (cancel n refl)
+plain_command k by (Initiate _) trade split claim refuse cancel = (refl, refl)
+plain_command k by (Decline _) trade split claim refuse cancel = (refl, refl)
+plain_command k by (Reverse _) trade split claim refuse cancel = (refl, refl)
+
+-- it leaves the trees as they are
+pub left_alone : {t : House} {l : List Record} {r : Record} {ts : List TradeTree} → IsNext t l r ts
+    → ((firm account instrument : List ℕ) (side : Side) (lots : ℕ) → r.command ≡ Trade firm account instrument side lots → ⊥)
+    → ((n : EntryPart) (ps : List Part) → r.command ≡ Split n ps → ⊥) → ((n : EntryPart) (account : List ℕ) → r.command ≡ Claim n account → ⊥)
+    → ((n : EntryPart) → r.command ≡ Refuse n → ⊥) → ((n : EntryPart) → r.command ≡ Cancel n → ⊥) → IsBeside (l ++ r ∷ []) ts
+left_alone {r = r} next trade split claim refuse cancel =
+    let a = plain_command r.number r.firm r.command trade split claim refuse cancel in stays next a.0 (λ m. ap (count_of m) a.1)
