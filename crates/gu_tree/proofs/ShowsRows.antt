@@ -1,10 +1,10 @@
 -- The rows of a tree that shows a trade are those of the definitions.
-use Rattle.std.proofs.Common.{◌≡◌, ℕ, zero, suc, ◌+◌, ◌<◌, ◌≤◌, cond, Bool, true, false, Option, Some, None, List, [], ◌∷◌, ◌++◌, map, length, refl, ap, sym, ◌∙◌, subst, arith}
+use Rattle.std.proofs.Common.{◌≡◌, ℕ, zero, suc, ◌+◌, ◌<◌, ◌≤◌, cond, Bool, Option, Some, None, List, [], ◌∷◌, ◌++◌, map, length, refl, ap, sym, ◌∙◌, subst, arith}
 use Rattle.std.specs.Prelude.{flat_map, filter, is_none}
 use Rattle.std.proofs.lemmas.List.{map-append}
 use Rattle.std.proofs.lemmas.List.Elements.{filter-append}
 use Rattle.gu_base.specs.Numbers.{EntryPart}
-use Rattle.gu_base.specs.Nodes.{node_of, nodes_of, split_of, parent}
+use Rattle.gu_base.specs.Nodes.{node_of, nodes_of, split_of}
 use Rattle.gu_base.specs.Places.{place_of}
 use Rattle.gu_base.specs.Rows.{Row, row_of, made_by, rows_within, rows_of}
 use Rattle.gu_base.specs.declared.entry.Record.{Record}
@@ -13,7 +13,6 @@ use Rattle.gu_base.specs.declared.node.Node.{Node}
 use Rattle.gu_tree.specs.Rose.{Rose, Roses, leaf, parted, no_parts, part_then, height_of, heights_of, rows, rows_from, rows_below, leaves, leaves_from, leaves_below}
 use Rattle.gu_tree.specs.Shown.{shown, IsHeadOf, IsNodeOf, ArePartsOf, IsTreeOf, IsOrderly}
 use Rattle.gu_tree.specs.declared.head.Head.{Head}
-use Rattle.gu_tree.specs.declared.head.Row.{Row as TreeRow}
 use Rattle.gu_tree.proofs.Orderly.{node_of-name, found-split, splits-names, AreIn, split-in, Stands, place-below, stands-root, stands-part, count_after, count-length, count-falls}
 
 module _ (l : List Record) (ord : IsOrderly l) where
