@@ -1,10 +1,9 @@
 -- The trees beside the live changes.
-use Rattle.std.specs.Prelude.{◌≡◌, ℕ, ◌≤◌, Bool, ◌&&◌, ◌==◌, if◌then◌else◌, List, [], ◌∷◌, ◌++◌, ◌<◌, length, get_or, find, filter, sum_by, Option, None, is_some, bytes_eq}
+use Rattle.std.specs.Prelude.{◌≡◌, ℕ, ◌≤◌, Bool, ◌&&◌, ◌==◌, if◌then◌else◌, List, [], ◌∷◌, ◌++◌, ◌<◌, length, get_or, find, sum_by, Option, None, is_some, bytes_eq}
 use Rattle.std.specs.List.{All}
 use Rattle.gu_base.specs.Numbers.{EntryPart}
 use Rattle.gu_base.specs.House.{House}
 use Rattle.gu_base.specs.Nodes.{same_name, nodes}
-use Rattle.gu_base.specs.Places.{same_place}
 use Rattle.gu_base.specs.Positions.{same_side, is_trade_of}
 use Rattle.gu_base.specs.Refusals.{refusal_of}
 use Rattle.gu_base.specs.Standing.{first_refused}
@@ -12,7 +11,8 @@ use Rattle.gu_base.specs.declared.command.Side.{Side}
 use Rattle.gu_base.specs.declared.entry.Record.{Record}
 use Rattle.gu_base.specs.declared.node.Node.{Node}
 use Rattle.gu_base.specs.declared.node.Place.{Place}
-use Rattle.gu_tree.specs.Rose.{Rose, lots_of, leaves, named}
+use Rattle.gu_tree.specs.Rose.{lots_of, named}
+use Rattle.gu_tree.specs.Standing.{lots_at}
 use Rattle.gu_tree.specs.Paths.{LeadsTo}
 use Rattle.gu_tree.specs.Shown.{IsTreeOf}
 use Rattle.gu_book.specs.Conserved.{RisesFrom}
@@ -61,13 +61,9 @@ IsDue r ts = (t : House) × (l : List Record) × IsNext t l r ts
 abbrev pub Follows : Record → List TradeTree → List TradeTree → Type 0
 Follows r old new = (t : House) (l : List Record) → IsNext t l r old → IsBeside (l ++ r ∷ []) new
 
--- the lots of the leaves of a tree that stand in the account
-abbrev pub leaf_lots_at : Place → Rose → ℕ
-leaf_lots_at at t = sum_by (λ r. r.head.lots) (filter (λ r. same_place at r.head.place) (leaves t))
-
--- those of all trees of trades in the instrument on the side
+-- the lots that stand in the account, in trees of trades in the instrument on the side
 abbrev pub lots_in : List TradeTree → Place → List ℕ → Side → ℕ
-lots_in ts at instrument side = sum_by (λ t. if is_of instrument side t then leaf_lots_at at t.tree else 0) ts
+lots_in ts at instrument side = sum_by (λ t. if is_of instrument side t then lots_at at t.tree else 0) ts
 
 -- the path leads to the node of this name in the i-th of the trees
 pub record IsFoundIn (ts : List TradeTree) (i : ℕ) (p : List ℕ) (n : EntryPart) : Type 0 where

@@ -140,6 +140,26 @@ pub(crate) fn change(
     Ok(())
 }
 
+/// The lots that stand in the account, in trades of the instrument on the side.
+pub(crate) fn lots_at(
+    trees: &[TradeTree],
+    at: &Place,
+    instrument: &InstrumentId,
+    side: Side,
+) -> u64
+    requires few { length trees.now ≤ 1000000 }
+    requires small { All (λ t. lots_of t.tree ≤ 10000000) trees.now }
+    ensures { result ≡ lots_in trees.now at.now instrument.now side }
+{
+    let mut total = 0;
+    for t in trees {
+        if t.instrument == *instrument && t.side == side {
+            total += t.tree.lots_at(at);
+        }
+    }
+    total
+}
+
 /// The rows of the tree of that trade; `None` where there is none.
 pub(crate) fn rows(
     trees: &[TradeTree],

@@ -3,6 +3,7 @@ pub mod Edits
 pub mod Splits
 pub mod Names
 pub mod Leaves
+pub mod Standing
 pub mod Shows
 pub mod ShowsChanges
 pub mod Orderly

@@ -1,10 +1,10 @@
 -- What a Split, a Claim, a Refuse and a Cancel make of a node.
-use Rattle.std.specs.Prelude.{◌≡◌, ◌≢◌, ℕ, ◌+◌, Bool, true, false, not, ◌||◌, if◌then◌else◌, Option, Some, None, unwrap_or, is_some, List, [], ◌∷◌, sum_by, bytes_eq}
+use Rattle.std.specs.Prelude.{◌≡◌, ◌≢◌, ℕ, ◌+◌, Bool, true, false, not, ◌||◌, if◌then◌else◌, Some, None, unwrap_or, is_some, List, [], ◌∷◌, sum_by, bytes_eq}
 use Rattle.std.specs.List.{list_all}
 use Rattle.gu_base.specs.declared.command.Part.{Part}
 use Rattle.gu_base.specs.declared.node.Place.{Place}
 use Rattle.gu_base.specs.declared.state.State.{State}
-use Rattle.gu_base.specs.declared.state.State.TheVariants.{Held, Offered, Claimed, Refused, Cancelled, ReversalPending, Reversed}
+use Rattle.gu_base.specs.declared.state.State.TheVariants.{Held, Offered, Claimed, Refused, Cancelled}
 use Rattle.gu_tree.specs.Rose.{Rose, leaf, parted, from_list, head_of}
 use Rattle.gu_tree.specs.declared.head.Head.{Head}
 

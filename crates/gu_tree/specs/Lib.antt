@@ -5,4 +5,5 @@ pub mod NodeFalls
 pub mod Paths
 pub mod Changes
 pub mod Sound
+pub mod Standing
 pub mod Shown

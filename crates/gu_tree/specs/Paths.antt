@@ -1,9 +1,8 @@
 -- Paths: the places of parts, counted from 0, on the way down from the root.
-use Rattle.std.specs.Prelude.{◌≡◌, ◌≤◌, ℕ, Option, Some, None, option_and_then, IsSome, IsSomeAnd, List, [], ◌∷◌, ◌++◌, length}
+use Rattle.std.specs.Prelude.{◌≡◌, ℕ, Option, Some, None, option_and_then, IsSome, IsSomeAnd, List, [], ◌∷◌, ◌++◌, length}
 use Rattle.std.proofs.Common.{suc, zero}
 use Rattle.gu_base.specs.Numbers.{EntryPart}
-use Rattle.gu_tree.specs.Rose.{Rose, Roses, leaf, parted, no_parts, part_then, head_of, height_of, named, rows, rows_from}
-use Rattle.gu_tree.specs.declared.head.Head.{Head}
+use Rattle.gu_tree.specs.Rose.{Rose, Roses, leaf, parted, no_parts, part_then, head_of, named, rows, rows_from}
 use Rattle.gu_tree.specs.declared.head.Row.{Row}
 
 abbrev pub part_at : ℕ → Roses → Option Rose

@@ -1,19 +1,19 @@
 -- Which tree shows a trade over a list of changes.
-use Rattle.std.specs.Prelude.{◌≡◌, ◌≢◌, ◌<◌, ◌≤◌, ℕ, ◌++◌, Option, Some, None, option_map, All, List, [], ◌∷◌, map, filter, is_none}
+use Rattle.std.specs.Prelude.{◌≡◌, ◌≢◌, ◌<◌, ℕ, ◌++◌, Option, Some, None, option_map, All, List, [], ◌∷◌}
 use Rattle.gu_base.specs.Numbers.{EntryPart}
 use Rattle.gu_base.specs.Nodes.{node_of, nodes_of, split_of, decision_of, claim_of, parent}
 use Rattle.gu_base.specs.Places.{place_of_kind}
-use Rattle.gu_base.specs.Rows.{Row, state_of, taker_of, rows_of}
+use Rattle.gu_base.specs.Rows.{Row, state_of, taker_of}
 use Rattle.gu_base.specs.declared.entry.Record.{Record}
 use Rattle.gu_base.specs.declared.node.Place.{Place}
 use Rattle.gu_base.specs.declared.node.Node.{Node}
 use Rattle.gu_base.specs.declared.command.Side.{Side}
 use Rattle.gu_base.specs.declared.command.Part.{Part}
 use Rattle.gu_base.specs.declared.command.Command.{Command}
-use Rattle.gu_base.specs.declared.command.Command.TheVariants.{Trade, Split, Claim, Refuse, Cancel, Initiate, Decline, Reverse}
+use Rattle.gu_base.specs.declared.command.Command.TheVariants.{Trade, Split, Claim, Refuse, Cancel}
 use Rattle.gu_base.specs.declared.state.State.{State}
-use Rattle.gu_base.specs.declared.state.State.TheVariants.{Held, Offered, Claimed, Refused, Cancelled, ReversalPending, Reversed}
-use Rattle.gu_tree.specs.Rose.{Rose, Roses, leaf, parted, no_parts, part_then, rows, leaves}
+use Rattle.gu_base.specs.declared.state.State.TheVariants.{Refused, Cancelled}
+use Rattle.gu_tree.specs.Rose.{Rose, Roses, leaf, parted, no_parts, part_then}
 use Rattle.gu_tree.specs.declared.head.Head.{Head}
 use Rattle.gu_tree.specs.declared.head.Row.{Row as TreeRow}
 

@@ -6,7 +6,7 @@
 //! - in every node the parts sum to it, no two nodes have one name, none is deeper than 64, and an offered node is a leaf;
 //! - each change replaces the rows of one node, and `rows` gives those that the definitions give for the list of changes;
 //! - `split` asks for memory once, before anything changes; a refused growth leaves the tree as it was;
-//! - `new`, `find`, `head`, `parted`, `has_entry`, `claim` and `give_back` take no memory;
+//! - `new`, `find`, `head`, `parted`, `has_entry`, `lots_at`, `claim` and `give_back` take no memory;
 //! - the leaves sum to the lots of the root.
 #![tactic(auto)]
 

@@ -5,6 +5,7 @@ ghost use Rattle.gu_tree.specs.Rose.{leaf, head_of, lots_of, split_of_node, rows
 ghost use Rattle.gu_tree.specs.Paths.{node_at, edit_at, HasPath, HasAt, LeadsTo, IsAbsent, ChangesRows};
 ghost use Rattle.gu_tree.specs.Changes.{root_head, part_head, part_leaves, split_node, claim_node, give_back_node, CanSplit, own_parts_have_accounts, IsOffered, IsLeaf, is_given_back};
 ghost use Rattle.gu_tree.specs.Sound.{AddsUp};
+ghost use Rattle.gu_tree.specs.Standing.{lots_at};
 ghost use Rattle.gu_tree.specs.Shown.{shown, IsOrderly, IsTreeOf, IsUnnamed, IsTradeOf, IsSplitOf, IsClaimOf, IsGivingBackOf, ShowsMore};
 ghost use Rattle.gu_base.specs.Nodes.{node_of, split_of};
 ghost use Rattle.gu_base.specs.Rows.{rows_of};
@@ -104,6 +105,14 @@ impl<A: Allocator + Clone> Tree<A> {
         ensures { result ≡ has_entry entry self.now }
     {
         self.root.has_entry(entry)
+    }
+
+    /// The lots of the leaves that stand in the account. Takes no memory.
+    pub fn lots_at(&self, place: &Place) -> u64
+        ensures value { result ≡ lots_at place.now self.now }
+        ensures fits { result ≤ lots_of self.now }
+    {
+        self.root.lots_at(place)
     }
 
     /// Gives a leaf its parts: held in their account where they are for the owner, else offered to the firm they name.

@@ -1,0 +1,19 @@
+//! Trees in heaps that are only just large enough. There is no input; the file `stdout` beside `src/` holds what must be printed.
+//!
+//! A trade of 100 lots is split in heaps that grow in steps of 16 bytes, until one takes its split into two parts. In a new
+//! heap of that size a split into 100 parts gets no memory and changes nothing, and then the split into two is accepted.
+//! After it the rows, the leaves and a copy of a tree are asked for in heaps that grow in the same steps: each call is refused
+//! until it gives what it gives where memory is ample, and no refusal changes the tree.
+#![tactic(auto)]
+
+mod growths;
+mod splits;
+mod trees;
+
+use std::io;
+
+fn main(rt: HostRuntime) -> io::Result<()> {
+    let alloc = rt.alloc();
+    splits::tell(&rt, alloc)?;
+    growths::tell(&rt, alloc)
+}
