@@ -23,9 +23,13 @@ use Rattle.gu_base.specs.declared.refusal.Refusal.{Refusal}
 use Rattle.gu_base.specs.declared.refusal.Refusal.TheVariants.{BookFull}
 use Rattle.gu_base.specs.SamePartsLaws.{bytes_same}
 use Rattle.gu_base.proofs.LiveLaws.{live_push_change}
+use Rattle.gu_book.specs.Beside.{IsTradeTree, IsBeside, IsNext}
+use Rattle.gu_book.specs.Conserved.{RisesFrom}
 use Rattle.gu_book.specs.Ids.{same_id, NoIdTwice}
 use Rattle.gu_book.specs.Kept.{AcceptedFrom, IsKept}
 use Rattle.gu_book.specs.Limits.{IsWithinLimits, AllWithinLimits}
+use Rattle.gu_book.specs.declared.trees.TradeTree.{TradeTree}
+use Rattle.gu_book.proofs.Leaves.{live_rises}
 use Rattle.gu_book.proofs.Refused.{both, first_none, accepted_parts, change_refused, accepted_small}
 
 bytes_symm : (a b : List ℕ) → bytes_eq a b ≡ bytes_eq b a
@@ -118,31 +122,51 @@ new_from_accepted t h n e change ok =
 abbrev pub record_of : ℕ → Entry → Record
 record_of n e = record { number = n; firm = e.firm; id = e.id; command = e.command; status = e.status }
 
-pub kept_push : (t : House) (h : List Entry) (l : List Record) (n : ℕ) (e : Entry) → IsKept t h l → length h < 1000000
-    → is_change e.command ≡ true → answer_to t h (call_of e) ≡ Accepted n e.status → IsKept t (h ++ e ∷ []) (l ++ record_of n e ∷ [])
-kept_push t h l n e kept room change ok =
-    let new = new_from_accepted t h n e change ok in
-    let lawful : refusal_of t l e.firm e.command ≡ None = subst (λ k. refusal_of t k e.firm e.command ≡ None) (sym kept.are_live) new.lawful in
-    let longer = length-append h (e ∷ []) in
-    let longer2 = length-append l (record_of n e ∷ []) in
-    let many : length l ≤ length h = kept.fewer in
-    let numbered : n ≡ 1 + length h = omega (arith, new.number) in
-    record {
-      few = omega (arith, longer);
-      fewer = omega (arith, longer, longer2);
-      are_live = ap (λ k. k ++ record_of n e ∷ []) kept.are_live ∙ (ap (λ m. live h ++ record_of m e ∷ []) numbered ∙ sym (live_push_change h e change (none_reversed (1 + length h) h kept.changes)));
-      changes = list_all-append (λ e. is_change e.command) h (e ∷ []) ∙ rw (kept.changes, change) refl;
-      replayed = replay_push t [] l (record_of n e) kept.replayed lawful;
-      within = All-push (λ r. IsWithinLimits r.command) l (record_of n e) kept.within (accepted_small t l e.firm e.command lawful);
-      accepted = accepted_push t [] h e kept.accepted (ok ∙ ap (λ m. Accepted m e.status) new.number);
-      once = IsDistinct-push ids_laws h e kept.once new.id;
-    }
+module _ {t : House} {h : List Entry} {l : List Record} {ts : List TradeTree} (kept : IsKept t h l ts) (room : length h < 1000000) (n : ℕ) (e : Entry) (change : is_change e.command ≡ true)
+    (ok : answer_to t h (call_of e) ≡ Accepted n e.status) where
+  new : IsNew t h n e
+  new = new_from_accepted t h n e change ok
+
+  lawful : refusal_of t l e.firm e.command ≡ None
+  lawful = subst (λ k. refusal_of t k e.firm e.command ≡ None) (sym kept.are_live) new.lawful
+
+  live_more : l ++ record_of n e ∷ [] ≡ live (h ++ e ∷ [])
+  live_more =
+      let number = new.number in
+      let numbered : n ≡ 1 + length h = omega (arith, number) in
+      ap (λ k. k ++ record_of n e ∷ []) kept.are_live ∙ (ap (λ m. live h ++ record_of m e ∷ []) numbered ∙ sym (live_push_change h e change (none_reversed (1 + length h) h kept.changes)))
+
+  -- an accepted change may follow the live changes
+  pub next_kept : IsNext t l (record_of n e) ts
+  next_kept = record {
+    beside = kept.beside;
+    replayed = kept.replayed;
+    lawful = lawful;
+    rises = subst (RisesFrom 1) (sym live_more) (live_rises (h ++ e ∷ []));
+  }
+
+  pub kept_push : (us : List TradeTree) → IsBeside (l ++ record_of n e ∷ []) us → IsKept t (h ++ e ∷ []) (l ++ record_of n e ∷ []) us
+  kept_push us beside =
+      let longer = length-append h (e ∷ []) in
+      let longer2 = length-append l (record_of n e ∷ []) in
+      let many : length l ≤ length h = kept.fewer in
+      record {
+        few = omega (arith, longer);
+        fewer = omega (arith, longer, longer2);
+        are_live = live_more;
+        changes = list_all-append (λ e. is_change e.command) h (e ∷ []) ∙ rw (kept.changes, change) refl;
+        replayed = replay_push t [] l (record_of n e) kept.replayed lawful;
+        within = All-push (λ r. IsWithinLimits r.command) l (record_of n e) kept.within (accepted_small t l e.firm e.command lawful);
+        accepted = accepted_push t [] h e kept.accepted (ok ∙ ap (λ m. Accepted m e.status) new.number);
+        once = IsDistinct-push ids_laws h e kept.once new.id;
+        beside = beside;
+      }
 
 nothing_twice : NoIdTwice []
 unfolding IsDistinct
 nothing_twice = tt
 
-pub kept_none : (t : House) → IsKept t [] []
+pub kept_none : (t : House) → IsKept t [] [] []
 kept_none t = record {
   few = omega arith;
   fewer = omega arith;
@@ -152,6 +176,7 @@ kept_none t = record {
   within = All-nil (λ r. IsWithinLimits r.command);
   accepted = tt;
   once = nothing_twice;
+  beside = record { each = All-nil (IsTradeTree []); named_alike = λ n. refl; few = omega arith };
 }
 
 -- entries that were accepted in turn can be cut anywhere

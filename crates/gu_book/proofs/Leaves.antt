@@ -32,7 +32,6 @@ use Rattle.gu_book.proofs.Refused.{both, at_node_none, split_passes, SplitPasses
 use Rattle.gu_book.proofs.Sound.{name_is, name_same, apart_by, nodes_push, node_push, split_push, unsplit_push, Sound, IsSoundNext, sound_push, sound_none, made, made_of}
 use Rattle.gu_book.proofs.SoundNext.{next_from_accepted, part_parent}
 use Rattle.gu_book.proofs.Sums.{sum_zero, one_takes}
-use Rattle.gu_book.proofs.There.{two_tests}
 
 -- what a node adds: its lots where it is a leaf and its root is taken
 abbrev pub weight : (Option EntryPart → Bool) → List Record → Node → ℕ
@@ -347,6 +346,15 @@ sound_first = record {
 
 pub weighed : (t : House) (takes : Option EntryPart → Bool) (l : List Record) → first_refused t [] l ≡ None → RisesFrom 1 l → Weighed takes l
 weighed t takes l none rises = weighed_from t takes [] l 1 (omega arith) sound_first refl none rises
+
+one_test : (c : Bool) (x : Node) (rest : List Node) → sum_by (λ x. x.lots) (cond c (x ∷ rest) rest) ≡ cond c x.lots 0 + sum_by (λ x. x.lots) rest
+one_test true x rest = sum_by-cons (λ x. x.lots) x rest
+one_test false x rest = omega arith
+
+two_tests : (b : Bool) (x : Node) (p : Node → Bool) (rest : List Node)
+    → sum_by (λ x. x.lots) (filter p (cond b (x ∷ rest) rest)) ≡ cond (b && p x) x.lots 0 + sum_by (λ x. x.lots) (filter p rest)
+two_tests true x p rest = one_test (p x) x (filter p rest)
+two_tests false x p rest = omega arith
 
 -- the sum of leaves that pass a test, as a sum over all nodes
 pub leaf_weights : (leaf p : Node → Bool) (xs : List Node) → sum_by (λ x. x.lots) (filter p (filter leaf xs)) ≡ sum_by (λ x. cond (leaf x && p x) x.lots 0) xs

@@ -1,9 +1,7 @@
-pub mod Roots
 pub mod Steps
 pub mod Within
 pub mod Refused
 pub mod Keeps
-pub mod There
 pub mod Sums
 pub mod Known
 pub mod Balance
@@ -19,3 +17,4 @@ pub mod Beside
 pub mod Changes
 pub mod Lots
 pub mod TreeRows
+pub mod Shown

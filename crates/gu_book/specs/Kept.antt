@@ -9,16 +9,19 @@ use Rattle.gu_base.specs.Runs.{call_of}
 use Rattle.gu_base.specs.declared.entry.Answer.TheVariants.{Accepted}
 use Rattle.gu_base.specs.declared.entry.Entry.{Entry}
 use Rattle.gu_base.specs.declared.entry.Record.{Record}
+use Rattle.gu_book.specs.Beside.{IsBeside}
 use Rattle.gu_book.specs.Ids.{NoIdTwice}
 use Rattle.gu_book.specs.Limits.{AllWithinLimits}
+use Rattle.gu_book.specs.declared.trees.TradeTree.{TradeTree}
 
 -- each of these entries is what is accepted after those before it
 abbrev pub AcceptedFrom : House → List Entry → List Entry → Type 0
 AcceptedFrom t before [] = Unit {0}
 AcceptedFrom t before (e ∷ rest) = (answer_to t before (call_of e) ≡ Accepted (length before + 1) e.status) × AcceptedFrom t (before ++ e ∷ []) rest
 
--- the records beside the history are its live changes, none of which is refused, and calls for changes made the history
-pub record IsKept (house : House) (history : List Entry) (records : List Record) : Type 0 where
+-- the records beside the history are its live changes, none of which is refused, calls for changes made the history, and the
+-- trees show the live changes
+pub record IsKept (house : House) (history : List Entry) (records : List Record) (trees : List TradeTree) : Type 0 where
   pub few : length history ≤ 1000000
   pub fewer : length records ≤ length history
   pub are_live : records ≡ live history
@@ -27,3 +30,4 @@ pub record IsKept (house : House) (history : List Entry) (records : List Record)
   pub within : AllWithinLimits records
   pub accepted : AcceptedFrom house [] history
   pub once : NoIdTwice history
+  pub beside : IsBeside records trees

@@ -1,12 +1,11 @@
 pub mod Limits
 pub mod Parts
 pub mod Charged
-pub mod There
 pub mod Ids
 pub mod Seen
-pub mod Kept
-pub mod Known
 pub mod Conserved
-pub mod Placed
 pub mod Beside
 pub mod TreeRows
+pub mod Kept
+pub mod Known
+pub mod Placed

@@ -1,5 +1,5 @@
-//! The book: the house table, the history, and beside it the live changes.
-ghost use Rattle.std.specs.Prelude.{true, ◌≡◌, ◌≤◌, ◌<◌, [], ◌∷◌, ◌++◌, length, IsTrue, IfOk, OnOk, OnErr};
+//! The book: the house table, the history, and beside it the live changes and a tree for each live trade.
+ghost use Rattle.std.specs.Prelude.{true, ◌≡◌, ◌≤◌, ◌<◌, [], ◌∷◌, ◌++◌, length, map, option_map, IsTrue, IfOk, OnOk, OnErr};
 ghost use Rattle.std.specs.List.{list_all};
 ghost use Rattle.gu_base.specs.History.{is_change, live};
 ghost use Rattle.gu_base.specs.Positions.{position_of};
@@ -9,16 +9,20 @@ ghost use Rattle.gu_base.specs.Answers.{Call, answer_to, after, is_accepted};
 ghost use Rattle.gu_base.specs.declared.command.Side.TheVariants.{Buy, Sell};
 ghost use Rattle.gu_base.specs.declared.entry.Answer.TheVariants.{Accepted};
 ghost use Rattle.gu_base.specs.Runs.{IsRunFrom};
+ghost use Rattle.gu_tree.specs.Shown.{shown};
 ghost use Rattle.gu_book.specs.Ids.{NoIdTwice};
+ghost use Rattle.gu_book.specs.TreeRows.{tree_rows};
 
 use crate::plain::calls::answer_to;
 use crate::plain::charges;
-use crate::plain::positions::position_of;
+use crate::trees;
+use crate::trees::TradeTree;
 use gu_base::{
     AccountId, AllocId, Answer, Command, Entry, FirmId, InstrumentId, Memory, Number, Place,
     Record, Side, State,
 };
 use gu_parties::House;
+use gu_tree::Row;
 use std::alloc::Global;
 use std::marker::Model;
 
@@ -28,6 +32,7 @@ pub struct Book {
     house: House,
     entries: Vec<Entry>,
     records: Vec<Record>,
+    trees: Vec<TradeTree>,
 }
 
 impl Model for Book {
@@ -38,7 +43,7 @@ impl Model for Book {
 
     ghost view = { λ b. record { house = b.house; history = b.entries.items } };
 
-    ghost invariant = { λ b. IsKept b.house b.entries.items b.records.items };
+    ghost invariant = { λ b. IsKept b.house b.entries.items b.records.items b.trees.items };
 }
 
 impl Book {
@@ -50,6 +55,7 @@ impl Book {
             house,
             entries: Vec::new(alloc),
             records: Vec::new(alloc),
+            trees: Vec::new(alloc),
         }
     }
 
@@ -99,7 +105,8 @@ impl Book {
         Ok(answer)
     }
 
-    /// Puts an accepted change at the end of the history and of the live changes. All growths come first.
+    /// Puts an accepted change at the end of the history and of the live changes, and changes its tree. All growths come before
+    /// anything changes.
     fn keep(
         &mut self,
         alloc: Global,
@@ -130,12 +137,25 @@ impl Book {
         };
         self.entries.reserve(1)?;
         self.records.reserve(1)?;
+        trees::change(&mut self.trees, alloc, &record)?;
         self.entries.push_reserved(entry);
         self.records.push_reserved(record);
         Ok(())
     }
 
-    /// The lots that stand in an account in an instrument: those of buy trades, and those of sell trades.
+    /// The rows of a live trade's tree: a node, then its parts in order. `None` where the number is of no live Trade.
+    ///
+    /// # Errors
+    ///
+    /// `Memory` where a growth was refused.
+    pub fn tree_rows(&self, alloc: Global, trade: Number) -> Result<Option<Vec<Row>>, Memory>
+        ensures { IfOk result (λ o. option_map (λ v. map shown v.items) o ≡ tree_rows (live self.now.history) trade) }
+    {
+        trees::rows(&self.trees, alloc, trade)
+    }
+
+    /// The lots that stand in an account in an instrument: those of buy trades, and those of sell trades. They are those of
+    /// the leaves of the trees.
     pub fn position(
         &self,
         firm: &FirmId,
@@ -150,8 +170,8 @@ impl Book {
             account: *account,
         };
         (
-            position_of(&self.records, &at, instrument, Side::Buy),
-            position_of(&self.records, &at, instrument, Side::Sell),
+            trees::lots_in(&self.trees, &at, instrument, Side::Buy),
+            trees::lots_in(&self.trees, &at, instrument, Side::Sell),
         )
     }
 

@@ -3,5 +3,4 @@ pub(crate) mod calls;
 pub(crate) mod charges;
 pub(crate) mod nodes;
 pub(crate) mod places;
-pub(crate) mod positions;
 pub(crate) mod refusals;

@@ -1,12 +1,13 @@
 //! The trees beside the live changes: one for each live trade.
-ghost use Rattle.std.specs.Prelude.{◌≡◌, ◌≤◌, ◌<◌, ◌==◌, length, find, IfOk, OnOk, OnErr, IfSome, IfNone, option_map, get_or};
+ghost use Rattle.std.specs.Prelude.{◌≡◌, ◌≤◌, ◌<◌, ◌==◌, length, find, IfOk, OnOk, OnErr, IfSome, IfNone, option_map, get_or, if◌then◌else◌};
 ghost use Rattle.std.specs.List.{All};
 ghost use Rattle.gu_base.specs.declared.command.Command.TheVariants.{Trade, Split, Claim, Refuse, Cancel};
 ghost use Rattle.gu_base.specs.declared.state.State.TheVariants.{Refused, Cancelled};
 ghost use Rattle.gu_tree.specs.Rose.{lots_of, rows};
 ghost use Rattle.gu_tree.specs.Changes.{is_given_back};
+ghost use Rattle.gu_tree.specs.Standing.{lots_at};
 ghost use Rattle.gu_tree.specs.Shown.{GivesBack};
-ghost use Rattle.gu_book.specs.Beside.{IsDue, Follows, IsFoundIn, named_in, lots_in};
+ghost use Rattle.gu_book.specs.Beside.{IsDue, Follows, IsFoundIn, named_in, is_of, lots_in};
 
 use gu_base::{
     AccountId, Command, InstrumentId, Memory, NodeName, Number, Part, Place, Record, Side, State,
@@ -140,8 +141,20 @@ pub(crate) fn change(
     Ok(())
 }
 
+/// The lots of a tree that stand in the account, where its trade is in the instrument on the side; else 0.
+fn lots_if_of(t: &TradeTree, at: &Place, instrument: &InstrumentId, side: Side) -> u64
+    ensures value { result ≡ (if is_of instrument.now side t.now then lots_at at.now t.now.tree else 0) }
+    ensures fits { result ≤ lots_of t.now.tree }
+{
+    if t.instrument == *instrument && t.side == side {
+        t.tree.lots_at(at)
+    } else {
+        0
+    }
+}
+
 /// The lots that stand in the account, in trades of the instrument on the side.
-pub(crate) fn lots_at(
+pub(crate) fn lots_in(
     trees: &[TradeTree],
     at: &Place,
     instrument: &InstrumentId,
@@ -153,9 +166,7 @@ pub(crate) fn lots_at(
 {
     let mut total = 0;
     for t in trees {
-        if t.instrument == *instrument && t.side == side {
-            total += t.tree.lots_at(at);
-        }
+        total += lots_if_of(t, at, instrument, side);
     }
     total
 }
