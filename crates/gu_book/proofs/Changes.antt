@@ -46,7 +46,7 @@ use Rattle.gu_book.proofs.Placed.{part_account}
 use Rattle.gu_book.specs.Limits.{IsWithinLimits}
 use Rattle.gu_book.proofs.Orders.{earlier, unnamed}
 use Rattle.gu_book.proofs.Named.{entry_named, parts_named}
-use Rattle.gu_book.proofs.Beside.{trades_same, apart_numbers, order, lower, named_lower, Spot, spot, has_tree, changed, planted, stays}
+use Rattle.gu_book.proofs.Beside.{trades_same, apart_numbers, order, lower, named_lower, Spot, spot, changed, planted, stays}
 
 -- ---- of kinds and states
 
@@ -96,10 +96,6 @@ module _ {t : House} {l : List Record} {r : Record} {ts : List TradeTree} (next 
   pub found_spot : (i : ℕ) (p : List ℕ) (n : EntryPart) (u : TradeTree) → u ≡ get_or ts i u → IsFoundIn ts i p n → Spot l ts i p n u
   found_spot i p n u there f =
       spot next i p n u f.within there (subst (λ (x : TradeTree). LeadsTo p x.tree n) (same_there ts i f.tree u f.within f.there there) f.led)
-
-  -- `find` finds it
-  pub not_absent : (n : EntryPart) → named_node r.command ≡ Some n → named_in n ts ≡ 0 → ⊥
-  not_absent n names none = omega (arith, has_tree next n names, none)
 
   row_passes : (c : Command) → r.command ≡ c → row t l r.firm c ≡ None
   row_passes c e = subst (λ (c : Command). row t l r.firm c ≡ None) e (row_none t l r.firm r.command next.lawful)

@@ -24,17 +24,17 @@ pub(crate) struct TradeTree {
     tree: Tree<Global>,
 }
 
-/// Which of the trees has the node, and the path to it there. `None` where none has it.
-fn find(trees: &[TradeTree], name: NodeName) -> Option<(usize, Path)>
-    ensures found { IfSome result (λ f. IsFoundIn trees.now f.0 f.1.items name) }
-    ensures absent { IfNone result (named_in name trees.now ≡ 0) }
+/// Which of the trees has the node, and the path to it there.
+fn find(trees: &[TradeTree], name: NodeName) -> (usize, Path)
+    requires { 1 ≤ named_in name trees.now }
+    ensures { IsFoundIn trees.now result.0 result.1.items name }
 {
     for (i, t) in trees.iter().enumerate() {
         if let Some(path) = t.tree.find(name) {
-            return Some((i, path));
+            return (i, path);
         }
     }
-    None
+    unreachable!()
 }
 
 /// Adds the tree of a Trade.
@@ -72,9 +72,7 @@ fn split(
     ensures follows { OnOk result (Follows made.now trees.old trees.new) }
     ensures unchanged { OnErr result (trees.new ≡ trees.old) }
 {
-    let Some((i, path)) = find(trees, node) else {
-        unreachable!()
-    };
+    let (i, path) = find(trees, node);
     trees[i].tree.split(&path, made.number, parts)
 }
 
@@ -84,9 +82,7 @@ fn claim(trees: &mut [TradeTree], made: &Record, node: NodeName, account: Accoun
     requires claim { made.now.command ≡ Claim node account }
     ensures { Follows made.now trees.old trees.new }
 {
-    let Some((i, path)) = find(trees, node) else {
-        unreachable!()
-    };
+    let (i, path) = find(trees, node);
     let place = Place {
         firm: made.firm,
         account,
@@ -100,9 +96,7 @@ fn give_back(trees: &mut [TradeTree], made: &Record, node: NodeName, state: Stat
     requires back { GivesBack node state made.now.command }
     ensures { Follows made.now trees.old trees.new }
 {
-    let Some((i, path)) = find(trees, node) else {
-        unreachable!()
-    };
+    let (i, path) = find(trees, node);
     trees[i].tree.give_back(&path, made.number, state);
 }
 

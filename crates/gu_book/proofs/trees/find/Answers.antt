@@ -11,5 +11,7 @@ loop-i-preserved c =
     let here = ap (λ (t : TradeTree). named c.args.name t.tree) c.index-trees-i.is in
     omega (arith, more, here, c.loop-i.invariant, c.in_default.ensures.absent)
 
-pub returns-clause-absent : goal.returns-clause-absent
-returns-clause-absent c = sym (ap (named_in c.args.name) (take_all c.loop-i.i c.args.trees.now c.loop-i-test.false)) ∙ c.loop-i.invariant
+pub unreachable-requires : goal.unreachable-requires
+unreachable-requires c =
+    let all = ap (named_in c.args.name) (take_all c.loop-i.i c.args.trees.now c.loop-i-test.false) in
+    omega (arith, all, c.loop-i.invariant, c.requires)
