@@ -15,7 +15,7 @@ use gu_base::{
 use gu_tree::{Path, Row, Tree};
 use std::alloc::Global;
 
-/// The tree of a live trade, and what was traded.
+/// The tree of a live trade, and beside it the trade's number, instrument and side.
 #[derive(Drop)]
 pub(crate) struct TradeTree {
     trade: Number,
