@@ -1,6 +1,4 @@
-use Rattle.std.proofs.Common.{◌≡◌, ap}
-use Rattle.gu_base.specs.House.{House}
-use Rattle.gu_base.specs.declared.entry.Record.{Record}
+use Rattle.std.proofs.Common.{ap}
 use Rattle.gu_tree.specs.Shown.{named_node}
 use Rattle.gu_book.proofs.Changes.{found_spot, not_absent, may_claim, claimed}
 use Rattle.gu_book.proofs.trees.claim.Goals as goal

@@ -1,4 +1,3 @@
-use Rattle.std.proofs.Common.{◌≡◌, ap}
 use Rattle.gu_book.proofs.Changes.{found_spot, not_absent, back_names, may_give_back, given_back}
 use Rattle.gu_book.proofs.trees.give_back.Goals as goal
 

@@ -1,6 +1,5 @@
-use Rattle.std.proofs.Common.{◌≡◌, ap}
+use Rattle.std.proofs.Common.{ap}
 use Rattle.std.specs.Prelude.{OnOk, Result, Ok, Err}
-
 use Rattle.gu_tree.specs.Shown.{named_node}
 use Rattle.gu_book.proofs.Changes.{found_spot, not_absent, may_split, has_accounts, some_parts, few_parts, not_deep, fresh_entry, split_shown}
 use Rattle.gu_book.proofs.trees.split.Goals as goal
