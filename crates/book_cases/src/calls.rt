@@ -2,6 +2,7 @@
 ghost use Rattle.std.specs.Prelude.{IsTrue, IfSome, IfOk};
 ghost use Rattle.gu_base.specs.History.{is_change};
 
+use crate::picture::picture_of;
 use crate::words::{count_of, cut, first_word, node_of, shown};
 use gu_base::{
     AccountId, AllocId, Answer, Command, FirmId, InstrumentId, Memory, Part, Parts, Side,
@@ -115,7 +116,7 @@ fn show(rt: &impl Print, answer: &Answer) -> io::Result<()> {
     }
 }
 
-/// Calls, and where no memory is found sees that no entry came and calls again.
+/// Calls, and where no memory is found sees that the book tells what it told before, and calls again.
 fn make(
     rt: &impl Print,
     alloc: Global,
@@ -126,13 +127,13 @@ fn make(
 ) -> io::Result<()>
     requires { IsTrue (is_change command.now) }
 {
-    let before = book.history().len();
+    let before = picture_of(alloc, book)?;
     match book.apply(alloc, by, id, command) {
         Ok(answer) => return show(rt, &answer),
         Err(_) => {}
     }
-    if book.history().len() != before {
-        return println!(rt; "an entry came without memory");
+    if picture_of(alloc, book)? != before {
+        return println!(rt; "changed without memory");
     }
     match book.apply(alloc, by, id, command) {
         Ok(answer) => show(rt, &answer),
@@ -154,7 +155,7 @@ pub(crate) fn call(
         return println!(rt; "what?");
     };
     let (_, behind) = first_word(rest);
-    let parts = parts(alloc, by, behind)?;
+    let parts = parts(alloc, by, behind).or_else(|_| parts(alloc, by, behind))?;
     match command(verb, rest, parts) {
         Some(command) => make(rt, alloc, book, &by, &id, &command),
         None => println!(rt; "what? {}", shown(rest)),

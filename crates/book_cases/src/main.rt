@@ -2,87 +2,31 @@
 //!
 //! Standard input holds a house file, a line `--`, and then days, with an empty line between two. Each day begins with an empty book.
 //! A line of a day is a name for what follows (`# ..`, written again), a question (`? position FIRM ACCOUNT INSTRUMENT`, `? fees FIRM`,
-//! `? used GIVER TAKER`, `? house`, `? entries`) or a call: `FIRM ID trade FIRM ACCOUNT INSTRUMENT buy|sell LOTS`,
+//! `? used GIVER TAKER`, `? rows TRADE`, `? house`, `? entries`) or a call: `FIRM ID trade FIRM ACCOUNT INSTRUMENT buy|sell LOTS`,
 //! `FIRM ID split NODE LOTS@ACCOUNT LOTS>FIRM ..`, `FIRM ID claim NODE ACCOUNT`, `FIRM ID refuse NODE`, `FIRM ID cancel NODE`.
-//! A call that finds no memory is made again, and has to find as many entries as before.
+//! A call that finds no memory is made again, and has to find all that the book tells as before. Whatever else takes memory is
+//! asked for a second time too. So one refused growth, wherever it falls, changes nothing that is written.
 #![tactic(auto)]
 
 mod calls;
+mod picture;
+mod questions;
 mod words;
 
 use calls::call;
-use gu_base::{AccountId, FirmId, InstrumentId};
 use gu_book::Book;
 use gu_parties::House;
-use std::alloc::{AllocError, Global};
+use questions::answer;
+use std::alloc::Global;
 use std::io;
 use std::io::Read;
 use words::{first_word, shown};
 
-/// An empty book of the house of this text.
-fn new_book(alloc: Global, text: &[u8]) -> Option<Book> {
-    match House::parse(alloc, text) {
-        Ok(house) => Some(Book::new(alloc, house)),
-        Err(_) => None,
-    }
-}
-
-fn show_position(rt: &impl Print, book: &Book, words: &[u8]) -> io::Result<()> {
-    let (firm, rest) = first_word(words);
-    let (account, instrument) = first_word(rest);
-    match (
-        FirmId::new(firm),
-        AccountId::new(account),
-        InstrumentId::new(instrument),
-    ) {
-        (Some(firm), Some(account), Some(instrument)) => {
-            let (long, short) = book.position(&firm, &account, &instrument);
-            println!(rt; "long {long} short {short}")
-        }
-        _ => println!(rt; "what?"),
-    }
-}
-
-fn show_fees(rt: &impl Print, book: &Book, firm: &[u8]) -> io::Result<()> {
-    match FirmId::new(firm) {
-        Some(firm) => {
-            let paid = book.paid(&firm);
-            let received = book.received(&firm);
-            println!(rt; "paid {paid} received {received}")
-        }
-        None => println!(rt; "what?"),
-    }
-}
-
-fn show_used(rt: &impl Print, book: &Book, words: &[u8]) -> io::Result<()> {
-    let (giver, taker) = first_word(words);
-    match (FirmId::new(giver), FirmId::new(taker)) {
-        (Some(giver), Some(taker)) => {
-            let used = book.used(&giver, &taker);
-            println!(rt; "used {used}")
-        }
-        _ => println!(rt; "what?"),
-    }
-}
-
-/// Writes what a question asks for.
-fn answer(rt: &impl Print, book: &Book, question: &[u8]) -> io::Result<()> {
-    let (what, rest) = first_word(question);
-    if what == b"position".as_slice() {
-        return show_position(rt, book, rest);
-    }
-    if what == b"fees".as_slice() {
-        return show_fees(rt, book, rest);
-    }
-    if what == b"used".as_slice() {
-        return show_used(rt, book, rest);
-    }
-    if what == b"house".as_slice() {
-        let house = book.house().house();
-        return println!(rt; "house {house}");
-    }
-    let entries = book.history().len();
-    println!(rt; "entries {entries}")
+/// An empty book of the house of this text. Where the text gives no house it is read once more: a growth may have been refused.
+fn new_book(alloc: Global, text: &str) -> Option<Book> {
+    let text = text.as_bytes();
+    let house = House::parse(alloc, text).or_else(|_| House::parse(alloc, text));
+    Some(Book::new(alloc, house.ok()?))
 }
 
 /// Writes what a line of a day gives.
@@ -92,7 +36,7 @@ fn tell(rt: &impl Print, alloc: Global, book: &mut Book, line: &[u8]) -> io::Res
         return println!(rt; "{}", shown(line));
     }
     if first == b"?".as_slice() {
-        return answer(rt, book, rest);
+        return answer(rt, alloc, book, rest);
     }
     call(rt, alloc, book, first, rest)
 }
@@ -105,26 +49,17 @@ fn tell_at(rt: &impl Print, alloc: Global, book: &mut Option<Book>, line: &[u8])
     }
 }
 
-/// Adds a line to a text.
-fn add_line(text: &mut Vec<u8>, line: &[u8]) -> Result<(), AllocError> {
-    text.extend_from_slice(line)?;
-    text.push(b'\n')?;
-    Ok(())
-}
-
 /// Writes what each line of the input gives.
 fn tell_all(rt: &impl Print, alloc: Global, input: &[u8]) -> io::Result<()> {
-    let mut text = Vec::new(alloc);
-    let mut in_house = true;
-    let mut book = None;
-    for line in input.split(|b| *b == b'\n') {
-        if in_house && line != b"--".as_slice() {
-            add_line(&mut text, line)?;
-        } else if in_house || line.is_empty() {
-            in_house = false;
-            book = new_book(alloc, text.as_slice());
+    let Some((house, days)) = shown(input).split_once("\n--\n") else {
+        return println!(rt; "no house");
+    };
+    let mut book = new_book(alloc, house);
+    for line in days.lines() {
+        if line.is_empty() {
+            book = new_book(alloc, house);
         } else {
-            tell_at(rt, alloc, &mut book, line)?;
+            tell_at(rt, alloc, &mut book, line.as_bytes())?;
         }
     }
     Ok(())
@@ -133,6 +68,9 @@ fn tell_all(rt: &impl Print, alloc: Global, input: &[u8]) -> io::Result<()> {
 fn main(rt: HostRuntime) -> io::Result<()> {
     let alloc = rt.alloc();
     let mut input = Vec::new(alloc);
-    rt.reader().read_to_end(&mut input)?;
+    if rt.reader().read_to_end(&mut input).is_err() {
+        // None of what was read is lost.
+        rt.reader().read_to_end(&mut input)?;
+    }
     tell_all(&rt, alloc, input.as_slice())
 }
