@@ -1,11 +1,13 @@
 //! A question, and what the book tells.
 
+use crate::twice::twice;
 use crate::words::{count_of, first_word};
 use gu_base::{AccountId, FirmId, InstrumentId, Number};
 use gu_book::Book;
 use gu_tree::Row;
 use std::alloc::Global;
 use std::io;
+use std::io::Eprint;
 
 fn show_position(rt: &impl Print, book: &Book, words: &[u8]) -> io::Result<()> {
     let (firm, rest) = first_word(words);
@@ -67,15 +69,17 @@ fn number_of(word: &[u8]) -> Option<Number> {
     Number::new(u32::try_from(count_of(word)?).ok()?)
 }
 
-/// Writes the rows of a trade's tree. Where a growth is refused it asks for them once more.
-fn show_rows(rt: &impl Print, alloc: Global, book: &Book, word: &[u8]) -> io::Result<()> {
+/// Writes the rows of a trade's tree.
+fn show_rows(
+    rt: &(impl Print + Eprint),
+    alloc: Global,
+    book: &Book,
+    word: &[u8],
+) -> io::Result<()> {
     let Some(trade) = number_of(word) else {
         return println!(rt; "what?");
     };
-    let rows = book
-        .tree_rows(alloc, trade)
-        .or_else(|_| book.tree_rows(alloc, trade))?;
-    let Some(rows) = rows else {
+    let Some(rows) = twice(rt, || book.tree_rows(alloc, trade))? else {
         return println!(rt; "no live trade");
     };
     for row in &rows {
@@ -86,7 +90,7 @@ fn show_rows(rt: &impl Print, alloc: Global, book: &Book, word: &[u8]) -> io::Re
 
 /// Writes what a question asks for.
 pub(crate) fn answer(
-    rt: &impl Print,
+    rt: &(impl Print + Eprint),
     alloc: Global,
     book: &Book,
     question: &[u8],
