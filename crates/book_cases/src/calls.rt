@@ -2,6 +2,8 @@
 ghost use Rattle.std.specs.Prelude.{IsTrue, IfSome, IfOk};
 ghost use Rattle.gu_base.specs.History.{is_change};
 
+use crate::picture::take_picture;
+use crate::twice::{tell_refused, twice};
 use crate::words::{count_of, cut, first_word, node_of, shown};
 use gu_base::{
     AccountId, AllocId, Answer, Command, FirmId, InstrumentId, Memory, Part, Parts, Side,
@@ -9,6 +11,7 @@ use gu_base::{
 use gu_book::Book;
 use std::alloc::Global;
 use std::io;
+use std::io::Eprint;
 
 fn side_of(word: &[u8]) -> Side {
     if word == b"sell".as_slice() {
@@ -115,9 +118,9 @@ fn show(rt: &impl Print, answer: &Answer) -> io::Result<()> {
     }
 }
 
-/// Calls, and where no memory is found sees that no entry came and calls again.
+/// Calls, and where no memory is found sees that the book tells what it told before, and calls again.
 fn make(
-    rt: &impl Print,
+    rt: &(impl Print + Eprint),
     alloc: Global,
     book: &mut Book,
     by: &FirmId,
@@ -126,13 +129,13 @@ fn make(
 ) -> io::Result<()>
     requires { IsTrue (is_change command.now) }
 {
-    let before = book.history().len();
+    let before = twice(rt, || take_picture(alloc, book))?;
     match book.apply(alloc, by, id, command) {
         Ok(answer) => return show(rt, &answer),
-        Err(_) => {}
+        Err(_) => tell_refused(rt),
     }
-    if book.history().len() != before {
-        return println!(rt; "an entry came without memory");
+    if twice(rt, || take_picture(alloc, book))? != before {
+        return println!(rt; "changed without memory");
     }
     match book.apply(alloc, by, id, command) {
         Ok(answer) => show(rt, &answer),
@@ -142,7 +145,7 @@ fn make(
 
 /// Makes the call of a line, which begins with this firm, and writes the answer.
 pub(crate) fn call(
-    rt: &impl Print,
+    rt: &(impl Print + Eprint),
     alloc: Global,
     book: &mut Book,
     firm: &[u8],
@@ -154,7 +157,7 @@ pub(crate) fn call(
         return println!(rt; "what?");
     };
     let (_, behind) = first_word(rest);
-    let parts = parts(alloc, by, behind)?;
+    let parts = twice(rt, || parts(alloc, by, behind))?;
     match command(verb, rest, parts) {
         Some(command) => make(rt, alloc, book, &by, &id, &command),
         None => println!(rt; "what? {}", shown(rest)),

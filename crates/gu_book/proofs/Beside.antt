@@ -1,32 +1,28 @@
 -- A change that may follow leaves the trees beside the longer list.
-use Rattle.std.proofs.Common.{◌≡◌, ◌≢◌, ℕ, ◌+◌, ◌<◌, ◌≤◌, Bool, true, false, not, ◌&&◌, List, [], ◌∷◌, ◌++◌, length, get_or, refl, sym, ◌∙◌, ap, subst, arith, cond, Option, length-append}
-use Rattle.std.specs.Prelude.{Some, None, find, sum_by, ◌==◌, is_some, is_none, IsSomeAnd, option_map, bytes_eq}
+use Rattle.std.proofs.Common.{◌≡◌, ℕ, ◌+◌, ◌<◌, ◌≤◌, Bool, true, false, ◌&&◌, List, [], ◌∷◌, ◌++◌, length, get_or, refl, sym, ◌∙◌, ap, subst, arith, cond, Option, length-append}
+use Rattle.std.specs.Prelude.{Some, None, find, ◌==◌, is_some, IsSomeAnd}
 use Rattle.std.specs.Option.{option_or}
-use Rattle.std.specs.List.{All}
 use Rattle.std.proofs.Math.ListN.{set}
 use Rattle.std.proofs.lemmas.Bool.Decides.{Decides-eqb}
 use Rattle.std.proofs.lemmas.List.{length-set}
-use Rattle.std.proofs.lemmas.List.Elements.{All-nil, All-cons, All-head, All-tail, All-push, All-weaker, All-get_or}
+use Rattle.std.proofs.lemmas.List.Elements.{All-push, All-weaker, All-get_or}
 use Rattle.std.proofs.lemmas.List.Folds.{find-append}
-use Rattle.std.proofs.lemmas.List.Sums.{sum_by-set, sum_by_push, get_or-le-sum_by}
+use Rattle.std.proofs.lemmas.List.Sums.{sum_by-set, sum_by_push}
 use Rattle.gu_base.specs.Numbers.{EntryPart}
 use Rattle.gu_base.specs.House.{House}
-use Rattle.gu_base.specs.Nodes.{node_of, nodes, same_name}
+use Rattle.gu_base.specs.Nodes.{node_of, nodes}
 use Rattle.gu_base.specs.Positions.{is_trade_of}
 use Rattle.gu_base.specs.declared.command.Side.{Side}
-use Rattle.gu_base.specs.declared.command.Command.{Command}
-use Rattle.gu_base.specs.declared.command.Command.TheVariants.{Trade, Split, Claim, Refuse, Cancel, Initiate, Decline, Reverse}
 use Rattle.gu_base.specs.declared.entry.Record.{Record}
 use Rattle.gu_base.specs.declared.node.Node.{Node}
-use Rattle.gu_tree.specs.Rose.{Rose, head_of, lots_of, named}
-use Rattle.gu_tree.specs.Paths.{node_at, HasAt, LeadsTo}
-use Rattle.gu_tree.specs.Shown.{IsTreeOf, IsOrderly, named_node}
+use Rattle.gu_tree.specs.Rose.{Rose, head_of, named}
+use Rattle.gu_tree.specs.Paths.{node_at, LeadsTo}
+use Rattle.gu_tree.specs.Shown.{named_node}
 use Rattle.gu_tree.proofs.Along.{IsAlong, along}
 use Rattle.gu_tree.proofs.Names.{named-led}
 use Rattle.gu_tree.proofs.Parts.{some_and}
 use Rattle.gu_tree.proofs.Shows.{tree-kept, or_none}
-use Rattle.gu_book.specs.Beside.{named_in, count_of, trades_at, is_of, IsTradeTree, IsBeside, IsNext, IsFoundIn}
-use Rattle.gu_book.specs.TreeRows.{is_trade}
+use Rattle.gu_book.specs.Beside.{named_in, count_of, trades_at, IsTradeTree, IsBeside, IsNext}
 use Rattle.gu_book.specs.declared.trees.TradeTree.{TradeTree}
 use Rattle.gu_book.proofs.Refused.{row_none}
 use Rattle.gu_book.proofs.Sound.{Sound, made, apart_by}

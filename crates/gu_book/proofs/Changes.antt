@@ -1,20 +1,20 @@
 -- What each change makes of the trees.
 use Rattle.std.proofs.Common.{◌≡◌, ◌≢◌, ℕ, zero, suc, ◌+◌, ◌<◌, ◌≤◌, Bool, true, false, not, ◌&&◌, ◌||◌, List, [], ◌∷◌, ◌++◌, length, get_or, refl, sym, ◌∙◌, ap, subst, arith, cond, Option, IsTrue}
 use Rattle.std.specs.Prelude.{Some, None, find, map, sum_by, ◌==◌, nat_le, nat_lt, is_some, is_none, IsSomeAnd, option_map, unwrap_or, bytes_eq}
-use Rattle.std.specs.List.{All, list_all}
+use Rattle.std.specs.List.{All}
 use Rattle.std.proofs.Math.ListN.{set}
 use Rattle.std.proofs.lemmas.Bool.Decides.{Decides-eqb}
-use Rattle.std.proofs.lemmas.List.Elements.{All-nil, All-cons, All-head, All-tail}
+use Rattle.std.proofs.lemmas.List.Elements.{All-head, All-tail}
 use Rattle.std.proofs.lemmas.List.Folds.{find-append}
 use Rattle.std.proofs.lemmas.List.Sums.{get_or-le-sum_by}
 use Rattle.std.specs.Option.{option_or}
 use Rattle.std.proofs.lemmas.Slice.Eq.{bytes_eq-Decides}
 use Rattle.gu_base.specs.Numbers.{EntryPart}
 use Rattle.gu_base.specs.House.{House, knows_account}
-use Rattle.gu_base.specs.Nodes.{node_of, nodes_of, same_name, decision_of, split_of, is_given, is_offered}
-use Rattle.gu_base.specs.Places.{owner_of, place_of, depth_of}
+use Rattle.gu_base.specs.Nodes.{node_of, nodes_of, decision_of, split_of, is_given, is_offered}
+use Rattle.gu_base.specs.Places.{place_of, depth_of}
 use Rattle.gu_base.specs.Positions.{is_trade_of, same_side}
-use Rattle.gu_base.specs.Refusals.{row, split_row, claim_row, refuse_row, cancel_row, first, unless, owns, is_taker, is_giver, agreement_row, used_by, terms, refusal_of_part, knows_own_account}
+use Rattle.gu_base.specs.Refusals.{row, split_row, claim_row, refuse_row, cancel_row, first, unless, is_taker, is_giver, agreement_row, used_by, terms, refusal_of_part}
 use Rattle.gu_base.specs.Rows.{state_of, state_after, taker_of}
 use Rattle.gu_base.specs.declared.command.Part.{Part}
 use Rattle.gu_base.specs.declared.command.Side.{Side}
@@ -28,19 +28,19 @@ use Rattle.gu_base.specs.declared.node.Place.{Place}
 use Rattle.gu_base.specs.declared.refusal.Refusal.TheVariants.{AlreadySplit, NotOffered, NotYours, UnknownAccount}
 use Rattle.gu_base.specs.declared.state.State.{State}
 use Rattle.gu_base.specs.declared.state.State.TheVariants.{Held, Offered, Claimed, Refused, Cancelled, ReversalPending, Reversed}
-use Rattle.gu_tree.specs.Rose.{Rose, Roses, leaf, parted, from_list, head_of, lots_of, is_named, named, named_below, has_entry}
-use Rattle.gu_tree.specs.Paths.{node_at, edit_at, HasAt, LeadsTo}
+use Rattle.gu_tree.specs.Rose.{Rose, leaf, parted, head_of, lots_of, named, has_entry}
+use Rattle.gu_tree.specs.Paths.{edit_at, HasAt, LeadsTo}
 use Rattle.gu_tree.specs.Changes.{root_head, with_head, CanSplit, own_parts_have_accounts, is_own, split_node, claim_node, claimed_head, give_back_node, given_back_head, IsOffered}
-use Rattle.gu_tree.specs.Shown.{IsTreeOf, IsNodeOf, IsHeadOf, named_node, ShowsMore, IsUnnamed, IsTradeOf, IsSplitOf, IsClaimOf, GivesBack, IsGivingBackOf}
+use Rattle.gu_tree.specs.Shown.{IsTreeOf, IsNodeOf, IsHeadOf, named_node, ShowsMore, IsUnnamed, IsSplitOf, IsClaimOf, GivesBack, IsGivingBackOf}
 use Rattle.gu_tree.specs.declared.head.Head.{Head}
 use Rattle.gu_tree.proofs.Along.{its-head}
 use Rattle.gu_tree.proofs.Names.{named-edit_at, named-with_head}
 use Rattle.gu_tree.proofs.Parts.{lots_of-edit_at, lots_of-with_head}
 use Rattle.gu_tree.proofs.ShowsChanges.{new-shows}
 use Rattle.gu_tree.proofs.Splits.{named-split_node}
-use Rattle.gu_book.specs.Beside.{named_in, count_of, trades_at, is_of, IsTradeTree, IsBeside, IsNext, IsFoundIn}
+use Rattle.gu_book.specs.Beside.{named_in, count_of, trades_at, IsTradeTree, IsBeside, IsNext, IsFoundIn}
 use Rattle.gu_book.specs.declared.trees.TradeTree.{TradeTree}
-use Rattle.gu_book.proofs.Refused.{both, first_none, unless_none, at_node_none, row_none, split_passes, SplitPasses, accepted_small}
+use Rattle.gu_book.proofs.Refused.{first_none, unless_none, at_node_none, row_none, split_passes, SplitPasses, accepted_small}
 use Rattle.gu_book.proofs.Sound.{made, apart_by}
 use Rattle.gu_book.proofs.Placed.{part_account}
 use Rattle.gu_book.specs.Limits.{IsWithinLimits}

@@ -1,7 +1,7 @@
 -- One more accepted change leaves true what a book keeps.
-use Rattle.std.proofs.Common.{◌≡◌, ℕ, ◌+◌, ◌<◌, ◌≤◌, Bool, true, false, not, ◌&&◌, ◌||◌, List, [], ◌∷◌, ◌++◌, length, refl, sym, ◌∙◌, ap, subst, arith, Option, cond, append-nil, append_assoc, length-append}
+use Rattle.std.proofs.Common.{◌≡◌, ℕ, ◌+◌, ◌<◌, ◌≤◌, Bool, true, false, ◌&&◌, ◌||◌, List, [], ◌∷◌, ◌++◌, length, refl, sym, ◌∙◌, ap, subst, arith, Option, cond, append-nil, append_assoc, length-append}
 use Rattle.std.specs.Prelude.{Some, None, find, bytes_eq, is_some, nat_lt}
-use Rattle.std.specs.List.{All, list_any, list_all, IsDistinct}
+use Rattle.std.specs.List.{list_any, list_all, IsDistinct}
 use Rattle.std.specs.Cmp.{IsEquivalence}
 use Rattle.std.proofs.lemmas.Bool.Decides.{same_from_decides}
 use Rattle.std.proofs.lemmas.List.Elements.{All-nil, All-push}
@@ -12,7 +12,7 @@ use Rattle.gu_base.specs.House.{House}
 use Rattle.gu_base.specs.History.{numbered_as, numbered_from, records, is_change, is_reverse_of, is_reversed, live}
 use Rattle.gu_base.specs.Refusals.{refusal_of, first, unless}
 use Rattle.gu_base.specs.Standing.{first_refused}
-use Rattle.gu_base.specs.Answers.{Call, answer_to, command_refusal, is_same_id, is_same_call, status_of}
+use Rattle.gu_base.specs.Answers.{answer_to, command_refusal, is_same_id, is_same_call, status_of}
 use Rattle.gu_base.specs.Runs.{call_of, IsRunFrom}
 use Rattle.gu_base.specs.declared.command.Command.{Command}
 use Rattle.gu_base.specs.declared.command.Command.TheVariants.{Trade, Split, Claim, Refuse, Cancel, Initiate, Decline, Reverse}
@@ -27,7 +27,7 @@ use Rattle.gu_book.specs.Beside.{IsTradeTree, IsBeside, IsNext}
 use Rattle.gu_book.specs.Conserved.{RisesFrom}
 use Rattle.gu_book.specs.Ids.{same_id, NoIdTwice}
 use Rattle.gu_book.specs.Kept.{AcceptedFrom, IsKept}
-use Rattle.gu_book.specs.Limits.{IsWithinLimits, AllWithinLimits}
+use Rattle.gu_book.specs.Limits.{IsWithinLimits}
 use Rattle.gu_book.specs.declared.trees.TradeTree.{TradeTree}
 use Rattle.gu_book.proofs.Leaves.{live_rises}
 use Rattle.gu_book.proofs.Refused.{both, first_none, accepted_parts, change_refused, accepted_small}

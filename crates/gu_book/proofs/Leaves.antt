@@ -1,35 +1,33 @@
 -- The leaves of the trees that a test takes sum to the lots of those trades.
-use Rattle.std.proofs.Common.{◌≡◌, ℕ, zero, suc, ◌+◌, ◌<◌, ◌≤◌, Bool, true, false, not, ◌&&◌, ◌||◌, List, [], ◌∷◌, ◌++◌, length, refl, sym, ◌∙◌, ap, subst, arith, Option, cond, append-nil, append_assoc, get_or}
-use Rattle.std.specs.Prelude.{Some, None, find, flat_map, filter, map, sum_by, ◌==◌, bytes_eq, option_and_then, is_none, is_some, option_map, unwrap_or}
+use Rattle.std.proofs.Common.{◌≡◌, ℕ, zero, suc, ◌+◌, ◌<◌, ◌≤◌, Bool, true, false, not, ◌&&◌, ◌||◌, List, [], ◌∷◌, ◌++◌, refl, sym, ◌∙◌, ap, subst, arith, Option, cond, append-nil, append_assoc, get_or}
+use Rattle.std.specs.Prelude.{Some, None, find, filter, map, sum_by, ◌==◌, option_and_then, is_none, is_some, option_map, unwrap_or}
 use Rattle.std.specs.Option.{option_or}
-use Rattle.std.specs.List.{All, AllByRecursion, IsDistinct, list_any}
+use Rattle.std.specs.List.{All, list_any}
 use Rattle.std.specs.Bool.{Decides}
 use Rattle.std.proofs.lemmas.Bool.Decides.{Decides-eqb}
 use Rattle.std.proofs.lemmas.List.Elements.{All-nil, All-cons, All-head, All-tail, All-weaker}
 use Rattle.std.proofs.lemmas.List.Sums.{sum_by-cons, sum_by-append, sum_by_push}
 use Rattle.gu_base.specs.Numbers.{EntryPart}
 use Rattle.gu_base.specs.House.{House}
-use Rattle.gu_base.specs.History.{numbered_as, numbered_from, records, is_change, is_reversed, live}
-use Rattle.gu_base.specs.Nodes.{node_of, nodes, nodes_of, nodes_of_parts, same_name, kind_of_part, parent, splits, split_of, is_offered}
+use Rattle.gu_base.specs.History.{numbered_as, numbered_from, is_change, is_reversed, live}
+use Rattle.gu_base.specs.Nodes.{node_of, nodes, nodes_of_parts, same_name, kind_of_part, parent, splits, split_of}
 use Rattle.gu_base.specs.Places.{line_within, root_along, root_of}
-use Rattle.gu_base.specs.Positions.{leaves}
-use Rattle.gu_base.specs.Refusals.{refusal_of, refusal_of_part, row, split_row}
+use Rattle.gu_base.specs.Refusals.{refusal_of, row, split_row}
 use Rattle.gu_base.specs.Standing.{first_refused}
 use Rattle.gu_base.specs.declared.command.Part.{Part}
 use Rattle.gu_base.specs.declared.command.Command.{Command}
 use Rattle.gu_base.specs.declared.command.Command.TheVariants.{Trade, Split, Claim, Refuse, Cancel, Initiate, Decline, Reverse}
 use Rattle.gu_base.specs.declared.entry.Entry.{Entry}
 use Rattle.gu_base.specs.declared.entry.Record.{Record}
-use Rattle.gu_base.specs.declared.node.Kind.{Kind}
-use Rattle.gu_base.specs.declared.node.Kind.TheVariants.{Root, Own, Given}
+use Rattle.gu_base.specs.declared.node.Kind.TheVariants.{Root}
 use Rattle.gu_base.specs.declared.node.Node.{Node}
 use Rattle.gu_base.specs.declared.refusal.Refusal.{Refusal}
 use Rattle.gu_base.specs.declared.refusal.Refusal.TheVariants.{AlreadySplit}
 use Rattle.gu_base.specs.declared.state.State.{State}
-use Rattle.gu_base.proofs.Lines.{HasParents, Falls, node_more, line_more}
-use Rattle.gu_book.specs.Conserved.{is_of_trade, leaf_lots, lots_traded, LeavesSum, RisesFrom}
-use Rattle.gu_book.proofs.Refused.{both, at_node_none, split_passes, SplitPasses, row_none}
-use Rattle.gu_book.proofs.Sound.{name_is, name_same, apart_by, nodes_push, node_push, split_push, unsplit_push, Sound, IsSoundNext, sound_push, sound_none, made, made_of}
+use Rattle.gu_base.proofs.Lines.{HasParents, node_more, line_more}
+use Rattle.gu_book.specs.Conserved.{leaf_lots, lots_traded, LeavesSum, RisesFrom}
+use Rattle.gu_book.proofs.Refused.{at_node_none, split_passes, SplitPasses, row_none}
+use Rattle.gu_book.proofs.Sound.{name_is, name_same, apart_by, nodes_push, split_push, unsplit_push, Sound, IsSoundNext, sound_push, sound_none, made, made_of}
 use Rattle.gu_book.proofs.SoundNext.{next_from_accepted, part_parent}
 use Rattle.gu_book.proofs.Sums.{sum_zero, one_takes}
 

@@ -1,5 +1,5 @@
 -- The live changes stand in the order of their numbers, and each names a node of a lower one.
-use Rattle.std.proofs.Common.{◌≡◌, ◌≢◌, ℕ, ◌+◌, ◌<◌, ◌≤◌, false, List, [], ◌∷◌, ◌++◌, refl, sym, ◌∙◌, ap, subst, arith, Option, append-nil, append_assoc}
+use Rattle.std.proofs.Common.{◌≡◌, ℕ, ◌+◌, ◌<◌, ◌≤◌, false, List, [], ◌∷◌, ◌++◌, sym, subst, arith, append-nil, append_assoc}
 use Rattle.std.specs.Prelude.{Some, None}
 use Rattle.std.specs.List.{All}
 use Rattle.std.proofs.lemmas.List.Elements.{All-nil, All-cons, All-head, All-tail}
@@ -12,7 +12,7 @@ use Rattle.gu_base.specs.declared.command.Command.{Command}
 use Rattle.gu_base.specs.declared.command.Command.TheVariants.{Trade, Split, Claim, Refuse, Cancel, Initiate, Decline, Reverse}
 use Rattle.gu_base.specs.declared.entry.Record.{Record}
 use Rattle.gu_base.specs.declared.node.Node.{Node}
-use Rattle.gu_tree.specs.Shown.{named_node, NamesLower, IsOrderlyFrom, IsOrderly, NamesNone, IsUnnamed}
+use Rattle.gu_tree.specs.Shown.{named_node, IsOrderlyFrom, IsOrderly, NamesNone, IsUnnamed}
 use Rattle.gu_book.specs.Conserved.{RisesFrom}
 use Rattle.gu_book.proofs.Refused.{at_node_none, row_none}
 use Rattle.gu_book.proofs.Sound.{Sound, sound_push}

@@ -1,13 +1,13 @@
 -- Each node stands in an account of the house table.
-use Rattle.std.proofs.Common.{◌≡◌, ℕ, zero, suc, ◌+◌, ◌<◌, ◌≤◌, Bool, true, false, not, ◌&&◌, ◌||◌, List, [], ◌∷◌, ◌++◌, length, refl, sym, ◌∙◌, ap, subst, arith, Option, cond, append-nil, append_assoc, get_or}
-use Rattle.std.specs.Prelude.{Some, None, find, flat_map, filter, map, IfSome, ◌==◌, bytes_eq, option_and_then, is_none, is_some, option_map, unwrap_or}
+use Rattle.std.proofs.Common.{◌≡◌, ℕ, zero, suc, ◌+◌, ◌<◌, ◌≤◌, Bool, true, false, not, ◌||◌, List, [], ◌∷◌, ◌++◌, refl, sym, ◌∙◌, ap, subst, arith, Option, cond, append-nil, append_assoc}
+use Rattle.std.specs.Prelude.{Some, None, find, map, bytes_eq, option_and_then, option_map, unwrap_or}
 use Rattle.std.specs.Option.{option_or}
 use Rattle.std.specs.List.{All}
 use Rattle.std.proofs.lemmas.List.Elements.{All-nil, All-cons, All-head, All-tail, All-append}
 use Rattle.std.proofs.lemmas.List.Folds.{find-append}
 use Rattle.std.proofs.lemmas.Slice.Eq.{bytes_eq-Decides}
 use Rattle.gu_base.specs.Numbers.{EntryPart, is_lots}
-use Rattle.gu_base.specs.House.{House, knows_firm, knows_account, knows_instrument}
+use Rattle.gu_base.specs.House.{House, knows_firm, knows_account}
 use Rattle.gu_base.specs.Nodes.{node_of, nodes, nodes_of, nodes_of_parts, same_name, kind_of_part, parent, decides, decision_of, claimed_account, claim_of, is_offered}
 use Rattle.gu_base.specs.Places.{line_within, place_of_kind, place_along, place_of}
 use Rattle.gu_base.specs.Refusals.{refusal_of, refusal_of_part, row, split_row, claim_row, refuse_row, cancel_row, first, unless, knows_own_account, is_taker, agreement_row, used_by, terms}
@@ -20,12 +20,10 @@ use Rattle.gu_base.specs.declared.node.Kind.{Kind}
 use Rattle.gu_base.specs.declared.node.Kind.TheVariants.{Root, Own, Given}
 use Rattle.gu_base.specs.declared.node.Node.{Node}
 use Rattle.gu_base.specs.declared.node.Place.{Place}
-use Rattle.gu_base.specs.declared.refusal.Refusal.{Refusal}
 use Rattle.gu_base.specs.declared.refusal.Refusal.TheVariants.{UnknownFirm, UnknownAccount, BadLots, NotOffered, NotYours}
-use Rattle.gu_base.specs.declared.state.State.{State}
 use Rattle.gu_base.proofs.Lines.{node_more}
 use Rattle.gu_book.specs.Placed.{AccountKnown, NamesAccount, ClaimKnown}
-use Rattle.gu_book.proofs.Refused.{both, first_none, unless_none, at_node_none, split_passes, trade_passes, row_none}
+use Rattle.gu_book.proofs.Refused.{first_none, unless_none, at_node_none, split_passes, trade_passes, row_none}
 use Rattle.gu_book.proofs.Known.{all_accepted}
 use Rattle.gu_book.proofs.Sound.{Sound, name_is, made}
 use Rattle.gu_book.proofs.Leaves.{none_both, some_node, some_same, find_passes}

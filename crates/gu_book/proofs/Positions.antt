@@ -1,15 +1,15 @@
 -- The positions of an instrument and side over all accounts sum to the lots of its trades.
 use Rattle.std.proofs.Common.{◌≡◌, ℕ, ◌+◌, ◌<◌, ◌≤◌, Bool, true, false, ◌&&◌, List, [], ◌∷◌, refl, sym, ◌∙◌, ap, subst, arith, Option, cond, get_or}
 use Rattle.std.specs.Prelude.{Some, None, find, filter, sum_by, ◌==◌, bytes_eq, option_and_then, option_map, unwrap_or, is_none, is_some}
-use Rattle.std.specs.List.{All, IsDistinct, list_any}
+use Rattle.std.specs.List.{All}
 use Rattle.std.specs.Bool.{Decides}
 use Rattle.std.proofs.lemmas.List.Elements.{All-nil, All-cons, All-weaker, All-filter, filter_agree}
 use Rattle.std.proofs.lemmas.Bool.Decides.{same_from_decides}
 use Rattle.std.proofs.lemmas.Slice.Eq.{bytes_eq-Decides}
 use Rattle.gu_base.specs.Numbers.{EntryPart}
-use Rattle.gu_base.specs.House.{House, knows_account}
+use Rattle.gu_base.specs.House.{House}
 use Rattle.gu_base.specs.Nodes.{node_of, nodes, split_of}
-use Rattle.gu_base.specs.Places.{place_of, root_of, same_place}
+use Rattle.gu_base.specs.Places.{place_of, same_place}
 use Rattle.gu_base.specs.Positions.{leaves, position_of, is_trade_of, trades_in, stands_at}
 use Rattle.gu_base.specs.Standing.{first_refused}
 use Rattle.gu_base.specs.declared.command.Side.{Side}
@@ -19,10 +19,9 @@ use Rattle.gu_base.specs.declared.entry.Record.{Record}
 use Rattle.gu_base.specs.declared.node.Node.{Node}
 use Rattle.gu_base.specs.declared.node.Place.{Place}
 use Rattle.gu_book.specs.Conserved.{HasEachAccount, PositionsSum, lots_traded, RisesFrom}
-use Rattle.gu_book.proofs.Leaves.{Weighed, weighed, leaf_weights, traded, at_least, other_number, same_number, sum_agree_on}
+use Rattle.gu_book.proofs.Leaves.{weighed, leaf_weights, traded, at_least, other_number, same_number, sum_agree_on}
 use Rattle.gu_book.proofs.Placed.{StandsKnown, node_stands}
 use Rattle.gu_book.proofs.Refused.{both}
-use Rattle.gu_book.proofs.Sound.{Sound}
 use Rattle.gu_book.proofs.Sums.{sum_agree, sum_exchange, one_takes}
 
 places_decide : (a b : Place) → Decides (same_place a b) (a ≡ b)

@@ -1,12 +1,11 @@
 -- The calls that a history keeps make it again.
-use Rattle.std.proofs.Common.{◌≡◌, ℕ, ◌+◌, ◌≤◌, Bool, true, false, not, ◌&&◌, List, [], ◌∷◌, ◌++◌, length, refl, sym, ◌∙◌, ap, subst, arith, cond, append-nil, append_assoc}
+use Rattle.std.proofs.Common.{◌≡◌, ℕ, ◌+◌, Bool, true, false, not, ◌&&◌, List, [], ◌∷◌, ◌++◌, refl, sym, ◌∙◌, ap, arith, cond, append-nil, append_assoc}
 use Rattle.std.specs.Prelude.{filter, map}
 use Rattle.std.specs.List.{list_all}
 use Rattle.gu_base.specs.House.{House}
-use Rattle.gu_base.specs.History.{numbered_as, numbered_from, records, is_change, is_reversed, live}
-use Rattle.gu_base.specs.Answers.{Call, answer_to, after, after_by}
+use Rattle.gu_base.specs.History.{numbered_as, numbered_from, is_change, is_reversed}
+use Rattle.gu_base.specs.Answers.{after_by}
 use Rattle.gu_base.specs.Runs.{after_all, call_of, IsRunFrom}
-use Rattle.gu_base.specs.declared.entry.Answer.TheVariants.{Accepted}
 use Rattle.gu_base.specs.declared.entry.Entry.{Entry}
 use Rattle.gu_base.specs.declared.entry.Record.{Record}
 use Rattle.gu_book.specs.Conserved.{call_again, IsMadeByItsChanges}

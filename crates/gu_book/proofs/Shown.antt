@@ -4,7 +4,6 @@ use Rattle.std.specs.Prelude.{Some, None, map, find, ◌==◌, option_map}
 use Rattle.gu_base.specs.House.{House}
 use Rattle.gu_base.specs.History.{live}
 use Rattle.gu_base.specs.Positions.{position_of}
-use Rattle.gu_base.specs.Rows.{Row}
 use Rattle.gu_base.specs.declared.command.Side.{Side}
 use Rattle.gu_base.specs.declared.entry.Entry.{Entry}
 use Rattle.gu_base.specs.declared.entry.Record.{Record}

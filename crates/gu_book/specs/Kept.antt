@@ -1,5 +1,5 @@
 -- What a book keeps true of its fields.
-use Rattle.std.specs.Prelude.{◌≡◌, ℕ, ◌+◌, ◌≤◌, true, List, [], ◌∷◌, ◌++◌, length, None}
+use Rattle.std.specs.Prelude.{◌≡◌, ◌+◌, ◌≤◌, true, List, [], ◌∷◌, ◌++◌, length, None}
 use Rattle.std.specs.List.{list_all}
 use Rattle.gu_base.specs.House.{House}
 use Rattle.gu_base.specs.History.{live, is_change}

@@ -101,11 +101,7 @@ fn give_back(trees: &mut [TradeTree], made: &Record, node: NodeName, state: Stat
 }
 
 /// Does to the trees what an accepted change says. Its one growth comes before anything changes.
-pub(crate) fn change(
-    trees: &mut Vec<TradeTree>,
-    alloc: Global,
-    made: &Record,
-) -> Result<(), Memory>
+pub(crate) fn change(trees: &mut Vec<TradeTree>, alloc: Global, made: &Record) -> Result<(), Memory>
     requires { IsDue made.now trees.old.items }
     ensures follows { OnOk result (Follows made.now trees.old.items trees.new.items) }
     ensures unchanged { OnErr result (trees.new.items ≡ trees.old.items) }
@@ -148,12 +144,7 @@ fn lots_if_of(t: &TradeTree, at: &Place, instrument: &InstrumentId, side: Side) 
 }
 
 /// The lots that stand in the account, in trades of the instrument on the side.
-pub(crate) fn lots_in(
-    trees: &[TradeTree],
-    at: &Place,
-    instrument: &InstrumentId,
-    side: Side,
-) -> u64
+pub(crate) fn lots_in(trees: &[TradeTree], at: &Place, instrument: &InstrumentId, side: Side) -> u64
     requires few { length trees.now ≤ 1000000 }
     requires small { All (λ t. lots_of t.tree ≤ 10000000) trees.now }
     ensures { result ≡ lots_in trees.now at.now instrument.now side }

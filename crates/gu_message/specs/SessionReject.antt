@@ -1,5 +1,5 @@
 -- The body of a Reject (3), and the firm that it goes to.
-use Rattle.std.specs.Prelude.{ℕ, List, [], ◌++◌, codes, decimal, take, Option, Some, None, option_and_then}
+use Rattle.std.specs.Prelude.{ℕ, List, [], ◌++◌, codes, decimal, take, option_and_then}
 use Rattle.std.specs.Option.{unwrap_or}
 use Rattle.gu_codec.specs.Writing.{field}
 use Rattle.gu_message.specs.declared.fault.Reject.{Reject}

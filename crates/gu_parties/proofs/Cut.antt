@@ -1,12 +1,12 @@
 -- How a text is cut at its first separator.
-use Rattle.std.proofs.Common.{◌≡◌, ◌≤◌, ◌<◌, ℕ, ◌+◌, ◌-◌, Bool, true, false, not, cond, List, [], ◌∷◌, length, take, drop, refl, sym, ap, subst, ◌∙◌, arith, zero, suc, add-one, Option, Some, None}
+use Rattle.std.proofs.Common.{◌≡◌, ◌≤◌, ◌<◌, ℕ, ◌+◌, ◌-◌, Bool, true, false, List, [], ◌∷◌, length, take, drop, refl, arith, suc, Some, None}
 use Rattle.std.specs.Prelude.{eqb, position}
 use Rattle.std.specs.List.{position_or_len}
 use Rattle.std.proofs.lemmas.Grind.{common_steps}
 use Rattle.std.proofs.lemmas.List.{take_rest}
 use Rattle.std.proofs.Math.Seq.{drop-length}
 use native.Mathlib.Numerals.{unary_clauses}
-use Rattle.gu_parties.specs.Words.{pieces, on_first, words, lines}
+use Rattle.gu_parties.specs.Words.{pieces}
 
 cut_some : (end : List (List ℕ)) (s : ℕ) (bs : List ℕ) (i : ℕ) → position_or_len (λ b. eqb b s) bs ≡ i → i < length bs
     → pieces end s bs ≡ take i bs ∷ pieces end s (drop (i + 1) bs)

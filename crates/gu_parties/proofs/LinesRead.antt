@@ -1,17 +1,17 @@
 -- The lines read so far.
-use Rattle.std.proofs.Common.{◌≡◌, ◌≤◌, ◌<◌, ℕ, ◌+◌, ◌-◌, Bool, true, false, List, [], ◌∷◌, ◌++◌, length, take, drop, map, Ok, Err, Result, Option, Some, None, refl, sym, ap, subst, suc, ◌∙◌, arith, length-append, append_assoc, IsTrue}
-use Rattle.std.specs.Prelude.{nat_lt, IsOk, bytes_eq, codes, option_map, slice_get}
-use Rattle.std.specs.List.{filter_map, cons_option, enumerate_from, list_all}
+use Rattle.std.proofs.Common.{◌≡◌, ◌≤◌, ◌<◌, ℕ, ◌+◌, ◌-◌, true, false, List, [], ◌∷◌, ◌++◌, length, take, map, Ok, Err, Result, Option, Some, None, refl, sym, ap, ◌∙◌, arith, length-append, append_assoc}
+use Rattle.std.specs.Prelude.{nat_lt, bytes_eq, codes}
+use Rattle.std.specs.List.{filter_map, cons_option, enumerate_from}
 use Rattle.std.proofs.lemmas.Grind.{common_steps}
 use Rattle.std.proofs.lemmas.List.{append-nil, length-map}
 use Rattle.gu_base.specs.House.{House}
 use Rattle.gu_parties.specs.Words.{words}
 use Rattle.gu_parties.specs.Table.{table_of}
-use Rattle.gu_parties.specs.Causes.{cause_of, house_cause}
+use Rattle.gu_parties.specs.Causes.{house_cause}
 use Rattle.gu_parties.specs.Steps.{add_line, Fails, house_alone}
-use Rattle.gu_parties.specs.HouseFile.{at_line, line_cause, later_faults, unless_faulty, second_word, faults_of, house_of_lines}
+use Rattle.gu_parties.specs.HouseFile.{at_line, line_cause, later_faults, second_word, faults_of, house_of_lines}
 use Rattle.gu_parties.specs.Parsing.{Stops, StopsBehind, Gives, GivesBehind, IsCleanUpto, house_behind}
-use Rattle.gu_parties.proofs.Stated.{with_line, added, refused, addable, table_more}
+use Rattle.gu_parties.proofs.Stated.{added, refused, addable, table_more}
 use Rattle.gu_parties.specs.declared.fault.HouseError.{HouseError}
 use Rattle.gu_parties.specs.declared.fault.Cause.{Cause}
 use Rattle.gu_parties.specs.declared.fault.Cause.TheVariants.{TooManyLines, BadVersion, NoHouse, BadLine, BadName, BadNumber, OwnAgreement, UnknownName, NamedTwice, Memory}

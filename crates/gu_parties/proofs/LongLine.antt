@@ -1,8 +1,8 @@
 -- A line of more words than any form of line has.
-use Rattle.std.proofs.Common.{◌≡◌, ℕ, Bool, true, false, List, [], ◌∷◌, refl, ◌∙◌, ap, Err, Some}
+use Rattle.std.proofs.Common.{◌≡◌, ℕ, Bool, true, false, List, [], ◌∷◌, refl, Err, Some}
 use Rattle.std.specs.Prelude.{eqb}
 use Rattle.gu_base.specs.House.{House}
-use Rattle.gu_parties.specs.Words.{words, pieces, on_first}
+use Rattle.gu_parties.specs.Words.{words}
 use Rattle.gu_parties.specs.Causes.{name_cause}
 use Rattle.gu_parties.specs.Steps.{add_line}
 use Rattle.gu_parties.specs.declared.fault.Cause.TheVariants.{BadLine}

@@ -1,9 +1,7 @@
 -- House files worked by hand: what the definition says of them, computed.
-use Rattle.std.specs.Prelude.{◌≡◌, ℕ, List, [], ◌∷◌, Result, Ok, Err, codes, refl}
-use Rattle.gu_base.specs.House.{House}
+use Rattle.std.specs.Prelude.{◌≡◌, [], ◌∷◌, Ok, Err, codes, refl}
 use Rattle.gu_parties.specs.Numbers.{number_upto}
 use Rattle.gu_parties.specs.HouseFile.{house_of}
-use Rattle.gu_parties.specs.declared.fault.Cause.{Cause}
 use Rattle.gu_parties.specs.declared.fault.Cause.TheVariants.{BadVersion, NoHouse, BadLine, BadName, BadNumber, OwnAgreement, UnknownName, NamedTwice}
 
 -- a house, a firm with an account, an instrument, and an agreement; the last line lacks its LF

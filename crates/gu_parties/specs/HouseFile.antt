@@ -1,5 +1,5 @@
 -- What a house file says: the table that its lines name, or the first line with a cause and its first cause.
-use Rattle.std.specs.Prelude.{ℕ, ◌-◌, nat_lt, List, [], ◌∷◌, Option, None, Some, Result, Ok, Err, option_map, take, drop, map, slice_get, if◌then◌else◌}
+use Rattle.std.specs.Prelude.{ℕ, ◌-◌, nat_lt, List, [], ◌∷◌, Option, Some, Result, Ok, Err, option_map, take, drop, map, slice_get, if◌then◌else◌}
 use Rattle.std.specs.List.{filter_map, enumerate_from, cons_option}
 use Rattle.gu_base.specs.House.{House}
 use Rattle.gu_parties.specs.Words.{words, lines}

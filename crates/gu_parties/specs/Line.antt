@@ -1,5 +1,5 @@
 -- What a line that was taken apart adds to a table.
-use Rattle.std.specs.Prelude.{Result, Ok, Err}
+use Rattle.std.specs.Prelude.{Result, Err}
 use Rattle.gu_base.specs.House.{House}
 use Rattle.gu_parties.specs.Steps.{add_firm, add_account, add_instrument, add_agreement}
 use Rattle.gu_parties.specs.declared.fault.Cause.{Cause}

@@ -1,12 +1,12 @@
 -- What `House::parse` answers.
-use Rattle.std.specs.Prelude.{◌≡◌, ◌≤◌, ◌<◌, ℕ, nat_lt, List, ◌++◌, ◌+◌, Result, Ok, Err, length, map, IsTrue}
+use Rattle.std.specs.Prelude.{◌≡◌, ◌≤◌, ◌<◌, ℕ, nat_lt, List, ◌+◌, Result, Ok, Err, length, map, IsTrue}
 use Rattle.std.specs.List.{list_all}
 use Rattle.gu_base.specs.House.{House}
 use Rattle.gu_parties.specs.Words.{words, lines}
 use Rattle.gu_parties.specs.HouseFile.{faults_of, later_faults, house_of_lines, unless_faulty}
 use Rattle.gu_parties.specs.Table.{table_of}
 use Rattle.gu_parties.specs.declared.fault.Cause.{Cause}
-use Rattle.gu_parties.specs.declared.fault.Cause.TheVariants.{TooManyLines, BadVersion, NoHouse, BadLine, BadName, BadNumber, OwnAgreement, UnknownName, NamedTwice, Memory}
+use Rattle.gu_parties.specs.declared.fault.Cause.TheVariants.{Memory}
 use Rattle.gu_parties.specs.declared.fault.HouseError.{HouseError}
 
 -- no line up to line n has a cause

@@ -7,7 +7,7 @@ use Rattle.gu_parties.specs.Numbers.{rate_of, limit_of}
 use Rattle.gu_parties.specs.Table.{terms_of}
 use Rattle.gu_parties.specs.Causes.{unless, where_so, first, firm_cause, account_cause, instrument_cause, agreement_cause}
 use Rattle.gu_parties.specs.declared.fault.Cause.{Cause}
-use Rattle.gu_parties.specs.declared.fault.Cause.TheVariants.{TooManyLines, BadVersion, NoHouse, BadLine, BadName, BadNumber, OwnAgreement, UnknownName, NamedTwice, Memory}
+use Rattle.gu_parties.specs.declared.fault.Cause.TheVariants.{BadLine, OwnAgreement, UnknownName, NamedTwice, Memory}
 
 -- the table, unless there is a cause
 abbrev pub unless_caused : Option Cause → House → Result House Cause

@@ -1,6 +1,6 @@
-use Rattle.std.proofs.Common.{◌≡◌, sym, arith, map, ap, length}
+use Rattle.std.proofs.Common.{arith, map}
 use Rattle.gu_parties.specs.Words.{words, lines}
-use Rattle.gu_parties.proofs.LinesRead.{Reads, reads_none, reads_more, reads_stop, within_last}
+use Rattle.gu_parties.proofs.LinesRead.{reads_none, reads_more, reads_stop, within_last}
 use Rattle.gu_parties.proofs.parse.read_rest.Goals as goal
 
 pub loop-here-init : goal.loop-here-init

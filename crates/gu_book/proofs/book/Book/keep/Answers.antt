@@ -1,4 +1,3 @@
-use Rattle.std.proofs.Common.{◌≡◌, ◌<◌, length}
 use Rattle.gu_base.specs.declared.entry.Entry.{Entry}
 use Rattle.gu_book.proofs.Keeps.{next_kept, kept_push}
 use Rattle.gu_book.proofs.book.Book.keep.Goals as goal

@@ -1,4 +1,4 @@
-use Rattle.std.proofs.Common.{◌≡◌, sym}
+use Rattle.std.proofs.Common.{sym}
 use Rattle.gu_parties.proofs.Names.{firm_named}
 use Rattle.gu_parties.proofs.house.House.add_agreement.Goals as goal
 

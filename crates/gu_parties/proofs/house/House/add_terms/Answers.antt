@@ -1,4 +1,4 @@
-use Rattle.std.proofs.Common.{◌≡◌, ◌&&◌, Bool, true, false, not, is_some, refl, sym, rules}
+use Rattle.std.proofs.Common.{◌≡◌, ◌&&◌, Bool, true, false, is_some, refl, rules}
 use Rattle.std.specs.Prelude.{bytes_eq}
 use Rattle.std.specs.Map.{lookup}
 use Rattle.gu_base.specs.House.{knows_firm, agreement}
