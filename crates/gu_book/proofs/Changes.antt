@@ -38,7 +38,7 @@ use Rattle.gu_tree.proofs.Names.{named-edit_at, named-with_head}
 use Rattle.gu_tree.proofs.Parts.{lots_of-edit_at, lots_of-with_head}
 use Rattle.gu_tree.proofs.ShowsChanges.{new-shows}
 use Rattle.gu_tree.proofs.Splits.{named-split_node}
-use Rattle.gu_book.specs.Beside.{named_in, count_of, trades_at, IsTradeTree, IsBeside, IsNext, IsFoundIn}
+use Rattle.gu_book.specs.Beside.{count_of, trades_at, IsTradeTree, IsBeside, IsNext, IsFoundIn}
 use Rattle.gu_book.specs.declared.trees.TradeTree.{TradeTree}
 use Rattle.gu_book.proofs.Refused.{first_none, unless_none, at_node_none, row_none, split_passes, SplitPasses, accepted_small}
 use Rattle.gu_book.proofs.Sound.{made, apart_by}
