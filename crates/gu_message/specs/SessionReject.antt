@@ -1,5 +1,5 @@
 -- The body of a Reject (3), and the firm that it goes to.
-use Rattle.std.specs.Prelude.{ℕ, List, [], ◌++◌, codes, decimal, take, Option, Some, None, option_and_then}
+use Rattle.std.specs.Prelude.{ℕ, List, [], ◌∷◌, ◌++◌, codes, decimal, take, Option, Some, None, option_and_then}
 use Rattle.std.specs.Option.{unwrap_or}
 use Rattle.gu_codec.specs.Writing.{field}
 use Rattle.gu_message.specs.declared.fault.Reject.{Reject}
@@ -23,6 +23,15 @@ fault_body number kind fault =
 -- the answer to a message that fails a check
 abbrev pub reject_body : List (ℕ × List ℕ) → Reject → List ℕ
 reject_body fs fault = fault_body (number_that_came fs) (type_that_came fs) fault
+
+-- the fields of the body for a fault, as tag and value
+abbrev pub fault_fields : ℕ → List ℕ → Reject → List (ℕ × List ℕ)
+fault_fields number kind fault =
+    (45, decimal number) ∷ (371, decimal fault.tag) ∷ (372, take 8 kind) ∷ (373, decimal fault.reason) ∷ []
+
+-- the fields of the body of the answer
+abbrev pub reject_fields : List (ℕ × List ℕ) → Reject → List (ℕ × List ℕ)
+reject_fields fs fault = fault_fields (number_that_came fs) (type_that_came fs) fault
 
 -- the sender where that is a firm's name, else `UNKNOWN`
 abbrev pub target_of : List (ℕ × List ℕ) → List ℕ
