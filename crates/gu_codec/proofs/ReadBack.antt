@@ -31,7 +31,7 @@ tag_of tag lo hi =
     let first : 48 < get_or (decimal tag) 0 0 = first_decimal tag lo (omega arith) in
     record { some = d.0.0; few = length-decimal-le 9 tag (omega arith) hi (omega arith); digits = d.0.1; no_zero = λ e. absurd (omega (arith, e)); value = d.1 }
 
-field_then : (tag : ℕ) (v bytes : List ℕ) (fs : List (ℕ × List ℕ)) → 0 < tag → tag < 10 ^ 9 → IsValue v → AreFields bytes fs → AreFields (field tag v ++ bytes) ((tag, v) ∷ fs)
+pub field_then : (tag : ℕ) (v bytes : List ℕ) (fs : List (ℕ × List ℕ)) → 0 < tag → tag < 10 ^ 9 → IsValue v → AreFields bytes fs → AreFields (field tag v ++ bytes) ((tag, v) ∷ fs)
 field_then tag v bytes fs lo hi hv h = (decimal tag, bytes, tag_of tag lo hi, hv, regroup (decimal tag) v bytes, h)
 
 digits_no_soh : (ds : List ℕ) → AllDigits 10 ds → AllByRecursion (λ b. b ≢ 1) ds

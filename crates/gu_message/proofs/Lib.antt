@@ -2,3 +2,4 @@ pub mod MoreParts
 pub mod Outcomes
 pub mod Unlisted
 pub mod UnlistedMeaning
+pub mod AnswerFields

@@ -7,6 +7,7 @@
 //!   first check that fails. `meaning` takes memory only for the parts of a split, and want of it stands only in place
 //!   of a split that is understood.
 //! - `ack`, `trade_ack` and `reject` append exactly the body of their answer, or leave `out` as it was.
+//! - `answers_are_fields` is a law of those bodies: each is a list of fields, exactly those that `specs/` lists.
 //! - `unlisted_fields_change_nothing` is a law of the profile: a field that it doesn't list is as if it weren't there.
 //! Each message type has its own module, here and in `specs/`.
 #![tactic(auto)]
@@ -31,7 +32,7 @@ pub use allocation_ack::ack;
 pub use fault::{MeaningError, Reject};
 pub use heading::{Heading, header};
 pub use inbound::{Inbound, meaning};
-pub use laws::unlisted_fields_change_nothing;
+pub use laws::{answers_are_fields, unlisted_fields_change_nothing};
 pub use session_reject::{reject, reject_target};
 pub use trade_report_ack::trade_ack;
 
