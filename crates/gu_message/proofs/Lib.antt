@@ -3,3 +3,4 @@ pub mod Outcomes
 pub mod Unlisted
 pub mod UnlistedMeaning
 pub mod AnswerFields
+pub mod AnswerLengths

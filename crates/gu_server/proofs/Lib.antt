@@ -5,3 +5,5 @@ pub mod Outputs
 pub mod Meanings
 pub mod Holding
 pub mod Sofar
+pub mod Lawful
+pub mod ReadBack
