@@ -5,3 +5,4 @@ pub mod Outputs
 pub mod Meanings
 pub mod Holding
 pub mod Sofar
+mod CommandLines

@@ -5,3 +5,4 @@ pub mod Counts
 pub mod Held
 pub mod Runs
 pub mod Faults
+pub mod Lines
