@@ -3,7 +3,6 @@ use Rattle.std.proofs.Common.{◌≡◌, ℕ, ◌+◌, ◌<◌, ◌≤◌, Bool,
 use Rattle.std.specs.Prelude.{Some, None, find, ◌==◌, is_some, IsSomeAnd}
 use Rattle.std.specs.Option.{option_or}
 use Rattle.std.proofs.Math.ListN.{set}
-use Rattle.std.proofs.lemmas.Bool.Decides.{Decides-eqb}
 use Rattle.std.proofs.lemmas.List.{length-set}
 use Rattle.std.proofs.lemmas.List.Elements.{All-push, All-weaker, All-get_or}
 use Rattle.std.proofs.lemmas.List.Folds.{find-append}
@@ -21,12 +20,14 @@ use Rattle.gu_tree.specs.Shown.{named_node}
 use Rattle.gu_tree.proofs.Along.{IsAlong, along}
 use Rattle.gu_tree.proofs.Names.{named-led}
 use Rattle.gu_tree.proofs.Parts.{some_and}
-use Rattle.gu_tree.proofs.Shows.{tree-kept, or_none}
-use Rattle.gu_book.specs.Beside.{named_in, count_of, trades_at, IsTradeTree, IsBeside, IsNext}
+use Rattle.gu_tree.proofs.Shows.{tree-kept}
+use Rattle.gu_tree.specs.Standing.{trades_at}
+use Rattle.gu_book.specs.Beside.{named_in, count_of, IsTradeTree, IsBeside, IsNext}
 use Rattle.gu_book.specs.declared.trees.TradeTree.{TradeTree}
 use Rattle.gu_book.proofs.Refused.{row_none}
-use Rattle.gu_book.proofs.Sound.{Sound, made, apart_by}
-use Rattle.gu_book.proofs.Leaves.{sound_first}
+use Rattle.gu_book.proofs.Sound.{Sound, made}
+use Rattle.gu_book.proofs.Leaves.{or_none, other_number, sound_first}
+use Rattle.gu_book.proofs.SoundNext.{some_name}
 use Rattle.gu_book.proofs.Orders.{names_there, InOrder, in_order, sound_before, earlier}
 use Rattle.gu_book.proofs.Named.{count_push, node_counts, counted_node, counts_once, all_after_set}
 
@@ -42,9 +43,6 @@ trades_same l r instrument side k other =
 differs_at : (b c : Bool) → b ≡ false → (b && c) ≡ false
 differs_at true c e = cc
 differs_at false c e = refl
-
-pub apart_numbers : (a b : ℕ) → (a ≡ b → ⊥) → (a == b) ≡ false
-apart_numbers a b differ = apart_by (a == b) (λ h. differ ((Decides-eqb a b).0 h))
 
 -- ---- the trees that a change doesn't touch
 
@@ -80,10 +78,13 @@ module _ {t : House} {l : List Record} {r : Record} {ts : List TradeTree} (next 
     shows = tree-kept l r u.trade u.tree absent is.shows;
     terms = λ instrument side.
         trades_same l r instrument side u.trade (differs_at (r.number == u.trade) (is_trade_of instrument side r.command)
-        (apart_numbers r.number u.trade (λ e. let low : u.trade < r.number = lower (record { entry = u.trade; part = 0 }) is.shows.root is.shows.found in omega arith)))
+        (other_number r.number u.trade (λ e. let low : u.trade < r.number = lower (record { entry = u.trade; part = 0 }) is.shows.root is.shows.found in omega arith)))
         ∙ is.terms instrument side;
     small = is.small;
   }
+
+no_name : (m : EntryPart) → None ≡ Some m → ⊥
+no_name m e = cc
 
 -- ---- the tree that a change touches
 
@@ -127,7 +128,7 @@ module _ {t : House} {l : List Record} {r : Record} {ts : List TradeTree} (next 
         (subst (λ (x : TradeTree). 1 ≤ named n x.tree) s.there (named-led n p u.tree (subst (λ (o : Option Rose). IsSomeAnd o (λ v. (head_of v).name ≡ n)) (sym s.at) s.called)))
         (named_once next n)
         (All-weaker (IsTradeTree l) (λ x. named n x.tree ≡ 0 → IsTradeTree (l ++ r ∷ []) x)
-        (λ x is none. kept next x is (λ m e. subst (λ (z : EntryPart). named z x.tree ≡ 0) (one_name n m (sym names ∙ e)) none)) ts next.beside.each)
+        (λ x is none. kept next x is (λ m e. subst (λ (z : EntryPart). named z x.tree ≡ 0) (some_name n m (sym names ∙ e)) none)) ts next.beside.each)
         shown;
     named_alike = λ m.
         let a = sum_by-set (λ (x : TradeTree). named m x.tree) ts i new u s.within in
@@ -136,9 +137,6 @@ module _ {t : House} {l : List Record} {r : Record} {ts : List TradeTree} (next 
         omega (arith, a, b, c, count m, next.beside.named_alike m);
     few = let a = length-set ts i new in let b = length-append l (r ∷ []) in let c = next.beside.few in omega (arith, a, b, c);
   }
-    where
-      one_name : (n m : EntryPart) → Some n ≡ Some m → n ≡ m
-      one_name n m e = cc
 
   -- with one tree more
   pub planted : (new : TradeTree) → named_node r.command ≡ None → IsTradeTree (l ++ r ∷ []) new → ((m : EntryPart) → named m new.tree ≡ count_of m (made r))
@@ -153,9 +151,6 @@ module _ {t : House} {l : List Record} {r : Record} {ts : List TradeTree} (next 
         omega (arith, a, c, count m, next.beside.named_alike m);
     few = let a = length-append ts (new ∷ []) in let b = length-append l (r ∷ []) in let c = next.beside.few in omega (arith, a, b, c);
   }
-    where
-      no_name : (m : EntryPart) → None ≡ Some m → ⊥
-      no_name m e = cc
 
   -- a change that makes and names nothing
   pub stays : named_node r.command ≡ None → ((m : EntryPart) → count_of m (made r) ≡ 0) → IsBeside (l ++ r ∷ []) ts
@@ -164,6 +159,3 @@ module _ {t : House} {l : List Record} {r : Record} {ts : List TradeTree} (next 
     named_alike = λ m. let c = count_push m l r in omega (arith, c, count m, next.beside.named_alike m);
     few = let b = length-append l (r ∷ []) in let c = next.beside.few in omega (arith, b, c);
   }
-    where
-      no_name : (m : EntryPart) → None ≡ Some m → ⊥
-      no_name m e = cc

@@ -167,9 +167,6 @@ passes_at : {X : Type 0} (p : X → Bool) (y : X) (xs : List X) (x : X) → (fin
 passes_at p y xs x later true is h = sym (ap p (some_same y x h)) ∙ is
 passes_at p y xs x later false is h = later h
 
-pub some_node : (a b : Node) → Some a ≡ Some b → a ≡ b
-some_node a b h = cc
-
 or_true : (b : Bool) → (b || true) ≡ true
 or_true true = refl
 or_true false = refl
@@ -212,7 +209,7 @@ old_or_split : (takes : Option EntryPart → Bool) (l : List Record) (r : Record
     → splits x.name r.command ≡ same_name m x.name → (b : Bool) → same_name m x.name ≡ b
     → weight takes (l ++ r ∷ []) x + cond b (weight takes l x0) 0 ≡ weight takes l x
 old_or_split takes l r m x0 x parents there here same true is =
-    let one : x0 ≡ x = some_node x0 x (sym there ∙ (ap (node_of l) (name_is m x.name is) ∙ here)) in
+    let one : x0 ≡ x = some_same x0 x (sym there ∙ (ap (node_of l) (name_is m x.name is) ∙ here)) in
     let zero_now = split_weight takes l r x (same ∙ is) in
     let equal = ap (weight takes l) one in
     omega (arith, zero_now, equal)

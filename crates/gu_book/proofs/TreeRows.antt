@@ -21,7 +21,8 @@ use Rattle.gu_tree.specs.Rose.{named, rows}
 use Rattle.gu_tree.specs.Shown.{shown}
 use Rattle.gu_tree.proofs.Along.{along, path-of}
 use Rattle.gu_tree.proofs.ShowsRows.{rows-shown}
-use Rattle.gu_book.specs.Beside.{IsBeside, IsTradeTree, named_in, count_of, trades_at, is_of}
+use Rattle.gu_tree.specs.Standing.{trades_at}
+use Rattle.gu_book.specs.Beside.{IsBeside, IsTradeTree, named_in, count_of, is_of}
 use Rattle.gu_book.specs.TreeRows.{is_trade, is_live_trade, tree_rows}
 use Rattle.gu_book.specs.declared.trees.TradeTree.{TradeTree}
 use Rattle.gu_book.proofs.Leaves.{find_passes, root_of_root}

@@ -12,6 +12,7 @@ use Rattle.gu_base.specs.declared.node.Place.{Place}
 use Rattle.gu_base.specs.declared.node.Node.{Node}
 use Rattle.gu_base.specs.declared.command.Side.{Side}
 use Rattle.gu_tree.specs.Rose.{Rose, Roses, leaf, parted, no_parts, part_then, leaves, leaves_from, leaves_below, named, named_below}
+use Rattle.gu_tree.specs.Standing.{trades_at}
 use Rattle.gu_tree.specs.Shown.{IsHeadOf, IsNodeOf, ArePartsOf, IsTreeOf, IsOrderly}
 use Rattle.gu_tree.specs.declared.head.Head.{Head}
 use Rattle.gu_tree.specs.declared.head.Row.{Row}
@@ -42,10 +43,6 @@ mutual
 abbrev pub weight_of : List Record → Place → List ℕ → Side → EntryPart → ℕ
 weight_of l at instrument side n =
     cond (is_none (split_of l n) && (stands_at l at n && trades_in l instrument side n)) (unwrap_or (option_map (λ x. x.lots) (node_of l n)) 0) 0
-
--- whether the change of this number is a trade of the instrument on the side
-abbrev pub trades_at : List Record → List ℕ → Side → ℕ → Bool
-trades_at l instrument side k = is_some (find (λ r. (r.number == k) && is_trade_of instrument side r.command) l)
 
 -- the lots of the rows that stand in the account
 abbrev pub lots_at : Place → List Row → ℕ
