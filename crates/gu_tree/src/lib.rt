@@ -8,15 +8,20 @@
 //! - `split` asks for memory once, before anything changes; a refused growth leaves the tree as it was;
 //! - `new`, `find`, `head`, `parted`, `has_entry`, `lots_at`, `claim` and `give_back` take no memory;
 //! - the leaves sum to the lots of the root.
+//!
+//! `laws` has what follows for every tree. The cases stand in `src/tests.rt`, in `crates/test_heap` (trees in a heap that is too small)
+//! and in `crates/test_book` (trees as a book keeps them).
 #![tactic(auto)]
 
 mod head;
 pub mod laws;
 mod node;
+mod path;
 mod tree;
 
 pub use head::{Head, Row};
-pub use tree::{Path, Tree};
+pub use path::{MAX_DEPTH, Path};
+pub use tree::Tree;
 
 #[cfg(test)]
 mod tests;
