@@ -8,6 +8,7 @@
 //! - `split` asks for memory once, before anything changes; a refused growth leaves the tree as it was;
 //! - `new`, `find`, `head`, `parted`, `has_entry`, `lots_at`, `claim` and `give_back` take no memory;
 //! - the leaves sum to the lots of the root.
+//! Its cases stand in `tests.rt`, those of heaps that are too small in the program `test_heap`.
 #![tactic(auto)]
 
 mod head;
