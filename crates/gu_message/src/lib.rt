@@ -9,7 +9,7 @@
 //! - `ack`, `trade_ack` and `reject` append exactly the body of their answer, or leave `out` as it was.
 //! - `answers_are_fields` is a law of those bodies: each is a list of fields, exactly those that `specs/` lists.
 //! - `unlisted_fields_change_nothing` is a law of the profile: a field that it doesn't list is as if it weren't there.
-//! Each message type has its own module, here and in `specs/`.
+//! Each message type has its own module, here and in `specs/`. The cases are data of the program `test_messages`.
 #![tactic(auto)]
 
 mod allocation_ack;

@@ -8,9 +8,7 @@
 //! - `split` asks for memory once, before anything changes; a refused growth leaves the tree as it was;
 //! - `new`, `find`, `head`, `parted`, `has_entry`, `lots_at`, `claim` and `give_back` take no memory;
 //! - the leaves sum to the lots of the root.
-//!
-//! `laws` has what follows for every tree. The cases stand in `src/tests.rt`, in `crates/test_heap` (trees in a heap that is too small)
-//! and in `crates/test_book` (trees as a book keeps them).
+//! `laws` has what follows for every tree. Its cases stand in `tests.rt`, those of heaps that are too small in the program `test_heap`.
 #![tactic(auto)]
 
 mod head;
