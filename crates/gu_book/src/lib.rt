@@ -18,6 +18,7 @@
 pub mod book;
 pub mod laws;
 mod plain;
+mod replay;
 mod trees;
 
 pub use book::Book;
