@@ -13,7 +13,7 @@ use Rattle.gu_base.specs.Same.{same_command}
 use Rattle.gu_base.specs.SamePartsLaws.{bytes_same}
 use Rattle.gu_base.specs.Standing.{first_refused, standing_on}
 use Rattle.gu_base.specs.Consents.{parties_of, consents_of, is_among, missing, of_node, taker_and_giver, giver_alone}
-use Rattle.gu_base.specs.Answers.{Call, answer_to, answer_by, accepted_or, entry_of, reversal_of, on_change, reverse_rest, command_refusal, is_same_id, is_same_call}
+use Rattle.gu_base.specs.Answers.{Call, answer_to, answer_by, accepted_or, entry_of, reversal_of, on_change, initiate_rest, reverse_rest, command_refusal, is_same_id, is_same_call}
 use Rattle.gu_base.specs.Runs.{after_all}
 use Rattle.gu_base.specs.declared.command.Command.{Command}
 use Rattle.gu_base.specs.declared.command.Command.TheVariants.{Trade, Split, Claim, Refuse, Cancel, Initiate, Decline, Reverse}
@@ -24,17 +24,18 @@ use Rattle.gu_base.specs.declared.node.Kind.{Kind}
 use Rattle.gu_base.specs.declared.node.Kind.TheVariants.{Root, Own, Given}
 use Rattle.gu_base.specs.declared.node.Node.{Node}
 use Rattle.gu_base.specs.declared.refusal.Refusal.{Refusal}
-use Rattle.gu_base.specs.declared.refusal.Refusal.TheVariants.{UnknownFirm, UnknownEntry, NotAChange, AlreadyReversed, NotAParty, NeedsConsent, StandsOn, DuplicateId, BookFull}
+use Rattle.gu_base.specs.declared.refusal.Refusal.TheVariants.{UnknownFirm, UnknownEntry, NotAChange, AlreadyReversed, NotAParty, NeedsConsent, StandsOn, DuplicateId, BookFull, AlreadyConsented}
 use Rattle.gu_base.specs.declared.state.State.{State}
-use Rattle.gu_base.specs.declared.state.State.TheVariants.{Reversed}
+use Rattle.gu_base.specs.declared.state.State.TheVariants.{ReversalPending, Reversed}
 use Rattle.gu_base.proofs.LiveLaws.{is_live}
 use Rattle.gu_base.proofs.LegalLaws.{first_refused-cut}
 use Rattle.gu_book.specs.Known.{KindKnown}
-use Rattle.gu_book.specs.Reversals.{IsAcceptedWhereReady, NamedBy, IsNamed}
+use Rattle.gu_book.specs.Headline.{IsAcceptedWhereReady, IsConsentAccepted, IsNewestUndone, NamedBy, IsNamed}
 use Rattle.gu_base.proofs.RunLaws.{run_all}
 use Rattle.gu_base.proofs.Numbered.{listed, found_at}
 use Rattle.gu_base.proofs.Basics.{nothing_here}
 use Rattle.gu_book.proofs.Known.{firms_known, node_known}
+use Rattle.gu_book.proofs.Restored.{newest_is_free}
 use Rattle.gu_book.proofs.Refused.{trade_passes, caller_known, row_none}
 
 -- ---- the parties of a live change are firms of the house table
@@ -136,6 +137,31 @@ accepted_where_ready t calls before after r by id same ready fresh room =
     known passes.0 ready.party (none_reverses r.number 1 h (not-true (is_reversed h r.number) passes.1)) ready.agreed ready.free in
     answered (find (is_same_call call) (records h)) (find (is_same_id call) (records h)) (length h + 1) Reversed (nat_lt (length h) 1000000) (command_refusal t h by (Reverse r.number))
     (no_call call (records h) fresh) fresh (lt-ltb (length h) 1000000 room) clear
+
+initiate_clear : (known is party given : Bool) (reversal : Option Record) → known ≡ true → is ≡ true → party ≡ true → reversal ≡ None → given ≡ false
+    → first (unless known UnknownFirm
+    ∷ first (unless is NotAChange ∷ option_map (λ v. AlreadyReversed v.number) reversal ∷ unless party NotAParty ∷ unless (not given) AlreadyConsented ∷ []) ∷ []) ≡ None
+initiate_clear known is party given reversal a b c d e = rw (a, b, c, d, e) refl
+
+pub consent_accepted : (t : House) → IsConsentAccepted t
+consent_accepted t calls before after r by id same party lacks fresh room =
+    let h = after_all t [] calls in
+    let call : Call = record { firm = by; id = id; command = Initiate r.number } in
+    let run = run_all t calls in
+    let at = listed (is_live h) 1 h r before after same in
+    let passes = and_parts (is_change r.command) (not (is_reversed h r.number)) at.passes in
+    let lawful = first_refused-cut t [] before r after (subst (λ l. first_refused t [] l ≡ None) same run.replayed) in
+    let known = among_known t by (parties_of t (live h) r.firm r.command) (parties_known t (live h) before r.firm r.command run.replayed lawful) party in
+    let clear : command_refusal t h by (Initiate r.number) ≡ None =
+    ap (λ o. first (unless (knows_firm t by) UnknownFirm ∷ on_change t h by (initiate_rest h by) o ∷ [])) at.found
+    ∙ initiate_clear (knows_firm t by) (is_change r.command) (is_among by (parties_of t (live h) r.firm r.command)) (is_among by (consents_of h r.number)) (reversal_of h r.number)
+    known passes.0 party (none_reverses r.number 1 h (not-true (is_reversed h r.number) passes.1)) lacks in
+    answered (find (is_same_call call) (records h)) (find (is_same_id call) (records h)) (length h + 1) ReversalPending (nat_lt (length h) 1000000) (command_refusal t h by (Initiate r.number))
+    (no_call call (records h) fresh) fresh (lt-ltb (length h) 1000000 room) clear
+
+pub newest_undone : (t : House) → IsNewestUndone t
+newest_undone t calls before r by id same party agreed fresh room =
+    accepted_where_ready t calls before [] r by id same (record { party = party; agreed = agreed; free = newest_is_free t calls before r same }) fresh room
 
 -- ---- what a refused reversal names
 

@@ -1,6 +1,6 @@
 -- What a reversal does over any list of calls.
 use Rattle.std.proofs.Common.{◌≡◌, ℕ, ◌+◌, ◌<◌, ◌≤◌, Bool, true, false, not, List, [], ◌∷◌, ◌++◌, length, refl, sym, ◌∙◌, ap, subst, arith, Option, cond, append-nil, append_assoc, inl, inr, ◌⊎◌}
-use Rattle.std.specs.Prelude.{Some, None, ◌==◌, is_some}
+use Rattle.std.specs.Prelude.{Some, None, map, ◌==◌, is_some}
 use Rattle.std.specs.List.{All, list_all}
 use Rattle.std.proofs.lemmas.Bool.{ne_eqb, eq-eqb, and_parts}
 use Rattle.std.proofs.lemmas.List.Elements.{All-nil, All-cons, All-head, All-tail, filter-append}
@@ -9,7 +9,7 @@ use Rattle.gu_base.specs.History.{numbered_as, is_change, live}
 use Rattle.gu_base.specs.Refusals.{refusal_of}
 use Rattle.gu_base.specs.Standing.{first_refused, without}
 use Rattle.gu_base.specs.Answers.{Call, answer_to, after, after_by, is_accepted}
-use Rattle.gu_base.specs.Runs.{after_all}
+use Rattle.gu_base.specs.Runs.{after_all, call_of, IsRunFrom}
 use Rattle.gu_base.specs.declared.command.Command.TheVariants.{Reverse}
 use Rattle.gu_base.specs.declared.entry.Answer.{Answer}
 use Rattle.gu_base.specs.declared.entry.Answer.TheVariants.{Accepted, Repeated, Refused}
@@ -18,7 +18,7 @@ use Rattle.gu_base.specs.declared.entry.Record.{Record}
 use Rattle.gu_base.proofs.LiveLaws.{live_push_change, live_push_reverse, live_push_consent, live_below, without_none, without_last}
 use Rattle.gu_base.proofs.LegalLaws.{legal_from_replay, none_refused, replay_front}
 use Rattle.gu_book.specs.Conserved.{RisesFrom}
-use Rattle.gu_book.specs.Reversals.{IsLawful, Restores, TakesOut, NewestIsFree, StandsLater}
+use Rattle.gu_book.specs.Headline.{IsLawful, Restores, TakesOut, NewestIsFree, StandsLater}
 use Rattle.gu_base.specs.Consents.{is_consenting}
 use Rattle.gu_base.proofs.RunLaws.{run_all}
 use Rattle.gu_book.proofs.Leaves.{live_rises}
@@ -26,6 +26,16 @@ use Rattle.gu_book.proofs.Orders.{earlier}
 
 pub lawful : (t : House) → IsLawful t
 lawful t calls = legal_from_replay t (live (after_all t [] calls)) ((run_all t calls).replayed)
+
+-- a history that calls made is made again by the calls that its entries keep
+remade : (t : House) (h : List Entry) → IsRunFrom t [] h → (before rest : List Entry) → h ≡ before ++ rest → after_all t before (map call_of rest) ≡ h
+remade t h run before [] e = sym (e ∙ append-nil before)
+remade t h run before (x ∷ rest) e =
+    ap (λ k. after_all t (after_by before (call_of x) k) (map call_of rest)) (run.accepted before rest x e (omega arith))
+    ∙ remade t h run (before ++ x ∷ []) rest (e ∙ sym (append_assoc before (x ∷ []) rest))
+
+pub made_again : (t : House) (h : List Entry) → IsRunFrom t [] h → after_all t [] (map call_of h) ≡ h
+made_again t h run = remade t h run [] h refl
 
 after_more : (t : House) (h : List Entry) (cs ds : List Call) → after_all t h (cs ++ ds) ≡ after_all t (after_all t h cs) ds
 after_more t h [] ds = refl

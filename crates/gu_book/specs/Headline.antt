@@ -1,4 +1,4 @@
--- What a reversal does, over any list of calls from the empty history.
+-- The headline in definitions, over any list of calls from the empty history. The clauses of `laws` say that they hold, sentence by sentence.
 use Rattle.std.specs.Prelude.{◌≡◌, ℕ, ◌+◌, ◌<◌, Bool, true, false, List, [], ◌∷◌, ◌++◌, length, find, Some, None}
 use Rattle.std.specs.List.{list_all}
 use Rattle.gu_base.specs.Limits.{most_entries}
@@ -9,17 +9,21 @@ use Rattle.gu_base.specs.Consents.{parties_of, consents_of, is_among, is_consent
 use Rattle.gu_base.specs.Answers.{Call, answer_to, entry_of, is_same_id, is_accepted}
 use Rattle.gu_base.specs.Runs.{after_all}
 use Rattle.gu_base.specs.declared.command.Command.{Command}
-use Rattle.gu_base.specs.declared.command.Command.TheVariants.{Initiate, Decline, Reverse}
+use Rattle.gu_base.specs.declared.command.Command.TheVariants.{Initiate, Reverse}
 use Rattle.gu_base.specs.declared.entry.Answer.TheVariants.{Accepted, Refused}
 use Rattle.gu_base.specs.declared.entry.Entry.{Entry}
 use Rattle.gu_base.specs.declared.entry.Record.{Record}
 use Rattle.gu_base.specs.declared.refusal.Refusal.{Refusal}
 use Rattle.gu_base.specs.declared.refusal.Refusal.TheVariants.{UnknownFirm, UnknownEntry, NotAChange, AlreadyReversed, NotAParty, NeedsConsent, StandsOn, DuplicateId, BookFull}
-use Rattle.gu_base.specs.declared.state.State.TheVariants.{Reversed}
+use Rattle.gu_base.specs.declared.state.State.TheVariants.{ReversalPending, Reversed}
 
--- the live changes are legal
+-- ---- what the live changes alone give from the empty book
+
+-- each live change is accepted after the live changes before it
 abbrev pub IsLawful : House → Type 0
 IsLawful t = (calls : List Call) → IsLegal t (live (after_all t [] calls))
+
+-- ---- an accepted change followed by its reversal
 
 -- an accepted change and its accepted reversal, with Initiates and Declines alone between them, leave the live changes as they were
 abbrev pub Restores : House → Type 0
@@ -32,6 +36,8 @@ Restores t = (calls between : List Call) (change reversal : Call) → is_change 
 abbrev pub TakesOut : House → Type 0
 TakesOut t = (calls : List Call) (reversal : Call) (k : ℕ) → reversal.command ≡ Reverse k → is_accepted (answer_to t (after_all t [] calls) reversal) ≡ true
     → live (after_all t [] (calls ++ reversal ∷ [])) ≡ without (live (after_all t [] calls)) k
+
+-- ---- what can be undone
 
 -- the firm may ask for the reversal of the change, all parties consent to it, and nothing stands on it
 pub record IsReady (t : House) (h : List Entry) (by : List ℕ) (r : Record) : Type 0 where
@@ -46,10 +52,27 @@ IsAcceptedWhereReady t = (calls : List Call) (before after : List Record) (r : R
     → find (is_same_id (record { firm = by; id = id; command = Reverse r.number })) (records (after_all t [] calls)) ≡ None → length (after_all t [] calls) < most_entries
     → answer_to t (after_all t [] calls) (record { firm = by; id = id; command = Reverse r.number }) ≡ Accepted (length (after_all t [] calls) + 1) Reversed
 
+-- a party that hasn't consented to the reversal of a live change may consent, save where the id is used or the history is full
+abbrev pub IsConsentAccepted : House → Type 0
+IsConsentAccepted t = (calls : List Call) (before after : List Record) (r : Record) (by id : List ℕ) → live (after_all t [] calls) ≡ before ++ r ∷ after
+    → is_among by (parties_of t (live (after_all t [] calls)) r.firm r.command) ≡ true → is_among by (consents_of (after_all t [] calls) r.number) ≡ false
+    → find (is_same_id (record { firm = by; id = id; command = Initiate r.number })) (records (after_all t [] calls)) ≡ None → length (after_all t [] calls) < most_entries
+    → answer_to t (after_all t [] calls) (record { firm = by; id = id; command = Initiate r.number }) ≡ Accepted (length (after_all t [] calls) + 1) ReversalPending
+
 -- nothing stands on the newest of the live changes
 abbrev pub NewestIsFree : House → Type 0
 NewestIsFree t = (calls : List Call) (before : List Record) (r : Record) → live (after_all t [] calls) ≡ before ++ r ∷ []
     → standing_on t (live (after_all t [] calls)) r.number ≡ None
+
+-- so with the consents of its parties the newest live change is undone, save where the id is used or the history is full
+abbrev pub IsNewestUndone : House → Type 0
+IsNewestUndone t = (calls : List Call) (before : List Record) (r : Record) (by id : List ℕ) → live (after_all t [] calls) ≡ before ++ r ∷ []
+    → is_among by (parties_of t (live (after_all t [] calls)) r.firm r.command) ≡ true
+    → missing (parties_of t (live (after_all t [] calls)) r.firm r.command) (consents_of (after_all t [] calls) r.number) ≡ None
+    → find (is_same_id (record { firm = by; id = id; command = Reverse r.number })) (records (after_all t [] calls)) ≡ None → length (after_all t [] calls) < most_entries
+    → answer_to t (after_all t [] calls) (record { firm = by; id = id; command = Reverse r.number }) ≡ Accepted (length (after_all t [] calls) + 1) Reversed
+
+-- ---- what a refused reversal names
 
 -- what stands on a live change is later than it
 abbrev pub StandsLater : House → Type 0
