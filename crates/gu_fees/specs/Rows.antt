@@ -37,8 +37,9 @@ pub record CanCharge (r : FeeRows) (giver taker : List ℕ) (lots rate : ℕ) : 
   pub received : received_in r giver + lots * rate < 2 ^ 64
   pub used : used_in r giver taker + lots < 2 ^ 64
 
--- each sum has at least these lots at this rate
+-- each sum has at least these lots at this rate, which are no more than a number of 64 bits
 pub record CanUncharge (r : FeeRows) (giver taker : List ℕ) (lots rate : ℕ) : Type 0 where
+  pub fits : lots * rate < 2 ^ 64
   pub paid : lots * rate ≤ paid_in r taker
   pub received : lots * rate ≤ received_in r giver
   pub used : lots ≤ used_in r giver taker

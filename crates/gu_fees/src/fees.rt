@@ -132,9 +132,10 @@ impl Fees {
         let Some(cost) = lots.checked_mul(rate) else {
             return false;
         };
-        self.paid.can_add(taker, cost)
-            && self.received.can_add(giver, cost)
-            && self.used.can_add(&pair, lots)
+        let pays = self.paid.can_add(taker, cost);
+        let receives = self.received.can_add(giver, cost);
+        let uses = self.used.can_add(&pair, lots);
+        all_three(pays, receives, uses)
     }
 
     /// Whether `uncharge` may be called: each sum has so much.
@@ -146,4 +147,10 @@ impl Fees {
         };
         cost <= self.paid(taker) && cost <= self.received(giver) && lots <= self.used(giver, taker)
     }
+}
+
+fn all_three(a: bool, b: bool, c: bool) -> bool
+    ensures { IsTrue result ↔ (IsTrue a × IsTrue b × IsTrue c) }
+{
+    a && b && c
 }

@@ -11,6 +11,5 @@ mod fees;
 
 pub use fees::Fees;
 
-
 #[cfg(test)]
 mod tests;

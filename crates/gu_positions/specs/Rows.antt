@@ -1,8 +1,8 @@
 -- Running rows of positions.
-use Rattle.std.specs.Prelude.{ℕ, ◌+◌, ◌<◌, ◌^◌, Bool, ◌&&◌, List, bytes_eq, IsTrue}
+use Rattle.std.specs.Prelude.{ℕ, Bool, ◌&&◌, List, bytes_eq, IsTrue}
 use Rattle.gu_base.specs.declared.command.Side.{Side}
 use Rattle.gu_base.specs.declared.command.Side.TheVariants.{Buy, Sell}
-use Rattle.gu_sums.specs.Sums.{number_at, has_row}
+use Rattle.gu_sums.specs.Sums.{number_at, has_row, CanAdd as HasRoom}
 use Rattle.gu_positions.specs.declared.positions.Key.{Key}
 
 -- the lots of buy trades and those of sell trades
@@ -11,7 +11,7 @@ pub record PositionRows : Type 0 where
   pub short : List (Key × ℕ)
 
 abbrev pub is_key : Key → Key → Bool
-is_key a b = bytes_eq a.firm b.firm && bytes_eq a.account b.account && bytes_eq a.instrument b.instrument
+is_key a b = bytes_eq a.firm b.firm && (bytes_eq a.account b.account && bytes_eq a.instrument b.instrument)
 
 -- the rows of a side
 abbrev pub rows_of : PositionRows → Side → List (Key × ℕ)
@@ -31,6 +31,5 @@ pub record IsReady (r : PositionRows) (key : Key) : Type 0 where
   pub rows : (side : Side) → IsTrue (has_row_of r key side)
 
 -- the row is there, and its sum has room for these lots
-pub record CanAdd (r : PositionRows) (key : Key) (side : Side) (lots : ℕ) : Type 0 where
-  pub ready : IsTrue (has_row_of r key side)
-  pub fits : lots_in r key side + lots < 2 ^ 64
+abbrev pub CanAdd : PositionRows → Key → Side → ℕ → Type 0
+CanAdd r key side lots = HasRoom (is_key key) (rows_of r side) lots

@@ -9,6 +9,5 @@ mod sums;
 
 pub use sums::Sums;
 
-
 #[cfg(test)]
 mod tests;
