@@ -12,6 +12,5 @@ mod positions;
 
 pub use positions::{Key, Positions};
 
-
 #[cfg(test)]
 mod tests;

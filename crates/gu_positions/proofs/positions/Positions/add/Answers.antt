@@ -1,6 +1,5 @@
 use Rattle.std.proofs.Common.{◌&&◌}
 use Rattle.gu_base.specs.Positions.{same_side}
-use Rattle.gu_base.specs.declared.command.Side.TheVariants.{Buy, Sell}
 use Rattle.gu_sums.proofs.OneMore.{more_sum}
 use Rattle.gu_positions.specs.Rows.{is_key}
 use Rattle.gu_positions.specs.Sums.{Standing}
