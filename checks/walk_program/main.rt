@@ -5,7 +5,7 @@
 //! entries of rows are compared by their place among the live ones.
 //!
 //! It takes the number of books, and makes 40 calls at each. It writes what differs, if something does; else how many calls it made, and whether
-//! it met enough of each kind of answer to mean something. The gate walks at few books, `checks/walk` at many.
+//! it met enough of each kind of answer to mean something. `checks/walk` runs it.
 #![tactic(auto)]
 
 mod anew;
@@ -59,7 +59,7 @@ fn tell(rt: &impl Print, books: u32, met: &Met) -> io::Result<()> {
     println!(rt; "a claim in 50 calls: {}", met.claims >= calls / 50)?;
     println!(rt;
         "a reversal of each kind of change in 1000 calls: {}",
-        met.each_kind_in(1000)
+        met.each_kind()
     )
 }
 

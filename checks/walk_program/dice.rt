@@ -1,5 +1,5 @@
 //! Numbers that look random, from a seed.
-ghost use Rattle.std.specs.Prelude.{◌<◌};
+ghost use Rattle.std.specs.Prelude.{◌≤◌};
 
 /// A generator by remainders: the upper bits of its state.
 #[derive(Drop)]
@@ -27,16 +27,22 @@ impl Dice {
     }
 
     /// One of the numbers below this many; 0 where there are none.
-    pub(crate) fn below(&mut self, sides: u64) -> u64 {
+    pub(crate) fn below(&mut self, sides: usize) -> usize
+        ensures { result ≤ sides }
+    {
         self.turn();
-        if sides == 0 {
-            return 0;
-        }
-        (self.state >> 33) % sides
+        let drawn = usize::try_from(self.state >> 33).unwrap_or(0);
+        if sides == 0 { 0 } else { drawn % sides }
     }
 
     /// Whether something happens that happens once in so many times.
-    pub(crate) fn once_in(&mut self, times: u64) -> bool {
+    pub(crate) fn once_in(&mut self, times: usize) -> bool {
         self.below(times) == 0
+    }
+
+    /// Lots below this many.
+    pub(crate) fn lots_below(&mut self, many: u64) -> u64 {
+        let drawn = self.below(usize::try_from(many).unwrap_or(0));
+        u64::try_from(drawn).unwrap_or(0)
     }
 }

@@ -14,7 +14,7 @@ pub(crate) struct Drawn {
 
 /// One of the firms, the house among them.
 fn any_firm(dice: &mut Dice, book: &Book) -> FirmId {
-    match book.house().firm_at(dice.below(4) as usize) {
+    match book.house().firm_at(dice.below(4)) {
         Some(firm) => firm,
         None => book.house().house(),
     }
@@ -22,7 +22,7 @@ fn any_firm(dice: &mut Dice, book: &Book) -> FirmId {
 
 /// The firm of an entry, which is always a party of it.
 pub(crate) fn firm_of(book: &Book, entry: Number) -> FirmId {
-    match book.history().get(entry.get() as usize - 1) {
+    match book.history().get((entry.get() as usize).wrapping_sub(1)) {
         Some(e) => e.firm,
         None => book.house().house(),
     }
@@ -30,9 +30,9 @@ pub(crate) fn firm_of(book: &Book, entry: Number) -> FirmId {
 
 /// One of the accounts of a firm.
 fn account_of(dice: &mut Dice, book: &Book, firm: FirmId) -> Option<AccountId> {
-    let first = dice.below(6) as usize;
+    let first = dice.below(6);
     for i in 0..6 {
-        if let Some(account) = book.house().account_at((first + i) % 6) {
+        if let Some(account) = book.house().account_at(first.wrapping_add(i) % 6) {
             if account.firm == firm {
                 return Some(account.name);
             }
@@ -43,13 +43,13 @@ fn account_of(dice: &mut Dice, book: &Book, firm: FirmId) -> Option<AccountId> {
 
 /// One of these, if there are some.
 fn any_of<T: Copy>(dice: &mut Dice, items: &[T]) -> Option<T> {
-    items.get(dice.below(items.len() as u64) as usize).copied()
+    items.get(dice.below(items.len())).copied()
 }
 
 /// A trade of the house for an account of a firm.
 fn trade(dice: &mut Dice, book: &Book) -> Option<Drawn> {
-    let account = book.house().account_at(dice.below(6) as usize)?;
-    let instrument = book.house().instrument_at(dice.below(2) as usize)?;
+    let account = book.house().account_at(dice.below(6))?;
+    let instrument = book.house().instrument_at(dice.below(2))?;
     let side = if dice.once_in(2) {
         Side::Buy
     } else {
@@ -62,7 +62,7 @@ fn trade(dice: &mut Dice, book: &Book) -> Option<Drawn> {
             account: account.name,
             instrument,
             side,
-            lots: dice.below(120),
+            lots: dice.lots_below(120),
         },
     })
 }
@@ -77,7 +77,7 @@ fn is_leaf(rows: &[Row], place: usize) -> bool {
 
 /// One of the leaves of these rows, or of those that are offered, if there are some.
 fn any_leaf(dice: &mut Dice, rows: &[Row]) -> Option<Row> {
-    let first = dice.below(rows.len() as u64) as usize;
+    let first = dice.below(rows.len());
     let offered = !dice.once_in(3);
     for step in 0..rows.len() {
         let place = first.wrapping_add(step) % rows.len();
@@ -98,7 +98,7 @@ fn any_row(
     book: &Book,
     live: &[Number],
 ) -> Result<Option<Row>, Memory> {
-    let first = dice.below(live.len() as u64) as usize;
+    let first = dice.below(live.len());
     for step in 0..live.len() {
         let Some(number) = live.get(first.wrapping_add(step) % live.len()) else {
             break;
@@ -115,8 +115,8 @@ fn split(dice: &mut Dice, alloc: Global, book: &Book, head: &Head) -> Result<Dra
     let by = head.place.firm;
     let mut items = Vec::new(alloc);
     let mut left = head.lots;
-    for more in 0..dice.below(3) {
-        let lots = 1 + dice.below(left.saturating_sub(3 - more));
+    for _ in 0..dice.below(3) {
+        let lots = dice.lots_below(left.saturating_sub(3)).saturating_add(1);
         left = left.saturating_sub(lots);
         items.push(part(dice, book, by, lots))?;
     }

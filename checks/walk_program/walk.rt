@@ -11,7 +11,6 @@ use std::alloc::Global;
 #[derive(Debug, Default, Drop)]
 pub(crate) struct Met {
     pub(crate) calls: u64,
-    pub(crate) accepted: u64,
     pub(crate) reversals: u64,
     pub(crate) stands: u64,
     pub(crate) lacks: u64,
@@ -24,9 +23,9 @@ pub(crate) struct Met {
 }
 
 impl Met {
-    /// Whether each kind of change was reversed, and was in so many calls or fewer.
-    pub(crate) fn each_kind_in(&self, calls: u64) -> bool {
-        let least = self.calls / calls;
+    /// Whether each kind of change was reversed once in 1,000 calls or oftener.
+    pub(crate) fn each_kind(&self) -> bool {
+        let least = self.calls / 1_000;
         self.trades_reversed >= least
             && self.splits_reversed >= least
             && self.claims_reversed >= least
@@ -35,14 +34,29 @@ impl Met {
     }
 
     fn count_reversed(&mut self, command: &Command) {
-        let count = match command {
-            Command::Trade { .. } => &mut self.trades_reversed,
-            Command::Split { .. } => &mut self.splits_reversed,
-            Command::Claim { .. } => &mut self.claims_reversed,
-            Command::Refuse { .. } => &mut self.refusals_reversed,
-            _ => &mut self.cancels_reversed,
-        };
-        *count = count.wrapping_add(1);
+        match command {
+            Command::Trade { .. } => self.trades_reversed = self.trades_reversed.wrapping_add(1),
+            Command::Split { .. } => self.splits_reversed = self.splits_reversed.wrapping_add(1),
+            Command::Claim { .. } => self.claims_reversed = self.claims_reversed.wrapping_add(1),
+            Command::Refuse { .. } => self.refusals_reversed = self
+                .refusals_reversed
+                .wrapping_add(1),
+            _ => self.cancels_reversed = self.cancels_reversed.wrapping_add(1),
+        }
+    }
+
+    /// Counts what was accepted.
+    fn count_accepted(&mut self, book: &Book, command: &Command) {
+        match command {
+            Command::Claim { .. } => self.claims = self.claims.wrapping_add(1),
+            Command::Reverse { entry } => {
+                self.reversals = self.reversals.wrapping_add(1);
+                if let Some(e) = book.history().get((entry.get() as usize).wrapping_sub(1)) {
+                    self.count_reversed(&e.command);
+                }
+            }
+            _ => {}
+        }
     }
 
     fn count(&mut self, book: &Book, command: &Command, answer: &Answer) {
@@ -50,18 +64,7 @@ impl Met {
         match answer {
             Answer::Refused(Refusal::StandsOn(_)) => self.stands = self.stands.wrapping_add(1),
             Answer::Refused(Refusal::NeedsConsent(_)) => self.lacks = self.lacks.wrapping_add(1),
-            Answer::Accepted { .. } => {
-                self.accepted = self.accepted.wrapping_add(1);
-                if let Command::Claim { .. } = command {
-                    self.claims = self.claims.wrapping_add(1);
-                }
-                if let Command::Reverse { entry } = command {
-                    self.reversals = self.reversals.wrapping_add(1);
-                    if let Some(e) = book.history().get(entry.get() as usize - 1) {
-                        self.count_reversed(&e.command);
-                    }
-                }
-            }
+            Answer::Accepted { .. } => self.count_accepted(book, command),
             _ => {}
         }
     }
@@ -103,7 +106,7 @@ fn next(
     dice: &mut Dice,
     alloc: Global,
     book: &Book,
-    undoing: &mut Option<(Number, u64)>,
+    undoing: &mut Option<(Number, usize)>,
 ) -> Result<Option<Drawn>, Memory> {
     let live = book.live(alloc)?;
     if let Some((entry, step)) = *undoing {
@@ -114,7 +117,7 @@ fn next(
         };
         let by = match step {
             0 => book.house().house(),
-            1 | 2 | 3 => match book.house().firm_at(step as usize - 1) {
+            1 | 2 | 3 => match book.house().firm_at(step.saturating_sub(1)) {
                 Some(firm) => firm,
                 None => book.house().house(),
             },
@@ -128,7 +131,7 @@ fn next(
         return Ok(Some(Drawn { by, command }));
     }
     if dice.once_in(4) {
-        let late = live.len().saturating_sub(1 + dice.below(5) as usize);
+        let late = live.len().saturating_sub(dice.below(5).wrapping_add(1));
         if let Some(number) = live.get(late) {
             *undoing = Some((*number, 0));
         }

@@ -1,5 +1,5 @@
 //! The live changes alone, called for at a new book, and whether it tells the same.
-use gu_base::{Command, Memory, NodeName, Number, State};
+use gu_base::{Account, Command, FirmId, InstrumentId, Memory, NodeName, Number};
 use gu_book::{Answer, Book, Entry};
 use gu_tree::Row;
 use std::alloc::Global;
@@ -87,6 +87,17 @@ fn same_row(live: &[Number], old: &Row, new: &Row) -> bool {
         && decision == new.head.decision
 }
 
+/// Whether these rows, of the book and of the new one, are the same in their order.
+fn same_tree(live: &[Number], old: &[Row], new: &[Row]) -> bool {
+    for (place, row) in old.iter().enumerate() {
+        match new.get(place) {
+            Some(other) if same_row(live, row, other) => {}
+            _ => return false,
+        }
+    }
+    old.len() == new.len()
+}
+
 /// Whether both books have the same rows of a trade, or neither has some.
 fn same_rows(
     alloc: Global,
@@ -98,50 +109,76 @@ fn same_rows(
     let Some(place) = place_among(live, number) else {
         return Ok(false);
     };
-    Ok(
-        match (book.tree_rows(alloc, number)?, new.tree_rows(alloc, place)?) {
-            (None, None) => true,
-            (Some(a), Some(b)) => {
-                a.len() == b.len() && a.iter().zip(b.iter()).all(|(a, b)| same_row(live, a, b))
-            }
-            _ => false,
-        },
-    )
+    let old = book.tree_rows(alloc, number)?;
+    let again = new.tree_rows(alloc, place)?;
+    Ok(match (&old, &again) {
+        (None, None) => true,
+        (Some(old), Some(again)) => same_tree(live, old.as_slice(), again.as_slice()),
+        _ => false,
+    })
 }
 
-/// Whether both books tell the same of every account, firm and agreement.
-fn same_sums(book: &Book, new: &Book) -> bool {
+/// Whether an account has the same position in an instrument at both books.
+fn same_position(book: &Book, new: &Book, account: &Account, instrument: &InstrumentId) -> bool {
+    let (long, short) = book.position(&account.firm, &account.name, instrument);
+    let (new_long, new_short) = new.position(&account.firm, &account.name, instrument);
+    long == new_long && short == new_short
+}
+
+/// Whether an account has the same positions at both books.
+fn same_positions(book: &Book, new: &Book, account: &Account) -> bool {
     for i in 0..PLACES {
-        if let Some(account) = book.house().account_at(i) {
-            for j in 0..PLACES {
-                if let Some(instrument) = book.house().instrument_at(j) {
-                    if book.position(&account.firm, &account.name, &instrument)
-                        != new.position(&account.firm, &account.name, &instrument)
-                    {
-                        return false;
-                    }
+        match book.house().instrument_at(i) {
+            None => break,
+            Some(instrument) => {
+                if !same_position(book, new, account, &instrument) {
+                    return false;
                 }
-            }
-        }
-        if let Some(firm) = book.house().firm_at(i) {
-            if book.paid(&firm) != new.paid(&firm) || book.received(&firm) != new.received(&firm) {
-                return false;
-            }
-        }
-        if let Some((pair, _)) = book.house().agreement_at(i) {
-            if book.used(&pair.giver, &pair.taker) != new.used(&pair.giver, &pair.taker) {
-                return false;
             }
         }
     }
     true
 }
 
+/// Whether a firm pays and receives the same at both books.
+fn same_fees(book: &Book, new: &Book, firm: &FirmId) -> bool {
+    book.paid(firm) == new.paid(firm) && book.received(firm) == new.received(firm)
+}
+
+/// Whether both books tell the same of the account, the firm and the agreement at a place of the house table.
+fn same_at(book: &Book, new: &Book, place: usize) -> bool {
+    let positions = match book.house().account_at(place) {
+        None => true,
+        Some(account) => same_positions(book, new, &account),
+    };
+    let fees = match book.house().firm_at(place) {
+        None => true,
+        Some(firm) => same_fees(book, new, &firm),
+    };
+    let used = match book.house().agreement_at(place) {
+        None => true,
+        Some((pair, _)) => {
+            book.used(&pair.giver, &pair.taker) == new.used(&pair.giver, &pair.taker)
+        }
+    };
+    positions && fees && used
+}
+
+/// Whether both books tell the same of every account, firm and agreement.
+fn same_sums(book: &Book, new: &Book) -> bool {
+    for place in 0..PLACES {
+        if !same_at(book, new, place) {
+            return false;
+        }
+    }
+    same_fees(book, new, &book.house().house())
+}
+
 /// Whether a new book that is given the live changes alone, in their order, accepts each of them and then tells what this book tells.
 pub(crate) fn same_alone(alloc: Global, book: &Book, live: &[Number]) -> Result<bool, Memory> {
     let mut new = Book::new(alloc, book.house().copy(alloc)?);
     for number in live {
-        match book.history().get(number.get() as usize - 1) {
+        match book.history().get((number.get() as usize).wrapping_sub(1)) {
             Some(e) if again(alloc, &mut new, live, e, *number)? => {}
             _ => return Ok(false),
         }
