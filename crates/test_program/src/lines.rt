@@ -71,10 +71,8 @@ fn is_as_expected(rt: &HostRuntime, alloc: Global, stream: &str, out: &[u8]) -> 
         return Ok(false);
     };
     let path = format!(in alloc; "{name}.out")?;
-    match fs::read(rt, path.as_str()) {
-        Ok(expected) => Ok(expected.as_slice() == out),
-        Err(error) => Err(error),
-    }
+    let expected = fs::read(rt, path.as_str())?;
+    Ok(expected.as_slice() == out)
 }
 
 /// Runs a line, writes what came of it, and gives its status.
