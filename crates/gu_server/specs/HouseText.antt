@@ -3,7 +3,8 @@ use Rattle.std.specs.Prelude.{◌≡◌, ℕ, ◌+◌, ◌<◌, ◌≤◌, ◌�
 use Rattle.std.specs.Io.KnownBytes.{Consumes, IsAtEnd}
 use Rattle.gu_server.specs.Counts.{Fails}
 use Rattle.gu_server.specs.declared.fault.Fault.{Fault}
-use Rattle.gu_server.specs.declared.fault.Fault.TheVariants.{HouseFile, Memory}
+use Rattle.gu_server.specs.declared.fault.Fault.TheVariants.{HouseFile, Run}
+use Rattle.gu_server.specs.declared.batch.RunError.TheVariants.{Memory}
 
 -- how many bytes a house file may have: 16 MiB
 abbrev pub most_bytes : ℕ
@@ -19,7 +20,7 @@ IsTooLong known = IfSome known (λ bytes. most_bytes < length bytes)
 
 abbrev pub IsUnread : Option (List ℕ) → Fault → Type 0
 IsUnread known HouseFile = IsTooLong known
-IsUnread known Memory = Unit {0}
+IsUnread known (Run Memory) = Unit {0}
 IsUnread known _ = ⊥
 
 -- this text of a file with these bytes was read, or why it wasn't
@@ -33,7 +34,7 @@ Reads known text (Err e) = IsUnread known e
 abbrev pub IsRead : {A : Type 0} → List ℕ → Option (List ℕ) → ℕ → ℕ → List ℕ → Result A Fault → Type 0
 IsRead bytes left failed_before failed text (Ok x) = (text ≡ bytes) × IsAtEnd left
 IsRead bytes left failed_before failed text (Err HouseFile) = Fails failed_before failed ⊎ (most_bytes < length bytes)
-IsRead bytes left failed_before failed text (Err Memory) = Unit {0}
+IsRead bytes left failed_before failed text (Err (Run Memory)) = Unit {0}
 IsRead bytes left failed_before failed text (Err _) = ⊥
 
 -- the reader was read to its end, or why it wasn't; of a longer one no more than a read was taken beyond the bound

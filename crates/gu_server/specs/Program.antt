@@ -7,10 +7,10 @@ use Rattle.gu_parties.specs.declared.fault.HouseError.{HouseError}
 use Rattle.gu_server.specs.HouseText.{IsTextOf, IsTooLong}
 use Rattle.gu_server.specs.Lines.{house_in}
 use Rattle.gu_server.specs.Runs.{Told, Runs}
-use Rattle.gu_server.specs.Faults.{fault_of}
 use Rattle.gu_server.specs.declared.batch.RunError.{RunError}
 use Rattle.gu_server.specs.declared.fault.Fault.{Fault}
-use Rattle.gu_server.specs.declared.fault.Fault.TheVariants.{Usage, HouseFile, HouseLine, Memory}
+use Rattle.gu_server.specs.declared.fault.Fault.TheVariants.{Usage, HouseFile, HouseLine, Run}
+use Rattle.gu_server.specs.declared.batch.RunError.TheVariants.{Memory}
 
 -- the text of the file with these bytes names this house table, or has this fault
 abbrev pub Names : Option (List ℕ) → Result House HouseError → Type 0
@@ -19,7 +19,7 @@ Names known named = (text : List ℕ) × IsTextOf known text × Answers named te
 abbrev pub IsHouseFault : Option (List ℕ) → Fault → Type 0
 IsHouseFault known HouseFile = IsTooLong known
 IsHouseFault known (HouseLine error) = Names known (Err error)
-IsHouseFault known Memory = Unit {0}
+IsHouseFault known (Run Memory) = Unit {0}
 IsHouseFault known _ = ⊥
 
 -- the house table of a file with these bytes, or why there is none
@@ -30,7 +30,7 @@ ReadsHouse known (Err e) = IsHouseFault known e
 -- why nothing was read and nothing written: the command line, or the house file that it names
 abbrev pub Stops : List Text → (Text → Option (List ℕ)) → Fault → Type 0
 Stops words bytes_at (Usage text) = Unit {0}
-Stops words bytes_at Memory = Unit {0}
+Stops words bytes_at (Run Memory) = Unit {0}
 Stops words bytes_at e = (path : Text) × (house_in words ≡ Some path) × IsHouseFault (bytes_at path) e
 
 -- a batch was run, by the house table that the house file of the words names
@@ -44,7 +44,7 @@ pub record HasRun {A : Type 0} (words : List Text) (bytes_at : Text → Option (
 -- the batch was run to its end, or nothing was touched, or the batch ended with an error
 abbrev pub Does : {A : Type 0} → List Text → (Text → Option (List ℕ)) → Told → Told → Result A Fault → Type 0
 Does {A} words bytes_at old new (Ok x) = HasRun {A = A} words bytes_at old new (Ok x)
-Does {A} words bytes_at old new (Err e) = (Stops words bytes_at e × (new ≡ old)) ⊎ ((error : RunError) × (e ≡ fault_of error) × HasRun {A = A} words bytes_at old new (Err error))
+Does {A} words bytes_at old new (Err e) = (Stops words bytes_at e × (new ≡ old)) ⊎ ((error : RunError) × (e ≡ Run error) × HasRun {A = A} words bytes_at old new (Err error))
 
 -- the command line isn't at fault
 abbrev pub IsUnderstood : Fault → Type 0

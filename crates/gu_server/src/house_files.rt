@@ -3,6 +3,7 @@
 ghost use Rattle.std.specs.Prelude.{◌≡◌, ℕ, List, [], Option, None};
 ghost use Rattle.gu_server.specs.HouseText.{Reads, ReadsAll};
 
+use crate::batch::RunError;
 use crate::fault::Fault;
 use crate::streams::{Counted, Source};
 use std::fs::File;
@@ -21,7 +22,7 @@ pub trait HouseFiles {
     ghost bytes_at: { Self → List ℕ → Option (List ℕ) };
 
     /// Reads the file at a path into an empty list. The fault is `HouseFile` where it isn't there, can't be read to its end or is longer
-    /// than 16,777,216 bytes, and `Memory` where a growth was refused.
+    /// than 16,777,216 bytes, and want of memory where a growth was refused.
     fn read(&self, path: &str, text: &mut Vec<u8>) -> Result<(), Fault>
         requires { text.old.items ≡ [] }
         ensures { Reads (bytes_at self.now path.now) text.new.items result };
@@ -73,7 +74,7 @@ impl<R: Files> HouseFiles for SystemFiles<'_, R> {
         match File::open(self.rt, path) {
             Ok(file) => read_all(&mut Counted::new(file), text),
             Err(error) => Err(match error.kind() {
-                ErrorKind::OutOfMemory => Fault::Memory,
+                ErrorKind::OutOfMemory => Fault::Run(RunError::Memory),
                 _ => Fault::HouseFile,
             }),
         }
