@@ -2,6 +2,7 @@
 
 ghost use Rattle.std.specs.Prelude.{◌≡◌, ◌≤◌, ◌<◌, ◌^◌, ◌+◌, ◌++◌, length, OnOk, OnErr, IsTrue};
 ghost use Rattle.gu_codec.specs.Answer.{pairs};
+ghost use Rattle.gu_codec.specs.Limits.{longest_body};
 ghost use Rattle.gu_codec.specs.Messages.{Message};
 ghost use Rattle.gu_codec.specs.Writing.{IsText, fields_text, message_text, stream_text};
 ghost use Rattle.gu_base.specs.Answers.{answer_to, after};
@@ -67,7 +68,7 @@ impl Answering {
         body: &[u8],
     ) -> Result<(), Memory>
         requires kind { IsText kind.now }
-        requires body { length body.now ≤ 65000 }
+        requires body { length body.now ≤ longest_body }
         requires counted { self.old.written + 1 < 2 ^ 64 }
         ensures ok { (fs : Message) → body.now ≡ fields_text fs → OnOk result (out.new.items ≡ out.old.items ++ message_text (message_of (stamp self.old.house.house (self.old.written + 1)) (record { target = target; kind = kind.now; fields = fs }))) }
         ensures after { OnOk result (self.new ≡ record self.old { written = self.old.written + 1 }) }
