@@ -1,17 +1,20 @@
 //! Answering one message after the other.
 
-ghost use Rattle.std.specs.Prelude.{◌≡◌, ◌≤◌, ◌<◌, ◌^◌, ◌+◌, ◌++◌, length, OnOk, OnErr, IsTrue};
+ghost use Rattle.std.specs.Prelude.{◌≡◌, ◌≤◌, ◌<◌, ◌^◌, ◌+◌, ◌++◌, length, OnOk, OnErr, IfOk, IsTrue};
 ghost use Rattle.gu_codec.specs.Answer.{pairs};
 ghost use Rattle.gu_codec.specs.Writing.{IsText};
 ghost use Rattle.gu_base.specs.Answers.{answer_to, after};
 ghost use Rattle.gu_base.specs.History.{is_change};
+ghost use Rattle.gu_message.specs.Meaning.{meaning_of};
+ghost use Rattle.gu_message.specs.Outcome.{Gives, asks_for_change};
 ghost use Rattle.gu_server.specs.Output.{message_text, call_text, reject_text, call_of};
 
-use gu_base::{AllocId, Answer, Command, FirmId, Memory};
+use gu_base::{AllocId, Answer, Command, FirmId, Memory, Part};
 use gu_book::Book;
 use gu_codec::{Fields, Header, write_frame};
 use gu_message::{
-    Inbound, MeaningError, Reject, ack, meaning, msg_types, reject, reject_target, trade_ack,
+    Inbound, MeaningError, Reject, ack, give_back, meaning_with_room, msg_types, reject,
+    reject_target, trade_ack,
 };
 use gu_parties::House;
 use std::alloc::{AllocError, Global};
@@ -47,7 +50,7 @@ fn append_message(
 
 /// Appends the answer to a call. An `Err` changes nothing.
 fn append_answer(
-    alloc: Global,
+    body: &mut Vec<u8>,
     out: &mut Vec<u8>,
     house: FirmId,
     number: u64,
@@ -59,33 +62,33 @@ fn append_answer(
     ensures ok { OnOk result (out.new.items ≡ out.old.items ++ call_text house number firm trade id.now answer.now) }
     ensures err { OnErr result (out.new.items ≡ out.old.items) }
 {
-    let mut body = Vec::new(alloc);
+    body.clear();
     if trade {
-        trade_ack(&mut body, id, answer)?;
+        trade_ack(body, id, answer)?;
         append_message(
             out,
             house,
             number,
             msg_types::TRADE_CAPTURE_REPORT_ACK,
             firm,
-            &body,
+            body,
         )
     } else {
-        ack(&mut body, id, answer)?;
+        ack(body, id, answer)?;
         append_message(
             out,
             house,
             number,
             msg_types::ALLOCATION_INSTRUCTION_ACK,
             firm,
-            &body,
+            body,
         )
     }
 }
 
 /// Appends the Reject of a message. An `Err` changes nothing.
 fn append_reject(
-    alloc: Global,
+    body: &mut Vec<u8>,
     out: &mut Vec<u8>,
     house: FirmId,
     number: u64,
@@ -95,15 +98,15 @@ fn append_reject(
     ensures ok { OnOk result (out.new.items ≡ out.old.items ++ reject_text house number (pairs fields.entry) fault) }
     ensures err { OnErr result (out.new.items ≡ out.old.items) }
 {
-    let mut body = Vec::new(alloc);
-    reject(&mut body, fields, fault)?;
+    body.clear();
+    reject(body, fields, fault)?;
     append_message(
         out,
         house,
         number,
         msg_types::REJECT,
         reject_target(fields),
-        &body,
+        body,
     )
 }
 
@@ -111,6 +114,7 @@ fn append_reject(
 fn apply_call(
     alloc: Global,
     book: &mut Book,
+    body: &mut Vec<u8>,
     out: &mut Vec<u8>,
     number: u64,
     firm: &FirmId,
@@ -125,7 +129,7 @@ fn apply_call(
 {
     let house = book.house().house();
     match book.apply(alloc, firm, id, command) {
-        Ok(answer) => append_answer(alloc, out, house, number, *firm, trade, id, &answer),
+        Ok(answer) => append_answer(body, out, house, number, *firm, trade, id, &answer),
         Err(e) => Err(e),
     }
 }
@@ -135,6 +139,10 @@ fn apply_call(
 pub(crate) struct Answering {
     book: Book,
     written: u64,
+    // The body of the last answer: kept, so that no answer asks for memory of its own.
+    body: Vec<u8>,
+    // Where the parts of a split are read.
+    room: Vec<Part>,
 }
 
 impl Model for Answering {
@@ -155,6 +163,8 @@ impl Answering {
         Answering {
             book: Book::new(alloc, house),
             written: 0,
+            body: Vec::new(alloc),
+            room: Vec::new(alloc),
         }
     }
 
@@ -175,7 +185,17 @@ impl Answering {
         ensures err { OnErr result (out.new.items ≡ out.old.items) }
     {
         let number = self.written + 1;
-        apply_call(alloc, &mut self.book, out, number, firm, trade, id, command)?;
+        apply_call(
+            alloc,
+            &mut self.book,
+            &mut self.body,
+            out,
+            number,
+            firm,
+            trade,
+            id,
+            command,
+        )?;
         self.written += 1;
         Ok(())
     }
@@ -183,7 +203,6 @@ impl Answering {
     /// Appends the Reject of a message. An `Err` appends nothing.
     fn answer_fault(
         &mut self,
-        alloc: Global,
         fields: Fields<'_>,
         fault: Reject,
         out: &mut Vec<u8>,
@@ -194,13 +213,43 @@ impl Answering {
         ensures err { OnErr result (out.new.items ≡ out.old.items) }
     {
         let house = self.book.house().house();
-        append_reject(alloc, out, house, self.written + 1, fields, fault)?;
+        append_reject(&mut self.body, out, house, self.written + 1, fields, fault)?;
         self.written += 1;
         Ok(())
     }
 
-    /// Appends the answer to a message. An `Err` appends nothing, and the batch ends with it.
+    /// Appends the answer to a message that was understood so. An `Err` appends nothing.
     #[tactic(auto, unfolding(crate::specs::Output::text_for, crate::specs::Output::progress_after))]
+    fn answer_outcome(
+        &mut self,
+        alloc: Global,
+        fields: Fields<'_>,
+        outcome: &Result<Inbound, MeaningError>,
+        out: &mut Vec<u8>,
+    ) -> Result<(), Memory>
+        requires counted { self.old.written + 1 < 2 ^ 64 }
+        requires gives { Gives outcome.now (meaning_of self.old.house.house (pairs fields)) }
+        requires change { IfOk outcome.now (λ m. IsTrue (asks_for_change m)) }
+        ensures ok { OnOk result (out.new.items ≡ out.old.items ++ text_for self.old (pairs fields.entry)) }
+        ensures after { OnOk result (self.new ≡ progress_after self.old (pairs fields.entry)) }
+        ensures err { OnErr result (out.new.items ≡ out.old.items) }
+    {
+        match outcome {
+            Ok(
+                Inbound::Call {
+                    firm,
+                    trade,
+                    id,
+                    command,
+                },
+            ) => self.answer_call(alloc, firm, *trade, id, command, out),
+            Ok(Inbound::Session) => Ok(()),
+            Err(MeaningError::Reject(fault)) => self.answer_fault(fields, *fault, out),
+            Err(MeaningError::Memory) => Err(AllocError),
+        }
+    }
+
+    /// Appends the answer to a message. An `Err` appends nothing, and the batch ends with it.
     pub(crate) fn answer(
         &mut self,
         alloc: Global,
@@ -213,19 +262,11 @@ impl Answering {
         ensures err { OnErr result (out.new.items ≡ out.old.items) }
     {
         let house = self.book.house().house();
-        let outcome = meaning(alloc, fields, &house);
-        match &outcome {
-            Ok(
-                Inbound::Call {
-                    firm,
-                    trade,
-                    id,
-                    command,
-                },
-            ) => self.answer_call(alloc, firm, *trade, id, command, out),
-            Ok(Inbound::Session) => Ok(()),
-            Err(MeaningError::Reject(fault)) => self.answer_fault(alloc, fields, *fault, out),
-            Err(MeaningError::Memory) => Err(AllocError),
+        let outcome = meaning_with_room(alloc, fields, &house, &mut self.room);
+        let done = self.answer_outcome(alloc, fields, &outcome, out);
+        if let Ok(inbound) = outcome {
+            give_back(inbound, &mut self.room);
         }
+        done
     }
 }
