@@ -7,4 +7,4 @@ most_reads = 16777216
 
 -- the bytes of a read
 abbrev pub longest_read : ℕ
-longest_read = 65536
+longest_read = 4096

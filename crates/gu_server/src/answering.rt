@@ -6,21 +6,17 @@ ghost use Rattle.gu_codec.specs.Limits.{longest_body};
 ghost use Rattle.gu_codec.specs.Messages.{Message};
 ghost use Rattle.gu_codec.specs.Writing.{IsText, fields_text, message_text, stream_text};
 ghost use Rattle.gu_base.specs.Answers.{answer_to, after};
-ghost use Rattle.gu_message.specs.Meaning.{meaning_of};
-ghost use Rattle.gu_message.specs.Outcome.{Gives};
 ghost use Rattle.gu_message.specs.Reply.{Reply, message_of, answer_reply, reject_reply};
 
-use gu_base::{AllocId, Answer, Command, FirmId, Memory, Part};
+use gu_base::{AllocId, Answer, Command, FirmId, Memory};
 use gu_book::Book;
 use gu_codec::{Fields, Header, write_frame};
 use gu_message::{
-    Inbound, MeaningError, Reject, ack, give_back, meaning_with_room, msg_types, reject,
-    reject_target, trade_ack,
+    Inbound, MeaningError, Reject, ack, meaning, msg_types, reject, reject_target, trade_ack,
 };
 use gu_parties::House;
 use std::alloc::{AllocError, Global};
 use std::marker::Model;
-use std::mem;
 
 /// SendingTime (52) of each message that a batch writes, so that its output depends on its input alone.
 const BATCH_TIME: &[u8] = b"19700101-00:00:00.000";
@@ -39,10 +35,6 @@ struct Call<'a> {
 pub(crate) struct Answering {
     book: Book,
     written: u64,
-    // The body of the last answer: kept, so that no answer asks for memory of its own.
-    body: Vec<u8>,
-    // Where the parts of a split are read.
-    room: Vec<Part>,
 }
 
 impl Model for Answering {
@@ -63,8 +55,6 @@ impl Answering {
         Answering {
             book: Book::new(alloc, house),
             written: 0,
-            body: Vec::new(alloc),
-            room: Vec::new(alloc),
         }
     }
 
@@ -99,7 +89,7 @@ impl Answering {
     /// Sends the answer of the book to a call. An `Err` appends nothing.
     fn send_answer(
         &mut self,
-        body: &mut Vec<u8>,
+        alloc: Global,
         call: &Call<'_>,
         answer: &Answer,
         out: &mut Vec<u8>,
@@ -109,13 +99,13 @@ impl Answering {
         ensures after { OnOk result (self.new ≡ record self.old { written = self.old.written + 1 }) }
         ensures err { OnErr result (out.new.items ≡ out.old.items) }
     {
-        body.clear();
+        let mut body = Vec::new(alloc);
         if call.trade {
-            trade_ack(body, call.id, answer)?;
-            self.send(out, call.firm, msg_types::TRADE_CAPTURE_REPORT_ACK, body)
+            trade_ack(&mut body, call.id, answer)?;
+            self.send(out, call.firm, msg_types::TRADE_CAPTURE_REPORT_ACK, &body)
         } else {
-            ack(body, call.id, answer)?;
-            self.send(out, call.firm, msg_types::ALLOCATION_INSTRUCTION_ACK, body)
+            ack(&mut body, call.id, answer)?;
+            self.send(out, call.firm, msg_types::ALLOCATION_INSTRUCTION_ACK, &body)
         }
     }
 
@@ -123,7 +113,6 @@ impl Answering {
     fn answer_call(
         &mut self,
         alloc: Global,
-        body: &mut Vec<u8>,
         call: &Call<'_>,
         out: &mut Vec<u8>,
     ) -> Result<(), Memory>
@@ -133,7 +122,7 @@ impl Answering {
         ensures err { OnErr result (out.new.items ≡ out.old.items) }
     {
         match self.book.apply(alloc, &call.firm, call.id, call.command) {
-            Ok(answer) => self.send_answer(body, call, &answer, out),
+            Ok(answer) => self.send_answer(alloc, call, &answer, out),
             Err(e) => Err(e),
         }
     }
@@ -141,7 +130,7 @@ impl Answering {
     /// Sends the Reject of a message. An `Err` appends nothing.
     fn answer_fault(
         &mut self,
-        body: &mut Vec<u8>,
+        alloc: Global,
         fields: Fields<'_>,
         fault: Reject,
         out: &mut Vec<u8>,
@@ -151,28 +140,27 @@ impl Answering {
         ensures after { OnOk result (self.new ≡ record self.old { written = self.old.written + 1 }) }
         ensures err { OnErr result (out.new.items ≡ out.old.items) }
     {
-        body.clear();
-        reject(body, fields, fault)?;
-        self.send(out, reject_target(fields), msg_types::REJECT, body)
+        let mut body = Vec::new(alloc);
+        reject(&mut body, fields, fault)?;
+        self.send(out, reject_target(fields), msg_types::REJECT, &body)
     }
 
-    /// Appends the answer to a message that was understood so. An `Err` appends nothing.
+    /// Appends the answer to a message. An `Err` appends nothing, and the batch ends with it.
     #[tactic(auto, unfolding(crate::specs::Output::answers_to, crate::specs::Output::progress_after))]
-    fn answer_outcome(
+    pub(crate) fn answer(
         &mut self,
         alloc: Global,
-        body: &mut Vec<u8>,
         fields: Fields<'_>,
-        outcome: &Result<Inbound, MeaningError>,
         out: &mut Vec<u8>,
     ) -> Result<(), Memory>
-        requires counted { self.old.written + 1 < 2 ^ 64 }
-        requires gives { Gives outcome.now (meaning_of self.old.house.house (pairs fields)) }
+        requires { self.old.written + 1 < 2 ^ 64 }
         ensures ok { OnOk result (out.new.items ≡ out.old.items ++ stream_text (answers_to self.old (pairs fields.entry))) }
         ensures after { OnOk result (self.new ≡ progress_after self.old (pairs fields.entry)) }
         ensures err { OnErr result (out.new.items ≡ out.old.items) }
     {
-        match outcome {
+        let house = self.book.house().house();
+        let outcome = meaning(alloc, fields, &house);
+        match &outcome {
             Ok(
                 Inbound::Call {
                     firm,
@@ -187,34 +175,11 @@ impl Answering {
                     id,
                     command,
                 };
-                self.answer_call(alloc, body, &call, out)
+                self.answer_call(alloc, &call, out)
             }
             Ok(Inbound::Session) => Ok(()),
-            Err(MeaningError::Reject(fault)) => self.answer_fault(body, fields, *fault, out),
+            Err(MeaningError::Reject(fault)) => self.answer_fault(alloc, fields, *fault, out),
             Err(MeaningError::Memory) => Err(AllocError),
         }
-    }
-
-    /// Appends the answer to a message. An `Err` appends nothing, and the batch ends with it.
-    pub(crate) fn answer(
-        &mut self,
-        alloc: Global,
-        fields: Fields<'_>,
-        out: &mut Vec<u8>,
-    ) -> Result<(), Memory>
-        requires { self.old.written + 1 < 2 ^ 64 }
-        ensures ok { OnOk result (out.new.items ≡ out.old.items ++ stream_text (answers_to self.old (pairs fields.entry))) }
-        ensures after { OnOk result (self.new ≡ progress_after self.old (pairs fields.entry)) }
-        ensures err { OnErr result (out.new.items ≡ out.old.items) }
-    {
-        let house = self.book.house().house();
-        let outcome = meaning_with_room(alloc, fields, &house, &mut self.room);
-        let mut body = mem::replace(&mut self.body, Vec::new(alloc));
-        let done = self.answer_outcome(alloc, &mut body, fields, &outcome, out);
-        self.body = body;
-        if let Ok(inbound) = outcome {
-            give_back(inbound, &mut self.room);
-        }
-        done
     }
 }
