@@ -223,7 +223,7 @@ impl Answering {
                     command,
                 },
             ) => self.answer_call(alloc, firm, *trade, id, command, out),
-            Ok(Inbound::Session) => Ok(()),
+            Ok(_) => Ok(()),
             Err(MeaningError::Reject(fault)) => self.answer_fault(alloc, fields, *fault, out),
             Err(MeaningError::Memory) => Err(AllocError),
         }

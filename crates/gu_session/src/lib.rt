@@ -1,0 +1,23 @@
+//! The session of one connection: a pure machine over messages, ticks and replies.
+//!
+//! `Session::step` takes one event at one moment and answers what to do: bytes to send, a call for the book, whether to close.
+//! `specs/Table.antt` is the table of the session line by line, `specs/Steps.antt` a step with what it sends, and
+//! `specs/Text.antt` its bytes. An error leaves the session unchanged.
+#![tactic(auto)]
+
+mod event;
+mod kept;
+mod laws;
+mod line;
+mod link;
+mod replying;
+mod session;
+mod table;
+#[cfg(test)]
+mod tests;
+mod verdict;
+mod writing;
+
+pub use event::{Actions, Event};
+pub use laws::{calls_rise, new_messages_are_numbered, want_never_falls};
+pub use session::Session;
