@@ -30,11 +30,11 @@ called os = filter_map (λ o. option_map (λ c. c.number) o.call) os
 
 -- the calls handed out have rising numbers
 abbrev pub CallsRise : Type 0
-CallsRise = (t : House) (es : List (Timestamp × Event)) → Rises 1 (called (outcomes (opening t) es))
+CallsRise = (t : House) (never : Timestamp) (es : List (Timestamp × Event)) → Rises 1 (called (outcomes (opening t never) es))
 
 -- the wanted number never falls
 abbrev pub WantNeverFalls : Type 0
-WantNeverFalls = (t : House) (es : List (Timestamp × Event)) → NeverFalls 1 (map (λ o. o.after.link.want) (outcomes (opening t) es))
+WantNeverFalls = (t : House) (never : Timestamp) (es : List (Timestamp × Event)) → NeverFalls 1 (map (λ o. o.after.link.want) (outcomes (opening t never) es))
 
 -- ---- new messages
 
@@ -53,8 +53,8 @@ sent_anew os = flat_map (λ o. map (λ m. m.number) (new_of o.send)) os
 
 -- the new messages sent are numbered 1, 2, .. without a gap
 abbrev pub NewAreNumbered : Type 0
-NewAreNumbered = (t : House) (es : List (Timestamp × Event))
-    → sent_anew (outcomes (opening t) es) ≡ numbers_from 1 (length (sent_anew (outcomes (opening t) es)))
+NewAreNumbered = (t : House) (never : Timestamp) (es : List (Timestamp × Event))
+    → sent_anew (outcomes (opening t never) es) ≡ numbers_from 1 (length (sent_anew (outcomes (opening t never) es)))
 
 -- ---- before the Logon and after the close
 
@@ -76,8 +76,8 @@ EndsOnce (o ∷ os) = (o.close ≡ true → All IsOver os) × EndsOnce os
 
 -- nothing is sent before a Logon is accepted, and nothing is done after the close
 abbrev pub SpeaksWithinTheSession : Type 0
-SpeaksWithinTheSession = (t : House) (es : List (Timestamp × Event))
-    → All IsToSomebody (outcomes (opening t) es) × EndsOnce (outcomes (opening t) es)
+SpeaksWithinTheSession = (t : House) (never : Timestamp) (es : List (Timestamp × Event))
+    → All IsToSomebody (outcomes (opening t never) es) × EndsOnce (outcomes (opening t never) es)
 
 -- ---- calls and replies
 
@@ -108,7 +108,7 @@ IsAwaited id es os = Unit {0}
 
 -- each call that is handed out is awaited, by its id, until its Reply or the close
 abbrev pub CallsAreAwaited : Type 0
-CallsAreAwaited = (t : House) (es : List (Timestamp × Event)) → IsAwaited None es (outcomes (opening t) es)
+CallsAreAwaited = (t : House) (never : Timestamp) (es : List (Timestamp × Event)) → IsAwaited None es (outcomes (opening t never) es)
 
 -- ---- what is sent again
 
@@ -127,7 +127,7 @@ CoversSpan (Some span) ms = Covers span.from ms span.next
 
 -- what is sent again covers each number of its span once, and nothing else
 abbrev pub ResendsCoverTheirSpan : Type 0
-ResendsCoverTheirSpan = (t : House) (es : List (Timestamp × Event)) → All (λ o. CoversSpan o.again (again_of o.send)) (outcomes (opening t) es)
+ResendsCoverTheirSpan = (t : House) (never : Timestamp) (es : List (Timestamp × Event)) → All (λ o. CoversSpan o.again (again_of o.send)) (outcomes (opening t never) es)
 
 -- the message as it is sent for the first time
 abbrev pub as_new : Going → Going
@@ -140,7 +140,7 @@ sent_by o = map (λ m. (o.time, m)) (new_of o.send)
 -- a message that fills a gap, or one that was sent before at the time that it tells as its first
 pub data IsAgain (sent : List (List ℕ × Going)) (m : Going) : Type 0 where
   Fills : m.kind ≡ codes "4" → IsAgain sent m
-  Repeats : (time : List ℕ) → m.first ≡ Some time → Contains (time, as_new m) sent → IsAgain sent m
+  Repeats : (time : List ℕ) → m.first ≡ Some time → Contains sent (time, as_new m) → IsAgain sent m
 
 -- along the steps, where this was sent before
 abbrev pub IsAsSent : List (List ℕ × Going) → List Outcome → Type 0
@@ -149,4 +149,4 @@ IsAsSent sent (o ∷ os) = All (IsAgain sent) (again_of o.send) × IsAsSent (sen
 
 -- what is sent again for a number is what was sent with it: the same type, number and body, and its first time is told
 abbrev pub ResendsAreAsSent : Type 0
-ResendsAreAsSent = (t : House) (es : List (Timestamp × Event)) → IsAsSent [] (outcomes (opening t) es)
+ResendsAreAsSent = (t : House) (never : Timestamp) (es : List (Timestamp × Event)) → IsAsSent [] (outcomes (opening t never) es)

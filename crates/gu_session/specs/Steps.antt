@@ -1,5 +1,5 @@
 -- A step of a session: what it leaves, and what goes out.
-use Rattle.std.specs.Prelude.{ℕ, ◌+◌, ◌-◌, nat_lt, nat_le, ◌&&◌, Bool, true, false, if◌then◌else◌, codes, List, [], ◌∷◌, ◌++◌, length, drop, map, filter, Option, Some, None, Result, Ok, Err, pos, unsigned_abs}
+use Rattle.std.specs.Prelude.{ℕ, ◌+◌, ◌-◌, nat_lt, nat_le, ◌&&◌, Bool, true, false, if◌then◌else◌, codes, List, [], ◌∷◌, ◌++◌, length, drop, map, filter, Option, Some, None, Result, Ok, Err, unsigned_abs}
 use Rattle.jiff.specs.Types.{Timestamp}
 use Rattle.gu_base.specs.House.{House}
 use Rattle.gu_base.specs.declared.command.Command.{Command}
@@ -196,13 +196,9 @@ on_event now s End = shut_down now s
 abbrev pub step_of : Timestamp → Seen → Event → Outcome
 step_of now s e = if s.link.closed then idle now s else where_it_fits now s (on_event now s e)
 
--- no moment is known yet
-abbrev pub never : Timestamp
-never = record { nanosecond = pos 0 }
-
--- a session before its Logon
-abbrev pub opening : House → Seen
-opening house = record {
+-- a session before its Logon: no moment is known yet, and the two that stand here are never read
+abbrev pub opening : House → Timestamp → Seen
+opening house never = record {
   house = house;
   link = record { firm = None; closed = false; waiting = None; want = 1; out = 1; asked = None; heartbeat = 0; came = never; went = never; tested = false };
   kept = [];

@@ -13,11 +13,12 @@ mod link;
 mod replying;
 mod session;
 mod table;
-#[cfg(test)]
-mod tests;
 mod verdict;
 mod writing;
 
 pub use event::{Actions, Event};
-pub use laws::{calls_rise, new_messages_are_numbered, want_never_falls};
-pub use session::Session;
+pub use laws::{
+    calls_are_awaited, calls_rise, new_messages_are_numbered, resends_are_as_sent,
+    resends_cover_their_span, speaks_within_the_session, want_never_falls,
+};
+pub use session::{Session, is_moment};

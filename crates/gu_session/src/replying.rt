@@ -16,7 +16,7 @@ pub const LAST_NUMBER: u32 = 999_999_999;
 
 /// What a Reply sends: its messages, and their frames.
 #[derive(Drop)]
-pub struct Replied {
+pub struct Sending {
     pub fresh: Vec<Kept>,
     pub send: Vec<u8>,
 }
@@ -140,7 +140,7 @@ pub fn replied(
     link: &Link,
     answer: &Option<Answer>,
     reports: &[Report],
-) -> Result<Replied, Memory>
+) -> Result<Sending, Memory>
     requires { link.now.out + (length (answer_of link.now.waiting answer.now) + length reports.now) ≤ 1000000000 }
     ensures kept { IfOk result (λ r. r.fresh.items ≡ kept_from writer.now.time link.now.out (tellings link.now.waiting answer.now reports.now)) }
     ensures send { IfOk result (λ r. r.send.items ≡ wire writer.now.house (Some writer.now.firm) writer.now.time (map new_of r.fresh.items)) }
@@ -148,5 +148,5 @@ pub fn replied(
     let fresh = told(alloc, link.waiting, answer, reports, link.out, writer.time)?;
     let mut send = Vec::new(alloc);
     write_new(&mut send, writer, &fresh)?;
-    Ok(Replied { fresh, send })
+    Ok(Sending { fresh, send })
 }

@@ -1,6 +1,6 @@
 //! A session.
 
-ghost use Rattle.std.specs.Prelude.{◌≡◌, ◌≤◌, ◌≤ℤ◌, ◌+◌, ◌++◌, pos, true, false, OnOk, OnErr, IfOk, Some, is_some, option_map, vec_len};
+ghost use Rattle.std.specs.Prelude.{◌≡◌, ◌↔◌, ◌≤◌, ◌≤ℤ◌, ◌+◌, ◌++◌, pos, true, false, IsTrue, OnOk, OnErr, IfOk, Option, Some, is_some, option_map, vec_len};
 ghost use Rattle.gu_codec.specs.Answer.{pairs};
 ghost use Rattle.gu_message.specs.Meaning.{meaning_of};
 ghost use Rattle.gu_session.specs.Steps as StepEvent;
@@ -11,7 +11,7 @@ ghost use Rattle.gu_session.specs.Text.{Steps, Gives, IsEmpty, wire, fields_of};
 use crate::event::{Actions, Event};
 use crate::kept::{Kept, keep};
 use crate::link::Link;
-use crate::replying::{LAST_NUMBER, Replied, answers, has_numbers, replied};
+use crate::replying::{LAST_NUMBER, Sending, answers, has_numbers, replied};
 use crate::table::{on_message, on_tick, shut};
 use crate::verdict::Verdict;
 use crate::writing::{Writer, write_resend, write_saying};
@@ -44,6 +44,13 @@ impl<'a> Model for Session<'a> {
     ghost view = { λ s. record { house = s.house.now; link = s.link; kept = s.kept.items } };
 
     ghost invariant = { λ s. IsTrue (fits s.link) };
+}
+
+/// Whether a moment is one that `step` takes: from 1970 on. A `Timestamp` ends with the year 9999.
+pub fn is_moment(moment: Timestamp) -> bool
+    ensures { IsTrue result ↔ (pos 0 ≤ℤ moment.nanosecond) }
+{
+    moment.as_nanosecond() >= 0
 }
 
 /// What a message means, or the Reject that answers it.
@@ -93,7 +100,7 @@ fn fits(link: &Link) -> bool
 impl<'a> Session<'a> {
     /// The session of a new connection to this house, before its Logon. Takes no memory.
     pub fn new(alloc: Global, house: &'a House) -> Session<'a>
-        ensures { result ≡ opening house.now }
+        ensures { result ≡ opening house.now result.link.came }
     {
         let never = Timestamp::UNIX_EPOCH;
         Session {
@@ -272,7 +279,7 @@ impl<'a> Session<'a> {
             firm,
             time: SendingTime::new(moment),
         };
-        let Replied { fresh, send } = replied(self.alloc, &writer, &link, answer, reports)?;
+        let Sending { fresh, send } = replied(self.alloc, &writer, &link, answer, reports)?;
         self.keep_fresh(fresh, moment)?;
         Ok(Actions {
             send,

@@ -56,8 +56,8 @@ fn write(
 }
 
 /// MsgType (35) of what the session says.
-fn type_of_say(say: Say) -> &'static [u8]
-    ensures value { result.now ≡ type_of_say_lem say }
+fn type_of_say(say: &Say) -> &'static [u8]
+    ensures value { result.now ≡ type_of_say_lem say.now }
     ensures text { IsText result.now }
 {
     match say {
@@ -102,7 +102,7 @@ fn write_say(
     ensures { OnOk result (out.new.items ≡ out.old.items ++ text_of writer.now.house writer.now.firm writer.now.time (said (fields_of came.entry) number say)) }
 {
     let body = body_of_say(alloc, came, say)?;
-    write(out, writer, type_of_say(say), number, None, body.as_slice())
+    write(out, writer, type_of_say(&say), number, None, body.as_slice())
 }
 
 /// Appends an application message.
