@@ -1,6 +1,6 @@
 -- Along every list of steps, what is sent again covers its span, and is what was sent.
 use Rattle.std.proofs.Common.{◌≡◌, ℕ, ◌+◌, ◌≤◌, Bool, true, false, List, [], ◌∷◌, ◌++◌, map, refl, sym, ap, subst, ◌∙◌, arith}
-use Rattle.std.specs.Prelude.{Option, Some, None, IfSome, Result, Err}
+use Rattle.std.specs.Prelude.{Option, Some, None, IfSome, Result, Ok}
 use Rattle.std.specs.List.{All}
 use Rattle.std.proofs.lemmas.List.Elements.{All-nil, All-cons}
 use Rattle.jiff.specs.Types.{Timestamp}
@@ -10,6 +10,7 @@ use Rattle.gu_base.specs.declared.report.Report.{Report}
 use Rattle.gu_codec.specs.Messages.{Message}
 use Rattle.gu_message.specs.declared.fault.Reject.{Reject}
 use Rattle.gu_message.specs.declared.inbound.Inbound.{Inbound}
+use Rattle.gu_message.specs.declared.inbound.Inbound.TheVariants.{Heartbeat}
 use Rattle.gu_message.specs.Heading.{heading_of}
 use Rattle.gu_message.specs.Meaning.{meaning_of}
 use Rattle.gu_session.specs.declared.kept.Kept.{Kept}
@@ -77,7 +78,7 @@ keeping_event sent now s (Came fs) early r w =
     keeping_acts sent now s (Some fs) _ (meaning_of s.house.house fs) (message_verdict now s fs) r w
     (goes_on_message now s.house s.link (heading_of s.house.house fs) (meaning_of s.house.house fs) _ early)
 keeping_event sent now s Tick early r w =
-    let none : Result Inbound Reject = Err (record { reason = 0; tag = 0 }) in
+    let none : Result Inbound Reject = Ok Heartbeat in
     keeping_acts sent now s None None none (on_tick now s.link s.link.firm) r w (goes_on_tick now s.link s.link.firm none refl early)
 keeping_event sent now s (Reply answer reports) early r w = keeping_replies sent now s s.link.firm answer reports r w
 keeping_event sent now s End early r w = keeping_still sent s (shut_down now s) r w refl refl refl refl

@@ -30,6 +30,18 @@ count (Some s) = 1
 abbrev pub waiting_id : Link → Option (List ℕ)
 waiting_id l = option_map (λ w. w.id) l.waiting
 
+-- none is handed out
+no_call : (meaning : Result Inbound Reject) → call_of meaning None ≡ None
+no_call (Err fault) = refl
+no_call (Ok inbound.Heartbeat) = refl
+no_call (Ok inbound.Reject) = refl
+no_call (Ok (inbound.TestRequest id)) = refl
+no_call (Ok inbound.Logout) = refl
+no_call (Ok (inbound.Logon heartbeat reset)) = refl
+no_call (Ok (inbound.SequenceReset gap_fill next)) = refl
+no_call (Ok (inbound.ResendRequest from to)) = refl
+no_call (Ok (inbound.Call firm trade id command)) = refl
+
 -- against what the session knew before: the firm stays, the numbers go up by what is said, the wanted number doesn't fall; a call is
 -- the wanted one's, which is behind then; the call that waits stays, but for a new one and for the close; what is sent again is a span
 pub record Keeps (l : Link) (meaning : Result Inbound Reject) (v : Verdict) : Type 0 where
@@ -37,7 +49,7 @@ pub record Keeps (l : Link) (meaning : Result Inbound Reject) (v : Verdict) : Ty
   pub out : v.link.out ≡ l.out + count v.say
   pub want : l.want ≤ v.link.want
   pub call : IfSome v.call (λ n. (l.want ≤ n) × (n < v.link.want))
-  pub waits : l.closed ≡ false → waiting_id v.link ≡ unless_closed v.link.closed (or_called (call_of v.call meaning) (waiting_id l))
+  pub waits : l.closed ≡ false → waiting_id v.link ≡ unless_closed v.link.closed (or_called (call_of meaning v.call) (waiting_id l))
   pub span : IfSome v.resend (λ s. s.from ≤ s.next)
 
 pub either_way : {A : Type 0} (P : A → Type 0) (b : Bool) (x y : A) → (b ≡ true → P x) → (b ≡ false → P y) → P (cond b x y)
@@ -46,11 +58,11 @@ either_way P false x y f g = g refl
 
 -- nothing is said
 keeps_silent : (l : Link) (want : ℕ) (meaning : Result Inbound Reject) → l.want ≤ want → Keeps l meaning (silent (record l { want = want }))
-keeps_silent l want meaning w = record { firm = refl; out = omega arith; want = w; call = tt; waits = λ h. rw h refl; span = tt }
+keeps_silent l want meaning w = record { firm = refl; out = omega arith; want = w; call = tt; waits = λ h. rw (no_call meaning, h) refl; span = tt }
 
 -- something is said, and the session goes on
 keeps_says : (now : Timestamp) (l : Link) (want : ℕ) (s : Say) (meaning : Result Inbound Reject) → l.want ≤ want → Keeps l meaning (says now (record l { want = want }) s)
-keeps_says now l want s meaning w = record { firm = refl; out = refl; want = w; call = tt; waits = λ h. rw h refl; span = tt }
+keeps_says now l want s meaning w = record { firm = refl; out = refl; want = w; call = tt; waits = λ h. rw (no_call meaning, h) refl; span = tt }
 
 -- a Logout
 keeps_closes : (now : Timestamp) (l : Link) (want : ℕ) (t : Option LogoutText) (meaning : Result Inbound Reject) → l.want ≤ want → Keeps l meaning (closes now (record l { want = want }) t)
@@ -96,8 +108,8 @@ keeps_by_type now l number (Ok (inbound.Call firm trade id command)) n =
     record { firm = refl; out = omega arith; want = omega arith; call = (omega arith, omega arith); waits = λ h. rw h refl; span = tt }
 
 keeps_asks : (now : Timestamp) (l : Link) (number : ℕ) (asked : Option ℕ) (meaning : Result Inbound Reject) → Keeps l meaning (asks now l number asked)
-keeps_asks now l number None meaning = record { firm = refl; out = refl; want = omega arith; call = tt; waits = λ h. rw h refl; span = tt }
-keeps_asks now l number (Some highest) meaning = record { firm = refl; out = omega arith; want = omega arith; call = tt; waits = λ h. rw h refl; span = tt }
+keeps_asks now l number None meaning = record { firm = refl; out = refl; want = omega arith; call = tt; waits = λ h. rw (no_call meaning, h) refl; span = tt }
+keeps_asks now l number (Some highest) meaning = record { firm = refl; out = omega arith; want = omega arith; call = tt; waits = λ h. rw (no_call meaning, h) refl; span = tt }
 
 keeps_resets : (now : Timestamp) (l : Link) (next : ℕ) (meaning : Result Inbound Reject) → Keeps l meaning (resets now l next)
 keeps_resets now l next meaning =
@@ -134,13 +146,13 @@ pub record Goes (l : Link) (meaning : Result Inbound Reject) (v : Verdict) : Typ
   pub out : v.link.out ≡ l.out + count v.say
   pub want : l.want ≤ v.link.want
   pub call : IfSome v.call (λ n. (l.want ≤ n) × (n < v.link.want))
-  pub waits : l.closed ≡ false → waiting_id v.link ≡ unless_closed v.link.closed (or_called (call_of v.call meaning) (waiting_id l))
+  pub waits : l.closed ≡ false → waiting_id v.link ≡ unless_closed v.link.closed (or_called (call_of meaning v.call) (waiting_id l))
   pub span : IfSome v.resend (λ s. s.from ≤ s.next)
   pub mute : v.link.firm ≡ None → (v.resend ≡ None) × (v.say ≡ None)
 
 -- from what holds after the Logon
 goes_on : (l : Link) (meaning : Result Inbound Reject) (v : Verdict) (firm : List ℕ) → v.link.firm ≡ Some firm → v.link.out ≡ l.out + count v.say → l.want ≤ v.link.want → IfSome v.call (λ n. (l.want ≤ n) × (n < v.link.want))
-    → (l.closed ≡ false → waiting_id v.link ≡ unless_closed v.link.closed (or_called (call_of v.call meaning) (waiting_id l))) → IfSome v.resend (λ s. s.from ≤ s.next) → Goes l meaning v
+    → (l.closed ≡ false → waiting_id v.link ≡ unless_closed v.link.closed (or_called (call_of meaning v.call) (waiting_id l))) → IfSome v.resend (λ s. s.from ≤ s.next) → Goes l meaning v
 goes_on l meaning v firm is out want call waits span =
     record { early = rw is tt; out = out; want = want; call = call; waits = waits; span = span; mute = λ e. absurd (some_is_not_none firm (sym is ∙ e)) }
 
@@ -154,12 +166,12 @@ goes_shut l meaning e =
 
 goes_silent : (l : Link) (meaning : Result Inbound Reject) → IsEarly l.firm l.want l.waiting → Goes l meaning (silent l)
 goes_silent l meaning e =
-    record { early = e; out = omega arith; want = omega arith; call = tt; waits = λ h. rw h refl; span = tt; mute = λ _. (refl, refl) }
+    record { early = e; out = omega arith; want = omega arith; call = tt; waits = λ h. rw (no_call meaning, h) refl; span = tt; mute = λ _. (refl, refl) }
 
 goes_first : (now : Timestamp) (t : House) (l : Link) (h : Heading) (heartbeat : ℕ) (reset : Bool) (meaning : Result Inbound Reject) → IsEarly l.firm l.want l.waiting → l.want ≤ 2
     → Goes l meaning (first_logon now t l h heartbeat reset)
 goes_first now t l h heartbeat reset meaning e two =
-    either_way (Goes l meaning) ((h.number == 1) && knows_firm t h.firm) _ _ (λ _. goes_on l meaning _ h.firm refl refl two tt (λ h. rw h refl) tt) (λ _. goes_shut l meaning e)
+    either_way (Goes l meaning) ((h.number == 1) && knows_firm t h.firm) _ _ (λ _. goes_on l meaning _ h.firm refl refl two tt (λ h. rw (no_call meaning, h) refl) tt) (λ _. goes_shut l meaning e)
 
 goes_before : (now : Timestamp) (t : House) (l : Link) (heading : Result Heading Reject) (meaning : Result Inbound Reject) → IsEarly l.firm l.want l.waiting → l.want ≤ 2 → Goes l meaning (before_logon now t l heading meaning)
 goes_before now t l (Err fault) meaning e two = goes_shut l meaning e
@@ -189,11 +201,11 @@ goes_on_message now t l heading meaning is_logout e = goes_settled l meaning _ (
 
 goes_by_silence : (now : Timestamp) (l : Link) (meaning : Result Inbound Reject) (firm : List ℕ) → l.firm ≡ Some firm → Goes l meaning (by_silence now l)
 goes_by_silence now l meaning firm is =
-    let quiet = goes_on l meaning (silent l) firm is (omega arith) (omega arith) tt (λ h. rw h refl) tt in
+    let quiet = goes_on l meaning (silent l) firm is (omega arith) (omega arith) tt (λ h. rw (no_call meaning, h) refl) tt in
     either_way (Goes l meaning) (l.heartbeat == 0) _ _ (λ _. quiet)
     (λ _. either_way (Goes l meaning) (nat_le (3 * l.heartbeat) (waited l.came now)) _ _ (λ _. goes_on l meaning _ firm is refl (omega arith) tt (λ h. refl) tt)
-    (λ _. either_way (Goes l meaning) (nat_le (2 * l.heartbeat) (waited l.came now) && not l.tested) _ _ (λ _. goes_on l meaning _ firm is refl (omega arith) tt (λ h. rw h refl) tt)
-    (λ _. either_way (Goes l meaning) (nat_le l.heartbeat (waited l.went now)) _ _ (λ _. goes_on l meaning _ firm is refl (omega arith) tt (λ h. rw h refl) tt) (λ _. quiet))))
+    (λ _. either_way (Goes l meaning) (nat_le (2 * l.heartbeat) (waited l.came now) && not l.tested) _ _ (λ _. goes_on l meaning _ firm is refl (omega arith) tt (λ h. rw (no_call meaning, h) refl) tt)
+    (λ _. either_way (Goes l meaning) (nat_le l.heartbeat (waited l.went now)) _ _ (λ _. goes_on l meaning _ firm is refl (omega arith) tt (λ h. rw (no_call meaning, h) refl) tt) (λ _. quiet))))
 
 pub goes_on_tick : (now : Timestamp) (l : Link) (firm : Option (List ℕ)) (meaning : Result Inbound Reject) → l.firm ≡ firm → IsEarly l.firm l.want l.waiting → Goes l meaning (on_tick now l firm)
 goes_on_tick now l None meaning is e = goes_silent l meaning e

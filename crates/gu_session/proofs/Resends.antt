@@ -79,7 +79,7 @@ covers_gaps : (time : List ℕ) (from next : ℕ) (ms : List Kept) → from ≤ 
 covers_gaps time from next [] le h = subst (λ (t : List Going). Covers from t next) (append-nil (gap_fill time from next)) (covers_gap time from next next [] le refl)
 covers_gaps time from next (m ∷ ms) le h =
     covers_gap time from m.number next (resent m ∷ with_gaps time (m.number + 1) next ms) h.0
-    (refl, omega arith, covers_gaps time (m.number + 1) next ms (omega (arith, h.1.0)) h.1.1)
+    (refl, omega arith, covers_gaps time (m.number + 1) next ms (omega (arith, h.1)) h.2)
 
 pub covers_span : (time : List ℕ) (kept : List Kept) (span : Option Span) (low high : ℕ) → RisesTo low kept high → IfSome span (λ s. s.from ≤ s.next) → CoversSpan span (resends time kept span)
 covers_span time kept None low high h le = refl

@@ -59,17 +59,17 @@ moves_shut now s e early =
     still None want waiting e = (e.0, refl)
     still (Some firm) want waiting e = tt
 
-call_kept : (number : Option ℕ) (meaning : Result Inbound Reject) (low high : ℕ) → IfSome number (λ n. (low ≤ n) × (n < high)) → IfSome (call_of number meaning) (λ c. (low ≤ c.number) × (c.number < high))
-call_kept None meaning low high h = tt
-call_kept (Some n) (Err fault) low high h = tt
-call_kept (Some n) (Ok inbound.Heartbeat) low high h = tt
-call_kept (Some n) (Ok inbound.Reject) low high h = tt
-call_kept (Some n) (Ok (inbound.TestRequest id)) low high h = tt
-call_kept (Some n) (Ok inbound.Logout) low high h = tt
-call_kept (Some n) (Ok (inbound.Logon heartbeat reset)) low high h = tt
-call_kept (Some n) (Ok (inbound.SequenceReset gap_fill next)) low high h = tt
-call_kept (Some n) (Ok (inbound.ResendRequest from to)) low high h = tt
-call_kept (Some n) (Ok (inbound.Call firm trade id command)) low high h = h
+call_kept : (meaning : Result Inbound Reject) (number : Option ℕ) (low high : ℕ) → IfSome number (λ n. (low ≤ n) × (n < high)) → IfSome (call_of meaning number) (λ c. (low ≤ c.number) × (c.number < high))
+call_kept (Err fault) number low high h = tt
+call_kept (Ok inbound.Heartbeat) number low high h = tt
+call_kept (Ok inbound.Reject) number low high h = tt
+call_kept (Ok (inbound.TestRequest id)) number low high h = tt
+call_kept (Ok inbound.Logout) number low high h = tt
+call_kept (Ok (inbound.Logon heartbeat reset)) number low high h = tt
+call_kept (Ok (inbound.SequenceReset gap_fill next)) number low high h = tt
+call_kept (Ok (inbound.ResendRequest from to)) number low high h = tt
+call_kept (Ok (inbound.Call firm trade id command)) None low high h = tt
+call_kept (Ok (inbound.Call firm trade id command)) (Some n) low high h = h
 
 -- nothing again and nothing said is nothing
 muted : (now : Timestamp) (s : Seen) (came : Option Message) (v : Verdict) → (v.resend ≡ None) × (v.say ≡ None) → resends (time_of now) s.kept v.resend ++ sayings came s.link.out v.say ≡ []
@@ -77,25 +77,20 @@ muted now s came v h = rw (h.0, h.1) refl
 
 moves_acts : (now : Timestamp) (s : Seen) (e : Event) (came : Option Message) (meaning : Result Inbound Reject) (v : Verdict)
     → ((o : Outcome) → (id : Option (List ℕ)) → awaited_behind e o id ≡ unless_closed o.after.link.closed (or_called o.call id))
-    → Goes s.link meaning v → Moves s e (acts now s came (call_of v.call meaning) v)
+    → Goes s.link meaning v → Moves s e (acts now s came (call_of meaning v.call) v)
 moves_acts now s e came meaning v no_reply g =
-    let o = acts now s came (call_of v.call meaning) v in
+    let o = acts now s came (call_of meaning v.call) v in
     record {
       early = g.early;
       many = count v.say;
       new = ap numbers (acts_new (time_of now) s.kept v.resend came s.link.out v.say) ∙ said_numbers came s.link.out v;
       out = g.out;
       want = g.want;
-      call = call_kept v.call meaning s.link.want v.link.want g.call;
+      call = call_kept meaning v.call s.link.want v.link.want g.call;
       waits = λ h. g.waits h ∙ sym (no_reply o (waits_for s));
       mute = λ h. muted now s came v (g.mute h);
       closes = λ h. h;
     }
-
--- with no message there is no call
-no_call : (call : Option ℕ) → call_of call (Err (record { reason = 0; tag = 0 })) ≡ None
-no_call None = refl
-no_call (Some n) = refl
 
 moves_idle : (now : Timestamp) (s : Seen) (e : Event) → IsEarly s.link.firm s.link.want s.link.waiting
     → (s.link.closed ≡ false → waits_for s ≡ awaited_behind e (idle now s) (waits_for s)) → Moves s e (idle now s)
@@ -132,10 +127,8 @@ moves_on_event now s (Came fs) early =
     moves_acts now s (Came fs) (Some fs) (meaning_of s.house.house fs) (message_verdict now s fs) (λ o id. refl)
     (goes_on_message now s.house s.link (heading_of s.house.house fs) (meaning_of s.house.house fs) _ early)
 moves_on_event now s Tick early =
-    let none : Result Inbound Reject = Err (record { reason = 0; tag = 0 }) in
-    let v = on_tick now s.link s.link.firm in
-    subst (λ (c : Option Called). Moves s Tick (acts now s None c v)) (no_call v.call)
-    (moves_acts now s Tick None none v (λ o id. refl) (goes_on_tick now s.link s.link.firm none refl early))
+    let none : Result Inbound Reject = Ok inbound.Heartbeat in
+    moves_acts now s Tick None none (on_tick now s.link s.link.firm) (λ o id. refl) (goes_on_tick now s.link s.link.firm none refl early)
 moves_on_event now s (Reply answer reports) early = moves_replies now s answer reports s.link.firm refl early
 moves_on_event now s End early = moves_shut now s End early
 

@@ -147,8 +147,8 @@ abbrev pub where_it_fits : Timestamp → Seen → Outcome → Outcome
 where_it_fits now s o = if fits o.after.link then o else shut_down now s
 
 -- the call that a message makes, where it is handed out
-abbrev pub call_of : Option ℕ → Result Inbound Reject → Option Called
-call_of (Some number) (Ok (Call firm trade id command)) = Some (record { number = number; id = id; command = command })
+abbrev pub call_of : Result Inbound Reject → Option ℕ → Option Called
+call_of (Ok (Call firm trade id command)) (Some number) = Some (record { number = number; id = id; command = command })
 call_of _ _ = None
 
 -- what a verdict on a message, or on none, does
@@ -167,7 +167,7 @@ message_verdict now s fs =
     on_message now s.house s.link (heading_of s.house.house fs) (meaning_of s.house.house fs) (is_text (codes "5") (value_of 35 fs))
 
 abbrev pub takes : Timestamp → Seen → Message → Verdict → Outcome
-takes now s fs v = acts now s (Some fs) (call_of v.call (meaning_of s.house.house fs)) v
+takes now s fs v = acts now s (Some fs) (call_of (meaning_of s.house.house fs) v.call) v
 
 -- new application messages go out, and the last are kept
 abbrev pub tells : Timestamp → Seen → List Kept → Outcome

@@ -1,10 +1,11 @@
 //! A session.
 
-ghost use Rattle.std.specs.Prelude.{◌≡◌, ◌↔◌, ◌≤◌, ◌≤ℤ◌, ◌+◌, ◌++◌, pos, true, false, IsTrue, OnOk, OnErr, IfOk, Option, Some, is_some, option_map, vec_len};
+ghost use Rattle.std.specs.Prelude.{◌≡◌, ◌↔◌, ◌≤◌, ◌≤ℤ◌, ◌+◌, ◌++◌, pos, true, false, IsTrue, OnOk, OnErr, IfOk, Ok, Some, is_some, option_map, vec_len};
 ghost use Rattle.gu_codec.specs.Answer.{pairs};
 ghost use Rattle.gu_message.specs.Meaning.{meaning_of};
+ghost use Rattle.gu_message.specs.declared.inbound.Inbound.TheVariants.{Heartbeat};
 ghost use Rattle.gu_session.specs.Steps as StepEvent;
-ghost use Rattle.gu_session.specs.Steps.{Called, fits as fits_of, call_of as call_of_table, opening, tells, replies, where_it_fits, on_event, acts, resends, sayings, time_of};
+ghost use Rattle.gu_session.specs.Steps.{fits as fits_of, call_of as call_of_table, opening, tells, replies, where_it_fits, on_event, acts, resends, sayings, time_of};
 ghost use Rattle.gu_session.specs.Table.{shut as shut_of};
 ghost use Rattle.gu_session.specs.Text.{Steps, Gives, IsEmpty, wire, fields_of};
 
@@ -70,7 +71,7 @@ fn understood(
 
 /// The id of the call that a message makes.
 fn id_of(meaning: &Result<Inbound, Reject>) -> Option<AllocId>
-    ensures { result ≡ option_map (λ c. c.id) (call_of_table (Some 0) meaning.now) }
+    ensures { result ≡ option_map (λ c. c.id) (call_of_table meaning.now (Some 0)) }
 {
     match meaning {
         Ok(Inbound::Call { id, .. }) => Some(*id),
@@ -80,7 +81,7 @@ fn id_of(meaning: &Result<Inbound, Reject>) -> Option<AllocId>
 
 /// The call that a message makes, where it is handed out.
 fn call_of(number: Option<u32>, meaning: Result<Inbound, Reject>) -> Option<(AllocId, Command)>
-    ensures { result ≡ option_map (λ c. (c.id, c.command)) (call_of_table number meaning) }
+    ensures { result ≡ option_map (λ c. (c.id, c.command)) (call_of_table meaning number) }
 {
     number?;
     let id = id_of(&meaning)?;
@@ -95,6 +96,40 @@ fn fits(link: &Link) -> bool
     ensures { result ≡ fits_of link.now }
 {
     link.out <= LAST_NUMBER + 1 && link.want <= LAST_NUMBER
+}
+
+/// What stands for the meaning of no message: a Heartbeat asks for nothing.
+fn no_message() -> Result<Inbound, Reject>
+    ensures { result ≡ Ok Heartbeat }
+{
+    Ok(Inbound::Heartbeat)
+}
+
+/// The frames of a verdict.
+fn frames(
+    alloc: Global,
+    house: FirmId,
+    kept: &VecDeque<Kept>,
+    came: Option<Fields<'_>>,
+    number: u32,
+    verdict: &Verdict,
+    moment: Timestamp,
+) -> Result<Vec<u8>, Memory>
+    requires { pos 0 ≤ℤ moment.nanosecond }
+    ensures { IfOk result (λ send. send.items ≡ wire house verdict.now.link.firm (time_of moment)
+        (resends (time_of moment) kept.now.items verdict.now.resend ++ sayings (fields_of came.entry) number verdict.now.say)) }
+{
+    let mut send = Vec::new(alloc);
+    if let Some(firm) = verdict.link.firm {
+        let writer = Writer {
+            house,
+            firm,
+            time: SendingTime::new(moment),
+        };
+        write_resend(alloc, &mut send, &writer, kept, verdict.resend)?;
+        write_saying(alloc, &mut send, &writer, came, number, verdict.say)?;
+    }
+    Ok(send)
 }
 
 impl<'a> Session<'a> {
@@ -180,7 +215,7 @@ impl<'a> Session<'a> {
             &meaning,
             is_logout(fields),
         );
-        self.act(Some(fields), call_of(verdict.call, meaning), verdict, moment)
+        self.act(Some(fields), meaning, verdict, moment)
     }
 
     /// Time has passed.
@@ -189,55 +224,39 @@ impl<'a> Session<'a> {
         ensures ok { IfOk result (λ a. Gives (where_it_fits moment self.old (on_event moment self.old StepEvent.Tick)) self.new a) }
         ensures err { OnErr result (self.new ≡ self.old) }
     {
-        self.act(None, None, on_tick(moment, self.link), moment)
+        self.act(None, no_message(), on_tick(moment, self.link), moment)
     }
 
     /// Does what a verdict on a message, or on none, says: all frames are made before anything changes.
     fn act(
         &mut self,
         came: Option<Fields<'_>>,
-        call: Option<(AllocId, Command)>,
+        meaning: Result<Inbound, Reject>,
         verdict: Verdict,
         moment: Timestamp,
     ) -> Result<Actions, Memory>
         requires { pos 0 ≤ℤ moment.nanosecond }
-        ensures ok { (called : Option Called) → call ≡ option_map (λ c. (c.id, c.command)) called → IfOk result (λ a. Gives (where_it_fits moment self.old (acts moment self.old (fields_of came.entry) called verdict)) self.new a) }
+        ensures ok { IfOk result (λ a. Gives (where_it_fits moment self.old (acts moment self.old (fields_of came.entry) (call_of_table meaning verdict.call) verdict)) self.new a) }
         ensures err { OnErr result (self.new ≡ self.old) }
     {
         if !fits(&verdict.link) {
             return Ok(self.shut_down());
         }
-        let send = self.frames(came, &verdict, moment)?;
+        let send = frames(
+            self.alloc,
+            self.house.house(),
+            &self.kept,
+            came,
+            self.link.out,
+            &verdict,
+            moment,
+        )?;
         self.link = verdict.link;
         Ok(Actions {
             send,
-            call,
+            call: call_of(verdict.call, meaning),
             close: verdict.link.closed,
         })
-    }
-
-    /// The frames of a verdict.
-    fn frames(
-        &self,
-        came: Option<Fields<'_>>,
-        verdict: &Verdict,
-        moment: Timestamp,
-    ) -> Result<Vec<u8>, Memory>
-        requires { pos 0 ≤ℤ moment.nanosecond }
-        ensures { IfOk result (λ send. send.items ≡ wire self.now.house.house verdict.now.link.firm (time_of moment)
-            (resends (time_of moment) self.now.kept verdict.now.resend ++ sayings (fields_of came.entry) self.now.link.out verdict.now.say)) }
-    {
-        let mut send = Vec::new(self.alloc);
-        if let Some(firm) = verdict.link.firm {
-            let writer = Writer {
-                house: self.house.house(),
-                firm,
-                time: SendingTime::new(moment),
-            };
-            write_resend(self.alloc, &mut send, &writer, &self.kept, verdict.resend)?;
-            write_saying(self.alloc, &mut send, &writer, came, self.link.out, verdict.say)?;
-        }
-        Ok(send)
     }
 
     /// Takes a Reply.
