@@ -11,6 +11,8 @@
 //!   that none of its live changes would be refused after those before it, and that the trees show the live changes.
 //! - `laws` has what follows for every book: lots and fees are conserved, and the changes alone give the book again.
 //! - `plain` has the scans that find each answer, `trees` what a change does to the trees; no public contract speaks of them.
+//!
+//! Its cases, whole days of a small house, are data of the program `test_book`.
 #![tactic(auto)]
 
 pub mod book;

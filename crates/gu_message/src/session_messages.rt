@@ -1,17 +1,16 @@
 //! The messages of the session: Logon, Heartbeat, TestRequest, ResendRequest, Reject, SequenceReset and Logout.
 
 ghost use Rattle.std.specs.Prelude.{◌≡◌, IfOk, IsTrue};
-ghost use Rattle.gu_codec.specs.Answer.{pairs};
 ghost use Rattle.gu_message.specs.Outcome.{asks_for_change};
 ghost use Rattle.gu_message.specs.SessionMessages.{flag_of, flag_in as flag_in_of, count_in as count_in_of, logon_of, test_request_of, resend_request_of, sequence_reset_of, session_message_of};
 
 use crate::fault::Reject;
-use crate::finding::{first, needed};
 use crate::inbound::Inbound;
+use crate::index::Index;
 use crate::msg_types;
 use crate::test_req_id::TestReqId;
 use crate::values::count;
-use gu_codec::{Fields, tags};
+use gu_codec::tags;
 
 /// EncryptMethod (98) of a session without encryption.
 const NO_ENCRYPTION: &[u8] = b"0";
@@ -39,10 +38,10 @@ fn flag(text: &[u8]) -> Option<bool>
 }
 
 /// A flag that may be missing, and then counts as `N`.
-fn flag_in(fields: Fields<'_>, tag: u32) -> Result<bool, Reject>
-    ensures { result ≡ flag_in_of tag (pairs fields.entry) }
+fn flag_in(message: &Index<'_, '_>, tag: u32) -> Result<bool, Reject>
+    ensures { result ≡ flag_in_of tag message.now }
 {
-    match first(fields, tag) {
+    match message.first(tag) {
         None => Ok(false),
         Some(text) => flag(text).ok_or(Reject::bad_kind(tag)),
     }
@@ -50,84 +49,84 @@ fn flag_in(fields: Fields<'_>, tag: u32) -> Result<bool, Reject>
 
 /// A field that is a count.
 #[tactic(auto, unfolding(crate::specs::SessionMessages::count_in))]
-fn count_in(fields: Fields<'_>, tag: u32) -> Result<u32, Reject>
-    ensures { result ≡ count_in_of tag (pairs fields.entry) }
+fn count_in(message: &Index<'_, '_>, tag: u32) -> Result<u32, Reject>
+    ensures { result ≡ count_in_of tag message.now }
 {
-    let text = needed(fields, tag)?;
+    let text = message.needed(tag)?;
     count(text).ok_or(Reject::bad_kind(tag))
 }
 
 #[tactic(auto, unfolding(crate::specs::SessionMessages::logon_of))]
-fn logon(fields: Fields<'_>) -> Result<Inbound, Reject>
-    ensures gives { result ≡ logon_of (pairs fields.entry) }
+fn logon(message: &Index<'_, '_>) -> Result<Inbound, Reject>
+    ensures gives { result ≡ logon_of message.now }
     ensures change { IfOk result (λ m. IsTrue (asks_for_change m)) }
 {
-    let method = needed(fields, tags::ENCRYPT_METHOD)?;
+    let method = message.needed(tags::ENCRYPT_METHOD)?;
     if method != NO_ENCRYPTION {
         return Err(Reject::bad_value(tags::ENCRYPT_METHOD));
     }
-    let heartbeat = count_in(fields, tags::HEART_BT_INT)?;
-    let version = needed(fields, tags::DEFAULT_APPL_VER_ID)?;
+    let heartbeat = count_in(message, tags::HEART_BT_INT)?;
+    let version = message.needed(tags::DEFAULT_APPL_VER_ID)?;
     if version != FIX50SP2 {
         return Err(Reject::bad_value(tags::DEFAULT_APPL_VER_ID));
     }
-    let reset = flag_in(fields, tags::RESET_SEQ_NUM_FLAG)?;
+    let reset = flag_in(message, tags::RESET_SEQ_NUM_FLAG)?;
     Ok(Inbound::Logon { heartbeat, reset })
 }
 
 #[tactic(auto, unfolding(crate::specs::SessionMessages::test_request_of))]
-fn test_request(fields: Fields<'_>) -> Result<Inbound, Reject>
-    ensures gives { result ≡ test_request_of (pairs fields.entry) }
+fn test_request(message: &Index<'_, '_>) -> Result<Inbound, Reject>
+    ensures gives { result ≡ test_request_of message.now }
     ensures change { IfOk result (λ m. IsTrue (asks_for_change m)) }
 {
-    let text = needed(fields, tags::TEST_REQ_ID)?;
+    let text = message.needed(tags::TEST_REQ_ID)?;
     let id = TestReqId::new(text).ok_or(Reject::bad_value(tags::TEST_REQ_ID))?;
     Ok(Inbound::TestRequest { id })
 }
 
 #[tactic(auto, unfolding(crate::specs::SessionMessages::resend_request_of))]
-fn resend_request(fields: Fields<'_>) -> Result<Inbound, Reject>
-    ensures gives { result ≡ resend_request_of (pairs fields.entry) }
+fn resend_request(message: &Index<'_, '_>) -> Result<Inbound, Reject>
+    ensures gives { result ≡ resend_request_of message.now }
     ensures change { IfOk result (λ m. IsTrue (asks_for_change m)) }
 {
-    let from = count_in(fields, tags::BEGIN_SEQ_NO)?;
+    let from = count_in(message, tags::BEGIN_SEQ_NO)?;
     if from == 0 {
         return Err(Reject::bad_value(tags::BEGIN_SEQ_NO));
     }
-    let to = count_in(fields, tags::END_SEQ_NO)?;
+    let to = count_in(message, tags::END_SEQ_NO)?;
     Ok(Inbound::ResendRequest { from, to })
 }
 
 #[tactic(auto, unfolding(crate::specs::SessionMessages::sequence_reset_of))]
-fn sequence_reset(fields: Fields<'_>) -> Result<Inbound, Reject>
-    ensures gives { result ≡ sequence_reset_of (pairs fields.entry) }
+fn sequence_reset(message: &Index<'_, '_>) -> Result<Inbound, Reject>
+    ensures gives { result ≡ sequence_reset_of message.now }
     ensures change { IfOk result (λ m. IsTrue (asks_for_change m)) }
 {
-    let gap_fill = flag_in(fields, tags::GAP_FILL_FLAG)?;
-    let next = count_in(fields, tags::NEW_SEQ_NO)?;
+    let gap_fill = flag_in(message, tags::GAP_FILL_FLAG)?;
+    let next = count_in(message, tags::NEW_SEQ_NO)?;
     Ok(Inbound::SequenceReset { gap_fill, next })
 }
 
 /// What a message of this type means, where the type is one of the session's.
 #[tactic(auto, unfolding(crate::specs::SessionMessages::session_message_of))]
-pub fn session_message(kind: &[u8], fields: Fields<'_>) -> Result<Inbound, Reject>
-    ensures gives { result ≡ session_message_of kind.now (pairs fields.entry) }
+pub fn session_message(kind: &[u8], message: &Index<'_, '_>) -> Result<Inbound, Reject>
+    ensures gives { result ≡ session_message_of kind.now message.now }
     ensures change { IfOk result (λ m. IsTrue (asks_for_change m)) }
 {
     if kind == msg_types::HEARTBEAT {
         Ok(Inbound::Heartbeat)
     } else if kind == msg_types::TEST_REQUEST {
-        test_request(fields)
+        test_request(message)
     } else if kind == msg_types::RESEND_REQUEST {
-        resend_request(fields)
+        resend_request(message)
     } else if kind == msg_types::REJECT {
         Ok(Inbound::Reject)
     } else if kind == msg_types::SEQUENCE_RESET {
-        sequence_reset(fields)
+        sequence_reset(message)
     } else if kind == msg_types::LOGOUT {
         Ok(Inbound::Logout)
     } else if kind == msg_types::LOGON {
-        logon(fields)
+        logon(message)
     } else {
         Err(Reject::bad_type())
     }

@@ -1,7 +1,7 @@
 use Rattle.std.proofs.Common.{rules, ◌≡◌, Bool, true, false, not, refl, IsTrue, sym, ◌∙◌}
 use Rattle.gu_tree.specs.Changes.{own_parts_have_accounts}
 use Rattle.gu_tree.proofs.Conditions.{at_head}
-use Rattle.tight_heap.proofs.trees.split.Goals as goal
+use Rattle.test_heap.proofs.trees.split.Goals as goal
 
 not_false : (b : Bool) → not b ≡ false → b ≡ true
 not_false true e = refl
