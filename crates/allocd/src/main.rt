@@ -5,7 +5,7 @@
 //! how it is run.
 #![tactic(auto)]
 
-use gu_server::{Fault, run};
+use gu_server::{Fault, RunError, run};
 use std::env;
 use std::process::ExitCode;
 
@@ -13,7 +13,7 @@ use std::process::ExitCode;
 fn words(rt: &HostRuntime) -> Result<Vec<String>, Fault> {
     let mut words = Vec::new(rt.alloc());
     let Ok(args) = env::args(rt) else {
-        return Err(Fault::Memory);
+        return Err(Fault::Run(RunError::Memory));
     };
     for word in args.skip(1) {
         words.push(word)?;

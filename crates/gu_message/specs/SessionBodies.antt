@@ -1,36 +1,38 @@
--- The bodies of the session's messages.
-use Rattle.std.specs.Prelude.{ℕ, Bool, true, false, List, [], ◌++◌, codes, decimal, Option, Some, None}
-use Rattle.gu_codec.specs.Writing.{field}
+-- The bodies of the session's messages, as their fields.
+use Rattle.std.specs.Prelude.{ℕ, Bool, true, false, List, [], ◌∷◌, ◌++◌, codes, decimal, Option, Some, None}
 use Rattle.gu_base.specs.declared.report.Report.{Report}
 use Rattle.gu_life.specs.Status.{code_of}
+use Rattle.gu_codec.specs.Messages.{Message}
+use Rattle.gu_codec.specs.Tags as tag
 use Rattle.gu_message.specs.declared.session_bodies.LogoutText.{LogoutText}
 use Rattle.gu_message.specs.declared.session_bodies.LogoutText.TheVariants.{BadHeader, NumberTooLow, SecondLogon, NoHeartbeat}
 
 -- ResetSeqNumFlag (141), where it was asked for
-abbrev pub reset_field : Bool → List ℕ
-reset_field false = []
-reset_field true = field 141 (codes "Y")
+abbrev pub reset_fields : Bool → Message
+reset_fields false = []
+reset_fields true = (tag.reset_seq_num_flag, codes "Y") ∷ []
 
 -- Logon (A): EncryptMethod (98) `0`, HeartBtInt (108), DefaultApplVerID (1137) `9`, ResetSeqNumFlag (141) where it was asked for
-abbrev pub logon_body : ℕ → Bool → List ℕ
-logon_body heartbeat reset = field 98 (codes "0") ++ field 108 (decimal heartbeat) ++ field 1137 (codes "9") ++ reset_field reset
+abbrev pub logon_fields : ℕ → Bool → Message
+logon_fields heartbeat reset =
+    (tag.encrypt_method, codes "0") ∷ (tag.heart_bt_int, decimal heartbeat) ∷ (tag.default_appl_ver_id, codes "9") ∷ reset_fields reset
 
 -- Heartbeat (0): TestReqID (112), where it answers a TestRequest
-abbrev pub heartbeat_body : Option (List ℕ) → List ℕ
-heartbeat_body None = []
-heartbeat_body (Some id) = field 112 id
+abbrev pub heartbeat_fields : Option (List ℕ) → Message
+heartbeat_fields None = []
+heartbeat_fields (Some id) = (tag.test_req_id, id) ∷ []
 
 -- TestRequest (1): TestReqID (112)
-abbrev pub test_request_body : List ℕ
-test_request_body = field 112 (codes "TEST")
+abbrev pub test_request_fields : Message
+test_request_fields = (tag.test_req_id, codes "TEST") ∷ []
 
 -- ResendRequest (2): BeginSeqNo (7), and EndSeqNo (16) `0`, all that follow
-abbrev pub resend_request_body : ℕ → List ℕ
-resend_request_body from = field 7 (decimal from) ++ field 16 (codes "0")
+abbrev pub resend_request_fields : ℕ → Message
+resend_request_fields from = (tag.begin_seq_no, decimal from) ∷ (tag.end_seq_no, codes "0") ∷ []
 
 -- SequenceReset (4) that fills a gap: GapFillFlag (123) `Y`, NewSeqNo (36)
-abbrev pub sequence_reset_body : ℕ → List ℕ
-sequence_reset_body next = field 123 (codes "Y") ++ field 36 (decimal next)
+abbrev pub sequence_reset_fields : ℕ → Message
+sequence_reset_fields next = (tag.gap_fill_flag, codes "Y") ∷ (tag.new_seq_no, decimal next) ∷ []
 
 -- why the service ends a session
 abbrev pub logout_text : LogoutText → List ℕ
@@ -40,10 +42,10 @@ logout_text SecondLogon = codes "second logon"
 logout_text NoHeartbeat = codes "no heartbeat"
 
 -- Logout (5): Text (58), where there is one
-abbrev pub logout_body : Option LogoutText → List ℕ
-logout_body None = []
-logout_body (Some t) = field 58 (logout_text t)
+abbrev pub logout_fields : Option LogoutText → Message
+logout_fields None = []
+logout_fields (Some t) = (tag.text, logout_text t) ∷ []
 
 -- a stand-in for the body of an AllocationReport (AS)
-abbrev pub report_body : Report → List ℕ
-report_body r = field 755 (decimal r.number) ++ field 87 (decimal (code_of r.status))
+abbrev pub report_fields : Report → Message
+report_fields r = (tag.alloc_report_id, decimal r.number) ∷ (tag.alloc_status, decimal (code_of r.status)) ∷ []

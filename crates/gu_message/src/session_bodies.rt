@@ -2,9 +2,9 @@
 
 ghost use Rattle.std.specs.Prelude.{◌≡◌, ◌≤◌, ◌+◌, ◌++◌, OnOk, OnErr, codes, decimal, length, vec_len, vec_capacity};
 ghost use Rattle.gu_codec.specs.Answer.{pairs};
-ghost use Rattle.gu_codec.specs.Writing.{field};
+ghost use Rattle.gu_codec.specs.Writing.{field, fields_text};
 ghost use Rattle.gu_message.specs.Finding.{value_of, is_text as is_text_of};
-ghost use Rattle.gu_message.specs.SessionBodies.{reset_field, logon_body, heartbeat_body, test_request_body, resend_request_body, sequence_reset_body, logout_text, logout_body, report_body};
+ghost use Rattle.gu_message.specs.SessionBodies.{reset_fields, logon_fields, heartbeat_fields, test_request_fields, resend_request_fields, sequence_reset_fields, logout_text, logout_fields, report_fields};
 
 use crate::bodies::{ROOM, append_number_field};
 use crate::finding::is_text;
@@ -26,9 +26,9 @@ pub enum LogoutText {
 
 /// Appends the body of a Logon (A).
 pub fn logon(out: &mut Vec<u8>, heartbeat: u32, reset: bool) -> Result<(), Memory>
-    ensures ok { OnOk result (out.new.items ≡ out.old.items ++ logon_body heartbeat reset) }
+    ensures ok { OnOk result (out.new.items ≡ out.old.items ++ fields_text (logon_fields heartbeat reset)) }
     ensures err { OnErr result (out.new.items ≡ out.old.items) }
-    ensures short { OnOk result (length (logon_body heartbeat reset) ≤ 256) }
+    ensures short { OnOk result (length (fields_text (logon_fields heartbeat reset)) ≤ 256) }
 {
     out.reserve(ROOM)?;
     append_field(out, tags::ENCRYPT_METHOD, b"0");
@@ -42,9 +42,9 @@ pub fn logon(out: &mut Vec<u8>, heartbeat: u32, reset: bool) -> Result<(), Memor
 
 /// Appends the body of a Heartbeat (0), which answers a TestRequest with this TestReqID (112) or none.
 pub fn heartbeat(out: &mut Vec<u8>, answered: Option<TestReqId>) -> Result<(), Memory>
-    ensures ok { OnOk result (out.new.items ≡ out.old.items ++ heartbeat_body answered) }
+    ensures ok { OnOk result (out.new.items ≡ out.old.items ++ fields_text (heartbeat_fields answered)) }
     ensures err { OnErr result (out.new.items ≡ out.old.items) }
-    ensures short { OnOk result (length (heartbeat_body answered) ≤ 256) }
+    ensures short { OnOk result (length (fields_text (heartbeat_fields answered)) ≤ 256) }
 {
     out.reserve(ROOM)?;
     if let Some(id) = answered {
@@ -55,9 +55,9 @@ pub fn heartbeat(out: &mut Vec<u8>, answered: Option<TestReqId>) -> Result<(), M
 
 /// Appends the body of a TestRequest (1).
 pub fn test_request(out: &mut Vec<u8>) -> Result<(), Memory>
-    ensures ok { OnOk result (out.new.items ≡ out.old.items ++ test_request_body) }
+    ensures ok { OnOk result (out.new.items ≡ out.old.items ++ fields_text test_request_fields) }
     ensures err { OnErr result (out.new.items ≡ out.old.items) }
-    ensures short { OnOk result (length test_request_body ≤ 256) }
+    ensures short { OnOk result (length (fields_text test_request_fields) ≤ 256) }
 {
     out.reserve(ROOM)?;
     append_field(out, tags::TEST_REQ_ID, b"TEST");
@@ -66,9 +66,9 @@ pub fn test_request(out: &mut Vec<u8>) -> Result<(), Memory>
 
 /// Appends the body of a ResendRequest (2) for all messages from this number on.
 pub fn resend_request(out: &mut Vec<u8>, from: u32) -> Result<(), Memory>
-    ensures ok { OnOk result (out.new.items ≡ out.old.items ++ resend_request_body from) }
+    ensures ok { OnOk result (out.new.items ≡ out.old.items ++ fields_text (resend_request_fields from)) }
     ensures err { OnErr result (out.new.items ≡ out.old.items) }
-    ensures short { OnOk result (length (resend_request_body from) ≤ 256) }
+    ensures short { OnOk result (length (fields_text (resend_request_fields from)) ≤ 256) }
 {
     out.reserve(ROOM)?;
     append_number_field(out, tags::BEGIN_SEQ_NO, from);
@@ -78,9 +78,9 @@ pub fn resend_request(out: &mut Vec<u8>, from: u32) -> Result<(), Memory>
 
 /// Appends the body of a SequenceReset (4) that fills a gap up to this number, which is the next.
 pub fn sequence_reset(out: &mut Vec<u8>, next: u32) -> Result<(), Memory>
-    ensures ok { OnOk result (out.new.items ≡ out.old.items ++ sequence_reset_body next) }
+    ensures ok { OnOk result (out.new.items ≡ out.old.items ++ fields_text (sequence_reset_fields next)) }
     ensures err { OnErr result (out.new.items ≡ out.old.items) }
-    ensures short { OnOk result (length (sequence_reset_body next) ≤ 256) }
+    ensures short { OnOk result (length (fields_text (sequence_reset_fields next)) ≤ 256) }
 {
     out.reserve(ROOM)?;
     append_field(out, tags::GAP_FILL_FLAG, b"Y");
@@ -103,9 +103,9 @@ fn append_too_low(out: &mut Vec<u8>, expected: u32)
 
 /// Appends the body of a Logout (5), with this text or none.
 pub fn logout(out: &mut Vec<u8>, text: Option<LogoutText>) -> Result<(), Memory>
-    ensures ok { OnOk result (out.new.items ≡ out.old.items ++ logout_body text) }
+    ensures ok { OnOk result (out.new.items ≡ out.old.items ++ fields_text (logout_fields text)) }
     ensures err { OnErr result (out.new.items ≡ out.old.items) }
-    ensures short { OnOk result (length (logout_body text) ≤ 256) }
+    ensures short { OnOk result (length (fields_text (logout_fields text)) ≤ 256) }
 {
     out.reserve(ROOM)?;
     match text {
@@ -127,9 +127,9 @@ pub fn is_logout(fields: Fields<'_>) -> bool
 
 /// Appends the body of an AllocationReport (AS). A stand-in: only its first and its fourth field.
 pub fn report(out: &mut Vec<u8>, report: &Report) -> Result<(), Memory>
-    ensures ok { OnOk result (out.new.items ≡ out.old.items ++ report_body report.now) }
+    ensures ok { OnOk result (out.new.items ≡ out.old.items ++ fields_text (report_fields report.now)) }
     ensures err { OnErr result (out.new.items ≡ out.old.items) }
-    ensures short { OnOk result (length (report_body report.now) ≤ 256) }
+    ensures short { OnOk result (length (fields_text (report_fields report.now)) ≤ 256) }
 {
     out.reserve(ROOM)?;
     append_number_field(out, tags::ALLOC_REPORT_ID, report.number.get());
