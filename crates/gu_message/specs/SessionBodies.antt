@@ -1,7 +1,5 @@
 -- The bodies of the session's messages, as their fields.
 use Rattle.std.specs.Prelude.{ℕ, Bool, true, false, List, [], ◌∷◌, ◌++◌, codes, decimal, Option, Some, None}
-use Rattle.gu_base.specs.declared.report.Report.{Report}
-use Rattle.gu_life.specs.Status.{code_of}
 use Rattle.gu_codec.specs.Messages.{Message}
 use Rattle.gu_codec.specs.Tags as tag
 use Rattle.gu_message.specs.declared.session_bodies.LogoutText.{LogoutText}
@@ -45,7 +43,3 @@ logout_text NoHeartbeat = codes "no heartbeat"
 abbrev pub logout_fields : Option LogoutText → Message
 logout_fields None = []
 logout_fields (Some t) = (tag.text, logout_text t) ∷ []
-
--- a stand-in for the body of an AllocationReport (AS)
-abbrev pub report_fields : Report → Message
-report_fields r = (tag.alloc_report_id, decimal r.number) ∷ (tag.alloc_status, decimal (code_of r.status)) ∷ []

@@ -4,15 +4,14 @@ ghost use Rattle.std.specs.Prelude.{◌≡◌, ◌≤◌, ◌+◌, ◌++◌, OnO
 ghost use Rattle.gu_codec.specs.Answer.{pairs};
 ghost use Rattle.gu_codec.specs.Writing.{field, fields_text};
 ghost use Rattle.gu_message.specs.Finding.{value_of, is_text as is_text_of};
-ghost use Rattle.gu_message.specs.SessionBodies.{reset_fields, logon_fields, heartbeat_fields, test_request_fields, resend_request_fields, sequence_reset_fields, logout_text, logout_fields, report_fields};
+ghost use Rattle.gu_message.specs.SessionBodies.{reset_fields, logon_fields, heartbeat_fields, test_request_fields, resend_request_fields, sequence_reset_fields, logout_text, logout_fields};
 
 use crate::bodies::{ROOM, append_number_field};
 use crate::finding::is_text;
 use crate::msg_types;
 use crate::test_req_id::TestReqId;
-use gu_base::{Memory, Report};
+use gu_base::Memory;
 use gu_codec::{Fields, append, append_field, tags};
-use gu_life::status_code;
 use itoa::Buffer;
 
 /// Why the service ends a session: Text (58) of its Logout.
@@ -123,20 +122,4 @@ pub fn is_logout(fields: Fields<'_>) -> bool
     ensures { result ≡ is_text_of (codes "5") (value_of 35 (pairs fields.entry)) }
 {
     is_text(fields, tags::MSG_TYPE, msg_types::LOGOUT)
-}
-
-/// Appends the body of an AllocationReport (AS). A stand-in: only its first and its fourth field.
-pub fn report(out: &mut Vec<u8>, report: &Report) -> Result<(), Memory>
-    ensures ok { OnOk result (out.new.items ≡ out.old.items ++ fields_text (report_fields report.now)) }
-    ensures err { OnErr result (out.new.items ≡ out.old.items) }
-    ensures short { OnOk result (length (fields_text (report_fields report.now)) ≤ 256) }
-{
-    out.reserve(ROOM)?;
-    append_number_field(out, tags::ALLOC_REPORT_ID, report.number.get());
-    append_number_field(
-        out,
-        tags::ALLOC_STATUS,
-        u32::from(status_code(report.status)),
-    );
-    Ok(())
 }

@@ -56,10 +56,10 @@ keeping_acts sent now s came call meaning v r w g =
     }
 
 keeping_tells : (sent : List (List ℕ × Going)) (now : Timestamp) (s : Seen) (answer : Option Answer) (reports : List Report) → RisesTo 1 s.kept s.link.out → All (WasSent sent) s.kept
-    → Keeping sent (tells now s (kept_from (time_of now) s.link.out (tellings s.link.waiting answer reports)))
+    → Keeping sent (tells now s (kept_from (time_of now) s.link.out (tellings (time_of now) s.link.waiting answer reports)))
 keeping_tells sent now s answer reports r w =
     let time = time_of now in
-    let xs = tellings s.link.waiting answer reports in
+    let xs = tellings (time_of now) s.link.waiting answer reports in
     let ms = kept_from time s.link.out xs in
     record {
       covers = tells_again ms;

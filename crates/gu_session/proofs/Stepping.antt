@@ -98,13 +98,13 @@ moves_idle now s e early waits =
     record { early = early; many = 0; new = refl; out = omega arith; want = omega arith; call = tt; waits = waits; mute = λ _. refl; closes = λ h. absurd (cc) }
 
 moves_tells : (now : Timestamp) (s : Seen) (answer : Option Answer) (reports : List Report) (firm : List ℕ) → s.link.firm ≡ Some firm
-    → Moves s (Reply answer reports) (tells now s (kept_from (time_of now) s.link.out (tellings s.link.waiting answer reports)))
+    → Moves s (Reply answer reports) (tells now s (kept_from (time_of now) s.link.out (tellings (time_of now) s.link.waiting answer reports)))
 moves_tells now s answer reports firm is =
-    let ms = kept_from (time_of now) s.link.out (tellings s.link.waiting answer reports) in
+    let ms = kept_from (time_of now) s.link.out (tellings (time_of now) s.link.waiting answer reports) in
     record {
       early = rw is tt;
       many = length ms;
-      new = ap numbers (tells_new ms) ∙ told_numbers (time_of now) s.link.out (tellings s.link.waiting answer reports);
+      new = ap numbers (tells_new ms) ∙ told_numbers (time_of now) s.link.out (tellings (time_of now) s.link.waiting answer reports);
       out = refl;
       want = omega arith;
       call = tt;

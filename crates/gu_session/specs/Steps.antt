@@ -6,16 +6,18 @@ use Rattle.gu_base.specs.declared.command.Command.{Command}
 use Rattle.gu_base.specs.declared.entry.Answer.{Answer}
 use Rattle.gu_base.specs.declared.report.Report.{Report}
 use Rattle.gu_codec.specs.Messages.{Message}
+use Rattle.gu_codec.specs.Writing.{fields_text}
 use Rattle.gu_message.specs.declared.fault.Reject.{Reject}
 use Rattle.gu_message.specs.declared.inbound.Inbound.{Inbound}
 use Rattle.gu_message.specs.declared.inbound.Inbound.TheVariants.{Call}
 use Rattle.gu_message.specs.Finding.{value_of, is_text}
 use Rattle.gu_message.specs.Heading.{heading_of}
 use Rattle.gu_message.specs.Meaning.{meaning_of}
-use Rattle.gu_message.specs.SessionBodies.{sequence_reset_body, report_body}
+use Rattle.gu_message.specs.SessionBodies.{sequence_reset_fields}
+use Rattle.gu_message.specs.AllocationReport.{date_in, report_fields}
 use Rattle.gu_message.specs.SendingTime.{sending_time}
-use Rattle.gu_message.specs.AllocationAck.{ack_body}
-use Rattle.gu_message.specs.TradeReportAck.{trade_ack_body}
+use Rattle.gu_message.specs.AllocationAck.{ack_fields}
+use Rattle.gu_message.specs.TradeReportAck.{trade_ack_fields}
 use Rattle.gu_session.specs.declared.link.Link.{Link}
 use Rattle.gu_session.specs.declared.link.Waiting.{Waiting}
 use Rattle.gu_session.specs.declared.kept.Told.{Told}
@@ -68,7 +70,7 @@ resent m = record { kind = type_of_told m.told; number = m.number; next = m.numb
 -- the numbers from one up to another, if there are any, as one SequenceReset
 abbrev pub gap_fill : List ℕ → ℕ → ℕ → List Going
 gap_fill time from next =
-    if nat_lt from next then record { kind = codes "4"; number = from; next = next; first = Some time; body = sequence_reset_body next } ∷ [] else []
+    if nat_lt from next then record { kind = codes "4"; number = from; next = next; first = Some time; body = fields_text (sequence_reset_fields next) } ∷ [] else []
 
 -- each of the messages, and each run of other numbers as one SequenceReset, from one number up to another
 abbrev pub with_gaps : List ℕ → ℕ → ℕ → List Kept → List Going
@@ -90,12 +92,12 @@ abbrev pub sayings : Option Message → ℕ → Option Say → List Going
 sayings came number None = []
 sayings came number (Some s) = said came number s ∷ []
 
--- the answer to a call, and a report
+-- the answer to a call, and a report at a time
 abbrev pub answer_told : Waiting → Answer → Told × List ℕ
-answer_told w a = if w.trade then (told.TradeAck, trade_ack_body w.id a) else (told.Ack, ack_body w.id a)
+answer_told w a = if w.trade then (told.TradeAck, fields_text (trade_ack_fields w.id a)) else (told.Ack, fields_text (ack_fields w.id a))
 
-abbrev pub report_told : Report → Told × List ℕ
-report_told r = (told.Report, report_body r)
+abbrev pub report_told : List ℕ → Report → Told × List ℕ
+report_told time r = (told.Report, fields_text (report_fields (date_in time) r))
 
 -- the answer to the call that waits, if there are both
 abbrev pub answer_of : Option Waiting → Option Answer → List (Told × List ℕ)
@@ -103,8 +105,8 @@ answer_of (Some w) (Some a) = answer_told w a ∷ []
 answer_of _ _ = []
 
 -- the answer, then the reports
-abbrev pub tellings : Option Waiting → Option Answer → List Report → List (Told × List ℕ)
-tellings w a rs = answer_of w a ++ map report_told rs
+abbrev pub tellings : List ℕ → Option Waiting → Option Answer → List Report → List (Told × List ℕ)
+tellings time w a rs = answer_of w a ++ map (report_told time) rs
 
 -- one as a message that is kept
 abbrev pub kept_as : List ℕ → ℕ → Told × List ℕ → Kept
@@ -183,7 +185,7 @@ tells now s fresh = record {
 -- a Reply; before the Logon there is nobody to tell
 abbrev pub replies : Timestamp → Seen → Option (List ℕ) → Option Answer → List Report → Outcome
 replies now s None answer reports = idle now s
-replies now s (Some firm) answer reports = tells now s (kept_from (time_of now) s.link.out (tellings s.link.waiting answer reports))
+replies now s (Some firm) answer reports = tells now s (kept_from (time_of now) s.link.out (tellings (time_of now) s.link.waiting answer reports))
 
 -- what an event does to a session that is open
 abbrev pub on_event : Timestamp → Seen → Event → Outcome

@@ -1,11 +1,12 @@
 -- A step as its caller sees it: the bytes of what goes out.
 use Rattle.std.specs.Prelude.{◌≡◌, ℕ, Bool, List, [], ◌++◌, Option, Some, None, option_map}
-use Rattle.std.specs.List.{flat_map}
+use Rattle.std.specs.List.{All, flat_map}
 use Rattle.jiff.specs.Types.{Timestamp}
 use Rattle.gu_codec.specs.Answer.{pairs}
 use Rattle.gu_codec.specs.Messages.{Message}
 use Rattle.gu_codec.specs.declared.fields.Fields.{Fields}
-use Rattle.gu_codec.specs.Writing.{frame_text, header_fields}
+use Rattle.gu_codec.specs.Writing.{frame_text, fields_text, header_pairs}
+use Rattle.gu_message.specs.AllocationReport.{ShowsFewParts}
 use Rattle.gu_session.specs.declared.event.Event.{Event as TheEvent}
 use Rattle.gu_session.specs.declared.event.Event.TheVariants as event
 use Rattle.gu_session.specs.declared.event.Actions.{Actions}
@@ -15,7 +16,7 @@ use Rattle.gu_session.specs.Steps.{Event, Came, Tick, Reply, End, Seen, Outcome,
 -- the frame of a message from the house to a firm at a time
 abbrev pub text_of : List ℕ → List ℕ → List ℕ → Going → List ℕ
 text_of house firm time m =
-    frame_text (header_fields (record { kind = m.kind; sender = house; target = firm; number = m.number; sent = time; resent = m.first }) ++ m.body)
+    frame_text (fields_text (header_pairs (record { kind = m.kind; sender = house; target = firm; number = m.number; sent = time; resent = m.first })) ++ m.body)
 
 -- the frames of messages, one after the other; before the Logon there is nobody to send to
 abbrev pub wire : List ℕ → Option (List ℕ) → List ℕ → List Going → List ℕ
@@ -32,6 +33,11 @@ seen_event (event.Message fields) = Came (pairs fields)
 seen_event event.Tick = Tick
 seen_event (event.Reply answer reports) = Reply answer reports.items
 seen_event event.End = End
+
+-- each report of a Reply shows at most 100 parts
+abbrev pub ShowFewParts : TheEvent → Type 0
+ShowFewParts (event.Reply answer reports) = All ShowsFewParts reports.items
+ShowFewParts _ = Unit {0}
 
 -- nothing is sent and no call is made
 pub record IsEmpty (close : Bool) (a : Actions) : Type 0 where

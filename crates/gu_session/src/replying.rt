@@ -1,14 +1,17 @@
 //! The messages of a Reply: the answer to the call that waits, and reports.
 
-ghost use Rattle.std.specs.Prelude.{◌≡◌, ◌≤◌, ◌+◌, ◌++◌, length, map, nat_le, Some, OnOk, IfOk};
-ghost use Rattle.gu_session.specs.Steps.{kept_as, kept_from, answer_told, report_told, answer_of, tellings, new as new_of};
+ghost use Rattle.std.specs.Prelude.{◌≡◌, ◌≤◌, ◌+◌, ◌++◌, length, map, nat_le, ◌≤ℤ◌, pos, Some, OnOk, IfOk};
+ghost use Rattle.std.specs.List.{All};
+ghost use Rattle.gu_message.specs.AllocationReport.{ShowsFewParts};
+ghost use Rattle.gu_session.specs.Steps.{kept_as, kept_from, answer_told, report_told, answer_of, tellings, new as new_of, time_of};
 ghost use Rattle.gu_session.specs.Text.{wire};
 
 use crate::kept::{Body, Kept, Told};
 use crate::link::{Link, Waiting};
 use crate::writing::{Writer, write_new};
-use gu_base::{Answer, Memory, Report};
+use gu_base::{Answer, FirmId, Memory, Report};
 use gu_message::{SendingTime, ack, report, trade_ack};
+use jiff::Timestamp;
 use std::alloc::Global;
 
 /// The last number that a message may have.
@@ -27,9 +30,10 @@ fn answered(
     waiting: Waiting,
     answer: &Answer,
     number: u32,
-    sent: SendingTime,
+    moment: Timestamp,
 ) -> Result<Kept, Memory>
-    ensures { IfOk result (λ m. m ≡ kept_as sent number (answer_told waiting answer.now)) }
+    requires { pos 0 ≤ℤ moment.nanosecond }
+    ensures { IfOk result (λ m. m ≡ kept_as (time_of moment) number (answer_told waiting answer.now)) }
 {
     let mut body = Vec::new(alloc);
     let told = if waiting.trade {
@@ -42,7 +46,7 @@ fn answered(
     Ok(Kept {
         told,
         number,
-        sent,
+        sent: SendingTime::new(moment),
         body: Body::new(body),
     })
 }
@@ -52,16 +56,18 @@ fn reported(
     alloc: Global,
     report_of: &Report,
     number: u32,
-    sent: SendingTime,
+    moment: Timestamp,
 ) -> Result<Kept, Memory>
-    ensures { IfOk result (λ m. m ≡ kept_as sent number (report_told report_of.now)) }
+    requires moment { pos 0 ≤ℤ moment.nanosecond }
+    requires few { ShowsFewParts report_of.now }
+    ensures { IfOk result (λ m. m ≡ kept_as (time_of moment) number (report_told (time_of moment) report_of.now)) }
 {
     let mut body = Vec::new(alloc);
-    report(&mut body, report_of)?;
+    report(&mut body, report_of, moment)?;
     Ok(Kept {
         told: Told::Report,
         number,
-        sent,
+        sent: SendingTime::new(moment),
         body: Body::new(body),
     })
 }
@@ -94,14 +100,16 @@ fn tell_reports(
     fresh: &mut Vec<Kept>,
     reports: &[Report],
     out: u32,
-    sent: SendingTime,
+    moment: Timestamp,
 ) -> Result<(), Memory>
-    requires { out + length reports.now ≤ 1000000000 }
-    ensures { OnOk result (fresh.new.items ≡ fresh.old.items ++ kept_from sent out (map report_told reports.now)) }
+    requires moment { pos 0 ≤ℤ moment.nanosecond }
+    requires few { All ShowsFewParts reports.now }
+    requires numbers { out + length reports.now ≤ 1000000000 }
+    ensures { OnOk result (fresh.new.items ≡ fresh.old.items ++ kept_from (time_of moment) out (map (report_told (time_of moment)) reports.now)) }
 {
     let mut number = out;
     for report in reports {
-        let message = reported(alloc, report, number, sent)?;
+        let message = reported(alloc, report, number, moment)?;
         fresh.push(message)?;
         number += 1;
     }
@@ -115,38 +123,45 @@ fn told(
     answer: &Option<Answer>,
     reports: &[Report],
     out: u32,
-    sent: SendingTime,
+    moment: Timestamp,
 ) -> Result<Vec<Kept>, Memory>
-    requires { out + (length (answer_of waiting answer.now) + length reports.now) ≤ 1000000000 }
-    ensures { IfOk result (λ fresh. fresh.items ≡ kept_from sent out (tellings waiting answer.now reports.now)) }
+    requires moment { pos 0 ≤ℤ moment.nanosecond }
+    requires few { All ShowsFewParts reports.now }
+    requires numbers { out + (length (answer_of waiting answer.now) + length reports.now) ≤ 1000000000 }
+    ensures { IfOk result (λ fresh. fresh.items ≡ kept_from (time_of moment) out (tellings (time_of moment) waiting answer.now reports.now)) }
 {
     let mut fresh = Vec::new(alloc);
     let mut number = out;
     if let Some(waiting) = waiting {
         if let Some(answer) = answer {
-            let message = answered(alloc, waiting, answer, number, sent)?;
+            let message = answered(alloc, waiting, answer, number, moment)?;
             fresh.push(message)?;
             number += 1;
         }
     }
-    tell_reports(alloc, &mut fresh, reports, number, sent)?;
+    tell_reports(alloc, &mut fresh, reports, number, moment)?;
     Ok(fresh)
 }
 
-/// The messages of a Reply, and their frames.
+/// The messages of a Reply at this moment, and their frames.
 pub fn replied(
     alloc: Global,
-    writer: &Writer,
+    house: FirmId,
+    firm: FirmId,
     link: &Link,
     answer: &Option<Answer>,
     reports: &[Report],
+    moment: Timestamp,
 ) -> Result<Sending, Memory>
-    requires { link.now.out + (length (answer_of link.now.waiting answer.now) + length reports.now) ≤ 1000000000 }
-    ensures kept { IfOk result (λ r. r.fresh.items ≡ kept_from writer.now.time link.now.out (tellings link.now.waiting answer.now reports.now)) }
-    ensures send { IfOk result (λ r. r.send.items ≡ wire writer.now.house (Some writer.now.firm) writer.now.time (map new_of r.fresh.items)) }
+    requires moment { pos 0 ≤ℤ moment.nanosecond }
+    requires few { All ShowsFewParts reports.now }
+    requires numbers { link.now.out + (length (answer_of link.now.waiting answer.now) + length reports.now) ≤ 1000000000 }
+    ensures kept { IfOk result (λ r. r.fresh.items ≡ kept_from (time_of moment) link.now.out (tellings (time_of moment) link.now.waiting answer.now reports.now)) }
+    ensures send { IfOk result (λ r. r.send.items ≡ wire house (Some firm) (time_of moment) (map new_of r.fresh.items)) }
 {
-    let fresh = told(alloc, link.waiting, answer, reports, link.out, writer.time)?;
+    let fresh = told(alloc, link.waiting, answer, reports, link.out, moment)?;
     let mut send = Vec::new(alloc);
-    write_new(&mut send, writer, &fresh)?;
+    let time = SendingTime::new(moment);
+    write_new(&mut send, &Writer { house, firm, time }, &fresh)?;
     Ok(Sending { fresh, send })
 }

@@ -1,13 +1,15 @@
 //! A session.
 
 ghost use Rattle.std.specs.Prelude.{◌≡◌, ◌↔◌, ◌≤◌, ◌≤ℤ◌, ◌+◌, ◌++◌, pos, true, false, IsTrue, OnOk, OnErr, IfOk, Ok, Some, is_some, option_map, vec_len};
+ghost use Rattle.std.specs.List.{All};
 ghost use Rattle.gu_codec.specs.Answer.{pairs};
+ghost use Rattle.gu_message.specs.AllocationReport.{ShowsFewParts};
 ghost use Rattle.gu_message.specs.Meaning.{meaning_of};
 ghost use Rattle.gu_message.specs.declared.inbound.Inbound.TheVariants.{Heartbeat};
 ghost use Rattle.gu_session.specs.Steps as StepEvent;
 ghost use Rattle.gu_session.specs.Steps.{fits as fits_of, call_of as call_of_table, opening, tells, replies, where_it_fits, on_event, acts, resends, sayings, time_of};
 ghost use Rattle.gu_session.specs.Table.{shut as shut_of};
-ghost use Rattle.gu_session.specs.Text.{Steps, Gives, IsEmpty, wire, fields_of};
+ghost use Rattle.gu_session.specs.Text.{ShowFewParts, Steps, Gives, IsEmpty, wire, fields_of};
 
 use crate::event::{Actions, Event};
 use crate::kept::{Kept, keep};
@@ -161,9 +163,10 @@ impl<'a> Session<'a> {
     ///
     /// After a `Message` whose actions have a call, the call is to be made and its answer handed in by a `Reply` before the
     /// next `Message`. A `Reply` clears the call that waits; where none waits, only its reports are sent. A closed session
-    /// answers each event with no actions. `Memory` leaves the session as it was, and the event may be handed in again.
+    /// answers each event with no actions. Each report of a `Reply` shows at most 100 parts (`gu_message::shows_few_parts`). `Memory` leaves the session as it was, and the event may be handed in again.
     pub fn step(&mut self, event: Event<'_>, moment: Timestamp) -> Result<Actions, Memory>
         requires moment { pos 0 ≤ℤ moment.nanosecond }
+        requires few { ShowFewParts event }
         ensures ok { IfOk result (λ a. Steps moment event.entry self.old self.new a) }
         ensures err { OnErr result (self.new ≡ self.old) }
     {
@@ -266,7 +269,8 @@ impl<'a> Session<'a> {
         reports: &[Report],
         moment: Timestamp,
     ) -> Result<Actions, Memory>
-        requires { pos 0 ≤ℤ moment.nanosecond }
+        requires moment { pos 0 ≤ℤ moment.nanosecond }
+        requires few { All ShowsFewParts reports.now }
         ensures ok { IfOk result (λ a. Gives (where_it_fits moment self.old (on_event moment self.old (StepEvent.Reply answer.now reports.now))) self.new a) }
         ensures err { OnErr result (self.new ≡ self.old) }
     {
@@ -285,6 +289,7 @@ impl<'a> Session<'a> {
         moment: Timestamp,
     ) -> Result<Actions, Memory>
         requires moment { pos 0 ≤ℤ moment.nanosecond }
+        requires few { All ShowsFewParts reports.now }
         requires firm { self.old.link.firm ≡ Some firm }
         ensures ok { IfOk result (λ a. Gives (where_it_fits moment self.old (replies moment self.old (Some firm) answer.now reports.now)) self.new a) }
         ensures err { OnErr result (self.new ≡ self.old) }
@@ -293,12 +298,8 @@ impl<'a> Session<'a> {
         if !has_numbers(link.out, answers(link.waiting, answer), reports.len()) {
             return Ok(self.shut_down());
         }
-        let writer = Writer {
-            house: self.house.house(),
-            firm,
-            time: SendingTime::new(moment),
-        };
-        let Sending { fresh, send } = replied(self.alloc, &writer, &link, answer, reports)?;
+        let house = self.house.house();
+        let Sending { fresh, send } = replied(self.alloc, house, firm, &link, answer, reports, moment)?;
         self.keep_fresh(fresh, moment)?;
         Ok(Actions {
             send,

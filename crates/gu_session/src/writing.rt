@@ -3,9 +3,9 @@
 ghost use Rattle.std.specs.Prelude.{◌≡◌, ◌≤◌, ◌+◌, ◌++◌, ◌∷◌, List, OnOk, IfOk, length, map, option_map, Some, None};
 ghost use Rattle.std.specs.List.{flat_map};
 ghost use Rattle.std.specs.VecDeque.{deque_len};
-ghost use Rattle.gu_codec.specs.Writing.{IsText};
+ghost use Rattle.gu_codec.specs.Writing.{IsText, fields_text};
 ghost use Rattle.gu_codec.specs.Answer.{pairs};
-ghost use Rattle.gu_session.specs.Going.{type_of_say as type_of_say_lem, body_of_say as body_of_say_lem, type_of_told, said};
+ghost use Rattle.gu_session.specs.Going.{type_of_say as type_of_say_lem, fields_of_say, type_of_told, said};
 ghost use Rattle.gu_session.specs.Steps.{gap_fill as gap_fill_of, with_gaps, within, resends, sayings, new as new_of};
 ghost use Rattle.gu_session.specs.Text.{text_of, fields_of};
 ghost use Rattle.gu_session.specs.declared.kept.Kept.{Kept};
@@ -72,7 +72,7 @@ fn type_of_say(say: &Say) -> &'static [u8]
 
 /// The body of what the session says about a message, or about none.
 fn body_of_say(alloc: Global, came: Option<Fields<'_>>, say: Say) -> Result<Vec<u8>, Memory>
-    ensures value { IfOk result (λ body. body.items ≡ body_of_say_lem (fields_of came.entry) say) }
+    ensures value { IfOk result (λ body. body.items ≡ fields_text (fields_of_say (fields_of came.entry) say)) }
     ensures short { IfOk result (λ body. length body.items ≤ 65000) }
 {
     let mut body = Vec::new(alloc);
