@@ -17,13 +17,6 @@ use std::alloc::Global;
 /// The last number that a message may have.
 pub const LAST_NUMBER: u32 = 999_999_999;
 
-/// What a Reply sends: its messages, and their frames.
-#[derive(Drop)]
-pub struct Sending {
-    pub fresh: Vec<Kept>,
-    pub send: Vec<u8>,
-}
-
 /// The message that answers a call.
 fn answered(
     alloc: Global,
@@ -152,16 +145,16 @@ pub fn replied(
     answer: &Option<Answer>,
     reports: &[Report],
     moment: Timestamp,
-) -> Result<Sending, Memory>
+) -> Result<(Vec<Kept>, Vec<u8>), Memory>
     requires moment { pos 0 ≤ℤ moment.nanosecond }
     requires few { All ShowsFewParts reports.now }
     requires numbers { link.now.out + (length (answer_of link.now.waiting answer.now) + length reports.now) ≤ 1000000000 }
-    ensures kept { IfOk result (λ r. r.fresh.items ≡ kept_from (time_of moment) link.now.out (tellings (time_of moment) link.now.waiting answer.now reports.now)) }
-    ensures send { IfOk result (λ r. r.send.items ≡ wire house (Some firm) (time_of moment) (map new_of r.fresh.items)) }
+    ensures kept { IfOk result (λ r. r.0.items ≡ kept_from (time_of moment) link.now.out (tellings (time_of moment) link.now.waiting answer.now reports.now)) }
+    ensures send { IfOk result (λ r. r.1.items ≡ wire house (Some firm) (time_of moment) (map new_of r.0.items)) }
 {
     let fresh = told(alloc, link.waiting, answer, reports, link.out, moment)?;
     let mut send = Vec::new(alloc);
     let time = SendingTime::new(moment);
     write_new(&mut send, &Writer { house, firm, time }, &fresh)?;
-    Ok(Sending { fresh, send })
+    Ok((fresh, send))
 }

@@ -14,7 +14,7 @@ ghost use Rattle.gu_session.specs.Text.{ShowFewParts, Steps, Gives, IsEmpty, wir
 use crate::event::{Actions, Event};
 use crate::kept::{Kept, keep};
 use crate::link::Link;
-use crate::replying::{LAST_NUMBER, Sending, answers, has_numbers, replied};
+use crate::replying::{LAST_NUMBER, answers, has_numbers, replied};
 use crate::table::{on_message, on_tick, shut};
 use crate::verdict::Verdict;
 use crate::writing::{Writer, write_resend, write_saying};
@@ -299,7 +299,7 @@ impl<'a> Session<'a> {
             return Ok(self.shut_down());
         }
         let house = self.house.house();
-        let Sending { fresh, send } = replied(self.alloc, house, firm, &link, answer, reports, moment)?;
+        let (fresh, send) = replied(self.alloc, house, firm, &link, answer, reports, moment)?;
         self.keep_fresh(fresh, moment)?;
         Ok(Actions {
             send,
