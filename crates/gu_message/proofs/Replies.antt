@@ -17,7 +17,7 @@ use Rattle.gu_life.specs.Status.{code_of}
 use Rattle.gu_codec.specs.Fields.{IsValue, IsBody}
 use Rattle.gu_codec.specs.Messages.{Message}
 use Rattle.gu_codec.specs.Writing.{IsLawfulField, IsWritable}
-use Rattle.gu_codec.proofs.ReadBack.{lawful, most_of, fields_short, firm_text, message_writable}
+use Rattle.gu_codec.proofs.ReadBack.{no_soh, lawful, most_of, fields_short, firm_text, message_writable}
 use Rattle.gu_message.specs.declared.fault.Reject.{Reject}
 use Rattle.gu_message.specs.Bodies.{refused_fields, IsLawfulRefusal, IsLawfulAnswer}
 use Rattle.gu_message.specs.Checks.{name_of}
@@ -47,15 +47,11 @@ record IsShort (s : List ℕ) : Type 0 where
   value : IsValue s
   few : length s ≤ 400
 
-no_soh : (s : List ℕ) → list_all is_text s ≡ true → AllByRecursion (λ b. b ≢ 1) s
-no_soh [] h = tt
-no_soh (b ∷ s) h =
-    let p = and_parts (is_text b) (list_all is_text s) h in
-    let low : 32 ≤ b = leb-true 32 b (and_parts (nat_le 32 b) (nat_le b 126) p.0).0 in
-    (λ e. absurd (omega arith), no_soh s p.1)
+text_high : (b : ℕ) → is_text b ≡ true → b ≢ 1
+text_high b e = let low : 32 ≤ b = leb-true 32 b (and_parts (nat_le 32 b) (nat_le b 126) e).0 in λ w. absurd (omega arith)
 
 short : (least most : ℕ) (s : List ℕ) → 0 < least → most ≤ 400 → IsShown least most s → IsShort s
-short least most s some few h = record { value = record { some = omega (arith, h.some); no_soh = no_soh s h.clear }; few = omega (arith, h.few) }
+short least most s some few h = record { value = record { some = omega (arith, h.some); no_soh = no_soh is_text s text_high h.clear }; few = omega (arith, h.few) }
 
 -- ---- numbers
 
