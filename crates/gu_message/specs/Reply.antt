@@ -3,6 +3,7 @@ use Rattle.std.specs.Prelude.{ℕ, ◌≤◌, ◌<◌, ◌^◌, Bool, if◌then�
 use Rattle.std.specs.List.{AllByRecursion}
 use Rattle.gu_base.specs.Names.{is_firm_text}
 use Rattle.gu_base.specs.declared.entry.Answer.{Answer}
+use Rattle.gu_codec.specs.Limits.{longest_body}
 use Rattle.gu_codec.specs.Messages.{Message}
 use Rattle.gu_codec.specs.Writing.{HeaderText, IsText, IsLawfulField, fields_text, header_pairs}
 use Rattle.gu_message.specs.declared.fault.Reject.{Reject}
@@ -47,7 +48,7 @@ pub record IsLawfulReply (r : Reply) : Type 0 where
   pub target : IsTrue (is_firm_text r.target)
   pub kind : IsText r.kind
   pub fields : AllByRecursion IsLawfulField r.fields
-  pub short : length (fields_text r.fields) ≤ 65000
+  pub short : length (fields_text r.fields) ≤ longest_body
 
 pub record IsLawfulStamp (s : Stamp) : Type 0 where
   pub sender : IsTrue (is_firm_text s.sender)

@@ -1,7 +1,6 @@
 //! The messages of the session: Logon, Heartbeat, TestRequest, ResendRequest, Reject, SequenceReset and Logout.
 
-ghost use Rattle.std.specs.Prelude.{◌≡◌, IfOk, IsTrue};
-ghost use Rattle.gu_message.specs.Outcome.{asks_for_change};
+ghost use Rattle.std.specs.Prelude.{◌≡◌};
 ghost use Rattle.gu_message.specs.SessionMessages.{flag_of, flag_in as flag_in_of, count_in as count_in_of, logon_of, test_request_of, resend_request_of, sequence_reset_of, session_message_of};
 
 use crate::fault::Reject;
@@ -58,8 +57,7 @@ fn count_in(message: &Index<'_, '_>, tag: u32) -> Result<u32, Reject>
 
 #[tactic(auto, unfolding(crate::specs::SessionMessages::logon_of))]
 fn logon(message: &Index<'_, '_>) -> Result<Inbound, Reject>
-    ensures gives { result ≡ logon_of message.now }
-    ensures change { IfOk result (λ m. IsTrue (asks_for_change m)) }
+    ensures { result ≡ logon_of message.now }
 {
     let method = message.needed(tags::ENCRYPT_METHOD)?;
     if method != NO_ENCRYPTION {
@@ -76,8 +74,7 @@ fn logon(message: &Index<'_, '_>) -> Result<Inbound, Reject>
 
 #[tactic(auto, unfolding(crate::specs::SessionMessages::test_request_of))]
 fn test_request(message: &Index<'_, '_>) -> Result<Inbound, Reject>
-    ensures gives { result ≡ test_request_of message.now }
-    ensures change { IfOk result (λ m. IsTrue (asks_for_change m)) }
+    ensures { result ≡ test_request_of message.now }
 {
     let text = message.needed(tags::TEST_REQ_ID)?;
     let id = TestReqId::new(text).ok_or(Reject::bad_value(tags::TEST_REQ_ID))?;
@@ -86,8 +83,7 @@ fn test_request(message: &Index<'_, '_>) -> Result<Inbound, Reject>
 
 #[tactic(auto, unfolding(crate::specs::SessionMessages::resend_request_of))]
 fn resend_request(message: &Index<'_, '_>) -> Result<Inbound, Reject>
-    ensures gives { result ≡ resend_request_of message.now }
-    ensures change { IfOk result (λ m. IsTrue (asks_for_change m)) }
+    ensures { result ≡ resend_request_of message.now }
 {
     let from = count_in(message, tags::BEGIN_SEQ_NO)?;
     if from == 0 {
@@ -99,8 +95,7 @@ fn resend_request(message: &Index<'_, '_>) -> Result<Inbound, Reject>
 
 #[tactic(auto, unfolding(crate::specs::SessionMessages::sequence_reset_of))]
 fn sequence_reset(message: &Index<'_, '_>) -> Result<Inbound, Reject>
-    ensures gives { result ≡ sequence_reset_of message.now }
-    ensures change { IfOk result (λ m. IsTrue (asks_for_change m)) }
+    ensures { result ≡ sequence_reset_of message.now }
 {
     let gap_fill = flag_in(message, tags::GAP_FILL_FLAG)?;
     let next = count_in(message, tags::NEW_SEQ_NO)?;
@@ -110,8 +105,7 @@ fn sequence_reset(message: &Index<'_, '_>) -> Result<Inbound, Reject>
 /// What a message of this type means, where the type is one of the session's.
 #[tactic(auto, unfolding(crate::specs::SessionMessages::session_message_of))]
 pub fn session_message(kind: &[u8], message: &Index<'_, '_>) -> Result<Inbound, Reject>
-    ensures gives { result ≡ session_message_of kind.now message.now }
-    ensures change { IfOk result (λ m. IsTrue (asks_for_change m)) }
+    ensures { result ≡ session_message_of kind.now message.now }
 {
     if kind == msg_types::HEARTBEAT {
         Ok(Inbound::Heartbeat)

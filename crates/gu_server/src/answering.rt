@@ -1,11 +1,11 @@
 //! Answering one message after the other.
 
-ghost use Rattle.std.specs.Prelude.{◌≡◌, ◌≤◌, ◌<◌, ◌^◌, ◌+◌, ◌++◌, length, OnOk, OnErr, IsTrue};
+ghost use Rattle.std.specs.Prelude.{◌≡◌, ◌≤◌, ◌<◌, ◌^◌, ◌+◌, ◌++◌, length, OnOk, OnErr};
 ghost use Rattle.gu_codec.specs.Answer.{pairs};
+ghost use Rattle.gu_codec.specs.Limits.{longest_body};
 ghost use Rattle.gu_codec.specs.Messages.{Message};
 ghost use Rattle.gu_codec.specs.Writing.{IsText, fields_text, message_text, stream_text};
 ghost use Rattle.gu_base.specs.Answers.{answer_to, after};
-ghost use Rattle.gu_base.specs.History.{is_change};
 ghost use Rattle.gu_message.specs.Reply.{Reply, message_of, answer_reply, reject_reply};
 
 use gu_base::{AllocId, Answer, Command, FirmId, Memory};
@@ -67,7 +67,7 @@ impl Answering {
         body: &[u8],
     ) -> Result<(), Memory>
         requires kind { IsText kind.now }
-        requires body { length body.now ≤ 65000 }
+        requires body { length body.now ≤ longest_body }
         requires counted { self.old.written + 1 < 2 ^ 64 }
         ensures ok { (fs : Message) → body.now ≡ fields_text fs → OnOk result (out.new.items ≡ out.old.items ++ message_text (message_of (stamp self.old.house.house (self.old.written + 1)) (record { target = target; kind = kind.now; fields = fs }))) }
         ensures after { OnOk result (self.new ≡ record self.old { written = self.old.written + 1 }) }
@@ -116,8 +116,7 @@ impl Answering {
         call: &Call<'_>,
         out: &mut Vec<u8>,
     ) -> Result<(), Memory>
-        requires change { IsTrue (is_change call.now.command.now) }
-        requires counted { self.old.written + 1 < 2 ^ 64 }
+        requires { self.old.written + 1 < 2 ^ 64 }
         ensures ok { let asked = call_of call.now.firm call.now.id.now call.now.command.now in OnOk result (out.new.items ≡ out.old.items ++ message_text (message_of (stamp self.old.house.house (self.old.written + 1)) (answer_reply call.now.firm call.now.trade call.now.id.now (answer_to self.old.house self.old.history asked)))) }
         ensures after { let asked = call_of call.now.firm call.now.id.now call.now.command.now in OnOk result (self.new ≡ record { house = self.old.house; history = after self.old.house self.old.history asked; written = self.old.written + 1 }) }
         ensures err { OnErr result (out.new.items ≡ out.old.items) }
