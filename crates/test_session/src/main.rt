@@ -176,7 +176,7 @@ fn accepted(entry: u32) -> Option<Answer> {
 /// The number behind `with`, or 0.
 fn count_behind(text: &[u8]) -> u32 {
     let (with, count) = word(text);
-    if with == b"with" { number(count) } else { 0 }
+    if with == b"with".as_slice() { number(count) } else { 0 }
 }
 
 /// Steps a session with the Reply that a text stands for.
@@ -187,10 +187,10 @@ fn reply(
     moment: Timestamp,
 ) -> Result<Actions, AllocError> {
     let (what, rest) = word(text);
-    let (answer, behind) = if what == b"accepted" {
+    let (answer, behind) = if what == b"accepted".as_slice() {
         let (entry, behind) = word(rest);
         (accepted(number(entry)), behind)
-    } else if what == b"refused" {
+    } else if what == b"refused".as_slice() {
         (Some(Answer::Refused(Refusal::SumDiffers)), rest)
     } else {
         (None, rest)
@@ -250,17 +250,17 @@ fn attempt(
     moment: Timestamp,
 ) -> Result<Actions, AllocError> {
     let (what, rest) = word(text);
-    if what == b"<" {
+    if what == b"<".as_slice() {
         let (kind, rest) = word(rest);
         let (number, rest) = word(rest);
         message(alloc, session, kind, number, rest, moment)
-    } else if what == b"<<" {
+    } else if what == b"<<".as_slice() {
         let mut body = Vec::new(alloc);
         append(&mut body, rest)?;
         take(alloc, session, body.as_slice(), moment)
-    } else if what == b"reply" {
+    } else if what == b"reply".as_slice() {
         reply(alloc, session, rest, moment)
-    } else if what == b"end" {
+    } else if what == b"end".as_slice() {
         step(alloc, session, Event::End, moment)
     } else {
         step(alloc, session, Event::Tick, moment)
@@ -276,7 +276,7 @@ fn act(
     moment: Timestamp,
 ) -> io::Result<()> {
     let (what, rest) = word(text);
-    if what == b"calls" {
+    if what == b"calls".as_slice() {
         return calls(rt, alloc, session, rest, moment);
     }
     let actions = match attempt(alloc, session, text, moment) {
@@ -298,7 +298,7 @@ fn play(rt: &(impl Print + Eprint), alloc: Global, house: &House, input: &[u8]) 
             Err(_) => println!(rt; "no text")?,
         }
         let (time, event) = word(line);
-        if time == b"=" {
+        if time == b"=".as_slice() {
             session = Session::new(alloc, house);
         } else if !line.is_empty() {
             let since = START + i64::from(number(time));

@@ -108,7 +108,7 @@ pub fn shows_answer(bytes: &[u8], number: &[u8]) -> bool {
     if let Frame::Whole { fields, .. } = read_frame(bytes) {
         for (tag, value) in fields {
             if tag == tags::MSG_TYPE {
-                kind = value == b"P";
+                kind = value == b"P".as_slice();
             } else if tag == tags::MSG_SEQ_NUM {
                 numbered = value == number;
             }
