@@ -63,7 +63,9 @@ fn played(
             Frame::Whole { fields, len } if is_moment(moment) => {
                 let actions = session.step(Event::Message(fields), moment)?;
                 mix = mixed(mix, actions.send.as_slice());
-                mix = mix.wrapping_mul(31).wrapping_add(answer(alloc, &mut session, &actions, entry, moment)?);
+                mix = mix
+                    .wrapping_mul(31)
+                    .wrapping_add(answer(alloc, &mut session, &actions, entry, moment)?);
                 entry = entry.wrapping_add(1);
                 let Some(after) = rest.get(len..) else {
                     break;

@@ -126,7 +126,11 @@ fn append_entry(out: &mut Vec<u8>, report: &Report, date: &[u8])
     append_number_field(out, tags::ALLOC_REPORT_ID, report.number.get());
     append_number_field(out, tags::ALLOC_TRANS_TYPE, u32::from(report.trans));
     append_number_field(out, tags::ALLOC_REPORT_TYPE, u32::from(report.kind));
-    append_number_field(out, tags::ALLOC_STATUS, u32::from(status_code(report.status)));
+    append_number_field(
+        out,
+        tags::ALLOC_STATUS,
+        u32::from(status_code(report.status)),
+    );
     append_target(out, report.target);
     append_field(out, tags::SYMBOL, report.instrument.as_bytes());
     append_field(out, tags::SIDE, side_of(report.side));

@@ -17,7 +17,6 @@ use Rattle.gu_session.specs.declared.verdict.Span.{Span}
 use Rattle.gu_session.specs.declared.verdict.Say.{Say}
 use Rattle.gu_session.specs.declared.verdict.Verdict.{Verdict}
 use Rattle.gu_session.specs.Table.{silent, says, closes, shut, again, last_asked, span_of, resend_of, first_logon, before_logon, resets, asks, fills, by_type, on_line, reset_to, line_by_number, line_of, heard, by_firm, settled, on_message, waited, by_silence, on_tick}
-
 use Rattle.gu_session.specs.Steps.{call_of}
 use Rattle.gu_session.specs.Runs.{unless_closed, or_called}
 

@@ -243,12 +243,7 @@ fn fills(moment: Timestamp, link: Link, number: u32, next: u32) -> Verdict
 }
 
 /// The message with the wanted number, by its type.
-fn by_type(
-    moment: Timestamp,
-    link: Link,
-    number: u32,
-    meaning: &Result<Inbound, Reject>,
-) -> Verdict
+fn by_type(moment: Timestamp, link: Link, number: u32, meaning: &Result<Inbound, Reject>) -> Verdict
     requires { link.out ≤ 1000000000 }
     ensures { result ≡ by_type_of moment link number meaning.now }
 {

@@ -102,7 +102,14 @@ fn write_say(
     ensures { OnOk result (out.new.items ≡ out.old.items ++ text_of writer.now.house writer.now.firm writer.now.time (said (fields_of came.entry) number say)) }
 {
     let body = body_of_say(alloc, came, say)?;
-    write(out, writer, type_of_say(&say), number, None, body.as_slice())
+    write(
+        out,
+        writer,
+        type_of_say(&say),
+        number,
+        None,
+        body.as_slice(),
+    )
 }
 
 /// Appends an application message.

@@ -176,7 +176,11 @@ fn accepted(entry: u32) -> Option<Answer> {
 /// The number behind `with`, or 0.
 fn count_behind(text: &[u8]) -> u32 {
     let (with, count) = word(text);
-    if with == b"with".as_slice() { number(count) } else { 0 }
+    if with == b"with".as_slice() {
+        number(count)
+    } else {
+        0
+    }
 }
 
 /// Steps a session with the Reply that a text stands for.
