@@ -5,8 +5,8 @@
 //! how it is run.
 #![tactic(auto)]
 
-use gu_server::{Fault, RunError, run};
-use std::env;
+use gu_server::{Counted, Fault, RunError, SystemFiles, run};
+use std::{env, io};
 use std::process::ExitCode;
 
 /// The words after the program's name.
@@ -21,9 +21,19 @@ fn words(rt: &HostRuntime) -> Result<Vec<String>, Fault> {
     Ok(words)
 }
 
+/// Does what the words ask for, over the files, the standard input and the standard output of the system.
 fn serve_words(rt: &HostRuntime) -> Result<(), Fault> {
     let words = words(rt)?;
-    run(rt, words.as_slice())
+    let files = SystemFiles::new(rt);
+    let mut reader = Counted::new(rt.reader());
+    let mut writer = Counted::new(io::writer(rt));
+    run(
+        rt.alloc(),
+        &files,
+        &mut reader,
+        &mut writer,
+        words.as_slice(),
+    )
 }
 
 fn main(rt: HostRuntime) -> ExitCode {

@@ -24,7 +24,7 @@ use Rattle.gu_depend.specs.Under.{names, is_under, stands_under}
 use Rattle.gu_depend.proofs.Finds.{no_some, found_in, find_passes, found_once}
 use Rattle.gu_depend.proofs.Names.{name_is, name_same, made_of, makes, node_by_maker, makers_once, node_cut, made_alone}
 use Rattle.gu_depend.proofs.Rows.{refusal_parts, splits_well, decides_well}
-use Rattle.gu_depend.proofs.Sane.{Sane, sane}
+use Rattle.gu_depend.proofs.NamedOnce.{NamedOnce, named_once}
 use Rattle.gu_depend.proofs.Grown.{Within}
 use Rattle.gu_depend.proofs.Settled.{free_decided, front_within, or_either}
 use Rattle.gu_depend.proofs.Replay.{NumbersOnce, order_replays}
@@ -138,7 +138,7 @@ either_same o p e = ap (λ z. is_none z || is_some o) (sym e) ∙ either o
 both_true : (a b : Bool) → a ≡ true → b ≡ true → (a && b) ≡ true
 both_true a b e f = ap (λ z. z && b) e ∙ f
 
-accepted_ready : (t : House) (l b : List Record) (by : List ℕ) (c : Command) → Sane l → Within l b → row t b by c ≡ None → is_ready l b c ≡ true
+accepted_ready : (t : House) (l b : List Record) (by : List ℕ) (c : Command) → NamedOnce l → Within l b → row t b by c ≡ None → is_ready l b c ≡ true
 accepted_ready t l b by (Split n ps) s w h =
     let y = splits_well t b by (Split n ps) n h (name_same n) in
     both_true (is_some (node_of b n)) (is_none (decision_of l n) || is_some (decision_of b n)) (ap is_some y.there)
@@ -152,38 +152,38 @@ accepted_ready t l b by (Decline _) s w h = refl
 accepted_ready t l b by (Reverse _) s w h = refl
 
 -- the second list is the first without a change
-pub record Beside (k : Record) (x y : List Record) : Type 0 where
+pub record HasOneLess (k : Record) (x y : List Record) : Type 0 where
   pub nodes_same : (n : EntryPart) → made_of k n ≡ None → node_of x n ≡ node_of y n
   pub decisions_same : (n : EntryPart) → decides n k.command ≡ false → decision_of x n ≡ decision_of y n
 
 pub decision_cut : (x y : List Record) (n : EntryPart) → decision_of (x ++ y) n ≡ option_or (decision_of x n) (decision_of y n)
 decision_cut x y n = find-append (λ r. decides n r.command) x y
 
-beside_start : (k : Record) (p : List Record) → Beside k (p ++ k ∷ []) p
-beside_start k p = record {
+one_less_start : (k : Record) (p : List Record) → HasOneLess k (p ++ k ∷ []) p
+one_less_start k p = record {
   nodes_same = λ n none.
       let alone : node_of (k ∷ []) n ≡ None = sym (made_alone k n) ∙ none in
       node_cut p (k ∷ []) n ∙ (ap (option_or (node_of p n)) alone ∙ or_none (node_of p n));
   decisions_same = λ n none. decision_cut p (k ∷ []) n ∙ (ap (λ b. option_or (decision_of p n) (cond b (Some k) None)) none ∙ or_none (decision_of p n));
 }
 
-beside_push : (k : Record) (x y z : List Record) → Beside k x y → Beside k (x ++ z) (y ++ z)
-beside_push k x y z s = record {
+one_less_push : (k : Record) (x y z : List Record) → HasOneLess k x y → HasOneLess k (x ++ z) (y ++ z)
+one_less_push k x y z s = record {
   nodes_same = λ n none. node_cut x z n ∙ (ap (λ o. option_or o (node_of z n)) (s.nodes_same n none) ∙ sym (node_cut y z n));
   decisions_same = λ n none. decision_cut x z n ∙ (ap (λ o. option_or o (decision_of z n)) (s.decisions_same n none) ∙ sym (decision_cut y z n));
 }
 
-ready_beside : (l x y : List Record) (k : Record) (c : Command) → Beside k x y → Apart k c → is_ready l x c ≡ true → is_ready l y c ≡ true
-ready_beside l x y k (Split n ps) s a h =
+ready_with_one_less : (l x y : List Record) (k : Record) (c : Command) → HasOneLess k x y → Apart k c → is_ready l x c ≡ true → is_ready l y c ≡ true
+ready_with_one_less l x y k (Split n ps) s a h =
     ap (λ o. is_some o && (is_none (decision_of l n) || is_some (decision_of y n))) (sym (s.nodes_same n (a.unmade n (ap (λ b. b || false) (name_same n)))))
     ∙ (ap (λ d. is_some (node_of x n) && (is_none (decision_of l n) || is_some d)) (sym (s.decisions_same n (a.undecided n (name_same n)))) ∙ h)
-ready_beside l x y k (Claim n account) s a h = ap is_some (sym (s.nodes_same n (a.unmade n (name_same n)))) ∙ h
-ready_beside l x y k (Refuse n) s a h = ap is_some (sym (s.nodes_same n (a.unmade n (name_same n)))) ∙ h
-ready_beside l x y k (Cancel n) s a h = ap is_some (sym (s.nodes_same n (a.unmade n (name_same n)))) ∙ h
-ready_beside l x y k (Trade _ _ _ _ _) s a h = refl
-ready_beside l x y k (Initiate _) s a h = refl
-ready_beside l x y k (Decline _) s a h = refl
-ready_beside l x y k (Reverse _) s a h = refl
+ready_with_one_less l x y k (Claim n account) s a h = ap is_some (sym (s.nodes_same n (a.unmade n (name_same n)))) ∙ h
+ready_with_one_less l x y k (Refuse n) s a h = ap is_some (sym (s.nodes_same n (a.unmade n (name_same n)))) ∙ h
+ready_with_one_less l x y k (Cancel n) s a h = ap is_some (sym (s.nodes_same n (a.unmade n (name_same n)))) ∙ h
+ready_with_one_less l x y k (Trade _ _ _ _ _) s a h = refl
+ready_with_one_less l x y k (Initiate _) s a h = refl
+ready_with_one_less l x y k (Decline _) s a h = refl
+ready_with_one_less l x y k (Reverse _) s a h = refl
 
 some_more : {A : Type 0} (o p : Option A) → is_some o ≡ true → is_some (option_or o p) ≡ true
 some_more None p h = absurd (cc)
@@ -215,7 +215,7 @@ ready_more l b z (Reverse _) h = refl
 
 -- ---- the order in which the change stands last
 
-order_front : (t : House) (l b front rest tail : List Record) → Sane l → l ≡ b ++ (front ++ rest) → first_refused t b (front ++ rest) ≡ None
+order_front : (t : House) (l b front rest tail : List Record) → NamedOnce l → l ≡ b ++ (front ++ rest) → first_refused t b (front ++ rest) ≡ None
     → in_lawful_order l (b ++ front) tail ≡ true → in_lawful_order l b (front ++ tail) ≡ true
 order_front t l b [] rest tail s e none last = subst (λ (z : List Record). in_lawful_order l z tail ≡ true) (append-nil b) last
 order_front t l b (r ∷ front) rest tail s e none last =
@@ -226,7 +226,7 @@ order_front t l b (r ∷ front) rest tail s e none last =
     (accepted_ready t l b r.firm r.command s (front_within l b (r ∷ (front ++ rest)) e) row_none)
     (order_front t l (b ++ r ∷ []) front rest tail s cut p.1 (subst (λ (z : List Record). in_lawful_order l z tail ≡ true) (sym (append_assoc b (r ∷ []) front)) last))
 
-order_beside : (t : House) (l x y s tail : List Record) (k : Record) → NumbersOnce l → Contains l k → Sane l → Beside k x y → l ≡ x ++ s → first_refused t x s ≡ None
+order_beside : (t : House) (l x y s tail : List Record) (k : Record) → NumbersOnce l → Contains l k → NamedOnce l → HasOneLess k x y → l ≡ x ++ s → first_refused t x s ≡ None
     → All (λ e. stands_under k e ≡ false) s → in_lawful_order l (y ++ s) tail ≡ true → in_lawful_order l y (s ++ tail) ≡ true
 order_beside t l x y [] tail k once among sn beside e none un last = subst (λ (z : List Record). in_lawful_order l z tail ≡ true) (append-nil y) last
 order_beside t l x y (r ∷ s) tail k once among sn beside e none un last =
@@ -236,8 +236,8 @@ order_beside t l x y (r ∷ s) tail k once among sn beside e none un last =
     let cut : l ≡ (x ++ r ∷ []) ++ s = e ∙ sym (append_assoc x (r ∷ []) s) in
     let away = apart t l x k r once among w row_none (All-head (λ e. stands_under k e ≡ false) r s un) in
     both_true (is_ready l y r.command) (in_lawful_order l (y ++ r ∷ []) (s ++ tail))
-    (ready_beside l x y k r.command beside away (accepted_ready t l x r.firm r.command sn w row_none))
-    (order_beside t l (x ++ r ∷ []) (y ++ r ∷ []) s tail k once among sn (beside_push k x y (r ∷ []) beside) cut p.1 (All-tail (λ e. stands_under k e ≡ false) r s un)
+    (ready_with_one_less l x y k r.command beside away (accepted_ready t l x r.firm r.command sn w row_none))
+    (order_beside t l (x ++ r ∷ []) (y ++ r ∷ []) s tail k once among sn (one_less_push k x y (r ∷ []) beside) cut p.1 (All-tail (λ e. stands_under k e ≡ false) r s un)
     (subst (λ (z : List Record). in_lawful_order l z tail ≡ true) (sym (append_assoc y (r ∷ []) s)) last))
 
 -- the change moved behind those that it doesn't stand under
@@ -245,11 +245,11 @@ pub moved_lawful : (t : House) (p : List Record) (k : Record) (s : List Record) 
     → All (λ e. stands_under k e ≡ false) s → IsLawfulOrder (p ++ k ∷ s) ((p ++ s) ++ k ∷ [])
 moved_lawful t p k s once none un =
     let l : List Record = p ++ k ∷ s in
-    let sn = sane t l none in
+    let sn = named_once t l none in
     let here = none_refused (refusal_of t p k.firm k.command) k.number (first_refused t (p ++ k ∷ []) s) (replay_rest t [] p (k ∷ s) none) in
     let ready = accepted_ready t l p k.firm k.command sn (front_within l p (k ∷ s) refl) (refusal_parts t p k.firm k.command here.0).1 in
     let last : in_lawful_order l (p ++ s) (k ∷ []) ≡ true = both_true (is_ready l (p ++ s) k.command) true (ready_more l p s k.command ready) refl in
-    let behind = order_beside t l (p ++ k ∷ []) p s (k ∷ []) k once (stands_between p k s) sn (beside_start k p) (sym (append_assoc p (k ∷ []) s)) here.1 un last in
+    let behind = order_beside t l (p ++ k ∷ []) p s (k ∷ []) k once (stands_between p k s) sn (one_less_start k p) (sym (append_assoc p (k ∷ []) s)) here.1 un last in
     let all = order_front t l [] p (k ∷ s) (s ++ k ∷ []) sn refl none behind in
     record {
       same = moved_to_end p k s;

@@ -25,12 +25,12 @@ use Rattle.gu_depend.specs.Under.{names, is_under, stands_under, first_under, Ri
 use Rattle.gu_depend.proofs.Finds.{none_counts, counts_in, none_is_some, no_some, found_in, find_passes, found_once, none_before, count_append, count_permuted}
 use Rattle.gu_depend.proofs.Names.{name_same, node_called, made_of, makes, node_by_maker, makers_once}
 use Rattle.gu_depend.proofs.Rows.{refusal_parts, splits_well}
-use Rattle.gu_depend.proofs.Sane.{sane}
+use Rattle.gu_depend.proofs.NamedOnce.{named_once}
 use Rattle.gu_depend.proofs.Grown.{NamesThere, SplitsDecided}
 use Rattle.gu_depend.proofs.Settled.{accepted_there, front_facts}
 use Rattle.gu_depend.proofs.Replay.{NumbersOnce, number_once, same_finds, order_within}
 use Rattle.gu_depend.proofs.Cuts.{cut_at, stands_between, first_cut, none_passes, filter_one, moved_to_end}
-use Rattle.gu_depend.proofs.Moved.{replay_rest, replay_stops, false_unless, not_both, replays_without, moved_lawful}
+use Rattle.gu_depend.proofs.StandsLast.{replay_rest, replay_stops, false_unless, not_both, replays_without, moved_lawful}
 
 -- ---- what a change stands under
 
@@ -101,12 +101,12 @@ above_none : (t : House) (p : List Record) (k : Record) (s : List Record) → Nu
     → (e : Record) → Contains p e → Under k.number k.firm k.command e.command → ⊥
 above_none t p k s once none e among (part n x is h) =
     let f = front_facts t (p ++ k ∷ s) p (k ∷ s) refl none in
-    let m = missing_before p k s once (sane t (p ++ k ∷ s) none).decisions_once in
+    let m = missing_before p k s once (named_once t (p ++ k ∷ s) none).decisions_once in
     let y = All-contains (NamesThere p) p e f.grown.named among n is in
     none_is_some (node_of p n) y.0 (m.nodes_gone n x h) y.1
 above_none t p k s once none e among (decided n split h) =
     let f = front_facts t (p ++ k ∷ s) p (k ∷ s) refl none in
-    let sn = sane t (p ++ k ∷ s) none in
+    let sn = named_once t (p ++ k ∷ s) none in
     let m = missing_before p k s once sn.decisions_once in
     let same = All-contains (SplitsDecided (p ++ k ∷ s) p) p e f.grown.decided among n split in
     none_is_some (decision_of p n) k (m.decisions_gone n h) (same ∙ found_once (λ r. decides n r.command) (p ++ k ∷ s) k (stands_between p k s) h (sn.decisions_once n))
@@ -114,7 +114,7 @@ above_none t p k s once none e among (decided n split h) =
 itself_none : (t : House) (p : List Record) (k : Record) (s : List Record) → NumbersOnce (p ++ k ∷ s) → first_refused t [] (p ++ k ∷ s) ≡ None
     → Under k.number k.firm k.command k.command → ⊥
 itself_none t p k s once none (part n x is h) =
-    let m = missing_before p k s once (sane t (p ++ k ∷ s) none).decisions_once in
+    let m = missing_before p k s once (named_once t (p ++ k ∷ s) none).decisions_once in
     let here = none_refused (refusal_of t p k.firm k.command) k.number (first_refused t (p ++ k ∷ []) s) (replay_rest t [] p (k ∷ s) none) in
     let y = accepted_there t p k.firm k.command (refusal_parts t p k.firm k.command here.0).1 n is in
     none_is_some (node_of p n) y.0 (m.nodes_gone n x h) y.1
@@ -143,7 +143,7 @@ refused_under : (t : House) (p : List Record) (k : Record) (s : List Record) →
 refused_under t p k s once none by c (part n x is h) accepted =
     let l : List Record = p ++ k ∷ s in
     let same = moved_to_end p k s in
-    let sn = sane t l none in
+    let sn = named_once t l none in
     let m = missing_before (p ++ s) k [] (λ n. omega (arith, count_permuted (λ r. r.number == n) l ((p ++ s) ++ k ∷ []) same, once n))
     (λ n. omega (arith, count_permuted (λ r. decides n r.command) l ((p ++ s) ++ k ∷ []) same, sn.decisions_once n)) in
     let y = accepted_there t (p ++ s) by c (refusal_parts t (p ++ s) by c accepted).1 n is in
@@ -151,7 +151,7 @@ refused_under t p k s once none by c (part n x is h) accepted =
 refused_under t p k s once none by c (decided n split h) accepted =
     let l : List Record = p ++ k ∷ s in
     let same = moved_to_end p k s in
-    let sn = sane t l none in
+    let sn = named_once t l none in
     let m = missing_before (p ++ s) k [] (λ n. omega (arith, count_permuted (λ r. r.number == n) l ((p ++ s) ++ k ∷ []) same, once n))
     (λ n. omega (arith, count_permuted (λ r. decides n r.command) l ((p ++ s) ++ k ∷ []) same, sn.decisions_once n)) in
     let w = order_within l ((p ++ s) ++ k ∷ []) (p ++ s) (k ∷ []) (same_finds l ((p ++ s) ++ k ∷ []) same once sn) refl in
@@ -167,10 +167,10 @@ refused_under t p k s once none by c (decided n split h) accepted =
 numbers_front : (xs ys : List Record) → NumbersOnce (xs ++ ys) → NumbersOnce xs
 numbers_front xs ys once n = omega (arith, count_append (λ r. r.number == n) xs ys, once n)
 
-stood_by : (t : House) (p : List Record) (k : Record) (s : List Record) → NumbersOnce (p ++ k ∷ s) → first_refused t [] (p ++ k ∷ s) ≡ None
+standing_by : (t : House) (p : List Record) (k : Record) (s : List Record) → NumbersOnce (p ++ k ∷ s) → first_refused t [] (p ++ k ∷ s) ≡ None
     → (o : Option Record) → find (stands_under k) s ≡ o → first_refused t [] (p ++ s) ≡ option_map (λ e. e.number) o
-stood_by t p k s once none None found = replays_without t p k s once none (none_passes (stands_under k) s found)
-stood_by t p k s once none (Some e) found =
+standing_by t p k s once none None found = replays_without t p k s once none (none_passes (stands_under k) s found)
+standing_by t p k s once none (Some e) found =
     let c = first_cut (stands_under k) s e found in
     let whole : p ++ k ∷ s ≡ (p ++ k ∷ c.before) ++ e ∷ c.behind = ap (λ z. p ++ k ∷ z) c.is ∙ sym (append_assoc p (k ∷ c.before) (e ∷ c.behind)) in
     let once_front = numbers_front (p ++ k ∷ c.before) (e ∷ c.behind) (subst NumbersOnce whole once) in
@@ -181,18 +181,18 @@ stood_by t p k s once none (Some e) found =
     let cut : p ++ s ≡ (p ++ c.before) ++ e ∷ c.behind = ap (λ z. p ++ z) c.is ∙ sym (append_assoc p c.before (e ∷ c.behind)) in
     ap (first_refused t []) cut ∙ stops
 
-stood_cut : (t : House) (p : List Record) (k : Record) (s : List Record) → NumbersOnce (p ++ k ∷ s) → first_refused t [] (p ++ k ∷ s) ≡ None
+standing_cut : (t : House) (p : List Record) (k : Record) (s : List Record) → NumbersOnce (p ++ k ∷ s) → first_refused t [] (p ++ k ∷ s) ≡ None
     → standing_on t (p ++ k ∷ s) k.number ≡ first_under (p ++ k ∷ s) k
-stood_cut t p k s once none =
+standing_cut t p k s once none =
     ap (first_refused t []) (filter_one (λ r. r.number == k.number) p k s ((Decides-eqb k.number k.number).1 refl) (once k.number))
-    ∙ (stood_by t p k s once none (find (stands_under k) s) refl
+    ∙ (standing_by t p k s once none (find (stands_under k) s) refl
     ∙ sym (ap (option_map (λ e. e.number)) (found_behind t p k s once none)))
 
-pub stood : (t : House) (l : List Record) (k : Record) → NumbersOnce l → first_refused t [] l ≡ None → Contains l k → standing_on t l k.number ≡ first_under l k
-stood t l k once none among =
+pub standing_is_first : (t : House) (l : List Record) (k : Record) → NumbersOnce l → first_refused t [] l ≡ None → Contains l k → standing_on t l k.number ≡ first_under l k
+standing_is_first t l k once none among =
     let c = cut_at l k among in
     subst (λ (z : List Record). standing_on t z k.number ≡ first_under z k) (sym c.is)
-    (stood_cut t c.before k c.behind (subst NumbersOnce c.is once) (subst (λ (z : List Record). first_refused t [] z ≡ None) c.is none))
+    (standing_cut t c.before k c.behind (subst NumbersOnce c.is once) (subst (λ (z : List Record). first_refused t [] z ≡ None) c.is none))
 
 -- ---- in the order of the numbers
 
@@ -248,9 +248,9 @@ least_by n l k rises (Some e) found = (
       subst (λ (z : Record). e.number ≤ z.number) at low,
 )
 
-pub stood_least : (t : House) (l : List Record) (k : Record) → RisesFrom 0 l → first_refused t [] l ≡ None → Contains l k → IsLeastUnder l k (standing_on t l k.number)
-stood_least t l k rises none among =
-    subst (IsLeastUnder l k) (sym (stood t l k (number_once l (rises_distinct 0 l rises)) none among)) (least_by 0 l k rises (find (stands_under k) l) refl)
+pub standing_is_least : (t : House) (l : List Record) (k : Record) → RisesFrom 0 l → first_refused t [] l ≡ None → Contains l k → IsLeastUnder l k (standing_on t l k.number)
+standing_is_least t l k rises none among =
+    subst (IsLeastUnder l k) (sym (standing_is_first t l k (number_once l (rises_distinct 0 l rises)) none among)) (least_by 0 l k rises (find (stands_under k) l) refl)
 
 -- ---- where nothing stands on a change
 
@@ -261,7 +261,7 @@ no_number f (Some a) h = absurd (cc)
 last_cut : (t : House) (p : List Record) (k : Record) (s : List Record) → NumbersOnce (p ++ k ∷ s) → first_refused t [] (p ++ k ∷ s) ≡ None
     → standing_on t (p ++ k ∷ s) k.number ≡ None → IsLawfulOrder (p ++ k ∷ s) (without (p ++ k ∷ s) k.number ++ k ∷ [])
 last_cut t p k s once none free =
-    let under = no_number (λ e. e.number) (find (stands_under k) (p ++ k ∷ s)) (sym (stood_cut t p k s once none) ∙ free) in
+    let under = no_number (λ e. e.number) (find (stands_under k) (p ++ k ∷ s)) (sym (standing_cut t p k s once none) ∙ free) in
     let behind = none_passes (stands_under k) s (sym (found_behind t p k s once none) ∙ under) in
     subst (λ (z : List Record). IsLawfulOrder (p ++ k ∷ s) (z ++ k ∷ [])) (sym (filter_one (λ r. r.number == k.number) p k s ((Decides-eqb k.number k.number).1 refl) (once k.number)))
     (moved_lawful t p k s once none behind)

@@ -32,8 +32,8 @@ use Rattle.gu_depend.proofs.Grown.{Grown, NamesThere, line_of_grown, place_same}
 use Rattle.gu_depend.proofs.Charges.{sum_agree_on, sum_kept, charge_same}
 use Rattle.gu_depend.proofs.Settled.{front_facts, accepted_there}
 use Rattle.gu_depend.proofs.Replay.{NumbersOnce}
-use Rattle.gu_depend.proofs.Moved.{false_unless, replay_rest, decision_cut}
-use Rattle.gu_depend.proofs.Stood.{found_some}
+use Rattle.gu_depend.proofs.StandsLast.{false_unless, replay_rest, decision_cut}
+use Rattle.gu_depend.proofs.StandsUnder.{found_some}
 
 -- ---- sums
 
