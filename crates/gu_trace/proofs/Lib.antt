@@ -1,0 +1,5 @@
+pub mod Lookups
+pub mod Within
+pub mod Walk
+pub mod Texts
+pub mod Shown

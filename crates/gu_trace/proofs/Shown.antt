@@ -1,0 +1,53 @@
+-- The parts that a report shows.
+use Rattle.std.proofs.Common.{◌≡◌, ℕ, zero, suc, ◌+◌, ◌*◌, ◌<◌, ◌≤◌, ◌^◌, Bool, true, false, ◌||◌, List, [], ◌∷◌, ◌++◌, refl, sym, ◌∙◌, ap, subst, arith, cond, length, drop, take}
+use Rattle.std.specs.Prelude.{filter, sum_by, count_by, Option, Some, None, slice_get, option_map, option_and_then, bytes_eq, IfSome}
+use Rattle.std.specs.List.{All, filter_map, cons_option, list_any}
+use Rattle.std.proofs.lemmas.List.Elements.{All-nil, All-cons, All-head, All-tail, All-filter}
+use Rattle.std.proofs.lemmas.List.Sums.{sum_by-le, length-filter, count_by-le-length}
+use Rattle.gu_base.specs.Numbers.{EntryPart}
+use Rattle.gu_base.specs.History.{numbered_as, numbered_from, records}
+use Rattle.gu_base.specs.declared.command.Part.{Part}
+use Rattle.gu_base.specs.declared.report.ReportPart.{ReportPart}
+use Rattle.gu_book.specs.Limits.{PartsWithinLimits}
+use Rattle.gu_trace.specs.Reports.{report_part, report_parts, parts_shown}
+
+-- the parts from a place on: the one there, and then the others
+pub part_step : (n i j : ℕ) (by : List ℕ) (ps : List Part) (p : Part) → slice_get ps j ≡ Some p
+    → report_parts n (i + j) by (drop j ps) ≡ report_part n (i + j) by p ∷ report_parts n (i + j + 1) by (drop (j + 1) ps)
+part_step n i j by [] p found = absurd (cc)
+part_step n i zero by (q ∷ ps) p found = let here : q ≡ p = cc in ap (λ x. report_part n (i + 0) by x ∷ report_parts n (i + 0 + 1) by ps) here
+part_step n i (suc j) by (q ∷ ps) p found =
+    let e : i + suc j ≡ i + 1 + j = omega arith in
+    let d : suc (j + 1) ≡ suc j + 1 = omega arith in
+    ap (λ m. report_parts n m by (drop j ps)) e
+    ∙ (part_step n (i + 1) j by ps p found
+    ∙ (ap (λ m. report_part n m by p ∷ report_parts n (m + 1) by (drop (j + 1) ps)) (sym e)
+    ∙ ap (λ m. report_part n (i + suc j) by p ∷ report_parts n (i + suc j + 1) by (drop m (q ∷ ps))) d))
+
+as_many : (n i : ℕ) (by : List ℕ) (ps : List Part) → length (report_parts n i by ps) ≡ length ps
+as_many n i by [] = refl
+as_many n i by (p ∷ ps) = ap suc (as_many n (i + 1) by ps)
+
+each_small : (n i : ℕ) (by : List ℕ) (ps : List Part) → All (λ p. p.lots ≤ 10000000) ps → All (λ p. p.lots ≤ 10000000) (report_parts n i by ps)
+each_small n i by [] all = All-nil (λ p. p.lots ≤ 10000000)
+each_small n i by (p ∷ ps) all =
+    All-cons (λ p. p.lots ≤ 10000000) (report_part n i by p) (report_parts n (i + 1) by ps)
+    (All-head (λ p. p.lots ≤ 10000000) p ps all) (each_small n (i + 1) by ps (All-tail (λ p. p.lots ≤ 10000000) p ps all))
+
+-- no more parts are shown than there are
+pub shown_few : (f : List ℕ) (n : ℕ) (by : List ℕ) (ps : List Part) → length (parts_shown f n by ps) ≤ length ps
+shown_few f n by ps =
+    let p : ReportPart → Bool = λ q. bytes_eq by f || bytes_eq q.firm f in
+    let a = length-filter p (report_parts n 1 by ps) in
+    let b = count_by-le-length p (report_parts n 1 by ps) in
+    let c = as_many n 1 by ps in
+    omega (arith, a, b, c)
+
+-- their lots fit
+pub shown_fit : (f : List ℕ) (n : ℕ) (by : List ℕ) (ps : List Part) → PartsWithinLimits ps → sum_by (λ p. p.lots) (parts_shown f n by ps) < 2 ^ 64
+shown_fit f n by ps within =
+    let all = All-filter (λ q. bytes_eq by f || bytes_eq q.firm f) (λ q. q.lots ≤ 10000000) (report_parts n 1 by ps) (each_small n 1 by ps within.small) in
+    let a = sum_by-le (λ q. q.lots) 10000000 (parts_shown f n by ps) all in
+    let b = shown_few f n by ps in
+    let c = within.few in
+    omega (arith, a, b, c)
