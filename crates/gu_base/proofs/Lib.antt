@@ -1,5 +1,10 @@
 pub mod Worked
 pub mod NameText
+pub mod Basics
 pub mod Lines
+pub mod Numbered
 pub mod LiveLaws
 pub mod LegalLaws
+pub mod Accepted
+pub mod Consenting
+pub mod RunLaws

@@ -5,21 +5,19 @@ use Rattle.gu_base.specs.Numbers.{EntryPart}
 use Rattle.gu_base.specs.House.{House}
 use Rattle.gu_base.specs.History.{live}
 use Rattle.gu_base.specs.Positions.{position_of}
+use Rattle.gu_base.specs.Places.{depth_of}
+use Rattle.gu_base.specs.Standing.{first_refused}
 use Rattle.gu_base.specs.Fees.{paid_by, received_by, used_of}
 use Rattle.gu_base.specs.Rows.{rows_of, Row}
 use Rattle.gu_base.specs.Texts.{refusal_text}
-use Rattle.gu_base.specs.Answers.{Call, answer_to, after}
+use Rattle.gu_base.specs.Answers.{Call, answer_to}
 use Rattle.gu_base.specs.Runs.{answers, after_all}
-use Rattle.gu_base.specs.declared.house.Agreement.{Agreement}
-use Rattle.gu_base.specs.declared.house.Account.{Account}
 use Rattle.gu_base.specs.declared.node.Place.{Place}
-use Rattle.gu_base.specs.declared.command.Side.{Side}
-use Rattle.gu_base.specs.declared.command.Side.TheVariants.{Buy, Sell}
+use Rattle.gu_base.specs.declared.command.Side.TheVariants.{Buy}
 use Rattle.gu_base.specs.declared.command.Part.{Part}
 use Rattle.gu_base.specs.declared.command.Command.{Command}
 use Rattle.gu_base.specs.declared.command.Command.TheVariants.{Trade, Split, Claim, Refuse, Cancel, Initiate, Decline, Reverse}
-use Rattle.gu_base.specs.declared.entry.Entry.{Entry}
-use Rattle.gu_base.specs.declared.entry.Answer.{Answer}
+use Rattle.gu_base.specs.declared.entry.Record.{Record}
 use Rattle.gu_base.specs.declared.entry.Answer.TheVariants.{Accepted, Repeated, Refused}
 use Rattle.gu_base.specs.declared.state.State.{State}
 use Rattle.gu_base.specs.declared.state.State.TheVariants.{Held, Offered, Claimed, Refused as WasRefused, Cancelled, ReversalPending, Reversed}
@@ -285,3 +283,11 @@ reverse_a_refusal_position = refl
 house_refusals : answers house [] (call (codes "DDD") 1 (Split (node 1 0) (own 100 aaa a1 ∷ [])) ∷ call aaa 2 (Trade aaa a1 esz6 Buy 1) ∷ call hse 3 (Trade aaa b1 esz6 Buy 1) ∷ call hse 4 (Trade aaa a1 (codes "ESU6") Buy 0) ∷ [])
     ≡ Refused UnknownFirm ∷ Refused HouseOnly ∷ Refused UnknownAccount ∷ Refused UnknownInstrument ∷ []
 house_refusals = refl
+
+-- a list of changes whose numbers fall: the split of a trade has a lower number than the trade
+abbrev falling : List Record
+falling = record { number = 5; firm = hse; id = 1 ∷ []; command = Trade aaa a1 esz6 Buy 100; status = Held }
+    ∷ record { number = 1; firm = aaa; id = 2 ∷ []; command = Split (node 5 0) (own 60 aaa a1 ∷ to 40 bbb ∷ []); status = Offered } ∷ []
+
+falling_numbers : (first_refused house [] falling ≡ None) × (depth_of falling (node 1 1) ≡ 1) × (position_of falling aaa a1 esz6 Buy ≡ 100)
+falling_numbers = (refl, refl, refl)

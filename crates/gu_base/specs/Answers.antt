@@ -1,6 +1,7 @@
 -- The answer to a call, and the history after it.
 use Rattle.std.specs.Prelude.{ℕ, ◌+◌, Bool, true, false, not, ◌&&◌, nat_lt, if◌then◌else◌, List, [], ◌∷◌, ◌++◌, length, find, Option, Some, None, option_map, bytes_eq, ◌==◌}
 use Rattle.std.specs.List.{list_any}
+use Rattle.gu_base.specs.Limits.{most_entries}
 use Rattle.gu_base.specs.Same.{same_command}
 use Rattle.gu_base.specs.House.{House, knows_firm}
 use Rattle.gu_base.specs.History.{records, live, is_change, is_reverse_of}
@@ -97,7 +98,7 @@ answer_by None None other = other
 abbrev pub answer_to : House → List Entry → Call → Answer
 answer_to t h c = answer_by (find (is_same_call c) (records h)) (find (is_same_id c) (records h))
     (accepted_or (length h + 1) (status_of c.firm c.command)
-    (first (unless (nat_lt (length h) 1000000) BookFull ∷ command_refusal t h c.firm c.command ∷ [])))
+    (first (unless (nat_lt (length h) most_entries) BookFull ∷ command_refusal t h c.firm c.command ∷ [])))
 
 abbrev pub after_by : List Entry → Call → Answer → List Entry
 after_by h c (Accepted number status) = h ++ record { firm = c.firm; id = c.id; command = c.command; status = status } ∷ []

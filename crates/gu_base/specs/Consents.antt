@@ -1,15 +1,16 @@
 -- Who has to consent to a reversal, and who has.
-use Rattle.std.specs.Prelude.{ℕ, Bool, true, false, not, ◌==◌, List, [], ◌∷◌, map, filter, find, Option, Some, None, bytes_eq}
+use Rattle.std.specs.Prelude.{ℕ, Bool, true, false, not, ◌==◌, if◌then◌else◌, List, [], ◌∷◌, map, filter, find, Option, Some, None, bytes_eq}
 use Rattle.std.specs.List.{list_any, after_last}
 use Rattle.gu_base.specs.House.{House}
+use Rattle.gu_base.specs.History.{is_reversed}
 use Rattle.gu_base.specs.Nodes.{node_of}
 use Rattle.gu_base.specs.declared.entry.Record.{Record}
 use Rattle.gu_base.specs.declared.entry.Entry.{Entry}
 use Rattle.gu_base.specs.declared.node.Kind.{Kind}
-use Rattle.gu_base.specs.declared.node.Kind.TheVariants.{Root, Own, Given}
+use Rattle.gu_base.specs.declared.node.Kind.TheVariants.{Given}
 use Rattle.gu_base.specs.declared.node.Node.{Node}
 use Rattle.gu_base.specs.declared.command.Command.{Command}
-use Rattle.gu_base.specs.declared.command.Command.TheVariants.{Trade, Split, Claim, Refuse, Cancel, Initiate, Decline, Reverse}
+use Rattle.gu_base.specs.declared.command.Command.TheVariants.{Trade, Split, Claim, Refuse, Cancel, Initiate, Decline}
 
 abbrev pub taker_and_giver : Kind → List (List ℕ)
 taker_and_giver (Given _ giver taker) = taker ∷ giver ∷ []
@@ -33,6 +34,12 @@ parties_of t l by (Refuse n) = of_node taker_and_giver (node_of l n)
 parties_of t l by (Cancel n) = of_node giver_alone (node_of l n)
 parties_of t l by _ = []
 
+-- a command that speaks of the consents to a reversal
+abbrev pub is_consenting : Command → Bool
+is_consenting (Initiate _) = true
+is_consenting (Decline _) = true
+is_consenting _ = false
+
 abbrev pub is_initiate_of : ℕ → Command → Bool
 is_initiate_of n (Initiate entry) = entry == n
 is_initiate_of n _ = false
@@ -44,6 +51,10 @@ is_decline_of n _ = false
 -- the firms with an Initiate of the entry after its last Decline, or with any Initiate of it where it was never declined
 abbrev pub consents_of : List Entry → ℕ → List (List ℕ)
 consents_of h n = map (λ e. e.firm) (filter (λ e. is_initiate_of n e.command) (after_last (λ e. is_decline_of n e.command) h))
+
+-- the consents that are left: none once the change is reversed
+abbrev pub consents_left : List Entry → ℕ → List (List ℕ)
+consents_left h n = if is_reversed h n then [] else consents_of h n
 
 abbrev pub is_among : List ℕ → List (List ℕ) → Bool
 is_among firm firms = list_any (bytes_eq firm) firms

@@ -2,14 +2,13 @@
 use Rattle.std.specs.Prelude.{ℕ, ◌*◌, ◌&&◌, List, filter, filter_map, sum_by, Option, None, option_map, option_and_then, bytes_eq}
 use Rattle.gu_base.specs.House.{House, agreement}
 use Rattle.gu_base.specs.Nodes.{node_of}
-use Rattle.gu_base.specs.declared.house.Agreement.{Agreement}
 use Rattle.gu_base.specs.declared.entry.Record.{Record}
 use Rattle.gu_base.specs.declared.node.Kind.{Kind}
-use Rattle.gu_base.specs.declared.node.Kind.TheVariants.{Root, Own, Given}
+use Rattle.gu_base.specs.declared.node.Kind.TheVariants.{Given}
 use Rattle.gu_base.specs.declared.node.Node.{Node}
 use Rattle.gu_base.specs.declared.node.Charge.{Charge}
 use Rattle.gu_base.specs.declared.command.Command.{Command}
-use Rattle.gu_base.specs.declared.command.Command.TheVariants.{Trade, Split, Claim, Refuse, Cancel, Initiate, Decline, Reverse}
+use Rattle.gu_base.specs.declared.command.Command.TheVariants.{Claim}
 
 -- what a claim of a given part of these lots costs, by the agreement of its giver and taker
 abbrev pub charge_of_kind : House → ℕ → Kind → Option Charge

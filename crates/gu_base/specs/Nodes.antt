@@ -7,7 +7,7 @@ use Rattle.gu_base.specs.declared.node.Kind.TheVariants.{Root, Own, Given}
 use Rattle.gu_base.specs.declared.node.Node.{Node}
 use Rattle.gu_base.specs.declared.command.Part.{Part}
 use Rattle.gu_base.specs.declared.command.Command.{Command}
-use Rattle.gu_base.specs.declared.command.Command.TheVariants.{Trade, Split, Claim, Refuse, Cancel, Initiate, Decline, Reverse}
+use Rattle.gu_base.specs.declared.command.Command.TheVariants.{Trade, Split, Claim, Refuse, Cancel}
 
 abbrev pub same_name : EntryPart → EntryPart → Bool
 same_name a b = (a.entry == b.entry) && (a.part == b.part)
@@ -39,6 +39,11 @@ nodes l = flat_map (λ r. nodes_of r.number r.firm r.command) l
 -- the node of this name
 abbrev pub node_of : List Record → EntryPart → Option Node
 node_of l n = find (λ x. same_name x.name n) (nodes l)
+
+-- whether a command is a Split
+abbrev pub is_split : Command → Bool
+is_split (Split _ _) = true
+is_split _ = false
 
 -- whether a command splits the node
 abbrev pub splits : EntryPart → Command → Bool

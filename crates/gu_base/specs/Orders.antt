@@ -3,7 +3,7 @@ use Rattle.std.specs.Prelude.{Bool, true, ◌&&◌, ◌||◌, List, [], ◌∷�
 use Rattle.gu_base.specs.Nodes.{node_of, decision_of}
 use Rattle.gu_base.specs.declared.entry.Record.{Record}
 use Rattle.gu_base.specs.declared.command.Command.{Command}
-use Rattle.gu_base.specs.declared.command.Command.TheVariants.{Trade, Split, Claim, Refuse, Cancel, Initiate, Decline, Reverse}
+use Rattle.gu_base.specs.declared.command.Command.TheVariants.{Split, Claim, Refuse, Cancel}
 
 -- whether what a change names was made before it, and for a Split also decided, if the list has a decision
 abbrev pub is_ready : List Record → List Record → Command → Bool

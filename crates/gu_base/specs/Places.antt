@@ -17,9 +17,9 @@ line_within steps l None = []
 line_within zero l (Some x) = []
 line_within (suc steps) l (Some x) = x ∷ line_within steps l (option_and_then (node_of l) (parent x.kind))
 
--- the line from a node to its root: each step leads to a lower number, so the node's own is enough steps
+-- the line from a node to its root: each step leads to a node of an earlier change, so the list's length is enough steps
 abbrev pub line_of : List Record → EntryPart → List Node
-line_of l n = line_within n.entry l (node_of l n)
+line_of l n = line_within (length l) l (node_of l n)
 
 -- a root and an own part stand in their account, a given part where its claim says, or else where its parent stands
 abbrev pub place_of_kind : Kind → Option (List ℕ) → Option Place → Option Place

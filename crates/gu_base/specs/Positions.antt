@@ -1,5 +1,5 @@
 -- The leaves of a list of changes, and the lots that stand in an account.
-use Rattle.std.specs.Prelude.{ℕ, Bool, true, false, ◌&&◌, ◌==◌, List, filter, find, sum_by, Option, is_some, is_none, unwrap_or, option_map, option_and_then, bytes_eq}
+use Rattle.std.specs.Prelude.{ℕ, Bool, true, false, ◌&&◌, ◌==◌, List, filter, find, sum_by, is_some, is_none, unwrap_or, option_map, option_and_then, bytes_eq}
 use Rattle.gu_base.specs.Numbers.{EntryPart}
 use Rattle.gu_base.specs.Nodes.{nodes, split_of}
 use Rattle.gu_base.specs.Places.{place_of, root_of, same_place}
@@ -9,7 +9,7 @@ use Rattle.gu_base.specs.declared.node.Node.{Node}
 use Rattle.gu_base.specs.declared.command.Side.{Side}
 use Rattle.gu_base.specs.declared.command.Side.TheVariants.{Buy, Sell}
 use Rattle.gu_base.specs.declared.command.Command.{Command}
-use Rattle.gu_base.specs.declared.command.Command.TheVariants.{Trade, Split, Claim, Refuse, Cancel, Initiate, Decline, Reverse}
+use Rattle.gu_base.specs.declared.command.Command.TheVariants.{Trade}
 
 -- a leaf is a node that no Split names
 abbrev pub leaves : List Record → List Node

@@ -1,5 +1,6 @@
 -- Why a change is refused over a list of changes: each command's row of the table, in order.
 use Rattle.std.specs.Prelude.{ℕ, ◌+◌, Bool, false, not, ◌&&◌, ◌||◌, ◌==◌, nat_le, nat_lt, if◌then◌else◌, List, [], ◌∷◌, map, length, sum_by, Option, Some, None, option_map, unwrap_or, bytes_eq}
+use Rattle.gu_base.specs.Limits.{most_parts, deepest}
 use Rattle.gu_base.specs.Numbers.{EntryPart, is_lots}
 use Rattle.gu_base.specs.House.{House, agreement, knows_firm, knows_account, knows_instrument}
 use Rattle.gu_base.specs.Nodes.{node_of, split_of, is_offered}
@@ -8,7 +9,7 @@ use Rattle.gu_base.specs.Fees.{used_of}
 use Rattle.gu_base.specs.declared.house.Agreement.{Agreement}
 use Rattle.gu_base.specs.declared.entry.Record.{Record}
 use Rattle.gu_base.specs.declared.node.Kind.{Kind}
-use Rattle.gu_base.specs.declared.node.Kind.TheVariants.{Root, Own, Given}
+use Rattle.gu_base.specs.declared.node.Kind.TheVariants.{Given}
 use Rattle.gu_base.specs.declared.node.Node.{Node}
 use Rattle.gu_base.specs.declared.command.Part.{Part}
 use Rattle.gu_base.specs.declared.command.Command.{Command}
@@ -66,8 +67,8 @@ split_row t l by parts x = first (
     unless (owns l by x.name) NotYours
     ∷ option_map (λ r. AlreadySplit r.number) (split_of l x.name)
     ∷ unless (not (is_offered l x)) StillOffered
-    ∷ unless (nat_le 1 (length parts) && nat_le (length parts) 100) BadPartCount
-    ∷ unless (nat_lt (depth_of l x.name) 64) TooDeep
+    ∷ unless (nat_le 1 (length parts) && nat_le (length parts) most_parts) BadPartCount
+    ∷ unless (nat_lt (depth_of l x.name) deepest) TooDeep
     ∷ first (map (refusal_of_part t by) parts)
     ∷ unless (sum_by (λ p. p.lots) parts == x.lots) SumDiffers ∷ [])
 

@@ -4,7 +4,7 @@ use Rattle.gu_base.specs.House.{House}
 use Rattle.gu_base.specs.Answers.{Call, answer_to, after}
 use Rattle.gu_base.specs.declared.entry.Entry.{Entry}
 use Rattle.gu_base.specs.declared.entry.Answer.{Answer}
-use Rattle.gu_base.specs.declared.entry.Answer.TheVariants.{Accepted, Repeated, Refused}
+use Rattle.gu_base.specs.declared.entry.Answer.TheVariants.{Accepted}
 
 -- the history after a list of calls
 abbrev pub after_all : House → List Entry → List Call → List Entry

@@ -1,5 +1,5 @@
 -- Equality of commands, field by field.
-use Rattle.std.specs.Prelude.{Bool, true, false, ◌&&◌, ◌==◌, bytes_eq}
+use Rattle.std.specs.Prelude.{Bool, false, ◌&&◌, ◌==◌, bytes_eq}
 use Rattle.gu_base.specs.SameParts.{same_parts}
 use Rattle.gu_base.specs.Nodes.{same_name}
 use Rattle.gu_base.specs.Positions.{same_side}

@@ -1,15 +1,14 @@
 -- Commands that pass the test are equal.
-use Rattle.std.proofs.Common.{◌≡◌, ℕ, Bool, true, false, ◌&&◌, List, refl, ap}
-use Rattle.std.specs.Prelude.{bytes_eq, ◌==◌}
+use Rattle.std.proofs.Common.{◌≡◌, true, refl, ap}
 use Rattle.std.specs.Bool.{Decides}
 use Rattle.std.specs.Cmp.{IsEquivalence}
+use Rattle.std.proofs.lemmas.Bool.{and_parts}
 use Rattle.std.proofs.lemmas.Bool.Decides.{Decides-eqb}
 use Rattle.std.proofs.lemmas.Slice.Eq.{bytes_eq-Decides}
 use Rattle.gu_base.specs.Numbers.{EntryPart}
 use Rattle.gu_base.specs.Nodes.{same_name}
 use Rattle.gu_base.specs.Positions.{same_side}
-use Rattle.gu_base.specs.SameParts.{same_parts}
-use Rattle.gu_base.specs.SamePartsLaws.{both, bytes_same, number_same, decides_from, equivalence_from, same_parts-Decides}
+use Rattle.gu_base.specs.SamePartsLaws.{bytes_same, number_same, decides_from, equivalence_from, same_parts-Decides}
 use Rattle.gu_base.specs.Same.{same_command}
 use Rattle.gu_base.specs.declared.command.Side.{Side}
 use Rattle.gu_base.specs.declared.command.Side.TheVariants.{Buy, Sell}
@@ -18,7 +17,7 @@ use Rattle.gu_base.specs.declared.command.Command.TheVariants.{Trade, Split, Cla
 
 pub same_name-Decides : (a b : EntryPart) → Decides (same_name a b) (a ≡ b)
 same_name-Decides a b = decides_from same_name a b
-    (λ h. let p = both _ _ h in let e : a.entry ≡ b.entry = (Decides-eqb _ _).0 p.0 in let f : a.part ≡ b.part = (Decides-eqb _ _).0 p.1 in λ i. record { entry = e i; part = f i })
+    (λ h. let p = and_parts _ _ h in let e : a.entry ≡ b.entry = (Decides-eqb _ _).0 p.0 in let f : a.part ≡ b.part = (Decides-eqb _ _).0 p.1 in λ i. record { entry = e i; part = f i })
     (rw (number_same a.entry, number_same a.part) refl)
 
 pub same_side-Decides : (a b : Side) → Decides (same_side a b) (a ≡ b)
@@ -39,14 +38,14 @@ same_command-refl (Reverse e) = number_same e
 
 pub same_command-told : (a b : Command) → same_command a b ≡ true → a ≡ b
 same_command-told (Trade f a i s l) (Trade f' a' i' s' l') h =
-    let p = both _ _ h in let q = both _ _ p.0 in let r = both _ _ q.0 in let t = both _ _ r.0 in
+    let p = and_parts _ _ h in let q = and_parts _ _ p.0 in let r = and_parts _ _ q.0 in let t = and_parts _ _ r.0 in
     let ef : f ≡ f' = (bytes_eq-Decides _ _).0 t.0 in let ea : a ≡ a' = (bytes_eq-Decides _ _).0 t.1 in let ei : i ≡ i' = (bytes_eq-Decides _ _).0 r.1 in
     let es : s ≡ s' = (same_side-Decides _ _).0 q.1 in let el : l ≡ l' = (Decides-eqb _ _).0 p.1 in
     cc
 same_command-told (Split n ps) (Split n' ps') h =
-    let p = both _ _ h in let en : n ≡ n' = (same_name-Decides _ _).0 p.0 in let ep : ps ≡ ps' = (same_parts-Decides _ _).0 p.1 in cc
+    let p = and_parts _ _ h in let en : n ≡ n' = (same_name-Decides _ _).0 p.0 in let ep : ps ≡ ps' = (same_parts-Decides _ _).0 p.1 in cc
 same_command-told (Claim n a) (Claim n' a') h =
-    let p = both _ _ h in let en : n ≡ n' = (same_name-Decides _ _).0 p.0 in let ea : a ≡ a' = (bytes_eq-Decides _ _).0 p.1 in cc
+    let p = and_parts _ _ h in let en : n ≡ n' = (same_name-Decides _ _).0 p.0 in let ea : a ≡ a' = (bytes_eq-Decides _ _).0 p.1 in cc
 same_command-told (Refuse n) (Refuse n') h = ap (λ x. Refuse x) ((same_name-Decides _ _).0 h)
 same_command-told (Cancel n) (Cancel n') h = ap (λ x. Cancel x) ((same_name-Decides _ _).0 h)
 same_command-told (Initiate e) (Initiate e') h = ap (λ x. Initiate x) ((Decides-eqb _ _).0 h)

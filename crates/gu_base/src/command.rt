@@ -1,5 +1,6 @@
 //! What a firm can ask of the book: the eight commands.
-ghost use Rattle.std.specs.Prelude.{◌≡◌, IfOk, IsTrue, ◌↔◌};
+ghost use Rattle.std.specs.Prelude.{◌≡◌, IfOk, OnErr, IsTrue, ◌↔◌};
+ghost use Rattle.gu_base.specs.Nodes.{is_split};
 ghost use Rattle.gu_base.specs.SameParts.{same_account};
 
 use crate::memory::Memory;
@@ -69,7 +70,7 @@ impl Parts {
         ensures { IfOk result (λ p. p ≡ self.now) }
     {
         Ok(Parts {
-            items: Vec::from_slice(alloc, self.items.as_slice())?,
+            items: Vec::from_slice(alloc, self.as_slice())?,
         })
     }
 }
@@ -107,7 +108,7 @@ impl PartialEq for Parts {
     ghost laws = { partial_equiv_from_equiv (equivalence_from same_parts same_parts-Decides) };
 
     fn eq(&self, other: &Parts) -> bool {
-        self.items.as_slice() == other.items.as_slice()
+        self.as_slice() == other.as_slice()
     }
 }
 
@@ -244,9 +245,14 @@ impl Command {
         *self == *other
     }
 
-    /// An equal command in memory of its own. Only the parts of a Split take memory.
+    /// An equal command in memory of its own.
+    ///
+    /// # Errors
+    ///
+    /// `Memory` where a growth was refused, for a Split alone: only its parts take memory.
     pub fn copy(&self, alloc: Global) -> Result<Command, Memory>
-        ensures { IfOk result (λ c. c ≡ self.now) }
+        ensures equal { IfOk result (λ c. c ≡ self.now) }
+        ensures memory { OnErr result (IsTrue (is_split self.now)) }
     {
         Ok(match self {
             Command::Trade {

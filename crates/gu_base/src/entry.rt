@@ -1,5 +1,6 @@
 //! An accepted command, and the book's answers.
-ghost use Rattle.std.specs.Prelude.{◌≡◌, IfOk};
+ghost use Rattle.std.specs.Prelude.{◌≡◌, IfOk, OnErr, IsTrue};
+ghost use Rattle.gu_base.specs.Nodes.{is_split};
 
 use crate::command::Command;
 use crate::memory::Memory;
@@ -30,8 +31,13 @@ pub struct Record {
 
 impl Record {
     /// An equal record in memory of its own.
+    ///
+    /// # Errors
+    ///
+    /// `Memory` where a growth was refused, for a Split alone.
     pub fn copy(&self, alloc: Global) -> Result<Record, Memory>
-        ensures { IfOk result (λ r. r ≡ self.now) }
+        ensures equal { IfOk result (λ r. r ≡ self.now) }
+        ensures memory { OnErr result (IsTrue (is_split self.now.command)) }
     {
         Ok(Record {
             number: self.number,

@@ -23,3 +23,8 @@ pub struct Agreement {
     /// The lots of live claims that the giver allows the taker: 0 to 10,000,000,000,000.
     pub limit: u64,
 }
+
+impl Agreement {
+    /// The highest limit of an agreement, in lots.
+    pub const MAX_LIMIT: u64 = 10_000_000_000_000;
+}

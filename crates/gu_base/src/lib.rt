@@ -1,4 +1,4 @@
-//! The ground of the service: names, numbers, commands, refusals, entries and answers, and the definitions of the book.
+//! The base of the service: names, numbers, commands, refusals, entries and answers, and the definitions of the book.
 //!
 //! - A name is made exactly where its text is lawful, a number exactly where it is in its range; both are `Copy` and take
 //!   no memory.

@@ -14,6 +14,12 @@ pub use alloc::AllocId;
 pub use firm::FirmId;
 pub use instrument::InstrumentId;
 
+/// The bytes that the name of a firm, an account or an instrument may have.
+pub(crate) const NAME_LEN: usize = 16;
+
+/// The bytes that the id of a command may have.
+pub(crate) const ID_LEN: usize = 32;
+
 /// Whether a byte is printed and is no space: 0x21 to 0x7E.
 fn is_printed(b: u8) -> bool
     ensures { result ≡ is_printed b }
@@ -34,7 +40,7 @@ pub(crate) fn is_firm_text(text: &[u8]) -> bool
 {
     let lawful = all_printed(text);
     let len = text.len();
-    1 <= len && len <= 16 && lawful
+    1 <= len && len <= NAME_LEN && lawful
 }
 
 /// Whether a byte is printed or a space: 0x20 to 0x7E.
@@ -57,5 +63,5 @@ pub(crate) fn is_id_text(text: &[u8]) -> bool
 {
     let lawful = all_text(text);
     let len = text.len();
-    1 <= len && len <= 32 && lawful
+    1 <= len && len <= ID_LEN && lawful
 }

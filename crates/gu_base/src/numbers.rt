@@ -1,5 +1,6 @@
 //! Numbers in their ranges, and names of nodes. A clause sees each number as a natural number.
 ghost use Rattle.std.specs.Prelude.{◌≡◌, ◌≤◌, ◌<◌, ◌+◌, ◌++◌, IsTrue, Some, None, if◌then◌else◌, decimal, codes};
+ghost use Rattle.gu_base.specs.Limits.{most_entries, most_parts};
 ghost use Rattle.gu_base.specs.Numbers.{is_number, is_lots, is_rate, is_node_name};
 
 use std::fmt;
@@ -41,7 +42,7 @@ impl Number {
 
     /// The number of the entry at this place of a history, counted from 0.
     pub fn at_place(place: usize) -> Number
-        requires { place < 1000000 }
+        requires { place < most_entries }
         ensures { result ≡ place + 1 }
     {
         Number {
@@ -177,13 +178,14 @@ pub struct NodeName {
 
 impl Model for NodeName {
     ghost use Rattle.std.specs.Prelude.{ℕ, ◌≤◌};
+    ghost use Rattle.gu_base.specs.Limits.{most_parts};
     ghost use Rattle.gu_base.specs.Numbers.{EntryPart};
 
     ghost Value = { EntryPart };
 
     ghost view = { λ n. record { entry = n.entry; part = n.part } };
 
-    ghost invariant = { λ n. n.part ≤ 100 };
+    ghost invariant = { λ n. n.part ≤ most_parts };
 
     ghost inverse = { λ n. record { entry = n.entry; part = n.part } };
 }
@@ -207,7 +209,7 @@ impl NodeName {
 
     /// The name of part `part` of an entry that is known.
     pub fn in_entry(entry: Number, part: u8) -> NodeName
-        requires { part ≤ 100 }
+        requires { part ≤ most_parts }
         ensures { result ≡ record { entry = entry; part = part } }
     {
         NodeName { entry, part }
@@ -223,7 +225,7 @@ impl NodeName {
     /// Which of the entry's parts it is, 0 for the root of a trade.
     pub fn part(&self) -> u8
         ensures value { result ≡ self.now.part }
-        ensures in_range { result ≤ 100 }
+        ensures in_range { result ≤ most_parts }
     {
         self.part
     }

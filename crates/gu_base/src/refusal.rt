@@ -1,6 +1,7 @@
 //! Why the book refuses a command: the table of refusals, each with its number and its text.
 ghost use Rattle.std.specs.Prelude.{◌≡◌, ◌+◌, ◌≤◌, ◌<◌, ◌++◌, length, decimal};
 ghost use Rattle.arrayvec.specs.ArrayString.{array_string_len};
+ghost use Rattle.gu_base.specs.Limits.{most_entries};
 ghost use Rattle.gu_base.specs.Texts.{number_of, head_of, tail_of, refusal_text};
 
 use crate::names::FirmId;
@@ -91,7 +92,7 @@ pub enum Refusal {
 
 /// Appends a number's digits.
 fn push_number(text: &mut ArrayString<48>, n: u32)
-    requires small { n ≤ 1000000 }
+    requires small { n ≤ most_entries }
     requires room { array_string_len text.old ≤ 41 }
     ensures bytes { text.new.bytes ≡ text.old.bytes ++ decimal n }
     ensures len { array_string_len text.new ≤ array_string_len text.old + 7 }

@@ -1,43 +1,49 @@
 -- One more accepted change leaves true what a book keeps.
-use Rattle.std.proofs.Common.{◌≡◌, ℕ, ◌+◌, ◌<◌, ◌≤◌, Bool, true, false, ◌&&◌, ◌||◌, List, [], ◌∷◌, ◌++◌, length, refl, sym, ◌∙◌, ap, subst, arith, Option, cond, append-nil, append_assoc, length-append}
-use Rattle.std.specs.Prelude.{Some, None, find, bytes_eq, is_some, nat_lt}
-use Rattle.std.specs.List.{list_any, list_all, IsDistinct}
+use Rattle.std.proofs.Common.{◌≡◌, ℕ, ◌+◌, ◌≤◌, Bool, true, false, ◌&&◌, ◌||◌, List, [], ◌∷◌, ◌++◌, length, refl, sym, ◌∙◌, ap, subst, arith, Option, cond, append-nil, append_assoc, length-append}
+use Rattle.std.specs.Prelude.{Some, None, find, bytes_eq, option_map, ◌==◌}
+use Rattle.std.specs.List.{list_any, IsDistinct}
 use Rattle.std.specs.Cmp.{IsEquivalence}
-use Rattle.std.proofs.lemmas.Bool.Decides.{same_from_decides}
 use Rattle.std.proofs.lemmas.List.Elements.{All-nil, All-push}
-use Rattle.std.proofs.lemmas.List.Folds.{list_all-append}
+use Rattle.std.proofs.lemmas.List.Sums.{length-filter, count_by-le-length}
 use Rattle.std.proofs.lemmas.Map.Keys.{IsDistinct-push}
 use Rattle.std.proofs.lemmas.Slice.Eq.{bytes_eq-Decides}
-use Rattle.gu_base.specs.House.{House}
-use Rattle.gu_base.specs.History.{numbered_as, numbered_from, records, is_change, is_reverse_of, is_reversed, live}
-use Rattle.gu_base.specs.Refusals.{refusal_of, first, unless}
-use Rattle.gu_base.specs.Standing.{first_refused}
-use Rattle.gu_base.specs.Answers.{answer_to, command_refusal, is_same_id, is_same_call, status_of}
+use Rattle.gu_base.specs.House.{House, knows_firm}
+use Rattle.gu_base.specs.History.{numbered_as, numbered_from, records, is_change, is_reversed, live}
+use Rattle.gu_base.specs.Refusals.{refusal_of, unless}
+use Rattle.gu_base.specs.Standing.{first_refused, standing_on, without}
+use Rattle.gu_base.specs.Answers.{answer_to, command_refusal, entry_of, reversal_of, on_change, initiate_rest, is_same_id, accepted_or}
 use Rattle.gu_base.specs.Runs.{call_of, IsRunFrom}
 use Rattle.gu_base.specs.declared.command.Command.{Command}
-use Rattle.gu_base.specs.declared.command.Command.TheVariants.{Trade, Split, Claim, Refuse, Cancel, Initiate, Decline, Reverse}
+use Rattle.gu_base.specs.declared.command.Command.TheVariants.{Initiate, Decline, Reverse}
 use Rattle.gu_base.specs.declared.entry.Answer.TheVariants.{Accepted}
 use Rattle.gu_base.specs.declared.entry.Entry.{Entry}
 use Rattle.gu_base.specs.declared.entry.Record.{Record}
-use Rattle.gu_base.specs.declared.refusal.Refusal.{Refusal}
-use Rattle.gu_base.specs.declared.refusal.Refusal.TheVariants.{BookFull}
+use Rattle.gu_base.specs.declared.refusal.Refusal.TheVariants.{UnknownFirm, StandsOn}
 use Rattle.gu_base.specs.SamePartsLaws.{bytes_same}
-use Rattle.gu_base.proofs.LiveLaws.{live_push_change}
+use Rattle.gu_base.proofs.LiveLaws.{live_push_change, live_push_reverse, is_live, live_push_consent}
+use Rattle.gu_base.proofs.Basics.{bytes_symm, nothing_here}
 use Rattle.gu_book.specs.Beside.{IsTradeTree, IsBeside, IsNext}
 use Rattle.gu_book.specs.Conserved.{RisesFrom}
 use Rattle.gu_book.specs.Ids.{same_id, NoIdTwice}
 use Rattle.gu_book.specs.Kept.{AcceptedFrom, IsKept}
-use Rattle.gu_book.specs.Limits.{IsWithinLimits}
+use Rattle.gu_base.specs.Consents.{consents_left, is_consenting}
+use Rattle.std.proofs.lemmas.Bool.{and_parts}
+use Rattle.gu_base.proofs.Accepted.{first_none, change_refused, IsAllowed, allowed, open_from_none}
+use Rattle.gu_base.proofs.RunLaws.{IsRun, run_push}
+use Rattle.gu_base.proofs.Numbered.{found_at}
+use Rattle.gu_book.specs.Limits.{IsWithinLimits, AllWithinLimits}
+use Rattle.gu_book.specs.Replays.{IsLegalWithout}
+use Rattle.gu_consent.specs.Given.{given}
+use Rattle.gu_consent.specs.declared.Consents.{Consents}
 use Rattle.gu_book.specs.declared.trees.TradeTree.{TradeTree}
 use Rattle.gu_book.proofs.Leaves.{live_rises}
-use Rattle.gu_book.proofs.Refused.{both, first_none, accepted_parts, change_refused, accepted_small}
-
-bytes_symm : (a b : List ℕ) → bytes_eq a b ≡ bytes_eq b a
-bytes_symm a b = same_from_decides (bytes_eq a b) (bytes_eq b a) (bytes_eq-Decides a b) ((λ h. sym ((bytes_eq-Decides b a).0 h)), (λ e. (bytes_eq-Decides b a).1 (sym e)))
+use Rattle.gu_base.proofs.Consenting.{left_change, left_initiate, left_decline, left_reverse, not_reversed}
+use Rattle.gu_book.proofs.Refused.{accepted_small}
+use Rattle.gu_book.proofs.Replaying.{without_small}
 
 ids_congr : (x y z : Entry) → same_id x y ≡ true → same_id x z ≡ same_id y z
 ids_congr x y z h =
-    let p = both (bytes_eq x.firm y.firm) (bytes_eq x.id y.id) h in
+    let p = and_parts (bytes_eq x.firm y.firm) (bytes_eq x.id y.id) h in
     let f : x.firm ≡ y.firm = (bytes_eq-Decides x.firm y.firm).0 p.0 in
     let g : x.id ≡ y.id = (bytes_eq-Decides x.id y.id).0 p.1 in
     ap (λ w. bytes_eq w z.firm && bytes_eq x.id z.id) f ∙ ap (λ w. bytes_eq y.firm z.firm && bytes_eq w z.id) g
@@ -52,47 +58,11 @@ ids_laws = record {
   congr = ids_congr;
 }
 
-find_nothing : {A : Type 0} (b : Bool) (x : A) (rest : Option A) → cond b (Some x) rest ≡ None → (b ≡ false) × (rest ≡ None)
-find_nothing true x rest h = absurd (cc)
-find_nothing false x rest h = (refl, h)
-
 id_is_new : (n : ℕ) (e : Entry) (h : List Entry) → find (is_same_id (call_of e)) (numbered_from n h) ≡ None → list_any (same_id e) h ≡ false
 id_is_new n e [] none = refl
 id_is_new n e (d ∷ h) none =
-    let p = find_nothing (same_id d e) (numbered_as n d) (find (is_same_id (call_of e)) (numbered_from (n + 1) h)) none in
+    let p = nothing_here (same_id d e) (numbered_as n d) (find (is_same_id (call_of e)) (numbered_from (n + 1) h)) none in
     ap (λ b. b || list_any (same_id e) h) (ids_symm e d ∙ p.0) ∙ id_is_new (n + 1) e h p.1
-
-change_is_no_reverse : (n : ℕ) (c : Command) → is_change c ≡ true → is_reverse_of n c ≡ false
-change_is_no_reverse n (Trade _ _ _ _ _) h = refl
-change_is_no_reverse n (Split _ _) h = refl
-change_is_no_reverse n (Claim _ _) h = refl
-change_is_no_reverse n (Refuse _) h = refl
-change_is_no_reverse n (Cancel _) h = refl
-change_is_no_reverse n (Initiate _) h = refl
-change_is_no_reverse n (Decline _) h = refl
-change_is_no_reverse n (Reverse _) h = cc
-
-pub none_reversed : (n : ℕ) (h : List Entry) → list_all (λ e. is_change e.command) h ≡ true → is_reversed h n ≡ false
-none_reversed n [] all = refl
-none_reversed n (e ∷ h) all =
-    let p = both (is_change e.command) (list_all (λ e. is_change e.command) h) all in
-    ap (λ b. b || is_reversed h n) (change_is_no_reverse n e.command p.0) ∙ none_reversed n h p.1
-
--- how the replay goes on, by the answer at one change
-abbrev goes_on : Option Refusal → ℕ → Option ℕ → Option ℕ
-goes_on o n rest = cond (is_some o) (Some n) rest
-
-none_here : (o : Option Refusal) (n : ℕ) (rest : Option ℕ) → goes_on o n rest ≡ None → (o ≡ None) × (rest ≡ None)
-none_here None n rest h = (refl, h)
-none_here (Some r) n rest h = absurd (cc)
-
-pub replay_push : (t : House) (before l : List Record) (r : Record) → first_refused t before l ≡ None → refusal_of t (before ++ l) r.firm r.command ≡ None
-    → first_refused t before (l ++ r ∷ []) ≡ None
-replay_push t before [] r h ok = ap (λ o. goes_on o r.number None) (subst (λ l. refusal_of t l r.firm r.command ≡ None) (append-nil before) ok)
-replay_push t before (d ∷ l) r h ok =
-    let p = none_here (refusal_of t before d.firm d.command) d.number (first_refused t (before ++ d ∷ []) l) h in
-    ap (λ o. goes_on o d.number (first_refused t (before ++ d ∷ []) (l ++ r ∷ []))) p.0
-    ∙ replay_push t (before ++ d ∷ []) l r p.1 (subst (λ k. refusal_of t k r.firm r.command ≡ None) (sym (append_assoc before (d ∷ []) l)) ok)
 
 accepted_push : (t : House) (before h : List Entry) (e : Entry) → AcceptedFrom t before h
     → answer_to t (before ++ h) (call_of e) ≡ Accepted (length (before ++ h) + 1) e.status → AcceptedFrom t before (h ++ e ∷ [])
@@ -100,83 +70,143 @@ accepted_push t before [] e all ok = (subst (λ k. answer_to t k (call_of e) ≡
 accepted_push t before (d ∷ h) e all ok =
     (all.0, accepted_push t (before ++ d ∷ []) h e all.1 (subst (λ k. answer_to t k (call_of e) ≡ Accepted (length k + 1) e.status) (sym (append_assoc before (d ∷ []) h)) ok))
 
--- what an accepted change shows
-pub record IsNew (t : House) (h : List Entry) (n : ℕ) (e : Entry) : Type 0 where
-  pub number : n ≡ length h + 1
-  pub id : list_any (same_id e) h ≡ false
-  pub lawful : refusal_of t (live h) e.firm e.command ≡ None
+length_numbered : (m : ℕ) (h : List Entry) → length (numbered_from m h) ≡ length h
+length_numbered m [] = refl
+length_numbered m (e ∷ h) = let a = length_numbered (m + 1) h in omega (arith, a)
 
-pub new_from_accepted : (t : House) (h : List Entry) (n : ℕ) (e : Entry) → is_change e.command ≡ true
-    → answer_to t h (call_of e) ≡ Accepted n e.status → IsNew t h n e
-new_from_accepted t h n e change ok =
-    let a = accepted_parts (find (is_same_call (call_of e)) (records h)) (find (is_same_id (call_of e)) (records h)) (length h + 1) (status_of e.firm e.command) (first (unless (nat_lt (length h) 1000000) BookFull ∷ command_refusal t h e.firm e.command ∷ [])) n e.status ok in
-    let b = first_none (unless (nat_lt (length h) 1000000) BookFull) (command_refusal t h e.firm e.command ∷ []) a.1.0 in
-    let c = first_none (command_refusal t h e.firm e.command) [] b.1 in
-    record {
-      number = a.1.1.0;
-      id = id_is_new 1 e h a.0;
-      lawful = sym (change_refused t h e.firm e.command change) ∙ c.0;
+live_few : (h : List Entry) → length (live h) ≤ length h
+live_few h = omega (arith, length-filter (is_live h) (records h), count_by-le-length (is_live h) (records h), length_numbered 1 h)
+
+run_kept : (t : House) (h : List Entry) (l : List Record) (ts : List TradeTree) (cs : Consents) → IsKept t h l ts cs → IsRun t h
+run_kept t h l ts cs kept = record { replayed = subst (λ (l : List Record). first_refused t [] l ≡ None) kept.are_live kept.replayed; behind = kept.behind }
+
+module _ {t : House} {h : List Entry} {l : List Record} {ts : List TradeTree} {cs : Consents} (kept : IsKept t h l ts cs) (n : ℕ) (e : Entry)
+    (ok : answer_to t h (call_of e) ≡ Accepted n e.status) where
+  shown : IsAllowed t h e n
+  shown = allowed t h e n ok
+
+  -- what an accepted call leaves true, of any kind
+  kept_next : (ls : List Record) (us : List TradeTree) (ds : Consents) → ls ≡ live (h ++ e ∷ []) → AllWithinLimits ls → IsBeside ls us
+      → ((m : ℕ) → given ds m ≡ consents_left (h ++ e ∷ []) m) → IsKept t (h ++ e ∷ []) ls us ds
+  kept_next ls us ds same small beside consented =
+      let a = shown in
+      let run = run_push (run_kept t h l ts cs kept) e n ok in
+      let longer = length-append h (e ∷ []) in
+      record {
+        few = omega (arith, longer, a.room);
+        fewer = subst (λ (k : List Record). length k ≤ length (h ++ e ∷ [])) (sym same) (live_few (h ++ e ∷ []));
+        are_live = same;
+        behind = run.behind;
+        replayed = ap (first_refused t []) same ∙ run.replayed;
+        within = small;
+        accepted = accepted_push t [] h e kept.accepted (ok ∙ ap (λ m. Accepted m e.status) a.number);
+        once = IsDistinct-push ids_laws h e kept.once (id_is_new 1 e h a.id);
+        beside = beside;
+        consented = consented;
+      }
+
+  -- ---- a change
+
+  module _ (change : is_change e.command ≡ true) where
+    live_more : l ++ numbered_as n e ∷ [] ≡ live (h ++ e ∷ [])
+    live_more =
+        let number = shown.number in
+        let numbered : n ≡ 1 + length h = omega (arith, number) in
+        ap (λ k. k ++ numbered_as n e ∷ []) kept.are_live
+        ∙ (ap (λ m. live h ++ numbered_as m e ∷ []) numbered ∙ sym (live_push_change h e change (kept.behind (1 + length h) (omega arith))))
+
+    lawful : refusal_of t l e.firm e.command ≡ None
+    lawful = subst (λ (k : List Record). refusal_of t k e.firm e.command ≡ None) (sym kept.are_live) (sym (change_refused t h e.firm e.command change) ∙ shown.lawful)
+
+    -- an accepted change may follow the live changes
+    pub next_kept : IsNext t l (numbered_as n e) ts
+    next_kept = record {
+      beside = kept.beside;
+      replayed = kept.replayed;
+      lawful = lawful;
+      rises = subst (RisesFrom 1) (sym live_more) (live_rises (h ++ e ∷ []));
     }
 
--- an entry with its number
-abbrev pub record_of : ℕ → Entry → Record
-record_of n e = record { number = n; firm = e.firm; id = e.id; command = e.command; status = e.status }
+    pub kept_change : (us : List TradeTree) → IsBeside (l ++ numbered_as n e ∷ []) us → IsKept t (h ++ e ∷ []) (l ++ numbered_as n e ∷ []) us cs
+    kept_change us beside =
+        kept_next (l ++ numbered_as n e ∷ []) us cs live_more (All-push (λ r. IsWithinLimits r.command) l (numbered_as n e) kept.within (accepted_small t l e.firm e.command lawful)) beside
+        (λ m. kept.consented m ∙ left_change h e m e.command refl change)
 
-module _ {t : House} {h : List Entry} {l : List Record} {ts : List TradeTree} (kept : IsKept t h l ts) (room : length h < 1000000) (n : ℕ) (e : Entry) (change : is_change e.command ≡ true)
-    (ok : answer_to t h (call_of e) ≡ Accepted n e.status) where
-  new : IsNew t h n e
-  new = new_from_accepted t h n e change ok
+  -- ---- an Initiate or a Decline
 
-  lawful : refusal_of t l e.firm e.command ≡ None
-  lawful = subst (λ k. refusal_of t k e.firm e.command ≡ None) (sym kept.are_live) new.lawful
+  live_same : is_consenting e.command ≡ true → l ≡ live (h ++ e ∷ [])
+  live_same consent = kept.are_live ∙ sym (live_push_consent h e consent)
 
-  live_more : l ++ record_of n e ∷ [] ≡ live (h ++ e ∷ [])
-  live_more =
-      let number = new.number in
-      let numbered : n ≡ 1 + length h = omega (arith, number) in
-      ap (λ k. k ++ record_of n e ∷ []) kept.are_live ∙ (ap (λ m. live h ++ record_of m e ∷ []) numbered ∙ sym (live_push_change h e change (none_reversed (1 + length h) h kept.changes)))
+  open_entry : (k : ℕ) → e.command ≡ Initiate k → is_reversed h k ≡ false
+  open_entry k same =
+      let lawful = subst (λ (c : Command). command_refusal t h e.firm c ≡ None) same shown.lawful in
+      let a = first_none (unless (knows_firm t e.firm) UnknownFirm) (on_change t h e.firm (initiate_rest h e.firm) (entry_of h k) ∷ []) lawful in
+      let b = first_none (on_change t h e.firm (initiate_rest h e.firm) (entry_of h k)) [] a.1 in
+      let o = open_from_none t h e.firm (initiate_rest h e.firm) (entry_of h k) b.0 in
+      let number = (found_at k 1 h o.0 o.1.found).number in
+      not_reversed k 1 h (subst (λ m. reversal_of h m ≡ None) number o.1.unreversed)
 
-  -- an accepted change may follow the live changes
-  pub next_kept : IsNext t l (record_of n e) ts
-  next_kept = record {
-    beside = kept.beside;
-    replayed = kept.replayed;
-    lawful = lawful;
-    rises = subst (RisesFrom 1) (sym live_more) (live_rises (h ++ e ∷ []));
-  }
+  pub kept_initiate : (k : ℕ) → e.command ≡ Initiate k → (ds : Consents) → ((m : ℕ) → given ds m ≡ cond (m == k) (given cs m ++ e.firm ∷ []) (given cs m))
+      → IsKept t (h ++ e ∷ []) l ts ds
+  kept_initiate k same ds more =
+      kept_next l ts ds (live_same (ap is_consenting same)) kept.within kept.beside
+      (λ m. more m ∙ (ap (λ fs. cond (m == k) (fs ++ e.firm ∷ []) fs) (kept.consented m) ∙ left_initiate h e k m same (open_entry k same)))
 
-  pub kept_push : (us : List TradeTree) → IsBeside (l ++ record_of n e ∷ []) us → IsKept t (h ++ e ∷ []) (l ++ record_of n e ∷ []) us
-  kept_push us beside =
-      let longer = length-append h (e ∷ []) in
-      let longer2 = length-append l (record_of n e ∷ []) in
-      let many : length l ≤ length h = kept.fewer in
-      record {
-        few = omega (arith, longer);
-        fewer = omega (arith, longer, longer2);
-        are_live = live_more;
-        changes = list_all-append (λ e. is_change e.command) h (e ∷ []) ∙ rw (kept.changes, change) refl;
-        replayed = replay_push t [] l (record_of n e) kept.replayed lawful;
-        within = All-push (λ r. IsWithinLimits r.command) l (record_of n e) kept.within (accepted_small t l e.firm e.command lawful);
-        accepted = accepted_push t [] h e kept.accepted (ok ∙ ap (λ m. Accepted m e.status) new.number);
-        once = IsDistinct-push ids_laws h e kept.once new.id;
-        beside = beside;
-      }
+  pub kept_decline : (k : ℕ) → e.command ≡ Decline k → (ds : Consents) → ((m : ℕ) → given ds m ≡ cond (m == k) [] (given cs m)) → IsKept t (h ++ e ∷ []) l ts ds
+  kept_decline k same ds less =
+      kept_next l ts ds (live_same (ap is_consenting same)) kept.within kept.beside
+      (λ m. less m ∙ (ap (λ fs. cond (m == k) [] fs) (kept.consented m) ∙ left_decline h e k m same))
+
+  -- ---- a Reverse
+
+  pub kept_reverse : (k : ℕ) → e.command ≡ Reverse k → (ls : List Record) (us : List TradeTree) → IsLegalWithout t l k ls us
+      → (ds : Consents) → ((m : ℕ) → given ds m ≡ cond (m == k) [] (given cs m)) → IsKept t (h ++ e ∷ []) ls us ds
+  kept_reverse k same ls us legal ds less =
+      kept_next ls us ds (legal.others_are ∙ (ap (λ (l : List Record). without l k) kept.are_live ∙ sym (live_push_reverse h e k same)))
+      (subst AllWithinLimits (sym legal.others_are) (without_small k l kept.within)) (subst (λ (l : List Record). IsBeside l us) (sym legal.others_are) legal.beside)
+      (λ m. less m ∙ (ap (λ fs. cond (m == k) [] fs) (kept.consented m) ∙ left_reverse h e k m same))
+
+-- a Reverse that nothing else refuses, and on whose entry nothing stands
+pub accepted_reverse : {t : House} {h : List Entry} {l : List Record} {ts : List TradeTree} {cs : Consents} → IsKept t h l ts cs → (e : Entry) (n k : ℕ)
+    → answer_to t h (call_of e) ≡ accepted_or n e.status (option_map (λ m. StandsOn m) (standing_on t (live h) k)) → standing_on t l k ≡ None → answer_to t h (call_of e) ≡ Accepted n e.status
+accepted_reverse {t} {h} {l} kept e n k decided none =
+    decided ∙ ap (λ o. accepted_or n e.status (option_map (λ m. StandsOn m) o)) (ap (λ (l : List Record). standing_on t l k) (sym kept.are_live) ∙ none)
+
+-- the consents alone have changed, and not in what they say
+pub kept_same : (t : House) (h : List Entry) (l : List Record) (ts : List TradeTree) (cs ds : Consents) → IsKept t h l ts cs → ((m : ℕ) → given ds m ≡ given cs m) → IsKept t h l ts ds
+kept_same t h l ts cs ds kept same = record {
+  few = kept.few;
+  fewer = kept.fewer;
+  are_live = kept.are_live;
+  behind = kept.behind;
+  replayed = kept.replayed;
+  within = kept.within;
+  accepted = kept.accepted;
+  once = kept.once;
+  beside = kept.beside;
+  consented = λ m. same m ∙ kept.consented m;
+}
+
+-- what the replay of the live changes asks for
+pub rises_kept : (t : House) (h : List Entry) (l : List Record) (ts : List TradeTree) (cs : Consents) → IsKept t h l ts cs → RisesFrom 1 l
+rises_kept t h l ts cs kept = subst (RisesFrom 1) (sym kept.are_live) (live_rises h)
 
 nothing_twice : NoIdTwice []
 unfolding IsDistinct
 nothing_twice = tt
 
-pub kept_none : (t : House) → IsKept t [] [] []
-kept_none t = record {
+pub kept_none : (t : House) (cs : Consents) → ((n : ℕ) → given cs n ≡ []) → IsKept t [] [] [] cs
+kept_none t cs none = record {
   few = omega arith;
   fewer = omega arith;
   are_live = refl;
-  changes = refl;
+  behind = λ n high. refl;
   replayed = refl;
   within = All-nil (λ r. IsWithinLimits r.command);
   accepted = tt;
   once = nothing_twice;
   beside = record { each = All-nil (IsTradeTree []); named_alike = λ n. refl; few = omega arith };
+  consented = none;
 }
 
 -- entries that were accepted in turn can be cut anywhere

@@ -1,26 +1,31 @@
-//! The book: the house table, the history, and beside it the live changes and a tree for each live trade.
-ghost use Rattle.std.specs.Prelude.{true, ◌≡◌, ◌≤◌, ◌<◌, [], ◌∷◌, ◌++◌, length, map, option_map, IsTrue, IfOk, OnOk, OnErr};
-ghost use Rattle.std.specs.List.{list_all};
+//! The book: the house table, the history, and beside it the live changes, a tree for each live trade, and the consents.
+ghost use Rattle.std.specs.Prelude.{true, ◌≡◌, ◌≤◌, ◌<◌, ◌+◌, [], ◌∷◌, ◌++◌, length, map, option_map, IsTrue, IfOk, OnOk, OnErr};
+ghost use Rattle.gu_base.specs.Limits.{most_entries};
 ghost use Rattle.gu_base.specs.History.{is_change, live};
 ghost use Rattle.gu_base.specs.Positions.{position_of};
 ghost use Rattle.gu_base.specs.Fees.{paid_by, received_by, used_of};
-ghost use Rattle.gu_base.specs.Standing.{IsLegal};
-ghost use Rattle.gu_base.specs.Answers.{Call, answer_to, after, is_accepted};
+ghost use Rattle.gu_base.specs.Standing.{IsLegal, standing_on};
+ghost use Rattle.gu_base.specs.Answers.{Call, answer_to, after, accepted_or};
 ghost use Rattle.gu_base.specs.declared.command.Side.TheVariants.{Buy, Sell};
 ghost use Rattle.gu_base.specs.declared.entry.Answer.TheVariants.{Accepted};
-ghost use Rattle.gu_base.specs.Runs.{IsRunFrom};
+ghost use Rattle.gu_base.specs.Runs.{IsRunFrom, call_of};
+ghost use Rattle.gu_base.specs.declared.command.Command.TheVariants.{Initiate, Decline, Reverse};
+ghost use Rattle.gu_base.specs.declared.refusal.Refusal.TheVariants.{StandsOn};
 ghost use Rattle.gu_tree.specs.Shown.{shown};
+ghost use Rattle.gu_book.specs.Front.{stands_refusal, may_lack};
 ghost use Rattle.gu_book.specs.Ids.{NoIdTwice};
 ghost use Rattle.gu_book.specs.TreeRows.{tree_rows};
 
-use crate::plain::calls::answer_to;
+use crate::plain::calls::front_answer;
 use crate::plain::charges;
+use crate::replay::{Without, replay_without};
 use crate::trees;
 use crate::trees::TradeTree;
 use gu_base::{
     AccountId, AllocId, Answer, Command, Entry, FirmId, InstrumentId, Memory, Number, Place,
-    Record, Side, State,
+    Record, Refusal, Side, State,
 };
+use gu_consent::Consents;
 use gu_parties::House;
 use gu_tree::Row;
 use std::alloc::Global;
@@ -33,6 +38,7 @@ pub struct Book {
     entries: Vec<Entry>,
     records: Vec<Record>,
     trees: Vec<TradeTree>,
+    consents: Consents,
 }
 
 impl Model for Book {
@@ -43,7 +49,7 @@ impl Model for Book {
 
     ghost view = { λ b. record { house = b.house; history = b.entries.items } };
 
-    ghost invariant = { λ b. IsKept b.house b.entries.items b.records.items b.trees.items };
+    ghost invariant = { λ b. IsKept b.house b.entries.items b.records.items b.trees.items b.consents };
 }
 
 impl Book {
@@ -56,6 +62,7 @@ impl Book {
             entries: Vec::new(alloc),
             records: Vec::new(alloc),
             trees: Vec::new(alloc),
+            consents: Consents::new(alloc),
         }
     }
 
@@ -69,7 +76,7 @@ impl Book {
     /// The accepted commands, in order.
     pub fn history(&self) -> &[Entry]
         ensures value { result.now ≡ self.now.history }
-        ensures fits { length self.now.history ≤ 1000000 }
+        ensures fits { length self.now.history ≤ most_entries }
         ensures run { IsRunFrom self.now.house [] self.now.history }
         ensures once { NoIdTwice self.now.history }
         ensures legal { IsLegal self.now.house (live self.now.history) }
@@ -77,14 +84,23 @@ impl Book {
         self.entries.as_slice()
     }
 
-    /// No entry is an Initiate, a Decline or a Reverse.
-    pub(crate) fn has_changes_alone(&self)
-        ensures { list_all (λ e. is_change e.command) self.now.history ≡ true }
+    /// The numbers of the live changes, in order.
+    ///
+    /// # Errors
+    ///
+    /// `Memory` where a growth was refused.
+    pub fn live(&self, alloc: Global) -> Result<Vec<Number>, Memory>
+        ensures { IfOk result (λ v. v.items ≡ map (λ r. r.number) (live self.now.history)) }
     {
-        let _ = &self.entries;
+        self.records.iter().map(|r| r.number).collect(alloc)
     }
 
-    /// Answers a call for a change, and keeps it where it is accepted.
+    /// Answers a call, and keeps it where it is accepted.
+    ///
+    /// # Errors
+    ///
+    /// `Memory` where a growth was refused: in the place of an accepted call, or of a Reverse that is refused for what stands on its
+    /// entry, since only a replay finds that.
     pub fn apply(
         &mut self,
         alloc: Global,
@@ -92,21 +108,29 @@ impl Book {
         id: &AllocId,
         command: &Command,
     ) -> Result<Answer, Memory>
-        requires { IsTrue (is_change command.now) }
         ensures answered { IfOk result (λ a. a ≡ answer_to self.old.house self.old.history (record { firm = by.now; id = id.now; command = command.now })) }
         ensures kept { OnOk result (self.new ≡ record { house = self.old.house; history = after self.old.house self.old.history (record { firm = by.now; id = id.now; command = command.now }) }) }
-        ensures memory { OnErr result (IsTrue (is_accepted (answer_to self.old.house self.old.history (record { firm = by.now; id = id.now; command = command.now })))) }
+        ensures memory { OnErr result (IsTrue (may_lack (answer_to self.old.house self.old.history (record { firm = by.now; id = id.now; command = command.now })))) }
         ensures unchanged { OnErr result (self.new ≡ self.old) }
     {
-        let answer = answer_to(&self.house, &self.entries, &self.records, by, id, command);
-        if let Answer::Accepted { number, status } = &answer {
-            self.keep(alloc, by, id, command, *number, *status)?;
+        let answer = front_answer(
+            &self.house,
+            &self.entries,
+            &self.records,
+            &self.consents,
+            by,
+            id,
+            command,
+        );
+        match answer {
+            Answer::Accepted { number, status } => {
+                self.keep(alloc, by, id, command, number, status)
+            }
+            Answer::Repeated { .. } | Answer::Refused(_) => Ok(answer),
         }
-        Ok(answer)
     }
 
-    /// Puts an accepted change at the end of the history and of the live changes, and changes its tree. All growths come before
-    /// anything changes.
+    /// Keeps a command that nothing refuses but what may stand on a change.
     fn keep(
         &mut self,
         alloc: Global,
@@ -115,32 +139,114 @@ impl Book {
         command: &Command,
         number: Number,
         status: State,
-    ) -> Result<(), Memory>
-        requires change { IsTrue (is_change command.now) }
-        requires room { length self.old.history < 1000000 }
-        requires accepted { answer_to self.old.house self.old.history (record { firm = by.now; id = id.now; command = command.now }) ≡ Accepted number status }
-        ensures kept { OnOk result (self.new ≡ record { house = self.old.house; history = self.old.history ++ record { firm = by.now; id = id.now; command = command.now; status = status } ∷ [] }) }
+    ) -> Result<Answer, Memory>
+        requires next { number ≡ length self.old.history + 1 }
+        requires decided { answer_to self.old.house self.old.history (record { firm = by.now; id = id.now; command = command.now }) ≡ accepted_or number status (stands_refusal self.old.house self.old.history command.now) }
+        ensures answered { IfOk result (λ a. a ≡ answer_to self.old.house self.old.history (record { firm = by.now; id = id.now; command = command.now })) }
+        ensures kept { OnOk result (self.new ≡ record { house = self.old.house; history = after self.old.house self.old.history (record { firm = by.now; id = id.now; command = command.now }) }) }
         ensures unchanged { OnErr result (self.new ≡ self.old) }
     {
-        let entry = Entry {
+        let kept = Entry {
             firm: *by,
             id: *id,
             command: command.copy(alloc)?,
             status,
         };
+        match command {
+            Command::Initiate { entry } => {
+                self.keep_consent(alloc, kept, *entry)?;
+                Ok(Answer::Accepted { number, status })
+            }
+            Command::Decline { entry } => {
+                self.keep_decline(kept, *entry)?;
+                Ok(Answer::Accepted { number, status })
+            }
+            Command::Reverse { entry } => self.keep_reversal(alloc, kept, *entry, number),
+            _ => {
+                self.keep_change(alloc, kept, number)?;
+                Ok(Answer::Accepted { number, status })
+            }
+        }
+    }
+
+    /// Puts an accepted change at the end of the history and of the live changes, and changes its tree. All growths come before
+    /// anything changes.
+    fn keep_change(&mut self, alloc: Global, kept: Entry, number: Number) -> Result<(), Memory>
+        requires change { is_change kept.command ≡ true }
+        requires next { number ≡ length self.old.history + 1 }
+        requires accepted { answer_to self.old.house self.old.history (call_of kept) ≡ Accepted number kept.status }
+        ensures kept { OnOk result (self.new ≡ record { house = self.old.house; history = self.old.history ++ kept ∷ [] }) }
+        ensures unchanged { OnErr result (self.new ≡ self.old) }
+    {
         let record = Record {
             number,
-            firm: *by,
-            id: *id,
-            command: command.copy(alloc)?,
-            status,
+            firm: kept.firm,
+            id: kept.id,
+            command: kept.command.copy(alloc)?,
+            status: kept.status,
         };
         self.entries.reserve(1)?;
         self.records.reserve(1)?;
         trees::change(&mut self.trees, alloc, &record)?;
-        self.entries.push_reserved(entry);
+        self.entries.push_reserved(kept);
         self.records.push_reserved(record);
         Ok(())
+    }
+
+    /// Puts an accepted Initiate at the end of the history, and its firm among those that consent.
+    fn keep_consent(&mut self, alloc: Global, kept: Entry, entry: Number) -> Result<(), Memory>
+        requires names { kept.command ≡ Initiate entry }
+        requires accepted { answer_to self.old.house self.old.history (call_of kept) ≡ Accepted (length self.old.history + 1) kept.status }
+        ensures kept { OnOk result (self.new ≡ record { house = self.old.house; history = self.old.history ++ kept ∷ [] }) }
+        ensures unchanged { OnErr result (self.new ≡ self.old) }
+    {
+        self.entries.reserve(1)?;
+        self.consents.give(alloc, entry, kept.firm)?;
+        self.entries.push_reserved(kept);
+        Ok(())
+    }
+
+    /// Puts an accepted Decline at the end of the history, and clears the consents to its entry's reversal.
+    fn keep_decline(&mut self, kept: Entry, entry: Number) -> Result<(), Memory>
+        requires names { kept.command ≡ Decline entry }
+        requires accepted { answer_to self.old.house self.old.history (call_of kept) ≡ Accepted (length self.old.history + 1) kept.status }
+        ensures kept { OnOk result (self.new ≡ record { house = self.old.house; history = self.old.history ++ kept ∷ [] }) }
+        ensures unchanged { OnErr result (self.new ≡ self.old) }
+    {
+        self.entries.reserve(1)?;
+        self.consents.clear(entry);
+        self.entries.push_reserved(kept);
+        Ok(())
+    }
+
+    /// Answers a Reverse that only what stands on its entry may still refuse. Where nothing does, the replayed live changes and trees
+    /// take the place of the old.
+    fn keep_reversal(
+        &mut self,
+        alloc: Global,
+        kept: Entry,
+        change: Number,
+        number: Number,
+    ) -> Result<Answer, Memory>
+        requires names { kept.command ≡ Reverse change }
+        requires next { number ≡ length self.old.history + 1 }
+        requires decided { answer_to self.old.house self.old.history (call_of kept) ≡ accepted_or number kept.status (option_map (λ n. StandsOn n) (standing_on self.old.house (live self.old.history) change)) }
+        ensures answered { IfOk result (λ a. a ≡ answer_to self.old.house self.old.history (call_of kept)) }
+        ensures kept { OnOk result (self.new ≡ record { house = self.old.house; history = after self.old.house self.old.history (call_of kept) }) }
+        ensures unchanged { OnErr result (self.new ≡ self.old) }
+    {
+        match replay_without(&self.house, alloc, &self.records, change)? {
+            Without::Stands(other) => Ok(Answer::Refused(Refusal::StandsOn(other))),
+            Without::Legal(records, trees) => {
+                self.entries.reserve(1)?;
+                let status = kept.status;
+                self.consents.clear(change);
+                self.entries.push_reserved(kept);
+                self.records = records;
+                self.trees = trees;
+                Ok(Answer::Accepted { number, status })
+            }
+        }
     }
 
     /// The rows of a live trade's tree: a node, then its parts in order. `None` where the number is of no live Trade.

@@ -1,5 +1,5 @@
 //! What no clause says: the texts that are told, that calls succeed with memory, and what happens without it. The tables of house files
-//! and what is told of each are data of the program `house_cases`.
+//! and what is told of each are data of the program `test_house`.
 use crate::{Cause, House, HouseError};
 use gu_base::{AccountId, FirmId, InstrumentId, Memory};
 use std::alloc::Global;

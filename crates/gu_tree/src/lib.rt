@@ -8,15 +8,18 @@
 //! - `split` asks for memory once, before anything changes; a refused growth leaves the tree as it was;
 //! - `new`, `find`, `head`, `parted`, `has_entry`, `lots_at`, `claim` and `give_back` take no memory;
 //! - the leaves sum to the lots of the root.
+//! `laws` has what follows for every tree. Its cases stand in `tests.rt`, those of heaps that are too small in the program `test_heap`.
 #![tactic(auto)]
 
 mod head;
 pub mod laws;
 mod node;
+mod path;
 mod tree;
 
 pub use head::{Head, Row};
-pub use tree::{Path, Tree};
+pub use path::{MAX_DEPTH, Path};
+pub use tree::Tree;
 
 #[cfg(test)]
 mod tests;

@@ -1,5 +1,6 @@
 //! A trade's tree and what can be done with it.
 ghost use Rattle.std.specs.Prelude.{◌≡◌, ◌≤◌, ◌<◌, ◌≢◌, ◌++◌, [], ◌∷◌, List, ℕ, length, IsTrue, IfSome, IfNone, IfOk, OnOk, OnErr, IsSomeAnd, None, is_none, map, filter, sum_by, false};
+ghost use Rattle.gu_base.specs.Limits.{most_parts, deepest};
 ghost use Rattle.gu_base.specs.declared.state.State.TheVariants.{Offered};
 ghost use Rattle.gu_tree.specs.Rose.{leaf, head_of, lots_of, split_of_node, rows, leaves, has_entry};
 ghost use Rattle.gu_tree.specs.Paths.{node_at, edit_at, HasPath, HasAt, LeadsTo, IsAbsent, ChangesRows};
@@ -13,13 +14,11 @@ ghost use Rattle.gu_base.specs.declared.entry.Record.{Record};
 
 use crate::head::{Head, Row};
 use crate::node::{Node, with_room};
+use crate::path::Path;
 use arrayvec::ArrayVec;
 use gu_base::{Memory, NodeName, Number, Part, Place, State};
 use std::alloc::Allocator;
 use std::marker::Model;
-
-/// The way from the root to a node: at each step the place of the part to go to, counted from 0.
-pub type Path = ArrayVec<u8, 64>;
 
 /// The tree of one trade. In each node the parts sum to it.
 ///
@@ -126,8 +125,8 @@ impl<A: Allocator + Clone> Tree<A> {
         requires leaf { HasAt path.now.items (CanSplit parts.now) self.old }
         requires accounts { HasAt path.now.items (λ t. IsTrue (own_parts_have_accounts parts.now (head_of t))) self.old }
         requires some { 1 ≤ length parts.now }
-        requires most { length parts.now ≤ 100 }
-        requires shallow { length path.now.items < 64 }
+        requires most { length parts.now ≤ most_parts }
+        requires shallow { length path.now.items < deepest }
         requires fresh { has_entry entry self.old ≡ false }
         ensures node { OnOk result (self.new ≡ edit_at (split_node entry parts.now) path.now.items self.old) }
         ensures rows { OnOk result (ChangesRows path.now.items (split_node entry parts.now) self.old self.new) }
@@ -223,7 +222,7 @@ impl<A: Allocator + Clone> Tree<A> {
 
 /// The i-th part of a node: held for the node's owner, else offered.
 fn part_head(entry: Number, i: u8, part: &Part, whole: &Head) -> Head
-    requires { i ≤ 100 }
+    requires { i ≤ most_parts }
     ensures { result ≡ part_head entry i part.now whole.now }
 {
     let is_own = part.firm == whole.place.firm;
@@ -254,7 +253,7 @@ fn leaves_of<A: Allocator + Clone>(
     parts: &[Part],
     whole: &Head,
 ) -> Result<Vec<Node<A>, A>, Memory>
-    requires { length parts.now ≤ 100 }
+    requires { length parts.now ≤ most_parts }
     ensures { IfOk result (λ v. v.items ≡ part_leaves entry whole.now 1 parts.now) }
 {
     let mut leaves = with_room(alloc, parts.len())?;

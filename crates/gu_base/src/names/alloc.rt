@@ -1,16 +1,17 @@
 //! The ids of commands.
 ghost use Rattle.std.specs.Prelude.{◌≡◌, ◌≤◌, length, IsTrue, Some, None, if◌then◌else◌};
+ghost use Rattle.gu_base.specs.Limits.{longest_id};
 ghost use Rattle.gu_base.specs.Names.{is_id_text};
 
 use crate::cells::Cells;
-use crate::names::is_id_text;
+use crate::names::{ID_LEN, is_id_text};
 use std::marker::Model;
 use std::{fmt, str};
 
 /// The id that a firm gives to a command: 1 to 32 bytes, each 0x20 to 0x7E (AllocID 70, TradeReportID 571).
 #[derive(Clone, Copy, Debug, PartialEq, Eq, PartialOrd, Ord, Hash)]
 pub struct AllocId {
-    text: Cells<32>,
+    text: Cells<ID_LEN>,
 }
 
 impl Model for AllocId {
@@ -52,7 +53,7 @@ impl AllocId {
     #[tactic(auto, using(crate::proofs::NameText::name_text))]
     pub fn as_str(&self) -> &str
         ensures value { result.now ≡ self.now }
-        ensures fits { length self.now ≤ 32 }
+        ensures fits { length self.now ≤ longest_id }
     {
         match str::from_utf8(self.as_bytes()) {
             Ok(text) => text,

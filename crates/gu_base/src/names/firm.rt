@@ -1,16 +1,17 @@
 //! The names of firms.
 ghost use Rattle.std.specs.Prelude.{◌≡◌, ◌≤◌, length, IsTrue, Some, None, if◌then◌else◌};
+ghost use Rattle.gu_base.specs.Limits.{longest_name};
 ghost use Rattle.gu_base.specs.Names.{is_firm_text};
 
 use crate::cells::Cells;
-use crate::names::is_firm_text;
+use crate::names::{NAME_LEN, is_firm_text};
 use std::marker::Model;
 use std::{fmt, str};
 
 /// The name of a firm: 1 to 16 bytes, each 0x21 to 0x7E (PartyID 448, SenderCompID 49, NestedPartyID 524).
 #[derive(Clone, Copy, Debug, PartialEq, Eq, PartialOrd, Ord, Hash)]
 pub struct FirmId {
-    text: Cells<16>,
+    text: Cells<NAME_LEN>,
 }
 
 impl Model for FirmId {
@@ -52,7 +53,7 @@ impl FirmId {
     #[tactic(auto, using(crate::proofs::NameText::name_text))]
     pub fn as_str(&self) -> &str
         ensures value { result.now ≡ self.now }
-        ensures fits { length self.now ≤ 16 }
+        ensures fits { length self.now ≤ longest_name }
     {
         match str::from_utf8(self.as_bytes()) {
             Ok(text) => text,

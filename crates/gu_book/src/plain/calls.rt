@@ -1,19 +1,24 @@
-//! The answer to a call for a change.
+//! The answer to a call, but for what stands on a change.
 ghost use Rattle.std.specs.Prelude.{◌≡◌, ◌&&◌, ◌+◌, ◌<◌, ◌≤◌, length, find, not, option_map, bytes_eq, Option, Some, None, IsTrue};
 ghost use Rattle.std.specs.List.{list_any};
-ghost use Rattle.gu_base.specs.History.{records, is_change, live};
-ghost use Rattle.gu_base.specs.Answers.{Call, answer_to, is_same_call, is_same_id, status_of, is_accepted};
+ghost use Rattle.gu_base.specs.Limits.{most_entries};
+ghost use Rattle.gu_base.specs.History.{records, live};
+ghost use Rattle.gu_base.specs.Answers.{Call, is_same_call, status_of};
 ghost use Rattle.gu_base.specs.declared.entry.Answer.TheVariants.{Repeated};
+ghost use Rattle.gu_book.specs.Front.{front_answer, front_refusal};
 ghost use Rattle.gu_book.specs.Limits.{AllWithinLimits};
 ghost use Rattle.gu_book.specs.Parts.{gives_up};
+ghost use Rattle.gu_consent.specs.Given.{given};
 
+use crate::plain::naming::naming_refusal;
 use crate::plain::refusals::change_refusal;
 use gu_base::{AllocId, Answer, Command, Entry, FirmId, Number, Part, Record, Refusal, State};
+use gu_consent::Consents;
 use gu_parties::House;
 
 /// The answer that a call got that already stands in the history.
 fn repeated(entries: &[Entry], by: &FirmId, id: &AllocId, command: &Command) -> Option<Answer>
-    requires { length entries.now ≤ 1000000 }
+    requires { length entries.now ≤ most_entries }
     ensures { result ≡ option_map (λ r. Repeated r.number r.status) (find (is_same_call (record { firm = by.now; id = id.now; command = command.now })) (records entries.now)) }
 {
     for (i, e) in entries.iter().enumerate() {
@@ -29,7 +34,7 @@ fn repeated(entries: &[Entry], by: &FirmId, id: &AllocId, command: &Command) -> 
 
 /// The number of the entry that has this id of this firm.
 fn duplicate(entries: &[Entry], by: &FirmId, id: &AllocId) -> Option<Number>
-    requires { length entries.now ≤ 1000000 }
+    requires { length entries.now ≤ most_entries }
     ensures { result ≡ option_map (λ r. r.number) (find (λ r. bytes_eq r.firm by.now && bytes_eq r.id id.now) (records entries.now)) }
 {
     for (i, e) in entries.iter().enumerate() {
@@ -69,22 +74,47 @@ fn status_of(by: &FirmId, command: &Command) -> State
     }
 }
 
-/// The answer to a call for a change, at a history with these live changes.
-pub(crate) fn answer_to(
+/// Why a command is refused, but for what stands on a change.
+fn front_refusal(
     house: &House,
     entries: &[Entry],
     records: &[Record],
+    consents: &Consents,
+    by: &FirmId,
+    command: &Command,
+) -> Option<Refusal>
+    requires few { length entries.now ≤ most_entries }
+    requires live { records.now ≡ live entries.now }
+    requires within { AllWithinLimits records.now }
+    requires fewer { length records.now ≤ most_entries }
+    ensures { result ≡ front_refusal house.now entries.now (given consents.now) by.now command.now }
+{
+    match command {
+        Command::Initiate { entry } | Command::Decline { entry } | Command::Reverse { entry } => {
+            if !house.firm(by) {
+                return Some(Refusal::UnknownFirm);
+            }
+            naming_refusal(house, entries, records, consents, by, command, *entry)
+        }
+        _ => change_refusal(house, records, by, command),
+    }
+}
+
+/// The answer to a call, at a history with these live changes and consents, if nothing stood on any change.
+pub(crate) fn front_answer(
+    house: &House,
+    entries: &[Entry],
+    records: &[Record],
+    consents: &Consents,
     by: &FirmId,
     id: &AllocId,
     command: &Command,
 ) -> Answer
-    requires few { length entries.now ≤ 1000000 }
+    requires few { length entries.now ≤ most_entries }
     requires live { records.now ≡ live entries.now }
     requires within { AllWithinLimits records.now }
-    requires fewer { length records.now ≤ 1000000 }
-    requires change { IsTrue (is_change command.now) }
-    ensures value { result ≡ answer_to house.now entries.now (record { firm = by.now; id = id.now; command = command.now }) }
-    ensures room { IsTrue (is_accepted result) → length entries.now < 1000000 }
+    requires fewer { length records.now ≤ most_entries }
+    ensures { result ≡ front_answer house.now entries.now (given consents.now) (record { firm = by.now; id = id.now; command = command.now }) }
 {
     if let Some(answer) = repeated(entries, by, id, command) {
         return answer;
@@ -92,10 +122,10 @@ pub(crate) fn answer_to(
     if let Some(number) = duplicate(entries, by, id) {
         return Answer::Refused(Refusal::DuplicateId(number));
     }
-    if entries.len() >= 1_000_000 {
+    if entries.len() >= Number::MAX as usize {
         return Answer::Refused(Refusal::BookFull);
     }
-    if let Some(refusal) = change_refusal(house, records, by, command) {
+    if let Some(refusal) = front_refusal(house, entries, records, consents, by, command) {
         return Answer::Refused(refusal);
     }
     Answer::Accepted {

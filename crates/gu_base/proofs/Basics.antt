@@ -1,0 +1,37 @@
+-- Small facts about tests, options and filters.
+use Rattle.std.proofs.Common.{◌≡◌, ℕ, Bool, true, false, ◌&&◌, ◌||◌, List, [], ◌∷◌, refl, sym, ap, cond, Option}
+use Rattle.std.specs.Prelude.{Some, None, filter, bytes_eq, ◌==◌}
+use Rattle.std.specs.Option.{option_or}
+use Rattle.std.proofs.lemmas.Bool.Decides.{Decides-eqb, same_from_decides}
+use Rattle.std.proofs.lemmas.Slice.Eq.{bytes_eq-Decides}
+
+pub or_false : (b : Bool) → (b || false) ≡ b
+or_false true = refl
+or_false false = refl
+
+pub or_none : {A : Type 0} (o : Option A) → option_or o None ≡ o
+or_none None = refl
+or_none (Some x) = refl
+
+pub some_same : {A : Type 0} (a b : A) → Some a ≡ Some b → a ≡ b
+some_same a b h = cc
+
+-- a search that finds nothing passes over its first element
+pub nothing_here : {A : Type 0} (b : Bool) (x : A) (rest : Option A) → cond b (Some x) rest ≡ None → (b ≡ false) × (rest ≡ None)
+nothing_here true x rest h = absurd (cc)
+nothing_here false x rest h = (refl, h)
+
+pub eqb_symm : (a b : ℕ) → (a == b) ≡ (b == a)
+eqb_symm a b = same_from_decides (a == b) (b == a) (Decides-eqb a b) ((λ h. sym ((Decides-eqb b a).0 h)), (λ e. (Decides-eqb b a).1 (sym e)))
+
+pub bytes_symm : (a b : List ℕ) → bytes_eq a b ≡ bytes_eq b a
+bytes_symm a b = same_from_decides (bytes_eq a b) (bytes_eq b a) (bytes_eq-Decides a b) ((λ h. sym ((bytes_eq-Decides b a).0 h)), (λ e. (bytes_eq-Decides b a).1 (sym e)))
+
+twice_step : {X : Type 0} (p q : X → Bool) (x : X) (ys zs : List X) → ys ≡ filter q zs → (b : Bool) → cond (b && q x) (x ∷ ys) ys ≡ filter q (cond b (x ∷ zs) zs)
+twice_step p q x ys zs same true = ap (λ rs. cond (q x) (x ∷ rs) rs) same
+twice_step p q x ys zs same false = same
+
+-- two tests in one filter
+pub filter_twice : {X : Type 0} (p q : X → Bool) (xs : List X) → filter (λ x. p x && q x) xs ≡ filter q (filter p xs)
+filter_twice p q [] = refl
+filter_twice p q (x ∷ xs) = twice_step p q x (filter (λ x. p x && q x) xs) (filter p xs) (filter_twice p q xs) (p x)

@@ -1,0 +1,246 @@
+-- A reversal for which all is ready is accepted, and what a refused one names.
+use Rattle.std.proofs.Common.{◌≡◌, ℕ, ◌+◌, Bool, true, false, not, ◌&&◌, ◌||◌, List, [], ◌∷◌, length, refl, sym, ◌∙◌, ap, subst, Option, cond, inl, inr, ◌⊎◌}
+use Rattle.std.specs.Prelude.{Some, None, find, nat_lt, option_map, bytes_eq, IfSome}
+use Rattle.std.specs.List.{All, list_any}
+use Rattle.std.proofs.lemmas.Bool.{lt-ltb, not-true, and_parts}
+use Rattle.std.proofs.lemmas.List.Elements.{All-nil, All-cons, All-head, All-tail}
+use Rattle.std.proofs.lemmas.Slice.Eq.{bytes_eq-Decides}
+use Rattle.gu_base.specs.House.{House, knows_firm}
+use Rattle.gu_base.specs.History.{numbered_as, numbered_from, records, is_change, is_reverse_of, is_reversed, live}
+use Rattle.gu_base.specs.Nodes.{node_of}
+use Rattle.gu_base.specs.Refusals.{refusal_of, first, unless}
+use Rattle.gu_base.specs.Same.{same_command}
+use Rattle.gu_base.specs.SamePartsLaws.{bytes_same}
+use Rattle.gu_base.specs.Standing.{first_refused, standing_on}
+use Rattle.gu_base.specs.Consents.{parties_of, consents_of, is_among, missing, of_node, taker_and_giver, giver_alone}
+use Rattle.gu_base.specs.Answers.{Call, answer_to, answer_by, accepted_or, entry_of, reversal_of, on_change, initiate_rest, reverse_rest, command_refusal, is_same_id, is_same_call}
+use Rattle.gu_base.specs.Runs.{after_all}
+use Rattle.gu_base.specs.declared.command.Command.{Command}
+use Rattle.gu_base.specs.declared.command.Command.TheVariants.{Trade, Split, Claim, Refuse, Cancel, Initiate, Decline, Reverse}
+use Rattle.gu_base.specs.declared.entry.Answer.TheVariants.{Accepted, Refused}
+use Rattle.gu_base.specs.declared.entry.Entry.{Entry}
+use Rattle.gu_base.specs.declared.entry.Record.{Record}
+use Rattle.gu_base.specs.declared.node.Kind.{Kind}
+use Rattle.gu_base.specs.declared.node.Kind.TheVariants.{Root, Own, Given}
+use Rattle.gu_base.specs.declared.node.Node.{Node}
+use Rattle.gu_base.specs.declared.refusal.Refusal.{Refusal}
+use Rattle.gu_base.specs.declared.refusal.Refusal.TheVariants.{UnknownFirm, UnknownEntry, NotAChange, AlreadyReversed, NotAParty, NeedsConsent, StandsOn, DuplicateId, BookFull, AlreadyConsented}
+use Rattle.gu_base.specs.declared.state.State.{State}
+use Rattle.gu_base.specs.declared.state.State.TheVariants.{ReversalPending, Reversed}
+use Rattle.gu_base.proofs.LiveLaws.{is_live}
+use Rattle.gu_base.proofs.LegalLaws.{first_refused-cut}
+use Rattle.gu_book.specs.Known.{KindKnown}
+use Rattle.gu_book.specs.Headline.{IsAcceptedWhereReady, IsConsentAccepted, IsNewestUndone, NamedBy, IsNamed}
+use Rattle.gu_base.proofs.RunLaws.{run_all}
+use Rattle.gu_base.proofs.Numbered.{listed, found_at}
+use Rattle.gu_base.proofs.Basics.{nothing_here}
+use Rattle.gu_book.proofs.Known.{firms_known, node_known}
+use Rattle.gu_book.proofs.Restored.{newest_is_free}
+use Rattle.gu_book.proofs.Refused.{trade_passes, caller_known, row_none}
+
+-- ---- the parties of a live change are firms of the house table
+
+abbrev AllKnown : House → List (List ℕ) → Type 0
+AllKnown t firms = All (λ f. knows_firm t f ≡ true) firms
+
+one_known : (t : House) (f : List ℕ) → knows_firm t f ≡ true → AllKnown t (f ∷ [])
+one_known t f h = All-cons (λ f. knows_firm t f ≡ true) f [] h (All-nil (λ f. knows_firm t f ≡ true))
+
+two_known : (t : House) (f g : List ℕ) → knows_firm t f ≡ true → knows_firm t g ≡ true → AllKnown t (f ∷ g ∷ [])
+two_known t f g h k = All-cons (λ f. knows_firm t f ≡ true) f (g ∷ []) h (one_known t g k)
+
+none_known : (t : House) → AllKnown t []
+none_known t = All-nil (λ f. knows_firm t f ≡ true)
+
+both_known : (t : House) (k : Kind) → KindKnown t k → AllKnown t (taker_and_giver k)
+both_known t (Root _) h = none_known t
+both_known t (Own _ _ _) h = none_known t
+both_known t (Given _ giver taker) h = two_known t taker giver h.taker_known h.giver_known
+
+giver_known : (t : House) (k : Kind) → KindKnown t k → AllKnown t (giver_alone k)
+giver_known t (Root _) h = none_known t
+giver_known t (Own _ _ _) h = none_known t
+giver_known t (Given _ giver taker) h = one_known t giver h.giver_known
+
+of_node_known : (t : House) (f : Kind → List (List ℕ)) → ((k : Kind) → KindKnown t k → AllKnown t (f k)) → (o : Option Node) → IfSome o (λ x. KindKnown t x.kind) → AllKnown t (of_node f o)
+of_node_known t f has None h = none_known t
+of_node_known t f has (Some x) h = has x.kind h
+
+house_known : (t : House) → knows_firm t t.house ≡ true
+house_known t = ap (λ b. b || list_any (bytes_eq t.house) t.firms) (bytes_same t.house)
+
+parties_known : (t : House) (l before : List Record) (by : List ℕ) (c : Command) → first_refused t [] l ≡ None → refusal_of t before by c ≡ None → AllKnown t (parties_of t l by c)
+parties_known t l before by (Trade firm account instrument side lots) none accepted =
+    let passes = trade_passes t by firm account instrument lots (row_none t before by (Trade firm account instrument side lots) accepted) in
+    two_known t t.house firm (house_known t) passes.firm_known
+parties_known t l before by (Split n ps) none accepted = one_known t by (caller_known t before by (Split n ps) accepted)
+parties_known t l before by (Claim n account) none accepted = of_node_known t taker_and_giver (both_known t) (node_of l n) (node_known t l n (firms_known t l none))
+parties_known t l before by (Refuse n) none accepted = of_node_known t taker_and_giver (both_known t) (node_of l n) (node_known t l n (firms_known t l none))
+parties_known t l before by (Cancel n) none accepted = of_node_known t giver_alone (giver_known t) (node_of l n) (node_known t l n (firms_known t l none))
+parties_known t l before by (Initiate _) none accepted = none_known t
+parties_known t l before by (Decline _) none accepted = none_known t
+parties_known t l before by (Reverse _) none accepted = none_known t
+
+or_either : (a b : Bool) → (a || b) ≡ true → (a ≡ true) ⊎ (b ≡ true)
+or_either true b h = inl refl
+or_either false b h = inr h
+
+among_known : (t : House) (by : List ℕ) (firms : List (List ℕ)) → AllKnown t firms → is_among by firms ≡ true → knows_firm t by ≡ true
+among_known t by [] all h = absurd (cc)
+among_known t by (f ∷ firms) all h =
+    elim (or_either (bytes_eq by f) (is_among by firms) h) [
+      | inl here ↦ subst (λ g. knows_firm t g ≡ true) (sym ((bytes_eq-Decides by f).0 here)) (All-head (λ f. knows_firm t f ≡ true) f firms all)
+      | inr later ↦ among_known t by firms (All-tail (λ f. knows_firm t f ≡ true) f firms all) later
+    ]
+
+-- ---- a reversal that nothing refuses
+
+neither : (a b : Bool) → (a || b) ≡ false → (a ≡ false) × (b ≡ false)
+neither true b h = absurd (cc)
+neither false b h = (refl, h)
+
+none_reverses : (n m : ℕ) (h : List Entry) → is_reversed h n ≡ false → find (λ r. is_reverse_of n r.command) (numbered_from m h) ≡ None
+none_reverses n m [] e = refl
+none_reverses n m (d ∷ h) e =
+    let p = neither (is_reverse_of n d.command) (is_reversed h n) e in
+    ap (λ b. cond b (Some (numbered_as m d)) (find (λ r. is_reverse_of n r.command) (numbered_from (m + 1) h))) p.0 ∙ none_reverses n (m + 1) h p.1
+
+all_clear : (known is party : Bool) (reversal : Option Record) (lack : Option (List ℕ)) (stands : Option ℕ)
+    → known ≡ true → is ≡ true → party ≡ true → reversal ≡ None → lack ≡ None → stands ≡ None
+    → first (unless known UnknownFirm
+    ∷ first (unless is NotAChange ∷ option_map (λ v. AlreadyReversed v.number) reversal ∷ unless party NotAParty
+    ∷ first (option_map (λ f. NeedsConsent f) lack ∷ option_map (λ n. StandsOn n) stands ∷ []) ∷ []) ∷ []) ≡ None
+all_clear known is party reversal lack stands a b c d e f = rw (a, b, c, d, e, f) refl
+
+no_call : (c : Call) (rs : List Record) → find (is_same_id c) rs ≡ None → find (is_same_call c) rs ≡ None
+no_call c [] e = refl
+no_call c (r ∷ rs) e =
+    let p = nothing_here (is_same_id c r) r (find (is_same_id c) rs) e in
+    ap (λ b. cond (b && same_command r.command c.command) (Some r) (find (is_same_call c) rs)) p.0 ∙ no_call c rs p.1
+
+answered : (same dup : Option Record) (number : ℕ) (status : State) (room : Bool) (o : Option Refusal) → same ≡ None → dup ≡ None → room ≡ true → o ≡ None
+    → answer_by same dup (accepted_or number status (first (unless room BookFull ∷ o ∷ []))) ≡ Accepted number status
+answered same dup number status room o a b c d = rw (a, b, c, d) refl
+
+pub accepted_where_ready : (t : House) → IsAcceptedWhereReady t
+accepted_where_ready t calls before after r by id same ready fresh room =
+    let h = after_all t [] calls in
+    let call : Call = record { firm = by; id = id; command = Reverse r.number } in
+    let run = run_all t calls in
+    let at = listed (is_live h) 1 h r before after same in
+    let passes = and_parts (is_change r.command) (not (is_reversed h r.number)) at.passes in
+    let lawful = first_refused-cut t [] before r after (subst (λ l. first_refused t [] l ≡ None) same run.replayed) in
+    let known = among_known t by (parties_of t (live h) r.firm r.command) (parties_known t (live h) before r.firm r.command run.replayed lawful) ready.party in
+    let clear : command_refusal t h by (Reverse r.number) ≡ None =
+    ap (λ o. first (unless (knows_firm t by) UnknownFirm ∷ on_change t h by (reverse_rest t h) o ∷ [])) at.found
+    ∙ all_clear (knows_firm t by) (is_change r.command) (is_among by (parties_of t (live h) r.firm r.command)) (reversal_of h r.number) (missing (parties_of t (live h) r.firm r.command) (consents_of h r.number)) (standing_on t (live h) r.number)
+    known passes.0 ready.party (none_reverses r.number 1 h (not-true (is_reversed h r.number) passes.1)) ready.agreed ready.free in
+    answered (find (is_same_call call) (records h)) (find (is_same_id call) (records h)) (length h + 1) Reversed (nat_lt (length h) 1000000) (command_refusal t h by (Reverse r.number))
+    (no_call call (records h) fresh) fresh (lt-ltb (length h) 1000000 room) clear
+
+initiate_clear : (known is party given : Bool) (reversal : Option Record) → known ≡ true → is ≡ true → party ≡ true → reversal ≡ None → given ≡ false
+    → first (unless known UnknownFirm
+    ∷ first (unless is NotAChange ∷ option_map (λ v. AlreadyReversed v.number) reversal ∷ unless party NotAParty ∷ unless (not given) AlreadyConsented ∷ []) ∷ []) ≡ None
+initiate_clear known is party given reversal a b c d e = rw (a, b, c, d, e) refl
+
+pub consent_accepted : (t : House) → IsConsentAccepted t
+consent_accepted t calls before after r by id same party lacks fresh room =
+    let h = after_all t [] calls in
+    let call : Call = record { firm = by; id = id; command = Initiate r.number } in
+    let run = run_all t calls in
+    let at = listed (is_live h) 1 h r before after same in
+    let passes = and_parts (is_change r.command) (not (is_reversed h r.number)) at.passes in
+    let lawful = first_refused-cut t [] before r after (subst (λ l. first_refused t [] l ≡ None) same run.replayed) in
+    let known = among_known t by (parties_of t (live h) r.firm r.command) (parties_known t (live h) before r.firm r.command run.replayed lawful) party in
+    let clear : command_refusal t h by (Initiate r.number) ≡ None =
+    ap (λ o. first (unless (knows_firm t by) UnknownFirm ∷ on_change t h by (initiate_rest h by) o ∷ [])) at.found
+    ∙ initiate_clear (knows_firm t by) (is_change r.command) (is_among by (parties_of t (live h) r.firm r.command)) (is_among by (consents_of h r.number)) (reversal_of h r.number)
+    known passes.0 party (none_reverses r.number 1 h (not-true (is_reversed h r.number) passes.1)) lacks in
+    answered (find (is_same_call call) (records h)) (find (is_same_id call) (records h)) (length h + 1) ReversalPending (nat_lt (length h) 1000000) (command_refusal t h by (Initiate r.number))
+    (no_call call (records h) fresh) fresh (lt-ltb (length h) 1000000 room) clear
+
+pub newest_undone : (t : House) → IsNewestUndone t
+newest_undone t calls before r by id same party agreed fresh room =
+    accepted_where_ready t calls before [] r by id same (record { party = party; agreed = agreed; free = newest_is_free t calls before r same }) fresh room
+
+-- ---- what a refused reversal names
+
+refused_by : (same dup : Option Record) (number : ℕ) (status : State) (o : Option Refusal) (x : Refusal) → answer_by same dup (accepted_or number status o) ≡ Refused x
+    → ((n : ℕ) × (DuplicateId n ≡ x)) ⊎ (o ≡ Some x)
+refused_by (Some r) dup number status o x h = absurd (cc)
+refused_by None (Some r) number status o x h = inl (r.number, cc)
+refused_by None None number status None x h = absurd (cc)
+refused_by None None number status (Some y) x h = inr (cc)
+
+first_some : (o : Option Refusal) (rest : List (Option Refusal)) (x : Refusal) → first (o ∷ rest) ≡ Some x → (o ≡ Some x) ⊎ (first rest ≡ Some x)
+first_some None rest x h = inr h
+first_some (Some y) rest x h = inl h
+
+only_some : (o : Option Refusal) (x : Refusal) → first (o ∷ []) ≡ Some x → o ≡ Some x
+only_some None x h = absurd (cc)
+only_some (Some y) x h = h
+
+unless_some : (b : Bool) (r x : Refusal) → unless b r ≡ Some x → r ≡ x
+unless_some true r x h = cc
+unless_some false r x h = cc
+
+mapped_some : {A : Type 0} (f : A → Refusal) (o : Option A) (x : Refusal) → option_map f o ≡ Some x → (a : A) × (o ≡ Some a) × (f a ≡ x)
+mapped_some f None x h = absurd (cc)
+mapped_some f (Some a) x h = (a, refl, cc)
+
+some_refusal : (r x : Refusal) → Some r ≡ Some x → r ≡ x
+some_refusal r x h = cc
+
+module _ (t : House) (h : List Entry) (by : List ℕ) (k : ℕ) (x : Refusal) where
+  named_rest : (r : Record) → entry_of h k ≡ Some r → reverse_rest t h r ≡ Some x → NamedBy t h k x
+  named_rest r at e =
+      let number = (found_at k 1 h r at).number in
+      let parties = parties_of t (live h) r.firm r.command in
+      elim (first_some (option_map (λ f. NeedsConsent f) (missing parties (consents_of h r.number))) (option_map (λ n. StandsOn n) (standing_on t (live h) r.number) ∷ []) x e) [
+        | inl lacks ↦ let m = mapped_some (λ f. NeedsConsent f) (missing parties (consents_of h r.number)) x lacks in
+            subst (NamedBy t h k) m.2 (r, at, subst (λ n. missing parties (consents_of h n) ≡ Some m.0) number m.1)
+        | inr stands ↦ let m = mapped_some (λ n. StandsOn n) (standing_on t (live h) r.number) x (only_some (option_map (λ n. StandsOn n) (standing_on t (live h) r.number)) x stands) in
+            subst (NamedBy t h k) m.2 (subst (λ n. standing_on t (live h) n ≡ Some m.0) number m.1)
+      ]
+
+  named_change : (o : Option Record) → entry_of h k ≡ o → on_change t h by (reverse_rest t h) o ≡ Some x → NamedBy t h k x
+  named_change None at e = subst (NamedBy t h k) (some_refusal UnknownEntry x e) tt
+  named_change (Some r) at e =
+      let last = reverse_rest t h r ∷ [] in
+      let third = unless (is_among by (parties_of t (live h) r.firm r.command)) NotAParty ∷ last in
+      let second = option_map (λ v. AlreadyReversed v.number) (reversal_of h r.number) ∷ third in
+      elim (first_some (unless (is_change r.command) NotAChange) second x e) [
+        | inl a ↦ subst (NamedBy t h k) (unless_some (is_change r.command) NotAChange x a) tt
+        | inr e2 ↦ elim (first_some (option_map (λ v. AlreadyReversed v.number) (reversal_of h r.number)) third x e2) [
+          | inl b ↦ let m = mapped_some (λ v. AlreadyReversed v.number) (reversal_of h r.number) x b in subst (NamedBy t h k) m.2 tt
+          | inr e3 ↦ elim (first_some (unless (is_among by (parties_of t (live h) r.firm r.command)) NotAParty) last x e3) [
+            | inl c ↦ subst (NamedBy t h k) (unless_some (is_among by (parties_of t (live h) r.firm r.command)) NotAParty x c) tt
+            | inr e4 ↦ named_rest r at (only_some (reverse_rest t h r) x e4)
+          ]
+        ]
+      ]
+
+  named_command : command_refusal t h by (Reverse k) ≡ Some x → NamedBy t h k x
+  named_command e =
+      elim (first_some (unless (knows_firm t by) UnknownFirm) (on_change t h by (reverse_rest t h) (entry_of h k) ∷ []) x e) [
+        | inl a ↦ subst (NamedBy t h k) (unless_some (knows_firm t by) UnknownFirm x a) tt
+        | inr rest ↦ named_change (entry_of h k) refl (only_some (on_change t h by (reverse_rest t h) (entry_of h k)) x rest)
+      ]
+
+  named_first : first (unless (nat_lt (length h) 1000000) BookFull ∷ command_refusal t h by (Reverse k) ∷ []) ≡ Some x → NamedBy t h k x
+  named_first e =
+      elim (first_some (unless (nat_lt (length h) 1000000) BookFull) (command_refusal t h by (Reverse k) ∷ []) x e) [
+        | inl full ↦ subst (NamedBy t h k) (unless_some (nat_lt (length h) 1000000) BookFull x full) tt
+        | inr rest ↦ named_command (only_some (command_refusal t h by (Reverse k)) x rest)
+      ]
+
+  pub named_at : (id : List ℕ) → answer_to t h (record { firm = by; id = id; command = Reverse k }) ≡ Refused x → NamedBy t h k x
+  named_at id e =
+      let call : Call = record { firm = by; id = id; command = Reverse k } in
+      elim (refused_by (find (is_same_call call) (records h)) (find (is_same_id call) (records h)) (length h + 1) Reversed (first (unless (nat_lt (length h) 1000000) BookFull ∷ command_refusal t h by (Reverse k) ∷ [])) x e) [
+        | inl dup ↦ subst (NamedBy t h k) dup.1 tt
+        | inr why ↦ named_first why
+      ]
+
+pub named : (t : House) → IsNamed t
+named t calls by id k x e = named_at t (after_all t [] calls) by k x id e

@@ -1,0 +1,159 @@
+-- What a reversal does over any list of calls.
+use Rattle.std.proofs.Common.{◌≡◌, ℕ, ◌+◌, ◌<◌, ◌≤◌, Bool, true, false, not, List, [], ◌∷◌, ◌++◌, length, refl, sym, ◌∙◌, ap, subst, arith, Option, cond, append-nil, append_assoc, inl, inr, ◌⊎◌}
+use Rattle.std.specs.Prelude.{Some, None, map, ◌==◌, is_some}
+use Rattle.std.specs.List.{All, list_all}
+use Rattle.std.proofs.lemmas.Bool.{ne_eqb, eq-eqb, and_parts}
+use Rattle.std.proofs.lemmas.List.Elements.{All-nil, All-cons, All-head, All-tail, filter-append}
+use Rattle.gu_base.specs.House.{House}
+use Rattle.gu_base.specs.History.{numbered_as, is_change, live}
+use Rattle.gu_base.specs.Refusals.{refusal_of}
+use Rattle.gu_base.specs.Standing.{first_refused, without}
+use Rattle.gu_base.specs.Answers.{Call, answer_to, after, after_by, is_accepted}
+use Rattle.gu_base.specs.Runs.{after_all, call_of, IsRunFrom}
+use Rattle.gu_base.specs.declared.command.Command.TheVariants.{Reverse}
+use Rattle.gu_base.specs.declared.entry.Answer.{Answer}
+use Rattle.gu_base.specs.declared.entry.Answer.TheVariants.{Accepted, Repeated, Refused}
+use Rattle.gu_base.specs.declared.entry.Entry.{Entry}
+use Rattle.gu_base.specs.declared.entry.Record.{Record}
+use Rattle.gu_base.proofs.LiveLaws.{live_push_change, live_push_reverse, live_push_consent, live_below, without_none, without_last}
+use Rattle.gu_base.proofs.LegalLaws.{legal_from_replay, none_refused, replay_front}
+use Rattle.gu_book.specs.Conserved.{RisesFrom}
+use Rattle.gu_book.specs.Headline.{IsLawful, Restores, TakesOut, NewestIsFree, StandsLater}
+use Rattle.gu_base.specs.Consents.{is_consenting}
+use Rattle.gu_base.proofs.RunLaws.{run_all}
+use Rattle.gu_book.proofs.Leaves.{live_rises}
+use Rattle.gu_book.proofs.Orders.{earlier}
+
+pub lawful : (t : House) → IsLawful t
+lawful t calls = legal_from_replay t (live (after_all t [] calls)) ((run_all t calls).replayed)
+
+-- a history that calls made is made again by the calls that its entries keep
+remade : (t : House) (h : List Entry) → IsRunFrom t [] h → (before rest : List Entry) → h ≡ before ++ rest → after_all t before (map call_of rest) ≡ h
+remade t h run before [] e = sym (e ∙ append-nil before)
+remade t h run before (x ∷ rest) e =
+    ap (λ k. after_all t (after_by before (call_of x) k) (map call_of rest)) (run.accepted before rest x e (omega arith))
+    ∙ remade t h run (before ++ x ∷ []) rest (e ∙ sym (append_assoc before (x ∷ []) rest))
+
+pub made_again : (t : House) (h : List Entry) → IsRunFrom t [] h → after_all t [] (map call_of h) ≡ h
+made_again t h run = remade t h run [] h refl
+
+after_more : (t : House) (h : List Entry) (cs ds : List Call) → after_all t h (cs ++ ds) ≡ after_all t (after_all t h cs) ds
+after_more t h [] ds = refl
+after_more t h (c ∷ cs) ds = after_more t (after t h c) cs ds
+
+-- an accepted answer, and the entry that it adds
+pub record IsAdded (t : House) (h : List Entry) (c : Call) (e : Entry) : Type 0 where
+  pub command : e.command ≡ c.command
+  pub longer : after t h c ≡ h ++ e ∷ []
+
+added_by : (t : House) (h : List Entry) (c : Call) (a : Answer) → answer_to t h c ≡ a → is_accepted a ≡ true → (e : Entry) × IsAdded t h c e
+added_by t h c (Accepted n s) same ok = (record { firm = c.firm; id = c.id; command = c.command; status = s }, record { command = refl; longer = ap (after_by h c) same })
+added_by t h c (Repeated n s) same ok = absurd (cc)
+added_by t h c (Refused r) same ok = absurd (cc)
+
+added : (t : House) (h : List Entry) (c : Call) → is_accepted (answer_to t h c) ≡ true → (e : Entry) × IsAdded t h c e
+added t h c ok = added_by t h c (answer_to t h c) refl ok
+
+taken_out : (t : House) (h : List Entry) (c : Call) (k : ℕ) → c.command ≡ Reverse k → is_accepted (answer_to t h c) ≡ true → live (after t h c) ≡ without (live h) k
+taken_out t h c k same ok =
+    let a = added t h c ok in
+    ap live a.1.longer ∙ live_push_reverse h a.0 k (a.1.command ∙ same)
+
+pub takes_out : (t : House) → TakesOut t
+takes_out t calls reversal k same ok = ap live (after_more t [] calls (reversal ∷ [])) ∙ taken_out t (after_all t [] calls) reversal k same ok
+
+-- Initiates and Declines leave the live changes
+consent_step : (t : House) (h : List Entry) (c : Call) (a : Answer) → answer_to t h c ≡ a → is_consenting c.command ≡ true → live (after_by h c a) ≡ live h
+consent_step t h c (Accepted n s) same consent = live_push_consent h (record { firm = c.firm; id = c.id; command = c.command; status = s }) consent
+consent_step t h c (Repeated n s) same consent = refl
+consent_step t h c (Refused r) same consent = refl
+
+consents_keep : (t : House) (h : List Entry) (cs : List Call) → list_all (λ c. is_consenting c.command) cs ≡ true → live (after_all t h cs) ≡ live h
+consents_keep t h [] all = refl
+consents_keep t h (c ∷ cs) all =
+    let p = and_parts (is_consenting c.command) (list_all (λ c. is_consenting c.command) cs) all in
+    consents_keep t (after t h c) cs p.1 ∙ consent_step t h c (answer_to t h c) refl p.0
+
+pub restores : (t : House) → Restores t
+restores t calls between change reversal is ok consents names undone =
+    let h = after_all t [] calls in
+    let run = run_all t calls in
+    let a = added t h change ok in
+    let e = a.0 in
+    let more = live_push_change h e (ap is_change a.1.command ∙ is) (run.behind (1 + length h) (omega arith)) in
+    let longer : live (after_all t [] (calls ++ change ∷ between)) ≡ live h ++ numbered_as (1 + length h) e ∷ [] =
+    ap live (after_more t [] calls (change ∷ between)) ∙ (consents_keep t (after t h change) between consents ∙ (ap live a.1.longer ∙ more)) in
+    takes_out t (calls ++ change ∷ between) reversal (length h + 1) names undone
+    ∙ (ap (λ l. without l (length h + 1)) longer
+    ∙ without_last (length h + 1) (live h) (numbered_as (1 + length h) e) (omega arith) (subst (λ k. All (λ (r : Record). r.number < k) (live h)) (omega arith) (live_below h)))
+
+pub newest_is_free : (t : House) → NewestIsFree t
+newest_is_free t calls before r same =
+    let h = after_all t [] calls in
+    let run = run_all t calls in
+    let order = earlier 1 before r (subst (λ l. RisesFrom 1 l) same (live_rises h)) in
+    ap (λ l. first_refused t [] (without l r.number)) same
+    ∙ (ap (first_refused t []) (without_last r.number before r refl order.2)
+    ∙ replay_front t [] before (r ∷ []) (subst (λ l. first_refused t [] l ≡ None) same run.replayed))
+
+-- ---- what stands on a change is later
+
+all_above : (n k : ℕ) (l : List Record) → k < n → RisesFrom n l → All (λ d. k < d.number) l
+all_above n k [] above rises = All-nil (λ (d : Record). k < d.number)
+all_above n k (d ∷ l) above rises =
+    let behind : n ≤ d.number = rises.0 in
+    All-cons (λ (d : Record). k < d.number) d l (omega arith) (all_above (d.number + 1) k l (omega arith) rises.1)
+
+-- the numbers before and behind a record
+around : (n : ℕ) (before after : List Record) (r : Record) → RisesFrom n (before ++ r ∷ after) → (n ≤ r.number) × All (λ d. d.number < r.number) before × All (λ d. r.number < d.number) after
+around n [] after r rises = (rises.0, All-nil (λ (d : Record). d.number < r.number), all_above (r.number + 1) r.number after (omega arith) rises.1)
+around n (b ∷ before) after r rises =
+    let rest = around (b.number + 1) before after r rises.1 in
+    let behind : n ≤ b.number = rises.0 in
+    let later : b.number + 1 ≤ r.number = rest.0 in
+    (omega arith, All-cons (λ (d : Record). d.number < r.number) b before (omega arith) rest.1, rest.2)
+
+without_above : (k : ℕ) (l : List Record) → All (λ r. k < r.number) l → without l k ≡ l
+without_above k [] all = refl
+without_above k (r ∷ l) all =
+    let high : k < r.number = All-head (λ (r : Record). k < r.number) r l all in
+    ap (λ b. cond (not b) (r ∷ without l k) (without l k)) (ne_eqb r.number k (λ e. omega arith)) ∙ ap (λ rs. r ∷ rs) (without_above k l (All-tail (λ (r : Record). k < r.number) r l all))
+
+same_number : (k : ℕ) (r : Record) (l : List Record) → r.number ≡ k → without (r ∷ l) k ≡ without l k
+same_number k r l same = ap (λ b. cond (not b) (r ∷ without l k) (without l k)) (eq-eqb r.number k same)
+
+-- the list without one of its changes
+pub without_cut : (before after : List Record) (r : Record) → All (λ d. d.number < r.number) before → All (λ d. r.number < d.number) after → without (before ++ r ∷ after) r.number ≡ before ++ after
+without_cut before after r low high =
+    filter-append (λ (d : Record). not (d.number == r.number)) before (r ∷ after)
+    ∙ (ap (λ l. l ++ without (r ∷ after) r.number) (without_none r.number before low)
+    ∙ ap (λ l. before ++ l) (same_number r.number r after refl ∙ without_above r.number after high))
+
+pub replay_on : (t : House) (done l m : List Record) → first_refused t done l ≡ None → first_refused t done (l ++ m) ≡ first_refused t (done ++ l) m
+replay_on t done [] m h = ap (λ b. first_refused t b m) (sym (append-nil done))
+replay_on t done (d ∷ l) m h =
+    let p = none_refused (refusal_of t done d.firm d.command) d.number (first_refused t (done ++ d ∷ []) l) h in
+    ap (λ o. cond (is_some o) (Some d.number) (first_refused t (done ++ d ∷ []) (l ++ m))) p.0
+    ∙ (replay_on t (done ++ d ∷ []) l m p.1 ∙ ap (λ b. first_refused t b m) (append_assoc done (d ∷ []) l))
+
+stops_here : (b : Bool) (n m : ℕ) (rest : Option ℕ) → cond b (Some n) rest ≡ Some m → (n ≡ m) ⊎ (rest ≡ Some m)
+stops_here true n m rest h = inl (cc)
+stops_here false n m rest h = inr h
+
+refused_above : (t : House) (k : ℕ) (done l : List Record) (n : ℕ) → All (λ d. k < d.number) l → first_refused t done l ≡ Some n → k < n
+refused_above t k done [] n all h = absurd (cc)
+refused_above t k done (d ∷ l) n all h =
+    let here : k < d.number = All-head (λ (d : Record). k < d.number) d l all in
+    elim (stops_here (is_some (refusal_of t done d.firm d.command)) d.number n (first_refused t (done ++ d ∷ []) l) h) [
+      | inl same ↦ omega arith
+      | inr later ↦ refused_above t k (done ++ d ∷ []) l n (All-tail (λ (d : Record). k < d.number) d l all) later
+    ]
+
+pub stands_later : (t : House) → StandsLater t
+stands_later t calls before after r n same stands =
+    let h = after_all t [] calls in
+    let run = run_all t calls in
+    let a = around 1 before after r (subst (λ l. RisesFrom 1 l) same (live_rises h)) in
+    let front = replay_front t [] before (r ∷ after) (subst (λ l. first_refused t [] l ≡ None) same run.replayed) in
+    refused_above t r.number before after n a.2
+    (sym (replay_on t [] before after front) ∙ (ap (first_refused t []) (sym (without_cut before after r a.1 a.2)) ∙ (ap (λ l. first_refused t [] (without l r.number)) (sym same) ∙ stands)))

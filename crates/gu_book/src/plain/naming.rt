@@ -1,0 +1,198 @@
+//! Why an Initiate, a Decline or a Reverse is refused, but for what stands on the change.
+ghost use Rattle.std.specs.Prelude.{◌≡◌, ◌≤◌, ◌+◌, ℕ, length, take, option_map, Some, None};
+ghost use Rattle.gu_base.specs.Limits.{most_entries};
+ghost use Rattle.gu_base.specs.History.{numbered_as, is_change, is_reverse_of, live};
+ghost use Rattle.gu_base.specs.Consents.{of_node, taker_and_giver, giver_alone, parties_of, is_among};
+ghost use Rattle.gu_base.specs.Answers.{entry_of, reversal_of, on_change};
+ghost use Rattle.gu_book.specs.Front.{own_refusal, own_of};
+ghost use Rattle.gu_consent.specs.Given.{given};
+
+use crate::plain::nodes::node_of;
+use gu_base::{Command, Entry, FirmId, Kind, Node, Number, Record, Refusal};
+use gu_consent::Consents;
+use gu_parties::House;
+
+/// Whether a command changes trees, positions or fees.
+pub(crate) fn is_change(command: &Command) -> bool
+    ensures { result ≡ is_change command.now }
+{
+    match command {
+        Command::Trade { .. } => true,
+        Command::Split { .. } => true,
+        Command::Claim { .. } => true,
+        Command::Refuse { .. } => true,
+        Command::Cancel { .. } => true,
+        Command::Initiate { .. } => false,
+        Command::Decline { .. } => false,
+        Command::Reverse { .. } => false,
+    }
+}
+
+/// Whether a command reverses the entry.
+fn is_reverse_of(number: Number, command: &Command) -> bool
+    ensures { result ≡ is_reverse_of number command.now }
+{
+    match command {
+        Command::Reverse { entry } => *entry == number,
+        _ => false,
+    }
+}
+
+/// The number of the Reverse that names the entry.
+fn reversal_of(entries: &[Entry], number: Number) -> Option<Number>
+    requires { length entries.now ≤ most_entries }
+    ensures { result ≡ option_map (λ r. r.number) (reversal_of entries.now number) }
+{
+    for (i, e) in entries.iter().enumerate() {
+        if is_reverse_of(number, &e.command) {
+            return Some(Number::at_place(i));
+        }
+    }
+    None
+}
+
+/// The taker and the giver of a node, and how many they are: none where it isn't given.
+fn taker_and_giver(node: &Option<Node>, by: &FirmId) -> ([FirmId; 2], usize)
+    ensures value { take result.1 result.0 ≡ of_node taker_and_giver node.now }
+    ensures fits { result.1 ≤ 2 }
+{
+    match node {
+        None => ([*by, *by], 0),
+        Some(x) => match &x.kind {
+            Kind::Given { giver, taker, .. } => ([*taker, *giver], 2),
+            Kind::Root(_) | Kind::Own { .. } => ([*by, *by], 0),
+        },
+    }
+}
+
+/// The giver of a node, if it is given.
+fn giver_alone(node: &Option<Node>, by: &FirmId) -> ([FirmId; 2], usize)
+    ensures value { take result.1 result.0 ≡ of_node giver_alone node.now }
+    ensures fits { result.1 ≤ 2 }
+{
+    match node {
+        None => ([*by, *by], 0),
+        Some(x) => match &x.kind {
+            Kind::Given { giver, .. } => ([*giver, *giver], 1),
+            Kind::Root(_) | Kind::Own { .. } => ([*by, *by], 0),
+        },
+    }
+}
+
+/// The parties of a change of this firm, in order, and how many they are.
+fn parties_of(
+    house: &House,
+    records: &[Record],
+    by: &FirmId,
+    command: &Command,
+) -> ([FirmId; 2], usize)
+    ensures value { take result.1 result.0 ≡ parties_of house.now records.now by.now command.now }
+    ensures fits { result.1 ≤ 2 }
+{
+    match command {
+        Command::Trade { firm, .. } => ([house.house(), *firm], 2),
+        Command::Split { .. } => ([*by, *by], 1),
+        Command::Claim { node, .. } => taker_and_giver(&node_of(records, node), by),
+        Command::Refuse { node } => taker_and_giver(&node_of(records, node), by),
+        Command::Cancel { node } => giver_alone(&node_of(records, node), by),
+        Command::Initiate { .. } | Command::Decline { .. } | Command::Reverse { .. } => {
+            ([*by, *by], 0)
+        }
+    }
+}
+
+/// Whether the firm is one of these.
+fn is_among(firm: &FirmId, firms: &[FirmId]) -> bool
+    ensures { result ≡ is_among firm.now firms.now }
+{
+    firms.iter().any(|f| *firm == *f)
+}
+
+/// The last refusal of each row, over those who consent.
+fn own_refusal(
+    consents: &Consents,
+    number: Number,
+    parties: &[FirmId],
+    by: &FirmId,
+    command: &Command,
+) -> Option<Refusal>
+    ensures { result ≡ own_refusal (given consents.now number) parties.now by.now command.now }
+{
+    match command {
+        Command::Initiate { .. } => match consents.missing(number, &[*by]) {
+            None => Some(Refusal::AlreadyConsented),
+            Some(_) => None,
+        },
+        Command::Decline { .. } => {
+            if consents.any(number) {
+                None
+            } else {
+                Some(Refusal::NothingPending)
+            }
+        }
+        Command::Reverse { .. } => match consents.missing(number, parties) {
+            None => None,
+            Some(firm) => Some(Refusal::NeedsConsent(firm)),
+        },
+        _ => None,
+    }
+}
+
+/// Why a command that names this entry is refused.
+fn entry_refusal(
+    house: &House,
+    entries: &[Entry],
+    records: &[Record],
+    consents: &Consents,
+    by: &FirmId,
+    command: &Command,
+    number: Number,
+    e: &Entry,
+) -> Option<Refusal>
+    requires few { length entries.now ≤ most_entries }
+    requires live { records.now ≡ live entries.now }
+    ensures { result ≡ on_change house.now entries.now by.now (own_of house.now entries.now (given consents.now) by.now command.now) (Some (numbered_as number e.now)) }
+{
+    if !is_change(&e.command) {
+        return Some(Refusal::NotAChange);
+    }
+    if let Some(reversal) = reversal_of(entries, number) {
+        return Some(Refusal::AlreadyReversed(reversal));
+    }
+    let (firms, count) = parties_of(house, records, &e.firm, &e.command);
+    let parties = &firms[..count];
+    if !is_among(by, parties) {
+        return Some(Refusal::NotAParty);
+    }
+    own_refusal(consents, number, parties, by, command)
+}
+
+/// Why a command that names the entry of this number is refused.
+pub(crate) fn naming_refusal(
+    house: &House,
+    entries: &[Entry],
+    records: &[Record],
+    consents: &Consents,
+    by: &FirmId,
+    command: &Command,
+    number: Number,
+) -> Option<Refusal>
+    requires few { length entries.now ≤ most_entries }
+    requires live { records.now ≡ live entries.now }
+    ensures { result ≡ on_change house.now entries.now by.now (own_of house.now entries.now (given consents.now) by.now command.now) (entry_of entries.now number) }
+{
+    let place = number.get() as usize - 1;
+    if place >= entries.len() {
+        return Some(Refusal::UnknownEntry);
+    }
+    entry_refusal(
+        house,
+        entries,
+        records,
+        consents,
+        by,
+        command,
+        number,
+        &entries[place],
+    )
+}

@@ -1,0 +1,121 @@
+-- What is found in a list where at most one element passes, in whatever order the list stands.
+use Rattle.std.proofs.Common.{◌≡◌, ℕ, zero, suc, ◌+◌, ◌<◌, ◌≤◌, Bool, true, false, List, [], ◌∷◌, ◌++◌, length, get_or, refl, sym, ◌∙◌, ap, arith, cond, Option, IsPermutation, Contains}
+use Rattle.std.specs.Prelude.{Some, None, find, count_by}
+use Rattle.std.specs.Option.{option_or}
+use Rattle.std.proofs.lemmas.List.Folds.{find-append}
+use Rattle.std.proofs.lemmas.List.Sums.{sum_by-cons, sum_by-append, sum_by_push, get_or-le-sum_by}
+use Rattle.std.proofs.lemmas.List.Sorted.{Contains-permutation, sum_by-IsPermutation}
+use Rattle.gu_base.proofs.Basics.{some_same}
+
+pub none_is_some : {A : Type 0} (o : Option A) (a : A) → o ≡ None → o ≡ Some a → ⊥
+none_is_some o a e f = cc
+
+pub no_some : {A : Type 0} (o : Option A) → ((a : A) → o ≡ Some a → ⊥) → o ≡ None
+no_some None absent = refl
+no_some (Some a) absent = absurd (absent a refl)
+
+pub count_cons : {X : Type 0} (p : X → Bool) (x : X) (xs : List X) → count_by p (x ∷ xs) ≡ cond (p x) 1 0 + count_by p xs
+count_cons p x xs = sum_by-cons (λ y. cond (p y) 1 0) x xs
+
+pub count_append : {X : Type 0} (p : X → Bool) (xs ys : List X) → count_by p (xs ++ ys) ≡ count_by p xs + count_by p ys
+count_append p xs ys = sum_by-append (λ y. cond (p y) 1 0) xs ys
+
+pub count_permuted : {X : Type 0} (p : X → Bool) (xs ys : List X) → IsPermutation xs ys → count_by p ys ≡ count_by p xs
+count_permuted p xs ys same = sum_by-IsPermutation (λ y. cond (p y) 1 0) xs ys same
+
+find_none_at : {X : Type 0} (p : X → Bool) (x : X) (xs : List X) → (find p xs ≡ None → count_by p xs ≡ 0) → (b : Bool) → cond b (Some x) (find p xs) ≡ None → cond b 1 0 + count_by p xs ≡ 0
+find_none_at p x xs later true h = absurd (cc)
+find_none_at p x xs later false h = omega (arith, later h)
+
+-- where none is found, none counts, and the other way round
+pub none_counts : {X : Type 0} (p : X → Bool) (xs : List X) → find p xs ≡ None → count_by p xs ≡ 0
+none_counts p [] h = refl
+none_counts p (x ∷ xs) h =
+    let a = count_cons p x xs in
+    let b = find_none_at p x xs (none_counts p xs) (p x) h in
+    omega (arith, a, b)
+
+counts_none_at : {X : Type 0} (p : X → Bool) (x : X) (xs : List X) → (count_by p xs ≡ 0 → find p xs ≡ None) → (b : Bool) → cond b 1 0 + count_by p xs ≡ 0 → cond b (Some x) (find p xs) ≡ None
+counts_none_at p x xs later true h = absurd (omega (arith, h))
+counts_none_at p x xs later false h = later (omega (arith, h))
+
+pub counts_none : {X : Type 0} (p : X → Bool) (xs : List X) → count_by p xs ≡ 0 → find p xs ≡ None
+counts_none p [] h = refl
+counts_none p (x ∷ xs) h =
+    let a = count_cons p x xs in
+    counts_none_at p x xs (counts_none p xs) (p x) (omega (arith, a, h))
+
+found_in_at : {X : Type 0} (p : X → Bool) (y : X) (ys : List X) (x : X) → (find p ys ≡ Some x → Contains ys x) → (b : Bool) → cond b (Some y) (find p ys) ≡ Some x → Contains (y ∷ ys) x
+found_in_at p y ys x later true h = (zero, omega arith, some_same y x h)
+found_in_at p y ys x later false h = let k = later h in let within : k.0 < length ys = k.1 in (suc k.0, omega arith, k.2)
+
+-- what is found stands in the list, and passes
+pub found_in : {X : Type 0} (p : X → Bool) (xs : List X) (x : X) → find p xs ≡ Some x → Contains xs x
+found_in p [] x h = absurd (cc)
+found_in p (y ∷ ys) x h = found_in_at p y ys x (found_in p ys x) (p y) h
+
+passes_at : {X : Type 0} (p : X → Bool) (y : X) (xs : List X) (x : X) → (find p xs ≡ Some x → p x ≡ true) → (b : Bool) → p y ≡ b → cond b (Some y) (find p xs) ≡ Some x → p x ≡ true
+passes_at p y xs x later true is h = sym (ap p (some_same y x h)) ∙ is
+passes_at p y xs x later false is h = later h
+
+pub find_passes : {X : Type 0} (p : X → Bool) (xs : List X) (x : X) → find p xs ≡ Some x → p x ≡ true
+find_passes p [] x h = absurd (cc)
+find_passes p (y ∷ xs) x h = passes_at p y xs x (find_passes p xs x) (p y) refl h
+
+-- an element that stands in the list and passes counts
+pub counts_in : {X : Type 0} (p : X → Bool) (xs : List X) (x : X) → Contains xs x → p x ≡ true → 1 ≤ count_by p xs
+counts_in p xs x among passes =
+    let a = get_or-le-sum_by (λ y. cond (p y) 1 0) xs among.0 x among.1 in
+    let b : cond (p (get_or xs among.0 x)) 1 0 ≡ 1 = ap (λ y. cond {A = ℕ} (p y) 1 0) among.2 ∙ ap (λ b. cond {A = ℕ} b 1 0) passes in
+    omega (arith, a, b)
+
+found_past : {X : Type 0} (p : X → Bool) (y : X) (ys : List X) (x : X) → 1 ≤ count_by p ys → (count_by p ys ≤ 1 → find p ys ≡ Some x) → (b : Bool) → cond b 1 0 + count_by p ys ≤ 1 → cond b (Some y) (find p ys) ≡ Some x
+found_past p y ys x some later true once = absurd (omega (arith, some, once))
+found_past p y ys x some later false once = later (omega (arith, once))
+
+found_place : {X : Type 0} (p : X → Bool) (xs : List X) (k : ℕ) (x : X) → k < length xs → get_or xs k x ≡ x → p x ≡ true → count_by p xs ≤ 1 → find p xs ≡ Some x
+found_place p [] k x within is passes once = absurd (omega arith)
+found_place p (y ∷ ys) zero x within is passes once = ap (λ b. cond b (Some y) (find p ys)) (ap p is ∙ passes) ∙ ap (λ z. Some z) is
+found_place p (y ∷ ys) (suc k) x within is passes once =
+    let inside : k < length ys = omega arith in
+    let a = count_cons p y ys in
+    found_past p y ys x (counts_in p ys x (k, inside, is) passes) (found_place p ys k x inside is passes) (p y) (omega (arith, a, once))
+
+-- where at most one passes, one that does is found
+pub found_once : {X : Type 0} (p : X → Bool) (xs : List X) (x : X) → Contains xs x → p x ≡ true → count_by p xs ≤ 1 → find p xs ≡ Some x
+found_once p xs x among passes once = found_place p xs among.0 x among.1 among.2 passes once
+
+find_permuted_by : {X : Type 0} (p : X → Bool) (xs ys : List X) → IsPermutation xs ys → count_by p xs ≤ 1 → (o : Option X) → find p xs ≡ o → find p ys ≡ o
+find_permuted_by p xs ys same once None h =
+    let a = none_counts p xs h in
+    let b = count_permuted p xs ys same in
+    counts_none p ys (omega (arith, a, b))
+find_permuted_by p xs ys same once (Some x) h =
+    let b = count_permuted p xs ys same in
+    found_once p ys x (Contains-permutation xs ys x same (found_in p xs x h)) (find_passes p xs x h) (omega (arith, b, once))
+
+-- and it is found in whatever order the list stands
+pub find_permuted : {X : Type 0} (p : X → Bool) (xs ys : List X) → IsPermutation xs ys → count_by p xs ≤ 1 → find p ys ≡ find p xs
+find_permuted p xs ys same once = find_permuted_by p xs ys same once (find p xs) refl
+
+pub find_more : {X : Type 0} (p : X → Bool) (xs ys : List X) (x : X) → find p xs ≡ Some x → find p (xs ++ ys) ≡ Some x
+find_more p xs ys x h = find-append p xs ys ∙ ap (λ o. option_or o (find p ys)) h
+
+once_push_at : {X : Type 0} (p : X → Bool) (xs : List X) (b : Bool) → count_by p xs ≤ 1 → (b ≡ true → find p xs ≡ None) → count_by p xs + cond b 1 0 ≤ 1
+once_push_at p xs true once new = let a = none_counts p xs (new refl) in omega (arith, a)
+once_push_at p xs false once new = omega (arith, once)
+
+-- one more element, that passes only where none has passed
+pub once_push : {X : Type 0} (p : X → Bool) (xs : List X) (y : X) → count_by p xs ≤ 1 → (p y ≡ true → find p xs ≡ None) → count_by p (xs ++ y ∷ []) ≤ 1
+once_push p xs y once new =
+    let a = sum_by_push (λ z. cond (p z) 1 0) xs y in
+    let b = once_push_at p xs (p y) once new in
+    omega (arith, a, b)
+
+-- where at most one passes, and one does that stands behind, none passes before it
+pub none_before : {X : Type 0} (p : X → Bool) (xs : List X) (y : X) (ys : List X) → count_by p (xs ++ y ∷ ys) ≤ 1 → p y ≡ true → find p xs ≡ None
+none_before p xs y ys once passes =
+    let a = count_append p xs (y ∷ ys) in
+    let b = count_cons p y ys in
+    let c : cond (p y) 1 0 ≡ 1 = ap (λ b. cond {A = ℕ} b 1 0) passes in
+    counts_none p xs (omega (arith, a, b, c, once))

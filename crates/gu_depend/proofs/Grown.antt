@@ -1,0 +1,198 @@
+-- A list of changes that has some of the changes of another, each behind what it stands on: what it says of a node is what the
+-- other says.
+use Rattle.std.proofs.Common.{◌≡◌, ℕ, zero, suc, ◌+◌, ◌-◌, ◌≤◌, true, false, ◌||◌, List, [], ◌∷◌, ◌++◌, length, refl, sym, ◌∙◌, ap, subst, arith, Option, All, length-append}
+use Rattle.std.specs.Prelude.{Some, None, option_and_then, option_map, unwrap_or, bytes_eq}
+use Rattle.std.specs.Option.{option_or}
+use Rattle.std.proofs.lemmas.List.Elements.{All-nil, All-push, All-weaker, All-contains}
+use Rattle.gu_base.specs.Numbers.{EntryPart}
+use Rattle.gu_base.specs.Nodes.{node_of, decision_of, claim_of, claimed_account, parent, splits, decides}
+use Rattle.gu_base.specs.Places.{line_within, line_of, place_of_kind, place_along, place_of, depth_of}
+use Rattle.gu_base.specs.Refusals.{owns}
+use Rattle.gu_base.specs.declared.entry.Record.{Record}
+use Rattle.gu_base.specs.declared.node.Node.{Node}
+use Rattle.gu_base.proofs.Lines.{node_more}
+use Rattle.gu_depend.specs.Under.{names}
+use Rattle.gu_depend.proofs.Finds.{find_more, none_is_some, no_some}
+use Rattle.gu_depend.proofs.Names.{node_called, maker, made_of, made_by_split, node_cut, made_alone}
+
+-- what is found in the second list is found in the first
+pub record Within (l b : List Record) : Type 0 where
+  pub nodes : (n : EntryPart) (x : Node) → node_of b n ≡ Some x → node_of l n ≡ Some x
+  pub decisions : (n : EntryPart) (r : Record) → decision_of b n ≡ Some r → decision_of l n ≡ Some r
+
+-- the node that a change names is there
+abbrev pub NamesThere : List Record → Record → Type 0
+NamesThere b r = (n : EntryPart) → names n r.command ≡ true → (x : Node) × (node_of b n ≡ Some x)
+
+-- a Split stands behind the decision of its node
+abbrev pub SplitsDecided : List Record → List Record → Record → Type 0
+SplitsDecided l b r = (n : EntryPart) → splits n r.command ≡ true → decision_of b n ≡ decision_of l n
+
+-- within as many steps as the list is long, each line has come to its end
+abbrev pub LinesEnd : List Record → Type 0
+LinesEnd b = (f : ℕ) (n : EntryPart) (x : Node) → node_of b n ≡ Some x → length b ≤ f → line_within f b (Some x) ≡ line_within (length b) b (Some x)
+
+pub record Grown (l b : List Record) : Type 0 where
+  pub within : Within l b
+  pub named : All (NamesThere b) b
+  pub decided : All (SplitsDecided l b) b
+  pub short : length b ≤ length l
+  pub ends : LinesEnd b
+
+pub grown_none : (l : List Record) → Grown l []
+grown_none l = record {
+  within = record { nodes = λ n x e. absurd (cc); decisions = λ n r e. absurd (cc) };
+  named = All-nil (NamesThere []);
+  decided = All-nil (SplitsDecided l []);
+  short = omega arith;
+  ends = λ f n x e. absurd (cc);
+}
+
+decided_more_by : (l b : List Record) (r : Record) (n : EntryPart) → Within l (b ++ r ∷ []) → (o : Option Record) → decision_of b n ≡ o → o ≡ decision_of l n → decision_of (b ++ r ∷ []) n ≡ decision_of l n
+decided_more_by l b r n w None e same = no_some (decision_of (b ++ r ∷ []) n) (λ d h. none_is_some (decision_of l n) d (sym same) (w.decisions n d h)) ∙ same
+decided_more_by l b r n w (Some d) e same = find_more (λ r. decides n r.command) b (r ∷ []) d e ∙ same
+
+-- a decision that both lists have, or neither, stays so
+pub decided_more : (l b : List Record) (r : Record) (n : EntryPart) → Within l (b ++ r ∷ []) → decision_of b n ≡ decision_of l n → decision_of (b ++ r ∷ []) n ≡ decision_of l n
+decided_more l b r n w same = decided_more_by l b r n w (decision_of b n) refl same
+
+there_more : (b : List Record) (r : Record) (d : Record) → NamesThere b d → NamesThere (b ++ r ∷ []) d
+there_more b r d h n is = let x = h n is in (x.0, node_more b (r ∷ []) n x.0 x.1)
+
+splits_more : (l b : List Record) (r : Record) → Within l (b ++ r ∷ []) → (d : Record) → SplitsDecided l b d → SplitsDecided l (b ++ r ∷ []) d
+splits_more l b r w d h n is = decided_more l b r n w (h n is)
+
+splits_names : (n : EntryPart) (r : Record) → splits n r.command ≡ true → names n r.command ≡ true
+splits_names n r is = ap (λ b. b || decides n r.command) is
+
+-- ---- lines
+
+line_none : (f : ℕ) (l : List Record) → line_within f l None ≡ []
+line_none zero l = refl
+line_none (suc f) l = refl
+
+parent_there : (b : List Record) (n m : EntryPart) (x : Node) → All (NamesThere b) b → node_of b n ≡ Some x → parent x.kind ≡ Some m → (y : Node) × (node_of b m ≡ Some y)
+parent_there b n m x named found up =
+    let by = maker b n x found in
+    All-contains (NamesThere b) b by.change named by.among m (splits_names m by.change (made_by_split by.change n m x by.makes_it up))
+
+line_up : (f : ℕ) (l b : List Record) → ((n : EntryPart) (x : Node) → node_of b n ≡ Some x → node_of l n ≡ Some x) → All (NamesThere b) b
+    → ((m : EntryPart) (y : Node) → node_of b m ≡ Some y → line_within f b (Some y) ≡ line_within f l (Some y))
+    → (n : EntryPart) (x : Node) → node_of b n ≡ Some x → (o : Option EntryPart) → parent x.kind ≡ o
+    → line_within f b (option_and_then (node_of b) o) ≡ line_within f l (option_and_then (node_of l) o)
+line_up f l b nodes named same n x found None e = line_none f b ∙ sym (line_none f l)
+line_up f l b nodes named same n x found (Some m) e =
+    let y = parent_there b n m x named found e in
+    ap (line_within f b) y.1 ∙ (same m y.0 y.1 ∙ sym (ap (line_within f l) (nodes m y.0 y.1)))
+
+-- where the nodes of the one list are those of the other, and what it names is there, a node has the same line in both
+line_led : (f : ℕ) (l b : List Record) → ((n : EntryPart) (x : Node) → node_of b n ≡ Some x → node_of l n ≡ Some x) → All (NamesThere b) b
+    → (n : EntryPart) (x : Node) → node_of b n ≡ Some x → line_within f b (Some x) ≡ line_within f l (Some x)
+line_led zero l b nodes named n x found = refl
+line_led (suc f) l b nodes named n x found = ap (λ xs. x ∷ xs) (line_up f l b nodes named (line_led f l b nodes named) n x found (parent x.kind) refl)
+
+-- the line of a node that was there before ends where it ended
+old_ends : (b : List Record) (r : Record) → All (NamesThere b) b → LinesEnd b → (f : ℕ) (n : EntryPart) (x : Node) → node_of b n ≡ Some x → length b ≤ f
+    → line_within f (b ++ r ∷ []) (Some x) ≡ line_within (length b) b (Some x)
+old_ends b r named ends f n x found far = sym (line_led f (b ++ r ∷ []) b (node_more b (r ∷ [])) named n x found) ∙ ends f n x found far
+
+-- and above a node that the last change makes, there are only such
+new_up : (b : List Record) (r : Record) → All (NamesThere b) b → LinesEnd b → NamesThere b r → (f : ℕ) (n : EntryPart) (x : Node) → made_of r n ≡ Some x → length b ≤ f
+    → (o : Option EntryPart) → parent x.kind ≡ o → line_within f (b ++ r ∷ []) (option_and_then (node_of (b ++ r ∷ [])) o) ≡ line_within (length b) (b ++ r ∷ []) (option_and_then (node_of (b ++ r ∷ [])) o)
+new_up b r named ends there f n x makes far None e = line_none f (b ++ r ∷ []) ∙ sym (line_none (length b) (b ++ r ∷ []))
+new_up b r named ends there f n x makes far (Some m) e =
+    let y = there m (splits_names m r (made_by_split r n m x makes e)) in
+    let more = node_more b (r ∷ []) m y.0 y.1 in
+    ap (line_within f (b ++ r ∷ [])) more
+    ∙ (old_ends b r named ends f m y.0 y.1 far
+    ∙ (sym (old_ends b r named ends (length b) m y.0 y.1 (omega arith))
+    ∙ sym (ap (line_within (length b) (b ++ r ∷ [])) more)))
+
+new_ends : (b : List Record) (r : Record) → All (NamesThere b) b → LinesEnd b → NamesThere b r → (f k : ℕ) (n : EntryPart) (x : Node) → made_of r n ≡ Some x → k ≡ suc (length b) → k ≤ f
+    → line_within f (b ++ r ∷ []) (Some x) ≡ line_within k (b ++ r ∷ []) (Some x)
+new_ends b r named ends there zero k n x makes e far = absurd (omega (arith, e, far))
+new_ends b r named ends there (suc f) zero n x makes e far = absurd (omega (arith, e))
+new_ends b r named ends there (suc f) (suc k) n x makes e far =
+    let long : k ≡ length b = omega (arith, e) in
+    ap (λ xs. x ∷ xs) (new_up b r named ends there f n x makes (omega (arith, e, far)) (parent x.kind) refl
+    ∙ ap (λ j. line_within j (b ++ r ∷ []) (option_and_then (node_of (b ++ r ∷ [])) (parent x.kind))) (sym long))
+
+ends_or : (b : List Record) (r : Record) → All (NamesThere b) b → LinesEnd b → NamesThere b r → (f : ℕ) (n : EntryPart) (x : Node) → length b + 1 ≤ f → length (b ++ r ∷ []) ≡ length b + 1
+    → (o : Option Node) → node_of b n ≡ o → option_or o (node_of (r ∷ []) n) ≡ Some x → line_within f (b ++ r ∷ []) (Some x) ≡ line_within (length (b ++ r ∷ [])) (b ++ r ∷ []) (Some x)
+ends_or b r named ends there f n x far long None e h =
+    new_ends b r named ends there f (length (b ++ r ∷ [])) n x (made_alone r n ∙ h) (omega (arith, long)) (omega (arith, long, far))
+ends_or b r named ends there f n x far long (Some y) e h =
+    let found : node_of b n ≡ Some x = e ∙ h in
+    old_ends b r named ends f n x found (omega (arith, far)) ∙ sym (old_ends b r named ends (length (b ++ r ∷ [])) n x found (omega (arith, long)))
+
+ends_push : (b : List Record) (r : Record) → All (NamesThere b) b → LinesEnd b → NamesThere b r → LinesEnd (b ++ r ∷ [])
+ends_push b r named ends there f n x found far =
+    let long : length (b ++ r ∷ []) ≡ length b + 1 = length-append b (r ∷ []) in
+    ends_or b r named ends there f n x (omega (arith, long, far)) long (node_of b n) refl (sym (node_cut b (r ∷ []) n) ∙ found)
+
+pub grown_push : (l b : List Record) (r : Record) → Grown l b → Within l (b ++ r ∷ []) → length (b ++ r ∷ []) ≤ length l → NamesThere b r → SplitsDecided l b r → Grown l (b ++ r ∷ [])
+grown_push l b r g w short there decided = record {
+  within = w;
+  named = All-push (NamesThere (b ++ r ∷ [])) b r (All-weaker (NamesThere b) (NamesThere (b ++ r ∷ [])) (there_more b r) b g.named) (there_more b r r there);
+  decided = All-push (SplitsDecided l (b ++ r ∷ [])) b r (All-weaker (SplitsDecided l b) (SplitsDecided l (b ++ r ∷ [])) (splits_more l b r w) b g.decided) (splits_more l b r w r decided);
+  short = short;
+  ends = ends_push b r g.named g.ends there;
+}
+
+-- what is above a node: its parent, and the decision of the parent
+pub record Above (l b : List Record) (m : EntryPart) : Type 0 where
+  pub node : Node
+  pub there : node_of b m ≡ Some node
+  pub decided : decision_of b m ≡ decision_of l m
+
+pub above : (l b : List Record) (n m : EntryPart) (x : Node) → Grown l b → node_of b n ≡ Some x → parent x.kind ≡ Some m → Above l b m
+above l b n m x g found up =
+    let by = maker b n x found in
+    let split = made_by_split by.change n m x by.makes_it up in
+    let y = All-contains (NamesThere b) b by.change g.named by.among m (splits_names m by.change split) in
+    record { node = y.0; there = y.1; decided = All-contains (SplitsDecided l b) b by.change g.decided by.among m split }
+
+-- the line above a node is the same in both
+line_grown : (f : ℕ) (l b : List Record) → Grown l b → (n : EntryPart) (x : Node) → node_of b n ≡ Some x → line_within f b (Some x) ≡ line_within f l (Some x)
+line_grown f l b g n x found = line_led f l b g.within.nodes g.named n x found
+
+pub line_of_grown : (l b : List Record) → Grown l b → (n : EntryPart) (x : Node) → node_of b n ≡ Some x → line_of b n ≡ line_of l n
+line_of_grown l b g n x found =
+    ap (line_within (length b) b) found
+    ∙ (sym (g.ends (length l) n x found g.short)
+    ∙ (line_grown (length l) l b g n x found
+    ∙ sym (ap (line_within (length l) l) (g.within.nodes n x found))))
+
+claim_same : (l b : List Record) (n : EntryPart) → decision_of b n ≡ decision_of l n → claim_of b n ≡ claim_of l n
+claim_same l b n same = ap (option_and_then (λ r. claimed_account r.command)) same
+
+place_above : (f : ℕ) (l b : List Record) (g : Grown l b)
+    → ((m : EntryPart) (y : Node) → node_of b m ≡ Some y → decision_of b m ≡ decision_of l m → place_along b (line_within f b (Some y)) ≡ place_along l (line_within f l (Some y)))
+    → (n : EntryPart) (x : Node) → node_of b n ≡ Some x → (o : Option EntryPart) → parent x.kind ≡ o
+    → place_along b (line_within f b (option_and_then (node_of b) o)) ≡ place_along l (line_within f l (option_and_then (node_of l) o))
+place_above f l b g same n x found None e = ap (place_along b) (line_none f b) ∙ sym (ap (place_along l) (line_none f l))
+place_above f l b g same n x found (Some m) e =
+    let y = above l b n m x g found e in
+    ap (λ o. place_along b (line_within f b o)) y.there ∙ (same m y.node y.there y.decided ∙ sym (ap (λ o. place_along l (line_within f l o)) (g.within.nodes m y.node y.there)))
+
+-- where its decision is the same, a node stands in the same place
+place_grown : (f : ℕ) (l b : List Record) → Grown l b → (n : EntryPart) (x : Node) → node_of b n ≡ Some x → decision_of b n ≡ decision_of l n
+    → place_along b (line_within f b (Some x)) ≡ place_along l (line_within f l (Some x))
+place_grown zero l b g n x found decided = refl
+place_grown (suc f) l b g n x found decided =
+    let called = node_called b n x found in
+    let claims = claim_same l b x.name (subst (λ (z : EntryPart). decision_of b z ≡ decision_of l z) (sym called) decided) in
+    ap (λ c. place_of_kind x.kind c (place_along b (line_within f b (option_and_then (node_of b) (parent x.kind))))) claims
+    ∙ ap (place_of_kind x.kind (claim_of l x.name)) (place_above f l b g (place_grown f l b g) n x found (parent x.kind) refl)
+
+pub place_same : (l b : List Record) (n : EntryPart) (x : Node) → Grown l b → node_of b n ≡ Some x → decision_of b n ≡ decision_of l n → place_of b n ≡ place_of l n
+place_same l b n x g found decided =
+    ap (λ o. place_along b (line_within (length b) b o)) found
+    ∙ (ap (place_along b) (sym (g.ends (length l) n x found g.short))
+    ∙ (place_grown (length l) l b g n x found decided ∙ sym (ap (λ o. place_along l (line_within (length l) l o)) (g.within.nodes n x found))))
+
+pub owns_same : (l b : List Record) (by : List ℕ) (n : EntryPart) (x : Node) → Grown l b → node_of b n ≡ Some x → decision_of b n ≡ decision_of l n → owns b by n ≡ owns l by n
+owns_same l b by n x g found decided = ap (λ o. unwrap_or (option_map (λ owner. bytes_eq owner by) (option_map (λ p. p.firm) o)) false) (place_same l b n x g found decided)
+
+pub depth_same : (l b : List Record) (n : EntryPart) (x : Node) → Grown l b → node_of b n ≡ Some x → depth_of b n ≡ depth_of l n
+depth_same l b n x g found = ap (λ xs. length xs - 1) (line_of_grown l b g n x found)

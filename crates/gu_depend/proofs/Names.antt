@@ -1,0 +1,138 @@
+-- Names of nodes, and the changes that make them.
+use Rattle.std.proofs.Common.{◌≡◌, ℕ, ◌+◌, ◌≤◌, Bool, true, false, List, [], ◌∷◌, ◌++◌, refl, sym, ◌∙◌, ap, subst, arith, cond, Option, IsPermutation, Contains}
+use Rattle.std.specs.Prelude.{Some, None, find, count_by, ◌==◌, is_some, option_and_then, bytes_eq}
+use Rattle.std.specs.Option.{option_or}
+use Rattle.std.proofs.lemmas.Bool.Decides.{Decides-eqb}
+use Rattle.std.proofs.lemmas.Grind.{flat_map-append}
+use Rattle.std.proofs.lemmas.List.Folds.{find-append}
+use Rattle.std.proofs.lemmas.List.Sums.{sum_by-le-sum_by}
+use Rattle.gu_base.specs.Numbers.{EntryPart}
+use Rattle.gu_base.specs.Nodes.{node_of, nodes, nodes_of, nodes_of_parts, same_name, kind_of_part, parent, splits}
+use Rattle.gu_base.specs.declared.command.Part.{Part}
+use Rattle.gu_base.specs.declared.command.Command.{Command}
+use Rattle.gu_base.specs.declared.command.Command.TheVariants.{Trade, Split, Claim, Refuse, Cancel, Initiate, Decline, Reverse}
+use Rattle.gu_base.specs.declared.entry.Record.{Record}
+use Rattle.gu_base.specs.declared.node.Kind.TheVariants.{Root, Own, Given}
+use Rattle.gu_base.specs.declared.node.Node.{Node}
+use Rattle.gu_base.proofs.Basics.{some_same, or_none}
+use Rattle.std.proofs.lemmas.Bool.{and_parts}
+use Rattle.gu_base.proofs.Lines.{made_entry}
+use Rattle.gu_depend.proofs.Finds.{find_permuted, find_passes, found_in, none_is_some}
+
+pub name_told : (a b : EntryPart) → same_name a b ≡ true → (a.entry ≡ b.entry) × (a.part ≡ b.part)
+name_told a b h = let p = and_parts (a.entry == b.entry) (a.part == b.part) h in ((Decides-eqb a.entry b.entry).0 p.0, (Decides-eqb a.part b.part).0 p.1)
+
+pub name_is : (a b : EntryPart) → same_name a b ≡ true → a ≡ b
+name_is a b h = let p = name_told a b h in λ i. record { entry = p.0 i; part = p.1 i }
+
+pub name_same : (a : EntryPart) → same_name a a ≡ true
+name_same a = rw ((Decides-eqb a.entry a.entry).1 refl, (Decides-eqb a.part a.part).1 refl) refl
+
+-- a node that is found has the name, and is found by its own
+pub node_called : (l : List Record) (n : EntryPart) (x : Node) → node_of l n ≡ Some x → x.name ≡ n
+node_called l n x h = name_is x.name n (find_passes (λ x. same_name x.name n) (nodes l) x h)
+
+pub at_name : (l : List Record) (n : EntryPart) (x : Node) → node_of l n ≡ Some x → node_of l x.name ≡ Some x
+at_name l n x h = subst (λ (z : EntryPart). node_of l z ≡ Some x) (sym (node_called l n x h)) h
+
+-- ---- the change that makes a node
+
+abbrev pub made : Record → List Node
+made r = nodes_of r.number r.firm r.command
+
+abbrev pub made_of : Record → EntryPart → Option Node
+made_of r n = find (λ x. same_name x.name n) (made r)
+
+abbrev pub makes : EntryPart → Record → Bool
+makes n r = is_some (made_of r n)
+
+-- a node of two lists together is that of the first, or else that of the second
+pub node_cut : (x y : List Record) (n : EntryPart) → node_of (x ++ y) n ≡ option_or (node_of x n) (node_of y n)
+node_cut x y n = ap (find (λ x. same_name x.name n)) (flat_map-append (λ r. nodes_of r.number r.firm r.command) x y) ∙ find-append (λ x. same_name x.name n) (nodes x) (nodes y)
+
+-- the nodes of one change alone
+pub made_alone : (r : Record) (n : EntryPart) → made_of r n ≡ node_of (r ∷ []) n
+made_alone r n = sym (find-append (λ x. same_name x.name n) (made r) [] ∙ or_none (made_of r n))
+
+maker_at : (r : Record) (n : EntryPart) (l : List Record) → node_of l n ≡ option_and_then (λ r. made_of r n) (find (makes n) l)
+    → (o : Option Node) → made_of r n ≡ o → option_or o (node_of l n) ≡ option_and_then (λ r. made_of r n) (cond (is_some o) (Some r) (find (makes n) l))
+maker_at r n l rest None e = rest
+maker_at r n l rest (Some x) e = sym e
+
+-- a node is that of the first change that makes one of its name
+pub node_by_maker : (l : List Record) (n : EntryPart) → node_of l n ≡ option_and_then (λ r. made_of r n) (find (makes n) l)
+node_by_maker [] n = refl
+node_by_maker (r ∷ l) n = find-append (λ x. same_name x.name n) (made r) (nodes l) ∙ maker_at r n l (node_by_maker l n) (made_of r n) refl
+
+-- the change that makes a node that is found
+pub record Maker (l : List Record) (n : EntryPart) (x : Node) : Type 0 where
+  pub change : Record
+  pub among : Contains l change
+  pub makes_it : made_of change n ≡ Some x
+
+maker_of : (l : List Record) (n : EntryPart) (x : Node) (o : Option Record) → find (makes n) l ≡ o → option_and_then (λ r. made_of r n) o ≡ Some x → Maker l n x
+maker_of l n x None e h = absurd (cc)
+maker_of l n x (Some r) e h = record { change = r; among = found_in (makes n) l r e; makes_it = h }
+
+pub maker : (l : List Record) (n : EntryPart) (x : Node) → node_of l n ≡ Some x → Maker l n x
+maker l n x h = maker_of l n x (find (makes n) l) refl (sym (node_by_maker l n) ∙ h)
+
+-- where the first test decides
+pub first_or : (n m : EntryPart) (y x : Node) (rest : Option Node) (P : Type 0) → (same_name m n ≡ true → y ≡ x → P) → (rest ≡ Some x → P)
+    → (b : Bool) → same_name m n ≡ b → cond b (Some y) rest ≡ Some x → P
+first_or n m y x rest P here later true is h = here is (some_same y x h)
+first_or n m y x rest P here later false is h = later h
+
+parent_by : (b : Bool) (m : EntryPart) (by : List ℕ) (p : Part) → parent (cond b (Own m by p.account) (Given m by p.firm)) ≡ Some m
+parent_by true m by p = refl
+parent_by false m by p = refl
+
+part_parent : (n m : EntryPart) (k i : ℕ) (by : List ℕ) (ps : List Part) (x : Node) → find (λ x. same_name x.name n) (nodes_of_parts k i m by ps) ≡ Some x → parent x.kind ≡ Some m
+part_parent n m k i by [] x h = absurd (cc)
+part_parent n m k i by (p ∷ ps) x h =
+    first_or n (record { entry = k; part = i }) (record { name = record { entry = k; part = i }; lots = p.lots; kind = kind_of_part m by p }) x (find (λ x. same_name x.name n) (nodes_of_parts k (i + 1) m by ps)) (parent x.kind ≡ Some m)
+    (λ _ e. sym (ap (λ (z : Node). parent z.kind) e) ∙ parent_by (bytes_eq p.firm by) m by p)
+    (part_parent n m k (i + 1) by ps x)
+    (same_name (record { entry = k; part = i }) n) refl h
+
+-- it has the number of the change that makes it
+pub made_number : (r : Record) (n : EntryPart) (x : Node) → made_of r n ≡ Some x → n.entry ≡ r.number
+made_number r n x h = made_entry n r.number r.firm r.command x h
+
+same_splits : (m o : EntryPart) → Some m ≡ Some o → same_name m o ≡ true
+same_splits m o e = subst (λ (z : EntryPart). same_name m z ≡ true) (some_same m o e) (name_same m)
+
+parent_made : (n m : EntryPart) (k : ℕ) (by : List ℕ) (c : Command) (x : Node) → find (λ x. same_name x.name n) (nodes_of k by c) ≡ Some x → parent x.kind ≡ Some m → splits m c ≡ true
+parent_made n m k by (Trade firm account instrument side lots) x h up =
+    let name : EntryPart = record { entry = k; part = 0 } in
+    first_or n name (record { name = name; lots = lots; kind = Root (record { firm = firm; account = account }) }) x None (false ≡ true)
+    (λ _ e. absurd (none_is_some (parent x.kind) m (sym (ap (λ (z : Node). parent z.kind) e)) up)) (λ none. absurd (cc)) (same_name name n) refl h
+parent_made n m k by (Split o ps) x h up = same_splits o m (sym (part_parent n o k 1 by ps x h) ∙ up)
+parent_made n m k by (Claim _ _) x h up = absurd (cc)
+parent_made n m k by (Refuse _) x h up = absurd (cc)
+parent_made n m k by (Cancel _) x h up = absurd (cc)
+parent_made n m k by (Initiate _) x h up = absurd (cc)
+parent_made n m k by (Decline _) x h up = absurd (cc)
+parent_made n m k by (Reverse _) x h up = absurd (cc)
+
+-- a node that has a parent is made by a Split of it
+pub made_by_split : (r : Record) (n m : EntryPart) (x : Node) → made_of r n ≡ Some x → parent x.kind ≡ Some m → splits m r.command ≡ true
+made_by_split r n m x h up = parent_made n m r.number r.firm r.command x h up
+
+counts_as : (r : Record) (n : EntryPart) (o : Option Node) → made_of r n ≡ o → cond (is_some o) 1 0 ≤ cond (r.number == n.entry) 1 0
+counts_as r n None e = omega arith
+counts_as r n (Some x) e =
+    let same : r.number ≡ n.entry = sym (made_number r n x e) in
+    let a : cond (r.number == n.entry) 1 0 ≡ 1 = ap (λ b. cond {A = ℕ} b 1 0) ((Decides-eqb r.number n.entry).1 same) in
+    omega (arith, a)
+
+-- where a number stands once, its nodes are made once
+pub makers_once : (l : List Record) (n : EntryPart) → count_by (λ r. r.number == n.entry) l ≤ 1 → count_by (makes n) l ≤ 1
+makers_once l n once =
+    let a = sum_by-le-sum_by (λ r. cond (makes n r) 1 0) (λ r. cond (r.number == n.entry) 1 0) l (λ r. counts_as r n (made_of r n) refl) in
+    omega (arith, a, once)
+
+-- where no number stands twice, a node is the same in whatever order the changes stand
+pub node_permuted : (l o : List Record) (n : EntryPart) → IsPermutation l o → count_by (λ r. r.number == n.entry) l ≤ 1 → node_of o n ≡ node_of l n
+node_permuted l o n same once =
+    node_by_maker o n ∙ (ap (option_and_then (λ r. made_of r n)) (find_permuted (makes n) l o same (makers_once l n once)) ∙ sym (node_by_maker l n))

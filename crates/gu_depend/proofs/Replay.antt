@@ -1,0 +1,244 @@
+-- A lawful order of a legal list is legal.
+use Rattle.std.proofs.Common.{◌≡◌, ℕ, ◌+◌, ◌≤◌, Bool, true, false, not, ◌&&◌, ◌||◌, List, [], ◌∷◌, ◌++◌, length, refl, sym, ◌∙◌, ap, subst, arith, cond, Option, All, append_assoc, IsPermutation, map}
+use Rattle.std.specs.Prelude.{Some, None, count_by, is_none, is_some, nat_lt, ◌==◌}
+use Rattle.std.specs.List.{AllByRecursion}
+use Rattle.std.proofs.lemmas.Bool.Decides.{Decides-eqb}
+use Rattle.std.proofs.lemmas.List.Elements.{All-head, All-tail}
+use Rattle.std.proofs.lemmas.List.Sorted.{All-permutation, length_permutation, sum_by-IsPermutation}
+use Rattle.std.proofs.lemmas.Map.Keys.{IsDistinct-head, IsDistinct-tail}
+use Rattle.gu_base.specs.Numbers.{EntryPart}
+use Rattle.gu_base.specs.House.{House}
+use Rattle.gu_base.specs.Nodes.{node_of, split_of, decision_of, is_given, splits, decides, same_name}
+use Rattle.gu_base.specs.Fees.{charge_of, charge_of_node}
+use Rattle.gu_base.specs.Refusals.{refusal_of, row, split_row, claim_row, refuse_row, cancel_row, is_taker, is_giver, agreement_row, terms, used_by}
+use Rattle.gu_base.specs.Standing.{first_refused, IsLegal}
+use Rattle.gu_base.specs.Orders.{is_ready, in_lawful_order, IsLawfulOrder}
+use Rattle.gu_base.specs.declared.house.Agreement.{Agreement}
+use Rattle.gu_base.specs.declared.command.Part.{Part}
+use Rattle.gu_base.specs.declared.command.Command.{Command}
+use Rattle.gu_base.specs.declared.command.Command.TheVariants.{Trade, Split, Claim, Refuse, Cancel, Initiate, Decline, Reverse}
+use Rattle.gu_base.specs.declared.entry.Record.{Record}
+use Rattle.gu_base.specs.declared.node.Node.{Node}
+use Rattle.gu_base.specs.declared.refusal.Refusal.{Refusal}
+use Rattle.gu_base.proofs.LegalLaws.{legal_from_replay, replay_from_legal}
+use Rattle.std.proofs.lemmas.Bool.{and_parts}
+use Rattle.gu_depend.specs.Same.{HasDistinctNumbers}
+use Rattle.gu_depend.specs.Under.{names}
+use Rattle.gu_depend.proofs.Finds.{count_cons, count_permuted, find_permuted, none_before}
+use Rattle.gu_depend.proofs.Names.{name_is, name_same, node_called, at_name, node_permuted}
+use Rattle.gu_depend.proofs.Rows.{none_at_node, SplitHolds, split_accepted, claim_accepted, decision_accepted, refusal_none}
+use Rattle.gu_depend.proofs.Sane.{Sane, sane}
+use Rattle.gu_depend.proofs.Grown.{Within, Grown, grown_none, grown_push, owns_same, depth_same}
+use Rattle.gu_depend.proofs.Charges.{used_among, uses, KeepsLimits, claim_charge, fits}
+use Rattle.gu_depend.proofs.Settled.{SettledAs, Settled, Facts, facts, front_within, front_short}
+
+-- ---- numbers that stand once
+
+apart_counts : (b : Bool) → (b ≡ true → ⊥) → cond {A = ℕ} b 1 0 ≡ 0
+apart_counts true absent = absurd (absent refl)
+apart_counts false absent = refl
+
+none_equal : (n k : ℕ) (l : List Record) → k ≡ n → AllByRecursion (λ y. (k == y) ≡ false) (map (λ r. r.number) l) → count_by (λ r. r.number == n) l ≡ 0
+none_equal n k [] e none = refl
+none_equal n k (r ∷ l) e none =
+    let a = count_cons (λ r. r.number == n) r l in
+    let b = none_equal n k l e none.1 in
+    let c = apart_counts (r.number == n) (λ is.
+    let q : k ≡ r.number = e ∙ sym ((Decides-eqb r.number n).0 is) in
+    let y : (k == r.number) ≡ true = (Decides-eqb k r.number).1 q in
+    let z : (k == r.number) ≡ false = none.0 in absurd (cc)) in
+    omega (arith, a, b, c)
+
+once_at : (n : ℕ) (r : Record) (l : List Record) → AllByRecursion (λ y. (r.number == y) ≡ false) (map (λ r. r.number) l) → count_by (λ r. r.number == n) l ≤ 1
+    → (b : Bool) → (r.number == n) ≡ b → cond b 1 0 + count_by (λ r. r.number == n) l ≤ 1
+once_at n r l none least true is = let a = none_equal n r.number l ((Decides-eqb r.number n).0 is) none in omega (arith, a)
+once_at n r l none least false is = omega (arith, least)
+
+-- each number stands once at most
+abbrev pub NumbersOnce : List Record → Type 0
+NumbersOnce l = (n : ℕ) → count_by (λ r. r.number == n) l ≤ 1
+
+pub number_once : (l : List Record) → HasDistinctNumbers l → NumbersOnce l
+number_once [] distinct n = omega arith
+number_once (r ∷ l) distinct n =
+    let a = count_cons (λ r. r.number == n) r l in
+    let b = once_at n r l (IsDistinct-head (λ a b. a == b) r.number (map (λ r. r.number) l) distinct)
+    (number_once l (IsDistinct-tail (λ a b. a == b) r.number (map (λ r. r.number) l) distinct) n) (r.number == n) refl in
+    omega (arith, a, b)
+
+-- ---- two lists that find the same
+
+pub record SameFinds (l o : List Record) : Type 0 where
+  pub nodes : (n : EntryPart) → node_of o n ≡ node_of l n
+  pub splits_same : (n : EntryPart) → split_of o n ≡ split_of l n
+  pub decisions : (n : EntryPart) → decision_of o n ≡ decision_of l n
+  pub long : length o ≡ length l
+
+pub same_finds : (l o : List Record) → IsPermutation l o → NumbersOnce l → Sane l → SameFinds l o
+same_finds l o same once s = record {
+  nodes = λ n. node_permuted l o n same (once n.entry);
+  splits_same = λ n. find_permuted (λ r. splits n r.command) l o same (s.splits_once n);
+  decisions = λ n. find_permuted (λ r. decides n r.command) l o same (s.decisions_once n);
+  long = length_permutation l o same;
+}
+
+-- what is found in a front of the one is found in the other
+pub order_within : (l o b rest : List Record) → SameFinds l o → o ≡ b ++ rest → Within l b
+order_within l o b rest same e =
+    let w = front_within o b rest e in
+    record {
+      nodes = λ n x found. sym (same.nodes n) ∙ w.nodes n x found;
+      decisions = λ n r found. sym (same.decisions n) ∙ w.decisions n r found;
+    }
+
+order_short : (l o b rest : List Record) → SameFinds l o → o ≡ b ++ rest → length b ≤ length l
+order_short l o b rest same e = omega (arith, front_short o b rest e, same.long)
+
+-- ---- a change that is ready and settled is accepted
+
+or_true : (b : Bool) → b ≡ true → (b || false) ≡ true
+or_true true e = refl
+or_true false e = absurd (cc)
+
+or_false : (b : Bool) → (b || false) ≡ true → b ≡ true
+or_false true e = refl
+or_false false e = absurd (cc)
+
+some_there : (o : Option Node) → is_some o ≡ true → (x : Node) × (o ≡ Some x)
+some_there None h = absurd (cc)
+some_there (Some x) h = (x, refl)
+
+moved : (b : List Record) (m n : EntryPart) → same_name m n ≡ true → is_some (node_of b m) ≡ true → (x : Node) × (node_of b n ≡ Some x)
+moved b m n is h = subst (λ (z : EntryPart). (x : Node) × (node_of b z ≡ Some x)) (name_is m n is) (some_there (node_of b m) h)
+
+pub ready_there : (l b : List Record) (c : Command) → is_ready l b c ≡ true → (n : EntryPart) → names n c ≡ true → (x : Node) × (node_of b n ≡ Some x)
+ready_there l b (Split m ps) h n is = moved b m n (or_false (same_name m n) is) (and_parts (is_some (node_of b m)) (is_none (decision_of l m) || is_some (decision_of b m)) h).0
+ready_there l b (Claim m _) h n is = moved b m n is h
+ready_there l b (Refuse m) h n is = moved b m n is h
+ready_there l b (Cancel m) h n is = moved b m n is h
+ready_there l b (Trade _ _ _ _ _) h n is = absurd (cc)
+ready_there l b (Initiate _) h n is = absurd (cc)
+ready_there l b (Decline _) h n is = absurd (cc)
+ready_there l b (Reverse _) h n is = absurd (cc)
+
+decided_either : (o p : Option Record) → (is_none p || is_some o) ≡ true → ((d : Record) → o ≡ Some d → p ≡ Some d) → o ≡ p
+decided_either None None h w = refl
+decided_either None (Some d) h w = absurd (cc)
+decided_either (Some d) p h w = sym (w d refl)
+
+pub ready_decided : (l b : List Record) (c : Command) → Within l b → is_ready l b c ≡ true → (n : EntryPart) → splits n c ≡ true → decision_of b n ≡ decision_of l n
+ready_decided l b (Split m ps) w h n is =
+    subst (λ (z : EntryPart). decision_of b z ≡ decision_of l z) (name_is m n is)
+    (decided_either (decision_of b m) (decision_of l m) (and_parts (is_some (node_of b m)) (is_none (decision_of l m) || is_some (decision_of b m)) h).1 (λ d e. w.decisions m d e))
+ready_decided l b (Claim _ _) w h n is = absurd (cc)
+ready_decided l b (Refuse _) w h n is = absurd (cc)
+ready_decided l b (Cancel _) w h n is = absurd (cc)
+ready_decided l b (Trade _ _ _ _ _) w h n is = absurd (cc)
+ready_decided l b (Initiate _) w h n is = absurd (cc)
+ready_decided l b (Decline _) w h n is = absurd (cc)
+ready_decided l b (Reverse _) w h n is = absurd (cc)
+
+-- what a change finds before it
+record IsDue (t : House) (l b : List Record) (c : Command) : Type 0 where
+  grown : Grown l b
+  there : (n : EntryPart) → names n c ≡ true → (x : Node) × (node_of b n ≡ Some x)
+  decided : (n : EntryPart) → splits n c ≡ true → decision_of b n ≡ decision_of l n
+  whole : (n : EntryPart) → splits n c ≡ true → split_of b n ≡ None
+  undecided : (n : EntryPart) → decides n c ≡ true → decision_of b n ≡ None
+  afforded : (x : Node) (a : Agreement) → charge_of t l c ≡ charge_of_node t x → terms t x.kind ≡ Some a → agreement_row (used_by t b x.kind + x.lots) (terms t x.kind) ≡ None
+
+-- the node that is there in the one is that of the other
+there_both : (l b : List Record) (n : EntryPart) (x : Node) → Within l b → node_of l n ≡ Some x → (y : Node) × (node_of b n ≡ Some y) → node_of b n ≡ Some x
+there_both l b n x w found y = y.1 ∙ (sym (w.nodes n y.0 y.1) ∙ found)
+
+split_holds : (t : House) (l b : List Record) (by : List ℕ) (ps : List Part) (x : Node) → Grown l b → node_of b x.name ≡ Some x → decision_of b x.name ≡ decision_of l x.name
+    → SplitHolds t l by ps x → SplitHolds t b by ps x
+split_holds t l b by ps x g found same h = record {
+  owned = owns_same l b by x.name x g found same ∙ h.owned;
+  free = ap (λ o. not (is_given x.kind && is_none o)) same ∙ h.free;
+  count = h.count;
+  shallow = ap (λ d. nat_lt d 64) (depth_same l b x.name x g found) ∙ h.shallow;
+  parts = h.parts;
+  sums = h.sums;
+}
+
+undecided_named : (b : List Record) (n : EntryPart) (x : Node) → node_of b n ≡ Some x → decision_of b n ≡ None → decision_of b x.name ≡ None
+undecided_named b n x found none = subst (λ (z : EntryPart). decision_of b z ≡ None) (sym (node_called b n x found)) none
+
+accepts : (t : House) (l b : List Record) (by : List ℕ) (c : Command) → SettledAs t l by c → IsDue t l b c → row t b by c ≡ None
+accepts t l b by (Trade firm account instrument side lots) s due = s
+accepts t l b by (Split n ps) s due =
+    let is : names n (Split n ps) ≡ true = or_true (same_name n n) (name_same n) in
+    let found = there_both l b n s.node due.grown.within s.there (due.there n is) in
+    let called = node_called b n s.node found in
+    let same = subst (λ (z : EntryPart). decision_of b z ≡ decision_of l z) (sym called) (due.decided n (name_same n)) in
+    none_at_node (split_row t b by ps) (node_of b n) s.node found
+    (split_accepted t b by ps s.node (split_holds t l b by ps s.node due.grown (at_name b n s.node found) same s.holds)
+    (subst (λ (z : EntryPart). split_of b z ≡ None) (sym called) (due.whole n (name_same n))))
+accepts t l b by (Claim n account) s due =
+    let found = there_both l b n s.node due.grown.within s.there (due.there n (name_same n)) in
+    none_at_node (claim_row t b by account) (node_of b n) s.node found
+    (claim_accepted t b by account s.node s.holds (undecided_named b n s.node found (due.undecided n (name_same n)))
+    (due.afforded s.node s.agreement (claim_charge t l n account s.node s.there) s.agrees))
+accepts t l b by (Refuse n) s due =
+    let found = there_both l b n s.node due.grown.within s.there (due.there n (name_same n)) in
+    none_at_node (refuse_row b by) (node_of b n) s.node found
+    (decision_accepted b s.node (is_taker by s.node.kind) s.given (undecided_named b n s.node found (due.undecided n (name_same n))) s.asked)
+accepts t l b by (Cancel n) s due =
+    let found = there_both l b n s.node due.grown.within s.there (due.there n (name_same n)) in
+    none_at_node (cancel_row b by) (node_of b n) s.node found
+    (decision_accepted b s.node (is_giver by s.node.kind) s.given (undecided_named b n s.node found (due.undecided n (name_same n))) s.asked)
+accepts t l b by (Initiate _) s due = refl
+accepts t l b by (Decline _) s due = refl
+accepts t l b by (Reverse _) s due = refl
+
+-- ---- along the order
+
+-- what holds of an order as a whole
+record OrderFacts (t : House) (l o : List Record) : Type 0 where
+  finds : SameFinds l o
+  splits_once : (n : EntryPart) → count_by (λ r. splits n r.command) o ≤ 1
+  decisions_once : (n : EntryPart) → count_by (λ r. decides n r.command) o ≤ 1
+  limits : KeepsLimits t (used_among t l o)
+
+goes_on : (o : Option Refusal) (n : ℕ) (rest : Option ℕ) → o ≡ None → rest ≡ None → cond (is_some o) (Some n) rest ≡ None
+goes_on o n rest e h = ap (λ p. cond (is_some p) (Some n) rest) e ∙ h
+
+due_here : (t : House) (l o b : List Record) (r : Record) (rest : List Record) → OrderFacts t l o → o ≡ b ++ r ∷ rest → Grown l b → is_ready l b r.command ≡ true → IsDue t l b r.command
+due_here t l o b r rest f e g ready = record {
+  grown = g;
+  there = ready_there l b r.command ready;
+  decided = ready_decided l b r.command g.within ready;
+  whole = λ n is. none_before (λ r. splits n r.command) b r rest (subst (λ (z : List Record). count_by (λ r. splits n r.command) z ≤ 1) e (f.splits_once n)) is;
+  undecided = λ n is. none_before (λ r. decides n r.command) b r rest (subst (λ (z : List Record). count_by (λ r. decides n r.command) z ≤ 1) e (f.decisions_once n)) is;
+  afforded = λ x a charge are. fits t l b r rest x a g (subst (λ (z : List Record). KeepsLimits t (used_among t l z)) e f.limits) charge are;
+}
+
+lawful_from : (t : House) (l o b rest : List Record) → OrderFacts t l o → o ≡ b ++ rest → Grown l b → All (Settled t l) rest → in_lawful_order l b rest ≡ true → first_refused t b rest ≡ None
+lawful_from t l o b [] f e g all lawful = refl
+lawful_from t l o b (r ∷ rest) f e g all lawful =
+    let p = and_parts (is_ready l b r.command) (in_lawful_order l (b ++ r ∷ []) rest) lawful in
+    let s = All-head (Settled t l) r rest all in
+    let due = due_here t l o b r rest f e g p.0 in
+    let cut : o ≡ (b ++ r ∷ []) ++ rest = e ∙ sym (append_assoc b (r ∷ []) rest) in
+    let more = grown_push l b r g (order_within l o (b ++ r ∷ []) rest f.finds cut) (order_short l o (b ++ r ∷ []) rest f.finds cut) due.there due.decided in
+    goes_on (refusal_of t b r.firm r.command) r.number (first_refused t (b ++ r ∷ []) rest)
+    (refusal_none t b r.firm r.command s.known (accepts t l b r.firm r.command s.stands due))
+    (lawful_from t l o (b ++ r ∷ []) rest f cut more (All-tail (Settled t l) r rest all) p.1)
+
+order_facts : (t : House) (l o : List Record) → IsPermutation l o → NumbersOnce l → Sane l → Facts t l l → OrderFacts t l o
+order_facts t l o same once s f = record {
+  finds = same_finds l o same once s;
+  splits_once = λ n. omega (arith, count_permuted (λ r. splits n r.command) l o same, s.splits_once n);
+  decisions_once = λ n. omega (arith, count_permuted (λ r. decides n r.command) l o same, s.decisions_once n);
+  limits = λ giver taker a e. omega (arith, sum_by-IsPermutation (uses t l giver taker) l o same, f.limits giver taker a e);
+}
+
+pub order_replays : (t : House) (l o : List Record) → NumbersOnce l → first_refused t [] l ≡ None → IsLawfulOrder l o → first_refused t [] o ≡ None
+order_replays t l o once none lawful =
+    let f = facts t l none in
+    lawful_from t l o [] o (order_facts t l o lawful.same once (sane t l none) f) refl (grown_none l)
+    (All-permutation (Settled t l) l o lawful.same f.settled) lawful.after_its_node
+
+pub order_is_legal : (t : House) (l o : List Record) → HasDistinctNumbers l → IsLegal t l → IsLawfulOrder l o → IsLegal t o
+order_is_legal t l o distinct legal lawful = legal_from_replay t o (order_replays t l o (number_once l distinct) (replay_from_legal t l legal) lawful)

@@ -1,0 +1,184 @@
+-- What holds of the changes of a legal list over the whole list, wherever each of them stands.
+use Rattle.std.proofs.Common.{◌≡◌, ℕ, ◌+◌, ◌≤◌, Bool, true, false, not, ◌&&◌, List, [], ◌∷◌, ◌++◌, length, length-append, refl, sym, ◌∙◌, ap, subst, arith, Option, All, append-nil, append_assoc, ◌||◌, inl, inr, ◌⊎◌}
+use Rattle.std.specs.Prelude.{Some, None, is_none, nat_lt}
+use Rattle.std.proofs.lemmas.List.Elements.{All-nil, All-push}
+use Rattle.gu_base.specs.Numbers.{EntryPart}
+use Rattle.gu_base.specs.House.{House, knows_firm}
+use Rattle.gu_base.specs.Nodes.{node_of, decision_of, is_offered, is_given, splits, decides}
+use Rattle.gu_base.specs.Refusals.{refusal_of, row, trade_row, split_row, claim_row, refuse_row, cancel_row, is_taker, is_giver, terms, used_by}
+use Rattle.gu_base.specs.Standing.{first_refused}
+use Rattle.gu_base.specs.declared.house.Agreement.{Agreement}
+use Rattle.gu_base.specs.declared.command.Part.{Part}
+use Rattle.gu_base.specs.declared.command.Command.{Command}
+use Rattle.gu_base.specs.declared.command.Command.TheVariants.{Trade, Split, Claim, Refuse, Cancel, Initiate, Decline, Reverse}
+use Rattle.gu_base.specs.declared.entry.Record.{Record}
+use Rattle.gu_base.specs.declared.node.Kind.{Kind}
+use Rattle.gu_base.specs.declared.node.Node.{Node}
+use Rattle.gu_base.proofs.Lines.{node_more}
+use Rattle.gu_base.proofs.Basics.{some_same}
+use Rattle.gu_base.proofs.LegalLaws.{none_refused}
+use Rattle.gu_depend.specs.Under.{names}
+use Rattle.gu_depend.proofs.Finds.{find_more, no_some}
+use Rattle.gu_depend.proofs.Names.{node_called, at_name}
+use Rattle.gu_depend.proofs.Rows.{at_node_none, SplitHolds, split_passes, ClaimHolds, claim_passes, decision_passes, refusal_parts, splits_well, decides_well}
+use Rattle.gu_depend.proofs.Sane.{Sane, sane}
+use Rattle.gu_depend.proofs.Grown.{Within, Grown, grown_none, grown_push, owns_same, depth_same}
+use Rattle.gu_depend.proofs.Charges.{agreed, used_among, KeepsLimits, keeps_push}
+
+pub record SettledSplit (t : House) (l : List Record) (by : List ℕ) (n : EntryPart) (ps : List Part) : Type 0 where
+  pub node : Node
+  pub there : node_of l n ≡ Some node
+  pub holds : SplitHolds t l by ps node
+
+pub record SettledClaim (t : House) (l : List Record) (by : List ℕ) (n : EntryPart) (account : List ℕ) : Type 0 where
+  pub node : Node
+  pub there : node_of l n ≡ Some node
+  pub holds : ClaimHolds t by account node
+  pub agreement : Agreement
+  pub agrees : terms t node.kind ≡ Some agreement
+
+pub record SettledDecision (l : List Record) (n : EntryPart) (yours : Kind → Bool) : Type 0 where
+  pub node : Node
+  pub there : node_of l n ≡ Some node
+  pub given : is_given node.kind ≡ true
+  pub asked : yours node.kind ≡ true
+
+abbrev pub SettledAs : House → List Record → List ℕ → Command → Type 0
+SettledAs t l by (Trade firm account instrument side lots) = trade_row t by firm account instrument lots ≡ None
+SettledAs t l by (Split n ps) = SettledSplit t l by n ps
+SettledAs t l by (Claim n account) = SettledClaim t l by n account
+SettledAs t l by (Refuse n) = SettledDecision l n (is_taker by)
+SettledAs t l by (Cancel n) = SettledDecision l n (is_giver by)
+SettledAs t l by _ = Unit {0}
+
+pub record Settled (t : House) (l : List Record) (r : Record) : Type 0 where
+  pub known : knows_firm t r.firm ≡ true
+  pub stands : SettledAs t l r.firm r.command
+
+-- ---- a node that is no longer offered has its decision, if it ever has one
+
+undecided_given : (g : Bool) → not (g && true) ≡ true → g ≡ false
+undecided_given true h = absurd (cc)
+undecided_given false h = refl
+
+never_given : (k : Kind) → is_given k ≡ false → is_given k ≡ true → ⊥
+never_given k a b = cc
+
+free_decided_by : (l b : List Record) (n : EntryPart) (x : Node) → Sane l → Within l b → node_of b n ≡ Some x → (o : Option Record) → decision_of b n ≡ o → not (is_given x.kind && is_none o) ≡ true → o ≡ decision_of l n
+free_decided_by l b n x s w found (Some d) e free = sym (w.decisions n d e)
+free_decided_by l b n x s w found None e free =
+    let other = undecided_given (is_given x.kind) free in
+    sym (no_some (decision_of l n) (λ d h.
+    let y = s.given n d h in
+    let one : y.0 ≡ x = some_same y.0 x (sym y.1.0 ∙ w.nodes n x found) in
+    never_given x.kind other (subst (λ (z : Node). is_given z.kind ≡ true) one y.1.1)))
+
+pub free_decided : (l b : List Record) (n : EntryPart) (x : Node) → Sane l → Within l b → node_of b n ≡ Some x → not (is_offered b x) ≡ true → decision_of b n ≡ decision_of l n
+free_decided l b n x s w found free =
+    let called = node_called b n x found in
+    free_decided_by l b n x s w found (decision_of b n) refl (subst (λ (z : EntryPart). not (is_given x.kind && is_none (decision_of b z)) ≡ true) called free)
+
+-- ---- what is accepted behind some changes is settled over all
+
+split_settles : (t : House) (l b : List Record) (by : List ℕ) (ps : List Part) (x : Node) → Sane l → Grown l b → node_of b x.name ≡ Some x → SplitHolds t b by ps x → SplitHolds t l by ps x
+split_settles t l b by ps x s g found h =
+    let same = free_decided l b x.name x s g.within found h.free in
+    record {
+      owned = sym (owns_same l b by x.name x g found same) ∙ h.owned;
+      free = sym (ap (λ o. not (is_given x.kind && is_none o)) same) ∙ h.free;
+      count = h.count;
+      shallow = sym (ap (λ d. nat_lt d 64) (depth_same l b x.name x g found)) ∙ h.shallow;
+      parts = h.parts;
+      sums = h.sums;
+    }
+
+settles : (t : House) (l b : List Record) (by : List ℕ) (c : Command) → Sane l → Grown l b → row t b by c ≡ None → SettledAs t l by c
+settles t l b by (Trade firm account instrument side lots) s g h = h
+settles t l b by (Split n ps) s g h =
+    let there = at_node_none (split_row t b by ps) (node_of b n) h in
+    let passes = split_passes t b by ps there.0 there.1.1 in
+    record {
+      node = there.0;
+      there = g.within.nodes n there.0 there.1.0;
+      holds = split_settles t l b by ps there.0 s g (at_name b n there.0 there.1.0) passes.0;
+    }
+settles t l b by (Claim n account) s g h =
+    let there = at_node_none (claim_row t b by account) (node_of b n) h in
+    let passes = claim_passes t b by account there.0 there.1.1 in
+    let terms_are = agreed (used_by t b there.0.kind + there.0.lots) (terms t there.0.kind) passes.2 in
+    record {
+      node = there.0;
+      there = g.within.nodes n there.0 there.1.0;
+      holds = passes.0;
+      agreement = terms_are.terms_of;
+      agrees = terms_are.are;
+    }
+settles t l b by (Refuse n) s g h =
+    let there = at_node_none (refuse_row b by) (node_of b n) h in
+    let passes = decision_passes b there.0 (is_taker by there.0.kind) there.1.1 in
+    record { node = there.0; there = g.within.nodes n there.0 there.1.0; given = passes.0; asked = passes.2 }
+settles t l b by (Cancel n) s g h =
+    let there = at_node_none (cancel_row b by) (node_of b n) h in
+    let passes = decision_passes b there.0 (is_giver by there.0.kind) there.1.1 in
+    record { node = there.0; there = g.within.nodes n there.0 there.1.0; given = passes.0; asked = passes.2 }
+settles t l b by (Initiate _) s g h = tt
+settles t l b by (Decline _) s g h = tt
+settles t l b by (Reverse _) s g h = tt
+
+pub or_either : (a b : Bool) → (a || b) ≡ true → (a ≡ true) ⊎ (b ≡ true)
+or_either true b h = inl refl
+or_either false b h = inr h
+
+-- a change that is accepted names a node that is there
+pub accepted_there : (t : House) (b : List Record) (by : List ℕ) (c : Command) → row t b by c ≡ None → (n : EntryPart) → names n c ≡ true → (x : Node) × (node_of b n ≡ Some x)
+accepted_there t b by c h n is = elim (or_either (splits n c) (decides n c) is) [
+  | inl split ↦ (let y = splits_well t b by c n h split in (y.node, y.there))
+  | inr decided ↦ (let y = decides_well t b by c n h decided in (y.node, y.there))
+]
+
+-- ---- along the list
+
+-- the second list is a front of the first
+pub front_within : (l b rest : List Record) → l ≡ b ++ rest → Within l b
+front_within l b rest e = record {
+  nodes = λ n x found. subst (λ (z : List Record). node_of z n ≡ Some x) (sym e) (node_more b rest n x found);
+  decisions = λ n r found. subst (λ (z : List Record). decision_of z n ≡ Some r) (sym e) (find_more (λ r. decides n r.command) b rest r found);
+}
+
+pub front_short : (l b rest : List Record) → l ≡ b ++ rest → length b ≤ length l
+front_short l b rest e = omega (arith, length-append b rest, ap length e)
+
+-- what holds of a legal list as a whole
+pub record Facts (t : House) (l b : List Record) : Type 0 where
+  pub grown : Grown l b
+  pub settled : All (Settled t l) b
+  pub limits : KeepsLimits t (used_among t l b)
+
+facts_push : (t : House) (l b : List Record) (r : Record) → Sane l → Within l (b ++ r ∷ []) → length (b ++ r ∷ []) ≤ length l → Facts t l b → refusal_of t b r.firm r.command ≡ None → Facts t l (b ++ r ∷ [])
+facts_push t l b r s w short f h =
+    let p = refusal_parts t b r.firm r.command h in
+    record {
+      grown = grown_push l b r f.grown w short (accepted_there t b r.firm r.command p.1)
+          (λ n is. let y = splits_well t b r.firm r.command n p.1 is in free_decided l b n y.node s f.grown.within y.there y.free);
+      settled = All-push (Settled t l) b r f.settled (record { known = p.0; stands = settles t l b r.firm r.command s f.grown p.1 });
+      limits = keeps_push t l b r f.grown f.limits p.1;
+    }
+
+-- along the list, up to a front of it
+facts_to : (t : House) (l b front rest : List Record) → Sane l → l ≡ b ++ (front ++ rest) → Facts t l b → first_refused t b (front ++ rest) ≡ None → Facts t l (b ++ front)
+facts_to t l b [] rest s e f none = subst (λ (z : List Record). Facts t l z) (sym (append-nil b)) f
+facts_to t l b (r ∷ front) rest s e f none =
+    let p = none_refused (refusal_of t b r.firm r.command) r.number (first_refused t (b ++ r ∷ []) (front ++ rest)) none in
+    let cut : l ≡ (b ++ r ∷ []) ++ (front ++ rest) = e ∙ sym (append_assoc b (r ∷ []) (front ++ rest)) in
+    subst (λ (z : List Record). Facts t l z) (append_assoc b (r ∷ []) front)
+    (facts_to t l (b ++ r ∷ []) front rest s cut (facts_push t l b r s (front_within l (b ++ r ∷ []) (front ++ rest) cut) (front_short l (b ++ r ∷ []) (front ++ rest) cut) f p.0) p.1)
+
+facts_none : (t : House) (l : List Record) → Facts t l []
+facts_none t l = record { grown = grown_none l; settled = All-nil (Settled t l); limits = λ giver taker a e. omega arith }
+
+-- what holds of a front of a legal list, over the whole list
+pub front_facts : (t : House) (l front rest : List Record) → l ≡ front ++ rest → first_refused t [] l ≡ None → Facts t l front
+front_facts t l front rest e none = facts_to t l [] front rest (sane t l none) e (facts_none t l) (subst (λ (z : List Record). first_refused t [] z ≡ None) e none)
+
+pub facts : (t : House) (l : List Record) → first_refused t [] l ≡ None → Facts t l l
+facts t l none = front_facts t l l [] (sym (append-nil l)) none

@@ -1,0 +1,19 @@
+//! Which changes stand on which, by what they name alone.
+//!
+//! The laws here speak of lists of changes and of nothing else; calling one gives its clauses as facts. They hold for
+//! every legal list whose numbers are distinct, in whatever order it stands; only where "first" becomes "least" the
+//! numbers have to rise.
+//!
+//! - `any_lawful_order`: in whatever lawful order its changes stand, a legal list is legal, and gives the same trees,
+//!   positions and fees.
+//! - `first_is_least`: the first change that would be refused without another is the first that the other stands under
+//!   (a trade under a Split of its root, a Split under each change that names one of its parts, a decision under the
+//!   Split of its node); in the order of the numbers it is the least of the numbers that stand at the nodes that the
+//!   other made or decided.
+//! - `free_can_stand_last`: a change on which nothing stands can as well stand last.
+//! - `last_moves_its_own`: a change that stands last moves what it names and makes, and nothing else.
+#![tactic(auto)]
+
+mod laws;
+
+pub use laws::{any_lawful_order, first_is_least, free_can_stand_last, last_moves_its_own};
