@@ -3,3 +3,4 @@ pub mod Within
 pub mod Walk
 pub mod Texts
 pub mod Shown
+pub mod Short

@@ -1,13 +1,16 @@
 -- The walk over the entries behind a number.
-use Rattle.std.proofs.Common.{◌≡◌, ℕ, zero, suc, ◌+◌, ◌-◌, ◌<◌, ◌≤◌, Bool, true, false, List, [], ◌∷◌, ◌++◌, refl, sym, ◌∙◌, ap, arith, Option, cond, ltb, length, drop, take, append_assoc}
-use Rattle.std.specs.Prelude.{Some, None, filter, nat_lt, slice_get, option_map}
+use Rattle.std.proofs.Common.{◌≡◌, ℕ, zero, suc, ◌+◌, ◌-◌, ◌<◌, ◌≤◌, Bool, true, false, List, [], ◌∷◌, ◌++◌, refl, sym, ◌∙◌, ap, arith, Option, cond, ltb, length, drop, take, get_or, append_assoc, append-nil}
+use Rattle.std.specs.Prelude.{Some, None, filter, nat_lt, slice_get, option_map, Result, Ok, Err, IfOk}
 use Rattle.std.specs.List.{filter_map, cons_option}
 use Rattle.std.proofs.lemmas.Bool.Decides.{Decides-ltb}
 use Rattle.std.proofs.lemmas.List.{length-append}
+use Rattle.std.proofs.lemmas.Option.{slice_get_read}
 use Rattle.gu_base.specs.History.{numbered_as, numbered_from, records}
 use Rattle.gu_base.specs.declared.entry.Entry.{Entry}
 use Rattle.gu_base.specs.declared.entry.Record.{Record}
 use Rattle.gu_base.specs.declared.report.Report.{Report}
+use Rattle.gu_trace.specs.Concerns.{concerns}
+use Rattle.gu_trace.specs.Reports.{report_of, told}
 
 below : (t : Bool) → (t ≡ true → ⊥) → t ≡ false
 below true absent = absurd (absent refl)
@@ -86,8 +89,44 @@ take_zero : (n : ℕ) (rs : List Report) → n ≡ 0 → take n rs ≡ []
 take_zero n rs e = ap (λ m. take m rs) e
 
 pub filled_full : (found others : List Report) → length found ≡ 100 → filled found others ≡ found
-filled_full found others full = ap (λ xs. found ++ xs) (take_zero (100 - length found) others (omega arith)) ∙ nothing found
-  where
-  nothing : (xs : List Report) → xs ++ [] ≡ xs
-  nothing [] = refl
-  nothing (x ∷ xs) = ap (λ ys. x ∷ ys) (nothing xs)
+filled_full found others full = ap (λ xs. found ++ xs) (take_zero (100 - length found) others (omega arith)) ∙ append-nil found
+
+take_nothing : (n : ℕ) → take {A = Report} n [] ≡ []
+take_nothing zero = refl
+take_nothing (suc n) = refl
+
+-- nothing is left, so what was found is all
+pub filled_end : (found others : List Report) → others ≡ [] → filled found others ≡ found
+filled_end found others none = ap (λ xs. found ++ take (100 - length found) xs) none ∙ (ap (λ xs. found ++ xs) (take_nothing (100 - length found)) ∙ append-nil found)
+
+-- at the start nothing is found
+pub filled_start : (f : Record → Option Report) (h : List Entry) (after : ℕ)
+    → filled [] (rest f h after) ≡ take 100 (filter_map f (filter (λ r. nat_lt after r.number) (records h)))
+filled_start f h after = ap (λ rs. take 100 (filter_map f rs)) (sym (behind after h))
+
+-- one step of the walk, where nothing is told of the entry, and where something is
+pub walked_past : (f : Record → Option Report) (h : List Entry) (i : ℕ) (found whole : List Report) → TellsOf f h i None
+    → filled found (rest f h i) ≡ whole → filled found (rest f h (i + 1)) ≡ whole
+walked_past f h i found whole tells so_far = ap (filled found) (sym (rest_step f h i None tells)) ∙ so_far
+
+pub walked_on : (f : Record → Option Report) (h : List Entry) (i : ℕ) (found whole : List Report) (r : Report) → TellsOf f h i (Some r) → length found < 100
+    → filled found (rest f h i) ≡ whole → filled (found ++ r ∷ []) (rest f h (i + 1)) ≡ whole
+walked_on f h i found whole r tells room so_far =
+    sym (filled_more found r (rest f h (i + 1)) room) ∙ (ap (filled found) (sym (rest_step f h i (Some r) tells)) ∙ so_far)
+
+pub if_ok : {A E : Type 0} (P Q : A → Type 0) (r : Result A E) → ((x : A) → P x → Q x) → IfOk r P → IfOk r Q
+if_ok P Q (Ok x) f h = f x h
+if_ok P Q (Err e) f h = tt
+
+-- what is told of an entry that was read at its place
+pub told_there : (house : List ℕ) (h : List Entry) (f : List ℕ) (i : ℕ) (e : Entry) (o : Option Report) → i < length h → e ≡ get_or h i e
+    → concerns house h f e.firm e.command ≡ true → o ≡ report_of h f (numbered_as (i + 1) e) e.command → TellsOf (told house h f) h i o
+told_there house h f i e o within is concerned told_is =
+    ap (λ p. Some p) (told_is ∙ sym (ap (λ b. cond b (report_of h f (numbered_as (i + 1) e) e.command) None) concerned))
+    ∙ sym (ap (option_map (λ d. told house h f (numbered_as (i + 1) d))) (slice_get_read h (length h) i e refl within is))
+
+pub not_told : (house : List ℕ) (h : List Entry) (f : List ℕ) (i : ℕ) (e : Entry) → i < length h → e ≡ get_or h i e
+    → concerns house h f e.firm e.command ≡ false → TellsOf (told house h f) h i None
+not_told house h f i e within is apart_from =
+    ap (λ p. Some p) (sym (ap (λ b. cond b (report_of h f (numbered_as (i + 1) e) e.command) None) apart_from))
+    ∙ sym (ap (option_map (λ d. told house h f (numbered_as (i + 1) d))) (slice_get_read h (length h) i e refl within is))

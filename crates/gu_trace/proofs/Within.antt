@@ -1,28 +1,18 @@
 -- Each entry of a history of a run is within the limits.
 use Rattle.std.proofs.Common.{◌≡◌, ℕ, ◌+◌, ◌≤◌, List, [], ◌∷◌, ◌++◌, refl, sym, ◌∙◌, subst, append_assoc, arith, length, true}
-use Rattle.std.specs.Prelude.{None, find, nat_lt}
+use Rattle.std.specs.Prelude.{None}
 use Rattle.std.specs.List.{All}
 use Rattle.std.proofs.lemmas.List.Elements.{All-nil, All-cons}
 use Rattle.gu_base.specs.House.{House}
-use Rattle.gu_base.specs.History.{records, live, is_change}
-use Rattle.gu_base.specs.Refusals.{refusal_of, unless, first}
-use Rattle.gu_base.specs.Answers.{answer_to, is_same_call, is_same_id, status_of, command_refusal}
-use Rattle.gu_base.specs.Runs.{IsRunFrom, call_of}
+use Rattle.gu_base.specs.History.{live}
+use Rattle.gu_base.specs.Answers.{command_refusal}
+use Rattle.gu_base.specs.Runs.{IsRunFrom}
 use Rattle.gu_base.specs.declared.entry.Entry.{Entry}
-use Rattle.gu_base.specs.declared.entry.Answer.TheVariants.{Accepted}
 use Rattle.gu_base.specs.declared.command.Command.{Command}
 use Rattle.gu_base.specs.declared.command.Command.TheVariants.{Trade, Split, Claim, Refuse, Cancel, Initiate, Decline, Reverse}
-use Rattle.gu_base.specs.declared.refusal.Refusal.TheVariants.{BookFull}
 use Rattle.gu_book.specs.Limits.{IsWithinLimits}
-use Rattle.gu_book.proofs.Refused.{accepted_parts, first_none, change_refused, accepted_small}
-
--- an accepted call is not refused for its command
-pub unrefused : (t : House) (h : List Entry) (n : ℕ) (e : Entry) → answer_to t h (call_of e) ≡ Accepted n e.status → command_refusal t h e.firm e.command ≡ None
-unrefused t h n e ok =
-    let a = accepted_parts (find (is_same_call (call_of e)) (records h)) (find (is_same_id (call_of e)) (records h)) (length h + 1) (status_of e.firm e.command) (first (unless (nat_lt (length h) 1000000) BookFull ∷ command_refusal t h e.firm e.command ∷ [])) n e.status ok in
-    let b = first_none (unless (nat_lt (length h) 1000000) BookFull) (command_refusal t h e.firm e.command ∷ []) a.1.0 in
-    let c = first_none (command_refusal t h e.firm e.command) [] b.1 in
-    c.0
+use Rattle.gu_base.proofs.Accepted.{allowed}
+use Rattle.gu_book.proofs.Refused.{accepted_small}
 
 small : (t : House) (h : List Entry) (by : List ℕ) (c : Command) → command_refusal t h by c ≡ None → IsWithinLimits c
 small t h by (Trade f a i s n) none = accepted_small t (live h) by (Trade f a i s n) none
@@ -38,7 +28,7 @@ within_from : (t : House) (h before rest : List Entry) → IsRunFrom t [] h → 
 within_from t h before [] run cut = All-nil (λ e. IsWithinLimits e.command)
 within_from t h before (e ∷ rest) run cut =
     All-cons (λ e. IsWithinLimits e.command) e rest
-    (small t before e.firm e.command (unrefused t before (length before + 1) e (run.accepted before rest e cut (omega arith))))
+    (let free = allowed t before e (length before + 1) (run.accepted before rest e cut (omega arith)) in small t before e.firm e.command free.lawful)
     (within_from t h (before ++ e ∷ []) rest run (cut ∙ sym (append_assoc before (e ∷ []) rest)))
 
 -- each entry of a history of a run is within the limits

@@ -96,6 +96,10 @@ report_of h f r change = change_report h f r change
 abbrev pub told : List ℕ → List Entry → List ℕ → Record → Option Report
 told house h f r = if concerns house h f r.firm r.command then report_of h f r r.command else None
 
+-- the reports of one reading
+abbrev pub most_reports : ℕ
+most_reports = 100
+
 -- the reports of the first 100 entries numbered above `after` that concern the firm
 abbrev pub reports_for : List ℕ → List Entry → List ℕ → ℕ → List Report
-reports_for house h f after = take 100 (filter_map (told house h f) (filter (λ r. nat_lt after r.number) (records h)))
+reports_for house h f after = take most_reports (filter_map (told house h f) (filter (λ r. nat_lt after r.number) (records h)))

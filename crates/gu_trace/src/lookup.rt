@@ -1,8 +1,8 @@
 //! Entries, nodes and trades, looked up by number. The k-th entry of a history has the number k, so nothing is searched for.
-ghost use Rattle.std.specs.Prelude.{◌≡◌, ◌≤◌, find, option_map};
+ghost use Rattle.std.specs.Prelude.{◌≡◌, find, option_map};
 ghost use Rattle.gu_base.specs.History.{numbered_as, records};
 ghost use Rattle.gu_base.specs.Nodes.{kind_of_part, node_of, nodes_of, nodes_of_parts, parent, same_name};
-ghost use Rattle.gu_base.specs.Places.{line_within, root_along};
+ghost use Rattle.gu_base.specs.Places.{line_within, root_along, root_of};
 ghost use Rattle.gu_base.specs.Answers.{entry_of};
 ghost use Rattle.gu_trace.specs.Deals.{deal_in, deal_of};
 
@@ -19,8 +19,7 @@ pub(crate) struct Deal {
 
 /// The entry of this number.
 pub(crate) fn entry_at(entries: &[Entry], number: Number) -> Option<&Entry>
-    ensures value { option_map (λ e. numbered_as number e.now) result ≡ entry_of entries.now number }
-    ensures low { 1 ≤ number }
+    ensures { option_map (λ e. numbered_as number e.now) result ≡ entry_of entries.now number }
 {
     let place = number.get() as usize - 1;
     if place < entries.len() {
@@ -135,7 +134,7 @@ fn parent_of(kind: &Kind) -> Option<NodeName>
 }
 
 /// The root above a node, going up through so many parents at most: 64 in a book.
-fn root_from(entries: &[Entry], steps: u32, at: Option<Node>) -> Option<NodeName>
+fn root_from(entries: &[Entry], steps: usize, at: Option<Node>) -> Option<NodeName>
     ensures { result ≡ root_along (line_within steps (records entries.now) at) }
 {
     match at {
@@ -153,6 +152,13 @@ fn root_from(entries: &[Entry], steps: u32, at: Option<Node>) -> Option<NodeName
             }
         }
     }
+}
+
+/// The root of a node's tree.
+fn root_of(entries: &[Entry], name: &NodeName) -> Option<NodeName>
+    ensures { result ≡ root_of (records entries.now) name.now }
+{
+    root_from(entries, entries.len(), node_at(entries, name))
 }
 
 /// What a Trade trades.
@@ -174,7 +180,7 @@ fn deal_in(command: &Command) -> Option<Deal>
 pub(crate) fn deal_of(entries: &[Entry], name: &NodeName) -> Option<Deal>
     ensures { result ≡ deal_of entries.now name.now }
 {
-    match root_from(entries, name.entry().get(), node_at(entries, name)) {
+    match root_of(entries, name) {
         Some(root) => match entry_at(entries, root.entry()) {
             Some(trade) => deal_in(&trade.command),
             None => None,

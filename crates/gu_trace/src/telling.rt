@@ -2,9 +2,9 @@
 ghost use Rattle.std.specs.Prelude.{◌≡◌, ◌≤◌, ◌<◌, ◌+◌, ◌^◌, length, sum_by, slice_get, option_map, IfOk};
 ghost use Rattle.std.specs.List.{All};
 ghost use Rattle.gu_base.specs.History.{numbered_as};
-ghost use Rattle.gu_base.specs.Nodes.{node_of};
+ghost use Rattle.gu_base.specs.Limits.{most_entries, most_parts};
 ghost use Rattle.gu_book.specs.Limits.{IsWithinLimits, PartsWithinLimits};
-ghost use Rattle.gu_trace.specs.Reports.{report_with, gives_up, parts_shown, claimed_part, no_part, split_report, decision_report, change_report, reversal_report, report_of, told, reports_for};
+ghost use Rattle.gu_trace.specs.Reports.{most_reports, report_with, gives_up, parts_shown, claimed_part, no_part, split_report, decision_report, change_report, reversal_report, report_of, told, reports_for};
 
 use crate::concern::concerns;
 use crate::lookup::{Deal, deal_of, entry_at, lots_at, node_at};
@@ -83,7 +83,7 @@ fn parts_shown(
     by: &FirmId,
     parts: &[Part],
 ) -> Result<Vec<ReportPart>, Memory>
-    requires { length parts.now ≤ 100 }
+    requires { length parts.now ≤ most_parts }
     ensures { IfOk result (λ v. v.items ≡ parts_shown firm.now number by.now parts.now) }
 {
     let owns = *by == *firm;
@@ -299,7 +299,7 @@ fn told(
     firm: &FirmId,
     place: usize,
 ) -> Result<Option<Report>, Memory>
-    requires few { length entries.now ≤ 1000000 }
+    requires few { length entries.now ≤ most_entries }
     requires there { place < length entries.now }
     requires within { All (λ e. IsWithinLimits e.command) entries.now }
     ensures { IfOk result (λ o. Some o ≡ option_map (λ e. told house.now entries.now firm.now (numbered_as (place + 1) e)) (slice_get entries.now place)) }
@@ -329,15 +329,15 @@ pub fn reports(
     after: u32,
 ) -> Result<Vec<Report>, Memory>
     ensures value { IfOk result (λ v. v.items ≡ reports_for book.now.house.house book.now.history firm.now after) }
-    ensures few { IfOk result (λ v. length v.items ≤ 100) }
-    ensures short { IfOk result (λ v. All (λ r. length r.parts ≤ 100) v.items) }
+    ensures few { IfOk result (λ v. length v.items ≤ most_reports) }
+    ensures short { IfOk result (λ v. All (λ r. length r.parts ≤ most_parts) v.items) }
 {
     let entries = book.history();
     let house = book.house().house();
     let mut found = Vec::new(alloc);
     for place in after as usize..entries.len() {
         if found.len() == MOST_REPORTS {
-            break;
+            return Ok(found);
         }
         if let Some(report) = told(alloc, &house, entries, firm, place)? {
             found.push(report)?;

@@ -7,8 +7,8 @@ returns-then-part-eq0 c =
     let zeroth : c.args.name.now.part ≡ 0 = omega arith in
     sym (no_part_0 c.args.name.now c.args.parent.now c.args.by.now c.args.parts.now zeroth)
 
-pub returns-then-place-len : goal.returns-then-place-len
-returns-then-place-len c =
+pub returns-then-place-parts : goal.returns-then-place-parts
+returns-then-place-parts c =
     let low : 1 ≤ c.args.name.now.part = omega arith in
     let past : length c.args.parts.now ≤ c.args.name.now.part - 1 = omega arith in
     part_past c.args.name.now c.args.parent.now c.args.by.now c.args.parts.now low past
