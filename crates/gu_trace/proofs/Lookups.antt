@@ -1,6 +1,6 @@
 -- Each node lies in the entry that its name tells.
 use Rattle.std.proofs.Common.{◌≡◌, ℕ, zero, suc, ◌+◌, ◌-◌, ◌<◌, ◌≤◌, Bool, true, false, ◌&&◌, List, [], ◌∷◌, ◌++◌, refl, sym, ◌∙◌, ap, arith, Option, cond, eqb, length, get_or}
-use Rattle.std.specs.Prelude.{Some, None, find, flat_map, slice_get, option_map, ◌==◌}
+use Rattle.std.specs.Prelude.{Some, None, find, flat_map, slice_get, option_map, option_and_then, ◌==◌}
 use Rattle.std.specs.Option.{option_or}
 use Rattle.std.proofs.lemmas.Bool.{false≢true}
 use Rattle.std.proofs.lemmas.Bool.Decides.{Decides-eqb}
@@ -8,8 +8,8 @@ use Rattle.std.proofs.lemmas.Option.{slice_get_read, slice_get_past}
 use Rattle.std.proofs.lemmas.List.Folds.{find-append}
 use Rattle.gu_base.specs.Numbers.{EntryPart}
 use Rattle.gu_base.specs.History.{numbered_as, numbered_from, records}
-use Rattle.gu_base.specs.Nodes.{node_of, nodes_of, nodes_of_parts, same_name, kind_of_part}
-use Rattle.gu_base.specs.Places.{root_along}
+use Rattle.gu_base.specs.Nodes.{node_of, nodes_of, nodes_of_parts, same_name, kind_of_part, parent}
+use Rattle.gu_base.specs.Places.{line_within, root_along}
 use Rattle.gu_base.specs.Answers.{entry_of}
 use Rattle.gu_base.specs.declared.command.Part.{Part}
 use Rattle.gu_base.specs.declared.command.Command.{Command}
@@ -140,3 +140,13 @@ last (Some r) n m = refl
 pub root_above : (x : Node) (above : List Node) → root_along (x ∷ above) ≡ option_or (root_along above) (Some x.name)
 root_above x [] = refl
 root_above x (y ∷ above) = root_above y above ∙ (last (root_along above) y.name x.name ∙ ap (λ o. option_or o (Some x.name)) (sym (root_above y above)))
+
+-- nothing stands above the node, so it is the root
+pub root_last : (l : List Record) (steps : ℕ) (x : Node) (n : EntryPart) → 1 ≤ steps → Some n ≡ parent x.kind
+    → None ≡ root_along (line_within (steps - 1) l (node_of l n)) → Some x.name ≡ root_along (line_within steps l (Some x))
+root_last l zero x n low up above = absurd (omega arith)
+root_last l (suc s) x n low up above =
+    let e : suc s - 1 ≡ s = omega arith in
+    let nothing : None ≡ root_along (line_within s l (node_of l n)) = above ∙ ap (λ m. root_along (line_within m l (node_of l n))) e in
+    sym (root_above x (line_within s l (option_and_then (node_of l) (parent x.kind)))
+    ∙ ap (λ o. option_or o (Some x.name)) (ap (λ p. root_along (line_within s l (option_and_then (node_of l) p))) (sym up) ∙ sym nothing))

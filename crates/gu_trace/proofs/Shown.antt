@@ -1,15 +1,16 @@
 -- The parts that a report shows.
-use Rattle.std.proofs.Common.{◌≡◌, ℕ, zero, suc, ◌+◌, ◌*◌, ◌<◌, ◌≤◌, ◌^◌, Bool, true, false, ◌||◌, List, [], ◌∷◌, ◌++◌, refl, sym, ◌∙◌, ap, subst, arith, cond, length, drop, take}
+use Rattle.std.proofs.Common.{◌≡◌, ℕ, zero, suc, ◌+◌, ◌*◌, ◌<◌, ◌≤◌, ◌^◌, Bool, true, false, ◌||◌, List, [], ◌∷◌, ◌++◌, refl, sym, ◌∙◌, ap, subst, arith, cond, length, drop, take, get_or, append_assoc}
 use Rattle.std.specs.Prelude.{filter, sum_by, count_by, Option, Some, None, slice_get, option_map, option_and_then, bytes_eq, IfSome}
 use Rattle.std.specs.List.{All, filter_map, cons_option, list_any}
 use Rattle.std.proofs.lemmas.List.Elements.{All-nil, All-cons, All-head, All-tail, All-filter}
+use Rattle.std.proofs.lemmas.Option.{slice_get_read}
 use Rattle.std.proofs.lemmas.List.Sums.{sum_by-le, length-filter, count_by-le-length}
 use Rattle.gu_base.specs.Numbers.{EntryPart}
 use Rattle.gu_base.specs.History.{numbered_as, numbered_from, records}
 use Rattle.gu_base.specs.declared.command.Part.{Part}
 use Rattle.gu_base.specs.declared.report.ReportPart.{ReportPart}
 use Rattle.gu_book.specs.Limits.{PartsWithinLimits}
-use Rattle.gu_trace.specs.Reports.{report_part, report_parts, parts_shown}
+use Rattle.gu_trace.specs.Reports.{report_part, report_parts, parts_shown, shown_or_not}
 
 -- the parts from a place on: the one there, and then the others
 pub part_step : (n i j : ℕ) (by : List ℕ) (ps : List Part) (p : Part) → slice_get ps j ≡ Some p
@@ -51,3 +52,38 @@ shown_fit f n by ps within =
     let b = shown_few f n by ps in
     let c = within.few in
     omega (arith, a, b, c)
+
+-- the parts from a place on that are shown
+abbrev pub rest_shown : List ℕ → ℕ → List ℕ → List Part → ℕ → List ReportPart
+rest_shown f n by ps i = filter (λ p. bytes_eq by f || bytes_eq p.firm f) (report_parts n (1 + i) by (drop i ps))
+
+one_more : (b : Bool) (r : ReportPart) (rs : List ReportPart) → cond b (r ∷ rs) rs ≡ cons_option (cond b (Some r) None) rs
+one_more true r rs = refl
+one_more false r rs = refl
+
+next_shown : (f : List ℕ) (n : ℕ) (by : List ℕ) (ps : List Part) (i : ℕ) (p : Part) → slice_get ps i ≡ Some p
+    → rest_shown f n by ps i ≡ cons_option (shown_or_not f n (i + 1) by p) (rest_shown f n by ps (i + 1))
+next_shown f n by ps i p found =
+    let test : ReportPart → Bool = λ q. bytes_eq by f || bytes_eq q.firm f in
+    let here : 1 + i ≡ i + 1 = omega arith in
+    let behind : 1 + i + 1 ≡ 1 + (i + 1) = omega arith in
+    ap (filter test) (part_step n 1 i by ps p found)
+    ∙ (one_more (bytes_eq by f || bytes_eq p.firm f) (report_part n (1 + i) by p) (filter test (report_parts n (1 + i + 1) by (drop (i + 1) ps)))
+    ∙ (ap (λ m. cons_option (shown_or_not f n m by p) (filter test (report_parts n (1 + i + 1) by (drop (i + 1) ps)))) here
+    ∙ ap (λ m. cons_option (shown_or_not f n (i + 1) by p) (filter test (report_parts n m by (drop (i + 1) ps)))) behind))
+
+-- one part more is shown, or passed over
+pub showing : (f : List ℕ) (n : ℕ) (by : List ℕ) (ps : List Part) (i : ℕ) (p : Part) (q : ReportPart) (before whole : List ReportPart)
+    → i < length ps → p ≡ get_or ps i p → shown_or_not f n (i + 1) by p ≡ Some q → before ++ rest_shown f n by ps i ≡ whole
+    → (before ++ q ∷ []) ++ rest_shown f n by ps (i + 1) ≡ whole
+showing f n by ps i p q before whole within is shows so_far =
+    append_assoc before (q ∷ []) (rest_shown f n by ps (i + 1))
+    ∙ (ap (λ o. before ++ cons_option o (rest_shown f n by ps (i + 1))) (sym shows)
+    ∙ (ap (λ rs. before ++ rs) (sym (next_shown f n by ps i p (slice_get_read ps (length ps) i p refl within is))) ∙ so_far))
+
+pub passing : (f : List ℕ) (n : ℕ) (by : List ℕ) (ps : List Part) (i : ℕ) (p : Part) (before whole : List ReportPart)
+    → i < length ps → p ≡ get_or ps i p → shown_or_not f n (i + 1) by p ≡ None → before ++ rest_shown f n by ps i ≡ whole
+    → before ++ rest_shown f n by ps (i + 1) ≡ whole
+passing f n by ps i p before whole within is shows so_far =
+    ap (λ o. before ++ cons_option o (rest_shown f n by ps (i + 1))) (sym shows)
+    ∙ (ap (λ rs. before ++ rs) (sym (next_shown f n by ps i p (slice_get_read ps (length ps) i p refl within is))) ∙ so_far)

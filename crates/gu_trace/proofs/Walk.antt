@@ -10,7 +10,7 @@ use Rattle.gu_base.specs.declared.entry.Entry.{Entry}
 use Rattle.gu_base.specs.declared.entry.Record.{Record}
 use Rattle.gu_base.specs.declared.report.Report.{Report}
 use Rattle.gu_trace.specs.Concerns.{concerns}
-use Rattle.gu_trace.specs.Reports.{report_of, told}
+use Rattle.gu_trace.specs.Reports.{report_of, told, reports_for}
 
 below : (t : Bool) → (t ≡ true → ⊥) → t ≡ false
 below true absent = absurd (absent refl)
@@ -38,8 +38,8 @@ at_place_from k (suc i) (x ∷ xs) e found =
     ∙ (ap (λ m. numbered_as m e ∷ drop (i + 1) (numbered_from (k + 1) xs)) (omega arith)
     ∙ ap (λ m. numbered_as (k + suc i) e ∷ drop m (numbered_from k (x ∷ xs))) (more i))
   where
-  more : (i : ℕ) → suc (i + 1) ≡ suc i + 1
-  more i = omega arith
+    more : (i : ℕ) → suc (i + 1) ≡ suc i + 1
+    more i = omega arith
 
 nothing_from : (k i : ℕ) (h : List Entry) → length h ≤ i → drop i (numbered_from k h) ≡ []
 nothing_from k zero [] past = refl
@@ -130,3 +130,12 @@ pub not_told : (house : List ℕ) (h : List Entry) (f : List ℕ) (i : ℕ) (e :
 not_told house h f i e within is apart_from =
     ap (λ p. Some p) (sym (ap (λ b. cond b (report_of h f (numbered_as (i + 1) e) e.command) None) apart_from))
     ∙ sym (ap (option_map (λ d. told house h f (numbered_as (i + 1) d))) (slice_get_read h (length h) i e refl within is))
+
+-- behind the last entry all is found, and so it is with a full reading
+pub all_found : (house : List ℕ) (h : List Entry) (f : List ℕ) (after i : ℕ) (found : List Report) → length h ≤ i
+    → filled found (rest (told house h f) h i) ≡ reports_for house h f after → found ≡ reports_for house h f after
+all_found house h f after i found past so_far = sym (filled_end found (rest (told house h f) h i) (rest_past (told house h f) h i past)) ∙ so_far
+
+pub full_found : (house : List ℕ) (h : List Entry) (f : List ℕ) (after i : ℕ) (found : List Report) → length found ≡ 100
+    → filled found (rest (told house h f) h i) ≡ reports_for house h f after → found ≡ reports_for house h f after
+full_found house h f after i found full so_far = sym (filled_full found (rest (told house h f) h i) full) ∙ so_far

@@ -44,7 +44,11 @@ abbrev pub report_parts : ℕ → ℕ → List ℕ → List Part → List Report
 report_parts entry i by [] = []
 report_parts entry i by (p ∷ ps) = report_part entry i by p ∷ report_parts entry (i + 1) by ps
 
--- of these the owner sees all, another firm those that are given to it
+-- a part, where it is shown to the firm f: the owner sees all, another firm those that are given to it
+abbrev pub shown_or_not : List ℕ → ℕ → ℕ → List ℕ → Part → Option ReportPart
+shown_or_not f entry i by p = if bytes_eq by f || bytes_eq p.firm f then Some (report_part entry i by p) else None
+
+-- the parts that are shown to it
 abbrev pub parts_shown : List ℕ → ℕ → List ℕ → List Part → List ReportPart
 parts_shown f entry by parts = filter (λ p. bytes_eq by f || bytes_eq p.firm f) (report_parts entry 1 by parts)
 

@@ -11,10 +11,17 @@ use Rattle.gu_base.specs.declared.entry.Entry.{Entry}
 use Rattle.gu_base.specs.declared.entry.Record.{Record}
 use Rattle.gu_base.specs.declared.command.Side.TheVariants.{Buy, Sell}
 
+-- `position f/a `
+abbrev pub account_words : List ℕ → List ℕ → List ℕ
+account_words firm account = codes "position " ++ firm ++ codes "/" ++ account ++ codes " "
+
+-- `i long L short S`, with LF
+abbrev pub lots_words : List ℕ → ℕ → ℕ → List ℕ
+lots_words instrument long short = instrument ++ codes " long " ++ decimal long ++ codes " short " ++ decimal short ++ 10 ∷ []
+
 -- `position f/a i long L short S`
 abbrev pub position_line : List ℕ → List ℕ → List ℕ → ℕ → ℕ → List ℕ
-position_line firm account instrument long short =
-    codes "position " ++ firm ++ codes "/" ++ account ++ codes " " ++ instrument ++ codes " long " ++ decimal long ++ codes " short " ++ decimal short ++ 10 ∷ []
+position_line firm account instrument long short = account_words firm account ++ lots_words instrument long short
 
 -- the line of a position, where lots stand there
 abbrev pub position_or_none : List ℕ → List ℕ → List ℕ → ℕ → ℕ → List ℕ
@@ -37,7 +44,7 @@ agreement_line giver taker used limit = if used == 0 then [] else
     codes "agreement " ++ giver ++ codes " " ++ taker ++ codes " used " ++ decimal used ++ codes " limit " ++ decimal limit ++ 10 ∷ []
 
 abbrev pub use_of : House → List Record → Pair × Agreement → List ℕ
-use_of t l (pair, terms) = agreement_line pair.giver pair.taker (used_of t l pair.giver pair.taker) terms.limit
+use_of t l line = agreement_line line.0.giver line.0.taker (used_of t l line.0.giver line.0.taker) line.1.limit
 
 -- a line for each account and within it each instrument
 abbrev pub positions_text : House → List Record → List ℕ

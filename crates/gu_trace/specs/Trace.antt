@@ -19,10 +19,14 @@ indent (suc n) = codes "  " ++ indent n
 abbrev pub name_text : EntryPart → List ℕ
 name_text n = decimal n.entry ++ codes "." ++ decimal n.part
 
--- the firm and the account in which a node stands
-abbrev pub place_text : Option Place → List ℕ
-place_text None = []
-place_text (Some p) = p.firm ++ codes "/" ++ p.account
+-- `name lots `
+abbrev pub node_words : EntryPart → ℕ → List ℕ
+node_words n lots = name_text n ++ codes " " ++ decimal lots ++ codes " "
+
+-- `firm/account `, where the node stands
+abbrev pub place_words : Option Place → List ℕ
+place_words None = []
+place_words (Some p) = p.firm ++ codes "/" ++ p.account ++ codes " "
 
 -- the firm that gave a part up, which is the one that made the Split
 abbrev pub giver_of : List Entry → EntryPart → Option (List ℕ)
@@ -33,8 +37,12 @@ abbrev pub fee_of : House → ℕ → List ℕ → List ℕ → ℕ
 fee_of t lots giver taker = lots * unwrap_or (option_map (λ a. a.rate) (agreement t giver taker)) 0
 
 -- `claimed from GIVER fee F`
+abbrev pub fee_words : List ℕ → ℕ → List ℕ
+fee_words giver fee = codes "claimed from " ++ giver ++ codes " fee " ++ decimal fee
+
+-- the same, where giver and taker are known
 abbrev pub claimed_words : House → ℕ → Option (List ℕ) → Option (List ℕ) → List ℕ
-claimed_words t lots (Some giver) (Some taker) = codes "claimed from " ++ giver ++ codes " fee " ++ decimal (fee_of t lots giver taker)
+claimed_words t lots (Some giver) (Some taker) = fee_words giver (fee_of t lots giver taker)
 claimed_words t lots _ _ = []
 
 -- the words for a state, with the giver and the taker of a given part
@@ -49,8 +57,8 @@ words_for t lots giver taker Reversed = []
 
 -- `name lots firm/account words`, with LF
 abbrev pub line_of : House → List Entry → Row → List ℕ
-line_of t h r = indent r.depth ++ name_text r.name ++ codes " " ++ decimal r.lots ++ codes " " ++ place_text r.place ++ codes " "
-    ++ words_for t r.lots (giver_of h r.name) r.taker r.state ++ 10 ∷ []
+line_of t h r =
+    indent r.depth ++ (node_words r.name r.lots ++ (place_words r.place ++ (words_for t r.lots (giver_of h r.name) r.taker r.state ++ 10 ∷ [])))
 
 -- a line for each row of the tree of a live trade
 abbrev pub trace_text : House → List Entry → ℕ → List ℕ

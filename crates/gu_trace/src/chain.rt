@@ -1,14 +1,13 @@
 //! The trace of a trade: its tree in text.
-ghost use Rattle.std.specs.Prelude.{◌≡◌, ◌++◌, [], true, false, flat_map, unwrap_or, OnOk, OnErr, string_bytes};
-
+ghost use Rattle.std.specs.Prelude.{◌≡◌, ◌++◌, [], ◌∷◌, true, false, flat_map, unwrap_or, OnOk, OnErr, string_bytes};
 ghost use Rattle.gu_base.specs.History.{live};
 ghost use Rattle.gu_tree.specs.Shown.{shown};
 ghost use Rattle.gu_book.specs.TreeRows.{is_live_trade};
 ghost use Rattle.gu_trace.specs.declared.chain.TraceError.TheVariants as errors;
-ghost use Rattle.gu_trace.specs.Trace.{indent, fee_of, giver_of, claimed_words, words_for, line_of, trace_text};
+ghost use Rattle.gu_trace.specs.Trace.{indent, fee_of, fee_words, giver_of, claimed_words, node_words, place_words, words_for, line_of, trace_text};
 
 use crate::lookup::entry_at;
-use gu_base::{FirmId, Memory, Number, State};
+use gu_base::{FirmId, Memory, NodeName, Number, Place, State};
 use gu_book::Book;
 use gu_parties::House;
 use gu_tree::{Head, Row};
@@ -68,6 +67,13 @@ fn fee_of(house: &House, lots: u64, giver: &FirmId, taker: &FirmId) -> u128
     }
 }
 
+/// Appends a giver and a fee.
+fn append_fee(text: &mut String, giver: &FirmId, fee: u128) -> Result<(), Memory>
+    ensures { OnOk result (string_bytes text.new ≡ string_bytes text.old ++ fee_words giver.now fee) }
+{
+    write!(text, "claimed from {giver} fee {fee}")
+}
+
 /// Appends from whom a node was claimed, and what the claim costs its taker in hundredths.
 fn append_claim(text: &mut String, book: &Book, head: &Head) -> Result<(), Memory>
     ensures { OnOk result (string_bytes text.new ≡ string_bytes text.old ++ claimed_words book.now.house head.now.lots (giver_of book.now.history head.now.name) head.now.taker) }
@@ -79,7 +85,7 @@ fn append_claim(text: &mut String, book: &Book, head: &Head) -> Result<(), Memor
         return Ok(());
     };
     let fee = fee_of(book.house(), head.lots, &split.firm, &taker);
-    write!(text, "claimed from {} fee {fee}", split.firm)
+    append_fee(text, &split.firm, fee)
 }
 
 /// Appends the words for a node's state.
@@ -96,16 +102,37 @@ fn append_words(text: &mut String, book: &Book, head: &Head) -> Result<(), Memor
     }
 }
 
+/// Appends the name and the lots of a node.
+fn append_node(text: &mut String, name: NodeName, lots: u64) -> Result<(), Memory>
+    ensures { OnOk result (string_bytes text.new ≡ string_bytes text.old ++ node_words name lots) }
+{
+    write!(text, "{name} {lots} ")
+}
+
+/// Appends where a node stands.
+fn append_place(text: &mut String, place: &Place) -> Result<(), Memory>
+    ensures { OnOk result (string_bytes text.new ≡ string_bytes text.old ++ place_words (Some place.now)) }
+{
+    write!(text, "{}/{} ", place.firm, place.account)
+}
+
+/// Appends the end of a line.
+fn append_end(text: &mut String) -> Result<(), Memory>
+    ensures { OnOk result (string_bytes text.new ≡ string_bytes text.old ++ 10 ∷ []) }
+{
+    text.push_str("\n")
+}
+
 /// Appends the line of a row.
 fn append_line(text: &mut String, book: &Book, row: &Row) -> Result<(), Memory>
     ensures { OnOk result (string_bytes text.new ≡ string_bytes text.old ++ line_of book.now.house book.now.history (shown row.now)) }
 {
     let head = &row.head;
-    let place = &head.place;
     append_indent(text, row.depth)?;
-    write!(text, "{} {} {}/{} ", head.name, head.lots, place.firm, place.account)?;
+    append_node(text, head.name, head.lots)?;
+    append_place(text, &head.place)?;
     append_words(text, book, head)?;
-    text.push_str("\n")
+    append_end(text)
 }
 
 /// Appends the lines of the rows.
@@ -124,12 +151,7 @@ fn append_lines(text: &mut String, book: &Book, rows: &[Row]) -> Result<(), Memo
 /// # Errors
 ///
 /// `NoLiveTrade` where the number is of no live trade, `Memory` where a growth was refused. Both leave `out` as it was.
-pub fn trace(
-    alloc: Global,
-    book: &Book,
-    trade: Number,
-    out: &mut Vec<u8>,
-) -> Result<(), TraceError>
+pub fn trace(alloc: Global, book: &Book, trade: Number, out: &mut Vec<u8>) -> Result<(), TraceError>
     ensures text { OnOk result (out.new.items ≡ out.old.items ++ trace_text book.now.house book.now.history trade) }
     ensures live { OnOk result (is_live_trade (live book.now.history) trade ≡ true) }
     ensures none { result ≡ Err errors.NoLiveTrade → is_live_trade (live book.now.history) trade ≡ false }

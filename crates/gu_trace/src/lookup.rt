@@ -49,12 +49,7 @@ fn part_kind(parent: &NodeName, by: &FirmId, part: &Part) -> Kind
 }
 
 /// The node of this name among the parts of the Split with its entry's number.
-fn part_node(
-    parent: &NodeName,
-    by: &FirmId,
-    parts: &[Part],
-    name: &NodeName,
-) -> Option<Node>
+fn part_node(parent: &NodeName, by: &FirmId, parts: &[Part], name: &NodeName) -> Option<Node>
     ensures { result ≡ find (λ x. same_name x.name name.now) (nodes_of_parts name.now.entry 1 parent.now by.now parts.now) }
 {
     if name.part() == 0 {
@@ -64,11 +59,11 @@ fn part_node(
     if place >= parts.len() {
         return None;
     }
-    let part = parts[place];
+    let part = &parts[place];
     Some(Node {
         name: *name,
         lots: part.lots,
-        kind: part_kind(parent, by, &part),
+        kind: part_kind(parent, by, part),
     })
 }
 
@@ -167,7 +162,9 @@ fn deal_in(command: &Command) -> Option<Deal>
 {
     match command {
         Command::Trade {
-            instrument, side, ..
+            instrument,
+            side,
+            ..
         } => Some(Deal {
             instrument: *instrument,
             side: *side,

@@ -1,12 +1,31 @@
 //! The totals of the day in text: positions, fees and used agreements.
 ghost use Rattle.std.specs.Prelude.{◌≡◌, ◌++◌, [], flat_map, OnOk, OnErr, string_bytes};
 ghost use Rattle.gu_base.specs.History.{live};
-ghost use Rattle.gu_trace.specs.Totals.{position_line, position_in, fees_of, use_of, positions_text, fees_text, agreements_text, totals_text};
+ghost use Rattle.gu_trace.specs.Totals.{account_words, lots_words, position_line, position_in, fees_of, use_of, positions_text, fees_text, agreements_text, totals_text};
 
 use gu_base::{Account, Agreement, FirmId, InstrumentId, Memory, Pair};
 use gu_book::Book;
 use std::alloc::Global;
 use std::fmt::Write;
+
+/// Appends the account of a position.
+fn append_account_words(text: &mut String, account: &Account) -> Result<(), Memory>
+    ensures { OnOk result (string_bytes text.new ≡ string_bytes text.old ++ account_words account.now.firm account.now.name) }
+{
+    write!(text, "position {}/{} ", account.firm, account.name)
+}
+
+/// Appends the lots of a position.
+fn append_lots(
+    text: &mut String,
+    instrument: &InstrumentId,
+    long: u64,
+    short: u64,
+) -> Result<(), Memory>
+    ensures { OnOk result (string_bytes text.new ≡ string_bytes text.old ++ lots_words instrument.now long short) }
+{
+    writeln!(text, "{instrument} long {long} short {short}")
+}
 
 /// Appends the line of a position.
 fn append_position_line(
@@ -18,8 +37,8 @@ fn append_position_line(
 ) -> Result<(), Memory>
     ensures { OnOk result (string_bytes text.new ≡ string_bytes text.old ++ position_line account.now.firm account.now.name instrument.now long short) }
 {
-    write!(text, "position {}/{} ", account.firm, account.name)?;
-    writeln!(text, "{instrument} long {long} short {short}")
+    append_account_words(text, account)?;
+    append_lots(text, instrument, long, short)
 }
 
 /// Appends the line of a position, unless no lots stand there.
@@ -44,8 +63,9 @@ fn append_account(text: &mut String, book: &Book, account: &Account) -> Result<(
 {
     let house = book.house();
     for place in 0..house.instrument_count() {
-        if let Some(instrument) = house.instrument_at(place) {
-            append_position(text, book, account, &instrument)?;
+        match house.instrument_at(place) {
+            Some(instrument) => append_position(text, book, account, &instrument)?,
+            None => {}
         }
     }
     Ok(())
@@ -57,8 +77,9 @@ fn append_positions(text: &mut String, book: &Book) -> Result<(), Memory>
 {
     let house = book.house();
     for place in 0..house.account_count() {
-        if let Some(account) = house.account_at(place) {
-            append_account(text, book, &account)?;
+        match house.account_at(place) {
+            Some(account) => append_account(text, book, &account)?,
+            None => {}
         }
     }
     Ok(())
@@ -83,8 +104,9 @@ fn append_fees(text: &mut String, book: &Book) -> Result<(), Memory>
     let house = book.house();
     append_firm(text, book, &house.house())?;
     for place in 0..house.firm_count() {
-        if let Some(firm) = house.firm_at(place) {
-            append_firm(text, book, &firm)?;
+        match house.firm_at(place) {
+            Some(firm) => append_firm(text, book, &firm)?,
+            None => {}
         }
     }
     Ok(())
@@ -116,8 +138,9 @@ fn append_agreements(text: &mut String, book: &Book) -> Result<(), Memory>
 {
     let house = book.house();
     for place in 0..house.agreement_count() {
-        if let Some((pair, terms)) = house.agreement_at(place) {
-            append_agreement(text, book, &pair, &terms)?;
+        match house.agreement_at(place) {
+            Some(line) => append_agreement(text, book, &line.0, &line.1)?,
+            None => {}
         }
     }
     Ok(())

@@ -1,10 +1,10 @@
 //! What a firm is told of the entries that concern it.
-ghost use Rattle.std.specs.Prelude.{◌≡◌, ◌≤◌, ◌<◌, ◌+◌, ◌^◌, length, sum_by, slice_get, option_map, IfOk};
+ghost use Rattle.std.specs.Prelude.{◌≡◌, ◌≤◌, ◌<◌, ◌+◌, ◌^◌, length, sum_by, slice_get, option_map, bytes_eq, ◌||◌, if◌then◌else◌, IfOk};
 ghost use Rattle.std.specs.List.{All};
 ghost use Rattle.gu_base.specs.History.{numbered_as};
 ghost use Rattle.gu_base.specs.Limits.{most_entries, most_parts};
 ghost use Rattle.gu_book.specs.Limits.{IsWithinLimits, PartsWithinLimits};
-ghost use Rattle.gu_trace.specs.Reports.{most_reports, report_with, gives_up, parts_shown, claimed_part, no_part, split_report, decision_report, change_report, reversal_report, report_of, told, reports_for};
+ghost use Rattle.gu_trace.specs.Reports.{most_reports, report_with, report_part, shown_or_not, gives_up, parts_shown, claimed_part, no_part, split_report, decision_report, change_report, reversal_report, report_of, told, reports_for};
 
 use crate::concern::concerns;
 use crate::lookup::{Deal, deal_of, entry_at, lots_at, node_at};
@@ -75,7 +75,46 @@ fn gives_up(by: &FirmId, parts: &[Part]) -> bool
     parts.iter().any(|p| p.firm != *by)
 }
 
-/// Of the parts of a Split the owner sees all, another firm those that are given to it.
+/// Whether a part of a Split is shown to the firm: the owner sees all parts, another firm those that are given to it.
+fn is_shown(firm: &FirmId, by: &FirmId, part: &Part) -> bool
+    ensures { result ≡ (bytes_eq by.now firm.now || bytes_eq part.now.firm firm.now) }
+{
+    *by == *firm || part.firm == *firm
+}
+
+/// The account that is shown of a part: that of an own part.
+fn account_shown(by: &FirmId, part: &Part) -> Option<AccountId>
+    ensures { result ≡ (if bytes_eq part.now.firm by.now then part.now.account else None) }
+{
+    if part.firm == *by { part.account } else { None }
+}
+
+/// The part with this place in its Split, counted from 1, as a report shows it.
+fn report_part(number: Number, i: u8, by: &FirmId, part: &Part) -> ReportPart
+    requires { i ≤ 100 }
+    ensures { result ≡ report_part number i by.now part.now }
+{
+    ReportPart {
+        name: NodeName::in_entry(number, i),
+        lots: part.lots,
+        firm: part.firm,
+        account: account_shown(by, part),
+    }
+}
+
+/// The same, if it is shown to the firm.
+fn part_shown(firm: &FirmId, number: Number, i: u8, by: &FirmId, part: &Part) -> Option<ReportPart>
+    requires { i ≤ 100 }
+    ensures { result ≡ shown_or_not firm.now number i by.now part.now }
+{
+    if is_shown(firm, by, part) {
+        Some(report_part(number, i, by, part))
+    } else {
+        None
+    }
+}
+
+/// Of the parts of a Split those that a report shows to the firm.
 fn parts_shown(
     alloc: Global,
     firm: &FirmId,
@@ -86,16 +125,11 @@ fn parts_shown(
     requires { length parts.now ≤ most_parts }
     ensures { IfOk result (λ v. v.items ≡ parts_shown firm.now number by.now parts.now) }
 {
-    let owns = *by == *firm;
     let mut shown = Vec::new(alloc);
-    for (i, part) in parts.iter().enumerate() {
-        if owns || part.firm == *firm {
-            shown.push(ReportPart {
-                name: NodeName::in_entry(number, i as u8 + 1),
-                lots: part.lots,
-                firm: part.firm,
-                account: if part.firm == *by { part.account } else { None },
-            })?;
+    for place in 0..parts.len() {
+        match part_shown(firm, number, place as u8 + 1, by, &parts[place]) {
+            Some(part) => shown.push(part)?,
+            None => {}
         }
     }
     Ok(shown)
@@ -127,7 +161,11 @@ fn split_report(
     };
     let shown = parts_shown(alloc, firm, number, &e.firm, parts)?;
     let lots = lots_of(shown.as_slice());
-    let codes = if gives_up(&e.firm, parts) { GIVE_UP } else { ACCEPT };
+    let codes = if gives_up(&e.firm, parts) {
+        GIVE_UP
+    } else {
+        ACCEPT
+    };
     Ok(Some(report(number, e, codes, Target::Node(node), lots, shown, deal)))
 }
 
@@ -193,7 +231,15 @@ fn give_back_report(
     let Some(lots) = lots_at(entries, &node) else {
         return None;
     };
-    Some(report(number, e, codes, Target::Node(node), lots, Vec::new(alloc), deal))
+    Some(report(
+        number,
+        e,
+        codes,
+        Target::Node(node),
+        lots,
+        Vec::new(alloc),
+        deal,
+    ))
 }
 
 /// The report of a change to the firm; `None` of another command.
@@ -322,12 +368,7 @@ fn told(
 /// # Errors
 ///
 /// `Memory` where a growth was refused.
-pub fn reports(
-    alloc: Global,
-    book: &Book,
-    firm: &FirmId,
-    after: u32,
-) -> Result<Vec<Report>, Memory>
+pub fn reports(alloc: Global, book: &Book, firm: &FirmId, after: u32) -> Result<Vec<Report>, Memory>
     ensures value { IfOk result (λ v. v.items ≡ reports_for book.now.house.house book.now.history firm.now after) }
     ensures few { IfOk result (λ v. length v.items ≤ most_reports) }
     ensures short { IfOk result (λ v. All (λ r. length r.parts ≤ most_parts) v.items) }
@@ -339,8 +380,10 @@ pub fn reports(
         if found.len() == MOST_REPORTS {
             return Ok(found);
         }
-        if let Some(report) = told(alloc, &house, entries, firm, place)? {
-            found.push(report)?;
+        let outcome = told(alloc, &house, entries, firm, place)?;
+        match outcome {
+            Some(report) => found.push(report)?,
+            None => {}
         }
     }
     Ok(found)

@@ -19,8 +19,7 @@ fn side_of(word: &[u8]) -> Side {
 }
 
 /// `FIRM ACCOUNT INSTRUMENT buy|sell LOTS`
-fn trade(words: &[u8]) -> Option<Command>
-{
+fn trade(words: &[u8]) -> Option<Command> {
     let (firm, rest) = first_word(words);
     let (account, rest) = first_word(rest);
     let (instrument, rest) = first_word(rest);
@@ -81,19 +80,24 @@ fn parts(alloc: Global, by: FirmId, words: &[u8]) -> Result<Parts, Memory> {
 }
 
 /// The command of this verb and these words, with these parts.
-fn command(verb: &[u8], words: &[u8], parts: Parts) -> Option<Command>
-{
+fn command(verb: &[u8], words: &[u8], parts: Parts) -> Option<Command> {
     if verb == b"trade".as_slice() {
         return trade(words);
     }
     if verb == b"initiate".as_slice() {
-        return Some(Command::Initiate { entry: number_of(words)? });
+        return Some(Command::Initiate {
+            entry: number_of(words)?,
+        });
     }
     if verb == b"decline".as_slice() {
-        return Some(Command::Decline { entry: number_of(words)? });
+        return Some(Command::Decline {
+            entry: number_of(words)?,
+        });
     }
     if verb == b"reverse".as_slice() {
-        return Some(Command::Reverse { entry: number_of(words)? });
+        return Some(Command::Reverse {
+            entry: number_of(words)?,
+        });
     }
     let (name, rest) = first_word(words);
     let node = node_of(name)?;

@@ -26,7 +26,10 @@ fn show_parts(rt: &impl Print, report: &Report) -> io::Result<()> {
 
 /// `NUMBER KIND STATUS TRANS TARGET INSTRUMENT SIDE LOTS`, and then its parts
 fn show_report(rt: &impl Print, report: &Report) -> io::Result<()> {
-    print!(rt; "{} {} {:?} {} ", report.number, report.kind, report.status, report.trans)?;
+    print!(rt;
+        "{} {} {:?} {} ",
+        report.number, report.kind, report.status, report.trans
+    )?;
     match report.target {
         Target::Node(name) => print!(rt; "{name}")?,
         Target::Entry(number) => print!(rt; "entry {number}")?,

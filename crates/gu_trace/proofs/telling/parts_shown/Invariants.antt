@@ -1,9 +1,7 @@
-use Rattle.std.proofs.Common.{◌≡◌, ◌+◌, ◌++◌, ◌||◌, drop}
-use Rattle.std.specs.Prelude.{filter, bytes_eq}
-use Rattle.gu_trace.specs.Reports.{report_parts, parts_shown}
+use Rattle.std.proofs.Common.{◌≡◌, ◌++◌}
+use Rattle.gu_trace.specs.Reports.{parts_shown}
+use Rattle.gu_trace.proofs.Shown.{rest_shown}
 use Rattle.gu_trace.proofs.telling.parts_shown.Given as goal
 
-abbrev pub invariant-loop-i : goal.invariant-loop-i
-invariant-loop-i l =
-    l.shown.items ++ filter (λ p. bytes_eq l.by l.firm || bytes_eq p.firm l.firm) (report_parts l.number (1 + l.i) l.by (drop l.i l.parts))
-    ≡ parts_shown l.firm l.number l.by l.parts
+abbrev pub invariant-loop-place : goal.invariant-loop-place
+invariant-loop-place l = l.shown.items ++ rest_shown l.firm l.number l.by l.parts l.place ≡ parts_shown l.firm l.number l.by l.parts
