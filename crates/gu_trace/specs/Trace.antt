@@ -36,9 +36,13 @@ giver_of h n = option_map (λ r. r.firm) (entry_of h n.entry)
 abbrev pub fee_of : House → ℕ → List ℕ → List ℕ → ℕ
 fee_of t lots giver taker = lots * unwrap_or (option_map (λ a. a.rate) (agreement t giver taker)) 0
 
+-- `claimed from GIVER fee `
+abbrev pub giver_words : List ℕ → List ℕ
+giver_words giver = codes "claimed from " ++ giver ++ codes " fee "
+
 -- `claimed from GIVER fee F`
 abbrev pub fee_words : List ℕ → ℕ → List ℕ
-fee_words giver fee = codes "claimed from " ++ giver ++ codes " fee " ++ decimal fee
+fee_words giver fee = giver_words giver ++ decimal fee
 
 -- the same, where giver and taker are known
 abbrev pub claimed_words : House → ℕ → Option (List ℕ) → Option (List ℕ) → List ℕ

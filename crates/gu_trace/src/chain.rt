@@ -1,16 +1,17 @@
 //! The trace of a trade: its tree in text.
-ghost use Rattle.std.specs.Prelude.{◌≡◌, ◌++◌, [], ◌∷◌, true, false, flat_map, unwrap_or, OnOk, OnErr, string_bytes};
+ghost use Rattle.std.specs.Prelude.{◌≡◌, ◌++◌, [], ◌∷◌, true, false, decimal, flat_map, unwrap_or, OnOk, OnErr, string_bytes};
 ghost use Rattle.gu_base.specs.History.{live};
 ghost use Rattle.gu_tree.specs.Shown.{shown};
 ghost use Rattle.gu_book.specs.TreeRows.{is_live_trade};
 ghost use Rattle.gu_trace.specs.declared.chain.TraceError.TheVariants as errors;
-ghost use Rattle.gu_trace.specs.Trace.{indent, fee_of, fee_words, giver_of, claimed_words, node_words, place_words, words_for, line_of, trace_text};
+ghost use Rattle.gu_trace.specs.Trace.{indent, fee_of, giver_words, fee_words, giver_of, claimed_words, node_words, place_words, words_for, line_of, trace_text};
 
 use crate::lookup::entry_at;
 use gu_base::{FirmId, Memory, NodeName, Number, Place, State};
 use gu_book::Book;
 use gu_parties::House;
 use gu_tree::{Head, Row};
+use itoa::Buffer;
 use std::alloc::Global;
 use std::fmt::Write;
 use thiserror::Error;
@@ -67,11 +68,27 @@ fn fee_of(house: &House, lots: u64, giver: &FirmId, taker: &FirmId) -> u128
     }
 }
 
+/// Appends a giver.
+fn append_giver(text: &mut String, giver: &FirmId) -> Result<(), Memory>
+    ensures { OnOk result (string_bytes text.new ≡ string_bytes text.old ++ giver_words giver.now) }
+{
+    write!(text, "claimed from {giver} fee ")
+}
+
+/// Appends a number's digits.
+fn append_digits(text: &mut String, number: u128) -> Result<(), Memory>
+    ensures { OnOk result (string_bytes text.new ≡ string_bytes text.old ++ decimal number) }
+{
+    let mut digits = Buffer::new();
+    text.push_str(digits.format(number))
+}
+
 /// Appends a giver and a fee.
 fn append_fee(text: &mut String, giver: &FirmId, fee: u128) -> Result<(), Memory>
     ensures { OnOk result (string_bytes text.new ≡ string_bytes text.old ++ fee_words giver.now fee) }
 {
-    write!(text, "claimed from {giver} fee {fee}")
+    append_giver(text, giver)?;
+    append_digits(text, fee)
 }
 
 /// Appends from whom a node was claimed, and what the claim costs its taker in hundredths.

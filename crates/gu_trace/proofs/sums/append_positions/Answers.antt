@@ -5,7 +5,7 @@ use Rattle.gu_base.specs.declared.house.Account.{Account}
 use Rattle.gu_trace.specs.Totals.{position_in}
 use Rattle.gu_trace.proofs.Texts.{written, skipped}
 use Rattle.gu_trace.proofs.sums.append_positions.Goals as goal
-use Rattle.gu_trace.proofs.sums.append_positions.Goals.{in-Some+in_ok-append_account, in-None}
+use Rattle.gu_trace.proofs.sums.append_positions.Goals.{in-Some+in_ok-append_account-in-Some, in-None}
 
 pub loop-place-preserved : goal.loop-place-preserved
 loop-place-preserved c =
@@ -14,8 +14,8 @@ loop-place-preserved c =
     let xs = book.house.accounts in
     let whole = string_bytes c.args.text.now ++ flat_map f xs in
     elim c.match-account_at.branch [
-      | in-Some+in_ok-append_account w ↦ written f xs c.loop-place.place w.in-Some.account (string_bytes c.loop-place.text) (string_bytes c.match-account_at.text) whole
-          (sym (rw c.house-house.ensures at c.account_at.ensures) ∙ w.in-Some.is) (ap string_bytes w.text-is ∙ w.in_ok-append_account.ensures) c.loop-place.invariant
+      | in-Some+in_ok-append_account-in-Some w ↦ written f xs c.loop-place.place w.in-Some.account (string_bytes c.loop-place.text) (string_bytes c.match-account_at.text) whole
+          (sym (rw c.house-house.ensures at c.account_at.ensures) ∙ w.in-Some.is) (ap string_bytes w.text-is ∙ w.in_ok-append_account-in-Some.ensures) c.loop-place.invariant
       | in-None w ↦
           let count = rw c.house-house.ensures at c.account_count-place-end.ensures in
           let within : c.loop-place.place < length xs = omega (arith, count) in

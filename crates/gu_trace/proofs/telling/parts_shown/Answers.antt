@@ -2,7 +2,7 @@ use Rattle.std.proofs.Common.{◌≡◌, ◌++◌, ◌+◌, ◌<◌, [], ◌∷�
 use Rattle.gu_trace.specs.Reports.{parts_shown}
 use Rattle.gu_trace.proofs.Shown.{rest_shown, showing, passing}
 use Rattle.gu_trace.proofs.telling.parts_shown.Goals as goal
-use Rattle.gu_trace.proofs.telling.parts_shown.Goals.{in-Some+in_ok-push, in-None}
+use Rattle.gu_trace.proofs.telling.parts_shown.Goals.{in-Some+in_ok-push-in-Some, in-None}
 
 pub loop-place-preserved : goal.loop-place-preserved
 loop-place-preserved c =
@@ -16,9 +16,9 @@ loop-place-preserved c =
     let whole = parts_shown f n by ps in
     let within : i < length ps = omega arith in
     elim c.match-part_shown.branch [
-      | in-Some+in_ok-push w ↦
+      | in-Some+in_ok-push-in-Some w ↦
           ap (λ v. v.items ++ rest_shown f n by ps (i + 1)) w.shown-is
-          ∙ (ap (λ xs. xs ++ rest_shown f n by ps (i + 1)) w.in_ok-push.ensures.items
+          ∙ (ap (λ xs. xs ++ rest_shown f n by ps (i + 1)) w.in_ok-push-in-Some.ensures.items
           ∙ showing f n by ps i p w.in-Some.part before whole within c.index-parts-place.is (sym c.part_shown.ensures ∙ w.in-Some.is) c.loop-place.invariant)
       | in-None w ↦
           ap (λ v. v.items ++ rest_shown f n by ps (i + 1)) w.shown-is
