@@ -5,15 +5,15 @@
 //! how it is run.
 #![tactic(auto)]
 
-use gu_server::{Fault, run};
-use std::env;
+use gu_server::{Counted, Fault, RunError, SystemFiles, run};
+use std::{env, io};
 use std::process::ExitCode;
 
 /// The words after the program's name.
 fn words(rt: &HostRuntime) -> Result<Vec<String>, Fault> {
     let mut words = Vec::new(rt.alloc());
     let Ok(args) = env::args(rt) else {
-        return Err(Fault::Memory);
+        return Err(Fault::Run(RunError::Memory));
     };
     for word in args.skip(1) {
         words.push(word)?;
@@ -21,9 +21,19 @@ fn words(rt: &HostRuntime) -> Result<Vec<String>, Fault> {
     Ok(words)
 }
 
+/// Does what the words ask for, over the files, the standard input and the standard output of the system.
 fn serve_words(rt: &HostRuntime) -> Result<(), Fault> {
     let words = words(rt)?;
-    run(rt, words.as_slice())
+    let files = SystemFiles::new(rt);
+    let mut reader = Counted::new(rt.reader());
+    let mut writer = Counted::new(io::writer(rt));
+    run(
+        rt.alloc(),
+        &files,
+        &mut reader,
+        &mut writer,
+        words.as_slice(),
+    )
 }
 
 fn main(rt: HostRuntime) -> ExitCode {

@@ -27,7 +27,7 @@ use Rattle.gu_depend.specs.Under.{names}
 use Rattle.gu_depend.proofs.Finds.{count_cons, count_permuted, find_permuted, none_before}
 use Rattle.gu_depend.proofs.Names.{name_is, name_same, node_called, at_name, node_permuted}
 use Rattle.gu_depend.proofs.Rows.{none_at_node, SplitHolds, split_accepted, claim_accepted, decision_accepted, refusal_none}
-use Rattle.gu_depend.proofs.Sane.{Sane, sane}
+use Rattle.gu_depend.proofs.NamedOnce.{NamedOnce, named_once}
 use Rattle.gu_depend.proofs.Grown.{Within, Grown, grown_none, grown_push, owns_same, depth_same}
 use Rattle.gu_depend.proofs.Charges.{used_among, uses, KeepsLimits, claim_charge, fits}
 use Rattle.gu_depend.proofs.Settled.{SettledAs, Settled, Facts, facts, front_within, front_short}
@@ -74,7 +74,7 @@ pub record SameFinds (l o : List Record) : Type 0 where
   pub decisions : (n : EntryPart) → decision_of o n ≡ decision_of l n
   pub long : length o ≡ length l
 
-pub same_finds : (l o : List Record) → IsPermutation l o → NumbersOnce l → Sane l → SameFinds l o
+pub same_finds : (l o : List Record) → IsPermutation l o → NumbersOnce l → NamedOnce l → SameFinds l o
 same_finds l o same once s = record {
   nodes = λ n. node_permuted l o n same (once n.entry);
   splits_same = λ n. find_permuted (λ r. splits n r.command) l o same (s.splits_once n);
@@ -226,7 +226,7 @@ lawful_from t l o b (r ∷ rest) f e g all lawful =
     (refusal_none t b r.firm r.command s.known (accepts t l b r.firm r.command s.stands due))
     (lawful_from t l o (b ++ r ∷ []) rest f cut more (All-tail (Settled t l) r rest all) p.1)
 
-order_facts : (t : House) (l o : List Record) → IsPermutation l o → NumbersOnce l → Sane l → Facts t l l → OrderFacts t l o
+order_facts : (t : House) (l o : List Record) → IsPermutation l o → NumbersOnce l → NamedOnce l → Facts t l l → OrderFacts t l o
 order_facts t l o same once s f = record {
   finds = same_finds l o same once s;
   splits_once = λ n. omega (arith, count_permuted (λ r. splits n r.command) l o same, s.splits_once n);
@@ -237,7 +237,7 @@ order_facts t l o same once s f = record {
 pub order_replays : (t : House) (l o : List Record) → NumbersOnce l → first_refused t [] l ≡ None → IsLawfulOrder l o → first_refused t [] o ≡ None
 order_replays t l o once none lawful =
     let f = facts t l none in
-    lawful_from t l o [] o (order_facts t l o lawful.same once (sane t l none) f) refl (grown_none l)
+    lawful_from t l o [] o (order_facts t l o lawful.same once (named_once t l none) f) refl (grown_none l)
     (All-permutation (Settled t l) l o lawful.same f.settled) lawful.after_its_node
 
 pub order_is_legal : (t : House) (l o : List Record) → HasDistinctNumbers l → IsLegal t l → IsLawfulOrder l o → IsLegal t o

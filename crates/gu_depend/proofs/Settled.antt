@@ -21,7 +21,7 @@ use Rattle.gu_depend.specs.Under.{names}
 use Rattle.gu_depend.proofs.Finds.{find_more, no_some}
 use Rattle.gu_depend.proofs.Names.{node_called, at_name}
 use Rattle.gu_depend.proofs.Rows.{at_node_none, SplitHolds, split_passes, ClaimHolds, claim_passes, decision_passes, refusal_parts, splits_well, decides_well}
-use Rattle.gu_depend.proofs.Sane.{Sane, sane}
+use Rattle.gu_depend.proofs.NamedOnce.{NamedOnce, named_once}
 use Rattle.gu_depend.proofs.Grown.{Within, Grown, grown_none, grown_push, owns_same, depth_same}
 use Rattle.gu_depend.proofs.Charges.{agreed, used_among, KeepsLimits, keeps_push}
 
@@ -64,7 +64,7 @@ undecided_given false h = refl
 never_given : (k : Kind) → is_given k ≡ false → is_given k ≡ true → ⊥
 never_given k a b = cc
 
-free_decided_by : (l b : List Record) (n : EntryPart) (x : Node) → Sane l → Within l b → node_of b n ≡ Some x → (o : Option Record) → decision_of b n ≡ o → not (is_given x.kind && is_none o) ≡ true → o ≡ decision_of l n
+free_decided_by : (l b : List Record) (n : EntryPart) (x : Node) → NamedOnce l → Within l b → node_of b n ≡ Some x → (o : Option Record) → decision_of b n ≡ o → not (is_given x.kind && is_none o) ≡ true → o ≡ decision_of l n
 free_decided_by l b n x s w found (Some d) e free = sym (w.decisions n d e)
 free_decided_by l b n x s w found None e free =
     let other = undecided_given (is_given x.kind) free in
@@ -73,14 +73,14 @@ free_decided_by l b n x s w found None e free =
     let one : y.0 ≡ x = some_same y.0 x (sym y.1.0 ∙ w.nodes n x found) in
     never_given x.kind other (subst (λ (z : Node). is_given z.kind ≡ true) one y.1.1)))
 
-pub free_decided : (l b : List Record) (n : EntryPart) (x : Node) → Sane l → Within l b → node_of b n ≡ Some x → not (is_offered b x) ≡ true → decision_of b n ≡ decision_of l n
+pub free_decided : (l b : List Record) (n : EntryPart) (x : Node) → NamedOnce l → Within l b → node_of b n ≡ Some x → not (is_offered b x) ≡ true → decision_of b n ≡ decision_of l n
 free_decided l b n x s w found free =
     let called = node_called b n x found in
     free_decided_by l b n x s w found (decision_of b n) refl (subst (λ (z : EntryPart). not (is_given x.kind && is_none (decision_of b z)) ≡ true) called free)
 
 -- ---- what is accepted behind some changes is settled over all
 
-split_settles : (t : House) (l b : List Record) (by : List ℕ) (ps : List Part) (x : Node) → Sane l → Grown l b → node_of b x.name ≡ Some x → SplitHolds t b by ps x → SplitHolds t l by ps x
+split_settles : (t : House) (l b : List Record) (by : List ℕ) (ps : List Part) (x : Node) → NamedOnce l → Grown l b → node_of b x.name ≡ Some x → SplitHolds t b by ps x → SplitHolds t l by ps x
 split_settles t l b by ps x s g found h =
     let same = free_decided l b x.name x s g.within found h.free in
     record {
@@ -92,7 +92,7 @@ split_settles t l b by ps x s g found h =
       sums = h.sums;
     }
 
-settles : (t : House) (l b : List Record) (by : List ℕ) (c : Command) → Sane l → Grown l b → row t b by c ≡ None → SettledAs t l by c
+settles : (t : House) (l b : List Record) (by : List ℕ) (c : Command) → NamedOnce l → Grown l b → row t b by c ≡ None → SettledAs t l by c
 settles t l b by (Trade firm account instrument side lots) s g h = h
 settles t l b by (Split n ps) s g h =
     let there = at_node_none (split_row t b by ps) (node_of b n) h in
@@ -154,7 +154,7 @@ pub record Facts (t : House) (l b : List Record) : Type 0 where
   pub settled : All (Settled t l) b
   pub limits : KeepsLimits t (used_among t l b)
 
-facts_push : (t : House) (l b : List Record) (r : Record) → Sane l → Within l (b ++ r ∷ []) → length (b ++ r ∷ []) ≤ length l → Facts t l b → refusal_of t b r.firm r.command ≡ None → Facts t l (b ++ r ∷ [])
+facts_push : (t : House) (l b : List Record) (r : Record) → NamedOnce l → Within l (b ++ r ∷ []) → length (b ++ r ∷ []) ≤ length l → Facts t l b → refusal_of t b r.firm r.command ≡ None → Facts t l (b ++ r ∷ [])
 facts_push t l b r s w short f h =
     let p = refusal_parts t b r.firm r.command h in
     record {
@@ -165,7 +165,7 @@ facts_push t l b r s w short f h =
     }
 
 -- along the list, up to a front of it
-facts_to : (t : House) (l b front rest : List Record) → Sane l → l ≡ b ++ (front ++ rest) → Facts t l b → first_refused t b (front ++ rest) ≡ None → Facts t l (b ++ front)
+facts_to : (t : House) (l b front rest : List Record) → NamedOnce l → l ≡ b ++ (front ++ rest) → Facts t l b → first_refused t b (front ++ rest) ≡ None → Facts t l (b ++ front)
 facts_to t l b [] rest s e f none = subst (λ (z : List Record). Facts t l z) (sym (append-nil b)) f
 facts_to t l b (r ∷ front) rest s e f none =
     let p = none_refused (refusal_of t b r.firm r.command) r.number (first_refused t (b ++ r ∷ []) (front ++ rest)) none in
@@ -178,7 +178,7 @@ facts_none t l = record { grown = grown_none l; settled = All-nil (Settled t l);
 
 -- what holds of a front of a legal list, over the whole list
 pub front_facts : (t : House) (l front rest : List Record) → l ≡ front ++ rest → first_refused t [] l ≡ None → Facts t l front
-front_facts t l front rest e none = facts_to t l [] front rest (sane t l none) e (facts_none t l) (subst (λ (z : List Record). first_refused t [] z ≡ None) e none)
+front_facts t l front rest e none = facts_to t l [] front rest (named_once t l none) e (facts_none t l) (subst (λ (z : List Record). first_refused t [] z ≡ None) e none)
 
 pub facts : (t : House) (l : List Record) → first_refused t [] l ≡ None → Facts t l l
 facts t l none = front_facts t l l [] (sym (append-nil l)) none

@@ -21,7 +21,7 @@ use Rattle.gu_base.specs.declared.node.Place.{Place}
 use Rattle.gu_depend.specs.Same.{IsSameState}
 use Rattle.gu_depend.proofs.Finds.{find_permuted}
 use Rattle.gu_depend.proofs.Names.{made}
-use Rattle.gu_depend.proofs.Sane.{Sane}
+use Rattle.gu_depend.proofs.NamedOnce.{NamedOnce}
 use Rattle.gu_depend.proofs.Replay.{SameFinds, same_finds, NumbersOnce}
 use Rattle.gu_depend.proofs.Charges.{counted, sum_charged}
 
@@ -155,7 +155,7 @@ charges_same t takes counts l o same f =
     ∙ sym (sum_charged takes counts (λ r. charge_of t l r.command) l)))
 
 -- every order of a list in which a node is split once and decided once, and no number stands twice, leaves the same
-pub state_same : (t : House) (l o : List Record) → IsPermutation l o → NumbersOnce l → Sane l → IsSameState t l o
+pub state_same : (t : House) (l o : List Record) → IsPermutation l o → NumbersOnce l → NamedOnce l → IsSameState t l o
 state_same t l o same once s =
     let f = same_finds l o same once s in
     record {

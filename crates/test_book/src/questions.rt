@@ -1,8 +1,8 @@
 //! A question, and what the book tells.
 
 use crate::twice::twice;
-use crate::words::{count_of, first_word};
-use gu_base::{AccountId, FirmId, InstrumentId, Number};
+use crate::words::{first_word, number_of};
+use gu_base::{AccountId, FirmId, InstrumentId};
 use gu_book::Book;
 use gu_tree::Row;
 use std::alloc::Global;
@@ -64,11 +64,6 @@ fn show_row(rt: &impl Print, row: &Row) -> io::Result<()> {
     println!(rt;)
 }
 
-/// The number of a trade, `None` where no entry can have it.
-fn number_of(word: &[u8]) -> Option<Number> {
-    Number::new(u32::try_from(count_of(word)?).ok()?)
-}
-
 /// Writes the rows of a trade's tree.
 fn show_rows(
     rt: &(impl Print + Eprint),
@@ -88,6 +83,15 @@ fn show_rows(
     Ok(())
 }
 
+/// Writes the numbers of the live changes.
+fn show_live(rt: &(impl Print + Eprint), alloc: Global, book: &Book) -> io::Result<()> {
+    print!(rt; "live")?;
+    for number in &twice(rt, || book.live(alloc))? {
+        print!(rt; " {number}")?;
+    }
+    println!(rt;)
+}
+
 /// Writes what a question asks for.
 pub(crate) fn answer(
     rt: &(impl Print + Eprint),
@@ -98,6 +102,9 @@ pub(crate) fn answer(
     let (what, rest) = first_word(question);
     if what == b"rows".as_slice() {
         return show_rows(rt, alloc, book, rest);
+    }
+    if what == b"live".as_slice() {
+        return show_live(rt, alloc, book);
     }
     if what == b"position".as_slice() {
         return show_position(rt, book, rest);

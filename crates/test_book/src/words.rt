@@ -1,7 +1,7 @@
 //! The words of a line.
 ghost use Rattle.std.specs.Prelude.{◌≡◌, eqb, position};
 
-use gu_base::NodeName;
+use gu_base::{NodeName, Number};
 use std::str;
 
 /// The place of the first such byte.
@@ -36,6 +36,11 @@ pub(crate) fn shown(text: &[u8]) -> &str {
 
 pub(crate) fn count_of(text: &[u8]) -> Option<u64> {
     shown(text).parse::<u64>().ok()
+}
+
+/// The number of an entry, `None` where no entry can have it.
+pub(crate) fn number_of(word: &[u8]) -> Option<Number> {
+    Number::new(u32::try_from(count_of(word)?).ok()?)
 }
 
 /// The node of this name, `entry.part`.

@@ -103,9 +103,17 @@ fn show_command(rt: &impl Print, command: &Command) -> io::Result<State> {
             println!(rt; "cancel {node}")?;
             Ok(State::Cancelled)
         }
-        _ => {
-            println!(rt; "another command")?;
+        Command::Initiate { entry } => {
+            println!(rt; "initiate {}", entry.get())?;
+            Ok(State::ReversalPending)
+        }
+        Command::Decline { entry } => {
+            println!(rt; "decline {}", entry.get())?;
             Ok(State::Held)
+        }
+        Command::Reverse { entry } => {
+            println!(rt; "reverse {}", entry.get())?;
+            Ok(State::Reversed)
         }
     }
 }

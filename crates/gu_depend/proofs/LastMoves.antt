@@ -1,0 +1,190 @@
+-- What a change that stands behind others moves.
+use Rattle.std.proofs.Common.{◌≡◌, ℕ, zero, suc, ◌+◌, Bool, true, false, ◌&&◌, ◌||◌, List, [], ◌∷◌, ◌++◌, length, refl, sym, ◌∙◌, ap, subst, arith, cond, Option, Contains, All, append-nil}
+use Rattle.std.specs.Prelude.{Some, None, find, filter, filter_map, sum_by, is_some, is_none, option_and_then, option_map, unwrap_or, ◌==◌}
+use Rattle.std.specs.List.{cons_option}
+use Rattle.std.specs.Option.{option_or}
+use Rattle.std.proofs.lemmas.Bool.Decides.{Decides-eqb}
+use Rattle.std.proofs.lemmas.Grind.{flat_map-append}
+use Rattle.std.proofs.lemmas.List.Elements.{All-head, All-tail, All-weaker, All-contains_itself, filter_map-append}
+use Rattle.std.proofs.lemmas.List.Folds.{find-append}
+use Rattle.std.proofs.lemmas.List.Sums.{sum_by-cons, sum_by-append}
+use Rattle.gu_base.specs.Numbers.{EntryPart}
+use Rattle.gu_base.specs.House.{House}
+use Rattle.gu_base.specs.Nodes.{node_of, nodes, nodes_of, split_of, decision_of, same_name, splits, decides, parent}
+use Rattle.gu_base.specs.Places.{line_within, root_along, root_of, same_place}
+use Rattle.gu_base.specs.Positions.{is_trade_of, trades_in, stands_at, position_of}
+use Rattle.gu_base.specs.Fees.{charge_of, charges}
+use Rattle.gu_base.specs.Refusals.{refusal_of, row}
+use Rattle.gu_base.specs.Standing.{first_refused}
+use Rattle.gu_base.specs.declared.command.Side.{Side}
+use Rattle.gu_base.specs.declared.entry.Record.{Record}
+use Rattle.gu_base.specs.declared.node.Charge.{Charge}
+use Rattle.gu_base.specs.declared.node.Node.{Node}
+use Rattle.gu_base.specs.declared.node.Place.{Place}
+use Rattle.gu_base.proofs.Basics.{some_same, or_none}
+use Rattle.gu_base.proofs.LegalLaws.{none_refused}
+use Rattle.gu_depend.specs.Under.{names}
+use Rattle.gu_depend.specs.Moves.{lots_at, named_by, MovesItsOwn}
+use Rattle.gu_depend.proofs.Finds.{none_is_some, none_before}
+use Rattle.gu_depend.proofs.Names.{name_same, at_name, made, maker, made_number}
+use Rattle.gu_depend.proofs.Rows.{refusal_parts}
+use Rattle.gu_depend.proofs.Grown.{Grown, NamesThere, line_of_grown, place_same}
+use Rattle.gu_depend.proofs.Charges.{sum_agree_on, sum_kept, charge_same}
+use Rattle.gu_depend.proofs.Settled.{front_facts, accepted_there}
+use Rattle.gu_depend.proofs.Replay.{NumbersOnce}
+use Rattle.gu_depend.proofs.StandsLast.{false_unless, replay_rest, decision_cut}
+use Rattle.gu_depend.proofs.StandsUnder.{found_some}
+
+-- ---- sums
+
+sum_plus : {X : Type 0} (f g : X → ℕ) (xs : List X) → sum_by (λ x. f x + g x) xs ≡ sum_by f xs + sum_by g xs
+sum_plus f g [] = refl
+sum_plus f g (x ∷ xs) =
+    let a = sum_by-cons (λ x. f x + g x) x xs in
+    let b = sum_by-cons f x xs in
+    let c = sum_by-cons g x xs in
+    let d = sum_plus f g xs in
+    omega (arith, a, b, c, d)
+
+sum_filter : {X : Type 0} (w : X → ℕ) (p : X → Bool) (xs : List X) → sum_by w (filter p xs) ≡ sum_by (λ x. cond (p x) (w x) 0) xs
+sum_filter w p [] = refl
+sum_filter w p (x ∷ xs) =
+    let a = sum_kept w (p x) x (filter p xs) in
+    let b = sum_filter w p xs in
+    let c = sum_by-cons (λ x. cond (p x) (w x) 0) x xs in
+    omega (arith, a, b, c)
+
+position_is : (l : List Record) (at : Place) (instrument : List ℕ) (side : Side) → position_of l at.firm at.account instrument side ≡ sum_by (lots_at l at instrument side) (nodes l)
+position_is l at instrument side =
+    sum_filter (λ (x : Node). x.lots) (λ x. stands_at l at x.name && trades_in l instrument side x.name) (filter (λ x. is_none (split_of l x.name)) (nodes l))
+    ∙ sum_filter (λ (x : Node). cond (stands_at l at x.name && trades_in l instrument side x.name) x.lots 0) (λ x. is_none (split_of l x.name)) (nodes l)
+
+swapped : (old new : ℕ) (b : Bool) → (b ≡ false → new ≡ old) → new + cond b old 0 ≡ old + cond b new 0
+swapped old new true same = omega arith
+swapped old new false same = omega (arith, same refl)
+
+neither : (a b : Bool) → (a || b) ≡ false → (a ≡ false) × (b ≡ false)
+neither true b h = absurd (cc)
+neither false b h = (refl, h)
+
+nodes_push : (l : List Record) (r : Record) → nodes (l ++ r ∷ []) ≡ nodes l ++ made r
+nodes_push l r = flat_map-append (λ r. nodes_of r.number r.firm r.command) l (r ∷ []) ∙ ap (λ xs. nodes l ++ xs) (append-nil (made r))
+
+charged_alike : (g h : Record → Option Charge) (l : List Record) → All (λ d. g d ≡ h d) l → filter_map g l ≡ filter_map h l
+charged_alike g h [] all = refl
+charged_alike g h (d ∷ l) all =
+    ap (λ o. cons_option o (filter_map g l)) (All-head (λ d. g d ≡ h d) d l all)
+    ∙ ap (cons_option (h d)) (charged_alike g h l (All-tail (λ d. g d ≡ h d) d l all))
+
+-- ---- roots
+
+root_at : (l : List Record) (x : Node) (p : EntryPart) → node_of l x.name ≡ Some x → (xs : List Node) → (root_along xs ≡ Some p → (y : Node) × (node_of l p ≡ Some y)) → root_along (x ∷ xs) ≡ Some p → (y : Node) × (node_of l p ≡ Some y)
+root_at l x p found [] later h = (x, subst (λ (z : EntryPart). node_of l z ≡ Some x) (some_same x.name p h) found)
+root_at l x p found (y ∷ ys) later h = later h
+
+root_by : (f : ℕ) (l : List Record) (p : EntryPart) → ((m : EntryPart) (y : Node) → node_of l m ≡ Some y → root_along (line_within f l (Some y)) ≡ Some p → (z : Node) × (node_of l p ≡ Some z))
+    → (k : Option EntryPart) → (o : Option Node) → option_and_then (node_of l) k ≡ o → root_along (line_within f l o) ≡ Some p → (z : Node) × (node_of l p ≡ Some z)
+root_by f l p found k None e h = absurd (cc)
+root_by f l p found None (Some y) e h = absurd (cc)
+root_by f l p found (Some m) (Some y) e h = found m y e h
+
+-- the root of a node is a node of the list
+root_found : (f : ℕ) (l : List Record) (p m : EntryPart) (x : Node) → node_of l m ≡ Some x → root_along (line_within f l (Some x)) ≡ Some p → (z : Node) × (node_of l p ≡ Some z)
+root_found zero l p m x found h = absurd (cc)
+root_found (suc f) l p m x found h =
+    root_at l x p (at_name l m x found) (line_within f l (option_and_then (node_of l) (parent x.kind)))
+    (root_by f l p (root_found f l p) (parent x.kind) (option_and_then (node_of l) (parent x.kind)) refl) h
+
+-- ---- a change behind the others
+
+-- a front of a legal list, of which one change is left
+record IsBefore (t : House) (l : List Record) (r : Record) : Type 0 where
+  grown : Grown (l ++ r ∷ []) l
+  once : NumbersOnce (l ++ r ∷ [])
+  accepted : row t l r.firm r.command ≡ None
+
+module _ {t : House} {l : List Record} {r : Record} (b : IsBefore t l r) where
+  root_kept : (m : EntryPart) (x : Node) → node_of l m ≡ Some x → root_of (l ++ r ∷ []) m ≡ root_of l m
+  root_kept m x found = sym (ap root_along (line_of_grown (l ++ r ∷ []) l b.grown m x found))
+
+  -- the change isn't the trade of a node before it
+  other_trade : (p : EntryPart) (y : Node) → node_of l p ≡ Some y → (r.number == p.entry) ≡ false
+  other_trade p y found = false_unless (r.number == p.entry) (λ h.
+      let by = maker l p y found in
+      let own : p.entry ≡ by.change.number = made_number by.change p y by.makes_it in
+      let none = none_before (λ d. d.number == p.entry) l r [] (b.once p.entry) h in
+      let some = found_some (λ d. d.number == p.entry) l by.change by.among ((Decides-eqb by.change.number p.entry).1 (sym own)) (find (λ d. d.number == p.entry) l) refl in
+      none_is_some (find (λ d. d.number == p.entry) l) some.0 none some.1)
+
+  trade_kept : (instrument : List ℕ) (side : Side) (o : Option EntryPart) → ((p : EntryPart) → o ≡ Some p → (y : Node) × (node_of l p ≡ Some y))
+      → is_some (option_and_then (λ p. find (λ d. (d.number == p.entry) && is_trade_of instrument side d.command) (l ++ r ∷ [])) o)
+      ≡ is_some (option_and_then (λ p. find (λ d. (d.number == p.entry) && is_trade_of instrument side d.command) l) o)
+  trade_kept instrument side None there = refl
+  trade_kept instrument side (Some p) there =
+      let y = there p refl in
+      let q : Record → Bool = λ d. (d.number == p.entry) && is_trade_of instrument side d.command in
+      ap is_some (find-append q l (r ∷ [])
+      ∙ (ap (λ c. option_or (find q l) (cond (c && is_trade_of instrument side r.command) (Some r) None)) (other_trade p y.0 y.1)
+      ∙ or_none (find q l)))
+
+  trades_kept : (instrument : List ℕ) (side : Side) (m : EntryPart) (x : Node) → node_of l m ≡ Some x → trades_in (l ++ r ∷ []) instrument side m ≡ trades_in l instrument side m
+  trades_kept instrument side m x found =
+      ap (λ o. is_some (option_and_then (λ p. find (λ d. (d.number == p.entry) && is_trade_of instrument side d.command) (l ++ r ∷ [])) o)) (root_kept m x found)
+      ∙ trade_kept instrument side (root_of l m) (λ p h. root_found (length l) l p m x found (sym (ap (λ o. root_along (line_within (length l) l o)) found) ∙ h))
+
+  stands_kept : (at : Place) (m : EntryPart) (x : Node) → node_of l m ≡ Some x → decides m r.command ≡ false → stands_at (l ++ r ∷ []) at m ≡ stands_at l at m
+  stands_kept at m x found un =
+      let decision : decision_of (l ++ r ∷ []) m ≡ decision_of l m = decision_cut l (r ∷ []) m ∙ (ap (λ c. option_or (decision_of l m) (cond c (Some r) None)) un ∙ or_none (decision_of l m)) in
+      ap (λ p. unwrap_or (option_map (same_place at) p) false) (sym (place_same (l ++ r ∷ []) l m x b.grown found (sym decision)))
+
+  split_kept : (m : EntryPart) → splits m r.command ≡ false → split_of (l ++ r ∷ []) m ≡ split_of l m
+  split_kept m un = find-append (λ d. splits m d.command) l (r ∷ []) ∙ (ap (λ c. option_or (split_of l m) (cond c (Some r) None)) un ∙ or_none (split_of l m))
+
+  -- a node that the change doesn't name adds what it added
+  lots_kept : (at : Place) (instrument : List ℕ) (side : Side) (x y : Node) → node_of l x.name ≡ Some y → names x.name r.command ≡ false → lots_at (l ++ r ∷ []) at instrument side x ≡ lots_at l at instrument side x
+  lots_kept at instrument side x y found un =
+      let apart = neither (splits x.name r.command) (decides x.name r.command) un in
+      ap (λ s. cond (is_none s) (cond (stands_at (l ++ r ∷ []) at x.name && trades_in (l ++ r ∷ []) instrument side x.name) x.lots 0) 0) (split_kept x.name apart.0)
+      ∙ (ap (λ c. cond (is_none (split_of l x.name)) (cond (c && trades_in (l ++ r ∷ []) instrument side x.name) x.lots 0) 0) (stands_kept at x.name y found apart.1)
+      ∙ ap (λ c. cond (is_none (split_of l x.name)) (cond (stands_at l at x.name && c) x.lots 0) 0) (trades_kept instrument side x.name y found))
+
+  positions_moved : (at : Place) (instrument : List ℕ) (side : Side)
+      → position_of (l ++ r ∷ []) at.firm at.account instrument side + sum_by (lots_at l at instrument side) (named_by l r)
+      ≡ position_of l at.firm at.account instrument side + sum_by (lots_at (l ++ r ∷ []) at instrument side) (named_by l r)
+      + sum_by (lots_at (l ++ r ∷ []) at instrument side) (nodes_of r.number r.firm r.command)
+  positions_moved at instrument side =
+      let old = lots_at l at instrument side in
+      let new = lots_at (l ++ r ∷ []) at instrument side in
+      let p : Node → Bool = λ x. names x.name r.command in
+      let whole = position_is (l ++ r ∷ []) at instrument side in
+      let before = position_is l at instrument side in
+      let cut = ap (sum_by new) (nodes_push l r) ∙ sum_by-append new (nodes l) (made r) in
+      let olds = sum_filter old p (nodes l) in
+      let news = sum_filter new p (nodes l) in
+      let left = sum_plus new (λ x. cond (p x) (old x) 0) (nodes l) in
+      let right = sum_plus old (λ x. cond (p x) (new x) 0) (nodes l) in
+      let each = sum_agree_on (λ x. new x + cond (p x) (old x) 0) (λ x. old x + cond (p x) (new x) 0) (nodes l)
+      (All-weaker (Contains (nodes l)) (λ (x : Node). new x + cond (p x) (old x) 0 ≡ old x + cond (p x) (new x) 0)
+      (λ x among.
+      let y = found_some (λ z. same_name z.name x.name) (nodes l) x among (name_same x.name) (node_of l x.name) refl in
+      swapped (old x) (new x) (p x) (λ un. lots_kept at instrument side x y.0 y.1 un)) (nodes l) (All-contains_itself (nodes l))) in
+      omega (arith, whole, before, cut, olds, news, left, right, each)
+
+  charges_moved : charges t (l ++ r ∷ []) ≡ charges t l ++ cons_option (charge_of t l r.command) []
+  charges_moved =
+      let h : Record → Option Charge = λ d. charge_of t (l ++ r ∷ []) d.command in
+      let own : h r ≡ charge_of t l r.command = sym (charge_same t (l ++ r ∷ []) l b.grown.within r.command (accepted_there t l r.firm r.command b.accepted)) in
+      filter_map-append h l (r ∷ [])
+      ∙ (ap (λ cs. cs ++ cons_option (h r) []) (sym (charged_alike (λ d. charge_of t l d.command) h l
+      (All-weaker (NamesThere l) (λ (d : Record). charge_of t l d.command ≡ charge_of t (l ++ r ∷ []) d.command) (λ d there. charge_same t (l ++ r ∷ []) l b.grown.within d.command there) l b.grown.named)))
+      ∙ ap (λ o. charges t l ++ cons_option o []) own)
+
+pub moves_its_own : (t : House) (l : List Record) (r : Record) → NumbersOnce (l ++ r ∷ []) → first_refused t [] (l ++ r ∷ []) ≡ None → MovesItsOwn t l r
+moves_its_own t l r once none =
+    let here = none_refused (refusal_of t l r.firm r.command) r.number None (replay_rest t [] l (r ∷ []) none) in
+    let b : IsBefore t l r = record {
+      grown = (front_facts t (l ++ r ∷ []) l (r ∷ []) refl none).grown;
+      once = once;
+      accepted = (refusal_parts t l r.firm r.command here.0).1;
+    } in
+    record { positions = positions_moved b; charged = charges_moved b }

@@ -1,0 +1,263 @@
+-- A change that stands under none of those behind it can stand behind them all.
+use Rattle.std.proofs.Common.{◌≡◌, ℕ, Bool, true, false, ◌&&◌, ◌||◌, List, [], ◌∷◌, ◌++◌, refl, sym, ◌∙◌, ap, subst, cond, Option, Contains, All, append-nil, append_assoc, inl, inr}
+use Rattle.std.specs.Prelude.{Some, None, find, is_some, is_none, option_and_then}
+use Rattle.std.specs.Option.{option_or}
+use Rattle.std.specs.List.{list_any}
+use Rattle.std.proofs.lemmas.List.Elements.{All-head, All-tail}
+use Rattle.std.proofs.lemmas.List.Folds.{find-append, list_any_at}
+use Rattle.gu_base.specs.Numbers.{EntryPart}
+use Rattle.gu_base.specs.House.{House}
+use Rattle.gu_base.specs.Nodes.{node_of, nodes_of, decision_of, is_given, same_name, splits, decides}
+use Rattle.gu_base.specs.Refusals.{refusal_of, row}
+use Rattle.gu_base.specs.Standing.{first_refused}
+use Rattle.gu_base.specs.Orders.{is_ready, in_lawful_order, IsLawfulOrder}
+use Rattle.gu_base.specs.declared.command.Command.{Command}
+use Rattle.gu_base.specs.declared.command.Command.TheVariants.{Trade, Split, Claim, Refuse, Cancel, Initiate, Decline, Reverse}
+use Rattle.gu_base.specs.declared.entry.Record.{Record}
+use Rattle.gu_base.specs.declared.node.Kind.TheVariants.{Root}
+use Rattle.gu_base.specs.declared.node.Node.{Node}
+use Rattle.gu_base.specs.declared.refusal.Refusal.{Refusal}
+use Rattle.gu_base.proofs.Basics.{some_same, or_none}
+use Rattle.std.proofs.lemmas.Bool.{and_parts}
+use Rattle.gu_base.proofs.LegalLaws.{none_refused, replay_front}
+use Rattle.gu_depend.specs.Under.{names, is_under, stands_under}
+use Rattle.gu_depend.proofs.Finds.{no_some, found_in, find_passes, found_once}
+use Rattle.gu_depend.proofs.Names.{name_is, name_same, made_of, makes, node_by_maker, makers_once, node_cut, made_alone}
+use Rattle.gu_depend.proofs.Rows.{refusal_parts, splits_well, decides_well}
+use Rattle.gu_depend.proofs.NamedOnce.{NamedOnce, named_once}
+use Rattle.gu_depend.proofs.Grown.{Within}
+use Rattle.gu_depend.proofs.Settled.{free_decided, front_within, or_either}
+use Rattle.gu_depend.proofs.Replay.{NumbersOnce, order_replays}
+use Rattle.gu_depend.proofs.Cuts.{moved_to_end, stands_between}
+
+-- ---- a replay cut in two
+
+pub replay_rest : (t : House) (b xs ys : List Record) → first_refused t b (xs ++ ys) ≡ None → first_refused t (b ++ xs) ys ≡ None
+replay_rest t b [] ys h = subst (λ (z : List Record). first_refused t z ys ≡ None) (sym (append-nil b)) h
+replay_rest t b (r ∷ xs) ys h =
+    let p = none_refused (refusal_of t b r.firm r.command) r.number (first_refused t (b ++ r ∷ []) (xs ++ ys)) h in
+    subst (λ (z : List Record). first_refused t z ys ≡ None) (append_assoc b (r ∷ []) xs) (replay_rest t (b ++ r ∷ []) xs ys p.1)
+
+refused_here : (o : Option Refusal) (n : ℕ) (rest : Option ℕ) → (o ≡ None → ⊥) → cond (is_some o) (Some n) rest ≡ Some n
+refused_here None n rest refused = absurd (refused refl)
+refused_here (Some r) n rest refused = refl
+
+-- the first that is refused behind some that aren't
+pub replay_stops : (t : House) (b xs : List Record) (e : Record) (ys : List Record) → first_refused t b xs ≡ None → (refusal_of t (b ++ xs) e.firm e.command ≡ None → ⊥)
+    → first_refused t b (xs ++ e ∷ ys) ≡ Some e.number
+replay_stops t b [] e ys h refused =
+    refused_here (refusal_of t b e.firm e.command) e.number (first_refused t (b ++ e ∷ []) ys)
+    (subst (λ (z : List Record). refusal_of t z e.firm e.command ≡ None → ⊥) (append-nil b) refused)
+replay_stops t b (r ∷ xs) e ys h refused =
+    let p = none_refused (refusal_of t b r.firm r.command) r.number (first_refused t (b ++ r ∷ []) xs) h in
+    ap (λ o. cond (is_some o) (Some r.number) (first_refused t (b ++ r ∷ []) (xs ++ e ∷ ys))) p.0
+    ∙ replay_stops t (b ++ r ∷ []) xs e ys p.1 (subst (λ (z : List Record). refusal_of t z e.firm e.command ≡ None → ⊥) (sym (append_assoc b (r ∷ []) xs)) refused)
+
+-- ---- a change that another doesn't stand under
+
+-- the first change makes none of the nodes that the command names, and decides none that it splits
+pub record Apart (k : Record) (c : Command) : Type 0 where
+  pub unmade : (n : EntryPart) → names n c ≡ true → made_of k n ≡ None
+  pub undecided : (n : EntryPart) → splits n c ≡ true → decides n k.command ≡ false
+
+pub false_unless : (b : Bool) → (b ≡ true → ⊥) → b ≡ false
+false_unless true absent = absurd (absent refl)
+false_unless false absent = refl
+
+pub not_both : (b : Bool) → b ≡ true → b ≡ false → ⊥
+not_both b h e = cc
+
+other_name : (m n : EntryPart) (c : Command) → splits m c ≡ false → splits n c ≡ true → same_name m n ≡ false
+other_name m n c un is = false_unless (same_name m n) (λ same. not_both (splits m c) (subst (λ (z : EntryPart). splits z c ≡ true) (sym (name_is m n same)) is) un)
+
+undecided_by : (k : ℕ) (by : List ℕ) (d c : Command) (n : EntryPart) → is_under k by d c ≡ false → splits n c ≡ true → decides n d ≡ false
+undecided_by k by (Claim m account) c n un is = other_name m n c un is
+undecided_by k by (Refuse m) c n un is = other_name m n c un is
+undecided_by k by (Cancel m) c n un is = other_name m n c un is
+undecided_by k by (Trade _ _ _ _ _) c n un is = refl
+undecided_by k by (Split _ _) c n un is = refl
+undecided_by k by (Initiate _) c n un is = refl
+undecided_by k by (Decline _) c n un is = refl
+undecided_by k by (Reverse _) c n un is = refl
+
+-- a root is neither split by the command nor decided
+no_root : (p : EntryPart) (c : Command) (n : EntryPart) (root : Node) → splits p c ≡ false → names n c ≡ true → (b : Bool) → same_name p n ≡ b
+    → (b ≡ true → decides n c ≡ true → false ≡ true) → cond b (Some root) None ≡ None
+no_root p c n root un is true same given = elim (or_either (splits n c) (decides n c) is) [
+  | inl split ↦ absurd (not_both (splits p c) (subst (λ (z : EntryPart). splits z c ≡ true) (sym (name_is p n same)) split) un)
+  | inr decided ↦ (let wrong : false ≡ true = given refl decided in absurd (cc))
+]
+no_root p c n root un is false same given = refl
+
+-- an element that passes is one of them
+pub any_in : {X : Type 0} (p : X → Bool) (xs : List X) (x : X) → Contains xs x → p x ≡ true → list_any p xs ≡ true
+any_in p xs x among passes = list_any_at p xs among.0 x among.1 (ap p among.2 ∙ passes)
+
+unmade_by : (k : ℕ) (by : List ℕ) (d c : Command) (n : EntryPart) → is_under k by d c ≡ false → names n c ≡ true
+    → ((x : Node) → find (λ x. same_name x.name n) (nodes_of k by d) ≡ Some x → decides n c ≡ true → is_given x.kind ≡ true)
+    → find (λ x. same_name x.name n) (nodes_of k by d) ≡ None
+unmade_by k by (Trade firm account instrument side lots) c n un is given =
+    let p : EntryPart = record { entry = k; part = 0 } in
+    let root : Node = record { name = p; lots = lots; kind = Root (record { firm = firm; account = account }) } in
+    no_root p c n root un is (same_name p n) refl (λ here decided. given root (ap (λ b. cond b (Some root) None) here) decided)
+unmade_by k by (Split m ps) c n un is given =
+    no_some (find (λ x. same_name x.name n) (nodes_of k by (Split m ps))) (λ x found.
+    let called = name_is x.name n (find_passes (λ x. same_name x.name n) (nodes_of k by (Split m ps)) x found) in
+    not_both (list_any (λ x. names x.name c) (nodes_of k by (Split m ps)))
+    (any_in (λ x. names x.name c) (nodes_of k by (Split m ps)) x (found_in (λ x. same_name x.name n) (nodes_of k by (Split m ps)) x found) (ap (λ z. names z c) called ∙ is)) un)
+unmade_by k by (Claim _ _) c n un is given = refl
+unmade_by k by (Refuse _) c n un is given = refl
+unmade_by k by (Cancel _) c n un is given = refl
+unmade_by k by (Initiate _) c n un is given = refl
+unmade_by k by (Decline _) c n un is given = refl
+unmade_by k by (Reverse _) c n un is given = refl
+
+-- the node that a change makes is that of its name
+pub node_of_maker : (l : List Record) (k : Record) (n : EntryPart) (x : Node) → NumbersOnce l → Contains l k → made_of k n ≡ Some x → node_of l n ≡ Some x
+node_of_maker l k n x once among h =
+    node_by_maker l n ∙ (ap (option_and_then (λ r. made_of r n)) (found_once (makes n) l k among (ap is_some h) (makers_once l n (once n.entry))) ∙ h)
+
+apart : (t : House) (l b : List Record) (k e : Record) → NumbersOnce l → Contains l k → Within l b → row t b e.firm e.command ≡ None → stands_under k e ≡ false → Apart k e.command
+apart t l b k e once among w h un = record {
+  unmade = λ n is. unmade_by k.number k.firm k.command e.command n un is (λ x found decided.
+      let d = decides_well t b e.firm e.command n h decided in
+      let one : d.node ≡ x = some_same d.node x (sym (w.nodes n d.node d.there) ∙ node_of_maker l k n x once among found) in
+      subst (λ (z : Node). is_given z.kind ≡ true) one d.given);
+  undecided = λ n is. undecided_by k.number k.firm k.command e.command n un is;
+}
+
+-- ---- readiness
+
+either : (o : Option Record) → (is_none o || is_some o) ≡ true
+either None = refl
+either (Some r) = refl
+
+either_same : (o p : Option Record) → o ≡ p → (is_none p || is_some o) ≡ true
+either_same o p e = ap (λ z. is_none z || is_some o) (sym e) ∙ either o
+
+both_true : (a b : Bool) → a ≡ true → b ≡ true → (a && b) ≡ true
+both_true a b e f = ap (λ z. z && b) e ∙ f
+
+accepted_ready : (t : House) (l b : List Record) (by : List ℕ) (c : Command) → NamedOnce l → Within l b → row t b by c ≡ None → is_ready l b c ≡ true
+accepted_ready t l b by (Split n ps) s w h =
+    let y = splits_well t b by (Split n ps) n h (name_same n) in
+    both_true (is_some (node_of b n)) (is_none (decision_of l n) || is_some (decision_of b n)) (ap is_some y.there)
+    (either_same (decision_of b n) (decision_of l n) (free_decided l b n y.node s w y.there y.free))
+accepted_ready t l b by (Claim n account) s w h = ap is_some (decides_well t b by (Claim n account) n h (name_same n)).there
+accepted_ready t l b by (Refuse n) s w h = ap is_some (decides_well t b by (Refuse n) n h (name_same n)).there
+accepted_ready t l b by (Cancel n) s w h = ap is_some (decides_well t b by (Cancel n) n h (name_same n)).there
+accepted_ready t l b by (Trade _ _ _ _ _) s w h = refl
+accepted_ready t l b by (Initiate _) s w h = refl
+accepted_ready t l b by (Decline _) s w h = refl
+accepted_ready t l b by (Reverse _) s w h = refl
+
+-- the second list is the first without a change
+pub record HasOneLess (k : Record) (x y : List Record) : Type 0 where
+  pub nodes_same : (n : EntryPart) → made_of k n ≡ None → node_of x n ≡ node_of y n
+  pub decisions_same : (n : EntryPart) → decides n k.command ≡ false → decision_of x n ≡ decision_of y n
+
+pub decision_cut : (x y : List Record) (n : EntryPart) → decision_of (x ++ y) n ≡ option_or (decision_of x n) (decision_of y n)
+decision_cut x y n = find-append (λ r. decides n r.command) x y
+
+one_less_start : (k : Record) (p : List Record) → HasOneLess k (p ++ k ∷ []) p
+one_less_start k p = record {
+  nodes_same = λ n none.
+      let alone : node_of (k ∷ []) n ≡ None = sym (made_alone k n) ∙ none in
+      node_cut p (k ∷ []) n ∙ (ap (option_or (node_of p n)) alone ∙ or_none (node_of p n));
+  decisions_same = λ n none. decision_cut p (k ∷ []) n ∙ (ap (λ b. option_or (decision_of p n) (cond b (Some k) None)) none ∙ or_none (decision_of p n));
+}
+
+one_less_push : (k : Record) (x y z : List Record) → HasOneLess k x y → HasOneLess k (x ++ z) (y ++ z)
+one_less_push k x y z s = record {
+  nodes_same = λ n none. node_cut x z n ∙ (ap (λ o. option_or o (node_of z n)) (s.nodes_same n none) ∙ sym (node_cut y z n));
+  decisions_same = λ n none. decision_cut x z n ∙ (ap (λ o. option_or o (decision_of z n)) (s.decisions_same n none) ∙ sym (decision_cut y z n));
+}
+
+ready_with_one_less : (l x y : List Record) (k : Record) (c : Command) → HasOneLess k x y → Apart k c → is_ready l x c ≡ true → is_ready l y c ≡ true
+ready_with_one_less l x y k (Split n ps) s a h =
+    ap (λ o. is_some o && (is_none (decision_of l n) || is_some (decision_of y n))) (sym (s.nodes_same n (a.unmade n (ap (λ b. b || false) (name_same n)))))
+    ∙ (ap (λ d. is_some (node_of x n) && (is_none (decision_of l n) || is_some d)) (sym (s.decisions_same n (a.undecided n (name_same n)))) ∙ h)
+ready_with_one_less l x y k (Claim n account) s a h = ap is_some (sym (s.nodes_same n (a.unmade n (name_same n)))) ∙ h
+ready_with_one_less l x y k (Refuse n) s a h = ap is_some (sym (s.nodes_same n (a.unmade n (name_same n)))) ∙ h
+ready_with_one_less l x y k (Cancel n) s a h = ap is_some (sym (s.nodes_same n (a.unmade n (name_same n)))) ∙ h
+ready_with_one_less l x y k (Trade _ _ _ _ _) s a h = refl
+ready_with_one_less l x y k (Initiate _) s a h = refl
+ready_with_one_less l x y k (Decline _) s a h = refl
+ready_with_one_less l x y k (Reverse _) s a h = refl
+
+some_more : {A : Type 0} (o p : Option A) → is_some o ≡ true → is_some (option_or o p) ≡ true
+some_more None p h = absurd (cc)
+some_more (Some a) p h = refl
+
+or_more : (a b c : Bool) → (b ≡ true → c ≡ true) → (a || b) ≡ true → (a || c) ≡ true
+or_more true b c more h = refl
+or_more false b c more h = more h
+
+node_more_is : (b z : List Record) (n : EntryPart) → is_some (node_of b n) ≡ true → is_some (node_of (b ++ z) n) ≡ true
+node_more_is b z n h = ap is_some (node_cut b z n) ∙ some_more (node_of b n) (node_of z n) h
+
+decision_more_is : (b z : List Record) (n : EntryPart) → is_some (decision_of b n) ≡ true → is_some (decision_of (b ++ z) n) ≡ true
+decision_more_is b z n h = ap is_some (decision_cut b z n) ∙ some_more (decision_of b n) (decision_of z n) h
+
+-- a change that is ready stays so behind more changes
+ready_more : (l b z : List Record) (c : Command) → is_ready l b c ≡ true → is_ready l (b ++ z) c ≡ true
+ready_more l b z (Split n ps) h =
+    let p = and_parts (is_some (node_of b n)) (is_none (decision_of l n) || is_some (decision_of b n)) h in
+    both_true (is_some (node_of (b ++ z) n)) (is_none (decision_of l n) || is_some (decision_of (b ++ z) n)) (node_more_is b z n p.0)
+    (or_more (is_none (decision_of l n)) (is_some (decision_of b n)) (is_some (decision_of (b ++ z) n)) (decision_more_is b z n) p.1)
+ready_more l b z (Claim n account) h = node_more_is b z n h
+ready_more l b z (Refuse n) h = node_more_is b z n h
+ready_more l b z (Cancel n) h = node_more_is b z n h
+ready_more l b z (Trade _ _ _ _ _) h = refl
+ready_more l b z (Initiate _) h = refl
+ready_more l b z (Decline _) h = refl
+ready_more l b z (Reverse _) h = refl
+
+-- ---- the order in which the change stands last
+
+order_front : (t : House) (l b front rest tail : List Record) → NamedOnce l → l ≡ b ++ (front ++ rest) → first_refused t b (front ++ rest) ≡ None
+    → in_lawful_order l (b ++ front) tail ≡ true → in_lawful_order l b (front ++ tail) ≡ true
+order_front t l b [] rest tail s e none last = subst (λ (z : List Record). in_lawful_order l z tail ≡ true) (append-nil b) last
+order_front t l b (r ∷ front) rest tail s e none last =
+    let p = none_refused (refusal_of t b r.firm r.command) r.number (first_refused t (b ++ r ∷ []) (front ++ rest)) none in
+    let row_none = (refusal_parts t b r.firm r.command p.0).1 in
+    let cut : l ≡ (b ++ r ∷ []) ++ (front ++ rest) = e ∙ sym (append_assoc b (r ∷ []) (front ++ rest)) in
+    both_true (is_ready l b r.command) (in_lawful_order l (b ++ r ∷ []) (front ++ tail))
+    (accepted_ready t l b r.firm r.command s (front_within l b (r ∷ (front ++ rest)) e) row_none)
+    (order_front t l (b ++ r ∷ []) front rest tail s cut p.1 (subst (λ (z : List Record). in_lawful_order l z tail ≡ true) (sym (append_assoc b (r ∷ []) front)) last))
+
+order_beside : (t : House) (l x y s tail : List Record) (k : Record) → NumbersOnce l → Contains l k → NamedOnce l → HasOneLess k x y → l ≡ x ++ s → first_refused t x s ≡ None
+    → All (λ e. stands_under k e ≡ false) s → in_lawful_order l (y ++ s) tail ≡ true → in_lawful_order l y (s ++ tail) ≡ true
+order_beside t l x y [] tail k once among sn beside e none un last = subst (λ (z : List Record). in_lawful_order l z tail ≡ true) (append-nil y) last
+order_beside t l x y (r ∷ s) tail k once among sn beside e none un last =
+    let p = none_refused (refusal_of t x r.firm r.command) r.number (first_refused t (x ++ r ∷ []) s) none in
+    let row_none = (refusal_parts t x r.firm r.command p.0).1 in
+    let w = front_within l x (r ∷ s) e in
+    let cut : l ≡ (x ++ r ∷ []) ++ s = e ∙ sym (append_assoc x (r ∷ []) s) in
+    let away = apart t l x k r once among w row_none (All-head (λ e. stands_under k e ≡ false) r s un) in
+    both_true (is_ready l y r.command) (in_lawful_order l (y ++ r ∷ []) (s ++ tail))
+    (ready_with_one_less l x y k r.command beside away (accepted_ready t l x r.firm r.command sn w row_none))
+    (order_beside t l (x ++ r ∷ []) (y ++ r ∷ []) s tail k once among sn (one_less_push k x y (r ∷ []) beside) cut p.1 (All-tail (λ e. stands_under k e ≡ false) r s un)
+    (subst (λ (z : List Record). in_lawful_order l z tail ≡ true) (sym (append_assoc y (r ∷ []) s)) last))
+
+-- the change moved behind those that it doesn't stand under
+pub moved_lawful : (t : House) (p : List Record) (k : Record) (s : List Record) → NumbersOnce (p ++ k ∷ s) → first_refused t [] (p ++ k ∷ s) ≡ None
+    → All (λ e. stands_under k e ≡ false) s → IsLawfulOrder (p ++ k ∷ s) ((p ++ s) ++ k ∷ [])
+moved_lawful t p k s once none un =
+    let l : List Record = p ++ k ∷ s in
+    let sn = named_once t l none in
+    let here = none_refused (refusal_of t p k.firm k.command) k.number (first_refused t (p ++ k ∷ []) s) (replay_rest t [] p (k ∷ s) none) in
+    let ready = accepted_ready t l p k.firm k.command sn (front_within l p (k ∷ s) refl) (refusal_parts t p k.firm k.command here.0).1 in
+    let last : in_lawful_order l (p ++ s) (k ∷ []) ≡ true = both_true (is_ready l (p ++ s) k.command) true (ready_more l p s k.command ready) refl in
+    let behind = order_beside t l (p ++ k ∷ []) p s (k ∷ []) k once (stands_between p k s) sn (one_less_start k p) (sym (append_assoc p (k ∷ []) s)) here.1 un last in
+    let all = order_front t l [] p (k ∷ s) (s ++ k ∷ []) sn refl none behind in
+    record {
+      same = moved_to_end p k s;
+      after_its_node = subst (λ (z : List Record). in_lawful_order l [] z ≡ true) (sym (append_assoc p s (k ∷ []))) all;
+    }
+
+-- without a change that stands under none of those behind it, none of them is refused
+pub replays_without : (t : House) (p : List Record) (k : Record) (s : List Record) → NumbersOnce (p ++ k ∷ s) → first_refused t [] (p ++ k ∷ s) ≡ None
+    → All (λ e. stands_under k e ≡ false) s → first_refused t [] (p ++ s) ≡ None
+replays_without t p k s once none un =
+    replay_front t [] (p ++ s) (k ∷ []) (order_replays t (p ++ k ∷ s) ((p ++ s) ++ k ∷ []) once none (moved_lawful t p k s once none un))

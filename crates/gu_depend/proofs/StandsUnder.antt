@@ -1,0 +1,276 @@
+-- The first change that would be refused without another is the first that the other stands under.
+use Rattle.std.proofs.Common.{◌≡◌, ℕ, zero, suc, ◌+◌, ◌<◌, ◌≤◌, Bool, true, false, not, ◌&&◌, ◌||◌, List, [], ◌∷◌, ◌++◌, length, get_or, refl, sym, ◌∙◌, ap, subst, arith, cond, Option, Contains, append_assoc, map}
+use Rattle.std.specs.Prelude.{Some, None, find, count_by, is_some, is_none, option_and_then, option_map, ◌==◌}
+use Rattle.std.specs.Option.{option_or}
+use Rattle.std.specs.List.{list_any, AllByRecursion, IsDistinct}
+use Rattle.std.proofs.lemmas.Bool.Decides.{Decides-eqb}
+use Rattle.std.proofs.lemmas.List.Elements.{All-contains}
+use Rattle.std.proofs.lemmas.List.Folds.{find-append}
+use Rattle.std.proofs.lemmas.Map.Keys.{IsDistinct-cons}
+use Rattle.gu_base.specs.Numbers.{EntryPart}
+use Rattle.gu_base.specs.House.{House}
+use Rattle.gu_base.specs.Nodes.{node_of, nodes_of, decision_of, is_given, same_name, splits, decides}
+use Rattle.gu_base.specs.Refusals.{refusal_of}
+use Rattle.gu_base.specs.Standing.{first_refused, without, standing_on}
+use Rattle.gu_base.specs.Orders.{IsLawfulOrder}
+use Rattle.gu_base.specs.declared.command.Command.{Command}
+use Rattle.gu_base.specs.declared.command.Command.TheVariants.{Trade, Split, Claim, Refuse, Cancel, Initiate, Decline, Reverse}
+use Rattle.gu_base.specs.declared.entry.Record.{Record}
+use Rattle.gu_base.specs.declared.node.Kind.TheVariants.{Root}
+use Rattle.gu_base.specs.declared.node.Node.{Node}
+use Rattle.gu_base.proofs.Basics.{some_same}
+use Rattle.gu_base.proofs.LegalLaws.{none_refused, replay_front}
+use Rattle.gu_depend.specs.Same.{HasDistinctNumbers}
+use Rattle.gu_depend.specs.Under.{names, is_under, stands_under, first_under, RisesFrom, IsLeastUnder}
+use Rattle.gu_depend.proofs.Finds.{none_counts, counts_in, none_is_some, no_some, found_in, find_passes, found_once, none_before, count_append, count_permuted}
+use Rattle.gu_depend.proofs.Names.{name_same, node_called, made_of, makes, node_by_maker, makers_once}
+use Rattle.gu_depend.proofs.Rows.{refusal_parts, splits_well}
+use Rattle.gu_depend.proofs.NamedOnce.{named_once}
+use Rattle.gu_depend.proofs.Grown.{NamesThere, SplitsDecided}
+use Rattle.gu_depend.proofs.Settled.{accepted_there, front_facts}
+use Rattle.gu_depend.proofs.Replay.{NumbersOnce, number_once, same_finds, order_within}
+use Rattle.gu_depend.proofs.Cuts.{cut_at, stands_between, first_cut, none_passes, filter_one, moved_to_end}
+use Rattle.gu_depend.proofs.StandsLast.{replay_rest, replay_stops, false_unless, not_both, replays_without, moved_lawful}
+
+-- ---- what a change stands under
+
+-- the command names a node that the change makes, or splits one that it decides
+data Under (k : ℕ) (by : List ℕ) (d c : Command) : Type 0 where
+  part : (n : EntryPart) (x : Node) → names n c ≡ true → find (λ x. same_name x.name n) (nodes_of k by d) ≡ Some x → Under k by d c
+  decided : (n : EntryPart) → splits n c ≡ true → decides n d ≡ true → Under k by d c
+
+-- one that passes is found
+pub found_some : {X : Type 0} (p : X → Bool) (xs : List X) (x : X) → Contains xs x → p x ≡ true → (o : Option X) → find p xs ≡ o → (y : X) × (find p xs ≡ Some y)
+found_some p xs x among passes None e =
+    let a = none_counts p xs e in
+    let b = counts_in p xs x among passes in
+    absurd (omega (arith, a, b))
+found_some p xs x among passes (Some y) e = (y, e)
+
+-- one passes where some pass
+any_found_at : {X : Type 0} (p : X → Bool) (y : X) (ys : List X) → (list_any p ys ≡ true → (x : X) × (find p ys ≡ Some x)) → (b : Bool) → (b || list_any p ys) ≡ true → (x : X) × (cond b (Some y) (find p ys) ≡ Some x)
+any_found_at p y ys later true h = (y, refl)
+any_found_at p y ys later false h = later h
+
+pub any_found : {X : Type 0} (p : X → Bool) (xs : List X) → list_any p xs ≡ true → (x : X) × (find p xs ≡ Some x)
+any_found p [] h = absurd (cc)
+any_found p (y ∷ ys) h = any_found_at p y ys (any_found p ys) (p y) h
+
+under_is : (k : ℕ) (by : List ℕ) (d c : Command) → is_under k by d c ≡ true → Under k by d c
+under_is k by (Trade firm account instrument side lots) c h =
+    let p : EntryPart = record { entry = k; part = 0 } in
+    let root : Node = record { name = p; lots = lots; kind = Root (record { firm = firm; account = account }) } in
+    part p root (ap (λ b. b || decides p c) h) (ap (λ b. cond b (Some root) None) (name_same p))
+under_is k by (Split m ps) c h =
+    let x = any_found (λ x. names x.name c) (nodes_of k by (Split m ps)) h in
+    let among = found_in (λ x. names x.name c) (nodes_of k by (Split m ps)) x.0 x.1 in
+    let y = found_some (λ z. same_name z.name x.0.name) (nodes_of k by (Split m ps)) x.0 among (name_same x.0.name) (find (λ z. same_name z.name x.0.name) (nodes_of k by (Split m ps))) refl in
+    part x.0.name y.0 (find_passes (λ x. names x.name c) (nodes_of k by (Split m ps)) x.0 x.1) y.1
+under_is k by (Claim m account) c h = decided m h (name_same m)
+under_is k by (Refuse m) c h = decided m h (name_same m)
+under_is k by (Cancel m) c h = decided m h (name_same m)
+under_is k by (Initiate _) c h = absurd (cc)
+under_is k by (Decline _) c h = absurd (cc)
+under_is k by (Reverse _) c h = absurd (cc)
+
+no_split_decides : (n : EntryPart) (c : Command) → splits n c ≡ true → decides n c ≡ true → ⊥
+no_split_decides n (Split _ _) a b = absurd (cc)
+no_split_decides n (Trade _ _ _ _ _) a b = absurd (cc)
+no_split_decides n (Claim _ _) a b = absurd (cc)
+no_split_decides n (Refuse _) a b = absurd (cc)
+no_split_decides n (Cancel _) a b = absurd (cc)
+no_split_decides n (Initiate _) a b = absurd (cc)
+no_split_decides n (Decline _) a b = absurd (cc)
+no_split_decides n (Reverse _) a b = absurd (cc)
+
+-- ---- a list in which what the change made and decided is missing
+
+record Missing (k : Record) (y : List Record) : Type 0 where
+  nodes_gone : (n : EntryPart) (x : Node) → made_of k n ≡ Some x → node_of y n ≡ None
+  decisions_gone : (n : EntryPart) → decides n k.command ≡ true → decision_of y n ≡ None
+
+missing_before : (y : List Record) (k : Record) (rest : List Record) → NumbersOnce (y ++ k ∷ rest) → ((n : EntryPart) → count_by (λ r. decides n r.command) (y ++ k ∷ rest) ≤ 1) → Missing k y
+missing_before y k rest once alone = record {
+  nodes_gone = λ n x h. node_by_maker y n ∙ ap (option_and_then (λ r. made_of r n)) (none_before (makes n) y k rest (makers_once (y ++ k ∷ rest) n (once n.entry)) (ap is_some h));
+  decisions_gone = λ n h. none_before (λ r. decides n r.command) y k rest (alone n) h;
+}
+
+-- ---- no change stands under one before it, or under itself
+
+above_none : (t : House) (p : List Record) (k : Record) (s : List Record) → NumbersOnce (p ++ k ∷ s) → first_refused t [] (p ++ k ∷ s) ≡ None
+    → (e : Record) → Contains p e → Under k.number k.firm k.command e.command → ⊥
+above_none t p k s once none e among (part n x is h) =
+    let f = front_facts t (p ++ k ∷ s) p (k ∷ s) refl none in
+    let m = missing_before p k s once (named_once t (p ++ k ∷ s) none).decisions_once in
+    let y = All-contains (NamesThere p) p e f.grown.named among n is in
+    none_is_some (node_of p n) y.0 (m.nodes_gone n x h) y.1
+above_none t p k s once none e among (decided n split h) =
+    let f = front_facts t (p ++ k ∷ s) p (k ∷ s) refl none in
+    let sn = named_once t (p ++ k ∷ s) none in
+    let m = missing_before p k s once sn.decisions_once in
+    let same = All-contains (SplitsDecided (p ++ k ∷ s) p) p e f.grown.decided among n split in
+    none_is_some (decision_of p n) k (m.decisions_gone n h) (same ∙ found_once (λ r. decides n r.command) (p ++ k ∷ s) k (stands_between p k s) h (sn.decisions_once n))
+
+itself_none : (t : House) (p : List Record) (k : Record) (s : List Record) → NumbersOnce (p ++ k ∷ s) → first_refused t [] (p ++ k ∷ s) ≡ None
+    → Under k.number k.firm k.command k.command → ⊥
+itself_none t p k s once none (part n x is h) =
+    let m = missing_before p k s once (named_once t (p ++ k ∷ s) none).decisions_once in
+    let here = none_refused (refusal_of t p k.firm k.command) k.number (first_refused t (p ++ k ∷ []) s) (replay_rest t [] p (k ∷ s) none) in
+    let y = accepted_there t p k.firm k.command (refusal_parts t p k.firm k.command here.0).1 n is in
+    none_is_some (node_of p n) y.0 (m.nodes_gone n x h) y.1
+itself_none t p k s once none (decided n split h) = no_split_decides n k.command split h
+
+not_under : (k e : Record) → (Under k.number k.firm k.command e.command → ⊥) → stands_under k e ≡ false
+not_under k e absent = false_unless (stands_under k e) (λ h. absent (under_is k.number k.firm k.command e.command h))
+
+-- so the first that it stands under is behind it
+found_behind : (t : House) (p : List Record) (k : Record) (s : List Record) → NumbersOnce (p ++ k ∷ s) → first_refused t [] (p ++ k ∷ s) ≡ None
+    → find (stands_under k) (p ++ k ∷ s) ≡ find (stands_under k) s
+found_behind t p k s once none =
+    let before = no_some (find (stands_under k) p) (λ e h. above_none t p k s once none e (found_in (stands_under k) p e h) (under_is k.number k.firm k.command e.command (find_passes (stands_under k) p e h))) in
+    let itself = not_under k k (itself_none t p k s once none) in
+    find-append (stands_under k) p (k ∷ s)
+    ∙ (ap (λ o. option_or o (find (stands_under k) (k ∷ s))) before
+    ∙ ap (λ b. cond b (Some k) (find (stands_under k) s)) itself)
+
+-- ---- a change that it stands under is refused without it
+
+offered_again : (g : Bool) → g ≡ true → not (g && true) ≡ true → ⊥
+offered_again g e h = cc
+
+refused_under : (t : House) (p : List Record) (k : Record) (s : List Record) → NumbersOnce (p ++ k ∷ s) → first_refused t [] (p ++ k ∷ s) ≡ None
+    → (by : List ℕ) (c : Command) → Under k.number k.firm k.command c → refusal_of t (p ++ s) by c ≡ None → ⊥
+refused_under t p k s once none by c (part n x is h) accepted =
+    let l : List Record = p ++ k ∷ s in
+    let same = moved_to_end p k s in
+    let sn = named_once t l none in
+    let m = missing_before (p ++ s) k [] (λ n. omega (arith, count_permuted (λ r. r.number == n) l ((p ++ s) ++ k ∷ []) same, once n))
+    (λ n. omega (arith, count_permuted (λ r. decides n r.command) l ((p ++ s) ++ k ∷ []) same, sn.decisions_once n)) in
+    let y = accepted_there t (p ++ s) by c (refusal_parts t (p ++ s) by c accepted).1 n is in
+    none_is_some (node_of (p ++ s) n) y.0 (m.nodes_gone n x h) y.1
+refused_under t p k s once none by c (decided n split h) accepted =
+    let l : List Record = p ++ k ∷ s in
+    let same = moved_to_end p k s in
+    let sn = named_once t l none in
+    let m = missing_before (p ++ s) k [] (λ n. omega (arith, count_permuted (λ r. r.number == n) l ((p ++ s) ++ k ∷ []) same, once n))
+    (λ n. omega (arith, count_permuted (λ r. decides n r.command) l ((p ++ s) ++ k ∷ []) same, sn.decisions_once n)) in
+    let w = order_within l ((p ++ s) ++ k ∷ []) (p ++ s) (k ∷ []) (same_finds l ((p ++ s) ++ k ∷ []) same once sn) refl in
+    let y = splits_well t (p ++ s) by c n (refusal_parts t (p ++ s) by c accepted).1 split in
+    let x = sn.given n k (found_once (λ r. decides n r.command) l k (stands_between p k s) h (sn.decisions_once n)) in
+    let one : x.0 ≡ y.node = some_same x.0 y.node (sym x.1.0 ∙ w.nodes n y.node y.there) in
+    let given : is_given y.node.kind ≡ true = subst (λ (z : Node). is_given z.kind ≡ true) one x.1.1 in
+    let none_there : decision_of (p ++ s) y.node.name ≡ None = ap (decision_of (p ++ s)) (node_called (p ++ s) n y.node y.there) ∙ m.decisions_gone n h in
+    offered_again (is_given y.node.kind) given (sym (ap (λ o. not (is_given y.node.kind && is_none o)) none_there) ∙ y.free)
+
+-- ---- the law
+
+numbers_front : (xs ys : List Record) → NumbersOnce (xs ++ ys) → NumbersOnce xs
+numbers_front xs ys once n = omega (arith, count_append (λ r. r.number == n) xs ys, once n)
+
+standing_by : (t : House) (p : List Record) (k : Record) (s : List Record) → NumbersOnce (p ++ k ∷ s) → first_refused t [] (p ++ k ∷ s) ≡ None
+    → (o : Option Record) → find (stands_under k) s ≡ o → first_refused t [] (p ++ s) ≡ option_map (λ e. e.number) o
+standing_by t p k s once none None found = replays_without t p k s once none (none_passes (stands_under k) s found)
+standing_by t p k s once none (Some e) found =
+    let c = first_cut (stands_under k) s e found in
+    let whole : p ++ k ∷ s ≡ (p ++ k ∷ c.before) ++ e ∷ c.behind = ap (λ z. p ++ k ∷ z) c.is ∙ sym (append_assoc p (k ∷ c.before) (e ∷ c.behind)) in
+    let once_front = numbers_front (p ++ k ∷ c.before) (e ∷ c.behind) (subst NumbersOnce whole once) in
+    let none_front = replay_front t [] (p ++ k ∷ c.before) (e ∷ c.behind) (subst (λ (z : List Record). first_refused t [] z ≡ None) whole none) in
+    let under = under_is k.number k.firm k.command e.command c.passes in
+    let stops = replay_stops t [] (p ++ c.before) e c.behind (replays_without t p k c.before once_front none_front c.none)
+    (refused_under t p k c.before once_front none_front e.firm e.command under) in
+    let cut : p ++ s ≡ (p ++ c.before) ++ e ∷ c.behind = ap (λ z. p ++ z) c.is ∙ sym (append_assoc p c.before (e ∷ c.behind)) in
+    ap (first_refused t []) cut ∙ stops
+
+standing_cut : (t : House) (p : List Record) (k : Record) (s : List Record) → NumbersOnce (p ++ k ∷ s) → first_refused t [] (p ++ k ∷ s) ≡ None
+    → standing_on t (p ++ k ∷ s) k.number ≡ first_under (p ++ k ∷ s) k
+standing_cut t p k s once none =
+    ap (first_refused t []) (filter_one (λ r. r.number == k.number) p k s ((Decides-eqb k.number k.number).1 refl) (once k.number))
+    ∙ (standing_by t p k s once none (find (stands_under k) s) refl
+    ∙ sym (ap (option_map (λ e. e.number)) (found_behind t p k s once none)))
+
+pub standing_is_first : (t : House) (l : List Record) (k : Record) → NumbersOnce l → first_refused t [] l ≡ None → Contains l k → standing_on t l k.number ≡ first_under l k
+standing_is_first t l k once none among =
+    let c = cut_at l k among in
+    subst (λ (z : List Record). standing_on t z k.number ≡ first_under z k) (sym c.is)
+    (standing_cut t c.before k c.behind (subst NumbersOnce c.is once) (subst (λ (z : List Record). first_refused t [] z ≡ None) c.is none))
+
+-- ---- in the order of the numbers
+
+rises_above : (n : ℕ) (l : List Record) → RisesFrom n l → (i : ℕ) (d : Record) → i < length l → n ≤ (get_or l i d).number
+rises_above n [] rises i d within = absurd (omega arith)
+rises_above n (r ∷ l) rises zero d within = rises.0
+rises_above n (r ∷ l) rises (suc i) d within =
+    let here : n ≤ r.number = rises.0 in
+    let later : r.number + 1 ≤ (get_or l i d).number = rises_above (r.number + 1) l rises.1 i d (omega arith) in
+    omega (arith, here, later)
+
+least_at : (p : Record → Bool) (r : Record) (l : List Record) (n : ℕ) → RisesFrom n (r ∷ l) → (e : Record)
+    → ((i : ℕ) (d : Record) → find p l ≡ Some e → i < length l → p (get_or l i d) ≡ true → e.number ≤ (get_or l i d).number)
+    → (i : ℕ) (d : Record) → i < length (r ∷ l) → p (get_or (r ∷ l) i d) ≡ true → (b : Bool) → p r ≡ b → cond b (Some r) (find p l) ≡ Some e → e.number ≤ (get_or (r ∷ l) i d).number
+least_at p r l n rises e later zero d within passes true is h = let one : r.number ≡ e.number = ap (λ (z : Record). z.number) (some_same r e h) in omega (arith, one)
+least_at p r l n rises e later zero d within passes false is h = absurd (not_both (p r) passes is)
+least_at p r l n rises e later (suc i) d within passes true is h =
+    let one : r.number ≡ e.number = ap (λ (z : Record). z.number) (some_same r e h) in
+    let above : r.number + 1 ≤ (get_or l i d).number = rises_above (r.number + 1) l rises.1 i d (omega arith) in
+    omega (arith, one, above)
+least_at p r l n rises e later (suc i) d within passes false is h = later i d h (omega arith) passes
+
+-- the first that passes has the least number
+least : (p : Record → Bool) (n : ℕ) (l : List Record) → RisesFrom n l → (e : Record) (i : ℕ) (d : Record) → find p l ≡ Some e → i < length l → p (get_or l i d) ≡ true → e.number ≤ (get_or l i d).number
+least p n [] rises e i d h within passes = absurd (omega arith)
+least p n (r ∷ l) rises e i d h within passes = least_at p r l n rises e (λ i d h within passes. least p (r.number + 1) l rises.1 e i d h within passes) i d within passes (p r) refl h
+
+rises_apart : (k n : ℕ) (l : List Record) → k < n → RisesFrom n l → AllByRecursion (λ y. (k == y) ≡ false) (map (λ r. r.number) l)
+rises_apart k n [] less rises = tt
+rises_apart k n (r ∷ l) less rises =
+    let here : n ≤ r.number = rises.0 in
+    (false_unless (k == r.number) (λ h. let e : k ≡ r.number = (Decides-eqb k r.number).0 h in absurd (omega (arith, e, here, less))), rises_apart k (r.number + 1) l (omega (arith, here, less)) rises.1)
+
+no_numbers : IsDistinct (λ a b. a == b) []
+unfolding IsDistinct
+no_numbers = tt
+
+pub rises_distinct : (n : ℕ) (l : List Record) → RisesFrom n l → HasDistinctNumbers l
+rises_distinct n [] rises = no_numbers
+rises_distinct n (r ∷ l) rises =
+    IsDistinct-cons (λ a b. a == b) r.number (map (λ r. r.number) l) (rises_apart r.number (r.number + 1) l (omega arith) rises.1) (rises_distinct (r.number + 1) l rises.1)
+
+least_by : (n : ℕ) (l : List Record) (k : Record) → RisesFrom n l → (o : Option Record) → find (stands_under k) l ≡ o → IsLeastUnder l k (option_map (λ e. e.number) o)
+least_by n l k rises None found = λ e among. All-contains (λ e. stands_under k e ≡ false) l e (none_passes (stands_under k) l found) among
+least_by n l k rises (Some e) found = (
+  e,
+  found_in (stands_under k) l e found,
+  find_passes (stands_under k) l e found,
+  refl,
+  λ d among under.
+      let at : get_or l among.0 d ≡ d = among.2 in
+      let low = least (stands_under k) n l rises e among.0 d found among.1 (ap (stands_under k) at ∙ under) in
+      subst (λ (z : Record). e.number ≤ z.number) at low,
+)
+
+pub standing_is_least : (t : House) (l : List Record) (k : Record) → RisesFrom 0 l → first_refused t [] l ≡ None → Contains l k → IsLeastUnder l k (standing_on t l k.number)
+standing_is_least t l k rises none among =
+    subst (IsLeastUnder l k) (sym (standing_is_first t l k (number_once l (rises_distinct 0 l rises)) none among)) (least_by 0 l k rises (find (stands_under k) l) refl)
+
+-- ---- where nothing stands on a change
+
+no_number : {A B : Type 0} (f : A → B) (o : Option A) → option_map f o ≡ None → o ≡ None
+no_number f None h = refl
+no_number f (Some a) h = absurd (cc)
+
+last_cut : (t : House) (p : List Record) (k : Record) (s : List Record) → NumbersOnce (p ++ k ∷ s) → first_refused t [] (p ++ k ∷ s) ≡ None
+    → standing_on t (p ++ k ∷ s) k.number ≡ None → IsLawfulOrder (p ++ k ∷ s) (without (p ++ k ∷ s) k.number ++ k ∷ [])
+last_cut t p k s once none free =
+    let under = no_number (λ e. e.number) (find (stands_under k) (p ++ k ∷ s)) (sym (standing_cut t p k s once none) ∙ free) in
+    let behind = none_passes (stands_under k) s (sym (found_behind t p k s once none) ∙ under) in
+    subst (λ (z : List Record). IsLawfulOrder (p ++ k ∷ s) (z ++ k ∷ [])) (sym (filter_one (λ r. r.number == k.number) p k s ((Decides-eqb k.number k.number).1 refl) (once k.number)))
+    (moved_lawful t p k s once none behind)
+
+-- then it can as well stand last
+pub can_stand_last : (t : House) (l : List Record) (k : Record) → NumbersOnce l → first_refused t [] l ≡ None → Contains l k → standing_on t l k.number ≡ None
+    → IsLawfulOrder l (without l k.number ++ k ∷ [])
+can_stand_last t l k once none among free =
+    let c = cut_at l k among in
+    subst (λ (z : List Record). IsLawfulOrder z (without z k.number ++ k ∷ [])) (sym c.is)
+    (last_cut t c.before k c.behind (subst NumbersOnce c.is once) (subst (λ (z : List Record). first_refused t [] z ≡ None) c.is none)
+    (subst (λ (z : List Record). standing_on t z k.number ≡ None) c.is free))

@@ -1,0 +1,16 @@
+use Rattle.std.proofs.Common.{inr, rules}
+use Rattle.std.proofs.lemmas.Result.{err_from_is_err_and}
+use Rattle.gu_server.proofs.program.run.Goals as goal
+
+-- the batch ended with an error, which the fault tells
+pub returns-in_err-run_batch-in-Ok-Batch-clause-does : goal.returns-in_err-run_batch-in-Ok-Batch-clause-does
+returns-in_err-run_batch-in-Ok-Batch-clause-does g c =
+    let told = c.from_residual-in_err-run_batch-in-Ok-Batch in
+    let p = err_from_is_err_and told.result told.ensures.1 in
+    rw (p.1) (inr (c.in_err-run_batch-in-Ok-Batch.field-0.0, p.2, record {
+      path = c.as_str.result.now;
+      asked = search rules;
+      house = c.in_ok-house-in-Ok-Batch.house;
+      named = c.in_ok-house-in-Ok-Batch.ensures;
+      runs = c.in_err-run_batch-in-Ok-Batch.ensures;
+    }))

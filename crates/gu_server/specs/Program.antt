@@ -1,0 +1,52 @@
+-- What the program does: which house file it reads, what it does to its reader and its writer, and in which order faults are found.
+use Rattle.std.specs.Prelude.{◌≡◌, ℕ, ◌⊎◌, List, Option, Some, Result, Ok, Err}
+use Rattle.clap.specs.Words.{Text}
+use Rattle.gu_base.specs.House.{House}
+use Rattle.gu_parties.specs.Parsing.{Answers}
+use Rattle.gu_parties.specs.declared.fault.HouseError.{HouseError}
+use Rattle.gu_server.specs.HouseText.{IsTextOf, IsTooLong}
+use Rattle.gu_server.specs.Lines.{house_in}
+use Rattle.gu_server.specs.Runs.{Told, Runs}
+use Rattle.gu_server.specs.declared.batch.RunError.{RunError}
+use Rattle.gu_server.specs.declared.fault.Fault.{Fault}
+use Rattle.gu_server.specs.declared.fault.Fault.TheVariants.{Usage, HouseFile, HouseLine, Run}
+use Rattle.gu_server.specs.declared.batch.RunError.TheVariants.{Memory}
+
+-- the text of the file with these bytes names this house table, or has this fault
+abbrev pub Names : Option (List ℕ) → Result House HouseError → Type 0
+Names known named = (text : List ℕ) × IsTextOf known text × Answers named text
+
+abbrev pub IsHouseFault : Option (List ℕ) → Fault → Type 0
+IsHouseFault known HouseFile = IsTooLong known
+IsHouseFault known (HouseLine error) = Names known (Err error)
+IsHouseFault known (Run Memory) = Unit {0}
+IsHouseFault known _ = ⊥
+
+-- the house table of a file with these bytes, or why there is none
+abbrev pub ReadsHouse : Option (List ℕ) → Result House Fault → Type 0
+ReadsHouse known (Ok house) = Names known (Ok house)
+ReadsHouse known (Err e) = IsHouseFault known e
+
+-- why nothing was read and nothing written: the command line, or the house file that it names
+abbrev pub Stops : List Text → (Text → Option (List ℕ)) → Fault → Type 0
+Stops words bytes_at (Usage text) = Unit {0}
+Stops words bytes_at (Run Memory) = Unit {0}
+Stops words bytes_at e = (path : Text) × (house_in words ≡ Some path) × IsHouseFault (bytes_at path) e
+
+-- a batch was run, by the house table that the house file of the words names
+pub record HasRun {A : Type 0} (words : List Text) (bytes_at : Text → Option (List ℕ)) (old new : Told) (result : Result A RunError) : Type 0 where
+  pub path : Text
+  pub asked : house_in words ≡ Some path
+  pub house : House
+  pub named : Names (bytes_at path) (Ok house)
+  pub runs : Runs house old new result
+
+-- the batch was run to its end, or nothing was touched, or the batch ended with an error
+abbrev pub Does : {A : Type 0} → List Text → (Text → Option (List ℕ)) → Told → Told → Result A Fault → Type 0
+Does {A} words bytes_at old new (Ok x) = HasRun {A = A} words bytes_at old new (Ok x)
+Does {A} words bytes_at old new (Err e) = (Stops words bytes_at e × (new ≡ old)) ⊎ ((error : RunError) × (e ≡ Run error) × HasRun {A = A} words bytes_at old new (Err error))
+
+-- the command line isn't at fault
+abbrev pub IsUnderstood : Fault → Type 0
+IsUnderstood (Usage text) = ⊥
+IsUnderstood _ = Unit {0}

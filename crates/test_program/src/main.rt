@@ -1,0 +1,53 @@
+//! Runs of the program `allocd`, over the files of the system, but with a reader and a writer in memory. Input and output are data: the
+//! files `stdin` and `stdout` beside `src/`; `data/` has the house files and streams.
+//!
+//! A line of standard input is `STREAM;HOW;WORDS`: a file of `data/`, how it is read and written, and the words of the command line.
+//! HOW is `plain`, `failing reader` (it fails behind the stream's last byte) or `full writer` (it takes no byte). Of each line the
+//! program writes how the run ended, with its status and the first line of its text, and whether what it wrote is what the file of the
+//! stream's name with `.out` for `.fix` holds. At last it writes the text of each error of a run, and it ends with the status of the
+//! last line's run.
+#![tactic(auto)]
+
+mod lines;
+mod streams;
+
+use gu_server::{Fault, RunError};
+use std::io;
+use std::process::ExitCode;
+
+/// Writes the text of each error of a run.
+fn tell_texts(rt: &HostRuntime) -> io::Result<()> {
+    let errors = [
+        RunError::Broken { at: 14 },
+        RunError::Truncated { at: 134 },
+        RunError::Read,
+        RunError::Write,
+        RunError::Memory,
+    ];
+    for error in errors {
+        let fault = Fault::from(error);
+        println!(rt; "{}: {fault}", fault.status())?;
+    }
+    Ok(())
+}
+
+/// Runs each line, and gives the status of the last.
+fn tell_all(rt: &HostRuntime) -> io::Result<u8> {
+    let alloc = rt.alloc();
+    let mut status = 0;
+    for line in rt.lines(alloc) {
+        let line = line?;
+        if let Some(run) = lines::read_line(line.as_str()) {
+            status = lines::tell(rt, alloc, &run)?;
+        }
+    }
+    tell_texts(rt)?;
+    Ok(status)
+}
+
+fn main(rt: HostRuntime) -> ExitCode {
+    match tell_all(&rt) {
+        Ok(status) => ExitCode::from(status),
+        Err(_) => ExitCode::from(100),
+    }
+}
