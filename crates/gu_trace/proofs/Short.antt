@@ -1,5 +1,5 @@
 -- No report shows more parts than a Split may have.
-use Rattle.std.proofs.Common.{◌≡◌, ℕ, zero, suc, ◌+◌, ◌≤◌, Bool, true, false, List, [], ◌∷◌, arith, Option, cond, length, take}
+use Rattle.std.proofs.Common.{ℕ, zero, suc, ◌+◌, ◌≤◌, Bool, true, false, List, [], ◌∷◌, arith, Option, cond, length, take}
 use Rattle.std.specs.Prelude.{Some, None, filter, nat_lt, option_map, option_and_then, IfSome}
 use Rattle.std.specs.List.{All, filter_map, cons_option}
 use Rattle.std.proofs.lemmas.List.Elements.{All-nil, All-cons, All-head, All-tail, All-filter}
@@ -12,7 +12,6 @@ use Rattle.gu_base.specs.Limits.{most_parts}
 use Rattle.gu_base.specs.declared.entry.Entry.{Entry}
 use Rattle.gu_base.specs.declared.entry.Record.{Record}
 use Rattle.gu_base.specs.declared.node.Node.{Node}
-use Rattle.gu_base.specs.declared.command.Part.{Part}
 use Rattle.gu_base.specs.declared.command.Command.{Command}
 use Rattle.gu_base.specs.declared.command.Command.TheVariants.{Trade, Split, Claim, Refuse, Cancel, Initiate, Decline, Reverse}
 use Rattle.gu_base.specs.declared.report.Report.{Report}
@@ -22,7 +21,7 @@ use Rattle.gu_book.specs.Limits.{IsWithinLimits}
 use Rattle.gu_trace.specs.declared.lookup.Deal.{Deal}
 use Rattle.gu_trace.specs.Deals.{deal_of}
 use Rattle.gu_trace.specs.Concerns.{concerns}
-use Rattle.gu_trace.specs.Reports.{report_with, parts_shown, claimed_part, no_part, decision_report, reversal_report, change_report, report_of, told, reports_for}
+use Rattle.gu_trace.specs.Reports.{report_with, parts_shown, claimed_part, no_part, change_report, report_of, told, reports_for}
 use Rattle.gu_trace.proofs.Shown.{shown_few}
 
 abbrev pub IsShort : Report → Type 0

@@ -6,7 +6,7 @@ use Rattle.gu_base.specs.Places.{root_of}
 use Rattle.gu_base.specs.Answers.{entry_of}
 use Rattle.gu_base.specs.declared.entry.Entry.{Entry}
 use Rattle.gu_base.specs.declared.command.Command.{Command}
-use Rattle.gu_base.specs.declared.command.Command.TheVariants.{Trade, Split, Claim, Refuse, Cancel, Initiate, Decline, Reverse}
+use Rattle.gu_base.specs.declared.command.Command.TheVariants.{Trade}
 use Rattle.gu_trace.specs.declared.lookup.Deal.{Deal}
 
 -- what a Trade trades

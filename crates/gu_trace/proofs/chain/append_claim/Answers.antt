@@ -1,4 +1,4 @@
-use Rattle.std.proofs.Common.{◌≡◌, ◌++◌, ap, ◌∙◌, List, ℕ}
+use Rattle.std.proofs.Common.{◌≡◌, ◌++◌, ap, ◌∙◌}
 use Rattle.std.specs.Prelude.{Some, option_map, string_bytes}
 use Rattle.gu_trace.specs.Trace.{giver_of, fee_words, claimed_words}
 use Rattle.gu_trace.proofs.Texts.{on_ok, claim_told}

@@ -1,5 +1,5 @@
-use Rattle.std.proofs.Common.{◌≡◌, ◌++◌, ◌∙◌, ap, List, ℕ}
-use Rattle.std.specs.Prelude.{Some, map, flat_map, string_bytes}
+use Rattle.std.proofs.Common.{◌≡◌, ◌++◌, ◌∙◌, ap}
+use Rattle.std.specs.Prelude.{Some, map, flat_map}
 use Rattle.gu_base.specs.History.{live}
 use Rattle.gu_tree.specs.Shown.{shown}
 use Rattle.gu_book.specs.TreeRows.{tree_rows}

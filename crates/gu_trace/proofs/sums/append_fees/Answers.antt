@@ -1,4 +1,4 @@
-use Rattle.std.proofs.Common.{◌≡◌, ◌++◌, ◌+◌, ◌<◌, sym, ◌∙◌, ap, arith, length, drop}
+use Rattle.std.proofs.Common.{◌++◌, ◌+◌, ◌<◌, sym, ◌∙◌, ap, arith, length, drop}
 use Rattle.std.specs.Prelude.{string_bytes, flat_map}
 use Rattle.gu_base.specs.History.{live}
 use Rattle.gu_trace.specs.Totals.{fees_of}

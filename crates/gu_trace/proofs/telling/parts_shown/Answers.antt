@@ -1,4 +1,4 @@
-use Rattle.std.proofs.Common.{◌≡◌, ◌++◌, ◌+◌, ◌<◌, [], ◌∷◌, sym, ◌∙◌, ap, arith, length}
+use Rattle.std.proofs.Common.{◌++◌, ◌+◌, ◌<◌, sym, ◌∙◌, ap, arith, length}
 use Rattle.gu_trace.specs.Reports.{parts_shown}
 use Rattle.gu_trace.proofs.Shown.{rest_shown, showing, passing}
 use Rattle.gu_trace.proofs.telling.parts_shown.Goals as goal
