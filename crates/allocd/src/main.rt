@@ -6,8 +6,8 @@
 #![tactic(auto)]
 
 use gu_server::{Counted, Fault, RunError, SystemFiles, run};
-use std::{env, io};
 use std::process::ExitCode;
+use std::{env, io};
 
 /// The words after the program's name.
 fn words(rt: &HostRuntime) -> Result<Vec<String>, Fault> {

@@ -20,6 +20,7 @@ use Rattle.gu_message.specs.SplitParts.{named, named_in, named_if, named_by, giv
 use Rattle.gu_message.specs.Heading.{heading_of}
 use Rattle.gu_message.specs.TradeReport.{trading_firm, trade_of}
 use Rattle.gu_message.specs.Instructions.{node_in, command_of, instruction_of}
+use Rattle.gu_message.specs.SessionMessages.{logon_of, test_request_of, resend_request_of, sequence_reset_of, session_message_of}
 use Rattle.gu_message.specs.Meaning.{by_type, meaning_of}
 
 -- ---- what passes the checks
@@ -85,7 +86,7 @@ call_passes firm id command n k c = record { named = n; known = k; names = c }
 
 abbrev pub IsLawfulMeaning : Inbound → Type 0
 IsLawfulMeaning (inbound.Call firm trade id command) = IsLawfulCall firm id command
-IsLawfulMeaning inbound.Session = Unit {0}
+IsLawfulMeaning _ = Unit {0}
 
 -- ---- a trade
 
@@ -179,9 +180,29 @@ chosen : (b : Bool) (x y : Result Inbound Reject) → Passes IsLawfulMeaning x �
 chosen true x y h k = h
 chosen false x y h k = k
 
+logon_passes : (fs : List (ℕ × List ℕ)) → Passes IsLawfulMeaning (logon_of fs)
+unfolding logon_of
+logon_passes fs = search any_then depth 20 fits 4000
+
+test_request_passes : (fs : List (ℕ × List ℕ)) → Passes IsLawfulMeaning (test_request_of fs)
+unfolding test_request_of
+test_request_passes fs = search any_then depth 20 fits 4000
+
+resend_request_passes : (fs : List (ℕ × List ℕ)) → Passes IsLawfulMeaning (resend_request_of fs)
+unfolding resend_request_of
+resend_request_passes fs = search any_then depth 20 fits 4000
+
+sequence_reset_passes : (fs : List (ℕ × List ℕ)) → Passes IsLawfulMeaning (sequence_reset_of fs)
+unfolding sequence_reset_of
+sequence_reset_passes fs = search any_then depth 20 fits 4000
+
+session_passes : (t : List ℕ) (fs : List (ℕ × List ℕ)) → Passes IsLawfulMeaning (session_message_of t fs)
+unfolding session_message_of
+session_passes t fs = search (chosen, logon_passes, test_request_passes, resend_request_passes, sequence_reset_passes) depth 20 fits 4000
+
 type_passes : (by t : List ℕ) (fs : List (ℕ × List ℕ)) → IsTrue (is_firm_text by) → Passes IsLawfulMeaning (by_type by t fs)
 unfolding by_type
-type_passes by t fs lawful = search (chosen, trade_passes, instruction_passes) depth 8
+type_passes by t fs lawful = search (chosen, trade_passes, instruction_passes, session_passes) depth 8
 
 heading_then : {B : Type 0} (q : B → Type 0) (house : List ℕ) (fs : List (ℕ × List ℕ)) (f : Heading → Result B Reject) → ((x : Heading) → IsTrue (is_firm_text x.firm) → Passes q (f x)) → Passes q (heading_of house fs >>= f)
 heading_then q house fs f h = then (λ (x : Heading). IsTrue (is_firm_text x.firm)) q (heading_of house fs) f (heading_passes house fs) h

@@ -30,12 +30,12 @@ use Rattle.gu_message.specs.Reply.{Reply, answer_reply, reject_reply, Stamp, hea
 -- ---- texts
 
 -- so many bytes, each printed or a space
-record IsShown (least most : ℕ) (s : List ℕ) : Type 0 where
-  clear : list_all is_text s ≡ true
-  some : least ≤ length s
-  few : length s ≤ most
+pub record IsShown (least most : ℕ) (s : List ℕ) : Type 0 where
+  pub clear : list_all is_text s ≡ true
+  pub some : least ≤ length s
+  pub few : length s ≤ most
 
-joined : (k l m n : ℕ) (a b : List ℕ) → IsShown k l a → IsShown m n b → IsShown (k + m) (l + n) (a ++ b)
+pub joined : (k l m n : ℕ) (a b : List ℕ) → IsShown k l a → IsShown m n b → IsShown (k + m) (l + n) (a ++ b)
 joined k l m n a b h j = record {
   clear = list_all-append is_text a b ∙ and_from _ _ h.clear j.clear;
   some = omega (arith, h.some, j.some, length-append a b);
@@ -43,14 +43,14 @@ joined k l m n a b h j = record {
 }
 
 -- a value of a field of a reply
-record IsShort (s : List ℕ) : Type 0 where
-  value : IsValue s
-  few : length s ≤ 400
+pub record IsShort (s : List ℕ) : Type 0 where
+  pub value : IsValue s
+  pub few : length s ≤ 400
 
 text_high : (b : ℕ) → is_text b ≡ true → b ≢ 1
 text_high b e = let low : 32 ≤ b = leb-true 32 b (and_parts (nat_le 32 b) (nat_le b 126) e).0 in λ w. absurd (omega arith)
 
-short : (least most : ℕ) (s : List ℕ) → 0 < least → most ≤ 400 → IsShown least most s → IsShort s
+pub short : (least most : ℕ) (s : List ℕ) → 0 < least → most ≤ 400 → IsShown least most s → IsShort s
 short least most s some few h = record { value = record { some = omega (arith, h.some); no_soh = no_soh is_text s text_high h.clear }; few = omega (arith, h.few) }
 
 -- ---- numbers
@@ -68,11 +68,11 @@ onto_shown (suc k) n least most acc some h =
           rw e (record { clear = rest.clear; some = omega (arith, rest.some); few = omega (arith, rest.few) })
     ]
 
-decimal_shown : (n : ℕ) → IsShown 1 64 (decimal n)
+pub decimal_shown : (n : ℕ) → IsShown 1 64 (decimal n)
 unfolding digits
 decimal_shown n = onto_shown 64 n 0 0 [] (omega arith) (record { clear = refl; some = omega arith; few = omega arith })
 
-decimal_short : (n : ℕ) → IsShort (decimal n)
+pub decimal_short : (n : ℕ) → IsShort (decimal n)
 decimal_short n = short 1 64 (decimal n) (omega arith) (omega arith) (decimal_shown n)
 
 -- ---- names
@@ -124,9 +124,9 @@ refusal_short r h =
 -- ---- replies
 
 -- a field of a reply
-record IsShortField (f : ℕ × List ℕ) : Type 0 where
-  tag : (nat_lt 0 f.0 && nat_lt f.0 1000000000) ≡ true
-  value : IsShort f.1
+pub record IsShortField (f : ℕ × List ℕ) : Type 0 where
+  pub tag : (nat_lt 0 f.0 && nat_lt f.0 1000000000) ≡ true
+  pub value : IsShort f.1
 
 fields_lawful : (fs : Message) → AllByRecursion IsShortField fs → AllByRecursion IsLawfulField fs
 fields_lawful [] h = tt
@@ -137,13 +137,13 @@ fields_most [] h = omega arith
 fields_most (f ∷ fs) h = omega (arith, h.0.value.few, fields_most fs h.1)
 
 -- the types of replies are lawful as names of firms are
-reply_lawful : (target kind : List ℕ) (fs : Message) → IsTrue (is_firm_text target) → IsTrue (is_firm_text kind) → length fs ≤ 4 → AllByRecursion IsShortField fs
+pub reply_lawful : (target kind : List ℕ) (fs : Message) → IsTrue (is_firm_text target) → IsTrue (is_firm_text kind) → length fs ≤ 4 → AllByRecursion IsShortField fs
     → IsLawfulReply (record { target = target; kind = kind; fields = fs })
 reply_lawful target kind fs t k few h =
     let all = fields_lawful fs h in
     record { target = t; kind = firm_text kind k; fields = all; short = omega (arith, fields_short fs all, fields_most fs h, few) }
 
-given : (tag : ℕ) (v : List ℕ) → (nat_lt 0 tag && nat_lt tag 1000000000) ≡ true → IsShort v → IsShortField (tag, v)
+pub given : (tag : ℕ) (v : List ℕ) → (nat_lt 0 tag && nat_lt tag 1000000000) ≡ true → IsShort v → IsShortField (tag, v)
 given tag v t h = record { tag = t; value = h }
 
 three : (target kind : List ℕ) (t u w : ℕ) (a b c : List ℕ) → IsTrue (is_firm_text target) → IsTrue (is_firm_text kind)
@@ -151,7 +151,7 @@ three : (target kind : List ℕ) (t u w : ℕ) (a b c : List ℕ) → IsTrue (is
 three target kind t u w a b c to k ha hb hc = reply_lawful target kind ((t, a) ∷ (u, b) ∷ (w, c) ∷ []) to k (omega arith) (ha, (hb, (hc, tt)))
 
 -- one byte
-byte_short : (b : ℕ) → is_text b ≡ true → IsShort (b ∷ [])
+pub byte_short : (b : ℕ) → is_text b ≡ true → IsShort (b ∷ [])
 byte_short b h = short 1 1 (b ∷ []) (omega arith) (omega arith) (record { clear = and_from _ _ h refl; some = omega arith; few = omega arith })
 
 ack_lawful : (firm id : List ℕ) (a : Answer) → IsTrue (is_firm_text firm) → IsTrue (is_id_text id) → IsLawfulAnswer a → IsLawfulReply (record { target = firm; kind = codes "P"; fields = ack_fields id a })

@@ -1,5 +1,5 @@
 //! The house table: who takes part, and on which terms.
-ghost use Rattle.std.specs.Prelude.{◌≡◌, ◌≤◌, IsTrue, IfSome, IfOk, slice_get};
+ghost use Rattle.std.specs.Prelude.{◌≡◌, ◌≤◌, IsTrue, IfSome, IfOk, length, slice_get};
 ghost use Rattle.gu_base.specs.House.{knows_firm, knows_account, knows_instrument, agreement};
 ghost use Rattle.gu_parties.specs.Steps.{house_alone};
 ghost use Rattle.gu_parties.specs.Terms.{has_terms_in_range};
@@ -91,6 +91,34 @@ impl House {
             taker: *taker,
         };
         self.agreements.get(&key).copied()
+    }
+
+    /// How many lines `FIRM` the file has.
+    pub fn firm_count(&self) -> usize
+        ensures { result ≡ length self.now.firms }
+    {
+        self.firms.len()
+    }
+
+    /// How many lines `ACCOUNT` the file has.
+    pub fn account_count(&self) -> usize
+        ensures { result ≡ length self.now.accounts }
+    {
+        self.accounts.len()
+    }
+
+    /// How many lines `INSTRUMENT` the file has.
+    pub fn instrument_count(&self) -> usize
+        ensures { result ≡ length self.now.instruments }
+    {
+        self.instruments.len()
+    }
+
+    /// How many lines `AGREEMENT` the file has.
+    pub fn agreement_count(&self) -> usize
+        ensures { result ≡ length self.now.agreements }
+    {
+        self.agreements.len()
     }
 
     /// The firm of the line `FIRM` at this place among those lines, from 0. The house has no such place.

@@ -177,7 +177,7 @@ impl Answering {
                 };
                 self.answer_call(alloc, &call, out)
             }
-            Ok(Inbound::Session) => Ok(()),
+            Ok(_) => Ok(()),
             Err(MeaningError::Reject(fault)) => self.answer_fault(alloc, fields, *fault, out),
             Err(MeaningError::Memory) => Err(AllocError),
         }

@@ -183,7 +183,22 @@ fn show_meaning(
             print!(rt; "{firm} {id}: ")?;
             show_call(rt, alloc, *trade, id, command)
         }
-        Ok(Inbound::Session) => println!(rt; "session"),
+        Ok(Inbound::Logon { heartbeat, reset }) => {
+            println!(rt; "logon, a heartbeat each {heartbeat} seconds, reset {reset}")
+        }
+        Ok(Inbound::Heartbeat) => println!(rt; "heartbeat"),
+        Ok(Inbound::TestRequest { id }) => {
+            println!(rt; "test request")?;
+            show(rt, alloc, "112", id.as_bytes())
+        }
+        Ok(Inbound::ResendRequest { from, to }) => {
+            println!(rt; "resend request from {from} to {to}")
+        }
+        Ok(Inbound::Reject) => println!(rt; "a reject of the firm"),
+        Ok(Inbound::SequenceReset { gap_fill, next }) => {
+            println!(rt; "sequence reset to {next}, gap fill {gap_fill}")
+        }
+        Ok(Inbound::Logout) => println!(rt; "logout"),
         Err(MeaningError::Reject(fault)) => show_reject(rt, alloc, fields, *fault),
         Err(MeaningError::Memory) => println!(rt; "out of memory"),
     }

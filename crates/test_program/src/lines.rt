@@ -6,6 +6,7 @@ use std::alloc::{AllocError, Global};
 use std::{fs, io};
 
 /// A line of the input.
+#[derive(Clone, Copy)]
 pub(crate) struct Line<'a> {
     stream: &'a str,
     how: &'a str,

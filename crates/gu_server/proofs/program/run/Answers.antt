@@ -7,10 +7,14 @@ pub returns-in_err-run_batch-in-Ok-Batch-clause-does : goal.returns-in_err-run_b
 returns-in_err-run_batch-in-Ok-Batch-clause-does g c =
     let told = c.from_residual-in_err-run_batch-in-Ok-Batch in
     let p = err_from_is_err_and told.result told.ensures.1 in
-    rw (p.1) (inr (c.in_err-run_batch-in-Ok-Batch.field-0.0, p.2, record {
-      path = c.as_str.result.now;
-      asked = search rules;
-      house = c.in_ok-house-in-Ok-Batch.house;
-      named = c.in_ok-house-in-Ok-Batch.ensures;
-      runs = c.in_err-run_batch-in-Ok-Batch.ensures;
-    }))
+    rw (p.1) (inr (
+      c.in_err-run_batch-in-Ok-Batch.field-0.0,
+      p.2,
+      record {
+        path = c.as_str.result.now;
+        asked = search rules;
+        house = c.in_ok-house-in-Ok-Batch.house;
+        named = c.in_ok-house-in-Ok-Batch.ensures;
+        runs = c.in_err-run_batch-in-Ok-Batch.ensures;
+      },
+    ))

@@ -1,0 +1,125 @@
+//! The bodies of the session's messages. Each writer appends its body, or answers `Memory` and leaves `out` as it was.
+
+ghost use Rattle.std.specs.Prelude.{◌≡◌, ◌≤◌, ◌+◌, ◌++◌, OnOk, OnErr, codes, decimal, length, vec_len, vec_capacity};
+ghost use Rattle.gu_codec.specs.Answer.{pairs};
+ghost use Rattle.gu_codec.specs.Writing.{field, fields_text};
+ghost use Rattle.gu_message.specs.Finding.{value_of, is_text as is_text_of};
+ghost use Rattle.gu_message.specs.SessionBodies.{reset_fields, logon_fields, heartbeat_fields, test_request_fields, resend_request_fields, sequence_reset_fields, logout_text, logout_fields};
+
+use crate::bodies::{ROOM, append_number_field};
+use crate::finding::is_text;
+use crate::msg_types;
+use crate::test_req_id::TestReqId;
+use gu_base::Memory;
+use gu_codec::{Fields, append, append_field, tags};
+use itoa::Buffer;
+
+/// Why the service ends a session: Text (58) of its Logout.
+#[derive(Clone, Copy, Debug, PartialEq, Eq)]
+pub enum LogoutText {
+    BadHeader,
+    NumberTooLow { expected: u32 },
+    SecondLogon,
+    NoHeartbeat,
+}
+
+/// Appends the body of a Logon (A).
+pub fn logon(out: &mut Vec<u8>, heartbeat: u32, reset: bool) -> Result<(), Memory>
+    ensures ok { OnOk result (out.new.items ≡ out.old.items ++ fields_text (logon_fields heartbeat reset)) }
+    ensures err { OnErr result (out.new.items ≡ out.old.items) }
+    ensures short { OnOk result (length (fields_text (logon_fields heartbeat reset)) ≤ 256) }
+{
+    out.reserve(ROOM)?;
+    append_field(out, tags::ENCRYPT_METHOD, b"0");
+    append_number_field(out, tags::HEART_BT_INT, heartbeat);
+    append_field(out, tags::DEFAULT_APPL_VER_ID, b"9");
+    if reset {
+        append_field(out, tags::RESET_SEQ_NUM_FLAG, b"Y");
+    }
+    Ok(())
+}
+
+/// Appends the body of a Heartbeat (0), which answers a TestRequest with this TestReqID (112) or none.
+pub fn heartbeat(out: &mut Vec<u8>, answered: Option<TestReqId>) -> Result<(), Memory>
+    ensures ok { OnOk result (out.new.items ≡ out.old.items ++ fields_text (heartbeat_fields answered)) }
+    ensures err { OnErr result (out.new.items ≡ out.old.items) }
+    ensures short { OnOk result (length (fields_text (heartbeat_fields answered)) ≤ 256) }
+{
+    out.reserve(ROOM)?;
+    if let Some(id) = answered {
+        append_field(out, tags::TEST_REQ_ID, id.as_bytes());
+    }
+    Ok(())
+}
+
+/// Appends the body of a TestRequest (1).
+pub fn test_request(out: &mut Vec<u8>) -> Result<(), Memory>
+    ensures ok { OnOk result (out.new.items ≡ out.old.items ++ fields_text test_request_fields) }
+    ensures err { OnErr result (out.new.items ≡ out.old.items) }
+    ensures short { OnOk result (length (fields_text test_request_fields) ≤ 256) }
+{
+    out.reserve(ROOM)?;
+    append_field(out, tags::TEST_REQ_ID, b"TEST");
+    Ok(())
+}
+
+/// Appends the body of a ResendRequest (2) for all messages from this number on.
+pub fn resend_request(out: &mut Vec<u8>, from: u32) -> Result<(), Memory>
+    ensures ok { OnOk result (out.new.items ≡ out.old.items ++ fields_text (resend_request_fields from)) }
+    ensures err { OnErr result (out.new.items ≡ out.old.items) }
+    ensures short { OnOk result (length (fields_text (resend_request_fields from)) ≤ 256) }
+{
+    out.reserve(ROOM)?;
+    append_number_field(out, tags::BEGIN_SEQ_NO, from);
+    append_field(out, tags::END_SEQ_NO, b"0");
+    Ok(())
+}
+
+/// Appends the body of a SequenceReset (4) that fills a gap up to this number, which is the next.
+pub fn sequence_reset(out: &mut Vec<u8>, next: u32) -> Result<(), Memory>
+    ensures ok { OnOk result (out.new.items ≡ out.old.items ++ fields_text (sequence_reset_fields next)) }
+    ensures err { OnErr result (out.new.items ≡ out.old.items) }
+    ensures short { OnOk result (length (fields_text (sequence_reset_fields next)) ≤ 256) }
+{
+    out.reserve(ROOM)?;
+    append_field(out, tags::GAP_FILL_FLAG, b"Y");
+    append_number_field(out, tags::NEW_SEQ_NO, next);
+    Ok(())
+}
+
+/// Appends Text (58) of a number that is too low within the room that is there.
+fn append_too_low(out: &mut Vec<u8>, expected: u32)
+    requires { vec_len out.old + 256 ≤ vec_capacity out.old }
+    ensures items { out.new.items ≡ out.old.items ++ field 58 (codes "sequence number too low, expected " ++ decimal expected) }
+    ensures len { vec_len out.new ≤ vec_len out.old + 100 }
+{
+    let mut digits = Buffer::new();
+    append(out, digits.format(tags::TEXT).as_bytes());
+    append(out, b"=sequence number too low, expected ");
+    append(out, digits.format(expected).as_bytes());
+    append(out, b"\x01");
+}
+
+/// Appends the body of a Logout (5), with this text or none.
+pub fn logout(out: &mut Vec<u8>, text: Option<LogoutText>) -> Result<(), Memory>
+    ensures ok { OnOk result (out.new.items ≡ out.old.items ++ fields_text (logout_fields text)) }
+    ensures err { OnErr result (out.new.items ≡ out.old.items) }
+    ensures short { OnOk result (length (fields_text (logout_fields text)) ≤ 256) }
+{
+    out.reserve(ROOM)?;
+    match text {
+        None => {}
+        Some(LogoutText::BadHeader) => append_field(out, tags::TEXT, b"bad header"),
+        Some(LogoutText::NumberTooLow { expected }) => append_too_low(out, expected),
+        Some(LogoutText::SecondLogon) => append_field(out, tags::TEXT, b"second logon"),
+        Some(LogoutText::NoHeartbeat) => append_field(out, tags::TEXT, b"no heartbeat"),
+    }
+    Ok(())
+}
+
+/// Whether a message is a Logout (5).
+pub fn is_logout(fields: Fields<'_>) -> bool
+    ensures { result ≡ is_text_of (codes "5") (value_of 35 (pairs fields.entry)) }
+{
+    is_text(fields, tags::MSG_TYPE, msg_types::LOGOUT)
+}

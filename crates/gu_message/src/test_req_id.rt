@@ -1,0 +1,61 @@
+//! TestReqID (112), the text that a TestRequest asks to hear again.
+
+ghost use Rattle.std.specs.Prelude.{◌≡◌, ◌≤◌, length};
+ghost use Rattle.gu_message.specs.SessionMessages.{test_req_id_of};
+
+use std::marker::Model;
+
+/// A TestReqID (112) has at most so many bytes.
+const BYTES: usize = 64;
+
+/// A TestReqID (112): at most 64 bytes, which lie in the value itself. A clause sees the list of its bytes.
+#[derive(Clone, Copy, Debug)]
+pub struct TestReqId {
+    /// The places behind the text hold 0, so that equal texts are equal values.
+    cells: [u8; 64],
+    len: usize,
+}
+
+impl Model for TestReqId {
+    ghost use Rattle.std.specs.Prelude.{◌≡◌, ◌≤◌, ◌++◌, ◌-◌, List, ℕ, length, take, drop, replicate};
+    ghost use Rattle.std.proofs.Common.{arith, length-take-le};
+    ghost use Rattle.gu_base.specs.Cells.{cells_back};
+
+    ghost Value = { List ℕ };
+
+    ghost view = { λ s. take s.len s.cells };
+
+    ghost invariant = { λ s. (s.len ≤ 64) × (length s.cells ≡ 64) × (drop s.len s.cells ≡ replicate (64 - s.len) 0) };
+
+    ghost inverse = { λ s. record { cells = s ++ replicate (64 - length s) 0; len = length s } };
+
+    ghost inverse_ok = { λ s h i. record {
+      cells = cells_back 64 s.len s.cells h.0 h.1 h.2 i;
+      len = length-take-le s.len s.cells (omega (arith, h.0, h.1)) i;
+    } };
+}
+
+impl TestReqId {
+    /// The TestReqID of this text, `None` where the text has more than 64 bytes.
+    pub fn new(text: &[u8]) -> Option<TestReqId>
+        ensures { result ≡ test_req_id_of text.now }
+    {
+        if text.len() > BYTES {
+            return None;
+        }
+        let mut cells = [0; BYTES];
+        cells[..text.len()].copy_from_slice(text);
+        Some(TestReqId {
+            cells,
+            len: text.len(),
+        })
+    }
+
+    /// Its bytes.
+    pub fn as_bytes(&self) -> &[u8]
+        ensures value { result.now ≡ self.now }
+        ensures short { length self.now ≤ 64 }
+    {
+        &self.cells[..self.len]
+    }
+}

@@ -1,0 +1,50 @@
+use Rattle.std.proofs.Common.{◌≡◌, ℕ, ◌+◌, ◌<◌, ◌≤◌, true, List, length, map, ap, subst, ◌∙◌, refl, arith}
+use Rattle.std.specs.Prelude.{Some}
+use Rattle.std.proofs.lemmas.Bool.Decides.{nat_tests}
+use Rattle.gu_session.specs.declared.kept.Kept.{Kept}
+use Rattle.gu_session.specs.declared.link.Link.{Link}
+use Rattle.gu_session.specs.Steps.{Seen, fits, tells, kept_from, tellings, new, time_of}
+use Rattle.gu_session.specs.Text.{wire}
+use Rattle.gu_session.proofs.Giving.{shut_gives, tells_give, length-tellings, tells_too_many}
+use Rattle.gu_session.proofs.session.Session.tell.Goals as goal
+
+pub returns-then-not-has_numbers-clause-ok : goal.returns-then-not-has_numbers-clause-ok
+returns-then-not-has_numbers-clause-ok c =
+    let s = c.args.self.now in
+    let link : c.self.inside.link ≡ s.link = ap (λ (t : Seen). t.link) c.self.view_is in
+    let time : List ℕ = time_of c.args.moment in
+    let ms : List Kept = kept_from time s.link.out (tellings time s.link.waiting c.args.answer.now c.args.reports.now) in
+    let len = length-tellings time s.link.out s.link.waiting c.args.answer.now c.args.reports.now in
+    let answers = rw link at c.answers.ensures in
+    let has = rw link at c.has_numbers.ensures in
+    let many : 1000000000 < s.link.out + length ms = grind (arith, nat_tests, len, answers, has, c.if-not-has_numbers.true) in
+    shut_gives c.args.moment s (tells c.args.moment s ms) _ _ (tells_too_many c.args.moment s ms many)
+    c.shut_down.ensures.session c.shut_down.ensures.actions
+
+pub keep_fresh-requires : goal.keep_fresh-requires
+keep_fresh-requires c =
+    let s = c.args.self.now in
+    let link : c.self.inside.link ≡ s.link = ap (λ (t : Seen). t.link) c.self.view_is in
+    let time : List ℕ = time_of c.args.moment in
+    let len = length-tellings time s.link.out s.link.waiting c.args.answer.now c.args.reports.now in
+    let answers = rw link at c.answers.ensures in
+    let has = rw link at c.has_numbers.ensures in
+    let kept = ap (λ (t : List Kept). length t) (rw link at c.in_ok-fresh.ensures.kept) in
+    grind (arith, nat_tests, len, answers, has, kept, c.if-not-has_numbers.false, c.in_ok-fresh.fresh.ok.0)
+
+pub returns-clause-ok : goal.returns-clause-ok
+returns-clause-ok c =
+    let s = c.args.self.now in
+    let link : c.self.inside.link ≡ s.link = ap (λ (t : Seen). t.link) c.self.view_is in
+    let time : List ℕ = time_of c.args.moment in
+    let ms : List Kept = kept_from time s.link.out (tellings time s.link.waiting c.args.answer.now c.args.reports.now) in
+    let len = length-tellings time s.link.out s.link.waiting c.args.answer.now c.args.reports.now in
+    let answers = rw link at c.answers.ensures in
+    let has = rw link at c.has_numbers.ensures in
+    let fresh : c.in_ok-fresh.fresh.items ≡ ms = rw link at c.in_ok-fresh.ensures.kept in
+    let fits_before : fits s.link ≡ true = subst (λ (l : Link). fits l ≡ true) link c.self.invariant in
+    let few : s.link.out + length ms ≤ 1000000000 = grind (arith, nat_tests, len, answers, has, c.if-not-has_numbers.false) in
+    let house = ap (λ (h : List ℕ). wire h (Some c.args.firm) time (map new c.in_ok-fresh.fresh.items)) c.house-house.ensures in
+    let seen = ap (λ (t : Seen). wire t.house.house (Some c.args.firm) time (map new c.in_ok-fresh.fresh.items)) c.self.view_is in
+    let send = c.in_ok-fresh.ensures.send ∙ house ∙ seen ∙ ap (λ (t : List Kept). wire s.house.house (Some c.args.firm) time (map new t)) fresh in
+    tells_give c.args.moment s _ c.args.firm ms _ c.requires.firm fits_before few (c.in_ok-keep_fresh.ensures.ok ∙ ap (λ (t : List Kept). (tells c.args.moment s t).after) fresh) send refl refl

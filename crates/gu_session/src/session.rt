@@ -1,0 +1,347 @@
+//! A session.
+
+ghost use Rattle.std.specs.Prelude.{◌≡◌, ◌↔◌, ◌≤◌, ◌≤ℤ◌, ◌+◌, ◌++◌, pos, true, false, IsTrue, OnOk, OnErr, IfOk, Ok, Some, is_some, option_map, vec_len};
+ghost use Rattle.std.specs.List.{All};
+ghost use Rattle.gu_codec.specs.Answer.{pairs};
+ghost use Rattle.gu_message.specs.AllocationReport.{ShowsFewParts};
+ghost use Rattle.gu_message.specs.Meaning.{meaning_of};
+ghost use Rattle.gu_message.specs.declared.inbound.Inbound.TheVariants.{Heartbeat};
+ghost use Rattle.gu_session.specs.Steps as StepEvent;
+ghost use Rattle.gu_session.specs.Steps.{fits as fits_of, call_of as call_of_table, opening, tells, replies, where_it_fits, on_event, acts, resends, sayings, time_of};
+ghost use Rattle.gu_session.specs.Table.{shut as shut_of};
+ghost use Rattle.gu_session.specs.Text.{ShowFewParts, Steps, Gives, IsEmpty, wire, fields_of};
+
+use crate::event::{Actions, Event};
+use crate::kept::{Kept, keep};
+use crate::link::Link;
+use crate::replying::{LAST_NUMBER, answers, has_numbers, replied};
+use crate::table::{on_message, on_tick, shut};
+use crate::verdict::Verdict;
+use crate::writing::{Writer, write_resend, write_saying};
+use gu_base::{AllocId, Answer, Command, FirmId, Memory, Report};
+use gu_codec::Fields;
+use gu_message::{Inbound, MeaningError, Reject, SendingTime, header, is_logout, meaning};
+use gu_parties::House;
+use jiff::Timestamp;
+use std::alloc::{AllocError, Global};
+use std::collections::VecDeque;
+use std::marker::Model;
+
+/// The session of one connection of a member firm to the house.
+///
+/// A pure machine: `step` takes what came and answers what to do, and reads no clock and no socket.
+#[derive(Drop)]
+pub struct Session<'a> {
+    alloc: Global,
+    house: &'a House,
+    link: Link,
+    kept: VecDeque<Kept>,
+}
+
+impl<'a> Model for Session<'a> {
+    ghost use Rattle.std.specs.Prelude.{IsTrue};
+    ghost use Rattle.gu_session.specs.Steps.{Seen, fits};
+
+    ghost Value = { Seen };
+
+    ghost view = { λ s. record { house = s.house.now; link = s.link; kept = s.kept.items } };
+
+    ghost invariant = { λ s. IsTrue (fits s.link) };
+}
+
+/// Whether a moment is one that `step` takes: from 1970 on. A `Timestamp` ends with the year 9999.
+pub fn is_moment(moment: Timestamp) -> bool
+    ensures { IsTrue result ↔ (pos 0 ≤ℤ moment.nanosecond) }
+{
+    moment.as_nanosecond() >= 0
+}
+
+/// What a message means, or the Reject that answers it.
+fn understood(
+    alloc: Global,
+    fields: Fields<'_>,
+    house: &FirmId,
+) -> Result<Result<Inbound, Reject>, Memory>
+    ensures { IfOk result (λ m. m ≡ meaning_of house.now (pairs fields.entry)) }
+{
+    match meaning(alloc, fields, house) {
+        Ok(inbound) => Ok(Ok(inbound)),
+        Err(MeaningError::Reject(fault)) => Ok(Err(fault)),
+        Err(MeaningError::Memory) => Err(AllocError),
+    }
+}
+
+/// The id of the call that a message makes.
+fn id_of(meaning: &Result<Inbound, Reject>) -> Option<AllocId>
+    ensures { result ≡ option_map (λ c. c.id) (call_of_table meaning.now (Some 0)) }
+{
+    match meaning {
+        Ok(Inbound::Call { id, .. }) => Some(*id),
+        _ => None,
+    }
+}
+
+/// The call that a message makes, where it is handed out.
+fn call_of(number: Option<u32>, meaning: Result<Inbound, Reject>) -> Option<(AllocId, Command)>
+    ensures { result ≡ option_map (λ c. (c.id, c.command)) (call_of_table meaning number) }
+{
+    number?;
+    let id = id_of(&meaning)?;
+    match meaning {
+        Ok(Inbound::Call { command, .. }) => Some((id, command)),
+        _ => None,
+    }
+}
+
+/// Whether all numbers are within their range.
+fn fits(link: &Link) -> bool
+    ensures { result ≡ fits_of link.now }
+{
+    link.out <= LAST_NUMBER + 1 && link.want <= LAST_NUMBER
+}
+
+/// What stands for the meaning of no message: a Heartbeat asks for nothing.
+fn no_message() -> Result<Inbound, Reject>
+    ensures { result ≡ Ok Heartbeat }
+{
+    Ok(Inbound::Heartbeat)
+}
+
+/// The frames of a verdict.
+fn frames(
+    alloc: Global,
+    house: FirmId,
+    kept: &VecDeque<Kept>,
+    came: Option<Fields<'_>>,
+    number: u32,
+    verdict: &Verdict,
+    moment: Timestamp,
+) -> Result<Vec<u8>, Memory>
+    requires { pos 0 ≤ℤ moment.nanosecond }
+    ensures { IfOk result (λ send. send.items ≡ wire house verdict.now.link.firm (time_of moment)
+        (resends (time_of moment) kept.now.items verdict.now.resend ++ sayings (fields_of came.entry) number verdict.now.say)) }
+{
+    let mut send = Vec::new(alloc);
+    if let Some(firm) = verdict.link.firm {
+        let writer = Writer {
+            house,
+            firm,
+            time: SendingTime::new(moment),
+        };
+        write_resend(alloc, &mut send, &writer, kept, verdict.resend)?;
+        write_saying(alloc, &mut send, &writer, came, number, verdict.say)?;
+    }
+    Ok(send)
+}
+
+impl<'a> Session<'a> {
+    /// The session of a new connection to this house, before its Logon. Takes no memory.
+    pub fn new(alloc: Global, house: &'a House) -> Session<'a>
+        ensures { result ≡ opening house.now result.link.came }
+    {
+        let never = Timestamp::UNIX_EPOCH;
+        Session {
+            alloc,
+            house,
+            link: Link {
+                firm: None,
+                closed: false,
+                waiting: None,
+                want: 1,
+                out: 1,
+                asked: None,
+                heartbeat: 0,
+                came: never,
+                went: never,
+                tested: false,
+            },
+            kept: VecDeque::new(alloc),
+        }
+    }
+
+    /// Takes an event at a moment from 1970 to 9999, and answers what to do, by the table of `docs/profile.md`.
+    ///
+    /// After a `Message` whose actions have a call, the call is to be made and its answer handed in by a `Reply` before the
+    /// next `Message`. A `Reply` clears the call that waits; where none waits, only its reports are sent. A closed session
+    /// answers each event with no actions. Each report of a `Reply` shows at most 100 parts (`gu_message::shows_few_parts`). `Memory` leaves the session as it was, and the event may be handed in again.
+    pub fn step(&mut self, event: Event<'_>, moment: Timestamp) -> Result<Actions, Memory>
+        requires moment { pos 0 ≤ℤ moment.nanosecond }
+        requires few { ShowFewParts event }
+        ensures ok { IfOk result (λ a. Steps moment event.entry self.old self.new a) }
+        ensures err { OnErr result (self.new ≡ self.old) }
+    {
+        if self.link.closed {
+            return Ok(self.nothing(false));
+        }
+        match event {
+            Event::Message(fields) => self.message(fields, moment),
+            Event::Tick => self.tick(moment),
+            Event::Reply(answer, reports) => self.reply(&answer, reports.as_slice(), moment),
+            Event::End => Ok(self.shut_down()),
+        }
+    }
+
+    /// Whether a call waits for its Reply. Takes no memory.
+    pub fn awaiting(&self) -> bool
+        ensures { result ≡ is_some self.now.link.waiting }
+    {
+        self.link.waiting.is_some()
+    }
+
+    /// Whether the session is closed. Takes no memory.
+    pub fn closed(&self) -> bool
+        ensures { result ≡ self.now.link.closed }
+    {
+        self.link.closed
+    }
+
+    /// The firm of the accepted Logon; it stays when the session is closed. Takes no memory.
+    pub fn firm(&self) -> Option<FirmId>
+        ensures { result ≡ self.now.link.firm }
+    {
+        self.link.firm
+    }
+
+    /// Takes a message.
+    fn message(&mut self, fields: Fields<'_>, moment: Timestamp) -> Result<Actions, Memory>
+        requires { pos 0 ≤ℤ moment.nanosecond }
+        ensures ok { IfOk result (λ a. Gives (where_it_fits moment self.old (on_event moment self.old (StepEvent.Came (pairs fields.entry)))) self.new a) }
+        ensures err { OnErr result (self.new ≡ self.old) }
+    {
+        let house = self.house.house();
+        let meaning = understood(self.alloc, fields, &house)?;
+        let verdict = on_message(
+            moment,
+            self.house,
+            self.link,
+            header(fields, &house),
+            &meaning,
+            is_logout(fields),
+        );
+        self.act(Some(fields), meaning, verdict, moment)
+    }
+
+    /// Time has passed.
+    fn tick(&mut self, moment: Timestamp) -> Result<Actions, Memory>
+        requires { pos 0 ≤ℤ moment.nanosecond }
+        ensures ok { IfOk result (λ a. Gives (where_it_fits moment self.old (on_event moment self.old StepEvent.Tick)) self.new a) }
+        ensures err { OnErr result (self.new ≡ self.old) }
+    {
+        self.act(None, no_message(), on_tick(moment, self.link), moment)
+    }
+
+    /// Does what a verdict on a message, or on none, says: all frames are made before anything changes.
+    fn act(
+        &mut self,
+        came: Option<Fields<'_>>,
+        meaning: Result<Inbound, Reject>,
+        verdict: Verdict,
+        moment: Timestamp,
+    ) -> Result<Actions, Memory>
+        requires { pos 0 ≤ℤ moment.nanosecond }
+        ensures ok { IfOk result (λ a. Gives (where_it_fits moment self.old (acts moment self.old (fields_of came.entry) (call_of_table meaning verdict.call) verdict)) self.new a) }
+        ensures err { OnErr result (self.new ≡ self.old) }
+    {
+        if !fits(&verdict.link) {
+            return Ok(self.shut_down());
+        }
+        let send = frames(
+            self.alloc,
+            self.house.house(),
+            &self.kept,
+            came,
+            self.link.out,
+            &verdict,
+            moment,
+        )?;
+        self.link = verdict.link;
+        Ok(Actions {
+            send,
+            call: call_of(verdict.call, meaning),
+            close: verdict.link.closed,
+        })
+    }
+
+    /// Takes a Reply.
+    fn reply(
+        &mut self,
+        answer: &Option<Answer>,
+        reports: &[Report],
+        moment: Timestamp,
+    ) -> Result<Actions, Memory>
+        requires moment { pos 0 ≤ℤ moment.nanosecond }
+        requires few { All ShowsFewParts reports.now }
+        ensures ok { IfOk result (λ a. Gives (where_it_fits moment self.old (on_event moment self.old (StepEvent.Reply answer.now reports.now))) self.new a) }
+        ensures err { OnErr result (self.new ≡ self.old) }
+    {
+        match self.link.firm {
+            None => Ok(self.nothing(false)),
+            Some(firm) => self.tell(firm, answer, reports, moment),
+        }
+    }
+
+    /// Sends the answer to the call that waits, and reports, to the firm, and keeps them.
+    fn tell(
+        &mut self,
+        firm: FirmId,
+        answer: &Option<Answer>,
+        reports: &[Report],
+        moment: Timestamp,
+    ) -> Result<Actions, Memory>
+        requires moment { pos 0 ≤ℤ moment.nanosecond }
+        requires few { All ShowsFewParts reports.now }
+        requires firm { self.old.link.firm ≡ Some firm }
+        ensures ok { IfOk result (λ a. Gives (where_it_fits moment self.old (replies moment self.old (Some firm) answer.now reports.now)) self.new a) }
+        ensures err { OnErr result (self.new ≡ self.old) }
+    {
+        let link = self.link;
+        if !has_numbers(link.out, answers(link.waiting, answer), reports.len()) {
+            return Ok(self.shut_down());
+        }
+        let house = self.house.house();
+        let (fresh, send) = replied(self.alloc, house, firm, &link, answer, reports, moment)?;
+        self.keep_fresh(fresh, moment)?;
+        Ok(Actions {
+            send,
+            call: None,
+            close: false,
+        })
+    }
+
+    /// Keeps the new application messages, which were sent at this moment. The growth comes first.
+    fn keep_fresh(&mut self, fresh: Vec<Kept>, moment: Timestamp) -> Result<(), Memory>
+        requires { self.old.link.out + vec_len fresh ≤ 1000000000 }
+        ensures ok { OnOk result (self.new ≡ (tells moment self.old fresh.items).after) }
+        ensures err { OnErr result (self.new ≡ self.old) }
+    {
+        let count = fresh.len();
+        self.kept.reserve(count)?;
+        self.link.waiting = None;
+        self.link.out += count as u32;
+        if count > 0 {
+            self.link.went = moment;
+        }
+        keep(&mut self.kept, fresh);
+        Ok(())
+    }
+
+    /// Closes, and sends nothing.
+    fn shut_down(&mut self) -> Actions
+        ensures session { self.new ≡ record self.old { link = (shut_of self.old.link).link } }
+        ensures actions { IsEmpty true result }
+    {
+        self.link = shut(self.link).link;
+        self.nothing(true)
+    }
+
+    /// No actions.
+    fn nothing(&self, close: bool) -> Actions
+        ensures { IsEmpty close result }
+    {
+        Actions {
+            send: Vec::new(self.alloc),
+            call: None,
+            close,
+        }
+    }
+}

@@ -1,0 +1,411 @@
+//! The table of the session: what an event decides. `specs/Table.antt` states it line by line.
+
+ghost use Rattle.std.specs.Prelude.{◌≡◌, ◌≤◌, ◌+◌};
+ghost use Rattle.gu_session.specs.Table.{silent as silent_of, says as says_of, closes as closes_of, shut as shut_of, again as again_of, hands_out as hands_out_of, last_asked as last_asked_of, span_of, resend_of, first_logon as first_logon_of, before_logon as before_logon_of, resets as resets_of, asks as asks_of, fills as fills_of, by_type as by_type_of, on_line as on_line_of, heard as heard_of, open_gap as open_gap_of, settled as settled_of, on_message as on_message_of, waited as waited_of, by_silence as by_silence_of, on_tick as on_tick_of};
+
+use crate::line::{Line, line_of};
+use crate::link::{Link, Waiting};
+use crate::verdict::{Say, Span, Verdict};
+use gu_base::{AllocId, FirmId};
+use gu_codec::tags;
+use gu_message::{Heading, Inbound, LogoutText, Reject};
+use gu_parties::House;
+use jiff::Timestamp;
+
+/// SessionRejectReason (373) of a value that isn't allowed.
+const VALUE_IS_INCORRECT: u8 = 5;
+
+/// Nothing is sent.
+fn silent(link: Link) -> Verdict
+    ensures { result ≡ silent_of link }
+{
+    Verdict {
+        link,
+        resend: None,
+        say: None,
+        call: None,
+    }
+}
+
+/// One new message.
+fn says(moment: Timestamp, link: Link, say: Say) -> Verdict
+    requires { link.out ≤ 1000000000 }
+    ensures { result ≡ says_of moment link say }
+{
+    Verdict {
+        link: Link {
+            out: link.out + 1,
+            went: moment,
+            ..link
+        },
+        resend: None,
+        say: Some(say),
+        call: None,
+    }
+}
+
+/// A Logout, and the session is closed.
+fn closes(moment: Timestamp, link: Link, text: Option<LogoutText>) -> Verdict
+    requires { link.out ≤ 1000000000 }
+    ensures { result ≡ closes_of moment link text }
+{
+    says(
+        moment,
+        Link {
+            closed: true,
+            waiting: None,
+            ..link
+        },
+        Say::Logout(text),
+    )
+}
+
+/// The session is closed, and nothing is sent.
+pub fn shut(link: Link) -> Verdict
+    ensures { result ≡ shut_of link }
+{
+    silent(Link {
+        closed: true,
+        waiting: None,
+        ..link
+    })
+}
+
+/// A Reject of NewSeqNo (36).
+fn bad_new_number(moment: Timestamp, link: Link) -> Verdict
+    requires { link.out ≤ 1000000000 }
+    ensures { result ≡ says_of moment link (Say.Reject (record { reason = 5; tag = 36 })) }
+{
+    says(
+        moment,
+        link,
+        Say::Reject(Reject {
+            reason: VALUE_IS_INCORRECT,
+            tag: tags::NEW_SEQ_NO,
+        }),
+    )
+}
+
+/// A resend first, where there is anything to resend.
+fn again(moment: Timestamp, span: Option<Span>, verdict: Verdict) -> Verdict
+    ensures { result ≡ again_of moment span verdict }
+{
+    match span {
+        None => verdict,
+        Some(span) => Verdict {
+            link: Link {
+                went: moment,
+                ..verdict.link
+            },
+            resend: Some(span),
+            ..verdict
+        },
+    }
+}
+
+/// The last number that a ResendRequest asks for: 0 and a number past the last sent mean the last sent.
+fn last_asked(out: u32, to: u32) -> u32
+    ensures value { result ≡ last_asked_of out to }
+    ensures small { result ≤ out }
+{
+    if to == 0 || to >= out {
+        out.saturating_sub(1)
+    } else {
+        to
+    }
+}
+
+/// What a ResendRequest asks for, of what was sent.
+fn span(out: u32, from: u32, to: u32) -> Option<Span>
+    requires { out ≤ 1000000000 }
+    ensures { result ≡ span_of out from to }
+{
+    let last = last_asked(out, to);
+    if from <= last {
+        Some(Span {
+            from,
+            next: last + 1,
+        })
+    } else {
+        None
+    }
+}
+
+/// A Logon that is understood.
+fn first_logon(
+    moment: Timestamp,
+    house: &House,
+    link: Link,
+    heading: Heading,
+    heartbeat: u32,
+    reset: bool,
+) -> Verdict
+    requires { link.out ≤ 1000000000 }
+    ensures { result ≡ first_logon_of moment house.now link heading heartbeat reset }
+{
+    if heading.number == 1 && house.firm(&heading.firm) {
+        says(
+            moment,
+            Link {
+                firm: Some(heading.firm),
+                want: 2,
+                heartbeat,
+                came: moment,
+                ..link
+            },
+            Say::Logon { heartbeat, reset },
+        )
+    } else {
+        shut(link)
+    }
+}
+
+/// A message before the Logon.
+fn before_logon(
+    moment: Timestamp,
+    house: &House,
+    link: Link,
+    heading: Result<Heading, Reject>,
+    meaning: &Result<Inbound, Reject>,
+) -> Verdict
+    requires { link.out ≤ 1000000000 }
+    ensures { result ≡ before_logon_of moment house.now link heading meaning.now }
+{
+    match heading {
+        Err(_) => shut(link),
+        Ok(heading) => match meaning {
+            Ok(Inbound::Logon { heartbeat, reset }) => {
+                first_logon(moment, house, link, heading, *heartbeat, *reset)
+            }
+            _ => shut(link),
+        },
+    }
+}
+
+/// A call is handed out, and waits for its Reply.
+fn hands_out(link: Link, number: u32, trade: bool, id: AllocId) -> Verdict
+    ensures { result ≡ hands_out_of link number trade id }
+{
+    Verdict {
+        link: Link {
+            waiting: Some(Waiting { trade, id }),
+            ..link
+        },
+        resend: None,
+        say: None,
+        call: Some(number),
+    }
+}
+
+/// A reset of the wanted number, which may not fall.
+fn resets(moment: Timestamp, link: Link, next: u32) -> Verdict
+    requires { link.out ≤ 1000000000 }
+    ensures { result ≡ resets_of moment link next }
+{
+    if link.want <= next {
+        silent(Link { want: next, ..link })
+    } else {
+        bad_new_number(moment, link)
+    }
+}
+
+/// A gap, which is asked for once.
+fn asks(moment: Timestamp, link: Link, number: u32) -> Verdict
+    requires { link.out ≤ 1000000000 }
+    ensures { result ≡ asks_of moment link number link.asked }
+{
+    match link.asked {
+        None => says(
+            moment,
+            Link {
+                asked: Some(number),
+                ..link
+            },
+            Say::ResendRequest { from: link.want },
+        ),
+        Some(highest) => silent(Link {
+            asked: Some(highest.max(number)),
+            ..link
+        }),
+    }
+}
+
+/// Numbers that are passed over, from the message's own on.
+fn fills(moment: Timestamp, link: Link, number: u32, next: u32) -> Verdict
+    requires { link.out ≤ 1000000000 }
+    ensures { result ≡ fills_of moment link number next }
+{
+    if number < next {
+        silent(Link { want: next, ..link })
+    } else {
+        bad_new_number(moment, link)
+    }
+}
+
+/// The message with the wanted number, by its type.
+fn by_type(moment: Timestamp, link: Link, number: u32, meaning: &Result<Inbound, Reject>) -> Verdict
+    requires { link.out ≤ 1000000000 }
+    ensures { result ≡ by_type_of moment link number meaning.now }
+{
+    match meaning {
+        Err(fault) => says(moment, link, Say::Reject(*fault)),
+        Ok(Inbound::Heartbeat) => silent(link),
+        Ok(Inbound::Reject) => silent(link),
+        Ok(Inbound::TestRequest { id }) => says(moment, link, Say::Heartbeat(Some(*id))),
+        Ok(Inbound::Logout) => closes(moment, link, None),
+        Ok(Inbound::Logon { .. }) => closes(moment, link, Some(LogoutText::SecondLogon)),
+        Ok(Inbound::SequenceReset { next, .. }) => fills(moment, link, number, *next),
+        Ok(Inbound::ResendRequest { from, to }) => {
+            again(moment, span(link.out, *from, *to), silent(link))
+        }
+        Ok(Inbound::Call { trade, id, .. }) => hands_out(link, number, *trade, *id),
+    }
+}
+
+/// What the line of a message decides.
+fn on_line(moment: Timestamp, link: Link, meaning: &Result<Inbound, Reject>, line: Line) -> Verdict
+    requires out { link.out ≤ 1000000000 }
+    requires want { link.want ≤ 999999999 }
+    ensures { result ≡ on_line_of moment link meaning.now line }
+{
+    match line {
+        Line::BadHeader => closes(moment, link, Some(LogoutText::BadHeader)),
+        Line::Reset { next } => resets(moment, link, next),
+        Line::Duplicate => silent(link),
+        Line::TooLow => closes(
+            moment,
+            link,
+            Some(LogoutText::NumberTooLow {
+                expected: link.want,
+            }),
+        ),
+        Line::LogoutAbove => closes(moment, link, None),
+        Line::Gap { number } => {
+            let span = resend(link.out, meaning);
+            again(moment, span, asks(moment, link, number))
+        }
+        Line::Wanted { number } => by_type(
+            moment,
+            Link {
+                want: link.want + 1,
+                ..link
+            },
+            number,
+            meaning,
+        ),
+    }
+}
+
+/// The span of a ResendRequest.
+fn resend(out: u32, meaning: &Result<Inbound, Reject>) -> Option<Span>
+    requires { out ≤ 1000000000 }
+    ensures { result ≡ resend_of out meaning.now }
+{
+    match meaning {
+        Ok(Inbound::ResendRequest { from, to }) => span(out, *from, *to),
+        _ => None,
+    }
+}
+
+/// A message came.
+fn heard(moment: Timestamp, link: Link) -> Link
+    ensures { result ≡ heard_of moment link }
+{
+    Link {
+        came: moment,
+        tested: false,
+        ..link
+    }
+}
+
+/// A gap that was asked for is closed as soon as the wanted number is past it.
+fn open_gap(want: u32, asked: Option<u32>) -> Option<u32>
+    ensures { result ≡ open_gap_of want asked }
+{
+    match asked {
+        None => None,
+        Some(highest) => { if highest < want { None } else { Some(highest) } }
+    }
+}
+
+fn settled(verdict: Verdict) -> Verdict
+    ensures { result ≡ settled_of verdict }
+{
+    Verdict {
+        link: Link {
+            asked: open_gap(verdict.link.want, verdict.link.asked),
+            ..verdict.link
+        },
+        ..verdict
+    }
+}
+
+/// What a message decides.
+pub fn on_message(
+    moment: Timestamp,
+    house: &House,
+    link: Link,
+    heading: Result<Heading, Reject>,
+    meaning: &Result<Inbound, Reject>,
+    is_logout: bool,
+) -> Verdict
+    requires out { link.out ≤ 1000000000 }
+    requires want { link.want ≤ 999999999 }
+    ensures { result ≡ on_message_of moment house.now link heading meaning.now is_logout }
+{
+    let verdict = match link.firm {
+        None => before_logon(moment, house, link, heading, meaning),
+        Some(firm) => {
+            let line = line_of(&link, firm, heading, meaning, is_logout);
+            on_line(moment, heard(moment, link), meaning, line)
+        }
+    };
+    settled(verdict)
+}
+
+/// Whole seconds from one moment to another, 0 where that is earlier.
+fn waited(since: Timestamp, moment: Timestamp) -> u64
+    ensures { result ≡ waited_of since moment }
+{
+    let seconds = moment.duration_since(since).as_secs();
+    if seconds < 0 { 0 } else { seconds as u64 }
+}
+
+/// What the passing of time decides after the Logon.
+fn by_silence(moment: Timestamp, link: Link) -> Verdict
+    requires { link.out ≤ 1000000000 }
+    ensures { result ≡ by_silence_of moment link }
+{
+    let heartbeat = u64::from(link.heartbeat);
+    let came = waited(link.came, moment);
+    let went = waited(link.went, moment);
+    if heartbeat == 0 {
+        silent(link)
+    } else if 3 * heartbeat <= came {
+        closes(moment, link, Some(LogoutText::NoHeartbeat))
+    } else if 2 * heartbeat <= came && !link.tested {
+        says(
+            moment,
+            Link {
+                tested: true,
+                ..link
+            },
+            Say::TestRequest,
+        )
+    } else if heartbeat <= went {
+        says(moment, link, Say::Heartbeat(None))
+    } else {
+        silent(link)
+    }
+}
+
+/// What the passing of time decides.
+pub fn on_tick(moment: Timestamp, link: Link) -> Verdict
+    requires { link.out ≤ 1000000000 }
+    ensures { result ≡ on_tick_of moment link link.firm }
+{
+    match link.firm {
+        None => silent(link),
+        Some(_) => by_silence(moment, link),
+    }
+}

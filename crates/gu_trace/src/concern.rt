@@ -1,0 +1,77 @@
+//! Which firms an entry concerns.
+ghost use Rattle.std.specs.Prelude.{◌≡◌, bytes_eq};
+ghost use Rattle.std.specs.List.{list_any};
+ghost use Rattle.gu_base.specs.Answers.{entry_of};
+ghost use Rattle.gu_trace.specs.Concerns.{is_between, change_concerns, record_concerns, concerns};
+
+use crate::lookup::{entry_at, node_at};
+use gu_base::{Command, Entry, FirmId, Kind, Node, Number, Part};
+
+/// Whether the firm is the giver or the taker of a node.
+fn is_between(firm: &FirmId, node: &Option<Node>) -> bool
+    ensures { result ≡ is_between firm.now node.now }
+{
+    match node {
+        None => false,
+        Some(x) => match &x.kind {
+            Kind::Given { giver, taker, .. } => *giver == *firm || *taker == *firm,
+            Kind::Root(_) | Kind::Own { .. } => false,
+        },
+    }
+}
+
+/// Whether some part is one for the firm.
+fn has_part_for(firm: &FirmId, parts: &[Part]) -> bool
+    ensures { result ≡ list_any (λ p. bytes_eq p.firm firm.now) parts.now }
+{
+    parts.iter().any(|p| p.firm == *firm)
+}
+
+/// Whether a change of the firm `by` concerns the firm.
+fn change_concerns(
+    house: &FirmId,
+    entries: &[Entry],
+    firm: &FirmId,
+    by: &FirmId,
+    command: &Command,
+) -> bool
+    ensures { result ≡ change_concerns house.now entries.now firm.now by.now command.now }
+{
+    match command {
+        Command::Trade { firm: owner, .. } => *house == *firm || *owner == *firm,
+        Command::Split { parts, .. } => *by == *firm || has_part_for(firm, parts.as_slice()),
+        Command::Claim { node, .. } => is_between(firm, &node_at(entries, node)),
+        Command::Refuse { node } => is_between(firm, &node_at(entries, node)),
+        Command::Cancel { node } => is_between(firm, &node_at(entries, node)),
+        _ => false,
+    }
+}
+
+/// Whether the change of this number concerns the firm.
+fn entry_concerns(house: &FirmId, entries: &[Entry], firm: &FirmId, number: Number) -> bool
+    ensures { result ≡ record_concerns house.now entries.now firm.now (entry_of entries.now number) }
+{
+    match entry_at(entries, number) {
+        None => false,
+        Some(e) => change_concerns(house, entries, firm, &e.firm, &e.command),
+    }
+}
+
+/// Whether an entry of the firm `by` concerns the firm. An Initiate, Decline or Reverse concerns those whom the change that it names
+/// concerns.
+pub(crate) fn concerns(
+    house: &FirmId,
+    entries: &[Entry],
+    firm: &FirmId,
+    by: &FirmId,
+    command: &Command,
+) -> bool
+    ensures { result ≡ concerns house.now entries.now firm.now by.now command.now }
+{
+    match command {
+        Command::Initiate { entry } | Command::Decline { entry } | Command::Reverse { entry } => {
+            entry_concerns(house, entries, firm, *entry)
+        }
+        _ => change_concerns(house, entries, firm, by, command),
+    }
+}

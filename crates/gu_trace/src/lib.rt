@@ -1,0 +1,20 @@
+//! What the book tells: reports to firms, the trace of a trade, and the totals of the day.
+//!
+//! - `reports` gives a firm what is told of the first 100 entries above a number that concern it, each with the fields of an
+//!   AllocationReport. It begins at that number and looks nodes up by their entry, so it doesn't walk over the whole history.
+//! - `trace` writes the tree of a live trade, a line for each node with the fee of each claim; `totals` writes positions, fees and
+//!   used agreements in the order of the house file.
+//! - Each is a function of the book's house table and history, which the definitions in `specs/` give; an error leaves `out` as it was.
+//! - The book is only read.
+#![tactic(auto)]
+
+mod chain;
+mod concern;
+mod lookup;
+mod sums;
+mod telling;
+
+pub use chain::{TraceError, trace};
+pub use gu_base::{Report, ReportPart, ReportParts, Target};
+pub use sums::totals;
+pub use telling::reports;
