@@ -1,12 +1,11 @@
 -- What is told of a stream that was read along.
-use Rattle.std.proofs.Common.{◌≡◌, ℕ, ◌+◌, ◌^◌, ◌<◌, List, [], ◌∷◌, ◌++◌, take, drop, Option, Some, None, Result, Ok, Err, refl, sym, ap, subst, ◌∙◌, arith, take-append-drop}
+use Rattle.std.proofs.Common.{◌≡◌, ℕ, ◌<◌, List, [], ◌∷◌, take, drop, Option, None, Result, Ok, Err, refl, sym, ap, subst, ◌∙◌, arith, take-append-drop}
 use Rattle.std.specs.Io.KnownBytes.{Appends}
 use Rattle.std.proofs.KnownBytes.{Appends-nil}
 use Rattle.gu_base.specs.House.{House}
 use Rattle.gu_base.specs.declared.entry.Entry.{Entry}
 use Rattle.gu_codec.specs.Messages.{Message}
 use Rattle.gu_codec.specs.Readings.{messages_of}
-use Rattle.gu_message.specs.Meaning.{meaning_of}
 use Rattle.gu_server.specs.Counts.{Fails}
 use Rattle.gu_server.specs.Output.{Progress, start, progress_after, progress_along, progress_of, history_of}
 use Rattle.gu_server.specs.Runs.{Told, IsRightFor, RunsTo}

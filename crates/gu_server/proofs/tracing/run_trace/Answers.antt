@@ -1,4 +1,3 @@
-use Rattle.std.proofs.Common.{◌≡◌, ap, refl, rules}
 use Rattle.std.proofs.lemmas.Result.{err_from_is_err_and}
 use Rattle.gu_server.proofs.ReadAlong.{stream_wrong, told_wrong, told_right, front_told}
 use Rattle.gu_server.proofs.tracing.run_trace.Goals as goal
