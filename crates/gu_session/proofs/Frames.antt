@@ -16,7 +16,8 @@ use Rattle.gu_session.specs.Going.{Going}
 use Rattle.gu_session.specs.Steps.{Seen, Event, Came, Tick, Reply, End, Outcome, filling, fits, shut_down, idle, replies, on_event, step_of, opening}
 use Rattle.gu_session.specs.Text.{text_of}
 use Rattle.gu_session.specs.Runs.{outcomes, new_of, again_of, frames_to, frames_of, IsSentAgain, IsAgain, Fills, Repeats, IsAsSent, ResendsAreAsSent}
-use Rattle.gu_session.proofs.Lines.{either_way, firm_on_message, firm_on_tick}
+use Rattle.gu_base.proofs.Basics.{either_way}
+use Rattle.gu_session.proofs.Lines.{firm_on_message, firm_on_tick}
 use Rattle.gu_session.proofs.Stepping.{moves_step}
 use Rattle.gu_session.proofs.Runs.{Early}
 use Rattle.gu_session.proofs.Resends.{as_new, IsEcho, Fills as EchoFills, Repeats as EchoRepeats}
