@@ -38,11 +38,13 @@ front_refusal t h given by (Decline n) = naming_refusal t h given by (Decline n)
 front_refusal t h given by (Reverse n) = naming_refusal t h given by (Reverse n) n
 front_refusal t h given by change = refusal_of t (live h) by change
 
+-- the answer by the rules, if nothing stood on any change
+abbrev pub front_rules : House → List Entry → (ℕ → List (List ℕ)) → List ℕ → Command → Answer
+front_rules t h given by c = accepted_or (length h + 1) (status_of by c) (first (unless (nat_lt (length h) most_entries) BookFull ∷ front_refusal t h given by c ∷ []))
+
 -- the answer, if nothing stood on any change
 abbrev pub front_answer : House → List Entry → (ℕ → List (List ℕ)) → Call → Answer
-front_answer t h given c = answer_by (find (is_same_call c) (records h)) (find (is_same_id c) (records h))
-    (accepted_or (length h + 1) (status_of c.firm c.command)
-    (first (unless (nat_lt (length h) most_entries) BookFull ∷ front_refusal t h given c.firm c.command ∷ [])))
+front_answer t h given c = answer_by (find (is_same_call c) (records h)) (find (is_same_id c) (records h)) (front_rules t h given c.firm c.command)
 
 -- what may still refuse a Reverse: the first change that stands on its entry
 abbrev pub stands_refusal : House → List Entry → Command → Option Refusal

@@ -19,6 +19,7 @@
 #![tactic(auto)]
 
 pub mod book;
+mod index;
 pub mod laws;
 mod plain;
 mod replay;
