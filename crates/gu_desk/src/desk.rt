@@ -83,10 +83,7 @@ impl<J: Job> Desk<J> {
     /// # Errors
     ///
     /// The book, and `Memory` where a growth was refused.
-    pub fn new(
-        alloc: Global,
-        ground: Ground,
-    ) -> Result<(Desk<J>, Vec<Seat<J>>), (Book, Memory)>
+    pub fn new(alloc: Global, ground: Ground) -> Result<(Desk<J>, Vec<Seat<J>>), (Book, Memory)>
         requires name { ground.name ≡ J.name }
         requires parts { ground.workers + 1 ≡ J.parts }
         requires opening { ground.opening ≡ J.opening }

@@ -40,11 +40,7 @@ impl<J: Job> Model for Till<J> {
 }
 
 /// Counts an accepted call in the total and in the share of the seat that made it.
-fn count<J: Job>(
-    total: &mut ledger::Book<J>,
-    share: &mut Share<J>,
-    answer: &Result<Answer, Memory>,
-)
+fn count<J: Job>(total: &mut ledger::Book<J>, share: &mut Share<J>, answer: &Result<Answer, Memory>)
     requires { share.old.parts ≡ 1 }
     ensures total { total.new.total ≡ total.old.total + gained answer.now }
     ensures amount { share.new.amount ≡ share.old.amount + gained answer.now }
