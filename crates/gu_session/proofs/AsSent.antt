@@ -1,10 +1,9 @@
 -- Along every list of steps, what is sent again covers its span, and is what was sent.
-use Rattle.std.proofs.Common.{◌≡◌, ℕ, ◌+◌, ◌≤◌, Bool, true, false, List, [], ◌∷◌, ◌++◌, map, refl, sym, ap, subst, ◌∙◌, arith}
-use Rattle.std.specs.Prelude.{Option, Some, None, IfSome, Result, Ok}
+use Rattle.std.proofs.Common.{◌≡◌, ℕ, ◌+◌, ◌≤◌, List, [], ◌∷◌, ◌++◌, refl, sym, subst, arith}
+use Rattle.std.specs.Prelude.{Option, Some, None, Result, Ok}
 use Rattle.std.specs.List.{All}
 use Rattle.std.proofs.lemmas.List.Elements.{All-nil, All-cons}
 use Rattle.jiff.specs.Types.{Timestamp}
-use Rattle.gu_base.specs.House.{House}
 use Rattle.gu_base.specs.declared.entry.Answer.{Answer}
 use Rattle.gu_base.specs.declared.report.Report.{Report}
 use Rattle.gu_codec.specs.Messages.{Message}
@@ -13,17 +12,17 @@ use Rattle.gu_message.specs.declared.inbound.Inbound.{Inbound}
 use Rattle.gu_message.specs.declared.inbound.Inbound.TheVariants.{Heartbeat}
 use Rattle.gu_message.specs.Heading.{heading_of}
 use Rattle.gu_message.specs.Meaning.{meaning_of}
-use Rattle.gu_session.specs.declared.kept.Kept.{Kept}
 use Rattle.gu_session.specs.declared.verdict.Verdict.{Verdict}
 use Rattle.gu_session.specs.Going.{Going}
 use Rattle.gu_session.specs.Table.{on_tick}
-use Rattle.gu_session.specs.Steps.{Seen, Event, Came, Tick, Reply, End, Outcome, Called, where_it_fits, resends, sayings, kept_from, tellings, new, fits, shut_down, idle, acts, replies, tells, message_verdict, on_event, step_of, opening, time_of}
-use Rattle.gu_session.specs.Runs.{outcomes, new_of, again_of, Covers, CoversSpan, IsAgain, sent_by, IsAsSent, ResendsCoverTheirSpan, ResendsAreAsSent}
-use Rattle.gu_session.proofs.Lines.{count, either_way, Goes, goes_on_message, goes_on_tick}
+use Rattle.gu_session.specs.Steps.{Seen, Event, Came, Tick, Reply, End, Outcome, Called, kept_from, tellings, fits, shut_down, idle, acts, replies, tells, message_verdict, on_event, step_of, opening, time_of}
+use Rattle.gu_session.specs.Runs.{outcomes, again_of, CoversSpan, IsAgain, sent_by, IsAsSent, ResendsCoverTheirSpan, ResendsAreAsSent}
+use Rattle.gu_session.proofs.Lines.{Goes, goes_on_message, goes_on_tick}
 use Rattle.gu_session.proofs.Sent.{acts_again, tells_new, tells_again}
 use Rattle.gu_session.proofs.Stepping.{moves_step}
 use Rattle.gu_session.proofs.Runs.{Early}
 use Rattle.gu_session.proofs.Resends.{RisesTo, rises_higher, rises_last, covers_span, WasSent, sent_more, at_time, last_sent, resends_again}
+use Rattle.gu_base.proofs.Basics.{either_way}
 
 -- what a step does with the messages that are kept, where these were sent so far
 record Keeping (sent : List (List ℕ × Going)) (o : Outcome) : Type 0 where

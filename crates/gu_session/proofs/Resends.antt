@@ -1,20 +1,17 @@
 -- What is sent again: each number of its span once, and what was sent with it.
-use Rattle.std.proofs.Common.{◌≡◌, ℕ, zero, suc, ◌+◌, ◌-◌, ◌<◌, ◌≤◌, Bool, true, false, nat_lt, nat_le, ◌&&◌, List, [], ◌∷◌, ◌++◌, length, map, drop, refl, sym, ap, subst, ◌∙◌, arith, append-nil}
-use Rattle.std.specs.Prelude.{Option, Some, None, IfSome, filter, codes}
+use Rattle.std.proofs.Common.{◌≡◌, ℕ, zero, suc, ◌+◌, ◌-◌, ◌<◌, ◌≤◌, true, nat_lt, nat_le, ◌&&◌, List, [], ◌∷◌, ◌++◌, length, map, drop, refl, subst, arith, append-nil}
+use Rattle.std.specs.Prelude.{Option, Some, None, IfSome}
 use Rattle.std.specs.List.{All, AllByRecursion, Contains}
 use Rattle.std.proofs.lemmas.Bool.{ltb-true}
 use Rattle.std.proofs.lemmas.Bool.Decides.{nat_tests}
 use Rattle.std.proofs.lemmas.List.Elements.{All-nil, All-cons, All-append, All-weaker, All-drop, All-filter, recursion_from_All, Contains-append_left, Contains-append_right}
-use Rattle.jiff.specs.Types.{Timestamp}
-use Rattle.gu_base.specs.House.{House}
-use Rattle.gu_codec.specs.Messages.{Message}
 use Rattle.gu_session.specs.declared.kept.Kept.{Kept}
 use Rattle.gu_session.specs.declared.kept.Told.{Told}
 use Rattle.gu_session.specs.declared.verdict.Span.{Span}
 use Rattle.gu_session.specs.Going.{Going}
 use Rattle.gu_session.specs.Steps.{resent, gap_fill, with_gaps, within, resends, kept_from, last_kept, new}
-use Rattle.gu_session.specs.Runs.{new_of, again_of, Covers, CoversSpan, as_new, IsAgain, Fills, Repeats}
-use Rattle.gu_session.proofs.Lines.{either_way}
+use Rattle.gu_session.specs.Runs.{Covers, CoversSpan, IsAgain, Fills, Repeats}
+use Rattle.gu_base.proofs.Basics.{either_way}
 
 -- ---- the kept messages' numbers rise, from one number to below another
 
