@@ -8,6 +8,8 @@
 //! reading the seat. So one refused growth changes nothing of what is written on standard output.
 #![tactic(auto)]
 
+ghost use Rattle.std.specs.Prelude.{◌≡◌, ◌+◌};
+
 mod calls;
 mod holding;
 mod opening;
