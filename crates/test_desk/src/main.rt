@@ -21,7 +21,7 @@ use gu_base::Answer;
 use gu_book::Book;
 use gu_desk::{CloseError, Desk, Ground, Job, Seat};
 use gu_parties::House;
-use holding::{Holds, Turns};
+use holding::Turns;
 use opening::opened;
 use std::alloc::Global;
 use std::io::{Eprint, Read};
@@ -77,7 +77,8 @@ fn run<J: Job + Send + Sync, R: Threads + Wait + Clock + Print + Eprint + Sync>(
     rt: &R,
     alloc: Global,
     ground: Ground,
-    calls: &(Call, Call),
+    held_call: &Call,
+    free_call: &Call,
 ) -> io::Result<Result<Option<Book>, Book>>
     requires name { ground.name ≡ J.name }
     requires parts { ground.workers + 1 ≡ J.parts }
@@ -91,11 +92,10 @@ fn run<J: Job + Send + Sync, R: Threads + Wait + Clock + Print + Eprint + Sync>(
         return Ok(Ok(None));
     };
     let turns = Mutex::new(Turns::new());
-    let gate = Holds::new(rt, &turns);
     let (held, passed) = thread::join(
         rt,
-        || held_work(rt, alloc, &desk, first, &gate, &calls.0),
-        || released_work(rt, alloc, &desk, second, &gate, &calls.1),
+        || held_work(rt, alloc, &desk, first, &turns, held_call),
+        || released_work(rt, alloc, &desk, second, &turns, free_call),
     );
     tell(rt, "CCC", &passed.answer, passed.told.as_slice())?;
     tell(rt, "AAA", &held.answer, held.told.as_slice())?;
@@ -107,10 +107,11 @@ fn attempt<R: Threads + Wait + Clock + Print + Eprint + Sync>(
     rt: &R,
     alloc: Global,
     book: Book,
-    calls: &(Call, Call),
+    held_call: &Call,
+    free_call: &Call,
 ) -> io::Result<Result<Option<Book>, Book>> {
     match Ground::new(alloc, book, 2) {
-        Ok(ground) => run::<Brand, R>(rt, alloc, ground, calls),
+        Ok(ground) => run::<Brand, R>(rt, alloc, ground, held_call, free_call),
         Err((book, _)) => Ok(Err(book)),
     }
 }
@@ -120,16 +121,17 @@ fn play<R: Threads + Wait + Clock + Print + Eprint + Sync>(
     rt: &R,
     alloc: Global,
     house: House,
-    calls: &(Call, Call),
+    held_call: &Call,
+    free_call: &Call,
 ) -> io::Result<()> {
     let Some(book) = opened(rt, alloc, house) else {
         return println!(rt; "the trades aren't accepted");
     };
-    let book = match attempt(rt, alloc, book, calls)? {
+    let book = match attempt(rt, alloc, book, held_call, free_call)? {
         Ok(book) => book,
         Err(book) => {
             tell_refused(rt);
-            match attempt(rt, alloc, book, calls)? {
+            match attempt(rt, alloc, book, held_call, free_call)? {
                 Ok(book) => book,
                 Err(book) => Some(book),
             }
@@ -149,14 +151,14 @@ fn main(rt: HostRuntime) -> io::Result<()> {
         tell_refused(&rt);
         rt.reader().read_to_end(&mut text)?;
     }
-    let (Some(first), Some(second)) = (
+    let (Some(held), Some(free)) = (
         twice(&rt, || split(alloc, b"AAA", 1, b"A2", 100))?,
         twice(&rt, || split(alloc, b"CCC", 2, b"C1", 10))?,
     ) else {
         return println!(rt; "no calls");
     };
     match twice(&rt, || House::parse(alloc, text.as_slice())) {
-        Ok(house) => play(&rt, alloc, house, &(first, second)),
+        Ok(house) => play(&rt, alloc, house, &held, &free),
         Err(_) => println!(rt; "no house"),
     }
 }

@@ -1,13 +1,13 @@
 //! What the two workers do.
 
 use crate::calls::Call;
-use crate::holding::Holds;
+use crate::holding::{Holds, Turns};
 use crate::twice::tell_refused;
 use gu_base::{Answer, FirmId, Memory};
 use gu_desk::{Desk, Gate, Job, Seat};
 use std::alloc::Global;
 use std::io::Eprint;
-use std::sync::Wait;
+use std::sync::{Mutex, Wait};
 use std::time::Clock;
 
 /// What a worker comes back with: its seat, the answer to its call, and the numbers of the reports to its firm.
@@ -76,9 +76,10 @@ pub(crate) fn held_work<J: Job, R: Wait + Clock + Eprint>(
     alloc: Global,
     desk: &Desk<J>,
     seat: Seat<J>,
-    gate: &Holds<'_, R>,
+    turns: &Mutex<Turns>,
     call: &Call,
 ) -> Work<J> {
+    let gate = Holds::new(rt, turns);
     if !gate.before_book(0) {
         return Work {
             seat,
@@ -97,11 +98,12 @@ pub(crate) fn released_work<J: Job, R: Wait + Clock + Eprint>(
     alloc: Global,
     desk: &Desk<J>,
     seat: Seat<J>,
-    gate: &Holds<'_, R>,
+    turns: &Mutex<Turns>,
     call: &Call,
 ) -> Work<J> {
+    let gate = Holds::new(rt, turns);
     gate.has_come();
-    let work = held_work(rt, alloc, desk, seat, gate, call);
+    let work = held_work(rt, alloc, desk, seat, turns, call);
     gate.release();
     work
 }
