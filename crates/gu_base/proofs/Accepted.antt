@@ -17,6 +17,7 @@ use Rattle.gu_base.specs.declared.entry.Record.{Record}
 use Rattle.gu_base.specs.declared.refusal.Refusal.{Refusal}
 use Rattle.gu_base.specs.declared.refusal.Refusal.TheVariants.{NotAChange, AlreadyReversed, NotAParty, BookFull}
 use Rattle.gu_base.specs.declared.state.State.{State}
+use Rattle.gu_base.proofs.Basics.{mapped_none}
 
 -- a row without a refusal has none at its first line, and none behind it
 pub first_none : (o : Option Refusal) (rest : List (Option Refusal)) → first (o ∷ rest) ≡ None → (o ≡ None) × (first rest ≡ None)
@@ -26,10 +27,6 @@ first_none (Some r) rest h = absurd (cc)
 pub unless_none : (b : Bool) (r : Refusal) → unless b r ≡ None → b ≡ true
 unless_none true r h = refl
 unless_none false r h = cc
-
-pub mapped_none : {A : Type 0} (f : A → Refusal) (o : Option A) → option_map f o ≡ None → o ≡ None
-mapped_none f None h = refl
-mapped_none f (Some a) h = cc
 
 -- a call that is accepted has an id of its own, and no refusal
 pub accepted_parts : (same dup : Option Record) (number : ℕ) (status : State) (o : Option Refusal) (n : ℕ) (s : State)

@@ -1,6 +1,6 @@
 -- Small facts about tests, options and filters.
-use Rattle.std.proofs.Common.{◌≡◌, ℕ, Bool, true, false, ◌&&◌, ◌||◌, List, [], ◌∷◌, refl, sym, ap, cond, Option}
-use Rattle.std.specs.Prelude.{Some, None, filter, bytes_eq, ◌==◌}
+use Rattle.std.proofs.Common.{◌≡◌, ℕ, Bool, true, false, ◌&&◌, ◌||◌, List, [], ◌∷◌, refl, sym, ap, subst, cond, Option}
+use Rattle.std.specs.Prelude.{Some, None, filter, bytes_eq, ◌==◌, IsTrue, option_map}
 use Rattle.std.specs.Option.{option_or}
 use Rattle.std.proofs.lemmas.Bool.Decides.{Decides-eqb, same_from_decides}
 use Rattle.std.proofs.lemmas.Slice.Eq.{bytes_eq-Decides}
@@ -13,8 +13,24 @@ pub or_none : {A : Type 0} (o : Option A) → option_or o None ≡ o
 or_none None = refl
 or_none (Some x) = refl
 
-pub some_same : {A : Type 0} (a b : A) → Some a ≡ Some b → a ≡ b
-some_same a b h = cc
+pub none_is_some : {A : Type 0} (o : Option A) (a : A) → o ≡ None → o ≡ Some a → ⊥
+none_is_some o a e f = cc
+
+pub no_some : {A : Type 0} (o : Option A) → ((a : A) → o ≡ Some a → ⊥) → o ≡ None
+no_some None absent = refl
+no_some (Some a) absent = absurd (absent a refl)
+
+pub mapped_none : {A B : Type 0} (f : A → B) (o : Option A) → option_map f o ≡ None → o ≡ None
+mapped_none f None h = refl
+mapped_none f (Some a) h = absurd (cc)
+
+pub still_true : (old new : Bool) → new ≡ old → IsTrue old → IsTrue new
+still_true old new same is = subst (λ b. IsTrue b) (sym same) is
+
+-- what holds of either of two values, each in its case
+pub either_way : {A : Type 0} (P : A → Type 0) (b : Bool) (x y : A) → (b ≡ true → P x) → (b ≡ false → P y) → P (cond b x y)
+either_way P true x y f g = f refl
+either_way P false x y f g = g refl
 
 -- a search that finds nothing passes over its first element
 pub nothing_here : {A : Type 0} (b : Bool) (x : A) (rest : Option A) → cond b (Some x) rest ≡ None → (b ≡ false) × (rest ≡ None)

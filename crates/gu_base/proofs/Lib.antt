@@ -1,10 +1,15 @@
 pub mod Worked
 pub mod NameText
 pub mod Basics
+pub mod Searches
+pub mod Sums
+pub mod NodeNames
 pub mod Lines
 pub mod Numbered
 pub mod LiveLaws
 pub mod LegalLaws
 pub mod Accepted
+pub mod Passing
+pub mod Decisions
 pub mod Consenting
 pub mod RunLaws

@@ -1,19 +1,15 @@
 -- What later changes leave of a node's line.
-use Rattle.std.proofs.Common.{◌≡◌, ℕ, zero, suc, ◌+◌, ◌-◌, min, cond, ◌&&◌, ◌<◌, ◌≤◌, Bool, true, false, List, [], ◌∷◌, ◌++◌, length, refl, sym, ◌∙◌, ap, arith, Option}
-use Rattle.std.specs.Prelude.{Some, None, find, option_and_then, ◌==◌}
+use Rattle.std.proofs.Common.{◌≡◌, ℕ, zero, suc, ◌+◌, ◌-◌, min, ◌<◌, ◌≤◌, List, [], ◌∷◌, ◌++◌, length, refl, sym, ◌∙◌, ap, arith, Option}
+use Rattle.std.specs.Prelude.{Some, None, find, option_and_then}
 use Rattle.std.specs.Option.{option_or}
 use Rattle.std.proofs.lemmas.List.Folds.{find-append}
 use Rattle.std.proofs.lemmas.Grind.{flat_map-append}
 use Rattle.gu_base.specs.Numbers.{EntryPart}
 use Rattle.gu_base.specs.declared.entry.Record.{Record}
-use Rattle.gu_base.specs.Nodes.{node_of, nodes, nodes_of, nodes_of_parts, kind_of_part, same_name, parent}
+use Rattle.gu_base.specs.Nodes.{node_of, nodes, nodes_of, same_name, parent}
 use Rattle.gu_base.specs.Places.{line_within, line_of}
-use Rattle.std.proofs.lemmas.Bool.Decides.{Decides-eqb}
-use Rattle.gu_base.specs.declared.command.Part.{Part}
-use Rattle.gu_base.specs.declared.command.Command.{Command}
-use Rattle.gu_base.specs.declared.command.Command.TheVariants.{Trade, Split, Claim, Refuse, Cancel, Initiate, Decline, Reverse}
-use Rattle.gu_base.specs.declared.node.Kind.TheVariants.{Root}
 use Rattle.gu_base.specs.declared.node.Node.{Node}
+use Rattle.gu_base.proofs.NodeNames.{made_entry}
 
 -- the node above a node is there
 pub record HasParents (l : List Record) : Type 0 where
@@ -69,36 +65,6 @@ line_enough (suc f) zero l falls n x found a b = absurd (omega arith)
 line_enough (suc f) (suc g) l falls n x found a b = ap (λ xs. x ∷ xs) (above_enough f g l falls (line_enough f g l falls) n x found a b (parent x.kind) refl)
 
 -- ---- as many steps as there are changes
-
-first_holds : (p q : Bool) → (p && q) ≡ true → p ≡ true
-first_holds true q h = refl
-first_holds false q h = absurd (cc)
-
-name_entry : (a b : EntryPart) → same_name a b ≡ true → a.entry ≡ b.entry
-name_entry a b h = (Decides-eqb a.entry b.entry).0 (first_holds (a.entry == b.entry) (a.part == b.part) h)
-
-entry_at : (n m : EntryPart) (y x : Node) (rest : Option Node) (k : ℕ) → m.entry ≡ k → (rest ≡ Some x → n.entry ≡ k) → (b : Bool) → same_name m n ≡ b → cond b (Some y) rest ≡ Some x → n.entry ≡ k
-entry_at n m y x rest k own later true is h = sym (name_entry m n is) ∙ own
-entry_at n m y x rest k own later false is h = later h
-
-part_entry : (n m : EntryPart) (k i : ℕ) (by : List ℕ) (ps : List Part) (x : Node) → find (λ x. same_name x.name n) (nodes_of_parts k i m by ps) ≡ Some x → n.entry ≡ k
-part_entry n m k i by [] x h = absurd (cc)
-part_entry n m k i by (p ∷ ps) x h =
-    entry_at n (record { entry = k; part = i }) (record { name = record { entry = k; part = i }; lots = p.lots; kind = kind_of_part m by p }) x (find (λ x. same_name x.name n) (nodes_of_parts k (i + 1) m by ps)) k
-    refl (part_entry n m k (i + 1) by ps x) (same_name (record { entry = k; part = i }) n) refl h
-
--- a node has the number of the change that makes it
-pub made_entry : (n : EntryPart) (k : ℕ) (by : List ℕ) (c : Command) (x : Node) → find (λ x. same_name x.name n) (nodes_of k by c) ≡ Some x → n.entry ≡ k
-made_entry n k by (Trade firm account instrument side lots) x h =
-    entry_at n (record { entry = k; part = 0 }) (record { name = record { entry = k; part = 0 }; lots = lots; kind = Root (record { firm = firm; account = account }) }) x None k
-    refl (λ none. absurd (cc)) (same_name (record { entry = k; part = 0 }) n) refl h
-made_entry n k by (Split m ps) x h = part_entry n m k 1 by ps x h
-made_entry n k by (Claim _ _) x h = absurd (cc)
-made_entry n k by (Refuse _) x h = absurd (cc)
-made_entry n k by (Cancel _) x h = absurd (cc)
-made_entry n k by (Initiate _) x h = absurd (cc)
-made_entry n k by (Decline _) x h = absurd (cc)
-made_entry n k by (Reverse _) x h = absurd (cc)
 
 abbrev up_to : ℕ → Record → ℕ
 up_to n r = min 1 (suc n - r.number)

@@ -3,13 +3,27 @@ use Rattle.std.proofs.Common.{◌≡◌, ℕ, zero, suc, ◌+◌, ◌-◌, ◌<�
 use Rattle.std.specs.Prelude.{Some, None, find, filter, ◌==◌, IsTrue}
 use Rattle.gu_base.specs.Numbers.{is_number}
 use Rattle.std.proofs.lemmas.Bool.{eqb-true, eq-eqb, ne_eqb}
-use Rattle.gu_base.specs.History.{numbered_as, numbered_from}
+use Rattle.gu_base.specs.History.{numbered_as, numbered_from, RisesFrom}
 use Rattle.gu_base.specs.Answers.{entry_of}
 use Rattle.gu_base.specs.declared.entry.Entry.{Entry}
 use Rattle.gu_base.specs.declared.entry.Record.{Record}
 
 pub positive : (n : ℕ) → IsTrue (is_number n) → 1 ≤ n
 positive n h = grind arith
+
+-- numbers that rise from one on rise from a lower one too
+pub rises_later : (n m : ℕ) (l : List Record) → n ≤ m → RisesFrom m l → RisesFrom n l
+rises_later n m [] h rises = tt
+rises_later n m (r ∷ l) h rises = let a : m ≤ r.number = rises.0 in (omega arith, rises.1)
+
+pub rises_kept : (n : ℕ) (r : Record) (kept : List Record) → n ≤ r.number → RisesFrom (r.number + 1) kept → (b : Bool) → RisesFrom n (cond b (r ∷ kept) kept)
+rises_kept n r kept h rises true = (h, rises)
+rises_kept n r kept h rises false = rises_later n (r.number + 1) kept (omega arith) rises
+
+-- there are as many records as entries
+pub length_numbered : (m : ℕ) (h : List Entry) → length (numbered_from m h) ≡ length h
+length_numbered m [] = refl
+length_numbered m (e ∷ h) = let a = length_numbered (m + 1) h in omega (arith, a)
 
 -- the entry of a number stands at its place
 none_past : (m n : ℕ) (h : List Entry) → m + length h ≤ n → find (λ q. q.number == n) (numbered_from m h) ≡ None

@@ -15,10 +15,11 @@ use Rattle.gu_base.specs.declared.entry.Answer.{Answer}
 use Rattle.gu_base.specs.declared.entry.Answer.TheVariants.{Accepted, Repeated, Refused}
 use Rattle.gu_base.specs.declared.entry.Entry.{Entry}
 use Rattle.gu_base.specs.declared.refusal.Refusal.TheVariants.{UnknownFirm, NeedsConsent, StandsOn}
-use Rattle.gu_base.proofs.Accepted.{first_none, mapped_none, change_refused, allowed, open_from_none}
+use Rattle.gu_base.proofs.Accepted.{first_none, change_refused, allowed, open_from_none}
 use Rattle.gu_base.proofs.LegalLaws.{replay_push}
 use Rattle.gu_base.proofs.LiveLaws.{change_is_no_reverse, consent_is_no_reverse, reversed_push, live_push_change, live_push_consent, live_push_reverse}
 use Rattle.gu_base.proofs.Numbered.{found_at}
+use Rattle.gu_base.proofs.Basics.{mapped_none}
 
 -- what an accepted Reverse shows of the entry that it names
 pub record IsTaken (t : House) (h : List Entry) (by : List ℕ) (k : ℕ) : Type 0 where

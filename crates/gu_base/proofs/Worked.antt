@@ -23,25 +23,25 @@ use Rattle.gu_base.specs.declared.state.State.{State}
 use Rattle.gu_base.specs.declared.state.State.TheVariants.{Held, Offered, Claimed, Refused as WasRefused, Cancelled, ReversalPending, Reversed}
 use Rattle.gu_base.specs.declared.refusal.Refusal.TheVariants.{UnknownFirm, UnknownAccount, UnknownInstrument, NotYours, SumDiffers, BadLots, BadPartCount, StillOffered, UnknownNode, AlreadyReversed, NotAChange, UnknownEntry, LimitExceeded, NotAParty, NeedsConsent, NothingPending, NoAgreement, TooDeep, StandsOn, NotOffered, AlreadyConsented, DuplicateId, HouseOnly}
 
-abbrev hse : List ℕ
+abbrev pub hse : List ℕ
 hse = codes "HSE"
 
-abbrev aaa : List ℕ
+abbrev pub aaa : List ℕ
 aaa = codes "AAA"
 
-abbrev bbb : List ℕ
+abbrev pub bbb : List ℕ
 bbb = codes "BBB"
 
 abbrev ccc : List ℕ
 ccc = codes "CCC"
 
-abbrev a1 : List ℕ
+abbrev pub a1 : List ℕ
 a1 = codes "A1"
 
 abbrev a2 : List ℕ
 a2 = codes "A2"
 
-abbrev b1 : List ℕ
+abbrev pub b1 : List ℕ
 b1 = codes "B1"
 
 abbrev b2 : List ℕ
@@ -50,7 +50,7 @@ b2 = codes "B2"
 abbrev c1 : List ℕ
 c1 = codes "C1"
 
-abbrev esz6 : List ℕ
+abbrev pub esz6 : List ℕ
 esz6 = codes "ESZ6"
 
 -- the clearing house HSE, three firms with their accounts, one instrument and two agreements
@@ -63,7 +63,7 @@ house = record {
   agreements = (record { giver = aaa; taker = bbb }, record { rate = 125; limit = 500 }) ∷ (record { giver = bbb; taker = ccc }, record { rate = 40; limit = 100 }) ∷ [];
 }
 
-abbrev node : ℕ → ℕ → EntryPart
+abbrev pub node : ℕ → ℕ → EntryPart
 node entry part = record { entry = entry; part = part }
 
 abbrev own : ℕ → List ℕ → List ℕ → Part

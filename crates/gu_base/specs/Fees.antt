@@ -1,5 +1,5 @@
 -- What the claims of a list of changes cost, and what they use of the agreements.
-use Rattle.std.specs.Prelude.{ℕ, ◌*◌, ◌&&◌, List, filter, filter_map, sum_by, Option, None, option_map, option_and_then, bytes_eq}
+use Rattle.std.specs.Prelude.{ℕ, ◌*◌, Bool, ◌&&◌, List, filter, filter_map, sum_by, Option, Some, None, option_map, option_and_then, bytes_eq, if◌then◌else◌}
 use Rattle.gu_base.specs.House.{House, agreement}
 use Rattle.gu_base.specs.Nodes.{node_of}
 use Rattle.gu_base.specs.declared.entry.Record.{Record}
@@ -26,6 +26,11 @@ charge_of t l _ = None
 -- the charges of the claims, in their order
 abbrev pub charges : House → List Record → List Charge
 charges t l = filter_map (λ r. charge_of t l r.command) l
+
+-- what a charge counts, if it is one that the test takes
+abbrev pub counted : (Charge → Bool) → (Charge → ℕ) → Option Charge → ℕ
+counted takes counts None = 0
+counted takes counts (Some c) = if takes c then counts c else 0
 
 -- what a firm pays as the taker, in hundredths
 abbrev pub paid_by : House → List Record → List ℕ → ℕ

@@ -1,5 +1,5 @@
 -- The history, and the changes in it that are live.
-use Rattle.std.specs.Prelude.{ℕ, ◌+◌, Bool, true, false, not, ◌&&◌, ◌==◌, List, [], ◌∷◌, filter}
+use Rattle.std.specs.Prelude.{ℕ, ◌+◌, ◌≤◌, Bool, true, false, not, ◌&&◌, ◌==◌, List, [], ◌∷◌, filter}
 use Rattle.std.specs.List.{list_any}
 use Rattle.gu_base.specs.declared.command.Command.{Command}
 use Rattle.gu_base.specs.declared.command.Command.TheVariants.{Trade, Split, Claim, Refuse, Cancel, Initiate, Decline, Reverse}
@@ -42,3 +42,8 @@ is_reversed h n = list_any (λ e. is_reverse_of n e.command) h
 -- the changes that no Reverse names, in order and with their numbers
 abbrev pub live : List Entry → List Record
 live h = filter (λ r. is_change r.command && not (is_reversed h r.number)) (records h)
+
+-- the numbers of the records rise, from this one on
+abbrev pub RisesFrom : ℕ → List Record → Type 0
+RisesFrom n [] = Unit {0}
+RisesFrom n (r ∷ rest) = (n ≤ r.number) × RisesFrom (r.number + 1) rest

@@ -1,6 +1,6 @@
 -- One more accepted change leaves true what a book keeps.
-use Rattle.std.proofs.Common.{◌≡◌, ℕ, ◌+◌, ◌≤◌, Bool, true, false, ◌&&◌, ◌||◌, List, [], ◌∷◌, ◌++◌, length, refl, sym, ◌∙◌, ap, subst, arith, Option, cond, append-nil, append_assoc, length-append}
-use Rattle.std.specs.Prelude.{Some, None, find, bytes_eq, option_map, ◌==◌}
+use Rattle.std.proofs.Common.{◌≡◌, ℕ, ◌+◌, ◌≤◌, true, false, ◌&&◌, ◌||◌, List, [], ◌∷◌, ◌++◌, length, refl, sym, ◌∙◌, ap, subst, arith, cond, append-nil, append_assoc, length-append}
+use Rattle.std.specs.Prelude.{None, find, bytes_eq, option_map, ◌==◌}
 use Rattle.std.specs.List.{list_any, IsDistinct}
 use Rattle.std.specs.Cmp.{IsEquivalence}
 use Rattle.std.proofs.lemmas.List.Elements.{All-nil, All-push}
@@ -8,7 +8,7 @@ use Rattle.std.proofs.lemmas.List.Sums.{length-filter, count_by-le-length}
 use Rattle.std.proofs.lemmas.Map.Keys.{IsDistinct-push}
 use Rattle.std.proofs.lemmas.Slice.Eq.{bytes_eq-Decides}
 use Rattle.gu_base.specs.House.{House, knows_firm}
-use Rattle.gu_base.specs.History.{numbered_as, numbered_from, records, is_change, is_reversed, live}
+use Rattle.gu_base.specs.History.{numbered_as, numbered_from, records, is_change, is_reversed, live, RisesFrom}
 use Rattle.gu_base.specs.Refusals.{refusal_of, unless}
 use Rattle.gu_base.specs.Standing.{first_refused, standing_on, without}
 use Rattle.gu_base.specs.Answers.{answer_to, command_refusal, entry_of, reversal_of, on_change, initiate_rest, is_same_id, accepted_or}
@@ -23,14 +23,13 @@ use Rattle.gu_base.specs.SamePartsLaws.{bytes_same}
 use Rattle.gu_base.proofs.LiveLaws.{live_push_change, live_push_reverse, is_live, live_push_consent}
 use Rattle.gu_base.proofs.Basics.{bytes_symm, nothing_here}
 use Rattle.gu_book.specs.Beside.{IsTradeTree, IsBeside, IsNext}
-use Rattle.gu_book.specs.Conserved.{RisesFrom}
 use Rattle.gu_book.specs.Ids.{same_id, NoIdTwice}
 use Rattle.gu_book.specs.Kept.{AcceptedFrom, IsKept}
 use Rattle.gu_base.specs.Consents.{consents_left, is_consenting}
 use Rattle.std.proofs.lemmas.Bool.{and_parts}
 use Rattle.gu_base.proofs.Accepted.{first_none, change_refused, IsAllowed, allowed, open_from_none}
 use Rattle.gu_base.proofs.RunLaws.{IsRun, run_push}
-use Rattle.gu_base.proofs.Numbered.{found_at}
+use Rattle.gu_base.proofs.Numbered.{found_at, length_numbered}
 use Rattle.gu_book.specs.Limits.{IsWithinLimits, AllWithinLimits}
 use Rattle.gu_book.specs.Replays.{IsLegalWithout}
 use Rattle.gu_consent.specs.Given.{given}
@@ -69,10 +68,6 @@ accepted_push : (t : House) (before h : List Entry) (e : Entry) → AcceptedFrom
 accepted_push t before [] e all ok = (subst (λ k. answer_to t k (call_of e) ≡ Accepted (length k + 1) e.status) (append-nil before) ok, tt)
 accepted_push t before (d ∷ h) e all ok =
     (all.0, accepted_push t (before ++ d ∷ []) h e all.1 (subst (λ k. answer_to t k (call_of e) ≡ Accepted (length k + 1) e.status) (sym (append_assoc before (d ∷ []) h)) ok))
-
-length_numbered : (m : ℕ) (h : List Entry) → length (numbered_from m h) ≡ length h
-length_numbered m [] = refl
-length_numbered m (e ∷ h) = let a = length_numbered (m + 1) h in omega (arith, a)
 
 live_few : (h : List Entry) → length (live h) ≤ length h
 live_few h = omega (arith, length-filter (is_live h) (records h), count_by-le-length (is_live h) (records h), length_numbered 1 h)

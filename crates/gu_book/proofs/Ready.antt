@@ -2,7 +2,7 @@
 use Rattle.std.proofs.Common.{◌≡◌, ℕ, ◌+◌, Bool, true, false, not, ◌&&◌, ◌||◌, List, [], ◌∷◌, length, refl, sym, ◌∙◌, ap, subst, Option, cond, inl, inr, ◌⊎◌}
 use Rattle.std.specs.Prelude.{Some, None, find, nat_lt, option_map, bytes_eq, IfSome}
 use Rattle.std.specs.List.{All, list_any}
-use Rattle.std.proofs.lemmas.Bool.{lt-ltb, not-true, and_parts}
+use Rattle.std.proofs.lemmas.Bool.{lt-ltb, not-true, and_parts, or_cases, or_parts}
 use Rattle.std.proofs.lemmas.List.Elements.{All-nil, All-cons, All-head, All-tail}
 use Rattle.std.proofs.lemmas.Slice.Eq.{bytes_eq-Decides}
 use Rattle.gu_base.specs.House.{House, knows_firm}
@@ -29,14 +29,14 @@ use Rattle.gu_base.specs.declared.state.State.{State}
 use Rattle.gu_base.specs.declared.state.State.TheVariants.{ReversalPending, Reversed}
 use Rattle.gu_base.proofs.LiveLaws.{is_live}
 use Rattle.gu_base.proofs.LegalLaws.{first_refused-cut}
-use Rattle.gu_book.specs.Known.{KindKnown}
+use Rattle.gu_book.proofs.Known.{KindKnown}
 use Rattle.gu_book.specs.Headline.{IsAcceptedWhereReady, IsConsentAccepted, IsNewestUndone, NamedBy, IsNamed}
 use Rattle.gu_base.proofs.RunLaws.{run_all}
 use Rattle.gu_base.proofs.Numbered.{listed, found_at}
 use Rattle.gu_base.proofs.Basics.{nothing_here}
 use Rattle.gu_book.proofs.Known.{firms_known, node_known}
 use Rattle.gu_book.proofs.Restored.{newest_is_free}
-use Rattle.gu_book.proofs.Refused.{trade_passes, caller_known, row_none}
+use Rattle.gu_base.proofs.Passing.{trade_passes, refusal_parts}
 
 -- ---- the parties of a live change are firms of the house table
 
@@ -71,9 +71,9 @@ house_known t = ap (λ b. b || list_any (bytes_eq t.house) t.firms) (bytes_same 
 
 parties_known : (t : House) (l before : List Record) (by : List ℕ) (c : Command) → first_refused t [] l ≡ None → refusal_of t before by c ≡ None → AllKnown t (parties_of t l by c)
 parties_known t l before by (Trade firm account instrument side lots) none accepted =
-    let passes = trade_passes t by firm account instrument lots (row_none t before by (Trade firm account instrument side lots) accepted) in
+    let passes = trade_passes t by firm account instrument lots (refusal_parts t before by (Trade firm account instrument side lots) accepted).1 in
     two_known t t.house firm (house_known t) passes.firm_known
-parties_known t l before by (Split n ps) none accepted = one_known t by (caller_known t before by (Split n ps) accepted)
+parties_known t l before by (Split n ps) none accepted = one_known t by (refusal_parts t before by (Split n ps) accepted).0
 parties_known t l before by (Claim n account) none accepted = of_node_known t taker_and_giver (both_known t) (node_of l n) (node_known t l n (firms_known t l none))
 parties_known t l before by (Refuse n) none accepted = of_node_known t taker_and_giver (both_known t) (node_of l n) (node_known t l n (firms_known t l none))
 parties_known t l before by (Cancel n) none accepted = of_node_known t giver_alone (giver_known t) (node_of l n) (node_known t l n (firms_known t l none))
@@ -81,28 +81,20 @@ parties_known t l before by (Initiate _) none accepted = none_known t
 parties_known t l before by (Decline _) none accepted = none_known t
 parties_known t l before by (Reverse _) none accepted = none_known t
 
-or_either : (a b : Bool) → (a || b) ≡ true → (a ≡ true) ⊎ (b ≡ true)
-or_either true b h = inl refl
-or_either false b h = inr h
-
 among_known : (t : House) (by : List ℕ) (firms : List (List ℕ)) → AllKnown t firms → is_among by firms ≡ true → knows_firm t by ≡ true
 among_known t by [] all h = absurd (cc)
 among_known t by (f ∷ firms) all h =
-    elim (or_either (bytes_eq by f) (is_among by firms) h) [
+    elim (or_cases (bytes_eq by f) (is_among by firms) h) [
       | inl here ↦ subst (λ g. knows_firm t g ≡ true) (sym ((bytes_eq-Decides by f).0 here)) (All-head (λ f. knows_firm t f ≡ true) f firms all)
       | inr later ↦ among_known t by firms (All-tail (λ f. knows_firm t f ≡ true) f firms all) later
     ]
 
 -- ---- a reversal that nothing refuses
 
-neither : (a b : Bool) → (a || b) ≡ false → (a ≡ false) × (b ≡ false)
-neither true b h = absurd (cc)
-neither false b h = (refl, h)
-
 none_reverses : (n m : ℕ) (h : List Entry) → is_reversed h n ≡ false → find (λ r. is_reverse_of n r.command) (numbered_from m h) ≡ None
 none_reverses n m [] e = refl
 none_reverses n m (d ∷ h) e =
-    let p = neither (is_reverse_of n d.command) (is_reversed h n) e in
+    let p = or_parts (is_reverse_of n d.command) (is_reversed h n) e in
     ap (λ b. cond b (Some (numbered_as m d)) (find (λ r. is_reverse_of n r.command) (numbered_from (m + 1) h))) p.0 ∙ none_reverses n (m + 1) h p.1
 
 all_clear : (known is party : Bool) (reversal : Option Record) (lack : Option (List ℕ)) (stands : Option ℕ)

@@ -1,5 +1,5 @@
 -- One change more of a replay.
-use Rattle.std.proofs.Common.{◌≡◌, ℕ, ◌+◌, ◌<◌, ◌≤◌, Bool, true, false, not, List, [], ◌∷◌, ◌++◌, length, take, drop, get_or, sym, ◌∙◌, ap, subst, arith, cond, append-nil, append_assoc, length-append}
+use Rattle.std.proofs.Common.{◌≡◌, ℕ, ◌+◌, ◌<◌, ◌≤◌, true, false, not, List, [], ◌∷◌, ◌++◌, length, take, drop, get_or, sym, ◌∙◌, ap, subst, arith, cond, append-nil, append_assoc, length-append}
 use Rattle.std.specs.Prelude.{Some, ◌==◌, is_some}
 use Rattle.std.proofs.lemmas.List.{take-append-drop}
 use Rattle.std.proofs.lemmas.List.Elements.{All-filter, All-take, filter-append, filter_more}
@@ -8,20 +8,13 @@ use Rattle.gu_base.specs.House.{House}
 use Rattle.gu_base.specs.Refusals.{refusal_of}
 use Rattle.gu_base.specs.Standing.{first_refused, standing_on, without}
 use Rattle.gu_base.specs.declared.entry.Record.{Record}
-use Rattle.gu_book.specs.Conserved.{RisesFrom}
 use Rattle.gu_book.specs.Limits.{IsWithinLimits, AllWithinLimits}
 use Rattle.gu_book.specs.Replays.{IsReplayed, IsSoFar}
 use Rattle.gu_book.specs.declared.trees.TradeTree.{TradeTree}
 use Rattle.gu_book.proofs.Restored.{replay_on}
 use Rattle.gu_base.proofs.LegalLaws.{replay_push}
-
-rises_later : (n m : ℕ) (l : List Record) → n ≤ m → RisesFrom m l → RisesFrom n l
-rises_later n m [] h rises = tt
-rises_later n m (r ∷ l) h rises = let a : m ≤ r.number = rises.0 in (omega arith, rises.1)
-
-rises_kept : (n : ℕ) (r : Record) (kept : List Record) → n ≤ r.number → RisesFrom (r.number + 1) kept → (b : Bool) → RisesFrom n (cond b (r ∷ kept) kept)
-rises_kept n r kept h rises true = (h, rises)
-rises_kept n r kept h rises false = rises_later n (r.number + 1) kept (omega arith) rises
+use Rattle.gu_base.specs.History.{RisesFrom}
+use Rattle.gu_base.proofs.Numbered.{rises_kept}
 
 pub rises_without : (n k : ℕ) (l : List Record) → RisesFrom n l → RisesFrom n (without l k)
 rises_without n k [] rises = tt
@@ -31,14 +24,11 @@ rises_front : (n : ℕ) (l m : List Record) → RisesFrom n (l ++ m) → RisesFr
 rises_front n [] m rises = tt
 rises_front n (r ∷ l) m rises = (rises.0, rises_front (r.number + 1) l m rises.1)
 
-without_within : (k : ℕ) (l : List Record) → length (without l k) ≤ length l
+pub without_within : (k : ℕ) (l : List Record) → length (without l k) ≤ length l
 without_within k l = omega (arith, length-filter (λ (r : Record). not (r.number == k)) l, count_by-le-length (λ (r : Record). not (r.number == k)) l)
 
 pub without_small : (k : ℕ) (l : List Record) → AllWithinLimits l → AllWithinLimits (without l k)
 without_small k l all = All-filter (λ (r : Record). not (r.number == k)) (λ (r : Record). IsWithinLimits r.command) l all
-
-pub without_few : (k : ℕ) (l : List Record) → length (without l k) ≤ length l
-without_few = without_within
 
 module _ {t : House} {l : List Record} {k i : ℕ} {done : List Record} {trees : List TradeTree} (far : IsSoFar t l k i done trees) where
   pub done_few : length l ≤ 1000000 → length done ≤ 1000000

@@ -5,7 +5,7 @@ use Rattle.std.specs.List.{All, list_all}
 use Rattle.std.proofs.lemmas.Bool.{ne_eqb, eq-eqb, and_parts}
 use Rattle.std.proofs.lemmas.List.Elements.{All-nil, All-cons, All-head, All-tail, filter-append}
 use Rattle.gu_base.specs.House.{House}
-use Rattle.gu_base.specs.History.{numbered_as, is_change, live}
+use Rattle.gu_base.specs.History.{numbered_as, is_change, live, RisesFrom}
 use Rattle.gu_base.specs.Refusals.{refusal_of}
 use Rattle.gu_base.specs.Standing.{first_refused, without}
 use Rattle.gu_base.specs.Answers.{Call, answer_to, after, after_by, is_accepted}
@@ -17,7 +17,6 @@ use Rattle.gu_base.specs.declared.entry.Entry.{Entry}
 use Rattle.gu_base.specs.declared.entry.Record.{Record}
 use Rattle.gu_base.proofs.LiveLaws.{live_push_change, live_push_reverse, live_push_consent, live_below, without_none, without_last}
 use Rattle.gu_base.proofs.LegalLaws.{legal_from_replay, none_refused, replay_front}
-use Rattle.gu_book.specs.Conserved.{RisesFrom}
 use Rattle.gu_book.specs.Headline.{IsLawful, Restores, TakesOut, NewestIsFree, StandsLater}
 use Rattle.gu_base.specs.Consents.{is_consenting}
 use Rattle.gu_base.proofs.RunLaws.{run_all}

@@ -1,9 +1,9 @@
 //! What stands on a change, found by replaying the live changes without it.
 ghost use Rattle.std.specs.Prelude.{◌≡◌, ◌≤◌, ◌<◌, [], ◌∷◌, ◌++◌, length, None, IfOk};
+ghost use Rattle.gu_base.specs.History.{RisesFrom};
 ghost use Rattle.gu_base.specs.Limits.{most_entries};
 ghost use Rattle.gu_base.specs.Standing.{first_refused};
 ghost use Rattle.gu_book.specs.Beside.{IsBeside};
-ghost use Rattle.gu_book.specs.Conserved.{RisesFrom};
 ghost use Rattle.gu_book.specs.Limits.{AllWithinLimits};
 ghost use Rattle.gu_book.specs.Replays.{IsReplay, IsReplayed};
 

@@ -1,14 +1,13 @@
 -- What claims use of an agreement, as sums over changes.
-use Rattle.std.proofs.Common.{◌≡◌, ℕ, ◌+◌, ◌≤◌, Bool, true, false, ◌&&◌, List, [], ◌∷◌, ◌++◌, refl, sym, ◌∙◌, ap, arith, cond, Option, All, leb-true, le-leb}
+use Rattle.std.proofs.Common.{◌≡◌, ℕ, ◌+◌, ◌≤◌, Bool, true, false, ◌&&◌, List, [], ◌∷◌, ◌++◌, refl, sym, ◌∙◌, ap, arith, cond, Option, leb-true, le-leb}
 use Rattle.std.specs.Prelude.{Some, None, filter, filter_map, sum_by, option_map, option_and_then, bytes_eq, nat_le}
-use Rattle.std.specs.List.{cons_option}
-use Rattle.std.proofs.lemmas.List.Elements.{All-head, All-tail, All-weaker}
+use Rattle.std.proofs.lemmas.List.Elements.{All-weaker}
 use Rattle.std.proofs.lemmas.List.Sums.{sum_by-cons, sum_by-append, sum_by_push}
 use Rattle.std.proofs.lemmas.Slice.Eq.{bytes_eq-Decides}
 use Rattle.gu_base.specs.Numbers.{EntryPart}
 use Rattle.gu_base.specs.House.{House, agreement}
 use Rattle.gu_base.specs.Nodes.{node_of}
-use Rattle.gu_base.specs.Fees.{charge_of_kind, charge_of_node, charge_of, used_of}
+use Rattle.gu_base.specs.Fees.{charge_of_kind, charge_of_node, charge_of, used_of, counted}
 use Rattle.gu_base.specs.Refusals.{row, claim_row, agreement_row, terms, used_by}
 use Rattle.gu_base.specs.SamePartsLaws.{bytes_same}
 use Rattle.std.proofs.lemmas.Bool.{and_parts}
@@ -21,41 +20,20 @@ use Rattle.gu_base.specs.declared.node.Kind.{Kind}
 use Rattle.gu_base.specs.declared.node.Kind.TheVariants.{Root, Own, Given}
 use Rattle.gu_base.specs.declared.node.Node.{Node}
 use Rattle.gu_base.specs.declared.refusal.Refusal.TheVariants.{LimitExceeded}
-use Rattle.gu_base.proofs.Basics.{some_same}
 use Rattle.gu_base.proofs.Accepted.{unless_none}
 use Rattle.gu_depend.specs.Under.{names}
-use Rattle.gu_depend.proofs.Names.{name_same}
-use Rattle.gu_depend.proofs.Rows.{at_node_none, claim_passes, none_unless}
 use Rattle.gu_depend.proofs.Grown.{Within, NamesThere, Grown}
-
--- what a charge counts, if it is one that the test takes
-abbrev pub counted : (Charge → Bool) → (Charge → ℕ) → Option Charge → ℕ
-counted takes counts None = 0
-counted takes counts (Some c) = cond (takes c) (counts c) 0
-
-pub sum_agree_on : {X : Type 0} (f g : X → ℕ) (xs : List X) → All (λ x. f x ≡ g x) xs → sum_by f xs ≡ sum_by g xs
-sum_agree_on f g [] all = refl
-sum_agree_on {X} f g (x ∷ xs) all =
-    let a = sum_by-cons f x xs in
-    let b = sum_by-cons g x xs in
-    let c = sum_agree_on f g xs (All-tail (λ (x : X). f x ≡ g x) x xs all) in
-    let d = All-head (λ (x : X). f x ≡ g x) x xs all in
-    omega (arith, a, b, c, d)
-
-pub sum_kept : {X : Type 0} (w : X → ℕ) (b : Bool) (x : X) (rest : List X) → sum_by w (cond b (x ∷ rest) rest) ≡ cond b (w x) 0 + sum_by w rest
-sum_kept w true x rest = sum_by-cons w x rest
-sum_kept w false x rest = omega arith
-
-sum_charge : (takes : Charge → Bool) (counts : Charge → ℕ) (o : Option Charge) (cs : List Charge) → sum_by counts (filter takes (cons_option o cs)) ≡ counted takes counts o + sum_by counts (filter takes cs)
-sum_charge takes counts None cs = omega arith
-sum_charge takes counts (Some c) cs = sum_kept counts (takes c) c (filter takes cs)
+use Rattle.std.proofs.lemmas.Option.{same_Some}
+use Rattle.gu_base.proofs.Passing.{at_node_none, claim_passes, none_unless}
+use Rattle.gu_base.proofs.NodeNames.{name_same}
+use Rattle.gu_base.proofs.Sums.{sum_agree_on, sum_option}
 
 -- a sum over charges is one over the changes
 pub sum_charged : (takes : Charge → Bool) (counts : Charge → ℕ) (h : Record → Option Charge) (l : List Record)
     → sum_by counts (filter takes (filter_map h l)) ≡ sum_by (λ r. counted takes counts (h r)) l
 sum_charged takes counts h [] = refl
 sum_charged takes counts h (r ∷ l) =
-    let a = sum_charge takes counts (h r) (filter_map h l) in
+    let a = sum_option takes counts (h r) (filter_map h l) in
     let b = sum_charged takes counts h l in
     let c = sum_by-cons (λ r. counted takes counts (h r)) r l in
     omega (arith, a, b, c)
@@ -133,7 +111,7 @@ adds_test t u lots giver taker g k a b e f fits low true is =
     let eg : giver ≡ g = (bytes_eq-Decides giver g).0 p.0 in
     let ek : taker ≡ k = (bytes_eq-Decides taker k).0 p.1 in
     let same : u giver taker ≡ u g k = ap (λ z. u z taker) eg ∙ ap (u g) ek in
-    let one : a ≡ b = some_same a b (sym e ∙ (ap (λ z. agreement t z taker) eg ∙ (ap (agreement t g) ek ∙ f))) in
+    let one : a ≡ b = same_Some a b (sym e ∙ (ap (λ z. agreement t z taker) eg ∙ (ap (agreement t g) ek ∙ f))) in
     let limit : a.limit ≡ b.limit = ap (λ (z : Agreement). z.limit) one in
     omega (arith, same, limit, fits)
 adds_test t u lots giver taker g k a b e f fits low false is = omega (arith, low)

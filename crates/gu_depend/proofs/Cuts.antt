@@ -4,7 +4,7 @@ use Rattle.std.specs.Prelude.{Some, None, find, filter, count_by}
 use Rattle.std.proofs.lemmas.List.Elements.{All-nil, All-cons, All-head, All-tail, filter-append, Contains-append_right}
 use Rattle.std.proofs.lemmas.List.Sorted.{IsPermutation-middle, IsPermutation-to_front, IsPermutation-sym, IsPermutation-trans}
 use Rattle.gu_depend.proofs.Finds.{count_append, count_cons, counts_none}
-use Rattle.gu_base.proofs.Basics.{some_same}
+use Rattle.std.proofs.lemmas.Option.{same_Some}
 
 -- an element, with what stands before and behind it
 pub record Cut {X : Type 0} (xs : List X) (x : X) : Type 0 where
@@ -35,7 +35,7 @@ pub record FirstCut {X : Type 0} (p : X → Bool) (xs : List X) (x : X) : Type 0
 
 first_cut_at : {X : Type 0} (p : X → Bool) (y : X) (ys : List X) (x : X) → (find p ys ≡ Some x → FirstCut p ys x) → (b : Bool) → p y ≡ b → cond b (Some y) (find p ys) ≡ Some x → FirstCut p (y ∷ ys) x
 first_cut_at p y ys x later true e h =
-    let one : y ≡ x = some_same y x h in
+    let one : y ≡ x = same_Some y x h in
     record { before = []; behind = ys; is = ap (λ z. z ∷ ys) one; none = All-nil (λ z. p z ≡ false); passes = sym (ap p one) ∙ e }
 first_cut_at p y ys x later false e h =
     let c = later h in

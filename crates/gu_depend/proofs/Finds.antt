@@ -1,18 +1,11 @@
 -- What is found in a list where at most one element passes, in whatever order the list stands.
-use Rattle.std.proofs.Common.{◌≡◌, ℕ, zero, suc, ◌+◌, ◌<◌, ◌≤◌, Bool, true, false, List, [], ◌∷◌, ◌++◌, length, get_or, refl, sym, ◌∙◌, ap, arith, cond, Option, IsPermutation, Contains}
+use Rattle.std.proofs.Common.{◌≡◌, ℕ, zero, suc, ◌+◌, ◌<◌, ◌≤◌, Bool, true, false, List, [], ◌∷◌, ◌++◌, length, get_or, refl, ◌∙◌, ap, arith, cond, Option, IsPermutation, Contains}
 use Rattle.std.specs.Prelude.{Some, None, find, count_by}
 use Rattle.std.specs.Option.{option_or}
 use Rattle.std.proofs.lemmas.List.Folds.{find-append}
 use Rattle.std.proofs.lemmas.List.Sums.{sum_by-cons, sum_by-append, sum_by_push, get_or-le-sum_by}
 use Rattle.std.proofs.lemmas.List.Sorted.{Contains-permutation, sum_by-IsPermutation}
-use Rattle.gu_base.proofs.Basics.{some_same}
-
-pub none_is_some : {A : Type 0} (o : Option A) (a : A) → o ≡ None → o ≡ Some a → ⊥
-none_is_some o a e f = cc
-
-pub no_some : {A : Type 0} (o : Option A) → ((a : A) → o ≡ Some a → ⊥) → o ≡ None
-no_some None absent = refl
-no_some (Some a) absent = absurd (absent a refl)
+use Rattle.gu_base.proofs.Searches.{found_in, find_passes}
 
 pub count_cons : {X : Type 0} (p : X → Bool) (x : X) (xs : List X) → count_by p (x ∷ xs) ≡ cond (p x) 1 0 + count_by p xs
 count_cons p x xs = sum_by-cons (λ y. cond (p y) 1 0) x xs
@@ -44,23 +37,6 @@ counts_none p [] h = refl
 counts_none p (x ∷ xs) h =
     let a = count_cons p x xs in
     counts_none_at p x xs (counts_none p xs) (p x) (omega (arith, a, h))
-
-found_in_at : {X : Type 0} (p : X → Bool) (y : X) (ys : List X) (x : X) → (find p ys ≡ Some x → Contains ys x) → (b : Bool) → cond b (Some y) (find p ys) ≡ Some x → Contains (y ∷ ys) x
-found_in_at p y ys x later true h = (zero, omega arith, some_same y x h)
-found_in_at p y ys x later false h = let k = later h in let within : k.0 < length ys = k.1 in (suc k.0, omega arith, k.2)
-
--- what is found stands in the list, and passes
-pub found_in : {X : Type 0} (p : X → Bool) (xs : List X) (x : X) → find p xs ≡ Some x → Contains xs x
-found_in p [] x h = absurd (cc)
-found_in p (y ∷ ys) x h = found_in_at p y ys x (found_in p ys x) (p y) h
-
-passes_at : {X : Type 0} (p : X → Bool) (y : X) (xs : List X) (x : X) → (find p xs ≡ Some x → p x ≡ true) → (b : Bool) → p y ≡ b → cond b (Some y) (find p xs) ≡ Some x → p x ≡ true
-passes_at p y xs x later true is h = sym (ap p (some_same y x h)) ∙ is
-passes_at p y xs x later false is h = later h
-
-pub find_passes : {X : Type 0} (p : X → Bool) (xs : List X) (x : X) → find p xs ≡ Some x → p x ≡ true
-find_passes p [] x h = absurd (cc)
-find_passes p (y ∷ xs) x h = passes_at p y xs x (find_passes p xs x) (p y) refl h
 
 -- an element that stands in the list and passes counts
 pub counts_in : {X : Type 0} (p : X → Bool) (xs : List X) (x : X) → Contains xs x → p x ≡ true → 1 ≤ count_by p xs

@@ -12,8 +12,10 @@ use Rattle.gu_base.specs.declared.entry.Record.{Record}
 use Rattle.gu_base.specs.declared.node.Node.{Node}
 use Rattle.gu_base.proofs.Lines.{node_more}
 use Rattle.gu_depend.specs.Under.{names}
-use Rattle.gu_depend.proofs.Finds.{find_more, none_is_some, no_some}
-use Rattle.gu_depend.proofs.Names.{node_called, maker, made_of, made_by_split, node_cut, made_alone}
+use Rattle.gu_depend.proofs.Finds.{find_more}
+use Rattle.gu_depend.proofs.Names.{maker, made_by_split, made_alone}
+use Rattle.gu_base.proofs.NodeNames.{node_called, made_of, node_cut}
+use Rattle.gu_base.proofs.Basics.{none_is_some, no_some}
 
 -- what is found in the second list is found in the first
 pub record Within (l b : List Record) : Type 0 where

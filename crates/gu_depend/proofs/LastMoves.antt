@@ -1,10 +1,9 @@
 -- What a change that stands behind others moves.
-use Rattle.std.proofs.Common.{◌≡◌, ℕ, zero, suc, ◌+◌, Bool, true, false, ◌&&◌, ◌||◌, List, [], ◌∷◌, ◌++◌, length, refl, sym, ◌∙◌, ap, subst, arith, cond, Option, Contains, All, append-nil}
+use Rattle.std.proofs.Common.{◌≡◌, ℕ, zero, suc, ◌+◌, Bool, true, false, ◌&&◌, List, [], ◌∷◌, ◌++◌, length, refl, sym, ◌∙◌, ap, subst, arith, cond, Option, Contains, All}
 use Rattle.std.specs.Prelude.{Some, None, find, filter, filter_map, sum_by, is_some, is_none, option_and_then, option_map, unwrap_or, ◌==◌}
 use Rattle.std.specs.List.{cons_option}
 use Rattle.std.specs.Option.{option_or}
 use Rattle.std.proofs.lemmas.Bool.Decides.{Decides-eqb}
-use Rattle.std.proofs.lemmas.Grind.{flat_map-append}
 use Rattle.std.proofs.lemmas.List.Elements.{All-head, All-tail, All-weaker, All-contains_itself, filter_map-append}
 use Rattle.std.proofs.lemmas.List.Folds.{find-append}
 use Rattle.std.proofs.lemmas.List.Sums.{sum_by-cons, sum_by-append}
@@ -21,30 +20,25 @@ use Rattle.gu_base.specs.declared.entry.Record.{Record}
 use Rattle.gu_base.specs.declared.node.Charge.{Charge}
 use Rattle.gu_base.specs.declared.node.Node.{Node}
 use Rattle.gu_base.specs.declared.node.Place.{Place}
-use Rattle.gu_base.proofs.Basics.{some_same, or_none}
+use Rattle.gu_base.proofs.Basics.{or_none, none_is_some}
 use Rattle.gu_base.proofs.LegalLaws.{none_refused}
 use Rattle.gu_depend.specs.Under.{names}
 use Rattle.gu_depend.specs.Moves.{lots_at, named_by, MovesItsOwn}
-use Rattle.gu_depend.proofs.Finds.{none_is_some, none_before}
-use Rattle.gu_depend.proofs.Names.{name_same, at_name, made, maker, made_number}
-use Rattle.gu_depend.proofs.Rows.{refusal_parts}
+use Rattle.gu_depend.proofs.Finds.{none_before}
+use Rattle.gu_depend.proofs.Names.{at_name, maker, made_number}
 use Rattle.gu_depend.proofs.Grown.{Grown, NamesThere, line_of_grown, place_same}
-use Rattle.gu_depend.proofs.Charges.{sum_agree_on, sum_kept, charge_same}
+use Rattle.gu_depend.proofs.Charges.{charge_same}
 use Rattle.gu_depend.proofs.Settled.{front_facts, accepted_there}
 use Rattle.gu_depend.proofs.Replay.{NumbersOnce}
-use Rattle.gu_depend.proofs.StandsLast.{false_unless, replay_rest, decision_cut}
+use Rattle.gu_depend.proofs.StandsLast.{replay_rest, decision_cut}
 use Rattle.gu_depend.proofs.StandsUnder.{found_some}
+use Rattle.std.proofs.lemmas.Option.{same_Some}
+use Rattle.gu_base.proofs.Passing.{refusal_parts}
+use Rattle.gu_base.proofs.NodeNames.{name_same, made, nodes_push}
+use Rattle.gu_base.proofs.Sums.{sum_agree_on, sum_kept, sum_plus}
+use Rattle.std.proofs.lemmas.Bool.{or_parts, false_from_ne_true}
 
 -- ---- sums
-
-sum_plus : {X : Type 0} (f g : X → ℕ) (xs : List X) → sum_by (λ x. f x + g x) xs ≡ sum_by f xs + sum_by g xs
-sum_plus f g [] = refl
-sum_plus f g (x ∷ xs) =
-    let a = sum_by-cons (λ x. f x + g x) x xs in
-    let b = sum_by-cons f x xs in
-    let c = sum_by-cons g x xs in
-    let d = sum_plus f g xs in
-    omega (arith, a, b, c, d)
 
 sum_filter : {X : Type 0} (w : X → ℕ) (p : X → Bool) (xs : List X) → sum_by w (filter p xs) ≡ sum_by (λ x. cond (p x) (w x) 0) xs
 sum_filter w p [] = refl
@@ -63,13 +57,6 @@ swapped : (old new : ℕ) (b : Bool) → (b ≡ false → new ≡ old) → new +
 swapped old new true same = omega arith
 swapped old new false same = omega (arith, same refl)
 
-neither : (a b : Bool) → (a || b) ≡ false → (a ≡ false) × (b ≡ false)
-neither true b h = absurd (cc)
-neither false b h = (refl, h)
-
-nodes_push : (l : List Record) (r : Record) → nodes (l ++ r ∷ []) ≡ nodes l ++ made r
-nodes_push l r = flat_map-append (λ r. nodes_of r.number r.firm r.command) l (r ∷ []) ∙ ap (λ xs. nodes l ++ xs) (append-nil (made r))
-
 charged_alike : (g h : Record → Option Charge) (l : List Record) → All (λ d. g d ≡ h d) l → filter_map g l ≡ filter_map h l
 charged_alike g h [] all = refl
 charged_alike g h (d ∷ l) all =
@@ -79,7 +66,7 @@ charged_alike g h (d ∷ l) all =
 -- ---- roots
 
 root_at : (l : List Record) (x : Node) (p : EntryPart) → node_of l x.name ≡ Some x → (xs : List Node) → (root_along xs ≡ Some p → (y : Node) × (node_of l p ≡ Some y)) → root_along (x ∷ xs) ≡ Some p → (y : Node) × (node_of l p ≡ Some y)
-root_at l x p found [] later h = (x, subst (λ (z : EntryPart). node_of l z ≡ Some x) (some_same x.name p h) found)
+root_at l x p found [] later h = (x, subst (λ (z : EntryPart). node_of l z ≡ Some x) (same_Some x.name p h) found)
 root_at l x p found (y ∷ ys) later h = later h
 
 root_by : (f : ℕ) (l : List Record) (p : EntryPart) → ((m : EntryPart) (y : Node) → node_of l m ≡ Some y → root_along (line_within f l (Some y)) ≡ Some p → (z : Node) × (node_of l p ≡ Some z))
@@ -109,7 +96,7 @@ module _ {t : House} {l : List Record} {r : Record} (b : IsBefore t l r) where
 
   -- the change isn't the trade of a node before it
   other_trade : (p : EntryPart) (y : Node) → node_of l p ≡ Some y → (r.number == p.entry) ≡ false
-  other_trade p y found = false_unless (r.number == p.entry) (λ h.
+  other_trade p y found = false_from_ne_true (r.number == p.entry) (λ h.
       let by = maker l p y found in
       let own : p.entry ≡ by.change.number = made_number by.change p y by.makes_it in
       let none = none_before (λ d. d.number == p.entry) l r [] (b.once p.entry) h in
@@ -143,7 +130,7 @@ module _ {t : House} {l : List Record} {r : Record} (b : IsBefore t l r) where
   -- a node that the change doesn't name adds what it added
   lots_kept : (at : Place) (instrument : List ℕ) (side : Side) (x y : Node) → node_of l x.name ≡ Some y → names x.name r.command ≡ false → lots_at (l ++ r ∷ []) at instrument side x ≡ lots_at l at instrument side x
   lots_kept at instrument side x y found un =
-      let apart = neither (splits x.name r.command) (decides x.name r.command) un in
+      let apart = or_parts (splits x.name r.command) (decides x.name r.command) un in
       ap (λ s. cond (is_none s) (cond (stands_at (l ++ r ∷ []) at x.name && trades_in (l ++ r ∷ []) instrument side x.name) x.lots 0) 0) (split_kept x.name apart.0)
       ∙ (ap (λ c. cond (is_none (split_of l x.name)) (cond (c && trades_in (l ++ r ∷ []) instrument side x.name) x.lots 0) 0) (stands_kept at x.name y found apart.1)
       ∙ ap (λ c. cond (is_none (split_of l x.name)) (cond (stands_at l at x.name && c) x.lots 0) 0) (trades_kept instrument side x.name y found))

@@ -1,54 +1,30 @@
 -- Names of nodes, and the changes that make them.
-use Rattle.std.proofs.Common.{◌≡◌, ℕ, ◌+◌, ◌≤◌, Bool, true, false, List, [], ◌∷◌, ◌++◌, refl, sym, ◌∙◌, ap, subst, arith, cond, Option, IsPermutation, Contains}
-use Rattle.std.specs.Prelude.{Some, None, find, count_by, ◌==◌, is_some, option_and_then, bytes_eq}
+use Rattle.std.proofs.Common.{◌≡◌, ℕ, ◌≤◌, Bool, true, false, List, [], ◌∷◌, refl, sym, ◌∙◌, ap, subst, arith, cond, Option, IsPermutation, Contains}
+use Rattle.std.specs.Prelude.{Some, None, find, count_by, ◌==◌, is_some, option_and_then}
 use Rattle.std.specs.Option.{option_or}
 use Rattle.std.proofs.lemmas.Bool.Decides.{Decides-eqb}
-use Rattle.std.proofs.lemmas.Grind.{flat_map-append}
 use Rattle.std.proofs.lemmas.List.Folds.{find-append}
 use Rattle.std.proofs.lemmas.List.Sums.{sum_by-le-sum_by}
 use Rattle.gu_base.specs.Numbers.{EntryPart}
-use Rattle.gu_base.specs.Nodes.{node_of, nodes, nodes_of, nodes_of_parts, same_name, kind_of_part, parent, splits}
-use Rattle.gu_base.specs.declared.command.Part.{Part}
+use Rattle.gu_base.specs.Nodes.{node_of, nodes, nodes_of, same_name, parent, splits}
 use Rattle.gu_base.specs.declared.command.Command.{Command}
 use Rattle.gu_base.specs.declared.command.Command.TheVariants.{Trade, Split, Claim, Refuse, Cancel, Initiate, Decline, Reverse}
 use Rattle.gu_base.specs.declared.entry.Record.{Record}
-use Rattle.gu_base.specs.declared.node.Kind.TheVariants.{Root, Own, Given}
+use Rattle.gu_base.specs.declared.node.Kind.TheVariants.{Root}
 use Rattle.gu_base.specs.declared.node.Node.{Node}
-use Rattle.gu_base.proofs.Basics.{some_same, or_none}
-use Rattle.std.proofs.lemmas.Bool.{and_parts}
-use Rattle.gu_base.proofs.Lines.{made_entry}
-use Rattle.gu_depend.proofs.Finds.{find_permuted, find_passes, found_in, none_is_some}
-
-pub name_told : (a b : EntryPart) → same_name a b ≡ true → (a.entry ≡ b.entry) × (a.part ≡ b.part)
-name_told a b h = let p = and_parts (a.entry == b.entry) (a.part == b.part) h in ((Decides-eqb a.entry b.entry).0 p.0, (Decides-eqb a.part b.part).0 p.1)
-
-pub name_is : (a b : EntryPart) → same_name a b ≡ true → a ≡ b
-name_is a b h = let p = name_told a b h in λ i. record { entry = p.0 i; part = p.1 i }
-
-pub name_same : (a : EntryPart) → same_name a a ≡ true
-name_same a = rw ((Decides-eqb a.entry a.entry).1 refl, (Decides-eqb a.part a.part).1 refl) refl
-
--- a node that is found has the name, and is found by its own
-pub node_called : (l : List Record) (n : EntryPart) (x : Node) → node_of l n ≡ Some x → x.name ≡ n
-node_called l n x h = name_is x.name n (find_passes (λ x. same_name x.name n) (nodes l) x h)
+use Rattle.gu_base.proofs.Basics.{or_none, none_is_some}
+use Rattle.gu_depend.proofs.Finds.{find_permuted}
+use Rattle.std.proofs.lemmas.Option.{same_Some}
+use Rattle.gu_base.proofs.NodeNames.{made_entry, name_same, node_called, made, made_of, first_or, part_parent}
+use Rattle.gu_base.proofs.Searches.{found_in}
 
 pub at_name : (l : List Record) (n : EntryPart) (x : Node) → node_of l n ≡ Some x → node_of l x.name ≡ Some x
 at_name l n x h = subst (λ (z : EntryPart). node_of l z ≡ Some x) (sym (node_called l n x h)) h
 
 -- ---- the change that makes a node
 
-abbrev pub made : Record → List Node
-made r = nodes_of r.number r.firm r.command
-
-abbrev pub made_of : Record → EntryPart → Option Node
-made_of r n = find (λ x. same_name x.name n) (made r)
-
 abbrev pub makes : EntryPart → Record → Bool
 makes n r = is_some (made_of r n)
-
--- a node of two lists together is that of the first, or else that of the second
-pub node_cut : (x y : List Record) (n : EntryPart) → node_of (x ++ y) n ≡ option_or (node_of x n) (node_of y n)
-node_cut x y n = ap (find (λ x. same_name x.name n)) (flat_map-append (λ r. nodes_of r.number r.firm r.command) x y) ∙ find-append (λ x. same_name x.name n) (nodes x) (nodes y)
 
 -- the nodes of one change alone
 pub made_alone : (r : Record) (n : EntryPart) → made_of r n ≡ node_of (r ∷ []) n
@@ -77,30 +53,12 @@ maker_of l n x (Some r) e h = record { change = r; among = found_in (makes n) l 
 pub maker : (l : List Record) (n : EntryPart) (x : Node) → node_of l n ≡ Some x → Maker l n x
 maker l n x h = maker_of l n x (find (makes n) l) refl (sym (node_by_maker l n) ∙ h)
 
--- where the first test decides
-pub first_or : (n m : EntryPart) (y x : Node) (rest : Option Node) (P : Type 0) → (same_name m n ≡ true → y ≡ x → P) → (rest ≡ Some x → P)
-    → (b : Bool) → same_name m n ≡ b → cond b (Some y) rest ≡ Some x → P
-first_or n m y x rest P here later true is h = here is (some_same y x h)
-first_or n m y x rest P here later false is h = later h
-
-parent_by : (b : Bool) (m : EntryPart) (by : List ℕ) (p : Part) → parent (cond b (Own m by p.account) (Given m by p.firm)) ≡ Some m
-parent_by true m by p = refl
-parent_by false m by p = refl
-
-part_parent : (n m : EntryPart) (k i : ℕ) (by : List ℕ) (ps : List Part) (x : Node) → find (λ x. same_name x.name n) (nodes_of_parts k i m by ps) ≡ Some x → parent x.kind ≡ Some m
-part_parent n m k i by [] x h = absurd (cc)
-part_parent n m k i by (p ∷ ps) x h =
-    first_or n (record { entry = k; part = i }) (record { name = record { entry = k; part = i }; lots = p.lots; kind = kind_of_part m by p }) x (find (λ x. same_name x.name n) (nodes_of_parts k (i + 1) m by ps)) (parent x.kind ≡ Some m)
-    (λ _ e. sym (ap (λ (z : Node). parent z.kind) e) ∙ parent_by (bytes_eq p.firm by) m by p)
-    (part_parent n m k (i + 1) by ps x)
-    (same_name (record { entry = k; part = i }) n) refl h
-
 -- it has the number of the change that makes it
 pub made_number : (r : Record) (n : EntryPart) (x : Node) → made_of r n ≡ Some x → n.entry ≡ r.number
 made_number r n x h = made_entry n r.number r.firm r.command x h
 
 same_splits : (m o : EntryPart) → Some m ≡ Some o → same_name m o ≡ true
-same_splits m o e = subst (λ (z : EntryPart). same_name m z ≡ true) (some_same m o e) (name_same m)
+same_splits m o e = subst (λ (z : EntryPart). same_name m z ≡ true) (same_Some m o e) (name_same m)
 
 parent_made : (n m : EntryPart) (k : ℕ) (by : List ℕ) (c : Command) (x : Node) → find (λ x. same_name x.name n) (nodes_of k by c) ≡ Some x → parent x.kind ≡ Some m → splits m c ≡ true
 parent_made n m k by (Trade firm account instrument side lots) x h up =

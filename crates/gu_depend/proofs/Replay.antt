@@ -25,12 +25,13 @@ use Rattle.std.proofs.lemmas.Bool.{and_parts}
 use Rattle.gu_depend.specs.Same.{HasDistinctNumbers}
 use Rattle.gu_depend.specs.Under.{names}
 use Rattle.gu_depend.proofs.Finds.{count_cons, count_permuted, find_permuted, none_before}
-use Rattle.gu_depend.proofs.Names.{name_is, name_same, node_called, at_name, node_permuted}
-use Rattle.gu_depend.proofs.Rows.{none_at_node, SplitHolds, split_accepted, claim_accepted, decision_accepted, refusal_none}
+use Rattle.gu_depend.proofs.Names.{at_name, node_permuted}
 use Rattle.gu_depend.proofs.NamedOnce.{NamedOnce, named_once}
 use Rattle.gu_depend.proofs.Grown.{Within, Grown, grown_none, grown_push, owns_same, depth_same}
 use Rattle.gu_depend.proofs.Charges.{used_among, uses, KeepsLimits, claim_charge, fits}
 use Rattle.gu_depend.proofs.Settled.{SettledAs, Settled, Facts, facts, front_within, front_short}
+use Rattle.gu_base.proofs.Passing.{none_at_node, SplitHolds, split_accepted, claim_accepted, decision_accepted, refusal_none}
+use Rattle.gu_base.proofs.NodeNames.{name_is, name_same, node_called}
 
 -- ---- numbers that stand once
 

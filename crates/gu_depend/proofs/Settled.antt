@@ -1,5 +1,5 @@
 -- What holds of the changes of a legal list over the whole list, wherever each of them stands.
-use Rattle.std.proofs.Common.{◌≡◌, ℕ, ◌+◌, ◌≤◌, Bool, true, false, not, ◌&&◌, List, [], ◌∷◌, ◌++◌, length, length-append, refl, sym, ◌∙◌, ap, subst, arith, Option, All, append-nil, append_assoc, ◌||◌, inl, inr, ◌⊎◌}
+use Rattle.std.proofs.Common.{◌≡◌, ℕ, ◌+◌, ◌≤◌, Bool, true, false, not, ◌&&◌, List, [], ◌∷◌, ◌++◌, length, length-append, refl, sym, ◌∙◌, ap, subst, arith, Option, All, append-nil, append_assoc, inl, inr}
 use Rattle.std.specs.Prelude.{Some, None, is_none, nat_lt}
 use Rattle.std.proofs.lemmas.List.Elements.{All-nil, All-push}
 use Rattle.gu_base.specs.Numbers.{EntryPart}
@@ -15,15 +15,18 @@ use Rattle.gu_base.specs.declared.entry.Record.{Record}
 use Rattle.gu_base.specs.declared.node.Kind.{Kind}
 use Rattle.gu_base.specs.declared.node.Node.{Node}
 use Rattle.gu_base.proofs.Lines.{node_more}
-use Rattle.gu_base.proofs.Basics.{some_same}
 use Rattle.gu_base.proofs.LegalLaws.{none_refused}
 use Rattle.gu_depend.specs.Under.{names}
-use Rattle.gu_depend.proofs.Finds.{find_more, no_some}
-use Rattle.gu_depend.proofs.Names.{node_called, at_name}
-use Rattle.gu_depend.proofs.Rows.{at_node_none, SplitHolds, split_passes, ClaimHolds, claim_passes, decision_passes, refusal_parts, splits_well, decides_well}
+use Rattle.gu_depend.proofs.Finds.{find_more}
+use Rattle.gu_depend.proofs.Names.{at_name}
 use Rattle.gu_depend.proofs.NamedOnce.{NamedOnce, named_once}
 use Rattle.gu_depend.proofs.Grown.{Within, Grown, grown_none, grown_push, owns_same, depth_same}
 use Rattle.gu_depend.proofs.Charges.{agreed, used_among, KeepsLimits, keeps_push}
+use Rattle.std.proofs.lemmas.Option.{same_Some}
+use Rattle.gu_base.proofs.Passing.{at_node_none, split_passes, SplitHolds, claim_passes, ClaimHolds, decision_passes, refusal_parts, splits_well, decides_well}
+use Rattle.gu_base.proofs.NodeNames.{node_called}
+use Rattle.gu_base.proofs.Basics.{no_some}
+use Rattle.std.proofs.lemmas.Bool.{or_cases}
 
 pub record SettledSplit (t : House) (l : List Record) (by : List ℕ) (n : EntryPart) (ps : List Part) : Type 0 where
   pub node : Node
@@ -70,7 +73,7 @@ free_decided_by l b n x s w found None e free =
     let other = undecided_given (is_given x.kind) free in
     sym (no_some (decision_of l n) (λ d h.
     let y = s.given n d h in
-    let one : y.0 ≡ x = some_same y.0 x (sym y.1.0 ∙ w.nodes n x found) in
+    let one : y.0 ≡ x = same_Some y.0 x (sym y.1.0 ∙ w.nodes n x found) in
     never_given x.kind other (subst (λ (z : Node). is_given z.kind ≡ true) one y.1.1)))
 
 pub free_decided : (l b : List Record) (n : EntryPart) (x : Node) → NamedOnce l → Within l b → node_of b n ≡ Some x → not (is_offered b x) ≡ true → decision_of b n ≡ decision_of l n
@@ -125,13 +128,9 @@ settles t l b by (Initiate _) s g h = tt
 settles t l b by (Decline _) s g h = tt
 settles t l b by (Reverse _) s g h = tt
 
-pub or_either : (a b : Bool) → (a || b) ≡ true → (a ≡ true) ⊎ (b ≡ true)
-or_either true b h = inl refl
-or_either false b h = inr h
-
 -- a change that is accepted names a node that is there
 pub accepted_there : (t : House) (b : List Record) (by : List ℕ) (c : Command) → row t b by c ≡ None → (n : EntryPart) → names n c ≡ true → (x : Node) × (node_of b n ≡ Some x)
-accepted_there t b by c h n is = elim (or_either (splits n c) (decides n c) is) [
+accepted_there t b by c h n is = elim (or_cases (splits n c) (decides n c) is) [
   | inl split ↦ (let y = splits_well t b by c n h split in (y.node, y.there))
   | inr decided ↦ (let y = decides_well t b by c n h decided in (y.node, y.there))
 ]

@@ -17,18 +17,21 @@ use Rattle.gu_base.specs.declared.entry.Record.{Record}
 use Rattle.gu_base.specs.declared.node.Kind.TheVariants.{Root}
 use Rattle.gu_base.specs.declared.node.Node.{Node}
 use Rattle.gu_base.specs.declared.refusal.Refusal.{Refusal}
-use Rattle.gu_base.proofs.Basics.{some_same, or_none}
-use Rattle.std.proofs.lemmas.Bool.{and_parts}
+use Rattle.gu_base.proofs.Basics.{or_none, no_some}
+use Rattle.std.proofs.lemmas.Bool.{and_parts, or_cases, false_from_ne_true}
 use Rattle.gu_base.proofs.LegalLaws.{none_refused, replay_front}
 use Rattle.gu_depend.specs.Under.{names, is_under, stands_under}
-use Rattle.gu_depend.proofs.Finds.{no_some, found_in, find_passes, found_once}
-use Rattle.gu_depend.proofs.Names.{name_is, name_same, made_of, makes, node_by_maker, makers_once, node_cut, made_alone}
-use Rattle.gu_depend.proofs.Rows.{refusal_parts, splits_well, decides_well}
+use Rattle.gu_depend.proofs.Finds.{found_once}
+use Rattle.gu_depend.proofs.Names.{makes, node_by_maker, makers_once, made_alone}
 use Rattle.gu_depend.proofs.NamedOnce.{NamedOnce, named_once}
 use Rattle.gu_depend.proofs.Grown.{Within}
-use Rattle.gu_depend.proofs.Settled.{free_decided, front_within, or_either}
+use Rattle.gu_depend.proofs.Settled.{free_decided, front_within}
 use Rattle.gu_depend.proofs.Replay.{NumbersOnce, order_replays}
 use Rattle.gu_depend.proofs.Cuts.{moved_to_end, stands_between}
+use Rattle.std.proofs.lemmas.Option.{same_Some}
+use Rattle.gu_base.proofs.Passing.{refusal_parts, splits_well, decides_well}
+use Rattle.gu_base.proofs.NodeNames.{name_is, name_same, made_of, node_cut}
+use Rattle.gu_base.proofs.Searches.{found_in, find_passes}
 
 -- ---- a replay cut in two
 
@@ -60,15 +63,11 @@ pub record Apart (k : Record) (c : Command) : Type 0 where
   pub unmade : (n : EntryPart) → names n c ≡ true → made_of k n ≡ None
   pub undecided : (n : EntryPart) → splits n c ≡ true → decides n k.command ≡ false
 
-pub false_unless : (b : Bool) → (b ≡ true → ⊥) → b ≡ false
-false_unless true absent = absurd (absent refl)
-false_unless false absent = refl
-
 pub not_both : (b : Bool) → b ≡ true → b ≡ false → ⊥
 not_both b h e = cc
 
 other_name : (m n : EntryPart) (c : Command) → splits m c ≡ false → splits n c ≡ true → same_name m n ≡ false
-other_name m n c un is = false_unless (same_name m n) (λ same. not_both (splits m c) (subst (λ (z : EntryPart). splits z c ≡ true) (sym (name_is m n same)) is) un)
+other_name m n c un is = false_from_ne_true (same_name m n) (λ same. not_both (splits m c) (subst (λ (z : EntryPart). splits z c ≡ true) (sym (name_is m n same)) is) un)
 
 undecided_by : (k : ℕ) (by : List ℕ) (d c : Command) (n : EntryPart) → is_under k by d c ≡ false → splits n c ≡ true → decides n d ≡ false
 undecided_by k by (Claim m account) c n un is = other_name m n c un is
@@ -83,7 +82,7 @@ undecided_by k by (Reverse _) c n un is = refl
 -- a root is neither split by the command nor decided
 no_root : (p : EntryPart) (c : Command) (n : EntryPart) (root : Node) → splits p c ≡ false → names n c ≡ true → (b : Bool) → same_name p n ≡ b
     → (b ≡ true → decides n c ≡ true → false ≡ true) → cond b (Some root) None ≡ None
-no_root p c n root un is true same given = elim (or_either (splits n c) (decides n c) is) [
+no_root p c n root un is true same given = elim (or_cases (splits n c) (decides n c) is) [
   | inl split ↦ absurd (not_both (splits p c) (subst (λ (z : EntryPart). splits z c ≡ true) (sym (name_is p n same)) split) un)
   | inr decided ↦ (let wrong : false ≡ true = given refl decided in absurd (cc))
 ]
@@ -121,7 +120,7 @@ apart : (t : House) (l b : List Record) (k e : Record) → NumbersOnce l → Con
 apart t l b k e once among w h un = record {
   unmade = λ n is. unmade_by k.number k.firm k.command e.command n un is (λ x found decided.
       let d = decides_well t b e.firm e.command n h decided in
-      let one : d.node ≡ x = some_same d.node x (sym (w.nodes n d.node d.there) ∙ node_of_maker l k n x once among found) in
+      let one : d.node ≡ x = same_Some d.node x (sym (w.nodes n d.node d.there) ∙ node_of_maker l k n x once among found) in
       subst (λ (z : Node). is_given z.kind ≡ true) one d.given);
   undecided = λ n is. undecided_by k.number k.firm k.command e.command n un is;
 }

@@ -18,19 +18,24 @@ use Rattle.gu_base.specs.declared.command.Command.TheVariants.{Trade, Split, Cla
 use Rattle.gu_base.specs.declared.entry.Record.{Record}
 use Rattle.gu_base.specs.declared.node.Kind.TheVariants.{Root}
 use Rattle.gu_base.specs.declared.node.Node.{Node}
-use Rattle.gu_base.proofs.Basics.{some_same}
 use Rattle.gu_base.proofs.LegalLaws.{none_refused, replay_front}
 use Rattle.gu_depend.specs.Same.{HasDistinctNumbers}
-use Rattle.gu_depend.specs.Under.{names, is_under, stands_under, first_under, RisesFrom, IsLeastUnder}
-use Rattle.gu_depend.proofs.Finds.{none_counts, counts_in, none_is_some, no_some, found_in, find_passes, found_once, none_before, count_append, count_permuted}
-use Rattle.gu_depend.proofs.Names.{name_same, node_called, made_of, makes, node_by_maker, makers_once}
-use Rattle.gu_depend.proofs.Rows.{refusal_parts, splits_well}
+use Rattle.gu_depend.specs.Under.{names, is_under, stands_under, first_under, IsLeastUnder}
+use Rattle.gu_depend.proofs.Finds.{none_counts, counts_in, found_once, none_before, count_append, count_permuted}
+use Rattle.gu_depend.proofs.Names.{makes, node_by_maker, makers_once}
 use Rattle.gu_depend.proofs.NamedOnce.{named_once}
 use Rattle.gu_depend.proofs.Grown.{NamesThere, SplitsDecided}
 use Rattle.gu_depend.proofs.Settled.{accepted_there, front_facts}
 use Rattle.gu_depend.proofs.Replay.{NumbersOnce, number_once, same_finds, order_within}
 use Rattle.gu_depend.proofs.Cuts.{cut_at, stands_between, first_cut, none_passes, filter_one, moved_to_end}
-use Rattle.gu_depend.proofs.StandsLast.{replay_rest, replay_stops, false_unless, not_both, replays_without, moved_lawful}
+use Rattle.gu_depend.proofs.StandsLast.{replay_rest, replay_stops, not_both, replays_without, moved_lawful}
+use Rattle.std.proofs.lemmas.Option.{same_Some}
+use Rattle.gu_base.proofs.Passing.{refusal_parts, splits_well}
+use Rattle.gu_base.specs.History.{RisesFrom}
+use Rattle.gu_base.proofs.NodeNames.{name_same, node_called, made_of}
+use Rattle.gu_base.proofs.Basics.{none_is_some, no_some, mapped_none}
+use Rattle.gu_base.proofs.Searches.{found_in, find_passes}
+use Rattle.std.proofs.lemmas.Bool.{false_from_ne_true}
 
 -- ---- what a change stands under
 
@@ -121,7 +126,7 @@ itself_none t p k s once none (part n x is h) =
 itself_none t p k s once none (decided n split h) = no_split_decides n k.command split h
 
 not_under : (k e : Record) → (Under k.number k.firm k.command e.command → ⊥) → stands_under k e ≡ false
-not_under k e absent = false_unless (stands_under k e) (λ h. absent (under_is k.number k.firm k.command e.command h))
+not_under k e absent = false_from_ne_true (stands_under k e) (λ h. absent (under_is k.number k.firm k.command e.command h))
 
 -- so the first that it stands under is behind it
 found_behind : (t : House) (p : List Record) (k : Record) (s : List Record) → NumbersOnce (p ++ k ∷ s) → first_refused t [] (p ++ k ∷ s) ≡ None
@@ -157,7 +162,7 @@ refused_under t p k s once none by c (decided n split h) accepted =
     let w = order_within l ((p ++ s) ++ k ∷ []) (p ++ s) (k ∷ []) (same_finds l ((p ++ s) ++ k ∷ []) same once sn) refl in
     let y = splits_well t (p ++ s) by c n (refusal_parts t (p ++ s) by c accepted).1 split in
     let x = sn.given n k (found_once (λ r. decides n r.command) l k (stands_between p k s) h (sn.decisions_once n)) in
-    let one : x.0 ≡ y.node = some_same x.0 y.node (sym x.1.0 ∙ w.nodes n y.node y.there) in
+    let one : x.0 ≡ y.node = same_Some x.0 y.node (sym x.1.0 ∙ w.nodes n y.node y.there) in
     let given : is_given y.node.kind ≡ true = subst (λ (z : Node). is_given z.kind ≡ true) one x.1.1 in
     let none_there : decision_of (p ++ s) y.node.name ≡ None = ap (decision_of (p ++ s)) (node_called (p ++ s) n y.node y.there) ∙ m.decisions_gone n h in
     offered_again (is_given y.node.kind) given (sym (ap (λ o. not (is_given y.node.kind && is_none o)) none_there) ∙ y.free)
@@ -207,10 +212,10 @@ rises_above n (r ∷ l) rises (suc i) d within =
 least_at : (p : Record → Bool) (r : Record) (l : List Record) (n : ℕ) → RisesFrom n (r ∷ l) → (e : Record)
     → ((i : ℕ) (d : Record) → find p l ≡ Some e → i < length l → p (get_or l i d) ≡ true → e.number ≤ (get_or l i d).number)
     → (i : ℕ) (d : Record) → i < length (r ∷ l) → p (get_or (r ∷ l) i d) ≡ true → (b : Bool) → p r ≡ b → cond b (Some r) (find p l) ≡ Some e → e.number ≤ (get_or (r ∷ l) i d).number
-least_at p r l n rises e later zero d within passes true is h = let one : r.number ≡ e.number = ap (λ (z : Record). z.number) (some_same r e h) in omega (arith, one)
+least_at p r l n rises e later zero d within passes true is h = let one : r.number ≡ e.number = ap (λ (z : Record). z.number) (same_Some r e h) in omega (arith, one)
 least_at p r l n rises e later zero d within passes false is h = absurd (not_both (p r) passes is)
 least_at p r l n rises e later (suc i) d within passes true is h =
-    let one : r.number ≡ e.number = ap (λ (z : Record). z.number) (some_same r e h) in
+    let one : r.number ≡ e.number = ap (λ (z : Record). z.number) (same_Some r e h) in
     let above : r.number + 1 ≤ (get_or l i d).number = rises_above (r.number + 1) l rises.1 i d (omega arith) in
     omega (arith, one, above)
 least_at p r l n rises e later (suc i) d within passes false is h = later i d h (omega arith) passes
@@ -224,7 +229,7 @@ rises_apart : (k n : ℕ) (l : List Record) → k < n → RisesFrom n l → AllB
 rises_apart k n [] less rises = tt
 rises_apart k n (r ∷ l) less rises =
     let here : n ≤ r.number = rises.0 in
-    (false_unless (k == r.number) (λ h. let e : k ≡ r.number = (Decides-eqb k r.number).0 h in absurd (omega (arith, e, here, less))), rises_apart k (r.number + 1) l (omega (arith, here, less)) rises.1)
+    (false_from_ne_true (k == r.number) (λ h. let e : k ≡ r.number = (Decides-eqb k r.number).0 h in absurd (omega (arith, e, here, less))), rises_apart k (r.number + 1) l (omega (arith, here, less)) rises.1)
 
 no_numbers : IsDistinct (λ a b. a == b) []
 unfolding IsDistinct
@@ -254,14 +259,10 @@ standing_is_least t l k rises none among =
 
 -- ---- where nothing stands on a change
 
-no_number : {A B : Type 0} (f : A → B) (o : Option A) → option_map f o ≡ None → o ≡ None
-no_number f None h = refl
-no_number f (Some a) h = absurd (cc)
-
 last_cut : (t : House) (p : List Record) (k : Record) (s : List Record) → NumbersOnce (p ++ k ∷ s) → first_refused t [] (p ++ k ∷ s) ≡ None
     → standing_on t (p ++ k ∷ s) k.number ≡ None → IsLawfulOrder (p ++ k ∷ s) (without (p ++ k ∷ s) k.number ++ k ∷ [])
 last_cut t p k s once none free =
-    let under = no_number (λ e. e.number) (find (stands_under k) (p ++ k ∷ s)) (sym (standing_cut t p k s once none) ∙ free) in
+    let under = mapped_none (λ e. e.number) (find (stands_under k) (p ++ k ∷ s)) (sym (standing_cut t p k s once none) ∙ free) in
     let behind = none_passes (stands_under k) s (sym (found_behind t p k s once none) ∙ under) in
     subst (λ (z : List Record). IsLawfulOrder (p ++ k ∷ s) (z ++ k ∷ [])) (sym (filter_one (λ r. r.number == k.number) p k s ((Decides-eqb k.number k.number).1 refl) (once k.number)))
     (moved_lawful t p k s once none behind)

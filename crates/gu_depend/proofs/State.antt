@@ -9,7 +9,7 @@ use Rattle.gu_base.specs.House.{House}
 use Rattle.gu_base.specs.Nodes.{node_of, nodes, split_of, claim_of, claimed_account, parent}
 use Rattle.gu_base.specs.Places.{line_within, line_of, place_of_kind, place_along, place_of, root_along, root_of, same_place}
 use Rattle.gu_base.specs.Positions.{is_trade_of, trades_in, stands_at, position_of}
-use Rattle.gu_base.specs.Fees.{charge_of_node, charge_of, charges}
+use Rattle.gu_base.specs.Fees.{charge_of_node, charge_of, charges, counted}
 use Rattle.gu_base.specs.Rows.{Row, row_of, state_of, taker_of, made_by, parts_of, rows_within, rows_from, rows_of}
 use Rattle.gu_base.specs.declared.command.Side.{Side}
 use Rattle.gu_base.specs.declared.command.Command.{Command}
@@ -20,10 +20,10 @@ use Rattle.gu_base.specs.declared.node.Node.{Node}
 use Rattle.gu_base.specs.declared.node.Place.{Place}
 use Rattle.gu_depend.specs.Same.{IsSameState}
 use Rattle.gu_depend.proofs.Finds.{find_permuted}
-use Rattle.gu_depend.proofs.Names.{made}
 use Rattle.gu_depend.proofs.NamedOnce.{NamedOnce}
 use Rattle.gu_depend.proofs.Replay.{SameFinds, same_finds, NumbersOnce}
-use Rattle.gu_depend.proofs.Charges.{counted, sum_charged}
+use Rattle.gu_depend.proofs.Charges.{sum_charged}
+use Rattle.gu_base.proofs.NodeNames.{made}
 
 module _ {l o : List Record} (f : SameFinds l o) where
   line_above : (n : ℕ) → ((x : Option Node) → line_within n o x ≡ line_within n l x) → (k : Option EntryPart)

@@ -1,5 +1,5 @@
 -- Rows of which one side has changed.
-use Rattle.std.proofs.Common.{◌≡◌, ℕ, ◌+◌, ◌≤◌, Bool, true, false, ◌&&◌, List, refl, sym, ◌∙◌, ap, subst, arith, cond, leb, leb-true, le-leb}
+use Rattle.std.proofs.Common.{◌≡◌, ℕ, ◌+◌, ◌≤◌, Bool, true, false, ◌&&◌, List, refl, sym, ◌∙◌, ap, arith, cond, leb, leb-true, le-leb}
 use Rattle.std.specs.Prelude.{IsTrue}
 use Rattle.gu_base.specs.Positions.{same_side}
 use Rattle.gu_base.specs.declared.command.Side.{Side}
@@ -7,14 +7,11 @@ use Rattle.gu_base.specs.declared.command.Side.TheVariants.{Buy, Sell}
 use Rattle.gu_sums.specs.Sums.{number_at, has_row}
 use Rattle.gu_positions.specs.declared.positions.Key.{Key}
 use Rattle.gu_positions.specs.Rows.{rows_of, lots_in, is_key, IsReady}
+use Rattle.std.proofs.Math.Bool.{and-false}
 
 and_true : (b : Bool) → (b && true) ≡ b
 and_true true = refl
 and_true false = refl
-
-and_false : (b : Bool) → (b && false) ≡ false
-and_false true = refl
-and_false false = refl
 
 -- the number at each key
 abbrev at_key : List (Key × ℕ) → Key → ℕ
@@ -27,7 +24,7 @@ more_here : (b : Bool) (old new lots : ℕ) → new ≡ old + cond b lots 0 → 
 more_here b old new lots e = e ∙ sym (ap (λ t. old + cond t lots 0) (and_true b))
 
 more_beside : (b : Bool) (old lots : ℕ) → old ≡ old + cond (b && false) lots 0
-more_beside b old lots = let e : old ≡ old + 0 = omega arith in e ∙ sym (ap (λ t. old + cond t lots 0) (and_false b))
+more_beside b old lots = let e : old ≡ old + 0 = omega arith in e ∙ sym (ap (λ t. old + cond t lots 0) (and-false b))
 
 pub bought_more : (old new short : List (Key × ℕ)) (key : Key) (lots : ℕ) → ((q : Key) → at_key new q ≡ at_key old q + cond (is_key key q) lots 0)
     → (at : Key) (s : Side) → lots_in (record { long = new; short = short }) at s ≡ lots_in (record { long = old; short = short }) at s + cond (is_key key at && same_side Buy s) lots 0
@@ -43,7 +40,7 @@ less_here : (b : Bool) (old new lots : ℕ) → new + cond b lots 0 ≡ old → 
 less_here b old new lots e = ap (λ t. new + cond t lots 0) (and_true b) ∙ e
 
 less_beside : (b : Bool) (old lots : ℕ) → old + cond (b && false) lots 0 ≡ old
-less_beside b old lots = let e : old + 0 ≡ old = omega arith in ap (λ t. old + cond t lots 0) (and_false b) ∙ e
+less_beside b old lots = let e : old + 0 ≡ old = omega arith in ap (λ t. old + cond t lots 0) (and-false b) ∙ e
 
 pub bought_less : (old new short : List (Key × ℕ)) (key : Key) (lots : ℕ) → ((q : Key) → at_key new q + cond (is_key key q) lots 0 ≡ at_key old q)
     → (at : Key) (s : Side) → lots_in (record { long = new; short = short }) at s + cond (is_key key at && same_side Buy s) lots 0 ≡ lots_in (record { long = old; short = short }) at s
@@ -67,9 +64,6 @@ both_ready long long' short short' l s at is = record { rows = λ side. each sid
     each : (side : Side) → IsTrue (has_row (is_key at) (rows_of (record { long = long'; short = short' }) side))
     each Buy = l at (is.rows Buy)
     each Sell = s at (is.rows Sell)
-
-pub kept : (old new : Bool) → new ≡ old → IsTrue old → IsTrue new
-kept old new same is = subst (λ b. IsTrue b) (sym same) is
 
 -- no more is taken than is there
 pub at_most : (lots there number : ℕ) → there ≡ number → (IsTrue (leb lots there) → lots ≤ number) × (lots ≤ number → IsTrue (leb lots there))

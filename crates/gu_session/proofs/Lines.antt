@@ -1,5 +1,5 @@
 -- What each line of the table keeps.
-use Rattle.std.proofs.Common.{◌≡◌, ℕ, ◌+◌, ◌*◌, ◌<◌, ◌≤◌, Bool, true, false, cond, not, ◌&&◌, ◌==◌, nat_le, nat_lt, List, refl, sym, ◌∙◌, arith}
+use Rattle.std.proofs.Common.{◌≡◌, ℕ, ◌+◌, ◌*◌, ◌<◌, ◌≤◌, Bool, false, not, ◌&&◌, ◌==◌, nat_le, nat_lt, List, refl, sym, ◌∙◌, arith}
 use Rattle.std.specs.Prelude.{Option, Some, None, option_map, Result, Ok, Err, IfSome, bytes_eq}
 use Rattle.std.proofs.lemmas.Bool.Decides.{nat_tests}
 use Rattle.std.proofs.lemmas.Bool.{ltb-true, leb-true}
@@ -19,6 +19,7 @@ use Rattle.gu_session.specs.declared.verdict.Verdict.{Verdict}
 use Rattle.gu_session.specs.Table.{silent, says, closes, shut, again, last_asked, span_of, resend_of, first_logon, before_logon, resets, asks, fills, by_type, on_line, reset_to, line_by_number, line_of, heard, by_firm, settled, on_message, waited, by_silence, on_tick}
 use Rattle.gu_session.specs.Steps.{call_of}
 use Rattle.gu_session.specs.Runs.{unless_closed, or_called}
+use Rattle.gu_base.proofs.Basics.{either_way}
 
 -- one more number is used where something is said
 abbrev pub count : Option Say → ℕ
@@ -50,10 +51,6 @@ pub record Keeps (l : Link) (meaning : Result Inbound Reject) (v : Verdict) : Ty
   pub call : IfSome v.call (λ n. (l.want ≤ n) × (n < v.link.want))
   pub waits : l.closed ≡ false → waiting_id v.link ≡ unless_closed v.link.closed (or_called (call_of meaning v.call) (waiting_id l))
   pub span : IfSome v.resend (λ s. s.from ≤ s.next)
-
-pub either_way : {A : Type 0} (P : A → Type 0) (b : Bool) (x y : A) → (b ≡ true → P x) → (b ≡ false → P y) → P (cond b x y)
-either_way P true x y f g = f refl
-either_way P false x y f g = g refl
 
 -- nothing is said
 keeps_silent : (l : Link) (want : ℕ) (meaning : Result Inbound Reject) → l.want ≤ want → Keeps l meaning (silent (record l { want = want }))
@@ -209,3 +206,25 @@ goes_by_silence now l meaning firm is =
 pub goes_on_tick : (now : Timestamp) (l : Link) (firm : Option (List ℕ)) (meaning : Result Inbound Reject) → l.firm ≡ firm → IsEarly l.firm l.want l.waiting → Goes l meaning (on_tick now l firm)
 goes_on_tick now l None meaning is e = goes_silent l meaning e
 goes_on_tick now l (Some firm) meaning is e = goes_by_silence now l meaning firm is
+
+-- ---- the firm stays
+
+firm_by_firm : (now : Timestamp) (t : House) (l : Link) (known : Option (List ℕ)) (firm : List ℕ) (heading : Result Heading Reject) (meaning : Result Inbound Reject) (is_logout : Bool)
+    → known ≡ Some firm → (by_firm now t l known heading meaning is_logout).link.firm ≡ l.firm
+firm_by_firm now t l None firm heading meaning is_logout e = absurd (some_is_not_none firm (sym e))
+firm_by_firm now t l (Some known) firm heading meaning is_logout e = (keeps_after_logon now (heard now l) known heading meaning is_logout).firm
+
+pub firm_on_message : (now : Timestamp) (t : House) (l : Link) (firm : List ℕ) (heading : Result Heading Reject) (meaning : Result Inbound Reject) (is_logout : Bool)
+    → l.firm ≡ Some firm → (on_message now t l heading meaning is_logout).link.firm ≡ l.firm
+firm_on_message now t l firm heading meaning is_logout e = firm_by_firm now t l l.firm firm heading meaning is_logout e
+
+firm_by_silence : (now : Timestamp) (l : Link) → (by_silence now l).link.firm ≡ l.firm
+firm_by_silence now l =
+    either_way (λ (v : Verdict). v.link.firm ≡ l.firm) (l.heartbeat == 0) _ _ (λ _. refl)
+    (λ _. either_way (λ (v : Verdict). v.link.firm ≡ l.firm) (nat_le (3 * l.heartbeat) (waited l.came now)) _ _ (λ _. refl)
+    (λ _. either_way (λ (v : Verdict). v.link.firm ≡ l.firm) (nat_le (2 * l.heartbeat) (waited l.came now) && not l.tested) _ _ (λ _. refl)
+    (λ _. either_way (λ (v : Verdict). v.link.firm ≡ l.firm) (nat_le l.heartbeat (waited l.went now)) _ _ (λ _. refl) (λ _. refl))))
+
+pub firm_on_tick : (now : Timestamp) (l : Link) (known : Option (List ℕ)) → (on_tick now l known).link.firm ≡ l.firm
+firm_on_tick now l None = refl
+firm_on_tick now l (Some firm) = firm_by_silence now l

@@ -1,6 +1,6 @@
 -- What is new, and what was sent before, among the messages that a step sends.
-use Rattle.std.proofs.Common.{◌≡◌, ℕ, ◌+◌, Bool, nat_lt, List, [], ◌∷◌, ◌++◌, map, ap, ◌∙◌, refl, append-nil}
-use Rattle.std.specs.Prelude.{Option, Some, None, filter, is_none, is_some}
+use Rattle.std.proofs.Common.{◌≡◌, ℕ, ◌+◌, nat_lt, List, [], ◌∷◌, ◌++◌, map, ap, ◌∙◌, refl, append-nil}
+use Rattle.std.specs.Prelude.{Option, Some, None, is_none, is_some}
 use Rattle.std.proofs.lemmas.List.Elements.{filter-append}
 use Rattle.gu_codec.specs.Messages.{Message}
 use Rattle.gu_session.specs.declared.kept.Kept.{Kept}
@@ -9,7 +9,7 @@ use Rattle.gu_session.specs.declared.verdict.Say.{Say}
 use Rattle.gu_session.specs.Going.{Going}
 use Rattle.gu_session.specs.Steps.{resent, gap_fill, with_gaps, within, resends, sayings, new}
 use Rattle.gu_session.specs.Runs.{new_of, again_of}
-use Rattle.gu_session.proofs.Lines.{either_way}
+use Rattle.gu_base.proofs.Basics.{either_way}
 
 -- ---- none of what is sent again is new
 

@@ -1,8 +1,7 @@
 -- What a step keeps.
-use Rattle.std.proofs.Common.{◌≡◌, ℕ, zero, suc, ◌+◌, ◌<◌, ◌≤◌, Bool, true, false, List, [], ◌∷◌, ◌++◌, length, map, refl, sym, ap, subst, ◌∙◌, arith}
+use Rattle.std.proofs.Common.{◌≡◌, ℕ, ◌+◌, ◌<◌, ◌≤◌, Bool, true, false, List, [], ◌∷◌, ◌++◌, length, map, refl, sym, ap, ◌∙◌, arith}
 use Rattle.std.specs.Prelude.{Option, Some, None, Result, Ok, Err, IfSome, option_map}
 use Rattle.jiff.specs.Types.{Timestamp}
-use Rattle.gu_base.specs.House.{House}
 use Rattle.gu_base.specs.declared.entry.Answer.{Answer}
 use Rattle.gu_base.specs.declared.report.Report.{Report}
 use Rattle.gu_codec.specs.Messages.{Message}
@@ -11,17 +10,17 @@ use Rattle.gu_message.specs.declared.inbound.Inbound.{Inbound}
 use Rattle.gu_message.specs.declared.inbound.Inbound.TheVariants as inbound
 use Rattle.gu_message.specs.Heading.{heading_of}
 use Rattle.gu_message.specs.Meaning.{meaning_of}
-use Rattle.gu_session.specs.declared.kept.Kept.{Kept}
 use Rattle.gu_session.specs.declared.kept.Told.{Told}
 use Rattle.gu_session.specs.declared.link.Waiting.{Waiting}
 use Rattle.gu_session.specs.declared.verdict.Say.{Say}
 use Rattle.gu_session.specs.declared.verdict.Verdict.{Verdict}
 use Rattle.gu_session.specs.Going.{Going}
-use Rattle.gu_session.specs.Steps.{Seen, Event, Came, Tick, Reply, End, Outcome, Called, where_it_fits, resends, sayings, kept_from, tellings, new, fits, shut_down, idle, call_of, acts, tells, replies, takes, message_verdict, on_event, step_of, time_of}
+use Rattle.gu_session.specs.Steps.{Seen, Event, Came, Tick, Reply, End, Outcome, where_it_fits, resends, sayings, kept_from, tellings, new, fits, shut_down, idle, call_of, acts, tells, replies, message_verdict, on_event, step_of, time_of}
 use Rattle.gu_session.specs.Table.{on_tick}
 use Rattle.gu_session.specs.Runs.{new_of, numbers_from, awaited_behind, unless_closed, or_called, waits_for}
-use Rattle.gu_session.proofs.Lines.{count, waiting_id, either_way, IsEarly, Goes, goes_on_message, goes_on_tick}
+use Rattle.gu_session.proofs.Lines.{count, IsEarly, Goes, goes_on_message, goes_on_tick}
 use Rattle.gu_session.proofs.Sent.{acts_new, tells_new}
+use Rattle.gu_base.proofs.Basics.{either_way}
 
 -- the numbers of new messages
 abbrev pub numbers : List Going → List ℕ

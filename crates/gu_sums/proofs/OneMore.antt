@@ -2,10 +2,7 @@
 use Rattle.std.proofs.Common.{◌≡◌, ℕ, ◌+◌, Bool, true, false, List, [], ◌∷◌, ◌++◌, arith, cond}
 use Rattle.std.specs.Prelude.{filter, sum_by}
 use Rattle.std.proofs.lemmas.List.Sums.{sum_by-cons}
-
-kept : {X : Type 0} (w : X → ℕ) (b : Bool) (x : X) (rest : List X) → sum_by w (cond b (x ∷ rest) rest) ≡ sum_by w rest + cond b (w x) 0
-kept w true x rest = omega (arith, sum_by-cons w x rest)
-kept w false x rest = omega arith
+use Rattle.gu_base.proofs.Sums.{sum_kept}
 
 both : {X : Type 0} (w : X → ℕ) (b : Bool) (x : X) (xs ys : List X) (n : ℕ) → sum_by w xs ≡ sum_by w ys + n
     → sum_by w (cond b (x ∷ xs) xs) ≡ sum_by w (cond b (x ∷ ys) ys) + n
@@ -15,7 +12,7 @@ both w false x xs ys n e = e
 -- wherever it stands, it adds what it counts, if it passes
 pub sum_one_more : {X : Type 0} (w : X → ℕ) (takes : X → Bool) (before : List X) (x : X) (after : List X)
     → sum_by w (filter takes (before ++ x ∷ after)) ≡ sum_by w (filter takes (before ++ after)) + cond (takes x) (w x) 0
-sum_one_more w takes [] x after = kept w (takes x) x (filter takes after)
+sum_one_more w takes [] x after = omega (arith, sum_kept w (takes x) x (filter takes after))
 sum_one_more w takes (y ∷ before) x after =
     both w (takes y) y (filter takes (before ++ x ∷ after)) (filter takes (before ++ after)) (cond (takes x) (w x) 0) (sum_one_more w takes before x after)
 

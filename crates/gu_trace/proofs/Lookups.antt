@@ -1,8 +1,8 @@
 -- Each node lies in the entry that its name tells.
-use Rattle.std.proofs.Common.{◌≡◌, ℕ, zero, suc, ◌+◌, ◌-◌, ◌<◌, ◌≤◌, Bool, true, false, ◌&&◌, List, [], ◌∷◌, ◌++◌, refl, sym, ◌∙◌, ap, arith, Option, cond, eqb, length, get_or}
+use Rattle.std.proofs.Common.{◌≡◌, ℕ, zero, suc, ◌+◌, ◌-◌, ◌<◌, ◌≤◌, Bool, true, false, List, [], ◌∷◌, ◌++◌, refl, sym, ◌∙◌, ap, arith, Option, cond, eqb, length, get_or}
 use Rattle.std.specs.Prelude.{Some, None, find, flat_map, slice_get, option_map, option_and_then, ◌==◌}
 use Rattle.std.specs.Option.{option_or}
-use Rattle.std.proofs.lemmas.Bool.{false≢true}
+use Rattle.std.proofs.lemmas.Bool.{false≢true, false_from_ne_true}
 use Rattle.std.proofs.lemmas.Bool.Decides.{Decides-eqb}
 use Rattle.std.proofs.lemmas.Option.{slice_get_read, slice_get_past}
 use Rattle.std.proofs.lemmas.List.Folds.{find-append}
@@ -16,36 +16,23 @@ use Rattle.gu_base.specs.declared.command.Command.{Command}
 use Rattle.gu_base.specs.declared.entry.Entry.{Entry}
 use Rattle.gu_base.specs.declared.entry.Record.{Record}
 use Rattle.gu_base.specs.declared.node.Node.{Node}
-use Rattle.gu_base.proofs.Basics.{or_none}
-use Rattle.gu_base.proofs.Lines.{made_entry}
-
-apart_by : (t : Bool) → (t ≡ true → ⊥) → t ≡ false
-apart_by true absent = absurd (absent refl)
-apart_by false absent = refl
+use Rattle.gu_base.proofs.Basics.{or_none, no_some}
+use Rattle.gu_base.proofs.NodeNames.{made_entry, made}
+use Rattle.std.proofs.Math.Bool.{and-false}
+use Rattle.gu_base.proofs.Numbered.{length_numbered}
 
 same : (a b : ℕ) → a ≡ b → eqb a b ≡ true
 same a b h = (Decides-eqb a b).1 h
 
 apart : (a b : ℕ) → (a ≡ b → ⊥) → eqb a b ≡ false
-apart a b absent = apart_by (eqb a b) (λ h. absent ((Decides-eqb a b).0 h))
-
-and_false : (b : Bool) → (b && false) ≡ false
-and_false true = refl
-and_false false = refl
-
-abbrev made : Record → List Node
-made r = nodes_of r.number r.firm r.command
+apart a b absent = false_from_ne_true (eqb a b) (λ h. absent ((Decides-eqb a b).0 h))
 
 abbrev is_named : EntryPart → Node → Bool
 is_named n x = same_name x.name n
 
-absent_if : (o : Option Node) → ((x : Node) → o ≡ Some x → ⊥) → o ≡ None
-absent_if None h = refl
-absent_if (Some x) h = absurd (h x refl)
-
 -- another entry makes no node of this name
 no_node : (k : ℕ) (n : EntryPart) (by : List ℕ) (c : Command) → (n.entry ≡ k → ⊥) → find (is_named n) (nodes_of k by c) ≡ None
-no_node k n by c apart_of = absent_if (find (is_named n) (nodes_of k by c)) (λ x found. apart_of (made_entry n k by c x found))
+no_node k n by c apart_of = no_some (find (is_named n) (nodes_of k by c)) (λ x found. apart_of (made_entry n k by c x found))
 
 none_above : (k : ℕ) (n : EntryPart) (h : List Entry) → n.entry < k → find (is_named n) (flat_map made (numbered_from k h)) ≡ None
 none_above k n [] below = refl
@@ -98,7 +85,7 @@ part_from k i zero n m by (p ∷ ps) e h =
     rw (same k n.entry e, same i n.part here)
     (λ t. Some (record { name = record { entry = e t; part = here t }; lots = p.lots; kind = kind_of_part m by p }))
 part_from k i (suc j) n m by (p ∷ ps) e h =
-    rw (apart i n.part (λ s. omega arith), and_false (eqb k n.entry)) (part_from k (i + 1) j n m by ps e (omega arith))
+    rw (apart i n.part (λ s. omega arith), and-false (eqb k n.entry)) (part_from k (i + 1) j n m by ps e (omega arith))
 
 part_there : (n m : EntryPart) (by : List ℕ) (ps : List Part) → 1 ≤ n.part
     → find (λ x. same_name x.name n) (nodes_of_parts n.entry 1 m by ps) ≡ option_map (λ p. record { name = n; lots = p.lots; kind = kind_of_part m by p }) (slice_get ps (n.part - 1))
@@ -118,19 +105,15 @@ part_past n m by ps low past =
 no_low_part : (k i : ℕ) (n m : EntryPart) (by : List ℕ) (ps : List Part) → n.part < i → find (is_named n) (nodes_of_parts k i m by ps) ≡ None
 no_low_part k i n m by [] below = refl
 no_low_part k i n m by (p ∷ ps) below =
-    rw (apart i n.part (λ s. omega arith), and_false (eqb k n.entry)) (no_low_part k (i + 1) n m by ps (omega arith))
+    rw (apart i n.part (λ s. omega arith), and-false (eqb k n.entry)) (no_low_part k (i + 1) n m by ps (omega arith))
 
 -- a Split has no part 0
 pub no_part_0 : (n m : EntryPart) (by : List ℕ) (ps : List Part) → n.part ≡ 0 → find (λ x. same_name x.name n) (nodes_of_parts n.entry 1 m by ps) ≡ None
 no_part_0 n m by ps zeroth = no_low_part n.entry 1 n m by ps (omega arith)
 
-as_long_from : (k : ℕ) (h : List Entry) → length (numbered_from k h) ≡ length h
-as_long_from k [] = refl
-as_long_from k (e ∷ es) = ap suc (as_long_from (k + 1) es)
-
 -- there are as many records as entries
 pub as_long : (h : List Entry) → length (records h) ≡ length h
-as_long h = as_long_from 1 h
+as_long h = length_numbered 1 h
 
 last : (o : Option EntryPart) (n m : EntryPart) → option_or o (Some n) ≡ option_or (option_or o (Some n)) (Some m)
 last None n m = refl

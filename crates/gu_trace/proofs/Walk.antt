@@ -1,5 +1,5 @@
 -- The walk over the entries behind a number.
-use Rattle.std.proofs.Common.{◌≡◌, ℕ, zero, suc, ◌+◌, ◌-◌, ◌<◌, ◌≤◌, Bool, true, false, List, [], ◌∷◌, ◌++◌, refl, sym, ◌∙◌, ap, arith, Option, cond, ltb, length, drop, take, get_or, append_assoc, append-nil}
+use Rattle.std.proofs.Common.{◌≡◌, ℕ, zero, suc, ◌+◌, ◌-◌, ◌<◌, ◌≤◌, true, false, List, [], ◌∷◌, ◌++◌, refl, sym, ◌∙◌, ap, arith, Option, cond, ltb, length, drop, take, get_or, append_assoc, append-nil}
 use Rattle.std.specs.Prelude.{Some, None, filter, nat_lt, slice_get, option_map, Result, Ok, Err, IfOk}
 use Rattle.std.specs.List.{filter_map, cons_option}
 use Rattle.std.proofs.lemmas.Bool.Decides.{Decides-ltb}
@@ -11,10 +11,7 @@ use Rattle.gu_base.specs.declared.entry.Record.{Record}
 use Rattle.gu_base.specs.declared.report.Report.{Report}
 use Rattle.gu_trace.specs.Concerns.{concerns}
 use Rattle.gu_trace.specs.Reports.{report_of, told, reports_for}
-
-below : (t : Bool) → (t ≡ true → ⊥) → t ≡ false
-below true absent = absurd (absent refl)
-below false absent = refl
+use Rattle.std.proofs.lemmas.Bool.{false_from_ne_true}
 
 all_behind : (after k : ℕ) (h : List Entry) → after < k → filter (λ r. nat_lt after r.number) (numbered_from k h) ≡ numbered_from k h
 all_behind after k [] low = refl
@@ -24,7 +21,7 @@ behind_from : (after k i : ℕ) (h : List Entry) → after + 1 ≡ k + i → fil
 behind_from after k zero [] e = refl
 behind_from after k (suc i) [] e = refl
 behind_from after k zero (x ∷ xs) e = all_behind after k (x ∷ xs) (omega arith)
-behind_from after k (suc i) (x ∷ xs) e = rw (below (ltb after k) (λ s. let lt : after < k = (Decides-ltb after k).0 s in omega arith)) (behind_from after (k + 1) i xs (omega arith))
+behind_from after k (suc i) (x ∷ xs) e = rw (false_from_ne_true (ltb after k) (λ s. let lt : after < k = (Decides-ltb after k).0 s in omega arith)) (behind_from after (k + 1) i xs (omega arith))
 
 -- the records above a number are those behind that place
 pub behind : (after : ℕ) (h : List Entry) → filter (λ r. nat_lt after r.number) (records h) ≡ drop after (records h)

@@ -13,8 +13,8 @@ use Rattle.gu_base.specs.declared.command.Command.{Command}
 use Rattle.gu_base.specs.declared.command.Command.TheVariants.{Trade, Split, Claim, Refuse, Cancel, Initiate, Decline, Reverse}
 use Rattle.gu_book.specs.Limits.{IsWithinLimits}
 use Rattle.gu_base.proofs.Accepted.{allowed}
-use Rattle.gu_base.proofs.Basics.{some_same}
 use Rattle.gu_book.proofs.Refused.{accepted_small}
+use Rattle.std.proofs.lemmas.Option.{same_Some}
 
 small : (t : House) (h : List Entry) (by : List ℕ) (c : Command) → command_refusal t h by c ≡ None → IsWithinLimits c
 small t h by (Trade f a i s n) none = accepted_small t (live h) by (Trade f a i s n) none
@@ -39,7 +39,7 @@ run_within t h run = within_from t h [] h run refl
 
 pick : (b : Bool) (k : ℕ) (e : Entry) (others : Option Record) (r : Record) → IsWithinLimits e.command → (Some r ≡ others → IsWithinLimits r.command)
     → Some r ≡ cond b (Some (numbered_as k e)) others → IsWithinLimits r.command
-pick true k e others r here later found = let s : numbered_as k e ≡ r = some_same (numbered_as k e) r (sym found) in subst (λ (q : Record). IsWithinLimits q.command) s here
+pick true k e others r here later found = let s : numbered_as k e ≡ r = same_Some (numbered_as k e) r (sym found) in subst (λ (q : Record). IsWithinLimits q.command) s here
 pick false k e others r here later found = later found
 
 within_numbered : (k n : ℕ) (h : List Entry) (r : Record) → All (λ e. IsWithinLimits e.command) h → Some r ≡ find (λ q. q.number == n) (numbered_from k h) → IsWithinLimits r.command

@@ -2,8 +2,8 @@ use Rattle.std.proofs.Common.{◌&&◌, bytes_eq}
 use Rattle.gu_base.specs.declared.node.Charge.{Charge}
 use Rattle.gu_sums.proofs.OneMore.{less_sum}
 use Rattle.gu_fees.specs.Sums.{cost}
-use Rattle.gu_fees.proofs.Kept.{kept}
 use Rattle.gu_fees.proofs.fees.Fees.uncharge.Goals as goal
+use Rattle.gu_base.proofs.Basics.{still_true}
 
 pub returns-clause-paid : goal.returns-clause-paid
 returns-clause-paid c = λ firm. rw (← c.self.view_is) (c.take.ensures.taken firm)
@@ -16,9 +16,9 @@ returns-clause-used c = λ g t. rw (← c.self.view_is) (c.take-3.ensures.taken 
 
 pub returns-clause-stays_ready : goal.returns-clause-stays_ready
 returns-clause-stays_ready c = rw (← c.self.view_is) (λ g t is. record {
-  pays = kept _ _ (c.take.ensures.stays_ready t) is.pays;
-  receives = kept _ _ (c.take-2.ensures.stays_ready g) is.receives;
-  uses = kept _ _ (c.take-3.ensures.stays_ready (record { giver = g; taker = t })) is.uses;
+  pays = still_true _ _ (c.take.ensures.stays_ready t) is.pays;
+  receives = still_true _ _ (c.take-2.ensures.stays_ready g) is.receives;
+  uses = still_true _ _ (c.take-3.ensures.stays_ready (record { giver = g; taker = t })) is.uses;
 })
 
 pub returns-clause-sums : goal.returns-clause-sums

@@ -1,21 +1,22 @@
 -- What holds where nothing is refused, and that nothing is refused where it holds.
 use Rattle.std.proofs.Common.{◌≡◌, ℕ, ◌+◌, Bool, true, not, ◌&&◌, List, [], ◌∷◌, length, refl, ◌∙◌, ap, subst, Option}
-use Rattle.std.specs.Prelude.{Some, None, map, nat_le, nat_lt, ◌==◌, sum_by, option_map, is_none}
-use Rattle.gu_base.specs.Numbers.{EntryPart}
-use Rattle.gu_base.specs.House.{House, knows_firm, knows_account}
+use Rattle.std.specs.Prelude.{Some, None, map, nat_le, nat_lt, ◌==◌, sum_by, option_map, is_none, bytes_eq}
+use Rattle.gu_base.specs.Numbers.{EntryPart, is_lots}
+use Rattle.gu_base.specs.House.{House, knows_firm, knows_account, knows_instrument}
 use Rattle.gu_base.specs.Nodes.{node_of, split_of, decision_of, is_offered, is_given, splits, decides}
 use Rattle.gu_base.specs.Places.{depth_of}
-use Rattle.gu_base.specs.Refusals.{unless, first, at_node, row, refusal_of, refusal_of_part, split_row, claim_row, refuse_row, cancel_row, owns, is_taker, is_giver, agreement_row, terms, used_by}
+use Rattle.gu_base.specs.Refusals.{unless, first, at_node, row, refusal_of, refusal_of_part, split_row, claim_row, refuse_row, cancel_row, owns, is_taker, is_giver, agreement_row, terms, used_by, trade_row, knows_own_account}
 use Rattle.gu_base.specs.declared.command.Part.{Part}
 use Rattle.gu_base.specs.declared.command.Command.{Command}
 use Rattle.gu_base.specs.declared.command.Command.TheVariants.{Trade, Split, Claim, Refuse, Cancel, Initiate, Decline, Reverse}
 use Rattle.gu_base.specs.declared.entry.Record.{Record}
 use Rattle.gu_base.specs.declared.node.Node.{Node}
 use Rattle.gu_base.specs.declared.refusal.Refusal.{Refusal}
-use Rattle.gu_base.specs.declared.refusal.Refusal.TheVariants.{UnknownFirm, UnknownAccount, NotYours, AlreadySplit, StillOffered, NotOffered, SumDiffers, BadPartCount, TooDeep}
+use Rattle.gu_base.specs.declared.refusal.Refusal.TheVariants.{UnknownFirm, UnknownAccount, NotYours, AlreadySplit, StillOffered, NotOffered, SumDiffers, BadPartCount, TooDeep, UnknownInstrument, BadLots, HouseOnly}
 use Rattle.std.proofs.lemmas.Bool.{and_parts}
 use Rattle.gu_base.proofs.Accepted.{first_none, unless_none}
-use Rattle.gu_depend.proofs.Names.{name_is, node_called}
+use Rattle.gu_base.proofs.NodeNames.{name_is, node_called}
+use Rattle.gu_base.proofs.Basics.{mapped_none}
 
 -- and the other way round
 pub none_first : (o : Option Refusal) (rest : List (Option Refusal)) → o ≡ None → first rest ≡ None → first (o ∷ rest) ≡ None
@@ -31,9 +32,40 @@ at_node_none line (Some x) h = (x, (refl, h))
 pub none_at_node : (line : Node → Option Refusal) (o : Option Node) (x : Node) → o ≡ Some x → line x ≡ None → at_node line o ≡ None
 none_at_node line o x e h = ap (at_node line) e ∙ h
 
-no_record : {A B : Type 0} (f : A → B) (o : Option A) → option_map f o ≡ None → o ≡ None
-no_record f None h = refl
-no_record f (Some a) h = absurd (cc)
+-- the lines of a part
+pub part_passes : (t : House) (by : List ℕ) (p : Part) → refusal_of_part t by p ≡ None → (knows_firm t p.firm ≡ true) × (knows_own_account t by p ≡ true) × (is_lots p.lots ≡ true)
+part_passes t by p h =
+    let a = first_none (unless (knows_firm t p.firm) UnknownFirm) (unless (knows_own_account t by p) UnknownAccount ∷ unless (is_lots p.lots) BadLots ∷ []) h in
+    let b = first_none (unless (knows_own_account t by p) UnknownAccount) (unless (is_lots p.lots) BadLots ∷ []) a.1 in
+    let c = first_none (unless (is_lots p.lots) BadLots) [] b.1 in
+    (unless_none (knows_firm t p.firm) UnknownFirm a.0, unless_none (knows_own_account t by p) UnknownAccount b.0, unless_none (is_lots p.lots) BadLots c.0)
+
+-- the lines of a Trade's row
+pub record TradePasses (t : House) (by firm account instrument : List ℕ) (lots : ℕ) : Type 0 where
+  pub house : bytes_eq by t.house ≡ true
+  pub firm_known : knows_firm t firm ≡ true
+  pub account_known : knows_account t firm account ≡ true
+  pub instrument_known : knows_instrument t instrument ≡ true
+  pub lots_fit : is_lots lots ≡ true
+
+pub trade_passes : (t : House) (by firm account instrument : List ℕ) (lots : ℕ) → trade_row t by firm account instrument lots ≡ None → TradePasses t by firm account instrument lots
+trade_passes t by firm account instrument lots h =
+    let last = unless (is_lots lots) BadLots ∷ [] in
+    let fourth = unless (knows_instrument t instrument) UnknownInstrument ∷ last in
+    let third = unless (knows_account t firm account) UnknownAccount ∷ fourth in
+    let second = unless (knows_firm t firm) UnknownFirm ∷ third in
+    let a = first_none (unless (bytes_eq by t.house) HouseOnly) second h in
+    let b = first_none (unless (knows_firm t firm) UnknownFirm) third a.1 in
+    let c = first_none (unless (knows_account t firm account) UnknownAccount) fourth b.1 in
+    let d = first_none (unless (knows_instrument t instrument) UnknownInstrument) last c.1 in
+    let e = first_none (unless (is_lots lots) BadLots) [] d.1 in
+    record {
+      house = unless_none (bytes_eq by t.house) HouseOnly a.0;
+      firm_known = unless_none (knows_firm t firm) UnknownFirm b.0;
+      account_known = unless_none (knows_account t firm account) UnknownAccount c.0;
+      instrument_known = unless_none (knows_instrument t instrument) UnknownInstrument d.0;
+      lots_fit = unless_none (is_lots lots) BadLots e.0;
+    }
 
 -- the lines of a Split's row but the one that it is the first Split of its node
 pub record SplitHolds (t : House) (l : List Record) (by : List ℕ) (ps : List Part) (x : Node) : Type 0 where
@@ -67,7 +99,7 @@ split_passes t l by ps x h =
         parts = f.0;
         sums = unless_none (sum_by (λ p. p.lots) ps == x.lots) SumDiffers g.0;
       },
-      no_record (λ r. AlreadySplit r.number) (split_of l x.name) b.0,
+      mapped_none (λ r. AlreadySplit r.number) (split_of l x.name) b.0,
     )
 
 pub split_accepted : (t : House) (l : List Record) (by : List ℕ) (ps : List Part) (x : Node) → SplitHolds t l by ps x → split_of l x.name ≡ None → split_row t l by ps x ≡ None

@@ -55,12 +55,15 @@ fn show_body(rt: &(impl Print + Eprint), alloc: Global, frame: &[u8]) -> io::Res
 /// Writes the frames of some bytes.
 fn show_frames(rt: &(impl Print + Eprint), alloc: Global, bytes: &[u8]) -> io::Result<()> {
     let mut rest = bytes;
-    while let Frame::Whole { len, .. } = read_frame(rest) {
-        show_body(rt, alloc, rest)?;
-        if len == 0 || rest.len() < len {
+    for _ in 0..bytes.len() {
+        let Frame::Whole { len, .. } = read_frame(rest) else {
             break;
-        }
-        rest = &rest[len..];
+        };
+        show_body(rt, alloc, rest)?;
+        let Some(after) = rest.get(len..) else {
+            break;
+        };
+        rest = after;
     }
     if !rest.is_empty() {
         println!(rt; "  > {} bytes that are no frame", rest.len())?;

@@ -1,0 +1,7 @@
+use Rattle.std.specs.List.{All}
+use Rattle.gu_message.specs.AllocationReport.{ShowsFewParts}
+use Rattle.test_session.proofs.reports.Given as goal
+
+-- so far each shows few parts
+abbrev pub invariant-reports : goal.invariant-reports
+invariant-reports l = All ShowsFewParts l.all.items
