@@ -1,4 +1,4 @@
-use Rattle.std.proofs.Common.{inr, rules}
+use Rattle.std.proofs.Common.{inl, inr, rules}
 use Rattle.std.proofs.lemmas.Result.{err_from_is_err_and}
 use Rattle.gu_server.proofs.program.run.Goals as goal
 
@@ -10,11 +10,12 @@ returns-in_err-run_batch-in-Ok-Batch-clause-does g c =
     rw (p.1) (inr (
       c.in_err-run_batch-in-Ok-Batch.field-0.0,
       p.2,
-      record {
+      inl (record {
         path = c.as_str.result.now;
+        command = search rules;
         asked = search rules;
         house = c.in_ok-house-in-Ok-Batch.house;
         named = c.in_ok-house-in-Ok-Batch.ensures;
         runs = c.in_err-run_batch-in-Ok-Batch.ensures;
-      },
+      }),
     ))
