@@ -19,3 +19,23 @@ returns-in_err-run_batch-in-Ok-Batch-clause-does g c =
         runs = c.in_err-run_batch-in-Ok-Batch.ensures;
       }),
     ))
+
+-- the trace ended with an error, which the fault tells
+pub returns-in_err-run_trace-in-Ok-Trace-clause-does : goal.returns-in_err-run_trace-in-Ok-Trace-clause-does
+returns-in_err-run_trace-in-Ok-Trace-clause-does g c =
+    let told = c.from_residual-in_err-run_trace-in-Ok-Trace in
+    let p = err_from_is_err_and told.result told.ensures.1 in
+    rw (p.1) (inr (
+      c.in_err-run_trace-in-Ok-Trace.field-0.0,
+      p.2,
+      inr (record {
+        path = c.as_str-in-Ok-Trace.result.now;
+        command = search rules;
+        asked = search rules;
+        trade = c.in-Ok-Trace.trade;
+        meant = search rules;
+        house = c.in_ok-house-in-Ok-Trace.house;
+        named = c.in_ok-house-in-Ok-Trace.ensures;
+        traces = c.in_err-run_trace-in-Ok-Trace.ensures;
+      }),
+    ))
