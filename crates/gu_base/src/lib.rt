@@ -14,6 +14,7 @@
 mod cells;
 pub mod command;
 pub mod entry;
+mod firms;
 pub mod house;
 pub mod memory;
 pub mod names;

@@ -7,12 +7,11 @@ ghost use Rattle.gu_base.specs.Answers.{Call, is_same_call, status_of};
 ghost use Rattle.gu_base.specs.declared.entry.Answer.TheVariants.{Repeated};
 ghost use Rattle.gu_book.specs.Front.{front_answer, front_refusal};
 ghost use Rattle.gu_book.specs.Limits.{AllWithinLimits};
-ghost use Rattle.gu_book.specs.Parts.{gives_up};
 ghost use Rattle.gu_consent.specs.Given.{given};
 
 use crate::plain::naming::naming_refusal;
 use crate::plain::refusals::change_refusal;
-use gu_base::{AllocId, Answer, Command, Entry, FirmId, Number, Part, Record, Refusal, State};
+use gu_base::{AllocId, Answer, Command, Entry, FirmId, Number, Record, Refusal, State};
 use gu_consent::Consents;
 use gu_parties::House;
 
@@ -45,13 +44,6 @@ fn duplicate(entries: &[Entry], by: &FirmId, id: &AllocId) -> Option<Number>
     None
 }
 
-/// Whether a part goes to another firm.
-fn gives_up(by: &FirmId, parts: &[Part]) -> bool
-    ensures { result ≡ gives_up by.now parts.now }
-{
-    parts.iter().any(|p| p.firm != *by)
-}
-
 /// The status of a command that is accepted.
 fn status_of(by: &FirmId, command: &Command) -> State
     ensures { result ≡ status_of by.now command.now }
@@ -59,7 +51,7 @@ fn status_of(by: &FirmId, command: &Command) -> State
     match command {
         Command::Trade { .. } => State::Held,
         Command::Split { parts, .. } => {
-            if gives_up(by, parts.as_slice()) {
+            if by.gives_up(parts.as_slice()) {
                 State::Offered
             } else {
                 State::Held
