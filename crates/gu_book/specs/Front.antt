@@ -1,11 +1,11 @@
 -- The answer to a call before it is looked at what stands on a change.
-use Rattle.std.specs.Prelude.{ℕ, ◌+◌, Bool, true, false, not, nat_lt, List, [], ◌∷◌, length, find, Option, None, option_map, if◌then◌else◌}
+use Rattle.std.specs.Prelude.{ℕ, ◌+◌, Bool, true, false, not, nat_lt, List, [], ◌∷◌, length, find, Option, None, option_map}
 use Rattle.gu_base.specs.Limits.{most_entries}
 use Rattle.gu_base.specs.House.{House, knows_firm}
-use Rattle.gu_base.specs.History.{records, live, is_reversed}
+use Rattle.gu_base.specs.History.{records, live}
 use Rattle.gu_base.specs.Refusals.{refusal_of, unless, first}
 use Rattle.gu_base.specs.Standing.{standing_on}
-use Rattle.gu_base.specs.Consents.{parties_of, consents_of, is_among, missing}
+use Rattle.gu_base.specs.Consents.{parties_of, is_among, missing}
 use Rattle.gu_base.specs.Answers.{Call, entry_of, on_change, is_empty, is_same_id, is_same_call, status_of, accepted_or, answer_by}
 use Rattle.gu_base.specs.declared.command.Command.{Command}
 use Rattle.gu_base.specs.declared.command.Command.TheVariants.{Initiate, Decline, Reverse}

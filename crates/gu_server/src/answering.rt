@@ -58,6 +58,14 @@ impl Answering {
         }
     }
 
+    /// The book.
+    pub(crate) fn book(&self) -> &Book
+        ensures house { result.now.house ≡ self.now.house }
+        ensures history { result.now.history ≡ self.now.history }
+    {
+        &self.book
+    }
+
     /// Appends a reply to a firm, with the next number. An `Err` appends nothing.
     fn send(
         &mut self,
