@@ -2,7 +2,7 @@
 use Rattle.std.proofs.Common.{◌≡◌, ℕ, ◌+◌, ◌*◌, ◌≤◌, Bool, List, [], ◌∷◌, ◌++◌, length, sym, ◌∙◌, ap, subst, arith, Option, cond}
 use Rattle.std.specs.Prelude.{Some, None, filter, filter_map, sum_by, bytes_eq, ◌&&◌, IfSome}
 use Rattle.std.specs.List.{All, cons_option}
-use Rattle.std.proofs.Math.Nat.{mul-le-mul_left}
+use Rattle.std.proofs.Math.Nat.{mul-le-mul, mul-le-mul_right}
 use Rattle.std.proofs.lemmas.List.Elements.{All-nil, All-cons, All-append, All-filter, All-weaker}
 use Rattle.std.proofs.lemmas.List.Sums.{sum_by-le, length-filter, count_by-le-length}
 use Rattle.gu_base.specs.House.{House}
@@ -19,6 +19,8 @@ use Rattle.gu_depend.proofs.Replay.{number_once}
 use Rattle.gu_depend.proofs.StandsUnder.{rises_distinct}
 use Rattle.gu_fees.specs.Rows.{FeeRows, paid_in, received_in, used_in}
 use Rattle.gu_fees.specs.Sums.{AreSumsOf, cost}
+use Rattle.gu_book.specs.Beside.{IsNext}
+use Rattle.gu_book.specs.declared.trees.TradeTree.{TradeTree}
 use Rattle.gu_book.specs.Charging.{IsSmallCharge, AreFeesOf, IsReadyFor, HasRoomFor}
 
 -- the same sums
@@ -42,29 +44,34 @@ small_option : (o : Option Charge) → IfSome o (λ c. c.lots ≤ most_lots) →
 small_option None lots rate = All-nil IsSmallCharge
 small_option (Some c) lots rate = All-cons IsSmallCharge c [] (record { lots = lots; rate = rate }) (All-nil IsSmallCharge)
 
-pub fees_push : (t : House) (l : List Record) (r : Record) → first_refused t [] l ≡ None → refusal_of t l r.firm r.command ≡ None → RisesFrom 1 (l ++ r ∷ [])
-    → (old new : FeeRows) → AreFeesOf t l old → (o : Option Charge) → o ≡ charge_of t l r.command
+pub fees_push : {t : House} {l : List Record} {r : Record} {ts : List TradeTree} → IsNext t l r ts → (fees now new : FeeRows) → AreFeesOf t l fees
+    → ((cs : List Charge) → AreSumsOf fees cs → AreSumsOf now cs) → (o : Option Charge) → o ≡ charge_of t l r.command
     → IfSome o (λ c. c.lots ≤ most_lots) → IfSome o (λ c. c.rate ≤ highest_rate)
-    → ((cs : List Charge) → AreSumsOf old cs → AreSumsOf new (cs ++ cons_option o [])) → AreFeesOf t (l ++ r ∷ []) new
-fees_push t l r replayed lawful rises old new are o is lots rate more =
-    let all : charges t l ++ cons_option o [] ≡ charges t (l ++ r ∷ []) = ap (λ (o : Option Charge). charges t l ++ cons_option o []) is ∙ sym (charges_push t l r replayed lawful rises) in
+    → ((cs : List Charge) → AreSumsOf now cs → AreSumsOf new (cs ++ cons_option o [])) → AreFeesOf t (l ++ r ∷ []) new
+fees_push {t} {l} {r} next fees now new are same o is lots rate more =
+    let all : charges t l ++ cons_option o [] ≡ charges t (l ++ r ∷ []) = ap (λ (o : Option Charge). charges t l ++ cons_option o []) is ∙ sym (charges_push t l r next.replayed next.lawful next.rises) in
     record {
-      sums = subst (λ (cs : List Charge). AreSumsOf new cs) all (more (charges t l) are.sums);
+      sums = subst (λ (cs : List Charge). AreSumsOf new cs) all (more (charges t l) (same (charges t l) are.sums));
       small = subst (λ (cs : List Charge). All IsSmallCharge cs) all (All-append IsSmallCharge (charges t l) (cons_option o []) are.small (small_option o lots rate));
     }
+
+pub no_fees : (t : House) (fees : FeeRows) → AreSumsOf fees [] → AreFeesOf t [] fees
+no_fees t fees are = record { sums = are; small = All-nil IsSmallCharge }
 
 -- ---- room
 
 small_cost : (c : Charge) → c.lots ≤ most_lots → c.rate ≤ highest_rate → cost c ≤ 1000000000000
-small_cost c lots rate = let a = mul-le-mul_left c.lots rate in omega (arith, a, lots)
+small_cost c lots rate = mul-le-mul lots rate
+
+fewer_by : (o : Option Charge) (cs : List Charge) (n : ℕ) → length cs ≤ n → length (cons_option o cs) ≤ n + 1
+fewer_by None cs n few = omega (arith, few)
+fewer_by (Some c) cs n few = omega (arith, few)
 
 fewer_charges : (h : Record → Option Charge) (l : List Record) → length (filter_map h l) ≤ length l
 fewer_charges h [] = omega arith
-fewer_charges h (r ∷ l) = kept (h r)
-  where
-    kept : (o : Option Charge) → length (cons_option o (filter_map h l)) ≤ length (r ∷ l)
-    kept None = let a = fewer_charges h l in omega (arith, a)
-    kept (Some c) = let a = fewer_charges h l in omega (arith, a)
+fewer_charges h (r ∷ l) =
+    let a = fewer_by (h r) (filter_map h l) (length l) (fewer_charges h l) in
+    omega (arith, a)
 
 -- a sum over some of the charges of a list
 bounded : (t : House) (l : List Record) (w : Charge → ℕ) (takes : Charge → Bool) (most : ℕ) → length l ≤ 1000000 → All (λ c. w c ≤ most) (charges t l)
@@ -76,8 +83,8 @@ bounded t l w takes most few all =
     let c = count_by-le-length takes (charges t l) in
     let d = fewer_charges (λ r. charge_of t l r.command) l in
     let e : length cs ≤ 1000000 = omega (arith, b, c, d, few) in
-    let f : most * length cs ≤ most * 1000000 = mul-le-mul_left most e in
-    grind (arith, a, f)
+    let f : length cs * most ≤ 1000000 * most = mul-le-mul_right most e in
+    omega (arith, a, f)
 
 pub has_room : (t : House) (l : List Record) (fees : FeeRows) → AreFeesOf t l fees → length l ≤ 1000000 → (now : FeeRows) → ((cs : List Charge) → AreSumsOf fees cs → AreSumsOf now cs)
     → (o : Option Charge) → IfSome o (λ c. c.lots ≤ most_lots) → IfSome o (λ c. c.rate ≤ highest_rate) → IsReadyFor now o → HasRoomFor now o

@@ -1,4 +1,4 @@
-//! The book: the house table, the history, and beside it the live changes, a tree for each live trade, and the consents.
+//! The book: the house table, the history, and beside it the live changes, a tree for each live trade, the consents, an index and the fees.
 ghost use Rattle.std.specs.Prelude.{true, ◌≡◌, ◌≤◌, ◌<◌, ◌+◌, [], ◌∷◌, ◌++◌, length, map, option_map, IsTrue, IfOk, OnOk, OnErr};
 ghost use Rattle.gu_base.specs.Limits.{most_entries};
 ghost use Rattle.gu_base.specs.History.{is_change, live};
@@ -245,8 +245,8 @@ impl Book {
         Ok(())
     }
 
-    /// Answers a Reverse that only what stands on its entry may still refuse. Where nothing does, the replayed live changes and trees
-    /// take the place of the old.
+    /// Answers a Reverse that only what stands on its entry may still refuse. Where nothing does, the replayed live changes, trees
+    /// and fees take the place of the old.
     fn keep_reversal(
         &mut self,
         alloc: Global,

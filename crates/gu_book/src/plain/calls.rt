@@ -135,7 +135,9 @@ fn new_answer(
     if entries.len() >= Number::MAX as usize {
         return Answer::Refused(Refusal::BookFull);
     }
-    if let Some(refusal) = front_refusal(house, entries, records, fees, index, consents, by, command) {
+    if let Some(refusal) = front_refusal(
+        house, entries, records, fees, index, consents, by, command,
+    ) {
         return Answer::Refused(refusal);
     }
     Answer::Accepted {
