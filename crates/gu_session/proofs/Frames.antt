@@ -1,5 +1,5 @@
 -- Along every list of steps, the frames that are sent again are those that were sent.
-use Rattle.std.proofs.Common.{◌≡◌, ℕ, ◌+◌, Bool, true, false, List, [], ◌∷◌, ◌++◌, map, refl, sym, ap, subst, ◌∙◌, arith}
+use Rattle.std.proofs.Common.{◌≡◌, ℕ, List, [], ◌∷◌, ◌++◌, map, refl, sym, ap, subst, ◌∙◌, arith}
 use Rattle.std.specs.Prelude.{Option, Some, None, decimal}
 use Rattle.std.specs.List.{All, Contains}
 use Rattle.std.proofs.lemmas.List.{map-append}
@@ -13,7 +13,7 @@ use Rattle.gu_codec.specs.Writing.{frame_text, fields_text, header_pairs}
 use Rattle.gu_message.specs.Heading.{heading_of}
 use Rattle.gu_message.specs.Meaning.{meaning_of}
 use Rattle.gu_session.specs.Going.{Going}
-use Rattle.gu_session.specs.Steps.{Seen, Event, Came, Tick, Reply, End, Outcome, filling, fits, shut_down, idle, replies, on_event, step_of, opening}
+use Rattle.gu_session.specs.Steps.{Seen, Event, Came, Tick, Reply, End, Outcome, filling, fits, replies, on_event, step_of, opening}
 use Rattle.gu_session.specs.Text.{text_of}
 use Rattle.gu_session.specs.Runs.{outcomes, new_of, again_of, frames_to, frames_of, IsSentAgain, IsAgain, Fills, Repeats, IsAsSent, ResendsAreAsSent}
 use Rattle.gu_base.proofs.Basics.{either_way}

@@ -8,7 +8,7 @@ use Rattle.gu_session.specs.Going.{Going}
 use Rattle.gu_codec.specs.Messages.{Message}
 use Rattle.gu_codec.specs.Tags as tag
 use Rattle.gu_codec.specs.Writing.{frame_text, fields_text}
-use Rattle.gu_session.specs.Steps.{Seen, Event, Came, Tick, Reply, End, Called, Outcome, filling, step_of, opening}
+use Rattle.gu_session.specs.Steps.{Seen, Event, Reply, Called, Outcome, filling, step_of, opening}
 use Rattle.gu_session.specs.Text.{text_of}
 
 -- what each step leaves and gives out

@@ -1,0 +1,176 @@
+-- Entries filed in the order of their numbers, and what is found among them.
+use Rattle.std.proofs.Common.{◌≡◌, ◌≢◌, ℕ, zero, suc, ◌<◌, ◌≤◌, Bool, true, false, List, [], ◌∷◌, ◌++◌, length, get_or, set, Result, Ok, Err, IfOk, OnErr, refl, ap, sym, ◌∙◌, subst, arith}
+use Rattle.std.specs.Prelude.{◌==◌, if◌then◌else◌, max}
+use Rattle.std.specs.List.Sorted.{IsSearchInRange, IsBinarySearchResult, IsNonDecreasingBy}
+use Rattle.std.specs.Ordering.{nat_cmp, ordering_index}
+use Rattle.std.proofs.lemmas.Cmp.{ranked}
+use Rattle.std.proofs.lemmas.List.Sorted.{IsNonDecreasingBy-from_default}
+use Rattle.std.proofs.lemmas.Bool.Decides.{Decides-eqb, nat_tests}
+use Rattle.gu_tree.specs.Filing.{Filing, slot_of, last_of, RisesAbove, IsRising, no_filing, IsFiledAt, IsNotFiled, with_slot, without_slot}
+use Rattle.gu_tree.specs.declared.slot.Slot.{Slot}
+use Rattle.gu_tree.specs.declared.slot.Slot.TheVariants.{Empty}
+
+-- ---- numbers that differ, and that don't
+
+pub same-eqb : (a : ℕ) → (a == a) ≡ true
+same-eqb a = (Decides-eqb a a).1 refl
+
+pub other-eqb : (a b : ℕ) → a ≢ b → (a == b) ≡ false
+other-eqb a b other = elim (a == b) as (λ c. (a == b) ≡ c → c ≡ false) [
+  | true ↦ (λ q. absurd (other ((Decides-eqb a b).0 q)))
+  | false ↦ (λ q. refl)
+] refl
+
+pub lower-eqb : (a b : ℕ) → a < b → (a == b) ≡ false
+lower-eqb a b low = other-eqb a b (λ q. absurd (omega (arith, low, q)))
+
+told : (a b : ℕ) → (a == b) ≡ true → a ≡ b
+told a b q = (Decides-eqb a b).0 q
+
+-- ---- one more entry, above all that are filed
+
+-- an entry above all that are filed has no slot
+pub slot_of-past : (s : List Filing) (e : ℕ) → last_of s < e → slot_of s e ≡ Empty
+slot_of-past [] e h = refl
+slot_of-past (x ∷ s) e h = rw (lower-eqb x.entry e (omega (arith, h))) (slot_of-past s e (omega (arith, h)))
+
+pub slot_of-here : (s : List Filing) (e : ℕ) (x : Slot) → last_of s < e → slot_of (with_slot s e x) e ≡ x
+slot_of-here [] e x h = rw (same-eqb e) refl
+slot_of-here (y ∷ s) e x h = rw (lower-eqb y.entry e (omega (arith, h))) (slot_of-here s e x (omega (arith, h)))
+
+pub slot_of-other : (s : List Filing) (e : ℕ) (x : Slot) (k : ℕ) → k ≢ e → slot_of (with_slot s e x) k ≡ slot_of s k
+slot_of-other [] e x k other = rw (other-eqb e k (λ q. other (sym q))) refl
+slot_of-other (y ∷ s) e x k other = ap (λ o. if y.entry == k then y.slot else o) (slot_of-other s e x k other)
+
+pub last-with_slot : (s : List Filing) (e : ℕ) (x : Slot) → last_of s < e → last_of (with_slot s e x) ≡ e
+last-with_slot [] e x h = omega arith
+last-with_slot (y ∷ s) e x h = omega (arith, h, last-with_slot s e x (omega (arith, h)))
+
+rises-with_slot : (n : ℕ) (s : List Filing) (e : ℕ) (x : Slot) → RisesAbove n s → n < e → last_of s < e → RisesAbove n (with_slot s e x)
+rises-with_slot n [] e x rises low h = (low, tt)
+rises-with_slot n (y ∷ s) e x rises low h = (rises.0, rises-with_slot y.entry s e x rises.1 (omega (arith, h)) (omega (arith, h)))
+
+pub rising-with_slot : (s : List Filing) (e : ℕ) (x : Slot) → IsRising s → last_of s < e → IsRising (with_slot s e x)
+rising-with_slot s e x rises h = rises-with_slot 0 s e x rises (omega (arith, h)) h
+
+-- what is appended is filed
+pub filed : (old new : List Filing) (x y : Filing) → new ≡ old ++ x ∷ [] → x ≡ y → new ≡ old ++ y ∷ []
+filed old new x y e q = e ∙ ap (λ (f : Filing). old ++ f ∷ []) q
+
+-- ---- what has a slot isn't above all
+
+low-by : (y : Filing) (s : List Filing) (k : ℕ) (x : Slot) → x ≢ Empty → (slot_of s k ≡ x → k ≤ last_of s) → (b : Bool) → (y.entry == k) ≡ b → (if b then y.slot else slot_of s k) ≡ x → k ≤ last_of (y ∷ s)
+low-by y s k x some ih true q e = omega (arith, told y.entry k q)
+low-by y s k x some ih false q e = omega (arith, ih e)
+
+pub slot-low : (s : List Filing) (k : ℕ) (x : Slot) → slot_of s k ≡ x → x ≢ Empty → k ≤ last_of s
+slot-low [] k x e some = absurd (some (sym e))
+slot-low (y ∷ s) k x e some = low-by y s k x some (λ q. slot-low s k x q some) (y.entry == k) refl e
+
+-- ---- an entry that has named nothing
+
+abbrev gone : ℕ → Filing
+gone e = record { entry = e; slot = Empty }
+
+gone-by : (y : Filing) (s : List Filing) (e : ℕ) → slot_of (without_slot s e) e ≡ Empty → (b : Bool) → (y.entry == e) ≡ b → slot_of (if b then gone e ∷ s else y ∷ without_slot s e) e ≡ Empty
+gone-by y s e ih true q = rw (same-eqb e) refl
+gone-by y s e ih false q = rw q ih
+
+pub slot_of-gone : (s : List Filing) (e : ℕ) → slot_of (without_slot s e) e ≡ Empty
+slot_of-gone [] e = refl
+slot_of-gone (y ∷ s) e = gone-by y s e (slot_of-gone s e) (y.entry == e) refl
+
+kept-by : (y : Filing) (s : List Filing) (e k : ℕ) → k ≢ e → slot_of (without_slot s e) k ≡ slot_of s k → (b : Bool) → (y.entry == e) ≡ b → slot_of (if b then gone e ∷ s else y ∷ without_slot s e) k ≡ slot_of (y ∷ s) k
+kept-by y s e k other ih true q = rw (other-eqb e k (λ p. other (sym p)), other-eqb y.entry k (λ p. other (sym p ∙ told y.entry e q))) refl
+kept-by y s e k other ih false q = ap (λ o. if y.entry == k then y.slot else o) ih
+
+pub slot_of-kept : (s : List Filing) (e k : ℕ) → k ≢ e → slot_of (without_slot s e) k ≡ slot_of s k
+slot_of-kept [] e k other = refl
+slot_of-kept (y ∷ s) e k other = kept-by y s e k other (slot_of-kept s e k other) (y.entry == e) refl
+
+last-by : (y : Filing) (s : List Filing) (e : ℕ) → last_of (without_slot s e) ≡ last_of s → (b : Bool) → (y.entry == e) ≡ b → last_of (if b then gone e ∷ s else y ∷ without_slot s e) ≡ last_of (y ∷ s)
+last-by y s e ih true q = ap (λ n. max n (last_of s)) (sym (told y.entry e q))
+last-by y s e ih false q = ap (max y.entry) ih
+
+pub last-without_slot : (s : List Filing) (e : ℕ) → last_of (without_slot s e) ≡ last_of s
+last-without_slot [] e = refl
+last-without_slot (y ∷ s) e = last-by y s e (last-without_slot s e) (y.entry == e) refl
+
+rises-by : (n : ℕ) (y : Filing) (s : List Filing) (e : ℕ) → RisesAbove n (y ∷ s) → RisesAbove y.entry (without_slot s e) → (b : Bool) → (y.entry == e) ≡ b → RisesAbove n (if b then gone e ∷ s else y ∷ without_slot s e)
+rises-by n y s e rises ih true q = subst (λ k. (n < k) × RisesAbove k s) (told y.entry e q) rises
+rises-by n y s e rises ih false q = (rises.0, ih)
+
+rises-without_slot : (n : ℕ) (s : List Filing) (e : ℕ) → RisesAbove n s → RisesAbove n (without_slot s e)
+rises-without_slot n [] e rises = tt
+rises-without_slot n (y ∷ s) e rises = rises-by n y s e rises (rises-without_slot y.entry s e rises.1) (y.entry == e) refl
+
+pub rising-without_slot : (s : List Filing) (e : ℕ) → IsRising s → IsRising (without_slot s e)
+rising-without_slot s e rises = rises-without_slot 0 s e rises
+
+-- ---- the search
+
+abbrev entry_at : List Filing → ℕ → ℕ
+entry_at s i = (get_or s i no_filing).entry
+
+rises-at : (n : ℕ) (s : List Filing) (i : ℕ) → RisesAbove n s → i < length s → n < entry_at s i
+rises-at n [] i rises h = absurd (omega (arith, h))
+rises-at n (x ∷ s) zero rises h = rises.0
+rises-at n (x ∷ s) (suc i) rises h = omega (arith, rises.0, rises-at x.entry s i rises.1 (omega (arith, h)))
+
+rises-between : (n : ℕ) (s : List Filing) (i j : ℕ) → RisesAbove n s → i < j → j < length s → entry_at s i < entry_at s j
+rises-between n [] i j rises lt h = absurd (omega (arith, h))
+rises-between n (x ∷ s) i zero rises lt h = absurd (omega (arith, lt))
+rises-between n (x ∷ s) zero (suc j) rises lt h = rises-at x.entry s j rises.1 (omega (arith, h))
+rises-between n (x ∷ s) (suc i) (suc j) rises lt h = rises-between x.entry s i j rises.1 (omega (arith, lt)) (omega (arith, h))
+
+module _ (s : List Filing) (rising : IsRising s) (e : ℕ) where
+  -- the comparisons with the number rise along the list, as a binary search asks
+  comparisons_rise : IsNonDecreasingBy (λ x. ordering_index (nat_cmp x.entry e)) s
+  comparisons_rise = IsNonDecreasingBy-from_default (λ x. ordering_index (nat_cmp x.entry e)) s no_filing (λ i j le in_range.
+      let rise : entry_at s i ≤ entry_at s j = grind (arith, rises-between 0 s i j rising, λ (same : i ≡ j). ap (entry_at s) same) in
+      grind (arith, nat_tests))
+
+  -- a binary search by number ends at the entry, or there is none
+  pub searched : (r : Result ℕ ℕ) → IsSearchInRange r (length s) → IsBinarySearchResult (λ x. nat_cmp x.entry e) s r → record { found : IfOk r (IsFiledAt s e); absent : OnErr r (IsNotFiled s e) }
+  searched (Ok at) in_range equal = record { found = record { in_range = in_range; entry = ranked _ e _ (sym (equal no_filing)) }; absent = tt }
+  searched (Err at) in_range parted = record {
+    found = tt;
+    absent = λ i lt is.
+        let below : i < at → entry_at s i < e = λ h. ranked _ e _ (sym ((parted comparisons_rise).0 i no_filing (omega (arith, in_range)) h)) in
+        let above : at ≤ i → e < entry_at s i = λ h. ranked _ e _ (sym ((parted comparisons_rise).1 i no_filing h lt)) in
+        grind (arith, below, above);
+  }
+
+-- ---- what is found, and what is written there
+
+at_default : (s : List Filing) (i : ℕ) (u : Filing) → i < length s → u ≡ get_or s i u → get_or s i no_filing ≡ u
+at_default [] i u h e = absurd (omega (arith, h))
+at_default (x ∷ s) zero u h e = sym e
+at_default (x ∷ s) (suc i) u h e = at_default s i u (omega (arith, h)) e
+
+slot-at : (n : ℕ) (s : List Filing) (e i : ℕ) → RisesAbove n s → i < length s → entry_at s i ≡ e → slot_of s e ≡ (get_or s i no_filing).slot
+slot-at n [] e i rises h is = absurd (omega (arith, h))
+slot-at n (x ∷ s) e zero rises h is = rw (ap (λ k. k == e) is ∙ same-eqb e) refl
+slot-at n (x ∷ s) e (suc i) rises h is = rw (lower-eqb x.entry e (omega (arith, is, rises-at x.entry s i rises.1 (omega (arith, h))))) (slot-at x.entry s e i rises.1 (omega (arith, h)) is)
+
+pub slot_of-found : (s : List Filing) (e i : ℕ) (u : Filing) → IsRising s → IsFiledAt s e i → u ≡ get_or s i u → u.slot ≡ slot_of s e
+slot_of-found s e i u rising is here = sym (slot-at 0 s e i rising is.in_range is.entry ∙ ap (λ (f : Filing). f.slot) (at_default s i u is.in_range here))
+
+absent-rest : (x : Filing) (s : List Filing) (e : ℕ) → IsNotFiled (x ∷ s) e → IsNotFiled s e
+absent-rest x s e none i h is = none (suc i) (omega (arith, h)) is
+
+pub slot_of-absent : (s : List Filing) (e : ℕ) → IsNotFiled s e → slot_of s e ≡ Empty
+slot_of-absent [] e none = refl
+slot_of-absent (x ∷ s) e none = rw (other-eqb x.entry e (none zero (omega arith))) (slot_of-absent s e (absent-rest x s e none))
+
+pub without_slot-absent : (s : List Filing) (e : ℕ) → IsNotFiled s e → without_slot s e ≡ s
+without_slot-absent [] e none = refl
+without_slot-absent (x ∷ s) e none = rw (other-eqb x.entry e (none zero (omega arith))) (ap (λ r. x ∷ r) (without_slot-absent s e (absent-rest x s e none)))
+
+set-at : (n : ℕ) (s : List Filing) (e i : ℕ) → RisesAbove n s → i < length s → entry_at s i ≡ e → set s i (gone e) ≡ without_slot s e
+set-at n [] e i rises h is = absurd (omega (arith, h))
+set-at n (x ∷ s) e zero rises h is = rw (ap (λ k. k == e) is ∙ same-eqb e) refl
+set-at n (x ∷ s) e (suc i) rises h is = rw (lower-eqb x.entry e (omega (arith, is, rises-at x.entry s i rises.1 (omega (arith, h))))) (ap (λ r. x ∷ r) (set-at x.entry s e i rises.1 (omega (arith, h)) is))
+
+pub without_slot-found : (s : List Filing) (e i : ℕ) → IsRising s → IsFiledAt s e i → set s i (record { entry = e; slot = Empty }) ≡ without_slot s e
+without_slot-found s e i rising is = set-at 0 s e i rising is.in_range is.entry

@@ -1,0 +1,139 @@
+//! What each entry named, filed by the number of the entry.
+ghost use Rattle.std.specs.Prelude.{◌≡◌, ◌<◌, ℕ, IfOk, OnErr};
+ghost use Rattle.arrayvec.specs.ArrayVec.{array_vec_len};
+ghost use Rattle.gu_base.specs.Limits.{most_parts};
+ghost use Rattle.gu_base.specs.Numbers.{EntryPart};
+ghost use Rattle.gu_tree.specs.Filing.{IsRising, IsFiledAt, IsNotFiled, slot_of, without_slot, name_in, Climbs, IsClimbed};
+
+use crate::path::Path;
+use gu_base::{NodeName, Number};
+use std::alloc::Allocator;
+use std::marker::Model;
+
+/// What an entry named.
+#[derive(Clone, Copy)]
+pub(crate) enum Slot {
+    /// Nothing, or nothing any more.
+    Empty,
+    /// The root of its tree, which stands here among the trees.
+    Root(u32),
+    /// The node that a Split or a decision names.
+    Node(NodeName),
+}
+
+/// A slot in eight bytes.
+#[derive(Drop)]
+enum Packed {
+    Gone,
+    Tree(u32),
+    /// The part, and the entry that made it.
+    Part(u8, Number),
+}
+
+/// An entry with its slot, in a dozen bytes.
+#[derive(Drop)]
+pub(crate) struct Filed {
+    entry: Number,
+    packed: Packed,
+}
+
+impl Model for Filed {
+    ghost use Rattle.gu_tree.specs.Filing.{Filing, unpacked, HasPart};
+    ghost use Rattle.gu_tree.specs.FilingCode.{filing_code};
+
+    ghost Value = { Filing };
+
+    ghost coded = { filing_code };
+
+    ghost view = { λ f. record { entry = f.entry; slot = unpacked f.packed } };
+
+    ghost invariant = { λ f. HasPart f.packed };
+}
+
+impl Filed {
+    pub(crate) fn new(entry: Number, slot: Slot) -> Filed
+        ensures { result ≡ record { entry = entry; slot = slot } }
+    {
+        let packed = match slot {
+            Slot::Empty => Packed::Gone,
+            Slot::Root(i) => Packed::Tree(i),
+            Slot::Node(node) => Packed::Part(node.part(), node.entry()),
+        };
+        Filed { entry, packed }
+    }
+
+    fn slot(&self) -> Slot
+        ensures { result ≡ self.now.slot }
+    {
+        match &self.packed {
+            Packed::Gone => Slot::Empty,
+            Packed::Tree(i) => Slot::Root(*i),
+            Packed::Part(part, entry) => Slot::Node(NodeName::in_entry(*entry, *part)),
+        }
+    }
+
+    fn entry(&self) -> u32
+        ensures { result ≡ self.now.entry }
+    {
+        self.entry.get()
+    }
+}
+
+/// Where the entry is filed, or where it would be.
+fn find(slots: &[Filed], entry: Number) -> Result<usize, usize>
+    requires { IsRising slots.now }
+    ensures found { IfOk result (IsFiledAt slots.now entry) }
+    ensures absent { OnErr result (IsNotFiled slots.now entry) }
+{
+    slots.binary_search_by_key(&entry.get(), |filed| filed.entry())
+}
+
+/// What the entry named.
+pub(crate) fn slot_at(slots: &[Filed], entry: Number) -> Slot
+    requires { IsRising slots.now }
+    ensures { result ≡ slot_of slots.now entry }
+{
+    match find(slots, entry) {
+        Ok(i) => slots[i].slot(),
+        Err(_) => Slot::Empty,
+    }
+}
+
+/// The node that an entry with this slot named, a Trade its root.
+pub(crate) fn named_by(slot: Slot, entry: Number) -> Option<NodeName>
+    ensures { result ≡ name_in entry slot }
+{
+    match slot {
+        Slot::Empty => None,
+        Slot::Root(_) => Some(NodeName::in_entry(entry, 0)),
+        Slot::Node(node) => Some(node),
+    }
+}
+
+/// Appends to the path the steps that lead from the root to the node, and gives the root's trade.
+pub(crate) fn climb(slots: &[Filed], node: NodeName, path: &mut Path) -> Number
+    requires rising { IsRising slots.now }
+    requires room { Climbs slots.now node (array_vec_len path.old) }
+    requires falls { (e : ℕ) (n : EntryPart) → slot_of slots.now e ≡ Slot.Node n → n.entry < e }
+    ensures { IsClimbed slots.now node path.old.items path.new.items result }
+{
+    if node.part() == 0 {
+        return node.entry();
+    }
+    let Slot::Node(parent) = slot_at(slots, node.entry()) else {
+        unreachable!()
+    };
+    let trade = climb(slots, parent, path);
+    path.push(node.part() - 1);
+    trade
+}
+
+/// Takes the slot of an entry out.
+pub(crate) fn clear<A: Allocator>(slots: &mut Vec<Filed, A>, entry: Number)
+    requires { IsRising slots.old.items }
+    ensures { slots.new.items ≡ without_slot slots.old.items entry }
+{
+    if let Ok(i) = find(slots.as_slice(), entry) {
+        slots[i] = Filed::new(entry, Slot::Empty);
+    }
+}
