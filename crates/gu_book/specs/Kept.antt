@@ -10,6 +10,8 @@ use Rattle.gu_base.specs.declared.entry.Answer.TheVariants.{Accepted}
 use Rattle.gu_base.specs.declared.entry.Entry.{Entry}
 use Rattle.gu_base.specs.declared.entry.Record.{Record}
 use Rattle.gu_book.specs.Beside.{IsBeside}
+use Rattle.gu_book.specs.Charging.{AreFeesOf}
+use Rattle.gu_fees.specs.Rows.{FeeRows}
 use Rattle.gu_base.specs.Consents.{consents_left}
 use Rattle.gu_book.specs.Ids.{NoIdTwice}
 use Rattle.gu_book.specs.Index.{IsIndexOf}
@@ -38,7 +40,8 @@ pub record IsKept (house : House) (history : List Entry) (records : List Record)
   pub beside : IsBeside records trees
   pub consented : (n : ℕ) → given consents n ≡ consents_left history n
 
--- all that a book keeps: the same, and that its index is one of the history
-pub record IsBook (house : House) (history : List Entry) (records : List Record) (trees : List TradeTree) (consents : Consents) (index : Index) : Type 0 where
+-- all that a book keeps: the same, that its index is one of the history, and its fees are those of the live changes
+pub record IsBook (house : House) (history : List Entry) (records : List Record) (trees : List TradeTree) (consents : Consents) (index : Index) (fees : FeeRows) : Type 0 where
   pub kept : IsKept house history records trees consents
   pub indexed : IsIndexOf index history
+  pub charged : AreFeesOf house records fees

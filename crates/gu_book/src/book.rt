@@ -1,4 +1,4 @@
-//! The book: the house table, the history, and beside it the live changes, a tree for each live trade, and the consents.
+//! The book: the house table, the history, and beside it the live changes, a tree for each live trade, the consents, an index and the fees.
 ghost use Rattle.std.specs.Prelude.{true, ◌≡◌, ◌≤◌, ◌<◌, ◌+◌, [], ◌∷◌, ◌++◌, length, map, option_map, IsTrue, IfOk, OnOk, OnErr};
 ghost use Rattle.gu_base.specs.Limits.{most_entries};
 ghost use Rattle.gu_base.specs.History.{is_change, live};
@@ -27,6 +27,7 @@ use gu_base::{
     Record, Refusal, Side, State,
 };
 use gu_consent::Consents;
+use gu_fees::Fees;
 use gu_parties::House;
 use gu_tree::Row;
 use std::alloc::Global;
@@ -41,6 +42,7 @@ pub struct Book {
     trees: Vec<TradeTree>,
     consents: Consents,
     index: Index,
+    fees: Fees,
 }
 
 impl Model for Book {
@@ -51,7 +53,7 @@ impl Model for Book {
 
     ghost view = { λ b. record { house = b.house; history = b.entries.items } };
 
-    ghost invariant = { λ b. IsBook b.house b.entries.items b.records.items b.trees.items b.consents b.index };
+    ghost invariant = { λ b. IsBook b.house b.entries.items b.records.items b.trees.items b.consents b.index b.fees };
 }
 
 impl Book {
@@ -66,6 +68,7 @@ impl Book {
             trees: Vec::new(alloc),
             consents: Consents::new(alloc),
             index: Index::new(alloc),
+            fees: Fees::new(alloc),
         }
     }
 
@@ -120,6 +123,7 @@ impl Book {
             &self.house,
             &self.entries,
             &self.records,
+            &self.fees,
             &self.index,
             &self.consents,
             by,
@@ -182,6 +186,7 @@ impl Book {
         ensures kept { OnOk result (self.new ≡ record { house = self.old.house; history = self.old.history ++ kept ∷ [] }) }
         ensures unchanged { OnErr result (self.new ≡ self.old) }
     {
+        let charge = charges::charge_of(&self.house, &self.records, &kept.command);
         let record = Record {
             number,
             firm: kept.firm,
@@ -191,11 +196,13 @@ impl Book {
         };
         self.entries.reserve(1)?;
         self.records.reserve(1)?;
+        charges::ready(&mut self.fees, &charge)?;
         self.index.ids.put(&kept.firm, &kept.id, number)?;
         if let Err(lack) = trees::change(&mut self.trees, alloc, &record) {
             self.index.ids.remove(&kept.firm, &kept.id);
             return Err(lack);
         }
+        charges::add(&mut self.fees, &charge);
         self.entries.push_reserved(kept);
         self.records.push_reserved(record);
         Ok(())
@@ -238,8 +245,8 @@ impl Book {
         Ok(())
     }
 
-    /// Answers a Reverse that only what stands on its entry may still refuse. Where nothing does, the replayed live changes and trees
-    /// take the place of the old.
+    /// Answers a Reverse that only what stands on its entry may still refuse. Where nothing does, the replayed live changes, trees
+    /// and fees take the place of the old.
     fn keep_reversal(
         &mut self,
         alloc: Global,
@@ -256,7 +263,7 @@ impl Book {
     {
         match replay_without(&self.house, alloc, &self.records, change)? {
             Without::Stands(other) => Ok(Answer::Refused(Refusal::StandsOn(other))),
-            Without::Legal(records, trees) => {
+            Without::Legal(records, trees, fees) => {
                 self.entries.reserve(1)?;
                 self.index.ids.put(&kept.firm, &kept.id, number)?;
                 if let Err(lack) = self.index.reversals.put(change, number) {
@@ -268,6 +275,7 @@ impl Book {
                 self.entries.push_reserved(kept);
                 self.records = records;
                 self.trees = trees;
+                self.fees = fees;
                 Ok(Answer::Accepted { number, status })
             }
         }
@@ -310,20 +318,20 @@ impl Book {
     pub fn paid(&self, firm: &FirmId) -> u64
         ensures { result ≡ paid_by self.now.house (live self.now.history) firm.now }
     {
-        charges::paid_by(&self.house, &self.records, firm)
+        self.fees.paid(firm)
     }
 
     /// What a firm receives for the live claims of what it gave up, in hundredths.
     pub fn received(&self, firm: &FirmId) -> u64
         ensures { result ≡ received_by self.now.house (live self.now.history) firm.now }
     {
-        charges::received_by(&self.house, &self.records, firm)
+        self.fees.received(firm)
     }
 
     /// The lots of the live claims under the agreement of a giver and a taker.
     pub fn used(&self, giver: &FirmId, taker: &FirmId) -> u64
         ensures { result ≡ used_of self.now.house (live self.now.history) giver.now taker.now }
     {
-        charges::used_of(&self.house, &self.records, giver, taker)
+        self.fees.used(giver, taker)
     }
 }

@@ -7,7 +7,7 @@
 //! - `Memory` comes only where the rules accept the call, or refuse a Reverse for what stands on its change (a replay finds that, and
 //!   takes memory). All growths come before anything changes, so it leaves everything too.
 //! - `live` gives the numbers of the live changes, `tree_rows` the rows of a live trade's tree. `position` sums the leaves of the
-//!   trees; `paid`, `received` and `used` are sums over the live changes. They are made anew at each question, and fit.
+//!   trees at each question; `paid`, `received` and `used` are running sums of what the live claims cost. All fit.
 //! - The type keeps that its history is one that calls made of the empty book, that no firm and id stand in it twice, that none of
 //!   its live changes would be refused after those before it, that the trees show the live changes, and that the consents are those
 //!   that the history left.

@@ -2,6 +2,7 @@
 ghost use Rattle.std.specs.Prelude.{◌≡◌, ◌≤◌, length, find, unwrap_or, if◌then◌else◌};
 ghost use Rattle.gu_base.specs.Limits.{most_entries};
 ghost use Rattle.gu_base.specs.Same.{same_command};
+ghost use Rattle.gu_base.specs.Fees.{charges};
 ghost use Rattle.gu_base.specs.History.{records, live};
 ghost use Rattle.gu_base.specs.Answers.{is_same_call, is_same_id, answer_by, status_of};
 ghost use Rattle.gu_base.specs.declared.entry.Answer.{Answer};
@@ -10,14 +11,15 @@ ghost use Rattle.gu_base.specs.declared.refusal.Refusal.TheVariants.{DuplicateId
 ghost use Rattle.gu_book.specs.Front.{front_answer, front_rules, front_refusal};
 ghost use Rattle.gu_book.specs.Ids.{NoIdTwice};
 ghost use Rattle.gu_book.specs.Index.{AreIdsOf, IsIndexOf};
-ghost use Rattle.gu_book.specs.Limits.{AllWithinLimits};
 ghost use Rattle.gu_consent.specs.Given.{given};
+ghost use Rattle.gu_fees.specs.Sums.{AreSumsOf};
 
 use crate::index::{Ids, Index};
 use crate::plain::naming::naming_refusal;
 use crate::plain::refusals::change_refusal;
 use gu_base::{AllocId, Answer, Command, Entry, FirmId, Number, Record, Refusal, State};
 use gu_consent::Consents;
+use gu_fees::Fees;
 use gu_parties::House;
 
 /// The answer to a call whose firm and id this entry has.
@@ -80,16 +82,16 @@ fn front_refusal(
     house: &House,
     entries: &[Entry],
     records: &[Record],
+    fees: &Fees,
     index: &Index,
     consents: &Consents,
     by: &FirmId,
     command: &Command,
 ) -> Option<Refusal>
     requires indexed { IsIndexOf index.now entries.now }
+    requires charged { AreSumsOf fees.now (charges house.now records.now) }
     requires few { length entries.now ≤ most_entries }
     requires live { records.now ≡ live entries.now }
-    requires within { AllWithinLimits records.now }
-    requires fewer { length records.now ≤ most_entries }
     ensures { result ≡ front_refusal house.now entries.now (given consents.now) by.now command.now }
 {
     match command {
@@ -101,7 +103,7 @@ fn front_refusal(
                 house, entries, records, index, consents, by, command, *entry,
             )
         }
-        _ => change_refusal(house, records, by, command),
+        _ => change_refusal(house, records, fees, by, command),
     }
 }
 
@@ -110,22 +112,24 @@ fn new_answer(
     house: &House,
     entries: &[Entry],
     records: &[Record],
+    fees: &Fees,
     index: &Index,
     consents: &Consents,
     by: &FirmId,
     command: &Command,
 ) -> Answer
     requires indexed { IsIndexOf index.now entries.now }
+    requires charged { AreSumsOf fees.now (charges house.now records.now) }
     requires few { length entries.now ≤ most_entries }
     requires live { records.now ≡ live entries.now }
-    requires within { AllWithinLimits records.now }
-    requires fewer { length records.now ≤ most_entries }
     ensures { result ≡ front_rules house.now entries.now (given consents.now) by.now command.now }
 {
     if entries.len() >= Number::MAX as usize {
         return Answer::Refused(Refusal::BookFull);
     }
-    if let Some(refusal) = front_refusal(house, entries, records, index, consents, by, command) {
+    if let Some(refusal) = front_refusal(
+        house, entries, records, fees, index, consents, by, command,
+    ) {
         return Answer::Refused(refusal);
     }
     Answer::Accepted {
@@ -139,6 +143,7 @@ pub(crate) fn front_answer(
     house: &House,
     entries: &[Entry],
     records: &[Record],
+    fees: &Fees,
     index: &Index,
     consents: &Consents,
     by: &FirmId,
@@ -147,14 +152,13 @@ pub(crate) fn front_answer(
 ) -> Answer
     requires once { NoIdTwice entries.now }
     requires indexed { IsIndexOf index.now entries.now }
+    requires charged { AreSumsOf fees.now (charges house.now records.now) }
     requires few { length entries.now ≤ most_entries }
     requires live { records.now ≡ live entries.now }
-    requires within { AllWithinLimits records.now }
-    requires fewer { length records.now ≤ most_entries }
     ensures { result ≡ front_answer house.now entries.now (given consents.now) (record { firm = by.now; id = id.now; command = command.now }) }
 {
     if let Some(answer) = known(&index.ids, entries, by, id, command) {
         return answer;
     }
-    new_answer(house, entries, records, index, consents, by, command)
+    new_answer(house, entries, records, fees, index, consents, by, command)
 }

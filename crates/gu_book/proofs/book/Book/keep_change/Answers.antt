@@ -1,4 +1,6 @@
+use Rattle.std.proofs.Common.{◌≤◌, length, arith}
 use Rattle.gu_base.proofs.LiveLaws.{change_is_no_reverse}
+use Rattle.gu_book.proofs.Charging.{fees_push, has_room}
 use Rattle.gu_book.proofs.Indexed.{index_put}
 use Rattle.gu_book.proofs.Keeps.{next_kept, kept_change}
 use Rattle.gu_book.proofs.book.Book.keep_change.Goals as goal
@@ -7,6 +9,15 @@ pub change-requires : goal.change-requires
 change-requires c =
     let ok = rw (← c.self.view_is) at c.requires.accepted in
     (c.self.inside.house, c.self.inside.records.items, rw c.in_ok-copy.ensures.equal (next_kept c.self.invariant.kept c.args.number c.args.kept ok c.requires.change))
+
+pub add-requires : goal.add-requires
+add-requires c =
+    let kept = c.self.invariant.kept in
+    let few = kept.few in
+    let fewer = kept.fewer in
+    let live_few : length c.self.inside.records.items ≤ 1000000 = omega (arith, few, fewer) in
+    has_room c.self.inside.house c.self.inside.records.items c.self.inside.fees c.self.invariant.charged live_few c.ready.new.fees c.in_ok-ready.ensures.same c.charge_of-charge.result
+    c.charge_of-charge.ensures.lots c.charge_of-charge.ensures.rate c.in_ok-ready.ensures.ready
 
 pub invariant_of-self-2 : goal.invariant_of-self-2
 invariant_of-self-2 c =
@@ -17,4 +28,6 @@ invariant_of-self-2 c =
       kept = kept_change c.self.invariant.kept c.args.number c.args.kept ok c.requires.change c.change.new.trees.items
           ((rw c.in_ok-copy.ensures.equal at c.in_default.ensures.follows) c.self.inside.house c.self.inside.records.items next);
       indexed = index_put c.self.invariant.indexed c.self.inside.house c.args.kept c.args.number ok c.put.new.self c.in_ok-put.ensures.put (λ m. change_is_no_reverse m c.args.kept.command c.requires.change);
+      charged = fees_push next c.self.inside.fees c.ready.new.fees c.add.new.fees c.self.invariant.charged c.in_ok-ready.ensures.same c.charge_of-charge.result
+          (rw c.deref.ensures.value at c.charge_of-charge.ensures.value) c.charge_of-charge.ensures.lots c.charge_of-charge.ensures.rate c.add.ensures;
     })

@@ -1,0 +1,108 @@
+-- The running sums of what the live claims cost, with one change more.
+use Rattle.std.proofs.Common.{◌≡◌, ℕ, ◌+◌, ◌*◌, ◌≤◌, Bool, List, [], ◌∷◌, ◌++◌, length, sym, ◌∙◌, ap, subst, arith, Option, cond}
+use Rattle.std.specs.Prelude.{Some, None, filter, filter_map, sum_by, bytes_eq, ◌&&◌, IfSome}
+use Rattle.std.specs.List.{All, cons_option}
+use Rattle.std.proofs.Math.Nat.{mul-le-mul, mul-le-mul_right}
+use Rattle.std.proofs.lemmas.List.Elements.{All-nil, All-cons, All-append, All-filter, All-weaker}
+use Rattle.std.proofs.lemmas.List.Sums.{sum_by-le, length-filter, count_by-le-length}
+use Rattle.gu_base.specs.House.{House}
+use Rattle.gu_base.specs.Limits.{most_lots, highest_rate}
+use Rattle.gu_base.specs.Fees.{charges, charge_of}
+use Rattle.gu_base.specs.History.{RisesFrom}
+use Rattle.gu_base.specs.Refusals.{refusal_of}
+use Rattle.gu_base.specs.Standing.{first_refused}
+use Rattle.gu_base.specs.declared.entry.Record.{Record}
+use Rattle.gu_base.specs.declared.node.Charge.{Charge}
+use Rattle.gu_base.proofs.LegalLaws.{replay_push}
+use Rattle.gu_depend.proofs.LastMoves.{moves_its_own}
+use Rattle.gu_depend.proofs.Replay.{number_once}
+use Rattle.gu_depend.proofs.StandsUnder.{rises_distinct}
+use Rattle.gu_fees.specs.Rows.{FeeRows, paid_in, received_in, used_in}
+use Rattle.gu_fees.specs.Sums.{AreSumsOf, cost}
+use Rattle.gu_book.specs.Beside.{IsNext}
+use Rattle.gu_book.specs.declared.trees.TradeTree.{TradeTree}
+use Rattle.gu_book.specs.Charging.{IsSmallCharge, AreFeesOf, IsReadyFor, HasRoomFor}
+
+-- the same sums
+pub sums_same : (old new : FeeRows) → ((firm : List ℕ) → paid_in new firm ≡ paid_in old firm) → ((firm : List ℕ) → received_in new firm ≡ received_in old firm)
+    → ((g k : List ℕ) → used_in new g k ≡ used_in old g k) → (cs : List Charge) → AreSumsOf old cs → AreSumsOf new cs
+sums_same old new paid received used cs are = record {
+  paid = λ firm. paid firm ∙ are.paid firm;
+  received = λ firm. received firm ∙ are.received firm;
+  used = λ g k. used g k ∙ are.used g k;
+}
+
+-- ---- one change more
+
+-- the charges of a list that one change follows
+charges_push : (t : House) (l : List Record) (r : Record) → first_refused t [] l ≡ None → refusal_of t l r.firm r.command ≡ None → RisesFrom 1 (l ++ r ∷ [])
+    → charges t (l ++ r ∷ []) ≡ charges t l ++ cons_option (charge_of t l r.command) []
+charges_push t l r replayed lawful rises =
+    (moves_its_own t l r (number_once (l ++ r ∷ []) (rises_distinct 1 (l ++ r ∷ []) rises)) (replay_push t [] l r replayed lawful)).charged
+
+small_option : (o : Option Charge) → IfSome o (λ c. c.lots ≤ most_lots) → IfSome o (λ c. c.rate ≤ highest_rate) → All IsSmallCharge (cons_option o [])
+small_option None lots rate = All-nil IsSmallCharge
+small_option (Some c) lots rate = All-cons IsSmallCharge c [] (record { lots = lots; rate = rate }) (All-nil IsSmallCharge)
+
+pub fees_push : {t : House} {l : List Record} {r : Record} {ts : List TradeTree} → IsNext t l r ts → (fees now new : FeeRows) → AreFeesOf t l fees
+    → ((cs : List Charge) → AreSumsOf fees cs → AreSumsOf now cs) → (o : Option Charge) → o ≡ charge_of t l r.command
+    → IfSome o (λ c. c.lots ≤ most_lots) → IfSome o (λ c. c.rate ≤ highest_rate)
+    → ((cs : List Charge) → AreSumsOf now cs → AreSumsOf new (cs ++ cons_option o [])) → AreFeesOf t (l ++ r ∷ []) new
+fees_push {t} {l} {r} next fees now new are same o is lots rate more =
+    let all : charges t l ++ cons_option o [] ≡ charges t (l ++ r ∷ []) = ap (λ (o : Option Charge). charges t l ++ cons_option o []) is ∙ sym (charges_push t l r next.replayed next.lawful next.rises) in
+    record {
+      sums = subst (λ (cs : List Charge). AreSumsOf new cs) all (more (charges t l) (same (charges t l) are.sums));
+      small = subst (λ (cs : List Charge). All IsSmallCharge cs) all (All-append IsSmallCharge (charges t l) (cons_option o []) are.small (small_option o lots rate));
+    }
+
+pub no_fees : (t : House) (fees : FeeRows) → AreSumsOf fees [] → AreFeesOf t [] fees
+no_fees t fees are = record { sums = are; small = All-nil IsSmallCharge }
+
+-- ---- room
+
+small_cost : (c : Charge) → c.lots ≤ most_lots → c.rate ≤ highest_rate → cost c ≤ 1000000000000
+small_cost c lots rate = mul-le-mul lots rate
+
+fewer_by : (o : Option Charge) (cs : List Charge) (n : ℕ) → length cs ≤ n → length (cons_option o cs) ≤ n + 1
+fewer_by None cs n few = omega (arith, few)
+fewer_by (Some c) cs n few = omega (arith, few)
+
+fewer_charges : (h : Record → Option Charge) (l : List Record) → length (filter_map h l) ≤ length l
+fewer_charges h [] = omega arith
+fewer_charges h (r ∷ l) =
+    let a = fewer_by (h r) (filter_map h l) (length l) (fewer_charges h l) in
+    omega (arith, a)
+
+-- a sum over some of the charges of a list
+bounded : (t : House) (l : List Record) (w : Charge → ℕ) (takes : Charge → Bool) (most : ℕ) → length l ≤ 1000000 → All (λ c. w c ≤ most) (charges t l)
+    → sum_by w (filter takes (charges t l)) ≤ 1000000 * most
+bounded t l w takes most few all =
+    let cs = filter takes (charges t l) in
+    let a = sum_by-le w most cs (All-filter takes (λ (c : Charge). w c ≤ most) (charges t l) all) in
+    let b = length-filter takes (charges t l) in
+    let c = count_by-le-length takes (charges t l) in
+    let d = fewer_charges (λ r. charge_of t l r.command) l in
+    let e : length cs ≤ 1000000 = omega (arith, b, c, d, few) in
+    let f : length cs * most ≤ 1000000 * most = mul-le-mul_right most e in
+    omega (arith, a, f)
+
+pub has_room : (t : House) (l : List Record) (fees : FeeRows) → AreFeesOf t l fees → length l ≤ 1000000 → (now : FeeRows) → ((cs : List Charge) → AreSumsOf fees cs → AreSumsOf now cs)
+    → (o : Option Charge) → IfSome o (λ c. c.lots ≤ most_lots) → IfSome o (λ c. c.rate ≤ highest_rate) → IsReadyFor now o → HasRoomFor now o
+has_room t l fees are few now same None lots rate ready = tt
+has_room t l fees are few now same (Some c) lots rate ready =
+    let sums = same (charges t l) are.sums in
+    let costs = All-weaker IsSmallCharge (λ (c : Charge). cost c ≤ 1000000000000) (λ c s. small_cost c s.lots s.rate) (charges t l) are.small in
+    let each = All-weaker IsSmallCharge (λ (c : Charge). c.lots ≤ 10000000) (λ c s. s.lots) (charges t l) are.small in
+    let own = small_cost c lots rate in
+    let paid = sums.paid c.taker in
+    let paid_most = bounded t l cost (λ d. bytes_eq d.taker c.taker) 1000000000000 few costs in
+    let received = sums.received c.giver in
+    let received_most = bounded t l cost (λ d. bytes_eq d.giver c.giver) 1000000000000 few costs in
+    let used = sums.used c.giver c.taker in
+    let used_most = bounded t l (λ d. d.lots) (λ d. bytes_eq d.giver c.giver && bytes_eq d.taker c.taker) 10000000 few each in
+    record {
+      ready = ready;
+      paid = omega (arith, own, paid, paid_most);
+      received = omega (arith, own, received, received_most);
+      used = omega (arith, lots, used, used_most);
+    }

@@ -1,0 +1,30 @@
+-- The running sums of what the live claims cost.
+use Rattle.std.specs.Prelude.{ℕ, ◌≤◌, List, Option, Some, None}
+use Rattle.std.specs.List.{All}
+use Rattle.gu_base.specs.Limits.{most_lots, highest_rate}
+use Rattle.gu_base.specs.House.{House}
+use Rattle.gu_base.specs.Fees.{charges}
+use Rattle.gu_base.specs.declared.entry.Record.{Record}
+use Rattle.gu_base.specs.declared.node.Charge.{Charge}
+use Rattle.gu_fees.specs.Rows.{FeeRows, IsReady, CanCharge}
+use Rattle.gu_fees.specs.Sums.{AreSumsOf}
+
+-- at most 10,000,000 lots, at a rate of at most 100,000
+pub record IsSmallCharge (c : Charge) : Type 0 where
+  pub lots : c.lots ≤ most_lots
+  pub rate : c.rate ≤ highest_rate
+
+-- the rows are the sums of the charges of the list, each of which is small
+pub record AreFeesOf (t : House) (l : List Record) (fees : FeeRows) : Type 0 where
+  pub sums : AreSumsOf fees (charges t l)
+  pub small : All IsSmallCharge (charges t l)
+
+-- the rows that the charge changes are there, if there is one
+abbrev pub IsReadyFor : FeeRows → Option Charge → Type 0
+IsReadyFor fees None = Unit {0}
+IsReadyFor fees (Some c) = IsReady fees c.giver c.taker
+
+-- and each sum has room for it
+abbrev pub HasRoomFor : FeeRows → Option Charge → Type 0
+HasRoomFor fees None = Unit {0}
+HasRoomFor fees (Some c) = CanCharge fees c.giver c.taker c.lots c.rate
