@@ -2,6 +2,7 @@ pub mod Steps
 pub mod Within
 pub mod Refused
 pub mod Keeps
+pub mod Indexed
 pub mod Sums
 pub mod Known
 pub mod Balance

@@ -1,11 +1,11 @@
 -- The answer to a call before it is looked at what stands on a change.
-use Rattle.std.specs.Prelude.{ℕ, ◌+◌, Bool, true, false, not, nat_lt, List, [], ◌∷◌, length, find, Option, None, option_map, if◌then◌else◌}
+use Rattle.std.specs.Prelude.{ℕ, ◌+◌, Bool, true, false, not, nat_lt, List, [], ◌∷◌, length, find, Option, None, option_map}
 use Rattle.gu_base.specs.Limits.{most_entries}
 use Rattle.gu_base.specs.House.{House, knows_firm}
-use Rattle.gu_base.specs.History.{records, live, is_reversed}
+use Rattle.gu_base.specs.History.{records, live}
 use Rattle.gu_base.specs.Refusals.{refusal_of, unless, first}
 use Rattle.gu_base.specs.Standing.{standing_on}
-use Rattle.gu_base.specs.Consents.{parties_of, consents_of, is_among, missing}
+use Rattle.gu_base.specs.Consents.{parties_of, is_among, missing}
 use Rattle.gu_base.specs.Answers.{Call, entry_of, on_change, is_empty, is_same_id, is_same_call, status_of, accepted_or, answer_by}
 use Rattle.gu_base.specs.declared.command.Command.{Command}
 use Rattle.gu_base.specs.declared.command.Command.TheVariants.{Initiate, Decline, Reverse}
@@ -38,11 +38,13 @@ front_refusal t h given by (Decline n) = naming_refusal t h given by (Decline n)
 front_refusal t h given by (Reverse n) = naming_refusal t h given by (Reverse n) n
 front_refusal t h given by change = refusal_of t (live h) by change
 
+-- the answer by the rules, if nothing stood on any change
+abbrev pub front_rules : House → List Entry → (ℕ → List (List ℕ)) → List ℕ → Command → Answer
+front_rules t h given by c = accepted_or (length h + 1) (status_of by c) (first (unless (nat_lt (length h) most_entries) BookFull ∷ front_refusal t h given by c ∷ []))
+
 -- the answer, if nothing stood on any change
 abbrev pub front_answer : House → List Entry → (ℕ → List (List ℕ)) → Call → Answer
-front_answer t h given c = answer_by (find (is_same_call c) (records h)) (find (is_same_id c) (records h))
-    (accepted_or (length h + 1) (status_of c.firm c.command)
-    (first (unless (nat_lt (length h) most_entries) BookFull ∷ front_refusal t h given c.firm c.command ∷ [])))
+front_answer t h given c = answer_by (find (is_same_call c) (records h)) (find (is_same_id c) (records h)) (front_rules t h given c.firm c.command)
 
 -- what may still refuse a Reverse: the first change that stands on its entry
 abbrev pub stands_refusal : House → List Entry → Command → Option Refusal

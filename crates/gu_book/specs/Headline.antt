@@ -1,5 +1,5 @@
 -- The headline in definitions, over any list of calls from the empty history. The clauses of `laws` say that they hold, sentence by sentence.
-use Rattle.std.specs.Prelude.{◌≡◌, ℕ, ◌+◌, ◌<◌, Bool, true, false, List, [], ◌∷◌, ◌++◌, length, find, Some, None}
+use Rattle.std.specs.Prelude.{◌≡◌, ℕ, ◌+◌, ◌<◌, true, false, List, [], ◌∷◌, ◌++◌, length, find, Some, None}
 use Rattle.std.specs.List.{list_all}
 use Rattle.gu_base.specs.Limits.{most_entries}
 use Rattle.gu_base.specs.House.{House}
@@ -8,7 +8,6 @@ use Rattle.gu_base.specs.Standing.{IsLegal, standing_on, without}
 use Rattle.gu_base.specs.Consents.{parties_of, consents_of, is_among, is_consenting, missing}
 use Rattle.gu_base.specs.Answers.{Call, answer_to, entry_of, is_same_id, is_accepted}
 use Rattle.gu_base.specs.Runs.{after_all}
-use Rattle.gu_base.specs.declared.command.Command.{Command}
 use Rattle.gu_base.specs.declared.command.Command.TheVariants.{Initiate, Reverse}
 use Rattle.gu_base.specs.declared.entry.Answer.TheVariants.{Accepted, Refused}
 use Rattle.gu_base.specs.declared.entry.Entry.{Entry}

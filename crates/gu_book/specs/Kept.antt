@@ -12,9 +12,11 @@ use Rattle.gu_base.specs.declared.entry.Record.{Record}
 use Rattle.gu_book.specs.Beside.{IsBeside}
 use Rattle.gu_base.specs.Consents.{consents_left}
 use Rattle.gu_book.specs.Ids.{NoIdTwice}
+use Rattle.gu_book.specs.Index.{IsIndexOf}
 use Rattle.gu_book.specs.Limits.{AllWithinLimits}
 use Rattle.gu_consent.specs.Given.{given}
 use Rattle.gu_consent.specs.declared.Consents.{Consents}
+use Rattle.gu_book.specs.declared.index.Index.{Index}
 use Rattle.gu_book.specs.declared.trees.TradeTree.{TradeTree}
 
 -- each of these entries is what is accepted after those before it
@@ -35,3 +37,8 @@ pub record IsKept (house : House) (history : List Entry) (records : List Record)
   pub once : NoIdTwice history
   pub beside : IsBeside records trees
   pub consented : (n : ℕ) → given consents n ≡ consents_left history n
+
+-- all that a book keeps: the same, and that its index is one of the history
+pub record IsBook (house : House) (history : List Entry) (records : List Record) (trees : List TradeTree) (consents : Consents) (index : Index) : Type 0 where
+  pub kept : IsKept house history records trees consents
+  pub indexed : IsIndexOf index history

@@ -16,6 +16,7 @@ ghost use Rattle.gu_book.specs.Front.{stands_refusal, may_lack};
 ghost use Rattle.gu_book.specs.Ids.{NoIdTwice};
 ghost use Rattle.gu_book.specs.TreeRows.{tree_rows};
 
+use crate::index::Index;
 use crate::plain::calls::front_answer;
 use crate::plain::charges;
 use crate::replay::{Without, replay_without};
@@ -39,17 +40,18 @@ pub struct Book {
     records: Vec<Record>,
     trees: Vec<TradeTree>,
     consents: Consents,
+    index: Index,
 }
 
 impl Model for Book {
     ghost use Rattle.gu_book.specs.Seen.{HouseAndHistory};
-    ghost use Rattle.gu_book.specs.Kept.{IsKept};
+    ghost use Rattle.gu_book.specs.Kept.{IsBook};
 
     ghost Value = { HouseAndHistory };
 
     ghost view = { λ b. record { house = b.house; history = b.entries.items } };
 
-    ghost invariant = { λ b. IsKept b.house b.entries.items b.records.items b.trees.items b.consents };
+    ghost invariant = { λ b. IsBook b.house b.entries.items b.records.items b.trees.items b.consents b.index };
 }
 
 impl Book {
@@ -63,6 +65,7 @@ impl Book {
             records: Vec::new(alloc),
             trees: Vec::new(alloc),
             consents: Consents::new(alloc),
+            index: Index::new(alloc),
         }
     }
 
@@ -117,6 +120,7 @@ impl Book {
             &self.house,
             &self.entries,
             &self.records,
+            &self.index,
             &self.consents,
             by,
             id,
@@ -154,11 +158,11 @@ impl Book {
         };
         match command {
             Command::Initiate { entry } => {
-                self.keep_consent(alloc, kept, *entry)?;
+                self.keep_consent(alloc, kept, *entry, number)?;
                 Ok(Answer::Accepted { number, status })
             }
             Command::Decline { entry } => {
-                self.keep_decline(kept, *entry)?;
+                self.keep_decline(kept, *entry, number)?;
                 Ok(Answer::Accepted { number, status })
             }
             Command::Reverse { entry } => self.keep_reversal(alloc, kept, *entry, number),
@@ -187,33 +191,48 @@ impl Book {
         };
         self.entries.reserve(1)?;
         self.records.reserve(1)?;
-        trees::change(&mut self.trees, alloc, &record)?;
+        self.index.ids.put(&kept.firm, &kept.id, number)?;
+        if let Err(lack) = trees::change(&mut self.trees, alloc, &record) {
+            self.index.ids.remove(&kept.firm, &kept.id);
+            return Err(lack);
+        }
         self.entries.push_reserved(kept);
         self.records.push_reserved(record);
         Ok(())
     }
 
     /// Puts an accepted Initiate at the end of the history, and its firm among those that consent.
-    fn keep_consent(&mut self, alloc: Global, kept: Entry, entry: Number) -> Result<(), Memory>
+    fn keep_consent(
+        &mut self,
+        alloc: Global,
+        kept: Entry,
+        entry: Number,
+        number: Number,
+    ) -> Result<(), Memory>
         requires names { kept.command ≡ Initiate entry }
-        requires accepted { answer_to self.old.house self.old.history (call_of kept) ≡ Accepted (length self.old.history + 1) kept.status }
+        requires accepted { answer_to self.old.house self.old.history (call_of kept) ≡ Accepted number kept.status }
         ensures kept { OnOk result (self.new ≡ record { house = self.old.house; history = self.old.history ++ kept ∷ [] }) }
         ensures unchanged { OnErr result (self.new ≡ self.old) }
     {
         self.entries.reserve(1)?;
-        self.consents.give(alloc, entry, kept.firm)?;
+        self.index.ids.put(&kept.firm, &kept.id, number)?;
+        if let Err(lack) = self.consents.give(alloc, entry, kept.firm) {
+            self.index.ids.remove(&kept.firm, &kept.id);
+            return Err(lack);
+        }
         self.entries.push_reserved(kept);
         Ok(())
     }
 
     /// Puts an accepted Decline at the end of the history, and clears the consents to its entry's reversal.
-    fn keep_decline(&mut self, kept: Entry, entry: Number) -> Result<(), Memory>
+    fn keep_decline(&mut self, kept: Entry, entry: Number, number: Number) -> Result<(), Memory>
         requires names { kept.command ≡ Decline entry }
-        requires accepted { answer_to self.old.house self.old.history (call_of kept) ≡ Accepted (length self.old.history + 1) kept.status }
+        requires accepted { answer_to self.old.house self.old.history (call_of kept) ≡ Accepted number kept.status }
         ensures kept { OnOk result (self.new ≡ record { house = self.old.house; history = self.old.history ++ kept ∷ [] }) }
         ensures unchanged { OnErr result (self.new ≡ self.old) }
     {
         self.entries.reserve(1)?;
+        self.index.ids.put(&kept.firm, &kept.id, number)?;
         self.consents.clear(entry);
         self.entries.push_reserved(kept);
         Ok(())
@@ -239,6 +258,11 @@ impl Book {
             Without::Stands(other) => Ok(Answer::Refused(Refusal::StandsOn(other))),
             Without::Legal(records, trees) => {
                 self.entries.reserve(1)?;
+                self.index.ids.put(&kept.firm, &kept.id, number)?;
+                if let Err(lack) = self.index.reversals.put(change, number) {
+                    self.index.ids.remove(&kept.firm, &kept.id);
+                    return Err(lack);
+                }
                 let status = kept.status;
                 self.consents.clear(change);
                 self.entries.push_reserved(kept);

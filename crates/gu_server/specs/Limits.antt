@@ -5,6 +5,6 @@ use Rattle.std.specs.Prelude.{ℕ}
 abbrev pub most_reads : ℕ
 most_reads = 16777216
 
--- the bytes of a read
+-- the bytes of a read: those that the feed has room for
 abbrev pub longest_read : ℕ
-longest_read = 4096
+longest_read = 65536

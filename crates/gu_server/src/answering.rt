@@ -6,13 +6,16 @@ ghost use Rattle.gu_codec.specs.Limits.{longest_body};
 ghost use Rattle.gu_codec.specs.Messages.{Message};
 ghost use Rattle.gu_codec.specs.Writing.{IsText, fields_text, message_text, stream_text};
 ghost use Rattle.gu_base.specs.Answers.{answer_to, after};
+ghost use Rattle.gu_message.specs.Meaning.{meaning_of};
+ghost use Rattle.gu_message.specs.Outcome.{Gives};
 ghost use Rattle.gu_message.specs.Reply.{Reply, message_of, answer_reply, reject_reply};
 
-use gu_base::{AllocId, Answer, Command, FirmId, Memory};
+use gu_base::{AllocId, Answer, Command, FirmId, Memory, Part};
 use gu_book::Book;
 use gu_codec::{Fields, Header, write_frame};
 use gu_message::{
-    Inbound, MeaningError, Reject, ack, meaning, msg_types, reject, reject_target, trade_ack,
+    Inbound, MeaningError, Reject, ack, give_back, meaning_with_room, msg_types, reject,
+    reject_target, trade_ack,
 };
 use gu_parties::House;
 use std::alloc::{AllocError, Global};
@@ -28,6 +31,25 @@ struct Call<'a> {
     trade: bool,
     id: &'a AllocId,
     command: &'a Command,
+}
+
+/// Room that is taken anew for each message and kept between them, so that memory is asked for only where more is needed than ever before.
+#[derive(Drop)]
+pub(crate) struct Room {
+    /// For the body of an answer.
+    body: Vec<u8>,
+    /// For the parts of a split.
+    parts: Vec<Part>,
+}
+
+impl Room {
+    /// None taken yet.
+    pub(crate) fn new(alloc: Global) -> Room {
+        Room {
+            body: Vec::new(alloc),
+            parts: Vec::new(alloc),
+        }
+    }
 }
 
 /// The book of a batch, and how many messages it has written.
@@ -56,6 +78,14 @@ impl Answering {
             book: Book::new(alloc, house),
             written: 0,
         }
+    }
+
+    /// The book.
+    pub(crate) fn book(&self) -> &Book
+        ensures house { result.now.house ≡ self.now.house }
+        ensures history { result.now.history ≡ self.now.history }
+    {
+        &self.book
     }
 
     /// Appends a reply to a firm, with the next number. An `Err` appends nothing.
@@ -89,9 +119,9 @@ impl Answering {
     /// Sends the answer of the book to a call. An `Err` appends nothing.
     fn send_answer(
         &mut self,
-        alloc: Global,
         call: &Call<'_>,
         answer: &Answer,
+        body: &mut Vec<u8>,
         out: &mut Vec<u8>,
     ) -> Result<(), Memory>
         requires counted { self.old.written + 1 < 2 ^ 64 }
@@ -99,13 +129,13 @@ impl Answering {
         ensures after { OnOk result (self.new ≡ record self.old { written = self.old.written + 1 }) }
         ensures err { OnErr result (out.new.items ≡ out.old.items) }
     {
-        let mut body = Vec::new(alloc);
+        body.clear();
         if call.trade {
-            trade_ack(&mut body, call.id, answer)?;
-            self.send(out, call.firm, msg_types::TRADE_CAPTURE_REPORT_ACK, &body)
+            trade_ack(body, call.id, answer)?;
+            self.send(out, call.firm, msg_types::TRADE_CAPTURE_REPORT_ACK, body)
         } else {
-            ack(&mut body, call.id, answer)?;
-            self.send(out, call.firm, msg_types::ALLOCATION_INSTRUCTION_ACK, &body)
+            ack(body, call.id, answer)?;
+            self.send(out, call.firm, msg_types::ALLOCATION_INSTRUCTION_ACK, body)
         }
     }
 
@@ -114,6 +144,7 @@ impl Answering {
         &mut self,
         alloc: Global,
         call: &Call<'_>,
+        body: &mut Vec<u8>,
         out: &mut Vec<u8>,
     ) -> Result<(), Memory>
         requires { self.old.written + 1 < 2 ^ 64 }
@@ -122,7 +153,7 @@ impl Answering {
         ensures err { OnErr result (out.new.items ≡ out.old.items) }
     {
         match self.book.apply(alloc, &call.firm, call.id, call.command) {
-            Ok(answer) => self.send_answer(alloc, call, &answer, out),
+            Ok(answer) => self.send_answer(call, &answer, body, out),
             Err(e) => Err(e),
         }
     }
@@ -130,9 +161,9 @@ impl Answering {
     /// Sends the Reject of a message. An `Err` appends nothing.
     fn answer_fault(
         &mut self,
-        alloc: Global,
         fields: Fields<'_>,
         fault: Reject,
+        body: &mut Vec<u8>,
         out: &mut Vec<u8>,
     ) -> Result<(), Memory>
         requires { self.old.written + 1 < 2 ^ 64 }
@@ -140,27 +171,28 @@ impl Answering {
         ensures after { OnOk result (self.new ≡ record self.old { written = self.old.written + 1 }) }
         ensures err { OnErr result (out.new.items ≡ out.old.items) }
     {
-        let mut body = Vec::new(alloc);
-        reject(&mut body, fields, fault)?;
-        self.send(out, reject_target(fields), msg_types::REJECT, &body)
+        body.clear();
+        reject(body, fields, fault)?;
+        self.send(out, reject_target(fields), msg_types::REJECT, body)
     }
 
-    /// Appends the answer to a message. An `Err` appends nothing, and the batch ends with it.
+    /// Appends the answer to a message that means this. An `Err` appends nothing.
     #[tactic(auto, unfolding(crate::specs::Output::answers_to, crate::specs::Output::progress_after))]
-    pub(crate) fn answer(
+    fn answer_meaning(
         &mut self,
         alloc: Global,
         fields: Fields<'_>,
+        meaning: &Result<Inbound, MeaningError>,
+        body: &mut Vec<u8>,
         out: &mut Vec<u8>,
     ) -> Result<(), Memory>
-        requires { self.old.written + 1 < 2 ^ 64 }
+        requires counted { self.old.written + 1 < 2 ^ 64 }
+        requires gives { Gives meaning.now (meaning_of self.old.house.house (pairs fields)) }
         ensures ok { OnOk result (out.new.items ≡ out.old.items ++ stream_text (answers_to self.old (pairs fields.entry))) }
         ensures after { OnOk result (self.new ≡ progress_after self.old (pairs fields.entry)) }
         ensures err { OnErr result (out.new.items ≡ out.old.items) }
     {
-        let house = self.book.house().house();
-        let outcome = meaning(alloc, fields, &house);
-        match &outcome {
+        match meaning {
             Ok(
                 Inbound::Call {
                     firm,
@@ -175,11 +207,33 @@ impl Answering {
                     id,
                     command,
                 };
-                self.answer_call(alloc, &call, out)
+                self.answer_call(alloc, &call, body, out)
             }
             Ok(_) => Ok(()),
-            Err(MeaningError::Reject(fault)) => self.answer_fault(alloc, fields, *fault, out),
+            Err(MeaningError::Reject(fault)) => self.answer_fault(fields, *fault, body, out),
             Err(MeaningError::Memory) => Err(AllocError),
         }
+    }
+
+    /// Appends the answer to a message. An `Err` appends nothing, and the batch ends with it.
+    pub(crate) fn answer(
+        &mut self,
+        alloc: Global,
+        fields: Fields<'_>,
+        room: &mut Room,
+        out: &mut Vec<u8>,
+    ) -> Result<(), Memory>
+        requires { self.old.written + 1 < 2 ^ 64 }
+        ensures ok { OnOk result (out.new.items ≡ out.old.items ++ stream_text (answers_to self.old (pairs fields.entry))) }
+        ensures after { OnOk result (self.new ≡ progress_after self.old (pairs fields.entry)) }
+        ensures err { OnErr result (out.new.items ≡ out.old.items) }
+    {
+        let house = self.book.house().house();
+        let meaning = meaning_with_room(alloc, fields, &house, &mut room.parts);
+        let answered = self.answer_meaning(alloc, fields, &meaning, &mut room.body, out);
+        if let Ok(inbound) = meaning {
+            give_back(inbound, &mut room.parts);
+        }
+        answered
     }
 }

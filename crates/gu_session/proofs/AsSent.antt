@@ -1,9 +1,10 @@
 -- Along every list of steps, what is sent again covers its span, and is what was sent.
-use Rattle.std.proofs.Common.{◌≡◌, ℕ, ◌+◌, ◌≤◌, List, [], ◌∷◌, ◌++◌, refl, sym, subst, arith}
+use Rattle.std.proofs.Common.{◌≡◌, ℕ, ◌≤◌, List, [], ◌∷◌, ◌++◌, map, refl, sym, subst, arith}
 use Rattle.std.specs.Prelude.{Option, Some, None, Result, Ok}
 use Rattle.std.specs.List.{All}
 use Rattle.std.proofs.lemmas.List.Elements.{All-nil, All-cons}
 use Rattle.jiff.specs.Types.{Timestamp}
+use Rattle.gu_base.specs.House.{House}
 use Rattle.gu_base.specs.declared.entry.Answer.{Answer}
 use Rattle.gu_base.specs.declared.report.Report.{Report}
 use Rattle.gu_codec.specs.Messages.{Message}
@@ -16,19 +17,28 @@ use Rattle.gu_session.specs.declared.verdict.Verdict.{Verdict}
 use Rattle.gu_session.specs.Going.{Going}
 use Rattle.gu_session.specs.Table.{on_tick}
 use Rattle.gu_session.specs.Steps.{Seen, Event, Came, Tick, Reply, End, Outcome, Called, kept_from, tellings, fits, shut_down, idle, acts, replies, tells, message_verdict, on_event, step_of, opening, time_of}
-use Rattle.gu_session.specs.Runs.{outcomes, again_of, CoversSpan, IsAgain, sent_by, IsAsSent, ResendsCoverTheirSpan, ResendsAreAsSent}
+use Rattle.gu_session.specs.Runs.{outcomes, new_of, again_of, CoversSpan, ResendsCoverTheirSpan}
 use Rattle.gu_session.proofs.Lines.{Goes, goes_on_message, goes_on_tick}
 use Rattle.gu_session.proofs.Sent.{acts_again, tells_new, tells_again}
 use Rattle.gu_session.proofs.Stepping.{moves_step}
 use Rattle.gu_session.proofs.Runs.{Early}
-use Rattle.gu_session.proofs.Resends.{RisesTo, rises_higher, rises_last, covers_span, WasSent, sent_more, at_time, last_sent, resends_again}
+use Rattle.gu_session.proofs.Resends.{RisesTo, rises_higher, rises_last, covers_span, IsEcho, WasSent, sent_more, at_time, last_sent, resends_again}
 use Rattle.gu_base.proofs.Basics.{either_way}
+
+-- each new message that a step sends, with its time
+abbrev pub sent_by : Outcome → List (List ℕ × Going)
+sent_by o = map (λ m. (o.time, m)) (new_of o.send)
+
+-- along the steps, where this was sent before
+abbrev pub AreEchoes : List (List ℕ × Going) → List Outcome → Type 0
+AreEchoes sent [] = Unit {0}
+AreEchoes sent (o ∷ os) = All (IsEcho sent) (again_of o.send) × AreEchoes (sent ++ sent_by o) os
 
 -- what a step does with the messages that are kept, where these were sent so far
 record Keeping (sent : List (List ℕ × Going)) (o : Outcome) : Type 0 where
   pub covers : CoversSpan o.again (again_of o.send)
   pub rises : RisesTo 1 o.after.kept o.after.link.out
-  pub again : All (IsAgain sent) (again_of o.send)
+  pub again : All (IsEcho sent) (again_of o.send)
   pub was_sent : All (WasSent (sent ++ sent_by o)) o.after.kept
 
 -- nothing is sent, and the messages and their numbers stay
@@ -37,7 +47,7 @@ keeping_still : (sent : List (List ℕ × Going)) (s : Seen) (o : Outcome) → R
 keeping_still sent s o r w none again kept out = record {
   covers = rw (again, none) refl;
   rises = rw (kept, out) r;
-  again = rw none (All-nil (IsAgain sent));
+  again = rw none (All-nil (IsEcho sent));
   was_sent = rw kept (sent_more sent (sent_by o) s.kept w);
 }
 
@@ -50,7 +60,7 @@ keeping_acts sent now s came call meaning v r w g =
     record {
       covers = subst (CoversSpan v.resend) (sym is) (covers_span time s.kept v.resend 1 s.link.out r g.span);
       rises = rises_higher 1 s.link.out v.link.out s.kept le r;
-      again = subst (All (IsAgain sent)) (sym is) (resends_again sent time s.kept v.resend w);
+      again = subst (All (IsEcho sent)) (sym is) (resends_again sent time s.kept v.resend w);
       was_sent = sent_more sent (sent_by (acts now s came call v)) s.kept w;
     }
 
@@ -63,7 +73,7 @@ keeping_tells sent now s answer reports r w =
     record {
       covers = tells_again ms;
       rises = rises_last 1 s.link.out s.kept time xs r;
-      again = subst (All (IsAgain sent)) (sym (tells_again ms)) (All-nil (IsAgain sent));
+      again = subst (All (IsEcho sent)) (sym (tells_again ms)) (All-nil (IsEcho sent));
       was_sent = subst (λ (t : List Going). All (WasSent (sent ++ at_time time t)) (tells now s ms).after.kept) (sym (tells_new ms)) (last_sent sent s.kept time s.link.out xs w);
     }
 
@@ -96,15 +106,15 @@ covered sent s (e ∷ es) early r w =
     All-cons (λ (o : Outcome). CoversSpan o.again (again_of o.send)) o (outcomes o.after es) k.covers
     (covered (sent ++ sent_by o) o.after es (moves_step e.0 s e.1 early).early k.rises k.was_sent)
 
-as_sent : (sent : List (List ℕ × Going)) (s : Seen) (es : List (Timestamp × Event)) → Early s → RisesTo 1 s.kept s.link.out → All (WasSent sent) s.kept → IsAsSent sent (outcomes s es)
-as_sent sent s [] early r w = tt
-as_sent sent s (e ∷ es) early r w =
+echoes : (sent : List (List ℕ × Going)) (s : Seen) (es : List (Timestamp × Event)) → Early s → RisesTo 1 s.kept s.link.out → All (WasSent sent) s.kept → AreEchoes sent (outcomes s es)
+echoes sent s [] early r w = tt
+echoes sent s (e ∷ es) early r w =
     let o = step_of e.0 s e.1 in
     let k = keeping_step sent e.0 s e.1 early r w in
-    (k.again, as_sent (sent ++ sent_by o) o.after es (moves_step e.0 s e.1 early).early k.rises k.was_sent)
+    (k.again, echoes (sent ++ sent_by o) o.after es (moves_step e.0 s e.1 early).early k.rises k.was_sent)
 
 pub resends_cover_their_span : ResendsCoverTheirSpan
 resends_cover_their_span t never es = covered [] (opening t never) es (omega arith, refl) (omega arith) (All-nil (WasSent []))
 
-pub resends_are_as_sent : ResendsAreAsSent
-resends_are_as_sent t never es = as_sent [] (opening t never) es (omega arith, refl) (omega arith) (All-nil (WasSent []))
+pub resends_echo : (t : House) (never : Timestamp) (es : List (Timestamp × Event)) → AreEchoes [] (outcomes (opening t never) es)
+resends_echo t never es = echoes [] (opening t never) es (omega arith, refl) (omega arith) (All-nil (WasSent []))

@@ -206,3 +206,25 @@ goes_by_silence now l meaning firm is =
 pub goes_on_tick : (now : Timestamp) (l : Link) (firm : Option (List ℕ)) (meaning : Result Inbound Reject) → l.firm ≡ firm → IsEarly l.firm l.want l.waiting → Goes l meaning (on_tick now l firm)
 goes_on_tick now l None meaning is e = goes_silent l meaning e
 goes_on_tick now l (Some firm) meaning is e = goes_by_silence now l meaning firm is
+
+-- ---- the firm stays
+
+firm_by_firm : (now : Timestamp) (t : House) (l : Link) (known : Option (List ℕ)) (firm : List ℕ) (heading : Result Heading Reject) (meaning : Result Inbound Reject) (is_logout : Bool)
+    → known ≡ Some firm → (by_firm now t l known heading meaning is_logout).link.firm ≡ l.firm
+firm_by_firm now t l None firm heading meaning is_logout e = absurd (some_is_not_none firm (sym e))
+firm_by_firm now t l (Some known) firm heading meaning is_logout e = (keeps_after_logon now (heard now l) known heading meaning is_logout).firm
+
+pub firm_on_message : (now : Timestamp) (t : House) (l : Link) (firm : List ℕ) (heading : Result Heading Reject) (meaning : Result Inbound Reject) (is_logout : Bool)
+    → l.firm ≡ Some firm → (on_message now t l heading meaning is_logout).link.firm ≡ l.firm
+firm_on_message now t l firm heading meaning is_logout e = firm_by_firm now t l l.firm firm heading meaning is_logout e
+
+firm_by_silence : (now : Timestamp) (l : Link) → (by_silence now l).link.firm ≡ l.firm
+firm_by_silence now l =
+    either_way (λ (v : Verdict). v.link.firm ≡ l.firm) (l.heartbeat == 0) _ _ (λ _. refl)
+    (λ _. either_way (λ (v : Verdict). v.link.firm ≡ l.firm) (nat_le (3 * l.heartbeat) (waited l.came now)) _ _ (λ _. refl)
+    (λ _. either_way (λ (v : Verdict). v.link.firm ≡ l.firm) (nat_le (2 * l.heartbeat) (waited l.came now) && not l.tested) _ _ (λ _. refl)
+    (λ _. either_way (λ (v : Verdict). v.link.firm ≡ l.firm) (nat_le l.heartbeat (waited l.went now)) _ _ (λ _. refl) (λ _. refl))))
+
+pub firm_on_tick : (now : Timestamp) (l : Link) (known : Option (List ℕ)) → (on_tick now l known).link.firm ≡ l.firm
+firm_on_tick now l None = refl
+firm_on_tick now l (Some firm) = firm_by_silence now l

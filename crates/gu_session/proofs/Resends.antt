@@ -9,8 +9,8 @@ use Rattle.gu_session.specs.declared.kept.Kept.{Kept}
 use Rattle.gu_session.specs.declared.kept.Told.{Told}
 use Rattle.gu_session.specs.declared.verdict.Span.{Span}
 use Rattle.gu_session.specs.Going.{Going}
-use Rattle.gu_session.specs.Steps.{resent, gap_fill, with_gaps, within, resends, kept_from, last_kept, new}
-use Rattle.gu_session.specs.Runs.{Covers, CoversSpan, IsAgain, Fills, Repeats}
+use Rattle.gu_session.specs.Steps.{resent, filling, gap_fill, with_gaps, within, resends, kept_from, last_kept, new}
+use Rattle.gu_session.specs.Runs.{Covers, CoversSpan}
 use Rattle.gu_base.proofs.Basics.{either_way}
 
 -- ---- the kept messages' numbers rise, from one number to below another
@@ -85,6 +85,15 @@ covers_span time kept (Some span) low high h le =
 
 -- ---- as it was sent
 
+-- the message as it is sent for the first time
+abbrev pub as_new : Going → Going
+as_new m = record m { first = None }
+
+-- a message that fills a gap, or one that was sent before at the time that it tells as its first
+pub data IsEcho (sent : List (List ℕ × Going)) (m : Going) : Type 0 where
+  Fills : (time : List ℕ) → (from next : ℕ) → m ≡ filling time from next → IsEcho sent m
+  Repeats : (time : List ℕ) → m.first ≡ Some time → Contains sent (time, as_new m) → IsEcho sent m
+
 -- a kept message was sent, at the time that is kept with it
 abbrev pub WasSent : List (List ℕ × Going) → Kept → Type 0
 WasSent sent k = Contains sent (k.sent, new k)
@@ -113,18 +122,18 @@ last_sent sent kept time n xs h =
     let late = All-weaker (WasSent more) (WasSent (sent ++ more)) (λ k c. Contains-append_right sent more (k.sent, new k) c) fresh (fresh_sent time n xs) in
     All-drop (WasSent (sent ++ more)) (length (kept ++ fresh) - 256) (kept ++ fresh) (All-append (WasSent (sent ++ more)) kept fresh (sent_more sent more kept h) late)
 
-gap_fills : (sent : List (List ℕ × Going)) (time : List ℕ) (from next : ℕ) → All (IsAgain sent) (gap_fill time from next)
+gap_fills : (sent : List (List ℕ × Going)) (time : List ℕ) (from next : ℕ) → All (IsEcho sent) (gap_fill time from next)
 gap_fills sent time from next =
-    either_way (All (IsAgain sent)) (nat_lt from next) _ _ (λ _. All-cons (IsAgain sent) _ [] (Fills refl) (All-nil (IsAgain sent))) (λ _. All-nil (IsAgain sent))
+    either_way (All (IsEcho sent)) (nat_lt from next) _ _ (λ _. All-cons (IsEcho sent) _ [] (Fills time from next refl) (All-nil (IsEcho sent))) (λ _. All-nil (IsEcho sent))
 
-gaps_again : (sent : List (List ℕ × Going)) (time : List ℕ) (from next : ℕ) (ms : List Kept) → AllByRecursion (WasSent sent) ms → All (IsAgain sent) (with_gaps time from next ms)
+gaps_again : (sent : List (List ℕ × Going)) (time : List ℕ) (from next : ℕ) (ms : List Kept) → AllByRecursion (WasSent sent) ms → All (IsEcho sent) (with_gaps time from next ms)
 gaps_again sent time from next [] h = gap_fills sent time from next
 gaps_again sent time from next (m ∷ ms) h =
-    All-append (IsAgain sent) (gap_fill time from m.number) (resent m ∷ with_gaps time (m.number + 1) next ms) (gap_fills sent time from m.number)
-    (All-cons (IsAgain sent) (resent m) (with_gaps time (m.number + 1) next ms) (Repeats m.sent refl h.0) (gaps_again sent time (m.number + 1) next ms h.1))
+    All-append (IsEcho sent) (gap_fill time from m.number) (resent m ∷ with_gaps time (m.number + 1) next ms) (gap_fills sent time from m.number)
+    (All-cons (IsEcho sent) (resent m) (with_gaps time (m.number + 1) next ms) (Repeats m.sent refl h.0) (gaps_again sent time (m.number + 1) next ms h.1))
 
-pub resends_again : (sent : List (List ℕ × Going)) (time : List ℕ) (kept : List Kept) (span : Option Span) → All (WasSent sent) kept → All (IsAgain sent) (resends time kept span)
-resends_again sent time kept None h = All-nil (IsAgain sent)
+pub resends_again : (sent : List (List ℕ × Going)) (time : List ℕ) (kept : List Kept) (span : Option Span) → All (WasSent sent) kept → All (IsEcho sent) (resends time kept span)
+resends_again sent time kept None h = All-nil (IsEcho sent)
 resends_again sent time kept (Some span) h =
     gaps_again sent time span.from span.next (within span.from span.next kept)
     (recursion_from_All (WasSent sent) (within span.from span.next kept) (All-filter (λ (m : Kept). nat_le span.from m.number && nat_lt m.number span.next) (WasSent sent) kept h))

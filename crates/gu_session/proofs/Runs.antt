@@ -4,11 +4,10 @@ use Rattle.std.specs.Prelude.{Option, Some, None, IfSome, option_map}
 use Rattle.std.specs.List.{All, cons_option}
 use Rattle.std.proofs.lemmas.List.Elements.{All-nil, All-cons}
 use Rattle.jiff.specs.Types.{Timestamp}
-use Rattle.gu_base.specs.House.{House}
-use Rattle.gu_session.specs.Steps.{Seen, Event, Outcome, Called, idle, step_of, opening}
-use Rattle.gu_session.specs.Runs.{outcomes, new_of, sent_anew, numbers_from, called, Rises, NeverFalls, IsToSomebody, IsOver, EndsOnce, waits_for, unless_closed, awaited_behind, IsAwaited, NewAreNumbered, CallsRise, WantNeverFalls, SpeaksWithinTheSession, CallsAreAwaited}
+use Rattle.gu_session.specs.Steps.{Seen, Event, Called, idle, step_of, opening}
+use Rattle.gu_session.specs.Runs.{outcomes, sent_anew, numbers_from, called, Rises, NeverFalls, IsToSomebody, IsOver, EndsOnce, waits_for, unless_closed, awaited_behind, IsAwaited, NewAreNumbered, CallsRise, WantNeverFalls, SpeaksWithinTheSession, CallsAreAwaited}
 use Rattle.gu_session.proofs.Lines.{IsEarly}
-use Rattle.gu_session.proofs.Stepping.{Moves, moves_step}
+use Rattle.gu_session.proofs.Stepping.{moves_step}
 
 -- before the Logon the number 1 is wanted, or none has come, and no call waits
 abbrev pub Early : Seen → Type 0

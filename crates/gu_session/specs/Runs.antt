@@ -5,7 +5,11 @@ use Rattle.jiff.specs.Types.{Timestamp}
 use Rattle.gu_base.specs.House.{House}
 use Rattle.gu_session.specs.declared.verdict.Span.{Span}
 use Rattle.gu_session.specs.Going.{Going}
-use Rattle.gu_session.specs.Steps.{Seen, Event, Came, Tick, Reply, End, Called, Outcome, step_of, opening}
+use Rattle.gu_codec.specs.Messages.{Message}
+use Rattle.gu_codec.specs.Tags as tag
+use Rattle.gu_codec.specs.Writing.{frame_text, fields_text}
+use Rattle.gu_session.specs.Steps.{Seen, Event, Reply, Called, Outcome, filling, step_of, opening}
+use Rattle.gu_session.specs.Text.{text_of}
 
 -- what each step leaves and gives out
 abbrev pub outcomes : Seen → List (Timestamp × Event) → List Outcome
@@ -129,24 +133,37 @@ CoversSpan (Some span) ms = Covers span.from ms span.next
 abbrev pub ResendsCoverTheirSpan : Type 0
 ResendsCoverTheirSpan = (t : House) (never : Timestamp) (es : List (Timestamp × Event)) → All (λ o. CoversSpan o.again (again_of o.send)) (outcomes (opening t never) es)
 
--- the message as it is sent for the first time
-abbrev pub as_new : Going → Going
-as_new m = record m { first = None }
+-- ---- and as it was sent
 
--- each new message that a step sends, with its time
-abbrev pub sent_by : Outcome → List (List ℕ × Going)
-sent_by o = map (λ m. (o.time, m)) (new_of o.send)
+-- the frames of messages, each with its number; before the Logon there is nobody to send to
+abbrev pub frames_to : List ℕ → Option (List ℕ) → List ℕ → List Going → List (ℕ × List ℕ)
+frames_to house None time ms = []
+frames_to house (Some firm) time ms = map (λ m. (m.number, text_of house firm time m)) ms
 
--- a message that fills a gap, or one that was sent before at the time that it tells as its first
-pub data IsAgain (sent : List (List ℕ × Going)) (m : Going) : Type 0 where
-  Fills : m.kind ≡ codes "4" → IsAgain sent m
-  Repeats : (time : List ℕ) → m.first ≡ Some time → Contains sent (time, as_new m) → IsAgain sent m
+-- the frames of messages that a step sends. All that it sends, one behind the other, are its bytes (`wire`)
+abbrev pub frames_of : Outcome → List Going → List (ℕ × List ℕ)
+frames_of o ms = frames_to o.after.house.house o.after.link.firm o.time ms
 
--- along the steps, where this was sent before
-abbrev pub IsAsSent : List (List ℕ × Going) → List Outcome → Type 0
+-- the second frame is the first one sent again: byte for byte the same but for PossDupFlag (43), SendingTime (52) and OrigSendingTime (122). The
+-- second has 43=Y before its 52, and in 122 behind it the 52 of the first. BodyLength (9) and CheckSum (10) are those of each frame's own body
+pub record IsSentAgain (first again : List ℕ) : Type 0 where
+  pub before : Message
+  pub behind : List ℕ
+  pub sent : List ℕ
+  pub time : List ℕ
+  pub first_is : first ≡ frame_text (fields_text (before ++ (tag.sending_time, sent) ∷ []) ++ behind)
+  pub again_is : again ≡ frame_text (fields_text (before ++ (tag.poss_dup_flag, codes "Y") ∷ (tag.sending_time, time) ∷ (tag.orig_sending_time, sent) ∷ []) ++ behind)
+
+-- against the frames that were sent, each with its number: a frame that fills a gap from its number on, or one that was sent with this number, sent again
+pub data IsAgain (sent : List (ℕ × List ℕ)) (f : ℕ × List ℕ) : Type 0 where
+  Fills : (house firm time first : List ℕ) → (next : ℕ) → f.1 ≡ text_of house firm time (filling first f.0 next) → IsAgain sent f
+  Repeats : (frame : List ℕ) → Contains sent (f.0, frame) → IsSentAgain frame f.1 → IsAgain sent f
+
+-- along the steps, where these frames were sent before
+abbrev pub IsAsSent : List (ℕ × List ℕ) → List Outcome → Type 0
 IsAsSent sent [] = Unit {0}
-IsAsSent sent (o ∷ os) = All (IsAgain sent) (again_of o.send) × IsAsSent (sent ++ sent_by o) os
+IsAsSent sent (o ∷ os) = All (IsAgain sent) (frames_of o (again_of o.send)) × IsAsSent (sent ++ frames_of o (new_of o.send)) os
 
--- what is sent again for a number is what was sent with it: the same type, number and body, and its first time is told
+-- the frame that is sent again for a number is the one that was sent with it, but for 43, 52 and 122; and a gap is filled where none is kept
 abbrev pub ResendsAreAsSent : Type 0
 ResendsAreAsSent = (t : House) (never : Timestamp) (es : List (Timestamp × Event)) → IsAsSent [] (outcomes (opening t never) es)

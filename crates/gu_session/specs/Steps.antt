@@ -1,5 +1,5 @@
 -- A step of a session: what it leaves, and what goes out.
-use Rattle.std.specs.Prelude.{ℕ, ◌+◌, ◌-◌, nat_lt, nat_le, ◌&&◌, Bool, true, false, if◌then◌else◌, codes, List, [], ◌∷◌, ◌++◌, length, drop, map, filter, Option, Some, None, Result, Ok, Err, unsigned_abs}
+use Rattle.std.specs.Prelude.{ℕ, ◌+◌, ◌-◌, nat_lt, nat_le, ◌&&◌, Bool, true, false, if◌then◌else◌, codes, List, [], ◌∷◌, ◌++◌, length, drop, map, filter, Option, Some, None, Result, Ok, unsigned_abs}
 use Rattle.jiff.specs.Types.{Timestamp}
 use Rattle.gu_base.specs.House.{House}
 use Rattle.gu_base.specs.declared.command.Command.{Command}
@@ -67,10 +67,13 @@ time_of now = sending_time (unsigned_abs now.nanosecond)
 abbrev pub resent : Kept → Going
 resent m = record { kind = type_of_told m.told; number = m.number; next = m.number + 1; first = Some m.sent; body = m.body }
 
--- the numbers from one up to another, if there are any, as one SequenceReset
+-- the numbers from one up to another as one SequenceReset, which tells this as its first time
+abbrev pub filling : List ℕ → ℕ → ℕ → Going
+filling time from next = record { kind = codes "4"; number = from; next = next; first = Some time; body = fields_text (sequence_reset_fields next) }
+
+-- if there are any
 abbrev pub gap_fill : List ℕ → ℕ → ℕ → List Going
-gap_fill time from next =
-    if nat_lt from next then record { kind = codes "4"; number = from; next = next; first = Some time; body = fields_text (sequence_reset_fields next) } ∷ [] else []
+gap_fill time from next = if nat_lt from next then filling time from next ∷ [] else []
 
 -- each of the messages, and each run of other numbers as one SequenceReset, from one number up to another
 abbrev pub with_gaps : List ℕ → ℕ → ℕ → List Kept → List Going

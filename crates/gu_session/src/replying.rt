@@ -23,10 +23,9 @@ fn answered(
     waiting: Waiting,
     answer: &Answer,
     number: u32,
-    moment: Timestamp,
+    time: SendingTime,
 ) -> Result<Kept, Memory>
-    requires { pos 0 ≤ℤ moment.nanosecond }
-    ensures { IfOk result (λ m. m ≡ kept_as (time_of moment) number (answer_told waiting answer.now)) }
+    ensures { IfOk result (λ m. m ≡ kept_as time number (answer_told waiting answer.now)) }
 {
     let mut body = Vec::new(alloc);
     let told = if waiting.trade {
@@ -39,28 +38,30 @@ fn answered(
     Ok(Kept {
         told,
         number,
-        sent: SendingTime::new(moment),
+        sent: time,
         body: Body::new(body),
     })
 }
 
-/// The message of a report.
+/// The message of a report, at a moment and its time.
 fn reported(
     alloc: Global,
     report_of: &Report,
     number: u32,
     moment: Timestamp,
+    time: SendingTime,
 ) -> Result<Kept, Memory>
     requires moment { pos 0 ≤ℤ moment.nanosecond }
+    requires time { time ≡ time_of moment }
     requires few { ShowsFewParts report_of.now }
-    ensures { IfOk result (λ m. m ≡ kept_as (time_of moment) number (report_told (time_of moment) report_of.now)) }
+    ensures { IfOk result (λ m. m ≡ kept_as time number (report_told time report_of.now)) }
 {
     let mut body = Vec::new(alloc);
     report(&mut body, report_of, moment)?;
     Ok(Kept {
         told: Told::Report,
         number,
-        sent: SendingTime::new(moment),
+        sent: time,
         body: Body::new(body),
     })
 }
@@ -94,15 +95,17 @@ fn tell_reports(
     reports: &[Report],
     out: u32,
     moment: Timestamp,
+    time: SendingTime,
 ) -> Result<(), Memory>
     requires moment { pos 0 ≤ℤ moment.nanosecond }
+    requires time { time ≡ time_of moment }
     requires few { All ShowsFewParts reports.now }
     requires numbers { out + length reports.now ≤ 1000000000 }
-    ensures { OnOk result (fresh.new.items ≡ fresh.old.items ++ kept_from (time_of moment) out (map (report_told (time_of moment)) reports.now)) }
+    ensures { OnOk result (fresh.new.items ≡ fresh.old.items ++ kept_from time out (map (report_told time) reports.now)) }
 {
     let mut number = out;
     for report in reports {
-        let message = reported(alloc, report, number, moment)?;
+        let message = reported(alloc, report, number, moment, time)?;
         fresh.push(message)?;
         number += 1;
     }
@@ -117,22 +120,24 @@ fn told(
     reports: &[Report],
     out: u32,
     moment: Timestamp,
+    time: SendingTime,
 ) -> Result<Vec<Kept>, Memory>
     requires moment { pos 0 ≤ℤ moment.nanosecond }
+    requires time { time ≡ time_of moment }
     requires few { All ShowsFewParts reports.now }
     requires numbers { out + (length (answer_of waiting answer.now) + length reports.now) ≤ 1000000000 }
-    ensures { IfOk result (λ fresh. fresh.items ≡ kept_from (time_of moment) out (tellings (time_of moment) waiting answer.now reports.now)) }
+    ensures { IfOk result (λ fresh. fresh.items ≡ kept_from time out (tellings time waiting answer.now reports.now)) }
 {
     let mut fresh = Vec::new(alloc);
     let mut number = out;
     if let Some(waiting) = waiting {
         if let Some(answer) = answer {
-            let message = answered(alloc, waiting, answer, number, moment)?;
+            let message = answered(alloc, waiting, answer, number, time)?;
             fresh.push(message)?;
             number += 1;
         }
     }
-    tell_reports(alloc, &mut fresh, reports, number, moment)?;
+    tell_reports(alloc, &mut fresh, reports, number, moment, time)?;
     Ok(fresh)
 }
 
@@ -152,9 +157,9 @@ pub fn replied(
     ensures kept { IfOk result (λ r. r.0.items ≡ kept_from (time_of moment) link.now.out (tellings (time_of moment) link.now.waiting answer.now reports.now)) }
     ensures send { IfOk result (λ r. r.1.items ≡ wire house (Some firm) (time_of moment) (map new_of r.0.items)) }
 {
-    let fresh = told(alloc, link.waiting, answer, reports, link.out, moment)?;
-    let mut send = Vec::new(alloc);
     let time = SendingTime::new(moment);
+    let fresh = told(alloc, link.waiting, answer, reports, link.out, moment, time)?;
+    let mut send = Vec::new(alloc);
     write_new(&mut send, &Writer { house, firm, time }, &fresh)?;
     Ok((fresh, send))
 }

@@ -1,48 +1,57 @@
 //! The answer to a call, but for what stands on a change.
-ghost use Rattle.std.specs.Prelude.{◌≡◌, ◌&&◌, ◌+◌, ◌<◌, ◌≤◌, length, find, not, option_map, bytes_eq, Option, Some, None, IsTrue};
-ghost use Rattle.std.specs.List.{list_any};
+ghost use Rattle.std.specs.Prelude.{◌≡◌, ◌≤◌, length, find, unwrap_or, if◌then◌else◌};
 ghost use Rattle.gu_base.specs.Limits.{most_entries};
+ghost use Rattle.gu_base.specs.Same.{same_command};
 ghost use Rattle.gu_base.specs.History.{records, live};
-ghost use Rattle.gu_base.specs.Answers.{Call, is_same_call, status_of};
-ghost use Rattle.gu_base.specs.declared.entry.Answer.TheVariants.{Repeated};
-ghost use Rattle.gu_book.specs.Front.{front_answer, front_refusal};
+ghost use Rattle.gu_base.specs.Answers.{is_same_call, is_same_id, answer_by, status_of};
+ghost use Rattle.gu_base.specs.declared.entry.Answer.{Answer};
+ghost use Rattle.gu_base.specs.declared.entry.Answer.TheVariants.{Repeated, Refused};
+ghost use Rattle.gu_base.specs.declared.refusal.Refusal.TheVariants.{DuplicateId};
+ghost use Rattle.gu_book.specs.Front.{front_answer, front_rules, front_refusal};
+ghost use Rattle.gu_book.specs.Ids.{NoIdTwice};
+ghost use Rattle.gu_book.specs.Index.{AreIdsOf, IsIndexOf};
 ghost use Rattle.gu_book.specs.Limits.{AllWithinLimits};
 ghost use Rattle.gu_book.specs.Parts.{gives_up};
 ghost use Rattle.gu_consent.specs.Given.{given};
 
+use crate::index::{Ids, Index};
 use crate::plain::naming::naming_refusal;
 use crate::plain::refusals::change_refusal;
 use gu_base::{AllocId, Answer, Command, Entry, FirmId, Number, Part, Record, Refusal, State};
 use gu_consent::Consents;
 use gu_parties::House;
 
-/// The answer that a call got that already stands in the history.
-fn repeated(entries: &[Entry], by: &FirmId, id: &AllocId, command: &Command) -> Option<Answer>
-    requires { length entries.now ≤ most_entries }
-    ensures { result ≡ option_map (λ r. Repeated r.number r.status) (find (is_same_call (record { firm = by.now; id = id.now; command = command.now })) (records entries.now)) }
+/// The answer to a call whose firm and id this entry has.
+fn known_answer(number: Number, e: &Entry, command: &Command) -> Answer
+    ensures { result ≡ (if same_command e.now.command command.now then Repeated number e.now.status else Refused (DuplicateId number)) }
 {
-    for (i, e) in entries.iter().enumerate() {
-        if e.firm == *by && e.id == *id && e.command == *command {
-            return Some(Answer::Repeated {
-                number: Number::at_place(i),
-                status: e.status,
-            });
+    if e.command == *command {
+        Answer::Repeated {
+            number,
+            status: e.status,
         }
+    } else {
+        Answer::Refused(Refusal::DuplicateId(number))
     }
-    None
 }
 
-/// The number of the entry that has this id of this firm.
-fn duplicate(entries: &[Entry], by: &FirmId, id: &AllocId) -> Option<Number>
-    requires { length entries.now ≤ most_entries }
-    ensures { result ≡ option_map (λ r. r.number) (find (λ r. bytes_eq r.firm by.now && bytes_eq r.id id.now) (records entries.now)) }
+/// The answer to a call whose firm and id stand in the history, whatever the rules say of its command.
+fn known(
+    ids: &Ids,
+    entries: &[Entry],
+    by: &FirmId,
+    id: &AllocId,
+    command: &Command,
+) -> Option<Answer>
+    requires once { NoIdTwice entries.now }
+    requires ids { AreIdsOf ids.now entries.now }
+    ensures { (other : Answer) → unwrap_or result other ≡ answer_by (find (is_same_call (record { firm = by.now; id = id.now; command = command.now })) (records entries.now)) (find (is_same_id (record { firm = by.now; id = id.now; command = command.now })) (records entries.now)) other }
 {
-    for (i, e) in entries.iter().enumerate() {
-        if e.firm == *by && e.id == *id {
-            return Some(Number::at_place(i));
-        }
-    }
-    None
+    let Some(number) = ids.number(by, id) else {
+        return None;
+    };
+    let place = number.get() as usize - 1;
+    Some(known_answer(number, &entries[place], command))
 }
 
 /// Whether a part goes to another firm.
@@ -79,10 +88,12 @@ fn front_refusal(
     house: &House,
     entries: &[Entry],
     records: &[Record],
+    index: &Index,
     consents: &Consents,
     by: &FirmId,
     command: &Command,
 ) -> Option<Refusal>
+    requires indexed { IsIndexOf index.now entries.now }
     requires few { length entries.now ≤ most_entries }
     requires live { records.now ≡ live entries.now }
     requires within { AllWithinLimits records.now }
@@ -94,42 +105,64 @@ fn front_refusal(
             if !house.firm(by) {
                 return Some(Refusal::UnknownFirm);
             }
-            naming_refusal(house, entries, records, consents, by, command, *entry)
+            naming_refusal(
+                house, entries, records, index, consents, by, command, *entry,
+            )
         }
         _ => change_refusal(house, records, by, command),
     }
 }
 
-/// The answer to a call, at a history with these live changes and consents, if nothing stood on any change.
-pub(crate) fn front_answer(
+/// The answer to a call whose id no entry has, if nothing stood on any change.
+fn new_answer(
     house: &House,
     entries: &[Entry],
     records: &[Record],
+    index: &Index,
     consents: &Consents,
     by: &FirmId,
-    id: &AllocId,
     command: &Command,
 ) -> Answer
+    requires indexed { IsIndexOf index.now entries.now }
     requires few { length entries.now ≤ most_entries }
     requires live { records.now ≡ live entries.now }
     requires within { AllWithinLimits records.now }
     requires fewer { length records.now ≤ most_entries }
-    ensures { result ≡ front_answer house.now entries.now (given consents.now) (record { firm = by.now; id = id.now; command = command.now }) }
+    ensures { result ≡ front_rules house.now entries.now (given consents.now) by.now command.now }
 {
-    if let Some(answer) = repeated(entries, by, id, command) {
-        return answer;
-    }
-    if let Some(number) = duplicate(entries, by, id) {
-        return Answer::Refused(Refusal::DuplicateId(number));
-    }
     if entries.len() >= Number::MAX as usize {
         return Answer::Refused(Refusal::BookFull);
     }
-    if let Some(refusal) = front_refusal(house, entries, records, consents, by, command) {
+    if let Some(refusal) = front_refusal(house, entries, records, index, consents, by, command) {
         return Answer::Refused(refusal);
     }
     Answer::Accepted {
         number: Number::at_place(entries.len()),
         status: status_of(by, command),
     }
+}
+
+/// The answer to a call, at a history with these live changes, index and consents, if nothing stood on any change.
+pub(crate) fn front_answer(
+    house: &House,
+    entries: &[Entry],
+    records: &[Record],
+    index: &Index,
+    consents: &Consents,
+    by: &FirmId,
+    id: &AllocId,
+    command: &Command,
+) -> Answer
+    requires once { NoIdTwice entries.now }
+    requires indexed { IsIndexOf index.now entries.now }
+    requires few { length entries.now ≤ most_entries }
+    requires live { records.now ≡ live entries.now }
+    requires within { AllWithinLimits records.now }
+    requires fewer { length records.now ≤ most_entries }
+    ensures { result ≡ front_answer house.now entries.now (given consents.now) (record { firm = by.now; id = id.now; command = command.now }) }
+{
+    if let Some(answer) = known(&index.ids, entries, by, id, command) {
+        return answer;
+    }
+    new_answer(house, entries, records, index, consents, by, command)
 }

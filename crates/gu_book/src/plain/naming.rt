@@ -1,12 +1,14 @@
 //! Why an Initiate, a Decline or a Reverse is refused, but for what stands on the change.
 ghost use Rattle.std.specs.Prelude.{◌≡◌, ◌≤◌, ◌+◌, ℕ, length, take, option_map, Some, None};
 ghost use Rattle.gu_base.specs.Limits.{most_entries};
-ghost use Rattle.gu_base.specs.History.{numbered_as, is_change, is_reverse_of, live};
+ghost use Rattle.gu_base.specs.History.{numbered_as, is_change, live};
 ghost use Rattle.gu_base.specs.Consents.{of_node, taker_and_giver, giver_alone, parties_of, is_among};
-ghost use Rattle.gu_base.specs.Answers.{entry_of, reversal_of, on_change};
+ghost use Rattle.gu_base.specs.Answers.{entry_of, on_change};
 ghost use Rattle.gu_book.specs.Front.{own_refusal, own_of};
+ghost use Rattle.gu_book.specs.Index.{IsIndexOf};
 ghost use Rattle.gu_consent.specs.Given.{given};
 
+use crate::index::Index;
 use crate::plain::nodes::node_of;
 use gu_base::{Command, Entry, FirmId, Kind, Node, Number, Record, Refusal};
 use gu_consent::Consents;
@@ -26,29 +28,6 @@ pub(crate) fn is_change(command: &Command) -> bool
         Command::Decline { .. } => false,
         Command::Reverse { .. } => false,
     }
-}
-
-/// Whether a command reverses the entry.
-fn is_reverse_of(number: Number, command: &Command) -> bool
-    ensures { result ≡ is_reverse_of number command.now }
-{
-    match command {
-        Command::Reverse { entry } => *entry == number,
-        _ => false,
-    }
-}
-
-/// The number of the Reverse that names the entry.
-fn reversal_of(entries: &[Entry], number: Number) -> Option<Number>
-    requires { length entries.now ≤ most_entries }
-    ensures { result ≡ option_map (λ r. r.number) (reversal_of entries.now number) }
-{
-    for (i, e) in entries.iter().enumerate() {
-        if is_reverse_of(number, &e.command) {
-            return Some(Number::at_place(i));
-        }
-    }
-    None
 }
 
 /// The taker and the giver of a node, and how many they are: none where it isn't given.
@@ -143,12 +122,14 @@ fn entry_refusal(
     house: &House,
     entries: &[Entry],
     records: &[Record],
+    index: &Index,
     consents: &Consents,
     by: &FirmId,
     command: &Command,
     number: Number,
     e: &Entry,
 ) -> Option<Refusal>
+    requires indexed { IsIndexOf index.now entries.now }
     requires few { length entries.now ≤ most_entries }
     requires live { records.now ≡ live entries.now }
     ensures { result ≡ on_change house.now entries.now by.now (own_of house.now entries.now (given consents.now) by.now command.now) (Some (numbered_as number e.now)) }
@@ -156,7 +137,7 @@ fn entry_refusal(
     if !is_change(&e.command) {
         return Some(Refusal::NotAChange);
     }
-    if let Some(reversal) = reversal_of(entries, number) {
+    if let Some(reversal) = index.reversals.number(number) {
         return Some(Refusal::AlreadyReversed(reversal));
     }
     let (firms, count) = parties_of(house, records, &e.firm, &e.command);
@@ -172,11 +153,13 @@ pub(crate) fn naming_refusal(
     house: &House,
     entries: &[Entry],
     records: &[Record],
+    index: &Index,
     consents: &Consents,
     by: &FirmId,
     command: &Command,
     number: Number,
 ) -> Option<Refusal>
+    requires indexed { IsIndexOf index.now entries.now }
     requires few { length entries.now ≤ most_entries }
     requires live { records.now ≡ live entries.now }
     ensures { result ≡ on_change house.now entries.now by.now (own_of house.now entries.now (given consents.now) by.now command.now) (entry_of entries.now number) }
@@ -189,6 +172,7 @@ pub(crate) fn naming_refusal(
         house,
         entries,
         records,
+        index,
         consents,
         by,
         command,

@@ -1,4 +1,4 @@
-use Rattle.std.proofs.Common.{◌≡◌, ◌+◌, ◌≤◌, ◌++◌, inr, length, take, rules, arith, length-append}
+use Rattle.std.proofs.Common.{◌≡◌, ◌++◌, inr, length, take, rules, arith, length-append}
 use Rattle.std.proofs.KnownBytes.{Consumes-trans}
 use Rattle.std.proofs.lemmas.Result.{err_from_is_err_and}
 use Rattle.gu_server.proofs.house_files.read_all.Goals as goal

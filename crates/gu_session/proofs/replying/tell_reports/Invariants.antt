@@ -1,9 +1,9 @@
 use Rattle.std.proofs.Common.{◌≡◌, ◌+◌, ◌++◌, drop, map}
-use Rattle.gu_session.specs.Steps.{kept_from, report_told, time_of}
+use Rattle.gu_session.specs.Steps.{kept_from, report_told}
 use Rattle.gu_session.proofs.replying.tell_reports.Given as goal
 
 abbrev pub invariant-loop-report : goal.invariant-loop-report
 invariant-loop-report l = record {
-  told : l.fresh.items ++ kept_from (time_of l.moment) l.number (map (report_told (time_of l.moment)) (drop l.report-index l.reports)) ≡ l.initial.fresh.items ++ kept_from (time_of l.moment) l.out (map (report_told (time_of l.moment)) l.reports);
+  told : l.fresh.items ++ kept_from l.time l.number (map (report_told l.time) (drop l.report-index l.reports)) ≡ l.initial.fresh.items ++ kept_from l.time l.out (map (report_told l.time) l.reports);
   number : l.number ≡ l.out + l.report-index;
 }
