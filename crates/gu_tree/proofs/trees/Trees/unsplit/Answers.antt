@@ -17,7 +17,7 @@ invariant_of-self g c =
     let grove : Grove = record { trees = c.self.inside.trees.items; slots = c.self.inside.slots.items; tree_room = vec_capacity c.self.inside.trees - vec_len c.self.inside.trees; place_room = vec_capacity c.self.inside.slots - vec_len c.self.inside.slots } in
     let slot : slot_of c.self.inside.slots.items c.args.trade ≡ Root c.in-Root.i = ap (λ s. slot_of s c.args.trade) (sym c.as_slice.ensures.value) ∙ (sym c.slot_at-slot.ensures ∙ c.in-Root.is) in
     let tree : tree_of grove c.args.trade ≡ Some c.in-Some.tree = slot-tree c.args.trade c.self.invariant slot c.index_mut.ensures.value c.in-Some.is in
-    let v = some_and (λ u. c.parted.result ≡ split_of_node u) (node_at c.args.path.now.items c.in-Some.tree) c.parted.ensures in
+    let v = some_and (λ u. c.parted-parted.result ≡ split_of_node u) (node_at c.args.path.now.items c.in-Some.tree) c.parted-parted.ensures in
     let placed = at_fact (IsSplitIn grove) _ _ v.1 (at_fact (HasAt c.args.path.now.items (IsSplitIn grove)) _ _ tree (rw (← c.self.view_is) at c.requires.split)) in
     let free = at_fact (HasFreeParts grove) _ _ v.1 (at_fact (HasAt c.args.path.now.items (HasFreeParts grove)) _ _ tree (rw (← c.self.view_is) at c.requires.free)) in
     let told = sym v.2 ∙ c.in-Some-parted.is in
@@ -30,7 +30,7 @@ returns-clause-tree g c =
     let grove : Grove = record { trees = c.self.inside.trees.items; slots = c.self.inside.slots.items; tree_room = vec_capacity c.self.inside.trees - vec_len c.self.inside.trees; place_room = vec_capacity c.self.inside.slots - vec_len c.self.inside.slots } in
     let slot : slot_of c.self.inside.slots.items c.args.trade ≡ Root c.in-Root.i = ap (λ s. slot_of s c.args.trade) (sym c.as_slice.ensures.value) ∙ (sym c.slot_at-slot.ensures ∙ c.in-Root.is) in
     let tree : tree_of grove c.args.trade ≡ Some c.in-Some.tree = slot-tree c.args.trade c.self.invariant slot c.index_mut.ensures.value c.in-Some.is in
-    let v = some_and (λ u. c.parted.result ≡ split_of_node u) (node_at c.args.path.now.items c.in-Some.tree) c.parted.ensures in
+    let v = some_and (λ u. c.parted-parted.result ≡ split_of_node u) (node_at c.args.path.now.items c.in-Some.tree) c.parted-parted.ensures in
     let placed = at_fact (IsSplitIn grove) _ _ v.1 (at_fact (HasAt c.args.path.now.items (IsSplitIn grove)) _ _ tree (rw (← c.self.view_is) at c.requires.split)) in
     let free = at_fact (HasFreeParts grove) _ _ v.1 (at_fact (HasAt c.args.path.now.items (HasFreeParts grove)) _ _ tree (rw (← c.self.view_is) at c.requires.free)) in
     let told = sym v.2 ∙ c.in-Some-parted.is in
@@ -43,7 +43,7 @@ returns-clause-place g c =
     let grove : Grove = record { trees = c.self.inside.trees.items; slots = c.self.inside.slots.items; tree_room = vec_capacity c.self.inside.trees - vec_len c.self.inside.trees; place_room = vec_capacity c.self.inside.slots - vec_len c.self.inside.slots } in
     let slot : slot_of c.self.inside.slots.items c.args.trade ≡ Root c.in-Root.i = ap (λ s. slot_of s c.args.trade) (sym c.as_slice.ensures.value) ∙ (sym c.slot_at-slot.ensures ∙ c.in-Root.is) in
     let tree : tree_of grove c.args.trade ≡ Some c.in-Some.tree = slot-tree c.args.trade c.self.invariant slot c.index_mut.ensures.value c.in-Some.is in
-    let v = some_and (λ u. c.parted.result ≡ split_of_node u) (node_at c.args.path.now.items c.in-Some.tree) c.parted.ensures in
+    let v = some_and (λ u. c.parted-parted.result ≡ split_of_node u) (node_at c.args.path.now.items c.in-Some.tree) c.parted-parted.ensures in
     let placed = at_fact (IsSplitIn grove) _ _ v.1 (at_fact (HasAt c.args.path.now.items (IsSplitIn grove)) _ _ tree (rw (← c.self.view_is) at c.requires.split)) in
     let free = at_fact (HasFreeParts grove) _ _ v.1 (at_fact (HasAt c.args.path.now.items (HasFreeParts grove)) _ _ tree (rw (← c.self.view_is) at c.requires.free)) in
     let told = sym v.2 ∙ c.in-Some-parted.is in
