@@ -1,5 +1,5 @@
 -- Small facts about tests, options and filters.
-use Rattle.std.proofs.Common.{◌≡◌, ℕ, Bool, true, false, ◌&&◌, ◌||◌, List, [], ◌∷◌, refl, sym, ap, subst, cond, Option}
+use Rattle.std.proofs.Common.{◌≡◌, ℕ, Bool, true, false, ◌&&◌, ◌||◌, List, [], ◌∷◌, refl, sym, ap, subst, cond, Option, inl, inr, ◌⊎◌}
 use Rattle.std.specs.Prelude.{Some, None, filter, bytes_eq, ◌==◌, IsTrue, option_map}
 use Rattle.std.specs.Option.{option_or}
 use Rattle.std.proofs.lemmas.Bool.Decides.{Decides-eqb, same_from_decides}
@@ -19,6 +19,10 @@ none_is_some o a e f = cc
 pub no_some : {A : Type 0} (o : Option A) → ((a : A) → o ≡ Some a → ⊥) → o ≡ None
 no_some None absent = refl
 no_some (Some a) absent = absurd (absent a refl)
+
+pub none_or_some : {A : Type 0} (o : Option A) → (o ≡ None) ⊎ ((a : A) × (o ≡ Some a))
+none_or_some None = inl refl
+none_or_some (Some a) = inr (a, refl)
 
 pub mapped_none : {A B : Type 0} (f : A → B) (o : Option A) → option_map f o ≡ None → o ≡ None
 mapped_none f None h = refl

@@ -18,6 +18,7 @@ use Rattle.gu_base.specs.declared.state.State.{State}
 use Rattle.gu_base.specs.declared.state.State.TheVariants.{Held, Offered, Claimed, Refused as WasRefused, Cancelled, ReversalPending, Reversed}
 use Rattle.gu_base.specs.declared.refusal.Refusal.{Refusal}
 use Rattle.gu_base.specs.declared.refusal.Refusal.TheVariants.{UnknownFirm, UnknownEntry, NotAChange, AlreadyReversed, NotAParty, NeedsConsent, StandsOn, DuplicateId, BookFull, AlreadyConsented, NothingPending}
+use Rattle.gu_base.specs.declared.command.Part.{Part}
 
 -- who asks, under which id, for what
 pub record Call : Type 0 where
@@ -65,10 +66,14 @@ command_refusal t h by (Decline n) = first (unless (knows_firm t by) UnknownFirm
 command_refusal t h by (Reverse n) = first (unless (knows_firm t by) UnknownFirm ∷ on_change t h by (reverse_rest t h) (entry_of h n) ∷ [])
 command_refusal t h by change = refusal_of t (live h) by change
 
+-- whether some part of a split by this firm goes to another
+abbrev pub gives_up : List ℕ → List Part → Bool
+gives_up by parts = list_any (λ p. not (bytes_eq p.firm by)) parts
+
 -- the status with which a command of this firm is accepted
 abbrev pub status_of : List ℕ → Command → State
 status_of by (Trade _ _ _ _ _) = Held
-status_of by (Split _ parts) = if list_any (λ p. not (bytes_eq p.firm by)) parts then Offered else Held
+status_of by (Split _ parts) = if gives_up by parts then Offered else Held
 status_of by (Claim _ _) = Claimed
 status_of by (Refuse _) = WasRefused
 status_of by (Cancel _) = Cancelled

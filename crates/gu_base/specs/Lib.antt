@@ -1,5 +1,6 @@
 pub mod Limits
 pub mod Names
+pub mod FirmsNamed
 pub mod Cells
 pub mod Numbers
 pub mod House

@@ -9,11 +9,13 @@
 //!   rows of a tree and lawful orders. They are filters, sums and a replay over flat lists.
 //! - `proofs/Worked.antt` computes small worked histories by these definitions, so that a change of a definition that
 //!   breaks one of them breaks the build.
+//! - Small cases of names, numbers, texts and copies stand in `tests.rt`.
 #![tactic(auto)]
 
 mod cells;
 pub mod command;
 pub mod entry;
+mod firms;
 pub mod house;
 pub mod memory;
 pub mod names;

@@ -14,7 +14,7 @@ ghost use Rattle.gu_base.specs.declared.refusal.Refusal.TheVariants.{StandsOn};
 ghost use Rattle.gu_tree.specs.Shown.{shown};
 ghost use Rattle.gu_book.specs.Front.{stands_refusal, may_lack};
 ghost use Rattle.gu_book.specs.Ids.{NoIdTwice};
-ghost use Rattle.gu_book.specs.TreeRows.{tree_rows};
+ghost use Rattle.gu_book.specs.TreeRows.{is_live_trade, tree_rows};
 
 use crate::index::Index;
 use crate::plain::calls::front_answer;
@@ -277,9 +277,10 @@ impl Book {
     ///
     /// # Errors
     ///
-    /// `Memory` where a growth was refused.
+    /// `Memory` where a growth was refused, of a live trade alone.
     pub fn tree_rows(&self, alloc: Global, trade: Number) -> Result<Option<Vec<Row>>, Memory>
-        ensures { IfOk result (λ o. option_map (λ v. map shown v.items) o ≡ tree_rows (live self.now.history) trade) }
+        ensures rows { IfOk result (λ o. option_map (λ v. map shown v.items) o ≡ tree_rows (live self.now.history) trade) }
+        ensures memory { OnErr result (IsTrue (is_live_trade (live self.now.history) trade)) }
     {
         trees::rows(&self.trees, alloc, trade)
     }

@@ -12,6 +12,8 @@
 //!   other made or decided.
 //! - `free_can_stand_last`: a change on which nothing stands can as well stand last.
 //! - `last_moves_its_own`: a change that stands last moves what it names and makes, and nothing else.
+//!
+//! `proofs/Worked.antt` computes one list of changes through these laws.
 #![tactic(auto)]
 
 mod laws;

@@ -8,6 +8,7 @@
 //! is reversed: `entry_state`. The status goes out in FIX field AllocStatus (87)
 //! by the numbers of `status_code`, which are this project's own.
 //! Each function meets its table in `specs/` exactly, and takes no memory.
+//! Its cases stand in `tests.rt`.
 #![tactic(auto)]
 
 ghost use Rattle.std.specs.Prelude.{◌≡◌, ◌≤◌};

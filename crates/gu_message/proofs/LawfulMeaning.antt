@@ -7,7 +7,6 @@ use Rattle.std.specs.Option.{ok_or}
 use Rattle.gu_base.specs.Names.{is_firm_text, is_id_text}
 use Rattle.gu_base.specs.declared.command.Part.{Part}
 use Rattle.gu_base.specs.declared.command.Command.{Command}
-use Rattle.gu_base.specs.declared.command.Command.TheVariants.{Trade, Split, Claim, Refuse, Cancel, Initiate, Decline, Reverse}
 use Rattle.gu_message.specs.declared.fault.Reject.{Reject}
 use Rattle.gu_message.specs.declared.heading.Heading.{Heading}
 use Rattle.gu_message.specs.declared.inbound.Inbound.{Inbound}
@@ -22,6 +21,7 @@ use Rattle.gu_message.specs.TradeReport.{trading_firm, trade_of}
 use Rattle.gu_message.specs.Instructions.{node_in, command_of, instruction_of}
 use Rattle.gu_message.specs.SessionMessages.{logon_of, test_request_of, resend_request_of, sequence_reset_of, session_message_of}
 use Rattle.gu_message.specs.Meaning.{by_type, meaning_of}
+use Rattle.gu_base.specs.FirmsNamed.{NamesOnly}
 
 -- ---- what passes the checks
 
@@ -64,24 +64,13 @@ heading_passes : (house : List ℕ) (fs : List (ℕ × List ℕ)) → Passes (λ
 unfolding heading_of
 heading_passes house fs = search (name_then, any_then) depth 20 fits 4000
 
--- the firms that a command names have names of firms
-abbrev pub NamesFirms : Command → Type 0
-NamesFirms (Trade firm account instrument side lots) = IsTrue (is_firm_text firm)
-NamesFirms (Split node parts) = All (λ (q : Part). IsTrue (is_firm_text q.firm)) parts
-NamesFirms (Claim node account) = Unit {0}
-NamesFirms (Refuse node) = Unit {0}
-NamesFirms (Cancel node) = Unit {0}
-NamesFirms (Initiate entry) = Unit {0}
-NamesFirms (Decline entry) = Unit {0}
-NamesFirms (Reverse entry) = Unit {0}
-
 -- a call of a lawful firm with a lawful id, whose command names lawful firms
 pub record IsLawfulCall (firm id : List ℕ) (command : Command) : Type 0 where
   pub named : IsTrue (is_firm_text firm)
   pub known : IsTrue (is_id_text id)
-  pub names : NamesFirms command
+  pub names : NamesOnly is_firm_text command
 
-call_passes : (firm id : List ℕ) (command : Command) → IsTrue (is_firm_text firm) → IsTrue (is_id_text id) → NamesFirms command → IsLawfulCall firm id command
+call_passes : (firm id : List ℕ) (command : Command) → IsTrue (is_firm_text firm) → IsTrue (is_id_text id) → NamesOnly is_firm_text command → IsLawfulCall firm id command
 call_passes firm id command n k c = record { named = n; known = k; names = c }
 
 abbrev pub IsLawfulMeaning : Inbound → Type 0
@@ -156,10 +145,10 @@ counted_passes by fs lawful = search (parts_passes, any_then) depth 12 fits 2000
 
 -- ---- an instruction
 
-command_passes : (by : List ℕ) (what : Asked) (fs : List (ℕ × List ℕ)) → IsTrue (is_firm_text by) → Passes NamesFirms (command_of by what fs)
+command_passes : (by : List ℕ) (what : Asked) (fs : List (ℕ × List ℕ)) → IsTrue (is_firm_text by) → Passes (NamesOnly is_firm_text) (command_of by what fs)
 unfolding command_of
 command_passes by asked.Split fs lawful =
-    any_then NamesFirms (node_in fs) _ (λ node. then (All (λ (q : Part). IsTrue (is_firm_text q.firm))) NamesFirms (counted_parts by fs) _ (counted_passes by fs lawful) (λ parts h. h))
+    any_then (NamesOnly is_firm_text) (node_in fs) _ (λ node. then (All (λ (q : Part). IsTrue (is_firm_text q.firm))) (NamesOnly is_firm_text) (counted_parts by fs) _ (counted_passes by fs lawful) (λ parts h. h))
 command_passes by asked.Claim fs lawful = search any_then
 command_passes by asked.Refuse fs lawful = search any_then
 command_passes by asked.Cancel fs lawful = search any_then
@@ -168,8 +157,8 @@ command_passes by asked.Decline fs lawful = search any_then
 command_passes by asked.Reverse fs lawful = search any_then
 
 command_then : {B : Type 0} (q : B → Type 0) (by : List ℕ) (what : Asked) (fs : List (ℕ × List ℕ)) (f : Command → Result B Reject) → IsTrue (is_firm_text by)
-    → ((x : Command) → NamesFirms x → Passes q (f x)) → Passes q (command_of by what fs >>= f)
-command_then q by what fs f lawful h = then NamesFirms q (command_of by what fs) f (command_passes by what fs lawful) h
+    → ((x : Command) → NamesOnly is_firm_text x → Passes q (f x)) → Passes q (command_of by what fs >>= f)
+command_then q by what fs f lawful h = then (NamesOnly is_firm_text) q (command_of by what fs) f (command_passes by what fs lawful) h
 
 instruction_passes : (by : List ℕ) (fs : List (ℕ × List ℕ)) → IsTrue (is_firm_text by) → Passes IsLawfulMeaning (instruction_of by fs)
 unfolding instruction_of

@@ -1,6 +1,7 @@
 -- What the messages of the session mean, by the tags of each type.
 use Rattle.std.specs.Prelude.{ℕ, Bool, true, false, nat_le, nat_lt, bytes_eq, codes, if◌then◌else◌, List, length, Option, Some, None, Result, Ok, Err}
 use Rattle.std.specs.Option.{ok_or}
+use Rattle.gu_codec.specs.Tags as tags
 use Rattle.gu_message.specs.declared.fault.Reject.{Reject}
 use Rattle.gu_message.specs.declared.inbound.Inbound.{Inbound}
 use Rattle.gu_message.specs.declared.inbound.Inbound.TheVariants as inbound
@@ -29,12 +30,12 @@ count_in tag fs = do
 -- Logon (A): EncryptMethod (98) `0`, HeartBtInt (108), DefaultApplVerID (1137) `9`, ResetSeqNumFlag (141)
 unfoldable pub logon_of : List (ℕ × List ℕ) → Result Inbound Reject
 logon_of fs = do
-  method ← needed 98 fs
-  _ ← guard (bytes_eq method (codes "0")) (bad_value 98)
-  heartbeat ← count_in 108 fs
-  version ← needed 1137 fs
-  _ ← guard (bytes_eq version (codes "9")) (bad_value 1137)
-  reset ← flag_in 141 fs
+  method ← needed tags.encrypt_method fs
+  _ ← guard (bytes_eq method (codes "0")) (bad_value tags.encrypt_method)
+  heartbeat ← count_in tags.heart_bt_int fs
+  version ← needed tags.default_appl_ver_id fs
+  _ ← guard (bytes_eq version (codes "9")) (bad_value tags.default_appl_ver_id)
+  reset ← flag_in tags.reset_seq_num_flag fs
   Ok (inbound.Logon heartbeat reset)
 
 -- a TestReqID (112): at most 64 bytes
@@ -44,23 +45,23 @@ test_req_id_of t = if nat_le (length t) 64 then Some t else None
 -- TestRequest (1): TestReqID (112)
 unfoldable pub test_request_of : List (ℕ × List ℕ) → Result Inbound Reject
 test_request_of fs = do
-  text ← needed 112 fs
-  id ← ok_or (test_req_id_of text) (bad_value 112)
+  text ← needed tags.test_req_id fs
+  id ← ok_or (test_req_id_of text) (bad_value tags.test_req_id)
   Ok (inbound.TestRequest id)
 
 -- ResendRequest (2): BeginSeqNo (7) above zero, EndSeqNo (16)
 unfoldable pub resend_request_of : List (ℕ × List ℕ) → Result Inbound Reject
 resend_request_of fs = do
-  from ← count_in 7 fs
-  _ ← guard (nat_lt 0 from) (bad_value 7)
-  to ← count_in 16 fs
+  from ← count_in tags.begin_seq_no fs
+  _ ← guard (nat_lt 0 from) (bad_value tags.begin_seq_no)
+  to ← count_in tags.end_seq_no fs
   Ok (inbound.ResendRequest from to)
 
 -- SequenceReset (4): GapFillFlag (123), NewSeqNo (36)
 unfoldable pub sequence_reset_of : List (ℕ × List ℕ) → Result Inbound Reject
 sequence_reset_of fs = do
-  gap_fill ← flag_in 123 fs
-  next ← count_in 36 fs
+  gap_fill ← flag_in tags.gap_fill_flag fs
+  next ← count_in tags.new_seq_no fs
   Ok (inbound.SequenceReset gap_fill next)
 
 -- the tags of each type of the session

@@ -1,32 +1,29 @@
 -- The terms of the agreements of a table are in range.
-use Rattle.std.proofs.Common.{◌≡◌, ◌≤◌, Bool, true, false, ◌&&◌, List, [], ◌∷◌, ◌++◌, refl, IsTrue, IfSome, arith, rules}
+use Rattle.std.proofs.Common.{◌≡◌, ◌≤◌, Bool, true, false, List, [], ◌∷◌, ◌++◌, refl, IsTrue, IfSome, arith, rules}
 use Rattle.std.specs.Map.{lookup}
 use Rattle.std.proofs.lemmas.Grind.{common_steps}
 use Rattle.gu_base.specs.declared.house.Pair.{Pair}
 use Rattle.gu_base.specs.declared.house.Agreement.{Agreement}
 use Rattle.gu_parties.specs.Terms.{is_in_range, are_in_range}
+use Rattle.std.proofs.lemmas.Bool.{and_parts}
+use Rattle.gu_base.specs.Limits.{highest_rate, highest_limit}
 
--- the first of two tests that both hold, and the second
-pub both : (a b : Bool) → IsTrue (a && b) → IsTrue a × IsTrue b
-both true b h = (refl, h)
-both false b h = let no : false ≡ true = h in cc
-
-pub in_range_limits : (a : Agreement) → IsTrue (is_in_range a) → (a.rate ≤ 100000) × (a.limit ≤ 10000000000000)
+pub in_range_limits : (a : Agreement) → IsTrue (is_in_range a) → (a.rate ≤ highest_rate) × (a.limit ≤ highest_limit)
 in_range_limits a h = grind (arith, common_steps)
 
 -- an agreement that is found
 pub found_in_range : (test : Pair → Bool) (es : List (Pair × Agreement)) → IsTrue (are_in_range es)
-    → IfSome (lookup test es) (λ a. (a.rate ≤ 100000) × (a.limit ≤ 10000000000000))
+    → IfSome (lookup test es) (λ a. (a.rate ≤ highest_rate) × (a.limit ≤ highest_limit))
 found_in_range test [] h = search rules
-found_in_range test (e ∷ es) h = by (test e.0) refl (both (is_in_range e.1) (are_in_range es) h) (found_in_range test es)
+found_in_range test (e ∷ es) h = by (test e.0) refl (and_parts (is_in_range e.1) (are_in_range es) h) (found_in_range test es)
   where
     by : (t : Bool) → test e.0 ≡ t → IsTrue (is_in_range e.1) × IsTrue (are_in_range es)
-        → (IsTrue (are_in_range es) → IfSome (lookup test es) (λ a. (a.rate ≤ 100000) × (a.limit ≤ 10000000000000)))
-        → IfSome (lookup test (e ∷ es)) (λ a. (a.rate ≤ 100000) × (a.limit ≤ 10000000000000))
+        → (IsTrue (are_in_range es) → IfSome (lookup test es) (λ a. (a.rate ≤ highest_rate) × (a.limit ≤ highest_limit)))
+        → IfSome (lookup test (e ∷ es)) (λ a. (a.rate ≤ highest_rate) × (a.limit ≤ highest_limit))
     by true t here rest = rw t (in_range_limits e.1 here.0)
     by false t here rest = rw t (rest here.1)
 
 -- one agreement more
 pub more_in_range : (es : List (Pair × Agreement)) (e : Pair × Agreement) → IsTrue (are_in_range es) → IsTrue (is_in_range e.1) → IsTrue (are_in_range (es ++ e ∷ []))
 more_in_range [] e h k = rw k refl
-more_in_range (x ∷ es) e h k = let here = both (is_in_range x.1) (are_in_range es) h in rw here.0 (more_in_range es e here.1 k)
+more_in_range (x ∷ es) e h k = let here = and_parts (is_in_range x.1) (are_in_range es) h in rw here.0 (more_in_range es e here.1 k)

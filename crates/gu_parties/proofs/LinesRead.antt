@@ -15,6 +15,7 @@ use Rattle.gu_parties.proofs.Stated.{added, refused, addable, table_more}
 use Rattle.gu_parties.specs.declared.fault.HouseError.{HouseError}
 use Rattle.gu_parties.specs.declared.fault.Cause.{Cause}
 use Rattle.gu_parties.specs.declared.fault.Cause.TheVariants.{TooManyLines, BadVersion, NoHouse, BadLine, BadName, BadNumber, OwnAgreement, UnknownName, NamedTwice, Memory}
+use Rattle.gu_parties.specs.Limits.{most_lines}
 
 -- the faults of the lines `rest`, which stand behind the lines `done`
 abbrev pub faults_behind : List ℕ → List (List (List ℕ)) → List (List (List ℕ)) → List (ℕ × Cause)
@@ -70,10 +71,10 @@ module _ (house : List ℕ) (ls : List (List ℕ)) (line : List ℕ) (rest : Lis
   here : later_faults house (map words ls) ≡ cons_option (at_line n (line_cause n u (words line))) (faults_behind house (r.done ++ words line ∷ []) rest)
   here = r.faults ∙ rw (← r.count, ← r.table) refl
 
-  pub reads_many : nat_lt 100000 n ≡ true → house_behind house ls ≡ Err (n, TooManyLines)
+  pub reads_many : nat_lt most_lines n ≡ true → house_behind house ls ≡ Err (n, TooManyLines)
   reads_many h = rw (here, h) refl
 
-  pub reads_more : (v : House) → nat_lt 100000 n ≡ false → add_line u (words line) ≡ Ok v → Reads house (map words ls) rest (n + 1) v
+  pub reads_more : (v : House) → nat_lt most_lines n ≡ false → add_line u (words line) ≡ Ok v → Reads house (map words ls) rest (n + 1) v
   reads_more v h e =
       let none = added u v (words line) e in
       record {
@@ -84,10 +85,10 @@ module _ (house : List ℕ) (ls : List (List ℕ)) (line : List ℕ) (rest : Lis
         table = sym none.1 ∙ rw r.table (sym (table_more house r.done (words line)));
       }
 
-  stop_cause : (c : Cause) → nat_lt 100000 n ≡ false → add_line u (words line) ≡ Err c → house_behind house ls ≡ Err (n, c)
+  stop_cause : (c : Cause) → nat_lt most_lines n ≡ false → add_line u (words line) ≡ Err c → house_behind house ls ≡ Err (n, c)
   stop_cause c h e = rw (here, h, refused u c (words line) e) refl
 
-  pub reads_stop : (c : Cause) → nat_lt 100000 n ≡ false → Fails c (add_line u (words line)) → StopsBehind c n house ls
+  pub reads_stop : (c : Cause) → nat_lt most_lines n ≡ false → Fails c (add_line u (words line)) → StopsBehind c n house ls
   reads_stop Memory h e =
       let long : length ls ≡ length r.done + (length rest + 1) = omega (arith, ap length r.split, length-append r.done (words line ∷ rest), length-map ls words) in
       let clean : IsCleanUpto n (faults_behind house (r.done ++ words line ∷ []) rest)
@@ -127,8 +128,8 @@ module _ (version second house : List ℕ) (ls : List (List ℕ)) (v : bytes_eq 
   gives_all (Err e) s = stops_behind e.cause e.line s
 
 -- the test of the number of lines
-pub past_last : (n : ℕ) → 100000 < n → nat_lt 100000 n ≡ true
+pub past_last : (n : ℕ) → most_lines < n → nat_lt most_lines n ≡ true
 past_last n h = grind (arith, common_steps)
 
-pub within_last : (n : ℕ) → n ≤ 100000 → nat_lt 100000 n ≡ false
+pub within_last : (n : ℕ) → n ≤ most_lines → nat_lt most_lines n ≡ false
 within_last n h = grind (arith, common_steps)

@@ -7,6 +7,7 @@ use Rattle.gu_parties.specs.Table.{table_of}
 use Rattle.gu_parties.specs.Causes.{cause_of, house_cause, version_cause}
 use Rattle.gu_parties.specs.declared.fault.Cause.{Cause}
 use Rattle.gu_parties.specs.declared.fault.Cause.TheVariants.{TooManyLines}
+use Rattle.gu_parties.specs.Limits.{most_lines}
 
 -- the number of a line beside its cause, where it has one
 abbrev pub at_line : ℕ → Option Cause → Option (ℕ × Cause)
@@ -14,7 +15,7 @@ at_line n cause = option_map (λ c. (n, c)) cause
 
 -- the first cause of line n, which stands behind line 2, after the table of the lines before it
 abbrev pub line_cause : ℕ → House → List (List ℕ) → Option Cause
-line_cause n t line = if nat_lt 100000 n then Some TooManyLines else cause_of t line
+line_cause n t line = if nat_lt most_lines n then Some TooManyLines else cause_of t line
 
 -- each line from line 3 on that has a cause; the lines before line n are the first n - 3 of them
 abbrev pub later_faults : List ℕ → List (List (List ℕ)) → List (ℕ × Cause)

@@ -1,14 +1,13 @@
 -- The written numbers of a house file.
 use Rattle.std.specs.Prelude.{ℕ, ◌+◌, ◌-◌, ◌*◌, Bool, ◌&&◌, ◌||◌, not, nat_le, eqb, List, [], ◌∷◌, Option, None, Some, length, bytes_eq, codes, slice_index, if◌then◌else◌}
 use Rattle.std.specs.List.{list_all}
-
--- a decimal digit
-abbrev pub is_digit : ℕ → Bool
-is_digit b = nat_le 48 b && nat_le b 57
+use Rattle.gu_base.specs.Limits.{highest_rate, highest_limit}
+use Rattle.gu_parties.specs.Limits.{most_digits}
+use Rattle.gu_base.specs.Names.{is_digit}
 
 -- `0`, or 1 to 14 digits without a leading zero
 abbrev pub is_number_text : List ℕ → Bool
-is_number_text s = bytes_eq s (codes "0") || (nat_le 1 (length s) && nat_le (length s) 14 && list_all is_digit s && not (eqb (slice_index s 0) 48))
+is_number_text s = bytes_eq s (codes "0") || (nat_le 1 (length s) && nat_le (length s) most_digits && list_all is_digit s && not (eqb (slice_index s 0) 48))
 
 -- the value of the digits behind those whose value is n
 abbrev pub value_from : ℕ → List ℕ → ℕ
@@ -21,8 +20,8 @@ number_upto most text = if is_number_text text && nat_le (value_from 0 text) mos
 
 -- a rate, in hundredths a lot
 abbrev pub rate_of : List ℕ → Option ℕ
-rate_of text = number_upto 100000 text
+rate_of text = number_upto highest_rate text
 
 -- a limit, in lots
 abbrev pub limit_of : List ℕ → Option ℕ
-limit_of text = number_upto 10000000000000 text
+limit_of text = number_upto highest_limit text

@@ -4,10 +4,11 @@ use Rattle.std.specs.List.{list_all}
 use Rattle.gu_base.specs.House.{House}
 use Rattle.gu_base.specs.declared.house.Pair.{Pair}
 use Rattle.gu_base.specs.declared.house.Agreement.{Agreement}
+use Rattle.gu_base.specs.Limits.{highest_rate, highest_limit}
 
 -- a rate of at most 100,000 hundredths a lot, and a limit of at most 10,000,000,000,000 lots
 abbrev pub is_in_range : Agreement → Bool
-is_in_range a = nat_le a.rate 100000 && nat_le a.limit 10000000000000
+is_in_range a = nat_le a.rate highest_rate && nat_le a.limit highest_limit
 
 -- all of these agreements have their terms in range
 abbrev pub are_in_range : List (Pair × Agreement) → Bool

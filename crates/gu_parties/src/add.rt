@@ -6,7 +6,7 @@ ghost use Rattle.gu_parties.specs.Steps.{add_firm, add_account, add_instrument, 
 use crate::fault::Cause;
 use crate::house::House;
 use crate::number::number;
-use gu_base::{Account, AccountId, Agreement, FirmId, InstrumentId, Pair};
+use gu_base::{Account, AccountId, Agreement, FirmId, InstrumentId, Pair, Rate};
 
 impl House {
     /// Adds the firm of this name.
@@ -109,10 +109,10 @@ impl House {
         let Some(taker) = FirmId::new(taker) else {
             return Err(Cause::BadName);
         };
-        let Some(rate) = number(rate, 100_000) else {
+        let Some(rate) = number(rate, Rate::MAX) else {
             return Err(Cause::BadNumber);
         };
-        let Some(limit) = number(limit, 10_000_000_000_000) else {
+        let Some(limit) = number(limit, Agreement::MAX_LIMIT) else {
             return Err(Cause::BadNumber);
         };
         self.add_terms(giver, taker, Agreement { rate, limit })

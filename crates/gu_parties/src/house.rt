@@ -1,6 +1,7 @@
 //! The house table: who takes part, and on which terms.
 ghost use Rattle.std.specs.Prelude.{◌≡◌, ◌≤◌, IsTrue, IfSome, IfOk, length, slice_get};
 ghost use Rattle.gu_base.specs.House.{knows_firm, knows_account, knows_instrument, agreement};
+ghost use Rattle.gu_base.specs.Limits.{highest_rate, highest_limit};
 ghost use Rattle.gu_parties.specs.Steps.{house_alone};
 ghost use Rattle.gu_parties.specs.Terms.{has_terms_in_range};
 
@@ -83,7 +84,7 @@ impl House {
     /// 10,000,000,000,000 lots. `None` where the file has no agreement of the two in this direction.
     pub fn agreement(&self, giver: &FirmId, taker: &FirmId) -> Option<Agreement>
         ensures value { result ≡ agreement self.now giver.now taker.now }
-        ensures in_range { IfSome result (λ a. (a.rate ≤ 100000) × (a.limit ≤ 10000000000000)) }
+        ensures in_range { IfSome result (λ a. (a.rate ≤ highest_rate) × (a.limit ≤ highest_limit)) }
         ensures all_in_range { IsTrue (has_terms_in_range self.now) }
     {
         let key = Pair {

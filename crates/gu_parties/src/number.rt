@@ -1,7 +1,12 @@
 //! The written numbers of a house file.
 ghost use Rattle.std.specs.Prelude.{◌≡◌, ◌≤◌, IsTrue, IfSome, length};
 ghost use Rattle.std.specs.List.{list_all};
-ghost use Rattle.gu_parties.specs.Numbers.{is_digit, is_number_text, value_from, number_upto};
+ghost use Rattle.gu_base.specs.Names.{is_digit};
+ghost use Rattle.gu_parties.specs.Limits.{most_digits};
+ghost use Rattle.gu_parties.specs.Numbers.{is_number_text, value_from, number_upto};
+
+/// The most digits of a number: those of the highest limit.
+const MAX_DIGITS: usize = 14;
 
 /// Whether a byte is a decimal digit.
 fn is_digit_byte(byte: u8) -> bool
@@ -28,13 +33,13 @@ fn is_number(text: &[u8]) -> bool
         return false;
     }
     let leading = text[0] == b'0';
-    zero || (len <= 14 && digits && !leading)
+    zero || (len <= MAX_DIGITS && digits && !leading)
 }
 
 /// The value of at most 14 digits.
 fn value_of(text: &[u8]) -> u64
     requires digits { IsTrue (list_all is_digit text.now) }
-    requires short { length text.now ≤ 14 }
+    requires short { length text.now ≤ most_digits }
     ensures { result ≡ value_from 0 text.now }
 {
     let mut value = 0;

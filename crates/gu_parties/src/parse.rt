@@ -12,7 +12,7 @@ use gu_base::FirmId;
 use std::alloc::Global;
 
 /// The most lines that a house file may have.
-const MOST_LINES: u32 = 100_000;
+const MAX_LINES: u32 = 100_000;
 
 /// The house that line 2 names.
 #[tactic(auto, using(crate::proofs::LongLine::long_names))]
@@ -46,7 +46,7 @@ fn read_rest(alloc: Global, name: FirmId, text: &[u8]) -> Result<House, HouseErr
     let mut rest = text;
     let mut line = 3;
     while let Some((here, behind)) = first_line(rest) {
-        if line > MOST_LINES {
+        if line > MAX_LINES {
             return Err(HouseError {
                 line,
                 cause: Cause::TooManyLines,

@@ -6,6 +6,7 @@
 //! - `ready` makes the row that the two change, and alone takes memory. It changes no sum: a row of zero and no row are
 //!   seen as the same. A row that is ready stays ready.
 //! - What a call asks of its caller, a test of this crate answers: `can_add`, `can_take`.
+//! - Its cases stand in `tests.rt`.
 #![tactic(auto)]
 
 mod positions;

@@ -1,12 +1,13 @@
 -- What the program does: which house file it reads, what it does to its reader and its writer, and in which order faults are found.
-use Rattle.std.specs.Prelude.{◌≡◌, ℕ, ◌⊎◌, List, Option, Some, Result, Ok, Err}
+use Rattle.std.specs.Prelude.{◌≡◌, ℕ, ◌⊎◌, codes, List, Option, Some, Result, Ok, Err}
 use Rattle.clap.specs.Words.{Text}
 use Rattle.gu_base.specs.House.{House}
 use Rattle.gu_parties.specs.Parsing.{Answers}
 use Rattle.gu_parties.specs.declared.fault.HouseError.{HouseError}
 use Rattle.gu_server.specs.HouseText.{IsTextOf, IsTooLong}
-use Rattle.gu_server.specs.Lines.{house_in}
+use Rattle.gu_server.specs.Lines.{command_in, house_in, trade_in, trade_meant}
 use Rattle.gu_server.specs.Runs.{Told, Runs}
+use Rattle.gu_server.specs.Traces.{Traces}
 use Rattle.gu_server.specs.declared.batch.RunError.{RunError}
 use Rattle.gu_server.specs.declared.fault.Fault.{Fault}
 use Rattle.gu_server.specs.declared.fault.Fault.TheVariants.{Usage, HouseFile, HouseLine, Run}
@@ -36,15 +37,31 @@ Stops words bytes_at e = (path : Text) × (house_in words ≡ Some path) × IsHo
 -- a batch was run, by the house table that the house file of the words names
 pub record HasRun {A : Type 0} (words : List Text) (bytes_at : Text → Option (List ℕ)) (old new : Told) (result : Result A RunError) : Type 0 where
   pub path : Text
+  pub command : command_in words ≡ Some (codes "batch")
   pub asked : house_in words ≡ Some path
   pub house : House
   pub named : Names (bytes_at path) (Ok house)
   pub runs : Runs house old new result
 
--- the batch was run to its end, or nothing was touched, or the batch ended with an error
+-- a trace was run, by the house table that the house file of the words names, for the trade that they name
+pub record HasTraced {A : Type 0} (words : List Text) (bytes_at : Text → Option (List ℕ)) (old new : Told) (result : Result A RunError) : Type 0 where
+  pub path : Text
+  pub command : command_in words ≡ Some (codes "trace")
+  pub asked : house_in words ≡ Some path
+  pub trade : Option ℕ
+  pub meant : trade_meant (trade_in words) ≡ Some trade
+  pub house : House
+  pub named : Names (bytes_at path) (Ok house)
+  pub traces : Traces house trade old new result
+
+-- what the words ask for was done
+abbrev pub HasDone : {A : Type 0} → List Text → (Text → Option (List ℕ)) → Told → Told → Result A RunError → Type 0
+HasDone words bytes_at old new result = HasRun words bytes_at old new result ⊎ HasTraced words bytes_at old new result
+
+-- a batch or a trace was run to its end, or nothing was touched, or the run ended with an error
 abbrev pub Does : {A : Type 0} → List Text → (Text → Option (List ℕ)) → Told → Told → Result A Fault → Type 0
-Does {A} words bytes_at old new (Ok x) = HasRun {A = A} words bytes_at old new (Ok x)
-Does {A} words bytes_at old new (Err e) = (Stops words bytes_at e × (new ≡ old)) ⊎ ((error : RunError) × (e ≡ Run error) × HasRun {A = A} words bytes_at old new (Err error))
+Does {A} words bytes_at old new (Ok x) = HasDone {A = A} words bytes_at old new (Ok x)
+Does {A} words bytes_at old new (Err e) = (Stops words bytes_at e × (new ≡ old)) ⊎ ((error : RunError) × (e ≡ Run error) × HasDone {A = A} words bytes_at old new (Err error))
 
 -- the command line isn't at fault
 abbrev pub IsUnderstood : Fault → Type 0

@@ -1,11 +1,11 @@
 -- What a firm is told of the entries that concern it, with the fields of an AllocationReport.
-use Rattle.std.specs.Prelude.{ℕ, ◌+◌, Bool, not, ◌||◌, if◌then◌else◌, nat_lt, List, [], ◌∷◌, take, filter, sum_by, Option, Some, None, option_map, option_and_then, bytes_eq}
-use Rattle.std.specs.List.{list_any, filter_map}
+use Rattle.std.specs.Prelude.{ℕ, ◌+◌, ◌||◌, if◌then◌else◌, nat_lt, List, [], ◌∷◌, take, filter, sum_by, Option, Some, None, option_map, option_and_then, bytes_eq}
+use Rattle.std.specs.List.{filter_map}
 use Rattle.gu_base.specs.Numbers.{EntryPart}
 use Rattle.gu_base.specs.History.{records}
 use Rattle.gu_base.specs.Nodes.{node_of}
 use Rattle.gu_base.specs.Refusals.{is_taker}
-use Rattle.gu_base.specs.Answers.{entry_of}
+use Rattle.gu_base.specs.Answers.{entry_of, gives_up}
 use Rattle.gu_base.specs.declared.entry.Entry.{Entry}
 use Rattle.gu_base.specs.declared.entry.Record.{Record}
 use Rattle.gu_base.specs.declared.node.Node.{Node}
@@ -51,10 +51,6 @@ shown_or_not f entry i by p = if bytes_eq by f || bytes_eq p.firm f then Some (r
 -- the parts that are shown to it
 abbrev pub parts_shown : List ℕ → ℕ → List ℕ → List Part → List ReportPart
 parts_shown f entry by parts = filter (λ p. bytes_eq by f || bytes_eq p.firm f) (report_parts entry 1 by parts)
-
--- whether some part is given to another firm
-abbrev pub gives_up : List ℕ → List Part → Bool
-gives_up by parts = list_any (λ p. not (bytes_eq p.firm by)) parts
 
 -- a Split gives up (15) or not (9); its lots are those of the parts shown
 abbrev pub split_report : List Entry → List ℕ → Record → EntryPart → List Part → Option Report

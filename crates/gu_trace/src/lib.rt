@@ -6,6 +6,7 @@
 //!   used agreements in the order of the house file.
 //! - Each is a function of the book's house table and history, which the definitions in `specs/` give; an error leaves `out` as it was.
 //! - The book is only read.
+//! - Its cases are data of the program `test_trace`.
 #![tactic(auto)]
 
 mod chain;

@@ -4,7 +4,7 @@ ghost use Rattle.std.specs.List.{All};
 ghost use Rattle.gu_base.specs.History.{numbered_as};
 ghost use Rattle.gu_base.specs.Limits.{most_entries, most_parts};
 ghost use Rattle.gu_book.specs.Limits.{IsWithinLimits, PartsWithinLimits};
-ghost use Rattle.gu_trace.specs.Reports.{most_reports, report_with, report_part, shown_or_not, gives_up, parts_shown, claimed_part, no_part, split_report, decision_report, change_report, reversal_report, report_of, told, reports_for};
+ghost use Rattle.gu_trace.specs.Reports.{most_reports, report_with, report_part, shown_or_not, parts_shown, claimed_part, no_part, split_report, decision_report, change_report, reversal_report, report_of, told, reports_for};
 
 use crate::concern::concerns;
 use crate::lookup::{Deal, deal_of, entry_at, lots_at, node_at};
@@ -66,13 +66,6 @@ fn report(
         lots,
         parts: ReportParts::from_vec(parts),
     }
-}
-
-/// Whether some part is given to another firm.
-fn gives_up(by: &FirmId, parts: &[Part]) -> bool
-    ensures { result ≡ gives_up by.now parts.now }
-{
-    parts.iter().any(|p| p.firm != *by)
 }
 
 /// Whether a part of a Split is shown to the firm: the owner sees all parts, another firm those that are given to it.
@@ -161,7 +154,7 @@ fn split_report(
     };
     let shown = parts_shown(alloc, firm, number, &e.firm, parts)?;
     let lots = lots_of(shown.as_slice());
-    let codes = if gives_up(&e.firm, parts) {
+    let codes = if e.firm.gives_up(parts) {
         GIVE_UP
     } else {
         ACCEPT

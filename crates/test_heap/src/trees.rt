@@ -1,9 +1,7 @@
 //! The trees of the example, and their splits.
-ghost use Rattle.std.specs.Prelude.{◌≡◌, ◌≤◌, length, sum_by};
-ghost use Rattle.gu_tree.specs.Changes.{own_parts_have_accounts};
 
 use gu_base::{AccountId, FirmId, NodeName, Number, Part, Place, State};
-use gu_tree::{Head, Tree};
+use gu_tree::{MAX_DEPTH, Tree};
 use std::alloc::Allocator;
 use std::io::ErrorKind;
 use std::{fmt, io};
@@ -51,19 +49,6 @@ pub(crate) fn trade<A: Allocator + Clone>(alloc: A) -> io::Result<Tree<A>> {
     Ok(Tree::new(alloc, Number::at_place(0), place()?, 100))
 }
 
-fn total(parts: &[Part]) -> u128
-    requires { length parts.now ≤ 100 }
-    ensures { result ≡ sum_by (λ p. p.lots) parts.now }
-{
-    parts.iter().map(|part| u128::from(part.lots)).sum()
-}
-
-fn is_placed(parts: &[Part], whole: &Head) -> bool
-    ensures { result ≡ own_parts_have_accounts parts.now whole.now }
-{
-    parts.iter().all(|part| part.account.is_some() || part.firm != whole.place.firm)
-}
-
 /// Splits the part of that name, where all that `split` asks for holds.
 pub(crate) fn split<A: Allocator + Clone>(
     tree: &mut Tree<A>,
@@ -75,13 +60,13 @@ pub(crate) fn split<A: Allocator + Clone>(
         return Outcome::Unfit;
     };
     let head = *tree.head(&path);
-    if tree.parted(&path).is_some() || head.state == State::Offered || path.len() >= 64 {
+    if tree.parted(&path).is_some() || head.state == State::Offered || path.len() >= MAX_DEPTH {
         return Outcome::Unfit;
     }
     if tree.has_entry(entry) || parts.is_empty() || parts.len() > 100 {
         return Outcome::Unfit;
     }
-    if total(parts) != u128::from(head.lots) || !is_placed(parts, &head) {
+    if !head.is_sum_of(parts) || !head.can_place(parts) {
         return Outcome::Unfit;
     }
     match tree.split(&path, entry, parts) {

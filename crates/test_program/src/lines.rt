@@ -3,7 +3,7 @@
 use crate::streams::{Kept, Text};
 use gu_server::{Counted, Fault, SystemFiles, run};
 use std::alloc::{AllocError, Global};
-use std::{fs, io};
+use std::{fs, io, str};
 
 /// A line of the input.
 #[derive(Clone, Copy)]
@@ -76,6 +76,24 @@ fn is_as_expected(rt: &HostRuntime, alloc: Global, stream: &str, out: &[u8]) -> 
     Ok(expected.as_slice() == out)
 }
 
+/// Writes the text of a trace as it is, and of answers whether they are those of the stream.
+fn tell_out(rt: &HostRuntime, alloc: Global, line: &Line<'_>, out: &[u8]) -> io::Result<()> {
+    if out.is_empty() {
+        return println!(rt; "nothing written");
+    }
+    if line.words.starts_with("trace") {
+        return match str::from_utf8(out) {
+            Ok(text) => print!(rt; "{text}"),
+            Err(_) => println!(rt; "no text"),
+        };
+    }
+    if is_as_expected(rt, alloc, line.stream, out)? {
+        println!(rt; "as expected")
+    } else {
+        println!(rt; "something else")
+    }
+}
+
 /// Runs a line, writes what came of it, and gives its status.
 pub(crate) fn tell(rt: &HostRuntime, alloc: Global, line: &Line<'_>) -> io::Result<u8> {
     let outcome = run_line(rt, alloc, line)?;
@@ -91,13 +109,6 @@ pub(crate) fn tell(rt: &HostRuntime, alloc: Global, line: &Line<'_>) -> io::Resu
             fault.status()
         }
     };
-    let out = outcome.out.as_slice();
-    if out.is_empty() {
-        println!(rt; "nothing written")?;
-    } else if is_as_expected(rt, alloc, line.stream, out)? {
-        println!(rt; "as expected")?;
-    } else {
-        println!(rt; "something else")?;
-    }
+    tell_out(rt, alloc, line, outcome.out.as_slice())?;
     Ok(status)
 }

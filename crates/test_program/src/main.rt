@@ -4,7 +4,7 @@
 //! A line of standard input is `STREAM;HOW;WORDS`: a file of `data/`, how it is read and written, and the words of the command line.
 //! HOW is `plain`, `failing reader` (it fails behind the stream's last byte) or `full writer` (it takes no byte). Of each line the
 //! program writes how the run ended, with its status and the first line of its text, and whether what it wrote is what the file of the
-//! stream's name with `.out` for `.fix` holds. At last it writes the text of each error of a run, and it ends with the status of the
+//! stream's name with `.out` for `.fix` holds; of a trace, what it wrote. At last it writes the text of each error of a run, and it ends with the status of the
 //! last line's run.
 #![tactic(auto)]
 
@@ -23,6 +23,7 @@ fn tell_texts(rt: &HostRuntime) -> io::Result<()> {
         RunError::Read,
         RunError::Write,
         RunError::Memory,
+        RunError::NoLiveTrade { trade: 2 },
     ];
     for error in errors {
         let fault = Fault::from(error);

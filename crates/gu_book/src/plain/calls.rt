@@ -11,13 +11,12 @@ ghost use Rattle.gu_book.specs.Front.{front_answer, front_rules, front_refusal};
 ghost use Rattle.gu_book.specs.Ids.{NoIdTwice};
 ghost use Rattle.gu_book.specs.Index.{AreIdsOf, IsIndexOf};
 ghost use Rattle.gu_book.specs.Limits.{AllWithinLimits};
-ghost use Rattle.gu_book.specs.Parts.{gives_up};
 ghost use Rattle.gu_consent.specs.Given.{given};
 
 use crate::index::{Ids, Index};
 use crate::plain::naming::naming_refusal;
 use crate::plain::refusals::change_refusal;
-use gu_base::{AllocId, Answer, Command, Entry, FirmId, Number, Part, Record, Refusal, State};
+use gu_base::{AllocId, Answer, Command, Entry, FirmId, Number, Record, Refusal, State};
 use gu_consent::Consents;
 use gu_parties::House;
 
@@ -54,13 +53,6 @@ fn known(
     Some(known_answer(number, &entries[place], command))
 }
 
-/// Whether a part goes to another firm.
-fn gives_up(by: &FirmId, parts: &[Part]) -> bool
-    ensures { result ≡ gives_up by.now parts.now }
-{
-    parts.iter().any(|p| p.firm != *by)
-}
-
 /// The status of a command that is accepted.
 fn status_of(by: &FirmId, command: &Command) -> State
     ensures { result ≡ status_of by.now command.now }
@@ -68,7 +60,7 @@ fn status_of(by: &FirmId, command: &Command) -> State
     match command {
         Command::Trade { .. } => State::Held,
         Command::Split { parts, .. } => {
-            if gives_up(by, parts.as_slice()) {
+            if by.gives_up(parts.as_slice()) {
                 State::Offered
             } else {
                 State::Held

@@ -2,7 +2,7 @@
 ghost use Rattle.std.specs.Prelude.{◌≡◌, ◌≤◌, ◌+◌, ℕ, length, take, option_map, Some, None};
 ghost use Rattle.gu_base.specs.Limits.{most_entries};
 ghost use Rattle.gu_base.specs.History.{numbered_as, is_change, live};
-ghost use Rattle.gu_base.specs.Consents.{of_node, taker_and_giver, giver_alone, parties_of, is_among};
+ghost use Rattle.gu_base.specs.Consents.{of_node, taker_and_giver, giver_alone, parties_of};
 ghost use Rattle.gu_base.specs.Answers.{entry_of, on_change};
 ghost use Rattle.gu_book.specs.Front.{own_refusal, own_of};
 ghost use Rattle.gu_book.specs.Index.{IsIndexOf};
@@ -80,13 +80,6 @@ fn parties_of(
     }
 }
 
-/// Whether the firm is one of these.
-fn is_among(firm: &FirmId, firms: &[FirmId]) -> bool
-    ensures { result ≡ is_among firm.now firms.now }
-{
-    firms.iter().any(|f| *firm == *f)
-}
-
 /// The last refusal of each row, over those who consent.
 fn own_refusal(
     consents: &Consents,
@@ -142,7 +135,7 @@ fn entry_refusal(
     }
     let (firms, count) = parties_of(house, records, &e.firm, &e.command);
     let parties = &firms[..count];
-    if !is_among(by, parties) {
+    if !by.is_among(parties) {
         return Some(Refusal::NotAParty);
     }
     own_refusal(consents, number, parties, by, command)

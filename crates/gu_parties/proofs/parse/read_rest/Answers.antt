@@ -9,11 +9,11 @@ loop-here-init c = (rw c.alone-house.ensures (reads_none c.args.name (map words 
 pub returns-in-Err : goal.returns-in-Err
 returns-in-Err c =
     reads_stop c.args.name (lines c.args.text.now) c.in-Some.here.now (map words (lines c.in-Some.behind.now)) c.loop-here.line c.loop-here.house
-    (rw c.in-Some.ensures.lines at c.loop-here.invariant.0) c.in-Err.cause (within_last _ c.if-line-gt-MOST_LINES.false) c.in-Err.ensures.does
+    (rw c.in-Some.ensures.lines at c.loop-here.invariant.0) c.in-Err.cause (within_last _ c.if-line-gt-MAX_LINES.false) c.in-Err.ensures.does
 
 pub loop-here-preserved : goal.loop-here-preserved
 loop-here-preserved c = (
   reads_more c.args.name (lines c.args.text.now) c.in-Some.here.now (map words (lines c.in-Some.behind.now)) c.loop-here.line c.loop-here.house
-      (rw c.in-Some.ensures.lines at c.loop-here.invariant.0) _ (within_last _ c.if-line-gt-MOST_LINES.false) c.in-Ok.ensures.does,
+      (rw c.in-Some.ensures.lines at c.loop-here.invariant.0) _ (within_last _ c.if-line-gt-MAX_LINES.false) c.in-Ok.ensures.does,
   omega arith,
 )

@@ -1,4 +1,4 @@
-use Rattle.std.proofs.Common.{inr, rules}
+use Rattle.std.proofs.Common.{inl, inr, rules}
 use Rattle.std.proofs.lemmas.Result.{err_from_is_err_and}
 use Rattle.gu_server.proofs.program.run.Goals as goal
 
@@ -10,11 +10,32 @@ returns-in_err-run_batch-in-Ok-Batch-clause-does g c =
     rw (p.1) (inr (
       c.in_err-run_batch-in-Ok-Batch.field-0.0,
       p.2,
-      record {
+      inl (record {
         path = c.as_str.result.now;
+        command = search rules;
         asked = search rules;
         house = c.in_ok-house-in-Ok-Batch.house;
         named = c.in_ok-house-in-Ok-Batch.ensures;
         runs = c.in_err-run_batch-in-Ok-Batch.ensures;
-      },
+      }),
+    ))
+
+-- the trace ended with an error, which the fault tells
+pub returns-in_err-run_trace-in-Ok-Trace-clause-does : goal.returns-in_err-run_trace-in-Ok-Trace-clause-does
+returns-in_err-run_trace-in-Ok-Trace-clause-does g c =
+    let told = c.from_residual-in_err-run_trace-in-Ok-Trace in
+    let p = err_from_is_err_and told.result told.ensures.1 in
+    rw (p.1) (inr (
+      c.in_err-run_trace-in-Ok-Trace.field-0.0,
+      p.2,
+      inr (record {
+        path = c.as_str-in-Ok-Trace.result.now;
+        command = search rules;
+        asked = search rules;
+        trade = c.in-Ok-Trace.trade;
+        meant = search rules;
+        house = c.in_ok-house-in-Ok-Trace.house;
+        named = c.in_ok-house-in-Ok-Trace.ensures;
+        traces = c.in_err-run_trace-in-Ok-Trace.ensures;
+      }),
     ))

@@ -10,7 +10,7 @@ use Rattle.gu_trace.proofs.chain.trace.Goals as goal
 pub returns-clause-text : goal.returns-clause-text
 returns-clause-text c =
     let book = c.args.book.now in
-    let told : Some (map shown c.in-Some.rows.items) ≡ tree_rows (live book.history) c.args.trade = rw c.in-Some.is at c.in_ok-rows.ensures in
+    let told : Some (map shown c.in-Some.rows.items) ≡ tree_rows (live book.history) c.args.trade = rw c.in-Some.is at c.in_ok-rows.ensures.rows in
     c.in_ok-extend_from_slice.ensures.items
     ∙ ap (λ t. c.args.out.now.items ++ t) (c.as_bytes.ensures.value
     ∙ (c.in_ok-append_lines.ensures

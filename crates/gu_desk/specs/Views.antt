@@ -1,0 +1,25 @@
+-- What contracts see of a ground, a desk and a seat.
+use Rattle.std.specs.Prelude.{ℕ, Bool, ◌&&◌, leb, List, []}
+use Rattle.gu_book.specs.Seen.{HouseAndHistory}
+
+-- the name of its ledger, how many workers its desk has, and its book
+pub record GroundView : Type 0 where
+  pub name : ℕ
+  pub workers : ℕ
+  pub opening : HouseAndHistory
+
+-- how many seats were given out
+pub record DeskView : Type 0 where
+  pub seats : ℕ
+
+-- how many of the calls that were made with it were accepted
+pub record SeatView : Type 0 where
+  pub share : ℕ
+
+-- how many workers a desk may have
+abbrev pub is_worker_count : ℕ → Bool
+is_worker_count n = leb 1 n && leb n 16
+
+-- the book of nobody, for a job that is no desk's
+abbrev pub no_book : HouseAndHistory
+no_book = record { house = record { house = []; firms = []; accounts = []; instruments = []; agreements = [] }; history = [] }

@@ -1,0 +1,183 @@
+//! The desk that workers share.
+ghost use Rattle.std.specs.Prelude.{◌≡◌, ◌+◌, ◌<◌, ◌≤◌, length, vec_len, IfOk, IfErr, OnOk};
+ghost use Rattle.std.specs.List.{All, sum_by};
+ghost use Rattle.gu_base.specs.Limits.{most_parts};
+ghost use Rattle.gu_trace.specs.Reports.{most_reports};
+ghost use Rattle.gu_desk.specs.Runs.{IsRunOf, IsAnswerOf, IsReadingOf};
+ghost use Rattle.gu_desk.specs.Shares.{gained};
+
+use crate::ground::Ground;
+use crate::seat::{Job, Seat};
+use crate::till::Till;
+use gu_base::{AllocId, Answer, Command, FirmId, Memory, Report};
+use gu_book::Book;
+use std::alloc::{AllocError, Global};
+use std::marker::Model;
+use std::sync::ledger::Share;
+use std::sync::{Mutex, Wait};
+
+/// A book that workers share. Contracts see how many seats were given out.
+#[derive(Drop)]
+pub struct Desk<J: Job> {
+    till: Mutex<Till<J>>,
+    workers: u32,
+}
+
+impl<J: Job> Model for Desk<J> {
+    ghost use Rattle.std.specs.Prelude.{◌≡◌, ◌+◌, IsTrue};
+    ghost use Rattle.gu_desk.specs.Views.{DeskView, is_worker_count};
+
+    ghost Value = { DeskView };
+
+    ghost view = { λ d. record { seats = d.workers } };
+
+    ghost invariant = { λ d. (d.workers + 1 ≡ J.parts) × IsTrue (is_worker_count d.workers) };
+}
+
+/// A seat is missing: the desk, and the seats that came.
+#[derive(Drop)]
+pub struct CloseError<J: Job> {
+    pub desk: Desk<J>,
+    pub seats: Vec<Seat<J>>,
+}
+
+/// A seat for each worker, with a part of the opening share and nothing counted. One part is left.
+fn cut_seats<J: Job>(
+    alloc: Global,
+    opening: &mut Share<J>,
+    workers: u32,
+) -> Result<Vec<Seat<J>>, Memory>
+    requires parts { opening.old.parts ≡ workers + 1 }
+    requires amount { opening.old.amount ≡ 0 }
+    ensures seats { IfOk result (λ v. vec_len v ≡ workers) }
+    ensures shares { IfOk result (λ v. All (λ s. s.share ≡ 0) v.items) }
+    ensures parts { OnOk result (opening.new.parts ≡ 1) }
+    ensures amount { OnOk result (opening.new.amount ≡ 0) }
+{
+    let mut seats = Vec::new(alloc);
+    for _ in 0..workers {
+        let share = opening.split_off(1, 0);
+        seats.push(Seat { share })?;
+    }
+    Ok(seats)
+}
+
+/// The opening share with the shares of the seats.
+fn merge_seats<J: Job>(opening: Share<J>, seats: Vec<Seat<J>>) -> Share<J>
+    requires some { 1 ≤ vec_len seats }
+    ensures parts { result.parts ≡ opening.parts + vec_len seats }
+    ensures amount { result.amount ≡ opening.amount + sum_by (λ s. s.share) seats.items }
+    ensures apart { result.parts ≤ J.parts }
+{
+    let mut all = opening;
+    for seat in seats {
+        let Seat { share } = seat;
+        all.merge(share);
+    }
+    all
+}
+
+impl<J: Job> Desk<J> {
+    /// A desk over the ground's book, and a seat for each worker.
+    ///
+    /// # Errors
+    ///
+    /// The book, and `Memory` where a growth was refused.
+    pub fn new(alloc: Global, ground: Ground) -> Result<(Desk<J>, Vec<Seat<J>>), (Book, Memory)>
+        requires name { ground.name ≡ J.name }
+        requires parts { ground.workers + 1 ≡ J.parts }
+        requires opening { ground.opening ≡ J.opening }
+        ensures desk { IfOk result (λ r. r.0.seats ≡ ground.workers) }
+        ensures seats { IfOk result (λ r. vec_len r.1 ≡ ground.workers) }
+        ensures shares { IfOk result (λ r. All (λ s. s.share ≡ 0) r.1.items) }
+        ensures unchanged { IfErr result (λ e. e.0 ≡ ground.opening) }
+    {
+        let Ground {
+            book,
+            workers,
+            blank,
+        } = ground;
+        let (mut total, mut opening) = blank.open::<J>();
+        let Ok(seats) = cut_seats(alloc, &mut opening, workers) else {
+            return Err((book, AllocError));
+        };
+        total.add(&mut opening, book.history().len() as u64);
+        let till = Till {
+            book,
+            total,
+            opening,
+        };
+        let desk = Desk {
+            till: Mutex::new(till),
+            workers,
+        };
+        Ok((desk, seats))
+    }
+
+    /// Answers a call by the book under the lock, for which it may wait, and gives the seat back.
+    ///
+    /// # Errors
+    ///
+    /// `Memory` where a growth was refused, as `Book::apply` says; the book and the share are unchanged.
+    pub fn call<R: Wait>(
+        &self,
+        rt: &R,
+        alloc: Global,
+        seat: Seat<J>,
+        by: &FirmId,
+        id: &AllocId,
+        command: &Command,
+    ) -> (Seat<J>, Result<Answer, Memory>)
+        ensures share { result.0.share ≡ seat.share + gained result.1 }
+        ensures answered { IsAnswerOf J.opening (record { firm = by.now; id = id.now; command = command.now }) result.1 }
+    {
+        self.till.lock(rt).call(alloc, seat, by, id, command)
+    }
+
+    /// The first 100 reports to the firm above a number, read under the lock, for which it may wait, and the seat again.
+    ///
+    /// # Errors
+    ///
+    /// `Memory` where a growth was refused.
+    pub fn read_reports<R: Wait>(
+        &self,
+        rt: &R,
+        alloc: Global,
+        seat: Seat<J>,
+        firm: &FirmId,
+        after: u32,
+    ) -> (Seat<J>, Result<Vec<Report>, Memory>)
+        ensures share { result.0 ≡ seat }
+        ensures read { IfOk result.1 (λ v. IsReadingOf J.opening firm.now after v.items) }
+        ensures few { IfOk result.1 (λ v. length v.items ≤ most_reports) }
+        ensures short { IfOk result.1 (λ v. All (λ r. length r.parts ≤ most_parts) v.items) }
+    {
+        self.till.lock(rt).read(alloc, seat, firm, after)
+    }
+
+    /// The book, against all seats.
+    ///
+    /// # Errors
+    ///
+    /// The desk and the seats that came, where fewer came than were given out.
+    pub fn close(self, seats: Vec<Seat<J>>) -> Result<Book, CloseError<J>>
+        ensures length { IfOk result (λ b. length b.history ≡ length J.opening.history + sum_by (λ s. s.share) seats.items) }
+        ensures run { IfOk result (λ b. IsRunOf J.opening b) }
+        ensures missing { IfErr result (λ e. vec_len seats < self.seats) }
+        ensures desk { IfErr result (λ e. e.desk ≡ self) }
+        ensures seats { IfErr result (λ e. e.seats ≡ seats) }
+    {
+        if seats.len() < self.workers as usize {
+            return Err(CloseError { desk: self, seats });
+        }
+        let Desk { till, workers: _ } = self;
+        let Till {
+            book,
+            mut total,
+            opening,
+        } = till.into_inner();
+        let mut all = merge_seats(opening, seats);
+        total.audit(&mut all);
+        Ok(book)
+    }
+}

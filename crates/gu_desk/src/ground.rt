@@ -1,0 +1,58 @@
+//! What a desk is made of.
+ghost use Rattle.std.specs.Prelude.{◌≡◌, ◌≤◌, ◌&&◌, leb, IfOk, IfErr, IsTrue};
+ghost use Rattle.gu_desk.specs.Views.{is_worker_count};
+
+use gu_base::Memory;
+use gu_book::Book;
+use std::alloc::Global;
+use std::marker::Model;
+use std::sync::ledger::Blank;
+
+/// The most workers of a desk.
+pub(crate) const MOST_WORKERS: u32 = 16;
+
+/// A book, and a ledger that no type names yet. It is of use to one desk alone.
+#[derive(Drop)]
+pub struct Ground {
+    pub(crate) book: Book,
+    pub(crate) workers: u32,
+    pub(crate) blank: Blank,
+}
+
+impl Model for Ground {
+    ghost use Rattle.std.specs.Prelude.{◌≡◌, ◌+◌, IsTrue};
+    ghost use Rattle.gu_desk.specs.Views.{GroundView, is_worker_count};
+
+    ghost Value = { GroundView };
+
+    ghost view = { λ g. record { name = g.blank.name; workers = g.workers; opening = g.book } };
+
+    ghost invariant = { λ g. (g.blank.parts ≡ g.workers + 1) × IsTrue (is_worker_count g.workers) };
+}
+
+impl Ground {
+    /// Whether a desk may have so many workers: 1 to 16.
+    pub fn admits(workers: u32) -> bool
+        ensures { result ≡ is_worker_count workers }
+    {
+        1 <= workers && workers <= MOST_WORKERS
+    }
+
+    /// A ground for a desk of 1 to 16 workers, over this book.
+    ///
+    /// # Errors
+    ///
+    /// The book, and `Memory` where a growth was refused.
+    pub fn new(_alloc: Global, book: Book, workers: u32) -> Result<Ground, (Book, Memory)>
+        requires { IsTrue (is_worker_count workers) }
+        ensures opening { IfOk result (λ g. g.opening ≡ book) }
+        ensures workers { IfOk result (λ g. g.workers ≡ workers) }
+        ensures unchanged { IfErr result (λ e. e.0 ≡ book) }
+    {
+        Ok(Ground {
+            book,
+            workers,
+            blank: Blank::new(workers as u64 + 1),
+        })
+    }
+}

@@ -1,0 +1,111 @@
+//! What lies behind the lock.
+ghost use Rattle.std.specs.Prelude.{◌≡◌, ◌+◌, ◌≤◌, length, IfOk, OnOk, OnErr, IsTrue};
+ghost use Rattle.std.specs.List.{All};
+ghost use Rattle.gu_base.specs.Limits.{most_parts};
+ghost use Rattle.gu_base.specs.Answers.{answer_to, after};
+ghost use Rattle.gu_book.specs.Front.{may_lack};
+ghost use Rattle.gu_trace.specs.Reports.{most_reports, reports_for};
+ghost use Rattle.gu_desk.specs.Runs.{IsRunOf};
+ghost use Rattle.gu_desk.specs.Shares.{gained};
+
+use crate::seat::{Job, Seat};
+use gu_base::{AllocId, Answer, Command, Entry, FirmId, Memory, Report};
+use gu_book::Book;
+use gu_trace::reports;
+use std::alloc::Global;
+use std::marker::Model;
+use std::sync::ledger;
+use std::sync::ledger::Share;
+
+/// The book, the total of all shares, and the share of the opening history. `Desk::new` alone makes one.
+///
+/// Contracts see the book. Whenever the lock is free, its history is one that calls made of the opening book.
+#[derive(Drop)]
+pub struct Till<J: Job> {
+    pub(crate) book: Book,
+    pub(crate) total: ledger::Book<J>,
+    pub(crate) opening: Share<J>,
+}
+
+impl<J: Job> Model for Till<J> {
+    ghost use Rattle.std.specs.Prelude.{◌≡◌, length};
+    ghost use Rattle.gu_book.specs.Seen.{HouseAndHistory};
+    ghost use Rattle.gu_desk.specs.Runs.{IsRunOf};
+
+    ghost Value = { HouseAndHistory };
+
+    ghost view = { λ t. t.book };
+
+    ghost invariant = { λ t. IsRunOf J.opening t.book × (length t.book.history ≡ t.total.total) × (t.opening.parts ≡ 1) × (t.opening.amount ≡ length J.opening.history) };
+}
+
+/// Counts an accepted call in the total and in the share of the seat that made it.
+fn count<J: Job>(total: &mut ledger::Book<J>, share: &mut Share<J>, answer: &Result<Answer, Memory>)
+    requires { share.old.parts ≡ 1 }
+    ensures total { total.new.total ≡ total.old.total + gained answer.now }
+    ensures amount { share.new.amount ≡ share.old.amount + gained answer.now }
+    ensures parts { share.new.parts ≡ share.old.parts }
+{
+    if let Ok(Answer::Accepted { .. }) = answer {
+        total.add(share, 1);
+    }
+}
+
+impl<J: Job> Till<J> {
+    /// The accepted commands, in order: a history that calls made of the opening book.
+    pub fn history(&self) -> &[Entry]
+        ensures value { result.now ≡ self.now.history }
+        ensures run { IsRunOf J.opening self.now }
+    {
+        self.book.history()
+    }
+
+    /// Answers a call by the book, and gives the seat back.
+    ///
+    /// # Errors
+    ///
+    /// `Memory` where a growth was refused, as `Book::apply` says; the book and the share are unchanged.
+    pub fn call(
+        &mut self,
+        alloc: Global,
+        seat: Seat<J>,
+        by: &FirmId,
+        id: &AllocId,
+        command: &Command,
+    ) -> (Seat<J>, Result<Answer, Memory>)
+        ensures answered { IfOk result.1 (λ a. a ≡ answer_to self.old.house self.old.history (record { firm = by.now; id = id.now; command = command.now })) }
+        ensures kept { OnOk result.1 (self.new ≡ record { house = self.old.house; history = after self.old.house self.old.history (record { firm = by.now; id = id.now; command = command.now }) }) }
+        ensures memory { OnErr result.1 (IsTrue (may_lack (answer_to self.old.house self.old.history (record { firm = by.now; id = id.now; command = command.now })))) }
+        ensures unchanged { OnErr result.1 (self.new ≡ self.old) }
+        ensures share { result.0.share ≡ seat.share + gained result.1 }
+        ensures run { IsRunOf J.opening self.old }
+    {
+        let Seat { mut share } = seat;
+        let answer = self.book.apply(alloc, by, id, command);
+        count(&mut self.total, &mut share, &answer);
+        (Seat { share }, answer)
+    }
+
+    /// The first 100 reports to the firm above a number, and the seat again.
+    ///
+    /// # Errors
+    ///
+    /// `Memory` where a growth was refused.
+    pub fn read(
+        &mut self,
+        alloc: Global,
+        seat: Seat<J>,
+        firm: &FirmId,
+        after: u32,
+    ) -> (Seat<J>, Result<Vec<Report>, Memory>)
+        ensures value { IfOk result.1 (λ v. v.items ≡ reports_for self.old.house.house self.old.history firm.now after) }
+        ensures few { IfOk result.1 (λ v. length v.items ≤ most_reports) }
+        ensures short { IfOk result.1 (λ v. All (λ r. length r.parts ≤ most_parts) v.items) }
+        ensures same { self.new ≡ self.old }
+        ensures share { result.0 ≡ seat }
+        ensures run { IsRunOf J.opening self.old }
+    {
+        let told = reports(alloc, &self.book, firm, after);
+        (seat, told)
+    }
+}
