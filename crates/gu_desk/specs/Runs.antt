@@ -1,5 +1,5 @@
 -- What calls make of the book that a desk opened with, and what a call or a reading answers there.
-use Rattle.std.specs.Prelude.{◌≡◌, ℕ, List, Result, MatchResult, IfOk, IsTrue}
+use Rattle.std.specs.Prelude.{◌≡◌, ℕ, List, Result, MatchResult, IsTrue}
 use Rattle.gu_base.specs.Answers.{Call, answer_to}
 use Rattle.gu_base.specs.Runs.{IsRunFrom}
 use Rattle.gu_base.specs.declared.entry.Answer.{Answer}

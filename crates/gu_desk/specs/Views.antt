@@ -1,5 +1,5 @@
 -- What contracts see of a ground, a desk and a seat.
-use Rattle.std.specs.Prelude.{ℕ, Bool, ◌&&◌, leb, List, []}
+use Rattle.std.specs.Prelude.{ℕ, Bool, ◌&&◌, leb, []}
 use Rattle.gu_book.specs.Seen.{HouseAndHistory}
 
 -- the name of its ledger, how many workers its desk has, and its book

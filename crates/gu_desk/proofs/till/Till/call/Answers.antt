@@ -1,4 +1,4 @@
-use Rattle.std.proofs.Common.{◌∙◌, arith}
+use Rattle.std.proofs.Common.{arith}
 use Rattle.gu_desk.proofs.Running.{grown}
 use Rattle.gu_desk.proofs.till.Till.call.Goals as goal
 
