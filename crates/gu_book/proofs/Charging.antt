@@ -1,5 +1,5 @@
 -- The running sums of what the live claims cost, with one change more.
-use Rattle.std.proofs.Common.{◌≡◌, ℕ, ◌+◌, ◌*◌, ◌≤◌, Bool, List, [], ◌∷◌, ◌++◌, length, sym, ◌∙◌, ap, subst, arith, Option, cond}
+use Rattle.std.proofs.Common.{◌≡◌, ℕ, ◌+◌, ◌*◌, ◌≤◌, Bool, List, [], ◌∷◌, ◌++◌, length, sym, ◌∙◌, ap, subst, arith, Option}
 use Rattle.std.specs.Prelude.{Some, None, filter, filter_map, sum_by, bytes_eq, ◌&&◌, IfSome}
 use Rattle.std.specs.List.{All, cons_option}
 use Rattle.std.proofs.Math.Nat.{mul-le-mul, mul-le-mul_right}
@@ -19,8 +19,8 @@ use Rattle.gu_depend.proofs.Replay.{number_once}
 use Rattle.gu_depend.proofs.StandsUnder.{rises_distinct}
 use Rattle.gu_fees.specs.Rows.{FeeRows, paid_in, received_in, used_in}
 use Rattle.gu_fees.specs.Sums.{AreSumsOf, cost}
-use Rattle.gu_book.specs.Beside.{IsNext}
-use Rattle.gu_book.specs.declared.trees.TradeTree.{TradeTree}
+use Rattle.gu_tree.specs.Grove.{Grove}
+use Rattle.gu_book.specs.Filed.{IsNext}
 use Rattle.gu_book.specs.Charging.{IsSmallCharge, AreFeesOf, IsReadyFor, HasRoomFor}
 
 -- the same sums
@@ -44,7 +44,7 @@ small_option : (o : Option Charge) → IfSome o (λ c. c.lots ≤ most_lots) →
 small_option None lots rate = All-nil IsSmallCharge
 small_option (Some c) lots rate = All-cons IsSmallCharge c [] (record { lots = lots; rate = rate }) (All-nil IsSmallCharge)
 
-pub fees_push : {t : House} {l : List Record} {r : Record} {ts : List TradeTree} → IsNext t l r ts → (fees now new : FeeRows) → AreFeesOf t l fees
+pub fees_push : {t : House} {l : List Record} {r : Record} {ts : Grove} → IsNext t l r ts → (fees now new : FeeRows) → AreFeesOf t l fees
     → ((cs : List Charge) → AreSumsOf fees cs → AreSumsOf now cs) → (o : Option Charge) → o ≡ charge_of t l r.command
     → IfSome o (λ c. c.lots ≤ most_lots) → IfSome o (λ c. c.rate ≤ highest_rate)
     → ((cs : List Charge) → AreSumsOf now cs → AreSumsOf new (cs ++ cons_option o [])) → AreFeesOf t (l ++ r ∷ []) new

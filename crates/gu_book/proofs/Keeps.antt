@@ -22,7 +22,8 @@ use Rattle.gu_base.specs.declared.refusal.Refusal.TheVariants.{UnknownFirm, Stan
 use Rattle.gu_base.specs.SamePartsLaws.{bytes_same}
 use Rattle.gu_base.proofs.LiveLaws.{live_push_change, live_push_reverse, is_live, live_push_consent}
 use Rattle.gu_base.proofs.Basics.{bytes_symm, nothing_here}
-use Rattle.gu_book.specs.Beside.{IsTradeTree, IsBeside, IsNext}
+use Rattle.gu_tree.specs.Grove.{Grove, tree_of, place_of, last_place, IsSameGrove}
+use Rattle.gu_book.specs.Filed.{IsFiled, IsNext}
 use Rattle.gu_book.specs.Ids.{same_id, NoIdTwice}
 use Rattle.gu_book.specs.Kept.{AcceptedFrom, IsKept}
 use Rattle.gu_base.specs.Consents.{consents_left, is_consenting}
@@ -34,7 +35,7 @@ use Rattle.gu_book.specs.Limits.{IsWithinLimits, AllWithinLimits}
 use Rattle.gu_book.specs.Replays.{IsLegalWithout}
 use Rattle.gu_consent.specs.Given.{given}
 use Rattle.gu_consent.specs.declared.Consents.{Consents}
-use Rattle.gu_book.specs.declared.trees.TradeTree.{TradeTree}
+use Rattle.gu_book.proofs.Filed.{filed_none, same_filed}
 use Rattle.gu_book.proofs.Leaves.{live_rises}
 use Rattle.gu_base.proofs.Consenting.{left_change, left_initiate, left_decline, left_reverse, not_reversed}
 use Rattle.gu_book.proofs.Refused.{accepted_small}
@@ -72,18 +73,18 @@ accepted_push t before (d ∷ h) e all ok =
 live_few : (h : List Entry) → length (live h) ≤ length h
 live_few h = omega (arith, length-filter (is_live h) (records h), count_by-le-length (is_live h) (records h), length_numbered 1 h)
 
-run_kept : (t : House) (h : List Entry) (l : List Record) (ts : List TradeTree) (cs : Consents) → IsKept t h l ts cs → IsRun t h
+run_kept : (t : House) (h : List Entry) (l : List Record) (ts : Grove) (cs : Consents) → IsKept t h l ts cs → IsRun t h
 run_kept t h l ts cs kept = record { replayed = subst (λ (l : List Record). first_refused t [] l ≡ None) kept.are_live kept.replayed; behind = kept.behind }
 
-module _ {t : House} {h : List Entry} {l : List Record} {ts : List TradeTree} {cs : Consents} (kept : IsKept t h l ts cs) (n : ℕ) (e : Entry)
+module _ {t : House} {h : List Entry} {l : List Record} {ts : Grove} {cs : Consents} (kept : IsKept t h l ts cs) (n : ℕ) (e : Entry)
     (ok : answer_to t h (call_of e) ≡ Accepted n e.status) where
   shown : IsAllowed t h e n
   shown = allowed t h e n ok
 
   -- what an accepted call leaves true, of any kind
-  kept_next : (ls : List Record) (us : List TradeTree) (ds : Consents) → ls ≡ live (h ++ e ∷ []) → AllWithinLimits ls → IsBeside ls us
+  kept_next : (ls : List Record) (us : Grove) (ds : Consents) → ls ≡ live (h ++ e ∷ []) → AllWithinLimits ls → IsFiled ls us
       → ((m : ℕ) → given ds m ≡ consents_left (h ++ e ∷ []) m) → IsKept t (h ++ e ∷ []) ls us ds
-  kept_next ls us ds same small beside consented =
+  kept_next ls us ds same small filed consented =
       let a = shown in
       let run = run_push (run_kept t h l ts cs kept) e n ok in
       let longer = length-append h (e ∷ []) in
@@ -96,7 +97,7 @@ module _ {t : House} {h : List Entry} {l : List Record} {ts : List TradeTree} {c
         within = small;
         accepted = accepted_push t [] h e kept.accepted (ok ∙ ap (λ m. Accepted m e.status) a.number);
         once = IsDistinct-push ids_laws h e kept.once (id_is_new 1 e h a.id);
-        beside = beside;
+        filed = filed;
         consented = consented;
       }
 
@@ -116,15 +117,15 @@ module _ {t : House} {h : List Entry} {l : List Record} {ts : List TradeTree} {c
     -- an accepted change may follow the live changes
     pub next_kept : IsNext t l (numbered_as n e) ts
     next_kept = record {
-      beside = kept.beside;
+      filed = kept.filed;
       replayed = kept.replayed;
       lawful = lawful;
       rises = subst (RisesFrom 1) (sym live_more) (live_rises (h ++ e ∷ []));
     }
 
-    pub kept_change : (us : List TradeTree) → IsBeside (l ++ numbered_as n e ∷ []) us → IsKept t (h ++ e ∷ []) (l ++ numbered_as n e ∷ []) us cs
-    kept_change us beside =
-        kept_next (l ++ numbered_as n e ∷ []) us cs live_more (All-push (λ r. IsWithinLimits r.command) l (numbered_as n e) kept.within (accepted_small t l e.firm e.command lawful)) beside
+    pub kept_change : (us : Grove) → IsFiled (l ++ numbered_as n e ∷ []) us → IsKept t (h ++ e ∷ []) (l ++ numbered_as n e ∷ []) us cs
+    kept_change us filed =
+        kept_next (l ++ numbered_as n e ∷ []) us cs live_more (All-push (λ r. IsWithinLimits r.command) l (numbered_as n e) kept.within (accepted_small t l e.firm e.command lawful)) filed
         (λ m. kept.consented m ∙ left_change h e m e.command refl change)
 
   -- ---- an Initiate or a Decline
@@ -144,31 +145,31 @@ module _ {t : House} {h : List Entry} {l : List Record} {ts : List TradeTree} {c
   pub kept_initiate : (k : ℕ) → e.command ≡ Initiate k → (ds : Consents) → ((m : ℕ) → given ds m ≡ cond (m == k) (given cs m ++ e.firm ∷ []) (given cs m))
       → IsKept t (h ++ e ∷ []) l ts ds
   kept_initiate k same ds more =
-      kept_next l ts ds (live_same (ap is_consenting same)) kept.within kept.beside
+      kept_next l ts ds (live_same (ap is_consenting same)) kept.within kept.filed
       (λ m. more m ∙ (ap (λ fs. cond (m == k) (fs ++ e.firm ∷ []) fs) (kept.consented m) ∙ left_initiate h e k m same (open_entry k same)))
 
   pub kept_decline : (k : ℕ) → e.command ≡ Decline k → (ds : Consents) → ((m : ℕ) → given ds m ≡ cond (m == k) [] (given cs m)) → IsKept t (h ++ e ∷ []) l ts ds
   kept_decline k same ds less =
-      kept_next l ts ds (live_same (ap is_consenting same)) kept.within kept.beside
+      kept_next l ts ds (live_same (ap is_consenting same)) kept.within kept.filed
       (λ m. less m ∙ (ap (λ fs. cond (m == k) [] fs) (kept.consented m) ∙ left_decline h e k m same))
 
   -- ---- a Reverse
 
-  pub kept_reverse : (k : ℕ) → e.command ≡ Reverse k → (ls : List Record) (us : List TradeTree) → IsLegalWithout t l k ls us
+  pub kept_reverse : (k : ℕ) → e.command ≡ Reverse k → (ls : List Record) (us : Grove) → IsLegalWithout t l k ls us
       → (ds : Consents) → ((m : ℕ) → given ds m ≡ cond (m == k) [] (given cs m)) → IsKept t (h ++ e ∷ []) ls us ds
   kept_reverse k same ls us legal ds less =
       kept_next ls us ds (legal.others_are ∙ (ap (λ (l : List Record). without l k) kept.are_live ∙ sym (live_push_reverse h e k same)))
-      (subst AllWithinLimits (sym legal.others_are) (without_small k l kept.within)) (subst (λ (l : List Record). IsBeside l us) (sym legal.others_are) legal.beside)
+      (subst AllWithinLimits (sym legal.others_are) (without_small k l kept.within)) (subst (λ (l : List Record). IsFiled l us) (sym legal.others_are) legal.filed)
       (λ m. less m ∙ (ap (λ fs. cond (m == k) [] fs) (kept.consented m) ∙ left_reverse h e k m same))
 
 -- a Reverse that nothing else refuses, and on whose entry nothing stands
-pub accepted_reverse : {t : House} {h : List Entry} {l : List Record} {ts : List TradeTree} {cs : Consents} → IsKept t h l ts cs → (e : Entry) (n k : ℕ)
+pub accepted_reverse : {t : House} {h : List Entry} {l : List Record} {ts : Grove} {cs : Consents} → IsKept t h l ts cs → (e : Entry) (n k : ℕ)
     → answer_to t h (call_of e) ≡ accepted_or n e.status (option_map (λ m. StandsOn m) (standing_on t (live h) k)) → standing_on t l k ≡ None → answer_to t h (call_of e) ≡ Accepted n e.status
 accepted_reverse {t} {h} {l} kept e n k decided none =
     decided ∙ ap (λ o. accepted_or n e.status (option_map (λ m. StandsOn m) o)) (ap (λ (l : List Record). standing_on t l k) (sym kept.are_live) ∙ none)
 
 -- the consents alone have changed, and not in what they say
-pub kept_same : (t : House) (h : List Entry) (l : List Record) (ts : List TradeTree) (cs ds : Consents) → IsKept t h l ts cs → ((m : ℕ) → given ds m ≡ given cs m) → IsKept t h l ts ds
+pub kept_same : (t : House) (h : List Entry) (l : List Record) (ts : Grove) (cs ds : Consents) → IsKept t h l ts cs → ((m : ℕ) → given ds m ≡ given cs m) → IsKept t h l ts ds
 kept_same t h l ts cs ds kept same = record {
   few = kept.few;
   fewer = kept.fewer;
@@ -178,20 +179,35 @@ kept_same t h l ts cs ds kept same = record {
   within = kept.within;
   accepted = kept.accepted;
   once = kept.once;
-  beside = kept.beside;
+  filed = kept.filed;
   consented = λ m. same m ∙ kept.consented m;
 }
 
+-- the trees alone have changed, and nothing that is seen of them
+pub kept_alike : {t : House} {h : List Entry} {l : List Record} {old : Grove} {cs : Consents} → IsKept t h l old cs → (new : Grove) → IsSameGrove old new → IsKept t h l new cs
+kept_alike {l = l} {old = old} kept new same = record {
+  few = kept.few;
+  fewer = kept.fewer;
+  are_live = kept.are_live;
+  behind = kept.behind;
+  replayed = kept.replayed;
+  within = kept.within;
+  accepted = kept.accepted;
+  once = kept.once;
+  filed = same_filed l old new same kept.filed;
+  consented = kept.consented;
+}
+
 -- what the replay of the live changes asks for
-pub rises_kept : (t : House) (h : List Entry) (l : List Record) (ts : List TradeTree) (cs : Consents) → IsKept t h l ts cs → RisesFrom 1 l
+pub rises_kept : (t : House) (h : List Entry) (l : List Record) (ts : Grove) (cs : Consents) → IsKept t h l ts cs → RisesFrom 1 l
 rises_kept t h l ts cs kept = subst (RisesFrom 1) (sym kept.are_live) (live_rises h)
 
 nothing_twice : NoIdTwice []
 unfolding IsDistinct
 nothing_twice = tt
 
-pub kept_none : (t : House) (cs : Consents) → ((n : ℕ) → given cs n ≡ []) → IsKept t [] [] [] cs
-kept_none t cs none = record {
+pub kept_none : (t : House) (cs : Consents) → ((n : ℕ) → given cs n ≡ []) → (g : Grove) → ((k : ℕ) → tree_of g k ≡ None) → ((k : ℕ) → place_of g k ≡ None) → last_place g ≡ 0 → IsKept t [] [] g cs
+kept_none t cs none g trees places last = record {
   few = omega arith;
   fewer = omega arith;
   are_live = refl;
@@ -200,7 +216,7 @@ kept_none t cs none = record {
   within = All-nil (λ r. IsWithinLimits r.command);
   accepted = tt;
   once = nothing_twice;
-  beside = record { each = All-nil (IsTradeTree []); named_alike = λ n. refl; few = omega arith };
+  filed = filed_none g trees places last;
   consented = none;
 }
 

@@ -1,8 +1,13 @@
+pub mod ByNumber
 pub mod Steps
 pub mod Within
 pub mod Refused
 pub mod Keeps
 pub mod Charging
+pub mod Roots
+pub mod HoldingRows
+pub mod Holdings
+pub mod Standings
 pub mod Indexed
 pub mod Sums
 pub mod Known
@@ -19,8 +24,7 @@ pub mod PartyNames
 pub mod Replaying
 pub mod Fronts
 pub mod Named
-pub mod Beside
-pub mod Changes
-pub mod Lots
-pub mod TreeRows
 pub mod Shown
+pub mod Filed
+pub mod FiledChanges
+pub mod Crossing

@@ -8,10 +8,11 @@ use Rattle.gu_base.specs.House.{House}
 use Rattle.gu_base.specs.Refusals.{refusal_of}
 use Rattle.gu_base.specs.Standing.{first_refused, standing_on, without}
 use Rattle.gu_base.specs.declared.entry.Record.{Record}
+use Rattle.gu_tree.specs.Grove.{Grove}
 use Rattle.gu_book.specs.Limits.{IsWithinLimits, AllWithinLimits}
 use Rattle.gu_fees.specs.Rows.{FeeRows}
+use Rattle.gu_positions.specs.Rows.{PositionRows}
 use Rattle.gu_book.specs.Replays.{IsReplayed, IsSoFar}
-use Rattle.gu_book.specs.declared.trees.TradeTree.{TradeTree}
 use Rattle.gu_book.proofs.Restored.{replay_on}
 use Rattle.gu_base.proofs.LegalLaws.{replay_push}
 use Rattle.gu_base.specs.History.{RisesFrom}
@@ -31,7 +32,7 @@ without_within k l = omega (arith, length-filter (λ (r : Record). not (r.number
 pub without_small : (k : ℕ) (l : List Record) → AllWithinLimits l → AllWithinLimits (without l k)
 without_small k l all = All-filter (λ (r : Record). not (r.number == k)) (λ (r : Record). IsWithinLimits r.command) l all
 
-module _ {t : House} {l : List Record} {k i : ℕ} {done : List Record} {trees : List TradeTree} {fees : FeeRows} (far : IsSoFar t l k i done trees fees) where
+module _ {t : House} {l : List Record} {k i : ℕ} {done : List Record} {trees : Grove} {fees : FeeRows} {positions : PositionRows} (far : IsSoFar t l k i done trees fees positions) where
   pub done_few : length l ≤ 1000000 → length done ≤ 1000000
   done_few few =
       let a = ap length far.others_are in
@@ -69,18 +70,20 @@ module _ {t : House} {l : List Record} {k i : ℕ} {done : List Record} {trees :
         ∙ (replay_on t [] done (r ∷ rest) far.replayed
         ∙ ap (λ b. cond b (Some r.number) (first_refused t (done ++ r ∷ []) rest)) refused)
 
-    pub far_more : not (r.number == k) ≡ true → (new : List Record) (others : List TradeTree) (sums : FeeRows) → IsReplayed t done r true new others sums → IsSoFar t l k (i + 1) new others sums
-    far_more other new others sums h = record {
+    pub far_more : not (r.number == k) ≡ true → (new : List Record) (others : Grove) (sums : FeeRows) (rows : PositionRows) → IsReplayed t done r true new others sums rows → IsSoFar t l k (i + 1) new others sums rows
+    far_more other new others sums rows h = record {
       others_are = h.1 ∙ sym (more other);
       replayed = ap (first_refused t []) h.1 ∙ replay_push t [] done r far.replayed h.0;
-      beside = rw h.1 h.2;
+      filed = rw h.1 h.2;
       charged = rw h.1 h.3;
+      stands = rw h.1 h.4;
     }
 
-    pub far_same : not (r.number == k) ≡ false → IsSoFar t l k (i + 1) done trees fees
+    pub far_same : not (r.number == k) ≡ false → IsSoFar t l k (i + 1) done trees fees positions
     far_same same = record {
       others_are = sym (step ∙ (ap (λ b. done ++ cond b (r ∷ []) []) same ∙ append-nil done));
       replayed = far.replayed;
-      beside = far.beside;
+      filed = far.filed;
       charged = far.charged;
+      stands = far.stands;
     }

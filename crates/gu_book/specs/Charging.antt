@@ -1,5 +1,5 @@
 -- The running sums of what the live claims cost.
-use Rattle.std.specs.Prelude.{ℕ, ◌≤◌, List, Option, Some, None}
+use Rattle.std.specs.Prelude.{◌≤◌, List, Option, Some, None}
 use Rattle.std.specs.List.{All}
 use Rattle.gu_base.specs.Limits.{most_lots, highest_rate}
 use Rattle.gu_base.specs.House.{House}

@@ -9,9 +9,12 @@ use Rattle.gu_base.specs.Runs.{call_of}
 use Rattle.gu_base.specs.declared.entry.Answer.TheVariants.{Accepted}
 use Rattle.gu_base.specs.declared.entry.Entry.{Entry}
 use Rattle.gu_base.specs.declared.entry.Record.{Record}
-use Rattle.gu_book.specs.Beside.{IsBeside}
+use Rattle.gu_tree.specs.Grove.{Grove}
+use Rattle.gu_book.specs.Filed.{IsFiled}
 use Rattle.gu_book.specs.Charging.{AreFeesOf}
+use Rattle.gu_book.specs.Holdings.{ArePositionsOf}
 use Rattle.gu_fees.specs.Rows.{FeeRows}
+use Rattle.gu_positions.specs.Rows.{PositionRows}
 use Rattle.gu_base.specs.Consents.{consents_left}
 use Rattle.gu_book.specs.Ids.{NoIdTwice}
 use Rattle.gu_book.specs.Index.{IsIndexOf}
@@ -19,16 +22,15 @@ use Rattle.gu_book.specs.Limits.{AllWithinLimits}
 use Rattle.gu_consent.specs.Given.{given}
 use Rattle.gu_consent.specs.declared.Consents.{Consents}
 use Rattle.gu_book.specs.declared.index.Index.{Index}
-use Rattle.gu_book.specs.declared.trees.TradeTree.{TradeTree}
 
 -- each of these entries is what is accepted after those before it
 abbrev pub AcceptedFrom : House → List Entry → List Entry → Type 0
 AcceptedFrom t before [] = Unit {0}
 AcceptedFrom t before (e ∷ rest) = (answer_to t before (call_of e) ≡ Accepted (length before + 1) e.status) × AcceptedFrom t (before ++ e ∷ []) rest
 
--- the records beside the history are its live changes, none of which is refused; the trees show them; the consents are those of the
+-- the records beside the history are its live changes, none of which is refused; the trees and places are theirs; the consents are those of the
 -- history, and none of a change that is reversed; no Reverse names an entry that is still to come
-pub record IsKept (house : House) (history : List Entry) (records : List Record) (trees : List TradeTree) (consents : Consents) : Type 0 where
+pub record IsKept (house : House) (history : List Entry) (records : List Record) (trees : Grove) (consents : Consents) : Type 0 where
   pub few : length history ≤ most_entries
   pub fewer : length records ≤ length history
   pub are_live : records ≡ live history
@@ -37,11 +39,12 @@ pub record IsKept (house : House) (history : List Entry) (records : List Record)
   pub within : AllWithinLimits records
   pub accepted : AcceptedFrom house [] history
   pub once : NoIdTwice history
-  pub beside : IsBeside records trees
+  pub filed : IsFiled records trees
   pub consented : (n : ℕ) → given consents n ≡ consents_left history n
 
--- all that a book keeps: the same, that its index is one of the history, and its fees are those of the live changes
-pub record IsBook (house : House) (history : List Entry) (records : List Record) (trees : List TradeTree) (consents : Consents) (index : Index) (fees : FeeRows) : Type 0 where
+-- all that a book keeps: the same, that its index is one of the history, and its fees and positions are those of the live changes
+pub record IsBook (house : House) (history : List Entry) (records : List Record) (trees : Grove) (consents : Consents) (index : Index) (fees : FeeRows) (positions : PositionRows) : Type 0 where
   pub kept : IsKept house history records trees consents
   pub indexed : IsIndexOf index history
   pub charged : AreFeesOf house records fees
+  pub stands : ArePositionsOf records positions

@@ -1,4 +1,5 @@
-//! The book: the house table, the history, and beside it the live changes, a tree for each live trade, the consents, an index and the fees.
+//! The book: the house table, the history, and beside it the live changes, a tree for each live trade, the consents, an index, the fees
+//! and the positions.
 ghost use Rattle.std.specs.Prelude.{true, ◌≡◌, ◌≤◌, ◌<◌, ◌+◌, [], ◌∷◌, ◌++◌, length, map, option_map, IsTrue, IfOk, OnOk, OnErr};
 ghost use Rattle.gu_base.specs.Limits.{most_entries};
 ghost use Rattle.gu_base.specs.History.{is_change, live};
@@ -16,20 +17,21 @@ ghost use Rattle.gu_book.specs.Front.{stands_refusal, may_lack};
 ghost use Rattle.gu_book.specs.Ids.{NoIdTwice};
 ghost use Rattle.gu_book.specs.TreeRows.{is_live_trade, tree_rows};
 
+use crate::grove;
 use crate::index::Index;
 use crate::plain::calls::front_answer;
-use crate::plain::charges;
+use crate::plain::standing::Standing;
+use crate::plain::{charges, holdings};
 use crate::replay::{Without, replay_without};
-use crate::trees;
-use crate::trees::TradeTree;
 use gu_base::{
-    AccountId, AllocId, Answer, Command, Entry, FirmId, InstrumentId, Memory, Number, Place,
-    Record, Refusal, Side, State,
+    AccountId, AllocId, Answer, Command, Entry, FirmId, InstrumentId, Memory, Number, Record,
+    Refusal, State,
 };
 use gu_consent::Consents;
 use gu_fees::Fees;
 use gu_parties::House;
-use gu_tree::Row;
+use gu_positions::{Key, Positions};
+use gu_tree::{Row, Trees};
 use std::alloc::Global;
 use std::marker::Model;
 
@@ -39,10 +41,11 @@ pub struct Book {
     house: House,
     entries: Vec<Entry>,
     records: Vec<Record>,
-    trees: Vec<TradeTree>,
+    trees: Trees<Global>,
     consents: Consents,
     index: Index,
     fees: Fees,
+    positions: Positions,
 }
 
 impl Model for Book {
@@ -53,7 +56,7 @@ impl Model for Book {
 
     ghost view = { λ b. record { house = b.house; history = b.entries.items } };
 
-    ghost invariant = { λ b. IsBook b.house b.entries.items b.records.items b.trees.items b.consents b.index b.fees };
+    ghost invariant = { λ b. IsBook b.house b.entries.items b.records.items b.trees b.consents b.index b.fees b.positions };
 }
 
 impl Book {
@@ -65,10 +68,11 @@ impl Book {
             house,
             entries: Vec::new(alloc),
             records: Vec::new(alloc),
-            trees: Vec::new(alloc),
+            trees: Trees::new(alloc, alloc),
             consents: Consents::new(alloc),
             index: Index::new(alloc),
             fees: Fees::new(alloc),
+            positions: Positions::new(alloc),
         }
     }
 
@@ -119,17 +123,15 @@ impl Book {
         ensures memory { OnErr result (IsTrue (may_lack (answer_to self.old.house self.old.history (record { firm = by.now; id = id.now; command = command.now })))) }
         ensures unchanged { OnErr result (self.new ≡ self.old) }
     {
-        let answer = front_answer(
-            &self.house,
-            &self.entries,
-            &self.records,
-            &self.fees,
-            &self.index,
-            &self.consents,
-            by,
-            id,
-            command,
-        );
+        let at = Standing {
+            house: &self.house,
+            entries: &self.entries,
+            records: &self.records,
+            fees: &self.fees,
+            index: &self.index,
+            consents: &self.consents,
+        };
+        let answer = front_answer(&at, by, id, command);
         match answer {
             Answer::Accepted { number, status } => {
                 self.keep(alloc, by, id, command, number, status)
@@ -187,6 +189,7 @@ impl Book {
         ensures unchanged { OnErr result (self.new ≡ self.old) }
     {
         let charge = charges::charge_of(&self.house, &self.records, &kept.command);
+        let taken = holdings::taken_by(&self.records, &kept.command);
         let record = Record {
             number,
             firm: kept.firm,
@@ -197,12 +200,14 @@ impl Book {
         self.entries.reserve(1)?;
         self.records.reserve(1)?;
         charges::ready(&mut self.fees, &charge)?;
+        holdings::ready(&mut self.positions, &kept.firm, &kept.command, &taken)?;
         self.index.ids.put(&kept.firm, &kept.id, number)?;
-        if let Err(lack) = trees::change(&mut self.trees, alloc, &record) {
+        if let Err(lack) = grove::change(&mut self.trees, alloc, &record) {
             self.index.ids.remove(&kept.firm, &kept.id);
             return Err(lack);
         }
         charges::add(&mut self.fees, &charge);
+        holdings::move_lots(&mut self.positions, &kept.firm, &kept.command, &taken);
         self.entries.push_reserved(kept);
         self.records.push_reserved(record);
         Ok(())
@@ -245,8 +250,8 @@ impl Book {
         Ok(())
     }
 
-    /// Answers a Reverse that only what stands on its entry may still refuse. Where nothing does, the replayed live changes, trees
-    /// and fees take the place of the old.
+    /// Answers a Reverse that only what stands on its entry may still refuse. Where nothing does, the replayed live changes, trees,
+    /// fees and positions take the place of the old.
     fn keep_reversal(
         &mut self,
         alloc: Global,
@@ -263,7 +268,7 @@ impl Book {
     {
         match replay_without(&self.house, alloc, &self.records, change)? {
             Without::Stands(other) => Ok(Answer::Refused(Refusal::StandsOn(other))),
-            Without::Legal(records, trees, fees) => {
+            Without::Legal(records, trees, fees, positions) => {
                 self.entries.reserve(1)?;
                 self.index.ids.put(&kept.firm, &kept.id, number)?;
                 if let Err(lack) = self.index.reversals.put(change, number) {
@@ -276,6 +281,7 @@ impl Book {
                 self.records = records;
                 self.trees = trees;
                 self.fees = fees;
+                self.positions = positions;
                 Ok(Answer::Accepted { number, status })
             }
         }
@@ -290,7 +296,7 @@ impl Book {
         ensures rows { IfOk result (λ o. option_map (λ v. map shown v.items) o ≡ tree_rows (live self.now.history) trade) }
         ensures memory { OnErr result (IsTrue (is_live_trade (live self.now.history) trade)) }
     {
-        trees::rows(&self.trees, alloc, trade)
+        grove::rows(&self.trees, alloc, trade)
     }
 
     /// The lots that stand in an account in an instrument: those of buy trades, and those of sell trades. They are those of
@@ -304,14 +310,11 @@ impl Book {
         ensures long { result.0 ≡ position_of (live self.now.history) firm.now account.now instrument.now Buy }
         ensures short { result.1 ≡ position_of (live self.now.history) firm.now account.now instrument.now Sell }
     {
-        let at = Place {
+        self.positions.of(&Key {
             firm: *firm,
             account: *account,
-        };
-        (
-            trees::lots_in(&self.trees, &at, instrument, Side::Buy),
-            trees::lots_in(&self.trees, &at, instrument, Side::Sell),
-        )
+            instrument: *instrument,
+        })
     }
 
     /// What a firm pays for the live claims that it made, in hundredths.

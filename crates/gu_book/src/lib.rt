@@ -6,25 +6,25 @@
 //!   accepted, and leaves everything where it is not.
 //! - `Memory` comes only where the rules accept the call, or refuse a Reverse for what stands on its change (a replay finds that, and
 //!   takes memory). All growths come before anything changes, so it leaves everything too.
-//! - `live` gives the numbers of the live changes, `tree_rows` the rows of a live trade's tree. `position` sums the leaves of the
-//!   trees at each question; `paid`, `received` and `used` are running sums of what the live claims cost. All fit.
+//! - `live` gives the numbers of the live changes, `tree_rows` the rows of a live trade's tree. `position` is a running
+//!   row of what stands in an account; `paid`, `received` and `used` are running sums of what the live claims cost. All fit.
 //! - The type keeps that its history is one that calls made of the empty book, that no firm and id stand in it twice, that none of
 //!   its live changes would be refused after those before it, that the trees show the live changes, and that the consents are those
 //!   that the history left.
 //! - `laws` has what follows for every book, first the headline in five laws.
 //! - `index` finds the entry of an id and the Reverse of an entry without going over the history.
-//! - `plain` has the scans of the live changes that find each answer but for what stands on a change, `replay` finds that, `trees` has
+//! - `plain` has the scans of the live changes that find each answer but for what stands on a change, `replay` finds that, `grove` has
 //!   what a change does to the trees; no public contract speaks of them.
 //!
 //! Its cases, whole days of a small house, are data of the program `test_book`.
 #![tactic(auto)]
 
 pub mod book;
+mod grove;
 mod index;
 pub mod laws;
 mod plain;
 mod replay;
-mod trees;
 
 pub use book::Book;
 pub use gu_base::{Answer, Entry};

@@ -40,7 +40,7 @@ use Rattle.std.proofs.lemmas.Bool.{or_parts, false_from_ne_true}
 
 -- ---- sums
 
-sum_filter : {X : Type 0} (w : X → ℕ) (p : X → Bool) (xs : List X) → sum_by w (filter p xs) ≡ sum_by (λ x. cond (p x) (w x) 0) xs
+pub sum_filter : {X : Type 0} (w : X → ℕ) (p : X → Bool) (xs : List X) → sum_by w (filter p xs) ≡ sum_by (λ x. cond (p x) (w x) 0) xs
 sum_filter w p [] = refl
 sum_filter w p (x ∷ xs) =
     let a = sum_kept w (p x) x (filter p xs) in
@@ -48,7 +48,7 @@ sum_filter w p (x ∷ xs) =
     let c = sum_by-cons (λ x. cond (p x) (w x) 0) x xs in
     omega (arith, a, b, c)
 
-position_is : (l : List Record) (at : Place) (instrument : List ℕ) (side : Side) → position_of l at.firm at.account instrument side ≡ sum_by (lots_at l at instrument side) (nodes l)
+pub position_is : (l : List Record) (at : Place) (instrument : List ℕ) (side : Side) → position_of l at.firm at.account instrument side ≡ sum_by (lots_at l at instrument side) (nodes l)
 position_is l at instrument side =
     sum_filter (λ (x : Node). x.lots) (λ x. stands_at l at x.name && trades_in l instrument side x.name) (filter (λ x. is_none (split_of l x.name)) (nodes l))
     ∙ sum_filter (λ (x : Node). cond (stands_at l at x.name && trades_in l instrument side x.name) x.lots 0) (λ x. is_none (split_of l x.name)) (nodes l)
@@ -85,10 +85,10 @@ root_found (suc f) l p m x found h =
 -- ---- a change behind the others
 
 -- a front of a legal list, of which one change is left
-record IsBefore (t : House) (l : List Record) (r : Record) : Type 0 where
-  grown : Grown (l ++ r ∷ []) l
-  once : NumbersOnce (l ++ r ∷ [])
-  accepted : row t l r.firm r.command ≡ None
+pub record IsBefore (t : House) (l : List Record) (r : Record) : Type 0 where
+  pub grown : Grown (l ++ r ∷ []) l
+  pub once : NumbersOnce (l ++ r ∷ [])
+  pub accepted : row t l r.firm r.command ≡ None
 
 module _ {t : House} {l : List Record} {r : Record} (b : IsBefore t l r) where
   root_kept : (m : EntryPart) (x : Node) → node_of l m ≡ Some x → root_of (l ++ r ∷ []) m ≡ root_of l m
@@ -114,7 +114,7 @@ module _ {t : House} {l : List Record} {r : Record} (b : IsBefore t l r) where
       ∙ (ap (λ c. option_or (find q l) (cond (c && is_trade_of instrument side r.command) (Some r) None)) (other_trade p y.0 y.1)
       ∙ or_none (find q l)))
 
-  trades_kept : (instrument : List ℕ) (side : Side) (m : EntryPart) (x : Node) → node_of l m ≡ Some x → trades_in (l ++ r ∷ []) instrument side m ≡ trades_in l instrument side m
+  pub trades_kept : (instrument : List ℕ) (side : Side) (m : EntryPart) (x : Node) → node_of l m ≡ Some x → trades_in (l ++ r ∷ []) instrument side m ≡ trades_in l instrument side m
   trades_kept instrument side m x found =
       ap (λ o. is_some (option_and_then (λ p. find (λ d. (d.number == p.entry) && is_trade_of instrument side d.command) (l ++ r ∷ [])) o)) (root_kept m x found)
       ∙ trade_kept instrument side (root_of l m) (λ p h. root_found (length l) l p m x found (sym (ap (λ o. root_along (line_within (length l) l o)) found) ∙ h))
@@ -124,7 +124,7 @@ module _ {t : House} {l : List Record} {r : Record} (b : IsBefore t l r) where
       let decision : decision_of (l ++ r ∷ []) m ≡ decision_of l m = decision_cut l (r ∷ []) m ∙ (ap (λ c. option_or (decision_of l m) (cond c (Some r) None)) un ∙ or_none (decision_of l m)) in
       ap (λ p. unwrap_or (option_map (same_place at) p) false) (sym (place_same (l ++ r ∷ []) l m x b.grown found (sym decision)))
 
-  split_kept : (m : EntryPart) → splits m r.command ≡ false → split_of (l ++ r ∷ []) m ≡ split_of l m
+  pub split_kept : (m : EntryPart) → splits m r.command ≡ false → split_of (l ++ r ∷ []) m ≡ split_of l m
   split_kept m un = find-append (λ d. splits m d.command) l (r ∷ []) ∙ (ap (λ c. option_or (split_of l m) (cond c (Some r) None)) un ∙ or_none (split_of l m))
 
   -- a node that the change doesn't name adds what it added
@@ -166,12 +166,16 @@ module _ {t : House} {l : List Record} {r : Record} (b : IsBefore t l r) where
       (All-weaker (NamesThere l) (λ (d : Record). charge_of t l d.command ≡ charge_of t (l ++ r ∷ []) d.command) (λ d there. charge_same t (l ++ r ∷ []) l b.grown.within d.command there) l b.grown.named)))
       ∙ ap (λ o. charges t l ++ cons_option o []) own)
 
-pub moves_its_own : (t : House) (l : List Record) (r : Record) → NumbersOnce (l ++ r ∷ []) → first_refused t [] (l ++ r ∷ []) ≡ None → MovesItsOwn t l r
-moves_its_own t l r once none =
+pub is_before : (t : House) (l : List Record) (r : Record) → NumbersOnce (l ++ r ∷ []) → first_refused t [] (l ++ r ∷ []) ≡ None → IsBefore t l r
+is_before t l r once none =
     let here = none_refused (refusal_of t l r.firm r.command) r.number None (replay_rest t [] l (r ∷ []) none) in
-    let b : IsBefore t l r = record {
+    record {
       grown = (front_facts t (l ++ r ∷ []) l (r ∷ []) refl none).grown;
       once = once;
       accepted = (refusal_parts t l r.firm r.command here.0).1;
-    } in
+    }
+
+pub moves_its_own : (t : House) (l : List Record) (r : Record) → NumbersOnce (l ++ r ∷ []) → first_refused t [] (l ++ r ∷ []) ≡ None → MovesItsOwn t l r
+moves_its_own t l r once none =
+    let b = is_before t l r once none in
     record { positions = positions_moved b; charged = charges_moved b }

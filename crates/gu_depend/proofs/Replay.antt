@@ -22,7 +22,7 @@ use Rattle.gu_base.specs.declared.node.Node.{Node}
 use Rattle.gu_base.specs.declared.refusal.Refusal.{Refusal}
 use Rattle.gu_base.proofs.LegalLaws.{legal_from_replay, replay_from_legal}
 use Rattle.std.proofs.lemmas.Bool.{and_parts}
-use Rattle.gu_depend.specs.Same.{HasDistinctNumbers}
+use Rattle.gu_tree.specs.Shown.{HasDistinctNumbers}
 use Rattle.gu_depend.specs.Under.{names}
 use Rattle.gu_depend.proofs.Finds.{count_cons, count_permuted, find_permuted, none_before}
 use Rattle.gu_depend.proofs.Names.{at_name, node_permuted}

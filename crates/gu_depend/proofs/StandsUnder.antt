@@ -19,7 +19,7 @@ use Rattle.gu_base.specs.declared.entry.Record.{Record}
 use Rattle.gu_base.specs.declared.node.Kind.TheVariants.{Root}
 use Rattle.gu_base.specs.declared.node.Node.{Node}
 use Rattle.gu_base.proofs.LegalLaws.{none_refused, replay_front}
-use Rattle.gu_depend.specs.Same.{HasDistinctNumbers}
+use Rattle.gu_tree.specs.Shown.{HasDistinctNumbers}
 use Rattle.gu_depend.specs.Under.{names, is_under, stands_under, first_under, IsLeastUnder}
 use Rattle.gu_depend.proofs.Finds.{none_counts, counts_in, found_once, none_before, count_append, count_permuted}
 use Rattle.gu_depend.proofs.Names.{makes, node_by_maker, makers_once}

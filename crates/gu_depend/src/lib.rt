@@ -1,5 +1,8 @@
 //! Which changes stand on which, by what they name alone.
 //!
+//! `first_standing` reads off the trees what stands on a change, and takes no memory: the first change that would be refused
+//! without it, for every legal list that the trees show. `touched` says what a change made or decided.
+//!
 //! The laws here speak of lists of changes and of nothing else; calling one gives its clauses as facts. They hold for
 //! every legal list whose numbers are distinct, in whatever order it stands; only where "first" becomes "least" the
 //! numbers have to rise.
@@ -17,5 +20,9 @@
 #![tactic(auto)]
 
 mod laws;
+mod standing;
+mod touch;
 
 pub use laws::{any_lawful_order, first_is_least, free_can_stand_last, last_moves_its_own};
+pub use standing::{first_standing, touched};
+pub use touch::Touched;

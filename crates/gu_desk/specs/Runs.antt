@@ -1,12 +1,13 @@
 -- What calls make of the book that a desk opened with, and what a call or a reading answers there.
-use Rattle.std.specs.Prelude.{◌≡◌, ℕ, List, Result, MatchResult, IsTrue}
+use Rattle.std.specs.Prelude.{◌≡◌, ◌≤◌, ℕ, List, length, map, Result, MatchResult, IsTrue}
 use Rattle.gu_base.specs.Answers.{Call, answer_to}
 use Rattle.gu_base.specs.Runs.{IsRunFrom}
 use Rattle.gu_base.specs.declared.entry.Answer.{Answer}
+use Rattle.gu_base.specs.declared.entry.Record.{Record}
 use Rattle.gu_base.specs.declared.report.Report.{Report}
 use Rattle.gu_book.specs.Front.{may_lack}
 use Rattle.gu_book.specs.Seen.{HouseAndHistory}
-use Rattle.gu_trace.specs.Reports.{reports_for}
+use Rattle.gu_trace.specs.Reports.{entries_for, reports_for}
 
 -- b is the opening book, or what calls made of it
 abbrev pub IsRunOf : HouseAndHistory → HouseAndHistory → Type 0
@@ -16,6 +17,11 @@ IsRunOf opening b = (b.house ≡ opening.house) × IsRunFrom opening.house openi
 abbrev pub IsAnswerOf : {E : Type 0} → HouseAndHistory → Call → Result Answer E → Type 0
 IsAnswerOf opening c r = (b : HouseAndHistory) × IsRunOf opening b × MatchResult r (λ a. a ≡ answer_to b.house b.history c) (λ _. IsTrue (may_lack (answer_to b.house b.history c)))
 
--- these are the reports to the firm above a number, at a book that calls made of the opening one
+-- these are the reports to the firm above a number, one of each entry that concerns it, at a book that calls made of the opening one
 abbrev pub IsReadingOf : HouseAndHistory → List ℕ → ℕ → List Report → Type 0
 IsReadingOf opening firm after told = (b : HouseAndHistory) × IsRunOf opening b × (told ≡ reports_for b.house.house b.history firm after)
+    × (map (λ (p : Report). p.number) told ≡ map (λ (r : Record). r.number) (entries_for b.house.house b.history firm after))
+
+-- some entry above a number concerns the firm, at a book that calls made of the opening one
+abbrev pub IsToldOf : HouseAndHistory → List ℕ → ℕ → Type 0
+IsToldOf opening firm after = (b : HouseAndHistory) × IsRunOf opening b × (1 ≤ length (entries_for b.house.house b.history firm after))

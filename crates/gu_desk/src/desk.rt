@@ -1,9 +1,9 @@
 //! The desk that workers share.
-ghost use Rattle.std.specs.Prelude.{◌≡◌, ◌+◌, ◌<◌, ◌≤◌, length, vec_len, IfOk, IfErr, OnOk};
+ghost use Rattle.std.specs.Prelude.{◌≡◌, ◌+◌, ◌<◌, ◌≤◌, length, vec_len, IfOk, IfErr, OnOk, OnErr};
 ghost use Rattle.std.specs.List.{All, sum_by};
 ghost use Rattle.gu_base.specs.Limits.{most_parts};
 ghost use Rattle.gu_trace.specs.Reports.{most_reports};
-ghost use Rattle.gu_desk.specs.Runs.{IsRunOf, IsAnswerOf, IsReadingOf};
+ghost use Rattle.gu_desk.specs.Runs.{IsRunOf, IsAnswerOf, IsReadingOf, IsToldOf};
 ghost use Rattle.gu_desk.specs.Shares.{gained};
 
 use crate::ground::Ground;
@@ -138,7 +138,7 @@ impl<J: Job> Desk<J> {
     ///
     /// # Errors
     ///
-    /// `Memory` where a growth was refused.
+    /// `Memory` where a growth was refused, and only where an entry above the number concerns the firm.
     pub fn read_reports<R: Wait>(
         &self,
         rt: &R,
@@ -149,6 +149,7 @@ impl<J: Job> Desk<J> {
     ) -> (Seat<J>, Result<Vec<Report>, Memory>)
         ensures share { result.0 ≡ seat }
         ensures read { IfOk result.1 (λ v. IsReadingOf J.opening firm.now after v.items) }
+        ensures memory { OnErr result.1 (IsToldOf J.opening firm.now after) }
         ensures few { IfOk result.1 (λ v. length v.items ≤ most_reports) }
         ensures short { IfOk result.1 (λ v. All (λ r. length r.parts ≤ most_parts) v.items) }
     {

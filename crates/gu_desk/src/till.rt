@@ -1,10 +1,10 @@
 //! What lies behind the lock.
-ghost use Rattle.std.specs.Prelude.{◌≡◌, ◌+◌, ◌≤◌, length, IfOk, OnOk, OnErr, IsTrue};
+ghost use Rattle.std.specs.Prelude.{◌≡◌, ◌+◌, ◌≤◌, length, map, IfOk, OnOk, OnErr, IsTrue};
 ghost use Rattle.std.specs.List.{All};
 ghost use Rattle.gu_base.specs.Limits.{most_parts};
 ghost use Rattle.gu_base.specs.Answers.{answer_to, after};
 ghost use Rattle.gu_book.specs.Front.{may_lack};
-ghost use Rattle.gu_trace.specs.Reports.{most_reports, reports_for};
+ghost use Rattle.gu_trace.specs.Reports.{most_reports, entries_for, reports_for};
 ghost use Rattle.gu_desk.specs.Runs.{IsRunOf};
 ghost use Rattle.gu_desk.specs.Shares.{gained};
 
@@ -90,7 +90,7 @@ impl<J: Job> Till<J> {
     ///
     /// # Errors
     ///
-    /// `Memory` where a growth was refused.
+    /// `Memory` where a growth was refused, and only where an entry above the number concerns the firm.
     pub fn read(
         &mut self,
         alloc: Global,
@@ -99,6 +99,8 @@ impl<J: Job> Till<J> {
         after: u32,
     ) -> (Seat<J>, Result<Vec<Report>, Memory>)
         ensures value { IfOk result.1 (λ v. v.items ≡ reports_for self.old.house.house self.old.history firm.now after) }
+        ensures each { IfOk result.1 (λ v. map (λ r. r.number) v.items ≡ map (λ r. r.number) (entries_for self.old.house.house self.old.history firm.now after)) }
+        ensures memory { OnErr result.1 (1 ≤ length (entries_for self.old.house.house self.old.history firm.now after)) }
         ensures few { IfOk result.1 (λ v. length v.items ≤ most_reports) }
         ensures short { IfOk result.1 (λ v. All (λ r. length r.parts ≤ most_parts) v.items) }
         ensures same { self.new ≡ self.old }

@@ -5,6 +5,7 @@ use Rattle.gu_codec.specs.Tags as tags
 use Rattle.gu_message.specs.declared.fault.Reject.{Reject}
 use Rattle.gu_message.specs.declared.inbound.Inbound.{Inbound}
 use Rattle.gu_message.specs.declared.inbound.Inbound.TheVariants as inbound
+use Rattle.gu_message.specs.Limits.{longest_test_req_id}
 use Rattle.gu_message.specs.Finding.{value_of}
 use Rattle.gu_message.specs.Values.{count_of}
 use Rattle.gu_message.specs.Checks.{◌>>=◌, needed, bad_value, bad_kind, bad_type, guard}
@@ -38,9 +39,9 @@ logon_of fs = do
   reset ← flag_in tags.reset_seq_num_flag fs
   Ok (inbound.Logon heartbeat reset)
 
--- a TestReqID (112): at most 64 bytes
+-- a TestReqID (112) that isn't too long
 abbrev pub test_req_id_of : List ℕ → Option (List ℕ)
-test_req_id_of t = if nat_le (length t) 64 then Some t else None
+test_req_id_of t = if nat_le (length t) longest_test_req_id then Some t else None
 
 -- TestRequest (1): TestReqID (112)
 unfoldable pub test_request_of : List (ℕ × List ℕ) → Result Inbound Reject

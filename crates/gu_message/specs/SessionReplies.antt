@@ -4,6 +4,7 @@ use Rattle.gu_base.specs.Names.{is_firm_text}
 use Rattle.gu_codec.specs.Fields.{IsValue}
 use Rattle.gu_codec.specs.Messages.{Message}
 use Rattle.gu_message.specs.declared.session_bodies.LogoutText.{LogoutText}
+use Rattle.gu_message.specs.Limits.{longest_test_req_id}
 use Rattle.gu_message.specs.SessionBodies.{logon_fields, heartbeat_fields, test_request_fields, resend_request_fields, sequence_reset_fields, logout_fields}
 use Rattle.gu_message.specs.Reply.{Reply, IsLawfulReply}
 
@@ -14,7 +15,7 @@ to_firm firm kind fields = record { target = firm; kind = kind; fields = fields 
 -- a TestReqID (112) that came in a message
 pub record IsTestReqId (id : List ℕ) : Type 0 where
   pub value : IsValue id
-  pub short : length id ≤ 64
+  pub short : length id ≤ longest_test_req_id
 
 -- each message of the session to this firm is lawful
 pub record AreLawful (firm : List ℕ) : Type 0 where

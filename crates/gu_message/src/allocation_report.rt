@@ -3,6 +3,8 @@
 ghost use Rattle.std.specs.Prelude.{◌≡◌, ◌↔◌, ◌≤◌, ◌≤ℤ◌, ◌+◌, ◌*◌, ◌++◌, IsTrue, OnOk, OnErr, codes, decimal, length, pos, unsigned_abs, vec_len, vec_capacity};
 ghost use Rattle.std.specs.List.{flat_map};
 ghost use Rattle.gu_base.specs.Limits.{most_parts};
+ghost use Rattle.gu_codec.specs.Limits.{longest_body};
+ghost use Rattle.gu_codec.specs.Tags as tag;
 ghost use Rattle.gu_codec.specs.Writing.{field, fields_text};
 ghost use Rattle.gu_message.specs.SendingTime.{sending_time};
 ghost use Rattle.gu_message.specs.AllocationReport.{node_text, target_text, side_text, account_text, part_fields, shown_parts, entry_fields, date_in, report_fields, ShowsFewParts};
@@ -14,9 +16,6 @@ use gu_codec::{append, append_field, tags};
 use gu_life::status_code;
 use itoa::Buffer;
 use jiff::Timestamp;
-
-/// A report shows at most so many parts.
-const MOST_PARTS: usize = 100;
 
 /// No report is longer without its parts, and no part.
 const ENTRY_ROOM: usize = 768;
@@ -53,7 +52,7 @@ fn append_node_field(out: &mut Vec<u8>, tag: u32, name: NodeName)
 /// Appends RefAllocID (72) within the room that is there.
 fn append_target(out: &mut Vec<u8>, target: Target)
     requires { vec_len out.old + 128 ≤ vec_capacity out.old }
-    ensures items { out.new.items ≡ out.old.items ++ field 72 (target_text target) }
+    ensures items { out.new.items ≡ out.old.items ++ field tag.ref_alloc_id (target_text target) }
     ensures len { vec_len out.new ≤ vec_len out.old + 128 }
     ensures room { vec_capacity out.old ≤ vec_capacity out.new }
 {
@@ -142,7 +141,7 @@ fn append_entry(out: &mut Vec<u8>, report: &Report, date: &[u8])
 pub fn shows_few_parts(report: &Report) -> bool
     ensures { IsTrue result ↔ ShowsFewParts report.now }
 {
-    report.parts.as_slice().len() <= MOST_PARTS
+    report.parts.as_slice().len() <= usize::from(NodeName::MAX_PART)
 }
 
 /// Appends the body of the AllocationReport (AS) of a report, on the day of this moment.
@@ -155,7 +154,7 @@ pub fn report(out: &mut Vec<u8>, report: &Report, moment: Timestamp) -> Result<(
     requires moment { pos 0 ≤ℤ moment.nanosecond }
     ensures ok { OnOk result (out.new.items ≡ out.old.items ++ fields_text (report_fields (date_in (sending_time (unsigned_abs moment.nanosecond))) report.now)) }
     ensures err { OnErr result (out.new.items ≡ out.old.items) }
-    ensures short { OnOk result (length (fields_text (report_fields (date_in (sending_time (unsigned_abs moment.nanosecond))) report.now)) ≤ 65000) }
+    ensures short { OnOk result (length (fields_text (report_fields (date_in (sending_time (unsigned_abs moment.nanosecond))) report.now)) ≤ longest_body) }
 {
     let parts = report.parts.as_slice();
     out.reserve(ENTRY_ROOM + PART_ROOM * parts.len())?;

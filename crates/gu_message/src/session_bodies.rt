@@ -2,6 +2,7 @@
 
 ghost use Rattle.std.specs.Prelude.{◌≡◌, ◌≤◌, ◌+◌, ◌++◌, OnOk, OnErr, codes, decimal, length, vec_len, vec_capacity};
 ghost use Rattle.gu_codec.specs.Answer.{pairs};
+ghost use Rattle.gu_codec.specs.Tags as tag;
 ghost use Rattle.gu_codec.specs.Writing.{field, fields_text};
 ghost use Rattle.gu_message.specs.Finding.{value_of, is_text as is_text_of};
 ghost use Rattle.gu_message.specs.SessionBodies.{reset_fields, logon_fields, heartbeat_fields, test_request_fields, resend_request_fields, sequence_reset_fields, logout_text, logout_fields};
@@ -90,7 +91,7 @@ pub fn sequence_reset(out: &mut Vec<u8>, next: u32) -> Result<(), Memory>
 /// Appends Text (58) of a number that is too low within the room that is there.
 fn append_too_low(out: &mut Vec<u8>, expected: u32)
     requires { vec_len out.old + 256 ≤ vec_capacity out.old }
-    ensures items { out.new.items ≡ out.old.items ++ field 58 (codes "sequence number too low, expected " ++ decimal expected) }
+    ensures items { out.new.items ≡ out.old.items ++ field tag.text (codes "sequence number too low, expected " ++ decimal expected) }
     ensures len { vec_len out.new ≤ vec_len out.old + 100 }
 {
     let mut digits = Buffer::new();
@@ -119,7 +120,7 @@ pub fn logout(out: &mut Vec<u8>, text: Option<LogoutText>) -> Result<(), Memory>
 
 /// Whether a message is a Logout (5).
 pub fn is_logout(fields: Fields<'_>) -> bool
-    ensures { result ≡ is_text_of (codes "5") (value_of 35 (pairs fields.entry)) }
+    ensures { result ≡ is_text_of (codes "5") (value_of tag.msg_type (pairs fields.entry)) }
 {
     is_text(fields, tags::MSG_TYPE, msg_types::LOGOUT)
 }

@@ -1,6 +1,7 @@
 //! TestReqID (112), the text that a TestRequest asks to hear again.
 
 ghost use Rattle.std.specs.Prelude.{◌≡◌, ◌≤◌, length};
+ghost use Rattle.gu_message.specs.Limits.{longest_test_req_id};
 ghost use Rattle.gu_message.specs.SessionMessages.{test_req_id_of};
 
 use std::marker::Model;
@@ -12,7 +13,7 @@ const BYTES: usize = 64;
 #[derive(Clone, Copy, Debug)]
 pub struct TestReqId {
     /// The places behind the text hold 0, so that equal texts are equal values.
-    cells: [u8; 64],
+    cells: [u8; BYTES],
     len: usize,
 }
 
@@ -20,17 +21,18 @@ impl Model for TestReqId {
     ghost use Rattle.std.specs.Prelude.{◌≡◌, ◌≤◌, ◌++◌, ◌-◌, List, ℕ, length, take, drop, replicate};
     ghost use Rattle.std.proofs.Common.{arith, length-take-le};
     ghost use Rattle.gu_base.specs.Cells.{cells_back};
+    ghost use Rattle.gu_message.specs.Limits.{longest_test_req_id};
 
     ghost Value = { List ℕ };
 
     ghost view = { λ s. take s.len s.cells };
 
-    ghost invariant = { λ s. (s.len ≤ 64) × (length s.cells ≡ 64) × (drop s.len s.cells ≡ replicate (64 - s.len) 0) };
+    ghost invariant = { λ s. (s.len ≤ longest_test_req_id) × (length s.cells ≡ longest_test_req_id) × (drop s.len s.cells ≡ replicate (longest_test_req_id - s.len) 0) };
 
-    ghost inverse = { λ s. record { cells = s ++ replicate (64 - length s) 0; len = length s } };
+    ghost inverse = { λ s. record { cells = s ++ replicate (longest_test_req_id - length s) 0; len = length s } };
 
     ghost inverse_ok = { λ s h i. record {
-      cells = cells_back 64 s.len s.cells h.0 h.1 h.2 i;
+      cells = cells_back longest_test_req_id s.len s.cells h.0 h.1 h.2 i;
       len = length-take-le s.len s.cells (omega (arith, h.0, h.1)) i;
     } };
 }
@@ -54,7 +56,7 @@ impl TestReqId {
     /// Its bytes.
     pub fn as_bytes(&self) -> &[u8]
         ensures value { result.now ≡ self.now }
-        ensures short { length self.now ≤ 64 }
+        ensures short { length self.now ≤ longest_test_req_id }
     {
         &self.cells[..self.len]
     }

@@ -1,8 +1,15 @@
 -- House files worked by hand: what the definition says of them, computed.
-use Rattle.std.specs.Prelude.{◌≡◌, [], ◌∷◌, Ok, Err, codes, refl}
+use Rattle.std.specs.Prelude.{◌≡◌, ℕ, List, [], ◌∷◌, Result, Ok, Err, codes, refl}
 use Rattle.gu_parties.specs.Numbers.{number_upto}
-use Rattle.gu_parties.specs.HouseFile.{house_of}
+use Rattle.gu_base.specs.House.{House}
+use Rattle.gu_parties.specs.Words.{lines}
+use Rattle.gu_parties.specs.HouseFile.{house_of_lines}
+use Rattle.gu_parties.specs.declared.fault.Cause.{Cause}
 use Rattle.gu_parties.specs.declared.fault.Cause.TheVariants.{BadVersion, NoHouse, BadLine, BadName, BadNumber, OwnAgreement, UnknownName, NamedTwice}
+
+-- what a house file says
+abbrev house_of : List ℕ → Result House (ℕ × Cause)
+house_of text = house_of_lines (lines text)
 
 -- a house, a firm with an account, an instrument, and an agreement; the last line lacks its LF
 lawful : house_of (codes "GIVEUP 1\nHOUSE HSE\nFIRM AAA\nACCOUNT AAA A1\nINSTRUMENT ESZ6\nAGREEMENT HSE AAA 125 500") ≡ Ok (record {

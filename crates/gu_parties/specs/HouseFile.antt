@@ -2,7 +2,7 @@
 use Rattle.std.specs.Prelude.{ℕ, ◌-◌, nat_lt, List, [], ◌∷◌, Option, Some, Result, Ok, Err, option_map, take, drop, map, slice_get, if◌then◌else◌}
 use Rattle.std.specs.List.{filter_map, enumerate_from, cons_option}
 use Rattle.gu_base.specs.House.{House}
-use Rattle.gu_parties.specs.Words.{words, lines}
+use Rattle.gu_parties.specs.Words.{words}
 use Rattle.gu_parties.specs.Table.{table_of}
 use Rattle.gu_parties.specs.Causes.{cause_of, house_cause, version_cause}
 use Rattle.gu_parties.specs.declared.fault.Cause.{Cause}
@@ -45,7 +45,3 @@ unless_faulty (fault ∷ _) t = Err fault
 -- what the lines of a house file say
 abbrev pub house_of_lines : List (List ℕ) → Result House (ℕ × Cause)
 house_of_lines ls = unless_faulty (faults_of ls) (table_of_lines ls)
-
--- what a house file says
-abbrev pub house_of : List ℕ → Result House (ℕ × Cause)
-house_of text = house_of_lines (lines text)

@@ -7,7 +7,7 @@
 //! by place what was named there, in file order from 0. None of these look-ups takes memory. `House::copy` gives an equal table.
 //!
 //! In each table the terms are in range: a rate of at most 100,000 hundredths a lot, a limit of at most 10,000,000,000,000 lots.
-//! The format is described in docs/profile.md; the definition of the table that a text names is `house_of` in specs/HouseFile.antt.
+//! The format is described in docs/profile.md; the definition of the table that the lines of a text name is `house_of_lines` in specs/HouseFile.antt.
 //! Its cases are data of the program `test_house`.
 #![tactic(auto)]
 

@@ -5,7 +5,7 @@ use Rattle.std.specs.List.{All, AllByRecursion, Contains}
 use Rattle.std.proofs.lemmas.Bool.{ltb-true}
 use Rattle.std.proofs.lemmas.Bool.Decides.{nat_tests}
 use Rattle.std.proofs.lemmas.List.Elements.{All-nil, All-cons, All-append, All-weaker, All-drop, All-filter, recursion_from_All, Contains-append_left, Contains-append_right}
-use Rattle.gu_session.specs.declared.kept.Kept.{Kept}
+use Rattle.gu_session.specs.Keeping.{Kept}
 use Rattle.gu_session.specs.declared.kept.Told.{Told}
 use Rattle.gu_session.specs.declared.verdict.Span.{Span}
 use Rattle.gu_session.specs.Going.{Going}

@@ -3,7 +3,7 @@ use Rattle.std.proofs.Common.{◌≡◌, ℕ, ◌+◌, nat_lt, List, [], ◌∷�
 use Rattle.std.specs.Prelude.{Option, Some, None, is_none, is_some}
 use Rattle.std.proofs.lemmas.List.Elements.{filter-append}
 use Rattle.gu_codec.specs.Messages.{Message}
-use Rattle.gu_session.specs.declared.kept.Kept.{Kept}
+use Rattle.gu_session.specs.Keeping.{Kept}
 use Rattle.gu_session.specs.declared.verdict.Span.{Span}
 use Rattle.gu_session.specs.declared.verdict.Say.{Say}
 use Rattle.gu_session.specs.Going.{Going}

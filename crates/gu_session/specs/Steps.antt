@@ -22,7 +22,7 @@ use Rattle.gu_session.specs.declared.link.Link.{Link}
 use Rattle.gu_session.specs.declared.link.Waiting.{Waiting}
 use Rattle.gu_session.specs.declared.kept.Told.{Told}
 use Rattle.gu_session.specs.declared.kept.Told.TheVariants as told
-use Rattle.gu_session.specs.declared.kept.Kept.{Kept}
+use Rattle.gu_session.specs.Keeping.{Kept}
 use Rattle.gu_session.specs.declared.verdict.Span.{Span}
 use Rattle.gu_session.specs.declared.verdict.Say.{Say}
 use Rattle.gu_session.specs.declared.verdict.Verdict.{Verdict}

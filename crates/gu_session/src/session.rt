@@ -1,6 +1,6 @@
 //! A session.
 
-ghost use Rattle.std.specs.Prelude.{◌≡◌, ◌↔◌, ◌≤◌, ◌≤ℤ◌, ◌+◌, ◌++◌, pos, true, false, IsTrue, OnOk, OnErr, IfOk, Ok, Some, is_some, option_map, vec_len};
+ghost use Rattle.std.specs.Prelude.{◌≡◌, ◌↔◌, ◌≤◌, ◌≤ℤ◌, ◌+◌, ◌++◌, pos, true, false, IsTrue, OnOk, OnErr, IfOk, Ok, Some, is_some, option_map, length};
 ghost use Rattle.std.specs.List.{All};
 ghost use Rattle.gu_codec.specs.Answer.{pairs};
 ghost use Rattle.gu_message.specs.AllocationReport.{ShowsFewParts};
@@ -12,7 +12,7 @@ ghost use Rattle.gu_session.specs.Table.{shut as shut_of};
 ghost use Rattle.gu_session.specs.Text.{ShowFewParts, Steps, Gives, IsEmpty, wire, fields_of};
 
 use crate::event::{Actions, Event};
-use crate::kept::{Kept, keep};
+use crate::kept::KeptMessages;
 use crate::link::Link;
 use crate::replying::{LAST_NUMBER, answers, has_numbers, replied};
 use crate::table::{on_message, on_tick, shut};
@@ -24,7 +24,6 @@ use gu_message::{Inbound, MeaningError, Reject, SendingTime, header, is_logout, 
 use gu_parties::House;
 use jiff::Timestamp;
 use std::alloc::{AllocError, Global};
-use std::collections::VecDeque;
 use std::marker::Model;
 
 /// The session of one connection of a member firm to the house.
@@ -35,7 +34,7 @@ pub struct Session<'a> {
     alloc: Global,
     house: &'a House,
     link: Link,
-    kept: VecDeque<Kept>,
+    kept: KeptMessages,
 }
 
 impl<'a> Model for Session<'a> {
@@ -44,7 +43,7 @@ impl<'a> Model for Session<'a> {
 
     ghost Value = { Seen };
 
-    ghost view = { λ s. record { house = s.house.now; link = s.link; kept = s.kept.items } };
+    ghost view = { λ s. record { house = s.house.now; link = s.link; kept = s.kept } };
 
     ghost invariant = { λ s. IsTrue (fits s.link) };
 }
@@ -111,7 +110,7 @@ fn no_message() -> Result<Inbound, Reject>
 fn frames(
     alloc: Global,
     house: FirmId,
-    kept: &VecDeque<Kept>,
+    kept: &KeptMessages,
     came: Option<Fields<'_>>,
     number: u32,
     verdict: &Verdict,
@@ -119,7 +118,7 @@ fn frames(
 ) -> Result<Vec<u8>, Memory>
     requires { pos 0 ≤ℤ moment.nanosecond }
     ensures { IfOk result (λ send. send.items ≡ wire house verdict.now.link.firm (time_of moment)
-        (resends (time_of moment) kept.now.items verdict.now.resend ++ sayings (fields_of came.entry) number verdict.now.say)) }
+        (resends (time_of moment) kept.now verdict.now.resend ++ sayings (fields_of came.entry) number verdict.now.say)) }
 {
     let mut send = Vec::new(alloc);
     if let Some(firm) = verdict.link.firm {
@@ -155,7 +154,7 @@ impl<'a> Session<'a> {
                 went: never,
                 tested: false,
             },
-            kept: VecDeque::new(alloc),
+            kept: KeptMessages::new(alloc),
         }
     }
 
@@ -300,7 +299,7 @@ impl<'a> Session<'a> {
         }
         let house = self.house.house();
         let (fresh, send) = replied(self.alloc, house, firm, &link, answer, reports, moment)?;
-        self.keep_fresh(fresh, moment)?;
+        self.keep_fresh(&fresh, moment)?;
         Ok(Actions {
             send,
             call: None,
@@ -309,19 +308,18 @@ impl<'a> Session<'a> {
     }
 
     /// Keeps the new application messages, which were sent at this moment. The growth comes first.
-    fn keep_fresh(&mut self, fresh: Vec<Kept>, moment: Timestamp) -> Result<(), Memory>
-        requires { self.old.link.out + vec_len fresh ≤ 1000000000 }
-        ensures ok { OnOk result (self.new ≡ (tells moment self.old fresh.items).after) }
+    fn keep_fresh(&mut self, fresh: &KeptMessages, moment: Timestamp) -> Result<(), Memory>
+        requires { self.old.link.out + length fresh.now ≤ 1000000000 }
+        ensures ok { OnOk result (self.new ≡ (tells moment self.old fresh.now).after) }
         ensures err { OnErr result (self.new ≡ self.old) }
     {
         let count = fresh.len();
-        self.kept.reserve(count)?;
+        self.kept.keep(fresh)?;
         self.link.waiting = None;
         self.link.out += count as u32;
         if count > 0 {
             self.link.went = moment;
         }
-        keep(&mut self.kept, fresh);
         Ok(())
     }
 

@@ -2,15 +2,14 @@
 
 ghost use Rattle.std.specs.Prelude.{◌≡◌, ◌≤◌, ◌+◌, ◌++◌, ◌∷◌, List, OnOk, IfOk, length, map, option_map, Some, None};
 ghost use Rattle.std.specs.List.{flat_map};
-ghost use Rattle.std.specs.VecDeque.{deque_len};
 ghost use Rattle.gu_codec.specs.Writing.{IsText, fields_text};
 ghost use Rattle.gu_codec.specs.Answer.{pairs};
 ghost use Rattle.gu_session.specs.Going.{type_of_say as type_of_say_lem, fields_of_say, type_of_told, said};
 ghost use Rattle.gu_session.specs.Steps.{gap_fill as gap_fill_of, with_gaps, within, resends, sayings, new as new_of};
 ghost use Rattle.gu_session.specs.Text.{text_of, fields_of};
-ghost use Rattle.gu_session.specs.declared.kept.Kept.{Kept};
+ghost use Rattle.gu_session.specs.Keeping.{Kept, kept_with, messages, total};
 
-use crate::kept::{Kept, type_of};
+use crate::kept::{Entry, KeptMessages, type_of};
 use crate::verdict::{Say, Span};
 use gu_base::{FirmId, Memory};
 use gu_codec::{Fields, Header, write_frame};
@@ -116,19 +115,14 @@ fn write_say(
 fn write_kept(
     out: &mut Vec<u8>,
     writer: &Writer,
-    message: &Kept,
+    entry: &Entry,
+    body: &[u8],
     first: Option<SendingTime>,
 ) -> Result<(), Memory>
-    ensures { OnOk result (out.new.items ≡ out.old.items ++ text_of writer.now.house writer.now.firm writer.now.time (record { kind = type_of_told message.now.told; number = message.now.number; next = message.now.number + 1; first = first; body = message.now.body })) }
+    requires { length body.now ≤ 65000 }
+    ensures { OnOk result (out.new.items ≡ out.old.items ++ text_of writer.now.house writer.now.firm writer.now.time (record { kind = type_of_told entry.now.told; number = entry.now.number; next = entry.now.number + 1; first = first; body = body.now })) }
 {
-    write(
-        out,
-        writer,
-        type_of(message.told),
-        message.number,
-        first,
-        message.body.as_slice(),
-    )
+    write(out, writer, type_of(entry.told), entry.number, first, body)
 }
 
 /// Appends one SequenceReset for the numbers from one up to another, if there are any.
@@ -161,38 +155,45 @@ fn write_one_again(
     alloc: Global,
     out: &mut Vec<u8>,
     writer: &Writer,
-    message: &Kept,
+    entry: &Entry,
+    body: &[u8],
     span: Span,
     next: u32,
 ) -> Result<u32, Memory>
+    requires { length body.now ≤ 65000 }
     ensures { IfOk result (λ number. (later : List Kept) →
         out.new.items ++ flat_map (text_of writer.now.house writer.now.firm writer.now.time) (with_gaps writer.now.time number span.next (within span.from span.next later))
-        ≡ out.old.items ++ flat_map (text_of writer.now.house writer.now.firm writer.now.time) (with_gaps writer.now.time next span.next (within span.from span.next (message.now ∷ later)))) }
+        ≡ out.old.items ++ flat_map (text_of writer.now.house writer.now.firm writer.now.time) (with_gaps writer.now.time next span.next (within span.from span.next (kept_with entry.now body.now ∷ later)))) }
 {
-    if message.number < span.from {
+    if entry.number < span.from {
         return Ok(next);
     }
-    if span.next <= message.number {
+    if span.next <= entry.number {
         return Ok(next);
     }
-    write_gap(alloc, out, writer, next, message.number)?;
-    write_kept(out, writer, message, Some(message.sent))?;
-    Ok(message.number + 1)
+    write_gap(alloc, out, writer, next, entry.number)?;
+    write_kept(out, writer, entry, body, Some(entry.sent))?;
+    Ok(entry.number + 1)
 }
 
-/// Appends what is sent again.
+/// Appends what is sent again of the messages of these entries, whose bodies stand one behind the other.
 fn write_again(
     alloc: Global,
     out: &mut Vec<u8>,
     writer: &Writer,
-    kept: &VecDeque<Kept>,
+    entries: &VecDeque<Entry>,
+    bodies: &[u8],
     span: Span,
 ) -> Result<(), Memory>
-    ensures { OnOk result (out.new.items ≡ out.old.items ++ flat_map (text_of writer.now.house writer.now.firm writer.now.time) (with_gaps writer.now.time span.from span.next (within span.from span.next kept.now.items))) }
+    requires { total entries.now.items ≡ length bodies.now }
+    ensures { OnOk result (out.new.items ≡ out.old.items ++ flat_map (text_of writer.now.house writer.now.firm writer.now.time) (with_gaps writer.now.time span.from span.next (within span.from span.next (messages entries.now.items bodies.now)))) }
 {
     let mut next = span.from;
-    for i in 0..kept.len() {
-        next = write_one_again(alloc, out, writer, &kept[i], span, next)?;
+    let mut left = bodies;
+    for i in 0..entries.len() {
+        let (body, behind) = left.split_at(entries[i].size.get());
+        next = write_one_again(alloc, out, writer, &entries[i], body, span, next)?;
+        left = behind;
     }
     write_gap(alloc, out, writer, next, span.next)
 }
@@ -202,14 +203,17 @@ pub fn write_resend(
     alloc: Global,
     out: &mut Vec<u8>,
     writer: &Writer,
-    kept: &VecDeque<Kept>,
+    kept: &KeptMessages,
     resend: Option<Span>,
 ) -> Result<(), Memory>
-    ensures { OnOk result (out.new.items ≡ out.old.items ++ flat_map (text_of writer.now.house writer.now.firm writer.now.time) (resends writer.now.time kept.now.items resend)) }
+    ensures { OnOk result (out.new.items ≡ out.old.items ++ flat_map (text_of writer.now.house writer.now.firm writer.now.time) (resends writer.now.time kept.now resend)) }
 {
     match resend {
         None => Ok(()),
-        Some(span) => write_again(alloc, out, writer, kept, span),
+        Some(span) => {
+            let (entries, bodies) = kept.parts();
+            write_again(alloc, out, writer, entries, bodies, span)
+        }
     }
 }
 
@@ -230,12 +234,29 @@ pub fn write_saying(
     }
 }
 
-/// Appends new application messages.
-pub fn write_new(out: &mut Vec<u8>, writer: &Writer, fresh: &[Kept]) -> Result<(), Memory>
-    ensures { OnOk result (out.new.items ≡ out.old.items ++ flat_map (text_of writer.now.house writer.now.firm writer.now.time) (map new_of fresh.now)) }
+/// Appends the new messages of these entries, whose bodies stand one behind the other.
+fn write_fresh(
+    out: &mut Vec<u8>,
+    writer: &Writer,
+    entries: &VecDeque<Entry>,
+    bodies: &[u8],
+) -> Result<(), Memory>
+    requires { total entries.now.items ≡ length bodies.now }
+    ensures { OnOk result (out.new.items ≡ out.old.items ++ flat_map (text_of writer.now.house writer.now.firm writer.now.time) (map new_of (messages entries.now.items bodies.now))) }
 {
-    for message in fresh {
-        write_kept(out, writer, message, None)?;
+    let mut left = bodies;
+    for i in 0..entries.len() {
+        let (body, behind) = left.split_at(entries[i].size.get());
+        write_kept(out, writer, &entries[i], body, None)?;
+        left = behind;
     }
     Ok(())
+}
+
+/// Appends new application messages.
+pub fn write_new(out: &mut Vec<u8>, writer: &Writer, fresh: &KeptMessages) -> Result<(), Memory>
+    ensures { OnOk result (out.new.items ≡ out.old.items ++ flat_map (text_of writer.now.house writer.now.firm writer.now.time) (map new_of fresh.now)) }
+{
+    let (entries, bodies) = fresh.parts();
+    write_fresh(out, writer, entries, bodies)
 }

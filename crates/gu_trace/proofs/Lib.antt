@@ -4,3 +4,6 @@ pub mod Walk
 pub mod Texts
 pub mod Shown
 pub mod Short
+pub mod Found
+pub mod Each
+pub mod Concerned

@@ -65,7 +65,7 @@ by_test k n e es false here others =
     ∙ (ap (λ o. option_or o (find (is_named n) (flat_map made (numbered_from (k + 1) es)))) (sym (no_node k n e.firm e.command not_here))
     ∙ sym (find-append (is_named n) (nodes_of k e.firm e.command) (flat_map made (numbered_from (k + 1) es))))
 
-node_from : (k : ℕ) (n : EntryPart) (h : List Entry) → made_in n (find (numbered_in n) (numbered_from k h)) ≡ find (is_named n) (flat_map made (numbered_from k h))
+pub node_from : (k : ℕ) (n : EntryPart) (h : List Entry) → made_in n (find (numbered_in n) (numbered_from k h)) ≡ find (is_named n) (flat_map made (numbered_from k h))
 node_from k n [] = refl
 node_from k n (e ∷ es) = by_test k n e es (eqb k n.entry) refl (node_from (k + 1) n es)
 

@@ -1,5 +1,5 @@
 -- No report shows more parts than a Split may have.
-use Rattle.std.proofs.Common.{ℕ, zero, suc, ◌+◌, ◌≤◌, Bool, true, false, List, [], ◌∷◌, arith, Option, cond, length, take}
+use Rattle.std.proofs.Common.{ℕ, zero, suc, ◌+◌, ◌≤◌, ◌&&◌, Bool, true, false, List, [], ◌∷◌, arith, Option, cond, length, take}
 use Rattle.std.specs.Prelude.{Some, None, filter, nat_lt, option_map, option_and_then, IfSome}
 use Rattle.std.specs.List.{All, filter_map, cons_option}
 use Rattle.std.proofs.lemmas.List.Elements.{All-nil, All-cons, All-head, All-tail, All-filter}
@@ -21,7 +21,7 @@ use Rattle.gu_book.specs.Limits.{IsWithinLimits}
 use Rattle.gu_trace.specs.declared.lookup.Deal.{Deal}
 use Rattle.gu_trace.specs.Deals.{deal_of}
 use Rattle.gu_trace.specs.Concerns.{concerns}
-use Rattle.gu_trace.specs.Reports.{report_with, parts_shown, claimed_part, no_part, change_report, report_of, told, reports_for}
+use Rattle.gu_trace.specs.Reports.{report_with, parts_shown, claimed_part, no_part, change_report, report_of, reports_for}
 use Rattle.gu_trace.proofs.Shown.{shown_few}
 
 abbrev pub IsShort : Report → Type 0
@@ -71,20 +71,16 @@ report_short h f r (Initiate n) within = by_change r 14 6 _ (option_and_then (λ
 report_short h f r (Decline n) within = by_change r 10 6 _ (option_and_then (λ e. change_report h f e e.command) (entry_of h n))
 report_short h f r (Reverse n) within = by_change r 17 6 _ (option_and_then (λ e. change_report h f e e.command) (entry_of h n))
 
-if_told : (b : Bool) (o : Option Report) → IfSome o IsShort → IfSome (cond b o None) IsShort
-if_told true o short = short
-if_told false o short = tt
-
 with_one : (o : Option Report) (rs : List Report) → IfSome o IsShort → All IsShort rs → All IsShort (cons_option o rs)
 with_one None rs short all = all
 with_one (Some r) rs short all = All-cons IsShort r rs short all
 
-all_told : (house : List ℕ) (h : List Entry) (f : List ℕ) (rs : List Record) → All (λ r. IsWithinLimits r.command) rs → All IsShort (filter_map (told house h f) rs)
-all_told house h f [] within = All-nil IsShort
-all_told house h f (r ∷ rs) within =
-    with_one (told house h f r) (filter_map (told house h f) rs)
-    (if_told (concerns house h f r.firm r.command) (report_of h f r r.command) (report_short h f r r.command (All-head (λ q. IsWithinLimits q.command) r rs within)))
-    (all_told house h f rs (All-tail (λ q. IsWithinLimits q.command) r rs within))
+all_told : (h : List Entry) (f : List ℕ) (rs : List Record) → All (λ r. IsWithinLimits r.command) rs → All IsShort (filter_map (λ r. report_of h f r r.command) rs)
+all_told h f [] within = All-nil IsShort
+all_told h f (r ∷ rs) within =
+    with_one (report_of h f r r.command) (filter_map (λ q. report_of h f q q.command) rs)
+    (report_short h f r r.command (All-head (λ q. IsWithinLimits q.command) r rs within))
+    (all_told h f rs (All-tail (λ q. IsWithinLimits q.command) r rs within))
 
 numbered_within : (k : ℕ) (h : List Entry) → All (λ e. IsWithinLimits e.command) h → All (λ r. IsWithinLimits r.command) (numbered_from k h)
 numbered_within k [] within = All-nil (λ r. IsWithinLimits r.command)
@@ -92,14 +88,15 @@ numbered_within k (e ∷ es) within =
     All-cons (λ r. IsWithinLimits r.command) (numbered_as k e) (numbered_from (k + 1) es)
     (All-head (λ q. IsWithinLimits q.command) e es within) (numbered_within (k + 1) es (All-tail (λ q. IsWithinLimits q.command) e es within))
 
-first_of_them : (n : ℕ) (rs : List Report) → All IsShort rs → All IsShort (take n rs)
-first_of_them zero rs all = All-nil IsShort
-first_of_them (suc n) [] all = All-nil IsShort
-first_of_them (suc n) (r ∷ rs) all = All-cons IsShort r (take n rs) (All-head IsShort r rs all) (first_of_them n rs (All-tail IsShort r rs all))
+first_of_them : (n : ℕ) (rs : List Record) → All (λ r. IsWithinLimits r.command) rs → All (λ r. IsWithinLimits r.command) (take n rs)
+first_of_them zero rs all = All-nil (λ r. IsWithinLimits r.command)
+first_of_them (suc n) [] all = All-nil (λ r. IsWithinLimits r.command)
+first_of_them (suc n) (r ∷ rs) all =
+    All-cons (λ r. IsWithinLimits r.command) r (take n rs) (All-head (λ q. IsWithinLimits q.command) r rs all) (first_of_them n rs (All-tail (λ q. IsWithinLimits q.command) r rs all))
 
 -- each report of a reading is short, where the entries are within the limits
 pub reports_short : (house : List ℕ) (h : List Entry) (f : List ℕ) (after : ℕ) → All (λ e. IsWithinLimits e.command) h → All IsShort (reports_for house h f after)
 reports_short house h f after within =
-    first_of_them 100 (filter_map (told house h f) (filter (λ r. nat_lt after r.number) (records h)))
-    (all_told house h f (filter (λ r. nat_lt after r.number) (records h))
-    (All-filter (λ r. nat_lt after r.number) (λ r. IsWithinLimits r.command) (records h) (numbered_within 1 h within)))
+    let firsts = filter (λ r. nat_lt after r.number && concerns house h f r.firm r.command) (records h) in
+    all_told h f (take 100 firsts) (first_of_them 100 firsts
+    (All-filter (λ r. nat_lt after r.number && concerns house h f r.firm r.command) (λ r. IsWithinLimits r.command) (records h) (numbered_within 1 h within)))

@@ -10,7 +10,7 @@ use Rattle.gu_base.specs.declared.entry.Entry.{Entry}
 use Rattle.gu_base.specs.declared.entry.Record.{Record}
 use Rattle.gu_base.specs.declared.report.Report.{Report}
 use Rattle.gu_trace.specs.Concerns.{concerns}
-use Rattle.gu_trace.specs.Reports.{report_of, told, reports_for}
+use Rattle.gu_trace.specs.Reports.{report_of, told}
 use Rattle.std.proofs.lemmas.Bool.{false_from_ne_true}
 
 all_behind : (after k : ℕ) (h : List Entry) → after < k → filter (λ r. nat_lt after r.number) (numbered_from k h) ≡ numbered_from k h
@@ -128,11 +128,15 @@ not_told house h f i e within is apart_from =
     ap (λ p. Some p) (sym (ap (λ b. cond b (report_of h f (numbered_as (i + 1) e) e.command) None) apart_from))
     ∙ sym (ap (option_map (λ d. told house h f (numbered_as (i + 1) d))) (slice_get_read h (length h) i e refl within is))
 
+-- the first 100 reports of a walk over the entries above a number
+abbrev pub walk : List ℕ → List Entry → List ℕ → ℕ → List Report
+walk house h f after = take 100 (filter_map (told house h f) (filter (λ r. nat_lt after r.number) (records h)))
+
 -- behind the last entry all is found, and so it is with a full reading
 pub all_found : (house : List ℕ) (h : List Entry) (f : List ℕ) (after i : ℕ) (found : List Report) → length h ≤ i
-    → filled found (rest (told house h f) h i) ≡ reports_for house h f after → found ≡ reports_for house h f after
+    → filled found (rest (told house h f) h i) ≡ walk house h f after → found ≡ walk house h f after
 all_found house h f after i found past so_far = sym (filled_end found (rest (told house h f) h i) (rest_past (told house h f) h i past)) ∙ so_far
 
 pub full_found : (house : List ℕ) (h : List Entry) (f : List ℕ) (after i : ℕ) (found : List Report) → length found ≡ 100
-    → filled found (rest (told house h f) h i) ≡ reports_for house h f after → found ≡ reports_for house h f after
+    → filled found (rest (told house h f) h i) ≡ walk house h f after → found ≡ walk house h f after
 full_found house h f after i found full so_far = sym (filled_full found (rest (told house h f) h i) full) ∙ so_far

@@ -1,5 +1,5 @@
 -- What a firm is told of the entries that concern it, with the fields of an AllocationReport.
-use Rattle.std.specs.Prelude.{ℕ, ◌+◌, ◌||◌, if◌then◌else◌, nat_lt, List, [], ◌∷◌, take, filter, sum_by, Option, Some, None, option_map, option_and_then, bytes_eq}
+use Rattle.std.specs.Prelude.{ℕ, ◌+◌, ◌&&◌, ◌||◌, if◌then◌else◌, nat_lt, List, [], ◌∷◌, take, filter, sum_by, Option, Some, None, option_map, option_and_then, bytes_eq}
 use Rattle.std.specs.List.{filter_map}
 use Rattle.gu_base.specs.Numbers.{EntryPart}
 use Rattle.gu_base.specs.History.{records}
@@ -100,6 +100,10 @@ told house h f r = if concerns house h f r.firm r.command then report_of h f r r
 abbrev pub most_reports : ℕ
 most_reports = 100
 
--- the reports of the first 100 entries numbered above `after` that concern the firm
+-- the first 100 entries numbered above `after` that concern the firm
+abbrev pub entries_for : List ℕ → List Entry → List ℕ → ℕ → List Record
+entries_for house h f after = take most_reports (filter (λ r. nat_lt after r.number && concerns house h f r.firm r.command) (records h))
+
+-- their reports. An entry that names a node without a trade would have none; a book has no such entry
 abbrev pub reports_for : List ℕ → List Entry → List ℕ → ℕ → List Report
-reports_for house h f after = take most_reports (filter_map (told house h f) (filter (λ r. nat_lt after r.number) (records h)))
+reports_for house h f after = filter_map (λ r. report_of h f r r.command) (entries_for house h f after)

@@ -167,11 +167,13 @@ fn append_lines(text: &mut String, book: &Book, rows: &[Row]) -> Result<(), Memo
 ///
 /// # Errors
 ///
-/// `NoLiveTrade` where the number is of no live trade, `Memory` where a growth was refused. Both leave `out` as it was.
+/// `NoLiveTrade` exactly where the number is of no live trade, `Memory` where a growth was refused, of a live trade alone. Both leave
+/// `out` as it was.
 pub fn trace(alloc: Global, book: &Book, trade: Number, out: &mut Vec<u8>) -> Result<(), TraceError>
     ensures text { OnOk result (out.new.items ≡ out.old.items ++ trace_text book.now.house book.now.history trade) }
     ensures live { OnOk result (is_live_trade (live book.now.history) trade ≡ true) }
     ensures none { result ≡ Err errors.NoLiveTrade → is_live_trade (live book.now.history) trade ≡ false }
+    ensures memory { result ≡ Err errors.Memory → is_live_trade (live book.now.history) trade ≡ true }
     ensures unchanged { OnErr result (out.new.items ≡ out.old.items) }
 {
     let Some(rows) = book.tree_rows(alloc, trade)? else {

@@ -1,10 +1,11 @@
 //! What a firm is told of the entries that concern it.
-ghost use Rattle.std.specs.Prelude.{◌≡◌, ◌≤◌, ◌<◌, ◌+◌, ◌^◌, length, sum_by, slice_get, option_map, bytes_eq, ◌||◌, if◌then◌else◌, IfOk};
+ghost use Rattle.std.specs.Prelude.{◌≡◌, ◌≤◌, ◌<◌, ◌+◌, ◌^◌, length, map, sum_by, slice_get, option_map, bytes_eq, ◌||◌, if◌then◌else◌, true, IfOk, IfSome, OnErr};
 ghost use Rattle.std.specs.List.{All};
 ghost use Rattle.gu_base.specs.History.{numbered_as};
 ghost use Rattle.gu_base.specs.Limits.{most_entries, most_parts};
 ghost use Rattle.gu_book.specs.Limits.{IsWithinLimits, PartsWithinLimits};
-ghost use Rattle.gu_trace.specs.Reports.{most_reports, report_with, report_part, shown_or_not, parts_shown, claimed_part, no_part, split_report, decision_report, change_report, reversal_report, report_of, told, reports_for};
+ghost use Rattle.gu_trace.specs.Concerns.{concerns};
+ghost use Rattle.gu_trace.specs.Reports.{most_reports, report_with, report_part, shown_or_not, parts_shown, claimed_part, no_part, split_report, decision_report, change_report, reversal_report, report_of, told, entries_for, reports_for};
 
 use crate::concern::concerns;
 use crate::lookup::{Deal, deal_of, entry_at, lots_at, node_at};
@@ -341,7 +342,8 @@ fn told(
     requires few { length entries.now ≤ most_entries }
     requires there { place < length entries.now }
     requires within { All (λ e. IsWithinLimits e.command) entries.now }
-    ensures { IfOk result (λ o. Some o ≡ option_map (λ e. told house.now entries.now firm.now (numbered_as (place + 1) e)) (slice_get entries.now place)) }
+    ensures value { IfOk result (λ o. Some o ≡ option_map (λ e. told house.now entries.now firm.now (numbered_as (place + 1) e)) (slice_get entries.now place)) }
+    ensures memory { OnErr result (IfSome (slice_get entries.now place) (λ e. concerns house.now entries.now firm.now e.firm e.command ≡ true)) }
 {
     let e = &entries[place];
     if concerns(house, entries, firm, &e.firm, &e.command) {
@@ -360,9 +362,11 @@ fn told(
 ///
 /// # Errors
 ///
-/// `Memory` where a growth was refused.
+/// `Memory` where a growth was refused, and only where an entry above the number concerns the firm.
 pub fn reports(alloc: Global, book: &Book, firm: &FirmId, after: u32) -> Result<Vec<Report>, Memory>
     ensures value { IfOk result (λ v. v.items ≡ reports_for book.now.house.house book.now.history firm.now after) }
+    ensures each { IfOk result (λ v. map (λ r. r.number) v.items ≡ map (λ r. r.number) (entries_for book.now.house.house book.now.history firm.now after)) }
+    ensures memory { OnErr result (1 ≤ length (entries_for book.now.house.house book.now.history firm.now after)) }
     ensures few { IfOk result (λ v. length v.items ≤ most_reports) }
     ensures short { IfOk result (λ v. All (λ r. length r.parts ≤ most_parts) v.items) }
 {

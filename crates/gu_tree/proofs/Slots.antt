@@ -6,7 +6,7 @@ use Rattle.std.specs.Ordering.{nat_cmp, ordering_index}
 use Rattle.std.proofs.lemmas.Cmp.{ranked}
 use Rattle.std.proofs.lemmas.List.Sorted.{IsNonDecreasingBy-from_default}
 use Rattle.std.proofs.lemmas.Bool.Decides.{Decides-eqb, nat_tests}
-use Rattle.gu_tree.specs.Filing.{Filing, slot_of, last_of, RisesAbove, IsRising, no_filing, IsFiledAt, IsNotFiled, with_slot, without_slot}
+use Rattle.gu_tree.specs.Filing.{Filing, slot_of, last_of, RisesAbove, IsRising, no_filing, IsFiledAt, IsNotFiled, without_slot}
 use Rattle.gu_tree.specs.declared.slot.Slot.{Slot}
 use Rattle.gu_tree.specs.declared.slot.Slot.TheVariants.{Empty}
 
@@ -28,6 +28,10 @@ told : (a b : ℕ) → (a == b) ≡ true → a ≡ b
 told a b q = (Decides-eqb a b).0 q
 
 -- ---- one more entry, above all that are filed
+
+-- the list with one more entry
+abbrev pub with_slot : List Filing → ℕ → Slot → List Filing
+with_slot s e x = s ++ record { entry = e; slot = x } ∷ []
 
 -- an entry above all that are filed has no slot
 pub slot_of-past : (s : List Filing) (e : ℕ) → last_of s < e → slot_of s e ≡ Empty

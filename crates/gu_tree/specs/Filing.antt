@@ -53,10 +53,6 @@ pub record IsFiledAt (s : List Filing) (e i : ℕ) : Type 0 where
 abbrev pub IsNotFiled : List Filing → ℕ → Type 0
 IsNotFiled s e = (i : ℕ) → i < length s → (slice_index_or s i no_filing).entry ≢ e
 
--- the list with one more entry
-abbrev pub with_slot : List Filing → ℕ → Slot → List Filing
-with_slot s e x = s ++ record { entry = e; slot = x } ∷ []
-
 -- the list in which the entry has named nothing
 abbrev pub without_slot : List Filing → ℕ → List Filing
 without_slot [] e = []

@@ -3,7 +3,7 @@ ghost use Rattle.std.specs.Prelude.{◌≡◌, ◌≤◌, length, find, unwrap_o
 ghost use Rattle.gu_base.specs.Limits.{most_entries};
 ghost use Rattle.gu_base.specs.Same.{same_command};
 ghost use Rattle.gu_base.specs.Fees.{charges};
-ghost use Rattle.gu_base.specs.History.{records, live};
+ghost use Rattle.gu_base.specs.History.{records, live, RisesFrom};
 ghost use Rattle.gu_base.specs.Answers.{is_same_call, is_same_id, answer_by, status_of};
 ghost use Rattle.gu_base.specs.declared.entry.Answer.{Answer};
 ghost use Rattle.gu_base.specs.declared.entry.Answer.TheVariants.{Repeated, Refused};
@@ -14,13 +14,11 @@ ghost use Rattle.gu_book.specs.Index.{AreIdsOf, IsIndexOf};
 ghost use Rattle.gu_consent.specs.Given.{given};
 ghost use Rattle.gu_fees.specs.Sums.{AreSumsOf};
 
-use crate::index::{Ids, Index};
+use crate::index::Ids;
 use crate::plain::naming::naming_refusal;
 use crate::plain::refusals::change_refusal;
-use gu_base::{AllocId, Answer, Command, Entry, FirmId, Number, Record, Refusal, State};
-use gu_consent::Consents;
-use gu_fees::Fees;
-use gu_parties::House;
+use crate::plain::standing::Standing;
+use gu_base::{AllocId, Answer, Command, Entry, FirmId, Number, Refusal, State};
 
 /// The answer to a call whose firm and id this entry has.
 fn known_answer(number: Number, e: &Entry, command: &Command) -> Answer
@@ -78,87 +76,63 @@ fn status_of(by: &FirmId, command: &Command) -> State
 }
 
 /// Why a command is refused, but for what stands on a change.
-fn front_refusal(
-    house: &House,
-    entries: &[Entry],
-    records: &[Record],
-    fees: &Fees,
-    index: &Index,
-    consents: &Consents,
-    by: &FirmId,
-    command: &Command,
-) -> Option<Refusal>
-    requires indexed { IsIndexOf index.now entries.now }
-    requires charged { AreSumsOf fees.now (charges house.now records.now) }
-    requires few { length entries.now ≤ most_entries }
-    requires live { records.now ≡ live entries.now }
-    ensures { result ≡ front_refusal house.now entries.now (given consents.now) by.now command.now }
+fn front_refusal(at: &Standing<'_>, by: &FirmId, command: &Command) -> Option<Refusal>
+    requires indexed { IsIndexOf at.now.index.now at.now.entries.now }
+    requires charged { AreSumsOf at.now.fees.now (charges at.now.house.now at.now.records.now) }
+    requires few { length at.now.entries.now ≤ most_entries }
+    requires live { at.now.records.now ≡ live at.now.entries.now }
+    requires rises { RisesFrom 1 at.now.records.now }
+    ensures { result ≡ front_refusal at.now.house.now at.now.entries.now (given at.now.consents.now) by.now command.now }
 {
     match command {
         Command::Initiate { entry } | Command::Decline { entry } | Command::Reverse { entry } => {
-            if !house.firm(by) {
+            if !at.house.firm(by) {
                 return Some(Refusal::UnknownFirm);
             }
-            naming_refusal(
-                house, entries, records, index, consents, by, command, *entry,
-            )
+            naming_refusal(at, by, command, *entry)
         }
-        _ => change_refusal(house, records, fees, by, command),
+        _ => change_refusal(at.house, at.records, at.fees, by, command),
     }
 }
 
 /// The answer to a call whose id no entry has, if nothing stood on any change.
-fn new_answer(
-    house: &House,
-    entries: &[Entry],
-    records: &[Record],
-    fees: &Fees,
-    index: &Index,
-    consents: &Consents,
-    by: &FirmId,
-    command: &Command,
-) -> Answer
-    requires indexed { IsIndexOf index.now entries.now }
-    requires charged { AreSumsOf fees.now (charges house.now records.now) }
-    requires few { length entries.now ≤ most_entries }
-    requires live { records.now ≡ live entries.now }
-    ensures { result ≡ front_rules house.now entries.now (given consents.now) by.now command.now }
+fn new_answer(at: &Standing<'_>, by: &FirmId, command: &Command) -> Answer
+    requires indexed { IsIndexOf at.now.index.now at.now.entries.now }
+    requires charged { AreSumsOf at.now.fees.now (charges at.now.house.now at.now.records.now) }
+    requires few { length at.now.entries.now ≤ most_entries }
+    requires live { at.now.records.now ≡ live at.now.entries.now }
+    requires rises { RisesFrom 1 at.now.records.now }
+    ensures { result ≡ front_rules at.now.house.now at.now.entries.now (given at.now.consents.now) by.now command.now }
 {
-    if entries.len() >= Number::MAX as usize {
+    if at.entries.len() >= Number::MAX as usize {
         return Answer::Refused(Refusal::BookFull);
     }
-    if let Some(refusal) = front_refusal(
-        house, entries, records, fees, index, consents, by, command,
-    ) {
+    if let Some(refusal) = front_refusal(at, by, command) {
         return Answer::Refused(refusal);
     }
     Answer::Accepted {
-        number: Number::at_place(entries.len()),
+        number: Number::at_place(at.entries.len()),
         status: status_of(by, command),
     }
 }
 
-/// The answer to a call, at a history with these live changes, index and consents, if nothing stood on any change.
+/// The answer to a call, at a history and what is kept beside it, if nothing stood on any change.
 pub(crate) fn front_answer(
-    house: &House,
-    entries: &[Entry],
-    records: &[Record],
-    fees: &Fees,
-    index: &Index,
-    consents: &Consents,
+    at: &Standing<'_>,
     by: &FirmId,
     id: &AllocId,
     command: &Command,
 ) -> Answer
-    requires once { NoIdTwice entries.now }
-    requires indexed { IsIndexOf index.now entries.now }
-    requires charged { AreSumsOf fees.now (charges house.now records.now) }
-    requires few { length entries.now ≤ most_entries }
-    requires live { records.now ≡ live entries.now }
-    ensures { result ≡ front_answer house.now entries.now (given consents.now) (record { firm = by.now; id = id.now; command = command.now }) }
+    requires once { NoIdTwice at.now.entries.now }
+    requires indexed { IsIndexOf at.now.index.now at.now.entries.now }
+    requires charged { AreSumsOf at.now.fees.now (charges at.now.house.now at.now.records.now) }
+    requires few { length at.now.entries.now ≤ most_entries }
+    requires live { at.now.records.now ≡ live at.now.entries.now }
+    requires rises { RisesFrom 1 at.now.records.now }
+    ensures { result ≡ front_answer at.now.house.now at.now.entries.now (given at.now.consents.now) (record { firm = by.now; id = id.now; command = command.now }) }
 {
-    if let Some(answer) = known(&index.ids, entries, by, id, command) {
+    if let Some(answer) = known(&at.index.ids, at.entries, by, id, command) {
         return answer;
     }
-    new_answer(house, entries, records, fees, index, consents, by, command)
+    new_answer(at, by, command)
 }

@@ -1,15 +1,15 @@
 //! Why an Initiate, a Decline or a Reverse is refused, but for what stands on the change.
 ghost use Rattle.std.specs.Prelude.{◌≡◌, ◌≤◌, ◌+◌, ℕ, length, take, option_map, Some, None};
 ghost use Rattle.gu_base.specs.Limits.{most_entries};
-ghost use Rattle.gu_base.specs.History.{numbered_as, is_change, live};
+ghost use Rattle.gu_base.specs.History.{numbered_as, is_change, live, RisesFrom};
 ghost use Rattle.gu_base.specs.Consents.{of_node, taker_and_giver, giver_alone, parties_of};
 ghost use Rattle.gu_base.specs.Answers.{entry_of, on_change};
 ghost use Rattle.gu_book.specs.Front.{own_refusal, own_of};
 ghost use Rattle.gu_book.specs.Index.{IsIndexOf};
 ghost use Rattle.gu_consent.specs.Given.{given};
 
-use crate::index::Index;
 use crate::plain::nodes::node_of;
+use crate::plain::standing::Standing;
 use gu_base::{Command, Entry, FirmId, Kind, Node, Number, Record, Refusal};
 use gu_consent::Consents;
 use gu_parties::House;
@@ -65,6 +65,7 @@ fn parties_of(
     by: &FirmId,
     command: &Command,
 ) -> ([FirmId; 2], usize)
+    requires { RisesFrom 1 records.now }
     ensures value { take result.1 result.0 ≡ parties_of house.now records.now by.now command.now }
     ensures fits { result.1 ≤ 2 }
 {
@@ -112,64 +113,48 @@ fn own_refusal(
 
 /// Why a command that names this entry is refused.
 fn entry_refusal(
-    house: &House,
-    entries: &[Entry],
-    records: &[Record],
-    index: &Index,
-    consents: &Consents,
+    at: &Standing<'_>,
     by: &FirmId,
     command: &Command,
     number: Number,
     e: &Entry,
 ) -> Option<Refusal>
-    requires indexed { IsIndexOf index.now entries.now }
-    requires few { length entries.now ≤ most_entries }
-    requires live { records.now ≡ live entries.now }
-    ensures { result ≡ on_change house.now entries.now by.now (own_of house.now entries.now (given consents.now) by.now command.now) (Some (numbered_as number e.now)) }
+    requires indexed { IsIndexOf at.now.index.now at.now.entries.now }
+    requires few { length at.now.entries.now ≤ most_entries }
+    requires live { at.now.records.now ≡ live at.now.entries.now }
+    requires rises { RisesFrom 1 at.now.records.now }
+    ensures { result ≡ on_change at.now.house.now at.now.entries.now by.now (own_of at.now.house.now at.now.entries.now (given at.now.consents.now) by.now command.now) (Some (numbered_as number e.now)) }
 {
     if !is_change(&e.command) {
         return Some(Refusal::NotAChange);
     }
-    if let Some(reversal) = index.reversals.number(number) {
+    if let Some(reversal) = at.index.reversals.number(number) {
         return Some(Refusal::AlreadyReversed(reversal));
     }
-    let (firms, count) = parties_of(house, records, &e.firm, &e.command);
+    let (firms, count) = parties_of(at.house, at.records, &e.firm, &e.command);
     let parties = &firms[..count];
     if !by.is_among(parties) {
         return Some(Refusal::NotAParty);
     }
-    own_refusal(consents, number, parties, by, command)
+    own_refusal(at.consents, number, parties, by, command)
 }
 
 /// Why a command that names the entry of this number is refused.
 pub(crate) fn naming_refusal(
-    house: &House,
-    entries: &[Entry],
-    records: &[Record],
-    index: &Index,
-    consents: &Consents,
+    at: &Standing<'_>,
     by: &FirmId,
     command: &Command,
     number: Number,
 ) -> Option<Refusal>
-    requires indexed { IsIndexOf index.now entries.now }
-    requires few { length entries.now ≤ most_entries }
-    requires live { records.now ≡ live entries.now }
-    ensures { result ≡ on_change house.now entries.now by.now (own_of house.now entries.now (given consents.now) by.now command.now) (entry_of entries.now number) }
+    requires indexed { IsIndexOf at.now.index.now at.now.entries.now }
+    requires few { length at.now.entries.now ≤ most_entries }
+    requires live { at.now.records.now ≡ live at.now.entries.now }
+    requires rises { RisesFrom 1 at.now.records.now }
+    ensures { result ≡ on_change at.now.house.now at.now.entries.now by.now (own_of at.now.house.now at.now.entries.now (given at.now.consents.now) by.now command.now) (entry_of at.now.entries.now number) }
 {
     let place = number.get() as usize - 1;
-    if place >= entries.len() {
+    if place >= at.entries.len() {
         return Some(Refusal::UnknownEntry);
     }
-    entry_refusal(
-        house,
-        entries,
-        records,
-        index,
-        consents,
-        by,
-        command,
-        number,
-        &entries[place],
-    )
+    entry_refusal(at, by, command, number, &at.entries[place])
 }

@@ -1,11 +1,11 @@
-use Rattle.std.proofs.Common.{◌≡◌, ◌≤◌, ◌<◌, ◌++◌, ◌+◌, [], ◌∷◌, sym, ◌∙◌, ap, subst, arith, length, List}
-use Rattle.std.specs.List.{All}
+use Rattle.std.proofs.Common.{◌≡◌, refl, ◌≤◌, ◌<◌, ◌++◌, ◌+◌, [], ◌∷◌, ◌∙◌, ap, arith, length}
+use Rattle.std.specs.Prelude.{slice_get}
 use Rattle.std.proofs.lemmas.List.{length-append}
-use Rattle.gu_base.specs.declared.report.Report.{Report}
-use Rattle.gu_trace.specs.Reports.{told, reports_for}
+use Rattle.gu_trace.specs.Reports.{told, entries_for}
 use Rattle.gu_trace.proofs.Within.{run_within}
-use Rattle.gu_trace.proofs.Walk.{rest, filled, filled_start, all_found, full_found, walked_past, walked_on}
-use Rattle.gu_trace.proofs.Short.{IsShort, reports_short}
+use Rattle.gu_trace.proofs.Walk.{rest, filled, filled_start, walk, all_found, full_found, walked_past, walked_on}
+use Rattle.gu_trace.proofs.Each.{reading}
+use Rattle.gu_trace.proofs.Concerned.{one_concerns, one_told, on_err}
 use Rattle.gu_trace.proofs.telling.reports.Goals as goal
 use Rattle.gu_trace.proofs.telling.reports.Goals.{in-Some+in_ok-push-in-Some, in-None}
 
@@ -22,7 +22,7 @@ pub loop-place-preserved : goal.loop-place-preserved
 loop-place-preserved c =
     let h = c.history-entries.result.now in
     let f = told c.house-house.result h c.args.firm.now in
-    let whole = reports_for c.house-house.result h c.args.firm.now c.args.after in
+    let whole = walk c.house-house.result h c.args.firm.now c.args.after in
     let i = c.loop-place.place in
     let found = c.loop-place.found.items in
     let room : length found < 100 = omega arith in
@@ -35,34 +35,72 @@ loop-place-preserved c =
         so_far =
             ap (λ v. filled v.items (rest f h (i + 1))) w.found-is
             ∙ (ap (λ xs. filled xs (rest f h (i + 1))) w.in_ok-push-in-Some.ensures.items
-            ∙ walked_on f h i found whole w.in-Some.report (rw w.in-Some.is at c.in_ok-outcome.ensures) room c.loop-place.invariant.so_far);
+            ∙ walked_on f h i found whole w.in-Some.report (rw w.in-Some.is at c.in_ok-outcome.ensures.value) room c.loop-place.invariant.so_far);
       }
       | in-None w ↦ record {
         bound = let here : length c.match-outcome.found.items ≡ length found = ap (λ v. length v.items) w.found-is in omega (arith, here);
         so_far =
             ap (λ v. filled v.items (rest f h (i + 1))) w.found-is
-            ∙ walked_past f h i found whole (rw w.in-None.is at c.in_ok-outcome.ensures) c.loop-place.invariant.so_far;
+            ∙ walked_past f h i found whole (rw w.in-None.is at c.in_ok-outcome.ensures.value) c.loop-place.invariant.so_far;
       }
     ]
 
 pub returns-clause-value : goal.returns-clause-value
 returns-clause-value c =
     let past : length c.history-entries.result.now ≤ c.loop-place.place = omega arith in
-    rw (c.house-house.ensures, c.house.ensures, c.history-entries.ensures.value) at
-    (all_found c.house-house.result c.history-entries.result.now c.args.firm.now c.args.after c.loop-place.place c.loop-place.found.items past c.loop-place.invariant.so_far)
+    let all = rw (c.house-house.ensures, c.house.ensures, c.history-entries.ensures.value) at
+    (all_found c.house-house.result c.history-entries.result.now c.args.firm.now c.args.after c.loop-place.place c.loop-place.found.items past c.loop-place.invariant.so_far) in
+    (reading c.args.book.now.house c.args.book.now.history c.args.firm.now c.args.after c.loop-place.found.items c.history-entries.ensures.run all).value
+
+pub returns-clause-each : goal.returns-clause-each
+returns-clause-each c =
+    let past : length c.history-entries.result.now ≤ c.loop-place.place = omega arith in
+    let all = rw (c.house-house.ensures, c.house.ensures, c.history-entries.ensures.value) at
+    (all_found c.house-house.result c.history-entries.result.now c.args.firm.now c.args.after c.loop-place.place c.loop-place.found.items past c.loop-place.invariant.so_far) in
+    (reading c.args.book.now.house c.args.book.now.history c.args.firm.now c.args.after c.loop-place.found.items c.history-entries.ensures.run all).each
 
 pub returns-clause-short : goal.returns-clause-short
 returns-clause-short c =
     let past : length c.history-entries.result.now ≤ c.loop-place.place = omega arith in
-    let is = rw (c.house-house.ensures, c.house.ensures, c.history-entries.ensures.value) at
+    let all = rw (c.house-house.ensures, c.house.ensures, c.history-entries.ensures.value) at
     (all_found c.house-house.result c.history-entries.result.now c.args.firm.now c.args.after c.loop-place.place c.loop-place.found.items past c.loop-place.invariant.so_far) in
-    subst (λ (rs : List Report). All IsShort rs) (sym is)
-    (reports_short c.args.book.now.house.house c.args.book.now.history c.args.firm.now c.args.after (run_within c.args.book.now.house c.args.book.now.history c.history-entries.ensures.run))
+    (reading c.args.book.now.house c.args.book.now.history c.args.firm.now c.args.after c.loop-place.found.items c.history-entries.ensures.run all).short
+
+pub returns-then-len-eq-MOST_REPORTS-clause-value : goal.returns-then-len-eq-MOST_REPORTS-clause-value
+returns-then-len-eq-MOST_REPORTS-clause-value c =
+    let full : length c.loop-place.found.items ≡ 100 = omega arith in
+    let all = rw (c.house-house.ensures, c.house.ensures, c.history-entries.ensures.value) at
+    (full_found c.house-house.result c.history-entries.result.now c.args.firm.now c.args.after c.loop-place.place c.loop-place.found.items full c.loop-place.invariant.so_far) in
+    (reading c.args.book.now.house c.args.book.now.history c.args.firm.now c.args.after c.loop-place.found.items c.history-entries.ensures.run all).value
+
+pub returns-then-len-eq-MOST_REPORTS-clause-each : goal.returns-then-len-eq-MOST_REPORTS-clause-each
+returns-then-len-eq-MOST_REPORTS-clause-each c =
+    let full : length c.loop-place.found.items ≡ 100 = omega arith in
+    let all = rw (c.house-house.ensures, c.house.ensures, c.history-entries.ensures.value) at
+    (full_found c.house-house.result c.history-entries.result.now c.args.firm.now c.args.after c.loop-place.place c.loop-place.found.items full c.loop-place.invariant.so_far) in
+    (reading c.args.book.now.house c.args.book.now.history c.args.firm.now c.args.after c.loop-place.found.items c.history-entries.ensures.run all).each
 
 pub returns-then-len-eq-MOST_REPORTS-clause-short : goal.returns-then-len-eq-MOST_REPORTS-clause-short
 returns-then-len-eq-MOST_REPORTS-clause-short c =
     let full : length c.loop-place.found.items ≡ 100 = omega arith in
-    let is = rw (c.house-house.ensures, c.house.ensures, c.history-entries.ensures.value) at
+    let all = rw (c.house-house.ensures, c.house.ensures, c.history-entries.ensures.value) at
     (full_found c.house-house.result c.history-entries.result.now c.args.firm.now c.args.after c.loop-place.place c.loop-place.found.items full c.loop-place.invariant.so_far) in
-    subst (λ (rs : List Report). All IsShort rs) (sym is)
-    (reports_short c.args.book.now.house.house c.args.book.now.history c.args.firm.now c.args.after (run_within c.args.book.now.house c.args.book.now.history c.history-entries.ensures.run))
+    (reading c.args.book.now.house c.args.book.now.history c.args.firm.now c.args.after c.loop-place.found.items c.history-entries.ensures.run all).short
+
+pub returns-in_err-outcome-clause-memory : goal.returns-in_err-outcome-clause-memory
+returns-in_err-outcome-clause-memory c =
+    let h = c.history-entries.result.now in
+    let behind : c.args.after ≤ c.loop-place.place = omega arith in
+    let within : c.loop-place.place < length h = omega arith in
+    let some = rw (c.house-house.ensures, c.house.ensures, c.history-entries.ensures.value) at
+    (one_concerns c.house-house.result h c.args.firm.now c.args.after c.loop-place.place (slice_get h c.loop-place.place) refl behind within c.in_err-outcome.ensures.memory) in
+    on_err (1 ≤ length (entries_for c.args.book.now.house.house c.args.book.now.history c.args.firm.now c.args.after)) c.from_residual.result some
+
+pub returns-in_err-push-in-Some-clause-memory : goal.returns-in_err-push-in-Some-clause-memory
+returns-in_err-push-in-Some-clause-memory c =
+    let h = c.history-entries.result.now in
+    let behind : c.args.after ≤ c.loop-place.place = omega arith in
+    let within : c.loop-place.place < length h = omega arith in
+    let some = rw (c.house-house.ensures, c.house.ensures, c.history-entries.ensures.value) at
+    (one_told c.house-house.result h c.args.firm.now c.args.after c.loop-place.place c.in-Some.report behind within (rw c.in-Some.is at c.in_ok-outcome.ensures.value)) in
+    on_err (1 ≤ length (entries_for c.args.book.now.house.house c.args.book.now.history c.args.firm.now c.args.after)) c.from_residual-in_err-push-in-Some.result some

@@ -1,7 +1,7 @@
 use Rattle.std.proofs.Common.{◌≡◌, ℕ, ◌+◌, ◌<◌, ◌≤◌, true, List, length, map, ap, subst, ◌∙◌, refl, arith}
 use Rattle.std.specs.Prelude.{Some}
 use Rattle.std.proofs.lemmas.Bool.Decides.{nat_tests}
-use Rattle.gu_session.specs.declared.kept.Kept.{Kept}
+use Rattle.gu_session.specs.Keeping.{Kept}
 use Rattle.gu_session.specs.declared.link.Link.{Link}
 use Rattle.gu_session.specs.Steps.{Seen, fits, tells, kept_from, tellings, new, time_of}
 use Rattle.gu_session.specs.Text.{wire}
@@ -30,7 +30,7 @@ keep_fresh-requires c =
     let answers = rw link at c.answers.ensures in
     let has = rw link at c.has_numbers.ensures in
     let kept = ap (λ (t : List Kept). length t) (rw link at c.in_ok-fresh.ensures.kept) in
-    grind (arith, nat_tests, len, answers, has, kept, c.if-not-has_numbers.false, c.in_ok-fresh.fresh.ok.0)
+    grind (arith, nat_tests, len, answers, has, kept, c.if-not-has_numbers.false)
 
 pub returns-clause-ok : goal.returns-clause-ok
 returns-clause-ok c =
@@ -41,10 +41,10 @@ returns-clause-ok c =
     let len = length-tellings time s.link.out s.link.waiting c.args.answer.now c.args.reports.now in
     let answers = rw link at c.answers.ensures in
     let has = rw link at c.has_numbers.ensures in
-    let fresh : c.in_ok-fresh.fresh.items ≡ ms = rw link at c.in_ok-fresh.ensures.kept in
+    let fresh : c.in_ok-fresh.fresh ≡ ms = rw link at c.in_ok-fresh.ensures.kept in
     let fits_before : fits s.link ≡ true = subst (λ (l : Link). fits l ≡ true) link c.self.invariant in
     let few : s.link.out + length ms ≤ 1000000000 = grind (arith, nat_tests, len, answers, has, c.if-not-has_numbers.false) in
-    let house = ap (λ (h : List ℕ). wire h (Some c.args.firm) time (map new c.in_ok-fresh.fresh.items)) c.house-house.ensures in
-    let seen = ap (λ (t : Seen). wire t.house.house (Some c.args.firm) time (map new c.in_ok-fresh.fresh.items)) c.self.view_is in
+    let house = ap (λ (h : List ℕ). wire h (Some c.args.firm) time (map new c.in_ok-fresh.fresh)) c.house-house.ensures in
+    let seen = ap (λ (t : Seen). wire t.house.house (Some c.args.firm) time (map new c.in_ok-fresh.fresh)) c.self.view_is in
     let send = c.in_ok-fresh.ensures.send ∙ house ∙ seen ∙ ap (λ (t : List Kept). wire s.house.house (Some c.args.firm) time (map new t)) fresh in
     tells_give c.args.moment s _ c.args.firm ms _ c.requires.firm fits_before few (c.in_ok-keep_fresh.ensures.ok ∙ ap (λ (t : List Kept). (tells c.args.moment s t).after) fresh) send refl refl

@@ -1,0 +1,32 @@
+-- The book may go to another thread: what it owns says the same to each.
+use denote.Param.Send.{IsSend, sendable}
+use Rattle.std.proofs.Crossing.{crosses}
+use Rattle.std.specs.contracts.alloc.Global as heap
+use Rattle.std.specs.contracts.impls.GlobalAllocator.TheImpl.{ghosts}
+use Rattle.gu_base.proofs.numbers.Number.TheSendSync as number
+use Rattle.gu_base.proofs.entry.Entry.TheSendSync as entry
+use Rattle.gu_base.proofs.entry.Record.TheSendSync as made
+use Rattle.gu_parties.proofs.house.House.TheSendSync as house
+use Rattle.gu_consent.proofs.Consents.TheSendSync as consents
+use Rattle.gu_fees.proofs.fees.Fees.TheSendSync as fees
+use Rattle.gu_positions.proofs.positions.Positions.TheSendSync as positions
+use Rattle.gu_book.proofs.index.Index.TheSendSync as index
+use Rattle.gu_tree.proofs.head.Head.TheSendSync as head
+use Rattle.gu_tree.proofs.slot.Filed.TheSendSync as filed
+use Rattle.gu_tree.proofs.node.Node.TheLaws.TheKnot as knot
+use Rattle.gu_tree.specs.contracts.node.Node as Node
+use Rattle.gu_tree.specs.contracts.tree.Tree as Tree
+use Rattle.gu_tree.specs.contracts.trees.Trees as Trees
+use Rattle.gu_book.specs.contracts.book.Book as Book
+
+node_send : IsSend (Node.the_row heap.the_row ghosts)
+node_send = search (knot.send-Node, head.the_send, number.the_send, crosses, sendable) depth 12
+
+tree_send : IsSend (Tree.the_row heap.the_row ghosts)
+tree_send = search (node_send, crosses, sendable) depth 12
+
+trees_send : IsSend (Trees.the_row heap.the_row ghosts)
+trees_send = search (tree_send, filed.the_send, crosses, sendable) depth 12
+
+pub book_send : IsSend Book.the_row
+book_send = search (house.the_send, entry.the_send, made.the_send, trees_send, consents.the_field_send, index.the_field_send, fees.the_send, positions.the_send, crosses, sendable) depth 20

@@ -1,0 +1,89 @@
+-- Running rows of positions, into which holdings are put one by one.
+use Rattle.std.proofs.Common.{◌≡◌, ℕ, ◌+◌, ◌<◌, ◌≤◌, Bool, true, false, ◌&&◌, List, [], ◌∷◌, ◌++◌, length, take, drop, get_or, sym, ◌∙◌, ap, arith, Option, cond, append-nil}
+use Rattle.std.specs.Prelude.{Some, None, filter_map, sum_by, IfSome}
+use Rattle.std.specs.List.{cons_option}
+use Rattle.std.proofs.lemmas.List.{take_more}
+use Rattle.std.proofs.lemmas.List.Elements.{All-head, All-tail, All-push, All-weaker, filter_map-append}
+use Rattle.std.proofs.lemmas.List.Sums.{sum_by-cons}
+use Rattle.gu_base.specs.Positions.{same_side}
+use Rattle.gu_base.specs.declared.command.Side.{Side}
+use Rattle.gu_base.specs.declared.node.Place.{Place}
+use Rattle.gu_positions.specs.Rows.{PositionRows, lots_in, is_key, IsReady, CanAdd}
+use Rattle.gu_positions.specs.declared.positions.Key.{Key}
+use Rattle.gu_book.specs.Holdings.{held_at, counted_at, AreReady, HaveRoom, HaveMoved}
+use Rattle.gu_book.specs.declared.plain.holdings.Holding.{Holding}
+use Rattle.gu_book.specs.declared.plain.holdings.Traded.{Traded}
+use Rattle.gu_book.proofs.Steps.{drop_here}
+
+-- what one element more gives
+pub given_more : {X Y : Type 0} (f : X → Option Y) (xs : List X) (i : ℕ) (x : X) → i < length xs → x ≡ get_or xs i x
+    → filter_map f (take (i + 1) xs) ≡ filter_map f (take i xs) ++ cons_option (f x) []
+given_more f xs i x within here =
+    ap (filter_map f) (take_more xs i x within)
+    ∙ (filter_map-append f (take i xs) (get_or xs i x ∷ []) ∙ ap (λ y. filter_map f (take i xs) ++ cons_option (f y) []) (sym here))
+
+-- what the elements from place i on give begins with what the one there gives
+pub given_here : {X Y : Type 0} (f : X → Option Y) (xs : List X) (i : ℕ) (x : X) → i < length xs → x ≡ get_or xs i x
+    → filter_map f (drop i xs) ≡ cons_option (f x) (filter_map f (drop (i + 1) xs))
+given_here f xs i x within here = ap (filter_map f) (drop_here xs i x within here)
+
+pub ready_more : (old new : PositionRows) (hs : List Holding) (h : Holding) → AreReady old hs → ((at : Key) → IsReady old at → IsReady new at) → IsReady new h.key → AreReady new (hs ++ h ∷ [])
+ready_more old new hs h all stays here =
+    All-push (λ (h : Holding). IsReady new h.key) hs h (All-weaker (λ (h : Holding). IsReady old h.key) (λ (h : Holding). IsReady new h.key) (λ h is. stays h.key is) hs all) here
+
+at_most : (b : Bool) (n : ℕ) → cond b n 0 ≤ n
+at_most true n = omega arith
+at_most false n = omega arith
+
+pub can_add : (rows : PositionRows) (h : Holding) (hs : List Holding) → HaveRoom rows (h ∷ hs) → CanAdd rows h.key h.side h.lots
+can_add rows h hs room =
+    let sum = sum_by-cons (λ (h : Holding). h.lots) h hs in
+    let fits = room.fits h.key h.side in
+    record { ready = (All-head (λ (h : Holding). IsReady rows h.key) h hs room.ready).rows h.side; fits = omega (arith, sum, fits) }
+
+-- room is left for the others
+pub room_left : (old new : PositionRows) (h : Holding) (hs : List Holding) → HaveRoom old (h ∷ hs)
+    → ((at : Key) (s : Side) → lots_in new at s ≡ lots_in old at s + counted_at at s h) → ((at : Key) → IsReady old at → IsReady new at) → HaveRoom new hs
+room_left old new h hs room added stays =
+    let sum = sum_by-cons (λ (h : Holding). h.lots) h hs in
+    record {
+      ready = All-weaker (λ (h : Holding). IsReady old h.key) (λ (h : Holding). IsReady new h.key) (λ h is. stays h.key is) hs (All-tail (λ (h : Holding). IsReady old h.key) h hs room.ready);
+      fits = λ at side.
+          let more = added at side in
+          let most = at_most (is_key h.key at && same_side h.side side) h.lots in
+          let fits = room.fits at side in
+          omega (arith, sum, more, most, fits);
+    }
+
+pub moved_here : (new old : PositionRows) (first : ℕ) (h : Holding) (hs : List Holding) (at : Key) (side : Side) → lots_in new at side ≡ lots_in old at side + counted_at at side h
+    → lots_in old at side + sum_by (counted_at at side) (h ∷ hs) ≡ first → lots_in new at side + sum_by (counted_at at side) hs ≡ first
+moved_here new old first h hs at side added moved = let sum = sum_by-cons (counted_at at side) h hs in omega (arith, sum, added, moved)
+
+-- what is taken out first, and then what is put in
+pub taken_then_added : (old now new : PositionRows) (h : Holding) (hs : List Holding) → ((at : Key) (s : Side) → lots_in now at s + counted_at at s h ≡ lots_in old at s)
+    → HaveMoved now new None hs → HaveMoved old new (Some h) hs
+taken_then_added old now new h hs taken added = λ at side. let a = taken at side in let b = added at side in omega (arith, a, b)
+
+pub room_taken : (old now : PositionRows) (h : Holding) (hs : List Holding) → ((at : Key) (s : Side) → lots_in now at s + counted_at at s h ≡ lots_in old at s)
+    → ((at : Key) → IsReady old at → IsReady now at) → HaveRoom old hs → HaveRoom now hs
+room_taken old now h hs taken stays room = record {
+  ready = All-weaker (λ (h : Holding). IsReady old h.key) (λ (h : Holding). IsReady now h.key) (λ h is. stays h.key is) hs room.ready;
+  fits = λ at side. let a = taken at side in let b = room.fits at side in omega (arith, a, b);
+}
+
+pub some_here : {X Y : Type 0} (f : X → Option Y) (xs : List X) (i : ℕ) (x : X) (y : Y) → i < length xs → x ≡ get_or xs i x → Some y ≡ f x → filter_map f (drop i xs) ≡ y ∷ filter_map f (drop (i + 1) xs)
+some_here f xs i x y within here is = given_here f xs i x within here ∙ ap (λ o. cons_option o (filter_map f (drop (i + 1) xs))) (sym is)
+
+pub none_here : {X Y : Type 0} (f : X → Option Y) (xs : List X) (i : ℕ) (x : X) → i < length xs → x ≡ get_or xs i x → None ≡ f x → filter_map f (drop i xs) ≡ filter_map f (drop (i + 1) xs)
+none_here f xs i x within here is = given_here f xs i x within here ∙ ap (λ o. cons_option o (filter_map f (drop (i + 1) xs))) (sym is)
+
+pub some_more : {X Y : Type 0} (f : X → Option Y) (xs : List X) (i : ℕ) (x : X) (y : Y) → i < length xs → x ≡ get_or xs i x → Some y ≡ f x → filter_map f (take (i + 1) xs) ≡ filter_map f (take i xs) ++ y ∷ []
+some_more f xs i x y within here is = given_more f xs i x within here ∙ ap (λ o. filter_map f (take i xs) ++ cons_option o []) (sym is)
+
+pub none_more : {X Y : Type 0} (f : X → Option Y) (xs : List X) (i : ℕ) (x : X) → i < length xs → x ≡ get_or xs i x → None ≡ f x → filter_map f (take (i + 1) xs) ≡ filter_map f (take i xs)
+none_more f xs i x within here is = given_more f xs i x within here ∙ (ap (λ o. filter_map f (take i xs) ++ cons_option o []) (sym is) ∙ append-nil (filter_map f (take i xs)))
+
+pub held_small : (o : Option Place) (w : Option Traded) (n most : ℕ) → n ≤ most → IfSome (held_at o w n) (λ h. h.lots ≤ most)
+held_small None w n most h = tt
+held_small (Some p) None n most h = tt
+held_small (Some p) (Some w) n most h = h

@@ -1,0 +1,538 @@
+-- What a change moves from one account to another.
+use Rattle.std.proofs.Common.{◌≡◌, ℕ, zero, suc, ◌+◌, ◌≤◌, Bool, true, false, not, ◌&&◌, ◌||◌, List, [], ◌∷◌, ◌++◌, length, length-append, refl, sym, ◌∙◌, ap, subst, arith, Option, cond, All, Contains}
+use Rattle.std.specs.Prelude.{Some, None, find, filter, filter_map, map, sum_by, count_by, is_some, is_none, ◌==◌, option_and_then, option_map, unwrap_or, bytes_eq}
+use Rattle.std.specs.Option.{option_or}
+use Rattle.std.specs.List.{cons_option}
+use Rattle.std.proofs.Math.Bool.{and-false, or-true}
+use Rattle.std.proofs.lemmas.List.Elements.{All-weaker, All-contains}
+use Rattle.std.proofs.lemmas.List.Folds.{find-append}
+use Rattle.std.proofs.lemmas.List.Sums.{sum_by-cons}
+use Rattle.std.proofs.lemmas.Option.{same_Some}
+use Rattle.std.proofs.lemmas.Slice.Eq.{bytes_eq-Decides}
+use Rattle.gu_base.specs.Numbers.{EntryPart}
+use Rattle.gu_base.specs.House.{House}
+use Rattle.gu_base.specs.Nodes.{node_of, nodes, nodes_of_parts, same_name, kind_of_part, parent, split_of, splits, decision_of, decides, claimed_account, claim_of, is_given, is_offered}
+use Rattle.gu_base.specs.Places.{line_within, line_of, place_along, place_of, place_of_kind, root_along, root_of, same_place}
+use Rattle.gu_base.specs.Positions.{is_trade_of, trades_in, stands_at, same_side}
+use Rattle.gu_base.specs.Refusals.{split_row, claim_row, refuse_row, cancel_row, is_taker, is_giver}
+use Rattle.gu_base.specs.SameLaws.{same_name-Decides}
+use Rattle.gu_base.specs.SamePartsLaws.{number_same}
+use Rattle.gu_base.specs.declared.command.Part.{Part}
+use Rattle.gu_base.specs.declared.command.Side.{Side}
+use Rattle.gu_base.specs.declared.command.Command.{Command}
+use Rattle.gu_base.specs.declared.command.Command.TheVariants.{Trade, Split, Claim, Refuse, Cancel, Initiate, Decline, Reverse}
+use Rattle.gu_base.specs.declared.entry.Record.{Record}
+use Rattle.gu_base.specs.declared.node.Kind.{Kind}
+use Rattle.gu_base.specs.declared.node.Kind.TheVariants.{Root, Own, Given}
+use Rattle.gu_base.specs.declared.node.Node.{Node}
+use Rattle.gu_base.specs.declared.node.Place.{Place}
+use Rattle.gu_base.specs.declared.state.State.{State}
+use Rattle.gu_base.proofs.Basics.{or_false, or_none, none_is_some, no_some, nothing_here, bytes_symm}
+use Rattle.gu_base.proofs.Lines.{line_more, node_more}
+use Rattle.gu_base.proofs.NodeNames.{name_is, name_same, node_called, made, made_of, part_parent}
+use Rattle.gu_base.proofs.Passing.{at_node_none, split_passes, claim_passes, decision_passes, offered_of}
+use Rattle.gu_base.proofs.Searches.{found_in, find_passes}
+use Rattle.gu_base.proofs.Sums.{sum_agree_on}
+use Rattle.gu_depend.specs.Moves.{lots_at, named_by}
+use Rattle.gu_depend.specs.Under.{names}
+use Rattle.gu_depend.proofs.Finds.{counts_none, count_cons, count_append, found_once}
+use Rattle.gu_depend.proofs.Grown.{NamesThere, place_same, line_of_grown, above}
+use Rattle.gu_depend.proofs.LastMoves.{IsBefore, trades_kept, split_kept, sum_filter}
+use Rattle.gu_depend.proofs.Replay.{NumbersOnce}
+use Rattle.gu_depend.proofs.Settled.{Settled, SettledAs}
+use Rattle.gu_positions.specs.declared.positions.Key.{Key}
+use Rattle.gu_book.specs.Holdings.{traded_by, traded_at, held_at, holding_of, taken_by, part_holding, added_by, counted_at, taken_at}
+use Rattle.gu_book.specs.declared.plain.holdings.Holding.{Holding}
+use Rattle.gu_book.specs.declared.plain.holdings.Traded.{Traded}
+use Rattle.gu_book.proofs.Leaves.{sum_of_names, found_member}
+use Rattle.gu_book.proofs.Sound.{Sound, IsSoundNext, none_yet, split_push, unsplit_push, found_here}
+use Rattle.gu_book.proofs.Sums.{sum_agree, sum_zero, one_takes}
+
+-- ---- what was traded
+
+-- whether it is of the instrument and on the side
+abbrev pub told : List ℕ → Side → Option Traded → Bool
+told instrument side None = false
+told instrument side (Some t) = bytes_eq t.instrument instrument && same_side t.side side
+
+abbrev asked : {X : Type 0} → (X → Bool) → Option X → Bool
+asked q None = false
+asked q (Some x) = q x
+
+none_of_both : {X : Type 0} (p q : X → Bool) (xs : List X) → find p xs ≡ None → find (λ x. p x && q x) xs ≡ None
+none_of_both p q [] h = refl
+none_of_both p q (x ∷ xs) h =
+    let a = nothing_here (p x) x (find p xs) h in
+    ap (λ b. cond (b && q x) (Some x) (find (λ x. p x && q x) xs)) a.0 ∙ none_of_both p q xs a.1
+
+kept_alone : {X : Type 0} (b : Bool) (x : X) (o : Option X) → o ≡ None → is_some (cond b (Some x) o) ≡ b
+kept_alone true x o e = refl
+kept_alone false x o e = ap is_some e
+
+one_found_at : {X : Type 0} (p q : X → Bool) (x : X) (xs : List X) → (count_by p xs ≤ 1 → is_some (find (λ x. p x && q x) xs) ≡ asked q (find p xs)) → (b : Bool) → cond b 1 0 + count_by p xs ≤ 1
+    → is_some (cond (b && q x) (Some x) (find (λ x. p x && q x) xs)) ≡ asked q (cond b (Some x) (find p xs))
+one_found_at p q x xs rest true once = kept_alone (q x) x (find (λ x. p x && q x) xs) (none_of_both p q xs (counts_none p xs (omega (arith, once))))
+one_found_at p q x xs rest false once = rest (omega (arith, once))
+
+-- where at most one passes the first test, both are passed where that one passes the second
+one_found : {X : Type 0} (p q : X → Bool) (xs : List X) → count_by p xs ≤ 1 → is_some (find (λ x. p x && q x) xs) ≡ asked q (find p xs)
+one_found p q [] once = refl
+one_found p q (x ∷ xs) once = let a = count_cons p x xs in one_found_at p q x xs (one_found p q xs) (p x) (omega (arith, a, once))
+
+told_by : (instrument : List ℕ) (side : Side) (c : Command) → is_trade_of instrument side c ≡ told instrument side (traded_by c)
+told_by instrument side (Trade _ _ _ _ _) = refl
+told_by instrument side (Split _ _) = refl
+told_by instrument side (Claim _ _) = refl
+told_by instrument side (Refuse _) = refl
+told_by instrument side (Cancel _) = refl
+told_by instrument side (Initiate _) = refl
+told_by instrument side (Decline _) = refl
+told_by instrument side (Reverse _) = refl
+
+told_found : (instrument : List ℕ) (side : Side) (o : Option Record) → asked (λ r. is_trade_of instrument side r.command) o ≡ told instrument side (option_and_then (λ r. traded_by r.command) o)
+told_found instrument side None = refl
+told_found instrument side (Some r) = told_by instrument side r.command
+
+told_root : (l : List Record) → NumbersOnce l → (instrument : List ℕ) (side : Side) (o : Option EntryPart)
+    → is_some (option_and_then (λ t. find (λ r. (r.number == t.entry) && is_trade_of instrument side r.command) l) o)
+    ≡ told instrument side (option_and_then (λ root. option_and_then (λ r. traded_by r.command) (find (λ r. r.number == root.entry) l)) o)
+told_root l once instrument side None = refl
+told_root l once instrument side (Some p) =
+    one_found (λ r. r.number == p.entry) (λ r. is_trade_of instrument side r.command) l (once p.entry) ∙ told_found instrument side (find (λ r. r.number == p.entry) l)
+
+-- a node's trade is of the instrument and on the side where what was traded is
+pub trades_told : (l : List Record) → NumbersOnce l → (instrument : List ℕ) (side : Side) (n : EntryPart) → trades_in l instrument side n ≡ told instrument side (traded_at l n)
+trades_told l once instrument side n = told_root l once instrument side (root_of l n)
+
+-- ---- what a node counts
+
+abbrev pub key_at : Place → List ℕ → Key
+key_at at instrument = record { firm = at.firm; account = at.account; instrument = instrument }
+
+four : (a b c d : Bool) → ((a && b) && (c && d)) ≡ ((a && (b && c)) && d)
+four true true c d = refl
+four true false c d = refl
+four false b c d = refl
+
+places_alike : (a b : Place) → same_place a b ≡ same_place b a
+places_alike a b =
+    ap (λ c. c && bytes_eq a.account b.account) (bytes_symm a.firm b.firm) ∙ ap (λ c. bytes_eq b.firm a.firm && c) (bytes_symm a.account b.account)
+
+held_counts : (at : Place) (instrument : List ℕ) (side : Side) (o : Option Place) (t : Option Traded) (lots : ℕ)
+    → cond (unwrap_or (option_map (same_place at) o) false && told instrument side t) lots 0 ≡ taken_at (key_at at instrument) side (held_at o t lots)
+held_counts at instrument side None t lots = refl
+held_counts at instrument side (Some p) None lots = ap (λ b. cond b lots 0) (and-false (same_place at p))
+held_counts at instrument side (Some p) (Some t) lots =
+    ap (λ b. cond b lots 0)
+    (ap (λ b. b && (bytes_eq t.instrument instrument && same_side t.side side)) (places_alike at p)
+    ∙ four (bytes_eq p.firm at.firm) (bytes_eq p.account at.account) (bytes_eq t.instrument instrument) (same_side t.side side))
+
+-- a leaf counts its lots where it stands
+lots_held : (l : List Record) (at : Place) (instrument : List ℕ) (side : Side) (x : Node) (o : Option Place) (t : Option Traded) → split_of l x.name ≡ None → place_of l x.name ≡ o
+    → trades_in l instrument side x.name ≡ told instrument side t → lots_at l at instrument side x ≡ taken_at (key_at at instrument) side (held_at o t x.lots)
+lots_held l at instrument side x o t whole stands trades =
+    ap (λ s. cond (is_none s) (cond (stands_at l at x.name && trades_in l instrument side x.name) x.lots 0) 0) whole
+    ∙ (ap (λ p. cond (unwrap_or (option_map (same_place at) p) false && trades_in l instrument side x.name) x.lots 0) stands
+    ∙ (ap (λ b. cond (unwrap_or (option_map (same_place at) o) false && b) x.lots 0) trades
+    ∙ held_counts at instrument side o t x.lots))
+
+pub lots_of_leaf : (l : List Record) → NumbersOnce l → (at : Place) (instrument : List ℕ) (side : Side) (x : Node) → split_of l x.name ≡ None
+    → lots_at l at instrument side x ≡ taken_at (key_at at instrument) side (holding_of l x)
+lots_of_leaf l once at instrument side x whole =
+    lots_held l at instrument side x (place_of l x.name) (traded_at l x.name) whole refl (trades_told l once instrument side x.name)
+
+-- what is split counts nothing
+lots_of_split : (l : List Record) (at : Place) (instrument : List ℕ) (side : Side) (x : Node) (r : Record) → split_of l x.name ≡ Some r → lots_at l at instrument side x ≡ 0
+lots_of_split l at instrument side x r e = ap (λ s. cond (is_none s) (cond (stands_at l at x.name && trades_in l instrument side x.name) x.lots 0) 0) e
+
+-- ---- sums
+
+none_kept : {X : Type 0} (f : X → ℕ) (xs : List X) → sum_by f (filter (λ x. false) xs) ≡ 0
+none_kept f [] = refl
+none_kept f (x ∷ xs) = none_kept f xs
+
+counts_or : (at : Key) (side : Side) (o : Option Holding) (hs : List Holding) → sum_by (counted_at at side) (cons_option o hs) ≡ taken_at at side o + sum_by (counted_at at side) hs
+counts_or at side None hs = omega arith
+counts_or at side (Some h) hs = sum_by-cons (counted_at at side) h hs
+
+same_lots : (l : List Record) (f : Node → ℕ) (n : EntryPart) (x y : Node) → node_of l n ≡ Some y → node_of l x.name ≡ Some x → (b : Bool) → same_name n x.name ≡ b → cond b (f x) 0 ≡ cond b (f y) 0
+same_lots l f n x y found e true is = ap f (same_Some x y (sym e ∙ (sym (ap (node_of l) (name_is n x.name is)) ∙ found)))
+same_lots l f n x y found e false is = refl
+
+-- one node has the name
+sum_named : (l : List Record) (bound : ℕ) → Sound l bound → (n : EntryPart) (x : Node) → node_of l n ≡ Some x → (f : Node → ℕ) → sum_by f (filter (λ x. same_name n x.name) (nodes l)) ≡ f x
+sum_named l bound s n y found f =
+    sum_filter f (λ (x : Node). same_name n x.name) (nodes l)
+    ∙ (sum_agree_on (λ (x : Node). cond (same_name n x.name) (f x) 0) (λ (x : Node). cond (same_name n x.name) (f y) 0) (nodes l)
+    (All-weaker (λ (x : Node). node_of l x.name ≡ Some x) (λ (x : Node). cond (same_name n x.name) (f x) 0 ≡ cond (same_name n x.name) (f y) 0)
+    (λ x e. same_lots l f n x y found e (same_name n x.name) refl) (nodes l) s.found)
+    ∙ (sum_of_names (λ m. cond (same_name n m) (f y) 0) (nodes l)
+    ∙ one_takes same_name same_name-Decides n (map (λ x. x.name) (nodes l)) (f y) s.once (found_member n (nodes l) y found)))
+
+-- a Split names it as a Claim does
+sum_split : (l : List Record) (bound : ℕ) → Sound l bound → (n : EntryPart) (ps : List Part) (x : Node) → node_of l n ≡ Some x → (f : Node → ℕ) → sum_by f (filter (λ x. names x.name (Split n ps)) (nodes l)) ≡ f x
+sum_split l bound s n ps x found f =
+    ap (sum_by f) (names_split n ps (nodes l)) ∙ sum_named l bound s n x found f
+  where
+    names_split : (n : EntryPart) (ps : List Part) (xs : List Node) → filter (λ x. names x.name (Split n ps)) xs ≡ filter (λ x. same_name n x.name) xs
+    names_split n ps [] = refl
+    names_split n ps (x ∷ xs) =
+        ap (λ b. cond b (x ∷ filter (λ x. names x.name (Split n ps)) xs) (filter (λ x. names x.name (Split n ps)) xs)) (or_false (same_name n x.name))
+        ∙ ap (λ ys. cond (same_name n x.name) (x ∷ ys) ys) (names_split n ps xs)
+
+-- ---- a node that is offered has no Split
+
+free_as : (t : House) (l : List Record) (by : List ℕ) (c : Command) (n : EntryPart) (x : Node) → SettledAs t l by c → splits n c ≡ true → node_of l n ≡ Some x → not (is_offered l x) ≡ true
+free_as t l by (Split m ps) n x s is found =
+    subst (λ (z : Node). not (is_offered l z) ≡ true) (same_Some s.node x (sym s.there ∙ (ap (node_of l) (name_is m n is) ∙ found))) s.holds.free
+free_as t l by (Trade _ _ _ _ _) n x s is found = absurd (cc)
+free_as t l by (Claim _ _) n x s is found = absurd (cc)
+free_as t l by (Refuse _) n x s is found = absurd (cc)
+free_as t l by (Cancel _) n x s is found = absurd (cc)
+free_as t l by (Initiate _) n x s is found = absurd (cc)
+free_as t l by (Decline _) n x s is found = absurd (cc)
+free_as t l by (Reverse _) n x s is found = absurd (cc)
+
+not_both : (b : Bool) → not b ≡ true → b ≡ true → ⊥
+not_both true a b = cc
+not_both false a b = cc
+
+offered_whole : (t : House) (l : List Record) (n : EntryPart) (x : Node) → All (Settled t l) l → node_of l n ≡ Some x → is_offered l x ≡ true → split_of l n ≡ None
+offered_whole t l n x settled found offered =
+    no_some (split_of l n) (λ d e.
+    let s = All-contains (Settled t l) l d settled (found_in (λ r. splits n r.command) l d e) in
+    not_both (is_offered l x) (free_as t l d.firm d.command n x s.stands (find_passes (λ r. splits n r.command) l d e) found) offered)
+
+given_parent : (k : Kind) → is_given k ≡ true → (m : EntryPart) × (parent k ≡ Some m)
+given_parent (Root _) h = absurd (cc)
+given_parent (Own _ _ _) h = absurd (cc)
+given_parent (Given m _ _) h = (m, refl)
+
+-- ---- what each change counts
+
+-- a list that one change more follows
+pub record IsCounted (t : House) (l : List Record) (r : Record) : Type 0 where
+  pub last : IsBefore t l r
+  pub bound : ℕ
+  pub behind : bound ≤ r.number
+  pub sound : Sound l bound
+  pub next : IsSoundNext l r
+  pub settled : All (Settled t l) l
+  pub stand : (x : Node) → node_of l x.name ≡ Some x → (p : Place) × (place_of l x.name ≡ Some p)
+
+-- one suc
+pushed_length : (l : List Record) (r : Record) → length (l ++ r ∷ []) ≡ suc (length l)
+pushed_length l r = omega (arith, length-append l (r ∷ []))
+
+-- a node that isn't there is not decided
+undecided_yet : (l : List Record) (n : EntryPart) → All (NamesThere l) l → node_of l n ≡ None → decision_of l n ≡ None
+undecided_yet l n named none =
+    no_some (decision_of l n) (λ d e.
+    let is = find_passes (λ r. decides n r.command) l d e in
+    let y = All-contains (NamesThere l) l d named (found_in (λ r. decides n r.command) l d e) n (ap (λ b. splits n d.command || b) is ∙ or-true (splits n d.command)) in
+    none_is_some (node_of l n) y.0 none y.1)
+
+module _ {t : House} {l : List Record} {r : Record} (c : IsCounted t l r) where
+  -- the line of a node above which stands a node of the list
+  line_up : (x y : Node) (m : EntryPart) → node_of (l ++ r ∷ []) x.name ≡ Some x → parent x.kind ≡ Some m → node_of l m ≡ Some y → line_of (l ++ r ∷ []) x.name ≡ x ∷ line_of (l ++ r ∷ []) m
+  line_up x y m found up there =
+      let k = l ++ r ∷ [] in
+      let there_now = node_more l (r ∷ []) m y there in
+      ap (line_within (length k) k) found
+      ∙ (ap (λ f. line_within f k (Some x)) (pushed_length l r)
+      ∙ ap (λ xs. x ∷ xs)
+      (ap (λ o. line_within (length l) k (option_and_then (node_of k) o)) up
+      ∙ (ap (line_within (length l) k) there_now
+      ∙ (line_more (length l) l (r ∷ []) c.sound.parents m y there
+      ∙ (sym (ap (line_within (length l) l) there)
+      ∙ line_of_grown k l c.last.grown m y there)))))
+
+  -- where it stands then
+  place_up : (x y : Node) (m : EntryPart) (o : Option (List ℕ)) → node_of (l ++ r ∷ []) x.name ≡ Some x → parent x.kind ≡ Some m → node_of l m ≡ Some y → claim_of (l ++ r ∷ []) x.name ≡ o
+      → place_of (l ++ r ∷ []) x.name ≡ place_of_kind x.kind o (place_of (l ++ r ∷ []) m)
+  place_up x y m o found up there claims =
+      ap (place_along (l ++ r ∷ [])) (line_up x y m found up there) ∙ ap (λ a. place_of_kind x.kind a (place_of (l ++ r ∷ []) m)) claims
+
+  -- a line begins with its node
+  line_begins : (m : EntryPart) (y : Node) → node_of l m ≡ Some y → (above : List Node) × (line_of (l ++ r ∷ []) m ≡ y ∷ above)
+  line_begins m y there =
+      let k = l ++ r ∷ [] in (
+        line_within (length l) k (option_and_then (node_of k) (parent y.kind)),
+        ap (line_within (length k) k) (node_more l (r ∷ []) m y there) ∙ ap (λ f. line_within f k (Some y)) (pushed_length l r),
+      )
+
+  -- it is in the tree of the node above
+  root_up : (x y : Node) (m : EntryPart) → node_of (l ++ r ∷ []) x.name ≡ Some x → parent x.kind ≡ Some m → node_of l m ≡ Some y → root_of (l ++ r ∷ []) x.name ≡ root_of (l ++ r ∷ []) m
+  root_up x y m found up there =
+      let b = line_begins m y there in
+      ap root_along (line_up x y m found up there) ∙ (ap (λ xs. root_along (x ∷ xs)) b.1 ∙ sym (ap root_along b.1))
+
+  trades_up : (instrument : List ℕ) (side : Side) (x y : Node) (m : EntryPart) → node_of (l ++ r ∷ []) x.name ≡ Some x → parent x.kind ≡ Some m → node_of l m ≡ Some y
+      → trades_in (l ++ r ∷ []) instrument side x.name ≡ trades_in l instrument side m
+  trades_up instrument side x y m found up there =
+      ap (λ o. is_some (option_and_then (λ p. find (λ d. (d.number == p.entry) && is_trade_of instrument side d.command) (l ++ r ∷ [])) o)) (root_up x y m found up there)
+      ∙ trades_kept c.last instrument side m y there
+
+  once_before : NumbersOnce l
+  once_before n =
+      let a = count_append (λ (d : Record). d.number == n) l (r ∷ []) in
+      let b = c.last.once n in
+      omega (arith, a, b)
+
+  decision_push : (m : EntryPart) → decision_of (l ++ r ∷ []) m ≡ option_or (decision_of l m) (cond (decides m r.command) (Some r) None)
+  decision_push m = find-append (λ d. decides m d.command) l (r ∷ [])
+
+  decision_kept : (m : EntryPart) → decides m r.command ≡ false → decision_of l m ≡ decision_of (l ++ r ∷ []) m
+  decision_kept m un = sym (decision_push m ∙ (ap (λ b. option_or (decision_of l m) (cond b (Some r) None)) un ∙ or_none (decision_of l m)))
+
+-- what was taken and what the nodes count behind the change is what they counted before it and what was added
+pub record Balances (at : Place) (instrument : List ℕ) (side : Side) (l : List Record) (r : Record) : Type 0 where
+  pub there : taken_at (key_at at instrument) side (taken_by l r.command) ≤ sum_by (lots_at l at instrument side) (named_by l r)
+  pub equal : taken_at (key_at at instrument) side (taken_by l r.command)
+      + sum_by (lots_at (l ++ r ∷ []) at instrument side) (named_by l r) + sum_by (lots_at (l ++ r ∷ []) at instrument side) (made r)
+      ≡ sum_by (lots_at l at instrument side) (named_by l r) + sum_by (counted_at (key_at at instrument) side) (added_by r.firm r.command (taken_by l r.command))
+
+-- ---- a Trade
+
+root_line : (f : ℕ) (l : List Record) (x : Node) → parent x.kind ≡ None → line_within (suc f) l (Some x) ≡ x ∷ []
+root_line f l x up = ap (λ o. x ∷ line_within f l (option_and_then (node_of l) o)) up ∙ ap (λ xs. x ∷ xs) (no_line f l)
+  where
+    no_line : (f : ℕ) (l : List Record) → line_within f l None ≡ []
+    no_line zero l = refl
+    no_line (suc f) l = refl
+
+trade_balances : (t : House) (l : List Record) (k : ℕ) (by id firm account instrument : List ℕ) (side : Side) (lots : ℕ) (status : State)
+    → IsCounted t l (record { number = k; firm = by; id = id; command = Trade firm account instrument side lots; status = status })
+    → (at : Place) (i : List ℕ) (s : Side) → Balances at i s l (record { number = k; firm = by; id = id; command = Trade firm account instrument side lots; status = status })
+trade_balances t l k by id firm account instrument side lots status c at i s =
+    let r : Record = record { number = k; firm = by; id = id; command = Trade firm account instrument side lots; status = status } in
+    let n : EntryPart = record { entry = k; part = 0 } in
+    let x : Node = record { name = n; lots = lots; kind = Root (record { firm = firm; account = account }) } in
+    let whole = unsplit_push l c.bound r c.sound c.behind c.next n (omega arith) in
+    let found : node_of (l ++ r ∷ []) n ≡ Some x = found_here l c.bound r c.sound c.behind c.next x (ap (λ b. cond b (Some x) None) (name_same n)) in
+    let line : line_of (l ++ r ∷ []) n ≡ x ∷ [] =
+    ap (line_within (length (l ++ r ∷ [])) (l ++ r ∷ [])) found ∙ (ap (λ f. line_within f (l ++ r ∷ []) (Some x)) (pushed_length l r) ∙ root_line (length l) (l ++ r ∷ []) x refl) in
+    let stands : place_of (l ++ r ∷ []) n ≡ Some (record { firm = firm; account = account }) = ap (place_along (l ++ r ∷ [])) line in
+    let own : find (λ d. d.number == k) (l ++ r ∷ []) ≡ Some r = found_once (λ (d : Record). d.number == k) (l ++ r ∷ []) r (last_contained l r) (number_same k) (c.last.once k) in
+    let traded : traded_at (l ++ r ∷ []) n ≡ Some (record { instrument = instrument; side = side }) =
+    ap (λ o. option_and_then (λ root. option_and_then (λ r. traded_by r.command) (find (λ r. r.number == root.entry) (l ++ r ∷ []))) o) (ap root_along line)
+    ∙ ap (option_and_then (λ (r : Record). traded_by r.command)) own in
+    let h : Holding = record { key = record { firm = firm; account = account; instrument = instrument }; side = side; lots = lots } in
+    let count : lots_at (l ++ r ∷ []) at i s x ≡ counted_at (key_at at i) s h =
+    lots_of_leaf (l ++ r ∷ []) c.last.once at i s x whole ∙ ap (taken_at (key_at at i) s) (ap (λ o. held_at o (traded_at (l ++ r ∷ []) n) lots) stands ∙ ap (λ o. held_at (Some (record { firm = firm; account = account })) o lots) traded) in
+    let a = none_kept (lots_at l at i s) (nodes l) in
+    let b = none_kept (lots_at (l ++ r ∷ []) at i s) (nodes l) in
+    let d = sum_by-cons (lots_at (l ++ r ∷ []) at i s) x [] in
+    let e = sum_by-cons (counted_at (key_at at i) s) h [] in
+    record { there = omega arith; equal = omega (arith, a, b, d, e, count) }
+  where
+    last_contained : (l : List Record) (r : Record) → Contains (l ++ r ∷ []) r
+    last_contained [] r = (zero, omega arith, refl)
+    last_contained (d ∷ l) r = let k = last_contained l r in (suc k.0, omega (arith, k.1), k.2)
+
+-- ---- a Split
+
+part_is : (m : EntryPart) (by : List ℕ) (p : Place) (w : Traded) (total : ℕ) (firm : List ℕ) (account : Option (List ℕ)) (lots : ℕ) (b : Bool)
+    → held_at (place_of_kind (cond b (Own m by account) (Given m by firm)) None (Some p)) (Some w) lots
+    ≡ cond b (option_map (λ a. record { key = record { firm = by; account = a; instrument = w.instrument }; side = w.side; lots = lots }) account)
+    (Some (record { key = record { firm = p.firm; account = p.account; instrument = w.instrument }; side = w.side; lots = lots }))
+part_is m by p w total firm None lots true = refl
+part_is m by p w total firm (Some a) lots true = refl
+part_is m by p w total firm account lots false = refl
+
+-- the parts count what the Split adds
+parts_count : (at : Key) (s : Side) (p : Place) (w : Traded) (total : ℕ) (m : EntryPart) (k i : ℕ) (by : List ℕ) (ps : List Part)
+    → sum_by (λ (y : Node). taken_at at s (held_at (place_of_kind y.kind None (Some p)) (Some w) y.lots)) (nodes_of_parts k i m by ps)
+    ≡ sum_by (counted_at at s) (filter_map (part_holding (record { key = record { firm = p.firm; account = p.account; instrument = w.instrument }; side = w.side; lots = total }) by) ps)
+parts_count at s p w total m k i by [] = refl
+parts_count at s p w total m k i by (q ∷ ps) =
+    let whole : Holding = record { key = record { firm = p.firm; account = p.account; instrument = w.instrument }; side = w.side; lots = total } in
+    let f : Node → ℕ = λ y. taken_at at s (held_at (place_of_kind y.kind None (Some p)) (Some w) y.lots) in
+    let y : Node = record { name = record { entry = k; part = i }; lots = q.lots; kind = kind_of_part m by q } in
+    let a = sum_by-cons f y (nodes_of_parts k (i + 1) m by ps) in
+    let b = counts_or at s (part_holding whole by q) (filter_map (part_holding whole by) ps) in
+    let c = parts_count at s p w total m k (i + 1) by ps in
+    let d : f y ≡ taken_at at s (part_holding whole by q) = ap (taken_at at s) (part_is m by p w total q.firm q.account q.lots (bytes_eq q.firm by)) in
+    omega (arith, a, b, c, d)
+
+held_none : (o : Option Place) (lots : ℕ) → held_at o None lots ≡ None
+held_none None lots = refl
+held_none (Some p) lots = refl
+
+parts_added : (at : Key) (s : Side) (p : Place) (w : Option Traded) (total : ℕ) (m : EntryPart) (k : ℕ) (by : List ℕ) (ps : List Part)
+    → sum_by (λ (y : Node). taken_at at s (held_at (place_of_kind y.kind None (Some p)) w y.lots)) (nodes_of_parts k 1 m by ps)
+    ≡ sum_by (counted_at at s) (added_by by (Split m ps) (held_at (Some p) w total))
+parts_added at s p None total m k by ps =
+    sum_agree (λ (y : Node). taken_at at s (held_at (place_of_kind y.kind None (Some p)) None y.lots)) (λ (y : Node). 0)
+    (λ y. ap (taken_at at s) (held_none (place_of_kind y.kind None (Some p)) y.lots)) (nodes_of_parts k 1 m by ps)
+    ∙ sum_zero (nodes_of_parts k 1 m by ps)
+parts_added at s p (Some w) total m k by ps = parts_count at s p w total m k 1 by ps
+
+split_balances : (t : House) (l : List Record) (k : ℕ) (by id : List ℕ) (m : EntryPart) (ps : List Part) (status : State) (x : Node)
+    → IsCounted t l (record { number = k; firm = by; id = id; command = Split m ps; status = status }) → node_of l m ≡ Some x → split_of l x.name ≡ None
+    → (at : Place) (i : List ℕ) (s : Side) → Balances at i s l (record { number = k; firm = by; id = id; command = Split m ps; status = status })
+split_balances t l k by id m ps status x c there whole at i s =
+    let r : Record = record { number = k; firm = by; id = id; command = Split m ps; status = status } in
+    let called : x.name ≡ m = node_called l m x there in
+    let found : node_of l x.name ≡ Some x = ap (node_of l) called ∙ there in
+    let p = c.stand x found in
+    let stood : place_of l m ≡ Some p.0 = ap (place_of l) (sym called) ∙ p.1 in
+    let w = traded_at l m in
+    let taken : taken_by l (Split m ps) ≡ held_at (Some p.0) w x.lots =
+    ap (option_and_then (holding_of l)) there ∙ (ap (λ o. held_at o (traded_at l x.name) x.lots) p.1 ∙ ap (λ n. held_at (Some p.0) (traded_at l n) x.lots) called) in
+    let before : lots_at l at i s x ≡ taken_at (key_at at i) s (held_at (Some p.0) w x.lots) =
+    lots_held l at i s x (Some p.0) w whole p.1 (trades_told l (once_before c) i s x.name ∙ ap (λ n. told i s (traded_at l n)) called) in
+    let now : split_of (l ++ r ∷ []) x.name ≡ Some r =
+    split_push l r x.name ∙ (ap (λ o. option_or o (cond (splits x.name r.command) (Some r) None)) whole
+    ∙ ap (λ b. cond b (Some r) None) (ap (same_name m) called ∙ name_same m)) in
+    let moved_place : place_of (l ++ r ∷ []) m ≡ Some p.0 = sym (place_same (l ++ r ∷ []) l m x c.last.grown there (decision_kept c m refl)) ∙ stood in
+    let each : All (λ y. lots_at (l ++ r ∷ []) at i s y ≡ taken_at (key_at at i) s (held_at (place_of_kind y.kind None (Some p.0)) w y.lots)) (made r) =
+    All-weaker (λ (y : Node). made_of r y.name ≡ Some y) (λ (y : Node). lots_at (l ++ r ∷ []) at i s y ≡ taken_at (key_at at i) s (held_at (place_of_kind y.kind None (Some p.0)) w y.lots))
+    (λ y e.
+    let own : y.name.entry ≡ k = c.next.own_number y.name y e in
+    let here = found_here l c.bound r c.sound c.behind c.next y e in
+    let up = part_parent y.name m k 1 by ps y e in
+    let unsplit = unsplit_push l c.bound r c.sound c.behind c.next y.name (omega (arith, own)) in
+    let behind : c.bound ≤ k = c.behind in
+    let undecided = undecided_yet l y.name c.last.grown.named (none_yet l c.bound y.name c.sound (omega (arith, own, behind))) in
+    let claims : claim_of (l ++ r ∷ []) y.name ≡ None = ap (option_and_then (λ d. claimed_account d.command)) (sym (decision_kept c y.name refl) ∙ undecided) in
+    lots_held (l ++ r ∷ []) at i s y (place_of_kind y.kind None (Some p.0)) w unsplit
+    (place_up c y x m None here up there claims ∙ ap (place_of_kind y.kind None) moved_place)
+    (trades_up c i s y x m here up there ∙ trades_told l (once_before c) i s m))
+    (made r) c.next.own_found in
+    let one = sum_split l c.bound c.sound m ps x there (lots_at l at i s) in
+    let gone = sum_split l c.bound c.sound m ps x there (lots_at (l ++ r ∷ []) at i s) in
+    let nothing = lots_of_split (l ++ r ∷ []) at i s x r now in
+    let made_now = sum_agree_on (lots_at (l ++ r ∷ []) at i s) (λ (y : Node). taken_at (key_at at i) s (held_at (place_of_kind y.kind None (Some p.0)) w y.lots)) (made r) each in
+    let parts = parts_added (key_at at i) s p.0 w x.lots m k by ps in
+    let took = ap (taken_at (key_at at i) s) taken in
+    let added = ap (λ o. sum_by (counted_at (key_at at i) s) (added_by by (Split m ps) o)) taken in
+    record { there = omega (arith, before, one, took); equal = omega (arith, before, one, gone, nothing, made_now, parts, took, added) }
+
+-- ---- a Claim
+
+taken_place : (by account : List ℕ) (k : Kind) (o : Option Place) → is_taker by k ≡ true → place_of_kind k (Some account) o ≡ Some (record { firm = by; account = account })
+taken_place by account (Root _) o h = absurd (cc)
+taken_place by account (Own _ _ _) o h = absurd (cc)
+taken_place by account (Given _ _ taker) o h = ap (λ (f : List ℕ). Some (let p : Place = record { firm = f; account = account } in p)) ((bytes_eq-Decides taker by).0 h)
+
+-- what is claimed counts in its new account what the Claim adds
+claim_added : (at : Key) (s : Side) (p : Place) (w : Option Traded) (m : EntryPart) (by account : List ℕ) (lots : ℕ)
+    → taken_at at s (held_at (Some (record { firm = by; account = account })) w lots) ≡ sum_by (counted_at at s) (added_by by (Claim m account) (held_at (Some p) w lots))
+claim_added at s p None m by account lots = refl
+claim_added at s p (Some w) m by account lots =
+    let e = sum_by-cons (counted_at at s) (record { key = record { firm = by; account = account; instrument = w.instrument }; side = w.side; lots = lots }) [] in
+    omega (arith, e)
+
+claim_balances : (t : House) (l : List Record) (k : ℕ) (by id : List ℕ) (m : EntryPart) (account : List ℕ) (status : State) (x : Node)
+    → IsCounted t l (record { number = k; firm = by; id = id; command = Claim m account; status = status }) → node_of l m ≡ Some x → is_given x.kind ≡ true → is_taker by x.kind ≡ true → decision_of l x.name ≡ None
+    → (at : Place) (i : List ℕ) (s : Side) → Balances at i s l (record { number = k; firm = by; id = id; command = Claim m account; status = status })
+claim_balances t l k by id m account status x c there given taker undecided at i s =
+    let r : Record = record { number = k; firm = by; id = id; command = Claim m account; status = status } in
+    let called : x.name ≡ m = node_called l m x there in
+    let found : node_of l x.name ≡ Some x = ap (node_of l) called ∙ there in
+    let whole : split_of l x.name ≡ None = offered_whole t l x.name x c.settled found (offered_of l x given undecided) in
+    let p = c.stand x found in
+    let w = traded_at l m in
+    let trades : trades_in l i s x.name ≡ told i s w = trades_told l (once_before c) i s x.name ∙ ap (λ n. told i s (traded_at l n)) called in
+    let taken : taken_by l (Claim m account) ≡ held_at (Some p.0) w x.lots =
+    ap (option_and_then (holding_of l)) there ∙ (ap (λ o. held_at o (traded_at l x.name) x.lots) p.1 ∙ ap (λ n. held_at (Some p.0) (traded_at l n) x.lots) called) in
+    let before : lots_at l at i s x ≡ taken_at (key_at at i) s (held_at (Some p.0) w x.lots) = lots_held l at i s x (Some p.0) w whole p.1 trades in
+    let unsplit : split_of (l ++ r ∷ []) x.name ≡ None = split_kept c.last x.name refl ∙ whole in
+    let claims : claim_of (l ++ r ∷ []) x.name ≡ Some account =
+    ap (option_and_then (λ d. claimed_account d.command)) (decision_push c x.name ∙ (ap (λ o. option_or o (cond (decides x.name r.command) (Some r) None)) undecided
+    ∙ ap (λ b. cond b (Some r) None) (ap (same_name m) called ∙ name_same m))) in
+    let up = given_parent x.kind given in
+    let over = above (l ++ r ∷ []) l x.name up.0 x c.last.grown found up.1 in
+    let stands : place_of (l ++ r ∷ []) x.name ≡ Some (record { firm = by; account = account }) =
+    place_up c x over.node up.0 (Some account) (node_more l (r ∷ []) x.name x found) up.1 over.there claims ∙ taken_place by account x.kind (place_of (l ++ r ∷ []) up.0) taker in
+    let now : lots_at (l ++ r ∷ []) at i s x ≡ taken_at (key_at at i) s (held_at (Some (record { firm = by; account = account })) w x.lots) =
+    lots_held (l ++ r ∷ []) at i s x (Some (record { firm = by; account = account })) w unsplit stands (trades_kept c.last i s x.name x found ∙ trades) in
+    let one = sum_named l c.bound c.sound m x there (lots_at l at i s) in
+    let then_one = sum_named l c.bound c.sound m x there (lots_at (l ++ r ∷ []) at i s) in
+    let adds = claim_added (key_at at i) s p.0 w m by account x.lots in
+    let took = ap (taken_at (key_at at i) s) taken in
+    let added = ap (λ o. sum_by (counted_at (key_at at i) s) (added_by by (Claim m account) o)) taken in
+    record { there = omega (arith, before, one, took); equal = omega (arith, before, now, one, then_one, adds, took, added) }
+
+-- ---- a Refuse or a Cancel: the node stays where it stands
+
+module _ {t : House} {l : List Record} {r : Record} (c : IsCounted t l r) where
+  back_same : (m : EntryPart) (x : Node) → node_of l m ≡ Some x → is_given x.kind ≡ true → decision_of l x.name ≡ None → decides m r.command ≡ true → splits x.name r.command ≡ false → claimed_account r.command ≡ None
+      → (at : Place) (i : List ℕ) (s : Side) → lots_at (l ++ r ∷ []) at i s x ≡ lots_at l at i s x
+  back_same m x there given undecided decides_it unsplits no_claim at i s =
+      let k = l ++ r ∷ [] in
+      let called : x.name ≡ m = node_called l m x there in
+      let found : node_of l x.name ≡ Some x = ap (node_of l) called ∙ there in
+      let up = given_parent x.kind given in
+      let over = above k l x.name up.0 x c.last.grown found up.1 in
+      let claims : claim_of k x.name ≡ None =
+      ap (option_and_then (λ d. claimed_account d.command)) (decision_push c x.name ∙ (ap (λ o. option_or o (cond (decides x.name r.command) (Some r) None)) undecided
+      ∙ ap (λ b. cond b (Some r) None) (ap (λ n. decides n r.command) called ∙ decides_it))) ∙ no_claim in
+      let unclaimed : claim_of l x.name ≡ None = ap (option_and_then (λ d. claimed_account d.command)) undecided in
+      let after : place_of k x.name ≡ place_of_kind x.kind None (place_of k up.0) = place_up c x over.node up.0 None (node_more l (r ∷ []) x.name x found) up.1 over.there claims in
+      let line : line_of l x.name ≡ x ∷ line_of l up.0 =
+      line_of_grown k l c.last.grown x.name x found ∙ (line_up c x over.node up.0 (node_more l (r ∷ []) x.name x found) up.1 over.there
+      ∙ ap (λ xs. x ∷ xs) (sym (line_of_grown k l c.last.grown up.0 over.node over.there))) in
+      let first : place_of l x.name ≡ place_of_kind x.kind None (place_of l up.0) =
+      ap (place_along l) line ∙ ap (λ a. place_of_kind x.kind a (place_of l up.0)) unclaimed in
+      let stays : place_of k x.name ≡ place_of l x.name =
+      after ∙ (ap (place_of_kind x.kind None) (sym (place_same k l up.0 over.node c.last.grown over.there over.decided)) ∙ sym first) in
+      ap (λ o. cond (is_none o) (cond (stands_at k at x.name && trades_in k i s x.name) x.lots 0) 0) (split_kept c.last x.name unsplits)
+      ∙ (ap (λ o. cond (is_none (split_of l x.name)) (cond (unwrap_or (option_map (same_place at) o) false && trades_in k i s x.name) x.lots 0) 0) stays
+      ∙ ap (λ b. cond (is_none (split_of l x.name)) (cond (stands_at l at x.name && b) x.lots 0) 0) (trades_kept c.last i s x.name x found))
+
+  -- what names one node, and makes none and moves none
+  back_balances : (m : EntryPart) (x : Node) → node_of l m ≡ Some x → (at : Place) (i : List ℕ) (s : Side) → lots_at (l ++ r ∷ []) at i s x ≡ lots_at l at i s x
+      → sum_by (lots_at (l ++ r ∷ []) at i s) (filter (λ y. same_name m y.name) (nodes l)) ≡ sum_by (lots_at l at i s) (filter (λ y. same_name m y.name) (nodes l))
+  back_balances m x there at i s same = sum_named l c.bound c.sound m x there (lots_at (l ++ r ∷ []) at i s) ∙ (same ∙ sym (sum_named l c.bound c.sound m x there (lots_at l at i s)))
+
+refuse_balances : (t : House) (l : List Record) (k : ℕ) (by id : List ℕ) (m : EntryPart) (status : State) (x : Node)
+    → IsCounted t l (record { number = k; firm = by; id = id; command = Refuse m; status = status }) → node_of l m ≡ Some x → is_given x.kind ≡ true → decision_of l x.name ≡ None
+    → (at : Place) (i : List ℕ) (s : Side) → Balances at i s l (record { number = k; firm = by; id = id; command = Refuse m; status = status })
+refuse_balances t l k by id m status x c there given undecided at i s =
+    let same = back_balances c m x there at i s (back_same c m x there given undecided (name_same m) refl refl at i s) in
+    record { there = omega arith; equal = omega (arith, same) }
+
+cancel_balances : (t : House) (l : List Record) (k : ℕ) (by id : List ℕ) (m : EntryPart) (status : State) (x : Node)
+    → IsCounted t l (record { number = k; firm = by; id = id; command = Cancel m; status = status }) → node_of l m ≡ Some x → is_given x.kind ≡ true → decision_of l x.name ≡ None
+    → (at : Place) (i : List ℕ) (s : Side) → Balances at i s l (record { number = k; firm = by; id = id; command = Cancel m; status = status })
+cancel_balances t l k by id m status x c there given undecided at i s =
+    let same = back_balances c m x there at i s (back_same c m x there given undecided (name_same m) refl refl at i s) in
+    record { there = omega arith; equal = omega (arith, same) }
+
+-- ---- each change
+
+-- no change: it names nothing
+nothing_balances : (at : Place) (i : List ℕ) (s : Side) (l : List Record) (r : Record) → taken_by l r.command ≡ None → added_by r.firm r.command None ≡ [] → made r ≡ []
+    → ((f : Node → ℕ) → sum_by f (named_by l r) ≡ 0) → Balances at i s l r
+nothing_balances at i s l r takes adds makes none =
+    let a = ap (taken_at (key_at at i) s) takes in
+    let b = ap (λ o. sum_by (counted_at (key_at at i) s) (added_by r.firm r.command o)) takes in
+    let d = ap (sum_by (counted_at (key_at at i) s)) adds in
+    let e = ap (sum_by (lots_at (l ++ r ∷ []) at i s)) makes in
+    let f = none (lots_at l at i s) in
+    let g = none (lots_at (l ++ r ∷ []) at i s) in
+    record { there = omega (arith, a); equal = omega (arith, a, b, d, e, f, g) }
+
+pub balances : (t : House) (l : List Record) (k : ℕ) (by id : List ℕ) (c : Command) (status : State) → IsCounted t l (record { number = k; firm = by; id = id; command = c; status = status })
+    → (at : Place) (i : List ℕ) (s : Side) → Balances at i s l (record { number = k; firm = by; id = id; command = c; status = status })
+balances t l k by id (Trade firm account instrument side lots) status c at i s = trade_balances t l k by id firm account instrument side lots status c at i s
+balances t l k by id (Split m ps) status c at i s =
+    let there = at_node_none (split_row t l by ps) (node_of l m) c.last.accepted in
+    split_balances t l k by id m ps status there.0 c there.1.0 (split_passes t l by ps there.0 there.1.1).1 at i s
+balances t l k by id (Claim m account) status c at i s =
+    let there = at_node_none (claim_row t l by account) (node_of l m) c.last.accepted in
+    let passes = claim_passes t l by account there.0 there.1.1 in
+    claim_balances t l k by id m account status there.0 c there.1.0 passes.0.given passes.0.taker passes.1 at i s
+balances t l k by id (Refuse m) status c at i s =
+    let there = at_node_none (refuse_row l by) (node_of l m) c.last.accepted in
+    let passes = decision_passes l there.0 (is_taker by there.0.kind) there.1.1 in
+    refuse_balances t l k by id m status there.0 c there.1.0 passes.0 passes.1 at i s
+balances t l k by id (Cancel m) status c at i s =
+    let there = at_node_none (cancel_row l by) (node_of l m) c.last.accepted in
+    let passes = decision_passes l there.0 (is_giver by there.0.kind) there.1.1 in
+    cancel_balances t l k by id m status there.0 c there.1.0 passes.0 passes.1 at i s
+balances t l k by id (Initiate e) status c at i s = nothing_balances at i s l (record { number = k; firm = by; id = id; command = Initiate e; status = status }) refl refl refl (λ f. none_kept f (nodes l))
+balances t l k by id (Decline e) status c at i s = nothing_balances at i s l (record { number = k; firm = by; id = id; command = Decline e; status = status }) refl refl refl (λ f. none_kept f (nodes l))
+balances t l k by id (Reverse e) status c at i s = nothing_balances at i s l (record { number = k; firm = by; id = id; command = Reverse e; status = status }) refl refl refl (λ f. none_kept f (nodes l))

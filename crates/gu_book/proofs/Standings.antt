@@ -1,0 +1,216 @@
+-- The running rows of positions, with one change more.
+use Rattle.std.proofs.Common.{◌≡◌, ℕ, ◌+◌, ◌*◌, ◌≤◌, Bool, true, false, not, ◌&&◌, List, [], ◌∷◌, ◌++◌, length, refl, ◌∙◌, ap, arith, Option, cond}
+use Rattle.std.specs.Prelude.{Some, None, filter_map, sum_by, is_none, option_map, bytes_eq, IfSome}
+use Rattle.std.specs.List.{cons_option}
+use Rattle.std.proofs.Math.Nat.{mul-le-mul_right}
+use Rattle.std.proofs.lemmas.List.Elements.{All-head, All-tail}
+use Rattle.std.proofs.lemmas.List.Filters.{sum_by-filter_both}
+use Rattle.std.proofs.lemmas.List.Sums.{sum_by-le, sum_by-cons, sum_by-append, sum_by-le-sum_by}
+use Rattle.std.proofs.lemmas.Slice.Eq.{bytes_eq-Decides}
+use Rattle.gu_base.specs.House.{House}
+use Rattle.gu_base.specs.Numbers.{EntryPart}
+use Rattle.gu_base.specs.Nodes.{nodes, nodes_of, nodes_of_parts, kind_of_part, split_of}
+use Rattle.gu_base.specs.Positions.{position_of, same_side, stands_at, trades_in}
+use Rattle.gu_base.specs.declared.command.Part.{Part}
+use Rattle.gu_base.specs.declared.command.Side.{Side}
+use Rattle.gu_base.specs.declared.command.Side.TheVariants.{Buy, Sell}
+use Rattle.gu_base.specs.declared.command.Command.{Command}
+use Rattle.gu_base.specs.declared.command.Command.TheVariants.{Trade, Split, Claim, Refuse, Cancel, Initiate, Decline, Reverse}
+use Rattle.gu_base.specs.declared.entry.Record.{Record}
+use Rattle.gu_base.specs.declared.node.Kind.TheVariants.{Root}
+use Rattle.gu_base.specs.declared.node.Node.{Node}
+use Rattle.gu_base.specs.declared.node.Place.{Place}
+use Rattle.gu_base.proofs.LegalLaws.{replay_push}
+use Rattle.gu_base.proofs.NodeNames.{made}
+use Rattle.gu_depend.specs.Moves.{lots_at}
+use Rattle.gu_depend.specs.Under.{names}
+use Rattle.gu_depend.proofs.LastMoves.{moves_its_own, is_before, position_is}
+use Rattle.gu_depend.proofs.Replay.{number_once}
+use Rattle.gu_depend.proofs.Settled.{facts}
+use Rattle.gu_depend.proofs.StandsUnder.{rises_distinct}
+use Rattle.gu_positions.specs.Rows.{PositionRows, is_key}
+use Rattle.gu_positions.specs.Sums.{AreSumsOf}
+use Rattle.gu_positions.specs.declared.positions.Key.{Key}
+use Rattle.gu_tree.specs.Grove.{Grove}
+use Rattle.gu_book.specs.Filed.{IsNext}
+use Rattle.gu_book.specs.Holdings.{taken_by, part_holding, added_by, counted_at, taken_at, HasTaken, AreReady, HaveRoom, SameLots, HaveMoved, ArePositionsOf}
+use Rattle.gu_book.specs.Limits.{PartsWithinLimits, IsWithinLimits, AllWithinLimits}
+use Rattle.gu_book.specs.declared.plain.holdings.Holding.{Holding}
+use Rattle.gu_book.proofs.Holdings.{IsCounted, balances, key_at}
+use Rattle.gu_book.proofs.Orders.{sound_before}
+use Rattle.gu_book.proofs.Leaves.{sound_first}
+use Rattle.gu_book.proofs.Placed.{node_stands}
+use Rattle.gu_book.proofs.Refused.{accepted_small}
+use Rattle.gu_book.proofs.SoundNext.{next_from_accepted}
+
+module _ {t : House} {l : List Record} {r : Record} {ts : Grove} (next : IsNext t l r ts) where
+  counted : IsCounted t l r
+  counted =
+      let s = sound_before t [] l r 1 (omega arith) sound_first next.replayed next.rises in
+      record {
+        last = is_before t l r (number_once (l ++ r ∷ []) (rises_distinct 1 (l ++ r ∷ []) next.rises)) (replay_push t [] l r next.replayed next.lawful);
+        bound = s.0;
+        behind = s.2;
+        sound = s.3;
+        next = next_from_accepted t l r (let a : 1 ≤ s.0 = s.1 in let b : s.0 ≤ r.number = s.2 in omega (arith, a, b)) next.lawful;
+        settled = (facts t l next.replayed).settled;
+        stand = λ x e. let p = node_stands t l s.0 s.3 next.replayed x e in (p.place, p.is);
+      }
+
+  -- the positions have lost what was taken and have what was added
+  pub position_moved : (at : Place) (instrument : List ℕ) (side : Side)
+      → position_of (l ++ r ∷ []) at.firm at.account instrument side + taken_at (key_at at instrument) side (taken_by l r.command)
+      ≡ position_of l at.firm at.account instrument side + sum_by (counted_at (key_at at instrument) side) (added_by r.firm r.command (taken_by l r.command))
+  position_moved at instrument side =
+      let moved = (moves_its_own t l r (number_once (l ++ r ∷ []) (rises_distinct 1 (l ++ r ∷ []) next.rises)) (replay_push t [] l r next.replayed next.lawful)).positions at instrument side in
+      let even = (balances t l r.number r.firm r.id r.command r.status counted at instrument side).equal in
+      omega (arith, moved, even)
+
+  pub positions_push : (rows now new : PositionRows) → ArePositionsOf l rows → SameLots rows now → (o : Option Holding) → o ≡ taken_by l r.command → HaveMoved now new o (added_by r.firm r.command o) → ArePositionsOf (l ++ r ∷ []) new
+  positions_push rows now new are same o is moved = record {
+    lots = λ at side.
+        let place : Place = record { firm = at.firm; account = at.account } in
+        let a = are.lots at side in
+        let b = same at side in
+        let c = moved at side in
+        let d = position_moved place at.instrument side in
+        let e = ap (taken_at at side) is in
+        let f = ap (λ o. sum_by (counted_at at side) (added_by r.firm r.command o)) is in
+        omega (arith, a, b, c, d, e, f);
+  }
+
+pub no_positions : (rows : PositionRows) → AreSumsOf rows [] → ArePositionsOf [] rows
+no_positions rows are = record { lots = λ at side. are.lots at side }
+
+-- ---- what is there, and what has room
+
+is_own_key : (k : Key) (s : Side) → (is_key k k && same_side s s) ≡ true
+is_own_key k s = ap (λ b. b && same_side s s) keys ∙ sides s
+  where
+    bytes : (b : List ℕ) → bytes_eq b b ≡ true
+    bytes b = (bytes_eq-Decides b b).1 refl
+
+    keys : is_key k k ≡ true
+    keys =
+        ap (λ b. b && (bytes_eq k.account k.account && bytes_eq k.instrument k.instrument)) (bytes k.firm)
+        ∙ (ap (λ b. b && bytes_eq k.instrument k.instrument) (bytes k.account) ∙ bytes k.instrument)
+
+    sides : (s : Side) → same_side s s ≡ true
+    sides Buy = refl
+    sides Sell = refl
+
+module _ {t : House} {l : List Record} {r : Record} {ts : Grove} (next : IsNext t l r ts) where
+  -- what a change takes is part of the position
+  taken_there : (at : Place) (instrument : List ℕ) (side : Side)
+      → taken_at (key_at at instrument) side (taken_by l r.command) ≤ position_of l at.firm at.account instrument side
+  taken_there at instrument side =
+      let even = (balances t l r.number r.firm r.id r.command r.status (counted next) at instrument side).there in
+      let whole = position_is l at instrument side in
+      let both = sum_by-filter_both (λ (x : Node). names x.name r.command) (λ (x : Node). not (names x.name r.command)) (λ x. refl) (lots_at l at instrument side) (nodes l) in
+      omega (arith, even, whole, both)
+
+  pub has_taken : (rows now : PositionRows) → ArePositionsOf l rows → SameLots rows now → (o : Option Holding) → o ≡ taken_by l r.command → HasTaken now o
+  has_taken rows now are same None is = tt
+  has_taken rows now are same (Some h) is =
+      let a = are.lots h.key h.side in
+      let b = same h.key h.side in
+      let c = taken_there (record { firm = h.key.firm; account = h.key.account }) h.key.instrument h.side in
+      let d = ap (taken_at h.key h.side) is in
+      let e = ap (λ b. cond b h.lots 0) (is_own_key h.key h.side) in
+      omega (arith, a, b, c, d, e)
+
+within_both : (a b : Bool) (n : ℕ) → cond a (cond b n 0) 0 ≤ n
+within_both true true n = omega arith
+within_both true false n = omega arith
+within_both false b n = omega arith
+
+parts_lots : (k i : ℕ) (m : EntryPart) (by : List ℕ) (ps : List Part) → sum_by (λ (x : Node). x.lots) (nodes_of_parts k i m by ps) ≡ sum_by (λ p. p.lots) ps
+parts_lots k i m by [] = refl
+parts_lots k i m by (p ∷ ps) =
+    let a = sum_by-cons (λ (x : Node). x.lots) (record { name = record { entry = k; part = i }; lots = p.lots; kind = kind_of_part m by p }) (nodes_of_parts k (i + 1) m by ps) in
+    let b = sum_by-cons (λ (p : Part). p.lots) p ps in
+    let c = parts_lots k (i + 1) m by ps in
+    omega (arith, a, b, c)
+
+few_lots : (ps : List Part) → PartsWithinLimits ps → sum_by (λ (p : Part). p.lots) ps ≤ 1000000000
+few_lots ps within =
+    let a = sum_by-le (λ (p : Part). p.lots) 10000000 ps within.small in
+    let few = within.few in
+    let b : length ps * 10000000 ≤ 100 * 10000000 = mul-le-mul_right 10000000 few in
+    omega (arith, a, b)
+
+made_lots : (k : ℕ) (by : List ℕ) (c : Command) → IsWithinLimits c → sum_by (λ (x : Node). x.lots) (nodes_of k by c) ≤ 1000000000
+made_lots k by (Trade firm account instrument side lots) h =
+    let a = sum_by-cons (λ (x : Node). x.lots) (record { name = record { entry = k; part = 0 }; lots = lots; kind = Root (record { firm = firm; account = account }) }) [] in
+    omega (arith, a, h)
+made_lots k by (Split m ps) h = let a = parts_lots k 1 m by ps in let b = few_lots ps h in omega (arith, a, b)
+made_lots k by (Claim _ _) h = omega arith
+made_lots k by (Refuse _) h = omega arith
+made_lots k by (Cancel _) h = omega arith
+made_lots k by (Initiate _) h = omega arith
+made_lots k by (Decline _) h = omega arith
+made_lots k by (Reverse _) h = omega arith
+
+all_lots : (l : List Record) → AllWithinLimits l → sum_by (λ (x : Node). x.lots) (nodes l) ≤ length l * 1000000000
+all_lots [] all = omega arith
+all_lots (r ∷ l) all =
+    let a = sum_by-append (λ (x : Node). x.lots) (made r) (nodes l) in
+    let b = made_lots r.number r.firm r.command (All-head (λ r. IsWithinLimits r.command) r l all) in
+    let c = all_lots l (All-tail (λ r. IsWithinLimits r.command) r l all) in
+    omega (arith, a, b, c)
+
+position_within : (l : List Record) → AllWithinLimits l → (at : Place) (instrument : List ℕ) (side : Side) → position_of l at.firm at.account instrument side ≤ length l * 1000000000
+position_within l all at instrument side =
+    let a = position_is l at instrument side in
+    let b = sum_by-le-sum_by (lots_at l at instrument side) (λ (x : Node). x.lots) (nodes l)
+    (λ x. within_both (is_none (split_of l x.name)) (stands_at l at x.name && trades_in l instrument side x.name) x.lots) in
+    let c = all_lots l all in
+    omega (arith, a, b, c)
+
+or_lots : (o : Option Holding) (n : ℕ) (hs : List Holding) → IfSome o (λ h. h.lots ≤ n) → sum_by (λ (h : Holding). h.lots) (cons_option o hs) ≤ n + sum_by (λ (h : Holding). h.lots) hs
+or_lots None n hs most = omega arith
+or_lots (Some h) n hs most = let a = sum_by-cons (λ (h : Holding). h.lots) h hs in omega (arith, a, most)
+
+part_lots : (b : Bool) (key own : Key) (o : Option (List ℕ)) (f : List ℕ → Holding) (whole : Holding) (n : ℕ) → ((a : List ℕ) → (f a).lots ≡ n) → whole.lots ≡ n → IfSome (cond b (option_map f o) (Some whole)) (λ h. h.lots ≤ n)
+part_lots true key own None f whole n all is = tt
+part_lots true key own (Some a) f whole n all is = let e = all a in omega (arith, e)
+part_lots false key own o f whole n all is = omega (arith, is)
+
+added_parts : (whole : Holding) (by : List ℕ) (ps : List Part) → sum_by (λ (h : Holding). h.lots) (filter_map (part_holding whole by) ps) ≤ sum_by (λ (p : Part). p.lots) ps
+added_parts whole by [] = omega arith
+added_parts whole by (p ∷ ps) =
+    let a = or_lots (part_holding whole by p) p.lots (filter_map (part_holding whole by) ps)
+    (part_lots (bytes_eq p.firm by) whole.key whole.key p.account (λ account. record { key = record { firm = by; account = account; instrument = whole.key.instrument }; side = whole.side; lots = p.lots })
+    (record { key = whole.key; side = whole.side; lots = p.lots }) p.lots (λ a. refl) refl) in
+    let b = added_parts whole by ps in
+    let c = sum_by-cons (λ (p : Part). p.lots) p ps in
+    omega (arith, a, b, c)
+
+added_lots : (by : List ℕ) (c : Command) (o : Option Holding) → IsWithinLimits c → IfSome o (λ h. h.lots ≤ 10000000) → sum_by (λ (h : Holding). h.lots) (added_by by c o) ≤ 1000000000
+added_lots by (Trade firm account instrument side lots) o h small =
+    let a = sum_by-cons (λ (h : Holding). h.lots) (record { key = record { firm = firm; account = account; instrument = instrument }; side = side; lots = lots }) [] in
+    omega (arith, a, h)
+added_lots by (Split m ps) (Some whole) h small = let a = added_parts whole by ps in let b = few_lots ps h in omega (arith, a, b)
+added_lots by (Split m ps) None h small = omega arith
+added_lots by (Claim m account) (Some whole) h small =
+    let a = sum_by-cons (λ (h : Holding). h.lots) (record { key = record { firm = by; account = account; instrument = whole.key.instrument }; side = whole.side; lots = whole.lots }) [] in
+    omega (arith, a, small)
+added_lots by (Claim m account) None h small = omega arith
+added_lots by (Refuse _) o h small = omega arith
+added_lots by (Cancel _) o h small = omega arith
+added_lots by (Initiate _) o h small = omega arith
+added_lots by (Decline _) o h small = omega arith
+added_lots by (Reverse _) o h small = omega arith
+
+pub have_room : {t : House} {l : List Record} {r : Record} {ts : Grove} → IsNext t l r ts → length l ≤ 1000000 → AllWithinLimits l → (rows now : PositionRows) → ArePositionsOf l rows → SameLots rows now
+    → (o : Option Holding) → IfSome o (λ h. h.lots ≤ 10000000) → AreReady now (added_by r.firm r.command o) → HaveRoom now (added_by r.firm r.command o)
+have_room {t} {l} {r} next few all rows now are same o small ready = record {
+  ready = ready;
+  fits = λ at side.
+      let a = are.lots at side in
+      let b = same at side in
+      let c = position_within l all (record { firm = at.firm; account = at.account }) at.instrument side in
+      let d = added_lots r.firm r.command o (accepted_small t l r.firm r.command next.lawful) small in
+      let e : length l * 1000000000 ≤ 1000000 * 1000000000 = mul-le-mul_right 1000000000 few in
+      omega (arith, a, b, c, d, e);
+}

@@ -1,0 +1,23 @@
+use Rattle.std.proofs.Common.{◌<◌, ◌∙◌, refl, ap, arith}
+use Rattle.gu_tree.specs.Rose.{Rose, head_of}
+use Rattle.gu_tree.specs.Grove.{last_place}
+use Rattle.gu_book.proofs.Filed.{later}
+use Rattle.gu_book.proofs.FiledChanges.{trade_filed}
+use Rattle.gu_book.proofs.grove.plant.Goals as goal
+
+pub plant-requires-clause-sapling : goal.plant-requires-clause-sapling
+plant-requires-clause-sapling c = rw c.new.ensures.root refl
+
+pub plant-requires-clause-above : goal.plant-requires-clause-above
+plant-requires-clause-above c =
+    let due = c.requires.due in
+    let above : last_place c.args.trees.now < c.args.made.now.number = later due.2 in
+    let entry = ap (λ (t : Rose). (head_of t).name.entry) c.new.ensures.root in
+    omega (arith, above, entry)
+
+pub returns : goal.returns
+returns c = λ t l next.
+    let name = ap (λ (t : Rose). (head_of t).name) c.new.ensures.root in
+    let entry = ap (λ (t : Rose). (head_of t).name.entry) c.new.ensures.root in
+    trade_filed next c.args.place c.args.lots c.requires.trade c.plant.new.self c.new.result c.new.ensures.root c.new.ensures.shows
+    (rw entry at c.plant.ensures.tree) (rw name at c.plant.ensures.place) (c.plant.ensures.last ∙ entry)

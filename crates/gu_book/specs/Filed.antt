@@ -1,0 +1,52 @@
+-- The trees of the live trades, and the places of the live changes in them.
+use Rattle.std.specs.Prelude.{◌≡◌, ℕ, ◌≤◌, ◌<◌, List, [], ◌∷◌, ◌++◌, Option, Some, None, is_some, option_and_then, IfSome}
+use Rattle.std.specs.List.{All}
+use Rattle.gu_base.specs.Numbers.{EntryPart}
+use Rattle.gu_base.specs.House.{House}
+use Rattle.gu_base.specs.History.{RisesFrom}
+use Rattle.gu_base.specs.Nodes.{node_of}
+use Rattle.gu_base.specs.Refusals.{refusal_of}
+use Rattle.gu_base.specs.Standing.{first_refused}
+use Rattle.gu_base.specs.declared.entry.Record.{Record}
+use Rattle.gu_base.specs.declared.node.Node.{Node}
+use Rattle.gu_tree.specs.Rose.{named}
+use Rattle.gu_tree.specs.Grove.{Grove, tree_of, place_of, last_place, HasTree}
+use Rattle.gu_tree.specs.Shown.{IsTreeOf}
+use Rattle.gu_tree.specs.ShownAll.{change_of, named_place}
+use Rattle.gu_book.specs.TreeRows.{is_live_trade}
+
+-- the place of the live change of this number
+abbrev pub place_in : List Record → ℕ → Option EntryPart
+place_in l k = option_and_then (λ r. named_place r.number r.command) (change_of l k)
+
+-- one of the trees has a node of this name
+abbrev pub IsIn : Grove → EntryPart → Type 0
+IsIn g n = (trade : ℕ) × HasTree g trade (λ t. 1 ≤ named n t)
+
+-- no entry that had a place is later than all of these changes
+abbrev pub IsLastOf : List Record → Grove → Type 0
+IsLastOf l g = (n : ℕ) → 1 ≤ n → All (λ r. r.number < n) l → last_place g < n
+
+-- there is a tree for each live trade and for nothing else, and it shows the trade; all nodes of the changes are in the trees; the live
+-- changes have their places, and nothing else has one
+pub record IsFiled (l : List Record) (g : Grove) : Type 0 where
+  pub live : (k : ℕ) → is_some (tree_of g k) ≡ is_live_trade l k
+  pub shown : (k : ℕ) → IfSome (tree_of g k) (IsTreeOf l k)
+  pub whole : (n : EntryPart) (x : Node) → node_of l n ≡ Some x → IsIn g n
+  pub placed : (k : ℕ) → place_of g k ≡ place_in l k
+  pub last : IsLastOf l g
+
+-- a change that may follow these, the trees of which are filed, and the places too
+pub record IsNext (t : House) (l : List Record) (r : Record) (g : Grove) : Type 0 where
+  pub filed : IsFiled l g
+  pub replayed : first_refused t [] l ≡ None
+  pub lawful : refusal_of t l r.firm r.command ≡ None
+  pub rises : RisesFrom 1 (l ++ r ∷ [])
+
+-- the change may follow some list whose trees these are
+abbrev pub IsDue : Record → Grove → Type 0
+IsDue r g = (t : House) × (l : List Record) × IsNext t l r g
+
+-- whatever list the change may follow, the new trees are those of it and the change
+abbrev pub Follows : Record → Grove → Grove → Type 0
+Follows r old new = (t : House) (l : List Record) → IsNext t l r old → IsFiled (l ++ r ∷ []) new

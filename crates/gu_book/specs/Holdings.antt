@@ -1,0 +1,94 @@
+-- What stands in accounts, and what a change moves from one to another.
+use Rattle.std.specs.Prelude.{◌≡◌, ℕ, ◌+◌, ◌<◌, ◌≤◌, ◌^◌, ◌&&◌, ◌==◌, if◌then◌else◌, List, [], ◌∷◌, find, filter_map, sum_by, Option, Some, None, option_map, option_and_then, bytes_eq}
+use Rattle.std.specs.List.{All}
+use Rattle.gu_base.specs.Numbers.{EntryPart}
+use Rattle.gu_base.specs.Nodes.{node_of}
+use Rattle.gu_base.specs.Places.{place_of, root_of}
+use Rattle.gu_base.specs.Positions.{same_side, position_of}
+use Rattle.gu_base.specs.declared.command.Part.{Part}
+use Rattle.gu_base.specs.declared.command.Side.{Side}
+use Rattle.gu_base.specs.declared.command.Command.{Command}
+use Rattle.gu_base.specs.declared.command.Command.TheVariants.{Trade, Split, Claim}
+use Rattle.gu_base.specs.declared.entry.Record.{Record}
+use Rattle.gu_base.specs.declared.node.Node.{Node}
+use Rattle.gu_base.specs.declared.node.Place.{Place}
+use Rattle.gu_positions.specs.Rows.{PositionRows, lots_in, is_key, IsReady}
+use Rattle.gu_positions.specs.declared.positions.Key.{Key}
+use Rattle.gu_book.specs.declared.plain.holdings.Holding.{Holding}
+use Rattle.gu_book.specs.declared.plain.holdings.Traded.{Traded}
+
+-- the instrument and the side of a Trade
+abbrev pub traded_by : Command → Option Traded
+traded_by (Trade _ _ instrument side _) = Some (record { instrument = instrument; side = side })
+traded_by _ = None
+
+-- those of a node's trade
+abbrev pub traded_at : List Record → EntryPart → Option Traded
+traded_at l n = option_and_then (λ root. option_and_then (λ r. traded_by r.command) (find (λ r. r.number == root.entry) l)) (root_of l n)
+
+-- so many lots of what was traded, in an account
+abbrev pub held_at : Option Place → Option Traded → ℕ → Option Holding
+held_at None _ lots = None
+held_at (Some p) None lots = None
+held_at (Some p) (Some t) lots = Some (record { key = record { firm = p.firm; account = p.account; instrument = t.instrument }; side = t.side; lots = lots })
+
+-- the lots of a node, where it stands
+abbrev pub holding_of : List Record → Node → Option Holding
+holding_of l x = held_at (place_of l x.name) (traded_at l x.name) x.lots
+
+-- what a change takes out of an account: a Split and a Claim the lots of the node that they name
+abbrev pub taken_by : List Record → Command → Option Holding
+taken_by l (Split n _) = option_and_then (holding_of l) (node_of l n)
+taken_by l (Claim n _) = option_and_then (holding_of l) (node_of l n)
+taken_by l _ = None
+
+-- what a part holds: an own part in its account, a given part where the whole stood
+abbrev pub part_holding : Holding → List ℕ → Part → Option Holding
+part_holding whole by p =
+    if bytes_eq p.firm by
+    then option_map (λ account. record { key = record { firm = by; account = account; instrument = whole.key.instrument }; side = whole.side; lots = p.lots }) p.account
+    else Some (record { key = whole.key; side = whole.side; lots = p.lots })
+
+-- what a change puts into accounts: a Trade its lots, a Split those of its parts, a Claim what it took, in its own account
+abbrev pub added_by : List ℕ → Command → Option Holding → List Holding
+added_by by (Trade firm account instrument side lots) taken =
+    record { key = record { firm = firm; account = account; instrument = instrument }; side = side; lots = lots } ∷ []
+added_by by (Split _ parts) (Some whole) = filter_map (part_holding whole by) parts
+added_by by (Claim _ account) (Some whole) =
+    record { key = record { firm = by; account = account; instrument = whole.key.instrument }; side = whole.side; lots = whole.lots } ∷ []
+added_by by _ _ = []
+
+-- what a holding counts in an account, of one instrument and on one side
+abbrev pub counted_at : Key → Side → Holding → ℕ
+counted_at at side h = if is_key h.key at && same_side h.side side then h.lots else 0
+
+-- the same, if there is one
+abbrev pub taken_at : Key → Side → Option Holding → ℕ
+taken_at at side None = 0
+taken_at at side (Some h) = counted_at at side h
+
+-- so much is there, if something is to be taken
+abbrev pub HasTaken : PositionRows → Option Holding → Type 0
+HasTaken rows None = Unit {0}
+HasTaken rows (Some h) = h.lots ≤ lots_in rows h.key h.side
+
+-- the rows of these holdings are there
+abbrev pub AreReady : PositionRows → List Holding → Type 0
+AreReady rows hs = All (λ h. IsReady rows h.key) hs
+
+-- and each row has room for all of their lots
+pub record HaveRoom (rows : PositionRows) (hs : List Holding) : Type 0 where
+  pub ready : AreReady rows hs
+  pub fits : (at : Key) (side : Side) → lots_in rows at side + sum_by (λ h. h.lots) hs < 2 ^ 64
+
+-- the rows have the same lots
+abbrev pub SameLots : PositionRows → PositionRows → Type 0
+SameLots old new = (at : Key) (side : Side) → lots_in new at side ≡ lots_in old at side
+
+-- the rows have lost what was taken, and have what was added
+abbrev pub HaveMoved : PositionRows → PositionRows → Option Holding → List Holding → Type 0
+HaveMoved old new taken added = (at : Key) (side : Side) → lots_in new at side + taken_at at side taken ≡ lots_in old at side + sum_by (counted_at at side) added
+
+-- the rows are the positions of the list
+pub record ArePositionsOf (l : List Record) (rows : PositionRows) : Type 0 where
+  pub lots : (at : Key) (side : Side) → lots_in rows at side ≡ position_of l at.firm at.account at.instrument side

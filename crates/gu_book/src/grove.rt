@@ -1,0 +1,128 @@
+//! The trees of the live trades, and the places of the live changes in them.
+ghost use Rattle.std.specs.Prelude.{◌≡◌, ◌≤◌, option_map, IfOk, OnOk, OnErr, IsSome};
+ghost use Rattle.gu_base.specs.declared.command.Command.TheVariants.{Split, Claim};
+ghost use Rattle.gu_tree.specs.Grove.{tree_of, IsSameGrove};
+ghost use Rattle.gu_tree.specs.Rose.{rows};
+ghost use Rattle.gu_tree.specs.Shown.{GivesBack, IsTradeOf};
+ghost use Rattle.gu_book.specs.Filed.{IsDue, Follows};
+
+use gu_base::{AccountId, Command, Memory, NodeName, Number, Part, Place, Record, State};
+use gu_tree::{Row, Tree, Trees};
+use std::alloc::Global;
+
+/// Adds the tree of a Trade.
+fn plant(trees: &mut Trees<Global>, alloc: Global, made: &Record, place: Place, lots: u64)
+    requires due { IsDue made.now trees.old }
+    requires tree_room { 1 ≤ trees.old.tree_room }
+    requires place_room { 1 ≤ trees.old.place_room }
+    requires trade { IsTradeOf made.now.number place lots made.now }
+    ensures { Follows made.now trees.old trees.new }
+{
+    trees.plant(Tree::new(alloc, made.number, place, lots));
+}
+
+/// Gives the node its parts.
+fn split(
+    trees: &mut Trees<Global>,
+    made: &Record,
+    node: NodeName,
+    parts: &[Part],
+) -> Result<(), Memory>
+    requires due { IsDue made.now trees.old }
+    requires place_room { 1 ≤ trees.old.place_room }
+    requires split { made.now.command ≡ Split node parts.now }
+    ensures follows { OnOk result (Follows made.now trees.old trees.new) }
+    ensures unchanged { OnErr result (IsSameGrove trees.old trees.new) }
+{
+    let Some(spot) = trees.find(node) else {
+        unreachable!()
+    };
+    trees.split(spot.0, &spot.1, made.number, parts)
+}
+
+/// Moves the node into the account of its claim.
+fn claim(trees: &mut Trees<Global>, made: &Record, node: NodeName, account: AccountId)
+    requires due { IsDue made.now trees.old }
+    requires place_room { 1 ≤ trees.old.place_room }
+    requires claim { made.now.command ≡ Claim node account }
+    ensures { Follows made.now trees.old trees.new }
+{
+    let Some(spot) = trees.find(node) else {
+        unreachable!()
+    };
+    let place = Place {
+        firm: made.firm,
+        account,
+    };
+    trees.claim(spot.0, &spot.1, made.number, place);
+}
+
+/// Gives the node back to its giver: `state` is Refused or Cancelled.
+fn give_back(trees: &mut Trees<Global>, made: &Record, node: NodeName, state: State)
+    requires due { IsDue made.now trees.old }
+    requires place_room { 1 ≤ trees.old.place_room }
+    requires back { GivesBack node state made.now.command }
+    ensures { Follows made.now trees.old trees.new }
+{
+    let Some(spot) = trees.find(node) else {
+        unreachable!()
+    };
+    trees.give_back(spot.0, &spot.1, made.number, state);
+}
+
+/// Does to the trees what an accepted change says. There has to be room for a tree and a place.
+fn make(trees: &mut Trees<Global>, alloc: Global, made: &Record) -> Result<(), Memory>
+    requires due { IsDue made.now trees.old }
+    requires tree_room { 1 ≤ trees.old.tree_room }
+    requires place_room { 1 ≤ trees.old.place_room }
+    ensures follows { OnOk result (Follows made.now trees.old trees.new) }
+    ensures unchanged { OnErr result (IsSameGrove trees.old trees.new) }
+{
+    match &made.command {
+        Command::Trade {
+            firm,
+            account,
+            lots,
+            ..
+        } => {
+            let place = Place {
+                firm: *firm,
+                account: *account,
+            };
+            plant(trees, alloc, made, place, *lots);
+        }
+        Command::Split { node, parts } => {
+            split(trees, made, *node, parts.as_slice())?;
+        }
+        Command::Claim { node, account } => claim(trees, made, *node, *account),
+        Command::Refuse { node } => give_back(trees, made, *node, State::Refused),
+        Command::Cancel { node } => give_back(trees, made, *node, State::Cancelled),
+        _ => {}
+    }
+    Ok(())
+}
+
+/// Does to the trees what an accepted change says. Its growths come before anything changes.
+pub(crate) fn change(trees: &mut Trees<Global>, alloc: Global, made: &Record) -> Result<(), Memory>
+    requires { IsDue made.now trees.old }
+    ensures follows { OnOk result (Follows made.now trees.old trees.new) }
+    ensures unchanged { OnErr result (IsSameGrove trees.old trees.new) }
+{
+    trees.ready()?;
+    make(trees, alloc, made)
+}
+
+/// The rows of the tree of that trade; `None` where there is none, which takes no memory.
+pub(crate) fn rows(
+    trees: &Trees<Global>,
+    alloc: Global,
+    trade: Number,
+) -> Result<Option<Vec<Row>>, Memory>
+    ensures rows { IfOk result (λ o. option_map (λ v. v.items) o ≡ option_map rows (tree_of trees.now trade)) }
+    ensures memory { OnErr result (IsSome (tree_of trees.now trade)) }
+{
+    match trees.tree(trade) {
+        Some(tree) => Ok(Some(tree.rows(alloc)?)),
+        None => Ok(None),
+    }
+}

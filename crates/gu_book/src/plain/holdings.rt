@@ -1,0 +1,302 @@
+//! The lots that stand in an account, and which of them a change moves.
+ghost use Rattle.std.specs.Prelude.{◌≡◌, ◌≤◌, ◌==◌, find, filter_map, None, option_and_then, IfSome, OnOk};
+ghost use Rattle.gu_base.specs.Nodes.{node_of};
+ghost use Rattle.gu_base.specs.History.{RisesFrom};
+ghost use Rattle.gu_base.specs.Limits.{most_lots};
+ghost use Rattle.gu_base.specs.Places.{line_within, root_along, root_of};
+ghost use Rattle.gu_book.specs.Holdings.{traded_by, traded_at, held_at, holding_of, taken_by, part_holding, added_by, HasTaken, AreReady, HaveRoom, SameLots, HaveMoved};
+ghost use Rattle.gu_book.specs.Limits.{AllWithinLimits};
+
+use crate::plain::nodes::{change_at, node_of, parent_of};
+use crate::plain::places::place_of;
+use gu_base::{
+    AccountId, Command, FirmId, InstrumentId, Memory, Node, NodeName, Number, Part, Place, Record,
+    Side,
+};
+use gu_positions::{Key, Positions};
+
+/// What was traded: an instrument, on one side.
+#[derive(Clone, Copy, Debug)]
+pub(crate) struct Traded {
+    instrument: InstrumentId,
+    side: Side,
+}
+
+/// Lots of one instrument and side that stand in an account.
+#[derive(Clone, Copy, Debug)]
+pub(crate) struct Holding {
+    key: Key,
+    side: Side,
+    lots: u64,
+}
+
+/// The root of a node's tree, going up through so many parents at most.
+#[tactic(auto, using(crate::proofs::Roots::root_first, crate::proofs::Roots::root_above))]
+fn root_from(records: &[Record], steps: usize, at: Option<Node>) -> Option<NodeName>
+    requires { RisesFrom 1 records.now }
+    ensures { result ≡ root_along (line_within steps records.now at) }
+{
+    match at {
+        None => None,
+        Some(x) => {
+            if steps == 0 {
+                return None;
+            }
+            match parent_of(&x.kind) {
+                None => Some(x.name),
+                Some(parent) => match root_from(records, steps - 1, node_of(records, &parent)) {
+                    None => Some(x.name),
+                    Some(root) => Some(root),
+                },
+            }
+        }
+    }
+}
+
+/// The root of a node's tree.
+fn root_of(records: &[Record], name: &NodeName) -> Option<NodeName>
+    requires { RisesFrom 1 records.now }
+    ensures { result ≡ root_of records.now name.now }
+{
+    root_from(records, records.len(), node_of(records, name))
+}
+
+/// The instrument and the side of a Trade.
+fn traded_by(command: &Command) -> Option<Traded>
+    ensures { result ≡ traded_by command.now }
+{
+    match command {
+        Command::Trade {
+            instrument,
+            side,
+            ..
+        } => Some(Traded {
+            instrument: *instrument,
+            side: *side,
+        }),
+        _ => None,
+    }
+}
+
+/// What was traded by the entry of this number.
+fn traded_under(records: &[Record], number: Number) -> Option<Traded>
+    requires { RisesFrom 1 records.now }
+    ensures { result ≡ option_and_then (λ r. traded_by r.command) (find (λ r. r.number == number) records.now) }
+{
+    match change_at(records, number) {
+        Ok(i) => traded_by(&records[i].command),
+        Err(_) => None,
+    }
+}
+
+/// What was traded by a node's trade.
+fn traded_at(records: &[Record], name: &NodeName) -> Option<Traded>
+    requires { RisesFrom 1 records.now }
+    ensures { result ≡ traded_at records.now name.now }
+{
+    match root_of(records, name) {
+        None => None,
+        Some(root) => traded_under(records, root.entry()),
+    }
+}
+
+/// So many lots of what was traded, in an account.
+fn held_at(place: &Option<Place>, traded: &Option<Traded>, lots: u64) -> Option<Holding>
+    ensures { result ≡ held_at place.now traded.now lots }
+{
+    match place {
+        None => None,
+        Some(place) => match traded {
+            None => None,
+            Some(traded) => Some(Holding {
+                key: Key {
+                    firm: place.firm,
+                    account: place.account,
+                    instrument: traded.instrument,
+                },
+                side: traded.side,
+                lots,
+            }),
+        },
+    }
+}
+
+/// The lots of the node of this name, where it stands.
+fn holding_named(records: &[Record], name: &NodeName) -> Option<Holding>
+    requires within { AllWithinLimits records.now }
+    requires rises { RisesFrom 1 records.now }
+    ensures value { result ≡ option_and_then (holding_of records.now) (node_of records.now name.now) }
+    ensures lots { IfSome result (λ h. h.lots ≤ most_lots) }
+{
+    match node_of(records, name) {
+        None => None,
+        Some(x) => held_at(
+            &place_of(records, &x.name),
+            &traded_at(records, &x.name),
+            x.lots,
+        ),
+    }
+}
+
+/// What a command takes out of an account.
+pub(crate) fn taken_by(records: &[Record], command: &Command) -> Option<Holding>
+    requires within { AllWithinLimits records.now }
+    requires rises { RisesFrom 1 records.now }
+    ensures value { result ≡ taken_by records.now command.now }
+    ensures lots { IfSome result (λ h. h.lots ≤ most_lots) }
+{
+    match command {
+        Command::Split { node, .. } => holding_named(records, node),
+        Command::Claim { node, .. } => holding_named(records, node),
+        _ => None,
+    }
+}
+
+/// What a part of the whole holds.
+fn part_holding(whole: &Holding, by: &FirmId, part: &Part) -> Option<Holding>
+    ensures { result ≡ part_holding whole.now by.now part.now }
+{
+    if part.firm != *by {
+        return Some(Holding {
+            key: whole.key,
+            side: whole.side,
+            lots: part.lots,
+        });
+    }
+    match &part.account {
+        None => None,
+        Some(account) => Some(Holding {
+            key: Key {
+                firm: *by,
+                account: *account,
+                instrument: whole.key.instrument,
+            },
+            side: whole.side,
+            lots: part.lots,
+        }),
+    }
+}
+
+/// Makes the rows of the parts. No lots change, not even where memory is refused.
+fn ready_parts(
+    positions: &mut Positions,
+    whole: &Holding,
+    by: &FirmId,
+    parts: &[Part],
+) -> Result<(), Memory>
+    ensures ready { OnOk result (AreReady positions.new (filter_map (part_holding whole.now by.now) parts.now)) }
+    ensures same { SameLots positions.old positions.new }
+{
+    for part in parts {
+        if let Some(h) = part_holding(whole, by, part) {
+            positions.ready(&h.key)?;
+        }
+    }
+    Ok(())
+}
+
+/// Makes the rows into which a command puts lots, where it takes these. No lots change, not even where memory is refused.
+pub(crate) fn ready(
+    positions: &mut Positions,
+    by: &FirmId,
+    command: &Command,
+    taken: &Option<Holding>,
+) -> Result<(), Memory>
+    ensures ready { OnOk result (AreReady positions.new (added_by by.now command.now taken.now)) }
+    ensures same { SameLots positions.old positions.new }
+{
+    match command {
+        Command::Trade {
+            firm,
+            account,
+            instrument,
+            ..
+        } => positions.ready(&Key {
+            firm: *firm,
+            account: *account,
+            instrument: *instrument,
+        }),
+        Command::Split { parts, .. } => match taken {
+            None => Ok(()),
+            Some(whole) => ready_parts(positions, whole, by, parts.as_slice()),
+        },
+        Command::Claim { account, .. } => match taken {
+            None => Ok(()),
+            Some(whole) => positions.ready(&Key {
+                firm: *by,
+                account: *account,
+                instrument: whole.key.instrument,
+            }),
+        },
+        _ => Ok(()),
+    }
+}
+
+/// Puts the lots of the parts into their accounts.
+fn add_parts(positions: &mut Positions, whole: &Holding, by: &FirmId, parts: &[Part])
+    requires { HaveRoom positions.old (filter_map (part_holding whole.now by.now) parts.now) }
+    ensures { HaveMoved positions.old positions.new None (filter_map (part_holding whole.now by.now) parts.now) }
+{
+    for part in parts {
+        if let Some(h) = part_holding(whole, by, part) {
+            positions.add(&h.key, h.side, h.lots);
+        }
+    }
+}
+
+/// Puts the lots of a command into their accounts.
+fn add(positions: &mut Positions, by: &FirmId, command: &Command, taken: &Option<Holding>)
+    requires { HaveRoom positions.old (added_by by.now command.now taken.now) }
+    ensures { HaveMoved positions.old positions.new None (added_by by.now command.now taken.now) }
+{
+    match command {
+        Command::Trade {
+            firm,
+            account,
+            instrument,
+            side,
+            lots,
+        } => {
+            let key = Key {
+                firm: *firm,
+                account: *account,
+                instrument: *instrument,
+            };
+            positions.add(&key, *side, *lots);
+        }
+        Command::Split { parts, .. } => {
+            if let Some(whole) = taken {
+                add_parts(positions, whole, by, parts.as_slice());
+            }
+        }
+        Command::Claim { account, .. } => {
+            if let Some(whole) = taken {
+                let key = Key {
+                    firm: *by,
+                    account: *account,
+                    instrument: whole.key.instrument,
+                };
+                positions.add(&key, whole.side, whole.lots);
+            }
+        }
+        _ => {}
+    }
+}
+
+/// Moves what a command moves: takes these lots out of their account, and puts those of the command into theirs. The rows have to
+/// be ready and to have room.
+pub(crate) fn move_lots(
+    positions: &mut Positions,
+    by: &FirmId,
+    command: &Command,
+    taken: &Option<Holding>,
+)
+    requires there { HasTaken positions.old taken.now }
+    requires room { HaveRoom positions.old (added_by by.now command.now taken.now) }
+    ensures { HaveMoved positions.old positions.new taken.now (added_by by.now command.now taken.now) }
+{
+    if let Some(h) = taken {
+        positions.take(&h.key, h.side, h.lots);
+    }
+    add(positions, by, command, taken);
+}

@@ -1,0 +1,254 @@
+-- What stands on a change, read off trees that show the list.
+use Rattle.std.proofs.Common.{◌≡◌, ◌≢◌, ℕ, Bool, true, false, not, List, [], ◌∷◌, refl, sym, ◌∙◌, ap, subst, arith, cond, Option, Contains, IsSomeAnd, ◌⊎◌, inl, inr}
+use Rattle.std.specs.Prelude.{Some, None, find, flat_map, option_map, option_and_then, ◌==◌, ◌↔◌}
+use Rattle.std.proofs.lemmas.Bool.{or_cases, or_parts}
+use Rattle.std.proofs.lemmas.Bool.Decides.{Decides-eqb}
+use Rattle.std.proofs.lemmas.Option.{same_Some}
+use Rattle.gu_base.specs.Numbers.{EntryPart}
+use Rattle.gu_base.specs.History.{RisesFrom}
+use Rattle.gu_base.specs.House.{House}
+use Rattle.gu_base.specs.Nodes.{node_of, nodes_of, split_of, decision_of, splits, decides, same_name}
+use Rattle.gu_base.specs.Rows.{made_by, parts_of}
+use Rattle.gu_base.specs.Standing.{IsLegal, first_refused, standing_on, without}
+use Rattle.gu_base.specs.declared.command.Part.{Part}
+use Rattle.gu_base.specs.declared.command.Command.{Command}
+use Rattle.gu_base.specs.declared.command.Command.TheVariants.{Trade, Split, Claim, Refuse, Cancel, Initiate, Decline, Reverse}
+use Rattle.gu_base.specs.declared.entry.Record.{Record}
+use Rattle.gu_base.specs.declared.node.Node.{Node}
+use Rattle.gu_base.proofs.LegalLaws.{legal_from_replay, replay_from_legal}
+use Rattle.gu_base.proofs.NodeNames.{name_same, made_of}
+use Rattle.gu_base.proofs.Searches.{found_in, find_passes}
+use Rattle.gu_tree.specs.Rose.{Rose, head_of, split_of_node}
+use Rattle.gu_tree.specs.Paths.{node_at, HasAt, LeadsTo}
+use Rattle.gu_tree.specs.Shown.{IsTreeOf}
+use Rattle.gu_tree.specs.Grove.{Grove, tree_of, place_of, IsPlace}
+use Rattle.gu_tree.specs.ShownAll.{change_of, named_place, IsTreeIn, ShowsAll}
+use Rattle.gu_tree.specs.NumbersOn.{number_in, numbers_on, least, numbers_on_parts}
+use Rattle.gu_tree.specs.declared.head.Head.{Head}
+use Rattle.gu_tree.proofs.Parts.{some_and, at_fact}
+use Rattle.gu_tree.proofs.ShowsLess.{no-root-part}
+use Rattle.gu_tree.proofs.ToldAt.{IsToldAt, told-at}
+use Rattle.gu_depend.specs.Touch.{is_trade_or_decision}
+use Rattle.gu_depend.specs.Under.{numbers_under}
+use Rattle.gu_depend.proofs.Finds.{found_once}
+use Rattle.gu_depend.proofs.NamedOnce.{NamedOnce, named_once}
+use Rattle.gu_depend.proofs.Names.{maker, made_number}
+use Rattle.gu_depend.proofs.Replay.{NumbersOnce, number_once}
+use Rattle.gu_depend.proofs.StandsUnder.{rises_distinct}
+use Rattle.gu_depend.proofs.LookedUp.{looked_up}
+
+least_in : (o : Option Record) → least (number_in o) ≡ option_map (λ r. r.number) o
+least_in None = refl
+least_in (Some r) = refl
+
+-- ---- a trade, a decision, or neither
+
+pub one_of_both : (k trade : ℕ) (d : Option ℕ) → is_trade_or_decision k trade d ≡ true → (trade ≡ k) ⊎ (d ≡ Some k)
+one_of_both k trade None h = inl ((Decides-eqb trade k).0 h)
+one_of_both k trade (Some d) h = elim (or_cases (trade == k) (d == k) h) [
+  | inl same ↦ inl ((Decides-eqb trade k).0 same)
+  | inr decided ↦ inr (ap (λ n. Some n) ((Decides-eqb d k).0 decided))
+]
+
+apart : (n k : ℕ) → (n == k) ≡ false → n ≢ k
+apart n k differ e = let yes : (n == k) ≡ true = (Decides-eqb n k).1 e in absurd (cc)
+
+pub no_trade : (k trade : ℕ) (d : Option ℕ) → is_trade_or_decision k trade d ≡ false → trade ≢ k
+no_trade k trade None h = apart trade k h
+no_trade k trade (Some d) h = apart trade k (or_parts (trade == k) (d == k) h).0
+
+pub no_decision : (k trade : ℕ) (d : Option ℕ) → is_trade_or_decision k trade d ≡ false → d ≢ Some k
+no_decision k trade None h = λ e. absurd (cc)
+no_decision k trade (Some d) h = λ e. apart d k (or_parts (trade == k) (d == k) h).1 (same_Some d k e)
+
+-- ---- one change of a number
+
+module _ (l : List Record) (once : NumbersOnce l) (k : ℕ) (r : Record) (there : change_of l k ≡ Some r) where
+  number_is : r.number ≡ k
+  number_is = (Decides-eqb r.number k).0 (find_passes (λ r. r.number == k) l r there)
+
+  among : Contains l r
+  among = found_in (λ r. r.number == k) l r there
+
+  -- what has its number is the change
+  only_change : (d : Record) → Contains l d → d.number ≡ k → d ≡ r
+  only_change d in_list is = same_Some d r (sym (found_once (λ r. r.number == k) l d in_list ((Decides-eqb d.number k).1 is) (once k)) ∙ there)
+
+  -- a Split isn't a trade with a root
+  split_no_trade : (n : EntryPart) (ps : List Part) → r.command ≡ Split n ps → (trade : ℕ) (root : Node) → node_of l (record { entry = trade; part = 0 }) ≡ Some root → trade ≡ k → ⊥
+  split_no_trade n ps is trade root found same =
+      let m = maker l (record { entry = trade; part = 0 }) root found in
+      let number : trade ≡ m.change.number = made_number m.change (record { entry = trade; part = 0 }) root m.makes_it in
+      let one = only_change m.change m.among (sym number ∙ same) in
+      let made : made_of r (record { entry = trade; part = 0 }) ≡ Some root = subst (λ (z : Record). made_of z (record { entry = trade; part = 0 }) ≡ Some root) one m.makes_it in
+      let none : made_of r (record { entry = trade; part = 0 }) ≡ None =
+      ap (λ c. find (λ x. same_name x.name (record { entry = trade; part = 0 })) (nodes_of r.number r.firm c)) is ∙ no-root-part trade r.number 1 n r.firm ps (omega arith) in
+      absurd (cc)
+
+  -- nor a decision
+  split_no_decision : (n : EntryPart) (ps : List Part) → r.command ≡ Split n ps → (o : Option Record) → decision_of l n ≡ o → option_map (λ d. d.number) o ≡ Some k → ⊥
+  split_no_decision n ps is None e h = absurd (cc)
+  split_no_decision n ps is (Some d) e h =
+      let one = only_change d (found_in (λ r. decides n r.command) l d e) (same_Some d.number k h) in
+      let decided : decides n (Split n ps) ≡ true = ap (decides n) (sym is) ∙ (ap (λ (z : Record). decides n z.command) (sym one) ∙ find_passes (λ r. decides n r.command) l d e) in
+      absurd (cc)
+
+  module _ (named : NamedOnce l) (trade : ℕ) (v : Rose) (told : IsToldAt l trade v) where
+    -- where the change is the trade of the root, or decided the node, the node's Split stands on it
+    by_split : (c : Command) → r.command ≡ c → named_place r.number c ≡ Some (head_of v).name → (trade ≡ k) ⊎ ((head_of v).decision ≡ Some k)
+        → option_map (λ s. s.0) (split_of_node v) ≡ least (numbers_under l r.number r.firm c)
+    by_split (Trade _ _ _ _ _) is at which =
+        told.split ∙ (ap (λ n. option_map (λ r. r.number) (split_of l n)) (sym (same_Some _ _ at)) ∙ sym (least_in (split_of l (record { entry = r.number; part = 0 }))))
+    by_split (Split n ps) is at (inl same) = absurd (split_no_trade n ps is trade told.root told.has_root same)
+    by_split (Split n ps) is at (inr decided) =
+        absurd (split_no_decision n ps is (decision_of l n) refl (ap (λ m. option_map (λ d. d.number) (decision_of l m)) (same_Some _ _ at) ∙ (sym told.decision ∙ decided)))
+    by_split (Claim n _) is at which =
+        told.split ∙ (ap (λ n. option_map (λ r. r.number) (split_of l n)) (sym (same_Some _ _ at)) ∙ sym (least_in (split_of l n)))
+    by_split (Refuse n) is at which =
+        told.split ∙ (ap (λ n. option_map (λ r. r.number) (split_of l n)) (sym (same_Some _ _ at)) ∙ sym (least_in (split_of l n)))
+    by_split (Cancel n) is at which =
+        told.split ∙ (ap (λ n. option_map (λ r. r.number) (split_of l n)) (sym (same_Some _ _ at)) ∙ sym (least_in (split_of l n)))
+    by_split (Initiate _) is at which = absurd (cc)
+    by_split (Decline _) is at which = absurd (cc)
+    by_split (Reverse _) is at which = absurd (cc)
+
+    -- a decision is the one of its node
+    its_decision : (n : EntryPart) → decides n r.command ≡ true → Some n ≡ Some (head_of v).name → (head_of v).decision ≡ Some k
+    its_decision n passes at =
+        told.decision
+        ∙ (ap (λ m. option_map (λ d. d.number) (decision_of l m)) (sym (same_Some _ _ at))
+        ∙ (ap (option_map (λ d. d.number)) (found_once (λ r. decides n r.command) l r among passes (named.decisions_once n))
+        ∙ ap (λ m. Some m) number_is))
+
+    -- else it split the node, and what names a part stands on it
+    by_parts : (c : Command) → r.command ≡ c → named_place r.number c ≡ Some (head_of v).name → trade ≢ k → (head_of v).decision ≢ Some k
+        → least (numbers_on_parts v) ≡ least (numbers_under l r.number r.firm c)
+    by_parts (Trade _ _ _ _ _) is at other undecided =
+        let name : record { entry = r.number; part = 0 } ≡ (head_of v).name = same_Some _ _ at in
+        let root : (head_of v).name.entry ≡ trade = told.rooted (sym (ap (λ (m : EntryPart). m.part) name)) in
+        absurd (other (sym root ∙ (sym (ap (λ (m : EntryPart). m.entry) name) ∙ number_is)))
+    by_parts (Split n ps) is at other undecided =
+        let found : split_of l n ≡ Some r = found_once (λ r. splits n r.command) l r among (ap (splits n) is ∙ name_same n) (named.splits_once n) in
+        ap least (told.parts
+        ∙ (ap (λ m. flat_map (λ x. numbers_on l x.name) (parts_of l m)) (sym (same_Some _ _ at))
+        ∙ (ap (λ o. flat_map (λ x. numbers_on l x.name) (made_by o)) found
+        ∙ ap (λ c. flat_map (λ x. numbers_on l x.name) (nodes_of r.number r.firm c)) is)))
+    by_parts (Claim n a) is at other undecided = absurd (undecided (its_decision n (ap (decides n) is ∙ name_same n) at))
+    by_parts (Refuse n) is at other undecided = absurd (undecided (its_decision n (ap (decides n) is ∙ name_same n) at))
+    by_parts (Cancel n) is at other undecided = absurd (undecided (its_decision n (ap (decides n) is ∙ name_same n) at))
+    by_parts (Initiate _) is at other undecided = absurd (cc)
+    by_parts (Decline _) is at other undecided = absurd (cc)
+    by_parts (Reverse _) is at other undecided = absurd (cc)
+
+-- ---- the answers
+
+-- the place of the change, and the tree in which it lies
+pub record IsAt (g : Grove) (k trade : ℕ) (p : List ℕ) (tree v : Rose) : Type 0 where
+  pub placed : place_of g k ≡ Some (head_of v).name
+  pub found : tree_of g trade ≡ Some tree
+  pub led : node_at p tree ≡ Some v
+
+-- what the place of the change and the tree of its trade say
+pub record IsFound (g : Grove) (k trade : ℕ) (p : List ℕ) (tree : Rose) (h : Head) : Type 0 where
+  pub node : Rose
+  pub at : IsAt g k trade p tree node
+  pub head : head_of node ≡ h
+
+place_tree : (g : Grove) (trade : ℕ) (tree : Rose) (n : EntryPart) (p : List ℕ) → tree_of g trade ≡ Some tree → IsPlace g n trade p → LeadsTo p tree n
+place_tree g trade tree n p found place = subst (λ t. LeadsTo p t n) (same_Some place.tree tree (sym place.found ∙ found)) place.there
+
+found_by : (g : Grove) (k trade : ℕ) (tree : Rose) (p : List ℕ) (h : Head) → tree_of g trade ≡ Some tree → HasAt p (λ t. head_of t ≡ h) tree
+    → (o : Option EntryPart) → place_of g k ≡ o → IsSomeAnd o (λ n. IsPlace g n trade p) → IsFound g k trade p tree h
+found_by g k trade tree p h found has None e place = absurd place
+found_by g k trade tree p h found has (Some n) e place =
+    let v = some_and (λ t. head_of t ≡ h) (node_at p tree) has in
+    let named : (head_of v.0).name ≡ n = at_fact (λ u. (head_of u).name ≡ n) (node_at p tree) v.0 v.1 (place_tree g trade tree n p found place) in
+    record { node = v.0; at = record { placed = e ∙ ap (λ m. Some m) (sym named); found = found; led = v.1 }; head = v.2 }
+
+pub found_at : (g : Grove) (k trade : ℕ) (tree : Rose) (p : List ℕ) (h : Head) → IsSomeAnd (place_of g k) (λ n. IsPlace g n trade p) → tree_of g trade ≡ Some tree
+    → HasAt p (λ t. head_of t ≡ h) tree → IsFound g k trade p tree h
+found_at g k trade tree p h place found has = found_by g k trade tree p h found has (place_of g k) refl place
+
+-- a list that holds no such change
+nothing_out : (l : List Record) (k : ℕ) → change_of l k ≡ None → without l k ≡ l
+nothing_out [] k none = refl
+nothing_out (r ∷ l) k none = out_at r l k (nothing_out l k) (r.number == k) none
+  where
+    out_at : (r : Record) (l : List Record) (k : ℕ) → (change_of l k ≡ None → without l k ≡ l) → (b : Bool) → cond b (Some r) (change_of l k) ≡ None → cond (not b) (r ∷ without l k) (without l k) ≡ r ∷ l
+    out_at r l k later true h = absurd (cc)
+    out_at r l k later false h = ap (λ z. r ∷ z) (later h)
+
+module _ (g : Grove) (t : House) (l : List Record) (rises : RisesFrom 0 l) (legal : IsLegal t l) (shows : ShowsAll l g) where
+  abbrev numbered : NumbersOnce l
+  numbered = number_once l (rises_distinct 0 l rises)
+
+  -- the number of a change without a place is that of none, and then nothing stands on it
+  nothing_named : (k : ℕ) (o : Option Record) → change_of l k ≡ o → option_and_then (λ r. named_place r.number r.command) o ≡ None → None ≡ standing_on t l k
+  nothing_named k None e none = sym (ap (first_refused t []) (nothing_out l k e) ∙ replay_from_legal t l legal)
+  nothing_named k (Some r) e none =
+      let law = looked_up t l r rises (replay_from_legal t l legal) (among l numbered k r e) in
+      sym (ap (standing_on t l) (sym (number_is l numbered k r e)) ∙ (law ∙ ap least (none_under r.command none)))
+    where
+      none_under : (c : Command) → named_place r.number c ≡ None → numbers_under l r.number r.firm c ≡ []
+      none_under (Trade _ _ _ _ _) h = absurd (cc)
+      none_under (Split _ _) h = absurd (cc)
+      none_under (Claim _ _) h = absurd (cc)
+      none_under (Refuse _) h = absurd (cc)
+      none_under (Cancel _) h = absurd (cc)
+      none_under (Initiate _) h = refl
+      none_under (Decline _) h = refl
+      none_under (Reverse _) h = refl
+
+  pub nothing_placed : (k : ℕ) → place_of g k ≡ None → None ≡ standing_on t l k
+  nothing_placed k none = nothing_named k (change_of l k) refl (sym (shows.places k) ∙ none)
+
+  its_tree : (trade : ℕ) (tree : Rose) → tree_of g trade ≡ Some tree → IsTreeOf l trade tree
+  its_tree trade tree found = subst (IsTreeIn l trade) found (shows.trees trade)
+
+  from_split : (k trade : ℕ) (p : List ℕ) (tree v : Rose) → IsAt g k trade p tree v → (trade ≡ k) ⊎ ((head_of v).decision ≡ Some k)
+      → (o : Option Record) → change_of l k ≡ o → option_and_then (λ r. named_place r.number r.command) o ≡ Some (head_of v).name
+      → option_map (λ s. s.0) (split_of_node v) ≡ standing_on t l k
+  from_split k trade p tree v at which None e named = absurd (cc)
+  from_split k trade p tree v at which (Some r) e named =
+      let none = replay_from_legal t l legal in
+      let law = looked_up t l r rises none (among l numbered k r e) in
+      by_split l numbered k r e (named_once t l none) trade v (told-at l trade tree (its_tree trade tree at.found) p v at.led) r.command refl named which
+      ∙ (sym law ∙ ap (standing_on t l) (number_is l numbered k r e))
+
+  -- the Split of the node that a trade made, or that a decision names
+  pub split_stands : (k trade : ℕ) (p : List ℕ) (tree v : Rose) → IsAt g k trade p tree v → (trade ≡ k) ⊎ ((head_of v).decision ≡ Some k)
+      → option_map (λ s. s.0) (split_of_node v) ≡ standing_on t l k
+  split_stands k trade p tree v at which = from_split k trade p tree v at which (change_of l k) refl (sym (shows.places k) ∙ at.placed)
+
+  from_parts : (k trade : ℕ) (p : List ℕ) (tree v : Rose) → IsAt g k trade p tree v → trade ≢ k → (head_of v).decision ≢ Some k
+      → (o : Option Record) → change_of l k ≡ o → option_and_then (λ r. named_place r.number r.command) o ≡ Some (head_of v).name
+      → least (numbers_on_parts v) ≡ standing_on t l k
+  from_parts k trade p tree v at other undecided None e named = absurd (cc)
+  from_parts k trade p tree v at other undecided (Some r) e named =
+      let none = replay_from_legal t l legal in
+      let law = looked_up t l r rises none (among l numbered k r e) in
+      by_parts l numbered k r e (named_once t l none) trade v (told-at l trade tree (its_tree trade tree at.found) p v at.led) r.command refl named other undecided
+      ∙ (sym law ∙ ap (standing_on t l) (number_is l numbered k r e))
+
+  -- the first on the parts that a Split made
+  pub parts_stand : (k trade : ℕ) (p : List ℕ) (tree v : Rose) → IsAt g k trade p tree v → trade ≢ k → (head_of v).decision ≢ Some k
+      → least (numbers_on_parts v) ≡ standing_on t l k
+  parts_stand k trade p tree v at other undecided = from_parts k trade p tree v at other undecided (change_of l k) refl (sym (shows.places k) ∙ at.placed)
+
+  -- the same, of what the code has found
+  pub split_found : (k trade : ℕ) (p : List ℕ) (tree : Rose) (h : Head) → IsFound g k trade p tree h → (trade ≡ k) ⊎ (h.decision ≡ Some k)
+      → (o : Option ℕ) → HasAt p (λ v. o ≡ option_map (λ s. s.0) (split_of_node v)) tree → o ≡ standing_on t l k
+  split_found k trade p tree h f which o has =
+      at_fact (λ v. o ≡ option_map (λ s. s.0) (split_of_node v)) (node_at p tree) f.node f.at.led has
+      ∙ split_stands k trade p tree f.node f.at (subst (λ (z : Head). (trade ≡ k) ⊎ (z.decision ≡ Some k)) (sym f.head) which)
+
+  pub parts_found : (k trade : ℕ) (p : List ℕ) (tree : Rose) (h : Head) → IsFound g k trade p tree h → trade ≢ k → h.decision ≢ Some k
+      → (o : Option ℕ) → HasAt p (λ v. o ≡ least (numbers_on_parts v)) tree → o ≡ standing_on t l k
+  parts_found k trade p tree h f other undecided o has =
+      at_fact (λ v. o ≡ least (numbers_on_parts v)) (node_at p tree) f.node f.at.led has
+      ∙ parts_stand k trade p tree f.node f.at other (subst (λ (z : Head). z.decision ≢ Some k) (sym f.head) undecided)
+
+-- none is answered exactly where the others alone are legal
+pub none_where_legal : (t : House) (l : List Record) (k : ℕ) (o : Option ℕ) → o ≡ standing_on t l k → (o ≡ None) ↔ IsLegal t (without l k)
+none_where_legal t l k o is =
+    (λ none. legal_from_replay t (without l k) (sym is ∙ none), λ others. is ∙ replay_from_legal t (without l k) others)

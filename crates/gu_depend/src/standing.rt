@@ -1,0 +1,73 @@
+//! What a change touches, and what stands on it there.
+ghost use Rattle.std.specs.Prelude.{◌≡◌, ◌↔◌, List, None, option_map};
+ghost use Rattle.gu_base.specs.History.{RisesFrom};
+ghost use Rattle.gu_base.specs.House.{House};
+ghost use Rattle.gu_base.specs.Standing.{IsLegal, standing_on, without};
+ghost use Rattle.gu_base.specs.declared.entry.Record.{Record};
+ghost use Rattle.gu_tree.specs.ShownAll.{ShowsAll};
+ghost use Rattle.gu_tree.specs.Rose.{split_of_node};
+ghost use Rattle.gu_tree.specs.Paths.{HasPath, HasAt};
+ghost use Rattle.gu_depend.specs.Touch.{Touches, is_trade_or_decision};
+
+use crate::touch::Touched;
+use gu_base::{Command, Number};
+use gu_tree::{Path, Tree, Trees};
+use std::alloc::Allocator;
+
+/// What the command of this number makes or decides where it is accepted. Takes no memory.
+pub fn touched(entry: Number, command: &Command) -> Touched
+    ensures { Touches entry command.now result }
+{
+    match command {
+        Command::Trade { .. } => Touched::Root,
+        Command::Split { .. } => Touched::Parts,
+        Command::Claim { node, .. } => Touched::Node(*node),
+        Command::Refuse { node } => Touched::Node(*node),
+        Command::Cancel { node } => Touched::Node(*node),
+        _ => Touched::Nothing,
+    }
+}
+
+/// The first change that stands on the one of this number: what would be refused first if that one weren't there. `None` where
+/// nothing stands on it, so that it may go.
+///
+/// It is handed the trees and no list: for whatever legal list they show, in the order of its numbers, the answer is the list's.
+/// It looks at the node that the change made or named, and where that is a Split's at the parts, and at nothing else; it takes no memory.
+pub fn first_standing<A: Allocator + Clone>(trees: &Trees<A>, k: Number) -> Option<Number>
+    ensures first { (t : House) (l : List Record) → RisesFrom 0 l → IsLegal t l → ShowsAll l trees.now → result ≡ standing_on t l k }
+    ensures none { (t : House) (l : List Record) → RisesFrom 0 l → IsLegal t l → ShowsAll l trees.now → (result ≡ None) ↔ IsLegal t (without l k) }
+{
+    let Some((trade, path)) = trees.place(k) else {
+        return None;
+    };
+    let Some(tree) = trees.tree(trade) else {
+        unreachable!()
+    };
+    let decision = tree.head(&path).decision;
+    if is_trade_or_decision(k, trade, decision) {
+        split_of(tree, &path)
+    } else {
+        tree.first_on_parts(&path)
+    }
+}
+
+/// Whether the change of this number is the trade itself, or the node's decision.
+fn is_trade_or_decision(k: Number, trade: Number, decision: Option<Number>) -> bool
+    ensures { result ≡ is_trade_or_decision k trade decision }
+{
+    match decision {
+        Some(decision) => trade == k || decision == k,
+        None => trade == k,
+    }
+}
+
+/// The number of the node's Split.
+fn split_of<A: Allocator + Clone>(tree: &Tree<A>, path: &Path) -> Option<Number>
+    requires { HasPath path.now.items tree.now }
+    ensures { HasAt path.now.items (λ t. result ≡ option_map (λ s. s.0) (split_of_node t)) tree.now }
+{
+    match tree.parted(path) {
+        Some((split, _)) => Some(split),
+        None => None,
+    }
+}

@@ -1,0 +1,15 @@
+//! What a change touches in the trees.
+use gu_base::NodeName;
+
+/// What a change made or decided: there stands what stands on it.
+#[derive(Clone, Copy, Debug, PartialEq, Eq)]
+pub enum Touched {
+    /// A Trade made its root.
+    Root,
+    /// A Split made its parts.
+    Parts,
+    /// A Claim, a Refuse or a Cancel decided this node.
+    Node(NodeName),
+    /// An Initiate, a Decline or a Reverse is no change.
+    Nothing,
+}

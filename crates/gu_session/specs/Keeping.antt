@@ -1,0 +1,31 @@
+-- The application messages that are kept: what each of them is, and how they lie in memory.
+use Rattle.std.specs.Prelude.{◌≡◌, ℕ, ◌+◌, List, [], ◌∷◌, ◌++◌, length, take, drop}
+use Rattle.gu_session.specs.declared.kept.Told.{Told}
+use Rattle.gu_session.specs.declared.kept.Entry.{Entry}
+
+-- an application message that was sent: its kind; MsgSeqNum (34); SendingTime (52) when it was sent first; the text of its fields behind the header
+pub record Kept : Type 0 where
+  pub told : Told
+  pub number : ℕ
+  pub sent : List ℕ
+  pub body : List ℕ
+
+-- the message of an entry with this body
+abbrev pub kept_with : Entry → List ℕ → Kept
+kept_with e body = record { told = e.told; number = e.number; sent = e.sent; body = body }
+
+-- the messages of entries whose bodies stand one behind the other
+abbrev pub messages : List Entry → List ℕ → List Kept
+messages [] bodies = []
+messages (e ∷ es) bodies = kept_with e (take e.size bodies) ∷ messages es (drop e.size bodies)
+
+-- how long the bodies of entries are together
+abbrev pub total : List Entry → ℕ
+total [] = 0
+total (e ∷ es) = e.size + total es
+
+-- the body of this message was appended, and this is its entry
+pub record IsBody (e : Entry) (m : Kept) (before after : List ℕ) : Type 0 where
+  pub appended : after ≡ before ++ m.body
+  pub size : e.size ≡ length m.body
+  pub value : kept_with e m.body ≡ m

@@ -1,0 +1,113 @@
+-- The least number that stands on the parts of a node, and which it is in a list that the tree shows.
+use Rattle.std.proofs.Common.{◌≡◌, ℕ, zero, suc, ◌+◌, ◌<◌, min, Option, Some, None, IsSomeAnd, List, [], ◌∷◌, ◌++◌, length, get_or, take, refl, ap, sym, ◌∙◌, subst, arith, append_assoc, append-nil}
+use Rattle.std.specs.Prelude.{flat_map, option_map, option_and_then}
+use Rattle.std.specs.Option.{option_to_list}
+use Rattle.std.proofs.lemmas.List.{take_more}
+use Rattle.gu_base.specs.Nodes.{nodes_of, decision_of}
+use Rattle.gu_base.specs.Rows.{made_by, parts_of}
+use Rattle.gu_base.specs.declared.entry.Record.{Record}
+use Rattle.gu_base.specs.declared.node.Place.{Place}
+use Rattle.gu_base.specs.declared.node.Node.{Node}
+use Rattle.gu_tree.specs.Rose.{Rose, Roses, leaf, parted, no_parts, part_then, from_list, head_of}
+use Rattle.gu_tree.specs.Paths.{part_at, node_at, HasAt}
+use Rattle.gu_tree.specs.Shown.{IsNodeOf, ArePartsOf, IsTreeOf}
+use Rattle.gu_tree.specs.NumbersOn.{number_in, numbers_on, least_with, least, lesser, numbers_at, numbers_at_each, numbers_on_parts}
+use Rattle.gu_tree.specs.declared.head.Head.{Head}
+use Rattle.gu_tree.proofs.Along.{its-head}
+
+-- ---- the least of two lists of numbers
+
+least_with-lesser : (n m : ℕ) (o : Option ℕ) → least_with n (Some (least_with m o)) ≡ least_with (min n m) o
+least_with-lesser n m None = refl
+least_with-lesser n m (Some k) = omega arith
+
+lesser-step : (n : ℕ) (a b : Option ℕ) → Some (least_with n (lesser a b)) ≡ lesser (Some (least_with n a)) b
+lesser-step n None b = refl
+lesser-step n (Some m) b = ap (λ k. Some k) (least_with-lesser n m b)
+
+pub least-append : (ns ms : List ℕ) → least (ns ++ ms) ≡ lesser (least ns) (least ms)
+least-append [] ms = refl
+least-append (n ∷ ns) ms = ap (λ o. Some (least_with n o)) (least-append ns ms) ∙ lesser-step n (least ns) (least ms)
+
+pub least-one : (o : Option ℕ) → least (option_to_list o) ≡ o
+least-one None = refl
+least-one (Some n) = refl
+
+-- ---- the numbers at the first parts of a node
+
+each-append : (xs ys : List Rose) → numbers_at_each (from_list (xs ++ ys)) ≡ numbers_at_each (from_list xs) ++ numbers_at_each (from_list ys)
+each-append [] ys = refl
+each-append (x ∷ xs) ys = ap (λ ns. numbers_at x ++ ns) (each-append xs ys) ∙ sym (append_assoc (numbers_at x) (numbers_at_each (from_list xs)) (numbers_at_each (from_list ys)))
+
+pub least-more : (xs : List Rose) (i : ℕ) (u : Rose) → i < length xs → u ≡ get_or xs i u
+    → least (numbers_at_each (from_list (take (i + 1) xs))) ≡ lesser (least (numbers_at_each (from_list (take i xs)))) (least (numbers_at u))
+least-more xs i u h e =
+    rw (take_more xs i u h, ← e)
+    (ap least (each-append (take i xs) (u ∷ []) ∙ ap (λ ns. numbers_at_each (from_list (take i xs)) ++ ns) (append-nil (numbers_at u)))
+    ∙ least-append (numbers_at_each (from_list (take i xs))) (numbers_at u))
+
+pub least-parts : (t : Rose) (h : Head) (n : ℕ) (xs : List Rose) → parted h n (from_list xs) ≡ t → least (numbers_at_each (from_list xs)) ≡ least (numbers_on_parts t)
+least-parts t h n xs o = ap (λ u. least (numbers_on_parts u)) o
+
+-- ---- in a list that the tree shows
+
+decided-number : (o : Option Record) → option_to_list (option_map (λ r. r.number) o) ≡ number_in o
+decided-number None = refl
+decided-number (Some r) = refl
+
+module _ (l : List Record) where
+  node-numbers : (above : Option Place) (x : Node) (t : Rose) → IsNodeOf l above x t → numbers_at t ≡ numbers_on l x.name
+  node-numbers above x (leaf h) is =
+      ap option_to_list (is.0).decision
+      ∙ (decided-number (decision_of l x.name)
+      ∙ ap (λ o. number_in o ++ number_in (decision_of l x.name)) (sym is.1))
+  node-numbers above x (parted h n ts) is =
+      ap (λ k. k ∷ option_to_list h.decision) (sym is.1.2)
+      ∙ (ap (λ o. is.1.0.number ∷ option_to_list o) (is.0).decision
+      ∙ (ap (λ ns. is.1.0.number ∷ ns) (decided-number (decision_of l x.name))
+      ∙ ap (λ o. number_in o ++ number_in (decision_of l x.name)) (sym is.1.1)))
+
+  each-numbers : (above : Option Place) (xs : List Node) (ts : Roses) → ArePartsOf l above xs ts → numbers_at_each ts ≡ flat_map (λ x. numbers_on l x.name) xs
+  each-numbers above [] no_parts is = refl
+  each-numbers above [] (part_then t ts) is = absurd is
+  each-numbers above (x ∷ xs) no_parts is = absurd is
+  each-numbers above (x ∷ xs) (part_then t ts) is =
+      let first = node-numbers above x t is.0 in
+      let rest = each-numbers above xs ts is.1 in
+      λ i. first i ++ rest i
+
+  pub parts-numbers : (above : Option Place) (x : Node) (t : Rose) → IsNodeOf l above x t → numbers_on_parts t ≡ flat_map (λ x. numbers_on l x.name) (parts_of l x.name)
+  parts-numbers above x (leaf h) is = ap (λ o. flat_map (λ x. numbers_on l x.name) (made_by o)) (sym is.1)
+  parts-numbers above x (parted h n ts) is =
+      each-numbers (Some h.place) (nodes_of is.1.0.number is.1.0.firm is.1.0.command) ts is.1.3
+      ∙ ap (λ o. flat_map (λ x. numbers_on l x.name) (made_by o)) (sym is.1.1)
+
+  -- what the tree shows at the end of a path
+  pub record IsShownAt (v : Rose) : Type 0 where
+    pub above : Option Place
+    pub node : Node
+    pub shown : IsNodeOf l above node v
+
+  shown-part : (p : List ℕ) (v : Rose) → ((above : Option Place) (x : Node) (t : Rose) → IsNodeOf l above x t → node_at p t ≡ Some v → IsShownAt v)
+      → (above : Option Place) (i : ℕ) (xs : List Node) (ts : Roses) → ArePartsOf l above xs ts → option_and_then (node_at p) (part_at i ts) ≡ Some v → IsShownAt v
+  shown-part p v ih above i [] no_parts is e = absurd (cc)
+  shown-part p v ih above i [] (part_then t ts) is e = absurd is
+  shown-part p v ih above i (x ∷ xs) no_parts is e = absurd is
+  shown-part p v ih above zero (x ∷ xs) (part_then t ts) is e = ih above x t is.0 e
+  shown-part p v ih above (suc i) (x ∷ xs) (part_then t ts) is e = shown-part p v ih above i xs ts is.1 e
+
+  pub shown-at : (p : List ℕ) (v : Rose) (above : Option Place) (x : Node) (t : Rose) → IsNodeOf l above x t → node_at p t ≡ Some v → IsShownAt v
+  shown-at [] v above x t is e = let s : t ≡ v = cc in record { above = above; node = x; shown = subst (IsNodeOf l above x) s is }
+  shown-at (i ∷ p) v above x (leaf h) is e = absurd (cc)
+  shown-at (i ∷ p) v above x (parted h n ts) is e =
+      shown-part p v (λ a y u s d. shown-at p v a y u s d) (Some h.place) i (nodes_of is.1.0.number is.1.0.firm is.1.0.command) ts is.1.3 e
+
+-- the least on the parts of the node at the path, by the list alone
+pub first-shown : (o : Option ℕ) (p : List ℕ) (t v : Rose) → node_at p t ≡ Some v → o ≡ least (numbers_on_parts v)
+    → (l : List Record) (trade : ℕ) → IsTreeOf l trade t → HasAt p (λ w. o ≡ least (flat_map (λ x. numbers_on l x.name) (parts_of l (head_of w).name))) t
+first-shown o p t v led is_least l trade is =
+    let s = shown-at l p v None is.root t is.tree led in
+    let named : (head_of v).name ≡ s.node.name = (its-head l s.above s.node v s.shown).name in
+    let found : o ≡ least (flat_map (λ x. numbers_on l x.name) (parts_of l (head_of v).name)) =
+    is_least ∙ (ap least (parts-numbers l s.above s.node v s.shown) ∙ ap (λ n. least (flat_map (λ x. numbers_on l x.name) (parts_of l n))) (sym named)) in
+    subst (λ w. IsSomeAnd w (λ v. o ≡ least (flat_map (λ x. numbers_on l x.name) (parts_of l (head_of v).name)))) (sym led) found

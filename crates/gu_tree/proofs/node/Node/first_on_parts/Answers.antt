@@ -1,0 +1,10 @@
+use Rattle.std.proofs.Common.{sym, ◌∙◌}
+use Rattle.gu_tree.specs.NumbersOn.{lesser}
+use Rattle.gu_tree.proofs.FirstOn.{least-more}
+use Rattle.gu_tree.proofs.node.Node.first_on_parts.Goals as goal
+
+pub loop-part-preserved : goal.loop-part-preserved
+loop-part-preserved g c =
+    c.lower-first.ensures
+    ∙ ((λ i. lesser (c.loop-part.invariant i) (c.first_on.ensures i))
+    ∙ sym (least-more _ c.loop-part.part-index c.part-item.result c.loop-part-test.true c.part-item.is))
