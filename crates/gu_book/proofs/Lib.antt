@@ -27,4 +27,5 @@ pub mod Named
 pub mod Shown
 pub mod Filed
 pub mod FiledChanges
+pub mod AllShown
 pub mod Crossing

@@ -51,9 +51,7 @@ abbrev pub stands_refusal : House → List Entry → Command → Option Refusal
 stands_refusal t h (Reverse n) = option_map (λ k. StandsOn k) (standing_on t (live h) n)
 stands_refusal t h _ = None
 
--- whether want of memory may come in the place of this answer: of one that is accepted, and of a Reverse that is refused for what stands
--- on its entry, since only a replay finds that
+-- whether want of memory may come in the place of this answer: of one that is accepted
 abbrev pub may_lack : Answer → Bool
 may_lack (Accepted _ _) = true
-may_lack (Refused (StandsOn _)) = true
 may_lack _ = false
