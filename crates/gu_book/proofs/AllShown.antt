@@ -1,8 +1,7 @@
 -- The filed trees show all live changes, so what stands on a change is read off them.
-use Rattle.std.proofs.Common.{◌≡◌, ℕ, ◌+◌, ◌≤◌, Bool, true, false, ◌&&◌, List, [], ◌∷◌, refl, sym, ◌∙◌, ap, subst, arith, Option}
+use Rattle.std.proofs.Common.{◌≡◌, ℕ, ◌≤◌, true, false, ◌&&◌, List, [], ◌∷◌, refl, sym, ◌∙◌, ap, subst, arith, Option}
 use Rattle.std.specs.Prelude.{Some, None, find, ◌==◌, is_some, option_map, IfSome}
 use Rattle.std.proofs.lemmas.Bool.Decides.{Decides-eqb}
-use Rattle.gu_base.specs.Numbers.{EntryPart}
 use Rattle.gu_base.specs.House.{House, knows_firm}
 use Rattle.gu_base.specs.History.{live, RisesFrom}
 use Rattle.gu_base.specs.Nodes.{node_of, nodes_of, same_name}

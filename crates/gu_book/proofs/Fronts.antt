@@ -1,5 +1,5 @@
 -- The answer, from the answer but for what stands on a change.
-use Rattle.std.proofs.Common.{◌≡◌, ℕ, ◌+◌, true, false, not, List, [], ◌∷◌, length, refl, sym, ◌∙◌, ap, Option}
+use Rattle.std.proofs.Common.{◌≡◌, ℕ, ◌+◌, false, not, List, [], ◌∷◌, length, refl, sym, ◌∙◌, ap, Option}
 use Rattle.std.specs.Prelude.{Some, None, find, option_map, nat_lt}
 use Rattle.gu_base.specs.House.{House, knows_firm}
 use Rattle.gu_base.specs.History.{records, live, is_change}

@@ -269,8 +269,12 @@ impl Book {
         ensures kept { OnOk result (self.new ≡ record { house = self.old.house; history = self.old.history ++ kept ∷ [] }) }
         ensures unchanged { OnErr result (self.new ≡ self.old) }
     {
-        let Without::Legal(records, trees, fees, positions) =
-            replay_without(&self.house, alloc, &self.records, change)?
+        let Without::Legal(records, trees, fees, positions) = replay_without(
+            &self.house,
+            alloc,
+            &self.records,
+            change,
+        )?
         else {
             unreachable!()
         };
