@@ -28,4 +28,5 @@ pub mod Shown
 pub mod Filed
 pub mod FiledChanges
 pub mod AllShown
+pub mod Undoing
 pub mod Crossing
