@@ -127,6 +127,7 @@ impl Book {
             house: &self.house,
             entries: &self.entries,
             records: &self.records,
+            trees: &self.trees,
             fees: &self.fees,
             index: &self.index,
             consents: &self.consents,
@@ -189,7 +190,7 @@ impl Book {
         ensures unchanged { OnErr result (self.new ≡ self.old) }
     {
         let charge = charges::charge_of(&self.house, &self.records, &kept.command);
-        let taken = holdings::taken_by(&self.records, &kept.command);
+        let taken = holdings::taken_by(&self.records, &self.trees, &kept.command);
         let record = Record {
             number,
             firm: kept.firm,
