@@ -1,6 +1,6 @@
 -- What the trees say of a node is what the changes say of it.
-use Rattle.std.proofs.Common.{◌≡◌, ◌≢◌, ℕ, ◌==◌, Bool, true, false, ◌&&◌, List, length, find, refl, sym, ◌∙◌, ap, subst, Option}
-use Rattle.std.specs.Prelude.{Some, None, option_map, option_and_then, is_none, unwrap_or, bytes_eq, IsSomeAnd}
+use Rattle.std.proofs.Common.{◌≡◌, ◌≢◌, ℕ, ◌==◌, true, false, ◌&&◌, List, length, find, refl, sym, ◌∙◌, ap, subst, Option}
+use Rattle.std.specs.Prelude.{Some, None, option_map, option_and_then, is_none, unwrap_or, bytes_eq}
 use Rattle.std.proofs.lemmas.Option.{same_Some}
 use Rattle.gu_base.specs.Numbers.{EntryPart}
 use Rattle.gu_base.specs.Nodes.{node_of, split_of, decision_of, is_given, is_offered}
@@ -12,7 +12,6 @@ use Rattle.gu_base.specs.declared.node.Kind.{Kind}
 use Rattle.gu_base.specs.declared.node.Kind.TheVariants.{Root, Own, Given}
 use Rattle.gu_base.specs.declared.node.Node.{Node}
 use Rattle.gu_base.specs.declared.node.Place.{Place}
-use Rattle.gu_base.specs.declared.state.State.{State}
 use Rattle.gu_base.specs.declared.state.State.TheVariants.{Offered}
 use Rattle.gu_base.proofs.Basics.{no_some}
 use Rattle.gu_tree.specs.Grove.{Grove, tree_of, IsPlace}
@@ -25,11 +24,10 @@ use Rattle.gu_tree.proofs.ShowsChanges.{decided_state}
 use Rattle.gu_book.specs.Found.{AreTreesOf, IsFoundAs, IsFoundIn}
 use Rattle.gu_book.specs.Holdings.{traded_by, traded_at, held_at, holding_of}
 use Rattle.gu_book.specs.declared.found.Found.{Found}
-use Rattle.gu_book.specs.declared.plain.holdings.Holding.{Holding}
 use Rattle.gu_book.specs.declared.plain.holdings.Traded.{Traded}
-use Rattle.gu_book.proofs.Filed.{Spot, spot, placed_in}
+use Rattle.gu_book.proofs.Filed.{spot, placed_in}
 use Rattle.gu_book.proofs.FiledChanges.{its_head}
-use Rattle.gu_book.proofs.Orders.{InOrder, in_order}
+use Rattle.gu_book.proofs.Orders.{in_order}
 
 -- no tree has a node that no change makes
 pub found_none : {l : List Record} {g : Grove} → AreTreesOf l g → (n : EntryPart) → ((trade : ℕ) (p : List ℕ) → IsPlace g n trade p → ⊥) → node_of l n ≡ None

@@ -9,9 +9,7 @@ ghost use Rattle.gu_book.specs.Limits.{AllWithinLimits};
 
 use crate::found::find;
 use crate::plain::nodes::change_at;
-use gu_base::{
-    Command, FirmId, InstrumentId, Memory, NodeName, Number, Part, Place, Record, Side,
-};
+use gu_base::{Command, FirmId, InstrumentId, Memory, NodeName, Number, Part, Place, Record, Side};
 use gu_positions::{Key, Positions};
 use gu_tree::Trees;
 use std::alloc::Global;
