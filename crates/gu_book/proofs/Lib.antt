@@ -27,4 +27,5 @@ pub mod Shown
 pub mod Filed
 pub mod FiledChanges
 pub mod FoundAs
+pub mod AllShown
 pub mod Crossing

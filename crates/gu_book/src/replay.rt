@@ -1,4 +1,4 @@
-//! What stands on a change, found by replaying the live changes without it.
+//! What the live changes are without one of them, found by replaying the others.
 ghost use Rattle.std.specs.Prelude.{◌≡◌, ◌≤◌, ◌<◌, [], ◌∷◌, ◌++◌, length, None, IfOk};
 ghost use Rattle.gu_base.specs.History.{RisesFrom};
 ghost use Rattle.gu_base.specs.Limits.{most_entries};
