@@ -24,6 +24,7 @@ use Rattle.gu_base.proofs.LiveLaws.{live_push_change, live_push_reverse, is_live
 use Rattle.gu_base.proofs.Basics.{bytes_symm, nothing_here}
 use Rattle.gu_tree.specs.Grove.{Grove, tree_of, place_of, last_place, IsSameGrove}
 use Rattle.gu_book.specs.Filed.{IsFiled, IsNext}
+use Rattle.gu_book.specs.Found.{AreTreesOf}
 use Rattle.gu_book.specs.Ids.{same_id, NoIdTwice}
 use Rattle.gu_book.specs.Kept.{AcceptedFrom, IsKept}
 use Rattle.gu_base.specs.Consents.{consents_left, is_consenting}
@@ -190,6 +191,10 @@ kept_alike {l = l} {old = old} kept new same = record {
   filed = same_filed l old new same kept.filed;
   consented = kept.consented;
 }
+
+-- the trees are those of the live changes
+pub trees_kept : {t : House} {h : List Entry} {l : List Record} {ts : Grove} {cs : Consents} → IsKept t h l ts cs → AreTreesOf l ts
+trees_kept {t} {h} {l} kept = record { house = t; filed = kept.filed; replayed = kept.replayed; rises = subst (RisesFrom 1) (sym kept.are_live) (live_rises h) }
 
 -- what the replay of the live changes asks for
 pub rises_kept : (t : House) (h : List Entry) (l : List Record) (ts : Grove) (cs : Consents) → IsKept t h l ts cs → RisesFrom 1 l

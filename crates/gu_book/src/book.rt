@@ -140,6 +140,7 @@ impl Book {
             house: &self.house,
             entries: &self.entries,
             records: &self.records,
+            trees: &self.trees,
             fees: &self.fees,
             index: &self.index,
             consents: &self.consents,
@@ -195,7 +196,7 @@ impl Book {
         ensures unchanged { OnErr result (self.new ≡ self.old) }
     {
         let charge = charges::charge_of(&self.house, &self.records, &kept.command);
-        let taken = holdings::taken_by(&self.records, &kept.command);
+        let taken = holdings::taken_by(&self.records, &self.trees, &kept.command);
         let record = Record {
             number,
             firm: kept.firm,
@@ -274,7 +275,7 @@ impl Book {
         self.entries.reserve(1)?;
         let undone = &self.entries[change.get() as usize - 1];
         let charge = charges::charge_of(&self.house, &others.records, &undone.command);
-        let taken = holdings::taken_by(&others.records, &undone.command);
+        let taken = holdings::taken_by(&others.records, &others.trees, &undone.command);
         holdings::ready_taken(&mut self.positions, &taken)?;
         self.index.ids.put(&kept.firm, &kept.id, number)?;
         if let Err(lack) = self.index.reversals.put(change, number) {

@@ -11,14 +11,16 @@
 //!   its live changes would be refused after those before it, that the trees show the live changes, and that the consents are those
 //!   that the history left.
 //! - `laws` has what follows for every book, first the headline in five laws.
-//! - `index` finds the entry of an id and the Reverse of an entry without going over the history.
-//! - `plain` has the scans of the live changes that find each answer but for what stands on a change (gu_depend reads that off the
-//!   trees), `grove` has what a change does to the trees, `replay` what an accepted Reverse leaves; no public contract speaks of them.
+//! - `index` finds the entry of an id and the Reverse of an entry without going over the history, `found` what the trees say of a
+//!   node.
+//! - `plain` has each answer but for what stands on a change (gu_depend reads that off the trees), `grove` has what a change does to
+//!   the trees, `replay` what an accepted Reverse leaves; no public contract speaks of them.
 //!
 //! Its cases, whole days of a small house, are data of the program `test_book`.
 #![tactic(auto)]
 
 pub mod book;
+mod found;
 mod grove;
 mod index;
 pub mod laws;

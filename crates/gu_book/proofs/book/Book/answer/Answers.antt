@@ -7,12 +7,11 @@ use Rattle.gu_consent.specs.Given.{given}
 use Rattle.gu_book.specs.Front.{stands_refusal}
 use Rattle.gu_book.proofs.AllShown.{standing_found}
 use Rattle.gu_book.proofs.Fronts.{decided, settles, not_accepted, none_in_way}
-use Rattle.gu_book.proofs.Keeps.{rises_kept}
+use Rattle.gu_book.proofs.Keeps.{trees_kept}
 use Rattle.gu_book.proofs.book.Book.answer.Goals as goal
 
-pub front_answer-answer-requires-clause-rises : goal.front_answer-answer-requires-clause-rises
-front_answer-answer-requires-clause-rises c =
-    rw c.deref-2.ensures.value (rises_kept c.self.inside.house c.self.inside.entries.items c.self.inside.records.items c.self.inside.trees c.self.inside.consents c.self.invariant.kept)
+pub front_answer-answer-requires-clause-trees : goal.front_answer-answer-requires-clause-trees
+front_answer-answer-requires-clause-trees c = rw c.deref-2.ensures.value (trees_kept c.self.invariant.kept)
 
 pub returns-in_default : goal.returns-in_default
 returns-in_default c =
