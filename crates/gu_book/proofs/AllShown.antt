@@ -77,15 +77,16 @@ standing_found {t} {h} {l} {g} {cs} kept k o first =
 
 -- ---- a change whose Reverse is accepted
 
+found_step : {X : Type 0} (p q : X → Bool) (y : X) (ys : List X) (x : X) → q x ≡ true → (find p ys ≡ Some x → find p (filter q ys) ≡ Some x)
+    → (b : Bool) → p y ≡ b → (d : Bool) → q y ≡ d → cond b (Some y) (find p ys) ≡ Some x → find p (cond d (y ∷ filter q ys) (filter q ys)) ≡ Some x
+found_step p q y ys x passes rest true is true keeps h = ap (λ b. cond b (Some y) (find p (filter q ys))) is ∙ h
+found_step p q y ys x passes rest true is false keeps h = let z : false ≡ true = sym keeps ∙ (ap q (same_Some y x h) ∙ passes) in absurd (cc)
+found_step p q y ys x passes rest false is true keeps h = ap (λ b. cond b (Some y) (find p (filter q ys))) is ∙ rest h
+found_step p q y ys x passes rest false is false keeps h = rest h
+
 found_kept : {X : Type 0} (p q : X → Bool) (xs : List X) (x : X) → find p xs ≡ Some x → q x ≡ true → find p (filter q xs) ≡ Some x
 found_kept p q [] x h passes = absurd (cc)
-found_kept {X} p q (y ∷ ys) x h passes = step (p y) refl (q y) refl h
-  where
-    step : (b : Bool) → p y ≡ b → (d : Bool) → q y ≡ d → cond b (Some y) (find p ys) ≡ Some x → find p (cond d (y ∷ filter q ys) (filter q ys)) ≡ Some x
-    step true is true keeps h = ap (λ b. cond b (Some y) (find p (filter q ys))) is ∙ h
-    step true is false keeps h = let z : false ≡ true = sym keeps ∙ (ap q (same_Some y x h) ∙ passes) in absurd (cc)
-    step false is true keeps h = ap (λ b. cond b (Some y) (find p (filter q ys))) is ∙ found_kept p q ys x h passes
-    step false is false keeps h = found_kept p q ys x h passes
+found_kept p q (y ∷ ys) x h passes = found_step p q y ys x passes (λ e. found_kept p q ys x e passes) (p y) refl (q y) refl h
 
 -- it is live, and nothing stands on it
 pub record IsUndone (t : House) (h : List Entry) (k : ℕ) (r : Record) : Type 0 where

@@ -8,6 +8,7 @@ use Rattle.std.proofs.lemmas.Bool.Decides.{Decides-eqb}
 use Rattle.std.proofs.lemmas.List.Elements.{All-nil, All-cons, All-head, All-tail, All-filter, All-contains, filter_passes}
 use Rattle.gu_base.specs.Numbers.{EntryPart}
 use Rattle.gu_base.specs.House.{House}
+use Rattle.gu_base.specs.Limits.{most_lots, highest_rate}
 use Rattle.gu_base.specs.Fees.{charges, charge_of}
 use Rattle.gu_base.specs.History.{RisesFrom}
 use Rattle.gu_base.specs.Nodes.{node_of, split_of, splits, decides}
@@ -38,11 +39,12 @@ use Rattle.gu_fees.specs.Rows.{FeeRows}
 use Rattle.gu_fees.specs.Sums.{AreSumsOf}
 use Rattle.gu_positions.specs.Rows.{PositionRows, lots_in, IsReady}
 use Rattle.gu_positions.specs.declared.positions.Key.{Key}
-use Rattle.gu_book.specs.Charging.{IsSmallCharge, AreFeesOf}
+use Rattle.gu_book.specs.Charging.{IsSmallCharge, AreFeesOf, IsCharged}
 use Rattle.gu_book.specs.Holdings.{taken_by, added_by, counted_at, taken_at, SameLots, HaveMoved, HaveThere, IsReadyTaken, HasRoomBack, ArePositionsOf}
 use Rattle.gu_book.specs.Limits.{AllWithinLimits}
 use Rattle.gu_book.specs.declared.plain.holdings.Holding.{Holding}
 use Rattle.gu_book.proofs.Holdings.{IsCounted, key_at}
+use Rattle.gu_book.proofs.Charging.{is_charged}
 use Rattle.gu_book.proofs.HoldingRows.{is_own_key}
 use Rattle.gu_book.proofs.Orders.{InOrder, in_order}
 use Rattle.gu_book.proofs.Placed.{node_stands}
@@ -175,7 +177,7 @@ module _ (t : House) (l : List Record) (r : Record) (replayed : first_refused t 
       (little ds (All-tail (NamesThere others) d ds there) (All-tail (CostsLittle t l) d ds each))
 
   -- the sums are those of the other changes' charges and its own
-  pub charges_with : (fees : FeeRows) → AreFeesOf t l fees → AreSumsOf fees (charges t others ++ cons_option (charge_of t others r.command) [])
+  charges_with : (fees : FeeRows) → AreFeesOf t l fees → AreSumsOf fees (charges t others ++ cons_option (charge_of t others r.command) [])
   charges_with fees are =
       subst (λ cs. AreSumsOf fees cs) ((moves_its_own t others r last_once legal).charged)
       (record {
@@ -183,6 +185,12 @@ module _ (t : House) (l : List Record) (r : Record) (replayed : first_refused t 
         received = λ firm. are.sums.received firm ∙ sym (state.received firm);
         used = λ giver taker. are.sums.used giver taker ∙ sym (state.used giver taker);
       })
+
+  -- and its own can be taken out of them
+  pub charged_there : (fees : FeeRows) → AreFeesOf t l fees → (o : Option Charge) → o ≡ charge_of t others r.command
+      → IfSome o (λ c. c.lots ≤ most_lots) → IfSome o (λ c. c.rate ≤ highest_rate) → IsCharged fees o
+  charged_there fees are o is lots rate =
+      is_charged fees (charges t others) o (subst (λ (o : Option Charge). AreSumsOf fees (charges t others ++ cons_option o [])) (sym is) (charges_with fees are)) lots rate
 
   pub fees_without : (fees new : FeeRows) → AreFeesOf t l fees → (o : Option Charge) → o ≡ charge_of t others r.command
       → ((cs : List Charge) → AreSumsOf fees (cs ++ cons_option o []) → AreSumsOf new cs) → AreFeesOf t others new
