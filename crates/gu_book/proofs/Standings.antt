@@ -1,20 +1,18 @@
 -- The running rows of positions, with one change more.
-use Rattle.std.proofs.Common.{◌≡◌, ℕ, ◌+◌, ◌*◌, ◌≤◌, Bool, true, false, not, ◌&&◌, List, [], ◌∷◌, ◌++◌, length, refl, ◌∙◌, ap, arith, Option, cond}
+use Rattle.std.proofs.Common.{◌≡◌, ℕ, ◌+◌, ◌*◌, ◌≤◌, Bool, true, false, not, ◌&&◌, List, [], ◌∷◌, ◌++◌, length, refl, ap, arith, Option, cond}
 use Rattle.std.specs.Prelude.{Some, None, filter_map, sum_by, is_none, option_map, bytes_eq, IfSome}
 use Rattle.std.specs.List.{cons_option}
 use Rattle.std.proofs.Math.Nat.{mul-le-mul_right}
 use Rattle.std.proofs.lemmas.List.Elements.{All-head, All-tail}
 use Rattle.std.proofs.lemmas.List.Filters.{sum_by-filter_both}
 use Rattle.std.proofs.lemmas.List.Sums.{sum_by-le, sum_by-cons, sum_by-append, sum_by-le-sum_by}
-use Rattle.std.proofs.lemmas.Slice.Eq.{bytes_eq-Decides}
 use Rattle.gu_base.specs.House.{House}
 use Rattle.gu_base.specs.Standing.{first_refused}
 use Rattle.gu_base.specs.Numbers.{EntryPart}
 use Rattle.gu_base.specs.Nodes.{nodes, nodes_of, nodes_of_parts, kind_of_part, split_of}
-use Rattle.gu_base.specs.Positions.{position_of, same_side, stands_at, trades_in}
+use Rattle.gu_base.specs.Positions.{position_of, stands_at, trades_in}
 use Rattle.gu_base.specs.declared.command.Part.{Part}
 use Rattle.gu_base.specs.declared.command.Side.{Side}
-use Rattle.gu_base.specs.declared.command.Side.TheVariants.{Buy, Sell}
 use Rattle.gu_base.specs.declared.command.Command.{Command}
 use Rattle.gu_base.specs.declared.command.Command.TheVariants.{Trade, Split, Claim, Refuse, Cancel, Initiate, Decline, Reverse}
 use Rattle.gu_base.specs.declared.entry.Record.{Record}
@@ -29,7 +27,7 @@ use Rattle.gu_depend.proofs.LastMoves.{moves_its_own, is_before, position_is}
 use Rattle.gu_depend.proofs.Replay.{number_once}
 use Rattle.gu_depend.proofs.Settled.{facts}
 use Rattle.gu_depend.proofs.StandsUnder.{rises_distinct}
-use Rattle.gu_positions.specs.Rows.{PositionRows, is_key}
+use Rattle.gu_positions.specs.Rows.{PositionRows}
 use Rattle.gu_positions.specs.Sums.{AreSumsOf}
 use Rattle.gu_positions.specs.declared.positions.Key.{Key}
 use Rattle.gu_tree.specs.Grove.{Grove}

@@ -1,8 +1,7 @@
 -- A live change on which nothing stands can as well stand last: so the fees and positions without it are those with it, less what it moved.
-use Rattle.std.proofs.Common.{◌≡◌, ◌≢◌, ℕ, ◌+◌, ◌*◌, ◌<◌, ◌≤◌, Bool, true, false, not, ◌||◌, List, [], ◌∷◌, ◌++◌, length, refl, sym, ◌∙◌, ap, subst, arith, Option, All, Contains, cond}
-use Rattle.std.specs.Prelude.{Some, None, filter, filter_map, sum_by, ◌==◌, IfSome}
+use Rattle.std.proofs.Common.{◌≡◌, ◌≢◌, ℕ, ◌+◌, ◌*◌, ◌≤◌, true, not, ◌||◌, List, [], ◌∷◌, ◌++◌, length, refl, sym, ◌∙◌, ap, subst, arith, Option, All, Contains, cond}
+use Rattle.std.specs.Prelude.{Some, None, filter_map, sum_by, ◌==◌, IfSome}
 use Rattle.std.specs.List.{cons_option}
-use Rattle.std.proofs.Math.Bool.{or-true}
 use Rattle.std.proofs.Math.Nat.{mul-le-mul_right}
 use Rattle.std.proofs.lemmas.Bool.Decides.{Decides-eqb}
 use Rattle.std.proofs.lemmas.List.Elements.{All-nil, All-cons, All-head, All-tail, All-filter, All-contains, filter_passes}
@@ -23,7 +22,6 @@ use Rattle.gu_base.specs.declared.node.Place.{Place}
 use Rattle.gu_base.proofs.Basics.{no_some, none_is_some}
 use Rattle.gu_base.proofs.LegalLaws.{none_refused}
 use Rattle.gu_base.proofs.Searches.{found_in, find_passes}
-use Rattle.gu_depend.specs.Under.{names}
 use Rattle.gu_depend.specs.Same.{IsSameState}
 use Rattle.gu_depend.proofs.Charges.{charge_same}
 use Rattle.gu_depend.proofs.Finds.{count_permuted}
@@ -37,8 +35,7 @@ use Rattle.gu_depend.proofs.StandsUnder.{rises_distinct, can_stand_last}
 use Rattle.gu_depend.proofs.State.{state_same}
 use Rattle.gu_fees.specs.Rows.{FeeRows}
 use Rattle.gu_fees.specs.Sums.{AreSumsOf}
-use Rattle.gu_positions.specs.Rows.{PositionRows, lots_in, IsReady}
-use Rattle.gu_positions.specs.declared.positions.Key.{Key}
+use Rattle.gu_positions.specs.Rows.{PositionRows}
 use Rattle.gu_book.specs.Charging.{IsSmallCharge, AreFeesOf, IsCharged}
 use Rattle.gu_book.specs.Holdings.{taken_by, added_by, counted_at, taken_at, SameLots, HaveMoved, HaveThere, IsReadyTaken, HasRoomBack, ArePositionsOf}
 use Rattle.gu_book.specs.Limits.{AllWithinLimits}

@@ -315,10 +315,7 @@ fn remove(positions: &mut Positions, by: &FirmId, command: &Command, taken: &Opt
 }
 
 /// Makes the row out of which a command took lots. No lots change, not even where memory is refused.
-pub(crate) fn ready_taken(
-    positions: &mut Positions,
-    taken: &Option<Holding>,
-) -> Result<(), Memory>
+pub(crate) fn ready_taken(positions: &mut Positions, taken: &Option<Holding>) -> Result<(), Memory>
     ensures ready { OnOk result (IsReadyTaken positions.new taken.now) }
     ensures same { SameLots positions.old positions.new }
 {
