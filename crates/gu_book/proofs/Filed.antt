@@ -173,7 +173,7 @@ place_there l r k other =
     ∙ ap (option_and_then (λ (d : Record). named_place d.number d.command)) (or_none (find (λ (d : Record). d.number == k) l)))
 
 -- what names a node is no Trade, and has the node as its place
-not_trade : (c : Command) (n : EntryPart) → named_node c ≡ Some n → is_trade c ≡ false
+pub not_trade : (c : Command) (n : EntryPart) → named_node c ≡ Some n → is_trade c ≡ false
 not_trade (Trade _ _ _ _ _) n e = absurd (cc)
 not_trade (Split _ _) n e = refl
 not_trade (Claim _ _) n e = refl
@@ -196,10 +196,10 @@ place_named k (Reverse _) n e = absurd (cc)
 no_name : (m : EntryPart) → None ≡ Some m → ⊥
 no_name m e = cc
 
-if_here : {A : Type 0} (a b : ℕ) (x y : A) → a ≡ b → cond (a == b) x y ≡ x
+pub if_here : {A : Type 0} (a b : ℕ) (x y : A) → a ≡ b → cond (a == b) x y ≡ x
 if_here a b x y e = ap (λ c. cond c x y) ((Decides-eqb a b).1 e)
 
-if_there : {A : Type 0} (a b : ℕ) (x y : A) → a ≢ b → cond (a == b) x y ≡ y
+pub if_there : {A : Type 0} (a b : ℕ) (x y : A) → a ≢ b → cond (a == b) x y ≡ y
 if_there a b x y e = ap (λ c. cond c x y) (other_number a b e)
 
 module _ {t : House} {l : List Record} {r : Record} {g : Grove} (next : IsNext t l r g) where

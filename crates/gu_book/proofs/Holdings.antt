@@ -294,7 +294,7 @@ module _ {t : House} {l : List Record} {r : Record} (c : IsCounted t l r) where
   decision_push : (m : EntryPart) → decision_of (l ++ r ∷ []) m ≡ option_or (decision_of l m) (cond (decides m r.command) (Some r) None)
   decision_push m = find-append (λ d. decides m d.command) l (r ∷ [])
 
-  decision_kept : (m : EntryPart) → decides m r.command ≡ false → decision_of l m ≡ decision_of (l ++ r ∷ []) m
+  pub decision_kept : (m : EntryPart) → decides m r.command ≡ false → decision_of l m ≡ decision_of (l ++ r ∷ []) m
   decision_kept m un = sym (decision_push m ∙ (ap (λ b. option_or (decision_of l m) (cond b (Some r) None)) un ∙ or_none (decision_of l m)))
 
 -- what was taken and what the nodes count behind the change is what they counted before it and what was added

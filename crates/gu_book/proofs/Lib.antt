@@ -29,4 +29,5 @@ pub mod FiledChanges
 pub mod FoundAs
 pub mod AllShown
 pub mod Undoing
+pub mod FiledLess
 pub mod Crossing

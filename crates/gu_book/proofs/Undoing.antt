@@ -1,16 +1,16 @@
 -- A live change on which nothing stands can as well stand last: so the fees and positions without it are those with it, less what it moved.
-use Rattle.std.proofs.Common.{◌≡◌, ◌≢◌, ℕ, ◌+◌, ◌*◌, ◌≤◌, true, not, ◌||◌, List, [], ◌∷◌, ◌++◌, length, refl, sym, ◌∙◌, ap, subst, arith, Option, All, Contains, cond}
+use Rattle.std.proofs.Common.{◌≡◌, ◌≢◌, ℕ, ◌+◌, ◌*◌, ◌≤◌, true, not, ◌||◌, List, [], ◌∷◌, ◌++◌, length, refl, sym, ◌∙◌, ap, subst, arith, Option, All, Contains, cond, false, Bool}
 use Rattle.std.specs.Prelude.{Some, None, filter_map, sum_by, ◌==◌, IfSome}
 use Rattle.std.specs.List.{cons_option}
 use Rattle.std.proofs.Math.Nat.{mul-le-mul_right}
 use Rattle.std.proofs.lemmas.Bool.Decides.{Decides-eqb}
-use Rattle.std.proofs.lemmas.List.Elements.{All-nil, All-cons, All-head, All-tail, All-filter, All-contains, filter_passes}
+use Rattle.std.proofs.lemmas.List.Elements.{All-nil, All-cons, All-head, All-tail, All-filter, All-contains, filter_passes, All-weaker, All-contains_itself}
 use Rattle.gu_base.specs.Numbers.{EntryPart}
 use Rattle.gu_base.specs.House.{House}
 use Rattle.gu_base.specs.Limits.{most_lots, highest_rate}
 use Rattle.gu_base.specs.Fees.{charges, charge_of}
 use Rattle.gu_base.specs.History.{RisesFrom}
-use Rattle.gu_base.specs.Nodes.{node_of, split_of, splits, decides}
+use Rattle.gu_base.specs.Nodes.{node_of, split_of, splits, decides, decision_of}
 use Rattle.gu_base.specs.Orders.{IsLawfulOrder}
 use Rattle.gu_base.specs.Positions.{position_of}
 use Rattle.gu_base.specs.Refusals.{refusal_of}
@@ -19,14 +19,15 @@ use Rattle.gu_base.specs.declared.command.Side.{Side}
 use Rattle.gu_base.specs.declared.entry.Record.{Record}
 use Rattle.gu_base.specs.declared.node.Charge.{Charge}
 use Rattle.gu_base.specs.declared.node.Place.{Place}
-use Rattle.gu_base.proofs.Basics.{no_some, none_is_some}
+use Rattle.gu_base.proofs.Basics.{no_some, none_is_some, or_none}
 use Rattle.gu_base.proofs.LegalLaws.{none_refused}
 use Rattle.gu_base.proofs.Searches.{found_in, find_passes}
 use Rattle.gu_depend.specs.Same.{IsSameState}
+use Rattle.gu_depend.specs.Under.{names}
 use Rattle.gu_depend.proofs.Charges.{charge_same}
-use Rattle.gu_depend.proofs.Finds.{count_permuted}
+use Rattle.gu_depend.proofs.Finds.{count_permuted, found_once, none_before}
 use Rattle.gu_depend.proofs.Grown.{Within, NamesThere}
-use Rattle.gu_depend.proofs.LastMoves.{IsBefore, is_before, moves_its_own}
+use Rattle.gu_depend.proofs.LastMoves.{IsBefore, is_before, moves_its_own, split_kept}
 use Rattle.gu_depend.proofs.NamedOnce.{named_once}
 use Rattle.gu_depend.proofs.Names.{maker, made_number}
 use Rattle.gu_depend.proofs.Replay.{NumbersOnce, number_once, order_replays, SameFinds, same_finds}
@@ -36,11 +37,19 @@ use Rattle.gu_depend.proofs.State.{state_same}
 use Rattle.gu_fees.specs.Rows.{FeeRows}
 use Rattle.gu_fees.specs.Sums.{AreSumsOf}
 use Rattle.gu_positions.specs.Rows.{PositionRows}
+use Rattle.gu_tree.specs.Rose.{Rose, named}
+use Rattle.gu_tree.specs.Shown.{IsTreeOf, SplitsNode, DecidesNode, IsOnlySplit, IsOnlyDecision}
+use Rattle.gu_tree.proofs.Alike.{IsAlike, node-alike}
+use Rattle.std.proofs.lemmas.Bool.{or_parts, false_from_ne_true}
+use Rattle.std.proofs.lemmas.Option.{same_Some}
+use Rattle.std.specs.Option.{option_or}
+use Rattle.gu_book.proofs.Sound.{node_push}
+use Rattle.gu_base.proofs.NodeNames.{made_of}
 use Rattle.gu_book.specs.Charging.{IsSmallCharge, AreFeesOf, IsCharged}
 use Rattle.gu_book.specs.Holdings.{taken_by, added_by, counted_at, taken_at, SameLots, HaveMoved, HaveThere, IsReadyTaken, HasRoomBack, ArePositionsOf}
 use Rattle.gu_book.specs.Limits.{AllWithinLimits}
 use Rattle.gu_book.specs.declared.plain.holdings.Holding.{Holding}
-use Rattle.gu_book.proofs.Holdings.{IsCounted, key_at}
+use Rattle.gu_book.proofs.Holdings.{IsCounted, key_at, decision_kept}
 use Rattle.gu_book.proofs.Charging.{is_charged}
 use Rattle.gu_book.proofs.HoldingRows.{is_own_key}
 use Rattle.gu_book.proofs.Orders.{InOrder, in_order}
@@ -129,7 +138,7 @@ module _ (t : House) (l : List Record) (r : Record) (replayed : first_refused t 
   not_among d there =
       not_same d.number r.number (All-contains (λ (d : Record). not (d.number == r.number) ≡ true) others d (filter_passes (λ (d : Record). not (d.number == r.number)) l) there)
 
-  unmade : (n : EntryPart) → n.entry ≡ r.number → node_of others n ≡ None
+  pub unmade : (n : EntryPart) → n.entry ≡ r.number → node_of others n ≡ None
   unmade n own =
       no_some (node_of others n) (λ x e.
       let m = maker others n x e in
@@ -159,7 +168,7 @@ module _ (t : House) (l : List Record) (r : Record) (replayed : first_refused t 
 
   -- ---- fees
 
-  within : Within l others
+  pub within : Within l others
   within = record {
     nodes = λ n x e. sym (finds.nodes n) ∙ before.grown.within.nodes n x e;
     decisions = λ n d e. sym (finds.decisions n) ∙ before.grown.within.decisions n d e;
@@ -249,3 +258,51 @@ module _ (t : House) (l : List Record) (r : Record) (replayed : first_refused t 
         let f = same at side in
         omega (arith, a, b, c, d, e, f);
   }
+  -- ---- trees
+
+  -- of a node that it doesn't name the others say what all say
+  pub alike : (m : EntryPart) → names m r.command ≡ false → IsAlike l others m
+  alike m un =
+      let p = or_parts (splits m r.command) (decides m r.command) un in
+      record {
+        splits = sym (split_kept before m p.0) ∙ finds.splits_same m;
+        decides = decision_kept counted m p.1 ∙ finds.decisions m;
+      }
+
+  pub node_left : (n : EntryPart) → n.entry ≢ r.number → node_of others n ≡ node_of l n
+  node_left n other =
+      let none : made_of r n ≡ None = no_some (made_of r n) (λ x e. absurd (other (made_number r n x e))) in
+      sym (node_push others r n ∙ (ap (λ o. option_or (node_of others n) o) none ∙ or_none (node_of others n))) ∙ finds.nodes n
+
+  -- a tree that has no node that it names, and isn't its own, is shown by the others
+  pub shown_still : (k : ℕ) (tree : Rose) → k ≢ r.number → ((n : EntryPart) → names n r.command ≡ true → named n tree ≡ 0) → IsTreeOf l k tree → IsTreeOf others k tree
+  shown_still k tree other absent is = record {
+    root = is.root;
+    found = node_left (record { entry = k; part = 0 }) other ∙ is.found;
+    top = is.top;
+    tree = node-alike l others None is.root tree
+        (λ n one. alike n (false_from_ne_true (names n r.command) (λ yes. let none = absent n yes in absurd (omega (arith, none, one))))) is.tree;
+  }
+
+  -- what has its number is the change itself
+  pub its_number : (d : Record) → Contains l d → d.number ≡ r.number → d ≡ r
+  its_number d there is =
+      let test : Record → Bool = λ q. q.number == r.number in
+      same_Some d r (sym (found_once test l d there ((Decides-eqb d.number r.number).1 is) (once r.number)) ∙ found_once test l r among ((Decides-eqb r.number r.number).1 refl) (once r.number))
+
+  pub each_number : (P : Record → Type 0) → P r → All (λ d. d.number ≡ r.number → P d) l
+  each_number P is =
+      All-weaker (Contains l) (λ (d : Record). d.number ≡ r.number → P d) (λ d there same. subst P (sym (its_number d there same)) is) l (All-contains_itself l)
+
+  -- no other Split and no other decision names its node
+  pub alone_split : (n : EntryPart) → splits n r.command ≡ true → split_of others n ≡ None
+  alone_split n is = none_before (λ (d : Record). splits n d.command) others r [] ((named_once t last legal).splits_once n) is
+
+  pub alone_decision : (n : EntryPart) → decides n r.command ≡ true → decision_of others n ≡ None
+  alone_decision n is = none_before (λ (d : Record). decides n d.command) others r [] ((named_once t last legal).decisions_once n) is
+
+  pub only_split : (n : EntryPart) → SplitsNode n r.command → splits n r.command ≡ true → IsOnlySplit l r.number n
+  only_split n is named = record { each = each_number (λ (d : Record). SplitsNode n d.command) is; alone = alone_split n named }
+
+  pub only_decision : (n : EntryPart) → DecidesNode n r.command → decides n r.command ≡ true → IsOnlyDecision l r.number n
+  only_decision n is named = record { each = each_number (λ (d : Record). DecidesNode n d.command) is; alone = alone_decision n named }

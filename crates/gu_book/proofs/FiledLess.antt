@@ -1,0 +1,172 @@
+-- A change on which nothing stands leaves the trees and places filed for the list without it, once its node is what it was before it.
+use Rattle.std.proofs.Common.{◌≡◌, ◌≢◌, ℕ, ◌+◌, ◌≤◌, Bool, true, false, not, ◌&&◌, ◌||◌, List, [], ◌∷◌, ◌++◌, refl, sym, ◌∙◌, ap, subst, arith, cond, Option, All, Contains, inl, inr}
+use Rattle.std.specs.Prelude.{Some, None, find, filter, ◌==◌, is_some, option_and_then, IsSomeAnd, IfSome}
+use Rattle.std.specs.List.{list_any}
+use Rattle.std.proofs.lemmas.Bool.Decides.{Decides-eqb}
+use Rattle.std.proofs.lemmas.List.Elements.{All-nil, All-cons, All-head, All-tail, All-weaker, filter_passes}
+use Rattle.std.proofs.lemmas.List.Folds.{list_any_none}
+use Rattle.std.proofs.lemmas.Option.{same_Some}
+use Rattle.gu_base.specs.Numbers.{EntryPart}
+use Rattle.gu_base.specs.House.{House}
+use Rattle.gu_base.specs.History.{RisesFrom}
+use Rattle.gu_base.specs.Nodes.{node_of, same_name}
+use Rattle.gu_base.specs.Standing.{first_refused, standing_on, without}
+use Rattle.gu_base.specs.declared.command.Command.{Command}
+use Rattle.gu_base.specs.declared.command.Command.TheVariants.{Trade, Split, Claim, Refuse, Cancel, Initiate, Decline, Reverse}
+use Rattle.gu_base.specs.declared.entry.Record.{Record}
+use Rattle.gu_base.specs.declared.node.Node.{Node}
+use Rattle.gu_base.proofs.Basics.{or_false, none_is_some}
+use Rattle.gu_base.proofs.NodeNames.{name_is}
+use Rattle.gu_depend.specs.Under.{names}
+use Rattle.gu_depend.proofs.Cuts.{none_found}
+use Rattle.gu_tree.specs.Rose.{Rose, named}
+use Rattle.gu_tree.specs.Grove.{Grove, tree_of, place_of, ChangesTree, Takes}
+use Rattle.gu_tree.specs.Shown.{IsTreeOf, named_node}
+use Rattle.gu_tree.specs.ShownAll.{change_of, named_place}
+use Rattle.gu_tree.proofs.GroveEdits.{by-cases}
+use Rattle.gu_tree.proofs.Parts.{some_and}
+use Rattle.gu_book.specs.Filed.{place_in, IsIn, IsFiled}
+use Rattle.gu_book.specs.TreeRows.{is_trade, is_live_trade}
+use Rattle.gu_book.proofs.Filed.{Spot, tree_shown, one_trade, not_trade, if_here, if_there}
+use Rattle.gu_book.proofs.Leaves.{other_number}
+use Rattle.gu_book.proofs.Orders.{in_order}
+use Rattle.gu_book.proofs.Undoing.{within, unmade, shown_still, each_number}
+
+-- ---- what a list without a number says
+
+any_step : (q : Record → Bool) (k : ℕ) (d : Record) (l xs : List Record) → list_any q xs ≡ list_any q l → (d.number ≡ k → q d ≡ false) → (b : Bool) → (d.number == k) ≡ b
+    → list_any q (cond (not b) (d ∷ xs) xs) ≡ (q d || list_any q l)
+any_step q k d l xs same other true is = same ∙ sym (ap (λ b. b || list_any q l) (other ((Decides-eqb d.number k).0 is)))
+any_step q k d l xs same other false is = ap (λ b. q d || b) same
+
+any_left : (q : Record → Bool) (k : ℕ) (l : List Record) → All (λ d. d.number ≡ k → q d ≡ false) l → list_any q (without l k) ≡ list_any q l
+any_left q k [] all = refl
+any_left q k (d ∷ l) all =
+    any_step q k d l (without l k) (any_left q k l (All-tail (λ (d : Record). d.number ≡ k → q d ≡ false) d l all)) (All-head (λ (d : Record). d.number ≡ k → q d ≡ false) d l all) (d.number == k) refl
+
+find_step : (q : Record → Bool) (k : ℕ) (d : Record) (l xs : List Record) → find q xs ≡ find q l → (d.number ≡ k → q d ≡ false) → (b : Bool) → (d.number == k) ≡ b
+    → find q (cond (not b) (d ∷ xs) xs) ≡ cond (q d) (Some d) (find q l)
+find_step q k d l xs same other true is = same ∙ sym (ap (λ b. cond b (Some d) (find q l)) (other ((Decides-eqb d.number k).0 is)))
+find_step q k d l xs same other false is = ap (λ o. cond (q d) (Some d) o) same
+
+-- a change of another number is found as before
+change_left : (k j : ℕ) (l : List Record) → k ≢ j → change_of (without l k) j ≡ change_of l j
+change_left k j [] other = refl
+change_left k j (d ∷ l) other =
+    find_step (λ d. d.number == j) k d l (without l k) (change_left k j l other) (λ same. other_number d.number j (λ e. other (sym same ∙ e))) (d.number == k) refl
+
+change_gone : (k : ℕ) (l : List Record) → change_of (without l k) k ≡ None
+change_gone k l =
+    none_found (λ (d : Record). d.number == k) (without l k)
+    (All-weaker (λ (d : Record). not (d.number == k) ≡ true) (λ (d : Record). (d.number == k) ≡ false) (λ d h. unless_not (d.number == k) h) (without l k) (filter_passes (λ (d : Record). not (d.number == k)) l))
+  where
+    unless_not : (b : Bool) → not b ≡ true → b ≡ false
+    unless_not true h = absurd (cc)
+    unless_not false h = refl
+
+place_gone : (k : ℕ) (l : List Record) → place_in (without l k) k ≡ None
+place_gone k l = ap (option_and_then (λ (d : Record). named_place d.number d.command)) (change_gone k l)
+
+place_left : (k j : ℕ) (l : List Record) → k ≢ j → place_in (without l k) j ≡ place_in l j
+place_left k j l other = ap (option_and_then (λ (d : Record). named_place d.number d.command)) (change_left k j l other)
+
+and_no : (a b : Bool) → b ≡ false → (a && b) ≡ false
+and_no true b e = e
+and_no false b e = refl
+
+-- a change names one node
+names_one : (n m : EntryPart) (c : Command) → named_node c ≡ Some n → names m c ≡ true → m ≡ n
+names_one n m (Split a _) e is = sym (name_is a m (sym (or_false (same_name a m)) ∙ is)) ∙ same_Some a n e
+names_one n m (Claim a _) e is = sym (name_is a m is) ∙ same_Some a n e
+names_one n m (Refuse a) e is = sym (name_is a m is) ∙ same_Some a n e
+names_one n m (Cancel a) e is = sym (name_is a m is) ∙ same_Some a n e
+names_one n m (Trade _ _ _ _ _) e is = absurd (cc)
+names_one n m (Initiate _) e is = absurd (cc)
+names_one n m (Decline _) e is = absurd (cc)
+names_one n m (Reverse _) e is = absurd (cc)
+
+-- ---- the trees and places, but for the last of the places
+
+pub record IsFiledSoFar (l : List Record) (g : Grove) : Type 0 where
+  pub live : (k : ℕ) → is_some (tree_of g k) ≡ is_live_trade l k
+  pub shown : (k : ℕ) → IfSome (tree_of g k) (IsTreeOf l k)
+  pub whole : (n : EntryPart) (x : Node) → node_of l n ≡ Some x → IsIn g n
+  pub placed : (k : ℕ) → place_of g k ≡ place_in l k
+
+module _ (t : House) (l : List Record) (r : Record) (replayed : first_refused t [] l ≡ None) (rises : RisesFrom 1 l) (among : Contains l r) (free : standing_on t l r.number ≡ None) (g : Grove) (filed : IsFiled l g) where
+  left_live : (k : ℕ) → is_trade r.command ≡ false → is_live_trade (without l r.number) k ≡ is_live_trade l k
+  left_live k plain =
+      any_left (λ (d : Record). (d.number == k) && is_trade d.command) r.number l
+      (each_number t l r replayed rises among free (λ (d : Record). ((d.number == k) && is_trade d.command) ≡ false) (and_no (r.number == k) (is_trade r.command) plain))
+
+  -- its number is that of no tree, where it is no Trade
+  no_tree : (k : ℕ) → is_trade r.command ≡ false → is_live_trade l k ≡ true → k ≢ r.number
+  no_tree k plain live same =
+      let test : Record → Bool = λ d. (d.number == k) && is_trade d.command in
+      let each = each_number t l r replayed rises among free (λ (d : Record). is_trade d.command ≡ false) plain in
+      let none : list_any test l ≡ false =
+      list_any_none test l
+      (All-weaker (λ (d : Record). d.number ≡ r.number → is_trade d.command ≡ false) (λ (d : Record). test d ≡ false)
+      (λ d trade. no_such d trade (d.number == k) refl) l each) in
+      let z : true ≡ false = sym live ∙ none in absurd (cc)
+    where
+      no_such : (d : Record) → (d.number ≡ r.number → is_trade d.command ≡ false) → (b : Bool) → (d.number == k) ≡ b → (b && is_trade d.command) ≡ false
+      no_such d trade true is = trade ((Decides-eqb d.number k).0 is ∙ same)
+      no_such d trade false is = refl
+
+  left_placed : (h : Grove) → Takes g h r.number → (k : ℕ) → place_of h k ≡ place_in (without l r.number) k
+  left_placed h takes k = elim (by-cases k r.number) [
+    | inl same ↦ takes k ∙ (if_here k r.number None (place_of g k) same ∙ (sym (place_gone r.number l) ∙ ap (place_in (without l r.number)) (sym same)))
+    | inr other ↦ takes k ∙ (if_there k r.number None (place_of g k) other ∙ (filed.placed k ∙ sym (place_left r.number k l (λ e. other (sym e)))))
+  ]
+
+  -- ---- a Split or a decision, taken back at its node
+
+  module _ {trade : ℕ} {p : List ℕ} {n : EntryPart} (s : Spot l g trade p n) (is_named : named_node r.command ≡ Some n) (h : Grove) (new : Rose)
+      (changes : ChangesTree g h trade new) (takes : Takes g h r.number) (shows : IsTreeOf (without l r.number) trade new)
+      (count : (m : EntryPart) → m.entry ≢ r.number → named m s.tree ≤ named m new) where
+    plain : is_trade r.command ≡ false
+    plain = not_trade r.command n is_named
+
+    here_now : tree_of h trade ≡ Some new
+    here_now = changes trade ∙ if_here trade trade (Some new) (tree_of g trade) refl
+
+    there_now : (k : ℕ) → k ≢ trade → tree_of h k ≡ tree_of g k
+    there_now k other = changes k ∙ if_there k trade (Some new) (tree_of g k) other
+
+    shown_there : (k : ℕ) → k ≢ trade → (o : Option Rose) → tree_of g k ≡ o → IfSome o (IsTreeOf (without l r.number) k)
+    shown_there k other None e = tt
+    shown_there k other (Some tree) e =
+        shown_still t l r replayed rises among free k tree (no_tree k plain (sym (filed.live k) ∙ ap is_some e))
+        (λ m is. subst (λ (z : EntryPart). named z tree ≡ 0) (sym (names_one n m r.command is_named is)) (one_trade filed (in_order t l replayed rises) n trade k p tree s e other))
+        (tree_shown filed k tree e)
+
+    has_tree : (k : ℕ) (tree : Rose) (m : EntryPart) → tree_of h k ≡ Some tree → 1 ≤ named m tree → IsIn h m
+    has_tree k tree m found one = (k, subst (λ (o : Option Rose). IsSomeAnd o (λ t. 1 ≤ named m t)) (sym found) one)
+
+    whole_left : (m : EntryPart) → m.entry ≢ r.number → IsIn g m → IsIn h m
+    whole_left m own is =
+        let u = some_and (λ u. 1 ≤ named m u) (tree_of g is.0) is.1 in
+        elim (by-cases is.0 trade) [
+          | inl same ↦ (let tree : u.0 ≡ s.tree = same_Some u.0 s.tree (sym u.1 ∙ (ap (tree_of g) same ∙ s.found)) in
+              let more = count m own in
+              has_tree trade new m here_now (omega (arith, more, u.2, ap (named m) tree)))
+          | inr other ↦ has_tree is.0 u.0 m (there_now is.0 other ∙ u.1) u.2
+        ]
+
+    pub taken_back : IsFiledSoFar (without l r.number) h
+    taken_back = record {
+      live = λ k. elim (by-cases k trade) [
+        | inl same ↦ ap is_some (ap (tree_of h) same ∙ here_now)
+            ∙ (ap is_some (sym s.found) ∙ (ap (λ j. is_some (tree_of g j)) (sym same) ∙ (filed.live k ∙ sym (left_live k plain))))
+        | inr other ↦ ap is_some (there_now k other) ∙ (filed.live k ∙ sym (left_live k plain))
+      ];
+      shown = λ k. elim (by-cases k trade) [
+        | inl same ↦ subst (λ (o : Option Rose). IfSome o (IsTreeOf (without l r.number) k)) (sym (ap (tree_of h) same ∙ here_now)) (subst (λ j. IsTreeOf (without l r.number) j new) (sym same) shows)
+        | inr other ↦ subst (λ (o : Option Rose). IfSome o (IsTreeOf (without l r.number) k)) (sym (there_now k other)) (shown_there k other (tree_of g k) refl)
+      ];
+      whole = λ m x e.
+          whole_left m (λ same. none_is_some (node_of (without l r.number) m) x (unmade t l r replayed rises among free m same) e)
+          (filed.whole m x ((within t l r replayed rises among free).nodes m x e));
+      placed = left_placed h takes;
+    }
