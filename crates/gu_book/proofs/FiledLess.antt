@@ -16,14 +16,16 @@ use Rattle.gu_base.specs.declared.command.Command.TheVariants.{Trade, Split, Cla
 use Rattle.gu_base.specs.declared.entry.Record.{Record}
 use Rattle.gu_base.specs.declared.node.Node.{Node}
 use Rattle.gu_base.proofs.Basics.{or_false, none_is_some}
-use Rattle.gu_base.proofs.NodeNames.{name_is}
+use Rattle.gu_base.proofs.NodeNames.{name_is, node_called}
 use Rattle.gu_depend.specs.Under.{names}
 use Rattle.gu_depend.proofs.Cuts.{none_found}
-use Rattle.gu_tree.specs.Rose.{Rose, named}
-use Rattle.gu_tree.specs.Grove.{Grove, tree_of, place_of, ChangesTree, Takes}
+use Rattle.gu_tree.specs.Rose.{Rose, leaf, named}
+use Rattle.gu_tree.specs.Grove.{Grove, tree_of, place_of, ChangesTree, Takes, TakesTree}
 use Rattle.gu_tree.specs.Shown.{IsTreeOf, named_node}
 use Rattle.gu_tree.specs.ShownAll.{change_of, named_place}
 use Rattle.gu_tree.proofs.GroveEdits.{by-cases}
+use Rattle.gu_tree.specs.declared.head.Head.{Head}
+use Rattle.gu_tree.proofs.Names.{is_named-other}
 use Rattle.gu_tree.proofs.Parts.{some_and}
 use Rattle.gu_book.specs.Filed.{place_in, IsIn, IsFiled}
 use Rattle.gu_book.specs.TreeRows.{is_trade, is_live_trade}
@@ -167,6 +169,70 @@ module _ (t : House) (l : List Record) (r : Record) (replayed : first_refused t 
       ];
       whole = λ m x e.
           whole_left m (λ same. none_is_some (node_of (without l r.number) m) x (unmade t l r replayed rises among free m same) e)
+          (filed.whole m x ((within t l r replayed rises among free).nodes m x e));
+      placed = left_placed h takes;
+    }
+
+  -- ---- a Trade, whose tree goes
+
+  module _ (sapling : Head) (root : tree_of g r.number ≡ Some (leaf sapling)) (h : Grove) (fells : TakesTree g h r.number) (takes : Takes g h r.number) (unnamed : (n : EntryPart) → names n r.command ≡ false) where
+    gone_now : tree_of h r.number ≡ None
+    gone_now = fells r.number ∙ if_here r.number r.number None (tree_of g r.number) refl
+
+    others_now : (k : ℕ) → k ≢ r.number → tree_of h k ≡ tree_of g k
+    others_now k other = fells k ∙ if_there k r.number None (tree_of g k) other
+
+    -- the root alone has its name
+    root_name : sapling.name ≡ record { entry = r.number; part = 0 }
+    root_name =
+        let is = tree_shown filed r.number (leaf sapling) root in
+        is.tree.0.name ∙ node_called l (record { entry = r.number; part = 0 }) is.root is.found
+
+    not_root : (m : EntryPart) → m.entry ≢ r.number → named m (leaf sapling) ≡ 0
+    not_root m other = is_named-other sapling m (λ e. other (ap (λ (n : EntryPart). n.entry) (sym e ∙ root_name)))
+
+    no_trade_left : is_live_trade (without l r.number) r.number ≡ false
+    no_trade_left =
+        list_any_none (λ (d : Record). (d.number == r.number) && is_trade d.command) (without l r.number)
+        (All-weaker (λ (d : Record). not (d.number == r.number) ≡ true) (λ (d : Record). ((d.number == r.number) && is_trade d.command) ≡ false) (λ d h. not_it (d.number == r.number) (is_trade d.command) h)
+        (without l r.number) (filter_passes (λ (d : Record). not (d.number == r.number)) l))
+      where
+        not_it : (a b : Bool) → not a ≡ true → (a && b) ≡ false
+        not_it true b h = absurd (cc)
+        not_it false b h = refl
+
+    other_trades : (k : ℕ) → k ≢ r.number → is_live_trade (without l r.number) k ≡ is_live_trade l k
+    other_trades k other =
+        any_left (λ (d : Record). (d.number == k) && is_trade d.command) r.number l
+        (each_number t l r replayed rises among free (λ (d : Record). ((d.number == k) && is_trade d.command) ≡ false) (ap (λ b. b && is_trade r.command) (other_number r.number k (λ e. other (sym e)))))
+
+    shown_else : (k : ℕ) → k ≢ r.number → (o : Option Rose) → tree_of g k ≡ o → IfSome o (IsTreeOf (without l r.number) k)
+    shown_else k other None e = tt
+    shown_else k other (Some tree) e =
+        shown_still t l r replayed rises among free k tree other (λ m is. let z : true ≡ false = sym is ∙ unnamed m in absurd (cc)) (tree_shown filed k tree e)
+
+    whole_else : (m : EntryPart) → m.entry ≢ r.number → IsIn g m → IsIn h m
+    whole_else m own is =
+        let u = some_and (λ u. 1 ≤ named m u) (tree_of g is.0) is.1 in
+        elim (by-cases is.0 r.number) [
+          | inl same ↦ (let tree : u.0 ≡ leaf sapling = same_Some u.0 (leaf sapling) (sym u.1 ∙ (ap (tree_of g) same ∙ root)) in
+              let none = not_root m own in
+              absurd (omega (arith, u.2, ap (named m) tree, none)))
+          | inr other ↦ (is.0, subst (λ (o : Option Rose). IsSomeAnd o (λ t. 1 ≤ named m t)) (sym (others_now is.0 other ∙ u.1)) u.2)
+        ]
+
+    pub uprooted : IsFiledSoFar (without l r.number) h
+    uprooted = record {
+      live = λ k. elim (by-cases k r.number) [
+        | inl same ↦ ap is_some (ap (tree_of h) same ∙ gone_now) ∙ (sym no_trade_left ∙ ap (is_live_trade (without l r.number)) (sym same))
+        | inr other ↦ ap is_some (others_now k other) ∙ (filed.live k ∙ sym (other_trades k other))
+      ];
+      shown = λ k. elim (by-cases k r.number) [
+        | inl same ↦ subst (λ (o : Option Rose). IfSome o (IsTreeOf (without l r.number) k)) (sym (ap (tree_of h) same ∙ gone_now)) tt
+        | inr other ↦ subst (λ (o : Option Rose). IfSome o (IsTreeOf (without l r.number) k)) (sym (others_now k other)) (shown_else k other (tree_of g k) refl)
+      ];
+      whole = λ m x e.
+          whole_else m (λ same. none_is_some (node_of (without l r.number) m) x (unmade t l r replayed rises among free m same) e)
           (filed.whole m x ((within t l r replayed rises among free).nodes m x e));
       placed = left_placed h takes;
     }
