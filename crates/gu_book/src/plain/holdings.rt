@@ -1,19 +1,20 @@
 //! The lots that stand in an account, and which of them a change moves.
-ghost use Rattle.std.specs.Prelude.{◌≡◌, ◌≤◌, ◌==◌, find, filter_map, None, option_and_then, IfSome, OnOk};
+ghost use Rattle.std.specs.Prelude.{◌≡◌, ◌≤◌, ◌==◌, find, filter_map, Some, None, option_and_then, IfSome, OnOk};
 ghost use Rattle.gu_base.specs.Nodes.{node_of};
 ghost use Rattle.gu_base.specs.History.{RisesFrom};
 ghost use Rattle.gu_base.specs.Limits.{most_lots};
-ghost use Rattle.gu_base.specs.Places.{line_within, root_along, root_of};
-ghost use Rattle.gu_book.specs.Holdings.{traded_by, traded_at, held_at, holding_of, taken_by, part_holding, added_by, HasTaken, AreReady, HaveRoom, SameLots, HaveMoved};
+ghost use Rattle.gu_book.specs.Found.{AreTreesOf};
+ghost use Rattle.gu_book.specs.Holdings.{traded_by, held_at, holding_of, taken_by, part_holding, added_by, HasTaken, AreReady, HaveRoom, SameLots, HaveMoved, HaveThere, IsReadyTaken, HasRoomBack};
 ghost use Rattle.gu_book.specs.Limits.{AllWithinLimits};
+ghost use Rattle.gu_positions.specs.Rows.{IsReady};
+ghost use Rattle.gu_positions.specs.declared.positions.Key.{Key as KeyData};
 
-use crate::plain::nodes::{change_at, node_of, parent_of};
-use crate::plain::places::place_of;
-use gu_base::{
-    AccountId, Command, FirmId, InstrumentId, Memory, Node, NodeName, Number, Part, Place, Record,
-    Side,
-};
+use crate::found::find;
+use crate::plain::nodes::change_at;
+use gu_base::{Command, FirmId, InstrumentId, Memory, NodeName, Number, Part, Place, Record, Side};
 use gu_positions::{Key, Positions};
+use gu_tree::Trees;
+use std::alloc::Global;
 
 /// What was traded: an instrument, on one side.
 #[derive(Clone, Copy, Debug)]
@@ -28,37 +29,6 @@ pub(crate) struct Holding {
     key: Key,
     side: Side,
     lots: u64,
-}
-
-/// The root of a node's tree, going up through so many parents at most.
-#[tactic(auto, using(crate::proofs::Roots::root_first, crate::proofs::Roots::root_above))]
-fn root_from(records: &[Record], steps: usize, at: Option<Node>) -> Option<NodeName>
-    requires { RisesFrom 1 records.now }
-    ensures { result ≡ root_along (line_within steps records.now at) }
-{
-    match at {
-        None => None,
-        Some(x) => {
-            if steps == 0 {
-                return None;
-            }
-            match parent_of(&x.kind) {
-                None => Some(x.name),
-                Some(parent) => match root_from(records, steps - 1, node_of(records, &parent)) {
-                    None => Some(x.name),
-                    Some(root) => Some(root),
-                },
-            }
-        }
-    }
-}
-
-/// The root of a node's tree.
-fn root_of(records: &[Record], name: &NodeName) -> Option<NodeName>
-    requires { RisesFrom 1 records.now }
-    ensures { result ≡ root_of records.now name.now }
-{
-    root_from(records, records.len(), node_of(records, name))
 }
 
 /// The instrument and the side of a Trade.
@@ -89,65 +59,55 @@ fn traded_under(records: &[Record], number: Number) -> Option<Traded>
     }
 }
 
-/// What was traded by a node's trade.
-fn traded_at(records: &[Record], name: &NodeName) -> Option<Traded>
-    requires { RisesFrom 1 records.now }
-    ensures { result ≡ traded_at records.now name.now }
-{
-    match root_of(records, name) {
-        None => None,
-        Some(root) => traded_under(records, root.entry()),
-    }
-}
-
 /// So many lots of what was traded, in an account.
-fn held_at(place: &Option<Place>, traded: &Option<Traded>, lots: u64) -> Option<Holding>
-    ensures { result ≡ held_at place.now traded.now lots }
+fn held_at(place: &Place, traded: &Option<Traded>, lots: u64) -> Option<Holding>
+    ensures { result ≡ held_at (Some place.now) traded.now lots }
 {
-    match place {
+    match traded {
         None => None,
-        Some(place) => match traded {
-            None => None,
-            Some(traded) => Some(Holding {
-                key: Key {
-                    firm: place.firm,
-                    account: place.account,
-                    instrument: traded.instrument,
-                },
-                side: traded.side,
-                lots,
-            }),
-        },
+        Some(traded) => Some(Holding {
+            key: Key {
+                firm: place.firm,
+                account: place.account,
+                instrument: traded.instrument,
+            },
+            side: traded.side,
+            lots,
+        }),
     }
 }
 
 /// The lots of the node of this name, where it stands.
-fn holding_named(records: &[Record], name: &NodeName) -> Option<Holding>
+fn holding_named(records: &[Record], trees: &Trees<Global>, name: NodeName) -> Option<Holding>
     requires within { AllWithinLimits records.now }
-    requires rises { RisesFrom 1 records.now }
-    ensures value { result ≡ option_and_then (holding_of records.now) (node_of records.now name.now) }
+    requires trees { AreTreesOf records.now trees.now }
+    ensures value { result ≡ option_and_then (holding_of records.now) (node_of records.now name) }
     ensures lots { IfSome result (λ h. h.lots ≤ most_lots) }
 {
-    match node_of(records, name) {
+    match find(trees, name) {
         None => None,
-        Some(x) => held_at(
-            &place_of(records, &x.name),
-            &traded_at(records, &x.name),
-            x.lots,
+        Some(found) => held_at(
+            &found.head.place,
+            &traded_under(records, found.trade),
+            found.head.lots,
         ),
     }
 }
 
 /// What a command takes out of an account.
-pub(crate) fn taken_by(records: &[Record], command: &Command) -> Option<Holding>
+pub(crate) fn taken_by(
+    records: &[Record],
+    trees: &Trees<Global>,
+    command: &Command,
+) -> Option<Holding>
     requires within { AllWithinLimits records.now }
-    requires rises { RisesFrom 1 records.now }
+    requires trees { AreTreesOf records.now trees.now }
     ensures value { result ≡ taken_by records.now command.now }
     ensures lots { IfSome result (λ h. h.lots ≤ most_lots) }
 {
     match command {
-        Command::Split { node, .. } => holding_named(records, node),
-        Command::Claim { node, .. } => holding_named(records, node),
+        Command::Split { node, .. } => holding_named(records, trees, *node),
+        Command::Claim { node, .. } => holding_named(records, trees, *node),
         _ => None,
     }
 }
@@ -299,4 +259,86 @@ pub(crate) fn move_lots(
         positions.take(&h.key, h.side, h.lots);
     }
     add(positions, by, command, taken);
+}
+
+/// Takes the lots of the parts out of their accounts.
+fn remove_parts(positions: &mut Positions, whole: &Holding, by: &FirmId, parts: &[Part])
+    requires { HaveThere positions.old (filter_map (part_holding whole.now by.now) parts.now) }
+    ensures moved { HaveMoved positions.new positions.old None (filter_map (part_holding whole.now by.now) parts.now) }
+    ensures stays_ready { (at : KeyData) → IsReady positions.old at → IsReady positions.new at }
+{
+    for part in parts {
+        if let Some(h) = part_holding(whole, by, part) {
+            positions.take(&h.key, h.side, h.lots);
+        }
+    }
+}
+
+/// Takes the lots that a command put into accounts out of them.
+fn remove(positions: &mut Positions, by: &FirmId, command: &Command, taken: &Option<Holding>)
+    requires { HaveThere positions.old (added_by by.now command.now taken.now) }
+    ensures moved { HaveMoved positions.new positions.old None (added_by by.now command.now taken.now) }
+    ensures stays_ready { (at : KeyData) → IsReady positions.old at → IsReady positions.new at }
+{
+    match command {
+        Command::Trade {
+            firm,
+            account,
+            instrument,
+            side,
+            lots,
+        } => {
+            let key = Key {
+                firm: *firm,
+                account: *account,
+                instrument: *instrument,
+            };
+            positions.take(&key, *side, *lots);
+        }
+        Command::Split { parts, .. } => {
+            if let Some(whole) = taken {
+                remove_parts(positions, whole, by, parts.as_slice());
+            }
+        }
+        Command::Claim { account, .. } => {
+            if let Some(whole) = taken {
+                let key = Key {
+                    firm: *by,
+                    account: *account,
+                    instrument: whole.key.instrument,
+                };
+                positions.take(&key, whole.side, whole.lots);
+            }
+        }
+        _ => {}
+    }
+}
+
+/// Makes the row out of which a command took lots. No lots change, not even where memory is refused.
+pub(crate) fn ready_taken(positions: &mut Positions, taken: &Option<Holding>) -> Result<(), Memory>
+    ensures ready { OnOk result (IsReadyTaken positions.new taken.now) }
+    ensures same { SameLots positions.old positions.new }
+{
+    match taken {
+        None => Ok(()),
+        Some(h) => positions.ready(&h.key),
+    }
+}
+
+/// Moves back what a command moved: takes its lots out of their accounts, and puts these back into theirs. The row for them has
+/// to be ready and to have room.
+pub(crate) fn move_back(
+    positions: &mut Positions,
+    by: &FirmId,
+    command: &Command,
+    taken: &Option<Holding>,
+)
+    requires there { HaveThere positions.old (added_by by.now command.now taken.now) }
+    requires room { HasRoomBack positions.old taken.now (added_by by.now command.now taken.now) }
+    ensures { HaveMoved positions.new positions.old taken.now (added_by by.now command.now taken.now) }
+{
+    remove(positions, by, command, taken);
+    if let Some(held) = taken {
+        positions.add(&held.key, held.side, held.lots);
+    }
 }
