@@ -258,6 +258,7 @@ module _ (t : House) (l : List Record) (r : Record) (replayed : first_refused t 
         let f = same at side in
         omega (arith, a, b, c, d, e, f);
   }
+
   -- ---- trees
 
   -- of a node that it doesn't name the others say what all say
