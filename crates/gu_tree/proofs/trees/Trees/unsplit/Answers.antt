@@ -7,7 +7,7 @@ use Rattle.gu_tree.proofs.GroveCuts.{taking-split, cut-grove, unsplit-tree, unsp
 use Rattle.gu_tree.proofs.trees.Trees.unsplit.Goals as goal
 
 pub root_of-i-requires-clause-root : goal.root_of-i-requires-clause-root
-root_of-i-requires-clause-root g c = rw c.as_slice.ensures.value (root-slot _ c.args.trade _ _ refl (rw (← c.self.view_is) at c.requires.split))
+root_of-i-requires-clause-root g c = rw c.as_slice.ensures.value (root-slot _ _ c.args.trade _ _ refl (rw (← c.self.view_is) at c.requires.split))
 
 pub invariant_of-self : goal.invariant_of-self
 invariant_of-self g c = cut-grove c.self.invariant (taking-split c.in-Some-parted.split c.self.invariant (ap (λ s. slot_of s c.args.trade) (sym c.as_slice.ensures.value) ∙ c.root_of-i.ensures) (slot-tree c.args.trade c.self.invariant (ap (λ s. slot_of s c.args.trade) (sym c.as_slice.ensures.value) ∙ c.root_of-i.ensures) c.index_mut.ensures.value c.in-Some.is) c.parted-parted.ensures c.in-Some-parted.is (rw (← c.self.view_is) at c.requires.split) (rw (← c.self.view_is) at c.requires.free) c.unsplit.ensures.node refl c.clear.ensures).cut
