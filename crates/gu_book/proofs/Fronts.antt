@@ -1,5 +1,5 @@
 -- The answer, from the answer but for what stands on a change.
-use Rattle.std.proofs.Common.{◌≡◌, ℕ, ◌+◌, true, false, not, List, [], ◌∷◌, length, refl, sym, ◌∙◌, ap, Option}
+use Rattle.std.proofs.Common.{◌≡◌, ℕ, ◌+◌, false, not, List, [], ◌∷◌, length, refl, sym, ◌∙◌, ap, Option}
 use Rattle.std.specs.Prelude.{Some, None, find, option_map, nat_lt}
 use Rattle.gu_base.specs.House.{House, knows_firm}
 use Rattle.gu_base.specs.History.{records, live, is_change}
@@ -16,7 +16,7 @@ use Rattle.gu_base.specs.declared.entry.Record.{Record}
 use Rattle.gu_base.specs.declared.refusal.Refusal.{Refusal}
 use Rattle.gu_base.specs.declared.refusal.Refusal.TheVariants.{UnknownFirm, NotAChange, AlreadyReversed, NotAParty, NeedsConsent, StandsOn, BookFull, AlreadyConsented, NothingPending}
 use Rattle.gu_base.specs.declared.state.State.{State}
-use Rattle.gu_book.specs.Front.{own_of, front_refusal, front_answer, stands_refusal, may_lack}
+use Rattle.gu_book.specs.Front.{own_of, front_refusal, front_answer, stands_refusal}
 use Rattle.gu_base.proofs.Numbered.{found_at}
 use Rattle.gu_base.proofs.Consenting.{not_reversed, left_open}
 
@@ -127,27 +127,30 @@ module _ (t : House) (h : List Entry) (given : ℕ → List (List ℕ)) (left : 
       split_answer c
       ∙ front_left (find (is_same_call c) (records h)) (find (is_same_id c) (records h)) (length h + 1) (status_of c.firm c.command) (unless (nat_lt (length h) 1000000) BookFull) (front_refusal t h given c.firm c.command) (stands_refusal t h c.command) plain
 
-lacking_by : (n : ℕ) (s : State) (o : Option ℕ) → may_lack (accepted_or n s (option_map (λ k. StandsOn k) o)) ≡ true
-lacking_by n s None = refl
-lacking_by n s (Some k) = refl
-
--- want of memory comes only where it may
-pub lacking : (t : House) (h : List Entry) (by id : List ℕ) (c : Command) (n : ℕ) (s : State)
-    → answer_to t h (record { firm = by; id = id; command = c }) ≡ accepted_or n s (stands_refusal t h c) → may_lack (answer_to t h (record { firm = by; id = id; command = c })) ≡ true
-lacking t h by id (Trade _ _ _ _ _) n s e = ap may_lack e
-lacking t h by id (Split _ _) n s e = ap may_lack e
-lacking t h by id (Claim _ _) n s e = ap may_lack e
-lacking t h by id (Refuse _) n s e = ap may_lack e
-lacking t h by id (Cancel _) n s e = ap may_lack e
-lacking t h by id (Initiate _) n s e = ap may_lack e
-lacking t h by id (Decline _) n s e = ap may_lack e
-lacking t h by id (Reverse k) n s e = ap may_lack e ∙ lacking_by n s (standing_on t (live h) k)
+-- nothing stands in the way of what is no Reverse
+pub none_in_way : (t : House) (h : List Entry) (c : Command) → ((k : ℕ) → c ≡ Reverse k → ⊥) → stands_refusal t h c ≡ None
+none_in_way t h (Trade _ _ _ _ _) other = refl
+none_in_way t h (Split _ _) other = refl
+none_in_way t h (Claim _ _) other = refl
+none_in_way t h (Refuse _) other = refl
+none_in_way t h (Cancel _) other = refl
+none_in_way t h (Initiate _) other = refl
+none_in_way t h (Decline _) other = refl
+none_in_way t h (Reverse k) other = absurd (other k refl)
 
 -- an answer that isn't accepted adds nothing
 not_added : (h : List Entry) (c : Call) (a : Answer) → is_accepted a ≡ false → h ≡ after_by h c a
 not_added h c (Accepted n s) e = absurd (cc)
 not_added h c (Repeated n s) e = refl
 not_added h c (Refused r) e = refl
+
+pub not_accepted : (a : Answer) → ((n : ℕ) (s : State) → a ≡ Accepted n s → ⊥) → is_accepted a ≡ false
+not_accepted (Accepted n s) other = absurd (other n s refl)
+not_accepted (Repeated n s) other = refl
+not_accepted (Refused r) other = refl
+
+pub not_kept : (t : House) (h : List Entry) (c : Call) (a : Answer) → a ≡ answer_to t h c → is_accepted a ≡ false → h ≡ after t h c
+not_kept t h c a e out = not_added h c a out ∙ ap (after_by h c) e
 
 pub record IsSettled (t : House) (h : List Entry) (c : Call) (a : Answer) : Type 0 where
   pub answered : a ≡ answer_to t h c

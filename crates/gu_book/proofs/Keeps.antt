@@ -1,6 +1,6 @@
 -- One more accepted change leaves true what a book keeps.
 use Rattle.std.proofs.Common.{◌≡◌, ℕ, ◌+◌, ◌≤◌, true, false, ◌&&◌, ◌||◌, List, [], ◌∷◌, ◌++◌, length, refl, sym, ◌∙◌, ap, subst, arith, cond, append-nil, append_assoc, length-append}
-use Rattle.std.specs.Prelude.{None, find, bytes_eq, option_map, ◌==◌}
+use Rattle.std.specs.Prelude.{None, find, bytes_eq, ◌==◌}
 use Rattle.std.specs.List.{list_any, IsDistinct}
 use Rattle.std.specs.Cmp.{IsEquivalence}
 use Rattle.std.proofs.lemmas.List.Elements.{All-nil, All-push}
@@ -10,20 +10,21 @@ use Rattle.std.proofs.lemmas.Slice.Eq.{bytes_eq-Decides}
 use Rattle.gu_base.specs.House.{House, knows_firm}
 use Rattle.gu_base.specs.History.{numbered_as, numbered_from, records, is_change, is_reversed, live, RisesFrom}
 use Rattle.gu_base.specs.Refusals.{refusal_of, unless}
-use Rattle.gu_base.specs.Standing.{first_refused, standing_on, without}
-use Rattle.gu_base.specs.Answers.{answer_to, command_refusal, entry_of, reversal_of, on_change, initiate_rest, is_same_id, accepted_or}
+use Rattle.gu_base.specs.Standing.{first_refused, without}
+use Rattle.gu_base.specs.Answers.{answer_to, command_refusal, entry_of, reversal_of, on_change, initiate_rest, is_same_id}
 use Rattle.gu_base.specs.Runs.{call_of, IsRunFrom}
 use Rattle.gu_base.specs.declared.command.Command.{Command}
 use Rattle.gu_base.specs.declared.command.Command.TheVariants.{Initiate, Decline, Reverse}
 use Rattle.gu_base.specs.declared.entry.Answer.TheVariants.{Accepted}
 use Rattle.gu_base.specs.declared.entry.Entry.{Entry}
 use Rattle.gu_base.specs.declared.entry.Record.{Record}
-use Rattle.gu_base.specs.declared.refusal.Refusal.TheVariants.{UnknownFirm, StandsOn}
+use Rattle.gu_base.specs.declared.refusal.Refusal.TheVariants.{UnknownFirm}
 use Rattle.gu_base.specs.SamePartsLaws.{bytes_same}
 use Rattle.gu_base.proofs.LiveLaws.{live_push_change, live_push_reverse, is_live, live_push_consent}
 use Rattle.gu_base.proofs.Basics.{bytes_symm, nothing_here}
 use Rattle.gu_tree.specs.Grove.{Grove, tree_of, place_of, last_place, IsSameGrove}
 use Rattle.gu_book.specs.Filed.{IsFiled, IsNext}
+use Rattle.gu_book.specs.Found.{AreTreesOf}
 use Rattle.gu_book.specs.Ids.{same_id, NoIdTwice}
 use Rattle.gu_book.specs.Kept.{AcceptedFrom, IsKept}
 use Rattle.gu_base.specs.Consents.{consents_left, is_consenting}
@@ -162,12 +163,6 @@ module _ {t : House} {h : List Entry} {l : List Record} {ts : Grove} {cs : Conse
       (subst AllWithinLimits (sym legal.others_are) (without_small k l kept.within)) (subst (λ (l : List Record). IsFiled l us) (sym legal.others_are) legal.filed)
       (λ m. less m ∙ (ap (λ fs. cond (m == k) [] fs) (kept.consented m) ∙ left_reverse h e k m same))
 
--- a Reverse that nothing else refuses, and on whose entry nothing stands
-pub accepted_reverse : {t : House} {h : List Entry} {l : List Record} {ts : Grove} {cs : Consents} → IsKept t h l ts cs → (e : Entry) (n k : ℕ)
-    → answer_to t h (call_of e) ≡ accepted_or n e.status (option_map (λ m. StandsOn m) (standing_on t (live h) k)) → standing_on t l k ≡ None → answer_to t h (call_of e) ≡ Accepted n e.status
-accepted_reverse {t} {h} {l} kept e n k decided none =
-    decided ∙ ap (λ o. accepted_or n e.status (option_map (λ m. StandsOn m) o)) (ap (λ (l : List Record). standing_on t l k) (sym kept.are_live) ∙ none)
-
 -- the consents alone have changed, and not in what they say
 pub kept_same : (t : House) (h : List Entry) (l : List Record) (ts : Grove) (cs ds : Consents) → IsKept t h l ts cs → ((m : ℕ) → given ds m ≡ given cs m) → IsKept t h l ts ds
 kept_same t h l ts cs ds kept same = record {
@@ -197,6 +192,10 @@ kept_alike {l = l} {old = old} kept new same = record {
   filed = same_filed l old new same kept.filed;
   consented = kept.consented;
 }
+
+-- the trees are those of the live changes
+pub trees_kept : {t : House} {h : List Entry} {l : List Record} {ts : Grove} {cs : Consents} → IsKept t h l ts cs → AreTreesOf l ts
+trees_kept {t} {h} {l} kept = record { house = t; filed = kept.filed; replayed = kept.replayed; rises = subst (RisesFrom 1) (sym kept.are_live) (live_rises h) }
 
 -- what the replay of the live changes asks for
 pub rises_kept : (t : House) (h : List Entry) (l : List Record) (ts : Grove) (cs : Consents) → IsKept t h l ts cs → RisesFrom 1 l

@@ -4,7 +4,6 @@ pub mod Within
 pub mod Refused
 pub mod Keeps
 pub mod Charging
-pub mod Roots
 pub mod HoldingRows
 pub mod Holdings
 pub mod Standings
@@ -27,4 +26,6 @@ pub mod Named
 pub mod Shown
 pub mod Filed
 pub mod FiledChanges
+pub mod FoundAs
+pub mod AllShown
 pub mod Crossing

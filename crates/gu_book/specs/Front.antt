@@ -10,7 +10,7 @@ use Rattle.gu_base.specs.Answers.{Call, entry_of, on_change, is_empty, is_same_i
 use Rattle.gu_base.specs.declared.command.Command.{Command}
 use Rattle.gu_base.specs.declared.command.Command.TheVariants.{Initiate, Decline, Reverse}
 use Rattle.gu_base.specs.declared.entry.Answer.{Answer}
-use Rattle.gu_base.specs.declared.entry.Answer.TheVariants.{Accepted, Refused}
+use Rattle.gu_base.specs.declared.entry.Answer.TheVariants.{Accepted}
 use Rattle.gu_base.specs.declared.entry.Entry.{Entry}
 use Rattle.gu_base.specs.declared.entry.Record.{Record}
 use Rattle.gu_base.specs.declared.refusal.Refusal.{Refusal}
@@ -51,9 +51,7 @@ abbrev pub stands_refusal : House → List Entry → Command → Option Refusal
 stands_refusal t h (Reverse n) = option_map (λ k. StandsOn k) (standing_on t (live h) n)
 stands_refusal t h _ = None
 
--- whether want of memory may come in the place of this answer: of one that is accepted, and of a Reverse that is refused for what stands
--- on its entry, since only a replay finds that
+-- whether want of memory may come in the place of this answer: of one that is accepted
 abbrev pub may_lack : Answer → Bool
 may_lack (Accepted _ _) = true
-may_lack (Refused (StandsOn _)) = true
 may_lack _ = false

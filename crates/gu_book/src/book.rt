@@ -1,19 +1,18 @@
 //! The book: the house table, the history, and beside it the live changes, a tree for each live trade, the consents, an index, the fees
 //! and the positions.
-ghost use Rattle.std.specs.Prelude.{true, ◌≡◌, ◌≤◌, ◌<◌, ◌+◌, [], ◌∷◌, ◌++◌, length, map, option_map, IsTrue, IfOk, OnOk, OnErr};
+ghost use Rattle.std.specs.Prelude.{true, ◌≡◌, ◌≤◌, ◌+◌, [], ◌∷◌, ◌++◌, length, map, option_map, IsTrue, IfOk, OnOk, OnErr};
 ghost use Rattle.gu_base.specs.Limits.{most_entries};
 ghost use Rattle.gu_base.specs.History.{is_change, live};
 ghost use Rattle.gu_base.specs.Positions.{position_of};
 ghost use Rattle.gu_base.specs.Fees.{paid_by, received_by, used_of};
-ghost use Rattle.gu_base.specs.Standing.{IsLegal, standing_on};
-ghost use Rattle.gu_base.specs.Answers.{Call, answer_to, after, accepted_or};
+ghost use Rattle.gu_base.specs.Standing.{IsLegal};
+ghost use Rattle.gu_base.specs.Answers.{Call, answer_to, after};
 ghost use Rattle.gu_base.specs.declared.command.Side.TheVariants.{Buy, Sell};
 ghost use Rattle.gu_base.specs.declared.entry.Answer.TheVariants.{Accepted};
 ghost use Rattle.gu_base.specs.Runs.{IsRunFrom, call_of};
 ghost use Rattle.gu_base.specs.declared.command.Command.TheVariants.{Initiate, Decline, Reverse};
-ghost use Rattle.gu_base.specs.declared.refusal.Refusal.TheVariants.{StandsOn};
 ghost use Rattle.gu_tree.specs.Shown.{shown};
-ghost use Rattle.gu_book.specs.Front.{stands_refusal, may_lack};
+ghost use Rattle.gu_book.specs.Front.{may_lack};
 ghost use Rattle.gu_book.specs.Ids.{NoIdTwice};
 ghost use Rattle.gu_book.specs.TreeRows.{is_live_trade, tree_rows};
 
@@ -28,6 +27,7 @@ use gu_base::{
     Refusal, State,
 };
 use gu_consent::Consents;
+use gu_depend::first_standing;
 use gu_fees::Fees;
 use gu_parties::House;
 use gu_positions::{Key, Positions};
@@ -109,8 +109,7 @@ impl Book {
     ///
     /// # Errors
     ///
-    /// `Memory` where a growth was refused: in the place of an accepted call, or of a Reverse that is refused for what stands on its
-    /// entry, since only a replay finds that.
+    /// `Memory` where a growth was refused, in the place of an accepted call alone.
     pub fn apply(
         &mut self,
         alloc: Global,
@@ -123,24 +122,43 @@ impl Book {
         ensures memory { OnErr result (IsTrue (may_lack (answer_to self.old.house self.old.history (record { firm = by.now; id = id.now; command = command.now })))) }
         ensures unchanged { OnErr result (self.new ≡ self.old) }
     {
-        let at = Standing {
-            house: &self.house,
-            entries: &self.entries,
-            records: &self.records,
-            fees: &self.fees,
-            index: &self.index,
-            consents: &self.consents,
-        };
-        let answer = front_answer(&at, by, id, command);
+        let answer = self.answer(by, id, command);
         match answer {
             Answer::Accepted { number, status } => {
-                self.keep(alloc, by, id, command, number, status)
+                self.keep(alloc, by, id, command, number, status)?;
+                Ok(answer)
             }
             Answer::Repeated { .. } | Answer::Refused(_) => Ok(answer),
         }
     }
 
-    /// Keeps a command that nothing refuses but what may stand on a change.
+    /// The answer to a call. Keeps nothing and takes no memory.
+    fn answer(&self, by: &FirmId, id: &AllocId, command: &Command) -> Answer
+        ensures { result ≡ answer_to self.now.house self.now.history (record { firm = by.now; id = id.now; command = command.now }) }
+    {
+        let at = Standing {
+            house: &self.house,
+            entries: &self.entries,
+            records: &self.records,
+            trees: &self.trees,
+            fees: &self.fees,
+            index: &self.index,
+            consents: &self.consents,
+        };
+        let answer = front_answer(&at, by, id, command);
+        let Answer::Accepted { .. } = answer else {
+            return answer;
+        };
+        let Command::Reverse { entry } = command else {
+            return answer;
+        };
+        match first_standing(&self.trees, *entry) {
+            Some(other) => Answer::Refused(Refusal::StandsOn(other)),
+            None => answer,
+        }
+    }
+
+    /// Keeps an accepted command.
     fn keep(
         &mut self,
         alloc: Global,
@@ -149,10 +167,8 @@ impl Book {
         command: &Command,
         number: Number,
         status: State,
-    ) -> Result<Answer, Memory>
-        requires next { number ≡ length self.old.history + 1 }
-        requires decided { answer_to self.old.house self.old.history (record { firm = by.now; id = id.now; command = command.now }) ≡ accepted_or number status (stands_refusal self.old.house self.old.history command.now) }
-        ensures answered { IfOk result (λ a. a ≡ answer_to self.old.house self.old.history (record { firm = by.now; id = id.now; command = command.now })) }
+    ) -> Result<(), Memory>
+        requires accepted { answer_to self.old.house self.old.history (record { firm = by.now; id = id.now; command = command.now }) ≡ Accepted number status }
         ensures kept { OnOk result (self.new ≡ record { house = self.old.house; history = after self.old.house self.old.history (record { firm = by.now; id = id.now; command = command.now }) }) }
         ensures unchanged { OnErr result (self.new ≡ self.old) }
     {
@@ -163,19 +179,10 @@ impl Book {
             status,
         };
         match command {
-            Command::Initiate { entry } => {
-                self.keep_consent(alloc, kept, *entry, number)?;
-                Ok(Answer::Accepted { number, status })
-            }
-            Command::Decline { entry } => {
-                self.keep_decline(kept, *entry, number)?;
-                Ok(Answer::Accepted { number, status })
-            }
+            Command::Initiate { entry } => self.keep_consent(alloc, kept, *entry, number),
+            Command::Decline { entry } => self.keep_decline(kept, *entry, number),
             Command::Reverse { entry } => self.keep_reversal(alloc, kept, *entry, number),
-            _ => {
-                self.keep_change(alloc, kept, number)?;
-                Ok(Answer::Accepted { number, status })
-            }
+            _ => self.keep_change(alloc, kept, number),
         }
     }
 
@@ -189,7 +196,7 @@ impl Book {
         ensures unchanged { OnErr result (self.new ≡ self.old) }
     {
         let charge = charges::charge_of(&self.house, &self.records, &kept.command);
-        let taken = holdings::taken_by(&self.records, &kept.command);
+        let taken = holdings::taken_by(&self.records, &self.trees, &kept.command);
         let record = Record {
             number,
             firm: kept.firm,
@@ -250,41 +257,41 @@ impl Book {
         Ok(())
     }
 
-    /// Answers a Reverse that only what stands on its entry may still refuse. Where nothing does, the replayed live changes, trees,
-    /// fees and positions take the place of the old.
+    /// Puts an accepted Reverse at the end of the history. The replayed live changes, trees, fees and positions take the place of the old.
     fn keep_reversal(
         &mut self,
         alloc: Global,
         kept: Entry,
         change: Number,
         number: Number,
-    ) -> Result<Answer, Memory>
+    ) -> Result<(), Memory>
         requires names { kept.command ≡ Reverse change }
-        requires next { number ≡ length self.old.history + 1 }
-        requires decided { answer_to self.old.house self.old.history (call_of kept) ≡ accepted_or number kept.status (option_map (λ n. StandsOn n) (standing_on self.old.house (live self.old.history) change)) }
-        ensures answered { IfOk result (λ a. a ≡ answer_to self.old.house self.old.history (call_of kept)) }
-        ensures kept { OnOk result (self.new ≡ record { house = self.old.house; history = after self.old.house self.old.history (call_of kept) }) }
+        requires accepted { answer_to self.old.house self.old.history (call_of kept) ≡ Accepted number kept.status }
+        ensures kept { OnOk result (self.new ≡ record { house = self.old.house; history = self.old.history ++ kept ∷ [] }) }
         ensures unchanged { OnErr result (self.new ≡ self.old) }
     {
-        match replay_without(&self.house, alloc, &self.records, change)? {
-            Without::Stands(other) => Ok(Answer::Refused(Refusal::StandsOn(other))),
-            Without::Legal(records, trees, fees, positions) => {
-                self.entries.reserve(1)?;
-                self.index.ids.put(&kept.firm, &kept.id, number)?;
-                if let Err(lack) = self.index.reversals.put(change, number) {
-                    self.index.ids.remove(&kept.firm, &kept.id);
-                    return Err(lack);
-                }
-                let status = kept.status;
-                self.consents.clear(change);
-                self.entries.push_reserved(kept);
-                self.records = records;
-                self.trees = trees;
-                self.fees = fees;
-                self.positions = positions;
-                Ok(Answer::Accepted { number, status })
-            }
+        let Without::Legal(records, trees, fees, positions) = replay_without(
+            &self.house,
+            alloc,
+            &self.records,
+            change,
+        )?
+        else {
+            unreachable!()
+        };
+        self.entries.reserve(1)?;
+        self.index.ids.put(&kept.firm, &kept.id, number)?;
+        if let Err(lack) = self.index.reversals.put(change, number) {
+            self.index.ids.remove(&kept.firm, &kept.id);
+            return Err(lack);
         }
+        self.consents.clear(change);
+        self.entries.push_reserved(kept);
+        self.records = records;
+        self.trees = trees;
+        self.fees = fees;
+        self.positions = positions;
+        Ok(())
     }
 
     /// The rows of a live trade's tree: a node, then its parts in order. `None` where the number is of no live Trade.

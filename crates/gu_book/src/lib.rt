@@ -4,22 +4,23 @@
 //! - `Book` is seen by clauses as its house table and its history. `Book::new` is the empty book of any house.
 //! - `Book::apply` answers every call exactly as the rules say at the history, keeps it at the end of the history where it is
 //!   accepted, and leaves everything where it is not.
-//! - `Memory` comes only where the rules accept the call, or refuse a Reverse for what stands on its change (a replay finds that, and
-//!   takes memory). All growths come before anything changes, so it leaves everything too.
+//! - `Memory` comes only where the rules accept the call. All growths come before anything changes, so it leaves everything too.
 //! - `live` gives the numbers of the live changes, `tree_rows` the rows of a live trade's tree. `position` is a running
 //!   row of what stands in an account; `paid`, `received` and `used` are running sums of what the live claims cost. All fit.
 //! - The type keeps that its history is one that calls made of the empty book, that no firm and id stand in it twice, that none of
 //!   its live changes would be refused after those before it, that the trees show the live changes, and that the consents are those
 //!   that the history left.
 //! - `laws` has what follows for every book, first the headline in five laws.
-//! - `index` finds the entry of an id and the Reverse of an entry without going over the history.
-//! - `plain` has the scans of the live changes that find each answer but for what stands on a change, `replay` finds that, `grove` has
-//!   what a change does to the trees; no public contract speaks of them.
+//! - `index` finds the entry of an id and the Reverse of an entry without going over the history, `found` what the trees say of a
+//!   node.
+//! - `plain` has each answer but for what stands on a change (gu_depend reads that off the trees), `grove` has what a change does to
+//!   the trees, `replay` what an accepted Reverse leaves; no public contract speaks of them.
 //!
 //! Its cases, whole days of a small house, are data of the program `test_book`.
 #![tactic(auto)]
 
 pub mod book;
+mod found;
 mod grove;
 mod index;
 pub mod laws;

@@ -1,4 +1,4 @@
-//! What stands on a change, found by replaying the live changes without it.
+//! What the live changes are without one of them, found by replaying the others.
 ghost use Rattle.std.specs.Prelude.{◌≡◌, ◌≤◌, ◌<◌, [], ◌∷◌, ◌++◌, length, None, IfOk};
 ghost use Rattle.gu_base.specs.History.{RisesFrom};
 ghost use Rattle.gu_base.specs.Limits.{most_entries};
@@ -47,11 +47,11 @@ fn again(
     requires rises { RisesFrom 1 (done.old.items ++ r.now ∷ []) }
     ensures { IfOk result (λ b. IsReplayed house.now done.old.items r.now b done.new.items trees.new fees.new positions.new) }
 {
-    if change_refusal(house, done.as_slice(), fees, &r.firm, &r.command).is_some() {
+    if change_refusal(house, done.as_slice(), trees, fees, &r.firm, &r.command).is_some() {
         return Ok(false);
     }
     let charge = charges::charge_of(house, done.as_slice(), &r.command);
-    let taken = holdings::taken_by(done.as_slice(), &r.command);
+    let taken = holdings::taken_by(done.as_slice(), trees, &r.command);
     let copy = r.copy(alloc)?;
     done.reserve(1)?;
     charges::ready(fees, &charge)?;

@@ -64,7 +64,9 @@ pub fn run_trace<R: Source, W: Sink>(
 {
     let mut nowhere = Nowhere;
     let answering = answer_stream(alloc, reader, &mut nowhere, house)?;
-    let text = text_of(alloc, answering.book(), trade)?;
+    let told = text_of(alloc, answering.book(), trade);
+    drop(answering);
+    let text = told?;
     match write_all(writer, &text) {
         Ok(()) => Ok(()),
         Err(_) => Err(RunError::Write),

@@ -1,19 +1,18 @@
 //! The lots that stand in an account, and which of them a change moves.
-ghost use Rattle.std.specs.Prelude.{◌≡◌, ◌≤◌, ◌==◌, find, filter_map, None, option_and_then, IfSome, OnOk};
+ghost use Rattle.std.specs.Prelude.{◌≡◌, ◌≤◌, ◌==◌, find, filter_map, Some, None, option_and_then, IfSome, OnOk};
 ghost use Rattle.gu_base.specs.Nodes.{node_of};
 ghost use Rattle.gu_base.specs.History.{RisesFrom};
 ghost use Rattle.gu_base.specs.Limits.{most_lots};
-ghost use Rattle.gu_base.specs.Places.{line_within, root_along, root_of};
-ghost use Rattle.gu_book.specs.Holdings.{traded_by, traded_at, held_at, holding_of, taken_by, part_holding, added_by, HasTaken, AreReady, HaveRoom, SameLots, HaveMoved};
+ghost use Rattle.gu_book.specs.Found.{AreTreesOf};
+ghost use Rattle.gu_book.specs.Holdings.{traded_by, held_at, holding_of, taken_by, part_holding, added_by, HasTaken, AreReady, HaveRoom, SameLots, HaveMoved};
 ghost use Rattle.gu_book.specs.Limits.{AllWithinLimits};
 
-use crate::plain::nodes::{change_at, node_of, parent_of};
-use crate::plain::places::place_of;
-use gu_base::{
-    AccountId, Command, FirmId, InstrumentId, Memory, Node, NodeName, Number, Part, Place, Record,
-    Side,
-};
+use crate::found::find;
+use crate::plain::nodes::change_at;
+use gu_base::{Command, FirmId, InstrumentId, Memory, NodeName, Number, Part, Place, Record, Side};
 use gu_positions::{Key, Positions};
+use gu_tree::Trees;
+use std::alloc::Global;
 
 /// What was traded: an instrument, on one side.
 #[derive(Clone, Copy, Debug)]
@@ -28,37 +27,6 @@ pub(crate) struct Holding {
     key: Key,
     side: Side,
     lots: u64,
-}
-
-/// The root of a node's tree, going up through so many parents at most.
-#[tactic(auto, using(crate::proofs::Roots::root_first, crate::proofs::Roots::root_above))]
-fn root_from(records: &[Record], steps: usize, at: Option<Node>) -> Option<NodeName>
-    requires { RisesFrom 1 records.now }
-    ensures { result ≡ root_along (line_within steps records.now at) }
-{
-    match at {
-        None => None,
-        Some(x) => {
-            if steps == 0 {
-                return None;
-            }
-            match parent_of(&x.kind) {
-                None => Some(x.name),
-                Some(parent) => match root_from(records, steps - 1, node_of(records, &parent)) {
-                    None => Some(x.name),
-                    Some(root) => Some(root),
-                },
-            }
-        }
-    }
-}
-
-/// The root of a node's tree.
-fn root_of(records: &[Record], name: &NodeName) -> Option<NodeName>
-    requires { RisesFrom 1 records.now }
-    ensures { result ≡ root_of records.now name.now }
-{
-    root_from(records, records.len(), node_of(records, name))
 }
 
 /// The instrument and the side of a Trade.
@@ -89,65 +57,55 @@ fn traded_under(records: &[Record], number: Number) -> Option<Traded>
     }
 }
 
-/// What was traded by a node's trade.
-fn traded_at(records: &[Record], name: &NodeName) -> Option<Traded>
-    requires { RisesFrom 1 records.now }
-    ensures { result ≡ traded_at records.now name.now }
-{
-    match root_of(records, name) {
-        None => None,
-        Some(root) => traded_under(records, root.entry()),
-    }
-}
-
 /// So many lots of what was traded, in an account.
-fn held_at(place: &Option<Place>, traded: &Option<Traded>, lots: u64) -> Option<Holding>
-    ensures { result ≡ held_at place.now traded.now lots }
+fn held_at(place: &Place, traded: &Option<Traded>, lots: u64) -> Option<Holding>
+    ensures { result ≡ held_at (Some place.now) traded.now lots }
 {
-    match place {
+    match traded {
         None => None,
-        Some(place) => match traded {
-            None => None,
-            Some(traded) => Some(Holding {
-                key: Key {
-                    firm: place.firm,
-                    account: place.account,
-                    instrument: traded.instrument,
-                },
-                side: traded.side,
-                lots,
-            }),
-        },
+        Some(traded) => Some(Holding {
+            key: Key {
+                firm: place.firm,
+                account: place.account,
+                instrument: traded.instrument,
+            },
+            side: traded.side,
+            lots,
+        }),
     }
 }
 
 /// The lots of the node of this name, where it stands.
-fn holding_named(records: &[Record], name: &NodeName) -> Option<Holding>
+fn holding_named(records: &[Record], trees: &Trees<Global>, name: NodeName) -> Option<Holding>
     requires within { AllWithinLimits records.now }
-    requires rises { RisesFrom 1 records.now }
-    ensures value { result ≡ option_and_then (holding_of records.now) (node_of records.now name.now) }
+    requires trees { AreTreesOf records.now trees.now }
+    ensures value { result ≡ option_and_then (holding_of records.now) (node_of records.now name) }
     ensures lots { IfSome result (λ h. h.lots ≤ most_lots) }
 {
-    match node_of(records, name) {
+    match find(trees, name) {
         None => None,
-        Some(x) => held_at(
-            &place_of(records, &x.name),
-            &traded_at(records, &x.name),
-            x.lots,
+        Some(found) => held_at(
+            &found.head.place,
+            &traded_under(records, found.trade),
+            found.head.lots,
         ),
     }
 }
 
 /// What a command takes out of an account.
-pub(crate) fn taken_by(records: &[Record], command: &Command) -> Option<Holding>
+pub(crate) fn taken_by(
+    records: &[Record],
+    trees: &Trees<Global>,
+    command: &Command,
+) -> Option<Holding>
     requires within { AllWithinLimits records.now }
-    requires rises { RisesFrom 1 records.now }
+    requires trees { AreTreesOf records.now trees.now }
     ensures value { result ≡ taken_by records.now command.now }
     ensures lots { IfSome result (λ h. h.lots ≤ most_lots) }
 {
     match command {
-        Command::Split { node, .. } => holding_named(records, node),
-        Command::Claim { node, .. } => holding_named(records, node),
+        Command::Split { node, .. } => holding_named(records, trees, *node),
+        Command::Claim { node, .. } => holding_named(records, trees, *node),
         _ => None,
     }
 }

@@ -4,13 +4,16 @@ use gu_base::{Entry, Record};
 use gu_consent::Consents;
 use gu_fees::Fees;
 use gu_parties::House;
+use gu_tree::Trees;
+use std::alloc::Global;
 
-/// The house table, the history, its live changes, and what is kept beside them.
+/// The house table, the history, its live changes, their trees, and what is kept beside them.
 #[derive(Clone, Copy)]
 pub(crate) struct Standing<'a> {
     pub(crate) house: &'a House,
     pub(crate) entries: &'a [Entry],
     pub(crate) records: &'a [Record],
+    pub(crate) trees: &'a Trees<Global>,
     pub(crate) fees: &'a Fees,
     pub(crate) index: &'a Index,
     pub(crate) consents: &'a Consents,

@@ -8,6 +8,7 @@ use Rattle.gu_base.specs.Refusals.{refusal_of}
 use Rattle.gu_base.specs.declared.entry.Record.{Record}
 use Rattle.gu_base.specs.declared.refusal.Refusal.{Refusal}
 use Rattle.gu_book.specs.Filed.{IsFiled, IsNext}
+use Rattle.gu_book.specs.Found.{AreTreesOf}
 use Rattle.gu_book.specs.Holdings.{taken_by}
 use Rattle.gu_tree.specs.Grove.{Grove}
 use Rattle.gu_book.proofs.Charging.{fees_push, has_room}
@@ -19,14 +20,20 @@ no_refusal : (o : Option Refusal) → is_some o ≡ false → o ≡ None
 no_refusal None e = refl
 no_refusal (Some r) e = absurd (cc)
 
-pub change_refusal-requires-clause-rises : goal.change_refusal-requires-clause-rises
-change_refusal-requires-clause-rises c = rw c.as_slice.ensures.value (earlier 1 c.args.done.now.items c.args.r.now c.requires.rises).0
+-- the trees are those of what is done
+done_trees : (t : House) (done : List Record) (r : Record) (ts : Grove) → IsFiled done ts → first_refused t [] done ≡ None → RisesFrom 1 (done ++ r ∷ []) → AreTreesOf done ts
+done_trees t done r ts filed replayed rises = record { house = t; filed = filed; replayed = replayed; rises = (earlier 1 done r rises).0 }
+
+pub change_refusal-requires-clause-trees : goal.change_refusal-requires-clause-trees
+change_refusal-requires-clause-trees c =
+    rw c.as_slice.ensures.value (done_trees c.args.house.now c.args.done.now.items c.args.r.now c.args.trees.now c.requires.filed c.requires.replayed c.requires.rises)
 
 pub charge_of-charge-requires-clause-rises : goal.charge_of-charge-requires-clause-rises
 charge_of-charge-requires-clause-rises c = rw c.as_slice-2.ensures.value (earlier 1 c.args.done.now.items c.args.r.now c.requires.rises).0
 
-pub taken_by-taken-requires-clause-rises : goal.taken_by-taken-requires-clause-rises
-taken_by-taken-requires-clause-rises c = rw c.as_slice-3.ensures.value (earlier 1 c.args.done.now.items c.args.r.now c.requires.rises).0
+pub taken_by-taken-requires-clause-trees : goal.taken_by-taken-requires-clause-trees
+taken_by-taken-requires-clause-trees c =
+    rw c.as_slice-3.ensures.value (done_trees c.args.house.now c.args.done.now.items c.args.r.now c.args.trees.now c.requires.filed c.requires.replayed c.requires.rises)
 
 pub add-requires : goal.add-requires
 add-requires c =

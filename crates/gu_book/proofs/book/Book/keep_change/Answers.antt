@@ -2,7 +2,7 @@ use Rattle.std.proofs.Common.{◌≤◌, ◌∙◌, length, arith}
 use Rattle.gu_base.proofs.LiveLaws.{change_is_no_reverse}
 use Rattle.gu_book.proofs.Charging.{fees_push, has_room}
 use Rattle.gu_book.proofs.Indexed.{ids_back, index_put}
-use Rattle.gu_book.proofs.Keeps.{next_kept, kept_change, kept_alike, rises_kept}
+use Rattle.gu_book.proofs.Keeps.{next_kept, kept_change, kept_alike, rises_kept, trees_kept}
 use Rattle.gu_book.proofs.Standings.{has_taken, have_room, positions_push}
 use Rattle.gu_book.proofs.book.Book.keep_change.Goals as goal
 
@@ -10,9 +10,8 @@ pub charge_of-charge-requires-clause-rises : goal.charge_of-charge-requires-clau
 charge_of-charge-requires-clause-rises c =
     rw c.deref.ensures.value (rises_kept c.self.inside.house c.self.inside.entries.items c.self.inside.records.items c.self.inside.trees c.self.inside.consents c.self.invariant.kept)
 
-pub taken_by-taken-requires-clause-rises : goal.taken_by-taken-requires-clause-rises
-taken_by-taken-requires-clause-rises c =
-    rw c.deref-2.ensures.value (rises_kept c.self.inside.house c.self.inside.entries.items c.self.inside.records.items c.self.inside.trees c.self.inside.consents c.self.invariant.kept)
+pub taken_by-taken-requires-clause-trees : goal.taken_by-taken-requires-clause-trees
+taken_by-taken-requires-clause-trees c = rw c.deref-2.ensures.value (trees_kept c.self.invariant.kept)
 
 pub change-requires : goal.change-requires
 change-requires c =

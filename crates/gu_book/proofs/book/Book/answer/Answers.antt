@@ -1,0 +1,55 @@
+use Rattle.std.proofs.Common.{ℕ, sym, ◌∙◌, ap, Option, Some, None}
+use Rattle.std.specs.Prelude.{option_map}
+use Rattle.gu_base.specs.Answers.{Call, accepted_or}
+use Rattle.gu_base.specs.declared.command.Command.{Command}
+use Rattle.gu_base.specs.declared.refusal.Refusal.TheVariants.{StandsOn}
+use Rattle.gu_consent.specs.Given.{given}
+use Rattle.gu_book.specs.Front.{stands_refusal}
+use Rattle.gu_book.proofs.AllShown.{standing_found}
+use Rattle.gu_book.proofs.Fronts.{decided, settles, not_accepted, none_in_way}
+use Rattle.gu_book.proofs.Keeps.{trees_kept}
+use Rattle.gu_book.proofs.book.Book.answer.Goals as goal
+
+pub front_answer-answer-requires-clause-trees : goal.front_answer-answer-requires-clause-trees
+front_answer-answer-requires-clause-trees c = rw c.deref-2.ensures.value (trees_kept c.self.invariant.kept)
+
+pub returns-in_default : goal.returns-in_default
+returns-in_default c =
+    let call : Call = record { firm = c.args.by.now; id = c.args.id.now; command = c.args.command.now } in
+    let e = rw c.deref.ensures.value at c.front_answer-answer.ensures in
+    rw (← c.self.view_is)
+    ((settles c.self.inside.house c.self.inside.entries.items (given c.self.inside.consents) c.self.invariant.kept.consented call c.front_answer-answer.result e
+    (not_accepted c.front_answer-answer.result c.in_default.not-Accepted)).answered)
+
+pub returns-in_default-command : goal.returns-in_default-command
+returns-in_default-command c =
+    let call : Call = record { firm = c.args.by.now; id = c.args.id.now; command = c.args.command.now } in
+    let e = rw c.deref.ensures.value at c.front_answer-answer.ensures in
+    let d = decided c.self.inside.house c.self.inside.entries.items (given c.self.inside.consents) c.self.invariant.kept.consented call c.in-Accepted.number c.in-Accepted.status (sym e ∙ c.in-Accepted.is) in
+    rw (← c.self.view_is)
+    (c.in-Accepted.is ∙ sym (d.1 ∙ ap (accepted_or c.in-Accepted.number c.in-Accepted.status)
+    (none_in_way c.self.inside.house c.self.inside.entries.items c.args.command.now c.in_default-command.not-Reverse)))
+
+pub returns-in-Some : goal.returns-in-Some
+returns-in-Some c =
+    let call : Call = record { firm = c.args.by.now; id = c.args.id.now; command = c.args.command.now } in
+    let e = rw c.deref.ensures.value at c.front_answer-answer.ensures in
+    let n = c.in-Accepted.number in
+    let s = c.in-Accepted.status in
+    let d = decided c.self.inside.house c.self.inside.entries.items (given c.self.inside.consents) c.self.invariant.kept.consented call n s (sym e ∙ c.in-Accepted.is) in
+    let stands = standing_found c.self.invariant.kept c.in-Reverse.entry (Some c.in-Some.other) c.in-Some.ensures.first in
+    rw (← c.self.view_is)
+    (sym (d.1 ∙ (ap (λ (k : Command). accepted_or n s (stands_refusal c.self.inside.house c.self.inside.entries.items k)) c.in-Reverse.is
+    ∙ ap (λ (o : Option ℕ). accepted_or n s (option_map (λ k. StandsOn k) o)) (sym stands))))
+
+pub returns-in-None : goal.returns-in-None
+returns-in-None c =
+    let call : Call = record { firm = c.args.by.now; id = c.args.id.now; command = c.args.command.now } in
+    let e = rw c.deref.ensures.value at c.front_answer-answer.ensures in
+    let n = c.in-Accepted.number in
+    let s = c.in-Accepted.status in
+    let d = decided c.self.inside.house c.self.inside.entries.items (given c.self.inside.consents) c.self.invariant.kept.consented call n s (sym e ∙ c.in-Accepted.is) in
+    let stands = standing_found c.self.invariant.kept c.in-Reverse.entry None c.in-None.ensures.first in
+    rw (← c.self.view_is)
+    (c.in-Accepted.is ∙ sym (d.1 ∙ (ap (λ (k : Command). accepted_or n s (stands_refusal c.self.inside.house c.self.inside.entries.items k)) c.in-Reverse.is
+    ∙ ap (λ (o : Option ℕ). accepted_or n s (option_map (λ k. StandsOn k) o)) (sym stands))))

@@ -1,0 +1,36 @@
+-- What the trees say of a node.
+use Rattle.std.specs.Prelude.{◌≡◌, List, [], Option, Some, None, option_map}
+use Rattle.gu_base.specs.Numbers.{EntryPart}
+use Rattle.gu_base.specs.House.{House}
+use Rattle.gu_base.specs.History.{RisesFrom}
+use Rattle.gu_base.specs.Nodes.{node_of, split_of, decision_of}
+use Rattle.gu_base.specs.Places.{place_of, depth_of, root_of}
+use Rattle.gu_base.specs.Rows.{state_of}
+use Rattle.gu_base.specs.Standing.{first_refused}
+use Rattle.gu_base.specs.declared.entry.Record.{Record}
+use Rattle.gu_base.specs.declared.node.Node.{Node}
+use Rattle.gu_tree.specs.Grove.{Grove}
+use Rattle.gu_book.specs.Filed.{IsFiled}
+use Rattle.gu_book.specs.declared.found.Found.{Found}
+
+-- the trees are those of these changes, none of which a house refuses
+pub record AreTreesOf (l : List Record) (g : Grove) : Type 0 where
+  pub house : House
+  pub filed : IsFiled l g
+  pub replayed : first_refused house [] l ≡ None
+  pub rises : RisesFrom 1 l
+
+-- what was found of the node is what the changes say of it
+pub record IsFoundAs (l : List Record) (x : Node) (f : Found) : Type 0 where
+  pub node : node_of l x.name ≡ Some x
+  pub lots : f.head.lots ≡ x.lots
+  pub place : place_of l x.name ≡ Some f.head.place
+  pub state : f.head.state ≡ state_of x.kind (decision_of l x.name)
+  pub deep : depth_of l x.name ≡ f.depth
+  pub rooted : root_of l x.name ≡ Some (record { entry = f.trade; part = 0 })
+  pub split : f.split ≡ option_map (λ r. r.number) (split_of l x.name)
+
+-- the node of this name, if the changes make one
+abbrev pub IsFoundIn : List Record → EntryPart → Option Found → Type 0
+IsFoundIn l n None = node_of l n ≡ None
+IsFoundIn l n (Some f) = (x : Node) × (x.name ≡ n) × IsFoundAs l x f
