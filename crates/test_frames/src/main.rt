@@ -2,10 +2,13 @@
 //!
 //! Each line of standard input is a stream and how it comes: the size of its pieces, a space, and its bytes, in which `|` stands for SOH
 //! and `@` for 65,501 times `x`. The program pushes piece after piece into a feed and writes each answer that the feed gives
-//! between them, each refusal of a piece, and at last the feed's room.
+//! between them, each refusal of a piece, and at last the feed's room. Where the size is 0 it writes what is read of each front of the
+//! bytes, and of all of them, and which fields stand before the text (58). At last it writes three frames that the codec has written.
 #![tactic(auto)]
 
-use gu_codec::{Feed, FeedError, Fields, Frame};
+mod written;
+
+use gu_codec::{Feed, FeedError, Fields, Frame, read_frame, tags};
 use std::alloc::{AllocError, Global};
 use std::io::Read;
 use std::{io, str};
@@ -69,6 +72,21 @@ fn tell(rt: &impl Print, alloc: Global, size: usize, bytes: &[u8]) -> io::Result
     println!(rt; "room {}", feed.room())
 }
 
+/// Writes what is read of each front of the bytes, and which fields stand before the text.
+fn tell_fronts(rt: &impl Print, bytes: &[u8]) -> io::Result<()> {
+    for len in 0..bytes.len() {
+        show(rt, read_frame(&bytes[..len]))?;
+    }
+    show(rt, read_frame(bytes))?;
+    match read_frame(bytes) {
+        Frame::Whole { fields, .. } => {
+            print!(rt; "before the text")?;
+            show_fields(rt, fields.before(tags::TEXT))
+        }
+        _ => Ok(()),
+    }
+}
+
 /// Appends the bytes that a text stands for.
 fn append_bytes(out: &mut Vec<u8>, text: &[u8]) -> Result<(), AllocError> {
     for byte in text {
@@ -104,8 +122,12 @@ fn main(rt: HostRuntime) -> io::Result<()> {
         if let Some(text) = words.next() {
             bytes.clear();
             append_bytes(&mut bytes, text)?;
-            tell(&rt, alloc, size, &bytes)?;
+            if size == 0 {
+                tell_fronts(&rt, &bytes)?;
+            } else {
+                tell(&rt, alloc, size, &bytes)?;
+            }
         }
     }
-    Ok(())
+    written::tell(&rt, alloc)
 }

@@ -2,8 +2,12 @@
 //!
 //! Standard input holds house files, with a line `--` behind each. A file's text is what stands above that line, without the LF in front of
 //! it: a file that ends with LF has an empty line there. Of each file the program writes its first fault, or the entries of a copy of
-//! its table in their order, if the copy's look-ups are the table's, and then `--`.
+//! its table in their order, if the copy's look-ups are the table's, and then `--`. Behind them it writes what a small house answers, and what
+//! is told of files with as many lines as a house file may have, and more.
 #![tactic(auto)]
+
+mod long;
+mod small;
 
 use gu_base::Account;
 use gu_parties::House;
@@ -159,5 +163,7 @@ fn main(rt: HostRuntime) -> io::Result<()> {
     let alloc = rt.alloc();
     let mut input = Vec::new(alloc);
     rt.reader().read_to_end(&mut input)?;
-    tell_all(&rt, alloc, input.as_slice())
+    tell_all(&rt, alloc, input.as_slice())?;
+    small::tell(&rt, alloc)?;
+    long::tell(&rt, alloc)
 }
