@@ -1,7 +1,7 @@
 //! Whole days, line by line.
 
 use crate::calls::{Call, command, parts};
-use crate::twice::{tell_refused, twice};
+use crate::memory::{tell_refused, twice};
 use crate::words::{first_word, shown};
 use gu_base::{AllocId, FirmId};
 use gu_book::Book;

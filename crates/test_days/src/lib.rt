@@ -11,10 +11,10 @@
 
 mod calls;
 mod days;
-mod twice;
+mod memory;
 mod words;
 
 pub use calls::{Call, show_answer};
 pub use days::{Player, play, read_input};
-pub use twice::{tell_refused, twice};
+pub use memory::{tell_refused, twice};
 pub use words::{count_of, first_word, number_of, shown};
