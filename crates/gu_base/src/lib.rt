@@ -9,7 +9,7 @@
 //!   rows of a tree and lawful orders. They are filters, sums and a replay over flat lists.
 //! - `proofs/Worked.antt` computes small worked histories by these definitions, so that a change of a definition that
 //!   breaks one of them breaks the build.
-//! - Small cases of names, numbers, texts and copies stand in `tests.rt`.
+//! - Its cases are data of the program `test_names`.
 #![tactic(auto)]
 
 mod cells;
@@ -35,6 +35,3 @@ pub use numbers::{Lots, NodeName, Number, Rate};
 pub use refusal::Refusal;
 pub use report::{Report, ReportPart, ReportParts, Target};
 pub use state::State;
-
-#[cfg(test)]
-mod tests;

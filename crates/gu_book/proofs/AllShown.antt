@@ -1,9 +1,10 @@
 -- The filed trees show all live changes, so what stands on a change is read off them.
-use Rattle.std.proofs.Common.{◌≡◌, ℕ, ◌≤◌, true, false, ◌&&◌, List, [], ◌∷◌, refl, sym, ◌∙◌, ap, subst, arith, Option}
-use Rattle.std.specs.Prelude.{Some, None, find, ◌==◌, is_some, option_map, IfSome}
+use Rattle.std.proofs.Common.{◌+◌, Bool, length, get_or, not, cond, Contains, ◌-◌, ◌<◌, ◌≡◌, ℕ, ◌≤◌, true, false, ◌&&◌, List, [], ◌∷◌, refl, sym, ◌∙◌, ap, subst, arith, Option}
+use Rattle.std.specs.Prelude.{filter, Some, None, find, ◌==◌, is_some, option_map, IfSome}
 use Rattle.std.proofs.lemmas.Bool.Decides.{Decides-eqb}
+use Rattle.std.proofs.lemmas.Option.{same_Some}
 use Rattle.gu_base.specs.House.{House, knows_firm}
-use Rattle.gu_base.specs.History.{live, RisesFrom}
+use Rattle.gu_base.specs.History.{numbered_as, records, is_change, is_reversed, live, RisesFrom}
 use Rattle.gu_base.specs.Nodes.{node_of, nodes_of, same_name}
 use Rattle.gu_base.specs.Refusals.{unless}
 use Rattle.gu_base.specs.Standing.{IsLegal, standing_on}
@@ -20,7 +21,9 @@ use Rattle.gu_base.specs.declared.refusal.Refusal.TheVariants.{UnknownFirm, Need
 use Rattle.gu_base.proofs.Accepted.{first_none, allowed, open_from_none}
 use Rattle.gu_base.proofs.Basics.{no_some, mapped_none}
 use Rattle.gu_base.proofs.LegalLaws.{legal_from_replay}
-use Rattle.gu_base.proofs.Numbered.{found_at}
+use Rattle.gu_base.proofs.Numbered.{found_at, known_entry, rises_later}
+use Rattle.gu_base.proofs.Consenting.{not_reversed}
+use Rattle.gu_base.proofs.Searches.{found_in}
 use Rattle.gu_tree.specs.Rose.{Rose}
 use Rattle.gu_tree.specs.Grove.{Grove, tree_of}
 use Rattle.gu_tree.specs.Shown.{IsTreeOf}
@@ -65,26 +68,69 @@ all_shown {l} {g} filed = record {
 
 -- ---- what stands on a change of the book
 
-rises_lower : (l : List Record) → RisesFrom 1 l → RisesFrom 0 l
-rises_lower [] rises = tt
-rises_lower (r ∷ l) rises = let a : 1 ≤ r.number = rises.0 in (omega arith, rises.1)
-
 -- what the trees answer for each list that they show, they answer for the live changes
 pub standing_found : {t : House} {h : List Entry} {l : List Record} {g : Grove} {cs : Consents} → IsKept t h l g cs → (k : ℕ) (o : Option ℕ)
     → ((t : House) (l : List Record) → RisesFrom 0 l → IsLegal t l → ShowsAll l g → o ≡ standing_on t l k) → o ≡ standing_on t (live h) k
 standing_found {t} {h} {l} {g} {cs} kept k o first =
-    first t l (rises_lower l (rises_kept t h l g cs kept)) (legal_from_replay t l kept.replayed) (all_shown kept.filed)
+    first t l (rises_later 0 1 l (omega arith) (rises_kept t h l g cs kept)) (legal_from_replay t l kept.replayed) (all_shown kept.filed)
     ∙ ap (λ (l : List Record). standing_on t l k) kept.are_live
 
--- nothing stands on a change whose Reverse is accepted
-pub none_stands : (t : House) (h : List Entry) (e : Entry) (n k : ℕ) → answer_to t h (call_of e) ≡ Accepted n e.status → e.command ≡ Reverse k → standing_on t (live h) k ≡ None
-none_stands t h e n k ok same =
+-- ---- a change whose Reverse is accepted
+
+found_step : {X : Type 0} (p q : X → Bool) (y : X) (ys : List X) (x : X) → q x ≡ true → (find p ys ≡ Some x → find p (filter q ys) ≡ Some x)
+    → (b : Bool) → p y ≡ b → (d : Bool) → q y ≡ d → cond b (Some y) (find p ys) ≡ Some x → find p (cond d (y ∷ filter q ys) (filter q ys)) ≡ Some x
+found_step p q y ys x passes rest true is true keeps h = ap (λ b. cond b (Some y) (find p (filter q ys))) is ∙ h
+found_step p q y ys x passes rest true is false keeps h = let z : false ≡ true = sym keeps ∙ (ap q (same_Some y x h) ∙ passes) in absurd (cc)
+found_step p q y ys x passes rest false is true keeps h = ap (λ b. cond b (Some y) (find p (filter q ys))) is ∙ rest h
+found_step p q y ys x passes rest false is false keeps h = rest h
+
+found_kept : {X : Type 0} (p q : X → Bool) (xs : List X) (x : X) → find p xs ≡ Some x → q x ≡ true → find p (filter q xs) ≡ Some x
+found_kept p q [] x h passes = absurd (cc)
+found_kept p q (y ∷ ys) x h passes = found_step p q y ys x passes (λ e. found_kept p q ys x e passes) (p y) refl (q y) refl h
+
+-- it is live, and nothing stands on it
+pub record IsUndone (t : House) (h : List Entry) (k : ℕ) (r : Record) : Type 0 where
+  pub entry : entry_of h k ≡ Some r
+  pub from : 1 ≤ k
+  pub within : k < 1 + length h
+  pub among : Contains (live h) r
+  pub free : standing_on t (live h) k ≡ None
+
+pub undone : (t : House) (h : List Entry) (e : Entry) (n k : ℕ) → answer_to t h (call_of e) ≡ Accepted n e.status → e.command ≡ Reverse k → (r : Record) × IsUndone t h k r
+undone t h e n k ok same =
     let lawful = subst (λ (c : Command). command_refusal t h e.firm c ≡ None) same (allowed t h e n ok).lawful in
     let a = first_none (unless (knows_firm t e.firm) UnknownFirm) (on_change t h e.firm (reverse_rest t h) (entry_of h k) ∷ []) lawful in
     let b = first_none (on_change t h e.firm (reverse_rest t h) (entry_of h k)) [] a.1 in
     let o = open_from_none t h e.firm (reverse_rest t h) (entry_of h k) b.0 in
     let r : Record = o.0 in
+    let at = found_at k 1 h r o.1.found in
     let stands = option_map (λ m. StandsOn m) (standing_on t (live h) r.number) in
     let c = first_none (option_map (λ f. NeedsConsent f) (missing (parties_of t (live h) r.firm r.command) (consents_of h r.number))) (stands ∷ []) o.1.own in
     let d = first_none stands [] c.1 in
-    subst (λ m. standing_on t (live h) m ≡ None) (found_at k 1 h r o.1.found).number (mapped_none (λ m. StandsOn m) (standing_on t (live h) r.number) d.0)
+    let unreversed : is_reversed h r.number ≡ false = not_reversed r.number 1 h o.1.unreversed in
+    let passes : (is_change r.command && not (is_reversed h r.number)) ≡ true = ap (λ b. b && not (is_reversed h r.number)) o.1.is ∙ ap not unreversed in (
+      r,
+      record {
+        entry = o.1.found;
+        from = at.from;
+        within = at.within;
+        among = found_in (λ (q : Record). q.number == k) (live h) r (found_kept (λ (q : Record). q.number == k) (λ (q : Record). is_change q.command && not (is_reversed h q.number)) (records h) r o.1.found passes);
+        free = subst (λ m. standing_on t (live h) m ≡ None) at.number (mapped_none (λ m. StandsOn m) (standing_on t (live h) r.number) d.0);
+      },
+    )
+
+-- the entry at its place
+pub undone_entry : {t : House} {h : List Entry} {k : ℕ} {r : Record} → IsUndone t h k r → (d : Entry) → d ≡ get_or h (k - 1) d → r ≡ numbered_as k d
+undone_entry {h = h} {k = k} {r = r} u d is =
+    let from = u.from in
+    let within = u.within in
+    same_Some r (numbered_as k d) (sym u.entry ∙ known_entry h k d from (omega (arith, from, within)) is)
+
+module _ {t : House} {h : List Entry} {l : List Record} {g : Grove} {cs : Consents} (kept : IsKept t h l g cs) (e : Entry) (n k : ℕ) (ok : answer_to t h (call_of e) ≡ Accepted n e.status) (same : e.command ≡ Reverse k) where
+  pub undone_free : standing_on t l k ≡ None
+  undone_free = ap (λ (l : List Record). standing_on t l k) kept.are_live ∙ (undone t h e n k ok same).1.free
+
+  pub undone_among : (d : Entry) → d ≡ get_or h (k - 1) d → Contains l (numbered_as k d)
+  undone_among d is =
+      let u = undone t h e n k ok same in
+      subst (λ (l : List Record). Contains l (numbered_as k d)) (sym kept.are_live) (subst (λ (r : Record). Contains (live h) r) (undone_entry u.1 d is) u.1.among)

@@ -1,10 +1,11 @@
 -- The running sums of what the live claims cost, with one change more.
-use Rattle.std.proofs.Common.{◌≡◌, ℕ, ◌+◌, ◌*◌, ◌≤◌, Bool, List, [], ◌∷◌, ◌++◌, length, sym, ◌∙◌, ap, subst, arith, Option}
+use Rattle.std.proofs.Common.{◌≡◌, ℕ, ◌+◌, ◌*◌, ◌≤◌, Bool, true, cond, refl, List, [], ◌∷◌, ◌++◌, length, sym, ◌∙◌, ap, subst, arith, Option}
 use Rattle.std.specs.Prelude.{Some, None, filter, filter_map, sum_by, bytes_eq, ◌&&◌, IfSome}
 use Rattle.std.specs.List.{All, cons_option}
 use Rattle.std.proofs.Math.Nat.{mul-le-mul, mul-le-mul_right}
-use Rattle.std.proofs.lemmas.List.Elements.{All-nil, All-cons, All-append, All-filter, All-weaker}
-use Rattle.std.proofs.lemmas.List.Sums.{sum_by-le, length-filter, count_by-le-length}
+use Rattle.std.proofs.lemmas.List.Elements.{All-nil, All-cons, All-append, All-filter, All-weaker, filter-append}
+use Rattle.std.proofs.lemmas.List.Sums.{sum_by-le, sum_by-append, sum_by-cons, length-filter, count_by-le-length}
+use Rattle.std.proofs.lemmas.Slice.Eq.{bytes_eq-Decides}
 use Rattle.gu_base.specs.House.{House}
 use Rattle.gu_base.specs.Limits.{most_lots, highest_rate}
 use Rattle.gu_base.specs.Fees.{charges, charge_of}
@@ -21,7 +22,7 @@ use Rattle.gu_fees.specs.Rows.{FeeRows, paid_in, received_in, used_in}
 use Rattle.gu_fees.specs.Sums.{AreSumsOf, cost}
 use Rattle.gu_tree.specs.Grove.{Grove}
 use Rattle.gu_book.specs.Filed.{IsNext}
-use Rattle.gu_book.specs.Charging.{IsSmallCharge, AreFeesOf, IsReadyFor, HasRoomFor}
+use Rattle.gu_book.specs.Charging.{IsSmallCharge, AreFeesOf, IsReadyFor, HasRoomFor, IsCharged}
 
 -- the same sums
 pub sums_same : (old new : FeeRows) → ((firm : List ℕ) → paid_in new firm ≡ paid_in old firm) → ((firm : List ℕ) → received_in new firm ≡ received_in old firm)
@@ -105,4 +106,29 @@ has_room t l fees are few now same (Some c) lots rate ready =
       paid = omega (arith, own, paid, paid_most);
       received = omega (arith, own, received, received_most);
       used = omega (arith, lots, used, used_most);
+    }
+
+-- ---- what is there
+
+own_part : (w : Charge → ℕ) (takes : Charge → Bool) (cs : List Charge) (c : Charge) → takes c ≡ true → w c ≤ sum_by w (filter takes (cs ++ c ∷ []))
+own_part w takes cs c own =
+    let a = ap (sum_by w) (filter-append takes cs (c ∷ [])) in
+    let b = sum_by-append w (filter takes cs) (filter takes (c ∷ [])) in
+    let d = ap (λ b. sum_by w (cond b (c ∷ []) [])) own in
+    let e = sum_by-cons w c [] in
+    omega (arith, a, b, d, e)
+
+-- a charge that the sums have can be taken out
+pub is_charged : (fees : FeeRows) (cs : List Charge) (o : Option Charge) → AreSumsOf fees (cs ++ cons_option o []) → IfSome o (λ c. c.lots ≤ most_lots) → IfSome o (λ c. c.rate ≤ highest_rate) → IsCharged fees o
+is_charged fees cs None sums lots rate = tt
+is_charged fees cs (Some c) sums lots rate =
+    let small = small_cost c lots rate in
+    let giver : bytes_eq c.giver c.giver ≡ true = (bytes_eq-Decides c.giver c.giver).1 refl in
+    let taker : bytes_eq c.taker c.taker ≡ true = (bytes_eq-Decides c.taker c.taker).1 refl in
+    record {
+      fits = omega (arith, small);
+      paid = subst (λ n. cost c ≤ n) (sym (sums.paid c.taker)) (own_part cost (λ d. bytes_eq d.taker c.taker) cs c taker);
+      received = subst (λ n. cost c ≤ n) (sym (sums.received c.giver)) (own_part cost (λ d. bytes_eq d.giver c.giver) cs c giver);
+      used = subst (λ n. c.lots ≤ n) (sym (sums.used c.giver c.taker))
+          (own_part (λ d. d.lots) (λ d. bytes_eq d.giver c.giver && bytes_eq d.taker c.taker) cs c (ap (λ b. b && bytes_eq c.taker c.taker) giver ∙ taker));
     }

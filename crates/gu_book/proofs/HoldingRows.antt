@@ -1,6 +1,8 @@
 -- Running rows of positions, into which holdings are put one by one.
-use Rattle.std.proofs.Common.{◌≡◌, ℕ, ◌+◌, ◌<◌, ◌≤◌, Bool, true, false, ◌&&◌, List, [], ◌∷◌, ◌++◌, length, take, drop, get_or, sym, ◌∙◌, ap, arith, Option, cond, append-nil}
-use Rattle.std.specs.Prelude.{Some, None, filter_map, sum_by, IfSome}
+use Rattle.std.proofs.Common.{refl, ◌≡◌, ℕ, ◌+◌, ◌<◌, ◌≤◌, Bool, true, false, ◌&&◌, List, [], ◌∷◌, ◌++◌, length, take, drop, get_or, sym, ◌∙◌, ap, arith, Option, cond, append-nil}
+use Rattle.std.specs.Prelude.{Some, None, filter_map, sum_by, IfSome, bytes_eq}
+use Rattle.gu_base.specs.declared.command.Side.TheVariants.{Buy, Sell}
+use Rattle.std.proofs.lemmas.Slice.Eq.{bytes_eq-Decides}
 use Rattle.std.specs.List.{cons_option}
 use Rattle.std.proofs.lemmas.List.{take_more}
 use Rattle.std.proofs.lemmas.List.Elements.{All-head, All-tail, All-push, All-weaker, filter_map-append}
@@ -10,7 +12,7 @@ use Rattle.gu_base.specs.declared.command.Side.{Side}
 use Rattle.gu_base.specs.declared.node.Place.{Place}
 use Rattle.gu_positions.specs.Rows.{PositionRows, lots_in, is_key, IsReady, CanAdd}
 use Rattle.gu_positions.specs.declared.positions.Key.{Key}
-use Rattle.gu_book.specs.Holdings.{held_at, counted_at, AreReady, HaveRoom, HaveMoved}
+use Rattle.gu_book.specs.Holdings.{held_at, counted_at, AreReady, HaveRoom, HaveMoved, HaveThere, HasPlace}
 use Rattle.gu_book.specs.declared.plain.holdings.Holding.{Holding}
 use Rattle.gu_book.specs.declared.plain.holdings.Traded.{Traded}
 use Rattle.gu_book.proofs.Steps.{drop_here}
@@ -87,3 +89,50 @@ pub held_small : (o : Option Place) (w : Option Traded) (n most : ℕ) → n ≤
 held_small None w n most h = tt
 held_small (Some p) None n most h = tt
 held_small (Some p) (Some w) n most h = h
+
+-- ---- holdings that are taken out one by one
+
+pub is_own_key : (k : Key) (s : Side) → (is_key k k && same_side s s) ≡ true
+is_own_key k s = ap (λ b. b && same_side s s) keys ∙ sides s
+  where
+    bytes : (b : List ℕ) → bytes_eq b b ≡ true
+    bytes b = (bytes_eq-Decides b b).1 refl
+
+    keys : is_key k k ≡ true
+    keys =
+        ap (λ b. b && (bytes_eq k.account k.account && bytes_eq k.instrument k.instrument)) (bytes k.firm)
+        ∙ (ap (λ b. b && bytes_eq k.instrument k.instrument) (bytes k.account) ∙ bytes k.instrument)
+
+    sides : (s : Side) → same_side s s ≡ true
+    sides Buy = refl
+    sides Sell = refl
+
+pub can_take : (rows : PositionRows) (h : Holding) (hs : List Holding) → HaveThere rows (h ∷ hs) → h.lots ≤ lots_in rows h.key h.side
+can_take rows h hs there =
+    let a = there h.key h.side in
+    let b = sum_by-cons (counted_at h.key h.side) h hs in
+    let c = ap (λ b. cond b h.lots 0) (is_own_key h.key h.side) in
+    omega (arith, a, b, c)
+
+-- the others are there still
+pub there_left : (old new : PositionRows) (h : Holding) (hs : List Holding) → HaveThere old (h ∷ hs) → ((at : Key) (s : Side) → lots_in new at s + counted_at at s h ≡ lots_in old at s) → HaveThere new hs
+there_left old new h hs there taken at side =
+    let a = there at side in
+    let b = sum_by-cons (counted_at at side) h hs in
+    let c = taken at side in
+    omega (arith, a, b, c)
+
+pub back_here : (new old : PositionRows) (first total : ℕ) (h : Holding) (hs : List Holding) (at : Key) (side : Side) → lots_in new at side + counted_at at side h ≡ lots_in old at side
+    → first + sum_by (counted_at at side) (h ∷ hs) ≡ lots_in old at side + total → first + sum_by (counted_at at side) hs ≡ lots_in new at side + total
+back_here new old first total h hs at side taken moved = let sum = sum_by-cons (counted_at at side) h hs in omega (arith, sum, taken, moved)
+
+-- what was taken has its place again
+pub can_put_back : (old now : PositionRows) (h : Holding) (hs : List Holding) → HasPlace old h hs → HaveMoved now old None hs → ((at : Key) → IsReady old at → IsReady now at) → CanAdd now h.key h.side h.lots
+can_put_back old now h hs place moved stays =
+    let a = moved h.key h.side in
+    let b = place.fits in
+    record { ready = (stays h.key place.ready).rows h.side; fits = omega (arith, a, b) }
+
+pub removed_then_back : (old now new : PositionRows) (h : Holding) (hs : List Holding) → HaveMoved now old None hs → ((at : Key) (s : Side) → lots_in new at s ≡ lots_in now at s + counted_at at s h)
+    → HaveMoved new old (Some h) hs
+removed_then_back old now new h hs moved added = λ at side. let a = moved at side in let b = added at side in omega (arith, a, b)

@@ -4,6 +4,7 @@ use Rattle.std.specs.Prelude.{Some, None, find, filter, filter_map, map, sum_by,
 use Rattle.std.specs.Option.{option_or}
 use Rattle.std.specs.List.{cons_option}
 use Rattle.std.proofs.Math.Bool.{and-false, or-true}
+use Rattle.std.proofs.lemmas.Bool.{false_from_ne_true}
 use Rattle.std.proofs.lemmas.List.Elements.{All-weaker, All-contains}
 use Rattle.std.proofs.lemmas.List.Folds.{find-append}
 use Rattle.std.proofs.lemmas.List.Sums.{sum_by-cons}
@@ -45,7 +46,7 @@ use Rattle.gu_book.specs.Holdings.{traded_by, traded_at, held_at, holding_of, ta
 use Rattle.gu_book.specs.declared.plain.holdings.Holding.{Holding}
 use Rattle.gu_book.specs.declared.plain.holdings.Traded.{Traded}
 use Rattle.gu_book.proofs.Leaves.{sum_of_names, found_member}
-use Rattle.gu_book.proofs.Sound.{Sound, IsSoundNext, none_yet, split_push, unsplit_push, found_here}
+use Rattle.gu_book.proofs.Sound.{Sound, IsSoundNext, split_push, node_push}
 use Rattle.gu_book.proofs.Sums.{sum_agree, sum_zero, one_takes}
 
 -- ---- what was traded
@@ -214,8 +215,9 @@ given_parent (Given m _ _) h = (m, refl)
 pub record IsCounted (t : House) (l : List Record) (r : Record) : Type 0 where
   pub last : IsBefore t l r
   pub bound : ℕ
-  pub behind : bound ≤ r.number
   pub sound : Sound l bound
+  pub unmade : (n : EntryPart) → n.entry ≡ r.number → node_of l n ≡ None
+  pub unsplit : (n : EntryPart) → n.entry ≡ r.number → split_of l n ≡ None
   pub next : IsSoundNext l r
   pub settled : All (Settled t l) l
   pub stand : (x : Node) → node_of l x.name ≡ Some x → (p : Place) × (place_of l x.name ≡ Some p)
@@ -233,6 +235,16 @@ undecided_yet l n named none =
     none_is_some (node_of l n) y.0 none y.1)
 
 module _ {t : House} {l : List Record} {r : Record} (c : IsCounted t l r) where
+  -- the nodes that the change makes are new
+  made_here : (x : Node) → made_of r x.name ≡ Some x → node_of (l ++ r ∷ []) x.name ≡ Some x
+  made_here x e = node_push l r x.name ∙ (ap (λ o. option_or o (made_of r x.name)) (c.unmade x.name (c.next.own_number x.name x e)) ∙ e)
+
+  -- and it splits none of them
+  whole_here : (n : EntryPart) → n.entry ≡ r.number → split_of (l ++ r ∷ []) n ≡ None
+  whole_here n own =
+      let unnamed : splits n r.command ≡ false = false_from_ne_true (splits n r.command) (λ is. let y = c.next.splits_here n is in none_is_some (node_of l n) y.0 (c.unmade n own) y.1) in
+      split_push l r n ∙ (ap (λ o. option_or o (cond (splits n r.command) (Some r) None)) (c.unsplit n own) ∙ ap (λ b. cond b (Some r) None) unnamed)
+
   -- the line of a node above which stands a node of the list
   line_up : (x y : Node) (m : EntryPart) → node_of (l ++ r ∷ []) x.name ≡ Some x → parent x.kind ≡ Some m → node_of l m ≡ Some y → line_of (l ++ r ∷ []) x.name ≡ x ∷ line_of (l ++ r ∷ []) m
   line_up x y m found up there =
@@ -308,8 +320,8 @@ trade_balances t l k by id firm account instrument side lots status c at i s =
     let r : Record = record { number = k; firm = by; id = id; command = Trade firm account instrument side lots; status = status } in
     let n : EntryPart = record { entry = k; part = 0 } in
     let x : Node = record { name = n; lots = lots; kind = Root (record { firm = firm; account = account }) } in
-    let whole = unsplit_push l c.bound r c.sound c.behind c.next n (omega arith) in
-    let found : node_of (l ++ r ∷ []) n ≡ Some x = found_here l c.bound r c.sound c.behind c.next x (ap (λ b. cond b (Some x) None) (name_same n)) in
+    let whole = whole_here c n refl in
+    let found : node_of (l ++ r ∷ []) n ≡ Some x = made_here c x (ap (λ b. cond b (Some x) None) (name_same n)) in
     let line : line_of (l ++ r ∷ []) n ≡ x ∷ [] =
     ap (line_within (length (l ++ r ∷ [])) (l ++ r ∷ [])) found ∙ (ap (λ f. line_within f (l ++ r ∷ []) (Some x)) (pushed_length l r) ∙ root_line (length l) (l ++ r ∷ []) x refl) in
     let stands : place_of (l ++ r ∷ []) n ≡ Some (record { firm = firm; account = account }) = ap (place_along (l ++ r ∷ [])) line in
@@ -390,11 +402,10 @@ split_balances t l k by id m ps status x c there whole at i s =
     All-weaker (λ (y : Node). made_of r y.name ≡ Some y) (λ (y : Node). lots_at (l ++ r ∷ []) at i s y ≡ taken_at (key_at at i) s (held_at (place_of_kind y.kind None (Some p.0)) w y.lots))
     (λ y e.
     let own : y.name.entry ≡ k = c.next.own_number y.name y e in
-    let here = found_here l c.bound r c.sound c.behind c.next y e in
+    let here = made_here c y e in
     let up = part_parent y.name m k 1 by ps y e in
-    let unsplit = unsplit_push l c.bound r c.sound c.behind c.next y.name (omega (arith, own)) in
-    let behind : c.bound ≤ k = c.behind in
-    let undecided = undecided_yet l y.name c.last.grown.named (none_yet l c.bound y.name c.sound (omega (arith, own, behind))) in
+    let unsplit = whole_here c y.name own in
+    let undecided = undecided_yet l y.name c.last.grown.named (c.unmade y.name own) in
     let claims : claim_of (l ++ r ∷ []) y.name ≡ None = ap (option_and_then (λ d. claimed_account d.command)) (sym (decision_kept c y.name refl) ∙ undecided) in
     lots_held (l ++ r ∷ []) at i s y (place_of_kind y.kind None (Some p.0)) w unsplit
     (place_up c y x m None here up there claims ∙ ap (place_of_kind y.kind None) moved_place)

@@ -33,7 +33,6 @@ use Rattle.gu_base.proofs.Accepted.{first_none, change_refused, IsAllowed, allow
 use Rattle.gu_base.proofs.RunLaws.{IsRun, run_push}
 use Rattle.gu_base.proofs.Numbered.{found_at, length_numbered}
 use Rattle.gu_book.specs.Limits.{IsWithinLimits, AllWithinLimits}
-use Rattle.gu_book.specs.Replays.{IsLegalWithout}
 use Rattle.gu_consent.specs.Given.{given}
 use Rattle.gu_consent.specs.declared.Consents.{Consents}
 use Rattle.gu_book.proofs.Filed.{filed_none, same_filed}
@@ -156,11 +155,11 @@ module _ {t : House} {h : List Entry} {l : List Record} {ts : Grove} {cs : Conse
 
   -- ---- a Reverse
 
-  pub kept_reverse : (k : ℕ) → e.command ≡ Reverse k → (ls : List Record) (us : Grove) → IsLegalWithout t l k ls us
+  pub kept_reverse : (k : ℕ) → e.command ≡ Reverse k → (ls : List Record) (us : Grove) → ls ≡ without l k → IsFiled (without l k) us
       → (ds : Consents) → ((m : ℕ) → given ds m ≡ cond (m == k) [] (given cs m)) → IsKept t (h ++ e ∷ []) ls us ds
-  kept_reverse k same ls us legal ds less =
-      kept_next ls us ds (legal.others_are ∙ (ap (λ (l : List Record). without l k) kept.are_live ∙ sym (live_push_reverse h e k same)))
-      (subst AllWithinLimits (sym legal.others_are) (without_small k l kept.within)) (subst (λ (l : List Record). IsFiled l us) (sym legal.others_are) legal.filed)
+  kept_reverse k same ls us others filed ds less =
+      kept_next ls us ds (others ∙ (ap (λ (l : List Record). without l k) kept.are_live ∙ sym (live_push_reverse h e k same)))
+      (subst AllWithinLimits (sym others) (without_small k l kept.within)) (subst (λ (l : List Record). IsFiled l us) (sym others) filed)
       (λ m. less m ∙ (ap (λ fs. cond (m == k) [] fs) (kept.consented m) ∙ left_reverse h e k m same))
 
 -- the consents alone have changed, and not in what they say

@@ -28,4 +28,5 @@ pub mod Filed
 pub mod FiledChanges
 pub mod FoundAs
 pub mod AllShown
+pub mod Undoing
 pub mod Crossing

@@ -1,19 +1,18 @@
 -- The running rows of positions, with one change more.
-use Rattle.std.proofs.Common.{◌≡◌, ℕ, ◌+◌, ◌*◌, ◌≤◌, Bool, true, false, not, ◌&&◌, List, [], ◌∷◌, ◌++◌, length, refl, ◌∙◌, ap, arith, Option, cond}
+use Rattle.std.proofs.Common.{◌≡◌, ℕ, ◌+◌, ◌*◌, ◌≤◌, Bool, true, false, not, ◌&&◌, List, [], ◌∷◌, ◌++◌, length, refl, ap, arith, Option, cond}
 use Rattle.std.specs.Prelude.{Some, None, filter_map, sum_by, is_none, option_map, bytes_eq, IfSome}
 use Rattle.std.specs.List.{cons_option}
 use Rattle.std.proofs.Math.Nat.{mul-le-mul_right}
 use Rattle.std.proofs.lemmas.List.Elements.{All-head, All-tail}
 use Rattle.std.proofs.lemmas.List.Filters.{sum_by-filter_both}
 use Rattle.std.proofs.lemmas.List.Sums.{sum_by-le, sum_by-cons, sum_by-append, sum_by-le-sum_by}
-use Rattle.std.proofs.lemmas.Slice.Eq.{bytes_eq-Decides}
 use Rattle.gu_base.specs.House.{House}
+use Rattle.gu_base.specs.Standing.{first_refused}
 use Rattle.gu_base.specs.Numbers.{EntryPart}
 use Rattle.gu_base.specs.Nodes.{nodes, nodes_of, nodes_of_parts, kind_of_part, split_of}
-use Rattle.gu_base.specs.Positions.{position_of, same_side, stands_at, trades_in}
+use Rattle.gu_base.specs.Positions.{position_of, stands_at, trades_in}
 use Rattle.gu_base.specs.declared.command.Part.{Part}
 use Rattle.gu_base.specs.declared.command.Side.{Side}
-use Rattle.gu_base.specs.declared.command.Side.TheVariants.{Buy, Sell}
 use Rattle.gu_base.specs.declared.command.Command.{Command}
 use Rattle.gu_base.specs.declared.command.Command.TheVariants.{Trade, Split, Claim, Refuse, Cancel, Initiate, Decline, Reverse}
 use Rattle.gu_base.specs.declared.entry.Record.{Record}
@@ -28,7 +27,7 @@ use Rattle.gu_depend.proofs.LastMoves.{moves_its_own, is_before, position_is}
 use Rattle.gu_depend.proofs.Replay.{number_once}
 use Rattle.gu_depend.proofs.Settled.{facts}
 use Rattle.gu_depend.proofs.StandsUnder.{rises_distinct}
-use Rattle.gu_positions.specs.Rows.{PositionRows, is_key}
+use Rattle.gu_positions.specs.Rows.{PositionRows}
 use Rattle.gu_positions.specs.Sums.{AreSumsOf}
 use Rattle.gu_positions.specs.declared.positions.Key.{Key}
 use Rattle.gu_tree.specs.Grove.{Grove}
@@ -36,35 +35,58 @@ use Rattle.gu_book.specs.Filed.{IsNext}
 use Rattle.gu_book.specs.Holdings.{taken_by, part_holding, added_by, counted_at, taken_at, HasTaken, AreReady, HaveRoom, SameLots, HaveMoved, ArePositionsOf}
 use Rattle.gu_book.specs.Limits.{PartsWithinLimits, IsWithinLimits, AllWithinLimits}
 use Rattle.gu_book.specs.declared.plain.holdings.Holding.{Holding}
+use Rattle.gu_book.proofs.HoldingRows.{is_own_key}
 use Rattle.gu_book.proofs.Holdings.{IsCounted, balances, key_at}
 use Rattle.gu_book.proofs.Orders.{sound_before}
+use Rattle.gu_book.proofs.Sound.{none_yet}
 use Rattle.gu_book.proofs.Leaves.{sound_first}
 use Rattle.gu_book.proofs.Placed.{node_stands}
 use Rattle.gu_book.proofs.Refused.{accepted_small}
 use Rattle.gu_book.proofs.SoundNext.{next_from_accepted}
 
+-- ---- a change behind others
+
+module _ {t : House} {l : List Record} {r : Record} (c : IsCounted t l r) (legal : first_refused t [] (l ++ r ∷ []) ≡ None) where
+  -- the positions have lost what was taken and have what was added
+  pub moved_by : (at : Place) (instrument : List ℕ) (side : Side)
+      → position_of (l ++ r ∷ []) at.firm at.account instrument side + taken_at (key_at at instrument) side (taken_by l r.command)
+      ≡ position_of l at.firm at.account instrument side + sum_by (counted_at (key_at at instrument) side) (added_by r.firm r.command (taken_by l r.command))
+  moved_by at instrument side =
+      let moved = (moves_its_own t l r c.last.once legal).positions at instrument side in
+      let even = (balances t l r.number r.firm r.id r.command r.status c at instrument side).equal in
+      omega (arith, moved, even)
+
+  -- what it takes is part of the position
+  pub taken_part : (at : Place) (instrument : List ℕ) (side : Side)
+      → taken_at (key_at at instrument) side (taken_by l r.command) ≤ position_of l at.firm at.account instrument side
+  taken_part at instrument side =
+      let even = (balances t l r.number r.firm r.id r.command r.status c at instrument side).there in
+      let whole = position_is l at instrument side in
+      let both = sum_by-filter_both (λ (x : Node). names x.name r.command) (λ (x : Node). not (names x.name r.command)) (λ x. refl) (lots_at l at instrument side) (nodes l) in
+      omega (arith, even, whole, both)
+
+-- ---- one that may follow
+
 module _ {t : House} {l : List Record} {r : Record} {ts : Grove} (next : IsNext t l r ts) where
   counted : IsCounted t l r
   counted =
       let s = sound_before t [] l r 1 (omega arith) sound_first next.replayed next.rises in
+      let behind : s.0 ≤ r.number = s.2 in
       record {
         last = is_before t l r (number_once (l ++ r ∷ []) (rises_distinct 1 (l ++ r ∷ []) next.rises)) (replay_push t [] l r next.replayed next.lawful);
         bound = s.0;
-        behind = s.2;
         sound = s.3;
+        unmade = λ n own. none_yet l s.0 n s.3 (omega (arith, own, behind));
+        unsplit = λ n own. s.3.unsplit n (omega (arith, own, behind));
         next = next_from_accepted t l r (let a : 1 ≤ s.0 = s.1 in let b : s.0 ≤ r.number = s.2 in omega (arith, a, b)) next.lawful;
         settled = (facts t l next.replayed).settled;
         stand = λ x e. let p = node_stands t l s.0 s.3 next.replayed x e in (p.place, p.is);
       }
 
-  -- the positions have lost what was taken and have what was added
-  pub position_moved : (at : Place) (instrument : List ℕ) (side : Side)
+  position_moved : (at : Place) (instrument : List ℕ) (side : Side)
       → position_of (l ++ r ∷ []) at.firm at.account instrument side + taken_at (key_at at instrument) side (taken_by l r.command)
       ≡ position_of l at.firm at.account instrument side + sum_by (counted_at (key_at at instrument) side) (added_by r.firm r.command (taken_by l r.command))
-  position_moved at instrument side =
-      let moved = (moves_its_own t l r (number_once (l ++ r ∷ []) (rises_distinct 1 (l ++ r ∷ []) next.rises)) (replay_push t [] l r next.replayed next.lawful)).positions at instrument side in
-      let even = (balances t l r.number r.firm r.id r.command r.status counted at instrument side).equal in
-      omega (arith, moved, even)
+  position_moved = moved_by counted (replay_push t [] l r next.replayed next.lawful)
 
   pub positions_push : (rows now new : PositionRows) → ArePositionsOf l rows → SameLots rows now → (o : Option Holding) → o ≡ taken_by l r.command → HaveMoved now new o (added_by r.firm r.command o) → ArePositionsOf (l ++ r ∷ []) new
   positions_push rows now new are same o is moved = record {
@@ -84,30 +106,10 @@ no_positions rows are = record { lots = λ at side. are.lots at side }
 
 -- ---- what is there, and what has room
 
-is_own_key : (k : Key) (s : Side) → (is_key k k && same_side s s) ≡ true
-is_own_key k s = ap (λ b. b && same_side s s) keys ∙ sides s
-  where
-    bytes : (b : List ℕ) → bytes_eq b b ≡ true
-    bytes b = (bytes_eq-Decides b b).1 refl
-
-    keys : is_key k k ≡ true
-    keys =
-        ap (λ b. b && (bytes_eq k.account k.account && bytes_eq k.instrument k.instrument)) (bytes k.firm)
-        ∙ (ap (λ b. b && bytes_eq k.instrument k.instrument) (bytes k.account) ∙ bytes k.instrument)
-
-    sides : (s : Side) → same_side s s ≡ true
-    sides Buy = refl
-    sides Sell = refl
-
 module _ {t : House} {l : List Record} {r : Record} {ts : Grove} (next : IsNext t l r ts) where
-  -- what a change takes is part of the position
   taken_there : (at : Place) (instrument : List ℕ) (side : Side)
       → taken_at (key_at at instrument) side (taken_by l r.command) ≤ position_of l at.firm at.account instrument side
-  taken_there at instrument side =
-      let even = (balances t l r.number r.firm r.id r.command r.status (counted next) at instrument side).there in
-      let whole = position_is l at instrument side in
-      let both = sum_by-filter_both (λ (x : Node). names x.name r.command) (λ (x : Node). not (names x.name r.command)) (λ x. refl) (lots_at l at instrument side) (nodes l) in
-      omega (arith, even, whole, both)
+  taken_there = taken_part (counted next) (replay_push t [] l r next.replayed next.lawful)
 
   pub has_taken : (rows now : PositionRows) → ArePositionsOf l rows → SameLots rows now → (o : Option Holding) → o ≡ taken_by l r.command → HasTaken now o
   has_taken rows now are same None is = tt
@@ -159,7 +161,7 @@ all_lots (r ∷ l) all =
     let c = all_lots l (All-tail (λ r. IsWithinLimits r.command) r l all) in
     omega (arith, a, b, c)
 
-position_within : (l : List Record) → AllWithinLimits l → (at : Place) (instrument : List ℕ) (side : Side) → position_of l at.firm at.account instrument side ≤ length l * 1000000000
+pub position_within : (l : List Record) → AllWithinLimits l → (at : Place) (instrument : List ℕ) (side : Side) → position_of l at.firm at.account instrument side ≤ length l * 1000000000
 position_within l all at instrument side =
     let a = position_is l at instrument side in
     let b = sum_by-le-sum_by (lots_at l at instrument side) (λ (x : Node). x.lots) (nodes l)

@@ -6,7 +6,7 @@ use Rattle.gu_base.specs.House.{House}
 use Rattle.gu_base.specs.Fees.{charges}
 use Rattle.gu_base.specs.declared.entry.Record.{Record}
 use Rattle.gu_base.specs.declared.node.Charge.{Charge}
-use Rattle.gu_fees.specs.Rows.{FeeRows, IsReady, CanCharge}
+use Rattle.gu_fees.specs.Rows.{FeeRows, IsReady, CanCharge, CanUncharge}
 use Rattle.gu_fees.specs.Sums.{AreSumsOf}
 
 -- at most 10,000,000 lots, at a rate of at most 100,000
@@ -28,3 +28,8 @@ IsReadyFor fees (Some c) = IsReady fees c.giver c.taker
 abbrev pub HasRoomFor : FeeRows → Option Charge → Type 0
 HasRoomFor fees None = Unit {0}
 HasRoomFor fees (Some c) = CanCharge fees c.giver c.taker c.lots c.rate
+
+-- each sum has it, if there is one
+abbrev pub IsCharged : FeeRows → Option Charge → Type 0
+IsCharged fees None = Unit {0}
+IsCharged fees (Some c) = CanUncharge fees c.giver c.taker c.lots c.rate

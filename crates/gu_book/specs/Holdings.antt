@@ -89,6 +89,24 @@ SameLots old new = (at : Key) (side : Side) → lots_in new at side ≡ lots_in 
 abbrev pub HaveMoved : PositionRows → PositionRows → Option Holding → List Holding → Type 0
 HaveMoved old new taken added = (at : Key) (side : Side) → lots_in new at side + taken_at at side taken ≡ lots_in old at side + sum_by (counted_at at side) added
 
+-- all of these holdings are there
+abbrev pub HaveThere : PositionRows → List Holding → Type 0
+HaveThere rows hs = (at : Key) (side : Side) → sum_by (counted_at at side) hs ≤ lots_in rows at side
+
+-- the row of what was taken is there, if something was
+abbrev pub IsReadyTaken : PositionRows → Option Holding → Type 0
+IsReadyTaken rows None = Unit {0}
+IsReadyTaken rows (Some h) = IsReady rows h.key
+
+-- it is, and has room for it once the holdings are gone
+pub record HasPlace (rows : PositionRows) (h : Holding) (hs : List Holding) : Type 0 where
+  pub ready : IsReady rows h.key
+  pub fits : lots_in rows h.key h.side + h.lots < 2 ^ 64 + sum_by (counted_at h.key h.side) hs
+
+abbrev pub HasRoomBack : PositionRows → Option Holding → List Holding → Type 0
+HasRoomBack rows None hs = Unit {0}
+HasRoomBack rows (Some h) hs = HasPlace rows h hs
+
 -- the rows are the positions of the list
 pub record ArePositionsOf (l : List Record) (rows : PositionRows) : Type 0 where
   pub lots : (at : Key) (side : Side) → lots_in rows at side ≡ position_of l at.firm at.account at.instrument side

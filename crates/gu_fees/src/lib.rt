@@ -5,12 +5,9 @@
 //! - `ready` makes the rows that a charge changes, and alone takes memory. It changes no sum: a row of zero and no row
 //!   are seen as the same. A row that is ready stays ready.
 //! - What a call asks of its caller, a test of this crate answers: `can_charge`, `can_uncharge`.
-//! - Its cases stand in `tests.rt`.
+//! - Its cases stand in the program `test_sums`.
 #![tactic(auto)]
 
 mod fees;
 
 pub use fees::Fees;
-
-#[cfg(test)]
-mod tests;

@@ -8,7 +8,7 @@
 //! is reversed: `entry_state`. The status goes out in FIX field AllocStatus (87)
 //! by the numbers of `status_code`, which are this project's own.
 //! Each function meets its table in `specs/` exactly, and takes no memory.
-//! Its cases stand in `tests.rt`.
+//! Its cases stand in the program `test_names`.
 #![tactic(auto)]
 
 ghost use Rattle.std.specs.Prelude.{◌≡◌, ◌≤◌};
@@ -74,6 +74,3 @@ pub fn status_code(state: State) -> u8
         State::ReversalPending => 14,
     }
 }
-
-#[cfg(test)]
-mod tests;

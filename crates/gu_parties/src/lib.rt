@@ -16,10 +16,7 @@ pub mod fault;
 pub mod house;
 mod line;
 mod number;
-mod parse;
-#[cfg(test)]
-mod tests;
-mod words;
+mod parse;mod words;
 
 pub use fault::{Cause, HouseError};
 pub use house::House;

@@ -6,12 +6,9 @@
 //! - `ready` makes the row that the two change, and alone takes memory. It changes no sum: a row of zero and no row are
 //!   seen as the same. A row that is ready stays ready.
 //! - What a call asks of its caller, a test of this crate answers: `can_add`, `can_take`.
-//! - Its cases stand in `tests.rt`.
+//! - Its cases stand in the program `test_sums`.
 #![tactic(auto)]
 
 mod positions;
 
 pub use positions::{Key, Positions};
-
-#[cfg(test)]
-mod tests;

@@ -74,14 +74,21 @@ fn tell_house(rt: &impl Print, house: &House) -> io::Result<()> {
     tell_instrument(rt, house, "J")
 }
 
+fn tell_copy(rt: &impl Print, alloc: Global, house: &House) -> io::Result<()> {
+    let copy = copied(alloc, house)?;
+    println!(rt; "the copy")?;
+    tell_house(rt, &copy)
+}
+
+fn tell_both(rt: &impl Print, alloc: Global, house: &House) -> io::Result<()> {
+    tell_house(rt, house)?;
+    tell_copy(rt, alloc, house)
+}
+
 /// Writes what the house answers, and what its copy answers.
 pub(crate) fn tell(rt: &impl Print, alloc: Global) -> io::Result<()> {
     match small(alloc) {
-        Ok(house) => {
-            tell_house(rt, &house)?;
-            println!(rt; "the copy")?;
-            tell_house(rt, &copied(alloc, &house)?)
-        }
+        Ok(house) => tell_both(rt, alloc, &house),
         Err(fault) => println!(rt; "{fault}"),
     }
 }

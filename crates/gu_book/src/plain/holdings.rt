@@ -4,8 +4,10 @@ ghost use Rattle.gu_base.specs.Nodes.{node_of};
 ghost use Rattle.gu_base.specs.History.{RisesFrom};
 ghost use Rattle.gu_base.specs.Limits.{most_lots};
 ghost use Rattle.gu_book.specs.Found.{AreTreesOf};
-ghost use Rattle.gu_book.specs.Holdings.{traded_by, held_at, holding_of, taken_by, part_holding, added_by, HasTaken, AreReady, HaveRoom, SameLots, HaveMoved};
+ghost use Rattle.gu_book.specs.Holdings.{traded_by, held_at, holding_of, taken_by, part_holding, added_by, HasTaken, AreReady, HaveRoom, SameLots, HaveMoved, HaveThere, IsReadyTaken, HasRoomBack};
 ghost use Rattle.gu_book.specs.Limits.{AllWithinLimits};
+ghost use Rattle.gu_positions.specs.Rows.{IsReady};
+ghost use Rattle.gu_positions.specs.declared.positions.Key.{Key as KeyData};
 
 use crate::found::find;
 use crate::plain::nodes::change_at;
@@ -257,4 +259,86 @@ pub(crate) fn move_lots(
         positions.take(&h.key, h.side, h.lots);
     }
     add(positions, by, command, taken);
+}
+
+/// Takes the lots of the parts out of their accounts.
+fn remove_parts(positions: &mut Positions, whole: &Holding, by: &FirmId, parts: &[Part])
+    requires { HaveThere positions.old (filter_map (part_holding whole.now by.now) parts.now) }
+    ensures moved { HaveMoved positions.new positions.old None (filter_map (part_holding whole.now by.now) parts.now) }
+    ensures stays_ready { (at : KeyData) → IsReady positions.old at → IsReady positions.new at }
+{
+    for part in parts {
+        if let Some(h) = part_holding(whole, by, part) {
+            positions.take(&h.key, h.side, h.lots);
+        }
+    }
+}
+
+/// Takes the lots that a command put into accounts out of them.
+fn remove(positions: &mut Positions, by: &FirmId, command: &Command, taken: &Option<Holding>)
+    requires { HaveThere positions.old (added_by by.now command.now taken.now) }
+    ensures moved { HaveMoved positions.new positions.old None (added_by by.now command.now taken.now) }
+    ensures stays_ready { (at : KeyData) → IsReady positions.old at → IsReady positions.new at }
+{
+    match command {
+        Command::Trade {
+            firm,
+            account,
+            instrument,
+            side,
+            lots,
+        } => {
+            let key = Key {
+                firm: *firm,
+                account: *account,
+                instrument: *instrument,
+            };
+            positions.take(&key, *side, *lots);
+        }
+        Command::Split { parts, .. } => {
+            if let Some(whole) = taken {
+                remove_parts(positions, whole, by, parts.as_slice());
+            }
+        }
+        Command::Claim { account, .. } => {
+            if let Some(whole) = taken {
+                let key = Key {
+                    firm: *by,
+                    account: *account,
+                    instrument: whole.key.instrument,
+                };
+                positions.take(&key, whole.side, whole.lots);
+            }
+        }
+        _ => {}
+    }
+}
+
+/// Makes the row out of which a command took lots. No lots change, not even where memory is refused.
+pub(crate) fn ready_taken(positions: &mut Positions, taken: &Option<Holding>) -> Result<(), Memory>
+    ensures ready { OnOk result (IsReadyTaken positions.new taken.now) }
+    ensures same { SameLots positions.old positions.new }
+{
+    match taken {
+        None => Ok(()),
+        Some(h) => positions.ready(&h.key),
+    }
+}
+
+/// Moves back what a command moved: takes its lots out of their accounts, and puts these back into theirs. The row for them has
+/// to be ready and to have room.
+pub(crate) fn move_back(
+    positions: &mut Positions,
+    by: &FirmId,
+    command: &Command,
+    taken: &Option<Holding>,
+)
+    requires there { HaveThere positions.old (added_by by.now command.now taken.now) }
+    requires room { HasRoomBack positions.old taken.now (added_by by.now command.now taken.now) }
+    ensures { HaveMoved positions.new positions.old taken.now (added_by by.now command.now taken.now) }
+{
+    remove(positions, by, command, taken);
+    if let Some(held) = taken {
+        positions.add(&held.key, held.side, held.lots);
+    }
 }

@@ -1,0 +1,251 @@
+-- A live change on which nothing stands can as well stand last: so the fees and positions without it are those with it, less what it moved.
+use Rattle.std.proofs.Common.{◌≡◌, ◌≢◌, ℕ, ◌+◌, ◌*◌, ◌≤◌, true, not, ◌||◌, List, [], ◌∷◌, ◌++◌, length, refl, sym, ◌∙◌, ap, subst, arith, Option, All, Contains, cond}
+use Rattle.std.specs.Prelude.{Some, None, filter_map, sum_by, ◌==◌, IfSome}
+use Rattle.std.specs.List.{cons_option}
+use Rattle.std.proofs.Math.Nat.{mul-le-mul_right}
+use Rattle.std.proofs.lemmas.Bool.Decides.{Decides-eqb}
+use Rattle.std.proofs.lemmas.List.Elements.{All-nil, All-cons, All-head, All-tail, All-filter, All-contains, filter_passes}
+use Rattle.gu_base.specs.Numbers.{EntryPart}
+use Rattle.gu_base.specs.House.{House}
+use Rattle.gu_base.specs.Limits.{most_lots, highest_rate}
+use Rattle.gu_base.specs.Fees.{charges, charge_of}
+use Rattle.gu_base.specs.History.{RisesFrom}
+use Rattle.gu_base.specs.Nodes.{node_of, split_of, splits, decides}
+use Rattle.gu_base.specs.Orders.{IsLawfulOrder}
+use Rattle.gu_base.specs.Positions.{position_of}
+use Rattle.gu_base.specs.Refusals.{refusal_of}
+use Rattle.gu_base.specs.Standing.{first_refused, standing_on, without}
+use Rattle.gu_base.specs.declared.command.Side.{Side}
+use Rattle.gu_base.specs.declared.entry.Record.{Record}
+use Rattle.gu_base.specs.declared.node.Charge.{Charge}
+use Rattle.gu_base.specs.declared.node.Place.{Place}
+use Rattle.gu_base.proofs.Basics.{no_some, none_is_some}
+use Rattle.gu_base.proofs.LegalLaws.{none_refused}
+use Rattle.gu_base.proofs.Searches.{found_in, find_passes}
+use Rattle.gu_depend.specs.Same.{IsSameState}
+use Rattle.gu_depend.proofs.Charges.{charge_same}
+use Rattle.gu_depend.proofs.Finds.{count_permuted}
+use Rattle.gu_depend.proofs.Grown.{Within, NamesThere}
+use Rattle.gu_depend.proofs.LastMoves.{IsBefore, is_before, moves_its_own}
+use Rattle.gu_depend.proofs.NamedOnce.{named_once}
+use Rattle.gu_depend.proofs.Names.{maker, made_number}
+use Rattle.gu_depend.proofs.Replay.{NumbersOnce, number_once, order_replays, SameFinds, same_finds}
+use Rattle.gu_depend.proofs.Settled.{facts}
+use Rattle.gu_depend.proofs.StandsUnder.{rises_distinct, can_stand_last}
+use Rattle.gu_depend.proofs.State.{state_same}
+use Rattle.gu_fees.specs.Rows.{FeeRows}
+use Rattle.gu_fees.specs.Sums.{AreSumsOf}
+use Rattle.gu_positions.specs.Rows.{PositionRows}
+use Rattle.gu_book.specs.Charging.{IsSmallCharge, AreFeesOf, IsCharged}
+use Rattle.gu_book.specs.Holdings.{taken_by, added_by, counted_at, taken_at, SameLots, HaveMoved, HaveThere, IsReadyTaken, HasRoomBack, ArePositionsOf}
+use Rattle.gu_book.specs.Limits.{AllWithinLimits}
+use Rattle.gu_book.specs.declared.plain.holdings.Holding.{Holding}
+use Rattle.gu_book.proofs.Holdings.{IsCounted, key_at}
+use Rattle.gu_book.proofs.Charging.{is_charged}
+use Rattle.gu_book.proofs.HoldingRows.{is_own_key}
+use Rattle.gu_book.proofs.Orders.{InOrder, in_order}
+use Rattle.gu_book.proofs.Placed.{node_stands}
+use Rattle.gu_book.proofs.Replaying.{rises_without, without_small, without_within}
+use Rattle.gu_book.proofs.Restored.{replay_on}
+use Rattle.gu_book.proofs.SoundNext.{next_from_accepted}
+use Rattle.gu_book.proofs.Standings.{moved_by, taken_part, position_within}
+
+-- ---- small charges
+
+-- what a change of a list costs is small
+abbrev CostsLittle : House → List Record → Record → Type 0
+CostsLittle t l d = (c : Charge) → charge_of t l d.command ≡ Some c → IsSmallCharge c
+
+each_first : (o : Option Charge) (cs : List Charge) → All IsSmallCharge (cons_option o cs) → ((c : Charge) → o ≡ Some c → IsSmallCharge c) × All IsSmallCharge cs
+each_first None cs all = (λ c e. absurd (cc), all)
+each_first (Some d) cs all = (λ c e. subst IsSmallCharge (same_charge d c e) (All-head IsSmallCharge d cs all), All-tail IsSmallCharge d cs all)
+  where
+    same_charge : (d c : Charge) → Some d ≡ Some c → d ≡ c
+    same_charge d c e = cc
+
+each_small : (h : Record → Option Charge) (l : List Record) → All IsSmallCharge (filter_map h l) → All (λ d. (c : Charge) → h d ≡ Some c → IsSmallCharge c) l
+each_small h [] all = All-nil (λ d. (c : Charge) → h d ≡ Some c → IsSmallCharge c)
+each_small h (d ∷ l) all =
+    let p = each_first (h d) (filter_map h l) all in
+    All-cons (λ d. (c : Charge) → h d ≡ Some c → IsSmallCharge c) d l p.0 (each_small h l p.1)
+
+all_first : (o : Option Charge) (cs : List Charge) → ((c : Charge) → o ≡ Some c → IsSmallCharge c) → All IsSmallCharge cs → All IsSmallCharge (cons_option o cs)
+all_first None cs first rest = rest
+all_first (Some d) cs first rest = All-cons IsSmallCharge d cs (first d refl) rest
+
+all_small : (h : Record → Option Charge) (l : List Record) → All (λ d. (c : Charge) → h d ≡ Some c → IsSmallCharge c) l → All IsSmallCharge (filter_map h l)
+all_small h [] each = All-nil IsSmallCharge
+all_small h (d ∷ l) each =
+    all_first (h d) (filter_map h l) (All-head (λ d. (c : Charge) → h d ≡ Some c → IsSmallCharge c) d l each)
+    (all_small h l (All-tail (λ d. (c : Charge) → h d ≡ Some c → IsSmallCharge c) d l each))
+
+rises_all : (n : ℕ) (l : List Record) → RisesFrom n l → All (λ d. n ≤ d.number) l
+rises_all n [] rises = All-nil (λ d. n ≤ d.number)
+rises_all n (d ∷ l) rises =
+    let first : n ≤ d.number = rises.0 in
+    All-cons (λ (d : Record). n ≤ d.number) d l first (weaker n (d.number + 1) l (omega arith) (rises_all (d.number + 1) l rises.1))
+  where
+    weaker : (n m : ℕ) (l : List Record) → n ≤ m → All (λ d. m ≤ d.number) l → All (λ d. n ≤ d.number) l
+    weaker n m [] less all = All-nil (λ (d : Record). n ≤ d.number)
+    weaker n m (d ∷ l) less all =
+        let a : m ≤ d.number = All-head (λ (d : Record). m ≤ d.number) d l all in
+        All-cons (λ (d : Record). n ≤ d.number) d l (omega arith) (weaker n m l less (All-tail (λ (d : Record). m ≤ d.number) d l all))
+
+not_same : (n k : ℕ) → not (n == k) ≡ true → n ≢ k
+not_same n k other e = let yes : (n == k) ≡ true = (Decides-eqb n k).1 e in let z : not true ≡ true = ap not (sym yes) ∙ other in absurd (cc)
+
+-- ---- the change last
+
+module _ (t : House) (l : List Record) (r : Record) (replayed : first_refused t [] l ≡ None) (rises : RisesFrom 1 l) (among : Contains l r) (free : standing_on t l r.number ≡ None) where
+  abbrev others : List Record
+  others = without l r.number
+
+  abbrev last : List Record
+  last = others ++ r ∷ []
+
+  once : NumbersOnce l
+  once = number_once l (rises_distinct 1 l rises)
+
+  order : IsLawfulOrder l last
+  order = can_stand_last t l r once replayed among free
+
+  legal : first_refused t [] last ≡ None
+  legal = order_replays t l last once replayed order
+
+  last_once : NumbersOnce last
+  last_once n = let a = count_permuted (λ (d : Record). d.number == n) l last order.same in let b = once n in omega (arith, a, b)
+
+  state : IsSameState t l last
+  state = state_same t l last order.same once (named_once t l replayed)
+
+  finds : SameFinds l last
+  finds = same_finds l last order.same once (named_once t l replayed)
+
+  before : IsBefore t others r
+  before = is_before t others r last_once legal
+
+  -- no other change has its number
+  not_among : (d : Record) → Contains others d → d.number ≢ r.number
+  not_among d there =
+      not_same d.number r.number (All-contains (λ (d : Record). not (d.number == r.number) ≡ true) others d (filter_passes (λ (d : Record). not (d.number == r.number)) l) there)
+
+  unmade : (n : EntryPart) → n.entry ≡ r.number → node_of others n ≡ None
+  unmade n own =
+      no_some (node_of others n) (λ x e.
+      let m = maker others n x e in
+      absurd (not_among m.change m.among (sym (made_number m.change n x m.makes_it) ∙ own)))
+
+  unsplit : (n : EntryPart) → n.entry ≡ r.number → split_of others n ≡ None
+  unsplit n own =
+      no_some (split_of others n) (λ d e.
+      let is = find_passes (λ r. splits n r.command) others d e in
+      let y = All-contains (NamesThere others) others d before.grown.named (found_in (λ r. splits n r.command) others d e) n (ap (λ b. b || decides n d.command) is) in
+      none_is_some (node_of others n) y.0 (unmade n own) y.1)
+
+  counted : IsCounted t others r
+  counted =
+      let w : InOrder others = in_order t others free (rises_without 1 r.number l rises) in
+      let lawful = none_refused (refusal_of t others r.firm r.command) r.number None (sym (replay_on t [] others (r ∷ []) free) ∙ legal) in
+      record {
+        last = before;
+        bound = w.bound;
+        sound = w.sound;
+        unmade = unmade;
+        unsplit = unsplit;
+        next = next_from_accepted t others r (All-contains (λ (d : Record). 1 ≤ d.number) l r (rises_all 1 l rises) among) lawful.0;
+        settled = (facts t others free).settled;
+        stand = λ x e. let p = node_stands t others w.bound w.sound free x e in (p.place, p.is);
+      }
+
+  -- ---- fees
+
+  within : Within l others
+  within = record {
+    nodes = λ n x e. sym (finds.nodes n) ∙ before.grown.within.nodes n x e;
+    decisions = λ n d e. sym (finds.decisions n) ∙ before.grown.within.decisions n d e;
+  }
+
+  little : (ds : List Record) → All (NamesThere others) ds → All (CostsLittle t l) ds → All (CostsLittle t others) ds
+  little [] there each = All-nil (CostsLittle t others)
+  little (d ∷ ds) there each =
+      let named = All-head (NamesThere others) d ds there in
+      All-cons (CostsLittle t others) d ds
+      (λ c e. All-head (CostsLittle t l) d ds each c (sym (charge_same t l others within d.command named) ∙ e))
+      (little ds (All-tail (NamesThere others) d ds there) (All-tail (CostsLittle t l) d ds each))
+
+  -- the sums are those of the other changes' charges and its own
+  charges_with : (fees : FeeRows) → AreFeesOf t l fees → AreSumsOf fees (charges t others ++ cons_option (charge_of t others r.command) [])
+  charges_with fees are =
+      subst (λ cs. AreSumsOf fees cs) ((moves_its_own t others r last_once legal).charged)
+      (record {
+        paid = λ firm. are.sums.paid firm ∙ sym (state.paid firm);
+        received = λ firm. are.sums.received firm ∙ sym (state.received firm);
+        used = λ giver taker. are.sums.used giver taker ∙ sym (state.used giver taker);
+      })
+
+  -- and its own can be taken out of them
+  pub charged_there : (fees : FeeRows) → AreFeesOf t l fees → (o : Option Charge) → o ≡ charge_of t others r.command
+      → IfSome o (λ c. c.lots ≤ most_lots) → IfSome o (λ c. c.rate ≤ highest_rate) → IsCharged fees o
+  charged_there fees are o is lots rate =
+      is_charged fees (charges t others) o (subst (λ (o : Option Charge). AreSumsOf fees (charges t others ++ cons_option o [])) (sym is) (charges_with fees are)) lots rate
+
+  pub fees_without : (fees new : FeeRows) → AreFeesOf t l fees → (o : Option Charge) → o ≡ charge_of t others r.command
+      → ((cs : List Charge) → AreSumsOf fees (cs ++ cons_option o []) → AreSumsOf new cs) → AreFeesOf t others new
+  fees_without fees new are o is less = record {
+    sums = less (charges t others) (subst (λ (o : Option Charge). AreSumsOf fees (charges t others ++ cons_option o [])) (sym is) (charges_with fees are));
+    small = all_small (λ d. charge_of t others d.command) others
+        (little others before.grown.named
+        (All-filter (λ (d : Record). not (d.number == r.number)) (CostsLittle t l) l (each_small (λ d. charge_of t l d.command) l are.small)));
+  }
+
+  -- ---- positions
+
+  position_with : (at : Place) (instrument : List ℕ) (side : Side)
+      → position_of l at.firm at.account instrument side + taken_at (key_at at instrument) side (taken_by others r.command)
+      ≡ position_of others at.firm at.account instrument side + sum_by (counted_at (key_at at instrument) side) (added_by r.firm r.command (taken_by others r.command))
+  position_with at instrument side =
+      let a = moved_by counted legal at instrument side in
+      let b = state.positions at.firm at.account instrument side in
+      omega (arith, a, b)
+
+  -- what it added is there, and what it took is part of what stands there without it
+  pub added_there : (rows now : PositionRows) → ArePositionsOf l rows → SameLots rows now → (o : Option Holding) → o ≡ taken_by others r.command → HaveThere now (added_by r.firm r.command o)
+  added_there rows now are same o is at side =
+      let place : Place = record { firm = at.firm; account = at.account } in
+      let a = are.lots at side in
+      let b = position_with place at.instrument side in
+      let c = taken_part counted legal place at.instrument side in
+      let d = ap (taken_at at side) is in
+      let e = ap (λ o. sum_by (counted_at at side) (added_by r.firm r.command o)) is in
+      let f = same at side in
+      omega (arith, a, b, c, d, e, f)
+
+  pub room_back : length l ≤ 1000000 → AllWithinLimits l → (rows now : PositionRows) → ArePositionsOf l rows → SameLots rows now → (o : Option Holding) → o ≡ taken_by others r.command → IsReadyTaken now o
+      → HasRoomBack now o (added_by r.firm r.command o)
+  room_back few all rows now are same None is ready = tt
+  room_back few all rows now are same (Some h) is ready =
+      let place : Place = record { firm = h.key.firm; account = h.key.account } in
+      let a = are.lots h.key h.side in
+      let b = position_with place h.key.instrument h.side in
+      let c = position_within others (without_small r.number l all) place h.key.instrument h.side in
+      let d = ap (taken_at h.key h.side) is in
+      let e = ap (λ o. sum_by (counted_at h.key h.side) (added_by r.firm r.command o)) is in
+      let f = same h.key h.side in
+      let g = ap (λ b. cond b h.lots 0) (is_own_key h.key h.side) in
+      let fewer : length others ≤ 1000000 = omega (arith, without_within r.number l, few) in
+      let i : length others * 1000000000 ≤ 1000000 * 1000000000 = mul-le-mul_right 1000000000 fewer in
+      record { ready = ready; fits = omega (arith, a, b, c, d, e, f, g, i) }
+
+  pub positions_without : (rows now new : PositionRows) → ArePositionsOf l rows → SameLots rows now → (o : Option Holding) → o ≡ taken_by others r.command → HaveMoved new now o (added_by r.firm r.command o)
+      → ArePositionsOf others new
+  positions_without rows now new are same o is moved = record {
+    lots = λ at side.
+        let place : Place = record { firm = at.firm; account = at.account } in
+        let a = are.lots at side in
+        let b = position_with place at.instrument side in
+        let c = moved at side in
+        let d = ap (taken_at at side) is in
+        let e = ap (λ o. sum_by (counted_at at side) (added_by r.firm r.command o)) is in
+        let f = same at side in
+        omega (arith, a, b, c, d, e, f);
+  }
