@@ -15,6 +15,7 @@ use std::io;
 use std::io::Eprint;
 use test_days::{Call, Player, play, read_input};
 
+/// Calls, and questions of what is told of the day.
 struct Told;
 
 impl<R: Print + Eprint> Player<R> for Told {
