@@ -133,4 +133,3 @@ pub fn show_answer(rt: &impl Print, answer: &Answer) -> io::Result<()> {
         }
     }
 }
-
