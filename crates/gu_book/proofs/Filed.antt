@@ -23,12 +23,12 @@ use Rattle.gu_tree.specs.Paths.{node_at}
 use Rattle.gu_tree.specs.Grove.{Grove, tree_of, tree_in, place_of, last_place, IsPlace, ChangesTree, Places, IsSameGrove}
 use Rattle.gu_tree.specs.Filing.{slot_of, name_in, last_of}
 use Rattle.gu_tree.specs.Shown.{IsTreeOf, named_node}
-use Rattle.gu_tree.specs.ShownAll.{named_place}
+use Rattle.gu_tree.specs.ShownAll.{named_place, place_in}
 use Rattle.gu_tree.proofs.Along.{IsAlong, along, path-of}
 use Rattle.gu_tree.proofs.GroveEdits.{by-cases}
 use Rattle.gu_tree.proofs.Parts.{some_and}
 use Rattle.gu_tree.proofs.Shows.{tree-kept}
-use Rattle.gu_book.specs.Filed.{place_in, IsIn, IsLastOf, IsFiled, IsNext, IsDue, Follows}
+use Rattle.gu_book.specs.Filed.{IsIn, IsLastOf, IsFiled, IsNext, IsDue, Follows}
 use Rattle.gu_book.specs.TreeRows.{is_trade, is_live_trade}
 use Rattle.gu_book.proofs.Leaves.{all_parts, other_number, sound_first}
 use Rattle.gu_book.proofs.Named.{count_of, found_counts}

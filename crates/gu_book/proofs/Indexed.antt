@@ -38,10 +38,17 @@ use Rattle.gu_book.specs.declared.index.Reversals.{Reversals}
 
 -- ---- the keys of ids
 
+and_turned : (a b : Bool) → (a && b) ≡ (b && a)
+and_turned true true = refl
+and_turned true false = refl
+and_turned false true = refl
+and_turned false false = refl
+
 same_key : (a b : Key) → is_eq (key_cmp a b) ≡ (bytes_eq a.firm b.firm && bytes_eq a.id b.id)
 same_key a b =
-    sym (tied_then (slice_cmp nat_cmp a.firm b.firm) (slice_cmp nat_cmp a.id b.id))
-    ∙ (ap (λ s. s && is_eq (slice_cmp nat_cmp a.id b.id)) (is_eq-slice_cmp a.firm b.firm) ∙ ap (λ s. bytes_eq a.firm b.firm && s) (is_eq-slice_cmp a.id b.id))
+    sym (tied_then (slice_cmp nat_cmp a.id b.id) (slice_cmp nat_cmp a.firm b.firm))
+    ∙ (ap (λ s. s && is_eq (slice_cmp nat_cmp a.firm b.firm)) (is_eq-slice_cmp a.id b.id)
+    ∙ (ap (λ s. bytes_eq a.id b.id && s) (is_eq-slice_cmp a.firm b.firm) ∙ and_turned (bytes_eq a.id b.id) (bytes_eq a.firm b.firm)))
 
 pub key_updated : (m n : BTreeMap Key ℕ) (k : Key) (w : Option ℕ) → UpdatesBy key_cmp (key_cmp k) m n w → (firm id : List ℕ)
     → get key_cmp n (record { firm = firm; id = id }) ≡ cond (bytes_eq k.firm firm && bytes_eq k.id id) w (get key_cmp m (record { firm = firm; id = id }))

@@ -1,5 +1,5 @@
 -- The trees of the live trades, and the places of the live changes in them.
-use Rattle.std.specs.Prelude.{◌≡◌, ℕ, ◌≤◌, ◌<◌, List, [], ◌∷◌, ◌++◌, Option, Some, None, is_some, option_and_then, IfSome}
+use Rattle.std.specs.Prelude.{◌≡◌, ℕ, ◌≤◌, ◌<◌, List, [], ◌∷◌, ◌++◌, Some, None, is_some, IfSome}
 use Rattle.std.specs.List.{All}
 use Rattle.gu_base.specs.Numbers.{EntryPart}
 use Rattle.gu_base.specs.House.{House}
@@ -12,12 +12,8 @@ use Rattle.gu_base.specs.declared.node.Node.{Node}
 use Rattle.gu_tree.specs.Rose.{named}
 use Rattle.gu_tree.specs.Grove.{Grove, tree_of, place_of, last_place, HasTree}
 use Rattle.gu_tree.specs.Shown.{IsTreeOf}
-use Rattle.gu_tree.specs.ShownAll.{change_of, named_place}
+use Rattle.gu_tree.specs.ShownAll.{place_in}
 use Rattle.gu_book.specs.TreeRows.{is_live_trade}
-
--- the place of the live change of this number
-abbrev pub place_in : List Record → ℕ → Option EntryPart
-place_in l k = option_and_then (λ r. named_place r.number r.command) (change_of l k)
 
 -- one of the trees has a node of this name
 abbrev pub IsIn : Grove → EntryPart → Type 0

@@ -12,9 +12,9 @@ use Rattle.gu_book.specs.declared.index.Ids.{Ids}
 use Rattle.gu_book.specs.declared.index.Index.{Index}
 use Rattle.gu_book.specs.declared.index.Reversals.{Reversals}
 
--- by the firm, and then by the id
+-- by the id, and then by the firm
 abbrev pub key_cmp : Key → Key → Ordering
-key_cmp a b = ordering_then (slice_cmp nat_cmp a.firm b.firm) (slice_cmp nat_cmp a.id b.id)
+key_cmp a b = ordering_then (slice_cmp nat_cmp a.id b.id) (slice_cmp nat_cmp a.firm b.firm)
 
 -- the number that is kept at a firm and an id
 abbrev pub number_in : Ids → List ℕ → List ℕ → Option ℕ

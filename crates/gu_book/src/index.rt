@@ -6,11 +6,11 @@ use gu_base::{AllocId, FirmId, Memory, Number};
 use std::alloc::Global;
 use std::collections::BTreeMap;
 
-/// A firm and an id of its own.
+/// A firm and an id of its own. The id is compared first, since it tells most entries apart.
 #[derive(Clone, Copy, Debug, PartialEq, Eq, PartialOrd, Ord)]
 struct Key {
-    firm: FirmId,
     id: AllocId,
+    firm: FirmId,
 }
 
 /// What is found of a history without going over it.

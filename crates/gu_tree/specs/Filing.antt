@@ -27,6 +27,11 @@ abbrev pub slot_of : List Filing → ℕ → Slot
 slot_of [] e = Empty
 slot_of (x ∷ s) e = if x.entry == e then x.slot else slot_of s e
 
+-- the slot of a Trade
+abbrev pub IsRoot : Slot → Type 0
+IsRoot (Root i) = Unit {0}
+IsRoot _ = ⊥
+
 -- the highest number of an entry that was filed, 0 where there is none
 abbrev pub last_of : List Filing → ℕ
 last_of [] = 0

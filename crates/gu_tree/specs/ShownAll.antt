@@ -18,6 +18,10 @@ abbrev pub named_place : ℕ → Command → Option EntryPart
 named_place k (Trade _ _ _ _ _) = Some (record { entry = k; part = 0 })
 named_place k command = named_node command
 
+-- the place of the change of this number
+abbrev pub place_in : List Record → ℕ → Option EntryPart
+place_in l k = option_and_then (λ r. named_place r.number r.command) (change_of l k)
+
 -- the tree shows the trade, and there is none where the list has no such trade
 abbrev pub IsTreeIn : List Record → ℕ → Option Rose → Type 0
 IsTreeIn l trade None = node_of l (record { entry = trade; part = 0 }) ≡ None
@@ -27,4 +31,4 @@ IsTreeIn l trade (Some t) = IsTreeOf l trade t
 -- no other trees and no other places
 pub record ShowsAll (l : List Record) (g : Grove) : Type 0 where
   pub trees : (trade : ℕ) → IsTreeIn l trade (tree_of g trade)
-  pub places : (entry : ℕ) → place_of g entry ≡ option_and_then (λ r. named_place r.number r.command) (change_of l entry)
+  pub places : (entry : ℕ) → place_of g entry ≡ place_in l entry

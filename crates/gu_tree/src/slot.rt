@@ -3,7 +3,7 @@ ghost use Rattle.std.specs.Prelude.{◌≡◌, ◌<◌, ℕ, IfOk, OnErr};
 ghost use Rattle.arrayvec.specs.ArrayVec.{array_vec_len};
 ghost use Rattle.gu_base.specs.Limits.{most_parts};
 ghost use Rattle.gu_base.specs.Numbers.{EntryPart};
-ghost use Rattle.gu_tree.specs.Filing.{IsRising, IsFiledAt, IsNotFiled, slot_of, without_slot, name_in, Climbs, IsClimbed};
+ghost use Rattle.gu_tree.specs.Filing.{IsRising, IsFiledAt, IsNotFiled, IsRoot, slot_of, without_slot, name_in, Climbs, IsClimbed};
 
 use crate::path::Path;
 use gu_base::{NodeName, Number};
@@ -96,6 +96,18 @@ pub(crate) fn slot_at(slots: &[Filed], entry: Number) -> Slot
     match find(slots, entry) {
         Ok(i) => slots[i].slot(),
         Err(_) => Slot::Empty,
+    }
+}
+
+/// Where the tree of a trade stands among the trees.
+pub(crate) fn root_of(slots: &[Filed], trade: Number) -> usize
+    requires rising { IsRising slots.now }
+    requires root { IsRoot (slot_of slots.now trade) }
+    ensures { slot_of slots.now trade ≡ Slot.Root result }
+{
+    match slot_at(slots, trade) {
+        Slot::Root(i) => i as usize,
+        _ => unreachable!(),
     }
 }
 

@@ -1,13 +1,12 @@
 //! A question, and what the book tells.
 
-use crate::twice::twice;
-use crate::words::{first_word, number_of};
 use gu_base::{AccountId, FirmId, InstrumentId};
 use gu_book::Book;
 use gu_tree::Row;
 use std::alloc::Global;
 use std::io;
 use std::io::Eprint;
+use test_days::{first_word, number_of, twice};
 
 fn show_position(rt: &impl Print, book: &Book, words: &[u8]) -> io::Result<()> {
     let (firm, rest) = first_word(words);

@@ -4,7 +4,7 @@
 //! - `trade LOTS`: a new tree, of the trade 1 of so many lots into AAA/A1;
 //! - a change: `split NODE ENTRY LOTS/FIRM/ACCOUNT ..`, `claim NODE ENTRY FIRM/ACCOUNT`, `refuse NODE ENTRY`;
 //! - a change that is taken back at its node: `unsplit NODE`, `unclaim NODE`, `offer NODE`;
-//! - a question: `? rows`, `? leaves`, `? copy`, `? node NODE`, `? entry ENTRY`, `? at FIRM/ACCOUNT`.
+//! - a question: `? rows`, `? leaves`, `? copy`, `? node NODE`, `? entry ENTRY`.
 //!
 //! Of each change the program writes whether all that the tree asks for held, and it was made. A row is its depth, the node, its lots, the
 //! account in which it stands, its state, the firm to which it was given, and the entry that decided it.

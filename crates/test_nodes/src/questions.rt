@@ -1,6 +1,6 @@
 //! What a tree tells.
 
-use crate::words::{first_word, node_of, number_of, place_of};
+use crate::words::{first_word, node_of, number_of};
 use gu_base::NodeName;
 use gu_tree::{Head, Row, Tree};
 use std::alloc::Global;
@@ -50,12 +50,11 @@ fn show_node(rt: &impl Print, tree: &Tree<Global>, name: NodeName) -> io::Result
     }
 }
 
-/// Writes the answer to a question about a node, an entry or an account.
+/// Writes the answer to a question about a node or an entry.
 fn answer_about(rt: &impl Print, tree: &Tree<Global>, what: &str, word: &str) -> io::Result<()> {
-    match (what, node_of(word), number_of(word), place_of(word)) {
-        ("node", Some(name), _, _) => show_node(rt, tree, name),
-        ("entry", _, Some(entry), _) => println!(rt; "entry {entry}: {}", tree.has_entry(entry)),
-        ("at", _, _, Some(place)) => println!(rt; "at {word}: {}", tree.lots_at(&place)),
+    match (what, node_of(word), number_of(word)) {
+        ("node", Some(name), _) => show_node(rt, tree, name),
+        ("entry", _, Some(entry)) => println!(rt; "entry {entry}: {}", tree.has_entry(entry)),
         _ => println!(rt; "what? {what} {word}"),
     }
 }

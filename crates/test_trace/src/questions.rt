@@ -1,13 +1,12 @@
 //! A question, and what is told.
 
-use crate::twice::{tell_refused, twice};
-use crate::words::{count_of, first_word, number_of, shown};
 use gu_base::{FirmId, Number, Report, Target};
 use gu_book::Book;
 use gu_trace::{TraceError, reports, totals, trace};
 use std::alloc::Global;
 use std::io;
 use std::io::Eprint;
+use test_days::{count_of, first_word, number_of, shown, tell_refused, twice};
 
 /// What stands in `out` before a text is asked for.
 const BEFORE: &[u8] = b"before";

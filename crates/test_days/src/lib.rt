@@ -1,0 +1,20 @@
+//! Days of a small house as lines of text, for the programs that play them at a book (`test_book`, `test_trace`).
+//!
+//! An input holds a house file, a line `--`, and then days, with an empty line between two. Each day begins with an empty book.
+//! A line of a day is a name for what follows (`# ..`, written again), a question (`? ..`, which the program answers) or a call:
+//! `FIRM ID trade FIRM ACCOUNT INSTRUMENT buy|sell LOTS`, `FIRM ID split NODE LOTS@ACCOUNT LOTS>FIRM ..`, `FIRM ID claim NODE ACCOUNT`,
+//! `FIRM ID refuse NODE`, `FIRM ID cancel NODE`, `FIRM ID initiate ENTRY`, `FIRM ID decline ENTRY`, `FIRM ID reverse ENTRY`.
+//! What finds no memory is asked for a second time, and standard error tells of it. So one refused growth, wherever it falls, changes
+//! nothing that is written on standard output.
+//! It has no cases of its own: those of the two programs try it.
+#![tactic(auto)]
+
+mod calls;
+mod days;
+mod memory;
+mod words;
+
+pub use calls::{Call, show_answer};
+pub use days::{Player, play, read_input};
+pub use memory::{tell_refused, twice};
+pub use words::{count_of, first_word, number_of, shown};
