@@ -22,12 +22,12 @@ use Rattle.gu_depend.proofs.Cuts.{none_found}
 use Rattle.gu_tree.specs.Rose.{Rose, leaf, named}
 use Rattle.gu_tree.specs.Grove.{Grove, tree_of, place_of, ChangesTree, Takes, TakesTree}
 use Rattle.gu_tree.specs.Shown.{IsTreeOf, named_node}
-use Rattle.gu_tree.specs.ShownAll.{change_of, named_place}
+use Rattle.gu_tree.specs.ShownAll.{change_of, named_place, place_in}
 use Rattle.gu_tree.proofs.GroveEdits.{by-cases}
 use Rattle.gu_tree.specs.declared.head.Head.{Head}
 use Rattle.gu_tree.proofs.Names.{is_named-other}
 use Rattle.gu_tree.proofs.Parts.{some_and}
-use Rattle.gu_book.specs.Filed.{place_in, IsIn, IsFiled}
+use Rattle.gu_book.specs.Filed.{IsIn, IsFiled}
 use Rattle.gu_book.specs.TreeRows.{is_trade, is_live_trade}
 use Rattle.gu_book.proofs.Filed.{Spot, tree_shown, one_trade, not_trade, if_here, if_there}
 use Rattle.gu_book.proofs.Leaves.{other_number}
