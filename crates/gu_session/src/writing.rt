@@ -2,6 +2,7 @@
 
 ghost use Rattle.std.specs.Prelude.{◌≡◌, ◌≤◌, ◌+◌, ◌++◌, ◌∷◌, List, OnOk, IfOk, length, map, option_map, Some, None};
 ghost use Rattle.std.specs.List.{flat_map};
+ghost use Rattle.gu_codec.specs.Limits.{longest_body};
 ghost use Rattle.gu_codec.specs.Writing.{IsText, fields_text};
 ghost use Rattle.gu_codec.specs.Answer.{pairs};
 ghost use Rattle.gu_session.specs.Going.{type_of_say as type_of_say_lem, fields_of_say, type_of_told, said};
@@ -38,7 +39,7 @@ fn write(
     body: &[u8],
 ) -> Result<(), Memory>
     requires kind { IsText kind.now }
-    requires body { length body.now ≤ 65000 }
+    requires body { length body.now ≤ longest_body }
     ensures { OnOk result (out.new.items ≡ out.old.items ++ text_of writer.now.house writer.now.firm writer.now.time (record { kind = kind.now; number = number; next = number + 1; first = first; body = body.now })) }
 {
     let time = writer.time;
@@ -72,7 +73,7 @@ fn type_of_say(say: &Say) -> &'static [u8]
 /// The body of what the session says about a message, or about none.
 fn body_of_say(alloc: Global, came: Option<Fields<'_>>, say: Say) -> Result<Vec<u8>, Memory>
     ensures value { IfOk result (λ body. body.items ≡ fields_text (fields_of_say (fields_of came.entry) say)) }
-    ensures short { IfOk result (λ body. length body.items ≤ 65000) }
+    ensures short { IfOk result (λ body. length body.items ≤ longest_body) }
 {
     let mut body = Vec::new(alloc);
     match say {
@@ -119,7 +120,7 @@ fn write_kept(
     body: &[u8],
     first: Option<SendingTime>,
 ) -> Result<(), Memory>
-    requires { length body.now ≤ 65000 }
+    requires { length body.now ≤ longest_body }
     ensures { OnOk result (out.new.items ≡ out.old.items ++ text_of writer.now.house writer.now.firm writer.now.time (record { kind = type_of_told entry.now.told; number = entry.now.number; next = entry.now.number + 1; first = first; body = body.now })) }
 {
     write(out, writer, type_of(entry.told), entry.number, first, body)
@@ -160,7 +161,7 @@ fn write_one_again(
     span: Span,
     next: u32,
 ) -> Result<u32, Memory>
-    requires { length body.now ≤ 65000 }
+    requires { length body.now ≤ longest_body }
     ensures { IfOk result (λ number. (later : List Kept) →
         out.new.items ++ flat_map (text_of writer.now.house writer.now.firm writer.now.time) (with_gaps writer.now.time number span.next (within span.from span.next later))
         ≡ out.old.items ++ flat_map (text_of writer.now.house writer.now.firm writer.now.time) (with_gaps writer.now.time next span.next (within span.from span.next (kept_with entry.now body.now ∷ later)))) }
