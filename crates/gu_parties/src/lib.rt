@@ -16,7 +16,8 @@ pub mod fault;
 pub mod house;
 mod line;
 mod number;
-mod parse;mod words;
+mod parse;
+mod words;
 
 pub use fault::{Cause, HouseError};
 pub use house::House;
