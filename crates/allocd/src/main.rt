@@ -21,23 +21,22 @@ fn words(rt: &HostRuntime) -> Result<Vec<String>, Fault> {
     Ok(words)
 }
 
-/// Does what the words ask for, over the files, the standard input and the standard output of the system.
-fn serve_words(rt: &HostRuntime) -> Result<(), Fault> {
-    let words = words(rt)?;
-    let files = SystemFiles::new(rt);
-    let mut reader = Counted::new(rt.reader());
-    let mut writer = Counted::new(io::writer(rt));
-    run(
-        rt.alloc(),
-        &files,
-        &mut reader,
-        &mut writer,
-        words.as_slice(),
-    )
-}
-
 fn main(rt: HostRuntime) -> ExitCode {
-    match serve_words(&rt) {
+    let files = SystemFiles::new(&rt);
+    let mut reader = Counted::new(rt.reader());
+    let mut writer = Counted::new(io::writer(&rt));
+    let done = match words(&rt) {
+        Ok(words) => run(
+            &rt,
+            rt.alloc(),
+            &files,
+            &mut reader,
+            &mut writer,
+            words.as_slice(),
+        ),
+        Err(fault) => Err(fault),
+    };
+    match done {
         Ok(()) => ExitCode::SUCCESS,
         Err(fault) => {
             let _ = rt.eprintln(&fault);

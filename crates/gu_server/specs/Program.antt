@@ -1,17 +1,23 @@
 -- What the program does: which house file it reads, what it does to its reader and its writer, and in which order faults are found.
-use Rattle.std.specs.Prelude.{◌≡◌, ℕ, ◌⊎◌, codes, List, Option, Some, Result, Ok, Err}
+use Rattle.std.specs.Prelude.{◌≡◌, ℕ, ◌⊎◌, codes, List, [], ◌++◌, Option, Some, Result, Ok, Err}
+use Rattle.std.specs.Io.KnownBytes.{Appends}
 use Rattle.clap.specs.Words.{Text}
 use Rattle.gu_base.specs.House.{House}
+use Rattle.gu_base.specs.Runs.{IsRunFrom}
+use Rattle.gu_base.specs.declared.entry.Entry.{Entry}
+use Rattle.gu_book.specs.Seen.{HouseAndHistory}
 use Rattle.gu_parties.specs.Parsing.{Answers}
 use Rattle.gu_parties.specs.declared.fault.HouseError.{HouseError}
+use Rattle.gu_trace.specs.Totals.{totals_text}
+use Rattle.gu_server.specs.Counts.{Fails}
 use Rattle.gu_server.specs.HouseText.{IsTextOf, IsTooLong}
 use Rattle.gu_server.specs.Lines.{command_in, house_in, trade_in, trade_meant}
 use Rattle.gu_server.specs.Runs.{Told, Runs}
 use Rattle.gu_server.specs.Traces.{Traces}
 use Rattle.gu_server.specs.declared.batch.RunError.{RunError}
 use Rattle.gu_server.specs.declared.fault.Fault.{Fault}
-use Rattle.gu_server.specs.declared.fault.Fault.TheVariants.{Usage, HouseFile, HouseLine, Run}
-use Rattle.gu_server.specs.declared.batch.RunError.TheVariants.{Memory}
+use Rattle.gu_server.specs.declared.fault.Fault.TheVariants.{Usage, HouseFile, HouseLine, Service, Run}
+use Rattle.gu_server.specs.declared.batch.RunError.TheVariants.{Memory, Write}
 
 -- the text of the file with these bytes names this house table, or has this fault
 abbrev pub Names : Option (List ℕ) → Result House HouseError → Type 0
@@ -28,10 +34,19 @@ abbrev pub ReadsHouse : Option (List ℕ) → Result House Fault → Type 0
 ReadsHouse known (Ok house) = Names known (Ok house)
 ReadsHouse known (Err e) = IsHouseFault known e
 
--- why nothing was read and nothing written: the command line, or the house file that it names
+-- the words ask for a server, and the house file that they name has a house table
+pub record IsAskedToServe (words : List Text) (bytes_at : Text → Option (List ℕ)) : Type 0 where
+  pub path : Text
+  pub command : command_in words ≡ Some (codes "serve")
+  pub asked : house_in words ≡ Some path
+  pub house : House
+  pub named : Names (bytes_at path) (Ok house)
+
+-- why nothing was read and nothing written: the command line, the house file that it names, or the server
 abbrev pub Stops : List Text → (Text → Option (List ℕ)) → Fault → Type 0
 Stops words bytes_at (Usage text) = Unit {0}
 Stops words bytes_at (Run Memory) = Unit {0}
+Stops words bytes_at (Service error) = IsAskedToServe words bytes_at
 Stops words bytes_at e = (path : Text) × (house_in words ≡ Some path) × IsHouseFault (bytes_at path) e
 
 -- a batch was run, by the house table that the house file of the words names
@@ -54,11 +69,51 @@ pub record HasTraced {A : Type 0} (words : List Text) (bytes_at : Text → Optio
   pub named : Names (bytes_at path) (Ok house)
   pub traces : Traces house trade old new result
 
+-- ---- the server
+
+-- the book is what calls of the firms made of an empty one
+abbrev pub IsServed : House → HouseAndHistory → Type 0
+IsServed house b = (b.house ≡ house) × IsRunFrom house [] b.history
+
+-- this text was written behind a server's end: the totals of its book, a front of them where the writer failed, and else nothing
+abbrev pub IsTotalled : {A : Type 0} → House → List Entry → ℕ → ℕ → List ℕ → Result A RunError → Type 0
+IsTotalled house h failed_before failed out (Ok x) = out ≡ totals_text house h
+IsTotalled house h failed_before failed out (Err Write) = Fails failed_before failed × (rest : List ℕ) × (totals_text house h ≡ out ++ rest)
+IsTotalled house h failed_before failed out (Err Memory) = out ≡ []
+IsTotalled house h failed_before failed out (Err _) = ⊥
+
+-- the totals of a history were written
+pub record WritesTotals {A : Type 0} (house : House) (h : List Entry) (old new : Option (List ℕ)) (failed_before failed : ℕ) (result : Result A RunError) : Type 0 where
+  pub out : List ℕ
+  pub appended : Appends old new out
+  pub right : IsTotalled house h failed_before failed out result
+
+-- a server ended without a book, and nothing was written, or the totals of its book were
+abbrev pub Serves : {A : Type 0} → House → Option (List ℕ) → Option (List ℕ) → ℕ → ℕ → Result A Fault → Type 0
+Serves {A} house old new failed_before failed (Ok x) = (book : HouseAndHistory) × IsServed house book × WritesTotals {A = A} book.house book.history old new failed_before failed (Ok x)
+Serves {A} house old new failed_before failed (Err (Service error)) = (new ≡ old) × (failed ≡ failed_before)
+Serves {A} house old new failed_before failed (Err (Run error)) = (book : HouseAndHistory) × IsServed house book × WritesTotals {A = A} book.house book.history old new failed_before failed (Err error)
+Serves {A} house old new failed_before failed (Err _) = ⊥
+
+-- connections were served, by the house table that the house file of the words names, and the totals of the book behind them were written
+pub record HasServed {A : Type 0} (words : List Text) (bytes_at : Text → Option (List ℕ)) (old new : Told) (result : Result A RunError) : Type 0 where
+  pub path : Text
+  pub command : command_in words ≡ Some (codes "serve")
+  pub asked : house_in words ≡ Some path
+  pub house : House
+  pub named : Names (bytes_at path) (Ok house)
+  pub book : HouseAndHistory
+  pub served : IsServed house book
+  pub unread : (new.left ≡ old.left) × (new.made ≡ old.made) × (new.reads_failed ≡ old.reads_failed)
+  pub totals : WritesTotals book.house book.history old.contents new.contents old.writes_failed new.writes_failed result
+
+-- ---- the program
+
 -- what the words ask for was done
 abbrev pub HasDone : {A : Type 0} → List Text → (Text → Option (List ℕ)) → Told → Told → Result A RunError → Type 0
-HasDone words bytes_at old new result = HasRun words bytes_at old new result ⊎ HasTraced words bytes_at old new result
+HasDone words bytes_at old new result = HasRun words bytes_at old new result ⊎ HasTraced words bytes_at old new result ⊎ HasServed words bytes_at old new result
 
--- a batch or a trace was run to its end, or nothing was touched, or the run ended with an error
+-- a batch, a trace or a server was run to its end, or nothing was touched, or the run ended with an error
 abbrev pub Does : {A : Type 0} → List Text → (Text → Option (List ℕ)) → Told → Told → Result A Fault → Type 0
 Does {A} words bytes_at old new (Ok x) = HasDone {A = A} words bytes_at old new (Ok x)
 Does {A} words bytes_at old new (Err e) = (Stops words bytes_at e × (new ≡ old)) ⊎ ((error : RunError) × (e ≡ Run error) × HasDone {A = A} words bytes_at old new (Err error))

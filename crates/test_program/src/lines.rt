@@ -3,6 +3,10 @@
 use crate::streams::{Kept, Text};
 use gu_server::{Counted, Fault, SystemFiles, run};
 use std::alloc::{AllocError, Global};
+use std::net::{Net, TcpListener, TcpStream};
+use std::sync::Wait;
+use std::thread::Threads;
+use std::time::Clock;
 use std::{fs, io, str};
 
 /// A line of the input.
@@ -39,7 +43,12 @@ struct Outcome {
     out: Vec<u8>,
 }
 
-fn run_line(rt: &HostRuntime, alloc: Global, line: &Line<'_>) -> io::Result<Outcome> {
+fn run_line<H: Threads + Wait + Clock + Net<Stream = TcpStream, Listener = TcpListener> + Sync>(
+    rt: &HostRuntime,
+    handle: &H,
+    alloc: Global,
+    line: &Line<'_>,
+) -> io::Result<Outcome> {
     let text = fs::read(rt, line.stream)?;
     let words = words_of(alloc, line.words)?;
     let fails = line.how == "failing reader";
@@ -53,7 +62,14 @@ fn run_line(rt: &HostRuntime, alloc: Global, line: &Line<'_>) -> io::Result<Outc
         full,
     });
     let files = SystemFiles::new(rt);
-    let result = run(alloc, &files, &mut reader, &mut writer, words.as_slice());
+    let result = run(
+        handle,
+        alloc,
+        &files,
+        &mut reader,
+        &mut writer,
+        words.as_slice(),
+    );
     let Kept { held, .. } = writer.into_inner();
     Ok(Outcome { result, out: held })
 }
@@ -94,9 +110,11 @@ fn tell_out(rt: &HostRuntime, alloc: Global, line: &Line<'_>, out: &[u8]) -> io:
     }
 }
 
-/// Runs a line, writes what came of it, and gives its status.
-pub(crate) fn tell(rt: &HostRuntime, alloc: Global, line: &Line<'_>) -> io::Result<u8> {
-    let outcome = run_line(rt, alloc, line)?;
+/// Runs a line over a handle that may start threads, wait and listen, writes what came of it, and gives its status.
+pub(crate) fn tell<
+    H: Threads + Wait + Clock + Net<Stream = TcpStream, Listener = TcpListener> + Sync,
+>(rt: &HostRuntime, handle: &H, alloc: Global, line: &Line<'_>) -> io::Result<u8> {
+    let outcome = run_line(rt, handle, alloc, line)?;
     println!(rt; "{}, {}: {}", line.stream, line.how, line.words)?;
     let status = match &outcome.result {
         Ok(()) => {

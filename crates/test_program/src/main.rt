@@ -4,18 +4,23 @@
 //! A line of standard input is `STREAM;HOW;WORDS`: a file of `data/`, how it is read and written, and the words of the command line.
 //! HOW is `plain`, `failing reader` (it fails behind the stream's last byte) or `full writer` (it takes no byte). Of each line the
 //! program writes how the run ended, with its status and the first line of its text, and whether what it wrote is what the file of the
-//! stream's name with `.out` for `.fix` holds; of a trace, what it wrote. At last it writes the text of each error of a run, and it ends with the status of the
+//! stream's name with `.out` for `.fix` holds; of a trace, what it wrote. At last it writes the text of each error, and it ends with the status of the
 //! last line's run.
 #![tactic(auto)]
 
 mod lines;
 mod streams;
 
-use gu_server::{Fault, RunError};
+use gu_server::{Fault, RunError, ServeError, ServiceError};
 use std::io;
 use std::process::ExitCode;
 
-/// Writes the text of each error of a run.
+/// Writes a fault's status and text.
+fn tell_text(rt: &HostRuntime, fault: &Fault) -> io::Result<()> {
+    println!(rt; "{}: {fault}", fault.status())
+}
+
+/// Writes the text of each error of a run and of a server.
 fn tell_texts(rt: &HostRuntime) -> io::Result<()> {
     let errors = [
         RunError::Broken { at: 14 },
@@ -26,29 +31,31 @@ fn tell_texts(rt: &HostRuntime) -> io::Result<()> {
         RunError::NoLiveTrade { trade: 2 },
     ];
     for error in errors {
-        let fault = Fault::from(error);
-        println!(rt; "{}: {fault}", fault.status())?;
+        tell_text(rt, &Fault::from(error))?;
+    }
+    tell_text(rt, &Fault::from(ServiceError::Listen))?;
+    for error in [ServeError::Accept, ServeError::NoThread, ServeError::Memory] {
+        tell_text(rt, &Fault::from(ServiceError::Serve(error)))?;
     }
     Ok(())
 }
 
-/// Runs each line, and gives the status of the last.
-fn tell_all(rt: &HostRuntime) -> io::Result<u8> {
+fn main(rt: HostRuntime) -> ExitCode {
     let alloc = rt.alloc();
     let mut status = 0;
     for line in rt.lines(alloc) {
-        let line = line?;
+        let Ok(line) = line else {
+            return ExitCode::from(100);
+        };
         if let Some(run) = lines::read_line(line.as_str()) {
-            status = lines::tell(rt, alloc, &run)?;
+            match lines::tell(&rt, &rt, alloc, &run) {
+                Ok(told) => status = told,
+                Err(_) => return ExitCode::from(100),
+            }
         }
     }
-    tell_texts(rt)?;
-    Ok(status)
-}
-
-fn main(rt: HostRuntime) -> ExitCode {
-    match tell_all(&rt) {
-        Ok(status) => ExitCode::from(status),
+    match tell_texts(&rt) {
+        Ok(()) => ExitCode::from(status),
         Err(_) => ExitCode::from(100),
     }
 }

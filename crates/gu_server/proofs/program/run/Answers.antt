@@ -1,5 +1,6 @@
 use Rattle.std.proofs.Common.{inl, inr, rules}
 use Rattle.std.proofs.lemmas.Result.{err_from_is_err_and}
+use Rattle.gu_server.proofs.Served.{served_does}
 use Rattle.gu_server.proofs.program.run.Goals as goal
 
 -- the batch ended with an error, which the fault tells
@@ -28,7 +29,7 @@ returns-in_err-run_trace-in-Ok-Trace-clause-does g c =
     rw (p.1) (inr (
       c.in_err-run_trace-in-Ok-Trace.field-0.0,
       p.2,
-      inr (record {
+      inr (inl (record {
         path = c.as_str-in-Ok-Trace.result.now;
         command = search rules;
         asked = search rules;
@@ -37,5 +38,24 @@ returns-in_err-run_trace-in-Ok-Trace-clause-does g c =
         house = c.in_ok-house-in-Ok-Trace.house;
         named = c.in_ok-house-in-Ok-Trace.ensures;
         traces = c.in_err-run_trace-in-Ok-Trace.ensures;
-      }),
+      })),
     ))
+
+-- the trace was told to its end
+pub returns-in_ok-run_trace-in-Ok-Trace-clause-does : goal.returns-in_ok-run_trace-in-Ok-Trace-clause-does
+returns-in_ok-run_trace-in-Ok-Trace-clause-does g c =
+    inr (inl (record {
+      path = c.as_str-in-Ok-Trace.result.now;
+      command = search rules;
+      asked = search rules;
+      trade = c.in-Ok-Trace.trade;
+      meant = search rules;
+      house = c.in_ok-house-in-Ok-Trace.house;
+      named = c.in_ok-house-in-Ok-Trace.ensures;
+      traces = c.in_ok-run_trace-in-Ok-Trace.ensures;
+    }))
+
+-- firms were served
+pub returns-in_ok-house-in-Ok-Serve-clause-does : goal.returns-in_ok-house-in-Ok-Serve-clause-does
+returns-in_ok-house-in-Ok-Serve-clause-does g c =
+    served_does _ _ c.as_str-in-Ok-Serve.result.now c.in_ok-house-in-Ok-Serve.house _ _ _ _ _ _ _ c.serve_and_tell.result (search rules) (search rules) c.in_ok-house-in-Ok-Serve.ensures c.serve_and_tell.ensures

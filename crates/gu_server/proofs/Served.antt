@@ -1,0 +1,31 @@
+-- What was done where firms were served.
+use Rattle.std.proofs.Common.{◌≡◌, ℕ, inl, inr, List, Option, Some, Result, Ok, Err, codes, IfErr, refl, ap, ◌∙◌}
+use Rattle.clap.specs.Words.{Text}
+use Rattle.gu_base.specs.House.{House}
+use Rattle.gu_server.specs.Lines.{command_in, house_in}
+use Rattle.gu_server.specs.Program.{Names, Serves, Does, IsUnderstood}
+use Rattle.gu_server.specs.declared.fault.Fault.{Fault}
+use Rattle.gu_server.specs.declared.fault.Fault.TheVariants as fault
+use Rattle.gu_server.proofs.ReadAlong.{tells}
+
+-- the words' house file has a house table, by which firms were served
+pub served_does : (words : List Text) (bytes_at : Text → Option (List ℕ)) (path : Text) (house : House) (l : Option (List ℕ)) (x f : ℕ) (b c : Option (List ℕ)) (v w : ℕ) (r : Result (Unit {0}) Fault)
+    → command_in words ≡ Some (codes "serve") → house_in words ≡ Some path → Names (bytes_at path) (Ok house) → Serves house b c v w r → Does words bytes_at (tells l x f b v) (tells l x f c w) r
+served_does words bytes_at path house l x f b c v w (Ok done) command asked named (book, served, totals) =
+    inr (inr (record { path = path; command = command; asked = asked; house = house; named = named; book = book; served = served; unread = (refl, refl, refl); totals = totals }))
+served_does words bytes_at path house l x f b c v w (Err (fault.Service e)) command asked named (same, never) =
+    inl (record { path = path; command = command; asked = asked; house = house; named = named }, ap (λ y. tells l x f y w) same ∙ ap (λ y. tells l x f b y) never)
+served_does words bytes_at path house l x f b c v w (Err (fault.Run e)) command asked named (book, served, totals) =
+    inr (e, refl, inr (inr (record { path = path; command = command; asked = asked; house = house; named = named; book = book; served = served; unread = (refl, refl, refl); totals = totals })))
+served_does words bytes_at path house l x f b c v w (Err (fault.Usage t)) command asked named h = absurd h
+served_does words bytes_at path house l x f b c v w (Err fault.HouseFile) command asked named h = absurd h
+served_does words bytes_at path house l x f b c v w (Err (fault.HouseLine e)) command asked named h = absurd h
+
+-- and they were understood
+pub served_understood : (house : House) (b c : Option (List ℕ)) (v w : ℕ) (r : Result (Unit {0}) Fault) → Serves house b c v w r → IfErr r IsUnderstood
+served_understood house b c v w (Ok done) h = tt
+served_understood house b c v w (Err (fault.Service e)) h = tt
+served_understood house b c v w (Err (fault.Run e)) h = tt
+served_understood house b c v w (Err (fault.Usage t)) h = absurd h
+served_understood house b c v w (Err fault.HouseFile) h = tt
+served_understood house b c v w (Err (fault.HouseLine e)) h = tt

@@ -1,0 +1,21 @@
+-- What a turn of a connection does to its session, and what it sends.
+use Rattle.std.specs.Prelude.{◌≡◌, ◌≤ℤ◌, ℕ, ◌-◌, pos, List, ◌++◌, length, slice_get, false}
+use Rattle.std.specs.Option.{option_map_or}
+use Rattle.jiff.specs.Types.{Timestamp}
+use Rattle.gu_base.specs.declared.report.Report.{Report}
+use Rattle.gu_session.specs.declared.event.Event.{Event}
+use Rattle.gu_session.specs.declared.event.Actions.{Actions}
+use Rattle.gu_session.specs.Steps.{Seen}
+use Rattle.gu_session.specs.Text.{Steps}
+
+-- a step of the session by its table, at some moment from 1970 on
+abbrev pub StepsNow : Event → Seen → Seen → Actions → Type 0
+StepsNow e before after a = (now : Timestamp) × (pos 0 ≤ℤ now.nanosecond) × Steps now e before after a
+
+-- the session took the event and stays open, and what it sends was put behind what the turn sends
+abbrev pub Speaks : Event → Seen → Seen → List ℕ → List ℕ → Type 0
+Speaks e before after out out_after = (a : Actions) × StepsNow e before after a × (out_after ≡ out ++ a.send.items) × (a.close ≡ false)
+
+-- the number of the last report that was sent: that of the last of these, or the one before where there are none
+abbrev pub last_told : ℕ → List Report → ℕ
+last_told before reports = option_map_or (λ r. r.number) (slice_get reports (length reports - 1)) before

@@ -1,0 +1,202 @@
+//! One connection: its session, the bytes that came of it, and what it is to be sent. Nothing here asks the book.
+ghost use Rattle.std.specs.Prelude.{◌≡◌, ◌≤◌, ◌++◌, [], false, length, IfOk, OnOk, OnErr, IsErr};
+ghost use Rattle.std.specs.List.{All};
+ghost use Rattle.gu_base.specs.Limits.{most_parts};
+ghost use Rattle.gu_session.specs.Text.{ShowFewParts};
+ghost use Rattle.gu_session.specs.declared.event.Event.TheVariants.{Reply};
+ghost use Rattle.gu_server.specs.Turns.{StepsNow, Speaks, last_told};
+
+use gu_base::{Answer, FirmId, Report};
+use gu_codec::{Feed, Frame};
+use gu_parties::House;
+use gu_session::{Actions, Event, Session};
+use jiff::Timestamp;
+use std::alloc::Global;
+use std::io::Write;
+use std::net::TcpStream;
+use std::time::Clock;
+
+/// The connection is to be closed.
+#[derive(Clone, Copy, Debug, PartialEq, Eq)]
+pub(crate) struct Closed;
+
+/// What the bytes held have brought.
+#[derive(Drop)]
+pub(crate) enum Came {
+    /// They only begin a frame, if there are any.
+    Nothing,
+    /// A garbled frame, which is passed over.
+    Garbled,
+    /// A message, and what its step asks for.
+    Message(Actions),
+}
+
+/// One step of a session, now. A clock that can't be read or stands before 1970 closes the connection, as want of memory does.
+fn step<R: Clock>(rt: &R, session: &mut Session<'_>, event: Event<'_>) -> Result<Actions, Closed>
+    requires { ShowFewParts event }
+    ensures ok { IfOk result (λ a. StepsNow event.entry session.old session.new a) }
+    ensures err { OnErr result (session.new ≡ session.old) }
+{
+    let Ok(moment) = Timestamp::now(rt) else {
+        return Err(Closed);
+    };
+    match session.step(event, moment) {
+        Ok(actions) => Ok(actions),
+        Err(_) => Err(Closed),
+    }
+}
+
+/// What is kept of a connection between its turns.
+#[derive(Drop)]
+pub(crate) struct Connection<'a> {
+    session: Session<'a>,
+    feed: Feed,
+    /// The number of the last report that was sent, 0 at first.
+    told: u32,
+    /// What the turn sends, in one write at its end.
+    out: Vec<u8>,
+}
+
+impl<'a> Connection<'a> {
+    /// A connection before its first turn.
+    pub(crate) fn new(alloc: Global, house: &'a House) -> Result<Connection<'a>, Closed>
+        ensures told { IfOk result (λ c. c.told ≡ 0) }
+        ensures out { IfOk result (λ c. c.out.items ≡ []) }
+    {
+        match Feed::new(alloc) {
+            Ok(feed) => Ok(Connection {
+                session: Session::new(alloc, house),
+                feed,
+                told: 0,
+                out: Vec::new(alloc),
+            }),
+            Err(_) => Err(Closed),
+        }
+    }
+
+    /// The firm that has logged on.
+    pub(crate) fn firm(&self) -> Option<FirmId>
+        ensures { result ≡ self.now.session.link.firm }
+    {
+        self.session.firm()
+    }
+
+    /// The number of the last report that was sent, 0 at first.
+    pub(crate) fn told(&self) -> u32
+        ensures { result ≡ self.now.told }
+    {
+        self.told
+    }
+
+    /// How many bytes the next read may bring.
+    pub(crate) fn room(&self) -> usize {
+        self.feed.room()
+    }
+
+    /// Takes what a read has brought.
+    pub(crate) fn push(&mut self, piece: &[u8]) -> Result<(), Closed>
+        ensures ok { OnOk result (self.new.feed ≡ record self.old.feed { held = self.old.feed.held ++ piece.now }) }
+        ensures session { self.new.session ≡ self.old.session }
+        ensures told { self.new.told ≡ self.old.told }
+        ensures out { self.new.out.items ≡ self.old.out.items }
+    {
+        match self.feed.push(piece) {
+            Ok(()) => Ok(()),
+            Err(_) => Err(Closed),
+        }
+    }
+
+    /// Puts what a step sends behind what the turn sends. An `Err` closes the connection: the step asks for it, or memory ran out.
+    pub(crate) fn send(&mut self, actions: &Actions) -> Result<(), Closed>
+        ensures out { OnOk result (self.new.out.items ≡ self.old.out.items ++ actions.now.send.items) }
+        ensures open { OnOk result (actions.now.close ≡ false) }
+        ensures session { self.new.session ≡ self.old.session }
+        ensures told { self.new.told ≡ self.old.told }
+    {
+        if self.out.extend_from_slice(actions.send.as_slice()).is_err() || actions.close {
+            return Err(Closed);
+        }
+        Ok(())
+    }
+
+    /// Takes an event that leads to no call.
+    pub(crate) fn quiet<R: Clock>(&mut self, rt: &R, event: Event<'_>) -> Result<(), Closed>
+        requires { ShowFewParts event }
+        ensures ok { OnOk result (Speaks event.entry self.old.session self.new.session self.old.out.items self.new.out.items) }
+        ensures told { self.new.told ≡ self.old.told }
+    {
+        match step(rt, &mut self.session, event) {
+            Ok(actions) => self.send(&actions),
+            Err(e) => Err(e),
+        }
+    }
+
+    /// Ends the session.
+    pub(crate) fn end<R: Clock>(&mut self, rt: &R) -> Result<(), Closed>
+        ensures { IsErr result }
+    {
+        let _ = self.quiet(rt, Event::End);
+        Err(Closed)
+    }
+
+    /// Takes the next frame that has come whole. A broken stream ends the session.
+    pub(crate) fn next<R: Clock>(&mut self, rt: &R) -> Result<Came, Closed>
+        ensures told { self.new.told ≡ self.old.told }
+        ensures out { self.new.out.items ≡ self.old.out.items }
+    {
+        match self.feed.next() {
+            None => Ok(Came::Nothing),
+            Some(Frame::Partial) => Ok(Came::Nothing),
+            Some(Frame::Garbled { .. }) => Ok(Came::Garbled),
+            Some(Frame::Whole { fields, .. }) => {
+                match step(rt, &mut self.session, Event::Message(fields)) {
+                    Ok(actions) => Ok(Came::Message(actions)),
+                    Err(e) => Err(e),
+                }
+            }
+            Some(Frame::Broken { .. }) => {
+                let _ = step(rt, &mut self.session, Event::End);
+                Err(Closed)
+            }
+        }
+    }
+
+    /// Sends the answer to the call that waits, if one does, and the reports, and notes the last that was sent.
+    pub(crate) fn send_reply<R: Clock>(
+        &mut self,
+        rt: &R,
+        answer: Option<Answer>,
+        reports: Vec<Report>,
+    ) -> Result<(), Closed>
+        requires { All (λ r. length r.parts ≤ most_parts) reports.items }
+        ensures ok { OnOk result (Speaks (Reply answer reports) self.old.session self.new.session self.old.out.items self.new.out.items) }
+        ensures told { OnOk result (self.new.told ≡ last_told self.old.told reports.items) }
+    {
+        let last = match reports.as_slice().last() {
+            Some(report) => report.number.get(),
+            None => self.told,
+        };
+        match self.quiet(rt, Event::Reply(answer, reports)) {
+            Ok(()) => {
+                self.told = last;
+                Ok(())
+            }
+            Err(e) => Err(e),
+        }
+    }
+
+    /// Writes what the turn sends.
+    pub(crate) fn write(&mut self, stream: &TcpStream) -> Result<(), Closed>
+        ensures out { self.new.out.items ≡ [] }
+        ensures session { self.new.session ≡ self.old.session }
+        ensures told { self.new.told ≡ self.old.told }
+    {
+        let mut to: &TcpStream = stream;
+        let written = to.write_all(self.out.as_slice());
+        self.out.clear();
+        match written {
+            Ok(()) => Ok(()),
+            Err(_) => Err(Closed),
+        }
+    }
+}

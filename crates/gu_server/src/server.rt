@@ -1,0 +1,229 @@
+//! The server: workers that share a book, each with one connection at a time.
+ghost use Rattle.std.specs.Prelude.{◌≡◌, ◌+◌, IfOk, IsTrue};
+ghost use Rattle.gu_desk.specs.Views.{is_worker_count};
+ghost use Rattle.gu_desk.specs.Runs.{IsRunOf};
+
+use crate::worker::Worker;
+use crossbeam_channel::{Receiver, Sender};
+use gu_book::Book;
+use gu_desk::{Desk, Gate, Ground, Job, Seat};
+use gu_parties::House;
+use std::alloc::Global;
+use std::io::ErrorKind;
+use std::marker::Brand;
+use std::net::{TcpListener, TcpStream};
+use std::sync::Wait;
+use std::thread;
+use std::thread::{JoinHandle, Threads};
+use std::time::Clock;
+use thiserror::Error;
+
+/// Why a server ended before it had served all its connections. The book is gone.
+#[derive(Clone, Copy, Debug, PartialEq, Eq, Error)]
+pub enum ServeError {
+    /// A connection couldn't be accepted.
+    #[error("accept failed")]
+    Accept,
+    /// A worker couldn't be started.
+    #[error("cannot start worker")]
+    NoThread,
+    /// Memory ran out.
+    #[error("out of memory")]
+    Memory,
+}
+
+/// How many accepted connections wait for a worker, beside the one in hand. The others wait in the system's queue, so that what a server
+/// keeps open is bounded by its workers.
+const WAITING: usize = 1;
+
+/// Serves connections until the channel is closed, and gives the seat back.
+fn work<J: Job, R: Wait + Clock, G: Gate>(
+    worker: Worker<'_, J, R, G>,
+    seat: Seat<J>,
+    streams: Receiver<TcpStream>,
+) -> Seat<J> {
+    let mut seat = seat;
+    for stream in streams.iter(worker.rt) {
+        seat = worker.attend(seat, stream);
+    }
+    seat
+}
+
+/// Accepts the next connection, and hands it to the workers, for whom it may wait. One that its peer broke off before is passed over.
+fn accept<R: Wait>(
+    rt: &R,
+    listener: &TcpListener,
+    to: &Sender<TcpStream>,
+) -> Result<(), ServeError> {
+    for _ in rt.forever() {
+        match listener.accept() {
+            Ok((stream, _peer)) => {
+                return match to.send(rt, stream) {
+                    Ok(()) => Ok(()),
+                    Err(_) => Err(ServeError::Memory),
+                };
+            }
+            Err(error) => match error.kind() {
+                ErrorKind::ConnectionAborted => {}
+                _ => return Err(ServeError::Accept),
+            },
+        }
+    }
+    unreachable!()
+}
+
+/// Accepts so many connections, or with 0 without end.
+fn accept_all<R: Wait>(
+    rt: &R,
+    listener: &TcpListener,
+    to: &Sender<TcpStream>,
+    connections: u32,
+) -> Result<(), ServeError> {
+    if connections == 0 {
+        for _ in rt.forever() {
+            accept(rt, listener, to)?;
+        }
+    }
+    for _ in 0..connections {
+        accept(rt, listener, to)?;
+    }
+    Ok(())
+}
+
+/// Joins the workers, and gives their seats back.
+fn join_all<J: Job, R: Threads>(
+    rt: &R,
+    alloc: Global,
+    handles: Vec<JoinHandle<Seat<J>>>,
+) -> Result<Vec<Seat<J>>, ServeError> {
+    let mut seats = Vec::new(alloc);
+    for handle in handles {
+        if seats.push(handle.join(rt)).is_err() {
+            return Err(ServeError::Memory);
+        }
+    }
+    Ok(seats)
+}
+
+/// Starts a worker for each seat, as this one but for its number, accepts the connections, and joins the workers. Gives the seats back.
+fn run_workers<J: Job + Send + Sync, R: Threads + Wait + Clock + Sync, G: Gate + Sync>(
+    first: Worker<'_, J, R, G>,
+    listener: &TcpListener,
+    seats: Vec<Seat<J>>,
+    connections: u32,
+) -> Result<Vec<Seat<J>>, ServeError> {
+    let Ok((to, from)) = crossbeam_channel::bounded(first.alloc, WAITING) else {
+        return Err(ServeError::Memory);
+    };
+    // Whatever ends the scope, the channel is closed then, and the workers end with their connections.
+    thread::scope(thread::scope_env(), first.rt, move |scope| {
+        let mut handles: Vec<JoinHandle<Seat<J>>> = Vec::new(first.alloc);
+        let mut number = 0u32;
+        for seat in seats {
+            let Ok(streams) = from.clone() else {
+                return Err(ServeError::Memory);
+            };
+            let worker = first.numbered(number);
+            let Ok(handle) = scope.spawn(move || work(worker, seat, streams)) else {
+                return Err(ServeError::NoThread);
+            };
+            if handles.push(handle).is_err() {
+                return Err(ServeError::Memory);
+            }
+            number = number.wrapping_add(1);
+        }
+        accept_all(first.rt, listener, &to, connections)?;
+        drop(to);
+        join_all(first.rt, first.alloc, handles)
+    })
+}
+
+/// A desk over this ground, from its opening to its close.
+fn run_desk<J: Job + Send + Sync, R: Threads + Wait + Clock + Sync, G: Gate + Sync>(
+    rt: &R,
+    alloc: Global,
+    listener: &TcpListener,
+    house: &House,
+    ground: Ground,
+    connections: u32,
+    gate: &G,
+) -> Result<Book, ServeError>
+    requires name { ground.name ≡ J.name }
+    requires parts { ground.workers + 1 ≡ J.parts }
+    requires opening { ground.opening ≡ J.opening }
+    ensures { IfOk result (λ b. IsRunOf J.opening b) }
+{
+    let (desk, seats) = match Desk::<J>::new(alloc, ground) {
+        Ok(opened) => opened,
+        Err((book, _)) => {
+            drop(book);
+            return Err(ServeError::Memory);
+        }
+    };
+    let first = Worker {
+        rt,
+        alloc,
+        desk: &desk,
+        house,
+        gate,
+        number: 0,
+    };
+    let seats = match run_workers(first, listener, seats, connections) {
+        Ok(seats) => seats,
+        Err(error) => {
+            drop(desk);
+            return Err(error);
+        }
+    };
+    match desk.close(seats) {
+        Ok(book) => Ok(book),
+        Err(left) => {
+            drop(left);
+            Err(ServeError::NoThread)
+        }
+    }
+}
+
+/// A copy of the house table for all workers, and the ground of their desk.
+fn prepare(alloc: Global, book: Book, workers: u32) -> Result<(House, Ground), ServeError>
+    requires { IsTrue (is_worker_count workers) }
+    ensures opening { IfOk result (λ r. r.1.opening ≡ book) }
+{
+    let house = match book.house().copy(alloc) {
+        Ok(house) => house,
+        Err(_) => {
+            drop(book);
+            return Err(ServeError::Memory);
+        }
+    };
+    match Ground::new(alloc, book, workers) {
+        Ok(ground) => Ok((house, ground)),
+        Err((book, _)) => {
+            drop(book);
+            drop(house);
+            Err(ServeError::Memory)
+        }
+    }
+}
+
+/// Serves so many connections, or with 0 connections without end, by 1 to 16 workers that share the book. Gives the book back when
+/// all have ended.
+///
+/// # Errors
+///
+/// `Accept`, `NoThread` and `Memory`, when the workers have ended; the book is dropped.
+pub fn serve<R: Threads + Wait + Clock + Sync, G: Gate + Sync>(
+    rt: &R,
+    alloc: Global,
+    listener: &TcpListener,
+    book: Book,
+    workers: u32,
+    connections: u32,
+    gate: &G,
+) -> Result<Book, ServeError>
+    requires { IsTrue (is_worker_count workers) }
+    ensures { IfOk result (λ b. IsRunOf book b) }
+{
+    let (house, ground) = prepare(alloc, book, workers)?;
+    run_desk::<Brand, R, G>(rt, alloc, listener, &house, ground, connections, gate)
+}

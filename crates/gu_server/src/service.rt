@@ -1,0 +1,69 @@
+//! The program's server: a book behind a port.
+
+ghost use Rattle.std.specs.Prelude.{IfOk, IsTrue};
+ghost use Rattle.gu_desk.specs.Views.{is_worker_count};
+ghost use Rattle.gu_server.specs.Program.{IsServed};
+
+use crate::server::{ServeError, serve};
+use gu_book::Book;
+use gu_desk::Gate;
+use gu_parties::House;
+use std::alloc::Global;
+use std::io::ErrorKind;
+use std::net::{Ipv4Addr, Net, TcpListener, TcpStream};
+use std::sync::Wait;
+use std::thread::Threads;
+use std::time::Clock;
+use thiserror::Error;
+
+/// Why a server has no book in the end.
+#[derive(Clone, Copy, Debug, PartialEq, Eq, Error)]
+pub enum ServiceError {
+    /// The port can't be listened on.
+    #[error("cannot listen")]
+    Listen,
+    /// The server ended before all its connections did.
+    #[error("{0}")]
+    Serve(ServeError),
+}
+
+/// Lets all calls pass.
+#[derive(Clone, Copy)]
+struct Open;
+
+impl Gate for Open {
+    fn before_book(&self, _worker: u32) -> bool {
+        true
+    }
+}
+
+/// Serves so many connections (0: without end) on a port of 127.0.0.1, by 1 to 16 workers that share an empty book of this house, and gives
+/// the book when all have ended.
+pub(crate) fn serve_port<
+    R: Threads + Wait + Clock + Net<Stream = TcpStream, Listener = TcpListener> + Sync,
+>(
+    rt: &R,
+    alloc: Global,
+    house: House,
+    port: u16,
+    workers: u32,
+    connections: u32,
+) -> Result<Book, ServiceError>
+    requires { IsTrue (is_worker_count workers) }
+    ensures { IfOk result (λ b. IsServed house b) }
+{
+    let listener = match TcpListener::bind(rt, (Ipv4Addr::LOCALHOST, port)) {
+        Ok(listener) => listener,
+        Err(error) => {
+            return Err(match error.kind() {
+                ErrorKind::OutOfMemory => ServiceError::Serve(ServeError::Memory),
+                _ => ServiceError::Listen,
+            });
+        }
+    };
+    let book = Book::new(alloc, house);
+    match serve(rt, alloc, &listener, book, workers, connections, &Open) {
+        Ok(book) => Ok(book),
+        Err(error) => Err(ServiceError::Serve(error)),
+    }
+}

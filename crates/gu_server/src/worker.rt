@@ -1,0 +1,204 @@
+//! A worker, and the turns of the connection that it serves.
+//!
+//! A turn reads at most 4,096 bytes, waiting one second for them, takes the messages that have come whole through the session, and sends
+//! all that comes of them in one write. Only the book is asked under the desk's lock: reading, decoding and writing are done without it.
+
+use crate::connection::{Came, Closed, Connection};
+use gu_base::{AllocId, Answer, Command, FirmId};
+use gu_codec::MAX_FRAME_LEN;
+use gu_desk::{Desk, Gate, Job, Seat};
+use gu_parties::House;
+use gu_session::{Actions, Event};
+use std::alloc::Global;
+use std::io;
+use std::io::{ErrorKind, Read};
+use std::net::TcpStream;
+use std::sync::Wait;
+use std::time::{Clock, Duration};
+
+/// The longest read of a turn, in bytes.
+const LONGEST_READ: usize = 4096;
+
+/// How long a read waits, in seconds.
+const READ_WAIT: u64 = 1;
+
+/// How long a write waits, in seconds. A peer that doesn't read holds a worker no longer.
+const WRITE_WAIT: u64 = 30;
+
+/// Sets how long a connection waits, and that what is written goes out at once.
+fn set_up(stream: &TcpStream) -> io::Result<()> {
+    stream.set_nodelay(true)?;
+    stream.set_read_timeout(Some(Duration::from_secs(READ_WAIT)))?;
+    stream.set_write_timeout(Some(Duration::from_secs(WRITE_WAIT)))
+}
+
+/// A worker: what it has for all its connections. Its seat goes from hand to hand.
+#[derive(Drop)]
+pub(crate) struct Worker<'a, J: Job, R, G> {
+    pub(crate) rt: &'a R,
+    pub(crate) alloc: Global,
+    pub(crate) desk: &'a Desk<J>,
+    pub(crate) house: &'a House,
+    pub(crate) gate: &'a G,
+    pub(crate) number: u32,
+}
+
+impl<'a, J: Job, R, G> Worker<'a, J, R, G> {
+    /// A worker as this one, with a number of its own.
+    pub(crate) fn numbered(&self, number: u32) -> Worker<'a, J, R, G> {
+        Worker {
+            rt: self.rt,
+            alloc: self.alloc,
+            desk: self.desk,
+            house: self.house,
+            gate: self.gate,
+            number,
+        }
+    }
+}
+
+impl<'a, J: Job, R: Wait + Clock, G: Gate> Worker<'a, J, R, G> {
+    /// Reads the firm's reports above the last that was sent, and sends the answer, if there is one, and them.
+    fn reply(
+        &self,
+        seat: Seat<J>,
+        connection: &mut Connection<'_>,
+        firm: &FirmId,
+        answer: Option<Answer>,
+    ) -> (Seat<J>, Result<(), Closed>) {
+        let (seat, reports) = self
+            .desk
+            .read_reports(self.rt, self.alloc, seat, firm, connection.told());
+        match reports {
+            Ok(reports) => (seat, connection.send_reply(self.rt, answer, reports)),
+            Err(_) => (seat, Err(Closed)),
+        }
+    }
+
+    /// Makes the call of a firm that has logged on, if the gate lets it pass, and sends the answer.
+    fn call(
+        &self,
+        seat: Seat<J>,
+        connection: &mut Connection<'_>,
+        id: &AllocId,
+        command: &Command,
+    ) -> (Seat<J>, Result<(), Closed>) {
+        let Some(firm) = connection.firm() else {
+            return (seat, Err(Closed));
+        };
+        if !self.gate.before_book(self.number) {
+            return (seat, Err(Closed));
+        }
+        let (seat, answer) = self
+            .desk
+            .call(self.rt, self.alloc, seat, &firm, id, command);
+        match answer {
+            Ok(answer) => self.reply(seat, connection, &firm, Some(answer)),
+            Err(_) => (seat, Err(Closed)),
+        }
+    }
+
+    /// Does what a message's step asks for.
+    fn act(
+        &self,
+        seat: Seat<J>,
+        connection: &mut Connection<'_>,
+        actions: Actions,
+    ) -> (Seat<J>, Result<(), Closed>) {
+        if connection.send(&actions).is_err() {
+            return (seat, Err(Closed));
+        }
+        let Actions {
+            send: _,
+            call,
+            close: _,
+        } = actions;
+        match call {
+            Some((id, command)) => self.call(seat, connection, &id, &command),
+            None => (seat, Ok(())),
+        }
+    }
+
+    /// Takes the messages that have come whole, one after the other, and then a Tick.
+    fn messages(
+        &self,
+        seat: Seat<J>,
+        connection: &mut Connection<'_>,
+    ) -> (Seat<J>, Result<(), Closed>) {
+        let mut seat = seat;
+        // A frame has a byte at least, so no feed holds more of them.
+        for _ in 0..MAX_FRAME_LEN {
+            match connection.next(self.rt) {
+                Ok(Came::Nothing) => break,
+                Ok(Came::Garbled) => {}
+                Ok(Came::Message(actions)) => {
+                    let (back, acted) = self.act(seat, connection, actions);
+                    seat = back;
+                    if acted.is_err() {
+                        return (seat, acted);
+                    }
+                }
+                Err(e) => return (seat, Err(e)),
+            }
+        }
+        (seat, connection.quiet(self.rt, Event::Tick))
+    }
+
+    /// A turn in which nothing came: a Tick, and the reports to a firm that has logged on.
+    fn idle(
+        &self,
+        seat: Seat<J>,
+        connection: &mut Connection<'_>,
+    ) -> (Seat<J>, Result<(), Closed>) {
+        if connection.quiet(self.rt, Event::Tick).is_err() {
+            return (seat, Err(Closed));
+        }
+        match connection.firm() {
+            Some(firm) => self.reply(seat, connection, &firm, None),
+            None => (seat, Ok(())),
+        }
+    }
+
+    /// One turn, without its write.
+    fn turn(
+        &self,
+        seat: Seat<J>,
+        connection: &mut Connection<'_>,
+        stream: &TcpStream,
+    ) -> (Seat<J>, Result<(), Closed>) {
+        let mut piece = [0; LONGEST_READ];
+        let most = connection.room().min(LONGEST_READ);
+        let mut from: &TcpStream = stream;
+        match from.read(&mut piece[..most]) {
+            Ok(0) => (seat, connection.end(self.rt)),
+            Ok(n) => match connection.push(&piece[..n]) {
+                Ok(()) => self.messages(seat, connection),
+                Err(e) => (seat, Err(e)),
+            },
+            Err(e) => match e.kind() {
+                ErrorKind::WouldBlock | ErrorKind::TimedOut => self.idle(seat, connection),
+                ErrorKind::Interrupted => (seat, Ok(())),
+                _ => (seat, connection.end(self.rt)),
+            },
+        }
+    }
+
+    /// Serves a connection to its end, and gives the seat back.
+    pub(crate) fn attend(&self, seat: Seat<J>, stream: TcpStream) -> Seat<J> {
+        if set_up(&stream).is_err() {
+            return seat;
+        }
+        let Ok(mut connection) = Connection::new(self.alloc, self.house) else {
+            return seat;
+        };
+        let mut seat = seat;
+        for _ in self.rt.forever() {
+            let (back, taken) = self.turn(seat, &mut connection, &stream);
+            seat = back;
+            if connection.write(&stream).is_err() || taken.is_err() {
+                break;
+            }
+        }
+        seat
+    }
+}
