@@ -69,7 +69,6 @@ taker_named by (Given _ giver taker) h = ap (λ (f : List ℕ). Some f) ((bytes_
 pub record IsDone (g : Grove) (trade : ℕ) (p : List ℕ) (r : Record) (h : Grove) (f : Rose → Rose) : Type 0 where
   pub tree : HasTree g trade (λ u. ChangesTree g h trade (edit_at f p u))
   pub place : HasTree g trade (HasAt p (λ v. Places g h r.number (head_of v).name))
-  pub last : last_place h ≡ r.number
 
 row_passes : {t : House} {l : List Record} {r : Record} {g : Grove} → IsNext t l r g → (c : Command) → r.command ≡ c → row t l r.firm c ≡ None
 row_passes {t} {l} {r} next c e = subst (λ (c : Command). row t l r.firm c ≡ None) e (refusal_parts t l r.firm r.command next.lawful).1
@@ -117,7 +116,7 @@ module _ {t : House} {l : List Record} {r : Record} {g : Grove} (next : IsNext t
       changed next s names h (edit_at f p s.tree)
       (from_tree s (λ u. ChangesTree g h trade (edit_at f p u)) done.tree)
       (subst (λ (m : EntryPart). Places g h r.number m) s.called (said_at s (λ v. Places g h r.number (head_of v).name) done.place))
-      shows count done.last
+      shows count
 
   reheaded : {trade : ℕ} {p : List ℕ} {n : EntryPart} (s : Spot l g trade p n) → named_node r.command ≡ Some n → made r ≡ []
       → (h : Grove) (f : Head → Head) → ((k : Head) → (f k).name ≡ k.name) → IsDone g trade p r h (λ v. with_head (f (head_of v)) v)
@@ -313,16 +312,14 @@ module _ {t : House} {l : List Record} {r : Record} {g : Grove} (next : IsNext t
   -- what the new tree shows is asked of it for this list
   pub trade_filed : (h : Grove) (new : Rose) → new ≡ leaf (root_head r.number place lots)
       → ((k : List Record) (q : Record) → IsTradeOf r.number place lots q → IsUnnamed k r.number → node_of k (record { entry = r.number; part = 0 }) ≡ None → IsTreeOf (k ++ q ∷ []) r.number new)
-      → ChangesTree g h r.number new → Places g h r.number (record { entry = r.number; part = 0 }) → last_place h ≡ r.number
-      → IsFiled (l ++ r ∷ []) h
-  trade_filed h new same shows changes places last =
+      → ChangesTree g h r.number new → Places g h r.number (record { entry = r.number; part = 0 }) → IsFiled (l ++ r ∷ []) h
+  trade_filed h new same shows changes places =
       planted next h new (ap is_trade is.command) (ap named_node is.command) (ap (named_place r.number) is.command) changes places
       (shows l r is (unnamed 0 r.number l (order next).orderly (low next)) no_root)
       (λ m.
       let a = ap (named m) same in
       let f = ap (λ (c : Command). count_of m (nodes_of r.number r.firm c)) is.command in
       omega (arith, a, f))
-      last
 
 -- what neither trades nor splits nor decides names and makes nothing
 record IsPlain (k : ℕ) (by : List ℕ) (c : Command) : Type 0 where

@@ -87,13 +87,7 @@ names_one n m (Initiate _) e is = absurd (cc)
 names_one n m (Decline _) e is = absurd (cc)
 names_one n m (Reverse _) e is = absurd (cc)
 
--- ---- the trees and places, but for the last of the places
-
-pub record IsFiledSoFar (l : List Record) (g : Grove) : Type 0 where
-  pub live : (k : ℕ) → is_some (tree_of g k) ≡ is_live_trade l k
-  pub shown : (k : ℕ) → IfSome (tree_of g k) (IsTreeOf l k)
-  pub whole : (n : EntryPart) (x : Node) → node_of l n ≡ Some x → IsIn g n
-  pub placed : (k : ℕ) → place_of g k ≡ place_in l k
+-- ---- the trees and places of the others
 
 module _ (t : House) (l : List Record) (r : Record) (replayed : first_refused t [] l ≡ None) (rises : RisesFrom 1 l) (among : Contains l r) (free : standing_on t l r.number ≡ None) (g : Grove) (filed : IsFiled l g) where
   left_live : (k : ℕ) → is_trade r.command ≡ false → is_live_trade (without l r.number) k ≡ is_live_trade l k
@@ -156,7 +150,7 @@ module _ (t : House) (l : List Record) (r : Record) (replayed : first_refused t 
           | inr other ↦ has_tree is.0 u.0 m (there_now is.0 other ∙ u.1) u.2
         ]
 
-    pub taken_back : IsFiledSoFar (without l r.number) h
+    pub taken_back : IsFiled (without l r.number) h
     taken_back = record {
       live = λ k. elim (by-cases k trade) [
         | inl same ↦ ap is_some (ap (tree_of h) same ∙ here_now)
@@ -221,7 +215,7 @@ module _ (t : House) (l : List Record) (r : Record) (replayed : first_refused t 
           | inr other ↦ (is.0, subst (λ (o : Option Rose). IsSomeAnd o (λ t. 1 ≤ named m t)) (sym (others_now is.0 other ∙ u.1)) u.2)
         ]
 
-    pub uprooted : IsFiledSoFar (without l r.number) h
+    pub uprooted : IsFiled (without l r.number) h
     uprooted = record {
       live = λ k. elim (by-cases k r.number) [
         | inl same ↦ ap is_some (ap (tree_of h) same ∙ gone_now) ∙ (sym no_trade_left ∙ ap (is_live_trade (without l r.number)) (sym same))

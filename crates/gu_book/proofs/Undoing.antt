@@ -54,7 +54,7 @@ use Rattle.gu_book.proofs.Charging.{is_charged}
 use Rattle.gu_book.proofs.HoldingRows.{is_own_key}
 use Rattle.gu_book.proofs.Orders.{InOrder, in_order}
 use Rattle.gu_book.proofs.Placed.{node_stands}
-use Rattle.gu_book.proofs.Replaying.{rises_without, without_small, without_within}
+use Rattle.gu_book.proofs.Without.{rises_without, without_small, without_within}
 use Rattle.gu_book.proofs.Restored.{replay_on}
 use Rattle.gu_book.proofs.SoundNext.{next_from_accepted}
 use Rattle.gu_book.proofs.Standings.{moved_by, taken_part, position_within}

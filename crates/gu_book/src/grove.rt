@@ -1,7 +1,7 @@
 //! The trees of the live trades, and the places of the live changes in them.
 ghost use Rattle.std.specs.Prelude.{◌≡◌, ◌≤◌, option_map, IfOk, OnOk, OnErr, IsSome};
 ghost use Rattle.gu_base.specs.declared.command.Command.TheVariants.{Split, Claim};
-ghost use Rattle.gu_tree.specs.Grove.{tree_of, IsSameGrove};
+ghost use Rattle.gu_tree.specs.Grove.{tree_of, last_place, IsSameGrove};
 ghost use Rattle.gu_tree.specs.Rose.{rows};
 ghost use Rattle.gu_tree.specs.Shown.{GivesBack, IsTradeOf};
 ghost use Rattle.gu_book.specs.Filed.{IsDue, Follows};
@@ -16,7 +16,8 @@ fn plant(trees: &mut Trees<Global>, alloc: Global, made: &Record, place: Place, 
     requires tree_room { 1 ≤ trees.old.tree_room }
     requires place_room { 1 ≤ trees.old.place_room }
     requires trade { IsTradeOf made.now.number place lots made.now }
-    ensures { Follows made.now trees.old trees.new }
+    ensures follows { Follows made.now trees.old trees.new }
+    ensures last { last_place trees.new ≤ made.now.number }
 {
     trees.plant(Tree::new(alloc, made.number, place, lots));
 }
@@ -32,6 +33,7 @@ fn split(
     requires place_room { 1 ≤ trees.old.place_room }
     requires split { made.now.command ≡ Split node parts.now }
     ensures follows { OnOk result (Follows made.now trees.old trees.new) }
+    ensures last { OnOk result (last_place trees.new ≤ made.now.number) }
     ensures unchanged { OnErr result (IsSameGrove trees.old trees.new) }
 {
     let Some(spot) = trees.find(node) else {
@@ -45,7 +47,8 @@ fn claim(trees: &mut Trees<Global>, made: &Record, node: NodeName, account: Acco
     requires due { IsDue made.now trees.old }
     requires place_room { 1 ≤ trees.old.place_room }
     requires claim { made.now.command ≡ Claim node account }
-    ensures { Follows made.now trees.old trees.new }
+    ensures follows { Follows made.now trees.old trees.new }
+    ensures last { last_place trees.new ≤ made.now.number }
 {
     let Some(spot) = trees.find(node) else {
         unreachable!()
@@ -62,7 +65,8 @@ fn give_back(trees: &mut Trees<Global>, made: &Record, node: NodeName, state: St
     requires due { IsDue made.now trees.old }
     requires place_room { 1 ≤ trees.old.place_room }
     requires back { GivesBack node state made.now.command }
-    ensures { Follows made.now trees.old trees.new }
+    ensures follows { Follows made.now trees.old trees.new }
+    ensures last { last_place trees.new ≤ made.now.number }
 {
     let Some(spot) = trees.find(node) else {
         unreachable!()
@@ -76,6 +80,7 @@ fn make(trees: &mut Trees<Global>, alloc: Global, made: &Record) -> Result<(), M
     requires tree_room { 1 ≤ trees.old.tree_room }
     requires place_room { 1 ≤ trees.old.place_room }
     ensures follows { OnOk result (Follows made.now trees.old trees.new) }
+    ensures last { OnOk result (last_place trees.new ≤ made.now.number) }
     ensures unchanged { OnErr result (IsSameGrove trees.old trees.new) }
 {
     match &made.command {
@@ -106,6 +111,7 @@ fn make(trees: &mut Trees<Global>, alloc: Global, made: &Record) -> Result<(), M
 pub(crate) fn change(trees: &mut Trees<Global>, alloc: Global, made: &Record) -> Result<(), Memory>
     requires { IsDue made.now trees.old }
     ensures follows { OnOk result (Follows made.now trees.old trees.new) }
+    ensures last { OnOk result (last_place trees.new ≤ made.now.number) }
     ensures unchanged { OnErr result (IsSameGrove trees.old trees.new) }
 {
     trees.ready()?;

@@ -1,0 +1,263 @@
+-- What the trees say of a change on which nothing stands: it can be taken back at its node.
+use Rattle.std.proofs.Common.{◌≡◌, ◌≢◌, ℕ, ◌+◌, ◌≤◌, Bool, true, false, ◌&&◌, ◌||◌, List, [], ◌∷◌, length, refl, sym, ◌∙◌, ap, subst, arith, cond, Option, All, Contains, IsTrue, ◌⊎◌, inl, inr}
+use Rattle.std.specs.Prelude.{is_none, Some, None, find, ◌==◌, is_some, option_and_then, option_map, IsSomeAnd}
+use Rattle.std.specs.List.{list_any}
+use Rattle.std.proofs.lemmas.Bool.{or_parts}
+use Rattle.std.proofs.lemmas.Bool.Decides.{Decides-eqb}
+use Rattle.std.proofs.lemmas.List.Elements.{All-nil, All-cons, All-head, All-tail, All-contains}
+use Rattle.std.proofs.lemmas.Option.{same_Some}
+use Rattle.std.proofs.Math.Bool.{or-true}
+use Rattle.gu_base.specs.Numbers.{EntryPart}
+use Rattle.gu_base.specs.House.{House}
+use Rattle.gu_base.specs.Nodes.{node_of, nodes_of, nodes_of_parts, same_name, split_of, decision_of, splits, decides, is_given, parent, kind_of_part}
+use Rattle.gu_base.specs.Rows.{state_of}
+use Rattle.gu_base.specs.declared.command.Command.{Command}
+use Rattle.gu_base.specs.declared.command.Command.TheVariants.{Trade, Split, Claim, Refuse, Cancel, Initiate, Decline, Reverse}
+use Rattle.gu_base.specs.declared.command.Part.{Part}
+use Rattle.gu_base.specs.declared.entry.Record.{Record}
+use Rattle.gu_base.specs.declared.node.Kind.{Kind}
+use Rattle.gu_base.specs.declared.node.Kind.TheVariants.{Root, Own, Given}
+use Rattle.gu_base.specs.declared.node.Node.{Node}
+use Rattle.gu_base.specs.declared.node.Place.{Place}
+use Rattle.gu_base.specs.declared.state.State.{State}
+use Rattle.gu_base.specs.declared.state.State.TheVariants.{Claimed}
+use Rattle.gu_base.proofs.Basics.{no_some, none_is_some, nothing_here}
+use Rattle.gu_base.proofs.NodeNames.{name_is, name_same, node_called}
+use Rattle.gu_base.proofs.Numbered.{rises_later}
+use Rattle.gu_base.proofs.Searches.{found_in, find_passes}
+use Rattle.gu_depend.specs.Under.{names, is_under, stands_under, IsLeastUnder}
+use Rattle.gu_depend.proofs.Finds.{found_once}
+use Rattle.gu_depend.proofs.Grown.{NamesThere}
+use Rattle.gu_depend.proofs.NamedOnce.{NamedOnce, named_once}
+use Rattle.gu_depend.proofs.Replay.{NumbersOnce, number_once}
+use Rattle.gu_depend.proofs.Settled.{facts}
+use Rattle.gu_depend.proofs.StandsLast.{any_in}
+use Rattle.gu_depend.proofs.StandsUnder.{standing_is_least}
+use Rattle.gu_tree.specs.Rose.{Rose, Roses, leaf, parted, no_parts, part_then, head_of, named, named_below, split_of_node}
+use Rattle.gu_tree.specs.Paths.{node_at, edit_at, HasAt}
+use Rattle.gu_tree.specs.Changes.{is_undecided_leaf, are_undecided_leaves, can_unsplit, unsplit_node, IsClaimedLeaf, IsGivenBackLeaf, is_given_back}
+use Rattle.gu_tree.specs.Grove.{Grove, tree_of, place_of, IsPlace, IsSapling, IsDecidedIn, IsSplitIn, HasFreeParts}
+use Rattle.gu_tree.specs.Shown.{IsTreeOf, IsNodeOf, ArePartsOf, IsHeadOf, SplitsNode, named_node}
+use Rattle.gu_tree.specs.ShownAll.{change_of, named_place, place_in}
+use Rattle.gu_tree.specs.declared.head.Head.{Head}
+use Rattle.gu_tree.proofs.Along.{its-head}
+use Rattle.gu_tree.proofs.ShowsLess.{no-root-part}
+use Rattle.gu_book.specs.Filed.{IsFiled, IsFree, Claims, TurnsDown}
+use Rattle.gu_book.specs.TreeRows.{is_trade, is_live_trade}
+use Rattle.gu_book.proofs.Filed.{Spot, placed_in, tree_shown}
+use Rattle.gu_book.proofs.FiledChanges.{its_node}
+use Rattle.gu_book.proofs.Named.{count_of, count_cons, found_counts}
+use Rattle.gu_book.proofs.Orders.{InOrder, in_order}
+
+-- ---- what a command names
+
+-- what names a node splits or decides it
+pub names_it : (n : EntryPart) (c : Command) → named_node c ≡ Some n → names n c ≡ true
+names_it n (Split m _) e = ap (λ b. b || false) (ap (λ k. same_name k n) (same_Some m n e) ∙ name_same n)
+names_it n (Claim m _) e = ap (λ k. same_name k n) (same_Some m n e) ∙ name_same n
+names_it n (Refuse m) e = ap (λ k. same_name k n) (same_Some m n e) ∙ name_same n
+names_it n (Cancel m) e = ap (λ k. same_name k n) (same_Some m n e) ∙ name_same n
+names_it n (Trade _ _ _ _ _) e = absurd (cc)
+names_it n (Initiate _) e = absurd (cc)
+names_it n (Decline _) e = absurd (cc)
+names_it n (Reverse _) e = absurd (cc)
+
+-- a Split, as the book says it
+pub split_names : (n : EntryPart) (c : Command) → SplitsNode n c → (named_node c ≡ Some n) × (splits n c ≡ true)
+split_names n (Split m _) e = (ap (λ k. Some k) e, ap (λ k. same_name k n) e ∙ name_same n)
+split_names n (Trade _ _ _ _ _) e = absurd e
+split_names n (Claim _ _) e = absurd e
+split_names n (Refuse _) e = absurd e
+split_names n (Cancel _) e = absurd e
+split_names n (Initiate _) e = absurd e
+split_names n (Decline _) e = absurd e
+split_names n (Reverse _) e = absurd e
+
+-- its parts stand under what names them
+under_split : (n : EntryPart) (k : ℕ) (by : List ℕ) (c e : Command) → SplitsNode n c → is_under k by c e ≡ list_any (λ x. names x.name e) (nodes_of k by c)
+under_split n k by (Split m ps) e is = refl
+under_split n k by (Trade _ _ _ _ _) e is = absurd is
+under_split n k by (Claim _ _) e is = absurd is
+under_split n k by (Refuse _) e is = absurd is
+under_split n k by (Cancel _) e is = absurd is
+under_split n k by (Initiate _) e is = absurd is
+under_split n k by (Decline _) e is = absurd is
+under_split n k by (Reverse _) e is = absurd is
+
+-- a name that isn't found doesn't count
+none_counts_of : (m : EntryPart) (xs : List Node) → find (λ x. same_name x.name m) xs ≡ None → count_of m xs ≡ 0
+none_counts_of m [] h = refl
+none_counts_of m (x ∷ xs) h =
+    let p = nothing_here (same_name x.name m) x (find (λ x. same_name x.name m) xs) h in
+    let a = count_cons m x xs in
+    let b = ap (λ t. cond {A = ℕ} t 1 0) p.0 in
+    let c = none_counts_of m xs p.1 in
+    omega (arith, a, b, c)
+
+-- a root is no part of a Split
+no_root : (n : EntryPart) (k trade : ℕ) (by : List ℕ) (c : Command) → SplitsNode n c → find (λ (x : Node). same_name x.name (record { entry = trade; part = 0 })) (nodes_of k by c) ≡ None
+no_root n k trade by (Split m ps) is = no-root-part trade k 1 m by ps (omega arith)
+no_root n k trade by (Trade _ _ _ _ _) is = absurd is
+no_root n k trade by (Claim _ _) is = absurd is
+no_root n k trade by (Refuse _) is = absurd is
+no_root n k trade by (Cancel _) is = absurd is
+no_root n k trade by (Initiate _) is = absurd is
+no_root n k trade by (Decline _) is = absurd is
+no_root n k trade by (Reverse _) is = absurd is
+
+-- a Trade has its own root as its place, each other change what it names
+placed_by : (k : ℕ) (c : Command) (m : EntryPart) → named_place k c ≡ Some m → (m ≡ record { entry = k; part = 0 }) ⊎ (names m c ≡ true)
+placed_by k (Trade _ _ _ _ _) m e = inl (sym (same_Some (record { entry = k; part = 0 }) m e))
+placed_by k (Split a ps) m e = inr (names_it m (Split a ps) e)
+placed_by k (Claim a account) m e = inr (names_it m (Claim a account) e)
+placed_by k (Refuse a) m e = inr (names_it m (Refuse a) e)
+placed_by k (Cancel a) m e = inr (names_it m (Cancel a) e)
+placed_by k (Initiate _) m e = absurd (cc)
+placed_by k (Decline _) m e = absurd (cc)
+placed_by k (Reverse _) m e = absurd (cc)
+
+-- a change of the list with its place
+record IsPlacedBy (l : List Record) (k : ℕ) (m : EntryPart) : Type 0 where
+  change : Record
+  among : Contains l change
+  number : change.number ≡ k
+  place : named_place change.number change.command ≡ Some m
+
+placer : (l : List Record) (k : ℕ) (m : EntryPart) → place_in l k ≡ Some m → IsPlacedBy l k m
+placer l k m e = by_change (change_of l k) refl e
+  where
+    by_change : (o : Option Record) → change_of l k ≡ o → option_and_then (λ r. named_place r.number r.command) o ≡ Some m → IsPlacedBy l k m
+    by_change None found h = absurd (cc)
+    by_change (Some d) found h = record {
+      change = d;
+      among = found_in (λ (r : Record). r.number == k) l d found;
+      number = (Decides-eqb d.number k).0 (find_passes (λ (r : Record). r.number == k) l d found);
+      place = h;
+    }
+
+-- ---- parts on which nothing stands
+
+abbrev IsBare : List Record → Node → Type 0
+IsBare l x = (split_of l x.name ≡ None) × (decision_of l x.name ≡ None)
+
+-- they are leaves that nobody has decided, and have the names of the nodes
+bare_node : (l : List Record) (above : Option Place) (x : Node) (t : Rose) (m : EntryPart) → IsNodeOf l above x t → IsBare l x → (is_undecided_leaf t ≡ true) × (named m t ≡ cond {A = ℕ} (same_name x.name m) 1 0)
+bare_node l above x (leaf h) m is bare =
+    (ap is_none (is.0.decision ∙ ap (option_map (λ r. r.number)) bare.1), ap (λ n. cond {A = ℕ} (same_name n m) 1 0) is.0.name)
+bare_node l above x (parted h n ts) m is bare = absurd (none_is_some (split_of l x.name) is.1.0 bare.0 is.1.1)
+
+bare_parts : (l : List Record) (above : Option Place) (xs : List Node) (ts : Roses) (m : EntryPart) → ArePartsOf l above xs ts → All (IsBare l) xs → (are_undecided_leaves ts ≡ true) × (named_below m ts ≡ count_of m xs)
+bare_parts l above [] no_parts m is bare = (refl, refl)
+bare_parts l above [] (part_then t ts) m is bare = absurd is
+bare_parts l above (x ∷ xs) no_parts m is bare = absurd is
+bare_parts l above (x ∷ xs) (part_then t ts) m is bare =
+    let a = bare_node l above x t m is.0 (All-head (IsBare l) x xs bare) in
+    let b = bare_parts l above xs ts m is.1 (All-tail (IsBare l) x xs bare) in
+    let c = count_cons m x xs in
+    (ap (λ t. t && are_undecided_leaves ts) a.0 ∙ b.0, omega (arith, a.1, b.1, c))
+
+-- a node that a Split of the list names has the parts of that Split
+record IsParted (l : List Record) (r : Record) (v : Rose) : Type 0 where
+  head : Head
+  parts : Roses
+  is : v ≡ parted head r.number parts
+  are : ArePartsOf l (Some head.place) (nodes_of r.number r.firm r.command) parts
+
+parted_by : (l : List Record) (above : Option Place) (x : Node) (r : Record) (v : Rose) → IsNodeOf l above x v → split_of l x.name ≡ Some r → IsParted l r v
+parted_by l above x r (leaf h) is found = absurd (none_is_some (split_of l x.name) r is.1 found)
+parted_by l above x r (parted h n ts) is found =
+    let same : is.1.0 ≡ r = same_Some is.1.0 r (sym is.1.1 ∙ found) in
+    record {
+      head = h;
+      parts = ts;
+      is = ap (λ k. parted h k ts) (sym is.1.2 ∙ ap (λ (d : Record). d.number) same);
+      are = subst (λ (d : Record). ArePartsOf l (Some h.place) (nodes_of d.number d.firm d.command) ts) same is.1.3;
+    }
+
+-- one that none names is a leaf
+record IsWhole (v : Rose) : Type 0 where
+  head : Head
+  is : v ≡ leaf head
+
+whole_by : (l : List Record) (above : Option Place) (x : Node) (v : Rose) → IsNodeOf l above x v → split_of l x.name ≡ None → IsWhole v
+whole_by l above x (leaf h) is none = record { head = h; is = refl }
+whole_by l above x (parted h n ts) is none = absurd (none_is_some (split_of l x.name) is.1.0 none is.1.1)
+
+-- only what has a parent is given
+given_below : (k : Kind) → is_given k ≡ true → parent k ≡ None → ⊥
+given_below (Root _) g none = cc
+given_below (Own _ _ _) g none = cc
+given_below (Given _ _ _) g none = cc
+
+module _ {t : House} {l : List Record} {r : Record} {g : Grove} (u : IsFree t l r g) where
+  pub order : InOrder l
+  order = in_order t l u.replayed u.rises
+
+  numbers : NumbersOnce l
+  numbers = number_once l order.distinct
+
+  once : NamedOnce l
+  once = named_once t l u.replayed
+
+  -- nothing stands on it
+  unnamed : (e : Record) → Contains l e → stands_under r e ≡ false
+  unnamed = subst (IsLeastUnder l r) u.free (standing_is_least t l r (rises_later 0 1 l (omega arith) u.rises) u.replayed u.among)
+
+  -- the node that it names lies in a tree
+  named_there : (n : EntryPart) → named_node r.command ≡ Some n → (x : Node) × (node_of l n ≡ Some x)
+  named_there n is = All-contains (NamesThere l) l r (facts t l u.replayed).grown.named u.among n (names_it n r.command is)
+
+  pub names_place : (n : EntryPart) → named_node r.command ≡ Some n → (trade : ℕ) × (p : List ℕ) × IsPlace g n trade p
+  names_place n is = let x = named_there n is in placed_in n (u.filed.whole n x.0 x.1)
+
+  -- and it has that node as its place
+  own_place : place_of g r.number ≡ named_place r.number r.command
+  own_place =
+      u.filed.placed r.number
+      ∙ ap (option_and_then (λ (d : Record). named_place d.number d.command)) (found_once (λ (d : Record). d.number == r.number) l r u.among ((Decides-eqb r.number r.number).1 refl) (numbers r.number))
+
+  -- a node that no change names has no Split and no decision
+  no_split : (m : EntryPart) → ((e : Record) → Contains l e → splits m e.command ≡ false) → split_of l m ≡ None
+  no_split m none =
+      no_some (split_of l m) (λ d h.
+      let yes = find_passes (λ (e : Record). splits m e.command) l d h in
+      let no = none d (found_in (λ (e : Record). splits m e.command) l d h) in
+      let z : true ≡ false = sym yes ∙ no in absurd (cc))
+
+  no_decision : (m : EntryPart) → ((e : Record) → Contains l e → decides m e.command ≡ false) → decision_of l m ≡ None
+  no_decision m none =
+      no_some (decision_of l m) (λ d h.
+      let yes = find_passes (λ (e : Record). decides m e.command) l d h in
+      let no = none d (found_in (λ (e : Record). decides m e.command) l d h) in
+      let z : true ≡ false = sym yes ∙ no in absurd (cc))
+
+  bare_each : (xs : List Node) → ((e : Record) → Contains l e → list_any (λ x. names x.name e.command) xs ≡ false) → All (IsBare l) xs
+  bare_each [] none = All-nil (IsBare l)
+  bare_each (x ∷ xs) none =
+      let here : (e : Record) → Contains l e → names x.name e.command ≡ false = λ e among. (or_parts (names x.name e.command) (list_any (λ x. names x.name e.command) xs) (none e among)).0 in
+      All-cons (IsBare l) x xs
+      (no_split x.name (λ e among. (or_parts (splits x.name e.command) (decides x.name e.command) (here e among)).0),
+        no_decision x.name (λ e among. (or_parts (splits x.name e.command) (decides x.name e.command) (here e among)).1))
+      (bare_each xs (λ e among. (or_parts (names x.name e.command) (list_any (λ x. names x.name e.command) xs) (none e among)).1))
+
+  -- ---- a Split
+
+  module _ {trade : ℕ} {p : List ℕ} {n : EntryPart} (s : Spot l g trade p n) (is : SplitsNode n r.command) where
+    abbrev made_parts : List Node
+    made_parts = nodes_of r.number r.firm r.command
+
+    none_named : (e : Record) → Contains l e → list_any (λ (x : Node). names x.name e.command) made_parts ≡ false
+    none_named e among = sym (under_split n r.number r.firm r.command e.command is) ∙ unnamed e among
+
+    its_split : split_of l s.said.node.name ≡ Some r
+    its_split =
+        ap (split_of l) (s.said.named ∙ s.called) ∙ found_once (λ (d : Record). splits n d.command) l r u.among (split_names n r.command is).1 (once.splits_once n)
+
+    its_parts : IsParted l r s.node
+    its_parts = parted_by l s.said.above s.said.node r s.node s.said.shown its_split
+
+    bare : (m : EntryPart) → (are_undecided_leaves its_parts.parts ≡ true) × (named_below m its_parts.parts ≡ count_of m made_parts)
+    bare m = bare_parts l (Some its_parts.head.place) made_parts its_parts.parts m its_parts.are (bare_each made_parts none_named)
+
+    pub splits_bare : IsTrue (can_unsplit s.node)
+    splits_bare = ap can_unsplit its_parts.is ∙ (bare n).0
