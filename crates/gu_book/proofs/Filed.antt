@@ -182,7 +182,7 @@ not_trade (Initiate _) n e = refl
 not_trade (Decline _) n e = refl
 not_trade (Reverse _) n e = refl
 
-place_named : (k : ℕ) (c : Command) (n : EntryPart) → named_node c ≡ Some n → named_place k c ≡ Some n
+pub place_named : (k : ℕ) (c : Command) (n : EntryPart) → named_node c ≡ Some n → named_place k c ≡ Some n
 place_named k (Trade _ _ _ _ _) n e = absurd (cc)
 place_named k (Split _ _) n e = e
 place_named k (Claim _ _) n e = e

@@ -81,20 +81,20 @@ module _ {l : List Record} {g : Grove} {trade : ℕ} {p : List ℕ} {n : EntryPa
   pub its_node : (x : Node) → node_of l n ≡ Some x → x ≡ s.said.node
   its_node x e = same_Some x s.said.node (sym e ∙ (ap (node_of l) (sym s.called) ∙ s.said.found))
 
-  at_tree : (P : Rose → Type 0) → P s.tree → HasTree g trade P
+  pub at_tree : (P : Rose → Type 0) → P s.tree → HasTree g trade P
   at_tree P is = subst (λ (o : Option Rose). IsSomeAnd o P) (sym s.found) is
 
-  from_tree : (P : Rose → Type 0) → HasTree g trade P → P s.tree
+  pub from_tree : (P : Rose → Type 0) → HasTree g trade P → P s.tree
   from_tree P has = at_fact P (tree_of g trade) s.tree s.found has
 
-  has_at : (P : Rose → Type 0) → P s.node → HasAt p P s.tree
+  pub has_at : (P : Rose → Type 0) → P s.node → HasAt p P s.tree
   has_at P is = subst (λ (o : Option Rose). IsSomeAnd o P) (sym s.at) is
 
   pub is_at : (P : Rose → Type 0) → P s.node → HasTree g trade (HasAt p P)
   is_at P is = at_tree (HasAt p P) (has_at P is)
 
   -- what a clause says of the node at the path is said of this one
-  said_at : (P : Rose → Type 0) → HasTree g trade (HasAt p P) → P s.node
+  pub said_at : (P : Rose → Type 0) → HasTree g trade (HasAt p P) → P s.node
   said_at P has = at_fact P _ s.node s.at (from_tree (HasAt p P) has)
 
   -- an offered node

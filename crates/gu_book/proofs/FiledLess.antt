@@ -32,6 +32,7 @@ use Rattle.gu_book.specs.TreeRows.{is_trade, is_live_trade}
 use Rattle.gu_book.proofs.Filed.{Spot, tree_shown, one_trade, not_trade, if_here, if_there}
 use Rattle.gu_book.proofs.Leaves.{other_number}
 use Rattle.gu_book.proofs.Orders.{in_order}
+use Rattle.gu_book.proofs.Without.{change_left}
 use Rattle.gu_book.proofs.Undoing.{within, unmade, shown_still, each_number}
 
 -- ---- what a list without a number says
@@ -45,17 +46,6 @@ any_left : (q : Record → Bool) (k : ℕ) (l : List Record) → All (λ d. d.nu
 any_left q k [] all = refl
 any_left q k (d ∷ l) all =
     any_step q k d l (without l k) (any_left q k l (All-tail (λ (d : Record). d.number ≡ k → q d ≡ false) d l all)) (All-head (λ (d : Record). d.number ≡ k → q d ≡ false) d l all) (d.number == k) refl
-
-find_step : (q : Record → Bool) (k : ℕ) (d : Record) (l xs : List Record) → find q xs ≡ find q l → (d.number ≡ k → q d ≡ false) → (b : Bool) → (d.number == k) ≡ b
-    → find q (cond (not b) (d ∷ xs) xs) ≡ cond (q d) (Some d) (find q l)
-find_step q k d l xs same other true is = same ∙ sym (ap (λ b. cond b (Some d) (find q l)) (other ((Decides-eqb d.number k).0 is)))
-find_step q k d l xs same other false is = ap (λ o. cond (q d) (Some d) o) same
-
--- a change of another number is found as before
-change_left : (k j : ℕ) (l : List Record) → k ≢ j → change_of (without l k) j ≡ change_of l j
-change_left k j [] other = refl
-change_left k j (d ∷ l) other =
-    find_step (λ d. d.number == j) k d l (without l k) (change_left k j l other) (λ same. other_number d.number j (λ e. other (sym same ∙ e))) (d.number == k) refl
 
 change_gone : (k : ℕ) (l : List Record) → change_of (without l k) k ≡ None
 change_gone k l =

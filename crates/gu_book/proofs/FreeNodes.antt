@@ -1,16 +1,17 @@
 -- What the trees say of a change on which nothing stands: it can be taken back at its node.
-use Rattle.std.proofs.Common.{◌≡◌, ◌≢◌, ℕ, ◌+◌, ◌≤◌, Bool, true, false, ◌&&◌, ◌||◌, List, [], ◌∷◌, length, refl, sym, ◌∙◌, ap, subst, arith, cond, Option, All, Contains, IsTrue, ◌⊎◌, inl, inr}
+use Rattle.std.proofs.Common.{◌≡◌, ◌≢◌, ℕ, ◌+◌, ◌<◌, ◌≤◌, Bool, true, false, ◌&&◌, ◌||◌, List, [], ◌∷◌, length, refl, sym, ◌∙◌, ap, subst, arith, cond, Option, All, Contains, IsTrue, ◌⊎◌, inl, inr}
 use Rattle.std.specs.Prelude.{is_none, Some, None, find, ◌==◌, is_some, option_and_then, option_map, IsSomeAnd}
 use Rattle.std.specs.List.{list_any}
-use Rattle.std.proofs.lemmas.Bool.{or_parts}
+use Rattle.std.proofs.lemmas.Bool.{or_parts, or_cases}
 use Rattle.std.proofs.lemmas.Bool.Decides.{Decides-eqb}
 use Rattle.std.proofs.lemmas.List.Elements.{All-nil, All-cons, All-head, All-tail, All-contains}
 use Rattle.std.proofs.lemmas.Option.{same_Some}
 use Rattle.std.proofs.Math.Bool.{or-true}
 use Rattle.gu_base.specs.Numbers.{EntryPart}
 use Rattle.gu_base.specs.House.{House}
+use Rattle.gu_base.specs.History.{is_change}
 use Rattle.gu_base.specs.Nodes.{node_of, nodes_of, nodes_of_parts, same_name, split_of, decision_of, splits, decides, is_given, parent, kind_of_part}
-use Rattle.gu_base.specs.Rows.{state_of}
+use Rattle.gu_base.specs.Rows.{state_of, state_after}
 use Rattle.gu_base.specs.declared.command.Command.{Command}
 use Rattle.gu_base.specs.declared.command.Command.TheVariants.{Trade, Split, Claim, Refuse, Cancel, Initiate, Decline, Reverse}
 use Rattle.gu_base.specs.declared.command.Part.{Part}
@@ -27,27 +28,26 @@ use Rattle.gu_base.proofs.Numbered.{rises_later}
 use Rattle.gu_base.proofs.Searches.{found_in, find_passes}
 use Rattle.gu_depend.specs.Under.{names, is_under, stands_under, IsLeastUnder}
 use Rattle.gu_depend.proofs.Finds.{found_once}
-use Rattle.gu_depend.proofs.Grown.{NamesThere}
 use Rattle.gu_depend.proofs.NamedOnce.{NamedOnce, named_once}
 use Rattle.gu_depend.proofs.Replay.{NumbersOnce, number_once}
-use Rattle.gu_depend.proofs.Settled.{facts}
+use Rattle.gu_depend.proofs.Names.{made_number}
 use Rattle.gu_depend.proofs.StandsLast.{any_in}
 use Rattle.gu_depend.proofs.StandsUnder.{standing_is_least}
 use Rattle.gu_tree.specs.Rose.{Rose, Roses, leaf, parted, no_parts, part_then, head_of, named, named_below, split_of_node}
 use Rattle.gu_tree.specs.Paths.{node_at, edit_at, HasAt}
 use Rattle.gu_tree.specs.Changes.{is_undecided_leaf, are_undecided_leaves, can_unsplit, unsplit_node, IsClaimedLeaf, IsGivenBackLeaf, is_given_back}
 use Rattle.gu_tree.specs.Grove.{Grove, tree_of, place_of, IsPlace, IsSapling, IsDecidedIn, IsSplitIn, HasFreeParts}
-use Rattle.gu_tree.specs.Shown.{IsTreeOf, IsNodeOf, ArePartsOf, IsHeadOf, SplitsNode, named_node}
+use Rattle.gu_tree.specs.Shown.{IsTreeOf, IsNodeOf, ArePartsOf, SplitsNode, DecidesNode, named_node}
 use Rattle.gu_tree.specs.ShownAll.{change_of, named_place, place_in}
 use Rattle.gu_tree.specs.declared.head.Head.{Head}
 use Rattle.gu_tree.proofs.Along.{its-head}
 use Rattle.gu_tree.proofs.ShowsLess.{no-root-part}
 use Rattle.gu_book.specs.Filed.{IsFiled, IsFree, Claims, TurnsDown}
 use Rattle.gu_book.specs.TreeRows.{is_trade, is_live_trade}
-use Rattle.gu_book.proofs.Filed.{Spot, placed_in, tree_shown}
-use Rattle.gu_book.proofs.FiledChanges.{its_node}
-use Rattle.gu_book.proofs.Named.{count_of, count_cons, found_counts}
-use Rattle.gu_book.proofs.Orders.{InOrder, in_order}
+use Rattle.gu_book.proofs.Filed.{Spot, spot, tree_shown, place_named}
+use Rattle.gu_book.proofs.FiledChanges.{its_head}
+use Rattle.gu_book.proofs.Named.{count_of, count_cons}
+use Rattle.gu_book.proofs.Orders.{InOrder, in_order, NamesLower, orderly_lower}
 
 -- ---- what a command names
 
@@ -84,6 +84,60 @@ under_split n k by (Initiate _) e is = absurd is
 under_split n k by (Decline _) e is = absurd is
 under_split n k by (Reverse _) e is = absurd is
 
+-- a claim, and what turns an offer down
+pub claim_names : (n : EntryPart) (c : Command) → Claims n c → (named_node c ≡ Some n) × (decides n c ≡ true) × (state_after c ≡ Claimed)
+claim_names n (Claim m _) e = (ap (λ k. Some k) e, ap (λ k. same_name k n) e ∙ name_same n, refl)
+claim_names n (Split _ _) e = absurd e
+claim_names n (Trade _ _ _ _ _) e = absurd e
+claim_names n (Refuse _) e = absurd e
+claim_names n (Cancel _) e = absurd e
+claim_names n (Initiate _) e = absurd e
+claim_names n (Decline _) e = absurd e
+claim_names n (Reverse _) e = absurd e
+
+pub turned_names : (n : EntryPart) (c : Command) → TurnsDown n c → (named_node c ≡ Some n) × (decides n c ≡ true) × (is_given_back (state_after c) ≡ true)
+turned_names n (Refuse m) e = (ap (λ k. Some k) e, ap (λ k. same_name k n) e ∙ name_same n, refl)
+turned_names n (Cancel m) e = (ap (λ k. Some k) e, ap (λ k. same_name k n) e ∙ name_same n, refl)
+turned_names n (Claim _ _) e = absurd e
+turned_names n (Split _ _) e = absurd e
+turned_names n (Trade _ _ _ _ _) e = absurd e
+turned_names n (Initiate _) e = absurd e
+turned_names n (Decline _) e = absurd e
+turned_names n (Reverse _) e = absurd e
+
+-- one of the two says which node is decided
+pub decides_node : (n : EntryPart) (c : Command) → decides n c ≡ true → DecidesNode n c
+decides_node n (Claim m _) e = name_is m n e
+decides_node n (Refuse m) e = name_is m n e
+decides_node n (Cancel m) e = name_is m n e
+decides_node n (Split _ _) e = absurd (cc)
+decides_node n (Trade _ _ _ _ _) e = absurd (cc)
+decides_node n (Initiate _) e = absurd (cc)
+decides_node n (Decline _) e = absurd (cc)
+decides_node n (Reverse _) e = absurd (cc)
+
+-- under a decision stands what splits its node
+under_decision : (n : EntryPart) (k : ℕ) (by : List ℕ) (c e : Command) → decides n c ≡ true → is_under k by c e ≡ splits n e
+under_decision n k by (Claim m _) e is = ap (λ a. splits a e) (name_is m n is)
+under_decision n k by (Refuse m) e is = ap (λ a. splits a e) (name_is m n is)
+under_decision n k by (Cancel m) e is = ap (λ a. splits a e) (name_is m n is)
+under_decision n k by (Split _ _) e is = absurd (cc)
+under_decision n k by (Trade _ _ _ _ _) e is = absurd (cc)
+under_decision n k by (Initiate _) e is = absurd (cc)
+under_decision n k by (Decline _) e is = absurd (cc)
+under_decision n k by (Reverse _) e is = absurd (cc)
+
+-- under a Trade what splits its root
+under_trade : (k : ℕ) (by : List ℕ) (c e : Command) → is_trade c ≡ true → is_under k by c e ≡ splits (record { entry = k; part = 0 }) e
+under_trade k by (Trade _ _ _ _ _) e is = refl
+under_trade k by (Split _ _) e is = absurd (cc)
+under_trade k by (Claim _ _) e is = absurd (cc)
+under_trade k by (Refuse _) e is = absurd (cc)
+under_trade k by (Cancel _) e is = absurd (cc)
+under_trade k by (Initiate _) e is = absurd (cc)
+under_trade k by (Decline _) e is = absurd (cc)
+under_trade k by (Reverse _) e is = absurd (cc)
+
 -- a name that isn't found doesn't count
 none_counts_of : (m : EntryPart) (xs : List Node) → find (λ x. same_name x.name m) xs ≡ None → count_of m xs ≡ 0
 none_counts_of m [] h = refl
@@ -115,6 +169,16 @@ placed_by k (Cancel a) m e = inr (names_it m (Cancel a) e)
 placed_by k (Initiate _) m e = absurd (cc)
 placed_by k (Decline _) m e = absurd (cc)
 placed_by k (Reverse _) m e = absurd (cc)
+
+no_place : (k : ℕ) (c : Command) → is_change c ≡ true → named_place k c ≡ None → ⊥
+no_place k (Trade _ _ _ _ _) change e = cc
+no_place k (Split _ _) change e = cc
+no_place k (Claim _ _) change e = cc
+no_place k (Refuse _) change e = cc
+no_place k (Cancel _) change e = cc
+no_place k (Initiate _) change e = cc
+no_place k (Decline _) change e = cc
+no_place k (Reverse _) change e = cc
 
 -- a change of the list with its place
 record IsPlacedBy (l : List Record) (k : ℕ) (m : EntryPart) : Type 0 where
@@ -203,41 +267,43 @@ module _ {t : House} {l : List Record} {r : Record} {g : Grove} (u : IsFree t l 
   unnamed : (e : Record) → Contains l e → stands_under r e ≡ false
   unnamed = subst (IsLeastUnder l r) u.free (standing_is_least t l r (rises_later 0 1 l (omega arith) u.rises) u.replayed u.among)
 
-  -- the node that it names lies in a tree
-  named_there : (n : EntryPart) → named_node r.command ≡ Some n → (x : Node) × (node_of l n ≡ Some x)
-  named_there n is = All-contains (NamesThere l) l r (facts t l u.replayed).grown.named u.among n (names_it n r.command is)
-
-  pub names_place : (n : EntryPart) → named_node r.command ≡ Some n → (trade : ℕ) × (p : List ℕ) × IsPlace g n trade p
-  names_place n is = let x = named_there n is in placed_in n (u.filed.whole n x.0 x.1)
-
-  -- and it has that node as its place
+  -- its place is the node that it made or named
   own_place : place_of g r.number ≡ named_place r.number r.command
   own_place =
       u.filed.placed r.number
       ∙ ap (option_and_then (λ (d : Record). named_place d.number d.command)) (found_once (λ (d : Record). d.number == r.number) l r u.among ((Decides-eqb r.number r.number).1 refl) (numbers r.number))
 
+  -- a change has a place
+  pub has_place : is_change r.command ≡ true → place_of g r.number ≡ None → ⊥
+  has_place change none = no_place r.number r.command change (sym own_place ∙ none)
+
+  pub its_spot : (trade : ℕ) (p : List ℕ) (n : EntryPart) → named_node r.command ≡ Some n → IsSomeAnd (place_of g r.number) (λ m. IsPlace g m trade p) → Spot l g trade p n
+  its_spot trade p n is at =
+      spot u.filed order trade p n (subst (λ (o : Option EntryPart). IsSomeAnd o (λ m. IsPlace g m trade p)) (own_place ∙ place_named r.number r.command n is) at)
+
   -- a node that no change names has no Split and no decision
   no_split : (m : EntryPart) → ((e : Record) → Contains l e → splits m e.command ≡ false) → split_of l m ≡ None
   no_split m none =
       no_some (split_of l m) (λ d h.
-      let yes = find_passes (λ (e : Record). splits m e.command) l d h in
+      let is_so = find_passes (λ (e : Record). splits m e.command) l d h in
       let no = none d (found_in (λ (e : Record). splits m e.command) l d h) in
-      let z : true ≡ false = sym yes ∙ no in absurd (cc))
+      let z : true ≡ false = sym is_so ∙ no in absurd (cc))
 
   no_decision : (m : EntryPart) → ((e : Record) → Contains l e → decides m e.command ≡ false) → decision_of l m ≡ None
   no_decision m none =
       no_some (decision_of l m) (λ d h.
-      let yes = find_passes (λ (e : Record). decides m e.command) l d h in
+      let is_so = find_passes (λ (e : Record). decides m e.command) l d h in
       let no = none d (found_in (λ (e : Record). decides m e.command) l d h) in
-      let z : true ≡ false = sym yes ∙ no in absurd (cc))
+      let z : true ≡ false = sym is_so ∙ no in absurd (cc))
 
   bare_each : (xs : List Node) → ((e : Record) → Contains l e → list_any (λ x. names x.name e.command) xs ≡ false) → All (IsBare l) xs
   bare_each [] none = All-nil (IsBare l)
   bare_each (x ∷ xs) none =
       let here : (e : Record) → Contains l e → names x.name e.command ≡ false = λ e among. (or_parts (names x.name e.command) (list_any (λ x. names x.name e.command) xs) (none e among)).0 in
-      All-cons (IsBare l) x xs
-      (no_split x.name (λ e among. (or_parts (splits x.name e.command) (decides x.name e.command) (here e among)).0),
-        no_decision x.name (λ e among. (or_parts (splits x.name e.command) (decides x.name e.command) (here e among)).1))
+      All-cons (IsBare l) x xs (
+        no_split x.name (λ e among. (or_parts (splits x.name e.command) (decides x.name e.command) (here e among)).0),
+        no_decision x.name (λ e among. (or_parts (splits x.name e.command) (decides x.name e.command) (here e among)).1),
+      )
       (bare_each xs (λ e among. (or_parts (names x.name e.command) (list_any (λ x. names x.name e.command) xs) (none e among)).1))
 
   -- ---- a Split
@@ -261,3 +327,165 @@ module _ {t : House} {l : List Record} {r : Record} {g : Grove} (u : IsFree t l 
 
     pub splits_bare : IsTrue (can_unsplit s.node)
     splits_bare = ap can_unsplit its_parts.is ∙ (bare n).0
+
+    -- the node that it splits has a lower number
+    other_number : n.entry ≢ r.number
+    other_number same =
+        let low : n.entry < r.number = (All-contains NamesLower l r (orderly_lower 0 l order.orderly) u.among) n (split_names n r.command is).0 in
+        absurd (omega (arith, low, same))
+
+    pub splits_in : IsSplitIn g s.node
+    splits_in =
+        subst (IsSplitIn g) (sym its_parts.is)
+        (own_place ∙ (place_named r.number r.command n (split_names n r.command is).0 ∙ ap (λ k. Some k) (sym called)), λ e. other_number (sym (e ∙ ap (λ (m : EntryPart). m.entry) called)))
+      where
+        called : its_parts.head.name ≡ n
+        called = sym (ap (λ v. (head_of v).name) its_parts.is) ∙ s.called
+
+    -- no other change has one of its parts as its place
+    none_among : (xs : List Node) (m : EntryPart) (d : Command) → list_any (λ (x : Node). names x.name d) xs ≡ false → names m d ≡ true → find (λ x. same_name x.name m) xs ≡ None
+    none_among xs m d none is_so =
+        no_some (find (λ x. same_name x.name m) xs) (λ x h.
+        let called : x.name ≡ m = name_is x.name m (find_passes (λ x. same_name x.name m) xs x h) in
+        let z : true ≡ false = sym (any_in (λ (x : Node). names x.name d) xs x (found_in (λ x. same_name x.name m) xs x h) (ap (λ k. names k d) called ∙ is_so)) ∙ none in
+        absurd (cc))
+
+    free_name : (e : ℕ) (m : EntryPart) → place_of g e ≡ Some m → count_of m made_parts ≡ 0
+    free_name e m at =
+        let d = placer l e m (sym (u.filed.placed e) ∙ at) in
+        none_counts_of m made_parts
+        (elim (placed_by d.change.number d.change.command m d.place) [
+          | inl root ↦ subst (λ (k : EntryPart). find (λ (x : Node). same_name x.name k) made_parts ≡ None) (sym root) (no_root n r.number d.change.number r.firm r.command is)
+          | inr names_m ↦ none_among made_parts m d.change.command (none_named d.change d.among) names_m
+        ])
+
+    pub splits_free : HasFreeParts g s.node
+    splits_free = subst (HasFreeParts g) (sym its_parts.is) (λ e m at. (bare m).1 ∙ free_name e m at)
+
+    -- its number is that of the Split
+    pub its_number : (P : ℕ → Type 0) → IsSomeAnd (split_of_node s.node) (λ q. P q.0) → P r.number
+    its_number P has = subst (λ (o : Option (ℕ × ℕ)). IsSomeAnd o (λ q. P q.0)) (ap split_of_node its_parts.is) has
+
+    -- and nothing else lies below it
+    pub others_above : (m : EntryPart) → m.entry ≢ r.number → named m s.node ≡ named m (unsplit_node s.node)
+    others_above m other =
+        let none : find (λ (x : Node). same_name x.name m) made_parts ≡ None = no_some (find (λ (x : Node). same_name x.name m) made_parts) (λ x h. other (made_number r m x h)) in
+        let a = none_counts_of m made_parts none in
+        let b = (bare m).1 in
+        let c = ap (named m) its_parts.is in
+        let d = ap (λ v. named m (unsplit_node v)) its_parts.is in
+        omega (arith, a, b, c, d)
+
+  -- ---- a decision
+
+  module _ {trade : ℕ} {p : List ℕ} {n : EntryPart} (s : Spot l g trade p n) (is : decides n r.command ≡ true) (names_n : named_node r.command ≡ Some n) where
+    none_under : (e : Record) → Contains l e → splits n e.command ≡ false
+    none_under e among = sym (under_decision n r.number r.firm r.command e.command is) ∙ unnamed e among
+
+    its_decision : decision_of l s.said.node.name ≡ Some r
+    its_decision =
+        ap (decision_of l) (s.said.named ∙ s.called) ∙ found_once (λ (d : Record). decides n d.command) l r u.among is (once.decisions_once n)
+
+    whole : IsWhole s.node
+    whole = whole_by l s.said.above s.said.node s.node s.said.shown (ap (split_of l) (s.said.named ∙ s.called) ∙ no_split n none_under)
+
+    is_given_there : is_given s.said.node.kind ≡ true
+    is_given_there =
+        let x = once.given s.said.node.name r its_decision in
+        let same : x.0 ≡ s.said.node = same_Some x.0 s.said.node (sym x.1.0 ∙ (ap (node_of l) s.said.named ∙ s.said.found)) in
+        ap (λ (y : Node). is_given y.kind) (sym same) ∙ x.1.1
+
+    -- the state in which it left the part
+    pub decided_state : (head_of s.node).state ≡ state_after r.command
+    decided_state =
+        (its_head s).state ∙ (ap (state_of s.said.node.kind) its_decision ∙ given_state s.said.node.kind is_given_there)
+      where
+        given_state : (k : Kind) → is_given k ≡ true → state_of k (Some r) ≡ state_after r.command
+        given_state (Root _) h = absurd (cc)
+        given_state (Own _ _ _) h = absurd (cc)
+        given_state (Given _ _ _) h = refl
+
+    pub its_leaf : (P : Rose → Type 0) → ((h : Head) → h ≡ head_of s.node → P (leaf h)) → P s.node
+    its_leaf P has = subst P (sym whole.is) (has whole.head (sym (ap head_of whole.is)))
+
+    -- it is no root
+    pub is_part : 1 ≤ length p
+    is_part = part_of p s.at
+      where
+        part_of : (q : List ℕ) → node_at q s.tree ≡ Some s.node → 1 ≤ length q
+        part_of (i ∷ q) at = omega arith
+        part_of [] at =
+            let same : s.tree ≡ s.node = same_Some s.tree s.node at in
+            let top = (its-head l None s.shown.root s.tree s.shown.tree).name in
+            let root : s.shown.root.name ≡ record { entry = trade; part = 0 } = node_called l (record { entry = trade; part = 0 }) s.shown.root s.shown.found in
+            let found : node_of l (head_of s.node).name ≡ Some s.shown.root = ap (node_of l) (ap (λ v. (head_of v).name) (sym same) ∙ (top ∙ root)) ∙ s.shown.found in
+            let one : s.said.node ≡ s.shown.root = same_Some s.said.node s.shown.root (sym s.said.found ∙ found) in
+            absurd (given_below s.said.node.kind is_given_there (ap (λ (x : Node). parent x.kind) one ∙ s.shown.top))
+
+    pub its_decided : (head_of s.node).decision ≡ Some r.number
+    its_decided = (its_head s).decision ∙ ap (option_map (λ (d : Record). d.number)) its_decision
+
+    pub decided_in : IsDecidedIn g s.node
+    decided_in =
+        subst (λ (o : Option ℕ). IsSomeAnd o (λ d. place_of g d ≡ Some (head_of s.node).name)) (sym its_decided)
+        (own_place ∙ (place_named r.number r.command n names_n ∙ ap (λ k. Some k) (sym s.called)))
+
+  -- ---- a Trade
+
+  module _ (trades : is_trade r.command ≡ true) where
+    abbrev root_name : EntryPart
+    root_name = record { entry = r.number; part = 0 }
+
+    -- it has a tree
+    has_tree : (tree : Rose) × (tree_of g r.number ≡ Some tree)
+    has_tree = some_tree (tree_of g r.number) refl
+      where
+        live : is_some (tree_of g r.number) ≡ true
+        live =
+            u.filed.live r.number
+            ∙ any_in (λ (d : Record). (d.number == r.number) && is_trade d.command) l r u.among (ap (λ b. b && is_trade r.command) ((Decides-eqb r.number r.number).1 refl) ∙ trades)
+
+        some_tree : (o : Option Rose) → tree_of g r.number ≡ o → (tree : Rose) × (tree_of g r.number ≡ Some tree)
+        some_tree None e = let z : false ≡ true = sym (ap is_some e) ∙ live in absurd (cc)
+        some_tree (Some tree) e = (tree, e)
+
+    root_shown : IsTreeOf l r.number has_tree.0
+    root_shown = tree_shown u.filed r.number has_tree.0 has_tree.1
+
+    root_called : root_shown.root.name ≡ root_name
+    root_called = node_called l root_name root_shown.root root_shown.found
+
+    root_unsplit : (e : Record) → Contains l e → splits root_name e.command ≡ false
+    root_unsplit e among = sym (under_trade r.number r.firm r.command e.command trades) ∙ unnamed e among
+
+    root_whole : IsWhole has_tree.0
+    root_whole = whole_by l None root_shown.root has_tree.0 root_shown.tree (ap (split_of l) root_called ∙ no_split root_name root_unsplit)
+
+    pub root_leaf : (h : Head) × (tree_of g r.number ≡ Some (leaf h)) × (h.name ≡ root_name)
+    root_leaf = (
+      root_whole.head,
+      has_tree.1 ∙ ap (λ v. Some v) root_whole.is,
+      sym (ap (λ v. (head_of v).name) root_whole.is) ∙ ((its-head l None root_shown.root has_tree.0 root_shown.tree).name ∙ root_called),
+    )
+
+    -- nobody decides a root
+    root_undecided : (d : Record) → Contains l d → decides root_name d.command ≡ true → ⊥
+    root_undecided d among is =
+        let x = once.given root_name d (found_once (λ (e : Record). decides root_name e.command) l d among is (once.decisions_once root_name)) in
+        let same : x.0 ≡ root_shown.root = same_Some x.0 root_shown.root (sym x.1.0 ∙ root_shown.found) in
+        given_below x.0.kind x.1.1 (ap (λ (y : Node). parent y.kind) same ∙ root_shown.top)
+
+    root_unnamed : (d : Record) → Contains l d → names root_name d.command ≡ true → ⊥
+    root_unnamed d among is = elim (or_cases (splits root_name d.command) (decides root_name d.command) is) [
+      | inl split ↦ (let z : true ≡ false = sym split ∙ root_unsplit d among in cc)
+      | inr decided ↦ root_undecided d among decided
+    ]
+
+    -- so the trade alone has the root as its place
+    pub root_alone : (e : ℕ) → place_of g e ≡ Some root_name → e ≡ r.number
+    root_alone e at =
+        let d = placer l e root_name (sym (u.filed.placed e) ∙ at) in
+        elim (placed_by d.change.number d.change.command root_name d.place) [
+          | inl root ↦ sym d.number ∙ sym (ap (λ (m : EntryPart). m.entry) root)
+          | inr named_it ↦ absurd (root_unnamed d.change d.among named_it)
+        ]

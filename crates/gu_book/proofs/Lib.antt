@@ -31,4 +31,5 @@ pub mod AllShown
 pub mod Undoing
 pub mod FiledLess
 pub mod FreeNodes
+pub mod Gone
 pub mod Crossing

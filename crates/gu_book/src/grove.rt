@@ -1,12 +1,13 @@
 //! The trees of the live trades, and the places of the live changes in them.
-ghost use Rattle.std.specs.Prelude.{◌≡◌, ◌≤◌, option_map, IfOk, OnOk, OnErr, IsSome};
+ghost use Rattle.std.specs.Prelude.{true, ◌≡◌, ◌≤◌, option_map, IfOk, OnOk, OnErr, IsSome};
+ghost use Rattle.gu_base.specs.History.{is_change, numbered_as};
 ghost use Rattle.gu_base.specs.declared.command.Command.TheVariants.{Split, Claim};
 ghost use Rattle.gu_tree.specs.Grove.{tree_of, last_place, IsSameGrove};
 ghost use Rattle.gu_tree.specs.Rose.{rows};
 ghost use Rattle.gu_tree.specs.Shown.{GivesBack, IsTradeOf};
-ghost use Rattle.gu_book.specs.Filed.{IsDue, Follows};
+ghost use Rattle.gu_book.specs.Filed.{IsDue, Follows, MayGo, IsGone};
 
-use gu_base::{AccountId, Command, Memory, NodeName, Number, Part, Place, Record, State};
+use gu_base::{AccountId, Command, Entry, Memory, NodeName, Number, Part, Place, Record, State};
 use gu_tree::{Row, Tree, Trees};
 use std::alloc::Global;
 
@@ -116,6 +117,27 @@ pub(crate) fn change(trees: &mut Trees<Global>, alloc: Global, made: &Record) ->
 {
     trees.ready()?;
     make(trees, alloc, made)
+}
+
+/// Takes the change of this number back, at the node that it made or named; nothing may stand on it. The trees are then those of
+/// the other changes. Takes no memory.
+pub(crate) fn undo(trees: &mut Trees<Global>, number: Number, undone: &Entry)
+    requires may_go { MayGo (numbered_as number undone.now) trees.old }
+    requires change { is_change undone.now.command ≡ true }
+    ensures gone { IsGone (numbered_as number undone.now) trees.old trees.new }
+    ensures last { last_place trees.new ≡ last_place trees.old }
+{
+    let Some(spot) = trees.place(number) else {
+        unreachable!()
+    };
+    match &undone.command {
+        Command::Trade { .. } => trees.uproot(number),
+        Command::Split { .. } => trees.unsplit(spot.0, &spot.1),
+        Command::Claim { .. } => trees.unclaim(spot.0, &spot.1),
+        Command::Refuse { .. } => trees.offer_again(spot.0, &spot.1),
+        Command::Cancel { .. } => trees.offer_again(spot.0, &spot.1),
+        _ => unreachable!(),
+    }
 }
 
 /// The rows of the tree of that trade; `None` where there is none, which takes no memory.
