@@ -119,7 +119,7 @@ fn holding_above(records: &[Record], trees: &Trees<Global>, name: NodeName) -> O
     ensures value { result ≡ option_and_then (held_above records.now) (node_of records.now name) }
     ensures lots { IfSome result (λ h. h.lots ≤ most_lots) }
 {
-    let Some(found) = find(trees, name) else {
+    let Some(node) = find(trees, name) else {
         return None;
     };
     let Some(parent) = parent_of(records, &name) else {
@@ -129,8 +129,8 @@ fn holding_above(records: &[Record], trees: &Trees<Global>, name: NodeName) -> O
         None => None,
         Some(above) => held_at(
             &above.head.place,
-            &traded_under(records, found.trade),
-            found.head.lots,
+            &traded_under(records, node.trade),
+            node.head.lots,
         ),
     }
 }

@@ -23,4 +23,4 @@ returns-in-Some-find-clause-lots c =
     let small = node_within c.args.records.now c.args.name c.requires.within in
     let lots : q.0.lots ≤ 10000000 = subst (λ (o : Option Node). IfSome o (λ x. x.lots ≤ 10000000)) (found_node q) small in
     let same = q.2.lots in
-    rw c.held_at.ensures (held_small (Some c.in-Some-find.above.head.place) c.traded_under.result c.in-Some.found.head.lots 10000000 (omega (arith, same, lots)))
+    rw c.held_at.ensures (held_small (Some c.in-Some-find.above.head.place) c.traded_under.result c.in-Some.node.head.lots 10000000 (omega (arith, same, lots)))
