@@ -30,7 +30,7 @@ use Rattle.gu_tree.proofs.Parts.{some_and}
 use Rattle.gu_tree.proofs.Shows.{tree-kept}
 use Rattle.gu_book.specs.Filed.{IsIn, IsFiled, IsNext, IsDue, Follows}
 use Rattle.gu_book.specs.TreeRows.{is_trade, is_live_trade}
-use Rattle.gu_book.proofs.Leaves.{all_parts, other_number, sound_first}
+use Rattle.gu_book.proofs.Leaves.{other_number, sound_first}
 use Rattle.gu_book.proofs.Named.{count_of, found_counts}
 use Rattle.gu_book.proofs.Orders.{names_there, InOrder, in_order, sound_before, earlier}
 use Rattle.gu_book.proofs.Sound.{Sound, From, before, here, node_from}

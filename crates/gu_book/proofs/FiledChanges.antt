@@ -29,7 +29,7 @@ use Rattle.gu_base.proofs.Passing.{at_node_none, split_passes, SplitHolds, refus
 use Rattle.gu_tree.specs.Rose.{Rose, leaf, parted, head_of, lots_of, named}
 use Rattle.gu_tree.specs.Paths.{edit_at, HasAt}
 use Rattle.gu_tree.specs.Changes.{root_head, with_head, CanSplit, own_parts_have_accounts, is_own, split_node, claim_node, claimed_head, give_back_node, given_back_head, IsOffered}
-use Rattle.gu_tree.specs.Grove.{Grove, tree_of, last_place, HasTree, ChangesTree, Places}
+use Rattle.gu_tree.specs.Grove.{Grove, tree_of, HasTree, ChangesTree, Places}
 use Rattle.gu_tree.specs.Shown.{IsTreeOf, IsNodeOf, IsHeadOf, named_node, ShowsMore, IsUnnamed, IsTradeOf, IsSplitOf, IsClaimOf, GivesBack, IsGivingBackOf}
 use Rattle.gu_tree.specs.ShownAll.{named_place}
 use Rattle.gu_tree.specs.declared.head.Head.{Head}

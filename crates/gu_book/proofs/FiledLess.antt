@@ -1,6 +1,6 @@
 -- A change on which nothing stands leaves the trees and places filed for the list without it, once its node is what it was before it.
 use Rattle.std.proofs.Common.{◌≡◌, ◌≢◌, ℕ, ◌≤◌, Bool, true, false, not, ◌&&◌, ◌||◌, List, [], ◌∷◌, refl, sym, ◌∙◌, ap, subst, arith, cond, Option, All, Contains, inl, inr}
-use Rattle.std.specs.Prelude.{Some, None, find, ◌==◌, is_some, option_and_then, IsSomeAnd, IfSome}
+use Rattle.std.specs.Prelude.{Some, None, ◌==◌, is_some, option_and_then, IsSomeAnd, IfSome}
 use Rattle.std.specs.List.{list_any}
 use Rattle.std.proofs.lemmas.Bool.Decides.{Decides-eqb}
 use Rattle.std.proofs.lemmas.List.Elements.{All-head, All-tail, All-weaker, filter_passes}
@@ -14,7 +14,6 @@ use Rattle.gu_base.specs.Standing.{first_refused, standing_on, without}
 use Rattle.gu_base.specs.declared.command.Command.{Command}
 use Rattle.gu_base.specs.declared.command.Command.TheVariants.{Trade, Split, Claim, Refuse, Cancel, Initiate, Decline, Reverse}
 use Rattle.gu_base.specs.declared.entry.Record.{Record}
-use Rattle.gu_base.specs.declared.node.Node.{Node}
 use Rattle.gu_base.proofs.Basics.{or_false, none_is_some}
 use Rattle.gu_base.proofs.NodeNames.{name_is, node_called}
 use Rattle.gu_depend.specs.Under.{names}

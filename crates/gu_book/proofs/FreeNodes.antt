@@ -1,26 +1,23 @@
 -- What the trees say of a change on which nothing stands: it can be taken back at its node.
-use Rattle.std.proofs.Common.{◌≡◌, ◌≢◌, ℕ, ◌+◌, ◌<◌, ◌≤◌, Bool, true, false, ◌&&◌, ◌||◌, List, [], ◌∷◌, length, refl, sym, ◌∙◌, ap, subst, arith, cond, Option, All, Contains, IsTrue, ◌⊎◌, inl, inr}
+use Rattle.std.proofs.Common.{◌≡◌, ◌≢◌, ℕ, ◌<◌, ◌≤◌, true, false, ◌&&◌, ◌||◌, List, [], ◌∷◌, length, refl, sym, ◌∙◌, ap, subst, arith, cond, Option, All, Contains, IsTrue, ◌⊎◌, inl, inr}
 use Rattle.std.specs.Prelude.{is_none, Some, None, find, ◌==◌, is_some, option_and_then, option_map, IsSomeAnd}
 use Rattle.std.specs.List.{list_any}
 use Rattle.std.proofs.lemmas.Bool.{or_parts, or_cases}
 use Rattle.std.proofs.lemmas.Bool.Decides.{Decides-eqb}
 use Rattle.std.proofs.lemmas.List.Elements.{All-nil, All-cons, All-head, All-tail, All-contains}
 use Rattle.std.proofs.lemmas.Option.{same_Some}
-use Rattle.std.proofs.Math.Bool.{or-true}
 use Rattle.gu_base.specs.Numbers.{EntryPart}
 use Rattle.gu_base.specs.House.{House}
 use Rattle.gu_base.specs.History.{is_change}
-use Rattle.gu_base.specs.Nodes.{node_of, nodes_of, nodes_of_parts, same_name, split_of, decision_of, splits, decides, is_given, parent, kind_of_part}
+use Rattle.gu_base.specs.Nodes.{node_of, nodes_of, same_name, split_of, decision_of, splits, decides, is_given, parent}
 use Rattle.gu_base.specs.Rows.{state_of, state_after}
 use Rattle.gu_base.specs.declared.command.Command.{Command}
 use Rattle.gu_base.specs.declared.command.Command.TheVariants.{Trade, Split, Claim, Refuse, Cancel, Initiate, Decline, Reverse}
-use Rattle.gu_base.specs.declared.command.Part.{Part}
 use Rattle.gu_base.specs.declared.entry.Record.{Record}
 use Rattle.gu_base.specs.declared.node.Kind.{Kind}
 use Rattle.gu_base.specs.declared.node.Kind.TheVariants.{Root, Own, Given}
 use Rattle.gu_base.specs.declared.node.Node.{Node}
 use Rattle.gu_base.specs.declared.node.Place.{Place}
-use Rattle.gu_base.specs.declared.state.State.{State}
 use Rattle.gu_base.specs.declared.state.State.TheVariants.{Claimed}
 use Rattle.gu_base.proofs.Basics.{no_some, none_is_some, nothing_here}
 use Rattle.gu_base.proofs.NodeNames.{name_is, name_same, node_called}
@@ -34,16 +31,16 @@ use Rattle.gu_depend.proofs.Names.{made_number}
 use Rattle.gu_depend.proofs.StandsLast.{any_in}
 use Rattle.gu_depend.proofs.StandsUnder.{standing_is_least}
 use Rattle.gu_tree.specs.Rose.{Rose, Roses, leaf, parted, no_parts, part_then, head_of, named, named_below, split_of_node}
-use Rattle.gu_tree.specs.Paths.{node_at, edit_at, HasAt}
-use Rattle.gu_tree.specs.Changes.{is_undecided_leaf, are_undecided_leaves, can_unsplit, unsplit_node, IsClaimedLeaf, IsGivenBackLeaf, is_given_back}
-use Rattle.gu_tree.specs.Grove.{Grove, tree_of, place_of, IsPlace, IsSapling, IsDecidedIn, IsSplitIn, HasFreeParts}
+use Rattle.gu_tree.specs.Paths.{node_at}
+use Rattle.gu_tree.specs.Changes.{is_undecided_leaf, are_undecided_leaves, can_unsplit, unsplit_node, is_given_back}
+use Rattle.gu_tree.specs.Grove.{Grove, tree_of, place_of, IsPlace, IsDecidedIn, IsSplitIn, HasFreeParts}
 use Rattle.gu_tree.specs.Shown.{IsTreeOf, IsNodeOf, ArePartsOf, SplitsNode, DecidesNode, named_node}
 use Rattle.gu_tree.specs.ShownAll.{change_of, named_place, place_in}
 use Rattle.gu_tree.specs.declared.head.Head.{Head}
 use Rattle.gu_tree.proofs.Along.{its-head}
 use Rattle.gu_tree.proofs.ShowsLess.{no-root-part}
-use Rattle.gu_book.specs.Filed.{IsFiled, IsFree, Claims, TurnsDown}
-use Rattle.gu_book.specs.TreeRows.{is_trade, is_live_trade}
+use Rattle.gu_book.specs.Filed.{IsFree, Claims, TurnsDown}
+use Rattle.gu_book.specs.TreeRows.{is_trade}
 use Rattle.gu_book.proofs.Filed.{Spot, spot, tree_shown, place_named}
 use Rattle.gu_book.proofs.FiledChanges.{its_head}
 use Rattle.gu_book.proofs.Named.{count_of, count_cons}

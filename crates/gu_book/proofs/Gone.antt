@@ -1,5 +1,5 @@
 -- What is left when a change on which nothing stands is taken back at its node.
-use Rattle.std.proofs.Common.{◌≡◌, ◌≢◌, ℕ, ◌≤◌, true, false, refl, sym, ◌∙◌, ap, subst, arith, Option, List, length, IsTrue}
+use Rattle.std.proofs.Common.{◌≡◌, ℕ, ◌≤◌, true, false, refl, sym, ◌∙◌, ap, subst, arith, Option, List, length, IsTrue}
 use Rattle.std.specs.Prelude.{Some, IsSomeAnd}
 use Rattle.gu_base.specs.Numbers.{EntryPart}
 use Rattle.gu_base.specs.House.{House}
@@ -13,7 +13,7 @@ use Rattle.gu_depend.specs.Under.{names}
 use Rattle.gu_tree.specs.Rose.{Rose, leaf, head_of, named, split_of_node}
 use Rattle.gu_tree.specs.Paths.{node_at, edit_at, HasAt, above}
 use Rattle.gu_tree.specs.Changes.{unsplit_node, offer_node, offer_again_node, IsClaimedLeaf, IsGivenBackLeaf, can_unsplit, is_given_back}
-use Rattle.gu_tree.specs.Grove.{Grove, tree_of, place_of, HasTree, IsSapling, ChangesTree, Takes, TakesTree, IsDecidedIn, IsSplitIn, HasFreeParts}
+use Rattle.gu_tree.specs.Grove.{Grove, HasTree, IsSapling, ChangesTree, Takes, TakesTree, IsDecidedIn, IsSplitIn, HasFreeParts}
 use Rattle.gu_tree.specs.Shown.{SplitsNode, named_node, ShowsLess, IsOnlySplit, IsOnlyDecision}
 use Rattle.gu_tree.specs.declared.head.Head.{Head}
 use Rattle.gu_tree.proofs.Edits.{edit_at-same}
@@ -22,9 +22,9 @@ use Rattle.gu_tree.proofs.Parts.{some_and, at_fact}
 use Rattle.gu_book.specs.Filed.{IsFiled, IsFree, Claims, TurnsDown}
 use Rattle.gu_book.specs.TreeRows.{is_trade}
 use Rattle.gu_book.proofs.Filed.{Spot}
-use Rattle.gu_book.proofs.FiledChanges.{from_tree, has_at, at_tree, is_at, said_at}
+use Rattle.gu_book.proofs.FiledChanges.{from_tree, has_at, is_at, said_at}
 use Rattle.gu_book.proofs.FiledLess.{taken_back, uprooted}
-use Rattle.gu_book.proofs.FreeNodes.{split_names, claim_names, turned_names, decides_node, splits_bare, splits_in, splits_free, its_number, others_above, decided_state, its_leaf, is_part, its_decided, decided_in, root_leaf, root_alone}
+use Rattle.gu_book.proofs.FreeNodes.{split_names, claim_names, turned_names, decides_node, splits_bare, splits_in, splits_free, its_number, others_above, decided_state, its_leaf, is_part, its_decided, decided_in, root_leaf}
 use Rattle.gu_book.proofs.Undoing.{only_split, only_decision}
 
 -- a Trade names no node

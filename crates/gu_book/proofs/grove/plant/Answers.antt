@@ -1,4 +1,4 @@
-use Rattle.std.proofs.Common.{◌<◌, ◌∙◌, refl, ap, arith}
+use Rattle.std.proofs.Common.{◌<◌, refl, ap, arith}
 use Rattle.gu_tree.specs.Rose.{Rose, head_of}
 use Rattle.gu_tree.specs.Grove.{last_place}
 use Rattle.gu_book.proofs.FiledChanges.{trade_filed}

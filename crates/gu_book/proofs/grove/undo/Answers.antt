@@ -1,4 +1,4 @@
-use Rattle.std.proofs.Common.{◌≡◌, refl, sym, ap, subst}
+use Rattle.std.proofs.Common.{refl, sym, ap, subst}
 use Rattle.gu_tree.specs.Shown.{SplitsNode, named_node}
 use Rattle.gu_book.specs.Filed.{Claims, TurnsDown}
 use Rattle.gu_book.specs.TreeRows.{is_trade}
