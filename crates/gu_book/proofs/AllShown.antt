@@ -32,7 +32,7 @@ use Rattle.gu_tree.proofs.ShowsLess.{no-root-part}
 use Rattle.gu_depend.proofs.Names.{maker, made_number}
 use Rattle.gu_depend.proofs.StandsLast.{any_in}
 use Rattle.gu_consent.specs.declared.Consents.{Consents}
-use Rattle.gu_book.specs.Filed.{IsFiled}
+use Rattle.gu_book.specs.Filed.{IsFiled, IsFree}
 use Rattle.gu_book.specs.Kept.{IsKept}
 use Rattle.gu_book.specs.TreeRows.{is_trade, is_live_trade}
 use Rattle.gu_book.proofs.Keeps.{rises_kept}
@@ -91,6 +91,7 @@ found_kept p q (y ∷ ys) x h passes = found_step p q y ys x passes (λ e. found
 -- it is live, and nothing stands on it
 pub record IsUndone (t : House) (h : List Entry) (k : ℕ) (r : Record) : Type 0 where
   pub entry : entry_of h k ≡ Some r
+  pub change : is_change r.command ≡ true
   pub from : 1 ≤ k
   pub within : k < 1 + length h
   pub among : Contains (live h) r
@@ -112,6 +113,7 @@ undone t h e n k ok same =
       r,
       record {
         entry = o.1.found;
+        change = o.1.is;
         from = at.from;
         within = at.within;
         among = found_in (λ (q : Record). q.number == k) (live h) r (found_kept (λ (q : Record). q.number == k) (λ (q : Record). is_change q.command && not (is_reversed h q.number)) (records h) r o.1.found passes);
@@ -134,3 +136,12 @@ module _ {t : House} {h : List Entry} {l : List Record} {g : Grove} {cs : Consen
   undone_among d is =
       let u = undone t h e n k ok same in
       subst (λ (l : List Record). Contains l (numbered_as k d)) (sym kept.are_live) (subst (λ (r : Record). Contains (live h) r) (undone_entry u.1 d is) u.1.among)
+
+  pub undone_change : (d : Entry) → d ≡ get_or h (k - 1) d → is_change d.command ≡ true
+  undone_change d is =
+      let u = undone t h e n k ok same in
+      sym (ap (λ (r : Record). is_change r.command) (undone_entry u.1 d is)) ∙ u.1.change
+
+  -- so it may go from the trees
+  pub undone_goes : (d : Entry) → d ≡ get_or h (k - 1) d → IsFree t l (numbered_as k d) g
+  undone_goes d is = record { filed = kept.filed; replayed = kept.replayed; rises = rises_kept t h l g cs kept; among = undone_among d is; free = undone_free }

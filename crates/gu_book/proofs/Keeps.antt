@@ -22,6 +22,7 @@ use Rattle.gu_base.specs.declared.refusal.Refusal.TheVariants.{UnknownFirm}
 use Rattle.gu_base.specs.SamePartsLaws.{bytes_same}
 use Rattle.gu_base.proofs.LiveLaws.{live_push_change, live_push_reverse, is_live, live_push_consent}
 use Rattle.gu_base.proofs.Basics.{bytes_symm, nothing_here}
+use Rattle.gu_tree.specs.Filing.{last_of}
 use Rattle.gu_tree.specs.Grove.{Grove, tree_of, place_of, last_place, IsSameGrove}
 use Rattle.gu_book.specs.Filed.{IsFiled, IsNext}
 use Rattle.gu_book.specs.Found.{AreTreesOf}
@@ -39,7 +40,7 @@ use Rattle.gu_book.proofs.Filed.{filed_none, same_filed}
 use Rattle.gu_book.proofs.Leaves.{live_rises}
 use Rattle.gu_base.proofs.Consenting.{left_change, left_initiate, left_decline, left_reverse, not_reversed}
 use Rattle.gu_book.proofs.Refused.{accepted_small}
-use Rattle.gu_book.proofs.Replaying.{without_small}
+use Rattle.gu_book.proofs.Without.{without_small}
 
 ids_congr : (x y z : Entry) → same_id x y ≡ true → same_id x z ≡ same_id y z
 ids_congr x y z h =
@@ -82,9 +83,9 @@ module _ {t : House} {h : List Entry} {l : List Record} {ts : Grove} {cs : Conse
   shown = allowed t h e n ok
 
   -- what an accepted call leaves true, of any kind
-  kept_next : (ls : List Record) (us : Grove) (ds : Consents) → ls ≡ live (h ++ e ∷ []) → AllWithinLimits ls → IsFiled ls us
+  kept_next : (ls : List Record) (us : Grove) (ds : Consents) → ls ≡ live (h ++ e ∷ []) → AllWithinLimits ls → IsFiled ls us → last_place us ≤ n
       → ((m : ℕ) → given ds m ≡ consents_left (h ++ e ∷ []) m) → IsKept t (h ++ e ∷ []) ls us ds
-  kept_next ls us ds same small filed consented =
+  kept_next ls us ds same small filed placed consented =
       let a = shown in
       let run = run_push (run_kept t h l ts cs kept) e n ok in
       let longer = length-append h (e ∷ []) in
@@ -98,8 +99,13 @@ module _ {t : House} {h : List Entry} {l : List Record} {ts : Grove} {cs : Conse
         accepted = accepted_push t [] h e kept.accepted (ok ∙ ap (λ m. Accepted m e.status) a.number);
         once = IsDistinct-push ids_laws h e kept.once (id_is_new 1 e h a.id);
         filed = filed;
+        placed = omega (arith, longer, a.number, placed);
         consented = consented;
       }
+
+  -- what stays as it was is no later than the history was
+  no_later : (us : Grove) → last_place us ≤ length h → last_place us ≤ n
+  no_later us placed = let number = shown.number in omega (arith, number, placed)
 
   -- ---- a change
 
@@ -118,14 +124,15 @@ module _ {t : House} {h : List Entry} {l : List Record} {ts : Grove} {cs : Conse
     pub next_kept : IsNext t l (numbered_as n e) ts
     next_kept = record {
       filed = kept.filed;
+      later = let placed = kept.placed in let number = shown.number in omega (arith, number, placed);
       replayed = kept.replayed;
       lawful = lawful;
       rises = subst (RisesFrom 1) (sym live_more) (live_rises (h ++ e ∷ []));
     }
 
-    pub kept_change : (us : Grove) → IsFiled (l ++ numbered_as n e ∷ []) us → IsKept t (h ++ e ∷ []) (l ++ numbered_as n e ∷ []) us cs
-    kept_change us filed =
-        kept_next (l ++ numbered_as n e ∷ []) us cs live_more (All-push (λ r. IsWithinLimits r.command) l (numbered_as n e) kept.within (accepted_small t l e.firm e.command lawful)) filed
+    pub kept_change : (us : Grove) → IsFiled (l ++ numbered_as n e ∷ []) us → last_place us ≤ n → IsKept t (h ++ e ∷ []) (l ++ numbered_as n e ∷ []) us cs
+    kept_change us filed placed =
+        kept_next (l ++ numbered_as n e ∷ []) us cs live_more (All-push (λ r. IsWithinLimits r.command) l (numbered_as n e) kept.within (accepted_small t l e.firm e.command lawful)) filed placed
         (λ m. kept.consented m ∙ left_change h e m e.command refl change)
 
   -- ---- an Initiate or a Decline
@@ -145,21 +152,22 @@ module _ {t : House} {h : List Entry} {l : List Record} {ts : Grove} {cs : Conse
   pub kept_initiate : (k : ℕ) → e.command ≡ Initiate k → (ds : Consents) → ((m : ℕ) → given ds m ≡ cond (m == k) (given cs m ++ e.firm ∷ []) (given cs m))
       → IsKept t (h ++ e ∷ []) l ts ds
   kept_initiate k same ds more =
-      kept_next l ts ds (live_same (ap is_consenting same)) kept.within kept.filed
+      kept_next l ts ds (live_same (ap is_consenting same)) kept.within kept.filed (no_later ts kept.placed)
       (λ m. more m ∙ (ap (λ fs. cond (m == k) (fs ++ e.firm ∷ []) fs) (kept.consented m) ∙ left_initiate h e k m same (open_entry k same)))
 
   pub kept_decline : (k : ℕ) → e.command ≡ Decline k → (ds : Consents) → ((m : ℕ) → given ds m ≡ cond (m == k) [] (given cs m)) → IsKept t (h ++ e ∷ []) l ts ds
   kept_decline k same ds less =
-      kept_next l ts ds (live_same (ap is_consenting same)) kept.within kept.filed
+      kept_next l ts ds (live_same (ap is_consenting same)) kept.within kept.filed (no_later ts kept.placed)
       (λ m. less m ∙ (ap (λ fs. cond (m == k) [] fs) (kept.consented m) ∙ left_decline h e k m same))
 
   -- ---- a Reverse
 
-  pub kept_reverse : (k : ℕ) → e.command ≡ Reverse k → (ls : List Record) (us : Grove) → ls ≡ without l k → IsFiled (without l k) us
+  pub kept_reverse : (k : ℕ) → e.command ≡ Reverse k → (ls : List Record) (us : Grove) → ls ≡ without l k → IsFiled (without l k) us → last_place us ≡ last_place ts
       → (ds : Consents) → ((m : ℕ) → given ds m ≡ cond (m == k) [] (given cs m)) → IsKept t (h ++ e ∷ []) ls us ds
-  kept_reverse k same ls us others filed ds less =
+  kept_reverse k same ls us others filed placed ds less =
       kept_next ls us ds (others ∙ (ap (λ (l : List Record). without l k) kept.are_live ∙ sym (live_push_reverse h e k same)))
       (subst AllWithinLimits (sym others) (without_small k l kept.within)) (subst (λ (l : List Record). IsFiled l us) (sym others) filed)
+      (no_later us (let before = kept.placed in omega (arith, placed, before)))
       (λ m. less m ∙ (ap (λ fs. cond (m == k) [] fs) (kept.consented m) ∙ left_reverse h e k m same))
 
 -- the consents alone have changed, and not in what they say
@@ -174,6 +182,7 @@ kept_same t h l ts cs ds kept same = record {
   accepted = kept.accepted;
   once = kept.once;
   filed = kept.filed;
+  placed = kept.placed;
   consented = λ m. same m ∙ kept.consented m;
 }
 
@@ -189,6 +198,7 @@ kept_alike {l = l} {old = old} kept new same = record {
   accepted = kept.accepted;
   once = kept.once;
   filed = same_filed l old new same kept.filed;
+  placed = let placed = kept.placed in let last : last_place new ≡ last_place old = ap last_of same.slots in omega (arith, placed, last);
   consented = kept.consented;
 }
 
@@ -214,7 +224,8 @@ kept_none t cs none g trees places last = record {
   within = All-nil (λ r. IsWithinLimits r.command);
   accepted = tt;
   once = nothing_twice;
-  filed = filed_none g trees places last;
+  filed = filed_none g trees places;
+  placed = omega (arith, last);
   consented = none;
 }
 

@@ -19,9 +19,9 @@ ghost use Rattle.gu_book.specs.TreeRows.{is_live_trade, tree_rows};
 use crate::grove;
 use crate::index::Index;
 use crate::plain::calls::front_answer;
+use crate::plain::nodes::leave_out;
 use crate::plain::standing::Standing;
 use crate::plain::{charges, holdings};
-use crate::replay::replay_without;
 use gu_base::{
     AccountId, AllocId, Answer, Command, Entry, FirmId, InstrumentId, Memory, Number, Record,
     Refusal, State,
@@ -257,8 +257,8 @@ impl Book {
         Ok(())
     }
 
-    /// Puts an accepted Reverse at the end of the history, and moves back what its change moved and charged. The others, made again, take
-    /// the place of the live changes and of the trees. All growths come before anything changes.
+    /// Puts an accepted Reverse at the end of the history, takes its change out of the live ones and back at its node, and moves back
+    /// what the change moved and charged. All growths come before anything changes.
     fn keep_reversal(
         &mut self,
         alloc: Global,
@@ -271,23 +271,22 @@ impl Book {
         ensures kept { OnOk result (self.new ≡ record { house = self.old.house; history = self.old.history ++ kept ∷ [] }) }
         ensures unchanged { OnErr result (self.new ≡ self.old) }
     {
-        let others = replay_without(alloc, &self.records, change)?;
         self.entries.reserve(1)?;
         let undone = &self.entries[change.get() as usize - 1];
-        let charge = charges::charge_of(&self.house, &others.records, &undone.command);
-        let taken = holdings::taken_by(&others.records, &others.trees, &undone.command);
+        let charge = charges::charge_of(&self.house, &self.records, &undone.command);
+        let taken = holdings::taken_before(&self.records, &self.trees, &undone.command);
         holdings::ready_taken(&mut self.positions, &taken)?;
         self.index.ids.put(&kept.firm, &kept.id, number)?;
         if let Err(lack) = self.index.reversals.put(change, number) {
             self.index.ids.remove(&kept.firm, &kept.id);
             return Err(lack);
         }
+        grove::undo(&mut self.trees, change, undone);
         charges::take_back(&mut self.fees, &charge);
         holdings::move_back(&mut self.positions, &undone.firm, &undone.command, &taken);
         self.consents.clear(change);
         self.entries.push_reserved(kept);
-        self.records = others.records;
-        self.trees = others.trees;
+        leave_out(&mut self.records, change);
         Ok(())
     }
 

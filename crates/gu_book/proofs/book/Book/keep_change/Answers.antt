@@ -50,7 +50,7 @@ invariant_of-self-2 c =
     simp (c.push_reserved.ensures.items, c.push_reserved-2.ensures.items, c.reserve.ensures.items, c.reserve-2.ensures.items, c.in_ok-copy.ensures.equal)
     (record {
       kept = kept_change c.self.invariant.kept c.args.number c.args.kept ok c.requires.change c.change.new.trees
-          ((rw c.in_ok-copy.ensures.equal at c.in_default.ensures.follows) c.self.inside.house c.self.inside.records.items next);
+          ((rw c.in_ok-copy.ensures.equal at c.in_default.ensures.follows) c.self.inside.house c.self.inside.records.items next) c.in_default.ensures.last;
       indexed = index_put c.self.invariant.indexed c.self.inside.house c.args.kept c.args.number ok c.put.new.self c.in_ok-put.ensures.put (λ m. change_is_no_reverse m c.args.kept.command c.requires.change);
       charged = fees_push next c.self.inside.fees c.ready.new.fees c.add.new.fees c.self.invariant.charged c.in_ok-ready.ensures.same c.charge_of-charge.result
           (rw c.deref.ensures.value at c.charge_of-charge.ensures.value) c.charge_of-charge.ensures.lots c.charge_of-charge.ensures.rate c.add.ensures;
