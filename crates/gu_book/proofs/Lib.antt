@@ -21,6 +21,7 @@ pub mod Restored
 pub mod Ready
 pub mod PartyNames
 pub mod Replaying
+pub mod MadeAgain
 pub mod Fronts
 pub mod Named
 pub mod Shown

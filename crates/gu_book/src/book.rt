@@ -1,5 +1,5 @@
-//! The book: the house table, the history, and beside it the live changes, a tree for each live trade, the consents, an index, the fees
-//! and the positions.
+//! The book: the house table, the history, and beside it a tree for each live trade, the consents, an index, the fees and the
+//! positions.
 ghost use Rattle.std.specs.Prelude.{true, ◌≡◌, ◌≤◌, ◌+◌, [], ◌∷◌, ◌++◌, length, map, option_map, IsTrue, IfOk, OnOk, OnErr};
 ghost use Rattle.gu_base.specs.Limits.{most_entries};
 ghost use Rattle.gu_base.specs.History.{is_change, live};
@@ -18,13 +18,14 @@ ghost use Rattle.gu_book.specs.TreeRows.{is_live_trade, tree_rows};
 
 use crate::grove;
 use crate::index::Index;
+use crate::live::{Change, Live};
 use crate::plain::calls::front_answer;
 use crate::plain::standing::Standing;
 use crate::plain::{charges, holdings};
-use crate::replay::replay_without;
+use crate::replay::replay;
 use gu_base::{
-    AccountId, AllocId, Answer, Command, Entry, FirmId, InstrumentId, Memory, Number, Record,
-    Refusal, State,
+    AccountId, AllocId, Answer, Command, Entry, FirmId, InstrumentId, Memory, Number, Refusal,
+    State,
 };
 use gu_consent::Consents;
 use gu_depend::first_standing;
@@ -40,7 +41,6 @@ use std::marker::Model;
 pub struct Book {
     house: House,
     entries: Vec<Entry>,
-    records: Vec<Record>,
     trees: Trees<Global>,
     consents: Consents,
     index: Index,
@@ -56,7 +56,7 @@ impl Model for Book {
 
     ghost view = { λ b. record { house = b.house; history = b.entries.items } };
 
-    ghost invariant = { λ b. IsBook b.house b.entries.items b.records.items b.trees b.consents b.index b.fees b.positions };
+    ghost invariant = { λ b. IsBook b.house b.entries.items b.trees b.consents b.index b.fees b.positions };
 }
 
 impl Book {
@@ -67,7 +67,6 @@ impl Book {
         Book {
             house,
             entries: Vec::new(alloc),
-            records: Vec::new(alloc),
             trees: Trees::new(alloc, alloc),
             consents: Consents::new(alloc),
             index: Index::new(alloc),
@@ -102,7 +101,7 @@ impl Book {
     pub fn live(&self, alloc: Global) -> Result<Vec<Number>, Memory>
         ensures { IfOk result (λ v. v.items ≡ map (λ r. r.number) (live self.now.history)) }
     {
-        self.records.iter().map(|r| r.number).collect(alloc)
+        Live::of(self.entries.as_slice(), &self.index.reversals).numbers(alloc)
     }
 
     /// Answers a call, and keeps it where it is accepted.
@@ -139,7 +138,7 @@ impl Book {
         let at = Standing {
             house: &self.house,
             entries: &self.entries,
-            records: &self.records,
+            changes: Live::of(self.entries.as_slice(), &self.index.reversals),
             trees: &self.trees,
             fees: &self.fees,
             index: &self.index,
@@ -186,8 +185,7 @@ impl Book {
         }
     }
 
-    /// Puts an accepted change at the end of the history and of the live changes, and changes its tree. All growths come before
-    /// anything changes.
+    /// Puts an accepted change at the end of the history, and changes its tree. All growths come before anything changes.
     fn keep_change(&mut self, alloc: Global, kept: Entry, number: Number) -> Result<(), Memory>
         requires change { is_change kept.command ≡ true }
         requires next { number ≡ length self.old.history + 1 }
@@ -195,28 +193,24 @@ impl Book {
         ensures kept { OnOk result (self.new ≡ record { house = self.old.house; history = self.old.history ++ kept ∷ [] }) }
         ensures unchanged { OnErr result (self.new ≡ self.old) }
     {
-        let charge = charges::charge_of(&self.house, &self.records, &kept.command);
-        let taken = holdings::taken_by(&self.records, &self.trees, &kept.command);
-        let record = Record {
-            number,
-            firm: kept.firm,
-            id: kept.id,
-            command: kept.command.copy(alloc)?,
-            status: kept.status,
-        };
+        let changes = Live::of(self.entries.as_slice(), &self.index.reversals);
+        let charge = charges::charge_of(&self.house, &changes, &kept.command);
+        let taken = holdings::taken_by(&changes, &self.trees, &kept.command);
         self.entries.reserve(1)?;
-        self.records.reserve(1)?;
         charges::ready(&mut self.fees, &charge)?;
         holdings::ready(&mut self.positions, &kept.firm, &kept.command, &taken)?;
         self.index.ids.put(&kept.firm, &kept.id, number)?;
-        if let Err(lack) = grove::change(&mut self.trees, alloc, &record) {
+        let made = Change {
+            number,
+            entry: &kept,
+        };
+        if let Err(lack) = grove::change(&mut self.trees, alloc, &made) {
             self.index.ids.remove(&kept.firm, &kept.id);
             return Err(lack);
         }
         charges::add(&mut self.fees, &charge);
         holdings::move_lots(&mut self.positions, &kept.firm, &kept.command, &taken);
         self.entries.push_reserved(kept);
-        self.records.push_reserved(record);
         Ok(())
     }
 
@@ -257,8 +251,8 @@ impl Book {
         Ok(())
     }
 
-    /// Puts an accepted Reverse at the end of the history, and moves back what its change moved and charged. The others, made again, take
-    /// the place of the live changes and of the trees. All growths come before anything changes.
+    /// Puts an accepted Reverse at the end of the history, and moves back what its change moved and charged. The trees of the others, made
+    /// again, take the place of the trees. All growths come before anything changes.
     fn keep_reversal(
         &mut self,
         alloc: Global,
@@ -271,11 +265,12 @@ impl Book {
         ensures kept { OnOk result (self.new ≡ record { house = self.old.house; history = self.old.history ++ kept ∷ [] }) }
         ensures unchanged { OnErr result (self.new ≡ self.old) }
     {
-        let others = replay_without(alloc, &self.records, change)?;
         self.entries.reserve(1)?;
+        let others = Live::but(self.entries.as_slice(), &self.index.reversals, change);
+        let trees = replay(alloc, &others)?;
         let undone = &self.entries[change.get() as usize - 1];
-        let charge = charges::charge_of(&self.house, &others.records, &undone.command);
-        let taken = holdings::taken_by(&others.records, &others.trees, &undone.command);
+        let charge = charges::charge_of(&self.house, &others, &undone.command);
+        let taken = holdings::taken_by(&others, &trees, &undone.command);
         holdings::ready_taken(&mut self.positions, &taken)?;
         self.index.ids.put(&kept.firm, &kept.id, number)?;
         if let Err(lack) = self.index.reversals.put(change, number) {
@@ -286,8 +281,7 @@ impl Book {
         holdings::move_back(&mut self.positions, &undone.firm, &undone.command, &taken);
         self.consents.clear(change);
         self.entries.push_reserved(kept);
-        self.records = others.records;
-        self.trees = others.trees;
+        self.trees = trees;
         Ok(())
     }
 
