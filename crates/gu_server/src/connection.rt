@@ -185,18 +185,22 @@ impl<'a> Connection<'a> {
         }
     }
 
-    /// Writes what the turn sends.
+    /// Writes what the turn sends, in one write. One that is short has waited for the peer as long as it may.
     pub(crate) fn write(&mut self, stream: &TcpStream) -> Result<(), Closed>
         ensures out { self.new.out.items ≡ [] }
         ensures session { self.new.session ≡ self.old.session }
         ensures told { self.new.told ≡ self.old.told }
     {
+        let whole = self.out.len();
+        if whole == 0 {
+            return Ok(());
+        }
         let mut to: &TcpStream = stream;
-        let written = to.write_all(self.out.as_slice());
+        let written = to.write(self.out.as_slice());
         self.out.clear();
         match written {
-            Ok(()) => Ok(()),
-            Err(_) => Err(Closed),
+            Ok(count) if count == whole => Ok(()),
+            _ => Err(Closed),
         }
     }
 }

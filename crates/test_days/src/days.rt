@@ -9,6 +9,7 @@ use gu_parties::House;
 use std::alloc::Global;
 use std::io;
 use std::io::{Eprint, Input, Read};
+use std::mem;
 
 /// What a program does at a day's book.
 pub trait Player<R: Print + Eprint> {
@@ -79,6 +80,30 @@ fn tell_at<R: Print + Eprint, P: Player<R>>(
     }
 }
 
+/// Begins a day, at an empty book.
+fn begin_day(rt: &impl Eprint, alloc: Global, house: &str, book: &mut Option<Book>) {
+    drop(mem::replace(book, new_book(rt, alloc, house)));
+}
+
+/// Writes what each line of some days gives.
+fn tell_days<R: Print + Eprint, P: Player<R>>(
+    rt: &R,
+    alloc: Global,
+    player: &P,
+    house: &str,
+    days: &str,
+    book: &mut Option<Book>,
+) -> io::Result<()> {
+    for line in days.lines() {
+        if line.is_empty() {
+            begin_day(rt, alloc, house, book);
+        } else {
+            tell_at(rt, alloc, player, book, line.as_bytes())?;
+        }
+    }
+    Ok(())
+}
+
 /// Plays the days of an input, and writes what each line gives.
 ///
 /// # Errors
@@ -94,14 +119,9 @@ pub fn play<R: Print + Eprint, P: Player<R>>(
         return println!(rt; "no house");
     };
     let mut book = new_book(rt, alloc, house);
-    for line in days.lines() {
-        if line.is_empty() {
-            book = new_book(rt, alloc, house);
-        } else {
-            tell_at(rt, alloc, player, &mut book, line.as_bytes())?;
-        }
-    }
-    Ok(())
+    let told = tell_days(rt, alloc, player, house, days, &mut book);
+    drop(book);
+    told
 }
 
 /// All of standard input.

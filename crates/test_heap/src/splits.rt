@@ -1,12 +1,13 @@
 //! Splits in a heap that has room for two parts and no more.
 
-use crate::trees::{Outcome, split_in_hundred, split_in_two, trade};
+use crate::trees::{split_in_hundred, split_in_two, trade};
 use gu_base::Memory;
 use gu_tree::Tree;
 use linked_list_allocator::LocalHeap;
 use std::alloc::{Allocator, Global};
 use std::io;
 use std::io::Print;
+use test_splits::Outcome;
 
 /// What comes of the split into two in a new heap of this size.
 fn split_in_heap(alloc: Global, size: usize) -> io::Result<Outcome> {
@@ -19,7 +20,7 @@ fn split_in_heap(alloc: Global, size: usize) -> io::Result<Outcome> {
 fn least_heap(alloc: Global) -> io::Result<Option<usize>> {
     for steps in 1..1000 {
         let size = 16 * steps;
-        if split_in_heap(alloc, size)? == Outcome::Accepted {
+        if split_in_heap(alloc, size)? == Outcome::Done {
             return Ok(Some(size));
         }
     }

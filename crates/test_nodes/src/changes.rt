@@ -1,62 +1,18 @@
 //! Changes of a tree, each made where all that its call asks for holds.
 
 use crate::words::place_of;
-use gu_base::{NodeName, Number, Part, Place, State};
-use gu_tree::{MAX_DEPTH, Tree};
+use gu_base::{NodeName, Number, Place, State};
+use gu_tree::Tree;
 use std::alloc::Global;
+use std::io;
 use std::io::ErrorKind;
-use std::{fmt, io};
-
-/// What came of a change.
-#[derive(Clone, Copy, PartialEq, Eq)]
-pub(crate) enum Outcome {
-    Done,
-    Memory,
-    /// The tree has no such node, or the change isn't one for it.
-    Unfit,
-}
-
-impl fmt::Display for Outcome {
-    fn fmt<W: fmt::Write>(&self, f: &mut fmt::Formatter<W>) -> fmt::Result {
-        let text = match self {
-            Outcome::Done => "done",
-            Outcome::Memory => "no memory",
-            Outcome::Unfit => "not allowed",
-        };
-        f.write_str(text)
-    }
-}
+use test_splits::Outcome;
 
 /// The trade 1 of these lots into AAA/A1.
 pub(crate) fn trade(alloc: Global, lots: &str) -> io::Result<Tree<Global>> {
     match (place_of("AAA/A1"), lots.parse::<u64>()) {
         (Some(place), Ok(lots)) => Ok(Tree::new(alloc, Number::at_place(0), place, lots)),
         _ => Err(io::Error::from(ErrorKind::InvalidData)),
-    }
-}
-
-pub(crate) fn split(
-    tree: &mut Tree<Global>,
-    name: NodeName,
-    entry: Number,
-    parts: &[Part],
-) -> Outcome {
-    let Some(path) = tree.find(name) else {
-        return Outcome::Unfit;
-    };
-    let head = *tree.head(&path);
-    if tree.parted(&path).is_some() || head.state == State::Offered || path.len() >= MAX_DEPTH {
-        return Outcome::Unfit;
-    }
-    if tree.has_entry(entry) || parts.is_empty() || parts.len() > 100 {
-        return Outcome::Unfit;
-    }
-    if !head.is_sum_of(parts) || !head.can_place(parts) {
-        return Outcome::Unfit;
-    }
-    match tree.split(&path, entry, parts) {
-        Ok(()) => Outcome::Done,
-        Err(_) => Outcome::Memory,
     }
 }
 

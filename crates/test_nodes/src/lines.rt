@@ -1,10 +1,11 @@
 //! The change that a line asks for.
 
-use crate::changes::{Outcome, claim, offer_again, refuse, split, unclaim, unsplit};
+use crate::changes::{claim, offer_again, refuse, unclaim, unsplit};
 use crate::words::{first_word, node_of, number_of, part_of, place_of};
 use gu_base::{Memory, NodeName, Number, Part};
 use gu_tree::Tree;
 use std::alloc::Global;
+use test_splits::{Outcome, split};
 
 /// The parts of these words.
 fn parts_of(alloc: Global, words: &str) -> Result<Vec<Part>, Memory> {

@@ -1,8 +1,10 @@
 //! A question, and what is told.
 
+use crate::frames::frames;
 use gu_base::{FirmId, Number, Report, Target};
 use gu_book::Book;
 use gu_trace::{TraceError, reports, totals, trace};
+use jiff::Timestamp;
 use std::alloc::Global;
 use std::io;
 use std::io::Eprint;
@@ -10,6 +12,9 @@ use test_days::{count_of, first_word, number_of, shown, tell_refused, twice};
 
 /// What stands in `out` before a text is asked for.
 const BEFORE: &[u8] = b"before";
+
+/// 09:00:30 on 2 March 2026, in seconds since 1970: when frames are sent.
+const SENT: i64 = 1_772_442_030;
 
 /// `PART LOTS FIRM ACCOUNT`, and `-` where a part shows no account
 fn show_parts(rt: &impl Print, report: &Report) -> io::Result<()> {
@@ -37,6 +42,13 @@ fn show_report(rt: &impl Print, report: &Report) -> io::Result<()> {
     show_parts(rt, report)
 }
 
+/// The firm and the number behind which it asks for reports.
+fn reader_of(words: &[u8]) -> Option<(FirmId, u32)> {
+    let (firm, after) = first_word(words);
+    let after = u32::try_from(count_of(after)?).ok()?;
+    Some((FirmId::new(firm)?, after))
+}
+
 /// Writes the reports to a firm from a number on.
 fn show_reports(
     rt: &(impl Print + Eprint),
@@ -44,11 +56,7 @@ fn show_reports(
     book: &Book,
     words: &[u8],
 ) -> io::Result<()> {
-    let (firm, after) = first_word(words);
-    let (Some(firm), Some(after)) = (FirmId::new(firm), count_of(after)) else {
-        return println!(rt; "what?");
-    };
-    let Ok(after) = u32::try_from(after) else {
+    let Some((firm, after)) = reader_of(words) else {
         return println!(rt; "what?");
     };
     let found = twice(rt, || reports(alloc, book, &firm, after))?;
@@ -57,6 +65,22 @@ fn show_reports(
         show_report(rt, report)?;
     }
     Ok(())
+}
+
+/// Writes the same reports as a session sends them at 09:00:30 on 2 March 2026.
+fn show_frames(
+    rt: &(impl Print + Eprint),
+    alloc: Global,
+    book: &Book,
+    words: &[u8],
+) -> io::Result<()> {
+    let (Some((firm, after)), Ok(moment)) = (reader_of(words), Timestamp::from_second(SENT)) else {
+        return println!(rt; "what?");
+    };
+    let house = book.house().house();
+    let found = twice(rt, || reports(alloc, book, &firm, after))?;
+    let sent = twice(rt, || frames(alloc, house, firm, found.as_slice(), moment))?;
+    print!(rt; "{}", shown(sent.as_slice()))
 }
 
 /// Writes a text that stands behind what was there before, or that it doesn't.
@@ -116,6 +140,9 @@ pub(crate) fn answer(
     let (what, rest) = first_word(question);
     if what == b"reports".as_slice() {
         return show_reports(rt, alloc, book, rest);
+    }
+    if what == b"frames".as_slice() {
+        return show_frames(rt, alloc, book, rest);
     }
     if what == b"totals".as_slice() {
         return show_totals(rt, alloc, book);

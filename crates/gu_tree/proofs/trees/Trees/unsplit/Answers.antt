@@ -2,7 +2,7 @@ use Rattle.std.proofs.Common.{◌∙◌, ap, sym, refl, Some}
 use Rattle.std.proofs.Math.ListN.{set}
 use Rattle.gu_tree.specs.Filing.{slot_of, last_of}
 use Rattle.gu_tree.proofs.Slots.{last-without_slot}
-use Rattle.gu_tree.proofs.GroveEdits.{root-slot, slot-tree}
+use Rattle.gu_tree.proofs.GroveEdits.{root-slot, slot-tree, to-tree}
 use Rattle.gu_tree.proofs.GroveCuts.{taking-split, cut-grove, unsplit-tree, unsplit-place}
 use Rattle.gu_tree.proofs.trees.Trees.unsplit.Goals as goal
 
@@ -20,3 +20,7 @@ returns-clause-place g c = rw (← c.self.view_is) (unsplit-place c.self.invaria
 
 pub returns-clause-last : goal.returns-clause-last
 returns-clause-last g c = rw (← c.self.view_is) (ap last_of c.clear.ensures ∙ last-without_slot c.self.inside.slots.items c.in-Some-parted.split.0)
+
+pub returns-clause-shows : goal.returns-clause-shows
+returns-clause-shows g c =
+    rw (← c.self.view_is) (to-tree _ _ _ (slot-tree c.args.trade c.self.invariant (ap (λ s. slot_of s c.args.trade) (sym c.as_slice.ensures.value) ∙ c.root_of-i.ensures) c.index_mut.ensures.value c.in-Some.is) (rw c.unsplit.ensures.node at c.unsplit.ensures.shows))

@@ -1,7 +1,7 @@
 use Rattle.std.proofs.Common.{rules, ◌≡◌, true, IsTrue, sym, ◌∙◌}
 use Rattle.gu_tree.specs.Changes.{own_parts_have_accounts}
 use Rattle.gu_tree.proofs.Conditions.{at_head}
-use Rattle.test_heap.proofs.trees.split.Goals as goal
+use Rattle.test_splits.proofs.split.Goals as goal
 use Rattle.std.proofs.lemmas.Bool.{not-false}
 
 pub split-requires-clause-accounts : goal.split-requires-clause-accounts

@@ -1,0 +1,55 @@
+//! The split of a tree's node, made where all that it asks for holds, for the programs that change trees (`test_nodes`, `test_heap`).
+//!
+//! It has no cases of its own: those of the two programs try it.
+#![tactic(auto)]
+
+use gu_base::{NodeName, Number, Part, State};
+use gu_tree::{MAX_DEPTH, Tree};
+use std::alloc::Allocator;
+use std::fmt;
+
+/// What came of a change.
+#[derive(Clone, Copy, PartialEq, Eq)]
+pub enum Outcome {
+    Done,
+    Memory,
+    /// The tree has no such node, or the change isn't one for it.
+    Unfit,
+}
+
+impl fmt::Display for Outcome {
+    fn fmt<W: fmt::Write>(&self, f: &mut fmt::Formatter<W>) -> fmt::Result {
+        let text = match self {
+            Outcome::Done => "done",
+            Outcome::Memory => "no memory",
+            Outcome::Unfit => "not allowed",
+        };
+        f.write_str(text)
+    }
+}
+
+/// Splits the node of that name.
+pub fn split<A: Allocator + Clone>(
+    tree: &mut Tree<A>,
+    name: NodeName,
+    entry: Number,
+    parts: &[Part],
+) -> Outcome {
+    let Some(path) = tree.find(name) else {
+        return Outcome::Unfit;
+    };
+    let head = *tree.head(&path);
+    if tree.parted(&path).is_some() || head.state == State::Offered || path.len() >= MAX_DEPTH {
+        return Outcome::Unfit;
+    }
+    if tree.has_entry(entry) || parts.is_empty() || parts.len() > 100 {
+        return Outcome::Unfit;
+    }
+    if !head.is_sum_of(parts) || !head.can_place(parts) {
+        return Outcome::Unfit;
+    }
+    match tree.split(&path, entry, parts) {
+        Ok(()) => Outcome::Done,
+        Err(_) => Outcome::Memory,
+    }
+}
