@@ -32,7 +32,7 @@ use Rattle.gu_tree.proofs.ShowsLess.{no-root-part}
 use Rattle.gu_depend.proofs.Names.{maker, made_number}
 use Rattle.gu_depend.proofs.StandsLast.{any_in}
 use Rattle.gu_consent.specs.declared.Consents.{Consents}
-use Rattle.gu_book.specs.Filed.{IsFiled}
+use Rattle.gu_book.specs.Filed.{IsFiled, IsFree}
 use Rattle.gu_book.specs.Kept.{IsKept}
 use Rattle.gu_book.specs.TreeRows.{is_trade, is_live_trade}
 use Rattle.gu_book.proofs.Leaves.{live_rises}
@@ -89,6 +89,7 @@ found_kept p q (y ∷ ys) x h passes = found_step p q y ys x passes (λ e. found
 -- it is live, and nothing stands on it
 pub record IsUndone (t : House) (h : List Entry) (k : ℕ) (r : Record) : Type 0 where
   pub entry : entry_of h k ≡ Some r
+  pub change : is_change r.command ≡ true
   pub from : 1 ≤ k
   pub within : k < 1 + length h
   pub among : Contains (live h) r
@@ -110,6 +111,7 @@ undone t h e n k ok same =
       r,
       record {
         entry = o.1.found;
+        change = o.1.is;
         from = at.from;
         within = at.within;
         among = found_in (λ (q : Record). q.number == k) (live h) r (found_kept (λ (q : Record). q.number == k) (λ (q : Record). is_change q.command && not (is_reversed h q.number)) (records h) r o.1.found passes);
@@ -124,9 +126,18 @@ undone_entry {h = h} {k = k} {r = r} u d is =
     let within = u.within in
     same_Some r (numbered_as k d) (sym u.entry ∙ known_entry h k d from (omega (arith, from, within)) is)
 
-module _ (t : House) (h : List Entry) (e : Entry) (n k : ℕ) (ok : answer_to t h (call_of e) ≡ Accepted n e.status) (same : e.command ≡ Reverse k) where
+module _ {t : House} {h : List Entry} {g : Grove} {cs : Consents} (kept : IsKept t h g cs) (e : Entry) (n k : ℕ) (ok : answer_to t h (call_of e) ≡ Accepted n e.status) (same : e.command ≡ Reverse k) where
   pub undone_free : standing_on t (live h) k ≡ None
   undone_free = (undone t h e n k ok same).1.free
 
   pub undone_among : (d : Entry) → d ≡ get_or h (k - 1) d → Contains (live h) (numbered_as k d)
   undone_among d is = let u = undone t h e n k ok same in subst (λ (r : Record). Contains (live h) r) (undone_entry u.1 d is) u.1.among
+
+  pub undone_change : (d : Entry) → d ≡ get_or h (k - 1) d → is_change d.command ≡ true
+  undone_change d is =
+      let u = undone t h e n k ok same in
+      sym (ap (λ (r : Record). is_change r.command) (undone_entry u.1 d is)) ∙ u.1.change
+
+  -- so it may go from the trees
+  pub undone_goes : (d : Entry) → d ≡ get_or h (k - 1) d → IsFree t (live h) (numbered_as k d) g
+  undone_goes d is = record { filed = kept.filed; replayed = kept.replayed; rises = live_rises h; among = undone_among d is; free = undone_free }

@@ -5,22 +5,19 @@ use Rattle.std.specs.Option.{option_or}
 use Rattle.std.specs.List.{All, cons_option}
 use Rattle.std.proofs.lemmas.Bool.{eqb-true, ne_eqb, le-leb, lt-leb, leb-false, leb-true}
 use Rattle.std.proofs.lemmas.Bool.Decides.{Decides-eqb}
-use Rattle.std.proofs.lemmas.List.Elements.{All-head, All-tail, All-filter}
+use Rattle.std.proofs.lemmas.List.Elements.{All-head, All-tail}
 use Rattle.std.proofs.lemmas.List.Folds.{find-append}
 use Rattle.std.proofs.lemmas.Option.{same_Some}
 use Rattle.gu_base.specs.Numbers.{EntryPart}
 use Rattle.gu_base.specs.History.{numbered_as, numbered_from, records, is_change, is_reverse_of, is_reversed, live, RisesFrom}
 use Rattle.gu_base.specs.Nodes.{node_of, nodes, nodes_of, same_name}
-use Rattle.gu_base.specs.Standing.{without}
 use Rattle.gu_base.specs.Answers.{entry_of, reversal_of}
 use Rattle.gu_base.specs.declared.entry.Entry.{Entry}
 use Rattle.gu_base.specs.declared.entry.Record.{Record}
 use Rattle.gu_base.proofs.Basics.{or_none, no_some, none_or_some, nothing_here}
 use Rattle.gu_base.proofs.LiveLaws.{is_live, live_below}
 use Rattle.gu_base.proofs.NodeNames.{made_of, made_entry}
-use Rattle.gu_book.specs.Live.{live_but, is_out, up_to}
 use Rattle.gu_book.proofs.Leaves.{live_rises}
-use Rattle.gu_book.proofs.Replaying.{rises_without}
 
 -- ---- the node of a name is made by the change of its number
 
@@ -94,63 +91,33 @@ numbers_rise : (m : ℕ) (h : List Entry) → RisesFrom m (numbered_from m h)
 numbers_rise m [] = tt
 numbers_rise m (e ∷ h) = (omega arith, numbers_rise (m + 1) h)
 
-abbrev among_left : Option ℕ → Option Record → Option Record
-among_left None found = found
-among_left (Some k) found = if_passes (λ r. not (r.number == k)) found
-
 module _ (h : List Entry) (n : ℕ) where
   found_live : find (λ (d : Record). d.number == n) (live h) ≡ if_passes (is_live h) (entry_of h n)
   found_live = passing (is_live h) 1 n (records h) (numbers_rise 1 h)
 
-  found_left : (o : Option ℕ) → find (λ (d : Record). d.number == n) (live_but h o) ≡ among_left o (if_passes (is_live h) (entry_of h n))
-  found_left None = found_live
-  found_left (Some k) = passing (λ (r : Record). not (r.number == k)) 1 n (live h) (live_rises h) ∙ ap (among_left (Some k)) found_live
-
-  none_left : (o : Option ℕ) → among_left o None ≡ None
-  none_left None = refl
-  none_left (Some k) = refl
-
   -- no entry has the number
-  pub none_there : (o : Option ℕ) → entry_of h n ≡ None → None ≡ find (λ (d : Record). d.number == n) (live_but h o)
-  none_there o none = sym (found_left o ∙ (ap (λ e. among_left o (if_passes (is_live h) e)) none ∙ none_left o))
+  pub none_there : entry_of h n ≡ None → None ≡ find (λ (d : Record). d.number == n) (live h)
+  none_there none = sym (found_live ∙ ap (if_passes (is_live h)) none)
 
-  module _ (e : Entry) (there : entry_of h n ≡ Some (numbered_as n e)) (o : Option ℕ) where
-    found_by : (b : Bool) → is_live h (numbered_as n e) ≡ b → find (λ (d : Record). d.number == n) (live_but h o) ≡ among_left o (cond b (Some (numbered_as n e)) None)
-    found_by b is =
-        found_left o
-        ∙ (ap (λ x. among_left o (if_passes (is_live h) x)) there ∙ ap (λ d. among_left o (cond d (Some (numbered_as n e)) None)) is)
+  module _ (e : Entry) (there : entry_of h n ≡ Some (numbered_as n e)) where
+    found_by : (b : Bool) → is_live h (numbered_as n e) ≡ b → find (λ (d : Record). d.number == n) (live h) ≡ cond b (Some (numbered_as n e)) None
+    found_by b is = found_live ∙ (ap (if_passes (is_live h)) there ∙ ap (λ d. cond d (Some (numbered_as n e)) None) is)
 
     -- the entry is no change
-    pub none_changed : is_change e.command ≡ false → None ≡ find (λ (d : Record). d.number == n) (live_but h o)
-    none_changed is = sym (found_by false (rw is refl) ∙ none_left o)
+    pub none_changed : is_change e.command ≡ false → None ≡ find (λ (d : Record). d.number == n) (live h)
+    none_changed is = sym (found_by false (rw is refl))
 
     -- a Reverse names it
-    pub none_reversed : is_reversed h n ≡ true → None ≡ find (λ (d : Record). d.number == n) (live_but h o)
-    none_reversed is = sym (found_by false (rw is (false_and (is_change e.command))) ∙ none_left o)
+    pub none_reversed : is_reversed h n ≡ true → None ≡ find (λ (d : Record). d.number == n) (live h)
+    none_reversed is = sym (found_by false (rw is (false_and (is_change e.command))))
       where
         false_and : (b : Bool) → (b && not true) ≡ false
         false_and true = refl
         false_and false = refl
 
-    left_as : (o : Option ℕ) (b : Bool) (r : Record) → is_out o r.number ≡ b → among_left o (Some r) ≡ cond b None (Some r)
-    left_as None b r is = ap (λ d. cond d None (Some r)) is
-    left_as (Some k) b r is = swapped (r.number == k) ∙ ap (λ d. cond d None (Some r)) is
-      where
-        swapped : (d : Bool) → cond (not d) (Some r) None ≡ cond d None (Some r)
-        swapped true = refl
-        swapped false = refl
-
-    -- it is left out
-    pub none_out : is_out o n ≡ true → None ≡ find (λ (d : Record). d.number == n) (live_but h o)
-    none_out is = sym (found_by (is_live h (numbered_as n e)) refl ∙ out_by (is_live h (numbered_as n e)))
-      where
-        out_by : (b : Bool) → among_left o (cond b (Some (numbered_as n e)) None) ≡ None
-        out_by true = left_as o true (numbered_as n e) is
-        out_by false = none_left o
-
-    -- it is live, and not left out
-    pub found_there : is_change e.command ≡ true → is_reversed h n ≡ false → is_out o n ≡ false → Some (numbered_as n e) ≡ find (λ (d : Record). d.number == n) (live_but h o)
-    found_there change open_ in_ = sym (found_by true (rw (change, open_) refl) ∙ left_as o false (numbered_as n e) in_)
+    -- it is live
+    pub found_there : is_change e.command ≡ true → is_reversed h n ≡ false → Some (numbered_as n e) ≡ find (λ (d : Record). d.number == n) (live h)
+    found_there change unnamed = sym (found_by true (rw (change, unnamed) refl))
 
 reversed_by : (b : Bool) (later : Bool) (x r : Record) (rest : Option Record) → (rest ≡ Some r → later ≡ true) → cond b (Some x) rest ≡ Some r → (b || later) ≡ true
 reversed_by true later x r rest more e = refl
@@ -171,7 +138,11 @@ reversed_some h n v named =
 
 -- ---- one after the other
 
-pub none_up_to : (i m : ℕ) (l : List Record) → RisesFrom m l → i < m → up_to i l ≡ []
+-- those of the changes that have at most this number
+abbrev pub up_to : ℕ → List Record → List Record
+up_to n l = filter (λ r. nat_le r.number n) l
+
+none_up_to : (i m : ℕ) (l : List Record) → RisesFrom m l → i < m → up_to i l ≡ []
 none_up_to i m [] rises low = refl
 none_up_to i m (r ∷ l) rises low =
     let above : m ≤ r.number = rises.0 in
@@ -220,22 +191,12 @@ up_to_all i (r ∷ l) all =
     ap (λ b. cond b (r ∷ up_to i l) (up_to i l)) (le-leb r.number i (omega (arith, low))) ∙ ap (λ k. r ∷ k) (up_to_all i l (All-tail (λ (r : Record). r.number < 1 + i) r l all))
 
 -- at the end all are in
-up_to_last : (h : List Entry) (o : Option ℕ) → up_to (length h) (live_but h o) ≡ live_but h o
-up_to_last h None = up_to_all (length h) (live h) (live_below h)
-up_to_last h (Some k) = up_to_all (length h) (without (live h) k) (All-filter (λ (r : Record). not (r.number == k)) (λ (r : Record). r.number < 1 + length h) (live h) (live_below h))
+pub up_to_last : (h : List Entry) (l : List Record) → live h ≡ l → up_to (length h) l ≡ l
+up_to_last h l is = subst (λ (l : List Record). up_to (length h) l ≡ l) is (up_to_all (length h) (live h) (live_below h))
 
 pub numbers_more : (l : List Record) (r : Record) → map (λ (d : Record). d.number) (l ++ r ∷ []) ≡ map (λ (d : Record). d.number) l ++ r.number ∷ []
 numbers_more [] r = refl
 numbers_more (d ∷ l) r = ap (λ k. d.number ∷ k) (numbers_more l r)
 
--- the numbers rise
-but_rises : (h : List Entry) (o : Option ℕ) → RisesFrom 1 (live_but h o)
-but_rises h None = live_rises h
-but_rises h (Some k) = rises_without 1 k (live h) (live_rises h)
-
--- the same of a list that is known to be they
-pub rises_now : (h : List Entry) (o : Option ℕ) (l : List Record) → live_but h o ≡ l → RisesFrom 1 l
-rises_now h o l is = subst (RisesFrom 1) is (but_rises h o)
-
-pub last_now : (h : List Entry) (o : Option ℕ) (l : List Record) → live_but h o ≡ l → up_to (length h) l ≡ l
-last_now h o l is = subst (λ (l : List Record). up_to (length h) l ≡ l) is (up_to_last h o)
+pub live_rises_as : (h : List Entry) (l : List Record) → live h ≡ l → RisesFrom 1 l
+live_rises_as h l is = subst (RisesFrom 1) is (live_rises h)

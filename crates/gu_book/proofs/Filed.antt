@@ -28,9 +28,9 @@ use Rattle.gu_tree.proofs.Along.{IsAlong, along, path-of}
 use Rattle.gu_tree.proofs.GroveEdits.{by-cases}
 use Rattle.gu_tree.proofs.Parts.{some_and}
 use Rattle.gu_tree.proofs.Shows.{tree-kept}
-use Rattle.gu_book.specs.Filed.{IsIn, IsLastOf, IsFiled, IsNext, IsDue, Follows}
+use Rattle.gu_book.specs.Filed.{IsIn, IsFiled, IsNext, IsDue, Follows}
 use Rattle.gu_book.specs.TreeRows.{is_trade, is_live_trade}
-use Rattle.gu_book.proofs.Leaves.{all_parts, other_number, sound_first}
+use Rattle.gu_book.proofs.Leaves.{other_number, sound_first}
 use Rattle.gu_book.proofs.Named.{count_of, found_counts}
 use Rattle.gu_book.proofs.Orders.{names_there, InOrder, in_order, sound_before, earlier}
 use Rattle.gu_book.proofs.Sound.{Sound, From, before, here, node_from}
@@ -47,12 +47,12 @@ same_filed l old new same filed =
       shown = λ k. subst (λ (o : Option Rose). IfSome o (IsTreeOf l k)) (tree k) (filed.shown k);
       whole = λ n x e. let a = filed.whole n x e in (a.0, subst (λ (o : Option Rose). IsSomeAnd o (λ t. 1 ≤ named n t)) (tree a.0) a.1);
       placed = λ k. place k ∙ filed.placed k;
-      last = λ n one all. let a : last_place new ≡ last_place old = ap last_of same.slots in let b : last_place old < n = filed.last n one all in omega (arith, a, b);
     }
 
 pub same_next : (t : House) (l : List Record) (r : Record) (old new : Grove) → IsSameGrove old new → IsNext t l r old → IsNext t l r new
 same_next t l r old new same next = record {
   filed = same_filed l old new same next.filed;
+  later = let a : last_place new ≡ last_place old = ap last_of same.slots in let b : last_place old < r.number = next.later in omega (arith, a, b);
   replayed = next.replayed;
   lawful = next.lawful;
   rises = next.rises;
@@ -69,13 +69,12 @@ pub due_same : (r : Record) (old new : Grove) → IsSameGrove old new → IsDue 
 due_same r old new same due = (due.0, due.1, same_next due.0 due.1 r old new same due.2)
 
 -- no trees and no places
-pub filed_none : (g : Grove) → ((k : ℕ) → tree_of g k ≡ None) → ((k : ℕ) → place_of g k ≡ None) → last_place g ≡ 0 → IsFiled [] g
-filed_none g trees places last = record {
+pub filed_none : (g : Grove) → ((k : ℕ) → tree_of g k ≡ None) → ((k : ℕ) → place_of g k ≡ None) → IsFiled [] g
+filed_none g trees places = record {
   live = λ k. ap is_some (trees k);
   shown = λ k. subst (λ (o : Option Rose). IfSome o (IsTreeOf [] k)) (sym (trees k)) tt;
   whole = λ n x e. let z : None ≡ Some x = e in absurd (cc);
   placed = places;
-  last = λ n one all. omega (arith, last, one);
 }
 
 -- ---- where a node lies
@@ -183,7 +182,7 @@ not_trade (Initiate _) n e = refl
 not_trade (Decline _) n e = refl
 not_trade (Reverse _) n e = refl
 
-place_named : (k : ℕ) (c : Command) (n : EntryPart) → named_node c ≡ Some n → named_place k c ≡ Some n
+pub place_named : (k : ℕ) (c : Command) (n : EntryPart) → named_node c ≡ Some n → named_place k c ≡ Some n
 place_named k (Trade _ _ _ _ _) n e = absurd (cc)
 place_named k (Split _ _) n e = e
 place_named k (Claim _ _) n e = e
@@ -243,20 +242,11 @@ module _ {t : House} {l : List Record} {r : Record} {g : Grove} (next : IsNext t
   has_tree : (h : Grove) (k : ℕ) (tree : Rose) (n : EntryPart) → tree_of h k ≡ Some tree → 1 ≤ named n tree → IsIn h n
   has_tree h k tree n found one = (k, subst (λ (o : Option Rose). IsSomeAnd o (λ t. 1 ≤ named n t)) (sym found) one)
 
-  -- no place is later than the change
-  pub later : last_place g < r.number
-  later = next.filed.last r.number (earlier 1 l r next.rises).1 low
-
-  last_more : (h : Grove) → last_place h ≡ r.number → IsLastOf (l ++ r ∷ []) h
-  last_more h last n one all =
-      let less : r.number < n = All-head (λ (d : Record). d.number < n) r [] (all_parts (λ (d : Record). d.number < n) l (r ∷ []) all).1 in
-      omega (arith, last, less)
-
   -- ---- the tree that the change touches
 
   module _ {trade : ℕ} {p : List ℕ} {n : EntryPart} (s : Spot l g trade p n) (names : named_node r.command ≡ Some n)
       (h : Grove) (new : Rose) (changes : ChangesTree g h trade new) (places : Places g h r.number n)
-      (shows : IsTreeOf (l ++ r ∷ []) trade new) (count : (m : EntryPart) → named m new ≡ named m s.tree + count_of m (made r)) (last : last_place h ≡ r.number) where
+      (shows : IsTreeOf (l ++ r ∷ []) trade new) (count : (m : EntryPart) → named m new ≡ named m s.tree + count_of m (made r)) where
     here_now : tree_of h trade ≡ Some new
     here_now = changes trade ∙ if_here trade trade (Some new) (tree_of g trade) refl
 
@@ -294,7 +284,6 @@ module _ {t : House} {l : List Record} {r : Record} {g : Grove} (next : IsNext t
       ];
       whole = λ m x e. whole_after m x (node_from l r m x e);
       placed = placed_more h n places (place_named r.number r.command n names);
-      last = last_more h last;
     }
 
   -- ---- a tree more
@@ -302,7 +291,7 @@ module _ {t : House} {l : List Record} {r : Record} {g : Grove} (next : IsNext t
   module _ (h : Grove) (new : Rose) (trades : is_trade r.command ≡ true) (names : named_node r.command ≡ None)
       (own : named_place r.number r.command ≡ Some (record { entry = r.number; part = 0 }))
       (changes : ChangesTree g h r.number new) (places : Places g h r.number (record { entry = r.number; part = 0 }))
-      (shows : IsTreeOf (l ++ r ∷ []) r.number new) (count : (m : EntryPart) → named m new ≡ count_of m (made r)) (last : last_place h ≡ r.number) where
+      (shows : IsTreeOf (l ++ r ∷ []) r.number new) (count : (m : EntryPart) → named m new ≡ count_of m (made r)) where
     new_here : tree_of h r.number ≡ Some new
     new_here = changes r.number ∙ if_here r.number r.number (Some new) (tree_of g r.number) refl
 
@@ -351,7 +340,6 @@ module _ {t : House} {l : List Record} {r : Record} {g : Grove} (next : IsNext t
       ];
       whole = λ m x e. planted_whole m x (node_from l r m x e);
       placed = placed_more h (record { entry = r.number; part = 0 }) places own;
-      last = last_more h last;
     }
 
   -- ---- a change that makes and names nothing
@@ -378,5 +366,4 @@ module _ {t : House} {l : List Record} {r : Record} {g : Grove} (next : IsNext t
             ∙ (ap (place_in l) same ∙ (ap (option_and_then (λ (d : Record). named_place d.number d.command)) (none_numbered r.number l low) ∙ (sym own ∙ (sym (place_here l r low) ∙ ap (place_in (l ++ r ∷ [])) (sym same)))))
         | inr other ↦ next.filed.placed k ∙ sym (place_there l r k (λ e. other (sym e)))
       ];
-      last = λ n one all. next.filed.last n one (all_parts (λ (d : Record). d.number < n) l (r ∷ []) all).0;
     }

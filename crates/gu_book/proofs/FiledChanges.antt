@@ -29,7 +29,7 @@ use Rattle.gu_base.proofs.Passing.{at_node_none, split_passes, SplitHolds, refus
 use Rattle.gu_tree.specs.Rose.{Rose, leaf, parted, head_of, lots_of, named}
 use Rattle.gu_tree.specs.Paths.{edit_at, HasAt}
 use Rattle.gu_tree.specs.Changes.{root_head, with_head, CanSplit, own_parts_have_accounts, is_own, split_node, claim_node, claimed_head, give_back_node, given_back_head, IsOffered}
-use Rattle.gu_tree.specs.Grove.{Grove, tree_of, last_place, HasTree, ChangesTree, Places}
+use Rattle.gu_tree.specs.Grove.{Grove, tree_of, HasTree, ChangesTree, Places}
 use Rattle.gu_tree.specs.Shown.{IsTreeOf, IsNodeOf, IsHeadOf, named_node, ShowsMore, IsUnnamed, IsTradeOf, IsSplitOf, IsClaimOf, GivesBack, IsGivingBackOf}
 use Rattle.gu_tree.specs.ShownAll.{named_place}
 use Rattle.gu_tree.specs.declared.head.Head.{Head}
@@ -69,7 +69,6 @@ taker_named by (Given _ giver taker) h = ap (λ (f : List ℕ). Some f) ((bytes_
 pub record IsDone (g : Grove) (trade : ℕ) (p : List ℕ) (r : Record) (h : Grove) (f : Rose → Rose) : Type 0 where
   pub tree : HasTree g trade (λ u. ChangesTree g h trade (edit_at f p u))
   pub place : HasTree g trade (HasAt p (λ v. Places g h r.number (head_of v).name))
-  pub last : last_place h ≡ r.number
 
 row_passes : {t : House} {l : List Record} {r : Record} {g : Grove} → IsNext t l r g → (c : Command) → r.command ≡ c → row t l r.firm c ≡ None
 row_passes {t} {l} {r} next c e = subst (λ (c : Command). row t l r.firm c ≡ None) e (refusal_parts t l r.firm r.command next.lawful).1
@@ -82,20 +81,20 @@ module _ {l : List Record} {g : Grove} {trade : ℕ} {p : List ℕ} {n : EntryPa
   pub its_node : (x : Node) → node_of l n ≡ Some x → x ≡ s.said.node
   its_node x e = same_Some x s.said.node (sym e ∙ (ap (node_of l) (sym s.called) ∙ s.said.found))
 
-  at_tree : (P : Rose → Type 0) → P s.tree → HasTree g trade P
+  pub at_tree : (P : Rose → Type 0) → P s.tree → HasTree g trade P
   at_tree P is = subst (λ (o : Option Rose). IsSomeAnd o P) (sym s.found) is
 
-  from_tree : (P : Rose → Type 0) → HasTree g trade P → P s.tree
+  pub from_tree : (P : Rose → Type 0) → HasTree g trade P → P s.tree
   from_tree P has = at_fact P (tree_of g trade) s.tree s.found has
 
-  has_at : (P : Rose → Type 0) → P s.node → HasAt p P s.tree
+  pub has_at : (P : Rose → Type 0) → P s.node → HasAt p P s.tree
   has_at P is = subst (λ (o : Option Rose). IsSomeAnd o P) (sym s.at) is
 
   pub is_at : (P : Rose → Type 0) → P s.node → HasTree g trade (HasAt p P)
   is_at P is = at_tree (HasAt p P) (has_at P is)
 
   -- what a clause says of the node at the path is said of this one
-  said_at : (P : Rose → Type 0) → HasTree g trade (HasAt p P) → P s.node
+  pub said_at : (P : Rose → Type 0) → HasTree g trade (HasAt p P) → P s.node
   said_at P has = at_fact P _ s.node s.at (from_tree (HasAt p P) has)
 
   -- an offered node
@@ -117,7 +116,7 @@ module _ {t : House} {l : List Record} {r : Record} {g : Grove} (next : IsNext t
       changed next s names h (edit_at f p s.tree)
       (from_tree s (λ u. ChangesTree g h trade (edit_at f p u)) done.tree)
       (subst (λ (m : EntryPart). Places g h r.number m) s.called (said_at s (λ v. Places g h r.number (head_of v).name) done.place))
-      shows count done.last
+      shows count
 
   reheaded : {trade : ℕ} {p : List ℕ} {n : EntryPart} (s : Spot l g trade p n) → named_node r.command ≡ Some n → made r ≡ []
       → (h : Grove) (f : Head → Head) → ((k : Head) → (f k).name ≡ k.name) → IsDone g trade p r h (λ v. with_head (f (head_of v)) v)
@@ -313,16 +312,14 @@ module _ {t : House} {l : List Record} {r : Record} {g : Grove} (next : IsNext t
   -- what the new tree shows is asked of it for this list
   pub trade_filed : (h : Grove) (new : Rose) → new ≡ leaf (root_head r.number place lots)
       → ((k : List Record) (q : Record) → IsTradeOf r.number place lots q → IsUnnamed k r.number → node_of k (record { entry = r.number; part = 0 }) ≡ None → IsTreeOf (k ++ q ∷ []) r.number new)
-      → ChangesTree g h r.number new → Places g h r.number (record { entry = r.number; part = 0 }) → last_place h ≡ r.number
-      → IsFiled (l ++ r ∷ []) h
-  trade_filed h new same shows changes places last =
+      → ChangesTree g h r.number new → Places g h r.number (record { entry = r.number; part = 0 }) → IsFiled (l ++ r ∷ []) h
+  trade_filed h new same shows changes places =
       planted next h new (ap is_trade is.command) (ap named_node is.command) (ap (named_place r.number) is.command) changes places
       (shows l r is (unnamed 0 r.number l (order next).orderly (low next)) no_root)
       (λ m.
       let a = ap (named m) same in
       let f = ap (λ (c : Command). count_of m (nodes_of r.number r.firm c)) is.command in
       omega (arith, a, f))
-      last
 
 -- what neither trades nor splits nor decides names and makes nothing
 record IsPlain (k : ℕ) (by : List ℕ) (c : Command) : Type 0 where

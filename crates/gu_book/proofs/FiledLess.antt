@@ -1,6 +1,6 @@
 -- A change on which nothing stands leaves the trees and places filed for the list without it, once its node is what it was before it.
 use Rattle.std.proofs.Common.{◌≡◌, ◌≢◌, ℕ, ◌≤◌, Bool, true, false, not, ◌&&◌, ◌||◌, List, [], ◌∷◌, refl, sym, ◌∙◌, ap, subst, arith, cond, Option, All, Contains, inl, inr}
-use Rattle.std.specs.Prelude.{Some, None, find, ◌==◌, is_some, option_and_then, IsSomeAnd, IfSome}
+use Rattle.std.specs.Prelude.{Some, None, ◌==◌, is_some, option_and_then, IsSomeAnd, IfSome}
 use Rattle.std.specs.List.{list_any}
 use Rattle.std.proofs.lemmas.Bool.Decides.{Decides-eqb}
 use Rattle.std.proofs.lemmas.List.Elements.{All-head, All-tail, All-weaker, filter_passes}
@@ -14,7 +14,6 @@ use Rattle.gu_base.specs.Standing.{first_refused, standing_on, without}
 use Rattle.gu_base.specs.declared.command.Command.{Command}
 use Rattle.gu_base.specs.declared.command.Command.TheVariants.{Trade, Split, Claim, Refuse, Cancel, Initiate, Decline, Reverse}
 use Rattle.gu_base.specs.declared.entry.Record.{Record}
-use Rattle.gu_base.specs.declared.node.Node.{Node}
 use Rattle.gu_base.proofs.Basics.{or_false, none_is_some}
 use Rattle.gu_base.proofs.NodeNames.{name_is, node_called}
 use Rattle.gu_depend.specs.Under.{names}
@@ -32,6 +31,7 @@ use Rattle.gu_book.specs.TreeRows.{is_trade, is_live_trade}
 use Rattle.gu_book.proofs.Filed.{Spot, tree_shown, one_trade, not_trade, if_here, if_there}
 use Rattle.gu_book.proofs.Leaves.{other_number}
 use Rattle.gu_book.proofs.Orders.{in_order}
+use Rattle.gu_book.proofs.Without.{change_left}
 use Rattle.gu_book.proofs.Undoing.{within, unmade, shown_still, each_number}
 
 -- ---- what a list without a number says
@@ -45,17 +45,6 @@ any_left : (q : Record → Bool) (k : ℕ) (l : List Record) → All (λ d. d.nu
 any_left q k [] all = refl
 any_left q k (d ∷ l) all =
     any_step q k d l (without l k) (any_left q k l (All-tail (λ (d : Record). d.number ≡ k → q d ≡ false) d l all)) (All-head (λ (d : Record). d.number ≡ k → q d ≡ false) d l all) (d.number == k) refl
-
-find_step : (q : Record → Bool) (k : ℕ) (d : Record) (l xs : List Record) → find q xs ≡ find q l → (d.number ≡ k → q d ≡ false) → (b : Bool) → (d.number == k) ≡ b
-    → find q (cond (not b) (d ∷ xs) xs) ≡ cond (q d) (Some d) (find q l)
-find_step q k d l xs same other true is = same ∙ sym (ap (λ b. cond b (Some d) (find q l)) (other ((Decides-eqb d.number k).0 is)))
-find_step q k d l xs same other false is = ap (λ o. cond (q d) (Some d) o) same
-
--- a change of another number is found as before
-change_left : (k j : ℕ) (l : List Record) → k ≢ j → change_of (without l k) j ≡ change_of l j
-change_left k j [] other = refl
-change_left k j (d ∷ l) other =
-    find_step (λ d. d.number == j) k d l (without l k) (change_left k j l other) (λ same. other_number d.number j (λ e. other (sym same ∙ e))) (d.number == k) refl
 
 change_gone : (k : ℕ) (l : List Record) → change_of (without l k) k ≡ None
 change_gone k l =
@@ -87,13 +76,7 @@ names_one n m (Initiate _) e is = absurd (cc)
 names_one n m (Decline _) e is = absurd (cc)
 names_one n m (Reverse _) e is = absurd (cc)
 
--- ---- the trees and places, but for the last of the places
-
-pub record IsFiledSoFar (l : List Record) (g : Grove) : Type 0 where
-  pub live : (k : ℕ) → is_some (tree_of g k) ≡ is_live_trade l k
-  pub shown : (k : ℕ) → IfSome (tree_of g k) (IsTreeOf l k)
-  pub whole : (n : EntryPart) (x : Node) → node_of l n ≡ Some x → IsIn g n
-  pub placed : (k : ℕ) → place_of g k ≡ place_in l k
+-- ---- the trees and places of the others
 
 module _ (t : House) (l : List Record) (r : Record) (replayed : first_refused t [] l ≡ None) (rises : RisesFrom 1 l) (among : Contains l r) (free : standing_on t l r.number ≡ None) (g : Grove) (filed : IsFiled l g) where
   left_live : (k : ℕ) → is_trade r.command ≡ false → is_live_trade (without l r.number) k ≡ is_live_trade l k
@@ -156,7 +139,7 @@ module _ (t : House) (l : List Record) (r : Record) (replayed : first_refused t 
           | inr other ↦ has_tree is.0 u.0 m (there_now is.0 other ∙ u.1) u.2
         ]
 
-    pub taken_back : IsFiledSoFar (without l r.number) h
+    pub taken_back : IsFiled (without l r.number) h
     taken_back = record {
       live = λ k. elim (by-cases k trade) [
         | inl same ↦ ap is_some (ap (tree_of h) same ∙ here_now)
@@ -221,7 +204,7 @@ module _ (t : House) (l : List Record) (r : Record) (replayed : first_refused t 
           | inr other ↦ (is.0, subst (λ (o : Option Rose). IsSomeAnd o (λ t. 1 ≤ named m t)) (sym (others_now is.0 other ∙ u.1)) u.2)
         ]
 
-    pub uprooted : IsFiledSoFar (without l r.number) h
+    pub uprooted : IsFiled (without l r.number) h
     uprooted = record {
       live = λ k. elim (by-cases k r.number) [
         | inl same ↦ ap is_some (ap (tree_of h) same ∙ gone_now) ∙ (sym no_trade_left ∙ ap (is_live_trade (without l r.number)) (sym same))

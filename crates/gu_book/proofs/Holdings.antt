@@ -204,7 +204,7 @@ offered_whole t l n x settled found offered =
     let s = All-contains (Settled t l) l d settled (found_in (λ r. splits n r.command) l d e) in
     not_both (is_offered l x) (free_as t l d.firm d.command n x s.stands (find_passes (λ r. splits n r.command) l d e) found) offered)
 
-given_parent : (k : Kind) → is_given k ≡ true → (m : EntryPart) × (parent k ≡ Some m)
+pub given_parent : (k : Kind) → is_given k ≡ true → (m : EntryPart) × (parent k ≡ Some m)
 given_parent (Root _) h = absurd (cc)
 given_parent (Own _ _ _) h = absurd (cc)
 given_parent (Given m _ _) h = (m, refl)

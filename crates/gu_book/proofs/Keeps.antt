@@ -22,6 +22,7 @@ use Rattle.gu_base.specs.declared.refusal.Refusal.TheVariants.{UnknownFirm}
 use Rattle.gu_base.specs.SamePartsLaws.{bytes_same}
 use Rattle.gu_base.proofs.LiveLaws.{live_push_change, live_push_reverse, is_live, live_push_consent}
 use Rattle.gu_base.proofs.Basics.{bytes_symm, nothing_here}
+use Rattle.gu_tree.specs.Filing.{last_of}
 use Rattle.gu_tree.specs.Grove.{Grove, tree_of, place_of, last_place, IsSameGrove}
 use Rattle.gu_book.specs.Filed.{IsFiled, IsNext}
 use Rattle.gu_book.specs.Found.{AreTreesOf}
@@ -39,7 +40,7 @@ use Rattle.gu_book.proofs.Filed.{filed_none, same_filed}
 use Rattle.gu_book.proofs.Leaves.{live_rises}
 use Rattle.gu_base.proofs.Consenting.{left_change, left_initiate, left_decline, left_reverse, not_reversed}
 use Rattle.gu_book.proofs.Refused.{accepted_small}
-use Rattle.gu_book.proofs.Replaying.{without_small}
+use Rattle.gu_book.proofs.Without.{without_small}
 
 ids_congr : (x y z : Entry) → same_id x y ≡ true → same_id x z ≡ same_id y z
 ids_congr x y z h =
@@ -82,9 +83,9 @@ module _ {t : House} {h : List Entry} {ts : Grove} {cs : Consents} (kept : IsKep
   shown = allowed t h e n ok
 
   -- what an accepted call leaves true, of any kind
-  kept_next : (us : Grove) (ds : Consents) → AllWithinLimits (live (h ++ e ∷ [])) → IsFiled (live (h ++ e ∷ [])) us
+  kept_next : (us : Grove) (ds : Consents) → AllWithinLimits (live (h ++ e ∷ [])) → IsFiled (live (h ++ e ∷ [])) us → last_place us ≤ n
       → ((m : ℕ) → given ds m ≡ consents_left (h ++ e ∷ []) m) → IsKept t (h ++ e ∷ []) us ds
-  kept_next us ds small filed consented =
+  kept_next us ds small filed placed consented =
       let a = shown in
       let run = run_push (run_kept t h ts cs kept) e n ok in
       let longer = length-append h (e ∷ []) in
@@ -96,8 +97,13 @@ module _ {t : House} {h : List Entry} {ts : Grove} {cs : Consents} (kept : IsKep
         accepted = accepted_push t [] h e kept.accepted (ok ∙ ap (λ m. Accepted m e.status) a.number);
         once = IsDistinct-push ids_laws h e kept.once (id_is_new 1 e h a.id);
         filed = filed;
+        placed = omega (arith, longer, a.number, placed);
         consented = consented;
       }
+
+  -- what stays as it was is no later than the history was
+  no_later : (us : Grove) → last_place us ≤ length h → last_place us ≤ n
+  no_later us placed = let number = shown.number in omega (arith, number, placed)
 
   -- ---- a change
 
@@ -115,16 +121,17 @@ module _ {t : House} {h : List Entry} {ts : Grove} {cs : Consents} (kept : IsKep
     pub next_kept : IsNext t (live h) (numbered_as n e) ts
     next_kept = record {
       filed = kept.filed;
+      later = let placed = kept.placed in let number = shown.number in omega (arith, number, placed);
       replayed = kept.replayed;
       lawful = lawful;
       rises = subst (RisesFrom 1) (sym live_more) (live_rises (h ++ e ∷ []));
     }
 
-    pub kept_change : (us : Grove) → IsFiled (live h ++ numbered_as n e ∷ []) us → IsKept t (h ++ e ∷ []) us cs
-    kept_change us filed =
+    pub kept_change : (us : Grove) → IsFiled (live h ++ numbered_as n e ∷ []) us → last_place us ≤ n → IsKept t (h ++ e ∷ []) us cs
+    kept_change us filed placed =
         kept_next us cs
         (subst AllWithinLimits live_more (All-push (λ r. IsWithinLimits r.command) (live h) (numbered_as n e) kept.within (accepted_small t (live h) e.firm e.command lawful)))
-        (subst (λ (l : List Record). IsFiled l us) live_more filed)
+        (subst (λ (l : List Record). IsFiled l us) live_more filed) placed
         (λ m. kept.consented m ∙ left_change h e m e.command refl change)
 
   -- ---- an Initiate or a Decline
@@ -134,7 +141,7 @@ module _ {t : House} {h : List Entry} {ts : Grove} {cs : Consents} (kept : IsKep
 
   kept_consenting : is_consenting e.command ≡ true → (ds : Consents) → ((m : ℕ) → given ds m ≡ consents_left (h ++ e ∷ []) m) → IsKept t (h ++ e ∷ []) ts ds
   kept_consenting consent ds consented =
-      kept_next ts ds (subst AllWithinLimits (live_same consent) kept.within) (subst (λ (l : List Record). IsFiled l ts) (live_same consent) kept.filed) consented
+      kept_next ts ds (subst AllWithinLimits (live_same consent) kept.within) (subst (λ (l : List Record). IsFiled l ts) (live_same consent) kept.filed) (no_later ts kept.placed) consented
 
   open_entry : (k : ℕ) → e.command ≡ Initiate k → is_reversed h k ≡ false
   open_entry k same =
@@ -160,10 +167,11 @@ module _ {t : House} {h : List Entry} {ts : Grove} {cs : Consents} (kept : IsKep
   pub live_less : (k : ℕ) → e.command ≡ Reverse k → without (live h) k ≡ live (h ++ e ∷ [])
   live_less k same = sym (live_push_reverse h e k same)
 
-  pub kept_reverse : (k : ℕ) → e.command ≡ Reverse k → (us : Grove) → IsFiled (without (live h) k) us
+  pub kept_reverse : (k : ℕ) → e.command ≡ Reverse k → (us : Grove) → IsFiled (without (live h) k) us → last_place us ≡ last_place ts
       → (ds : Consents) → ((m : ℕ) → given ds m ≡ cond (m == k) [] (given cs m)) → IsKept t (h ++ e ∷ []) us ds
-  kept_reverse k same us filed ds less =
+  kept_reverse k same us filed placed ds less =
       kept_next us ds (subst AllWithinLimits (live_less k same) (without_small k (live h) kept.within)) (subst (λ (l : List Record). IsFiled l us) (live_less k same) filed)
+      (no_later us (let before = kept.placed in omega (arith, placed, before)))
       (λ m. less m ∙ (ap (λ fs. cond (m == k) [] fs) (kept.consented m) ∙ left_reverse h e k m same))
 
 -- the consents alone have changed, and not in what they say
@@ -176,6 +184,7 @@ kept_same t h ts cs ds kept same = record {
   accepted = kept.accepted;
   once = kept.once;
   filed = kept.filed;
+  placed = kept.placed;
   consented = λ m. same m ∙ kept.consented m;
 }
 
@@ -189,6 +198,7 @@ kept_alike {h = h} {old = old} kept new same = record {
   accepted = kept.accepted;
   once = kept.once;
   filed = same_filed (live h) old new same kept.filed;
+  placed = let placed = kept.placed in let last : last_place new ≡ last_place old = ap last_of same.slots in omega (arith, placed, last);
   consented = kept.consented;
 }
 
@@ -208,7 +218,8 @@ kept_none t cs none g trees places last = record {
   within = All-nil (λ r. IsWithinLimits r.command);
   accepted = tt;
   once = nothing_twice;
-  filed = filed_none g trees places last;
+  filed = filed_none g trees places;
+  placed = omega (arith, last);
   consented = none;
 }
 

@@ -20,8 +20,7 @@ pub mod Orders
 pub mod Restored
 pub mod Ready
 pub mod PartyNames
-pub mod Replaying
-pub mod MadeAgain
+pub mod Without
 pub mod Fronts
 pub mod Named
 pub mod Shown
@@ -31,4 +30,6 @@ pub mod FoundAs
 pub mod AllShown
 pub mod Undoing
 pub mod FiledLess
+pub mod FreeNodes
+pub mod Gone
 pub mod Crossing

@@ -1,6 +1,6 @@
 -- A live change on which nothing stands can as well stand last: so the fees and positions without it are those with it, less what it moved.
-use Rattle.std.proofs.Common.{◌≡◌, ◌≢◌, ℕ, ◌+◌, ◌*◌, ◌≤◌, true, not, ◌||◌, List, [], ◌∷◌, ◌++◌, length, refl, sym, ◌∙◌, ap, subst, arith, Option, All, Contains, cond, false, Bool}
-use Rattle.std.specs.Prelude.{Some, None, filter_map, sum_by, ◌==◌, IfSome}
+use Rattle.std.proofs.Common.{◌≡◌, ◌≢◌, ℕ, suc, ◌+◌, ◌*◌, ◌≤◌, true, not, ◌||◌, List, [], ◌∷◌, ◌++◌, length, refl, sym, ◌∙◌, ap, subst, arith, Option, All, Contains, cond, false, Bool}
+use Rattle.std.specs.Prelude.{Some, None, find, filter_map, sum_by, option_and_then, ◌==◌, IfSome}
 use Rattle.std.specs.List.{cons_option}
 use Rattle.std.proofs.Math.Nat.{mul-le-mul_right}
 use Rattle.std.proofs.lemmas.Bool.Decides.{Decides-eqb}
@@ -10,14 +10,21 @@ use Rattle.gu_base.specs.House.{House}
 use Rattle.gu_base.specs.Limits.{most_lots, highest_rate}
 use Rattle.gu_base.specs.Fees.{charges, charge_of}
 use Rattle.gu_base.specs.History.{RisesFrom}
-use Rattle.gu_base.specs.Nodes.{node_of, split_of, splits, decides, decision_of}
+use Rattle.gu_base.specs.Nodes.{node_of, split_of, splits, decides, decision_of, claimed_account, is_given, parent}
 use Rattle.gu_base.specs.Orders.{IsLawfulOrder}
 use Rattle.gu_base.specs.Positions.{position_of}
-use Rattle.gu_base.specs.Refusals.{refusal_of}
+use Rattle.gu_base.specs.Places.{line_within, line_of, place_along, place_of_kind, place_of, root_along, root_of}
+use Rattle.gu_base.specs.Refusals.{refusal_of, row, split_row, claim_row}
 use Rattle.gu_base.specs.Standing.{first_refused, standing_on, without}
+use Rattle.gu_base.specs.declared.command.Command.{Command}
+use Rattle.gu_base.specs.declared.command.Command.TheVariants.{Trade, Split, Claim, Refuse, Cancel, Initiate, Decline, Reverse}
+use Rattle.gu_base.specs.declared.command.Part.{Part}
 use Rattle.gu_base.specs.declared.command.Side.{Side}
 use Rattle.gu_base.specs.declared.entry.Record.{Record}
 use Rattle.gu_base.specs.declared.node.Charge.{Charge}
+use Rattle.gu_base.specs.declared.node.Kind.{Kind}
+use Rattle.gu_base.specs.declared.node.Kind.TheVariants.{Root, Own, Given}
+use Rattle.gu_base.specs.declared.node.Node.{Node}
 use Rattle.gu_base.specs.declared.node.Place.{Place}
 use Rattle.gu_base.proofs.Basics.{no_some, none_is_some, or_none}
 use Rattle.gu_base.proofs.LegalLaws.{none_refused}
@@ -26,12 +33,12 @@ use Rattle.gu_depend.specs.Same.{IsSameState}
 use Rattle.gu_depend.specs.Under.{names}
 use Rattle.gu_depend.proofs.Charges.{charge_same}
 use Rattle.gu_depend.proofs.Finds.{count_permuted, found_once, none_before}
-use Rattle.gu_depend.proofs.Grown.{Within, NamesThere}
-use Rattle.gu_depend.proofs.LastMoves.{IsBefore, is_before, moves_its_own, split_kept}
+use Rattle.gu_depend.proofs.Grown.{Within, NamesThere, Grown, SplitsDecided, line_of_grown, place_same, above}
+use Rattle.gu_depend.proofs.LastMoves.{IsBefore, is_before, moves_its_own, split_kept, root_found}
 use Rattle.gu_depend.proofs.NamedOnce.{named_once}
 use Rattle.gu_depend.proofs.Names.{maker, made_number}
 use Rattle.gu_depend.proofs.Replay.{NumbersOnce, number_once, order_replays, SameFinds, same_finds}
-use Rattle.gu_depend.proofs.Settled.{facts}
+use Rattle.gu_depend.proofs.Settled.{facts, accepted_there}
 use Rattle.gu_depend.proofs.StandsUnder.{rises_distinct, can_stand_last}
 use Rattle.gu_depend.proofs.State.{state_same}
 use Rattle.gu_fees.specs.Rows.{FeeRows}
@@ -44,17 +51,19 @@ use Rattle.std.proofs.lemmas.Bool.{or_parts, false_from_ne_true}
 use Rattle.std.proofs.lemmas.Option.{same_Some}
 use Rattle.std.specs.Option.{option_or}
 use Rattle.gu_book.proofs.Sound.{node_push}
-use Rattle.gu_base.proofs.NodeNames.{made_of}
+use Rattle.gu_base.proofs.NodeNames.{made_of, node_called}
+use Rattle.gu_base.proofs.Passing.{at_node_none, claim_passes}
 use Rattle.gu_book.specs.Charging.{IsSmallCharge, AreFeesOf, IsCharged}
-use Rattle.gu_book.specs.Holdings.{taken_by, added_by, counted_at, taken_at, SameLots, HaveMoved, HaveThere, IsReadyTaken, HasRoomBack, ArePositionsOf}
+use Rattle.gu_book.specs.Holdings.{traded_by, traded_at, held_at, holding_of, held_above, taken_before, taken_by, added_by, counted_at, taken_at, SameLots, HaveMoved, HaveThere, IsReadyTaken, HasRoomBack, ArePositionsOf}
 use Rattle.gu_book.specs.Limits.{AllWithinLimits}
 use Rattle.gu_book.specs.declared.plain.holdings.Holding.{Holding}
-use Rattle.gu_book.proofs.Holdings.{IsCounted, key_at, decision_kept}
+use Rattle.gu_book.specs.declared.plain.holdings.Traded.{Traded}
+use Rattle.gu_book.proofs.Holdings.{IsCounted, key_at, decision_kept, given_parent}
 use Rattle.gu_book.proofs.Charging.{is_charged}
 use Rattle.gu_book.proofs.HoldingRows.{is_own_key}
 use Rattle.gu_book.proofs.Orders.{InOrder, in_order}
 use Rattle.gu_book.proofs.Placed.{node_stands}
-use Rattle.gu_book.proofs.Replaying.{rises_without, without_small, without_within}
+use Rattle.gu_book.proofs.Without.{rises_without, without_small, without_within, change_left}
 use Rattle.gu_book.proofs.Restored.{replay_on}
 use Rattle.gu_book.proofs.SoundNext.{next_from_accepted}
 use Rattle.gu_book.proofs.Standings.{moved_by, taken_part, position_within}
@@ -182,6 +191,10 @@ module _ (t : House) (l : List Record) (r : Record) (replayed : first_refused t 
       (λ c e. All-head (CostsLittle t l) d ds each c (sym (charge_same t l others within d.command named) ∙ e))
       (little ds (All-tail (NamesThere others) d ds there) (All-tail (CostsLittle t l) d ds each))
 
+  -- what it costs can be read off either list
+  pub own_charge : charge_of t l r.command ≡ charge_of t others r.command
+  own_charge = sym (charge_same t l others within r.command (accepted_there t others r.firm r.command before.accepted))
+
   -- the sums are those of the other changes' charges and its own
   charges_with : (fees : FeeRows) → AreFeesOf t l fees → AreSumsOf fees (charges t others ++ cons_option (charge_of t others r.command) [])
   charges_with fees are =
@@ -206,6 +219,92 @@ module _ (t : House) (l : List Record) (r : Record) (replayed : first_refused t 
         (little others before.grown.named
         (All-filter (λ (d : Record). not (d.number == r.number)) (CostsLittle t l) l (each_small (λ d. charge_of t l d.command) l are.small)));
   }
+
+  -- ---- what it took
+
+  grown : Grown l others
+  grown = record {
+    within = within;
+    named = before.grown.named;
+    decided = All-weaker (SplitsDecided last others) (SplitsDecided l others) (λ d h n is. h n is ∙ finds.decisions n) others before.grown.decided;
+    short = without_within r.number l;
+    ends = before.grown.ends;
+  }
+
+  abbrev of_root : List Record → EntryPart → Option Traded
+  of_root m root = option_and_then (λ (d : Record). traded_by d.command) (find (λ (d : Record). d.number == root.entry) m)
+
+  -- a node's trade is what it was
+  traded_by_root : (n : EntryPart) (x : Node) → node_of others n ≡ Some x → (o : Option EntryPart) → root_of others n ≡ o → option_and_then (of_root l) o ≡ option_and_then (of_root others) o
+  traded_by_root n x found None e = refl
+  traded_by_root n x found (Some p) e =
+      let y = root_found (length others) others p n x found (sym (ap (λ o. root_along (line_within (length others) others o)) found) ∙ e) in
+      let other : r.number ≢ p.entry = λ same. none_is_some (node_of others p) y.0 (unmade p (sym same)) y.1 in
+      ap (option_and_then (λ (d : Record). traded_by d.command)) (sym (change_left r.number p.entry l other))
+
+  traded_same : (n : EntryPart) (x : Node) → node_of others n ≡ Some x → traded_at l n ≡ traded_at others n
+  traded_same n x found =
+      ap (option_and_then (of_root l)) (sym (ap root_along (line_of_grown l others grown n x found))) ∙ traded_by_root n x found (root_of others n) refl
+
+  -- where a node stands whose line leads to another
+  line_step : (n m : EntryPart) (x : Node) → node_of others n ≡ Some x → parent x.kind ≡ Some m → line_of others n ≡ x ∷ line_of others m
+  line_step n m x found up =
+      ap (line_within (length others) others) found
+      ∙ (sym (grown.ends (suc (length others)) n x found (omega arith)) ∙ ap (λ o. x ∷ line_within (length others) others (option_and_then (node_of others) o)) up)
+
+  stands_above : (n m : EntryPart) (x : Node) → node_of others n ≡ Some x → parent x.kind ≡ Some m → is_given x.kind ≡ true → decision_of others x.name ≡ None → place_of others n ≡ place_of others m
+  stands_above n m x found up given undecided =
+      ap (place_along others) (line_step n m x found up)
+      ∙ (ap (λ o. place_of_kind x.kind (option_and_then (λ (d : Record). claimed_account d.command) o) (place_of others m)) undecided ∙ given_place x.kind (place_of others m) given)
+    where
+      given_place : (k : Kind) (o : Option Place) → is_given k ≡ true → place_of_kind k None o ≡ o
+      given_place (Root _) o h = absurd (cc)
+      given_place (Own _ _ _) o h = absurd (cc)
+      given_place (Given _ _ _) o h = refl
+
+  split_took : (n : EntryPart) (ps : List Part) → r.command ≡ Split n ps → option_and_then (holding_of l) (node_of l n) ≡ option_and_then (holding_of others) (node_of others n)
+  split_took n ps e =
+      let there = at_node_none (split_row t others r.firm ps) (node_of others n) (subst (λ (c : Command). row t others r.firm c ≡ None) e before.accepted) in
+      let x = there.0 in
+      let found = there.1.0 in
+      let called : x.name ≡ n = node_called others n x found in
+      let own : node_of others x.name ≡ Some x = ap (node_of others) called ∙ found in
+      let un : decides x.name r.command ≡ false = ap (decides x.name) e in
+      let place : place_of l x.name ≡ place_of others x.name = sym (place_same l others x.name x grown own (decision_kept counted x.name un ∙ finds.decisions x.name)) in
+      ap (option_and_then (holding_of l)) (within.nodes n x found)
+      ∙ (ap (λ o. held_at o (traded_at l x.name) x.lots) place
+      ∙ (ap (λ o. held_at (place_of others x.name) o x.lots) (traded_same x.name x own) ∙ sym (ap (option_and_then (holding_of others)) found)))
+
+  claim_took : (n : EntryPart) (account : List ℕ) → r.command ≡ Claim n account → option_and_then (held_above l) (node_of l n) ≡ option_and_then (holding_of others) (node_of others n)
+  claim_took n account e =
+      let there = at_node_none (claim_row t others r.firm account) (node_of others n) (subst (λ (c : Command). row t others r.firm c ≡ None) e before.accepted) in
+      let x = there.0 in
+      let found = there.1.0 in
+      let passes = claim_passes t others r.firm account x there.1.1 in
+      let called : x.name ≡ n = node_called others n x found in
+      let own : node_of others x.name ≡ Some x = ap (node_of others) called ∙ found in
+      let up = given_parent x.kind passes.0.given in
+      let over = above l others x.name up.0 x grown own up.1 in
+      let place : option_and_then (place_of l) (parent x.kind) ≡ place_of others x.name =
+      ap (option_and_then (place_of l)) up.1
+      ∙ (sym (place_same l others up.0 over.node grown over.there over.decided) ∙ sym (stands_above x.name up.0 x own up.1 passes.0.given passes.1)) in
+      ap (option_and_then (held_above l)) (within.nodes n x found)
+      ∙ (ap (λ o. held_at o (traded_at l x.name) x.lots) place
+      ∙ (ap (λ o. held_at (place_of others x.name) o x.lots) (traded_same x.name x own) ∙ sym (ap (option_and_then (holding_of others)) found)))
+
+  -- what it took is read while it is still there
+  pub taken_same : taken_before l r.command ≡ taken_by others r.command
+  taken_same = by_command r.command refl
+    where
+      by_command : (c : Command) → r.command ≡ c → taken_before l c ≡ taken_by others c
+      by_command (Trade _ _ _ _ _) e = refl
+      by_command (Split n ps) e = split_took n ps e
+      by_command (Claim n account) e = claim_took n account e
+      by_command (Refuse _) e = refl
+      by_command (Cancel _) e = refl
+      by_command (Initiate _) e = refl
+      by_command (Decline _) e = refl
+      by_command (Reverse _) e = refl
 
   -- ---- positions
 

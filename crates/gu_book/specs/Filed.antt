@@ -1,12 +1,13 @@
 -- The trees of the live trades, and the places of the live changes in them.
-use Rattle.std.specs.Prelude.{◌≡◌, ℕ, ◌≤◌, ◌<◌, List, [], ◌∷◌, ◌++◌, Some, None, is_some, IfSome}
-use Rattle.std.specs.List.{All}
+use Rattle.std.specs.Prelude.{◌≡◌, ℕ, ◌≤◌, ◌<◌, List, [], ◌∷◌, ◌++◌, Contains, Some, None, is_some, IfSome}
 use Rattle.gu_base.specs.Numbers.{EntryPart}
 use Rattle.gu_base.specs.House.{House}
 use Rattle.gu_base.specs.History.{RisesFrom}
 use Rattle.gu_base.specs.Nodes.{node_of}
 use Rattle.gu_base.specs.Refusals.{refusal_of}
-use Rattle.gu_base.specs.Standing.{first_refused}
+use Rattle.gu_base.specs.Standing.{first_refused, standing_on, without}
+use Rattle.gu_base.specs.declared.command.Command.{Command}
+use Rattle.gu_base.specs.declared.command.Command.TheVariants.{Claim, Refuse, Cancel}
 use Rattle.gu_base.specs.declared.entry.Record.{Record}
 use Rattle.gu_base.specs.declared.node.Node.{Node}
 use Rattle.gu_tree.specs.Rose.{named}
@@ -19,10 +20,6 @@ use Rattle.gu_book.specs.TreeRows.{is_live_trade}
 abbrev pub IsIn : Grove → EntryPart → Type 0
 IsIn g n = (trade : ℕ) × HasTree g trade (λ t. 1 ≤ named n t)
 
--- no entry that had a place is later than all of these changes
-abbrev pub IsLastOf : List Record → Grove → Type 0
-IsLastOf l g = (n : ℕ) → 1 ≤ n → All (λ r. r.number < n) l → last_place g < n
-
 -- there is a tree for each live trade and for nothing else, and it shows the trade; all nodes of the changes are in the trees; the live
 -- changes have their places, and nothing else has one
 pub record IsFiled (l : List Record) (g : Grove) : Type 0 where
@@ -30,11 +27,11 @@ pub record IsFiled (l : List Record) (g : Grove) : Type 0 where
   pub shown : (k : ℕ) → IfSome (tree_of g k) (IsTreeOf l k)
   pub whole : (n : EntryPart) (x : Node) → node_of l n ≡ Some x → IsIn g n
   pub placed : (k : ℕ) → place_of g k ≡ place_in l k
-  pub last : IsLastOf l g
 
--- a change that may follow these, the trees of which are filed, and the places too
+-- a change that may follow these, the trees of which are filed, and the places too; no entry so late ever had a place
 pub record IsNext (t : House) (l : List Record) (r : Record) (g : Grove) : Type 0 where
   pub filed : IsFiled l g
+  pub later : last_place g < r.number
   pub replayed : first_refused t [] l ≡ None
   pub lawful : refusal_of t l r.firm r.command ≡ None
   pub rises : RisesFrom 1 (l ++ r ∷ [])
@@ -46,3 +43,30 @@ IsDue r g = (t : House) × (l : List Record) × IsNext t l r g
 -- whatever list the change may follow, the new trees are those of it and the change
 abbrev pub Follows : Record → Grove → Grove → Type 0
 Follows r old new = (t : House) (l : List Record) → IsNext t l r old → IsFiled (l ++ r ∷ []) new
+
+-- a change of these on which nothing stands; the trees are those of all of them
+pub record IsFree (t : House) (l : List Record) (r : Record) (g : Grove) : Type 0 where
+  pub filed : IsFiled l g
+  pub replayed : first_refused t [] l ≡ None
+  pub rises : RisesFrom 1 l
+  pub among : Contains l r
+  pub free : standing_on t l r.number ≡ None
+
+-- the change may go from some list whose trees these are
+abbrev pub MayGo : Record → Grove → Type 0
+MayGo r g = (t : House) × (l : List Record) × IsFree t l r g
+
+-- whatever list the change may go from, the new trees are those of the others
+abbrev pub IsGone : Record → Grove → Grove → Type 0
+IsGone r old new = (t : House) (l : List Record) → IsFree t l r old → IsFiled (without l r.number) new
+
+-- the command claims this node
+abbrev pub Claims : EntryPart → Command → Type 0
+Claims n (Claim m _) = m ≡ n
+Claims n _ = ⊥
+
+-- the command refuses or cancels this node
+abbrev pub TurnsDown : EntryPart → Command → Type 0
+TurnsDown n (Refuse m) = m ≡ n
+TurnsDown n (Cancel m) = m ≡ n
+TurnsDown n _ = ⊥

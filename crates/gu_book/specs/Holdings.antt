@@ -2,7 +2,7 @@
 use Rattle.std.specs.Prelude.{◌≡◌, ℕ, ◌+◌, ◌<◌, ◌≤◌, ◌^◌, ◌&&◌, ◌==◌, if◌then◌else◌, List, [], ◌∷◌, find, filter_map, sum_by, Option, Some, None, option_map, option_and_then, bytes_eq}
 use Rattle.std.specs.List.{All}
 use Rattle.gu_base.specs.Numbers.{EntryPart}
-use Rattle.gu_base.specs.Nodes.{node_of}
+use Rattle.gu_base.specs.Nodes.{node_of, parent}
 use Rattle.gu_base.specs.Places.{place_of, root_of}
 use Rattle.gu_base.specs.Positions.{same_side, position_of}
 use Rattle.gu_base.specs.declared.command.Part.{Part}
@@ -41,6 +41,16 @@ abbrev pub taken_by : List Record → Command → Option Holding
 taken_by l (Split n _) = option_and_then (holding_of l) (node_of l n)
 taken_by l (Claim n _) = option_and_then (holding_of l) (node_of l n)
 taken_by l _ = None
+
+-- the lots of a node, where the node above it stands
+abbrev pub held_above : List Record → Node → Option Holding
+held_above l x = held_at (option_and_then (place_of l) (parent x.kind)) (traded_at l x.name) x.lots
+
+-- what a change took, read off a list in which it still stands: a Split from where its node stands, a Claim from where the node above does
+abbrev pub taken_before : List Record → Command → Option Holding
+taken_before l (Split n _) = option_and_then (holding_of l) (node_of l n)
+taken_before l (Claim n _) = option_and_then (held_above l) (node_of l n)
+taken_before l _ = None
 
 -- what a part holds: an own part in its account, a given part where the whole stood
 abbrev pub part_holding : Holding → List ℕ → Part → Option Holding

@@ -8,7 +8,7 @@ use Rattle.gu_base.specs.Answers.{answer_to}
 use Rattle.gu_base.specs.Runs.{call_of}
 use Rattle.gu_base.specs.declared.entry.Answer.TheVariants.{Accepted}
 use Rattle.gu_base.specs.declared.entry.Entry.{Entry}
-use Rattle.gu_tree.specs.Grove.{Grove}
+use Rattle.gu_tree.specs.Grove.{Grove, last_place}
 use Rattle.gu_book.specs.Filed.{IsFiled}
 use Rattle.gu_book.specs.Charging.{AreFeesOf}
 use Rattle.gu_book.specs.Holdings.{ArePositionsOf}
@@ -28,7 +28,7 @@ AcceptedFrom t before [] = Unit {0}
 AcceptedFrom t before (e ∷ rest) = (answer_to t before (call_of e) ≡ Accepted (length before + 1) e.status) × AcceptedFrom t (before ++ e ∷ []) rest
 
 -- no live change is refused after those before it; the trees and places are those of the live changes; the consents are those of the
--- history, and none of a change that is reversed; no Reverse names an entry that is still to come
+-- history, and none of a change that is reversed; no Reverse names an entry that is still to come, and no place is of one
 pub record IsKept (house : House) (history : List Entry) (trees : Grove) (consents : Consents) : Type 0 where
   pub few : length history ≤ most_entries
   pub behind : (n : ℕ) → length history < n → is_reversed history n ≡ false
@@ -37,6 +37,7 @@ pub record IsKept (house : House) (history : List Entry) (trees : Grove) (consen
   pub accepted : AcceptedFrom house [] history
   pub once : NoIdTwice history
   pub filed : IsFiled (live history) trees
+  pub placed : last_place trees ≤ length history
   pub consented : (n : ℕ) → given consents n ≡ consents_left history n
 
 -- all that a book keeps: the same, that its index is one of the history, and its fees and positions are those of the live changes

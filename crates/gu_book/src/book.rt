@@ -22,7 +22,6 @@ use crate::live::{Change, Live};
 use crate::plain::calls::front_answer;
 use crate::plain::standing::Standing;
 use crate::plain::{charges, holdings};
-use crate::replay::replay;
 use gu_base::{
     AccountId, AllocId, Answer, Command, Entry, FirmId, InstrumentId, Memory, Number, Refusal,
     State,
@@ -251,8 +250,8 @@ impl Book {
         Ok(())
     }
 
-    /// Puts an accepted Reverse at the end of the history, and moves back what its change moved and charged. The trees of the others, made
-    /// again, take the place of the trees. All growths come before anything changes.
+    /// Puts an accepted Reverse at the end of the history, takes its change back at its node, and moves back what the change moved and
+    /// charged. All growths come before anything changes.
     fn keep_reversal(
         &mut self,
         alloc: Global,
@@ -266,22 +265,21 @@ impl Book {
         ensures unchanged { OnErr result (self.new ≡ self.old) }
     {
         self.entries.reserve(1)?;
-        let others = Live::but(self.entries.as_slice(), &self.index.reversals, change);
-        let trees = replay(alloc, &others)?;
+        let changes = Live::of(self.entries.as_slice(), &self.index.reversals);
         let undone = &self.entries[change.get() as usize - 1];
-        let charge = charges::charge_of(&self.house, &others, &undone.command);
-        let taken = holdings::taken_by(&others, &trees, &undone.command);
+        let charge = charges::charge_of(&self.house, &changes, &undone.command);
+        let taken = holdings::taken_before(&changes, &self.trees, &undone.command);
         holdings::ready_taken(&mut self.positions, &taken)?;
         self.index.ids.put(&kept.firm, &kept.id, number)?;
         if let Err(lack) = self.index.reversals.put(change, number) {
             self.index.ids.remove(&kept.firm, &kept.id);
             return Err(lack);
         }
+        grove::undo(&mut self.trees, change, undone);
         charges::take_back(&mut self.fees, &charge);
         holdings::move_back(&mut self.positions, &undone.firm, &undone.command, &taken);
         self.consents.clear(change);
         self.entries.push_reserved(kept);
-        self.trees = trees;
         Ok(())
     }
 

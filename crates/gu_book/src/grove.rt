@@ -1,14 +1,15 @@
 //! The trees of the live trades, and the places of the live changes in them.
-ghost use Rattle.std.specs.Prelude.{◌≡◌, ◌≤◌, option_map, IfOk, OnOk, OnErr, IsSome};
+ghost use Rattle.std.specs.Prelude.{true, ◌≡◌, ◌≤◌, option_map, IfOk, OnOk, OnErr, IsSome};
+ghost use Rattle.gu_base.specs.History.{is_change, numbered_as};
 ghost use Rattle.gu_base.specs.declared.command.Command.TheVariants.{Split, Claim};
-ghost use Rattle.gu_tree.specs.Grove.{tree_of, IsSameGrove};
+ghost use Rattle.gu_tree.specs.Grove.{tree_of, last_place, IsSameGrove};
 ghost use Rattle.gu_tree.specs.Rose.{rows};
 ghost use Rattle.gu_tree.specs.Shown.{GivesBack, IsTradeOf};
-ghost use Rattle.gu_book.specs.Filed.{IsDue, Follows};
+ghost use Rattle.gu_book.specs.Filed.{IsDue, Follows, MayGo, IsGone};
 ghost use Rattle.gu_book.specs.Live.{record_of};
 
 use crate::live::Change;
-use gu_base::{AccountId, Command, Memory, NodeName, Number, Part, Place, State};
+use gu_base::{AccountId, Command, Entry, Memory, NodeName, Number, Part, Place, State};
 use gu_tree::{Row, Tree, Trees};
 use std::alloc::Global;
 
@@ -17,8 +18,9 @@ fn plant(trees: &mut Trees<Global>, alloc: Global, made: &Change<'_>, place: Pla
     requires due { IsDue (record_of made.now) trees.old }
     requires tree_room { 1 ≤ trees.old.tree_room }
     requires place_room { 1 ≤ trees.old.place_room }
-    requires trade { IsTradeOf (record_of made.now).number place lots (record_of made.now) }
-    ensures { Follows (record_of made.now) trees.old trees.new }
+    requires trade { IsTradeOf made.now.number place lots (record_of made.now) }
+    ensures follows { Follows (record_of made.now) trees.old trees.new }
+    ensures last { last_place trees.new ≤ made.now.number }
 {
     trees.plant(Tree::new(alloc, made.number, place, lots));
 }
@@ -34,6 +36,7 @@ fn split(
     requires place_room { 1 ≤ trees.old.place_room }
     requires split { made.now.entry.now.command ≡ Split node parts.now }
     ensures follows { OnOk result (Follows (record_of made.now) trees.old trees.new) }
+    ensures last { OnOk result (last_place trees.new ≤ made.now.number) }
     ensures unchanged { OnErr result (IsSameGrove trees.old trees.new) }
 {
     let Some(spot) = trees.find(node) else {
@@ -47,7 +50,8 @@ fn claim(trees: &mut Trees<Global>, made: &Change<'_>, node: NodeName, account: 
     requires due { IsDue (record_of made.now) trees.old }
     requires place_room { 1 ≤ trees.old.place_room }
     requires claim { made.now.entry.now.command ≡ Claim node account }
-    ensures { Follows (record_of made.now) trees.old trees.new }
+    ensures follows { Follows (record_of made.now) trees.old trees.new }
+    ensures last { last_place trees.new ≤ made.now.number }
 {
     let Some(spot) = trees.find(node) else {
         unreachable!()
@@ -64,7 +68,8 @@ fn give_back(trees: &mut Trees<Global>, made: &Change<'_>, node: NodeName, state
     requires due { IsDue (record_of made.now) trees.old }
     requires place_room { 1 ≤ trees.old.place_room }
     requires back { GivesBack node state made.now.entry.now.command }
-    ensures { Follows (record_of made.now) trees.old trees.new }
+    ensures follows { Follows (record_of made.now) trees.old trees.new }
+    ensures last { last_place trees.new ≤ made.now.number }
 {
     let Some(spot) = trees.find(node) else {
         unreachable!()
@@ -78,6 +83,7 @@ fn make(trees: &mut Trees<Global>, alloc: Global, made: &Change<'_>) -> Result<(
     requires tree_room { 1 ≤ trees.old.tree_room }
     requires place_room { 1 ≤ trees.old.place_room }
     ensures follows { OnOk result (Follows (record_of made.now) trees.old trees.new) }
+    ensures last { OnOk result (last_place trees.new ≤ made.now.number) }
     ensures unchanged { OnErr result (IsSameGrove trees.old trees.new) }
 {
     match &made.entry.command {
@@ -112,10 +118,32 @@ pub(crate) fn change(
 ) -> Result<(), Memory>
     requires { IsDue (record_of made.now) trees.old }
     ensures follows { OnOk result (Follows (record_of made.now) trees.old trees.new) }
+    ensures last { OnOk result (last_place trees.new ≤ made.now.number) }
     ensures unchanged { OnErr result (IsSameGrove trees.old trees.new) }
 {
     trees.ready()?;
     make(trees, alloc, made)
+}
+
+/// Takes the change of this number back, at the node that it made or named; nothing may stand on it. The trees are then those of
+/// the other changes. Takes no memory.
+pub(crate) fn undo(trees: &mut Trees<Global>, number: Number, undone: &Entry)
+    requires may_go { MayGo (numbered_as number undone.now) trees.old }
+    requires change { is_change undone.now.command ≡ true }
+    ensures gone { IsGone (numbered_as number undone.now) trees.old trees.new }
+    ensures last { last_place trees.new ≡ last_place trees.old }
+{
+    let Some(spot) = trees.place(number) else {
+        unreachable!()
+    };
+    match &undone.command {
+        Command::Trade { .. } => trees.uproot(number),
+        Command::Split { .. } => trees.unsplit(spot.0, &spot.1),
+        Command::Claim { .. } => trees.unclaim(spot.0, &spot.1),
+        Command::Refuse { .. } => trees.offer_again(spot.0, &spot.1),
+        Command::Cancel { .. } => trees.offer_again(spot.0, &spot.1),
+        _ => unreachable!(),
+    }
 }
 
 /// The rows of the tree of that trade; `None` where there is none, which takes no memory.

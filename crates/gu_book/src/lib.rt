@@ -13,8 +13,8 @@
 //! - `laws` has what follows for every book, first the headline in five laws.
 //! - `index` finds the entry of an id and the Reverse of an entry without going over the history, `live` a live change by its number,
 //!   `found` what the trees say of a node.
-//! - `plain` has each answer but for what stands on a change (gu_depend reads that off the trees), `grove` has what a change does to
-//!   the trees, `replay` what an accepted Reverse leaves; no public contract speaks of them.
+//! - `plain` has each answer but for what stands on a change (gu_depend reads that off the trees), `grove` has what a change and its
+//!   Reverse do to the trees; no public contract speaks of them.
 //!
 //! Its cases, whole days of a small house, are data of the program `test_book`.
 #![tactic(auto)]
@@ -26,7 +26,6 @@ mod index;
 pub mod laws;
 mod live;
 mod plain;
-mod replay;
 
 pub use book::Book;
 pub use gu_base::{Answer, Entry};

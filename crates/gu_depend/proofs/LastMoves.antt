@@ -76,7 +76,7 @@ root_by f l p found None (Some y) e h = absurd (cc)
 root_by f l p found (Some m) (Some y) e h = found m y e h
 
 -- the root of a node is a node of the list
-root_found : (f : ℕ) (l : List Record) (p m : EntryPart) (x : Node) → node_of l m ≡ Some x → root_along (line_within f l (Some x)) ≡ Some p → (z : Node) × (node_of l p ≡ Some z)
+pub root_found : (f : ℕ) (l : List Record) (p m : EntryPart) (x : Node) → node_of l m ≡ Some x → root_along (line_within f l (Some x)) ≡ Some p → (z : Node) × (node_of l p ≡ Some z)
 root_found zero l p m x found h = absurd (cc)
 root_found (suc f) l p m x found h =
     root_at l x p (at_name l m x found) (line_within f l (option_and_then (node_of l) (parent x.kind)))

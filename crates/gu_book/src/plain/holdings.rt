@@ -3,13 +3,14 @@ ghost use Rattle.std.specs.Prelude.{◌≡◌, ◌≤◌, ◌==◌, find, filter
 ghost use Rattle.gu_base.specs.Nodes.{node_of};
 ghost use Rattle.gu_base.specs.Limits.{most_lots};
 ghost use Rattle.gu_book.specs.Found.{AreTreesOf};
-ghost use Rattle.gu_book.specs.Holdings.{traded_by, held_at, holding_of, taken_by, part_holding, added_by, HasTaken, AreReady, HaveRoom, SameLots, HaveMoved, HaveThere, IsReadyTaken, HasRoomBack};
+ghost use Rattle.gu_book.specs.Holdings.{traded_by, held_at, holding_of, held_above, taken_by, taken_before, part_holding, added_by, HasTaken, AreReady, HaveRoom, SameLots, HaveMoved, HaveThere, IsReadyTaken, HasRoomBack};
 ghost use Rattle.gu_book.specs.Limits.{AllWithinLimits};
 ghost use Rattle.gu_positions.specs.Rows.{IsReady};
 ghost use Rattle.gu_positions.specs.declared.positions.Key.{Key as KeyData};
 
 use crate::found::find;
 use crate::live::Live;
+use crate::plain::nodes::parent_of;
 use gu_base::{Command, FirmId, InstrumentId, Memory, NodeName, Number, Part, Place, Side};
 use gu_positions::{Key, Positions};
 use gu_tree::Trees;
@@ -106,6 +107,48 @@ pub(crate) fn taken_by(
     match command {
         Command::Split { node, .. } => holding_named(changes, trees, *node),
         Command::Claim { node, .. } => holding_named(changes, trees, *node),
+        _ => None,
+    }
+}
+
+/// The lots of the node of this name, with the node above it.
+fn holding_above(changes: &Live<'_>, trees: &Trees<Global>, name: NodeName) -> Option<Holding>
+    requires within { AllWithinLimits changes.now }
+    requires trees { AreTreesOf changes.now trees.now }
+    ensures value { result ≡ option_and_then (held_above changes.now) (node_of changes.now name) }
+    ensures lots { IfSome result (λ h. h.lots ≤ most_lots) }
+{
+    let Some(node) = find(trees, name) else {
+        return None;
+    };
+    let Some(parent) = parent_of(changes, &name) else {
+        return None;
+    };
+    match find(trees, parent) {
+        None => None,
+        Some(above) => held_at(
+            &above.head.place,
+            &traded_under(changes, node.trade),
+            node.head.lots,
+        ),
+    }
+}
+
+/// What a live change took out of an account, read while it is still there: a Split took the lots of its node from where that
+/// stands, a Claim from where the node above stands.
+pub(crate) fn taken_before(
+    changes: &Live<'_>,
+    trees: &Trees<Global>,
+    command: &Command,
+) -> Option<Holding>
+    requires within { AllWithinLimits changes.now }
+    requires trees { AreTreesOf changes.now trees.now }
+    ensures value { result ≡ taken_before changes.now command.now }
+    ensures lots { IfSome result (λ h. h.lots ≤ most_lots) }
+{
+    match command {
+        Command::Split { node, .. } => holding_named(changes, trees, *node),
+        Command::Claim { node, .. } => holding_above(changes, trees, *node),
         _ => None,
     }
 }

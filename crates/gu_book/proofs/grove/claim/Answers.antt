@@ -1,6 +1,6 @@
 use Rattle.std.proofs.Common.{ap}
 use Rattle.gu_tree.specs.Shown.{named_node}
-use Rattle.gu_book.proofs.Filed.{names_place, spot, order, later}
+use Rattle.gu_book.proofs.Filed.{names_place, spot, order}
 use Rattle.gu_book.proofs.FiledChanges.{may_claim, claimed}
 use Rattle.gu_book.proofs.grove.claim.Goals as goal
 
@@ -17,9 +17,9 @@ claim-requires-clause-offered c =
     may_claim due.2 s c.args.account c.requires.claim
 
 pub claim-requires-clause-above : goal.claim-requires-clause-above
-claim-requires-clause-above c = let due = c.requires.due in later due.2
+claim-requires-clause-above c = let due = c.requires.due in due.2.later
 
-pub returns : goal.returns
-returns c = λ t l next.
+pub returns-clause-follows : goal.returns-clause-follows
+returns-clause-follows c = λ t l next.
     let s = spot next.filed (order next) c.in-Some.spot.0 c.in-Some.spot.1.items c.args.node (rw c.in-Some.is at c.find.ensures.found) in
-    claimed next s c.args.account c.requires.claim c.claim.new.self (record { tree = c.claim.ensures.tree; place = c.claim.ensures.place; last = c.claim.ensures.last }) c.claim.ensures.shows
+    claimed next s c.args.account c.requires.claim c.claim.new.self (record { tree = c.claim.ensures.tree; place = c.claim.ensures.place }) c.claim.ensures.shows

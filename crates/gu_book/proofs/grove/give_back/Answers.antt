@@ -1,4 +1,4 @@
-use Rattle.gu_book.proofs.Filed.{names_place, spot, order, later}
+use Rattle.gu_book.proofs.Filed.{names_place, spot, order}
 use Rattle.gu_book.proofs.FiledChanges.{back_names, may_give_back, given_back}
 use Rattle.gu_book.proofs.grove.give_back.Goals as goal
 
@@ -15,9 +15,9 @@ give_back-requires-clause-offered c =
     may_give_back due.2 s c.args.state c.requires.back
 
 pub give_back-requires-clause-above : goal.give_back-requires-clause-above
-give_back-requires-clause-above c = let due = c.requires.due in later due.2
+give_back-requires-clause-above c = let due = c.requires.due in due.2.later
 
-pub returns : goal.returns
-returns c = λ t l next.
+pub returns-clause-follows : goal.returns-clause-follows
+returns-clause-follows c = λ t l next.
     let s = spot next.filed (order next) c.in-Some.spot.0 c.in-Some.spot.1.items c.args.node (rw c.in-Some.is at c.find.ensures.found) in
-    given_back next s c.args.state c.requires.back c.give_back.new.self (record { tree = c.give_back.ensures.tree; place = c.give_back.ensures.place; last = c.give_back.ensures.last }) c.give_back.ensures.shows
+    given_back next s c.args.state c.requires.back c.give_back.new.self (record { tree = c.give_back.ensures.tree; place = c.give_back.ensures.place }) c.give_back.ensures.shows

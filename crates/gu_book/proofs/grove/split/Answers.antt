@@ -1,7 +1,7 @@
 use Rattle.std.proofs.Common.{ap}
 use Rattle.std.specs.Prelude.{OnOk, Result, Ok, Err}
 use Rattle.gu_tree.specs.Shown.{named_node}
-use Rattle.gu_book.proofs.Filed.{names_place, spot, order, later}
+use Rattle.gu_book.proofs.Filed.{names_place, spot, order}
 use Rattle.gu_book.proofs.FiledChanges.{may_split, has_accounts, some_parts, few_parts, not_deep, split_filed}
 use Rattle.gu_book.proofs.grove.split.Goals as goal
 
@@ -42,15 +42,15 @@ split-requires-clause-shallow c =
     not_deep due.2 s c.args.parts.now c.requires.split
 
 pub split-requires-clause-above : goal.split-requires-clause-above
-split-requires-clause-above c = let due = c.requires.due in later due.2
+split-requires-clause-above c = let due = c.requires.due in due.2.later
 
--- what follows where four things do
-on_ok : {T E P Q R S U : Type 0} (o : Result T E) → OnOk o P → OnOk o Q → OnOk o R → OnOk o S → (P → Q → R → S → U) → OnOk o U
-on_ok (Ok x) p q r s then = then p q r s
-on_ok (Err e) p q r s then = tt
+-- what follows where three things do
+on_ok : {T E P Q R U : Type 0} (o : Result T E) → OnOk o P → OnOk o Q → OnOk o R → (P → Q → R → U) → OnOk o U
+on_ok (Ok x) p q r then = then p q r
+on_ok (Err e) p q r then = tt
 
 pub returns-clause-follows : goal.returns-clause-follows
 returns-clause-follows c =
-    on_ok c.split.result c.split.ensures.tree c.split.ensures.place c.split.ensures.last c.split.ensures.shows (λ tree place last shows t l next.
+    on_ok c.split.result c.split.ensures.tree c.split.ensures.place c.split.ensures.shows (λ tree place shows t l next.
     let s = spot next.filed (order next) c.in-Some.spot.0 c.in-Some.spot.1.items c.args.node (rw c.in-Some.is at c.find.ensures.found) in
-    split_filed next s c.args.parts.now c.requires.split c.split.new.self (record { tree = tree; place = place; last = last }) shows)
+    split_filed next s c.args.parts.now c.requires.split c.split.new.self (record { tree = tree; place = place }) shows)

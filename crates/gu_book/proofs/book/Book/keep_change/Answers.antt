@@ -52,7 +52,7 @@ invariant_of-self-2 c =
     let more = live_more c.self.invariant.kept c.args.number c.args.kept ok c.requires.change in
     simp (c.push_reserved.ensures.items, c.reserve.ensures.items)
     (record {
-      kept = kept_change c.self.invariant.kept c.args.number c.args.kept ok c.requires.change c.change.new.trees (c.in_default.ensures.follows c.self.inside.house (live c.self.inside.entries.items) next);
+      kept = kept_change c.self.invariant.kept c.args.number c.args.kept ok c.requires.change c.change.new.trees (c.in_default.ensures.follows c.self.inside.house (live c.self.inside.entries.items) next) c.in_default.ensures.last;
       indexed = index_put c.self.invariant.indexed c.self.inside.house c.args.kept c.args.number ok c.put.new.self c.in_ok-put.ensures.put (λ m. change_is_no_reverse m c.args.kept.command c.requires.change);
       charged = subst (λ (l : List Record). AreFeesOf c.self.inside.house l c.add.new.fees) more
           (fees_push next c.self.inside.fees c.ready.new.fees c.add.new.fees c.self.invariant.charged c.in_ok-ready.ensures.same c.charge_of-charge.result

@@ -1,19 +1,19 @@
 use Rattle.std.proofs.Common.{◌≡◌, ℕ, ◌+◌, List, [], ◌∷◌, ◌++◌, map, length, sym, ◌∙◌, ap, arith}
 use Rattle.std.specs.Prelude.{Some, None, find, option_map, ◌==◌}
 use Rattle.gu_base.specs.declared.entry.Record.{Record}
-use Rattle.gu_book.specs.Live.{record_of, up_to}
-use Rattle.gu_book.proofs.ByNumber.{rises_now, last_now, numbers_more, up_to_none, up_to_some, up_to_same}
+use Rattle.gu_book.specs.Live.{record_of}
+use Rattle.gu_book.proofs.ByNumber.{live_rises_as, up_to, up_to_last, numbers_more, up_to_none, up_to_some, up_to_same}
 use Rattle.gu_book.proofs.live.Live.numbers.Goals as goal
 use Rattle.gu_book.proofs.live.Live.numbers.Goals.{in-Some+in_ok-push, in_default}
 
 pub loop-place-init : goal.loop-place-init
 loop-place-init c =
-    let rises = rises_now c.self.inside.entries.now c.self.inside.out c.args.self.now c.self.view_is in
+    let rises = live_rises_as c.self.inside.entries.now c.args.self.now c.self.view_is in
     c.new-numbers.ensures.items ∙ sym (ap (map (λ (r : Record). r.number)) (up_to_none 0 c.args.self.now rises))
 
 pub loop-place-preserved : goal.loop-place-preserved
 loop-place-preserved c =
-    let rises = rises_now c.self.inside.entries.now c.self.inside.out c.args.self.now c.self.view_is in
+    let rises = live_rises_as c.self.inside.entries.now c.args.self.now c.self.view_is in
     let i = c.loop-place.place in
     let found = rw c.at_place.ensures at c.change.ensures in
     elim c.match-change.branch [
@@ -34,4 +34,4 @@ pub returns : goal.returns
 returns c =
     let end : c.loop-place.place ≡ length c.self.inside.entries.now = omega (arith, c.loop-place-test.false, c.loop-place.auto.place-end) in
     c.loop-place.invariant
-    ∙ ap (map (λ (r : Record). r.number)) (ap (λ i. up_to i c.args.self.now) end ∙ last_now c.self.inside.entries.now c.self.inside.out c.args.self.now c.self.view_is)
+    ∙ ap (map (λ (r : Record). r.number)) (ap (λ i. up_to i c.args.self.now) end ∙ up_to_last c.self.inside.entries.now c.args.self.now c.self.view_is)

@@ -1,5 +1,5 @@
 use Rattle.std.proofs.Common.{◌≡◌, map}
-use Rattle.gu_book.specs.Live.{up_to}
+use Rattle.gu_book.proofs.ByNumber.{up_to}
 use Rattle.gu_book.proofs.live.Live.numbers.Given as goal
 
 abbrev pub invariant-loop-place : goal.invariant-loop-place

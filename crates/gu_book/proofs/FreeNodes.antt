@@ -1,0 +1,488 @@
+-- What the trees say of a change on which nothing stands: it can be taken back at its node.
+use Rattle.std.proofs.Common.{◌≡◌, ◌≢◌, ℕ, ◌<◌, ◌≤◌, true, false, ◌&&◌, ◌||◌, List, [], ◌∷◌, length, refl, sym, ◌∙◌, ap, subst, arith, cond, Option, All, Contains, IsTrue, ◌⊎◌, inl, inr}
+use Rattle.std.specs.Prelude.{is_none, Some, None, find, ◌==◌, is_some, option_and_then, option_map, IsSomeAnd}
+use Rattle.std.specs.List.{list_any}
+use Rattle.std.proofs.lemmas.Bool.{or_parts, or_cases}
+use Rattle.std.proofs.lemmas.Bool.Decides.{Decides-eqb}
+use Rattle.std.proofs.lemmas.List.Elements.{All-nil, All-cons, All-head, All-tail, All-contains}
+use Rattle.std.proofs.lemmas.Option.{same_Some}
+use Rattle.gu_base.specs.Numbers.{EntryPart}
+use Rattle.gu_base.specs.House.{House}
+use Rattle.gu_base.specs.History.{is_change}
+use Rattle.gu_base.specs.Nodes.{node_of, nodes_of, same_name, split_of, decision_of, splits, decides, is_given, parent}
+use Rattle.gu_base.specs.Rows.{state_of, state_after}
+use Rattle.gu_base.specs.declared.command.Command.{Command}
+use Rattle.gu_base.specs.declared.command.Command.TheVariants.{Trade, Split, Claim, Refuse, Cancel, Initiate, Decline, Reverse}
+use Rattle.gu_base.specs.declared.entry.Record.{Record}
+use Rattle.gu_base.specs.declared.node.Kind.{Kind}
+use Rattle.gu_base.specs.declared.node.Kind.TheVariants.{Root, Own, Given}
+use Rattle.gu_base.specs.declared.node.Node.{Node}
+use Rattle.gu_base.specs.declared.node.Place.{Place}
+use Rattle.gu_base.specs.declared.state.State.TheVariants.{Claimed}
+use Rattle.gu_base.proofs.Basics.{no_some, none_is_some, nothing_here}
+use Rattle.gu_base.proofs.NodeNames.{name_is, name_same, node_called}
+use Rattle.gu_base.proofs.Numbered.{rises_later}
+use Rattle.gu_base.proofs.Searches.{found_in, find_passes}
+use Rattle.gu_depend.specs.Under.{names, is_under, stands_under, IsLeastUnder}
+use Rattle.gu_depend.proofs.Finds.{found_once}
+use Rattle.gu_depend.proofs.NamedOnce.{NamedOnce, named_once}
+use Rattle.gu_depend.proofs.Replay.{NumbersOnce, number_once}
+use Rattle.gu_depend.proofs.Names.{made_number}
+use Rattle.gu_depend.proofs.StandsLast.{any_in}
+use Rattle.gu_depend.proofs.StandsUnder.{standing_is_least}
+use Rattle.gu_tree.specs.Rose.{Rose, Roses, leaf, parted, no_parts, part_then, head_of, named, named_below, split_of_node}
+use Rattle.gu_tree.specs.Paths.{node_at}
+use Rattle.gu_tree.specs.Changes.{is_undecided_leaf, are_undecided_leaves, can_unsplit, unsplit_node, is_given_back}
+use Rattle.gu_tree.specs.Grove.{Grove, tree_of, place_of, IsPlace, IsDecidedIn, IsSplitIn, HasFreeParts}
+use Rattle.gu_tree.specs.Shown.{IsTreeOf, IsNodeOf, ArePartsOf, SplitsNode, DecidesNode, named_node}
+use Rattle.gu_tree.specs.ShownAll.{change_of, named_place, place_in}
+use Rattle.gu_tree.specs.declared.head.Head.{Head}
+use Rattle.gu_tree.proofs.Along.{its-head}
+use Rattle.gu_tree.proofs.ShowsLess.{no-root-part}
+use Rattle.gu_book.specs.Filed.{IsFree, Claims, TurnsDown}
+use Rattle.gu_book.specs.TreeRows.{is_trade}
+use Rattle.gu_book.proofs.Filed.{Spot, spot, tree_shown, place_named}
+use Rattle.gu_book.proofs.FiledChanges.{its_head}
+use Rattle.gu_book.proofs.Named.{count_of, count_cons}
+use Rattle.gu_book.proofs.Orders.{InOrder, in_order, NamesLower, orderly_lower}
+
+-- ---- what a command names
+
+-- what names a node splits or decides it
+pub names_it : (n : EntryPart) (c : Command) → named_node c ≡ Some n → names n c ≡ true
+names_it n (Split m _) e = ap (λ b. b || false) (ap (λ k. same_name k n) (same_Some m n e) ∙ name_same n)
+names_it n (Claim m _) e = ap (λ k. same_name k n) (same_Some m n e) ∙ name_same n
+names_it n (Refuse m) e = ap (λ k. same_name k n) (same_Some m n e) ∙ name_same n
+names_it n (Cancel m) e = ap (λ k. same_name k n) (same_Some m n e) ∙ name_same n
+names_it n (Trade _ _ _ _ _) e = absurd (cc)
+names_it n (Initiate _) e = absurd (cc)
+names_it n (Decline _) e = absurd (cc)
+names_it n (Reverse _) e = absurd (cc)
+
+-- a Split, as the book says it
+pub split_names : (n : EntryPart) (c : Command) → SplitsNode n c → (named_node c ≡ Some n) × (splits n c ≡ true)
+split_names n (Split m _) e = (ap (λ k. Some k) e, ap (λ k. same_name k n) e ∙ name_same n)
+split_names n (Trade _ _ _ _ _) e = absurd e
+split_names n (Claim _ _) e = absurd e
+split_names n (Refuse _) e = absurd e
+split_names n (Cancel _) e = absurd e
+split_names n (Initiate _) e = absurd e
+split_names n (Decline _) e = absurd e
+split_names n (Reverse _) e = absurd e
+
+-- its parts stand under what names them
+under_split : (n : EntryPart) (k : ℕ) (by : List ℕ) (c e : Command) → SplitsNode n c → is_under k by c e ≡ list_any (λ x. names x.name e) (nodes_of k by c)
+under_split n k by (Split m ps) e is = refl
+under_split n k by (Trade _ _ _ _ _) e is = absurd is
+under_split n k by (Claim _ _) e is = absurd is
+under_split n k by (Refuse _) e is = absurd is
+under_split n k by (Cancel _) e is = absurd is
+under_split n k by (Initiate _) e is = absurd is
+under_split n k by (Decline _) e is = absurd is
+under_split n k by (Reverse _) e is = absurd is
+
+-- a claim, and what turns an offer down
+pub claim_names : (n : EntryPart) (c : Command) → Claims n c → (named_node c ≡ Some n) × (decides n c ≡ true) × (state_after c ≡ Claimed)
+claim_names n (Claim m _) e = (ap (λ k. Some k) e, ap (λ k. same_name k n) e ∙ name_same n, refl)
+claim_names n (Split _ _) e = absurd e
+claim_names n (Trade _ _ _ _ _) e = absurd e
+claim_names n (Refuse _) e = absurd e
+claim_names n (Cancel _) e = absurd e
+claim_names n (Initiate _) e = absurd e
+claim_names n (Decline _) e = absurd e
+claim_names n (Reverse _) e = absurd e
+
+pub turned_names : (n : EntryPart) (c : Command) → TurnsDown n c → (named_node c ≡ Some n) × (decides n c ≡ true) × (is_given_back (state_after c) ≡ true)
+turned_names n (Refuse m) e = (ap (λ k. Some k) e, ap (λ k. same_name k n) e ∙ name_same n, refl)
+turned_names n (Cancel m) e = (ap (λ k. Some k) e, ap (λ k. same_name k n) e ∙ name_same n, refl)
+turned_names n (Claim _ _) e = absurd e
+turned_names n (Split _ _) e = absurd e
+turned_names n (Trade _ _ _ _ _) e = absurd e
+turned_names n (Initiate _) e = absurd e
+turned_names n (Decline _) e = absurd e
+turned_names n (Reverse _) e = absurd e
+
+-- one of the two says which node is decided
+pub decides_node : (n : EntryPart) (c : Command) → decides n c ≡ true → DecidesNode n c
+decides_node n (Claim m _) e = name_is m n e
+decides_node n (Refuse m) e = name_is m n e
+decides_node n (Cancel m) e = name_is m n e
+decides_node n (Split _ _) e = absurd (cc)
+decides_node n (Trade _ _ _ _ _) e = absurd (cc)
+decides_node n (Initiate _) e = absurd (cc)
+decides_node n (Decline _) e = absurd (cc)
+decides_node n (Reverse _) e = absurd (cc)
+
+-- under a decision stands what splits its node
+under_decision : (n : EntryPart) (k : ℕ) (by : List ℕ) (c e : Command) → decides n c ≡ true → is_under k by c e ≡ splits n e
+under_decision n k by (Claim m _) e is = ap (λ a. splits a e) (name_is m n is)
+under_decision n k by (Refuse m) e is = ap (λ a. splits a e) (name_is m n is)
+under_decision n k by (Cancel m) e is = ap (λ a. splits a e) (name_is m n is)
+under_decision n k by (Split _ _) e is = absurd (cc)
+under_decision n k by (Trade _ _ _ _ _) e is = absurd (cc)
+under_decision n k by (Initiate _) e is = absurd (cc)
+under_decision n k by (Decline _) e is = absurd (cc)
+under_decision n k by (Reverse _) e is = absurd (cc)
+
+-- under a Trade what splits its root
+under_trade : (k : ℕ) (by : List ℕ) (c e : Command) → is_trade c ≡ true → is_under k by c e ≡ splits (record { entry = k; part = 0 }) e
+under_trade k by (Trade _ _ _ _ _) e is = refl
+under_trade k by (Split _ _) e is = absurd (cc)
+under_trade k by (Claim _ _) e is = absurd (cc)
+under_trade k by (Refuse _) e is = absurd (cc)
+under_trade k by (Cancel _) e is = absurd (cc)
+under_trade k by (Initiate _) e is = absurd (cc)
+under_trade k by (Decline _) e is = absurd (cc)
+under_trade k by (Reverse _) e is = absurd (cc)
+
+-- a name that isn't found doesn't count
+none_counts_of : (m : EntryPart) (xs : List Node) → find (λ x. same_name x.name m) xs ≡ None → count_of m xs ≡ 0
+none_counts_of m [] h = refl
+none_counts_of m (x ∷ xs) h =
+    let p = nothing_here (same_name x.name m) x (find (λ x. same_name x.name m) xs) h in
+    let a = count_cons m x xs in
+    let b = ap (λ t. cond {A = ℕ} t 1 0) p.0 in
+    let c = none_counts_of m xs p.1 in
+    omega (arith, a, b, c)
+
+-- a root is no part of a Split
+no_root : (n : EntryPart) (k trade : ℕ) (by : List ℕ) (c : Command) → SplitsNode n c → find (λ (x : Node). same_name x.name (record { entry = trade; part = 0 })) (nodes_of k by c) ≡ None
+no_root n k trade by (Split m ps) is = no-root-part trade k 1 m by ps (omega arith)
+no_root n k trade by (Trade _ _ _ _ _) is = absurd is
+no_root n k trade by (Claim _ _) is = absurd is
+no_root n k trade by (Refuse _) is = absurd is
+no_root n k trade by (Cancel _) is = absurd is
+no_root n k trade by (Initiate _) is = absurd is
+no_root n k trade by (Decline _) is = absurd is
+no_root n k trade by (Reverse _) is = absurd is
+
+-- a Trade has its own root as its place, each other change what it names
+placed_by : (k : ℕ) (c : Command) (m : EntryPart) → named_place k c ≡ Some m → (m ≡ record { entry = k; part = 0 }) ⊎ (names m c ≡ true)
+placed_by k (Trade _ _ _ _ _) m e = inl (sym (same_Some (record { entry = k; part = 0 }) m e))
+placed_by k (Split a ps) m e = inr (names_it m (Split a ps) e)
+placed_by k (Claim a account) m e = inr (names_it m (Claim a account) e)
+placed_by k (Refuse a) m e = inr (names_it m (Refuse a) e)
+placed_by k (Cancel a) m e = inr (names_it m (Cancel a) e)
+placed_by k (Initiate _) m e = absurd (cc)
+placed_by k (Decline _) m e = absurd (cc)
+placed_by k (Reverse _) m e = absurd (cc)
+
+no_place : (k : ℕ) (c : Command) → is_change c ≡ true → named_place k c ≡ None → ⊥
+no_place k (Trade _ _ _ _ _) change e = cc
+no_place k (Split _ _) change e = cc
+no_place k (Claim _ _) change e = cc
+no_place k (Refuse _) change e = cc
+no_place k (Cancel _) change e = cc
+no_place k (Initiate _) change e = cc
+no_place k (Decline _) change e = cc
+no_place k (Reverse _) change e = cc
+
+-- a change of the list with its place
+record IsPlacedBy (l : List Record) (k : ℕ) (m : EntryPart) : Type 0 where
+  change : Record
+  among : Contains l change
+  number : change.number ≡ k
+  place : named_place change.number change.command ≡ Some m
+
+placer : (l : List Record) (k : ℕ) (m : EntryPart) → place_in l k ≡ Some m → IsPlacedBy l k m
+placer l k m e = by_change (change_of l k) refl e
+  where
+    by_change : (o : Option Record) → change_of l k ≡ o → option_and_then (λ r. named_place r.number r.command) o ≡ Some m → IsPlacedBy l k m
+    by_change None found h = absurd (cc)
+    by_change (Some d) found h = record {
+      change = d;
+      among = found_in (λ (r : Record). r.number == k) l d found;
+      number = (Decides-eqb d.number k).0 (find_passes (λ (r : Record). r.number == k) l d found);
+      place = h;
+    }
+
+-- ---- parts on which nothing stands
+
+abbrev IsBare : List Record → Node → Type 0
+IsBare l x = (split_of l x.name ≡ None) × (decision_of l x.name ≡ None)
+
+-- they are leaves that nobody has decided, and have the names of the nodes
+bare_node : (l : List Record) (above : Option Place) (x : Node) (t : Rose) (m : EntryPart) → IsNodeOf l above x t → IsBare l x → (is_undecided_leaf t ≡ true) × (named m t ≡ cond {A = ℕ} (same_name x.name m) 1 0)
+bare_node l above x (leaf h) m is bare =
+    (ap is_none (is.0.decision ∙ ap (option_map (λ r. r.number)) bare.1), ap (λ n. cond {A = ℕ} (same_name n m) 1 0) is.0.name)
+bare_node l above x (parted h n ts) m is bare = absurd (none_is_some (split_of l x.name) is.1.0 bare.0 is.1.1)
+
+bare_parts : (l : List Record) (above : Option Place) (xs : List Node) (ts : Roses) (m : EntryPart) → ArePartsOf l above xs ts → All (IsBare l) xs → (are_undecided_leaves ts ≡ true) × (named_below m ts ≡ count_of m xs)
+bare_parts l above [] no_parts m is bare = (refl, refl)
+bare_parts l above [] (part_then t ts) m is bare = absurd is
+bare_parts l above (x ∷ xs) no_parts m is bare = absurd is
+bare_parts l above (x ∷ xs) (part_then t ts) m is bare =
+    let a = bare_node l above x t m is.0 (All-head (IsBare l) x xs bare) in
+    let b = bare_parts l above xs ts m is.1 (All-tail (IsBare l) x xs bare) in
+    let c = count_cons m x xs in
+    (ap (λ t. t && are_undecided_leaves ts) a.0 ∙ b.0, omega (arith, a.1, b.1, c))
+
+-- a node that a Split of the list names has the parts of that Split
+record IsParted (l : List Record) (r : Record) (v : Rose) : Type 0 where
+  head : Head
+  parts : Roses
+  is : v ≡ parted head r.number parts
+  are : ArePartsOf l (Some head.place) (nodes_of r.number r.firm r.command) parts
+
+parted_by : (l : List Record) (above : Option Place) (x : Node) (r : Record) (v : Rose) → IsNodeOf l above x v → split_of l x.name ≡ Some r → IsParted l r v
+parted_by l above x r (leaf h) is found = absurd (none_is_some (split_of l x.name) r is.1 found)
+parted_by l above x r (parted h n ts) is found =
+    let same : is.1.0 ≡ r = same_Some is.1.0 r (sym is.1.1 ∙ found) in
+    record {
+      head = h;
+      parts = ts;
+      is = ap (λ k. parted h k ts) (sym is.1.2 ∙ ap (λ (d : Record). d.number) same);
+      are = subst (λ (d : Record). ArePartsOf l (Some h.place) (nodes_of d.number d.firm d.command) ts) same is.1.3;
+    }
+
+-- one that none names is a leaf
+record IsWhole (v : Rose) : Type 0 where
+  head : Head
+  is : v ≡ leaf head
+
+whole_by : (l : List Record) (above : Option Place) (x : Node) (v : Rose) → IsNodeOf l above x v → split_of l x.name ≡ None → IsWhole v
+whole_by l above x (leaf h) is none = record { head = h; is = refl }
+whole_by l above x (parted h n ts) is none = absurd (none_is_some (split_of l x.name) is.1.0 none is.1.1)
+
+-- only what has a parent is given
+given_below : (k : Kind) → is_given k ≡ true → parent k ≡ None → ⊥
+given_below (Root _) g none = cc
+given_below (Own _ _ _) g none = cc
+given_below (Given _ _ _) g none = cc
+
+module _ {t : House} {l : List Record} {r : Record} {g : Grove} (u : IsFree t l r g) where
+  pub order : InOrder l
+  order = in_order t l u.replayed u.rises
+
+  numbers : NumbersOnce l
+  numbers = number_once l order.distinct
+
+  once : NamedOnce l
+  once = named_once t l u.replayed
+
+  -- nothing stands on it
+  unnamed : (e : Record) → Contains l e → stands_under r e ≡ false
+  unnamed = subst (IsLeastUnder l r) u.free (standing_is_least t l r (rises_later 0 1 l (omega arith) u.rises) u.replayed u.among)
+
+  -- its place is the node that it made or named
+  own_place : place_of g r.number ≡ named_place r.number r.command
+  own_place =
+      u.filed.placed r.number
+      ∙ ap (option_and_then (λ (d : Record). named_place d.number d.command)) (found_once (λ (d : Record). d.number == r.number) l r u.among ((Decides-eqb r.number r.number).1 refl) (numbers r.number))
+
+  -- a change has a place
+  pub has_place : is_change r.command ≡ true → place_of g r.number ≡ None → ⊥
+  has_place change none = no_place r.number r.command change (sym own_place ∙ none)
+
+  pub its_spot : (trade : ℕ) (p : List ℕ) (n : EntryPart) → named_node r.command ≡ Some n → IsSomeAnd (place_of g r.number) (λ m. IsPlace g m trade p) → Spot l g trade p n
+  its_spot trade p n is at =
+      spot u.filed order trade p n (subst (λ (o : Option EntryPart). IsSomeAnd o (λ m. IsPlace g m trade p)) (own_place ∙ place_named r.number r.command n is) at)
+
+  -- a node that no change names has no Split and no decision
+  no_split : (m : EntryPart) → ((e : Record) → Contains l e → splits m e.command ≡ false) → split_of l m ≡ None
+  no_split m none =
+      no_some (split_of l m) (λ d h.
+      let is_so = find_passes (λ (e : Record). splits m e.command) l d h in
+      let no = none d (found_in (λ (e : Record). splits m e.command) l d h) in
+      let z : true ≡ false = sym is_so ∙ no in absurd (cc))
+
+  no_decision : (m : EntryPart) → ((e : Record) → Contains l e → decides m e.command ≡ false) → decision_of l m ≡ None
+  no_decision m none =
+      no_some (decision_of l m) (λ d h.
+      let is_so = find_passes (λ (e : Record). decides m e.command) l d h in
+      let no = none d (found_in (λ (e : Record). decides m e.command) l d h) in
+      let z : true ≡ false = sym is_so ∙ no in absurd (cc))
+
+  bare_each : (xs : List Node) → ((e : Record) → Contains l e → list_any (λ x. names x.name e.command) xs ≡ false) → All (IsBare l) xs
+  bare_each [] none = All-nil (IsBare l)
+  bare_each (x ∷ xs) none =
+      let here : (e : Record) → Contains l e → names x.name e.command ≡ false = λ e among. (or_parts (names x.name e.command) (list_any (λ x. names x.name e.command) xs) (none e among)).0 in
+      All-cons (IsBare l) x xs (
+        no_split x.name (λ e among. (or_parts (splits x.name e.command) (decides x.name e.command) (here e among)).0),
+        no_decision x.name (λ e among. (or_parts (splits x.name e.command) (decides x.name e.command) (here e among)).1),
+      )
+      (bare_each xs (λ e among. (or_parts (names x.name e.command) (list_any (λ x. names x.name e.command) xs) (none e among)).1))
+
+  -- ---- a Split
+
+  module _ {trade : ℕ} {p : List ℕ} {n : EntryPart} (s : Spot l g trade p n) (is : SplitsNode n r.command) where
+    abbrev made_parts : List Node
+    made_parts = nodes_of r.number r.firm r.command
+
+    none_named : (e : Record) → Contains l e → list_any (λ (x : Node). names x.name e.command) made_parts ≡ false
+    none_named e among = sym (under_split n r.number r.firm r.command e.command is) ∙ unnamed e among
+
+    its_split : split_of l s.said.node.name ≡ Some r
+    its_split =
+        ap (split_of l) (s.said.named ∙ s.called) ∙ found_once (λ (d : Record). splits n d.command) l r u.among (split_names n r.command is).1 (once.splits_once n)
+
+    its_parts : IsParted l r s.node
+    its_parts = parted_by l s.said.above s.said.node r s.node s.said.shown its_split
+
+    bare : (m : EntryPart) → (are_undecided_leaves its_parts.parts ≡ true) × (named_below m its_parts.parts ≡ count_of m made_parts)
+    bare m = bare_parts l (Some its_parts.head.place) made_parts its_parts.parts m its_parts.are (bare_each made_parts none_named)
+
+    pub splits_bare : IsTrue (can_unsplit s.node)
+    splits_bare = ap can_unsplit its_parts.is ∙ (bare n).0
+
+    -- the node that it splits has a lower number
+    other_number : n.entry ≢ r.number
+    other_number same =
+        let low : n.entry < r.number = (All-contains NamesLower l r (orderly_lower 0 l order.orderly) u.among) n (split_names n r.command is).0 in
+        absurd (omega (arith, low, same))
+
+    pub splits_in : IsSplitIn g s.node
+    splits_in =
+        subst (IsSplitIn g) (sym its_parts.is)
+        (own_place ∙ (place_named r.number r.command n (split_names n r.command is).0 ∙ ap (λ k. Some k) (sym called)), λ e. other_number (sym (e ∙ ap (λ (m : EntryPart). m.entry) called)))
+      where
+        called : its_parts.head.name ≡ n
+        called = sym (ap (λ v. (head_of v).name) its_parts.is) ∙ s.called
+
+    -- no other change has one of its parts as its place
+    none_among : (xs : List Node) (m : EntryPart) (d : Command) → list_any (λ (x : Node). names x.name d) xs ≡ false → names m d ≡ true → find (λ x. same_name x.name m) xs ≡ None
+    none_among xs m d none is_so =
+        no_some (find (λ x. same_name x.name m) xs) (λ x h.
+        let called : x.name ≡ m = name_is x.name m (find_passes (λ x. same_name x.name m) xs x h) in
+        let z : true ≡ false = sym (any_in (λ (x : Node). names x.name d) xs x (found_in (λ x. same_name x.name m) xs x h) (ap (λ k. names k d) called ∙ is_so)) ∙ none in
+        absurd (cc))
+
+    free_name : (e : ℕ) (m : EntryPart) → place_of g e ≡ Some m → count_of m made_parts ≡ 0
+    free_name e m at =
+        let d = placer l e m (sym (u.filed.placed e) ∙ at) in
+        none_counts_of m made_parts
+        (elim (placed_by d.change.number d.change.command m d.place) [
+          | inl root ↦ subst (λ (k : EntryPart). find (λ (x : Node). same_name x.name k) made_parts ≡ None) (sym root) (no_root n r.number d.change.number r.firm r.command is)
+          | inr names_m ↦ none_among made_parts m d.change.command (none_named d.change d.among) names_m
+        ])
+
+    pub splits_free : HasFreeParts g s.node
+    splits_free = subst (HasFreeParts g) (sym its_parts.is) (λ e m at. (bare m).1 ∙ free_name e m at)
+
+    -- its number is that of the Split
+    pub its_number : (P : ℕ → Type 0) → IsSomeAnd (split_of_node s.node) (λ q. P q.0) → P r.number
+    its_number P has = subst (λ (o : Option (ℕ × ℕ)). IsSomeAnd o (λ q. P q.0)) (ap split_of_node its_parts.is) has
+
+    -- and nothing else lies below it
+    pub others_above : (m : EntryPart) → m.entry ≢ r.number → named m s.node ≡ named m (unsplit_node s.node)
+    others_above m other =
+        let none : find (λ (x : Node). same_name x.name m) made_parts ≡ None = no_some (find (λ (x : Node). same_name x.name m) made_parts) (λ x h. other (made_number r m x h)) in
+        let a = none_counts_of m made_parts none in
+        let b = (bare m).1 in
+        let c = ap (named m) its_parts.is in
+        let d = ap (λ v. named m (unsplit_node v)) its_parts.is in
+        omega (arith, a, b, c, d)
+
+  -- ---- a decision
+
+  module _ {trade : ℕ} {p : List ℕ} {n : EntryPart} (s : Spot l g trade p n) (is : decides n r.command ≡ true) (names_n : named_node r.command ≡ Some n) where
+    none_under : (e : Record) → Contains l e → splits n e.command ≡ false
+    none_under e among = sym (under_decision n r.number r.firm r.command e.command is) ∙ unnamed e among
+
+    its_decision : decision_of l s.said.node.name ≡ Some r
+    its_decision =
+        ap (decision_of l) (s.said.named ∙ s.called) ∙ found_once (λ (d : Record). decides n d.command) l r u.among is (once.decisions_once n)
+
+    whole : IsWhole s.node
+    whole = whole_by l s.said.above s.said.node s.node s.said.shown (ap (split_of l) (s.said.named ∙ s.called) ∙ no_split n none_under)
+
+    is_given_there : is_given s.said.node.kind ≡ true
+    is_given_there =
+        let x = once.given s.said.node.name r its_decision in
+        let same : x.0 ≡ s.said.node = same_Some x.0 s.said.node (sym x.1.0 ∙ (ap (node_of l) s.said.named ∙ s.said.found)) in
+        ap (λ (y : Node). is_given y.kind) (sym same) ∙ x.1.1
+
+    -- the state in which it left the part
+    pub decided_state : (head_of s.node).state ≡ state_after r.command
+    decided_state =
+        (its_head s).state ∙ (ap (state_of s.said.node.kind) its_decision ∙ given_state s.said.node.kind is_given_there)
+      where
+        given_state : (k : Kind) → is_given k ≡ true → state_of k (Some r) ≡ state_after r.command
+        given_state (Root _) h = absurd (cc)
+        given_state (Own _ _ _) h = absurd (cc)
+        given_state (Given _ _ _) h = refl
+
+    pub its_leaf : (P : Rose → Type 0) → ((h : Head) → h ≡ head_of s.node → P (leaf h)) → P s.node
+    its_leaf P has = subst P (sym whole.is) (has whole.head (sym (ap head_of whole.is)))
+
+    -- it is no root
+    pub is_part : 1 ≤ length p
+    is_part = part_of p s.at
+      where
+        part_of : (q : List ℕ) → node_at q s.tree ≡ Some s.node → 1 ≤ length q
+        part_of (i ∷ q) at = omega arith
+        part_of [] at =
+            let same : s.tree ≡ s.node = same_Some s.tree s.node at in
+            let top = (its-head l None s.shown.root s.tree s.shown.tree).name in
+            let root : s.shown.root.name ≡ record { entry = trade; part = 0 } = node_called l (record { entry = trade; part = 0 }) s.shown.root s.shown.found in
+            let found : node_of l (head_of s.node).name ≡ Some s.shown.root = ap (node_of l) (ap (λ v. (head_of v).name) (sym same) ∙ (top ∙ root)) ∙ s.shown.found in
+            let one : s.said.node ≡ s.shown.root = same_Some s.said.node s.shown.root (sym s.said.found ∙ found) in
+            absurd (given_below s.said.node.kind is_given_there (ap (λ (x : Node). parent x.kind) one ∙ s.shown.top))
+
+    pub its_decided : (head_of s.node).decision ≡ Some r.number
+    its_decided = (its_head s).decision ∙ ap (option_map (λ (d : Record). d.number)) its_decision
+
+    pub decided_in : IsDecidedIn g s.node
+    decided_in =
+        subst (λ (o : Option ℕ). IsSomeAnd o (λ d. place_of g d ≡ Some (head_of s.node).name)) (sym its_decided)
+        (own_place ∙ (place_named r.number r.command n names_n ∙ ap (λ k. Some k) (sym s.called)))
+
+  -- ---- a Trade
+
+  module _ (trades : is_trade r.command ≡ true) where
+    abbrev root_name : EntryPart
+    root_name = record { entry = r.number; part = 0 }
+
+    -- it has a tree
+    has_tree : (tree : Rose) × (tree_of g r.number ≡ Some tree)
+    has_tree = some_tree (tree_of g r.number) refl
+      where
+        live : is_some (tree_of g r.number) ≡ true
+        live =
+            u.filed.live r.number
+            ∙ any_in (λ (d : Record). (d.number == r.number) && is_trade d.command) l r u.among (ap (λ b. b && is_trade r.command) ((Decides-eqb r.number r.number).1 refl) ∙ trades)
+
+        some_tree : (o : Option Rose) → tree_of g r.number ≡ o → (tree : Rose) × (tree_of g r.number ≡ Some tree)
+        some_tree None e = let z : false ≡ true = sym (ap is_some e) ∙ live in absurd (cc)
+        some_tree (Some tree) e = (tree, e)
+
+    root_shown : IsTreeOf l r.number has_tree.0
+    root_shown = tree_shown u.filed r.number has_tree.0 has_tree.1
+
+    root_called : root_shown.root.name ≡ root_name
+    root_called = node_called l root_name root_shown.root root_shown.found
+
+    root_unsplit : (e : Record) → Contains l e → splits root_name e.command ≡ false
+    root_unsplit e among = sym (under_trade r.number r.firm r.command e.command trades) ∙ unnamed e among
+
+    root_whole : IsWhole has_tree.0
+    root_whole = whole_by l None root_shown.root has_tree.0 root_shown.tree (ap (split_of l) root_called ∙ no_split root_name root_unsplit)
+
+    pub root_leaf : (h : Head) × (tree_of g r.number ≡ Some (leaf h)) × (h.name ≡ root_name)
+    root_leaf = (
+      root_whole.head,
+      has_tree.1 ∙ ap (λ v. Some v) root_whole.is,
+      sym (ap (λ v. (head_of v).name) root_whole.is) ∙ ((its-head l None root_shown.root has_tree.0 root_shown.tree).name ∙ root_called),
+    )
+
+    -- nobody decides a root
+    root_undecided : (d : Record) → Contains l d → decides root_name d.command ≡ true → ⊥
+    root_undecided d among is =
+        let x = once.given root_name d (found_once (λ (e : Record). decides root_name e.command) l d among is (once.decisions_once root_name)) in
+        let same : x.0 ≡ root_shown.root = same_Some x.0 root_shown.root (sym x.1.0 ∙ root_shown.found) in
+        given_below x.0.kind x.1.1 (ap (λ (y : Node). parent y.kind) same ∙ root_shown.top)
+
+    root_unnamed : (d : Record) → Contains l d → names root_name d.command ≡ true → ⊥
+    root_unnamed d among is = elim (or_cases (splits root_name d.command) (decides root_name d.command) is) [
+      | inl split ↦ (let z : true ≡ false = sym split ∙ root_unsplit d among in cc)
+      | inr decided ↦ root_undecided d among decided
+    ]
+
+    -- so the trade alone has the root as its place
+    pub root_alone : (e : ℕ) → place_of g e ≡ Some root_name → e ≡ r.number
+    root_alone e at =
+        let d = placer l e root_name (sym (u.filed.placed e) ∙ at) in
+        elim (placed_by d.change.number d.change.command root_name d.place) [
+          | inl root ↦ sym d.number ∙ sym (ap (λ (m : EntryPart). m.entry) root)
+          | inr named_it ↦ absurd (root_unnamed d.change d.among named_it)
+        ]
