@@ -45,15 +45,11 @@ pub written_at : {A : Type 0} (f : A → List ℕ) (xs : List A) (i : ℕ) (x : 
 written_at f xs i x before after whole within is more so_far =
     written f xs i x before after whole (slice_get_read xs (length xs) i x refl within is) more so_far
 
--- no element stands there, so nothing is left
-pub skipped : {A : Type 0} (f : A → List ℕ) (xs : List A) (i : ℕ) (before whole : List ℕ)
-    → slice_get xs i ≡ None → i < length xs → before ++ flat_map f (drop i xs) ≡ whole → before ++ flat_map f (drop (i + 1) xs) ≡ whole
-skipped f xs i before whole absent within so_far = absurd (there xs i within absent)
-  where
-    there : {A : Type 0} (xs : List A) (i : ℕ) → i < length xs → slice_get xs i ≡ None → ⊥
-    there [] i within absent = omega arith
-    there (x ∷ xs) zero within absent = cc
-    there (x ∷ xs) (suc i) within absent = there xs i (omega arith) absent
+-- before the end an element stands
+pub is_there : {A : Type 0} (xs : List A) (i : ℕ) → i < length xs → slice_get xs i ≡ None → ⊥
+is_there [] i within absent = omega arith
+is_there (x ∷ xs) zero within absent = cc
+is_there (x ∷ xs) (suc i) within absent = is_there xs i (omega arith) absent
 
 -- behind the last element the whole is written
 pub complete : {A : Type 0} (f : A → List ℕ) (xs : List A) (i : ℕ) (before whole : List ℕ)

@@ -19,7 +19,7 @@ use std::alloc::Global;
 /// The reports of one reading.
 const MOST_REPORTS: usize = 100;
 
-/// What kind of report it is, in this project's own numbers.
+/// What kind of report it is.
 #[derive(Clone, Copy, Debug)]
 struct Codes {
     /// AllocReportType (794).

@@ -1,9 +1,9 @@
-use Rattle.std.proofs.Common.{◌++◌, ◌+◌, ◌<◌, sym, ◌∙◌, ap, arith, length, drop}
+use Rattle.std.proofs.Common.{◌++◌, sym, ◌∙◌, ap, arith}
 use Rattle.std.specs.Prelude.{string_bytes, flat_map}
 use Rattle.gu_base.specs.History.{live}
 use Rattle.gu_base.specs.declared.house.Account.{Account}
 use Rattle.gu_trace.specs.Totals.{position_in}
-use Rattle.gu_trace.proofs.Texts.{written, skipped}
+use Rattle.gu_trace.proofs.Texts.{written, is_there}
 use Rattle.gu_trace.proofs.sums.append_positions.Goals as goal
 use Rattle.gu_trace.proofs.sums.append_positions.Goals.{in-Some+in_ok-append_account-in-Some, in-None}
 
@@ -16,9 +16,6 @@ loop-place-preserved c =
     elim c.match-account_at.branch [
       | in-Some+in_ok-append_account-in-Some w ↦ written f xs c.loop-place.place w.in-Some.account (string_bytes c.loop-place.text) (string_bytes c.match-account_at.text) whole
           (sym (rw c.house-house.ensures at c.account_at.ensures) ∙ w.in-Some.is) (ap string_bytes w.text-is ∙ w.in_ok-append_account-in-Some.ensures) c.loop-place.invariant
-      | in-None w ↦
-          let count = rw c.house-house.ensures at c.account_count-place-end.ensures in
-          let within : c.loop-place.place < length xs = omega (arith, count) in
-          ap (λ t. string_bytes t ++ flat_map f (drop (c.loop-place.place + 1) xs)) w.text-is
-          ∙ skipped f xs c.loop-place.place (string_bytes c.loop-place.text) whole (sym (rw c.house-house.ensures at c.account_at.ensures) ∙ w.in-None.is) within c.loop-place.invariant
+      | in-None w ↦ let count = rw c.house-house.ensures at c.account_count-place-end.ensures in
+          absurd (is_there xs c.loop-place.place (omega (arith, count)) (sym (rw c.house-house.ensures at c.account_at.ensures) ∙ w.in-None.is))
     ]
