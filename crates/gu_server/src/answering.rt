@@ -14,8 +14,8 @@ use gu_base::{AllocId, Answer, Command, FirmId, Memory, Part};
 use gu_book::Book;
 use gu_codec::{Fields, Header, write_frame};
 use gu_message::{
-    Inbound, MeaningError, Reject, ack, give_back, meaning_with_room, msg_types, reject,
-    reject_target, trade_ack,
+    Inbound, Index, MeaningError, Reject, SLOTS, Slot, ack, give_back, meaning_in, msg_types,
+    reject, reject_target, trade_ack, walk,
 };
 use gu_parties::House;
 use std::alloc::{AllocError, Global};
@@ -68,7 +68,7 @@ impl Model for Answering {
 }
 
 impl Answering {
-    ghost use Rattle.gu_server.specs.Output.{start, stamp, call_of, answers_to, progress_after};
+    ghost use Rattle.gu_server.specs.Output.{start, stamp, call_of, answers_to, answers_to_body, progress_after, progress_behind};
 
     /// Nothing answered yet, over an empty book of this house.
     pub(crate) fn new(alloc: Global, house: House) -> Answering
@@ -215,7 +215,8 @@ impl Answering {
         }
     }
 
-    /// Appends the answer to a message. An `Err` appends nothing, and the batch ends with it.
+    /// Appends the answer to a message whose body wasn't looked at: nothing, where that isn't fields to its end. An `Err` appends
+    /// nothing either, and the batch ends with it.
     pub(crate) fn answer(
         &mut self,
         alloc: Global,
@@ -224,12 +225,18 @@ impl Answering {
         out: &mut Vec<u8>,
     ) -> Result<(), Memory>
         requires { self.old.written + 1 < 2 ^ 64 }
-        ensures ok { OnOk result (out.new.items ≡ out.old.items ++ stream_text (answers_to self.old (pairs fields.entry))) }
-        ensures after { OnOk result (self.new ≡ progress_after self.old (pairs fields.entry)) }
+        ensures ok { OnOk result (out.new.items ≡ out.old.items ++ stream_text (answers_to_body self.old fields.entry)) }
+        ensures after { OnOk result (self.new ≡ progress_behind self.old fields.entry) }
         ensures err { OnErr result (out.new.items ≡ out.old.items) }
     {
         let house = self.book.house().house();
-        let meaning = meaning_with_room(alloc, fields, &house, &mut room.parts);
+        let mut slots = [Slot::none(); SLOTS];
+        let walked = walk(fields, &mut slots);
+        if !walked.is_whole {
+            return Ok(());
+        }
+        let message = Index::new(fields, &slots, walked.carried);
+        let meaning = meaning_in(alloc, &message, &house, &mut room.parts);
         let answered = self.answer_meaning(alloc, fields, &meaning, &mut room.body, out);
         if let Ok(inbound) = meaning {
             give_back(inbound, &mut room.parts);

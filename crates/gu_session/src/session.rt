@@ -4,6 +4,7 @@ ghost use Rattle.std.specs.Prelude.{◌≡◌, ◌↔◌, ◌≤◌, ◌≤ℤ�
 ghost use Rattle.std.specs.List.{All};
 ghost use Rattle.gu_codec.specs.Answer.{pairs};
 ghost use Rattle.gu_message.specs.AllocationReport.{ShowsFewParts};
+ghost use Rattle.gu_message.specs.Heading.{heading_of};
 ghost use Rattle.gu_message.specs.Meaning.{meaning_of};
 ghost use Rattle.gu_message.specs.declared.inbound.Inbound.TheVariants.{Heartbeat};
 ghost use Rattle.gu_session.specs.Steps as StepEvent;
@@ -20,7 +21,9 @@ use crate::verdict::Verdict;
 use crate::writing::{Writer, write_resend, write_saying};
 use gu_base::{AllocId, Answer, Command, FirmId, Memory, Report};
 use gu_codec::Fields;
-use gu_message::{Inbound, MeaningError, Reject, SendingTime, header, is_logout, meaning};
+use gu_message::{
+    Heading, Inbound, MeaningError, Reject, SendingTime, header_and_meaning, is_logout,
+};
 use gu_parties::House;
 use jiff::Timestamp;
 use std::alloc::{AllocError, Global};
@@ -55,17 +58,19 @@ pub fn is_moment(moment: Timestamp) -> bool
     moment.as_nanosecond() >= 0
 }
 
-/// What a message means, or the Reject that answers it.
+/// The header of a message, and what it means; or the Rejects that answer them.
 fn understood(
     alloc: Global,
     fields: Fields<'_>,
     house: &FirmId,
-) -> Result<Result<Inbound, Reject>, Memory>
-    ensures { IfOk result (λ m. m ≡ meaning_of house.now (pairs fields.entry)) }
+) -> Result<(Result<Heading, Reject>, Result<Inbound, Reject>), Memory>
+    ensures heading { IfOk result (λ m. m.0 ≡ heading_of house.now (pairs fields.entry)) }
+    ensures meaning { IfOk result (λ m. m.1 ≡ meaning_of house.now (pairs fields.entry)) }
 {
-    match meaning(alloc, fields, house) {
-        Ok(inbound) => Ok(Ok(inbound)),
-        Err(MeaningError::Reject(fault)) => Ok(Err(fault)),
+    let (heading, meaning) = header_and_meaning(alloc, fields, house);
+    match meaning {
+        Ok(inbound) => Ok((heading, Ok(inbound))),
+        Err(MeaningError::Reject(fault)) => Ok((heading, Err(fault))),
         Err(MeaningError::Memory) => Err(AllocError),
     }
 }
@@ -208,12 +213,12 @@ impl<'a> Session<'a> {
         ensures err { OnErr result (self.new ≡ self.old) }
     {
         let house = self.house.house();
-        let meaning = understood(self.alloc, fields, &house)?;
+        let (heading, meaning) = understood(self.alloc, fields, &house)?;
         let verdict = on_message(
             moment,
             self.house,
             self.link,
-            header(fields, &house),
+            heading,
             &meaning,
             is_logout(fields),
         );
