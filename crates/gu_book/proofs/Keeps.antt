@@ -10,7 +10,7 @@ use Rattle.std.proofs.lemmas.Slice.Eq.{bytes_eq-Decides}
 use Rattle.gu_base.specs.House.{House, knows_firm}
 use Rattle.gu_base.specs.History.{numbered_as, numbered_from, records, is_change, is_reversed, live, RisesFrom}
 use Rattle.gu_base.specs.Refusals.{refusal_of, unless}
-use Rattle.gu_base.specs.Standing.{first_refused, without}
+use Rattle.gu_base.specs.Standing.{without}
 use Rattle.gu_base.specs.Answers.{answer_to, command_refusal, entry_of, reversal_of, on_change, initiate_rest, is_same_id}
 use Rattle.gu_base.specs.Runs.{call_of, IsRunFrom}
 use Rattle.gu_base.specs.declared.command.Command.{Command}

@@ -1,4 +1,4 @@
-use Rattle.std.proofs.Common.{◌≡◌, ℕ, ◌+◌, List, [], ◌∷◌, ◌++◌, map, length, sym, ◌∙◌, ap, arith}
+use Rattle.std.proofs.Common.{◌≡◌, ◌+◌, [], ◌∷◌, ◌++◌, map, length, sym, ◌∙◌, ap, arith}
 use Rattle.std.specs.Prelude.{Some, None, find, option_map, ◌==◌}
 use Rattle.gu_base.specs.declared.entry.Record.{Record}
 use Rattle.gu_book.specs.Live.{record_of}
