@@ -6,7 +6,7 @@
 //! the life of a part doesn't have.
 //! An entry shows its own status until a reversal is pending, and then until it
 //! is reversed: `entry_state`. The status goes out in FIX field AllocStatus (87)
-//! by the numbers of `status_code`, which are this project's own.
+//! by the numbers of `status_code`; `docs/profile.md` says which FIX has.
 //! Each function meets its table in `specs/` exactly, and takes no memory.
 //! Its cases stand in the program `test_names`.
 #![tactic(auto)]

@@ -51,19 +51,31 @@ fn show_leaves<A: Allocator + Clone>(
     Ok(())
 }
 
+/// Writes what comes of the splits of a trade, and whether the first leaves it as its copy.
+fn tell_splits<A: Allocator + Clone>(
+    rt: &impl Print,
+    alloc: Global,
+    tree: &mut Tree<A>,
+    copy: &Tree<Global>,
+) -> io::Result<()> {
+    println!(rt; "split into 100: {}", split_in_hundred(tree)?)?;
+    if same_rows(alloc, tree, copy)? {
+        println!(rt; "rows as the copy's")?;
+    } else {
+        println!(rt; "rows that the copy doesn't have")?;
+    }
+    println!(rt; "split into 2: {}", split_in_two(tree)?)?;
+    show_leaves(rt, alloc, tree)
+}
+
 /// Writes what comes of the splits in a new heap of this size.
 fn tell_in_heap(rt: &impl Print, alloc: Global, size: usize) -> io::Result<()> {
     let heap = LocalHeap::new(alloc, size)?;
     let mut tree = trade(&heap)?;
     let copy = tree.copy(alloc)?;
-    println!(rt; "split into 100: {}", split_in_hundred(&mut tree)?)?;
-    if same_rows(alloc, &tree, &copy)? {
-        println!(rt; "rows as the copy's")?;
-    } else {
-        println!(rt; "rows that the copy doesn't have")?;
-    }
-    println!(rt; "split into 2: {}", split_in_two(&mut tree)?)?;
-    show_leaves(rt, alloc, &tree)
+    let told = tell_splits(rt, alloc, &mut tree, &copy);
+    drop(copy);
+    told
 }
 
 /// Writes the least heap that takes a split into two, and what comes of splits in it.
