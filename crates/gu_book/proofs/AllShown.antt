@@ -35,7 +35,7 @@ use Rattle.gu_consent.specs.declared.Consents.{Consents}
 use Rattle.gu_book.specs.Filed.{IsFiled, IsFree}
 use Rattle.gu_book.specs.Kept.{IsKept}
 use Rattle.gu_book.specs.TreeRows.{is_trade, is_live_trade}
-use Rattle.gu_book.proofs.Keeps.{rises_kept}
+use Rattle.gu_book.proofs.Leaves.{live_rises}
 
 -- ---- a root is made by a Trade
 
@@ -69,11 +69,9 @@ all_shown {l} {g} filed = record {
 -- ---- what stands on a change of the book
 
 -- what the trees answer for each list that they show, they answer for the live changes
-pub standing_found : {t : House} {h : List Entry} {l : List Record} {g : Grove} {cs : Consents} → IsKept t h l g cs → (k : ℕ) (o : Option ℕ)
+pub standing_found : {t : House} {h : List Entry} {g : Grove} {cs : Consents} → IsKept t h g cs → (k : ℕ) (o : Option ℕ)
     → ((t : House) (l : List Record) → RisesFrom 0 l → IsLegal t l → ShowsAll l g → o ≡ standing_on t l k) → o ≡ standing_on t (live h) k
-standing_found {t} {h} {l} {g} {cs} kept k o first =
-    first t l (rises_later 0 1 l (omega arith) (rises_kept t h l g cs kept)) (legal_from_replay t l kept.replayed) (all_shown kept.filed)
-    ∙ ap (λ (l : List Record). standing_on t l k) kept.are_live
+standing_found {t} {h} kept k o first = first t (live h) (rises_later 0 1 (live h) (omega arith) (live_rises h)) (legal_from_replay t (live h) kept.replayed) (all_shown kept.filed)
 
 -- ---- a change whose Reverse is accepted
 
@@ -128,14 +126,12 @@ undone_entry {h = h} {k = k} {r = r} u d is =
     let within = u.within in
     same_Some r (numbered_as k d) (sym u.entry ∙ known_entry h k d from (omega (arith, from, within)) is)
 
-module _ {t : House} {h : List Entry} {l : List Record} {g : Grove} {cs : Consents} (kept : IsKept t h l g cs) (e : Entry) (n k : ℕ) (ok : answer_to t h (call_of e) ≡ Accepted n e.status) (same : e.command ≡ Reverse k) where
-  pub undone_free : standing_on t l k ≡ None
-  undone_free = ap (λ (l : List Record). standing_on t l k) kept.are_live ∙ (undone t h e n k ok same).1.free
+module _ {t : House} {h : List Entry} {g : Grove} {cs : Consents} (kept : IsKept t h g cs) (e : Entry) (n k : ℕ) (ok : answer_to t h (call_of e) ≡ Accepted n e.status) (same : e.command ≡ Reverse k) where
+  pub undone_free : standing_on t (live h) k ≡ None
+  undone_free = (undone t h e n k ok same).1.free
 
-  pub undone_among : (d : Entry) → d ≡ get_or h (k - 1) d → Contains l (numbered_as k d)
-  undone_among d is =
-      let u = undone t h e n k ok same in
-      subst (λ (l : List Record). Contains l (numbered_as k d)) (sym kept.are_live) (subst (λ (r : Record). Contains (live h) r) (undone_entry u.1 d is) u.1.among)
+  pub undone_among : (d : Entry) → d ≡ get_or h (k - 1) d → Contains (live h) (numbered_as k d)
+  undone_among d is = let u = undone t h e n k ok same in subst (λ (r : Record). Contains (live h) r) (undone_entry u.1 d is) u.1.among
 
   pub undone_change : (d : Entry) → d ≡ get_or h (k - 1) d → is_change d.command ≡ true
   undone_change d is =
@@ -143,5 +139,5 @@ module _ {t : House} {h : List Entry} {l : List Record} {g : Grove} {cs : Consen
       sym (ap (λ (r : Record). is_change r.command) (undone_entry u.1 d is)) ∙ u.1.change
 
   -- so it may go from the trees
-  pub undone_goes : (d : Entry) → d ≡ get_or h (k - 1) d → IsFree t l (numbered_as k d) g
-  undone_goes d is = record { filed = kept.filed; replayed = kept.replayed; rises = rises_kept t h l g cs kept; among = undone_among d is; free = undone_free }
+  pub undone_goes : (d : Entry) → d ≡ get_or h (k - 1) d → IsFree t (live h) (numbered_as k d) g
+  undone_goes d is = record { filed = kept.filed; replayed = kept.replayed; rises = live_rises h; among = undone_among d is; free = undone_free }

@@ -10,7 +10,7 @@ use Rattle.std.proofs.lemmas.Slice.Eq.{bytes_eq-Decides}
 use Rattle.gu_base.specs.House.{House, knows_firm}
 use Rattle.gu_base.specs.History.{numbered_as, numbered_from, records, is_change, is_reversed, live, RisesFrom}
 use Rattle.gu_base.specs.Refusals.{refusal_of, unless}
-use Rattle.gu_base.specs.Standing.{first_refused, without}
+use Rattle.gu_base.specs.Standing.{without}
 use Rattle.gu_base.specs.Answers.{answer_to, command_refusal, entry_of, reversal_of, on_change, initiate_rest, is_same_id}
 use Rattle.gu_base.specs.Runs.{call_of, IsRunFrom}
 use Rattle.gu_base.specs.declared.command.Command.{Command}
@@ -71,30 +71,28 @@ accepted_push t before [] e all ok = (subst (λ k. answer_to t k (call_of e) ≡
 accepted_push t before (d ∷ h) e all ok =
     (all.0, accepted_push t (before ++ d ∷ []) h e all.1 (subst (λ k. answer_to t k (call_of e) ≡ Accepted (length k + 1) e.status) (sym (append_assoc before (d ∷ []) h)) ok))
 
-live_few : (h : List Entry) → length (live h) ≤ length h
+pub live_few : (h : List Entry) → length (live h) ≤ length h
 live_few h = omega (arith, length-filter (is_live h) (records h), count_by-le-length (is_live h) (records h), length_numbered 1 h)
 
-run_kept : (t : House) (h : List Entry) (l : List Record) (ts : Grove) (cs : Consents) → IsKept t h l ts cs → IsRun t h
-run_kept t h l ts cs kept = record { replayed = subst (λ (l : List Record). first_refused t [] l ≡ None) kept.are_live kept.replayed; behind = kept.behind }
+run_kept : (t : House) (h : List Entry) (ts : Grove) (cs : Consents) → IsKept t h ts cs → IsRun t h
+run_kept t h ts cs kept = record { replayed = kept.replayed; behind = kept.behind }
 
-module _ {t : House} {h : List Entry} {l : List Record} {ts : Grove} {cs : Consents} (kept : IsKept t h l ts cs) (n : ℕ) (e : Entry)
+module _ {t : House} {h : List Entry} {ts : Grove} {cs : Consents} (kept : IsKept t h ts cs) (n : ℕ) (e : Entry)
     (ok : answer_to t h (call_of e) ≡ Accepted n e.status) where
   shown : IsAllowed t h e n
   shown = allowed t h e n ok
 
   -- what an accepted call leaves true, of any kind
-  kept_next : (ls : List Record) (us : Grove) (ds : Consents) → ls ≡ live (h ++ e ∷ []) → AllWithinLimits ls → IsFiled ls us → last_place us ≤ n
-      → ((m : ℕ) → given ds m ≡ consents_left (h ++ e ∷ []) m) → IsKept t (h ++ e ∷ []) ls us ds
-  kept_next ls us ds same small filed placed consented =
+  kept_next : (us : Grove) (ds : Consents) → AllWithinLimits (live (h ++ e ∷ [])) → IsFiled (live (h ++ e ∷ [])) us → last_place us ≤ n
+      → ((m : ℕ) → given ds m ≡ consents_left (h ++ e ∷ []) m) → IsKept t (h ++ e ∷ []) us ds
+  kept_next us ds small filed placed consented =
       let a = shown in
-      let run = run_push (run_kept t h l ts cs kept) e n ok in
+      let run = run_push (run_kept t h ts cs kept) e n ok in
       let longer = length-append h (e ∷ []) in
       record {
         few = omega (arith, longer, a.room);
-        fewer = subst (λ (k : List Record). length k ≤ length (h ++ e ∷ [])) (sym same) (live_few (h ++ e ∷ []));
-        are_live = same;
         behind = run.behind;
-        replayed = ap (first_refused t []) same ∙ run.replayed;
+        replayed = run.replayed;
         within = small;
         accepted = accepted_push t [] h e kept.accepted (ok ∙ ap (λ m. Accepted m e.status) a.number);
         once = IsDistinct-push ids_laws h e kept.once (id_is_new 1 e h a.id);
@@ -110,18 +108,17 @@ module _ {t : House} {h : List Entry} {l : List Record} {ts : Grove} {cs : Conse
   -- ---- a change
 
   module _ (change : is_change e.command ≡ true) where
-    live_more : l ++ numbered_as n e ∷ [] ≡ live (h ++ e ∷ [])
+    pub live_more : live h ++ numbered_as n e ∷ [] ≡ live (h ++ e ∷ [])
     live_more =
         let number = shown.number in
         let numbered : n ≡ 1 + length h = omega (arith, number) in
-        ap (λ k. k ++ numbered_as n e ∷ []) kept.are_live
-        ∙ (ap (λ m. live h ++ numbered_as m e ∷ []) numbered ∙ sym (live_push_change h e change (kept.behind (1 + length h) (omega arith))))
+        ap (λ m. live h ++ numbered_as m e ∷ []) numbered ∙ sym (live_push_change h e change (kept.behind (1 + length h) (omega arith)))
 
-    lawful : refusal_of t l e.firm e.command ≡ None
-    lawful = subst (λ (k : List Record). refusal_of t k e.firm e.command ≡ None) (sym kept.are_live) (sym (change_refused t h e.firm e.command change) ∙ shown.lawful)
+    lawful : refusal_of t (live h) e.firm e.command ≡ None
+    lawful = sym (change_refused t h e.firm e.command change) ∙ shown.lawful
 
     -- an accepted change may follow the live changes
-    pub next_kept : IsNext t l (numbered_as n e) ts
+    pub next_kept : IsNext t (live h) (numbered_as n e) ts
     next_kept = record {
       filed = kept.filed;
       later = let placed = kept.placed in let number = shown.number in omega (arith, number, placed);
@@ -130,15 +127,21 @@ module _ {t : House} {h : List Entry} {l : List Record} {ts : Grove} {cs : Conse
       rises = subst (RisesFrom 1) (sym live_more) (live_rises (h ++ e ∷ []));
     }
 
-    pub kept_change : (us : Grove) → IsFiled (l ++ numbered_as n e ∷ []) us → last_place us ≤ n → IsKept t (h ++ e ∷ []) (l ++ numbered_as n e ∷ []) us cs
+    pub kept_change : (us : Grove) → IsFiled (live h ++ numbered_as n e ∷ []) us → last_place us ≤ n → IsKept t (h ++ e ∷ []) us cs
     kept_change us filed placed =
-        kept_next (l ++ numbered_as n e ∷ []) us cs live_more (All-push (λ r. IsWithinLimits r.command) l (numbered_as n e) kept.within (accepted_small t l e.firm e.command lawful)) filed placed
+        kept_next us cs
+        (subst AllWithinLimits live_more (All-push (λ r. IsWithinLimits r.command) (live h) (numbered_as n e) kept.within (accepted_small t (live h) e.firm e.command lawful)))
+        (subst (λ (l : List Record). IsFiled l us) live_more filed) placed
         (λ m. kept.consented m ∙ left_change h e m e.command refl change)
 
   -- ---- an Initiate or a Decline
 
-  live_same : is_consenting e.command ≡ true → l ≡ live (h ++ e ∷ [])
-  live_same consent = kept.are_live ∙ sym (live_push_consent h e consent)
+  pub live_same : is_consenting e.command ≡ true → live h ≡ live (h ++ e ∷ [])
+  live_same consent = sym (live_push_consent h e consent)
+
+  kept_consenting : is_consenting e.command ≡ true → (ds : Consents) → ((m : ℕ) → given ds m ≡ consents_left (h ++ e ∷ []) m) → IsKept t (h ++ e ∷ []) ts ds
+  kept_consenting consent ds consented =
+      kept_next ts ds (subst AllWithinLimits (live_same consent) kept.within) (subst (λ (l : List Record). IsFiled l ts) (live_same consent) kept.filed) (no_later ts kept.placed) consented
 
   open_entry : (k : ℕ) → e.command ≡ Initiate k → is_reversed h k ≡ false
   open_entry k same =
@@ -150,32 +153,31 @@ module _ {t : House} {h : List Entry} {l : List Record} {ts : Grove} {cs : Conse
       not_reversed k 1 h (subst (λ m. reversal_of h m ≡ None) number o.1.unreversed)
 
   pub kept_initiate : (k : ℕ) → e.command ≡ Initiate k → (ds : Consents) → ((m : ℕ) → given ds m ≡ cond (m == k) (given cs m ++ e.firm ∷ []) (given cs m))
-      → IsKept t (h ++ e ∷ []) l ts ds
+      → IsKept t (h ++ e ∷ []) ts ds
   kept_initiate k same ds more =
-      kept_next l ts ds (live_same (ap is_consenting same)) kept.within kept.filed (no_later ts kept.placed)
+      kept_consenting (ap is_consenting same) ds
       (λ m. more m ∙ (ap (λ fs. cond (m == k) (fs ++ e.firm ∷ []) fs) (kept.consented m) ∙ left_initiate h e k m same (open_entry k same)))
 
-  pub kept_decline : (k : ℕ) → e.command ≡ Decline k → (ds : Consents) → ((m : ℕ) → given ds m ≡ cond (m == k) [] (given cs m)) → IsKept t (h ++ e ∷ []) l ts ds
+  pub kept_decline : (k : ℕ) → e.command ≡ Decline k → (ds : Consents) → ((m : ℕ) → given ds m ≡ cond (m == k) [] (given cs m)) → IsKept t (h ++ e ∷ []) ts ds
   kept_decline k same ds less =
-      kept_next l ts ds (live_same (ap is_consenting same)) kept.within kept.filed (no_later ts kept.placed)
-      (λ m. less m ∙ (ap (λ fs. cond (m == k) [] fs) (kept.consented m) ∙ left_decline h e k m same))
+      kept_consenting (ap is_consenting same) ds (λ m. less m ∙ (ap (λ fs. cond (m == k) [] fs) (kept.consented m) ∙ left_decline h e k m same))
 
   -- ---- a Reverse
 
-  pub kept_reverse : (k : ℕ) → e.command ≡ Reverse k → (ls : List Record) (us : Grove) → ls ≡ without l k → IsFiled (without l k) us → last_place us ≡ last_place ts
-      → (ds : Consents) → ((m : ℕ) → given ds m ≡ cond (m == k) [] (given cs m)) → IsKept t (h ++ e ∷ []) ls us ds
-  kept_reverse k same ls us others filed placed ds less =
-      kept_next ls us ds (others ∙ (ap (λ (l : List Record). without l k) kept.are_live ∙ sym (live_push_reverse h e k same)))
-      (subst AllWithinLimits (sym others) (without_small k l kept.within)) (subst (λ (l : List Record). IsFiled l us) (sym others) filed)
+  pub live_less : (k : ℕ) → e.command ≡ Reverse k → without (live h) k ≡ live (h ++ e ∷ [])
+  live_less k same = sym (live_push_reverse h e k same)
+
+  pub kept_reverse : (k : ℕ) → e.command ≡ Reverse k → (us : Grove) → IsFiled (without (live h) k) us → last_place us ≡ last_place ts
+      → (ds : Consents) → ((m : ℕ) → given ds m ≡ cond (m == k) [] (given cs m)) → IsKept t (h ++ e ∷ []) us ds
+  kept_reverse k same us filed placed ds less =
+      kept_next us ds (subst AllWithinLimits (live_less k same) (without_small k (live h) kept.within)) (subst (λ (l : List Record). IsFiled l us) (live_less k same) filed)
       (no_later us (let before = kept.placed in omega (arith, placed, before)))
       (λ m. less m ∙ (ap (λ fs. cond (m == k) [] fs) (kept.consented m) ∙ left_reverse h e k m same))
 
 -- the consents alone have changed, and not in what they say
-pub kept_same : (t : House) (h : List Entry) (l : List Record) (ts : Grove) (cs ds : Consents) → IsKept t h l ts cs → ((m : ℕ) → given ds m ≡ given cs m) → IsKept t h l ts ds
-kept_same t h l ts cs ds kept same = record {
+pub kept_same : (t : House) (h : List Entry) (ts : Grove) (cs ds : Consents) → IsKept t h ts cs → ((m : ℕ) → given ds m ≡ given cs m) → IsKept t h ts ds
+kept_same t h ts cs ds kept same = record {
   few = kept.few;
-  fewer = kept.fewer;
-  are_live = kept.are_live;
   behind = kept.behind;
   replayed = kept.replayed;
   within = kept.within;
@@ -187,38 +189,30 @@ kept_same t h l ts cs ds kept same = record {
 }
 
 -- the trees alone have changed, and nothing that is seen of them
-pub kept_alike : {t : House} {h : List Entry} {l : List Record} {old : Grove} {cs : Consents} → IsKept t h l old cs → (new : Grove) → IsSameGrove old new → IsKept t h l new cs
-kept_alike {l = l} {old = old} kept new same = record {
+pub kept_alike : {t : House} {h : List Entry} {old : Grove} {cs : Consents} → IsKept t h old cs → (new : Grove) → IsSameGrove old new → IsKept t h new cs
+kept_alike {h = h} {old = old} kept new same = record {
   few = kept.few;
-  fewer = kept.fewer;
-  are_live = kept.are_live;
   behind = kept.behind;
   replayed = kept.replayed;
   within = kept.within;
   accepted = kept.accepted;
   once = kept.once;
-  filed = same_filed l old new same kept.filed;
+  filed = same_filed (live h) old new same kept.filed;
   placed = let placed = kept.placed in let last : last_place new ≡ last_place old = ap last_of same.slots in omega (arith, placed, last);
   consented = kept.consented;
 }
 
 -- the trees are those of the live changes
-pub trees_kept : {t : House} {h : List Entry} {l : List Record} {ts : Grove} {cs : Consents} → IsKept t h l ts cs → AreTreesOf l ts
-trees_kept {t} {h} {l} kept = record { house = t; filed = kept.filed; replayed = kept.replayed; rises = subst (RisesFrom 1) (sym kept.are_live) (live_rises h) }
-
--- what the replay of the live changes asks for
-pub rises_kept : (t : House) (h : List Entry) (l : List Record) (ts : Grove) (cs : Consents) → IsKept t h l ts cs → RisesFrom 1 l
-rises_kept t h l ts cs kept = subst (RisesFrom 1) (sym kept.are_live) (live_rises h)
+pub trees_kept : {t : House} {h : List Entry} {ts : Grove} {cs : Consents} → IsKept t h ts cs → AreTreesOf (live h) ts
+trees_kept {t} {h} kept = record { house = t; filed = kept.filed; replayed = kept.replayed; rises = live_rises h }
 
 nothing_twice : NoIdTwice []
 unfolding IsDistinct
 nothing_twice = tt
 
-pub kept_none : (t : House) (cs : Consents) → ((n : ℕ) → given cs n ≡ []) → (g : Grove) → ((k : ℕ) → tree_of g k ≡ None) → ((k : ℕ) → place_of g k ≡ None) → last_place g ≡ 0 → IsKept t [] [] g cs
+pub kept_none : (t : House) (cs : Consents) → ((n : ℕ) → given cs n ≡ []) → (g : Grove) → ((k : ℕ) → tree_of g k ≡ None) → ((k : ℕ) → place_of g k ≡ None) → last_place g ≡ 0 → IsKept t [] g cs
 kept_none t cs none g trees places last = record {
   few = omega arith;
-  fewer = omega arith;
-  are_live = refl;
   behind = λ n high. refl;
   replayed = refl;
   within = All-nil (λ r. IsWithinLimits r.command);

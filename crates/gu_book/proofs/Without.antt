@@ -1,8 +1,7 @@
 -- What a list of changes keeps when one is taken out.
-use Rattle.std.proofs.Common.{◌≡◌, ◌≢◌, ℕ, ◌+◌, ◌≤◌, Bool, true, false, not, cond, List, [], ◌∷◌, ◌++◌, length, take, drop, get_or, refl, sym, ◌∙◌, ap, subst, arith}
-use Rattle.std.specs.Prelude.{◌==◌, count_by, Some, find}
+use Rattle.std.proofs.Common.{◌≡◌, ◌≢◌, ℕ, ◌+◌, ◌≤◌, Bool, true, false, not, cond, List, [], ◌∷◌, length, refl, sym, ◌∙◌, ap, arith}
+use Rattle.std.specs.Prelude.{◌==◌, Some, find}
 use Rattle.std.proofs.lemmas.Bool.Decides.{Decides-eqb}
-use Rattle.std.proofs.lemmas.List.{take-append-drop, drop_more}
 use Rattle.std.proofs.lemmas.List.Elements.{All-filter}
 use Rattle.std.proofs.lemmas.List.Sums.{length-filter, count_by-le-length}
 use Rattle.gu_base.specs.History.{RisesFrom}
@@ -10,12 +9,7 @@ use Rattle.gu_base.specs.Standing.{without}
 use Rattle.gu_base.specs.declared.entry.Record.{Record}
 use Rattle.gu_base.proofs.Numbered.{rises_kept}
 use Rattle.gu_tree.specs.ShownAll.{change_of}
-use Rattle.gu_depend.proofs.Cuts.{filter_one, filter_all}
-use Rattle.gu_depend.proofs.Replay.{number_once}
-use Rattle.gu_depend.proofs.StandsUnder.{rises_distinct}
-use Rattle.gu_book.specs.ByNumber.{no_record, IsNumberedAt, IsNotNumbered}
 use Rattle.gu_book.specs.Limits.{IsWithinLimits, AllWithinLimits}
-use Rattle.gu_book.proofs.ByNumber.{change_none}
 use Rattle.gu_book.proofs.Leaves.{other_number}
 
 pub rises_without : (n k : ℕ) (l : List Record) → RisesFrom n l → RisesFrom n (without l k)
@@ -27,19 +21,6 @@ without_within k l = omega (arith, length-filter (λ (r : Record). not (r.number
 
 pub without_small : (k : ℕ) (l : List Record) → AllWithinLimits l → AllWithinLimits (without l k)
 without_small k l all = All-filter (λ (r : Record). not (r.number == k)) (λ (r : Record). IsWithinLimits r.command) l all
-
--- the change at its place, taken out
-pub left_out : (k i : ℕ) (l : List Record) → RisesFrom 1 l → IsNumberedAt l k i → take i l ++ drop (i + 1) l ≡ without l k
-left_out k i l rises at =
-    let r : Record = get_or l i no_record in
-    let cut : l ≡ take i l ++ r ∷ drop (i + 1) l = sym (take-append-drop i l) ∙ ap (λ m. take i l ++ m) (drop_more l i no_record at.in_range) in
-    let once : count_by (λ (d : Record). d.number == k) l ≤ 1 = number_once l (rises_distinct 1 l rises) k in
-    sym (ap (λ m. without m k) cut
-    ∙ filter_one (λ (d : Record). d.number == k) (take i l) r (drop (i + 1) l) ((Decides-eqb r.number k).1 at.number) (subst (λ m. count_by (λ (d : Record). d.number == k) m ≤ 1) cut once))
-
--- a list that holds no change of the number stays
-pub nothing_out : (k : ℕ) (l : List Record) → IsNotNumbered l k → without l k ≡ l
-nothing_out k l none = filter_all (λ (d : Record). d.number == k) l (change_none l k none)
 
 find_step : (q : Record → Bool) (k : ℕ) (d : Record) (l xs : List Record) → find q xs ≡ find q l → (d.number ≡ k → q d ≡ false) → (b : Bool) → (d.number == k) ≡ b
     → find q (cond (not b) (d ∷ xs) xs) ≡ cond (q d) (Some d) (find q l)

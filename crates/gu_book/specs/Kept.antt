@@ -8,7 +8,6 @@ use Rattle.gu_base.specs.Answers.{answer_to}
 use Rattle.gu_base.specs.Runs.{call_of}
 use Rattle.gu_base.specs.declared.entry.Answer.TheVariants.{Accepted}
 use Rattle.gu_base.specs.declared.entry.Entry.{Entry}
-use Rattle.gu_base.specs.declared.entry.Record.{Record}
 use Rattle.gu_tree.specs.Grove.{Grove, last_place}
 use Rattle.gu_book.specs.Filed.{IsFiled}
 use Rattle.gu_book.specs.Charging.{AreFeesOf}
@@ -28,24 +27,22 @@ abbrev pub AcceptedFrom : House → List Entry → List Entry → Type 0
 AcceptedFrom t before [] = Unit {0}
 AcceptedFrom t before (e ∷ rest) = (answer_to t before (call_of e) ≡ Accepted (length before + 1) e.status) × AcceptedFrom t (before ++ e ∷ []) rest
 
--- the records beside the history are its live changes, none of which is refused; the trees and places are theirs; the consents are those of the
+-- no live change is refused after those before it; the trees and places are those of the live changes; the consents are those of the
 -- history, and none of a change that is reversed; no Reverse names an entry that is still to come, and no place is of one
-pub record IsKept (house : House) (history : List Entry) (records : List Record) (trees : Grove) (consents : Consents) : Type 0 where
+pub record IsKept (house : House) (history : List Entry) (trees : Grove) (consents : Consents) : Type 0 where
   pub few : length history ≤ most_entries
-  pub fewer : length records ≤ length history
-  pub are_live : records ≡ live history
   pub behind : (n : ℕ) → length history < n → is_reversed history n ≡ false
-  pub replayed : first_refused house [] records ≡ None
-  pub within : AllWithinLimits records
+  pub replayed : first_refused house [] (live history) ≡ None
+  pub within : AllWithinLimits (live history)
   pub accepted : AcceptedFrom house [] history
   pub once : NoIdTwice history
-  pub filed : IsFiled records trees
+  pub filed : IsFiled (live history) trees
   pub placed : last_place trees ≤ length history
   pub consented : (n : ℕ) → given consents n ≡ consents_left history n
 
 -- all that a book keeps: the same, that its index is one of the history, and its fees and positions are those of the live changes
-pub record IsBook (house : House) (history : List Entry) (records : List Record) (trees : Grove) (consents : Consents) (index : Index) (fees : FeeRows) (positions : PositionRows) : Type 0 where
-  pub kept : IsKept house history records trees consents
+pub record IsBook (house : House) (history : List Entry) (trees : Grove) (consents : Consents) (index : Index) (fees : FeeRows) (positions : PositionRows) : Type 0 where
+  pub kept : IsKept house history trees consents
   pub indexed : IsIndexOf index history
-  pub charged : AreFeesOf house records fees
-  pub stands : ArePositionsOf records positions
+  pub charged : AreFeesOf house (live history) fees
+  pub stands : ArePositionsOf (live history) positions

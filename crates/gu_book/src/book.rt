@@ -1,5 +1,5 @@
-//! The book: the house table, the history, and beside it the live changes, a tree for each live trade, the consents, an index, the fees
-//! and the positions.
+//! The book: the house table, the history, and beside it a tree for each live trade, the consents, an index, the fees and the
+//! positions.
 ghost use Rattle.std.specs.Prelude.{true, ◌≡◌, ◌≤◌, ◌+◌, [], ◌∷◌, ◌++◌, length, map, option_map, IsTrue, IfOk, OnOk, OnErr};
 ghost use Rattle.gu_base.specs.Limits.{most_entries};
 ghost use Rattle.gu_base.specs.History.{is_change, live};
@@ -18,13 +18,13 @@ ghost use Rattle.gu_book.specs.TreeRows.{is_live_trade, tree_rows};
 
 use crate::grove;
 use crate::index::Index;
+use crate::live::{Change, Live};
 use crate::plain::calls::front_answer;
-use crate::plain::nodes::leave_out;
 use crate::plain::standing::Standing;
 use crate::plain::{charges, holdings};
 use gu_base::{
-    AccountId, AllocId, Answer, Command, Entry, FirmId, InstrumentId, Memory, Number, Record,
-    Refusal, State,
+    AccountId, AllocId, Answer, Command, Entry, FirmId, InstrumentId, Memory, Number, Refusal,
+    State,
 };
 use gu_consent::Consents;
 use gu_depend::first_standing;
@@ -40,7 +40,6 @@ use std::marker::Model;
 pub struct Book {
     house: House,
     entries: Vec<Entry>,
-    records: Vec<Record>,
     trees: Trees<Global>,
     consents: Consents,
     index: Index,
@@ -56,7 +55,7 @@ impl Model for Book {
 
     ghost view = { λ b. record { house = b.house; history = b.entries.items } };
 
-    ghost invariant = { λ b. IsBook b.house b.entries.items b.records.items b.trees b.consents b.index b.fees b.positions };
+    ghost invariant = { λ b. IsBook b.house b.entries.items b.trees b.consents b.index b.fees b.positions };
 }
 
 impl Book {
@@ -67,7 +66,6 @@ impl Book {
         Book {
             house,
             entries: Vec::new(alloc),
-            records: Vec::new(alloc),
             trees: Trees::new(alloc, alloc),
             consents: Consents::new(alloc),
             index: Index::new(alloc),
@@ -102,7 +100,7 @@ impl Book {
     pub fn live(&self, alloc: Global) -> Result<Vec<Number>, Memory>
         ensures { IfOk result (λ v. v.items ≡ map (λ r. r.number) (live self.now.history)) }
     {
-        self.records.iter().map(|r| r.number).collect(alloc)
+        Live::of(self.entries.as_slice(), &self.index.reversals).numbers(alloc)
     }
 
     /// Answers a call, and keeps it where it is accepted.
@@ -139,7 +137,7 @@ impl Book {
         let at = Standing {
             house: &self.house,
             entries: &self.entries,
-            records: &self.records,
+            changes: Live::of(self.entries.as_slice(), &self.index.reversals),
             trees: &self.trees,
             fees: &self.fees,
             index: &self.index,
@@ -186,8 +184,7 @@ impl Book {
         }
     }
 
-    /// Puts an accepted change at the end of the history and of the live changes, and changes its tree. All growths come before
-    /// anything changes.
+    /// Puts an accepted change at the end of the history, and changes its tree. All growths come before anything changes.
     fn keep_change(&mut self, alloc: Global, kept: Entry, number: Number) -> Result<(), Memory>
         requires change { is_change kept.command ≡ true }
         requires next { number ≡ length self.old.history + 1 }
@@ -195,28 +192,24 @@ impl Book {
         ensures kept { OnOk result (self.new ≡ record { house = self.old.house; history = self.old.history ++ kept ∷ [] }) }
         ensures unchanged { OnErr result (self.new ≡ self.old) }
     {
-        let charge = charges::charge_of(&self.house, &self.records, &kept.command);
-        let taken = holdings::taken_by(&self.records, &self.trees, &kept.command);
-        let record = Record {
-            number,
-            firm: kept.firm,
-            id: kept.id,
-            command: kept.command.copy(alloc)?,
-            status: kept.status,
-        };
+        let changes = Live::of(self.entries.as_slice(), &self.index.reversals);
+        let charge = charges::charge_of(&self.house, &changes, &kept.command);
+        let taken = holdings::taken_by(&changes, &self.trees, &kept.command);
         self.entries.reserve(1)?;
-        self.records.reserve(1)?;
         charges::ready(&mut self.fees, &charge)?;
         holdings::ready(&mut self.positions, &kept.firm, &kept.command, &taken)?;
         self.index.ids.put(&kept.firm, &kept.id, number)?;
-        if let Err(lack) = grove::change(&mut self.trees, alloc, &record) {
+        let made = Change {
+            number,
+            entry: &kept,
+        };
+        if let Err(lack) = grove::change(&mut self.trees, alloc, &made) {
             self.index.ids.remove(&kept.firm, &kept.id);
             return Err(lack);
         }
         charges::add(&mut self.fees, &charge);
         holdings::move_lots(&mut self.positions, &kept.firm, &kept.command, &taken);
         self.entries.push_reserved(kept);
-        self.records.push_reserved(record);
         Ok(())
     }
 
@@ -257,8 +250,8 @@ impl Book {
         Ok(())
     }
 
-    /// Puts an accepted Reverse at the end of the history, takes its change out of the live ones and back at its node, and moves back
-    /// what the change moved and charged. All growths come before anything changes.
+    /// Puts an accepted Reverse at the end of the history, takes its change back at its node, and moves back what the change moved and
+    /// charged. All growths come before anything changes.
     fn keep_reversal(
         &mut self,
         alloc: Global,
@@ -272,9 +265,10 @@ impl Book {
         ensures unchanged { OnErr result (self.new ≡ self.old) }
     {
         self.entries.reserve(1)?;
+        let changes = Live::of(self.entries.as_slice(), &self.index.reversals);
         let undone = &self.entries[change.get() as usize - 1];
-        let charge = charges::charge_of(&self.house, &self.records, &undone.command);
-        let taken = holdings::taken_before(&self.records, &self.trees, &undone.command);
+        let charge = charges::charge_of(&self.house, &changes, &undone.command);
+        let taken = holdings::taken_before(&changes, &self.trees, &undone.command);
         holdings::ready_taken(&mut self.positions, &taken)?;
         self.index.ids.put(&kept.firm, &kept.id, number)?;
         if let Err(lack) = self.index.reversals.put(change, number) {
@@ -286,7 +280,6 @@ impl Book {
         holdings::move_back(&mut self.positions, &undone.firm, &undone.command, &taken);
         self.consents.clear(change);
         self.entries.push_reserved(kept);
-        leave_out(&mut self.records, change);
         Ok(())
     }
 

@@ -6,18 +6,20 @@ ghost use Rattle.gu_tree.specs.Grove.{tree_of, last_place, IsSameGrove};
 ghost use Rattle.gu_tree.specs.Rose.{rows};
 ghost use Rattle.gu_tree.specs.Shown.{GivesBack, IsTradeOf};
 ghost use Rattle.gu_book.specs.Filed.{IsDue, Follows, MayGo, IsGone};
+ghost use Rattle.gu_book.specs.Live.{record_of};
 
-use gu_base::{AccountId, Command, Entry, Memory, NodeName, Number, Part, Place, Record, State};
+use crate::live::Change;
+use gu_base::{AccountId, Command, Entry, Memory, NodeName, Number, Part, Place, State};
 use gu_tree::{Row, Tree, Trees};
 use std::alloc::Global;
 
 /// Adds the tree of a Trade.
-fn plant(trees: &mut Trees<Global>, alloc: Global, made: &Record, place: Place, lots: u64)
-    requires due { IsDue made.now trees.old }
+fn plant(trees: &mut Trees<Global>, alloc: Global, made: &Change<'_>, place: Place, lots: u64)
+    requires due { IsDue (record_of made.now) trees.old }
     requires tree_room { 1 ≤ trees.old.tree_room }
     requires place_room { 1 ≤ trees.old.place_room }
-    requires trade { IsTradeOf made.now.number place lots made.now }
-    ensures follows { Follows made.now trees.old trees.new }
+    requires trade { IsTradeOf made.now.number place lots (record_of made.now) }
+    ensures follows { Follows (record_of made.now) trees.old trees.new }
     ensures last { last_place trees.new ≤ made.now.number }
 {
     trees.plant(Tree::new(alloc, made.number, place, lots));
@@ -26,14 +28,14 @@ fn plant(trees: &mut Trees<Global>, alloc: Global, made: &Record, place: Place, 
 /// Gives the node its parts.
 fn split(
     trees: &mut Trees<Global>,
-    made: &Record,
+    made: &Change<'_>,
     node: NodeName,
     parts: &[Part],
 ) -> Result<(), Memory>
-    requires due { IsDue made.now trees.old }
+    requires due { IsDue (record_of made.now) trees.old }
     requires place_room { 1 ≤ trees.old.place_room }
-    requires split { made.now.command ≡ Split node parts.now }
-    ensures follows { OnOk result (Follows made.now trees.old trees.new) }
+    requires split { made.now.entry.now.command ≡ Split node parts.now }
+    ensures follows { OnOk result (Follows (record_of made.now) trees.old trees.new) }
     ensures last { OnOk result (last_place trees.new ≤ made.now.number) }
     ensures unchanged { OnErr result (IsSameGrove trees.old trees.new) }
 {
@@ -44,29 +46,29 @@ fn split(
 }
 
 /// Moves the node into the account of its claim.
-fn claim(trees: &mut Trees<Global>, made: &Record, node: NodeName, account: AccountId)
-    requires due { IsDue made.now trees.old }
+fn claim(trees: &mut Trees<Global>, made: &Change<'_>, node: NodeName, account: AccountId)
+    requires due { IsDue (record_of made.now) trees.old }
     requires place_room { 1 ≤ trees.old.place_room }
-    requires claim { made.now.command ≡ Claim node account }
-    ensures follows { Follows made.now trees.old trees.new }
+    requires claim { made.now.entry.now.command ≡ Claim node account }
+    ensures follows { Follows (record_of made.now) trees.old trees.new }
     ensures last { last_place trees.new ≤ made.now.number }
 {
     let Some(spot) = trees.find(node) else {
         unreachable!()
     };
     let place = Place {
-        firm: made.firm,
+        firm: made.entry.firm,
         account,
     };
     trees.claim(spot.0, &spot.1, made.number, place);
 }
 
 /// Gives the node back to its giver: `state` is Refused or Cancelled.
-fn give_back(trees: &mut Trees<Global>, made: &Record, node: NodeName, state: State)
-    requires due { IsDue made.now trees.old }
+fn give_back(trees: &mut Trees<Global>, made: &Change<'_>, node: NodeName, state: State)
+    requires due { IsDue (record_of made.now) trees.old }
     requires place_room { 1 ≤ trees.old.place_room }
-    requires back { GivesBack node state made.now.command }
-    ensures follows { Follows made.now trees.old trees.new }
+    requires back { GivesBack node state made.now.entry.now.command }
+    ensures follows { Follows (record_of made.now) trees.old trees.new }
     ensures last { last_place trees.new ≤ made.now.number }
 {
     let Some(spot) = trees.find(node) else {
@@ -76,15 +78,15 @@ fn give_back(trees: &mut Trees<Global>, made: &Record, node: NodeName, state: St
 }
 
 /// Does to the trees what an accepted change says. There has to be room for a tree and a place.
-fn make(trees: &mut Trees<Global>, alloc: Global, made: &Record) -> Result<(), Memory>
-    requires due { IsDue made.now trees.old }
+fn make(trees: &mut Trees<Global>, alloc: Global, made: &Change<'_>) -> Result<(), Memory>
+    requires due { IsDue (record_of made.now) trees.old }
     requires tree_room { 1 ≤ trees.old.tree_room }
     requires place_room { 1 ≤ trees.old.place_room }
-    ensures follows { OnOk result (Follows made.now trees.old trees.new) }
+    ensures follows { OnOk result (Follows (record_of made.now) trees.old trees.new) }
     ensures last { OnOk result (last_place trees.new ≤ made.now.number) }
     ensures unchanged { OnErr result (IsSameGrove trees.old trees.new) }
 {
-    match &made.command {
+    match &made.entry.command {
         Command::Trade {
             firm,
             account,
@@ -109,9 +111,13 @@ fn make(trees: &mut Trees<Global>, alloc: Global, made: &Record) -> Result<(), M
 }
 
 /// Does to the trees what an accepted change says. Its growths come before anything changes.
-pub(crate) fn change(trees: &mut Trees<Global>, alloc: Global, made: &Record) -> Result<(), Memory>
-    requires { IsDue made.now trees.old }
-    ensures follows { OnOk result (Follows made.now trees.old trees.new) }
+pub(crate) fn change(
+    trees: &mut Trees<Global>,
+    alloc: Global,
+    made: &Change<'_>,
+) -> Result<(), Memory>
+    requires { IsDue (record_of made.now) trees.old }
+    ensures follows { OnOk result (Follows (record_of made.now) trees.old trees.new) }
     ensures last { OnOk result (last_place trees.new ≤ made.now.number) }
     ensures unchanged { OnErr result (IsSameGrove trees.old trees.new) }
 {

@@ -11,8 +11,8 @@
 //!   its live changes would be refused after those before it, that the trees show the live changes, and that the consents are those
 //!   that the history left.
 //! - `laws` has what follows for every book, first the headline in five laws.
-//! - `index` finds the entry of an id and the Reverse of an entry without going over the history, `found` what the trees say of a
-//!   node.
+//! - `index` finds the entry of an id and the Reverse of an entry without going over the history, `live` a live change by its number,
+//!   `found` what the trees say of a node.
 //! - `plain` has each answer but for what stands on a change (gu_depend reads that off the trees), `grove` has what a change and its
 //!   Reverse do to the trees; no public contract speaks of them.
 //!
@@ -24,6 +24,7 @@ mod found;
 mod grove;
 mod index;
 pub mod laws;
+mod live;
 mod plain;
 
 pub use book::Book;

@@ -79,10 +79,10 @@ fn status_of(by: &FirmId, command: &Command) -> State
 /// Why a command is refused, but for what stands on a change.
 fn front_refusal(at: &Standing<'_>, by: &FirmId, command: &Command) -> Option<Refusal>
     requires indexed { IsIndexOf at.now.index.now at.now.entries.now }
-    requires charged { AreSumsOf at.now.fees.now (charges at.now.house.now at.now.records.now) }
+    requires charged { AreSumsOf at.now.fees.now (charges at.now.house.now at.now.changes) }
     requires few { length at.now.entries.now ≤ most_entries }
-    requires live { at.now.records.now ≡ live at.now.entries.now }
-    requires trees { AreTreesOf at.now.records.now at.now.trees.now }
+    requires live { at.now.changes ≡ live at.now.entries.now }
+    requires trees { AreTreesOf at.now.changes at.now.trees.now }
     ensures { result ≡ front_refusal at.now.house.now at.now.entries.now (given at.now.consents.now) by.now command.now }
 {
     match command {
@@ -92,17 +92,17 @@ fn front_refusal(at: &Standing<'_>, by: &FirmId, command: &Command) -> Option<Re
             }
             naming_refusal(at, by, command, *entry)
         }
-        _ => change_refusal(at.house, at.records, at.trees, at.fees, by, command),
+        _ => change_refusal(at.house, &at.changes, at.trees, at.fees, by, command),
     }
 }
 
 /// The answer to a call whose id no entry has, if nothing stood on any change.
 fn new_answer(at: &Standing<'_>, by: &FirmId, command: &Command) -> Answer
     requires indexed { IsIndexOf at.now.index.now at.now.entries.now }
-    requires charged { AreSumsOf at.now.fees.now (charges at.now.house.now at.now.records.now) }
+    requires charged { AreSumsOf at.now.fees.now (charges at.now.house.now at.now.changes) }
     requires few { length at.now.entries.now ≤ most_entries }
-    requires live { at.now.records.now ≡ live at.now.entries.now }
-    requires trees { AreTreesOf at.now.records.now at.now.trees.now }
+    requires live { at.now.changes ≡ live at.now.entries.now }
+    requires trees { AreTreesOf at.now.changes at.now.trees.now }
     ensures { result ≡ front_rules at.now.house.now at.now.entries.now (given at.now.consents.now) by.now command.now }
 {
     if at.entries.len() >= Number::MAX as usize {
@@ -126,10 +126,10 @@ pub(crate) fn front_answer(
 ) -> Answer
     requires once { NoIdTwice at.now.entries.now }
     requires indexed { IsIndexOf at.now.index.now at.now.entries.now }
-    requires charged { AreSumsOf at.now.fees.now (charges at.now.house.now at.now.records.now) }
+    requires charged { AreSumsOf at.now.fees.now (charges at.now.house.now at.now.changes) }
     requires few { length at.now.entries.now ≤ most_entries }
-    requires live { at.now.records.now ≡ live at.now.entries.now }
-    requires trees { AreTreesOf at.now.records.now at.now.trees.now }
+    requires live { at.now.changes ≡ live at.now.entries.now }
+    requires trees { AreTreesOf at.now.changes at.now.trees.now }
     ensures { result ≡ front_answer at.now.house.now at.now.entries.now (given at.now.consents.now) (record { firm = by.now; id = id.now; command = command.now }) }
 {
     if let Some(answer) = known(&at.index.ids, at.entries, by, id, command) {

@@ -1,7 +1,6 @@
 //! The lots that stand in an account, and which of them a change moves.
 ghost use Rattle.std.specs.Prelude.{◌≡◌, ◌≤◌, ◌==◌, find, filter_map, Some, None, option_and_then, IfSome, OnOk};
 ghost use Rattle.gu_base.specs.Nodes.{node_of};
-ghost use Rattle.gu_base.specs.History.{RisesFrom};
 ghost use Rattle.gu_base.specs.Limits.{most_lots};
 ghost use Rattle.gu_book.specs.Found.{AreTreesOf};
 ghost use Rattle.gu_book.specs.Holdings.{traded_by, held_at, holding_of, held_above, taken_by, taken_before, part_holding, added_by, HasTaken, AreReady, HaveRoom, SameLots, HaveMoved, HaveThere, IsReadyTaken, HasRoomBack};
@@ -10,8 +9,9 @@ ghost use Rattle.gu_positions.specs.Rows.{IsReady};
 ghost use Rattle.gu_positions.specs.declared.positions.Key.{Key as KeyData};
 
 use crate::found::find;
-use crate::plain::nodes::{change_at, parent_of};
-use gu_base::{Command, FirmId, InstrumentId, Memory, NodeName, Number, Part, Place, Record, Side};
+use crate::live::Live;
+use crate::plain::nodes::parent_of;
+use gu_base::{Command, FirmId, InstrumentId, Memory, NodeName, Number, Part, Place, Side};
 use gu_positions::{Key, Positions};
 use gu_tree::Trees;
 use std::alloc::Global;
@@ -49,13 +49,12 @@ fn traded_by(command: &Command) -> Option<Traded>
 }
 
 /// What was traded by the entry of this number.
-fn traded_under(records: &[Record], number: Number) -> Option<Traded>
-    requires { RisesFrom 1 records.now }
-    ensures { result ≡ option_and_then (λ r. traded_by r.command) (find (λ r. r.number == number) records.now) }
+fn traded_under(changes: &Live<'_>, number: Number) -> Option<Traded>
+    ensures { result ≡ option_and_then (λ r. traded_by r.command) (find (λ r. r.number == number) changes.now) }
 {
-    match change_at(records, number) {
-        Ok(i) => traded_by(&records[i].command),
-        Err(_) => None,
+    match changes.change(number) {
+        Some(made) => traded_by(&made.entry.command),
+        None => None,
     }
 }
 
@@ -78,17 +77,17 @@ fn held_at(place: &Place, traded: &Option<Traded>, lots: u64) -> Option<Holding>
 }
 
 /// The lots of the node of this name, where it stands.
-fn holding_named(records: &[Record], trees: &Trees<Global>, name: NodeName) -> Option<Holding>
-    requires within { AllWithinLimits records.now }
-    requires trees { AreTreesOf records.now trees.now }
-    ensures value { result ≡ option_and_then (holding_of records.now) (node_of records.now name) }
+fn holding_named(changes: &Live<'_>, trees: &Trees<Global>, name: NodeName) -> Option<Holding>
+    requires within { AllWithinLimits changes.now }
+    requires trees { AreTreesOf changes.now trees.now }
+    ensures value { result ≡ option_and_then (holding_of changes.now) (node_of changes.now name) }
     ensures lots { IfSome result (λ h. h.lots ≤ most_lots) }
 {
     match find(trees, name) {
         None => None,
         Some(found) => held_at(
             &found.head.place,
-            &traded_under(records, found.trade),
+            &traded_under(changes, found.trade),
             found.head.lots,
         ),
     }
@@ -96,40 +95,40 @@ fn holding_named(records: &[Record], trees: &Trees<Global>, name: NodeName) -> O
 
 /// What a command takes out of an account.
 pub(crate) fn taken_by(
-    records: &[Record],
+    changes: &Live<'_>,
     trees: &Trees<Global>,
     command: &Command,
 ) -> Option<Holding>
-    requires within { AllWithinLimits records.now }
-    requires trees { AreTreesOf records.now trees.now }
-    ensures value { result ≡ taken_by records.now command.now }
+    requires within { AllWithinLimits changes.now }
+    requires trees { AreTreesOf changes.now trees.now }
+    ensures value { result ≡ taken_by changes.now command.now }
     ensures lots { IfSome result (λ h. h.lots ≤ most_lots) }
 {
     match command {
-        Command::Split { node, .. } => holding_named(records, trees, *node),
-        Command::Claim { node, .. } => holding_named(records, trees, *node),
+        Command::Split { node, .. } => holding_named(changes, trees, *node),
+        Command::Claim { node, .. } => holding_named(changes, trees, *node),
         _ => None,
     }
 }
 
 /// The lots of the node of this name, with the node above it.
-fn holding_above(records: &[Record], trees: &Trees<Global>, name: NodeName) -> Option<Holding>
-    requires within { AllWithinLimits records.now }
-    requires trees { AreTreesOf records.now trees.now }
-    ensures value { result ≡ option_and_then (held_above records.now) (node_of records.now name) }
+fn holding_above(changes: &Live<'_>, trees: &Trees<Global>, name: NodeName) -> Option<Holding>
+    requires within { AllWithinLimits changes.now }
+    requires trees { AreTreesOf changes.now trees.now }
+    ensures value { result ≡ option_and_then (held_above changes.now) (node_of changes.now name) }
     ensures lots { IfSome result (λ h. h.lots ≤ most_lots) }
 {
     let Some(node) = find(trees, name) else {
         return None;
     };
-    let Some(parent) = parent_of(records, &name) else {
+    let Some(parent) = parent_of(changes, &name) else {
         return None;
     };
     match find(trees, parent) {
         None => None,
         Some(above) => held_at(
             &above.head.place,
-            &traded_under(records, node.trade),
+            &traded_under(changes, node.trade),
             node.head.lots,
         ),
     }
@@ -138,18 +137,18 @@ fn holding_above(records: &[Record], trees: &Trees<Global>, name: NodeName) -> O
 /// What a live change took out of an account, read while it is still there: a Split took the lots of its node from where that
 /// stands, a Claim from where the node above stands.
 pub(crate) fn taken_before(
-    records: &[Record],
+    changes: &Live<'_>,
     trees: &Trees<Global>,
     command: &Command,
 ) -> Option<Holding>
-    requires within { AllWithinLimits records.now }
-    requires trees { AreTreesOf records.now trees.now }
-    ensures value { result ≡ taken_before records.now command.now }
+    requires within { AllWithinLimits changes.now }
+    requires trees { AreTreesOf changes.now trees.now }
+    ensures value { result ≡ taken_before changes.now command.now }
     ensures lots { IfSome result (λ h. h.lots ≤ most_lots) }
 {
     match command {
-        Command::Split { node, .. } => holding_named(records, trees, *node),
-        Command::Claim { node, .. } => holding_above(records, trees, *node),
+        Command::Split { node, .. } => holding_named(changes, trees, *node),
+        Command::Claim { node, .. } => holding_above(changes, trees, *node),
         _ => None,
     }
 }

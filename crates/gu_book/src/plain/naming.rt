@@ -8,9 +8,10 @@ ghost use Rattle.gu_book.specs.Front.{own_refusal, own_of};
 ghost use Rattle.gu_book.specs.Index.{IsIndexOf};
 ghost use Rattle.gu_consent.specs.Given.{given};
 
+use crate::live::Live;
 use crate::plain::nodes::node_of;
 use crate::plain::standing::Standing;
-use gu_base::{Command, Entry, FirmId, Kind, Node, Number, Record, Refusal};
+use gu_base::{Command, Entry, FirmId, Kind, Node, Number, Refusal};
 use gu_consent::Consents;
 use gu_parties::House;
 
@@ -61,20 +62,20 @@ fn giver_alone(node: &Option<Node>, by: &FirmId) -> ([FirmId; 2], usize)
 /// The parties of a change of this firm, in order, and how many they are.
 fn parties_of(
     house: &House,
-    records: &[Record],
+    changes: &Live<'_>,
     by: &FirmId,
     command: &Command,
 ) -> ([FirmId; 2], usize)
-    requires { RisesFrom 1 records.now }
-    ensures value { take result.1 result.0 ≡ parties_of house.now records.now by.now command.now }
+    requires { RisesFrom 1 changes.now }
+    ensures value { take result.1 result.0 ≡ parties_of house.now changes.now by.now command.now }
     ensures fits { result.1 ≤ 2 }
 {
     match command {
         Command::Trade { firm, .. } => ([house.house(), *firm], 2),
         Command::Split { .. } => ([*by, *by], 1),
-        Command::Claim { node, .. } => taker_and_giver(&node_of(records, node), by),
-        Command::Refuse { node } => taker_and_giver(&node_of(records, node), by),
-        Command::Cancel { node } => giver_alone(&node_of(records, node), by),
+        Command::Claim { node, .. } => taker_and_giver(&node_of(changes, node), by),
+        Command::Refuse { node } => taker_and_giver(&node_of(changes, node), by),
+        Command::Cancel { node } => giver_alone(&node_of(changes, node), by),
         Command::Initiate { .. } | Command::Decline { .. } | Command::Reverse { .. } => {
             ([*by, *by], 0)
         }
@@ -121,8 +122,8 @@ fn entry_refusal(
 ) -> Option<Refusal>
     requires indexed { IsIndexOf at.now.index.now at.now.entries.now }
     requires few { length at.now.entries.now ≤ most_entries }
-    requires live { at.now.records.now ≡ live at.now.entries.now }
-    requires rises { RisesFrom 1 at.now.records.now }
+    requires live { at.now.changes ≡ live at.now.entries.now }
+    requires rises { RisesFrom 1 at.now.changes }
     ensures { result ≡ on_change at.now.house.now at.now.entries.now by.now (own_of at.now.house.now at.now.entries.now (given at.now.consents.now) by.now command.now) (Some (numbered_as number e.now)) }
 {
     if !is_change(&e.command) {
@@ -131,7 +132,7 @@ fn entry_refusal(
     if let Some(reversal) = at.index.reversals.number(number) {
         return Some(Refusal::AlreadyReversed(reversal));
     }
-    let (firms, count) = parties_of(at.house, at.records, &e.firm, &e.command);
+    let (firms, count) = parties_of(at.house, &at.changes, &e.firm, &e.command);
     let parties = &firms[..count];
     if !by.is_among(parties) {
         return Some(Refusal::NotAParty);
@@ -148,8 +149,8 @@ pub(crate) fn naming_refusal(
 ) -> Option<Refusal>
     requires indexed { IsIndexOf at.now.index.now at.now.entries.now }
     requires few { length at.now.entries.now ≤ most_entries }
-    requires live { at.now.records.now ≡ live at.now.entries.now }
-    requires rises { RisesFrom 1 at.now.records.now }
+    requires live { at.now.changes ≡ live at.now.entries.now }
+    requires rises { RisesFrom 1 at.now.changes }
     ensures { result ≡ on_change at.now.house.now at.now.entries.now by.now (own_of at.now.house.now at.now.entries.now (given at.now.consents.now) by.now command.now) (entry_of at.now.entries.now number) }
 {
     let place = number.get() as usize - 1;

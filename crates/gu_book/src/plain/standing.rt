@@ -1,6 +1,7 @@
 //! What an answer is read from.
 use crate::index::Index;
-use gu_base::{Entry, Record};
+use crate::live::Live;
+use gu_base::Entry;
 use gu_consent::Consents;
 use gu_fees::Fees;
 use gu_parties::House;
@@ -8,11 +9,11 @@ use gu_tree::Trees;
 use std::alloc::Global;
 
 /// The house table, the history, its live changes, their trees, and what is kept beside them.
-#[derive(Clone, Copy)]
+#[derive(Drop)]
 pub(crate) struct Standing<'a> {
     pub(crate) house: &'a House,
     pub(crate) entries: &'a [Entry],
-    pub(crate) records: &'a [Record],
+    pub(crate) changes: Live<'a>,
     pub(crate) trees: &'a Trees<Global>,
     pub(crate) fees: &'a Fees,
     pub(crate) index: &'a Index,

@@ -1,9 +1,10 @@
 use Rattle.std.specs.Prelude.{OnOk, OnErr, Result, Ok, Err}
+use Rattle.gu_book.specs.Live.{record_of}
 use Rattle.gu_book.proofs.Filed.{due_same, follows_same, same_both}
 use Rattle.gu_book.proofs.grove.change.Goals as goal
 
 pub make-requires-clause-due : goal.make-requires-clause-due
-make-requires-clause-due c = due_same c.args.made.now c.args.trees.now c.ready.new.self c.in_ok-ready.ensures.same c.requires
+make-requires-clause-due c = due_same (record_of c.args.made.now) c.args.trees.now c.ready.new.self c.in_ok-ready.ensures.same c.requires
 
 on_ok : {T E P Q : Type 0} (o : Result T E) → (P → Q) → OnOk o P → OnOk o Q
 on_ok (Ok x) f p = f p
@@ -14,7 +15,7 @@ on_err (Ok x) f p = tt
 on_err (Err e) f p = f p
 
 pub returns-clause-follows : goal.returns-clause-follows
-returns-clause-follows c = on_ok c.make.result (follows_same c.args.made.now c.args.trees.now c.ready.new.self c.make.new.trees c.in_ok-ready.ensures.same) c.make.ensures.follows
+returns-clause-follows c = on_ok c.make.result (follows_same (record_of c.args.made.now) c.args.trees.now c.ready.new.self c.make.new.trees c.in_ok-ready.ensures.same) c.make.ensures.follows
 
 pub returns-clause-unchanged : goal.returns-clause-unchanged
 returns-clause-unchanged c = on_err c.make.result (same_both c.args.trees.now c.ready.new.self c.make.new.trees c.in_ok-ready.ensures.same) c.make.ensures.unchanged

@@ -5,7 +5,7 @@ use Rattle.gu_book.proofs.grove.give_back.Goals as goal
 pub unreachable-requires : goal.unreachable-requires
 unreachable-requires c =
     let due = c.requires.due in
-    let at = names_place due.2 c.args.node (back_names due.2 c.args.node c.args.state c.args.made.now.command c.requires.back) in
+    let at = names_place due.2 c.args.node (back_names due.2 c.args.node c.args.state c.args.made.now.entry.now.command c.requires.back) in
     rw c.in_default.is at c.find.ensures.absent at.0 at.1 at.2
 
 pub give_back-requires-clause-offered : goal.give_back-requires-clause-offered

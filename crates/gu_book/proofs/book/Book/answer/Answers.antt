@@ -11,7 +11,7 @@ use Rattle.gu_book.proofs.Keeps.{trees_kept}
 use Rattle.gu_book.proofs.book.Book.answer.Goals as goal
 
 pub front_answer-answer-requires-clause-trees : goal.front_answer-answer-requires-clause-trees
-front_answer-answer-requires-clause-trees c = rw c.deref-2.ensures.value (trees_kept c.self.invariant.kept)
+front_answer-answer-requires-clause-trees c = rw (c.of.ensures, c.as_slice.ensures.value) (trees_kept c.self.invariant.kept)
 
 pub returns-in_default : goal.returns-in_default
 returns-in_default c =

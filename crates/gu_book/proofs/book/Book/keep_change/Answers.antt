@@ -1,67 +1,71 @@
-use Rattle.std.proofs.Common.{◌≤◌, ◌∙◌, length, arith}
+use Rattle.std.proofs.Common.{◌≤◌, ◌∙◌, List, length, subst, arith}
+use Rattle.gu_base.specs.History.{live}
+use Rattle.gu_base.specs.declared.entry.Record.{Record}
 use Rattle.gu_base.proofs.LiveLaws.{change_is_no_reverse}
+use Rattle.gu_book.specs.Charging.{AreFeesOf}
+use Rattle.gu_book.specs.Holdings.{ArePositionsOf}
 use Rattle.gu_book.proofs.Charging.{fees_push, has_room}
 use Rattle.gu_book.proofs.Indexed.{ids_back, index_put}
-use Rattle.gu_book.proofs.Keeps.{next_kept, kept_change, kept_alike, rises_kept, trees_kept}
+use Rattle.gu_book.proofs.Keeps.{next_kept, kept_change, kept_alike, live_few, live_more, trees_kept}
+use Rattle.gu_book.proofs.Leaves.{live_rises}
 use Rattle.gu_book.proofs.Standings.{has_taken, have_room, positions_push}
 use Rattle.gu_book.proofs.book.Book.keep_change.Goals as goal
 
 pub charge_of-charge-requires-clause-rises : goal.charge_of-charge-requires-clause-rises
-charge_of-charge-requires-clause-rises c =
-    rw c.deref.ensures.value (rises_kept c.self.inside.house c.self.inside.entries.items c.self.inside.records.items c.self.inside.trees c.self.inside.consents c.self.invariant.kept)
+charge_of-charge-requires-clause-rises c = rw (c.of-changes.ensures, c.as_slice.ensures.value) (live_rises c.self.inside.entries.items)
 
 pub taken_by-taken-requires-clause-trees : goal.taken_by-taken-requires-clause-trees
-taken_by-taken-requires-clause-trees c = rw c.deref-2.ensures.value (trees_kept c.self.invariant.kept)
+taken_by-taken-requires-clause-trees c = rw (c.of-changes.ensures, c.as_slice.ensures.value) (trees_kept c.self.invariant.kept)
 
 pub change-requires : goal.change-requires
 change-requires c =
     let ok = rw (← c.self.view_is) at c.requires.accepted in
-    (c.self.inside.house, c.self.inside.records.items, rw c.in_ok-copy.ensures.equal (next_kept c.self.invariant.kept c.args.number c.args.kept ok c.requires.change))
+    (c.self.inside.house, live c.self.inside.entries.items, next_kept c.self.invariant.kept c.args.number c.args.kept ok c.requires.change)
 
 pub add-requires : goal.add-requires
 add-requires c =
-    let kept = c.self.invariant.kept in
-    let few = kept.few in
-    let fewer = kept.fewer in
-    let live_few : length c.self.inside.records.items ≤ 1000000 = omega (arith, few, fewer) in
-    has_room c.self.inside.house c.self.inside.records.items c.self.inside.fees c.self.invariant.charged live_few c.ready.new.fees c.in_ok-ready.ensures.same c.charge_of-charge.result
+    let few = c.self.invariant.kept.few in
+    let fewer = live_few c.self.inside.entries.items in
+    let within : length (live c.self.inside.entries.items) ≤ 1000000 = omega (arith, few, fewer) in
+    has_room c.self.inside.house (live c.self.inside.entries.items) c.self.inside.fees c.self.invariant.charged within c.ready.new.fees c.in_ok-ready.ensures.same c.charge_of-charge.result
     c.charge_of-charge.ensures.lots c.charge_of-charge.ensures.rate c.in_ok-ready.ensures.ready
 
 pub move_lots-requires-clause-there : goal.move_lots-requires-clause-there
 move_lots-requires-clause-there c =
     let ok = rw (← c.self.view_is) at c.requires.accepted in
     let next = next_kept c.self.invariant.kept c.args.number c.args.kept ok c.requires.change in
-    has_taken next c.self.inside.positions c.ready-2.new.positions c.self.invariant.stands c.in_ok-ready-2.ensures.same c.taken_by-taken.result (rw c.deref-2.ensures.value at c.taken_by-taken.ensures.value)
+    has_taken next c.self.inside.positions c.ready-2.new.positions c.self.invariant.stands c.in_ok-ready-2.ensures.same c.taken_by-taken.result (rw (c.of-changes.ensures, c.as_slice.ensures.value) at c.taken_by-taken.ensures.value)
 
 pub move_lots-requires-clause-room : goal.move_lots-requires-clause-room
 move_lots-requires-clause-room c =
     let ok = rw (← c.self.view_is) at c.requires.accepted in
     let next = next_kept c.self.invariant.kept c.args.number c.args.kept ok c.requires.change in
-    let kept = c.self.invariant.kept in
-    let few = kept.few in
-    let fewer = kept.fewer in
-    let live_few : length c.self.inside.records.items ≤ 1000000 = omega (arith, few, fewer) in
-    have_room next live_few kept.within c.self.inside.positions c.ready-2.new.positions c.self.invariant.stands c.in_ok-ready-2.ensures.same c.taken_by-taken.result c.taken_by-taken.ensures.lots c.in_ok-ready-2.ensures.ready
+    let few = c.self.invariant.kept.few in
+    let fewer = live_few c.self.inside.entries.items in
+    let within : length (live c.self.inside.entries.items) ≤ 1000000 = omega (arith, few, fewer) in
+    have_room next within c.self.invariant.kept.within c.self.inside.positions c.ready-2.new.positions c.self.invariant.stands c.in_ok-ready-2.ensures.same c.taken_by-taken.result c.taken_by-taken.ensures.lots c.in_ok-ready-2.ensures.ready
 
 pub invariant_of-self-2 : goal.invariant_of-self-2
 invariant_of-self-2 c =
     let ok = rw (← c.self.view_is) at c.requires.accepted in
     let next = next_kept c.self.invariant.kept c.args.number c.args.kept ok c.requires.change in
-    simp (c.push_reserved.ensures.items, c.push_reserved-2.ensures.items, c.reserve.ensures.items, c.reserve-2.ensures.items, c.in_ok-copy.ensures.equal)
+    let more = live_more c.self.invariant.kept c.args.number c.args.kept ok c.requires.change in
+    simp (c.push_reserved.ensures.items, c.reserve.ensures.items)
     (record {
-      kept = kept_change c.self.invariant.kept c.args.number c.args.kept ok c.requires.change c.change.new.trees
-          ((rw c.in_ok-copy.ensures.equal at c.in_default.ensures.follows) c.self.inside.house c.self.inside.records.items next) c.in_default.ensures.last;
+      kept = kept_change c.self.invariant.kept c.args.number c.args.kept ok c.requires.change c.change.new.trees (c.in_default.ensures.follows c.self.inside.house (live c.self.inside.entries.items) next) c.in_default.ensures.last;
       indexed = index_put c.self.invariant.indexed c.self.inside.house c.args.kept c.args.number ok c.put.new.self c.in_ok-put.ensures.put (λ m. change_is_no_reverse m c.args.kept.command c.requires.change);
-      charged = fees_push next c.self.inside.fees c.ready.new.fees c.add.new.fees c.self.invariant.charged c.in_ok-ready.ensures.same c.charge_of-charge.result
-          (rw c.deref.ensures.value at c.charge_of-charge.ensures.value) c.charge_of-charge.ensures.lots c.charge_of-charge.ensures.rate c.add.ensures;
-      stands = positions_push next c.self.inside.positions c.ready-2.new.positions c.move_lots.new.positions c.self.invariant.stands c.in_ok-ready-2.ensures.same c.taken_by-taken.result
-          (rw c.deref-2.ensures.value at c.taken_by-taken.ensures.value) c.move_lots.ensures;
+      charged = subst (λ (l : List Record). AreFeesOf c.self.inside.house l c.add.new.fees) more
+          (fees_push next c.self.inside.fees c.ready.new.fees c.add.new.fees c.self.invariant.charged c.in_ok-ready.ensures.same c.charge_of-charge.result
+          (rw (c.of-changes.ensures, c.as_slice.ensures.value) at c.charge_of-charge.ensures.value) c.charge_of-charge.ensures.lots c.charge_of-charge.ensures.rate c.add.ensures);
+      stands = subst (λ (l : List Record). ArePositionsOf l c.move_lots.new.positions) more
+          (positions_push next c.self.inside.positions c.ready-2.new.positions c.move_lots.new.positions c.self.invariant.stands c.in_ok-ready-2.ensures.same c.taken_by-taken.result
+          (rw (c.of-changes.ensures, c.as_slice.ensures.value) at c.taken_by-taken.ensures.value) c.move_lots.ensures);
     })
 
 pub invariant_of-self-in-Err : goal.invariant_of-self-in-Err
 invariant_of-self-in-Err c =
     let ok = rw (← c.self.view_is) at c.requires.accepted in
-    simp (c.reserve.ensures.items, c.reserve-2.ensures.items)
+    simp (c.reserve.ensures.items)
     (record {
       kept = kept_alike c.self.invariant.kept c.change.new.trees c.in-Err.ensures.unchanged;
       indexed = record {
