@@ -7,9 +7,8 @@ use gu_base::{AllocId, FirmId};
 use gu_book::Book;
 use gu_parties::House;
 use std::alloc::Global;
-use std::io;
 use std::io::{Eprint, Input, Read};
-use std::mem;
+use std::{io, mem};
 
 /// What a program does at a day's book.
 pub trait Player<R: Print + Eprint> {
