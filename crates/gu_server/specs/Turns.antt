@@ -1,12 +1,19 @@
 -- What a turn of a connection does to its session, and what it sends.
-use Rattle.std.specs.Prelude.{◌≡◌, ◌≤ℤ◌, ℕ, ◌-◌, pos, List, ◌++◌, length, slice_get, false}
+use Rattle.std.specs.Prelude.{◌≡◌, ◌≤ℤ◌, ℕ, ◌-◌, pos, List, ◌++◌, length, slice_get, false, Some, None}
 use Rattle.std.specs.Option.{option_map_or}
 use Rattle.jiff.specs.Types.{Timestamp}
+use Rattle.gu_codec.specs.declared.fields.Fields.{Fields}
+use Rattle.gu_codec.specs.declared.frame.Frame.TheVariants.{Whole, Garbled}
+use Rattle.gu_codec.specs.Next.{NextAnswers, after}
+use Rattle.gu_codec.specs.Stream.{Stream}
 use Rattle.gu_base.specs.declared.report.Report.{Report}
 use Rattle.gu_session.specs.declared.event.Event.{Event}
+use Rattle.gu_session.specs.declared.event.Event.TheVariants as event
 use Rattle.gu_session.specs.declared.event.Actions.{Actions}
 use Rattle.gu_session.specs.Steps.{Seen}
 use Rattle.gu_session.specs.Text.{Steps}
+use Rattle.gu_server.specs.declared.connection.Came.{Came}
+use Rattle.gu_server.specs.declared.connection.Came.TheVariants as came
 
 -- a step of the session by its table, at some moment from 1970 on
 abbrev pub StepsNow : Event → Seen → Seen → Actions → Type 0
@@ -19,3 +26,10 @@ Speaks e before after out out_after = (a : Actions) × StepsNow e before after a
 -- the number of the last report that was sent: that of the last of these, or the one before where there are none
 abbrev pub last_told : ℕ → List Report → ℕ
 last_told before reports = option_map_or (λ r. r.number) (slice_get reports (length reports - 1)) before
+
+-- what the bytes held bring, and what they leave of them: no frame yet, a garbled one, of which the session learns nothing, or a message and the session's step over it
+abbrev pub Brings : Stream → Seen → Seen → Stream → Came → Type 0
+Brings held before behind left came.Nothing = NextAnswers held None × (left ≡ held) × (behind ≡ before)
+Brings held before behind left came.Garbled = (len : ℕ) × NextAnswers held (Some (Garbled len)) × (left ≡ after held (Some (Garbled len))) × (behind ≡ before)
+Brings held before behind left (came.Message a) = (fields : Fields) × (len : ℕ) × NextAnswers held (Some (Whole fields len)) × (left ≡ after held (Some (Whole fields len)))
+    × StepsNow (event.Message fields) before behind a

@@ -1,10 +1,12 @@
 //! One connection: its session, the bytes that came of it, and what it is to be sent. Nothing here asks the book.
-ghost use Rattle.std.specs.Prelude.{◌≡◌, ◌≤◌, ◌++◌, [], false, length, IfOk, OnOk, OnErr, IsErr};
+ghost use Rattle.std.specs.Prelude.{◌≡◌, ◌≤◌, ◌+◌, ◌++◌, [], false, length, None, IfOk, OnOk, OnErr, IsErr};
 ghost use Rattle.std.specs.List.{All};
 ghost use Rattle.gu_base.specs.Limits.{most_parts};
+ghost use Rattle.gu_codec.specs.Limits.{longest_frame};
+ghost use Rattle.gu_session.specs.Steps.{opening};
 ghost use Rattle.gu_session.specs.Text.{ShowFewParts};
 ghost use Rattle.gu_session.specs.declared.event.Event.TheVariants.{Reply};
-ghost use Rattle.gu_server.specs.Turns.{StepsNow, Speaks, last_told};
+ghost use Rattle.gu_server.specs.Turns.{StepsNow, Speaks, Brings, last_told};
 
 use gu_base::{Answer, FirmId, Report};
 use gu_codec::{Feed, Frame};
@@ -60,6 +62,8 @@ pub(crate) struct Connection<'a> {
 impl<'a> Connection<'a> {
     /// A connection before its first turn.
     pub(crate) fn new(alloc: Global, house: &'a House) -> Result<Connection<'a>, Closed>
+        ensures session { IfOk result (λ c. c.session ≡ opening house.now c.session.link.came) }
+        ensures feed { IfOk result (λ c. (c.feed.held ≡ []) × (c.feed.passed ≡ 0) × (c.feed.broken ≡ None)) }
         ensures told { IfOk result (λ c. c.told ≡ 0) }
         ensures out { IfOk result (λ c. c.out.items ≡ []) }
     {
@@ -89,7 +93,9 @@ impl<'a> Connection<'a> {
     }
 
     /// How many bytes the next read may bring.
-    pub(crate) fn room(&self) -> usize {
+    pub(crate) fn room(&self) -> usize
+        ensures { result + length self.now.feed.held ≡ longest_frame }
+    {
         self.feed.room()
     }
 
@@ -141,6 +147,7 @@ impl<'a> Connection<'a> {
 
     /// Takes the next frame that has come whole. A broken stream ends the session.
     pub(crate) fn next<R: Clock>(&mut self, rt: &R) -> Result<Came, Closed>
+        ensures brings { IfOk result (Brings self.old.feed self.old.session self.new.session self.new.feed) }
         ensures told { self.new.told ≡ self.old.told }
         ensures out { self.new.out.items ≡ self.old.out.items }
     {
