@@ -1,9 +1,11 @@
 pub mod Worked
 pub mod NameText
 pub mod Basics
+pub mod Copied
 pub mod Searches
 pub mod Sums
 pub mod NodeNames
+pub mod PartPlaces
 pub mod Lines
 pub mod Numbered
 pub mod LiveLaws

@@ -5,6 +5,7 @@ use Rattle.gu_base.specs.declared.entry.Record.{Record}
 use Rattle.gu_base.specs.declared.node.Kind.{Kind}
 use Rattle.gu_base.specs.declared.node.Kind.TheVariants.{Root, Own, Given}
 use Rattle.gu_base.specs.declared.node.Node.{Node}
+use Rattle.gu_base.specs.declared.node.Deal.{Deal}
 use Rattle.gu_base.specs.declared.command.Part.{Part}
 use Rattle.gu_base.specs.declared.command.Command.{Command}
 use Rattle.gu_base.specs.declared.command.Command.TheVariants.{Trade, Split, Claim, Refuse, Cancel}
@@ -39,6 +40,11 @@ nodes l = flat_map (λ r. nodes_of r.number r.firm r.command) l
 -- the node of this name
 abbrev pub node_of : List Record → EntryPart → Option Node
 node_of l n = find (λ x. same_name x.name n) (nodes l)
+
+-- what a Trade trades
+abbrev pub deal_in : Command → Option Deal
+deal_in (Trade _ _ instrument side _) = Some (record { instrument = instrument; side = side })
+deal_in _ = None
 
 -- whether a command is a Split
 abbrev pub is_split : Command → Bool

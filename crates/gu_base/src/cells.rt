@@ -1,21 +1,26 @@
 //! Texts of bounded length that lie in the value itself.
-ghost use Rattle.std.specs.Prelude.{◌≡◌, ◌≤◌, ◌++◌, ◌-◌, List, ℕ, length, take, drop, replicate, Some, refl, nat_eq};
+ghost use Rattle.std.specs.Prelude.{◌≡◌, ◌≤◌, ◌++◌, ◌-◌, List, ℕ, length, take, drop, replicate, Some, None, if◌then◌else◌, refl, nat_eq};
 ghost use Rattle.std.specs.Ordering.{nat_cmp};
 ghost use Rattle.std.specs.Cmp.Lexicographic.{pointwise, slice_cmp, nat_list_eq_equiv, nat_list_cmp_total, texts_po, texts_ties};
 ghost use Rattle.std.specs.Cmp.{on_equiv, on_total, on_po, on_per, partial_equiv_from_equiv};
 ghost use Rattle.std.specs.Cmp.Rules.{hashing};
 ghost use Rattle.std.specs.Hash as fed;
 ghost use Rattle.std.proofs.Common.{rules};
+ghost use Rattle.gu_base.specs.Cells.{is_text_from, most_cells};
 
 use std::cmp::Ordering;
 use std::hash::{Hash, Hasher};
 use std::marker::Model;
 
-/// At most `CAP` bytes in place; the places behind them hold 0, so that equal texts are equal values.
+/// The last byte that is printed.
+const LAST_PRINTED: u8 = 126;
+
+/// At most `CAP` bytes in place, which are 255 at most: their count takes one byte more. The places behind them hold 0, so that equal
+/// texts are equal values.
 #[derive(Clone, Copy, Debug)]
 pub(crate) struct Cells<const CAP: usize> {
     cells: [u8; CAP],
-    len: usize,
+    len: u8,
 }
 
 impl<const CAP: usize> Model for Cells<CAP> {
@@ -38,17 +43,28 @@ impl<const CAP: usize> Model for Cells<CAP> {
 }
 
 impl<const CAP: usize> Cells<CAP> {
-    /// A copy of `text`.
-    pub(crate) fn from_slice(text: &[u8]) -> Self
-        requires { length text.now ≤ CAP }
-        ensures { result ≡ text.now }
+    /// A copy of `text`, `None` where it has no byte or more than `CAP`, or one that isn't `lowest` to 0x7E. Each byte is looked at
+    /// once, and copied there.
+    #[inline(always)]
+    pub(crate) fn of_text(text: &[u8], lowest: u8) -> Option<Self>
+        requires { CAP ≤ most_cells }
+        ensures { result ≡ (if is_text_from lowest CAP text.now then Some text.now else None) }
     {
-        let mut cells = [0; CAP];
-        cells[..text.len()].copy_from_slice(text);
-        Cells {
-            cells,
-            len: text.len(),
+        if text.is_empty() || text.len() > CAP {
+            return None;
         }
+        let mut cells = [0; CAP];
+        for i in 0..text.len() {
+            let b = text[i];
+            if b < lowest || b > LAST_PRINTED {
+                return None;
+            }
+            cells[i] = b;
+        }
+        Some(Cells {
+            cells,
+            len: text.len() as u8,
+        })
     }
 
     /// The text.
@@ -56,7 +72,7 @@ impl<const CAP: usize> Cells<CAP> {
         ensures value { result.now ≡ self.now }
         ensures fits { length self.now ≤ CAP }
     {
-        &self.cells[..self.len]
+        &self.cells[..self.len as usize]
     }
 }
 

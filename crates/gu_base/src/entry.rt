@@ -15,8 +15,8 @@ use std::alloc::Global;
 pub struct Entry {
     pub firm: FirmId,
     pub id: AllocId,
-    pub command: Command,
     pub status: State,
+    pub command: Command,
 }
 
 /// An entry with its number, for lists from which some entries were left out.
@@ -25,8 +25,8 @@ pub struct Record {
     pub number: Number,
     pub firm: FirmId,
     pub id: AllocId,
-    pub command: Command,
     pub status: State,
+    pub command: Command,
 }
 
 impl Record {

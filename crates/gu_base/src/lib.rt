@@ -30,7 +30,7 @@ pub use entry::{Answer, Entry, Record};
 pub use house::{Account, Agreement, Pair};
 pub use memory::Memory;
 pub use names::{AccountId, AllocId, FirmId, InstrumentId};
-pub use node::{Charge, Kind, Node, Place};
+pub use node::{Charge, Deal, Kind, Node, Place};
 pub use numbers::{Lots, NodeName, Number, Rate};
 pub use refusal::Refusal;
 pub use report::{Report, ReportPart, ReportParts, Target};

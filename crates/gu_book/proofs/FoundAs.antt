@@ -3,7 +3,7 @@ use Rattle.std.proofs.Common.{◌≡◌, ◌≢◌, ℕ, ◌==◌, true, false, 
 use Rattle.std.specs.Prelude.{Some, None, option_map, option_and_then, is_none, unwrap_or, bytes_eq}
 use Rattle.std.proofs.lemmas.Option.{same_Some}
 use Rattle.gu_base.specs.Numbers.{EntryPart}
-use Rattle.gu_base.specs.Nodes.{node_of, split_of, decision_of, is_given, is_offered, parent}
+use Rattle.gu_base.specs.Nodes.{deal_in, node_of, split_of, decision_of, is_given, is_offered, parent}
 use Rattle.gu_base.specs.Places.{place_of, depth_of, root_of}
 use Rattle.gu_base.specs.Refusals.{owns}
 use Rattle.gu_base.specs.Rows.{state_of}
@@ -22,9 +22,9 @@ use Rattle.gu_tree.specs.declared.head.Head.{Head}
 use Rattle.gu_tree.proofs.Parts.{at_fact}
 use Rattle.gu_tree.proofs.ShowsChanges.{decided_state}
 use Rattle.gu_book.specs.Found.{AreTreesOf, IsFoundAs, IsFoundIn}
-use Rattle.gu_book.specs.Holdings.{traded_by, traded_at, held_at, holding_of, held_above}
+use Rattle.gu_book.specs.Holdings.{traded_at, held_at, holding_of, held_above}
 use Rattle.gu_book.specs.declared.found.Found.{Found}
-use Rattle.gu_book.specs.declared.plain.holdings.Traded.{Traded}
+use Rattle.gu_base.specs.declared.node.Deal.{Deal}
 use Rattle.gu_book.proofs.Filed.{spot, placed_in}
 use Rattle.gu_book.proofs.FiledChanges.{its_head}
 use Rattle.gu_book.proofs.Orders.{in_order}
@@ -85,19 +85,19 @@ module _ {l : List Record} {x : Node} {f : Found} (is : IsFoundAs l x f) where
       free_given (Given _ _ _) (Some r) h = refl
 
   -- the lots of what was traded, where the node stands
-  pub holding_as : (w : Option Traded) → w ≡ option_and_then (λ (r : Record). traded_by r.command) (find (λ (r : Record). r.number == f.trade) l)
+  pub holding_as : (w : Option Deal) → w ≡ option_and_then (λ (r : Record). deal_in r.command) (find (λ (r : Record). r.number == f.trade) l)
       → held_at (Some f.head.place) w f.head.lots ≡ holding_of l x
   holding_as w e =
-      let of_root : EntryPart → Option Traded = λ root. option_and_then (λ (r : Record). traded_by r.command) (find (λ (r : Record). r.number == root.entry) l) in
+      let of_root : EntryPart → Option Deal = λ root. option_and_then (λ (r : Record). deal_in r.command) (find (λ (r : Record). r.number == root.entry) l) in
       ap (λ w. held_at (Some f.head.place) w f.head.lots) (e ∙ ap (option_and_then of_root) (sym is.rooted))
       ∙ (ap (λ o. held_at o (traded_at l x.name) f.head.lots) (sym is.place)
       ∙ ap (held_at (place_of l x.name) (traded_at l x.name)) is.lots)
 
   -- and where the node above it stands
-  pub above_as : (y : Node) (b : Found) (m : EntryPart) → IsFoundAs l y b → y.name ≡ m → parent x.kind ≡ Some m → (w : Option Traded)
-      → w ≡ option_and_then (λ (r : Record). traded_by r.command) (find (λ (r : Record). r.number == f.trade) l) → held_at (Some b.head.place) w f.head.lots ≡ held_above l x
+  pub above_as : (y : Node) (b : Found) (m : EntryPart) → IsFoundAs l y b → y.name ≡ m → parent x.kind ≡ Some m → (w : Option Deal)
+      → w ≡ option_and_then (λ (r : Record). deal_in r.command) (find (λ (r : Record). r.number == f.trade) l) → held_at (Some b.head.place) w f.head.lots ≡ held_above l x
   above_as y b m over called up w e =
-      let of_root : EntryPart → Option Traded = λ root. option_and_then (λ (r : Record). traded_by r.command) (find (λ (r : Record). r.number == root.entry) l) in
+      let of_root : EntryPart → Option Deal = λ root. option_and_then (λ (r : Record). deal_in r.command) (find (λ (r : Record). r.number == root.entry) l) in
       let place : option_and_then (place_of l) (parent x.kind) ≡ Some b.head.place = ap (option_and_then (place_of l)) up ∙ (ap (place_of l) (sym called) ∙ over.place) in
       ap (λ w. held_at (Some b.head.place) w f.head.lots) (e ∙ ap (option_and_then of_root) (sym is.rooted))
       ∙ (ap (λ o. held_at o (traded_at l x.name) f.head.lots) (sym place)

@@ -14,7 +14,7 @@ use Rattle.gu_positions.specs.Rows.{PositionRows, lots_in, is_key, IsReady, CanA
 use Rattle.gu_positions.specs.declared.positions.Key.{Key}
 use Rattle.gu_book.specs.Holdings.{held_at, counted_at, AreReady, HaveRoom, HaveMoved, HaveThere, HasPlace}
 use Rattle.gu_book.specs.declared.plain.holdings.Holding.{Holding}
-use Rattle.gu_book.specs.declared.plain.holdings.Traded.{Traded}
+use Rattle.gu_base.specs.declared.node.Deal.{Deal}
 use Rattle.gu_book.proofs.Steps.{drop_here}
 
 -- what one element more gives
@@ -85,7 +85,7 @@ some_more f xs i x y within here is = given_more f xs i x within here ∙ ap (λ
 pub none_more : {X Y : Type 0} (f : X → Option Y) (xs : List X) (i : ℕ) (x : X) → i < length xs → x ≡ get_or xs i x → None ≡ f x → filter_map f (take (i + 1) xs) ≡ filter_map f (take i xs)
 none_more f xs i x within here is = given_more f xs i x within here ∙ (ap (λ o. filter_map f (take i xs) ++ cons_option o []) (sym is) ∙ append-nil (filter_map f (take i xs)))
 
-pub held_small : (o : Option Place) (w : Option Traded) (n most : ℕ) → n ≤ most → IfSome (held_at o w n) (λ h. h.lots ≤ most)
+pub held_small : (o : Option Place) (w : Option Deal) (n most : ℕ) → n ≤ most → IfSome (held_at o w n) (λ h. h.lots ≤ most)
 held_small None w n most h = tt
 held_small (Some p) None n most h = tt
 held_small (Some p) (Some w) n most h = h

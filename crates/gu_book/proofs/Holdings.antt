@@ -12,7 +12,7 @@ use Rattle.std.proofs.lemmas.Option.{same_Some}
 use Rattle.std.proofs.lemmas.Slice.Eq.{bytes_eq-Decides}
 use Rattle.gu_base.specs.Numbers.{EntryPart}
 use Rattle.gu_base.specs.House.{House}
-use Rattle.gu_base.specs.Nodes.{node_of, nodes, nodes_of_parts, same_name, kind_of_part, parent, split_of, splits, decision_of, decides, claimed_account, claim_of, is_given, is_offered}
+use Rattle.gu_base.specs.Nodes.{deal_in, node_of, nodes, nodes_of_parts, same_name, kind_of_part, parent, split_of, splits, decision_of, decides, claimed_account, claim_of, is_given, is_offered}
 use Rattle.gu_base.specs.Places.{line_within, line_of, place_along, place_of, place_of_kind, root_along, root_of, same_place}
 use Rattle.gu_base.specs.Positions.{is_trade_of, trades_in, stands_at, same_side}
 use Rattle.gu_base.specs.Refusals.{split_row, claim_row, refuse_row, cancel_row, is_taker, is_giver}
@@ -42,9 +42,9 @@ use Rattle.gu_depend.proofs.LastMoves.{IsBefore, trades_kept, split_kept, sum_fi
 use Rattle.gu_depend.proofs.Replay.{NumbersOnce}
 use Rattle.gu_depend.proofs.Settled.{Settled, SettledAs}
 use Rattle.gu_positions.specs.declared.positions.Key.{Key}
-use Rattle.gu_book.specs.Holdings.{traded_by, traded_at, held_at, holding_of, taken_by, part_holding, added_by, counted_at, taken_at}
+use Rattle.gu_book.specs.Holdings.{traded_at, held_at, holding_of, taken_by, part_holding, added_by, counted_at, taken_at}
 use Rattle.gu_book.specs.declared.plain.holdings.Holding.{Holding}
-use Rattle.gu_book.specs.declared.plain.holdings.Traded.{Traded}
+use Rattle.gu_base.specs.declared.node.Deal.{Deal}
 use Rattle.gu_book.proofs.Leaves.{sum_of_names, found_member}
 use Rattle.gu_book.proofs.Sound.{Sound, IsSoundNext, split_push, node_push}
 use Rattle.gu_book.proofs.Sums.{sum_agree, sum_zero, one_takes}
@@ -52,7 +52,7 @@ use Rattle.gu_book.proofs.Sums.{sum_agree, sum_zero, one_takes}
 -- ---- what was traded
 
 -- whether it is of the instrument and on the side
-abbrev pub told : List ℕ → Side → Option Traded → Bool
+abbrev pub told : List ℕ → Side → Option Deal → Bool
 told instrument side None = false
 told instrument side (Some t) = bytes_eq t.instrument instrument && same_side t.side side
 
@@ -80,7 +80,7 @@ one_found : {X : Type 0} (p q : X → Bool) (xs : List X) → count_by p xs ≤ 
 one_found p q [] once = refl
 one_found p q (x ∷ xs) once = let a = count_cons p x xs in one_found_at p q x xs (one_found p q xs) (p x) (omega (arith, a, once))
 
-told_by : (instrument : List ℕ) (side : Side) (c : Command) → is_trade_of instrument side c ≡ told instrument side (traded_by c)
+told_by : (instrument : List ℕ) (side : Side) (c : Command) → is_trade_of instrument side c ≡ told instrument side (deal_in c)
 told_by instrument side (Trade _ _ _ _ _) = refl
 told_by instrument side (Split _ _) = refl
 told_by instrument side (Claim _ _) = refl
@@ -90,13 +90,13 @@ told_by instrument side (Initiate _) = refl
 told_by instrument side (Decline _) = refl
 told_by instrument side (Reverse _) = refl
 
-told_found : (instrument : List ℕ) (side : Side) (o : Option Record) → asked (λ r. is_trade_of instrument side r.command) o ≡ told instrument side (option_and_then (λ r. traded_by r.command) o)
+told_found : (instrument : List ℕ) (side : Side) (o : Option Record) → asked (λ r. is_trade_of instrument side r.command) o ≡ told instrument side (option_and_then (λ r. deal_in r.command) o)
 told_found instrument side None = refl
 told_found instrument side (Some r) = told_by instrument side r.command
 
 told_root : (l : List Record) → NumbersOnce l → (instrument : List ℕ) (side : Side) (o : Option EntryPart)
     → is_some (option_and_then (λ t. find (λ r. (r.number == t.entry) && is_trade_of instrument side r.command) l) o)
-    ≡ told instrument side (option_and_then (λ root. option_and_then (λ r. traded_by r.command) (find (λ r. r.number == root.entry) l)) o)
+    ≡ told instrument side (option_and_then (λ root. option_and_then (λ r. deal_in r.command) (find (λ r. r.number == root.entry) l)) o)
 told_root l once instrument side None = refl
 told_root l once instrument side (Some p) =
     one_found (λ r. r.number == p.entry) (λ r. is_trade_of instrument side r.command) l (once p.entry) ∙ told_found instrument side (find (λ r. r.number == p.entry) l)
@@ -119,7 +119,7 @@ places_alike : (a b : Place) → same_place a b ≡ same_place b a
 places_alike a b =
     ap (λ c. c && bytes_eq a.account b.account) (bytes_symm a.firm b.firm) ∙ ap (λ c. bytes_eq b.firm a.firm && c) (bytes_symm a.account b.account)
 
-held_counts : (at : Place) (instrument : List ℕ) (side : Side) (o : Option Place) (t : Option Traded) (lots : ℕ)
+held_counts : (at : Place) (instrument : List ℕ) (side : Side) (o : Option Place) (t : Option Deal) (lots : ℕ)
     → cond (unwrap_or (option_map (same_place at) o) false && told instrument side t) lots 0 ≡ taken_at (key_at at instrument) side (held_at o t lots)
 held_counts at instrument side None t lots = refl
 held_counts at instrument side (Some p) None lots = ap (λ b. cond b lots 0) (and-false (same_place at p))
@@ -129,7 +129,7 @@ held_counts at instrument side (Some p) (Some t) lots =
     ∙ four (bytes_eq p.firm at.firm) (bytes_eq p.account at.account) (bytes_eq t.instrument instrument) (same_side t.side side))
 
 -- a leaf counts its lots where it stands
-lots_held : (l : List Record) (at : Place) (instrument : List ℕ) (side : Side) (x : Node) (o : Option Place) (t : Option Traded) → split_of l x.name ≡ None → place_of l x.name ≡ o
+lots_held : (l : List Record) (at : Place) (instrument : List ℕ) (side : Side) (x : Node) (o : Option Place) (t : Option Deal) → split_of l x.name ≡ None → place_of l x.name ≡ o
     → trades_in l instrument side x.name ≡ told instrument side t → lots_at l at instrument side x ≡ taken_at (key_at at instrument) side (held_at o t x.lots)
 lots_held l at instrument side x o t whole stands trades =
     ap (λ s. cond (is_none s) (cond (stands_at l at x.name && trades_in l instrument side x.name) x.lots 0) 0) whole
@@ -327,8 +327,8 @@ trade_balances t l k by id firm account instrument side lots status c at i s =
     let stands : place_of (l ++ r ∷ []) n ≡ Some (record { firm = firm; account = account }) = ap (place_along (l ++ r ∷ [])) line in
     let own : find (λ d. d.number == k) (l ++ r ∷ []) ≡ Some r = found_once (λ (d : Record). d.number == k) (l ++ r ∷ []) r (last_contained l r) (number_same k) (c.last.once k) in
     let traded : traded_at (l ++ r ∷ []) n ≡ Some (record { instrument = instrument; side = side }) =
-    ap (λ o. option_and_then (λ root. option_and_then (λ r. traded_by r.command) (find (λ r. r.number == root.entry) (l ++ r ∷ []))) o) (ap root_along line)
-    ∙ ap (option_and_then (λ (r : Record). traded_by r.command)) own in
+    ap (λ o. option_and_then (λ root. option_and_then (λ r. deal_in r.command) (find (λ r. r.number == root.entry) (l ++ r ∷ []))) o) (ap root_along line)
+    ∙ ap (option_and_then (λ (r : Record). deal_in r.command)) own in
     let h : Holding = record { key = record { firm = firm; account = account; instrument = instrument }; side = side; lots = lots } in
     let count : lots_at (l ++ r ∷ []) at i s x ≡ counted_at (key_at at i) s h =
     lots_of_leaf (l ++ r ∷ []) c.last.once at i s x whole ∙ ap (taken_at (key_at at i) s) (ap (λ o. held_at o (traded_at (l ++ r ∷ []) n) lots) stands ∙ ap (λ o. held_at (Some (record { firm = firm; account = account })) o lots) traded) in
@@ -344,7 +344,7 @@ trade_balances t l k by id firm account instrument side lots status c at i s =
 
 -- ---- a Split
 
-part_is : (m : EntryPart) (by : List ℕ) (p : Place) (w : Traded) (total : ℕ) (firm : List ℕ) (account : Option (List ℕ)) (lots : ℕ) (b : Bool)
+part_is : (m : EntryPart) (by : List ℕ) (p : Place) (w : Deal) (total : ℕ) (firm : List ℕ) (account : Option (List ℕ)) (lots : ℕ) (b : Bool)
     → held_at (place_of_kind (cond b (Own m by account) (Given m by firm)) None (Some p)) (Some w) lots
     ≡ cond b (option_map (λ a. record { key = record { firm = by; account = a; instrument = w.instrument }; side = w.side; lots = lots }) account)
     (Some (record { key = record { firm = p.firm; account = p.account; instrument = w.instrument }; side = w.side; lots = lots }))
@@ -353,7 +353,7 @@ part_is m by p w total firm (Some a) lots true = refl
 part_is m by p w total firm account lots false = refl
 
 -- the parts count what the Split adds
-parts_count : (at : Key) (s : Side) (p : Place) (w : Traded) (total : ℕ) (m : EntryPart) (k i : ℕ) (by : List ℕ) (ps : List Part)
+parts_count : (at : Key) (s : Side) (p : Place) (w : Deal) (total : ℕ) (m : EntryPart) (k i : ℕ) (by : List ℕ) (ps : List Part)
     → sum_by (λ (y : Node). taken_at at s (held_at (place_of_kind y.kind None (Some p)) (Some w) y.lots)) (nodes_of_parts k i m by ps)
     ≡ sum_by (counted_at at s) (filter_map (part_holding (record { key = record { firm = p.firm; account = p.account; instrument = w.instrument }; side = w.side; lots = total }) by) ps)
 parts_count at s p w total m k i by [] = refl
@@ -371,7 +371,7 @@ held_none : (o : Option Place) (lots : ℕ) → held_at o None lots ≡ None
 held_none None lots = refl
 held_none (Some p) lots = refl
 
-parts_added : (at : Key) (s : Side) (p : Place) (w : Option Traded) (total : ℕ) (m : EntryPart) (k : ℕ) (by : List ℕ) (ps : List Part)
+parts_added : (at : Key) (s : Side) (p : Place) (w : Option Deal) (total : ℕ) (m : EntryPart) (k : ℕ) (by : List ℕ) (ps : List Part)
     → sum_by (λ (y : Node). taken_at at s (held_at (place_of_kind y.kind None (Some p)) w y.lots)) (nodes_of_parts k 1 m by ps)
     ≡ sum_by (counted_at at s) (added_by by (Split m ps) (held_at (Some p) w total))
 parts_added at s p None total m k by ps =
@@ -428,7 +428,7 @@ taken_place by account (Own _ _ _) o h = absurd (cc)
 taken_place by account (Given _ _ taker) o h = ap (λ (f : List ℕ). Some (let p : Place = record { firm = f; account = account } in p)) ((bytes_eq-Decides taker by).0 h)
 
 -- what is claimed counts in its new account what the Claim adds
-claim_added : (at : Key) (s : Side) (p : Place) (w : Option Traded) (m : EntryPart) (by account : List ℕ) (lots : ℕ)
+claim_added : (at : Key) (s : Side) (p : Place) (w : Option Deal) (m : EntryPart) (by account : List ℕ) (lots : ℕ)
     → taken_at at s (held_at (Some (record { firm = by; account = account })) w lots) ≡ sum_by (counted_at at s) (added_by by (Claim m account) (held_at (Some p) w lots))
 claim_added at s p None m by account lots = refl
 claim_added at s p (Some w) m by account lots =

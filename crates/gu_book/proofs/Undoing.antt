@@ -10,7 +10,7 @@ use Rattle.gu_base.specs.House.{House}
 use Rattle.gu_base.specs.Limits.{most_lots, highest_rate}
 use Rattle.gu_base.specs.Fees.{charges, charge_of}
 use Rattle.gu_base.specs.History.{RisesFrom}
-use Rattle.gu_base.specs.Nodes.{node_of, split_of, splits, decides, decision_of, claimed_account, is_given, parent}
+use Rattle.gu_base.specs.Nodes.{deal_in, node_of, split_of, splits, decides, decision_of, claimed_account, is_given, parent}
 use Rattle.gu_base.specs.Orders.{IsLawfulOrder}
 use Rattle.gu_base.specs.Positions.{position_of}
 use Rattle.gu_base.specs.Places.{line_within, line_of, place_along, place_of_kind, place_of, root_along, root_of}
@@ -54,10 +54,10 @@ use Rattle.gu_book.proofs.Sound.{node_push}
 use Rattle.gu_base.proofs.NodeNames.{made_of, node_called}
 use Rattle.gu_base.proofs.Passing.{at_node_none, claim_passes}
 use Rattle.gu_book.specs.Charging.{IsSmallCharge, AreFeesOf, IsCharged}
-use Rattle.gu_book.specs.Holdings.{traded_by, traded_at, held_at, holding_of, held_above, taken_before, taken_by, added_by, counted_at, taken_at, SameLots, HaveMoved, HaveThere, IsReadyTaken, HasRoomBack, ArePositionsOf}
+use Rattle.gu_book.specs.Holdings.{traded_at, held_at, holding_of, held_above, taken_before, taken_by, added_by, counted_at, taken_at, SameLots, HaveMoved, HaveThere, IsReadyTaken, HasRoomBack, ArePositionsOf}
 use Rattle.gu_book.specs.Limits.{AllWithinLimits}
 use Rattle.gu_book.specs.declared.plain.holdings.Holding.{Holding}
-use Rattle.gu_book.specs.declared.plain.holdings.Traded.{Traded}
+use Rattle.gu_base.specs.declared.node.Deal.{Deal}
 use Rattle.gu_book.proofs.Holdings.{IsCounted, key_at, decision_kept, given_parent}
 use Rattle.gu_book.proofs.Charging.{is_charged}
 use Rattle.gu_book.proofs.HoldingRows.{is_own_key}
@@ -231,8 +231,8 @@ module _ (t : House) (l : List Record) (r : Record) (replayed : first_refused t 
     ends = before.grown.ends;
   }
 
-  abbrev of_root : List Record → EntryPart → Option Traded
-  of_root m root = option_and_then (λ (d : Record). traded_by d.command) (find (λ (d : Record). d.number == root.entry) m)
+  abbrev of_root : List Record → EntryPart → Option Deal
+  of_root m root = option_and_then (λ (d : Record). deal_in d.command) (find (λ (d : Record). d.number == root.entry) m)
 
   -- a node's trade is what it was
   traded_by_root : (n : EntryPart) (x : Node) → node_of others n ≡ Some x → (o : Option EntryPart) → root_of others n ≡ o → option_and_then (of_root l) o ≡ option_and_then (of_root others) o
@@ -240,7 +240,7 @@ module _ (t : House) (l : List Record) (r : Record) (replayed : first_refused t 
   traded_by_root n x found (Some p) e =
       let y = root_found (length others) others p n x found (sym (ap (λ o. root_along (line_within (length others) others o)) found) ∙ e) in
       let other : r.number ≢ p.entry = λ same. none_is_some (node_of others p) y.0 (unmade p (sym same)) y.1 in
-      ap (option_and_then (λ (d : Record). traded_by d.command)) (sym (change_left r.number p.entry l other))
+      ap (option_and_then (λ (d : Record). deal_in d.command)) (sym (change_left r.number p.entry l other))
 
   traded_same : (n : EntryPart) (x : Node) → node_of others n ≡ Some x → traded_at l n ≡ traded_at others n
   traded_same n x found =

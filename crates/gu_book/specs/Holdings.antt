@@ -2,7 +2,7 @@
 use Rattle.std.specs.Prelude.{◌≡◌, ℕ, ◌+◌, ◌<◌, ◌≤◌, ◌^◌, ◌&&◌, ◌==◌, if◌then◌else◌, List, [], ◌∷◌, find, filter_map, sum_by, Option, Some, None, option_map, option_and_then, bytes_eq}
 use Rattle.std.specs.List.{All}
 use Rattle.gu_base.specs.Numbers.{EntryPart}
-use Rattle.gu_base.specs.Nodes.{node_of, parent}
+use Rattle.gu_base.specs.Nodes.{deal_in, node_of, parent}
 use Rattle.gu_base.specs.Places.{place_of, root_of}
 use Rattle.gu_base.specs.Positions.{same_side, position_of}
 use Rattle.gu_base.specs.declared.command.Part.{Part}
@@ -15,19 +15,14 @@ use Rattle.gu_base.specs.declared.node.Place.{Place}
 use Rattle.gu_positions.specs.Rows.{PositionRows, lots_in, is_key, IsReady}
 use Rattle.gu_positions.specs.declared.positions.Key.{Key}
 use Rattle.gu_book.specs.declared.plain.holdings.Holding.{Holding}
-use Rattle.gu_book.specs.declared.plain.holdings.Traded.{Traded}
+use Rattle.gu_base.specs.declared.node.Deal.{Deal}
 
--- the instrument and the side of a Trade
-abbrev pub traded_by : Command → Option Traded
-traded_by (Trade _ _ instrument side _) = Some (record { instrument = instrument; side = side })
-traded_by _ = None
-
--- those of a node's trade
-abbrev pub traded_at : List Record → EntryPart → Option Traded
-traded_at l n = option_and_then (λ root. option_and_then (λ r. traded_by r.command) (find (λ r. r.number == root.entry) l)) (root_of l n)
+-- what a node's trade trades
+abbrev pub traded_at : List Record → EntryPart → Option Deal
+traded_at l n = option_and_then (λ root. option_and_then (λ r. deal_in r.command) (find (λ r. r.number == root.entry) l)) (root_of l n)
 
 -- so many lots of what was traded, in an account
-abbrev pub held_at : Option Place → Option Traded → ℕ → Option Holding
+abbrev pub held_at : Option Place → Option Deal → ℕ → Option Holding
 held_at None _ lots = None
 held_at (Some p) None lots = None
 held_at (Some p) (Some t) lots = Some (record { key = record { firm = p.firm; account = p.account; instrument = t.instrument }; side = t.side; lots = lots })

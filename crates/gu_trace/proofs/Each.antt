@@ -23,7 +23,7 @@ use Rattle.gu_base.specs.declared.report.Target.{Target}
 use Rattle.gu_base.specs.declared.report.Target.TheVariants as targets
 use Rattle.gu_base.proofs.Accepted.{allowed, first_none, open_from_none}
 use Rattle.gu_tree.specs.Shown.{named_node}
-use Rattle.gu_trace.specs.declared.lookup.Deal.{Deal}
+use Rattle.gu_base.specs.declared.node.Deal.{Deal}
 use Rattle.gu_trace.specs.Deals.{deal_of}
 use Rattle.gu_trace.specs.Concerns.{concerns}
 use Rattle.gu_trace.specs.Reports.{report_with, parts_shown, claimed_part, no_part, decision_report, change_report, reversal_report, report_of, told, entries_for, reports_for}

@@ -26,8 +26,9 @@ use Rattle.gu_base.proofs.Lines.{node_more}
 use Rattle.gu_base.proofs.LiveLaws.{is_live}
 use Rattle.gu_tree.specs.Shown.{named_node}
 use Rattle.gu_book.proofs.Orders.{names_there}
-use Rattle.gu_trace.specs.declared.lookup.Deal.{Deal}
-use Rattle.gu_trace.specs.Deals.{deal_in, deal_of}
+use Rattle.gu_base.specs.declared.node.Deal.{Deal}
+use Rattle.gu_base.specs.Nodes.{deal_in}
+use Rattle.gu_trace.specs.Deals.{deal_of}
 use Rattle.gu_trace.proofs.Lookups.{made_in, node_from, as_long, root_above}
 
 -- ---- entries at their places

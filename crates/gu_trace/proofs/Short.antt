@@ -18,7 +18,7 @@ use Rattle.gu_base.specs.declared.report.Report.{Report}
 use Rattle.gu_base.specs.declared.report.ReportPart.{ReportPart}
 use Rattle.gu_base.specs.declared.report.Target.{Target}
 use Rattle.gu_book.specs.Limits.{IsWithinLimits}
-use Rattle.gu_trace.specs.declared.lookup.Deal.{Deal}
+use Rattle.gu_base.specs.declared.node.Deal.{Deal}
 use Rattle.gu_trace.specs.Deals.{deal_of}
 use Rattle.gu_trace.specs.Concerns.{concerns}
 use Rattle.gu_trace.specs.Reports.{report_with, parts_shown, claimed_part, no_part, change_report, report_of, reports_for}

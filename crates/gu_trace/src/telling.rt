@@ -8,9 +8,9 @@ ghost use Rattle.gu_trace.specs.Concerns.{concerns};
 ghost use Rattle.gu_trace.specs.Reports.{most_reports, report_with, report_part, shown_or_not, parts_shown, claimed_part, no_part, split_report, decision_report, change_report, reversal_report, report_of, told, entries_for, reports_for};
 
 use crate::concern::concerns;
-use crate::lookup::{Deal, deal_of, entry_at, lots_at, node_at};
+use crate::lookup::{deal_of, entry_at, lots_at, node_at};
 use gu_base::{
-    AccountId, Command, Entry, FirmId, Kind, Memory, Node, NodeName, Number, Part, Report,
+    AccountId, Command, Deal, Entry, FirmId, Kind, Memory, Node, NodeName, Number, Part, Report,
     ReportPart, ReportParts, Target,
 };
 use gu_book::Book;

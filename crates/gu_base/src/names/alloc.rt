@@ -4,7 +4,7 @@ ghost use Rattle.gu_base.specs.Limits.{longest_id};
 ghost use Rattle.gu_base.specs.Names.{is_id_text};
 
 use crate::cells::Cells;
-use crate::names::{ID_LEN, is_id_text};
+use crate::names::{ID_LEN, LOWEST_IN_ID};
 use std::marker::Model;
 use std::{fmt, str};
 
@@ -32,12 +32,9 @@ impl AllocId {
     pub fn new(text: &[u8]) -> Option<AllocId>
         ensures { result ≡ (if is_id_text text.now then Some text.now else None) }
     {
-        if is_id_text(text) {
-            Some(AllocId {
-                text: Cells::from_slice(text),
-            })
-        } else {
-            None
+        match Cells::of_text(text, LOWEST_IN_ID) {
+            Some(text) => Some(AllocId { text }),
+            None => None,
         }
     }
 

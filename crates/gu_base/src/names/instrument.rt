@@ -4,7 +4,7 @@ ghost use Rattle.gu_base.specs.Limits.{longest_name};
 ghost use Rattle.gu_base.specs.Names.{is_firm_text};
 
 use crate::cells::Cells;
-use crate::names::{NAME_LEN, is_firm_text};
+use crate::names::{LOWEST_IN_NAME, NAME_LEN};
 use std::marker::Model;
 use std::{fmt, str};
 
@@ -32,12 +32,9 @@ impl InstrumentId {
     pub fn new(text: &[u8]) -> Option<InstrumentId>
         ensures { result ≡ (if is_firm_text text.now then Some text.now else None) }
     {
-        if is_firm_text(text) {
-            Some(InstrumentId {
-                text: Cells::from_slice(text),
-            })
-        } else {
-            None
+        match Cells::of_text(text, LOWEST_IN_NAME) {
+            Some(text) => Some(InstrumentId { text }),
+            None => None,
         }
     }
 

@@ -1,9 +1,9 @@
 //! The lots that stand in an account, and which of them a change moves.
 ghost use Rattle.std.specs.Prelude.{◌≡◌, ◌≤◌, ◌==◌, find, filter_map, Some, None, option_and_then, IfSome, OnOk};
-ghost use Rattle.gu_base.specs.Nodes.{node_of};
+ghost use Rattle.gu_base.specs.Nodes.{deal_in, node_of};
 ghost use Rattle.gu_base.specs.Limits.{most_lots};
 ghost use Rattle.gu_book.specs.Found.{AreTreesOf};
-ghost use Rattle.gu_book.specs.Holdings.{traded_by, held_at, holding_of, held_above, taken_by, taken_before, part_holding, added_by, HasTaken, AreReady, HaveRoom, SameLots, HaveMoved, HaveThere, IsReadyTaken, HasRoomBack};
+ghost use Rattle.gu_book.specs.Holdings.{held_at, holding_of, held_above, taken_by, taken_before, part_holding, added_by, HasTaken, AreReady, HaveRoom, SameLots, HaveMoved, HaveThere, IsReadyTaken, HasRoomBack};
 ghost use Rattle.gu_book.specs.Limits.{AllWithinLimits};
 ghost use Rattle.gu_positions.specs.Rows.{IsReady};
 ghost use Rattle.gu_positions.specs.declared.positions.Key.{Key as KeyData};
@@ -11,17 +11,10 @@ ghost use Rattle.gu_positions.specs.declared.positions.Key.{Key as KeyData};
 use crate::found::find;
 use crate::live::Live;
 use crate::plain::nodes::parent_of;
-use gu_base::{Command, FirmId, InstrumentId, Memory, NodeName, Number, Part, Place, Side};
+use gu_base::{Command, Deal, FirmId, Memory, NodeName, Number, Part, Place, Side};
 use gu_positions::{Key, Positions};
 use gu_tree::Trees;
 use std::alloc::Global;
-
-/// What was traded: an instrument, on one side.
-#[derive(Clone, Copy, Debug)]
-pub(crate) struct Traded {
-    instrument: InstrumentId,
-    side: Side,
-}
 
 /// Lots of one instrument and side that stand in an account.
 #[derive(Clone, Copy, Debug)]
@@ -31,35 +24,18 @@ pub(crate) struct Holding {
     lots: u64,
 }
 
-/// The instrument and the side of a Trade.
-fn traded_by(command: &Command) -> Option<Traded>
-    ensures { result ≡ traded_by command.now }
-{
-    match command {
-        Command::Trade {
-            instrument,
-            side,
-            ..
-        } => Some(Traded {
-            instrument: *instrument,
-            side: *side,
-        }),
-        _ => None,
-    }
-}
-
 /// What was traded by the entry of this number.
-fn traded_under(changes: &Live<'_>, number: Number) -> Option<Traded>
-    ensures { result ≡ option_and_then (λ r. traded_by r.command) (find (λ r. r.number == number) changes.now) }
+fn traded_under(changes: &Live<'_>, number: Number) -> Option<Deal>
+    ensures { result ≡ option_and_then (λ r. deal_in r.command) (find (λ r. r.number == number) changes.now) }
 {
     match changes.change(number) {
-        Some(made) => traded_by(&made.entry.command),
+        Some(made) => Deal::in_command(&made.entry.command),
         None => None,
     }
 }
 
 /// So many lots of what was traded, in an account.
-fn held_at(place: &Place, traded: &Option<Traded>, lots: u64) -> Option<Holding>
+fn held_at(place: &Place, traded: &Option<Deal>, lots: u64) -> Option<Holding>
     ensures { result ≡ held_at (Some place.now) traded.now lots }
 {
     match traded {
