@@ -137,7 +137,7 @@ fn append_entry(out: &mut Vec<u8>, report: &Report, date: &[u8])
     append_field(out, tags::TRADE_DATE, date);
 }
 
-/// Whether a report shows at most 100 parts, so that `report` writes it.
+/// Whether a report shows at most 100 parts: the test for that condition of `report`.
 pub fn shows_few_parts(report: &Report) -> bool
     ensures { IsTrue result ↔ ShowsFewParts report.now }
 {
@@ -147,8 +147,13 @@ pub fn shows_few_parts(report: &Report) -> bool
 /// Appends the body of the AllocationReport (AS) of a report, on the day of this moment.
 ///
 /// AllocReportID (755), AllocTransType (71), AllocReportType (794), AllocStatus (87), RefAllocID (72), Symbol (55), Side (54), Quantity (53) and
-/// TradeDate (75); and where parts are shown NoAllocs (78), and of each AllocAccount (79), AllocQty (80) and the firm that gets it (539, 524,
-/// 525, 538). The report shows at most 100 parts (`shows_few_parts`), and the moment is from 1970 on. `Memory` leaves `out` as it was.
+/// TradeDate (75), the UTC date of the moment; and where parts are shown NoAllocs (78), and of each AllocAccount (79), AllocQty (80) and the
+/// firm that gets it (539, 524, 525, 538). Quantities are in lots (`docs/profile.md`, "Reports"). The report shows at most 100 parts
+/// (`shows_few_parts`), and the moment is from 1970 on; so the body has at most 65,000 bytes.
+///
+/// # Errors
+///
+/// `Memory` where the room was refused; `out` is then as it was.
 pub fn report(out: &mut Vec<u8>, report: &Report, moment: Timestamp) -> Result<(), Memory>
     requires few { ShowsFewParts report.now }
     requires moment { pos 0 ≤ℤ moment.nanosecond }

@@ -1,4 +1,4 @@
-//! The bodies of the session's messages. Each writer appends its body, or answers `Memory` and leaves `out` as it was.
+//! The bodies of the session's messages (`docs/profile.md`, "Its messages").
 
 ghost use Rattle.std.specs.Prelude.{◌≡◌, ◌≤◌, ◌+◌, ◌++◌, OnOk, OnErr, codes, decimal, length, vec_len, vec_capacity};
 ghost use Rattle.gu_codec.specs.Answer.{pairs};
@@ -15,16 +15,25 @@ use gu_base::Memory;
 use gu_codec::{Fields, append, append_field, tags};
 use itoa::Buffer;
 
-/// Why the service ends a session: Text (58) of its Logout.
+/// Why the service ends a session: Text (58) of its Logout (`docs/profile.md`, "The session").
 #[derive(Clone, Copy, Debug, PartialEq, Eq)]
 pub enum LogoutText {
+    /// `bad header`: SenderCompID (49), TargetCompID (56) or MsgSeqNum (34) is missing or isn't that of the connection.
     BadHeader,
+    /// `sequence number too low, expected n`: MsgSeqNum (34) is below `expected`, and PossDupFlag (43) isn't `Y`.
     NumberTooLow { expected: u32 },
+    /// `second logon`: a Logon came in a session that is open.
     SecondLogon,
+    /// `no heartbeat`: nothing came for three times HeartBtInt (108).
     NoHeartbeat,
 }
 
-/// Appends the body of a Logon (A).
+/// Appends the body of a Logon (A): EncryptMethod (98) 0, HeartBtInt (108) in seconds, DefaultApplVerID (1137) 9, and where `reset` is true
+/// ResetSeqNumFlag (141) Y.
+///
+/// # Errors
+///
+/// `Memory` where the room was refused; `out` is then as it was.
 pub fn logon(out: &mut Vec<u8>, heartbeat: u32, reset: bool) -> Result<(), Memory>
     ensures ok { OnOk result (out.new.items ≡ out.old.items ++ fields_text (logon_fields heartbeat reset)) }
     ensures err { OnErr result (out.new.items ≡ out.old.items) }
@@ -40,7 +49,11 @@ pub fn logon(out: &mut Vec<u8>, heartbeat: u32, reset: bool) -> Result<(), Memor
     Ok(())
 }
 
-/// Appends the body of a Heartbeat (0), which answers a TestRequest with this TestReqID (112) or none.
+/// Appends the body of a Heartbeat (0): the TestReqID (112) of the TestRequest that it answers, or nothing where it answers none.
+///
+/// # Errors
+///
+/// `Memory` where the room was refused; `out` is then as it was.
 pub fn heartbeat(out: &mut Vec<u8>, answered: Option<TestReqId>) -> Result<(), Memory>
     ensures ok { OnOk result (out.new.items ≡ out.old.items ++ fields_text (heartbeat_fields answered)) }
     ensures err { OnErr result (out.new.items ≡ out.old.items) }
@@ -53,7 +66,11 @@ pub fn heartbeat(out: &mut Vec<u8>, answered: Option<TestReqId>) -> Result<(), M
     Ok(())
 }
 
-/// Appends the body of a TestRequest (1).
+/// Appends the body of a TestRequest (1): TestReqID (112) `TEST`.
+///
+/// # Errors
+///
+/// `Memory` where the room was refused; `out` is then as it was.
 pub fn test_request(out: &mut Vec<u8>) -> Result<(), Memory>
     ensures ok { OnOk result (out.new.items ≡ out.old.items ++ fields_text test_request_fields) }
     ensures err { OnErr result (out.new.items ≡ out.old.items) }
@@ -64,7 +81,11 @@ pub fn test_request(out: &mut Vec<u8>) -> Result<(), Memory>
     Ok(())
 }
 
-/// Appends the body of a ResendRequest (2) for all messages from this number on.
+/// Appends the body of a ResendRequest (2) for all messages from this number on: BeginSeqNo (7), and EndSeqNo (16) 0.
+///
+/// # Errors
+///
+/// `Memory` where the room was refused; `out` is then as it was.
 pub fn resend_request(out: &mut Vec<u8>, from: u32) -> Result<(), Memory>
     ensures ok { OnOk result (out.new.items ≡ out.old.items ++ fields_text (resend_request_fields from)) }
     ensures err { OnErr result (out.new.items ≡ out.old.items) }
@@ -76,7 +97,11 @@ pub fn resend_request(out: &mut Vec<u8>, from: u32) -> Result<(), Memory>
     Ok(())
 }
 
-/// Appends the body of a SequenceReset (4) that fills a gap up to this number, which is the next.
+/// Appends the body of a SequenceReset (4) that fills a gap up to this number, which is the next: GapFillFlag (123) Y and NewSeqNo (36).
+///
+/// # Errors
+///
+/// `Memory` where the room was refused; `out` is then as it was.
 pub fn sequence_reset(out: &mut Vec<u8>, next: u32) -> Result<(), Memory>
     ensures ok { OnOk result (out.new.items ≡ out.old.items ++ fields_text (sequence_reset_fields next)) }
     ensures err { OnErr result (out.new.items ≡ out.old.items) }
@@ -101,7 +126,11 @@ fn append_too_low(out: &mut Vec<u8>, expected: u32)
     append(out, b"\x01");
 }
 
-/// Appends the body of a Logout (5), with this text or none.
+/// Appends the body of a Logout (5): Text (58) with this reason, or nothing.
+///
+/// # Errors
+///
+/// `Memory` where the room was refused; `out` is then as it was.
 pub fn logout(out: &mut Vec<u8>, text: Option<LogoutText>) -> Result<(), Memory>
     ensures ok { OnOk result (out.new.items ≡ out.old.items ++ fields_text (logout_fields text)) }
     ensures err { OnErr result (out.new.items ≡ out.old.items) }
@@ -118,7 +147,7 @@ pub fn logout(out: &mut Vec<u8>, text: Option<LogoutText>) -> Result<(), Memory>
     Ok(())
 }
 
-/// Whether a message is a Logout (5).
+/// Whether a message is a Logout: its first MsgType (35) is `5`, whatever else is in it.
 pub fn is_logout(fields: Fields<'_>) -> bool
     ensures { result ≡ is_text_of (codes "5") (value_of tag.msg_type (pairs fields.entry)) }
 {

@@ -53,7 +53,7 @@ impl TestReqId {
         })
     }
 
-    /// Its bytes.
+    /// Its bytes, at most 64.
     pub fn as_bytes(&self) -> &[u8]
         ensures value { result.now ≡ self.now }
         ensures short { length self.now ≤ longest_test_req_id }

@@ -1,7 +1,8 @@
 //! What is wrong with a house file, and where.
 use thiserror::Error;
 
-/// What is wrong with a line of a house file. A line's causes are looked for in this order, and its first one counts.
+/// What is wrong with a line of a house file (`docs/profile.md`, "What is wrong with a file"). A line's causes are looked for in this
+/// order, and its first one counts. Shown, a cause is its words there: `bad line`.
 #[derive(Clone, Copy, Debug, PartialEq, Eq, Error)]
 pub enum Cause {
     /// The line is line 100,001: a house file has at most 100,000 lines.
@@ -36,7 +37,7 @@ pub enum Cause {
     Memory,
 }
 
-/// The first line of a house file that has a cause, and its first cause.
+/// The first line of a house file that has a cause, and its first cause. Shown, it is `house line n: ` and the cause's words.
 #[derive(Clone, Copy, Debug, PartialEq, Eq, Error)]
 #[error("house line {line}: {cause}")]
 pub struct HouseError {

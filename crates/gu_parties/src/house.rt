@@ -10,7 +10,8 @@ use indexmap::{IndexMap, IndexSet};
 use std::alloc::Global;
 use std::marker::Model;
 
-/// Who takes part, and on which terms. It is read from a house file by `House::parse`, and never changes.
+/// Who takes part, and on which terms (`docs/profile.md`, "The house file"). It is read from a house file by `House::parse`, and never
+/// changes.
 ///
 /// The look-ups are by hash, or by place in file order from 0. They take no memory.
 #[derive(Drop)]
@@ -48,7 +49,7 @@ impl House {
         }
     }
 
-    /// The clearing house, which line 2 of the file names.
+    /// The clearing house's firm, which line 2 of the file names.
     pub fn house(&self) -> FirmId
         ensures { result ≡ self.now.house }
     {
@@ -62,7 +63,7 @@ impl House {
         self.house == *firm || self.firms.contains(firm)
     }
 
-    /// Whether a firm has an account. Two firms may each have an account of the same name.
+    /// Whether a firm has an account: a line `ACCOUNT` names both. Two firms may each have an account of the same name.
     pub fn account(&self, firm: &FirmId, account: &AccountId) -> bool
         ensures { result ≡ knows_account self.now firm.now account.now }
     {
@@ -73,7 +74,7 @@ impl House {
         self.accounts.contains(&key)
     }
 
-    /// Whether an instrument is traded.
+    /// Whether an instrument is traded: a line `INSTRUMENT` names it.
     pub fn instrument(&self, instrument: &InstrumentId) -> bool
         ensures { result ≡ knows_instrument self.now instrument.now }
     {
@@ -94,7 +95,7 @@ impl House {
         self.agreements.get(&key).copied()
     }
 
-    /// How many lines `FIRM` the file has.
+    /// How many lines `FIRM` the file has. The house is none of these firms.
     pub fn firm_count(&self) -> usize
         ensures { result ≡ length self.now.firms }
     {
@@ -122,28 +123,29 @@ impl House {
         self.agreements.len()
     }
 
-    /// The firm of the line `FIRM` at this place among those lines, from 0. The house has no such place.
+    /// The firm of the line `FIRM` at this place among those lines, from 0; `None` behind the last. The house has no such place.
     pub fn firm_at(&self, place: usize) -> Option<FirmId>
         ensures { result ≡ slice_get self.now.firms place }
     {
         self.firms.get_index(place).copied()
     }
 
-    /// The account of the line `ACCOUNT` at this place among those lines, from 0.
+    /// The account of the line `ACCOUNT` at this place among those lines, from 0; `None` behind the last.
     pub fn account_at(&self, place: usize) -> Option<Account>
         ensures { result ≡ slice_get self.now.accounts place }
     {
         self.accounts.get_index(place).copied()
     }
 
-    /// The instrument of the line `INSTRUMENT` at this place among those lines, from 0.
+    /// The instrument of the line `INSTRUMENT` at this place among those lines, from 0; `None` behind the last.
     pub fn instrument_at(&self, place: usize) -> Option<InstrumentId>
         ensures { result ≡ slice_get self.now.instruments place }
     {
         self.instruments.get_index(place).copied()
     }
 
-    /// The giver, the taker and the terms of the line `AGREEMENT` at this place among those lines, from 0.
+    /// The giver, the taker and the terms, in hundredths a lot and in lots, of the line `AGREEMENT` at this place among those lines, from 0;
+    /// `None` behind the last.
     pub fn agreement_at(&self, place: usize) -> Option<(Pair, Agreement)>
         ensures { result ≡ slice_get self.now.agreements place }
     {
@@ -152,6 +154,10 @@ impl House {
     }
 
     /// The same table once more. The one call beside `parse` that takes memory.
+    ///
+    /// # Errors
+    ///
+    /// `Memory` where a growth was refused.
     pub fn copy(&self, _alloc: Global) -> Result<House, Memory>
         ensures { IfOk result (λ copy. copy ≡ self.now) }
     {

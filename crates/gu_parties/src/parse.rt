@@ -91,10 +91,12 @@ fn read_file(alloc: Global, text: &[u8]) -> Result<House, HouseError>
 }
 
 impl House {
-    /// The table of a house file, whose form docs/profile.md describes. The text may be any bytes.
+    /// The table of a house file, whose form `docs/profile.md` describes in "The house file". The text may be any bytes.
     ///
-    /// The error is the first line that has a cause, with its first cause. It is `Memory` only where a growth was refused, at a line up to
-    /// which no line has a cause.
+    /// # Errors
+    ///
+    /// The first line that has a cause, with its first cause. That is `Memory` only where a growth was refused, at a line up to which no line
+    /// has another.
     #[tactic(auto, unfolding(crate::specs::Parsing::Answers))]
     pub fn parse(alloc: Global, text: &[u8]) -> Result<House, HouseError>
         ensures { Answers result text.now }
