@@ -1,0 +1,12 @@
+use Rattle.std.proofs.Common.{◌≡◌, ◌∙◌, ap₂, rules}
+use Rattle.clap.specs.Words.{rule_of, with_rule}
+use Rattle.gu_server.specs.Lines.{port_rule, workers_rule, connections_rule}
+use Rattle.gu_server.proofs.line.serving.Goals as goal
+
+pub returns-clause-shape : goal.returns-clause-shape
+returns-clause-shape c =
+    let port_is : rule_of c.action-port.result ≡ port_rule = search rules in
+    let workers_is : rule_of c.action-workers.result ≡ workers_rule = search rules in
+    let connections_is : rule_of c.action-connections.result ≡ connections_rule = search rules in
+    c.in_ok-command.ensures.shape (search rules)
+    ∙ ap₂ with_rule (c.in_ok-arg-2.ensures.shape (search rules) ∙ ap₂ with_rule (c.in_ok-arg.ensures.shape (search rules) ∙ ap₂ with_rule c.requires port_is) workers_is) connections_is
