@@ -2,6 +2,7 @@ use Rattle.std.proofs.Common.{◌&&◌, bytes_eq}
 use Rattle.gu_base.specs.declared.node.Charge.{Charge}
 use Rattle.gu_sums.proofs.OneMore.{more_sum}
 use Rattle.gu_fees.specs.Sums.{cost}
+use Rattle.gu_fees.proofs.Ready.{stay_ready}
 use Rattle.gu_fees.proofs.fees.Fees.charge.Goals as goal
 use Rattle.gu_base.proofs.Basics.{still_true}
 
@@ -15,11 +16,8 @@ pub returns-clause-used : goal.returns-clause-used
 returns-clause-used c = λ g t. rw (← c.self.view_is) (c.add-3.ensures.added (record { giver = g; taker = t }))
 
 pub returns-clause-stays_ready : goal.returns-clause-stays_ready
-returns-clause-stays_ready c = rw (← c.self.view_is) (λ g t is. record {
-  pays = still_true _ _ (c.add.ensures.stays_ready t) is.pays;
-  receives = still_true _ _ (c.add-2.ensures.stays_ready g) is.receives;
-  uses = still_true _ _ (c.add-3.ensures.stays_ready (record { giver = g; taker = t })) is.uses;
-})
+returns-clause-stays_ready c = rw (← c.self.view_is) (stay_ready _ _
+    (λ q. still_true _ _ (c.add.ensures.stays_ready q)) (λ q. still_true _ _ (c.add-2.ensures.stays_ready q)) (λ q. still_true _ _ (c.add-3.ensures.stays_ready q)))
 
 pub returns-clause-sums : goal.returns-clause-sums
 returns-clause-sums c = λ before after are.

@@ -1,14 +1,11 @@
+use Rattle.gu_fees.proofs.Ready.{stay_ready}
 use Rattle.gu_fees.proofs.fees.Fees.ready.Goals as goal
 
 pub returns-in_err-ready-clause-paid : goal.returns-in_err-ready-clause-paid
 returns-in_err-ready-clause-paid c = λ firm. rw (← c.self.view_is) (c.ready.ensures.same firm)
 
 pub returns-in_err-ready-clause-stays_ready : goal.returns-in_err-ready-clause-stays_ready
-returns-in_err-ready-clause-stays_ready c = rw (← c.self.view_is) (λ g t is. record {
-  pays = c.ready.ensures.stays_ready t is.pays;
-  receives = is.receives;
-  uses = is.uses;
-})
+returns-in_err-ready-clause-stays_ready c = rw (← c.self.view_is) (stay_ready _ _ c.ready.ensures.stays_ready (λ q is. is) (λ q is. is))
 
 pub returns-in_err-ready-2-clause-paid : goal.returns-in_err-ready-2-clause-paid
 returns-in_err-ready-2-clause-paid c = λ firm. rw (← c.self.view_is) (c.ready.ensures.same firm)
@@ -17,11 +14,7 @@ pub returns-in_err-ready-2-clause-received : goal.returns-in_err-ready-2-clause-
 returns-in_err-ready-2-clause-received c = λ firm. rw (← c.self.view_is) (c.ready-2.ensures.same firm)
 
 pub returns-in_err-ready-2-clause-stays_ready : goal.returns-in_err-ready-2-clause-stays_ready
-returns-in_err-ready-2-clause-stays_ready c = rw (← c.self.view_is) (λ g t is. record {
-  pays = c.ready.ensures.stays_ready t is.pays;
-  receives = c.ready-2.ensures.stays_ready g is.receives;
-  uses = is.uses;
-})
+returns-in_err-ready-2-clause-stays_ready c = rw (← c.self.view_is) (stay_ready _ _ c.ready.ensures.stays_ready c.ready-2.ensures.stays_ready (λ q is. is))
 
 pub returns-clause-paid : goal.returns-clause-paid
 returns-clause-paid c = λ firm. rw (← c.self.view_is) (c.ready.ensures.same firm)
@@ -33,8 +26,4 @@ pub returns-clause-used : goal.returns-clause-used
 returns-clause-used c = λ g t. rw (← c.self.view_is) (c.ready-3.ensures.same (record { giver = g; taker = t }))
 
 pub returns-clause-stays_ready : goal.returns-clause-stays_ready
-returns-clause-stays_ready c = rw (← c.self.view_is) (λ g t is. record {
-  pays = c.ready.ensures.stays_ready t is.pays;
-  receives = c.ready-2.ensures.stays_ready g is.receives;
-  uses = c.ready-3.ensures.stays_ready (record { giver = g; taker = t }) is.uses;
-})
+returns-clause-stays_ready c = rw (← c.self.view_is) (stay_ready _ _ c.ready.ensures.stays_ready c.ready-2.ensures.stays_ready c.ready-3.ensures.stays_ready)
