@@ -133,7 +133,7 @@ impl Book {
         self.note(seen);
         match answer {
             Answer::Accepted { number, status } => {
-                self.keep(alloc, by, id, command, number, status)?;
+                self.keep(alloc, by, id, command, &named, number, status)?;
                 self.note(seen + visits::nodes_made(command));
                 Ok(answer)
             }
@@ -218,9 +218,11 @@ impl Book {
         by: &FirmId,
         id: &AllocId,
         command: &Command,
+        named: &Option<Named>,
         number: Number,
         status: State,
     ) -> Result<(), Memory>
+        requires named { IsNamedIn (live self.old.history) (named_node command.now) named.now }
         requires accepted { answer_to self.old.house self.old.history (record { firm = by.now; id = id.now; command = command.now }) ≡ Accepted number status }
         ensures kept { OnOk result (self.new ≡ record self.old { history = after self.old.house self.old.history (record { firm = by.now; id = id.now; command = command.now }) }) }
         ensures unchanged { OnErr result (self.new ≡ self.old) }
@@ -235,13 +237,20 @@ impl Book {
             Command::Initiate { entry } => self.keep_consent(alloc, kept, *entry, number),
             Command::Decline { entry } => self.keep_decline(kept, *entry, number),
             Command::Reverse { entry } => self.keep_reversal(alloc, kept, *entry, number),
-            _ => self.keep_change(alloc, kept, number),
+            _ => self.keep_change(alloc, kept, named, number),
         }
     }
 
     /// Puts an accepted change at the end of the history, and changes its tree. All growths come before anything changes.
-    fn keep_change(&mut self, alloc: Global, kept: Entry, number: Number) -> Result<(), Memory>
+    fn keep_change(
+        &mut self,
+        alloc: Global,
+        kept: Entry,
+        named: &Option<Named>,
+        number: Number,
+    ) -> Result<(), Memory>
         requires change { is_change kept.command ≡ true }
+        requires named { IsNamedIn (live self.old.history) (named_node kept.command) named.now }
         requires next { number ≡ length self.old.history + 1 }
         requires accepted { answer_to self.old.house self.old.history (call_of kept) ≡ Accepted number kept.status }
         ensures kept { OnOk result (self.new ≡ record self.old { history = self.old.history ++ kept ∷ [] }) }
@@ -249,7 +258,7 @@ impl Book {
     {
         let changes = Live::of(self.entries.as_slice(), &self.index.reversals);
         let charge = charges::charge_of(&self.house, &changes, &kept.command);
-        let taken = holdings::taken_by(&changes, &self.trees, &kept.command);
+        let taken = holdings::taken_by(&changes, named, &kept.command);
         self.entries.reserve(1)?;
         charges::ready(&mut self.fees, &charge)?;
         holdings::ready(&mut self.positions, &kept.firm, &kept.command, &taken)?;
