@@ -1,9 +1,10 @@
 -- What is found of a history without going over it.
-use Rattle.std.specs.Prelude.{◌≡◌, ℕ, List, Option, find, option_map}
+use Rattle.std.specs.Prelude.{◌≡◌, ℕ, List, Option, Some, None, find, option_map, slice_index_or, if◌then◌else◌}
 use Rattle.std.specs.declared.cmp.Ordering.{Ordering}
 use Rattle.std.specs.Ordering.{nat_cmp, ordering_then}
 use Rattle.std.specs.Cmp.Lexicographic.{slice_cmp}
 use Rattle.std.specs.BTreeMap.{get}
+use Rattle.gu_base.specs.Numbers.{is_number}
 use Rattle.gu_base.specs.History.{records}
 use Rattle.gu_base.specs.Answers.{Call, is_same_id, reversal_of}
 use Rattle.gu_base.specs.declared.entry.Entry.{Entry}
@@ -20,9 +21,13 @@ key_cmp a b = ordering_then (slice_cmp nat_cmp a.id b.id) (slice_cmp nat_cmp a.f
 abbrev pub number_in : Ids → List ℕ → List ℕ → Option ℕ
 number_in ids firm id = get key_cmp ids.numbers (record { firm = firm; id = id })
 
+-- an entry's number; 0 is none
+abbrev pub number_or_none : ℕ → Option ℕ
+number_or_none n = if is_number n then Some n else None
+
 -- the number that is kept at an entry
 abbrev pub reversal_in : Reversals → ℕ → Option ℕ
-reversal_in reversals entry = get nat_cmp reversals.numbers entry
+reversal_in reversals entry = number_or_none (slice_index_or reversals.numbers.items entry 0)
 
 -- the number of the first entry of the call's firm and id
 abbrev pub number_of : List Entry → Call → Option ℕ

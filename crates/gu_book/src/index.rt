@@ -86,10 +86,12 @@ impl Ids {
     }
 }
 
-/// The number of the Reverse of each entry of a history that has one.
+/// The number of the Reverse of each entry of a history that has one. It lies at the entry's own place, so a look-up is one look, however many
+/// there are; the list is no longer than the last of these entries.
 #[derive(Drop)]
 pub(crate) struct Reversals {
-    numbers: BTreeMap<u32, Number>,
+    /// 0 at an entry without one.
+    numbers: Vec<u32>,
 }
 
 impl Reversals {
@@ -98,7 +100,7 @@ impl Reversals {
         ensures { (entry : ℕ) → reversal_in result entry ≡ None }
     {
         Reversals {
-            numbers: BTreeMap::new(alloc),
+            numbers: Vec::new(alloc),
         }
     }
 
@@ -106,7 +108,10 @@ impl Reversals {
     pub(crate) fn number(&self, entry: Number) -> Option<Number>
         ensures { result ≡ reversal_in self.now entry }
     {
-        self.numbers.get(&entry.get()).copied()
+        match self.numbers.get(entry.get() as usize) {
+            Some(number) => Number::new(*number),
+            None => None,
+        }
     }
 
     /// Puts the number of the Reverse of an entry in.
@@ -114,7 +119,11 @@ impl Reversals {
         ensures put { OnOk result ((n : ℕ) → reversal_in self.new n ≡ (if entry == n then Some number else reversal_in self.old n)) }
         ensures unchanged { OnErr result ((n : ℕ) → reversal_in self.new n ≡ reversal_in self.old n) }
     {
-        self.numbers.insert(entry.get(), number)?;
+        let place = entry.get() as usize;
+        if place >= self.numbers.len() {
+            self.numbers.resize(place + 1, 0)?;
+        }
+        self.numbers[place] = number.get();
         Ok(())
     }
 }

@@ -2,11 +2,15 @@
 use Rattle.std.proofs.Common.{◌≡◌, ℕ, inl, inr, List, Option, Some, Result, Ok, Err, codes, IfErr, refl, ap, ◌∙◌}
 use Rattle.clap.specs.Words.{Text}
 use Rattle.gu_base.specs.House.{House}
+use Rattle.gu_batch.specs.Runs.{Told}
 use Rattle.gu_server.specs.Lines.{command_in, house_in}
 use Rattle.gu_server.specs.Program.{Names, Serves, Does, IsUnderstood}
 use Rattle.gu_server.specs.declared.fault.Fault.{Fault}
 use Rattle.gu_server.specs.declared.fault.Fault.TheVariants as fault
-use Rattle.gu_server.proofs.ReadAlong.{tells}
+
+-- what a reader and a writer tell
+abbrev tells : Option (List ℕ) → ℕ → ℕ → Option (List ℕ) → ℕ → Told
+tells left made failed contents writes_failed = record { left = left; made = made; reads_failed = failed; contents = contents; writes_failed = writes_failed }
 
 -- the words' house file has a house table, by which firms were served
 pub served_does : (words : List Text) (bytes_at : Text → Option (List ℕ)) (path : Text) (house : House) (l : Option (List ℕ)) (x f : ℕ) (b c : Option (List ℕ)) (v w : ℕ) (r : Result (Unit {0}) Fault)

@@ -1,10 +1,10 @@
 -- House files: which bytes are read of one, and why it isn't read.
 use Rattle.std.specs.Prelude.{◌≡◌, ℕ, ◌+◌, ◌<◌, ◌≤◌, ◌⊎◌, List, length, Option, IfSome, Result, Ok, Err}
 use Rattle.std.specs.Io.KnownBytes.{Consumes, IsAtEnd}
-use Rattle.gu_server.specs.Counts.{Fails}
+use Rattle.gu_batch.specs.Counts.{Fails}
+use Rattle.gu_batch.specs.declared.batch.RunError.TheVariants.{Memory}
 use Rattle.gu_server.specs.declared.fault.Fault.{Fault}
 use Rattle.gu_server.specs.declared.fault.Fault.TheVariants.{HouseFile, Run}
-use Rattle.gu_server.specs.declared.batch.RunError.TheVariants.{Memory}
 
 -- how many bytes a house file may have: 16 MiB
 abbrev pub most_bytes : ℕ

@@ -1,23 +1,19 @@
 -- What the program does: which house file it reads, what it does to its reader and its writer, and in which order faults are found.
-use Rattle.std.specs.Prelude.{◌≡◌, ℕ, ◌⊎◌, codes, List, [], ◌++◌, Option, Some, Result, Ok, Err}
-use Rattle.std.specs.Io.KnownBytes.{Appends}
+use Rattle.std.specs.Prelude.{◌≡◌, ℕ, ◌⊎◌, codes, List, [], Option, Some, Result, Ok, Err}
 use Rattle.clap.specs.Words.{Text}
 use Rattle.gu_base.specs.House.{House}
 use Rattle.gu_base.specs.Runs.{IsRunFrom}
-use Rattle.gu_base.specs.declared.entry.Entry.{Entry}
+use Rattle.gu_batch.specs.Runs.{Told, Runs}
+use Rattle.gu_batch.specs.Traces.{Traces, WritesTotals}
+use Rattle.gu_batch.specs.declared.batch.RunError.{RunError}
+use Rattle.gu_batch.specs.declared.batch.RunError.TheVariants.{Memory}
 use Rattle.gu_book.specs.Seen.{HouseAndHistory}
 use Rattle.gu_parties.specs.Parsing.{Answers}
 use Rattle.gu_parties.specs.declared.fault.HouseError.{HouseError}
-use Rattle.gu_trace.specs.Totals.{totals_text}
-use Rattle.gu_server.specs.Counts.{Fails}
 use Rattle.gu_server.specs.HouseText.{IsTextOf, IsTooLong}
 use Rattle.gu_server.specs.Lines.{command_in, house_in, trade_in, trade_meant}
-use Rattle.gu_server.specs.Runs.{Told, Runs}
-use Rattle.gu_server.specs.Traces.{Traces}
-use Rattle.gu_server.specs.declared.batch.RunError.{RunError}
 use Rattle.gu_server.specs.declared.fault.Fault.{Fault}
 use Rattle.gu_server.specs.declared.fault.Fault.TheVariants.{Usage, HouseFile, HouseLine, Service, Run}
-use Rattle.gu_server.specs.declared.batch.RunError.TheVariants.{Memory, Write}
 
 -- the text of the file with these bytes names this house table, or has this fault
 abbrev pub Names : Option (List ℕ) → Result House HouseError → Type 0
@@ -74,19 +70,6 @@ pub record HasTraced {A : Type 0} (words : List Text) (bytes_at : Text → Optio
 -- the book is what calls of the firms made of an empty one
 abbrev pub IsServed : House → HouseAndHistory → Type 0
 IsServed house b = (b.house ≡ house) × IsRunFrom house [] b.history
-
--- this text was written behind a server's end: the totals of its book, a front of them where the writer failed, and else nothing
-abbrev pub IsTotalled : {A : Type 0} → House → List Entry → ℕ → ℕ → List ℕ → Result A RunError → Type 0
-IsTotalled house h failed_before failed out (Ok x) = out ≡ totals_text house h
-IsTotalled house h failed_before failed out (Err Write) = Fails failed_before failed × (rest : List ℕ) × (totals_text house h ≡ out ++ rest)
-IsTotalled house h failed_before failed out (Err Memory) = out ≡ []
-IsTotalled house h failed_before failed out (Err _) = ⊥
-
--- the totals of a history were written
-pub record WritesTotals {A : Type 0} (house : House) (h : List Entry) (old new : Option (List ℕ)) (failed_before failed : ℕ) (result : Result A RunError) : Type 0 where
-  pub out : List ℕ
-  pub appended : Appends old new out
-  pub right : IsTotalled house h failed_before failed out result
 
 -- a server ended without a book, and nothing was written, or the totals of its book were
 abbrev pub Serves : {A : Type 0} → House → Option (List ℕ) → Option (List ℕ) → ℕ → ℕ → Result A Fault → Type 0

@@ -3,9 +3,8 @@
 ghost use Rattle.std.specs.Prelude.{◌≡◌, ℕ, List, [], Option, None};
 ghost use Rattle.gu_server.specs.HouseText.{Reads, ReadsAll};
 
-use crate::batch::RunError;
 use crate::fault::Fault;
-use crate::streams::{Counted, Source};
+use gu_batch::{Counted, RunError, Source};
 use std::fs::File;
 use std::io::ErrorKind;
 use std::rt::Files;

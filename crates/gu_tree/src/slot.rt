@@ -79,13 +79,33 @@ impl Filed {
     }
 }
 
-/// Where the entry is filed, or where it would be.
-fn find(slots: &[Filed], entry: Number) -> Result<usize, usize>
+/// Where the entry is filed, or where it would be. Since most entries are filed, it is first looked for as far below the last place before
+/// `end` as its number is below the one that is filed there.
+fn find(slots: &[Filed], end: usize, entry: Number) -> Result<usize, usize>
     requires { IsRising slots.now }
     ensures found { IfOk result (IsFiledAt slots.now entry) }
     ensures absent { OnErr result (IsNotFiled slots.now entry) }
 {
+    if 1 <= end && end <= slots.len() {
+        let last = end - 1;
+        let below = slots[last].entry().wrapping_sub(entry.get());
+        let place = last.wrapping_sub(below as usize);
+        if place < slots.len() && slots[place].entry() == entry.get() {
+            return Ok(place);
+        }
+    }
     slots.binary_search_by_key(&entry.get(), |filed| filed.entry())
+}
+
+/// What the entry named, and where it is filed if it is; `end` as for `find`.
+fn filed_at(slots: &[Filed], end: usize, entry: Number) -> (usize, Slot)
+    requires { IsRising slots.now }
+    ensures { result.1 ≡ slot_of slots.now entry }
+{
+    match find(slots, end, entry) {
+        Ok(i) => (i, slots[i].slot()),
+        Err(i) => (i, Slot::Empty),
+    }
 }
 
 /// What the entry named.
@@ -93,10 +113,7 @@ pub(crate) fn slot_at(slots: &[Filed], entry: Number) -> Slot
     requires { IsRising slots.now }
     ensures { result ≡ slot_of slots.now entry }
 {
-    match find(slots, entry) {
-        Ok(i) => slots[i].slot(),
-        Err(_) => Slot::Empty,
-    }
+    filed_at(slots, slots.len(), entry).1
 }
 
 /// Where the tree of a trade stands among the trees.
@@ -122,8 +139,9 @@ pub(crate) fn named_by(slot: Slot, entry: Number) -> Option<NodeName>
     }
 }
 
-/// Appends to the path the steps that lead from the root to the node, and gives the root's trade.
-pub(crate) fn climb(slots: &[Filed], node: NodeName, path: &mut Path) -> Number
+/// Appends to the path the steps that lead from the root to the node, and gives the root's trade. `end` is a place in
+/// the slots before which the node's entry is filed: the nearer, the sooner it is found.
+pub(crate) fn climb(slots: &[Filed], end: usize, node: NodeName, path: &mut Path) -> Number
     requires rising { IsRising slots.now }
     requires room { Climbs slots.now node (array_vec_len path.old) }
     requires falls { (e : ℕ) (n : EntryPart) → slot_of slots.now e ≡ Slot.Node n → n.entry < e }
@@ -132,10 +150,11 @@ pub(crate) fn climb(slots: &[Filed], node: NodeName, path: &mut Path) -> Number
     if node.part() == 0 {
         return node.entry();
     }
-    let Slot::Node(parent) = slot_at(slots, node.entry()) else {
+    let (place, slot) = filed_at(slots, end, node.entry());
+    let Slot::Node(parent) = slot else {
         unreachable!()
     };
-    let trade = climb(slots, parent, path);
+    let trade = climb(slots, place, parent, path);
     path.push(node.part() - 1);
     trade
 }
@@ -145,7 +164,7 @@ pub(crate) fn clear<A: Allocator>(slots: &mut Vec<Filed, A>, entry: Number)
     requires { IsRising slots.old.items }
     ensures { slots.new.items ≡ without_slot slots.old.items entry }
 {
-    if let Ok(i) = find(slots.as_slice(), entry) {
+    if let Ok(i) = find(slots.as_slice(), slots.len(), entry) {
         slots[i] = Filed::new(entry, Slot::Empty);
     }
 }

@@ -2,8 +2,8 @@
 
 use crate::cases::{Case, Way};
 use crate::streams::{Narrow, Pieces, pieces_of};
+use gu_batch::{Counted, RunError, run_batch};
 use gu_parties::House;
-use gu_server::{Counted, RunError, run_batch};
 use std::alloc::{AllocError, Global};
 use std::io;
 use std::io::{ErrorKind, Print};

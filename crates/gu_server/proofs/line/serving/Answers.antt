@@ -5,8 +5,8 @@ use Rattle.gu_server.proofs.line.serving.Goals as goal
 
 pub returns-clause-shape : goal.returns-clause-shape
 returns-clause-shape c =
-    let port_is : rule_of c.action-port.result ≡ port_rule = search rules in
-    let workers_is : rule_of c.action-workers.result ≡ workers_rule = search rules in
-    let connections_is : rule_of c.action-connections.result ≡ connections_rule = search rules in
-    c.in_ok-command.ensures.shape (search rules)
-    ∙ ap₂ with_rule (c.in_ok-arg-2.ensures.shape (search rules) ∙ ap₂ with_rule (c.in_ok-arg.ensures.shape (search rules) ∙ ap₂ with_rule c.requires port_is) workers_is) connections_is
+    let port_is : rule_of c.required-port.result ≡ port_rule = search rules in
+    let workers_is : rule_of c.option-workers.result ≡ workers_rule = c.option-workers.ensures.rule in
+    let connections_is : rule_of c.option-connections.result ≡ connections_rule = c.option-connections.ensures.rule in
+    c.in_ok-command-3.ensures.shape (search rules)
+    ∙ ap₂ with_rule (c.in_ok-command-2.ensures.shape (search rules) ∙ ap₂ with_rule (c.in_ok-command.ensures.shape (search rules) ∙ ap₂ with_rule c.requires port_is) workers_is) connections_is

@@ -9,4 +9,4 @@ pub returns : goal.returns
 returns c =
     let facts = c.binary_search_by_key.ensures in
     let by_key = facts.position (λ (x : Filing). x.entry) (answers_always _ _ _ (λ f a r g called. search rules)) in
-    rw (← c.get.ensures.value) (searched _ c.requires c.get.result _ facts.bound by_key)
+    rw (← c.get-2.ensures.value) (searched _ c.requires c.get-2.result _ facts.bound by_key)

@@ -1,0 +1,246 @@
+//! Answering one message after the other.
+
+ghost use Rattle.std.specs.Prelude.{◌≡◌, ◌≤◌, ◌<◌, ◌^◌, ◌+◌, ◌++◌, length, OnOk, OnErr};
+ghost use Rattle.gu_codec.specs.Answer.{pairs};
+ghost use Rattle.gu_codec.specs.Limits.{longest_body};
+ghost use Rattle.gu_codec.specs.Messages.{Message};
+ghost use Rattle.gu_codec.specs.Writing.{IsText, fields_text, message_text, stream_text};
+ghost use Rattle.gu_base.specs.Answers.{answer_to, after};
+ghost use Rattle.gu_message.specs.Meaning.{meaning_of};
+ghost use Rattle.gu_message.specs.Outcome.{Gives};
+ghost use Rattle.gu_message.specs.Reply.{Reply, message_of, answer_reply, reject_reply};
+
+use gu_base::{AllocId, Answer, Command, FirmId, Memory, Part};
+use gu_book::Book;
+use gu_codec::{Fields, Header, write_frame};
+use gu_message::{
+    Inbound, Index, MeaningError, Reject, SLOTS, Slot, ack, give_back, meaning_in, msg_types,
+    reject, reject_target, trade_ack, walk,
+};
+use gu_parties::House;
+use std::alloc::{AllocError, Global};
+use std::marker::Model;
+
+/// SendingTime (52) of each message that a batch writes, so that its output depends on its input alone.
+const BATCH_TIME: &[u8] = b"19700101-00:00:00.000";
+
+/// A firm's call of the book, which has another answer where it came as a trade report.
+#[derive(Clone, Copy)]
+struct Call<'a> {
+    firm: FirmId,
+    trade: bool,
+    id: &'a AllocId,
+    command: &'a Command,
+}
+
+/// Room that is taken anew for each message and kept between them, so that memory is asked for only where more is needed than ever before.
+#[derive(Drop)]
+pub(crate) struct Room {
+    /// For the body of an answer.
+    body: Vec<u8>,
+    /// For the parts of a split.
+    parts: Vec<Part>,
+}
+
+impl Room {
+    /// None taken yet.
+    pub(crate) fn new(alloc: Global) -> Room {
+        Room {
+            body: Vec::new(alloc),
+            parts: Vec::new(alloc),
+        }
+    }
+}
+
+/// The book of a batch, and how many messages it has written.
+#[derive(Drop)]
+pub(crate) struct Answering {
+    book: Book,
+    written: u64,
+}
+
+impl Model for Answering {
+    ghost use Rattle.gu_batch.specs.Output.{Progress};
+
+    ghost Value = { Progress };
+
+    ghost view = { λ a. record { house = a.book.house; history = a.book.history; written = a.written } };
+}
+
+impl Answering {
+    ghost use Rattle.gu_batch.specs.Output.{start, stamp, call_of, answers_to, answers_to_body, progress_after, progress_behind};
+
+    /// Nothing answered yet, over an empty book of this house.
+    pub(crate) fn new(alloc: Global, house: House) -> Answering
+        ensures { result ≡ start house }
+    {
+        Answering {
+            book: Book::new(alloc, house),
+            written: 0,
+        }
+    }
+
+    /// The book.
+    pub(crate) fn book(&self) -> &Book
+        ensures house { result.now.house ≡ self.now.house }
+        ensures history { result.now.history ≡ self.now.history }
+    {
+        &self.book
+    }
+
+    /// Appends a reply to a firm, with the next number. An `Err` appends nothing.
+    fn send(
+        &mut self,
+        out: &mut Vec<u8>,
+        target: FirmId,
+        kind: &[u8],
+        body: &[u8],
+    ) -> Result<(), Memory>
+        requires kind { IsText kind.now }
+        requires body { length body.now ≤ longest_body }
+        requires counted { self.old.written + 1 < 2 ^ 64 }
+        ensures ok { (fs : Message) → body.now ≡ fields_text fs → OnOk result (out.new.items ≡ out.old.items ++ message_text (message_of (stamp self.old.house.house (self.old.written + 1)) (record { target = target; kind = kind.now; fields = fs }))) }
+        ensures after { OnOk result (self.new ≡ record self.old { written = self.old.written + 1 }) }
+        ensures err { OnErr result (out.new.items ≡ out.old.items) }
+    {
+        let header = Header {
+            kind,
+            sender: self.book.house().house(),
+            target,
+            number: self.written + 1,
+            sent: BATCH_TIME,
+            resent: None,
+        };
+        write_frame(out, &header, body)?;
+        self.written += 1;
+        Ok(())
+    }
+
+    /// Sends the answer of the book to a call. An `Err` appends nothing.
+    fn send_answer(
+        &mut self,
+        call: &Call<'_>,
+        answer: &Answer,
+        body: &mut Vec<u8>,
+        out: &mut Vec<u8>,
+    ) -> Result<(), Memory>
+        requires counted { self.old.written + 1 < 2 ^ 64 }
+        ensures ok { OnOk result (out.new.items ≡ out.old.items ++ message_text (message_of (stamp self.old.house.house (self.old.written + 1)) (answer_reply call.now.firm call.now.trade call.now.id.now answer.now))) }
+        ensures after { OnOk result (self.new ≡ record self.old { written = self.old.written + 1 }) }
+        ensures err { OnErr result (out.new.items ≡ out.old.items) }
+    {
+        body.clear();
+        if call.trade {
+            trade_ack(body, call.id, answer)?;
+            self.send(out, call.firm, msg_types::TRADE_CAPTURE_REPORT_ACK, body)
+        } else {
+            ack(body, call.id, answer)?;
+            self.send(out, call.firm, msg_types::ALLOCATION_INSTRUCTION_ACK, body)
+        }
+    }
+
+    /// Has the book answer a call, and sends the answer. An `Err` appends nothing.
+    fn answer_call(
+        &mut self,
+        alloc: Global,
+        call: &Call<'_>,
+        body: &mut Vec<u8>,
+        out: &mut Vec<u8>,
+    ) -> Result<(), Memory>
+        requires { self.old.written + 1 < 2 ^ 64 }
+        ensures ok { let asked = call_of call.now.firm call.now.id.now call.now.command.now in OnOk result (out.new.items ≡ out.old.items ++ message_text (message_of (stamp self.old.house.house (self.old.written + 1)) (answer_reply call.now.firm call.now.trade call.now.id.now (answer_to self.old.house self.old.history asked)))) }
+        ensures after { let asked = call_of call.now.firm call.now.id.now call.now.command.now in OnOk result (self.new ≡ record { house = self.old.house; history = after self.old.house self.old.history asked; written = self.old.written + 1 }) }
+        ensures err { OnErr result (out.new.items ≡ out.old.items) }
+    {
+        match self.book.apply(alloc, &call.firm, call.id, call.command) {
+            Ok(answer) => self.send_answer(call, &answer, body, out),
+            Err(e) => Err(e),
+        }
+    }
+
+    /// Sends the Reject of a message. An `Err` appends nothing.
+    fn answer_fault(
+        &mut self,
+        fields: Fields<'_>,
+        fault: Reject,
+        body: &mut Vec<u8>,
+        out: &mut Vec<u8>,
+    ) -> Result<(), Memory>
+        requires { self.old.written + 1 < 2 ^ 64 }
+        ensures ok { OnOk result (out.new.items ≡ out.old.items ++ message_text (message_of (stamp self.old.house.house (self.old.written + 1)) (reject_reply (pairs fields.entry) fault))) }
+        ensures after { OnOk result (self.new ≡ record self.old { written = self.old.written + 1 }) }
+        ensures err { OnErr result (out.new.items ≡ out.old.items) }
+    {
+        body.clear();
+        reject(body, fields, fault)?;
+        self.send(out, reject_target(fields), msg_types::REJECT, body)
+    }
+
+    /// Appends the answer to a message that means this. An `Err` appends nothing.
+    #[tactic(auto, unfolding(crate::specs::Output::answers_to, crate::specs::Output::progress_after))]
+    fn answer_meaning(
+        &mut self,
+        alloc: Global,
+        fields: Fields<'_>,
+        meaning: &Result<Inbound, MeaningError>,
+        body: &mut Vec<u8>,
+        out: &mut Vec<u8>,
+    ) -> Result<(), Memory>
+        requires counted { self.old.written + 1 < 2 ^ 64 }
+        requires gives { Gives meaning.now (meaning_of self.old.house.house (pairs fields)) }
+        ensures ok { OnOk result (out.new.items ≡ out.old.items ++ stream_text (answers_to self.old (pairs fields.entry))) }
+        ensures after { OnOk result (self.new ≡ progress_after self.old (pairs fields.entry)) }
+        ensures err { OnErr result (out.new.items ≡ out.old.items) }
+    {
+        match meaning {
+            Ok(
+                Inbound::Call {
+                    firm,
+                    trade,
+                    id,
+                    command,
+                },
+            ) => {
+                let call = Call {
+                    firm: *firm,
+                    trade: *trade,
+                    id,
+                    command,
+                };
+                self.answer_call(alloc, &call, body, out)
+            }
+            Ok(_) => Ok(()),
+            Err(MeaningError::Reject(fault)) => self.answer_fault(fields, *fault, body, out),
+            Err(MeaningError::Memory) => Err(AllocError),
+        }
+    }
+
+    /// Appends the answer to a message whose body wasn't looked at: nothing, where that isn't fields to its end. An `Err` appends
+    /// nothing either, and the batch ends with it.
+    pub(crate) fn answer(
+        &mut self,
+        alloc: Global,
+        fields: Fields<'_>,
+        room: &mut Room,
+        out: &mut Vec<u8>,
+    ) -> Result<(), Memory>
+        requires { self.old.written + 1 < 2 ^ 64 }
+        ensures ok { OnOk result (out.new.items ≡ out.old.items ++ stream_text (answers_to_body self.old fields.entry)) }
+        ensures after { OnOk result (self.new ≡ progress_behind self.old fields.entry) }
+        ensures err { OnErr result (out.new.items ≡ out.old.items) }
+    {
+        let house = self.book.house().house();
+        let mut slots = [Slot::none(); SLOTS];
+        let walked = walk(fields, &mut slots);
+        if !walked.is_whole {
+            return Ok(());
+        }
+        let message = Index::new(fields, &slots, walked.carried);
+        let meaning = meaning_in(alloc, &message, &house, &mut room.parts);
+        let answered = self.answer_meaning(alloc, fields, &meaning, &mut room.body, out);
+        if let Ok(inbound) = meaning {
+            give_back(inbound, &mut room.parts);
+        }
+        answered
+    }
+}
