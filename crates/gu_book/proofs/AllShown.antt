@@ -89,6 +89,7 @@ found_kept p q (y ∷ ys) x h passes = found_step p q y ys x passes (λ e. found
 -- it is live, and nothing stands on it
 pub record IsUndone (t : House) (h : List Entry) (k : ℕ) (r : Record) : Type 0 where
   pub entry : entry_of h k ≡ Some r
+  pub found : find (λ (q : Record). q.number == k) (live h) ≡ Some r
   pub change : is_change r.command ≡ true
   pub from : 1 ≤ k
   pub within : k < 1 + length h
@@ -107,14 +108,16 @@ undone t h e n k ok same =
     let c = first_none (option_map (λ f. NeedsConsent f) (missing (parties_of t (live h) r.firm r.command) (consents_of h r.number))) (stands ∷ []) o.1.own in
     let d = first_none stands [] c.1 in
     let unreversed : is_reversed h r.number ≡ false = not_reversed r.number 1 h o.1.unreversed in
-    let passes : (is_change r.command && not (is_reversed h r.number)) ≡ true = ap (λ b. b && not (is_reversed h r.number)) o.1.is ∙ ap not unreversed in (
+    let passes : (is_change r.command && not (is_reversed h r.number)) ≡ true = ap (λ b. b && not (is_reversed h r.number)) o.1.is ∙ ap not unreversed in
+    let there = found_kept (λ (q : Record). q.number == k) (λ (q : Record). is_change q.command && not (is_reversed h q.number)) (records h) r o.1.found passes in (
       r,
       record {
         entry = o.1.found;
         change = o.1.is;
         from = at.from;
         within = at.within;
-        among = found_in (λ (q : Record). q.number == k) (live h) r (found_kept (λ (q : Record). q.number == k) (λ (q : Record). is_change q.command && not (is_reversed h q.number)) (records h) r o.1.found passes);
+        found = there;
+        among = found_in (λ (q : Record). q.number == k) (live h) r there;
         free = subst (λ m. standing_on t (live h) m ≡ None) at.number (mapped_none (λ m. StandsOn m) (standing_on t (live h) r.number) d.0);
       },
     )

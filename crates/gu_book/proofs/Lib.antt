@@ -28,6 +28,7 @@ pub mod Filed
 pub mod FiledChanges
 pub mod FoundAs
 pub mod AllShown
+mod Visited
 pub mod Undoing
 pub mod FiledLess
 pub mod FreeNodes

@@ -12,6 +12,7 @@ use Rattle.gu_base.specs.declared.node.Node.{Node}
 use Rattle.gu_tree.specs.Grove.{Grove}
 use Rattle.gu_book.specs.Filed.{IsFiled}
 use Rattle.gu_book.specs.declared.found.Found.{Found}
+use Rattle.gu_book.specs.declared.found.Named.{Named}
 
 -- the trees are those of these changes, none of which a house refuses
 pub record AreTreesOf (l : List Record) (g : Grove) : Type 0 where
@@ -34,3 +35,13 @@ pub record IsFoundAs (l : List Record) (x : Node) (f : Found) : Type 0 where
 abbrev pub IsFoundIn : List Record → EntryPart → Option Found → Type 0
 IsFoundIn l n None = node_of l n ≡ None
 IsFoundIn l n (Some f) = (x : Node) × (x.name ≡ n) × IsFoundAs l x f
+
+-- the node of this name and what was found of it, if the changes make one
+abbrev pub IsNamedBy : List Record → EntryPart → Option Named → Type 0
+IsNamedBy l n None = node_of l n ≡ None
+IsNamedBy l n (Some m) = (node_of l n ≡ Some m.node) × (m.node.name ≡ n) × IsFoundAs l m.node m.found
+
+-- that of the node which a command names, if it names one
+abbrev pub IsNamedIn : List Record → Option EntryPart → Option Named → Type 0
+IsNamedIn l None o = o ≡ None
+IsNamedIn l (Some n) o = IsNamedBy l n o

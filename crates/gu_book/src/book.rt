@@ -6,22 +6,26 @@ ghost use Rattle.gu_base.specs.History.{is_change, live};
 ghost use Rattle.gu_base.specs.Positions.{position_of};
 ghost use Rattle.gu_base.specs.Fees.{paid_by, received_by, used_of};
 ghost use Rattle.gu_base.specs.Standing.{IsLegal};
-ghost use Rattle.gu_base.specs.Answers.{Call, answer_to, after};
+ghost use Rattle.gu_base.specs.Answers.{Call, answer_to, after, is_accepted};
 ghost use Rattle.gu_base.specs.declared.command.Side.TheVariants.{Buy, Sell};
 ghost use Rattle.gu_base.specs.declared.entry.Answer.TheVariants.{Accepted};
 ghost use Rattle.gu_base.specs.Runs.{IsRunFrom, call_of};
 ghost use Rattle.gu_base.specs.declared.command.Command.TheVariants.{Initiate, Decline, Reverse};
-ghost use Rattle.gu_tree.specs.Shown.{shown};
+ghost use Rattle.gu_tree.specs.Shown.{shown, named_node};
 ghost use Rattle.gu_book.specs.Front.{may_lack};
 ghost use Rattle.gu_book.specs.Ids.{NoIdTwice};
+ghost use Rattle.gu_book.specs.Found.{IsNamedIn};
+ghost use Rattle.gu_book.specs.Seen.{stored};
 ghost use Rattle.gu_book.specs.TreeRows.{is_live_trade, tree_rows};
+ghost use Rattle.gu_book.specs.Visits.{AreVisits, IsMet, depth_meant, parts_named, is_kept};
 
-use crate::grove;
+use crate::found::{Named, find_named};
 use crate::index::Index;
 use crate::live::{Change, Live};
 use crate::plain::calls::front_answer;
 use crate::plain::standing::Standing;
 use crate::plain::{charges, holdings};
+use crate::{grove, visits};
 use gu_base::{
     AccountId, AllocId, Answer, Command, Entry, FirmId, InstrumentId, Memory, Number, Refusal,
     State,
@@ -45,15 +49,16 @@ pub struct Book {
     index: Index,
     fees: Fees,
     positions: Positions,
+    visits: u64,
 }
 
 impl Model for Book {
-    ghost use Rattle.gu_book.specs.Seen.{HouseAndHistory};
+    ghost use Rattle.gu_book.specs.Seen.{BookView};
     ghost use Rattle.gu_book.specs.Kept.{IsBook};
 
-    ghost Value = { HouseAndHistory };
+    ghost Value = { BookView };
 
-    ghost view = { λ b. record { house = b.house; history = b.entries.items } };
+    ghost view = { λ b. record { house = b.house; history = b.entries.items; visits = b.visits } };
 
     ghost invariant = { λ b. IsBook b.house b.entries.items b.trees b.consents b.index b.fees b.positions };
 }
@@ -61,7 +66,7 @@ impl Model for Book {
 impl Book {
     /// A book without entries.
     pub fn new(alloc: Global, house: House) -> Book
-        ensures { result ≡ record { house = house; history = [] } }
+        ensures { result ≡ record { house = house; history = []; visits = 0 } }
     {
         Book {
             house,
@@ -71,6 +76,7 @@ impl Book {
             index: Index::new(alloc),
             fees: Fees::new(alloc),
             positions: Positions::new(alloc),
+            visits: 0,
         }
     }
 
@@ -116,29 +122,78 @@ impl Book {
         command: &Command,
     ) -> Result<Answer, Memory>
         ensures answered { IfOk result (λ a. a ≡ answer_to self.old.house self.old.history (record { firm = by.now; id = id.now; command = command.now })) }
-        ensures kept { OnOk result (self.new ≡ record { house = self.old.house; history = after self.old.house self.old.history (record { firm = by.now; id = id.now; command = command.now }) }) }
+        ensures kept { OnOk result (stored self.new ≡ record { house = self.old.house; history = after self.old.house self.old.history (record { firm = by.now; id = id.now; command = command.now }) }) }
         ensures memory { OnErr result (IsTrue (may_lack (answer_to self.old.house self.old.history (record { firm = by.now; id = id.now; command = command.now })))) }
-        ensures unchanged { OnErr result (self.new ≡ self.old) }
+        ensures unchanged { OnErr result (stored self.new ≡ stored self.old) }
+        ensures visits { AreVisits (live self.old.history) command.now (is_kept result) self.new.visits }
     {
-        let answer = self.answer(by, id, command);
+        let named = self.named(command);
+        let answer = self.answer(by, id, command, named);
+        let seen = self.nodes_seen(command, &named, &answer);
+        self.note(seen);
         match answer {
             Answer::Accepted { number, status } => {
-                self.keep(alloc, by, id, command, number, status)?;
+                self.keep(alloc, by, id, command, &named, number, status)?;
+                self.note(seen + visits::nodes_made(command));
                 Ok(answer)
             }
             Answer::Repeated { .. } | Answer::Refused(_) => Ok(answer),
         }
     }
 
-    /// The answer to a call. Keeps nothing and takes no memory.
-    fn answer(&self, by: &FirmId, id: &AllocId, command: &Command) -> Answer
+    /// How many nodes of the trees the last `apply` visited, each counted once: those on the ways to the nodes that it looked at, and the parts
+    /// that it made, took away or asked after. A call that is refused, repeated or finds no memory changes this number too.
+    pub fn visits(&self) -> u64
+        ensures { result ≡ self.now.visits }
+    {
+        self.visits
+    }
+
+    /// Says how many nodes the call visited.
+    fn note(&mut self, visits: u64)
+        ensures { self.new ≡ record self.old { visits = visits } }
+    {
+        self.visits = visits;
+    }
+
+    /// The node that a command names, if it names one.
+    fn named(&self, command: &Command) -> Option<Named>
+        ensures { IsNamedIn (live self.now.history) (named_node command.now) result }
+    {
+        let changes = Live::of(self.entries.as_slice(), &self.index.reversals);
+        find_named(&changes, &self.trees, command)
+    }
+
+    /// How many nodes were looked at for this answer.
+    fn nodes_seen(&self, command: &Command, named: &Option<Named>, answer: &Answer) -> u64
+        requires { IsNamedIn (live self.now.history) (named_node command.now) named.now }
+        ensures most { result ≤ depth_meant (live self.now.history) command.now + parts_named (live self.now.history) command.now + 1 }
+        ensures least { is_accepted answer.now ≡ true → IsMet (live self.now.history) command.now → depth_meant (live self.now.history) command.now + parts_named (live self.now.history) command.now + 1 ≤ result }
+    {
+        let changes = Live::of(self.entries.as_slice(), &self.index.reversals);
+        if let Command::Reverse { entry } = command {
+            return if visits::was_asked(answer) {
+                visits::nodes_asked(&changes, &self.trees, *entry)
+            } else {
+                0
+            };
+        }
+        match named {
+            Some(x) => x.found.depth as u64 + 1,
+            None => 0,
+        }
+    }
+
+    /// The answer to a call whose command names this node. Keeps nothing and takes no memory.
+    fn answer(&self, by: &FirmId, id: &AllocId, command: &Command, named: Option<Named>) -> Answer
+        requires { IsNamedIn (live self.now.history) (named_node command.now) named }
         ensures { result ≡ answer_to self.now.house self.now.history (record { firm = by.now; id = id.now; command = command.now }) }
     {
         let at = Standing {
             house: &self.house,
             entries: &self.entries,
             changes: Live::of(self.entries.as_slice(), &self.index.reversals),
-            trees: &self.trees,
+            named,
             fees: &self.fees,
             index: &self.index,
             consents: &self.consents,
@@ -163,11 +218,13 @@ impl Book {
         by: &FirmId,
         id: &AllocId,
         command: &Command,
+        named: &Option<Named>,
         number: Number,
         status: State,
     ) -> Result<(), Memory>
+        requires named { IsNamedIn (live self.old.history) (named_node command.now) named.now }
         requires accepted { answer_to self.old.house self.old.history (record { firm = by.now; id = id.now; command = command.now }) ≡ Accepted number status }
-        ensures kept { OnOk result (self.new ≡ record { house = self.old.house; history = after self.old.house self.old.history (record { firm = by.now; id = id.now; command = command.now }) }) }
+        ensures kept { OnOk result (self.new ≡ record self.old { history = after self.old.house self.old.history (record { firm = by.now; id = id.now; command = command.now }) }) }
         ensures unchanged { OnErr result (self.new ≡ self.old) }
     {
         let kept = Entry {
@@ -180,21 +237,28 @@ impl Book {
             Command::Initiate { entry } => self.keep_consent(alloc, kept, *entry, number),
             Command::Decline { entry } => self.keep_decline(kept, *entry, number),
             Command::Reverse { entry } => self.keep_reversal(alloc, kept, *entry, number),
-            _ => self.keep_change(alloc, kept, number),
+            _ => self.keep_change(alloc, kept, named, number),
         }
     }
 
     /// Puts an accepted change at the end of the history, and changes its tree. All growths come before anything changes.
-    fn keep_change(&mut self, alloc: Global, kept: Entry, number: Number) -> Result<(), Memory>
+    fn keep_change(
+        &mut self,
+        alloc: Global,
+        kept: Entry,
+        named: &Option<Named>,
+        number: Number,
+    ) -> Result<(), Memory>
         requires change { is_change kept.command ≡ true }
+        requires named { IsNamedIn (live self.old.history) (named_node kept.command) named.now }
         requires next { number ≡ length self.old.history + 1 }
         requires accepted { answer_to self.old.house self.old.history (call_of kept) ≡ Accepted number kept.status }
-        ensures kept { OnOk result (self.new ≡ record { house = self.old.house; history = self.old.history ++ kept ∷ [] }) }
+        ensures kept { OnOk result (self.new ≡ record self.old { history = self.old.history ++ kept ∷ [] }) }
         ensures unchanged { OnErr result (self.new ≡ self.old) }
     {
         let changes = Live::of(self.entries.as_slice(), &self.index.reversals);
         let charge = charges::charge_of(&self.house, &changes, &kept.command);
-        let taken = holdings::taken_by(&changes, &self.trees, &kept.command);
+        let taken = holdings::taken_by(&changes, named, &kept.command);
         self.entries.reserve(1)?;
         charges::ready(&mut self.fees, &charge)?;
         holdings::ready(&mut self.positions, &kept.firm, &kept.command, &taken)?;
@@ -223,7 +287,7 @@ impl Book {
     ) -> Result<(), Memory>
         requires names { kept.command ≡ Initiate entry }
         requires accepted { answer_to self.old.house self.old.history (call_of kept) ≡ Accepted number kept.status }
-        ensures kept { OnOk result (self.new ≡ record { house = self.old.house; history = self.old.history ++ kept ∷ [] }) }
+        ensures kept { OnOk result (self.new ≡ record self.old { history = self.old.history ++ kept ∷ [] }) }
         ensures unchanged { OnErr result (self.new ≡ self.old) }
     {
         self.entries.reserve(1)?;
@@ -240,7 +304,7 @@ impl Book {
     fn keep_decline(&mut self, kept: Entry, entry: Number, number: Number) -> Result<(), Memory>
         requires names { kept.command ≡ Decline entry }
         requires accepted { answer_to self.old.house self.old.history (call_of kept) ≡ Accepted number kept.status }
-        ensures kept { OnOk result (self.new ≡ record { house = self.old.house; history = self.old.history ++ kept ∷ [] }) }
+        ensures kept { OnOk result (self.new ≡ record self.old { history = self.old.history ++ kept ∷ [] }) }
         ensures unchanged { OnErr result (self.new ≡ self.old) }
     {
         self.entries.reserve(1)?;
@@ -261,7 +325,7 @@ impl Book {
     ) -> Result<(), Memory>
         requires names { kept.command ≡ Reverse change }
         requires accepted { answer_to self.old.house self.old.history (call_of kept) ≡ Accepted number kept.status }
-        ensures kept { OnOk result (self.new ≡ record { house = self.old.house; history = self.old.history ++ kept ∷ [] }) }
+        ensures kept { OnOk result (self.new ≡ record self.old { history = self.old.history ++ kept ∷ [] }) }
         ensures unchanged { OnErr result (self.new ≡ self.old) }
     {
         self.entries.reserve(1)?;

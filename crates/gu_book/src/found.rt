@@ -1,12 +1,15 @@
 //! What the trees say of a node, found by its name.
-ghost use Rattle.std.specs.Prelude.{◌≡◌, List, Some};
-ghost use Rattle.gu_base.specs.Nodes.{node_of, is_offered};
+ghost use Rattle.std.specs.Prelude.{◌≡◌, List};
+ghost use Rattle.gu_base.specs.Nodes.{is_offered};
 ghost use Rattle.gu_base.specs.Refusals.{owns};
 ghost use Rattle.gu_base.specs.declared.entry.Record.{Record as RecordData};
 ghost use Rattle.gu_base.specs.declared.node.Node.{Node as NodeData};
-ghost use Rattle.gu_book.specs.Found.{AreTreesOf, IsFoundAs, IsFoundIn};
+ghost use Rattle.gu_book.specs.Found.{AreTreesOf, IsFoundAs, IsFoundIn, IsNamedBy, IsNamedIn};
+ghost use Rattle.gu_tree.specs.Shown.{named_node};
 
-use gu_base::{FirmId, NodeName, Number, State};
+use crate::live::Live;
+use crate::plain::nodes::node_of;
+use gu_base::{Command, FirmId, Node, NodeName, Number, State};
 use gu_tree::{Head, Trees};
 use std::alloc::Global;
 
@@ -18,7 +21,7 @@ pub(crate) struct Found {
     /// The Trade in whose tree it lies.
     pub(crate) trade: Number,
     /// How many nodes stand above it.
-    pub(crate) depth: usize,
+    pub(crate) depth: u32,
     /// The number of the Split that parted it.
     pub(crate) split: Option<Number>,
 }
@@ -64,17 +67,46 @@ pub(crate) fn find(trees: &Trees<Global>, name: NodeName) -> Option<Found>
     Some(Found {
         head: *tree.head(&spot.1),
         trade: spot.0,
-        depth: spot.1.len(),
+        depth: spot.1.len() as u32,
         split,
     })
 }
 
-/// Whether the node of this name is given and not decided.
-pub(crate) fn is_offered(trees: &Trees<Global>, name: NodeName) -> bool
-    ensures { (l : List RecordData) (x : NodeData) → AreTreesOf l trees.now → node_of l name ≡ Some x → result ≡ is_offered l x }
+/// A node that a live change makes, and what the trees say of it.
+#[derive(Clone, Copy, Debug)]
+pub(crate) struct Named {
+    pub(crate) node: Node,
+    pub(crate) found: Found,
+}
+
+/// The node of this name. One that no live change makes isn't looked for in the trees.
+fn node_named(changes: &Live<'_>, trees: &Trees<Global>, name: NodeName) -> Option<Named>
+    requires { AreTreesOf changes.now trees.now }
+    ensures { IsNamedBy changes.now name result }
 {
-    match find(trees, name) {
-        Some(found) => found.is_offered(),
-        None => false,
+    let Some(node) = node_of(changes, &name) else {
+        return None;
+    };
+    let Some(found) = find(trees, name) else {
+        unreachable!()
+    };
+    Some(Named { node, found })
+}
+
+/// The node that a command names, if it names one.
+pub(crate) fn find_named(
+    changes: &Live<'_>,
+    trees: &Trees<Global>,
+    command: &Command,
+) -> Option<Named>
+    requires { AreTreesOf changes.now trees.now }
+    ensures { IsNamedIn changes.now (named_node command.now) result }
+{
+    match command {
+        Command::Split { node, .. } => node_named(changes, trees, *node),
+        Command::Claim { node, .. } => node_named(changes, trees, *node),
+        Command::Refuse { node } => node_named(changes, trees, *node),
+        Command::Cancel { node } => node_named(changes, trees, *node),
+        _ => None,
     }
 }

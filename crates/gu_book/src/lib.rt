@@ -1,9 +1,11 @@
 //! The book of a clearing house: what its firms have called for and what was accepted, in a flat list, and beside it the
 //! allocation tree of each live trade.
 //!
-//! - `Book` is seen by clauses as its house table and its history. `Book::new` is the empty book of any house.
+//! - `Book` is seen by clauses as its house table, its history, and how many nodes of the trees its last call visited. `Book::new` is the
+//!   empty book of any house.
 //! - `Book::apply` answers every call exactly as the rules say at the history, keeps it at the end of the history where it is
-//!   accepted, and leaves everything where it is not.
+//!   accepted, and leaves house table and history where it is not. `visits` tells what the call cost: no more nodes than its node lies deep,
+//!   its parts, and two.
 //! - `Memory` comes only where the rules accept the call. All growths come before anything changes, so it leaves everything too.
 //! - `live` gives the numbers of the live changes, `tree_rows` the rows of a live trade's tree. `position` is a running
 //!   row of what stands in an account; `paid`, `received` and `used` are running sums of what the live claims cost. All fit.
@@ -26,6 +28,7 @@ mod index;
 pub mod laws;
 mod live;
 mod plain;
+mod visits;
 
 pub use book::Book;
 pub use gu_base::{Answer, Entry};

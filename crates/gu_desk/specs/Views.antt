@@ -2,7 +2,7 @@
 use Rattle.std.specs.Prelude.{ℕ, Bool, ◌&&◌, leb, []}
 use Rattle.gu_book.specs.Seen.{HouseAndHistory}
 
--- the name of its ledger, how many workers its desk has, and its book
+-- the name of its ledger, how many workers its desk has, and the house table and history of its book
 pub record GroundView : Type 0 where
   pub name : ℕ
   pub workers : ℕ

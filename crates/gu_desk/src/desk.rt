@@ -2,6 +2,7 @@
 ghost use Rattle.std.specs.Prelude.{◌≡◌, ◌+◌, ◌<◌, ◌≤◌, length, vec_len, IfOk, IfErr, OnOk, OnErr};
 ghost use Rattle.std.specs.List.{All, sum_by};
 ghost use Rattle.gu_base.specs.Limits.{most_parts};
+ghost use Rattle.gu_book.specs.Seen.{stored};
 ghost use Rattle.gu_trace.specs.Reports.{most_reports};
 ghost use Rattle.gu_desk.specs.Runs.{IsRunOf, IsAnswerOf, IsReadingOf, IsToldOf};
 ghost use Rattle.gu_desk.specs.Shares.{gained};
@@ -90,7 +91,7 @@ impl<J: Job> Desk<J> {
         ensures desk { IfOk result (λ r. r.0.seats ≡ ground.workers) }
         ensures seats { IfOk result (λ r. vec_len r.1 ≡ ground.workers) }
         ensures shares { IfOk result (λ r. All (λ s. s.share ≡ 0) r.1.items) }
-        ensures unchanged { IfErr result (λ e. e.0 ≡ ground.opening) }
+        ensures unchanged { IfErr result (λ e. stored e.0 ≡ ground.opening) }
     {
         let Ground {
             book,
@@ -163,7 +164,7 @@ impl<J: Job> Desk<J> {
     /// The desk and the seats that came, where fewer came than were given out.
     pub fn close(self, seats: Vec<Seat<J>>) -> Result<Book, CloseError<J>>
         ensures length { IfOk result (λ b. length b.history ≡ length J.opening.history + sum_by (λ s. s.share) seats.items) }
-        ensures run { IfOk result (λ b. IsRunOf J.opening b) }
+        ensures run { IfOk result (λ b. IsRunOf J.opening (stored b)) }
         ensures missing { IfErr result (λ e. vec_len seats < self.seats) }
         ensures desk { IfErr result (λ e. e.desk ≡ self) }
         ensures seats { IfErr result (λ e. e.seats ≡ seats) }

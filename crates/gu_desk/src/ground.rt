@@ -1,5 +1,6 @@
 //! What a desk is made of.
 ghost use Rattle.std.specs.Prelude.{◌≡◌, ◌≤◌, ◌&&◌, leb, IfOk, IfErr, IsTrue};
+ghost use Rattle.gu_book.specs.Seen.{stored};
 ghost use Rattle.gu_desk.specs.Views.{is_worker_count};
 
 use gu_base::Memory;
@@ -21,11 +22,12 @@ pub struct Ground {
 
 impl Model for Ground {
     ghost use Rattle.std.specs.Prelude.{◌≡◌, ◌+◌, IsTrue};
+    ghost use Rattle.gu_book.specs.Seen.{stored};
     ghost use Rattle.gu_desk.specs.Views.{GroundView, is_worker_count};
 
     ghost Value = { GroundView };
 
-    ghost view = { λ g. record { name = g.blank.name; workers = g.workers; opening = g.book } };
+    ghost view = { λ g. record { name = g.blank.name; workers = g.workers; opening = stored g.book } };
 
     ghost invariant = { λ g. (g.blank.parts ≡ g.workers + 1) × IsTrue (is_worker_count g.workers) };
 }
@@ -45,7 +47,7 @@ impl Ground {
     /// The book, and `Memory` where a growth was refused.
     pub fn new(_alloc: Global, book: Book, workers: u32) -> Result<Ground, (Book, Memory)>
         requires { IsTrue (is_worker_count workers) }
-        ensures opening { IfOk result (λ g. g.opening ≡ book) }
+        ensures opening { IfOk result (λ g. g.opening ≡ stored book) }
         ensures workers { IfOk result (λ g. g.workers ≡ workers) }
         ensures unchanged { IfErr result (λ e. e.0 ≡ book) }
     {

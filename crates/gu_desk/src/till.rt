@@ -19,7 +19,7 @@ use std::sync::ledger::Share;
 
 /// The book, the total of all shares, and the share of the opening history. `Desk::new` alone makes one.
 ///
-/// Contracts see the book. Whenever the lock is free, its history is one that calls made of the opening book.
+/// Contracts see the house table and the history of the book. Whenever the lock is free, its history is one that calls made of the opening book.
 #[derive(Drop)]
 pub struct Till<J: Job> {
     pub(crate) book: Book,
@@ -29,14 +29,14 @@ pub struct Till<J: Job> {
 
 impl<J: Job> Model for Till<J> {
     ghost use Rattle.std.specs.Prelude.{◌≡◌, length};
-    ghost use Rattle.gu_book.specs.Seen.{HouseAndHistory};
+    ghost use Rattle.gu_book.specs.Seen.{HouseAndHistory, stored};
     ghost use Rattle.gu_desk.specs.Runs.{IsRunOf};
 
     ghost Value = { HouseAndHistory };
 
-    ghost view = { λ t. t.book };
+    ghost view = { λ t. stored t.book };
 
-    ghost invariant = { λ t. IsRunOf J.opening t.book × (length t.book.history ≡ t.total.total) × (t.opening.parts ≡ 1) × (t.opening.amount ≡ length J.opening.history) };
+    ghost invariant = { λ t. IsRunOf J.opening (stored t.book) × (length t.book.history ≡ t.total.total) × (t.opening.parts ≡ 1) × (t.opening.amount ≡ length J.opening.history) };
 }
 
 /// Counts an accepted call in the total and in the share of the seat that made it.

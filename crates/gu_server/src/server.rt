@@ -1,5 +1,6 @@
 //! The server: workers that share a book, each with one connection at a time.
 ghost use Rattle.std.specs.Prelude.{◌≡◌, ◌+◌, IfOk, IsTrue};
+ghost use Rattle.gu_book.specs.Seen.{stored};
 ghost use Rattle.gu_desk.specs.Views.{is_worker_count};
 ghost use Rattle.gu_desk.specs.Runs.{IsRunOf};
 
@@ -151,7 +152,7 @@ fn run_desk<J: Job + Send + Sync, R: Threads + Wait + Clock + Sync, G: Gate + Sy
     requires name { ground.name ≡ J.name }
     requires parts { ground.workers + 1 ≡ J.parts }
     requires opening { ground.opening ≡ J.opening }
-    ensures { IfOk result (λ b. IsRunOf J.opening b) }
+    ensures { IfOk result (λ b. IsRunOf J.opening (stored b)) }
 {
     let (desk, seats) = match Desk::<J>::new(alloc, ground) {
         Ok(opened) => opened,
@@ -187,7 +188,7 @@ fn run_desk<J: Job + Send + Sync, R: Threads + Wait + Clock + Sync, G: Gate + Sy
 /// A copy of the house table for all workers, and the ground of their desk.
 fn prepare(alloc: Global, book: Book, workers: u32) -> Result<(House, Ground), ServeError>
     requires { IsTrue (is_worker_count workers) }
-    ensures opening { IfOk result (λ r. r.1.opening ≡ book) }
+    ensures opening { IfOk result (λ r. r.1.opening ≡ stored book) }
 {
     let house = match book.house().copy(alloc) {
         Ok(house) => house,
@@ -222,7 +223,7 @@ pub fn serve<R: Threads + Wait + Clock + Sync, G: Gate + Sync>(
     gate: &G,
 ) -> Result<Book, ServeError>
     requires { IsTrue (is_worker_count workers) }
-    ensures { IfOk result (λ b. IsRunOf book b) }
+    ensures { IfOk result (λ b. IsRunOf (stored book) (stored b)) }
 {
     let (house, ground) = prepare(alloc, book, workers)?;
     run_desk::<Brand, R, G>(rt, alloc, listener, &house, ground, connections, gate)

@@ -2,6 +2,7 @@
 
 ghost use Rattle.std.specs.Prelude.{IfOk, IsTrue};
 ghost use Rattle.gu_desk.specs.Views.{is_worker_count};
+ghost use Rattle.gu_book.specs.Seen.{stored};
 ghost use Rattle.gu_server.specs.Program.{IsServed};
 
 use crate::server::{ServeError, serve};
@@ -50,7 +51,7 @@ pub(crate) fn serve_port<
     connections: u32,
 ) -> Result<Book, ServiceError>
     requires { IsTrue (is_worker_count workers) }
-    ensures { IfOk result (λ b. IsServed house b) }
+    ensures { IfOk result (λ b. IsServed house (stored b)) }
 {
     let listener = match TcpListener::bind(rt, (Ipv4Addr::LOCALHOST, port)) {
         Ok(listener) => listener,

@@ -114,6 +114,10 @@ pub(crate) fn answer(
     if what == b"used".as_slice() {
         return show_used(rt, book, rest);
     }
+    if what == b"visits".as_slice() {
+        let visits = book.visits();
+        return println!(rt; "visits {visits}");
+    }
     if what == b"house".as_slice() {
         let house = book.house().house();
         return println!(rt; "house {house}");

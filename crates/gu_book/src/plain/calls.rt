@@ -3,17 +3,18 @@ ghost use Rattle.std.specs.Prelude.{◌≡◌, ◌≤◌, length, find, unwrap_o
 ghost use Rattle.gu_base.specs.Limits.{most_entries};
 ghost use Rattle.gu_base.specs.Same.{same_command};
 ghost use Rattle.gu_base.specs.Fees.{charges};
-ghost use Rattle.gu_base.specs.History.{records, live};
+ghost use Rattle.gu_base.specs.History.{records, live, RisesFrom};
 ghost use Rattle.gu_base.specs.Answers.{is_same_call, is_same_id, answer_by, status_of};
 ghost use Rattle.gu_base.specs.declared.entry.Answer.{Answer};
 ghost use Rattle.gu_base.specs.declared.entry.Answer.TheVariants.{Repeated, Refused};
 ghost use Rattle.gu_base.specs.declared.refusal.Refusal.TheVariants.{DuplicateId};
-ghost use Rattle.gu_book.specs.Found.{AreTreesOf};
+ghost use Rattle.gu_book.specs.Found.{IsNamedIn};
 ghost use Rattle.gu_book.specs.Front.{front_answer, front_rules, front_refusal};
 ghost use Rattle.gu_book.specs.Ids.{NoIdTwice};
 ghost use Rattle.gu_book.specs.Index.{AreIdsOf, IsIndexOf};
 ghost use Rattle.gu_consent.specs.Given.{given};
 ghost use Rattle.gu_fees.specs.Sums.{AreSumsOf};
+ghost use Rattle.gu_tree.specs.Shown.{named_node};
 
 use crate::index::Ids;
 use crate::plain::naming::naming_refusal;
@@ -82,7 +83,8 @@ fn front_refusal(at: &Standing<'_>, by: &FirmId, command: &Command) -> Option<Re
     requires charged { AreSumsOf at.now.fees.now (charges at.now.house.now at.now.changes) }
     requires few { length at.now.entries.now ≤ most_entries }
     requires live { at.now.changes ≡ live at.now.entries.now }
-    requires trees { AreTreesOf at.now.changes at.now.trees.now }
+    requires rises { RisesFrom 1 at.now.changes }
+    requires named { IsNamedIn at.now.changes (named_node command.now) at.now.named }
     ensures { result ≡ front_refusal at.now.house.now at.now.entries.now (given at.now.consents.now) by.now command.now }
 {
     match command {
@@ -92,7 +94,7 @@ fn front_refusal(at: &Standing<'_>, by: &FirmId, command: &Command) -> Option<Re
             }
             naming_refusal(at, by, command, *entry)
         }
-        _ => change_refusal(at.house, &at.changes, at.trees, at.fees, by, command),
+        _ => change_refusal(at, by, command),
     }
 }
 
@@ -102,7 +104,8 @@ fn new_answer(at: &Standing<'_>, by: &FirmId, command: &Command) -> Answer
     requires charged { AreSumsOf at.now.fees.now (charges at.now.house.now at.now.changes) }
     requires few { length at.now.entries.now ≤ most_entries }
     requires live { at.now.changes ≡ live at.now.entries.now }
-    requires trees { AreTreesOf at.now.changes at.now.trees.now }
+    requires rises { RisesFrom 1 at.now.changes }
+    requires named { IsNamedIn at.now.changes (named_node command.now) at.now.named }
     ensures { result ≡ front_rules at.now.house.now at.now.entries.now (given at.now.consents.now) by.now command.now }
 {
     if at.entries.len() >= Number::MAX as usize {
@@ -129,7 +132,8 @@ pub(crate) fn front_answer(
     requires charged { AreSumsOf at.now.fees.now (charges at.now.house.now at.now.changes) }
     requires few { length at.now.entries.now ≤ most_entries }
     requires live { at.now.changes ≡ live at.now.entries.now }
-    requires trees { AreTreesOf at.now.changes at.now.trees.now }
+    requires rises { RisesFrom 1 at.now.changes }
+    requires named { IsNamedIn at.now.changes (named_node command.now) at.now.named }
     ensures { result ≡ front_answer at.now.house.now at.now.entries.now (given at.now.consents.now) (record { firm = by.now; id = id.now; command = command.now }) }
 {
     if let Some(answer) = known(&at.index.ids, at.entries, by, id, command) {

@@ -2,13 +2,14 @@
 ghost use Rattle.std.specs.Prelude.{◌≡◌, ◌≤◌, ◌==◌, find, filter_map, Some, None, option_and_then, IfSome, OnOk};
 ghost use Rattle.gu_base.specs.Nodes.{deal_in, node_of};
 ghost use Rattle.gu_base.specs.Limits.{most_lots};
-ghost use Rattle.gu_book.specs.Found.{AreTreesOf};
+ghost use Rattle.gu_book.specs.Found.{AreTreesOf, IsNamedBy, IsNamedIn};
 ghost use Rattle.gu_book.specs.Holdings.{held_at, holding_of, held_above, taken_by, taken_before, part_holding, added_by, HasTaken, AreReady, HaveRoom, SameLots, HaveMoved, HaveThere, IsReadyTaken, HasRoomBack};
 ghost use Rattle.gu_book.specs.Limits.{AllWithinLimits};
 ghost use Rattle.gu_positions.specs.Rows.{IsReady};
+ghost use Rattle.gu_tree.specs.Shown.{named_node};
 ghost use Rattle.gu_positions.specs.declared.positions.Key.{Key as KeyData};
 
-use crate::found::find;
+use crate::found::{Named, find};
 use crate::live::Live;
 use crate::plain::nodes::parent_of;
 use gu_base::{Command, Deal, FirmId, Memory, NodeName, Number, Part, Place, Side};
@@ -69,20 +70,37 @@ fn holding_named(changes: &Live<'_>, trees: &Trees<Global>, name: NodeName) -> O
     }
 }
 
-/// What a command takes out of an account.
+/// The lots of the node that was found, where it stands.
+fn holding_found(changes: &Live<'_>, named: &Option<Named>, name: NodeName) -> Option<Holding>
+    requires within { AllWithinLimits changes.now }
+    requires named { IsNamedBy changes.now name named.now }
+    ensures value { result ≡ option_and_then (holding_of changes.now) (node_of changes.now name) }
+    ensures lots { IfSome result (λ h. h.lots ≤ most_lots) }
+{
+    match named {
+        None => None,
+        Some(x) => held_at(
+            &x.found.head.place,
+            &traded_under(changes, x.found.trade),
+            x.found.head.lots,
+        ),
+    }
+}
+
+/// What a command takes out of an account. The node that it names was found before.
 pub(crate) fn taken_by(
     changes: &Live<'_>,
-    trees: &Trees<Global>,
+    named: &Option<Named>,
     command: &Command,
 ) -> Option<Holding>
     requires within { AllWithinLimits changes.now }
-    requires trees { AreTreesOf changes.now trees.now }
+    requires named { IsNamedIn changes.now (named_node command.now) named.now }
     ensures value { result ≡ taken_by changes.now command.now }
     ensures lots { IfSome result (λ h. h.lots ≤ most_lots) }
 {
     match command {
-        Command::Split { node, .. } => holding_named(changes, trees, *node),
-        Command::Claim { node, .. } => holding_named(changes, trees, *node),
+        Command::Split { node, .. } => holding_found(changes, named, *node),
+        Command::Claim { node, .. } => holding_found(changes, named, *node),
         _ => None,
     }
 }

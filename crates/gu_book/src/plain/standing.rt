@@ -1,20 +1,19 @@
 //! What an answer is read from.
+use crate::found::Named;
 use crate::index::Index;
 use crate::live::Live;
 use gu_base::Entry;
 use gu_consent::Consents;
 use gu_fees::Fees;
 use gu_parties::House;
-use gu_tree::Trees;
-use std::alloc::Global;
 
-/// The house table, the history, its live changes, their trees, and what is kept beside them.
+/// The house table, the history, its live changes, the node that the command names, and what is kept beside them.
 #[derive(Drop)]
 pub(crate) struct Standing<'a> {
     pub(crate) house: &'a House,
     pub(crate) entries: &'a [Entry],
     pub(crate) changes: Live<'a>,
-    pub(crate) trees: &'a Trees<Global>,
+    pub(crate) named: Option<Named>,
     pub(crate) fees: &'a Fees,
     pub(crate) index: &'a Index,
     pub(crate) consents: &'a Consents,

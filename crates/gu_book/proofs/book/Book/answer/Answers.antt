@@ -7,11 +7,14 @@ use Rattle.gu_consent.specs.Given.{given}
 use Rattle.gu_book.specs.Front.{stands_refusal}
 use Rattle.gu_book.proofs.AllShown.{standing_found}
 use Rattle.gu_book.proofs.Fronts.{decided, settles, not_accepted, none_in_way}
-use Rattle.gu_book.proofs.Keeps.{trees_kept}
+use Rattle.gu_book.proofs.Leaves.{live_rises}
 use Rattle.gu_book.proofs.book.Book.answer.Goals as goal
 
-pub front_answer-answer-requires-clause-trees : goal.front_answer-answer-requires-clause-trees
-front_answer-answer-requires-clause-trees c = rw (c.of.ensures, c.as_slice.ensures.value) (trees_kept c.self.invariant.kept)
+pub front_answer-answer-requires-clause-rises : goal.front_answer-answer-requires-clause-rises
+front_answer-answer-requires-clause-rises c = rw (c.of.ensures, c.as_slice.ensures.value) (live_rises c.self.inside.entries.items)
+
+pub front_answer-answer-requires-clause-named : goal.front_answer-answer-requires-clause-named
+front_answer-answer-requires-clause-named c = rw (c.of.ensures, c.as_slice.ensures.value) (rw (← c.self.view_is) at c.requires)
 
 pub returns-in_default : goal.returns-in_default
 returns-in_default c =

@@ -6,7 +6,7 @@ use Rattle.gu_book.specs.Charging.{AreFeesOf}
 use Rattle.gu_book.specs.Holdings.{ArePositionsOf}
 use Rattle.gu_book.proofs.Charging.{fees_push, has_room}
 use Rattle.gu_book.proofs.Indexed.{ids_back, index_put}
-use Rattle.gu_book.proofs.Keeps.{next_kept, kept_change, kept_alike, live_few, live_more, trees_kept}
+use Rattle.gu_book.proofs.Keeps.{next_kept, kept_change, kept_alike, live_few, live_more}
 use Rattle.gu_book.proofs.Leaves.{live_rises}
 use Rattle.gu_book.proofs.Standings.{has_taken, have_room, positions_push}
 use Rattle.gu_book.proofs.book.Book.keep_change.Goals as goal
@@ -14,8 +14,8 @@ use Rattle.gu_book.proofs.book.Book.keep_change.Goals as goal
 pub charge_of-charge-requires-clause-rises : goal.charge_of-charge-requires-clause-rises
 charge_of-charge-requires-clause-rises c = rw (c.of-changes.ensures, c.as_slice.ensures.value) (live_rises c.self.inside.entries.items)
 
-pub taken_by-taken-requires-clause-trees : goal.taken_by-taken-requires-clause-trees
-taken_by-taken-requires-clause-trees c = rw (c.of-changes.ensures, c.as_slice.ensures.value) (trees_kept c.self.invariant.kept)
+pub taken_by-taken-requires-clause-named : goal.taken_by-taken-requires-clause-named
+taken_by-taken-requires-clause-named c = rw (c.of-changes.ensures, c.as_slice.ensures.value) (rw (← c.self.view_is) at c.requires.named)
 
 pub change-requires : goal.change-requires
 change-requires c =

@@ -1,0 +1,100 @@
+-- How many nodes a call visits, from what was seen before it was kept and what it made.
+use Rattle.std.proofs.Common.{◌≡◌, ℕ, ◌+◌, ◌≤◌, true, false, List, length, refl, sym, ◌∙◌, ap, subst, arith, Option}
+use Rattle.std.specs.Prelude.{Some, None, IsSome, IsSomeAnd, option_and_then, option_map, unwrap_or}
+use Rattle.gu_base.specs.Numbers.{EntryPart}
+use Rattle.gu_base.specs.House.{House}
+use Rattle.gu_base.specs.History.{live, is_change}
+use Rattle.gu_base.specs.Nodes.{node_of}
+use Rattle.gu_base.specs.Places.{depth_of}
+use Rattle.gu_base.specs.Refusals.{refusal_of}
+use Rattle.gu_base.specs.Answers.{answer_to}
+use Rattle.gu_base.specs.Runs.{call_of}
+use Rattle.gu_base.specs.declared.command.Command.{Command}
+use Rattle.gu_base.specs.declared.command.Command.TheVariants.{Trade, Split, Claim, Refuse, Cancel, Initiate, Decline, Reverse}
+use Rattle.gu_base.specs.declared.entry.Answer.TheVariants.{Accepted}
+use Rattle.gu_base.specs.declared.entry.Entry.{Entry}
+use Rattle.gu_base.specs.declared.entry.Record.{Record}
+use Rattle.gu_base.proofs.Accepted.{allowed, change_refused}
+use Rattle.gu_base.proofs.Passing.{refusal_parts}
+use Rattle.gu_tree.specs.Grove.{Grove, place_of, IsPlace}
+use Rattle.gu_tree.specs.Shown.{named_node}
+use Rattle.gu_tree.specs.ShownAll.{named_place, place_in, change_of}
+use Rattle.gu_book.specs.Found.{AreTreesOf}
+use Rattle.gu_book.specs.Visits.{AreVisits, IsMet, depth_meant, parts_in, parts_named, nodes_made}
+use Rattle.gu_book.proofs.AllShown.{undone}
+use Rattle.gu_book.proofs.Filed.{spot}
+use Rattle.gu_book.proofs.Orders.{names_there, in_order}
+
+some_there : {X : Type 0} (o : Option X) (x : X) → o ≡ Some x → IsSome o
+some_there None x e = absurd (cc)
+some_there (Some y) x e = refl
+
+some_place : (P : EntryPart → Type 0) (o : Option EntryPart) → IsSomeAnd o P → (n : EntryPart) × (o ≡ Some n) × P n
+some_place P None h = absurd h
+some_place P (Some n) h = (n, refl, h)
+
+-- ---- an accepted call meets what it names
+
+change_met : (t : House) (h : List Entry) (e : Entry) (n : ℕ) → answer_to t h (call_of e) ≡ Accepted n e.status → is_change e.command ≡ true
+    → (m : EntryPart) → named_node e.command ≡ Some m → IsSome (node_of (live h) m)
+change_met t h e n ok change m named =
+    let lawful : refusal_of t (live h) e.firm e.command ≡ None = sym (change_refused t h e.firm e.command change) ∙ (allowed t h e n ok).lawful in
+    let x = names_there t (live h) e.firm e.command m (refusal_parts t (live h) e.firm e.command lawful).1 named in
+    some_there (node_of (live h) m) x.0 x.1
+
+place_some : (k : ℕ) (c : Command) → is_change c ≡ true → IsSome (named_place k c)
+place_some k (Trade _ _ _ _ _) h = refl
+place_some k (Split _ _) h = refl
+place_some k (Claim _ _) h = refl
+place_some k (Refuse _) h = refl
+place_some k (Cancel _) h = refl
+place_some k (Initiate _) h = absurd (cc)
+place_some k (Decline _) h = absurd (cc)
+place_some k (Reverse _) h = absurd (cc)
+
+reverse_met : (t : House) (h : List Entry) (e : Entry) (n k : ℕ) → answer_to t h (call_of e) ≡ Accepted n e.status → e.command ≡ Reverse k → IsSome (place_in (live h) k)
+reverse_met t h e n k ok same =
+    let u = undone t h e n k ok same in
+    subst (λ (o : Option Record). IsSome (option_and_then (λ (r : Record). named_place r.number r.command) o)) (sym u.1.found) (place_some u.0.number u.0.command u.1.change)
+
+-- ---- what is counted
+
+-- the way to the place of a change
+pub way_to : {l : List Record} {g : Grove} → AreTreesOf l g → (k trade : ℕ) (p : List ℕ) → IsSomeAnd (place_of g k) (λ n. IsPlace g n trade p) → depth_meant l (Reverse k) ≡ length p
+way_to {l} {g} are k trade p at =
+    let m = some_place (λ n. IsPlace g n trade p) (place_of g k) at in
+    let s = spot are.filed (in_order are.house l are.replayed are.rises) trade p m.0 m.2 in
+    ap (λ o. unwrap_or (option_map (depth_of l) o) 0) (sym (are.filed.placed k) ∙ m.1) ∙ (ap (depth_of l) (sym s.called) ∙ s.said.deep)
+
+-- the parts of the Split that a Reverse names
+pub parts_of_named : (l : List Record) (k : ℕ) (r : Record) → change_of l k ≡ Some r → parts_named l (Reverse k) ≡ parts_in r.command
+parts_of_named l k r found = ap (λ (o : Option Record). unwrap_or (option_map (λ (r : Record). parts_in r.command) o) 0) found
+
+-- ---- the visits of a call
+
+-- a call that isn't kept visits what was seen
+pub visits_seen : (l : List Record) (c : Command) (seen : ℕ) → seen ≤ depth_meant l c + parts_named l c + 1 → AreVisits l c false seen
+visits_seen l c seen most = record { most = omega (arith, most); least = λ kept _. absurd (cc) }
+
+-- one that is kept visits what was seen, and what it made
+pub visits_kept : (t : House) (h : List Entry) (e : Entry) (n : ℕ) → answer_to t h (call_of e) ≡ Accepted n e.status
+    → (c : Command) → e.command ≡ c → (seen made : ℕ) → seen ≤ depth_meant (live h) c + parts_named (live h) c + 1
+    → (IsMet (live h) c → depth_meant (live h) c + parts_named (live h) c + 1 ≤ seen) → made ≡ nodes_made c → AreVisits (live h) c true (seen + made)
+visits_kept t h e n ok (Trade a b d s lots) same seen made most least is = record { most = omega (arith, most, is); least = λ _ _. omega (arith, is) }
+visits_kept t h e n ok (Split m ps) same seen made most least is =
+    let met = least (change_met t h e n ok (ap is_change same) m (ap named_node same)) in
+    record { most = omega (arith, most, is); least = λ _ _. omega (arith, met, is) }
+visits_kept t h e n ok (Claim m a) same seen made most least is =
+    let met = least (change_met t h e n ok (ap is_change same) m (ap named_node same)) in
+    record { most = omega (arith, most, is); least = λ _ _. omega (arith, met, is) }
+visits_kept t h e n ok (Refuse m) same seen made most least is =
+    let met = least (change_met t h e n ok (ap is_change same) m (ap named_node same)) in
+    record { most = omega (arith, most, is); least = λ _ _. omega (arith, met, is) }
+visits_kept t h e n ok (Cancel m) same seen made most least is =
+    let met = least (change_met t h e n ok (ap is_change same) m (ap named_node same)) in
+    record { most = omega (arith, most, is); least = λ _ _. omega (arith, met, is) }
+visits_kept t h e n ok (Initiate k) same seen made most least is = record { most = omega (arith, most, is); least = λ _ z. absurd (cc) }
+visits_kept t h e n ok (Decline k) same seen made most least is = record { most = omega (arith, most, is); least = λ _ z. absurd (cc) }
+visits_kept t h e n ok (Reverse k) same seen made most least is =
+    let met = least (reverse_met t h e n k ok same) in
+    record { most = omega (arith, most, is); least = λ _ _. omega (arith, met, is) }

@@ -1,0 +1,8 @@
+use Rattle.std.proofs.Common.{subst}
+use Rattle.std.specs.Prelude.{IfOk}
+use Rattle.gu_book.specs.Seen.{HouseAndHistory, BookView, stored}
+use Rattle.gu_desk.specs.Runs.{IsRunOf}
+use Rattle.gu_server.proofs.server.serve.Goals as goal
+
+pub returns : goal.returns
+returns g c = subst (λ (o : HouseAndHistory). IfOk c.run_desk.result (λ (b : BookView). IsRunOf o (stored b))) c.in_ok-house.ensures.opening c.run_desk.ensures
