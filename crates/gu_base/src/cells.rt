@@ -15,6 +15,9 @@ use std::marker::Model;
 /// The last byte that is printed.
 const LAST_PRINTED: u8 = 126;
 
+/// The bytes of a word.
+const WORD_LEN: usize = 8;
+
 /// At most `CAP` bytes in place, which are 255 at most: their count takes one byte more. The places behind them hold 0, so that equal
 /// texts are equal values.
 #[derive(Clone, Copy, Debug)]
@@ -76,6 +79,39 @@ impl<const CAP: usize> Cells<CAP> {
     }
 }
 
+/// The order of two words, that of the numbers that they make, the first byte the highest.
+#[inline(always)]
+fn by_word(left: &[u8; WORD_LEN], right: &[u8; WORD_LEN]) -> Ordering
+    ensures { result ≡ slice_cmp nat_cmp left.now right.now }
+{
+    u64::from_be_bytes(*left).cmp(&u64::from_be_bytes(*right))
+}
+
+/// The order of two slices of bytes, word by word, and at last by the bytes that fill no word.
+#[inline(always)]
+fn by_words(left: &[u8], right: &[u8]) -> Ordering
+    ensures { result ≡ slice_cmp nat_cmp left.now right.now }
+{
+    let mut left_rest = left;
+    let mut right_rest = right;
+    'words: while let (Some((a, left_next)), Some((b, right_next))) = (
+        left_rest.split_first_chunk::<WORD_LEN>(),
+        right_rest.split_first_chunk::<WORD_LEN>(),
+    ) {
+        let order = by_word(a, b);
+        if order.is_ne() {
+            return order;
+        }
+        left_rest = left_next;
+        right_rest = right_next;
+    }
+    // The call below isn't taken in line; where no bytes are left, as of a room of whole words, it isn't made.
+    if left_rest.is_empty() && right_rest.is_empty() {
+        return Ordering::Equal;
+    }
+    left_rest.cmp(&right_rest)
+}
+
 impl<const CAP: usize> PartialEq for Cells<CAP> {
     ghost eq = { λ s t. pointwise nat_eq s t };
 
@@ -109,8 +145,13 @@ impl<const CAP: usize> Ord for Cells<CAP> {
 
     ghost matches_eq = { λ s t. texts_ties s t };
 
+    #[inline(always)]
     fn cmp(&self, other: &Self) -> Ordering {
-        self.as_slice().cmp(&other.as_slice())
+        let order = by_words(&self.cells, &other.cells);
+        if order.is_ne() {
+            return order;
+        }
+        self.len.cmp(&other.len)
     }
 }
 
