@@ -236,11 +236,9 @@ impl Answering {
             return Ok(());
         }
         let message = Index::new(fields, &slots, walked.carried);
-        let meaning = meaning_in(alloc, &message, &house, &mut room.parts);
+        let mut meaning = meaning_in(alloc, &message, &house, &mut room.parts);
         let answered = self.answer_meaning(alloc, fields, &meaning, &mut room.body, out);
-        if let Ok(inbound) = meaning {
-            give_back(inbound, &mut room.parts);
-        }
+        give_back(alloc, &mut meaning, &mut room.parts);
         answered
     }
 }

@@ -55,16 +55,15 @@ pub(crate) enum Came {
     Fault,
 }
 
-/// One read of as much as the feed has room for, into the feed.
-fn fill<R: Source>(reader: &mut R, feed: &mut Feed) -> Came
+/// One read of as much as the feed has room for, by way of this buffer, into the feed. What an earlier read left in the buffer isn't looked at.
+fn fill<R: Source>(reader: &mut R, feed: &mut Feed, buf: &mut [u8; LONGEST_READ]) -> Came
     requires unbroken { feed.old.broken ≡ None }
     requires room { length feed.old.held < longest_frame }
     requires short { feed.old.passed + length feed.old.held + longest_read ≤ longest_stream }
     ensures fills { Fills (R.remaining reader.old) (R.remaining reader.new) (R.failed reader.old) (R.failed reader.new) feed.old feed.new result }
     ensures made { CountsOne (R.made reader.old) (R.made reader.new) }
 {
-    let mut buf = [0; LONGEST_READ];
-    let most = feed.room().min(LONGEST_READ);
+    let most = feed.room().min(buf.len());
     match reader.read(&mut buf[..most]) {
         Ok(0) => Came::End,
         Ok(n) => {
@@ -135,8 +134,9 @@ fn answer_reads<R: Source, W: Sink>(
     let mut out = Vec::new(alloc);
     let mut room = Room::new(alloc);
     let mut total = 0usize;
+    let mut buf = [0; LONGEST_READ];
     'reads: for _ in 0..MOST_READS {
-        match fill(reader, &mut feed) {
+        match fill(reader, &mut feed, &mut buf) {
             Came::Nothing => {}
             Came::Fault => return Err(RunError::Read),
             Came::End => return end_of(&feed, total),
