@@ -114,13 +114,6 @@ impl<T> Counted<T> {
         Counted { inner, counts }
     }
 
-    /// The reader or writer.
-    pub fn inner(&self) -> &T
-        ensures { result.now ≡ self.now.inner }
-    {
-        &self.inner
-    }
-
     /// The reader or writer back, without its counts.
     pub fn into_inner(self) -> T
         ensures { result ≡ self.inner }

@@ -12,14 +12,13 @@ use Rattle.gu_base.specs.declared.refusal.Refusal.{Refusal}
 use Rattle.gu_base.specs.declared.refusal.Refusal.TheVariants.{UnknownFirm, AlreadySplit, AlreadyReversed, NeedsConsent, StandsOn, DuplicateId}
 use Rattle.gu_base.specs.declared.entry.Answer.{Answer}
 use Rattle.gu_base.specs.declared.entry.Answer.TheVariants.{Accepted, Repeated, Refused}
-use Rattle.gu_base.specs.declared.state.State.{State}
 use Rattle.gu_life.specs.Status.{code_of}
 use Rattle.gu_codec.specs.Fields.{IsValue, IsBody}
 use Rattle.gu_codec.specs.Messages.{Message}
 use Rattle.gu_codec.specs.Writing.{IsLawfulField, IsWritable}
 use Rattle.gu_codec.proofs.ReadBack.{no_soh, lawful, most_of, fields_short, firm_text, message_writable}
 use Rattle.gu_message.specs.declared.fault.Reject.{Reject}
-use Rattle.gu_message.specs.Bodies.{refused_fields, IsLawfulRefusal, IsLawfulAnswer}
+use Rattle.gu_message.specs.Bodies.{IsLawfulRefusal, IsLawfulAnswer}
 use Rattle.gu_message.specs.Checks.{name_of}
 use Rattle.gu_message.specs.Finding.{value_of}
 use Rattle.gu_message.specs.AllocationAck.{ack_fields}

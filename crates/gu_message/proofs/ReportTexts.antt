@@ -3,7 +3,6 @@ use Rattle.std.proofs.Common.{◌≡◌, ℕ, ◌+◌, ◌*◌, ◌<◌, ◌≤�
 use Rattle.std.specs.Prelude.{codes, decimal}
 use Rattle.std.specs.List.{flat_map}
 use Rattle.gu_base.specs.declared.report.ReportPart.{ReportPart}
-use Rattle.gu_codec.specs.Messages.{Message}
 use Rattle.gu_codec.specs.Writing.{field, fields_text}
 use Rattle.gu_codec.proofs.ReadBack.{text_join}
 use Rattle.gu_message.specs.AllocationReport.{part_fields, shown_parts}

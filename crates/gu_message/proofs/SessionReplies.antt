@@ -1,12 +1,12 @@
 -- The messages of the session are lawful.
-use Rattle.std.proofs.Common.{◌≡◌, ℕ, ◌+◌, ◌≤◌, Bool, true, false, List, [], ◌∷◌, ◌++◌, length, refl, arith, IsTrue}
+use Rattle.std.proofs.Common.{ℕ, ◌≤◌, Bool, true, false, List, [], length, refl, arith, IsTrue}
 use Rattle.std.specs.Prelude.{Option, Some, None, IfSome, codes, decimal}
 use Rattle.gu_base.specs.Names.{is_firm_text}
 use Rattle.gu_message.specs.declared.session_bodies.LogoutText.{LogoutText}
 use Rattle.gu_message.specs.declared.session_bodies.LogoutText.TheVariants.{BadHeader, NumberTooLow, SecondLogon, NoHeartbeat}
 use Rattle.gu_message.specs.SessionBodies.{logon_fields, heartbeat_fields, test_request_fields, resend_request_fields, sequence_reset_fields, logout_text, logout_fields}
 use Rattle.gu_message.specs.Reply.{IsLawfulReply}
-use Rattle.gu_message.specs.SessionReplies.{to_firm, IsTestReqId, AreLawful, SessionMessagesAreLawful}
+use Rattle.gu_message.specs.SessionReplies.{to_firm, IsTestReqId, SessionMessagesAreLawful}
 use Rattle.gu_message.proofs.Replies.{IsShort, short, joined, decimal_shown, decimal_short, byte_short, given, reply_lawful}
 
 logon_lawful : (firm : List ℕ) → IsTrue (is_firm_text firm) → (heartbeat : ℕ) (reset : Bool) → IsLawfulReply (to_firm firm (codes "A") (logon_fields heartbeat reset))

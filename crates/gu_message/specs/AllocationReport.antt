@@ -1,7 +1,6 @@
 -- The body of an AllocationReport (AS).
-use Rattle.std.specs.Prelude.{ℕ, ◌≤◌, List, [], ◌∷◌, ◌++◌, length, take, codes, decimal, Option, Some, None, unsigned_abs}
+use Rattle.std.specs.Prelude.{ℕ, ◌≤◌, List, [], ◌∷◌, ◌++◌, length, take, codes, decimal, Option, Some, None}
 use Rattle.std.specs.List.{flat_map}
-use Rattle.jiff.specs.Types.{Timestamp}
 use Rattle.gu_base.specs.Numbers.{EntryPart}
 use Rattle.gu_base.specs.Limits.{most_parts}
 use Rattle.gu_base.specs.declared.command.Side.{Side}
@@ -13,7 +12,6 @@ use Rattle.gu_base.specs.declared.report.Report.{Report}
 use Rattle.gu_life.specs.Status.{code_of}
 use Rattle.gu_codec.specs.Messages.{Message}
 use Rattle.gu_codec.specs.Tags as tag
-use Rattle.gu_message.specs.SendingTime.{sending_time}
 
 -- `entry.part`
 abbrev pub node_text : EntryPart → List ℕ

@@ -1,19 +1,18 @@
 //! The bodies of the session's messages (`docs/profile.md`, "Its messages").
 
-ghost use Rattle.std.specs.Prelude.{◌≡◌, ◌≤◌, ◌+◌, ◌++◌, OnOk, OnErr, codes, decimal, length, vec_len, vec_capacity};
+ghost use Rattle.std.specs.Prelude.{◌≡◌, ◌≤◌, ◌++◌, OnOk, OnErr, codes, length};
 ghost use Rattle.gu_codec.specs.Answer.{pairs};
 ghost use Rattle.gu_codec.specs.Tags as tag;
-ghost use Rattle.gu_codec.specs.Writing.{field, fields_text};
+ghost use Rattle.gu_codec.specs.Writing.{fields_text};
 ghost use Rattle.gu_message.specs.Finding.{value_of, is_text as is_text_of};
 ghost use Rattle.gu_message.specs.SessionBodies.{reset_fields, logon_fields, heartbeat_fields, test_request_fields, resend_request_fields, sequence_reset_fields, logout_text, logout_fields};
 
-use crate::bodies::{ROOM, append_number_field};
+use crate::bodies::{ROOM, append_number_field, append_number_text};
 use crate::finding::is_text;
 use crate::msg_types;
 use crate::test_req_id::TestReqId;
 use gu_base::Memory;
-use gu_codec::{Fields, append, append_field, tags};
-use itoa::Buffer;
+use gu_codec::{Fields, append_field, tags};
 
 /// Why the service ends a session: Text (58) of its Logout (`docs/profile.md`, "The session").
 #[derive(Clone, Copy, Debug, PartialEq, Eq)]
@@ -113,19 +112,6 @@ pub fn sequence_reset(out: &mut Vec<u8>, next: u32) -> Result<(), Memory>
     Ok(())
 }
 
-/// Appends Text (58) of a number that is too low within the room that is there.
-fn append_too_low(out: &mut Vec<u8>, expected: u32)
-    requires { vec_len out.old + 256 ≤ vec_capacity out.old }
-    ensures items { out.new.items ≡ out.old.items ++ field tag.text (codes "sequence number too low, expected " ++ decimal expected) }
-    ensures len { vec_len out.new ≤ vec_len out.old + 100 }
-{
-    let mut digits = Buffer::new();
-    append(out, digits.format(tags::TEXT).as_bytes());
-    append(out, b"=sequence number too low, expected ");
-    append(out, digits.format(expected).as_bytes());
-    append(out, b"\x01");
-}
-
 /// Appends the body of a Logout (5): Text (58) with this reason, or nothing.
 ///
 /// # Errors
@@ -140,7 +126,9 @@ pub fn logout(out: &mut Vec<u8>, text: Option<LogoutText>) -> Result<(), Memory>
     match text {
         None => {}
         Some(LogoutText::BadHeader) => append_field(out, tags::TEXT, b"bad header"),
-        Some(LogoutText::NumberTooLow { expected }) => append_too_low(out, expected),
+        Some(LogoutText::NumberTooLow { expected }) => {
+            append_number_text(out, b"sequence number too low, expected ", expected)
+        }
         Some(LogoutText::SecondLogon) => append_field(out, tags::TEXT, b"second logon"),
         Some(LogoutText::NoHeartbeat) => append_field(out, tags::TEXT, b"no heartbeat"),
     }

@@ -1,5 +1,5 @@
-use Rattle.std.proofs.Common.{◌≡◌, ℕ, List, [], ◌∷◌, ◌++◌, ap, ◌∙◌}
-use Rattle.std.specs.Prelude.{codes, decimal}
+use Rattle.std.proofs.Common.{ℕ, List, ◌++◌, ap, ◌∙◌}
+use Rattle.std.specs.Prelude.{decimal}
 use Rattle.gu_message.proofs.ReportTexts.{node_joined}
 use Rattle.gu_message.proofs.allocation_report.append_node_field.Goals as goal
 

@@ -1,4 +1,4 @@
-use Rattle.std.proofs.Common.{◌≡◌, ◌<◌, length, arith}
+use Rattle.std.proofs.Common.{◌<◌, length, arith}
 use Rattle.std.proofs.lemmas.Bool.Decides.{nat_tests}
 use Rattle.gu_message.proofs.ReportTexts.{shown_text}
 use Rattle.gu_message.proofs.allocation_report.append_parts.Goals as goal
