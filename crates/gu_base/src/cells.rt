@@ -1,10 +1,9 @@
 //! Texts of bounded length that lie in the value itself.
-ghost use Rattle.std.specs.Prelude.{◌≡◌, ◌≤◌, ◌++◌, ◌-◌, List, ℕ, length, take, drop, replicate, Some, None, if◌then◌else◌, refl, nat_eq};
+ghost use Rattle.std.specs.Prelude.{◌≡◌, ◌≤◌, ◌++◌, ◌∷◌, [], ◌-◌, List, ℕ, length, take, drop, replicate, Some, None, if◌then◌else◌, refl, nat_eq};
 ghost use Rattle.std.specs.Ordering.{nat_cmp};
 ghost use Rattle.std.specs.Cmp.Lexicographic.{pointwise, slice_cmp, nat_list_eq_equiv, nat_list_cmp_total, texts_po, texts_ties};
 ghost use Rattle.std.specs.Cmp.{on_equiv, on_total, on_po, on_per, partial_equiv_from_equiv};
 ghost use Rattle.std.specs.Cmp.Rules.{hashing};
-ghost use Rattle.std.specs.Hash as fed;
 ghost use Rattle.std.proofs.Common.{rules};
 ghost use Rattle.gu_base.specs.Cells.{is_text_from, most_cells};
 
@@ -117,8 +116,9 @@ impl<const CAP: usize> PartialEq for Cells<CAP> {
 
     ghost laws = { on_per (λ s. s) (partial_equiv_from_equiv nat_list_eq_equiv) };
 
+    #[inline(always)]
     fn eq(&self, other: &Self) -> bool {
-        self.as_slice() == other.as_slice()
+        self.cmp(other).is_eq()
     }
 }
 
@@ -156,11 +156,12 @@ impl<const CAP: usize> Ord for Cells<CAP> {
 }
 
 impl<const CAP: usize> Hash for Cells<CAP> {
-    ghost hash_input = { λ s. fed.slice fed.u8 s };
+    ghost hash_input = { λ s. (s ++ replicate (CAP - length s) 0) ∷ [] };
 
     ghost respects_eq = { Prim.search (hashing, rules) };
 
+    #[inline(always)]
     fn hash<H: Hasher>(&self, state: &mut H) {
-        self.as_slice().hash(state);
+        state.write(&self.cells);
     }
 }
