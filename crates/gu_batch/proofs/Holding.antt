@@ -42,9 +42,6 @@ pub answer_of : (f h : Stream) (r q : Option Frame) → f.broken ≡ None → Ne
 answer_of f h r q e a k w =
     (subst (λ (o : Option Frame). NextOf None f (option_map settled o)) w (subst (λ (b : Option ℕ). NextOf b f (option_map settled r)) e a), subst (λ (o : Option Frame). h ≡ next_after f o) w k)
 
-pub leads_first : (p : Progress) (f : Stream) → f.broken ≡ None → LeadsTo p f p f []
-leads_first p f e = record { unbroken = e; same = refl; counted = λ k. k; goes = λ later end more h. h; plays = λ later end behind h. h }
-
 pub leads_good : (p q : Progress) (f g h : Stream) (out : List ℕ) (fields : Fields) (len : ℕ)
     → LeadsTo p f q g out → NextOf None g (Some (Whole fields len)) → h ≡ next_after g (Some (Whole fields len))
     → LeadsTo p f (progress_after q (pairs fields)) h (out ++ stream_text (answers_to q (pairs fields)))

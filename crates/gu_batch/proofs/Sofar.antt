@@ -1,5 +1,5 @@
 -- A batch, piece by piece.
-use Rattle.std.proofs.Common.{◌≡◌, ℕ, ◌+◌, ◌^◌, ◌<◌, ◌≤◌, inl, inr, List, [], ◌∷◌, ◌++◌, length, take, drop, Option, Some, None, Result, Ok, Err, refl, sym, ap, subst, ◌∙◌, append_assoc, append-nil, arith, length-append, take-append-drop}
+use Rattle.std.proofs.Common.{◌≡◌, ℕ, ◌+◌, ◌*◌, ◌^◌, ◌<◌, ◌≤◌, inl, inr, List, [], ◌∷◌, ◌++◌, length, take, drop, Option, Some, None, Result, Ok, Err, refl, sym, ap, subst, ◌∙◌, append_assoc, append-nil, arith, length-append, take-append-drop}
 use Rattle.std.specs.Io.KnownBytes.{Consumes, Appends, IsAtEnd}
 use Rattle.std.proofs.KnownBytes.{Consumes-nil, Consumes-trans, Appends-nil, Appends-trans}
 use Rattle.gu_codec.specs.Grammar.{IsFront}
@@ -8,14 +8,32 @@ use Rattle.gu_base.specs.House.{House}
 use Rattle.gu_codec.specs.Messages.{End, Clean, Truncated, Broken, Ends}
 use Rattle.gu_codec.proofs.Streams.{front_nil}
 use Rattle.gu_batch.specs.Output.{Progress, start, output_of, progress_of, Answers, Plays}
+use Rattle.gu_batch.specs.Limits.{longest_read}
 use Rattle.gu_batch.specs.Counts.{CountsOne, Fails}
 use Rattle.gu_batch.specs.Held.{LeadsTo, AnswersHeld}
 use Rattle.gu_batch.specs.declared.batch.RunError.{RunError}
 use Rattle.gu_batch.specs.declared.batch.RunError.TheVariants as error
 use Rattle.gu_batch.specs.declared.batch.Came.TheVariants as came
-use Rattle.gu_batch.specs.Runs.{Told, IsRightFor, IsRight, RunsTo, and_progress, Fills, PieceFails, PieceRight, EndsAs, Sofar}
+use Rattle.gu_batch.specs.Runs.{Told, IsRightFor, IsRight, RunsTo, and_progress, Fills, PieceFails, PieceRight, EndsAs}
 use Rattle.gu_batch.proofs.Outputs.{begun, output_so, behind_so, begun_so, prefix_so}
 use Rattle.gu_batch.proofs.Holding.{leads_begun}
+
+-- what was read and written in so many turns, and how whatever comes later completes it
+pub record Sofar (house : House) (old new : Told) (p : Progress) (f : Stream) (total turns : ℕ) : Type 0 where
+  pub bytes : List ℕ
+  pub out : List ℕ
+  pub consumed : Consumes old.left new.left bytes
+  pub appended : Appends old.contents new.contents out
+  pub unbroken : f.broken ≡ None
+  pub counted : total ≡ f.passed + length f.held
+  pub few : total ≤ turns * longest_read
+  pub numbered : p.written ≤ f.passed
+  pub front : IsFront f.held
+  pub goes : (later : List ℕ) (end : Option End) (more : List ℕ) → Answers p f.passed (f.held ++ later) end more → Answers (start house) 0 (bytes ++ later) end (out ++ more)
+  pub plays : (later : List ℕ) (end : Option End) (behind : Progress) → Plays p f.passed (f.held ++ later) end behind → Plays (start house) 0 (bytes ++ later) end behind
+  pub made : old.made + turns < 2 ^ 64 → new.made ≡ old.made + turns
+  pub reads : old.reads_failed ≤ new.reads_failed
+  pub writes : old.writes_failed ≤ new.writes_failed
 
 -- ---- one piece
 

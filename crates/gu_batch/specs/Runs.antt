@@ -1,12 +1,12 @@
 -- What a batch does to its reader and its writer.
-use Rattle.std.specs.Prelude.{◌≡◌, ◌≢◌, ℕ, ◌+◌, ◌*◌, ◌^◌, ◌<◌, ◌≤◌, ◌⊎◌, List, [], ◌++◌, length, take, Option, None, Result, Ok, Err, IfOk}
+use Rattle.std.specs.Prelude.{◌≡◌, ◌≢◌, ℕ, ◌+◌, ◌^◌, ◌<◌, ◌≤◌, ◌⊎◌, List, [], ◌++◌, length, take, Option, None, Result, Ok, Err, IfOk}
 use Rattle.std.specs.Io.KnownBytes.{Consumes, Appends, IsAtEnd}
 use Rattle.gu_codec.specs.Grammar.{IsFront}
 use Rattle.gu_codec.specs.Stream.{Stream}
 use Rattle.gu_base.specs.House.{House}
 use Rattle.gu_codec.specs.Messages.{End, Clean, Truncated, Broken}
 use Rattle.gu_codec.specs.Readings.{messages_of, end_of}
-use Rattle.gu_batch.specs.Output.{Progress, start, texts, output_of, progress_of, Answers, Plays}
+use Rattle.gu_batch.specs.Output.{Progress, start, texts, output_of, progress_of, Answers}
 use Rattle.gu_batch.specs.Held.{LeadsTo, HeldFails}
 use Rattle.gu_batch.specs.Limits.{most_reads, longest_read}
 use Rattle.gu_batch.specs.Counts.{Fails}
@@ -114,22 +114,3 @@ EndFails f (error.NoLiveTrade trade) = ⊥
 abbrev pub EndsAs : {A : Type 0} → Stream → Result A RunError → Type 0
 EndsAs f (Ok x) = f.held ≡ []
 EndsAs f (Err e) = EndFails f e
-
--- ---- so far
-
--- what was read and written in so many turns, and how whatever comes later completes it
-pub record Sofar (house : House) (old new : Told) (p : Progress) (f : Stream) (total turns : ℕ) : Type 0 where
-  pub bytes : List ℕ
-  pub out : List ℕ
-  pub consumed : Consumes old.left new.left bytes
-  pub appended : Appends old.contents new.contents out
-  pub unbroken : f.broken ≡ None
-  pub counted : total ≡ f.passed + length f.held
-  pub few : total ≤ turns * longest_read
-  pub numbered : p.written ≤ f.passed
-  pub front : IsFront f.held
-  pub goes : (later : List ℕ) (end : Option End) (more : List ℕ) → Answers p f.passed (f.held ++ later) end more → Answers (start house) 0 (bytes ++ later) end (out ++ more)
-  pub plays : (later : List ℕ) (end : Option End) (behind : Progress) → Plays p f.passed (f.held ++ later) end behind → Plays (start house) 0 (bytes ++ later) end behind
-  pub made : old.made + turns < 2 ^ 64 → new.made ≡ old.made + turns
-  pub reads : old.reads_failed ≤ new.reads_failed
-  pub writes : old.writes_failed ≤ new.writes_failed

@@ -1,4 +1,4 @@
-use Rattle.gu_batch.specs.Runs.{Sofar}
+use Rattle.gu_batch.proofs.Sofar.{Sofar}
 use Rattle.gu_batch.proofs.batch.answer_reads.Given as goal
 
 abbrev pub invariant-reads : goal.invariant-reads
