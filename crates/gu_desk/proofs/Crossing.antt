@@ -19,6 +19,3 @@ till_send job n l = search (book_send, total.the_send, share.the_send, sendable)
 
 pub desk_sync : (job : RattleType) (n : named.Ghosts job.Denot) (l : ledger.Ghosts job.Denot) → IsSync (Desk.the_row job n l)
 desk_sync job n l = search (till_send, crosses, sendable) depth 12
-
-pub desk_send : (job : RattleType) (n : named.Ghosts job.Denot) (l : ledger.Ghosts job.Denot) → IsSend (Desk.the_row job n l)
-desk_send job n l = search (till_send, crosses, sendable) depth 12
