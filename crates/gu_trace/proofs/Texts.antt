@@ -1,7 +1,6 @@
 -- Text that is written piece by piece along a list.
-use Rattle.std.proofs.Common.{◌≡◌, ℕ, zero, suc, ◌+◌, ◌-◌, ◌<◌, ◌≤◌, List, [], ◌∷◌, ◌++◌, refl, sym, ◌∙◌, ap, arith, length, drop, get_or, append_assoc, append-nil}
+use Rattle.std.proofs.Common.{◌≡◌, ℕ, zero, suc, ◌+◌, ◌-◌, ◌<◌, List, [], ◌∷◌, ◌++◌, refl, sym, ◌∙◌, ap, arith, length, drop, append_assoc}
 use Rattle.std.specs.Prelude.{codes, flat_map, map, Option, Some, None, slice_get, Result, Ok, Err, OnOk, Bool, true, false, cond}
-use Rattle.std.proofs.lemmas.Option.{slice_get_read}
 use Rattle.gu_base.specs.House.{House}
 use Rattle.gu_base.specs.History.{live}
 use Rattle.gu_base.specs.Rows.{Row, rows_of}
@@ -25,12 +24,6 @@ nothing [] (suc i) past = refl
 nothing (x ∷ xs) zero past = absurd (cc)
 nothing (x ∷ xs) (suc i) past = nothing xs i past
 
-past_end : {A : Type 0} (xs : List A) (i : ℕ) → length xs ≤ i → drop i xs ≡ []
-past_end [] zero past = refl
-past_end [] (suc i) past = refl
-past_end (x ∷ xs) zero past = absurd (omega arith)
-past_end (x ∷ xs) (suc i) past = past_end xs i (omega arith)
-
 -- what was written, with what the elements from a place on still give, is the whole
 pub written : {A : Type 0} (f : A → List ℕ) (xs : List A) (i : ℕ) (x : A) (before after whole : List ℕ)
     → slice_get xs i ≡ Some x → after ≡ before ++ f x → before ++ flat_map f (drop i xs) ≡ whole → after ++ flat_map f (drop (i + 1) xs) ≡ whole
@@ -39,22 +32,11 @@ written f xs i x before after whole found more so_far =
     ∙ (append_assoc before (f x) (flat_map f (drop (i + 1) xs))
     ∙ (ap (λ t. before ++ t) (sym (step f xs i x found)) ∙ so_far))
 
--- the same of an element that was read at its place
-pub written_at : {A : Type 0} (f : A → List ℕ) (xs : List A) (i : ℕ) (x : A) (before after whole : List ℕ)
-    → i < length xs → x ≡ get_or xs i x → after ≡ before ++ f x → before ++ flat_map f (drop i xs) ≡ whole → after ++ flat_map f (drop (i + 1) xs) ≡ whole
-written_at f xs i x before after whole within is more so_far =
-    written f xs i x before after whole (slice_get_read xs (length xs) i x refl within is) more so_far
-
 -- before the end an element stands
 pub is_there : {A : Type 0} (xs : List A) (i : ℕ) → i < length xs → slice_get xs i ≡ None → ⊥
 is_there [] i within absent = omega arith
 is_there (x ∷ xs) zero within absent = cc
 is_there (x ∷ xs) (suc i) within absent = is_there xs i (omega arith) absent
-
--- behind the last element the whole is written
-pub complete : {A : Type 0} (f : A → List ℕ) (xs : List A) (i : ℕ) (before whole : List ℕ)
-    → length xs ≤ i → before ++ flat_map f (drop i xs) ≡ whole → before ≡ whole
-complete f xs i before whole past so_far = sym (append-nil before) ∙ (ap (λ ys. before ++ flat_map f ys) (sym (past_end xs i past)) ∙ so_far)
 
 indent_more : (depth level : ℕ) → level < depth → indent (depth - level) ≡ codes "  " ++ indent (depth - (level + 1))
 indent_more depth level within = let e : depth - level ≡ suc (depth - (level + 1)) = omega arith in ap indent e
@@ -66,11 +48,6 @@ indented depth level before after whole within more so_far =
     ap (λ t. t ++ indent (depth - (level + 1))) more
     ∙ (append_assoc before (codes "  ") (indent (depth - (level + 1)))
     ∙ (ap (λ t. before ++ t) (sym (indent_more depth level within)) ∙ so_far))
-
-pub indented_all : (depth level : ℕ) (before whole : List ℕ) → depth ≤ level → before ++ indent (depth - level) ≡ whole → before ≡ whole
-indented_all depth level before whole past so_far =
-    let e : 0 ≡ depth - level = omega arith in
-    sym (append-nil before) ∙ (ap (λ n. before ++ indent n) e ∙ so_far)
 
 pub on_ok : {A E : Type 0} (P Q : Type 0) (r : Result A E) → (P → Q) → OnOk r P → OnOk r Q
 on_ok P Q (Ok x) f h = f h

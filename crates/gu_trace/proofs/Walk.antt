@@ -1,16 +1,14 @@
 -- The walk over the entries behind a number.
-use Rattle.std.proofs.Common.{◌≡◌, ℕ, zero, suc, ◌+◌, ◌-◌, ◌<◌, ◌≤◌, true, false, List, [], ◌∷◌, ◌++◌, refl, sym, ◌∙◌, ap, arith, Option, cond, ltb, length, drop, take, get_or, append_assoc, append-nil}
-use Rattle.std.specs.Prelude.{Some, None, filter, nat_lt, slice_get, option_map, Result, Ok, Err, IfOk}
+use Rattle.std.proofs.Common.{◌≡◌, ℕ, zero, suc, ◌+◌, ◌-◌, ◌<◌, ◌≤◌, List, [], ◌∷◌, ◌++◌, refl, sym, ◌∙◌, ap, arith, Option, ltb, length, drop, take, append_assoc, append-nil}
+use Rattle.std.specs.Prelude.{Some, None, filter, nat_lt, slice_get, option_map}
 use Rattle.std.specs.List.{filter_map, cons_option}
 use Rattle.std.proofs.lemmas.Bool.Decides.{Decides-ltb}
 use Rattle.std.proofs.lemmas.List.{length-append}
-use Rattle.std.proofs.lemmas.Option.{slice_get_read}
 use Rattle.gu_base.specs.History.{numbered_as, numbered_from, records}
 use Rattle.gu_base.specs.declared.entry.Entry.{Entry}
 use Rattle.gu_base.specs.declared.entry.Record.{Record}
 use Rattle.gu_base.specs.declared.report.Report.{Report}
-use Rattle.gu_trace.specs.Concerns.{concerns}
-use Rattle.gu_trace.specs.Reports.{report_of, told}
+use Rattle.gu_trace.specs.Reports.{told}
 use Rattle.std.proofs.lemmas.Bool.{false_from_ne_true}
 
 all_behind : (after k : ℕ) (h : List Entry) → after < k → filter (λ r. nat_lt after r.number) (numbered_from k h) ≡ numbered_from k h
@@ -110,23 +108,6 @@ pub walked_on : (f : Record → Option Report) (h : List Entry) (i : ℕ) (found
     → filled found (rest f h i) ≡ whole → filled (found ++ r ∷ []) (rest f h (i + 1)) ≡ whole
 walked_on f h i found whole r tells room so_far =
     sym (filled_more found r (rest f h (i + 1)) room) ∙ (ap (filled found) (sym (rest_step f h i (Some r) tells)) ∙ so_far)
-
-pub if_ok : {A E : Type 0} (P Q : A → Type 0) (r : Result A E) → ((x : A) → P x → Q x) → IfOk r P → IfOk r Q
-if_ok P Q (Ok x) f h = f x h
-if_ok P Q (Err e) f h = tt
-
--- what is told of an entry that was read at its place
-pub told_there : (house : List ℕ) (h : List Entry) (f : List ℕ) (i : ℕ) (e : Entry) (o : Option Report) → i < length h → e ≡ get_or h i e
-    → concerns house h f e.firm e.command ≡ true → o ≡ report_of h f (numbered_as (i + 1) e) e.command → TellsOf (told house h f) h i o
-told_there house h f i e o within is concerned told_is =
-    ap (λ p. Some p) (told_is ∙ sym (ap (λ b. cond b (report_of h f (numbered_as (i + 1) e) e.command) None) concerned))
-    ∙ sym (ap (option_map (λ d. told house h f (numbered_as (i + 1) d))) (slice_get_read h (length h) i e refl within is))
-
-pub not_told : (house : List ℕ) (h : List Entry) (f : List ℕ) (i : ℕ) (e : Entry) → i < length h → e ≡ get_or h i e
-    → concerns house h f e.firm e.command ≡ false → TellsOf (told house h f) h i None
-not_told house h f i e within is apart_from =
-    ap (λ p. Some p) (sym (ap (λ b. cond b (report_of h f (numbered_as (i + 1) e) e.command) None) apart_from))
-    ∙ sym (ap (option_map (λ d. told house h f (numbered_as (i + 1) d))) (slice_get_read h (length h) i e refl within is))
 
 -- the first 100 reports of a walk over the entries above a number
 abbrev pub walk : List ℕ → List Entry → List ℕ → ℕ → List Report
