@@ -39,7 +39,7 @@ use Rattle.gu_tree.specs.ShownAll.{change_of, named_place, place_in}
 use Rattle.gu_tree.specs.declared.head.Head.{Head}
 use Rattle.gu_tree.proofs.Along.{its-head}
 use Rattle.gu_tree.proofs.ShowsLess.{no-root-part}
-use Rattle.gu_book.specs.Filed.{IsFree, Claims, TurnsDown}
+use Rattle.gu_book.specs.Filed.{IsFree}
 use Rattle.gu_book.specs.TreeRows.{is_trade}
 use Rattle.gu_book.proofs.Filed.{Spot, spot, tree_shown, place_named}
 use Rattle.gu_book.proofs.FiledChanges.{its_head}
@@ -80,6 +80,17 @@ under_split n k by (Cancel _) e is = absurd is
 under_split n k by (Initiate _) e is = absurd is
 under_split n k by (Decline _) e is = absurd is
 under_split n k by (Reverse _) e is = absurd is
+
+-- the command claims this node
+abbrev pub Claims : EntryPart → Command → Type 0
+Claims n (Claim m _) = m ≡ n
+Claims n _ = ⊥
+
+-- the command refuses or cancels this node
+abbrev pub TurnsDown : EntryPart → Command → Type 0
+TurnsDown n (Refuse m) = m ≡ n
+TurnsDown n (Cancel m) = m ≡ n
+TurnsDown n _ = ⊥
 
 -- a claim, and what turns an offer down
 pub claim_names : (n : EntryPart) (c : Command) → Claims n c → (named_node c ≡ Some n) × (decides n c ≡ true) × (state_after c ≡ Claimed)

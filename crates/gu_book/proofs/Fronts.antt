@@ -16,9 +16,14 @@ use Rattle.gu_base.specs.declared.entry.Record.{Record}
 use Rattle.gu_base.specs.declared.refusal.Refusal.{Refusal}
 use Rattle.gu_base.specs.declared.refusal.Refusal.TheVariants.{UnknownFirm, NotAChange, AlreadyReversed, NotAParty, NeedsConsent, StandsOn, BookFull, AlreadyConsented, NothingPending}
 use Rattle.gu_base.specs.declared.state.State.{State}
-use Rattle.gu_book.specs.Front.{own_of, front_refusal, front_answer, stands_refusal}
+use Rattle.gu_book.specs.Front.{own_of, front_refusal, front_answer}
 use Rattle.gu_base.proofs.Numbered.{found_at}
 use Rattle.gu_base.proofs.Consenting.{not_reversed, left_open}
+
+-- what may still refuse a Reverse: the first change that stands on its entry
+abbrev pub stands_refusal : House → List Entry → Command → Option Refusal
+stands_refusal t h (Reverse n) = option_map (λ k. StandsOn k) (standing_on t (live h) n)
+stands_refusal t h _ = None
 
 -- ---- over options
 

@@ -19,12 +19,12 @@ use Rattle.gu_tree.specs.declared.head.Head.{Head}
 use Rattle.gu_tree.proofs.Edits.{edit_at-same}
 use Rattle.gu_tree.proofs.Names.{named-edit_at}
 use Rattle.gu_tree.proofs.Parts.{some_and, at_fact}
-use Rattle.gu_book.specs.Filed.{IsFiled, IsFree, Claims, TurnsDown}
+use Rattle.gu_book.specs.Filed.{IsFiled, IsFree}
 use Rattle.gu_book.specs.TreeRows.{is_trade}
 use Rattle.gu_book.proofs.Filed.{Spot}
 use Rattle.gu_book.proofs.FiledChanges.{from_tree, has_at, is_at, said_at}
 use Rattle.gu_book.proofs.FiledLess.{taken_back, uprooted}
-use Rattle.gu_book.proofs.FreeNodes.{split_names, claim_names, turned_names, decides_node, splits_bare, splits_in, splits_free, its_number, others_above, decided_state, its_leaf, is_part, its_decided, decided_in, root_leaf}
+use Rattle.gu_book.proofs.FreeNodes.{Claims, TurnsDown, split_names, claim_names, turned_names, decides_node, splits_bare, splits_in, splits_free, its_number, others_above, decided_state, its_leaf, is_part, its_decided, decided_in, root_leaf}
 use Rattle.gu_book.proofs.Undoing.{only_split, only_decision}
 
 -- a Trade names no node

@@ -7,7 +7,7 @@ use Rattle.std.proofs.lemmas.List.Elements.{All-nil, All-cons, All-head, All-tai
 use Rattle.gu_base.specs.House.{House}
 use Rattle.gu_base.specs.History.{numbered_as, is_change, live, RisesFrom}
 use Rattle.gu_base.specs.Refusals.{refusal_of}
-use Rattle.gu_base.specs.Standing.{first_refused, without}
+use Rattle.gu_base.specs.Standing.{first_refused, standing_on, without}
 use Rattle.gu_base.specs.Answers.{Call, answer_to, after, after_by, is_accepted}
 use Rattle.gu_base.specs.Runs.{after_all, call_of, IsRunFrom}
 use Rattle.gu_base.specs.declared.command.Command.TheVariants.{Reverse}
@@ -17,7 +17,7 @@ use Rattle.gu_base.specs.declared.entry.Entry.{Entry}
 use Rattle.gu_base.specs.declared.entry.Record.{Record}
 use Rattle.gu_base.proofs.LiveLaws.{live_push_change, live_push_reverse, live_push_consent, live_below, without_none, without_last}
 use Rattle.gu_base.proofs.LegalLaws.{legal_from_replay, none_refused, replay_front}
-use Rattle.gu_book.specs.Headline.{IsLawful, Restores, TakesOut, NewestIsFree, StandsLater}
+use Rattle.gu_book.specs.Headline.{IsLawful, Restores, TakesOut, StandsLater}
 use Rattle.gu_base.specs.Consents.{is_consenting}
 use Rattle.gu_base.proofs.RunLaws.{run_all}
 use Rattle.gu_book.proofs.Leaves.{live_rises}
@@ -85,6 +85,11 @@ restores t calls between change reversal is ok consents names undone =
     takes_out t (calls ++ change ∷ between) reversal (length h + 1) names undone
     ∙ (ap (λ l. without l (length h + 1)) longer
     ∙ without_last (length h + 1) (live h) (numbered_as (1 + length h) e) (omega arith) (subst (λ k. All (λ (r : Record). r.number < k) (live h)) (omega arith) (live_below h)))
+
+-- nothing stands on the newest of the live changes
+abbrev pub NewestIsFree : House → Type 0
+NewestIsFree t = (calls : List Call) (before : List Record) (r : Record) → live (after_all t [] calls) ≡ before ++ r ∷ []
+    → standing_on t (live (after_all t [] calls)) r.number ≡ None
 
 pub newest_is_free : (t : House) → NewestIsFree t
 newest_is_free t calls before r same =

@@ -6,8 +6,6 @@ use Rattle.gu_base.specs.History.{RisesFrom}
 use Rattle.gu_base.specs.Nodes.{node_of}
 use Rattle.gu_base.specs.Refusals.{refusal_of}
 use Rattle.gu_base.specs.Standing.{first_refused, standing_on, without}
-use Rattle.gu_base.specs.declared.command.Command.{Command}
-use Rattle.gu_base.specs.declared.command.Command.TheVariants.{Claim, Refuse, Cancel}
 use Rattle.gu_base.specs.declared.entry.Record.{Record}
 use Rattle.gu_base.specs.declared.node.Node.{Node}
 use Rattle.gu_tree.specs.Rose.{named}
@@ -59,14 +57,3 @@ MayGo r g = (t : House) × (l : List Record) × IsFree t l r g
 -- whatever list the change may go from, the new trees are those of the others
 abbrev pub IsGone : Record → Grove → Grove → Type 0
 IsGone r old new = (t : House) (l : List Record) → IsFree t l r old → IsFiled (without l r.number) new
-
--- the command claims this node
-abbrev pub Claims : EntryPart → Command → Type 0
-Claims n (Claim m _) = m ≡ n
-Claims n _ = ⊥
-
--- the command refuses or cancels this node
-abbrev pub TurnsDown : EntryPart → Command → Type 0
-TurnsDown n (Refuse m) = m ≡ n
-TurnsDown n (Cancel m) = m ≡ n
-TurnsDown n _ = ⊥

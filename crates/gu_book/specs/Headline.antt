@@ -58,12 +58,7 @@ IsConsentAccepted t = (calls : List Call) (before after : List Record) (r : Reco
     → find (is_same_id (record { firm = by; id = id; command = Initiate r.number })) (records (after_all t [] calls)) ≡ None → length (after_all t [] calls) < most_entries
     → answer_to t (after_all t [] calls) (record { firm = by; id = id; command = Initiate r.number }) ≡ Accepted (length (after_all t [] calls) + 1) ReversalPending
 
--- nothing stands on the newest of the live changes
-abbrev pub NewestIsFree : House → Type 0
-NewestIsFree t = (calls : List Call) (before : List Record) (r : Record) → live (after_all t [] calls) ≡ before ++ r ∷ []
-    → standing_on t (live (after_all t [] calls)) r.number ≡ None
-
--- so with the consents of its parties the newest live change is undone, save where the id is used or the history is full
+-- with the consents of its parties the newest live change is undone, save where the id is used or the history is full
 abbrev pub IsNewestUndone : House → Type 0
 IsNewestUndone t = (calls : List Call) (before : List Record) (r : Record) (by id : List ℕ) → live (after_all t [] calls) ≡ before ++ r ∷ []
     → is_among by (parties_of t (live (after_all t [] calls)) r.firm r.command) ≡ true

@@ -64,5 +64,4 @@ IsMet l c = IsSomeAnd (named_node c) (λ n. IsSome (node_of l n))
 -- the nodes that a kept call makes: the root of a Trade, the parts of a Split
 abbrev pub nodes_made : Command → ℕ
 nodes_made (Trade _ _ _ _ _) = 1
-nodes_made (Split _ parts) = length parts
-nodes_made _ = 0
+nodes_made c = parts_in c

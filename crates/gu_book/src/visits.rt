@@ -29,8 +29,7 @@ pub(crate) fn nodes_made(command: &Command) -> u64
 {
     match command {
         Command::Trade { .. } => 1,
-        Command::Split { parts, .. } => parts.as_slice().len() as u64,
-        _ => 0,
+        _ => parts_in(command),
     }
 }
 

@@ -1,6 +1,6 @@
 use Rattle.std.proofs.Common.{refl, sym, ap, subst}
 use Rattle.gu_tree.specs.Shown.{SplitsNode, named_node}
-use Rattle.gu_book.specs.Filed.{Claims, TurnsDown}
+use Rattle.gu_book.proofs.FreeNodes.{Claims, TurnsDown}
 use Rattle.gu_book.specs.TreeRows.{is_trade}
 use Rattle.gu_book.proofs.FreeNodes.{has_place, its_spot, root_alone}
 use Rattle.gu_book.proofs.Gone.{may_unsplit, split_in, free_parts, unsplit_gone, claimed_there, claim_part, claim_in, claim_gone, turned_there, turned_part, turned_in, turned_gone, sapling_there, root_gone}

@@ -4,7 +4,7 @@ use Rattle.gu_base.specs.Answers.{Call, accepted_or}
 use Rattle.gu_base.specs.declared.command.Command.{Command}
 use Rattle.gu_base.specs.declared.refusal.Refusal.TheVariants.{StandsOn}
 use Rattle.gu_consent.specs.Given.{given}
-use Rattle.gu_book.specs.Front.{stands_refusal}
+use Rattle.gu_book.proofs.Fronts.{stands_refusal}
 use Rattle.gu_book.proofs.AllShown.{standing_found}
 use Rattle.gu_book.proofs.Fronts.{decided, settles, not_accepted, none_in_way}
 use Rattle.gu_book.proofs.Leaves.{live_rises}
