@@ -12,7 +12,7 @@
 
 mod event;
 mod kept;
-mod laws;
+pub mod laws;
 mod line;
 mod link;
 mod replying;
@@ -22,8 +22,4 @@ mod verdict;
 mod writing;
 
 pub use event::{Actions, Event};
-pub use laws::{
-    calls_are_awaited, calls_rise, new_messages_are_numbered, resends_are_as_sent,
-    resends_cover_their_span, speaks_within_the_session, want_never_falls,
-};
 pub use session::{Session, is_moment};
