@@ -1,5 +1,5 @@
 -- The text of a report.
-use Rattle.std.proofs.Common.{◌≡◌, ℕ, ◌+◌, ◌*◌, ◌<◌, ◌≤◌, List, [], ◌∷◌, ◌++◌, length, refl, sym, ap, ◌∙◌, arith, append_assoc, append-nil, length-append}
+use Rattle.std.proofs.Common.{◌≡◌, ℕ, ◌+◌, ◌*◌, ◌<◌, ◌≤◌, List, [], ◌∷◌, ◌++◌, length, refl, sym, ap, ◌∙◌, arith, append_assoc, length-append}
 use Rattle.std.specs.Prelude.{codes, decimal}
 use Rattle.std.specs.List.{flat_map}
 use Rattle.gu_base.specs.declared.report.ReportPart.{ReportPart}
@@ -20,10 +20,6 @@ shown_text (p ∷ ps) old mid new h e k =
     k ∙ ap (λ (t : List ℕ). t ++ flat_map (λ p. fields_text (part_fields p)) (p ∷ ps)) e
     ∙ append_assoc old (field 78 (decimal (length (p ∷ ps)))) (flat_map (λ p. fields_text (part_fields p)) (p ∷ ps))
     ∙ ap (λ (t : List ℕ). old ++ (field 78 (decimal (length (p ∷ ps))) ++ t)) (sym (text_flat (p ∷ ps)))
-
-pub no_parts_text : (ps : List ReportPart) (old : List ℕ) → length ps ≡ 0 → old ≡ old ++ fields_text (shown_parts ps)
-no_parts_text [] old e = sym (append-nil old)
-no_parts_text (p ∷ ps) old e = absurd (omega arith)
 
 -- the tag and `=`, the entry, a dot, the part, and the end
 pub node_joined : (old tag e p o1 o2 o3 o4 o5 o6 : List ℕ) → o1 ≡ old ++ tag → o2 ≡ o1 ++ 61 ∷ [] → o3 ≡ o2 ++ e → o4 ≡ o3 ++ codes "." → o5 ≡ o4 ++ p → o6 ≡ o5 ++ 1 ∷ []
