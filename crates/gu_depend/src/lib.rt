@@ -19,10 +19,9 @@
 //! `proofs/Worked.antt` computes one list of changes through these laws.
 #![tactic(auto)]
 
-mod laws;
+pub mod laws;
 mod standing;
 mod touch;
 
-pub use laws::{any_lawful_order, first_is_least, free_can_stand_last, last_moves_its_own};
 pub use standing::{first_standing, touched};
 pub use touch::Touched;
