@@ -12,7 +12,6 @@ use Rattle.gu_tree.specs.Rose.{Rose, Roses, leaf, parted, no_parts, part_then, f
 use Rattle.gu_tree.specs.Paths.{part_at, node_at, HasAt}
 use Rattle.gu_tree.specs.Shown.{IsNodeOf, ArePartsOf, IsTreeOf}
 use Rattle.gu_tree.specs.NumbersOn.{number_in, numbers_on, least_with, least, lesser, numbers_at, numbers_at_each, numbers_on_parts}
-use Rattle.gu_tree.specs.declared.head.Head.{Head}
 use Rattle.gu_tree.proofs.Along.{its-head}
 
 -- ---- the least of two lists of numbers
@@ -29,10 +28,6 @@ pub least-append : (ns ms : List ℕ) → least (ns ++ ms) ≡ lesser (least ns)
 least-append [] ms = refl
 least-append (n ∷ ns) ms = ap (λ o. Some (least_with n o)) (least-append ns ms) ∙ lesser-step n (least ns) (least ms)
 
-pub least-one : (o : Option ℕ) → least (option_to_list o) ≡ o
-least-one None = refl
-least-one (Some n) = refl
-
 -- ---- the numbers at the first parts of a node
 
 each-append : (xs ys : List Rose) → numbers_at_each (from_list (xs ++ ys)) ≡ numbers_at_each (from_list xs) ++ numbers_at_each (from_list ys)
@@ -45,9 +40,6 @@ least-more xs i u h e =
     rw (take_more xs i u h, ← e)
     (ap least (each-append (take i xs) (u ∷ []) ∙ ap (λ ns. numbers_at_each (from_list (take i xs)) ++ ns) (append-nil (numbers_at u)))
     ∙ least-append (numbers_at_each (from_list (take i xs))) (numbers_at u))
-
-pub least-parts : (t : Rose) (h : Head) (n : ℕ) (xs : List Rose) → parted h n (from_list xs) ≡ t → least (numbers_at_each (from_list xs)) ≡ least (numbers_on_parts t)
-least-parts t h n xs o = ap (λ u. least (numbers_on_parts u)) o
 
 -- ---- in a list that the tree shows
 
