@@ -3,7 +3,7 @@ use Rattle.std.proofs.Common.{◌≡◌, ◌≤◌, ◌<◌, ℕ, ◌+◌, ◌-�
 use Rattle.std.specs.Prelude.{nat_lt, bytes_eq, codes}
 use Rattle.std.specs.List.{filter_map, cons_option, enumerate_from}
 use Rattle.std.proofs.lemmas.Grind.{common_steps}
-use Rattle.std.proofs.lemmas.List.{append-nil, length-map}
+use Rattle.std.proofs.lemmas.List.{length-map}
 use Rattle.gu_base.specs.House.{House}
 use Rattle.gu_parties.specs.Words.{words}
 use Rattle.gu_parties.specs.Table.{table_of}
@@ -61,11 +61,6 @@ pub record Reads (house : List ℕ) (all rest : List (List (List ℕ))) (n : ℕ
 
 pub reads_none : (house : List ℕ) (all : List (List (List ℕ))) → Reads house all all 3 (house_alone house)
 reads_none house all = record { done = []; split = refl; count = refl; faults = faults_all house all; table = refl }
-
-pub reads_end : (house : List ℕ) (ls : List (List ℕ)) (n : ℕ) (u : House) → Reads house (map words ls) [] n u → house_behind house ls ≡ Ok u
-reads_end house ls n u r =
-    let whole : map words ls ≡ r.done = r.split ∙ append-nil r.done in
-    rw (r.faults, whole, ← r.table) refl
 
 module _ (house : List ℕ) (ls : List (List ℕ)) (line : List ℕ) (rest : List (List (List ℕ))) (n : ℕ) (u : House) (r : Reads house (map words ls) (words line ∷ rest) n u) where
   here : later_faults house (map words ls) ≡ cons_option (at_line n (line_cause n u (words line))) (faults_behind house (r.done ++ words line ∷ []) rest)
@@ -126,10 +121,6 @@ module _ (version second house : List ℕ) (ls : List (List ℕ)) (v : bytes_eq 
   pub gives_all : (r : Result House HouseError) → GivesBehind r house ls → Gives r (version ∷ second ∷ ls)
   gives_all (Ok u) e = whole ∙ e
   gives_all (Err e) s = stops_behind e.cause e.line s
-
--- the test of the number of lines
-pub past_last : (n : ℕ) → most_lines < n → nat_lt most_lines n ≡ true
-past_last n h = grind (arith, common_steps)
 
 pub within_last : (n : ℕ) → n ≤ most_lines → nat_lt most_lines n ≡ false
 within_last n h = grind (arith, common_steps)
