@@ -41,29 +41,6 @@ line_more (suc f) l k h n x found = ap (λ xs. x ∷ xs) (above_more f l k h (li
 pub record Falls (l : List Record) : Type 0 where
   pub lower : (n m : EntryPart) (x y : Node) → node_of l n ≡ Some x → parent x.kind ≡ Some m → node_of l m ≡ Some y → m.entry < n.entry
 
-above_node : (f g : ℕ) (l : List Record) (falls : Falls l)
-    → ((m : EntryPart) (y : Node) → node_of l m ≡ Some y → m.entry < f → m.entry < g → line_within f l (Some y) ≡ line_within g l (Some y))
-    → (n m : EntryPart) (x : Node) → node_of l n ≡ Some x → n.entry < suc f → n.entry < suc g
-    → parent x.kind ≡ Some m → (o : Option Node) → node_of l m ≡ o → line_within f l o ≡ line_within g l o
-above_node f g l falls same n m x found a b e None there = refl
-above_node f g l falls same n m x found a b e (Some y) there =
-    let lower : m.entry < n.entry = falls.lower n m x y found e there in
-    same m y there (omega arith) (omega arith)
-
-above_enough : (f g : ℕ) (l : List Record) (falls : Falls l)
-    → ((m : EntryPart) (y : Node) → node_of l m ≡ Some y → m.entry < f → m.entry < g → line_within f l (Some y) ≡ line_within g l (Some y))
-    → (n : EntryPart) (x : Node) → node_of l n ≡ Some x → n.entry < suc f → n.entry < suc g
-    → (o : Option EntryPart) → parent x.kind ≡ o → line_within f l (option_and_then (node_of l) o) ≡ line_within g l (option_and_then (node_of l) o)
-above_enough f g l falls same n x found a b None e = refl
-above_enough f g l falls same n x found a b (Some m) e = above_node f g l falls same n m x found a b e (node_of l m) refl
-
--- more steps than the number of the node change nothing
-pub line_enough : (f g : ℕ) (l : List Record) (falls : Falls l) (n : EntryPart) (x : Node) → node_of l n ≡ Some x → n.entry < f → n.entry < g
-    → line_within f l (Some x) ≡ line_within g l (Some x)
-line_enough zero g l falls n x found a b = absurd (omega arith)
-line_enough (suc f) zero l falls n x found a b = absurd (omega arith)
-line_enough (suc f) (suc g) l falls n x found a b = ap (λ xs. x ∷ xs) (above_enough f g l falls (line_enough f g l falls) n x found a b (parent x.kind) refl)
-
 -- ---- as many steps as there are changes
 
 abbrev up_to : ℕ → Record → ℕ
