@@ -9,6 +9,7 @@
 //!   greater by one exactly where the answer is Accepted.
 //! - `Desk::close` gives the book back against all seats: its history is as long as the opening one and the sum of the shares.
 //! - `Desk::call` and `Desk::read_reports` may wait for the lock; nothing else here waits.
+//! - Its cases stand in the program `test_desk`.
 #![tactic(auto)]
 
 mod desk;
