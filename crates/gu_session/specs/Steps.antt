@@ -26,6 +26,7 @@ use Rattle.gu_session.specs.Keeping.{Kept}
 use Rattle.gu_session.specs.declared.verdict.Span.{Span}
 use Rattle.gu_session.specs.declared.verdict.Say.{Say}
 use Rattle.gu_session.specs.declared.verdict.Verdict.{Verdict}
+use Rattle.gu_session.specs.Limits.{last_number, past_last, most_kept}
 use Rattle.gu_session.specs.Going.{Going, said, type_of_told}
 use Rattle.gu_session.specs.Table.{on_message, on_tick, shut}
 
@@ -124,9 +125,9 @@ kept_from time number (x ∷ xs) = kept_as time number x ∷ kept_from time (num
 abbrev pub new : Kept → Going
 new m = record { kind = type_of_told m.told; number = m.number; next = m.number + 1; first = None; body = m.body }
 
--- the last 256
+-- the last of these, as many as are kept
 abbrev pub last_kept : List Kept → List Kept
-last_kept ms = drop (length ms - 256) ms
+last_kept ms = drop (length ms - most_kept) ms
 
 -- a message was sent, if there is one
 abbrev pub went_at : Timestamp → List Kept → Timestamp → Timestamp
@@ -135,9 +136,9 @@ went_at now (m ∷ ms) before = now
 
 -- ---- steps
 
--- each number is at most 999,999,999: the next one to be sent may be past that, the wanted one may not
+-- each number is at most the last one: the next one to be sent may be past that, the wanted one may not
 abbrev pub fits : Link → Bool
-fits l = nat_le l.out 1000000000 && nat_le l.want 999999999
+fits l = nat_le l.out past_last && nat_le l.want last_number
 
 -- the session is closed, and nothing is sent
 abbrev pub shut_down : Timestamp → Seen → Outcome

@@ -3,6 +3,7 @@
 ghost use Rattle.std.specs.Prelude.{◌≡◌, ◌≤◌, ◌+◌, ◌++◌, length, map, nat_le, ◌≤ℤ◌, pos, Some, OnOk, IfOk};
 ghost use Rattle.std.specs.List.{All};
 ghost use Rattle.gu_message.specs.AllocationReport.{ShowsFewParts};
+ghost use Rattle.gu_session.specs.Limits.{past_last};
 ghost use Rattle.gu_session.specs.Steps.{kept_from, report_told, answer_of, tellings, new as new_of, time_of};
 ghost use Rattle.gu_session.specs.Text.{wire};
 
@@ -32,8 +33,8 @@ pub fn answers(waiting: Option<Waiting>, answer: &Option<Answer>) -> usize
 
 /// Whether so many messages can be numbered.
 pub fn has_numbers(out: u32, answers: usize, reports: usize) -> bool
-    requires { out ≤ 1000000000 }
-    ensures { result ≡ nat_le (out + (answers + reports)) 1000000000 }
+    requires { out ≤ past_last }
+    ensures { result ≡ nat_le (out + (answers + reports)) past_last }
 {
     let room = (LAST_NUMBER + 1 - out) as usize;
     reports <= room && answers <= room - reports
@@ -50,7 +51,7 @@ fn tell_reports(
     requires moment { pos 0 ≤ℤ moment.nanosecond }
     requires time { time ≡ time_of moment }
     requires few { All ShowsFewParts reports.now }
-    requires numbers { out + length reports.now ≤ 1000000000 }
+    requires numbers { out + length reports.now ≤ past_last }
     ensures { OnOk result (fresh.new ≡ fresh.old ++ kept_from time out (map (report_told time) reports.now)) }
 {
     let mut number = out;
@@ -74,7 +75,7 @@ fn told(
     requires moment { pos 0 ≤ℤ moment.nanosecond }
     requires time { time ≡ time_of moment }
     requires few { All ShowsFewParts reports.now }
-    requires numbers { out + (length (answer_of waiting answer.now) + length reports.now) ≤ 1000000000 }
+    requires numbers { out + (length (answer_of waiting answer.now) + length reports.now) ≤ past_last }
     ensures { IfOk result (λ fresh. fresh ≡ kept_from time out (tellings time waiting answer.now reports.now)) }
 {
     let mut fresh = KeptMessages::new(alloc);
@@ -101,7 +102,7 @@ pub fn replied(
 ) -> Result<(KeptMessages, Vec<u8>), Memory>
     requires moment { pos 0 ≤ℤ moment.nanosecond }
     requires few { All ShowsFewParts reports.now }
-    requires numbers { link.now.out + (length (answer_of link.now.waiting answer.now) + length reports.now) ≤ 1000000000 }
+    requires numbers { link.now.out + (length (answer_of link.now.waiting answer.now) + length reports.now) ≤ past_last }
     ensures kept { IfOk result (λ r. r.0 ≡ kept_from (time_of moment) link.now.out (tellings (time_of moment) link.now.waiting answer.now reports.now)) }
     ensures send { IfOk result (λ r. r.1.items ≡ wire house (Some firm) (time_of moment) (map new_of r.0)) }
 {

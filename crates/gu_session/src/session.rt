@@ -7,6 +7,7 @@ ghost use Rattle.gu_message.specs.AllocationReport.{ShowsFewParts};
 ghost use Rattle.gu_message.specs.Heading.{heading_of};
 ghost use Rattle.gu_message.specs.Meaning.{meaning_of};
 ghost use Rattle.gu_message.specs.declared.inbound.Inbound.TheVariants.{Heartbeat};
+ghost use Rattle.gu_session.specs.Limits.{past_last};
 ghost use Rattle.gu_session.specs.Steps as StepEvent;
 ghost use Rattle.gu_session.specs.Steps.{fits as fits_of, call_of as call_of_table, opening, tells, replies, where_it_fits, on_event, acts, resends, sayings, time_of};
 ghost use Rattle.gu_session.specs.Table.{shut as shut_of};
@@ -314,7 +315,7 @@ impl<'a> Session<'a> {
 
     /// Keeps the new application messages, which were sent at this moment. The growth comes first.
     fn keep_fresh(&mut self, fresh: &KeptMessages, moment: Timestamp) -> Result<(), Memory>
-        requires { self.old.link.out + length fresh.now ≤ 1000000000 }
+        requires { self.old.link.out + length fresh.now ≤ past_last }
         ensures ok { OnOk result (self.new ≡ (tells moment self.old fresh.now).after) }
         ensures err { OnErr result (self.new ≡ self.old) }
     {

@@ -1,6 +1,7 @@
 //! The table of the session: what an event decides. `specs/Table.antt` states it line by line.
 
 ghost use Rattle.std.specs.Prelude.{◌≡◌, ◌≤◌, ◌+◌};
+ghost use Rattle.gu_session.specs.Limits.{last_number, past_last};
 ghost use Rattle.gu_session.specs.Table.{silent as silent_of, says as says_of, closes as closes_of, shut as shut_of, again as again_of, hands_out as hands_out_of, last_asked as last_asked_of, span_of, resend_of, first_logon as first_logon_of, before_logon as before_logon_of, resets as resets_of, asks as asks_of, fills as fills_of, by_type as by_type_of, on_line as on_line_of, heard as heard_of, open_gap as open_gap_of, settled as settled_of, on_message as on_message_of, waited as waited_of, by_silence as by_silence_of, on_tick as on_tick_of};
 
 use crate::line::{Line, line_of};
@@ -29,7 +30,7 @@ fn silent(link: Link) -> Verdict
 
 /// One new message.
 fn says(moment: Timestamp, link: Link, say: Say) -> Verdict
-    requires { link.out ≤ 1000000000 }
+    requires { link.out ≤ past_last }
     ensures { result ≡ says_of moment link say }
 {
     Verdict {
@@ -46,7 +47,7 @@ fn says(moment: Timestamp, link: Link, say: Say) -> Verdict
 
 /// A Logout, and the session is closed.
 fn closes(moment: Timestamp, link: Link, text: Option<LogoutText>) -> Verdict
-    requires { link.out ≤ 1000000000 }
+    requires { link.out ≤ past_last }
     ensures { result ≡ closes_of moment link text }
 {
     says(
@@ -73,7 +74,7 @@ pub fn shut(link: Link) -> Verdict
 
 /// A Reject of NewSeqNo (36).
 fn bad_new_number(moment: Timestamp, link: Link) -> Verdict
-    requires { link.out ≤ 1000000000 }
+    requires { link.out ≤ past_last }
     ensures { result ≡ says_of moment link (Say.Reject (record { reason = 5; tag = 36 })) }
 {
     says(
@@ -117,7 +118,7 @@ fn last_asked(out: u32, to: u32) -> u32
 
 /// What a ResendRequest asks for, of what was sent.
 fn span(out: u32, from: u32, to: u32) -> Option<Span>
-    requires { out ≤ 1000000000 }
+    requires { out ≤ past_last }
     ensures { result ≡ span_of out from to }
 {
     let last = last_asked(out, to);
@@ -140,7 +141,7 @@ fn first_logon(
     heartbeat: u32,
     reset: bool,
 ) -> Verdict
-    requires { link.out ≤ 1000000000 }
+    requires { link.out ≤ past_last }
     ensures { result ≡ first_logon_of moment house.now link heading heartbeat reset }
 {
     if heading.number == 1 && house.firm(&heading.firm) {
@@ -168,7 +169,7 @@ fn before_logon(
     heading: Result<Heading, Reject>,
     meaning: &Result<Inbound, Reject>,
 ) -> Verdict
-    requires { link.out ≤ 1000000000 }
+    requires { link.out ≤ past_last }
     ensures { result ≡ before_logon_of moment house.now link heading meaning.now }
 {
     match heading {
@@ -199,7 +200,7 @@ fn hands_out(link: Link, number: u32, trade: bool, id: AllocId) -> Verdict
 
 /// A reset of the wanted number, which may not fall.
 fn resets(moment: Timestamp, link: Link, next: u32) -> Verdict
-    requires { link.out ≤ 1000000000 }
+    requires { link.out ≤ past_last }
     ensures { result ≡ resets_of moment link next }
 {
     if link.want <= next {
@@ -211,7 +212,7 @@ fn resets(moment: Timestamp, link: Link, next: u32) -> Verdict
 
 /// A gap, which is asked for once.
 fn asks(moment: Timestamp, link: Link, number: u32) -> Verdict
-    requires { link.out ≤ 1000000000 }
+    requires { link.out ≤ past_last }
     ensures { result ≡ asks_of moment link number link.asked }
 {
     match link.asked {
@@ -232,7 +233,7 @@ fn asks(moment: Timestamp, link: Link, number: u32) -> Verdict
 
 /// Numbers that are passed over, from the message's own on.
 fn fills(moment: Timestamp, link: Link, number: u32, next: u32) -> Verdict
-    requires { link.out ≤ 1000000000 }
+    requires { link.out ≤ past_last }
     ensures { result ≡ fills_of moment link number next }
 {
     if number < next {
@@ -244,7 +245,7 @@ fn fills(moment: Timestamp, link: Link, number: u32, next: u32) -> Verdict
 
 /// The message with the wanted number, by its type.
 fn by_type(moment: Timestamp, link: Link, number: u32, meaning: &Result<Inbound, Reject>) -> Verdict
-    requires { link.out ≤ 1000000000 }
+    requires { link.out ≤ past_last }
     ensures { result ≡ by_type_of moment link number meaning.now }
 {
     match meaning {
@@ -264,8 +265,8 @@ fn by_type(moment: Timestamp, link: Link, number: u32, meaning: &Result<Inbound,
 
 /// What the line of a message decides.
 fn on_line(moment: Timestamp, link: Link, meaning: &Result<Inbound, Reject>, line: Line) -> Verdict
-    requires out { link.out ≤ 1000000000 }
-    requires want { link.want ≤ 999999999 }
+    requires out { link.out ≤ past_last }
+    requires want { link.want ≤ last_number }
     ensures { result ≡ on_line_of moment link meaning.now line }
 {
     match line {
@@ -298,7 +299,7 @@ fn on_line(moment: Timestamp, link: Link, meaning: &Result<Inbound, Reject>, lin
 
 /// The span of a ResendRequest.
 fn resend(out: u32, meaning: &Result<Inbound, Reject>) -> Option<Span>
-    requires { out ≤ 1000000000 }
+    requires { out ≤ past_last }
     ensures { result ≡ resend_of out meaning.now }
 {
     match meaning {
@@ -349,8 +350,8 @@ pub fn on_message(
     meaning: &Result<Inbound, Reject>,
     is_logout: bool,
 ) -> Verdict
-    requires out { link.out ≤ 1000000000 }
-    requires want { link.want ≤ 999999999 }
+    requires out { link.out ≤ past_last }
+    requires want { link.want ≤ last_number }
     ensures { result ≡ on_message_of moment house.now link heading meaning.now is_logout }
 {
     let verdict = match link.firm {
@@ -373,7 +374,7 @@ fn waited(since: Timestamp, moment: Timestamp) -> u64
 
 /// What the passing of time decides after the Logon.
 fn by_silence(moment: Timestamp, link: Link) -> Verdict
-    requires { link.out ≤ 1000000000 }
+    requires { link.out ≤ past_last }
     ensures { result ≡ by_silence_of moment link }
 {
     let heartbeat = u64::from(link.heartbeat);
@@ -401,7 +402,7 @@ fn by_silence(moment: Timestamp, link: Link) -> Verdict
 
 /// What the passing of time decides.
 pub fn on_tick(moment: Timestamp, link: Link) -> Verdict
-    requires { link.out ≤ 1000000000 }
+    requires { link.out ≤ past_last }
     ensures { result ≡ on_tick_of moment link link.firm }
 {
     match link.firm {
