@@ -16,9 +16,13 @@ pub record DeskView : Type 0 where
 pub record SeatView : Type 0 where
   pub share : ℕ
 
+-- the workers that one desk may have at the most
+abbrev pub most_workers : ℕ
+most_workers = 16
+
 -- how many workers a desk may have
 abbrev pub is_worker_count : ℕ → Bool
-is_worker_count n = leb 1 n && leb n 16
+is_worker_count n = leb 1 n && leb n most_workers
 
 -- the book of nobody, for a job that is no desk's
 abbrev pub no_book : HouseAndHistory
