@@ -41,7 +41,7 @@ pub can_add : (rows : PositionRows) (h : Holding) (hs : List Holding) → HaveRo
 can_add rows h hs room =
     let sum = sum_by-cons (λ (h : Holding). h.lots) h hs in
     let fits = room.fits h.key h.side in
-    record { ready = (All-head (λ (h : Holding). IsReady rows h.key) h hs room.ready).rows h.side; fits = omega (arith, sum, fits) }
+    record { ready = All-head (λ (h : Holding). IsReady rows h.key) h hs room.ready; fits = omega (arith, sum, fits) }
 
 -- room is left for the others
 pub room_left : (old new : PositionRows) (h : Holding) (hs : List Holding) → HaveRoom old (h ∷ hs)
@@ -131,7 +131,7 @@ pub can_put_back : (old now : PositionRows) (h : Holding) (hs : List Holding) �
 can_put_back old now h hs place moved stays =
     let a = moved h.key h.side in
     let b = place.fits in
-    record { ready = (stays h.key place.ready).rows h.side; fits = omega (arith, a, b) }
+    record { ready = stays h.key place.ready; fits = omega (arith, a, b) }
 
 pub removed_then_back : (old now new : PositionRows) (h : Holding) (hs : List Holding) → HaveMoved now old None hs → ((at : Key) (s : Side) → lots_in new at s ≡ lots_in now at s + counted_at at s h)
     → HaveMoved new old (Some h) hs

@@ -1,15 +1,15 @@
 //! The positions of a book.
-ghost use Rattle.std.specs.Prelude.{◌≡◌, ◌+◌, ◌≤◌, ◌&&◌, ◌++◌, List, [], ◌∷◌, cond, IsTrue, ◌↔◌, OnOk};
+ghost use Rattle.std.specs.Prelude.{◌≡◌, ◌+◌, ◌<◌, ◌≤◌, ◌^◌, ◌&&◌, ◌++◌, List, [], ◌∷◌, cond, IsTrue, ◌↔◌, OnOk};
 ghost use Rattle.gu_base.specs.Positions.{same_side};
 ghost use Rattle.gu_base.specs.declared.command.Side.{Side};
 ghost use Rattle.gu_base.specs.declared.command.Side.TheVariants.{Buy, Sell};
 ghost use Rattle.gu_positions.specs.declared.positions.Key.{Key};
-ghost use Rattle.gu_positions.specs.Rows.{lots_in, is_key, IsReady, CanAdd};
+ghost use Rattle.gu_positions.specs.Rows.{lots_on, row_at, lots_in, is_key, IsReady, CanAdd};
 ghost use Rattle.gu_positions.specs.Sums.{Standing, AreSumsOf};
 
 use gu_base::{AccountId, FirmId, InstrumentId, Memory, Side};
-use gu_sums::Sums;
 use std::alloc::Global;
+use std::collections::HashMap;
 use std::marker::Model;
 
 /// An instrument in an account of a firm.
@@ -20,11 +20,70 @@ pub struct Key {
     pub instrument: InstrumentId,
 }
 
-/// The lots that stand in each account, by instrument: long those of buy trades, short those of sell trades.
+/// The lots of an instrument in an account: long those of buy trades, short those of sell trades.
+#[derive(Clone, Copy, Debug)]
+struct Row {
+    long: u64,
+    short: u64,
+}
+
+impl Row {
+    /// The lots of one side.
+    fn on(&self, side: Side) -> u64
+        ensures { result ≡ lots_on side self.now }
+    {
+        match side {
+            Side::Buy => self.long,
+            Side::Sell => self.short,
+        }
+    }
+
+    /// Whether so many lots more fit on one side.
+    fn has_room(&self, side: Side, lots: u64) -> bool
+        ensures { IsTrue result ↔ (lots_on side self.now + lots < 2 ^ 64) }
+    {
+        self.on(side).checked_add(lots).is_some()
+    }
+
+    /// With so many lots more on one side.
+    fn with(self, side: Side, lots: u64) -> Row
+        requires { lots_on side self + lots < 2 ^ 64 }
+        ensures { (s : Side) → lots_on s result ≡ lots_on s self + cond (same_side side s) lots 0 }
+    {
+        match side {
+            Side::Buy => Row {
+                long: self.long + lots,
+                ..self
+            },
+            Side::Sell => Row {
+                short: self.short + lots,
+                ..self
+            },
+        }
+    }
+
+    /// With so many lots less on one side.
+    fn without(self, side: Side, lots: u64) -> Row
+        requires { lots ≤ lots_on side self }
+        ensures { (s : Side) → lots_on s result + cond (same_side side s) lots 0 ≡ lots_on s self }
+    {
+        match side {
+            Side::Buy => Row {
+                long: self.long - lots,
+                ..self
+            },
+            Side::Sell => Row {
+                short: self.short - lots,
+                ..self
+            },
+        }
+    }
+}
+
+/// The lots that stand in each account, by instrument: one row for both sides.
 #[derive(Drop)]
 pub struct Positions {
-    long: Sums<Key>,
-    short: Sums<Key>,
+    rows: HashMap<Key, Row>,
 }
 
 impl Model for Positions {
@@ -32,7 +91,7 @@ impl Model for Positions {
 
     ghost Value = { PositionRows };
 
-    ghost view = { λ p. record { long = p.long; short = p.short } };
+    ghost view = { λ p. p.rows.entries };
 }
 
 impl Positions {
@@ -41,8 +100,7 @@ impl Positions {
         ensures { AreSumsOf result [] }
     {
         Positions {
-            long: Sums::new(alloc),
-            short: Sums::new(alloc),
+            rows: HashMap::new(alloc),
         }
     }
 
@@ -52,8 +110,10 @@ impl Positions {
         ensures same { (at : Key) (side : Side) → lots_in self.new at side ≡ lots_in self.old at side }
         ensures stays_ready { (at : Key) → IsReady self.old at → IsReady self.new at }
     {
-        self.long.ready(key)?;
-        self.short.ready(key)
+        if !self.rows.contains_key(key) {
+            self.rows.insert(*key, Row { long: 0, short: 0 })?;
+        }
+        Ok(())
     }
 
     /// Puts lots into the account, on the side of their trade.
@@ -65,9 +125,8 @@ impl Positions {
         ensures stays_ready { (at : Key) → IsReady self.old at → IsReady self.new at }
         ensures sums { (before after : List Standing) → AreSumsOf self.old (before ++ after) → AreSumsOf self.new (before ++ record { key = key.now; side = side; lots = lots } ∷ after) }
     {
-        match side {
-            Side::Buy => self.long.add(key, lots),
-            Side::Sell => self.short.add(key, lots),
+        if let Some(row) = self.rows.get_mut(key) {
+            *row = row.with(side, lots);
         }
     }
 
@@ -80,26 +139,34 @@ impl Positions {
         ensures stays_ready { (at : Key) → IsReady self.old at → IsReady self.new at }
         ensures sums { (before after : List Standing) → AreSumsOf self.old (before ++ record { key = key.now; side = side; lots = lots } ∷ after) → AreSumsOf self.new (before ++ after) }
     {
-        match side {
-            Side::Buy => self.long.take(key, lots),
-            Side::Sell => self.short.take(key, lots),
+        if let Some(row) = self.rows.get_mut(key) {
+            *row = row.without(side, lots);
         }
+    }
+
+    /// The row of the account and the instrument. Without one it has no lots.
+    fn row(&self, key: &Key) -> Row
+        ensures { result ≡ row_at self.now key.now }
+    {
+        let none = Row { long: 0, short: 0 };
+        self.rows.get(key).copied().unwrap_or(none)
     }
 
     /// The lots that stand in the account: long, then short.
     pub fn of(&self, key: &Key) -> (u64, u64)
         ensures { result ≡ (lots_in self.now key.now Buy, lots_in self.now key.now Sell) }
     {
-        (self.long.of(key), self.short.of(key))
+        let row = self.row(key);
+        (row.long, row.short)
     }
 
     /// Whether lots can be put into the account: its row is ready, and its sum has room for them.
     pub fn can_add(&self, key: &Key, side: Side, lots: u64) -> bool
         ensures { IsTrue result ↔ CanAdd self.now key.now side lots }
     {
-        match side {
-            Side::Buy => self.long.can_add(key, lots),
-            Side::Sell => self.short.can_add(key, lots),
+        match self.rows.get(key) {
+            Some(row) => row.has_room(side, lots),
+            None => false,
         }
     }
 
@@ -107,9 +174,6 @@ impl Positions {
     pub fn can_take(&self, key: &Key, side: Side, lots: u64) -> bool
         ensures { IsTrue result ↔ (lots ≤ lots_in self.now key.now side) }
     {
-        match side {
-            Side::Buy => lots <= self.long.of(key),
-            Side::Sell => lots <= self.short.of(key),
-        }
+        lots <= self.row(key).on(side)
     }
 }

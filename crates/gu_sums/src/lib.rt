@@ -2,7 +2,7 @@
 //!
 //! A key that has no row has the number zero, so a row of zero and no row are seen as the same. `ready` makes a row and
 //! alone takes memory. `add` changes a row that is there, `take` takes back no more than is there; neither can fail.
-//! The fees and the positions of a book are kept in these.
+//! The fees of a book are kept in these.
 //! Its cases stand in the program `test_sums`.
 #![tactic(auto)]
 
