@@ -10,6 +10,6 @@ entries-preserved c =
     let items = rw pushed at c.push.ensures.items in
     let before = rw c.in-Some.is at c.entries.invariant in
     let one : c.entries.left ≡ c.entries.left - 1 + 1 = omega arith in
-    one_more c.args.by.now c.in-Some.account.now (pairs c.entries.rest) _ c.entries.parts.items _ _ c.in-Ok.field-0 c.entries.left (c.entries.left - 1) one
-    c.read_entry-entry.ensures.next items (cc) (cc) (cc) c.in-Ok.ensures
+    one_more c.args.by.now c.in-Some.account.now (pairs c.entries.rest) _ c.entries.parts.items _ _ c.in-Some-part.field-0 c.entries.left (c.entries.left - 1) one
+    c.read_entry-entry.ensures.next items (cc) (cc) (cc) c.in-Some-part.ensures
     ∙ before
