@@ -10,7 +10,7 @@ ghost use Rattle.gu_message.specs.Meaning.{meaning_of};
 ghost use Rattle.gu_message.specs.Outcome.{Gives};
 ghost use Rattle.gu_message.specs.Reply.{Reply, message_of, answer_reply, reject_reply};
 
-use gu_base::{AllocId, Answer, Command, FirmId, Memory, Part};
+use gu_base::{AllocId, Command, FirmId, Memory, Part};
 use gu_book::Book;
 use gu_codec::{Fields, Header, write_frame};
 use gu_message::{
@@ -116,29 +116,6 @@ impl Answering {
         Ok(())
     }
 
-    /// Sends the answer of the book to a call. An `Err` appends nothing.
-    fn send_answer(
-        &mut self,
-        call: &Call<'_>,
-        answer: &Answer,
-        body: &mut Vec<u8>,
-        out: &mut Vec<u8>,
-    ) -> Result<(), Memory>
-        requires counted { self.old.written + 1 < 2 ^ 64 }
-        ensures ok { OnOk result (out.new.items ≡ out.old.items ++ message_text (message_of (stamp self.old.house.house (self.old.written + 1)) (answer_reply call.now.firm call.now.trade call.now.id.now answer.now))) }
-        ensures after { OnOk result (self.new ≡ record self.old { written = self.old.written + 1 }) }
-        ensures err { OnErr result (out.new.items ≡ out.old.items) }
-    {
-        body.clear();
-        if call.trade {
-            trade_ack(body, call.id, answer)?;
-            self.send(out, call.firm, msg_types::TRADE_CAPTURE_REPORT_ACK, body)
-        } else {
-            ack(body, call.id, answer)?;
-            self.send(out, call.firm, msg_types::ALLOCATION_INSTRUCTION_ACK, body)
-        }
-    }
-
     /// Has the book answer a call, and sends the answer. An `Err` appends nothing.
     fn answer_call(
         &mut self,
@@ -152,8 +129,16 @@ impl Answering {
         ensures after { let asked = call_of call.now.firm call.now.id.now call.now.command.now in OnOk result (self.new ≡ record { house = self.old.house; history = after self.old.house self.old.history asked; written = self.old.written + 1 }) }
         ensures err { OnErr result (out.new.items ≡ out.old.items) }
     {
+        body.clear();
         match self.book.apply(alloc, &call.firm, call.id, call.command) {
-            Ok(answer) => self.send_answer(call, &answer, body, out),
+            Ok(answer) if call.trade => {
+                trade_ack(body, call.id, &answer)?;
+                self.send(out, call.firm, msg_types::TRADE_CAPTURE_REPORT_ACK, body)
+            }
+            Ok(answer) => {
+                ack(body, call.id, &answer)?;
+                self.send(out, call.firm, msg_types::ALLOCATION_INSTRUCTION_ACK, body)
+            }
             Err(e) => Err(e),
         }
     }
