@@ -1,10 +1,10 @@
 -- What was done where firms were served.
-use Rattle.std.proofs.Common.{◌≡◌, ℕ, inl, inr, List, Option, Some, Result, Ok, Err, codes, IfErr, refl, ap, ◌∙◌}
+use Rattle.std.proofs.Common.{◌≡◌, ℕ, inl, inr, List, Option, Some, Result, Ok, Err, codes, refl, ap, ◌∙◌}
 use Rattle.clap.specs.Words.{Text}
 use Rattle.gu_base.specs.House.{House}
 use Rattle.gu_batch.specs.Runs.{Told}
 use Rattle.gu_server.specs.Lines.{command_in, house_in}
-use Rattle.gu_server.specs.Program.{Names, Serves, Does, IsUnderstood}
+use Rattle.gu_server.specs.Program.{Names, Serves, Does}
 use Rattle.gu_server.specs.declared.fault.Fault.{Fault}
 use Rattle.gu_server.specs.declared.fault.Fault.TheVariants as fault
 
@@ -24,12 +24,3 @@ served_does words bytes_at path house l x f b c v w (Err (fault.Run e)) command 
 served_does words bytes_at path house l x f b c v w (Err (fault.Usage t)) command asked named h = absurd h
 served_does words bytes_at path house l x f b c v w (Err fault.HouseFile) command asked named h = absurd h
 served_does words bytes_at path house l x f b c v w (Err (fault.HouseLine e)) command asked named h = absurd h
-
--- and they were understood
-pub served_understood : (house : House) (b c : Option (List ℕ)) (v w : ℕ) (r : Result (Unit {0}) Fault) → Serves house b c v w r → IfErr r IsUnderstood
-served_understood house b c v w (Ok done) h = tt
-served_understood house b c v w (Err (fault.Service e)) h = tt
-served_understood house b c v w (Err (fault.Run e)) h = tt
-served_understood house b c v w (Err (fault.Usage t)) h = absurd h
-served_understood house b c v w (Err fault.HouseFile) h = tt
-served_understood house b c v w (Err (fault.HouseLine e)) h = tt
