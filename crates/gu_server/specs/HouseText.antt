@@ -3,12 +3,9 @@ use Rattle.std.specs.Prelude.{◌≡◌, ℕ, ◌+◌, ◌<◌, ◌≤◌, ◌�
 use Rattle.std.specs.Io.KnownBytes.{Consumes, IsAtEnd}
 use Rattle.gu_batch.specs.Counts.{Fails}
 use Rattle.gu_batch.specs.declared.batch.RunError.TheVariants.{Memory}
+use Rattle.gu_server.specs.Limits.{most_bytes, longest_read}
 use Rattle.gu_server.specs.declared.fault.Fault.{Fault}
 use Rattle.gu_server.specs.declared.fault.Fault.TheVariants.{HouseFile, Run}
-
--- how many bytes a house file may have: 16 MiB
-abbrev pub most_bytes : ℕ
-most_bytes = 16777216
 
 -- the text of a file is all of its bytes, which are no more than a house file may have
 abbrev pub IsTextOf : Option (List ℕ) → List ℕ → Type 0
@@ -41,6 +38,6 @@ IsRead bytes left failed_before failed text (Err _) = ⊥
 pub record ReadsAll {A : Type 0} (old new : Option (List ℕ)) (failed_before failed : ℕ) (text : List ℕ) (result : Result A Fault) : Type 0 where
   pub bytes : List ℕ
   pub consumed : Consumes old new bytes
-  pub few : length bytes ≤ most_bytes + 4096
+  pub few : length bytes ≤ most_bytes + longest_read
   pub held : length text ≤ most_bytes
   pub right : IsRead bytes new failed_before failed text result
