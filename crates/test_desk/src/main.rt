@@ -13,7 +13,6 @@ mod closing;
 mod holding;
 mod opening;
 mod running;
-mod twice;
 mod working;
 
 use calls::{Call, split, trade};
@@ -29,7 +28,7 @@ use std::io::{Eprint, Read};
 use std::sync::Wait;
 use std::thread::Threads;
 use std::time::Clock;
-use twice::{tell_refused, twice};
+use test_days::{tell_refused, twice};
 
 /// The four calls of the case: the house's trades, and the splits of AAA, which is held, and of CCC.
 #[derive(Drop)]

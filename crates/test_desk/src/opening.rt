@@ -1,11 +1,11 @@
 //! The calls that open the book.
 
 use crate::calls::Call;
-use crate::twice::tell_refused;
 use gu_base::Answer;
 use gu_book::Book;
 use std::alloc::Global;
 use std::io::Eprint;
+use test_days::tell_refused;
 
 /// Makes a call of the book, where no memory is found once more. Whether it is accepted.
 pub(crate) fn make(rt: &impl Eprint, alloc: Global, book: &mut Book, call: &Call) -> bool {

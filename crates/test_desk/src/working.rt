@@ -2,13 +2,13 @@
 
 use crate::calls::Call;
 use crate::holding::{Holds, Turns};
-use crate::twice::tell_refused;
 use gu_base::{Answer, FirmId, Memory};
 use gu_desk::{Desk, Gate, Job, Seat};
 use std::alloc::Global;
 use std::io::Eprint;
 use std::sync::{Mutex, Wait};
 use std::time::Clock;
+use test_days::tell_refused;
 
 /// What a worker comes back with: its seat, the answer to its call, and the numbers of the reports to its firm.
 #[derive(Drop)]
