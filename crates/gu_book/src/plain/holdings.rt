@@ -148,7 +148,6 @@ pub(crate) fn taken_before(
 }
 
 /// What a part of the whole holds.
-#[inline(always)]
 fn part_holding(whole: &Holding, by: &FirmId, part: &Part) -> Option<Holding>
     ensures { result ≡ part_holding whole.now by.now part.now }
 {
