@@ -29,6 +29,7 @@ pub mod FiledChanges
 pub mod FoundAs
 pub mod AllShown
 mod Visited
+mod OnePlace
 pub mod Undoing
 pub mod FiledLess
 pub mod FreeNodes

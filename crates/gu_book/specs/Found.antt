@@ -1,5 +1,5 @@
 -- What the trees say of a node.
-use Rattle.std.specs.Prelude.{◌≡◌, List, [], Option, Some, None, option_map}
+use Rattle.std.specs.Prelude.{◌≡◌, ℕ, List, [], Option, Some, None, option_map}
 use Rattle.gu_base.specs.Numbers.{EntryPart}
 use Rattle.gu_base.specs.House.{House}
 use Rattle.gu_base.specs.History.{RisesFrom}
@@ -9,7 +9,7 @@ use Rattle.gu_base.specs.Rows.{state_of}
 use Rattle.gu_base.specs.Standing.{first_refused}
 use Rattle.gu_base.specs.declared.entry.Record.{Record}
 use Rattle.gu_base.specs.declared.node.Node.{Node}
-use Rattle.gu_tree.specs.Grove.{Grove}
+use Rattle.gu_tree.specs.Grove.{Grove, IsPlace}
 use Rattle.gu_book.specs.Filed.{IsFiled}
 use Rattle.gu_book.specs.declared.found.Found.{Found}
 use Rattle.gu_book.specs.declared.found.Named.{Named}
@@ -45,3 +45,14 @@ IsNamedBy l n (Some m) = (node_of l n ≡ Some m.node) × (m.node.name ≡ n) ×
 abbrev pub IsNamedIn : List Record → Option EntryPart → Option Named → Type 0
 IsNamedIn l None o = o ≡ None
 IsNamedIn l (Some n) o = IsNamedBy l n o
+
+-- the path leads to the node that was found, in whatever trees these changes have
+abbrev pub LiesThere : List Record → Option Named → List ℕ → Type 0
+LiesThere l None p = Unit {0}
+LiesThere l (Some m) p = (g : Grove) → IsFiled l g → IsPlace g m.node.name m.found.trade p
+
+-- the node of this name was found, and these trees have it where the path leads
+abbrev pub IsFoundThere : Grove → Option EntryPart → Option Named → List ℕ → Type 0
+IsFoundThere g None o p = Unit {0}
+IsFoundThere g (Some n) None p = ⊥
+IsFoundThere g (Some n) (Some m) p = IsPlace g n m.found.trade p

@@ -14,12 +14,12 @@ ghost use Rattle.gu_base.specs.declared.command.Command.TheVariants.{Initiate, D
 ghost use Rattle.gu_tree.specs.Shown.{shown, named_node};
 ghost use Rattle.gu_book.specs.Front.{may_lack};
 ghost use Rattle.gu_book.specs.Ids.{NoIdTwice};
-ghost use Rattle.gu_book.specs.Found.{IsNamedIn};
+ghost use Rattle.gu_book.specs.Found.{IsNamedIn, LiesThere};
 ghost use Rattle.gu_book.specs.Seen.{stored};
 ghost use Rattle.gu_book.specs.TreeRows.{is_live_trade, tree_rows};
 ghost use Rattle.gu_book.specs.Visits.{AreVisits, IsMet, depth_meant, parts_named, is_kept};
 
-use crate::found::{Named, find_named};
+use crate::found::{Named, Sought, find_named};
 use crate::index::Index;
 use crate::live::{Change, Live};
 use crate::plain::calls::front_answer;
@@ -127,13 +127,13 @@ impl Book {
         ensures unchanged { OnErr result (stored self.new ≡ stored self.old) }
         ensures visits { AreVisits (live self.old.history) command.now (is_kept result) self.new.visits }
     {
-        let named = self.named(command);
-        let answer = self.answer(by, id, command, named);
-        let seen = self.nodes_seen(command, &named, &answer);
+        let sought = self.sought(command);
+        let answer = self.answer(by, id, command, sought.named);
+        let seen = self.nodes_seen(command, &sought.named, &answer);
         self.note(seen);
         match answer {
             Answer::Accepted { number, status } => {
-                self.keep(alloc, by, id, command, &named, number, status)?;
+                self.keep(alloc, by, id, command, &sought, number, status)?;
                 self.note(seen + visits::nodes_made(command));
                 Ok(answer)
             }
@@ -157,8 +157,9 @@ impl Book {
     }
 
     /// The node that a command names, if it names one.
-    fn named(&self, command: &Command) -> Option<Named>
-        ensures { IsNamedIn (live self.now.history) (named_node command.now) result }
+    fn sought(&self, command: &Command) -> Sought
+        ensures named { IsNamedIn (live self.now.history) (named_node command.now) result.named }
+        ensures there { LiesThere (live self.now.history) result.named result.path.items }
     {
         let changes = Live::of(self.entries.as_slice(), &self.index.reversals);
         find_named(&changes, &self.trees, command)
@@ -218,11 +219,12 @@ impl Book {
         by: &FirmId,
         id: &AllocId,
         command: &Command,
-        named: &Option<Named>,
+        sought: &Sought,
         number: Number,
         status: State,
     ) -> Result<(), Memory>
-        requires named { IsNamedIn (live self.old.history) (named_node command.now) named.now }
+        requires named { IsNamedIn (live self.old.history) (named_node command.now) sought.now.named }
+        requires there { LiesThere (live self.old.history) sought.now.named sought.now.path.items }
         requires accepted { answer_to self.old.house self.old.history (record { firm = by.now; id = id.now; command = command.now }) ≡ Accepted number status }
         ensures kept { OnOk result (self.new ≡ record self.old { history = after self.old.house self.old.history (record { firm = by.now; id = id.now; command = command.now }) }) }
         ensures unchanged { OnErr result (self.new ≡ self.old) }
@@ -237,7 +239,7 @@ impl Book {
             Command::Initiate { entry } => self.keep_consent(alloc, kept, *entry, number),
             Command::Decline { entry } => self.keep_decline(kept, *entry, number),
             Command::Reverse { entry } => self.keep_reversal(alloc, kept, *entry, number),
-            _ => self.keep_change(alloc, kept, named, number),
+            _ => self.keep_change(alloc, kept, sought, number),
         }
     }
 
@@ -246,11 +248,12 @@ impl Book {
         &mut self,
         alloc: Global,
         kept: Entry,
-        named: &Option<Named>,
+        sought: &Sought,
         number: Number,
     ) -> Result<(), Memory>
         requires change { is_change kept.command ≡ true }
-        requires named { IsNamedIn (live self.old.history) (named_node kept.command) named.now }
+        requires named { IsNamedIn (live self.old.history) (named_node kept.command) sought.now.named }
+        requires there { LiesThere (live self.old.history) sought.now.named sought.now.path.items }
         requires next { number ≡ length self.old.history + 1 }
         requires accepted { answer_to self.old.house self.old.history (call_of kept) ≡ Accepted number kept.status }
         ensures kept { OnOk result (self.new ≡ record self.old { history = self.old.history ++ kept ∷ [] }) }
@@ -258,7 +261,7 @@ impl Book {
     {
         let changes = Live::of(self.entries.as_slice(), &self.index.reversals);
         let charge = charges::charge_of(&self.house, &changes, &kept.command);
-        let taken = holdings::taken_by(&changes, named, &kept.command);
+        let taken = holdings::taken_by(&changes, &sought.named, &kept.command);
         self.entries.reserve(1)?;
         charges::ready(&mut self.fees, &charge)?;
         holdings::ready(&mut self.positions, &kept.firm, &kept.command, &taken)?;
@@ -267,7 +270,7 @@ impl Book {
             number,
             entry: &kept,
         };
-        if let Err(lack) = grove::change(&mut self.trees, alloc, &made) {
+        if let Err(lack) = grove::change(&mut self.trees, alloc, &made, sought) {
             self.index.ids.remove(&kept.firm, &kept.id);
             return Err(lack);
         }

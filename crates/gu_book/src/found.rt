@@ -1,16 +1,19 @@
 //! What the trees say of a node, found by its name.
-ghost use Rattle.std.specs.Prelude.{◌≡◌, List};
+ghost use Rattle.std.specs.Prelude.{◌≡◌, List, None};
+ghost use Rattle.gu_base.specs.Numbers.{EntryPart};
 ghost use Rattle.gu_base.specs.Nodes.{is_offered};
 ghost use Rattle.gu_base.specs.Refusals.{owns};
 ghost use Rattle.gu_base.specs.declared.entry.Record.{Record as RecordData};
 ghost use Rattle.gu_base.specs.declared.node.Node.{Node as NodeData};
-ghost use Rattle.gu_book.specs.Found.{AreTreesOf, IsFoundAs, IsFoundIn, IsNamedBy, IsNamedIn};
+ghost use Rattle.gu_book.specs.Found.{AreTreesOf, IsFoundAs, IsFoundIn, IsNamedBy, IsNamedIn, LiesThere};
+ghost use Rattle.gu_tree.specs.Grove.{HasTree, IsPlace};
+ghost use Rattle.gu_tree.specs.Paths.{HasPath};
 ghost use Rattle.gu_tree.specs.Shown.{named_node};
 
 use crate::live::Live;
 use crate::plain::nodes::node_of;
 use gu_base::{Command, FirmId, Node, NodeName, Number, State};
-use gu_tree::{Head, Trees};
+use gu_tree::{Head, Path, Trees};
 use std::alloc::Global;
 
 /// What the trees say of a node.
@@ -50,6 +53,27 @@ impl Found {
     }
 }
 
+/// What the trees say of the node to which the path leads in the tree of the trade.
+fn found_at(trees: &Trees<Global>, trade: Number, path: &Path) -> Found
+    requires { HasTree trees.now trade (HasPath path.now.items) }
+    ensures found { (l : List RecordData) (n : EntryPart) → AreTreesOf l trees.now → IsPlace trees.now n trade path.now.items → IsFoundIn l n (Some result) }
+    ensures trade { result.trade ≡ trade }
+{
+    let Some(tree) = trees.tree(trade) else {
+        unreachable!()
+    };
+    let split = match tree.parted(path) {
+        Some(parted) => Some(parted.0),
+        None => None,
+    };
+    Found {
+        head: *tree.head(path),
+        trade,
+        depth: path.len() as u32,
+        split,
+    }
+}
+
 /// What the trees say of the node of this name, `None` where no live change makes one.
 pub(crate) fn find(trees: &Trees<Global>, name: NodeName) -> Option<Found>
     ensures { (l : List RecordData) → AreTreesOf l trees.now → IsFoundIn l name result }
@@ -57,19 +81,7 @@ pub(crate) fn find(trees: &Trees<Global>, name: NodeName) -> Option<Found>
     let Some(spot) = trees.find(name) else {
         return None;
     };
-    let Some(tree) = trees.tree(spot.0) else {
-        unreachable!()
-    };
-    let split = match tree.parted(&spot.1) {
-        Some(parted) => Some(parted.0),
-        None => None,
-    };
-    Some(Found {
-        head: *tree.head(&spot.1),
-        trade: spot.0,
-        depth: spot.1.len() as u32,
-        split,
-    })
+    Some(found_at(trees, spot.0, &spot.1))
 }
 
 /// A node that a live change makes, and what the trees say of it.
@@ -79,34 +91,56 @@ pub(crate) struct Named {
     pub(crate) found: Found,
 }
 
+/// The node that a command names, if it names one that a live change makes, and the way to it, so that nothing climbs there again.
+#[derive(Drop)]
+pub(crate) struct Sought {
+    pub(crate) named: Option<Named>,
+    /// From the root of the trade in whose tree the node lies; empty where there is no node.
+    pub(crate) path: Path,
+}
+
+impl Sought {
+    /// No node.
+    fn nothing() -> Sought
+        ensures { result.named ≡ None }
+    {
+        Sought {
+            named: None,
+            path: Path::new(),
+        }
+    }
+}
+
 /// The node of this name. One that no live change makes isn't looked for in the trees.
-fn node_named(changes: &Live<'_>, trees: &Trees<Global>, name: NodeName) -> Option<Named>
+fn node_named(changes: &Live<'_>, trees: &Trees<Global>, name: NodeName) -> Sought
     requires { AreTreesOf changes.now trees.now }
-    ensures { IsNamedBy changes.now name result }
+    ensures named { IsNamedBy changes.now name result.named }
+    ensures there { LiesThere changes.now result.named result.path.items }
 {
     let Some(node) = node_of(changes, &name) else {
-        return None;
+        return Sought::nothing();
     };
-    let Some(found) = find(trees, name) else {
+    let Some(spot) = trees.find(name) else {
         unreachable!()
     };
-    Some(Named { node, found })
+    let found = found_at(trees, spot.0, &spot.1);
+    Sought {
+        named: Some(Named { node, found }),
+        path: spot.1,
+    }
 }
 
 /// The node that a command names, if it names one.
-pub(crate) fn find_named(
-    changes: &Live<'_>,
-    trees: &Trees<Global>,
-    command: &Command,
-) -> Option<Named>
+pub(crate) fn find_named(changes: &Live<'_>, trees: &Trees<Global>, command: &Command) -> Sought
     requires { AreTreesOf changes.now trees.now }
-    ensures { IsNamedIn changes.now (named_node command.now) result }
+    ensures named { IsNamedIn changes.now (named_node command.now) result.named }
+    ensures there { LiesThere changes.now result.named result.path.items }
 {
     match command {
         Command::Split { node, .. } => node_named(changes, trees, *node),
         Command::Claim { node, .. } => node_named(changes, trees, *node),
         Command::Refuse { node } => node_named(changes, trees, *node),
         Command::Cancel { node } => node_named(changes, trees, *node),
-        _ => None,
+        _ => Sought::nothing(),
     }
 }

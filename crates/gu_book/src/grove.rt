@@ -1,15 +1,18 @@
 //! The trees of the live trades, and the places of the live changes in them.
 ghost use Rattle.std.specs.Prelude.{true, ◌≡◌, ◌≤◌, option_map, IfOk, OnOk, OnErr, IsSome};
 ghost use Rattle.gu_base.specs.History.{is_change, numbered_as};
+ghost use Rattle.gu_base.specs.Numbers.{EntryPart};
 ghost use Rattle.gu_base.specs.declared.command.Command.TheVariants.{Split, Claim};
 ghost use Rattle.gu_tree.specs.Grove.{tree_of, last_place, IsSameGrove};
 ghost use Rattle.gu_tree.specs.Rose.{rows};
-ghost use Rattle.gu_tree.specs.Shown.{GivesBack, IsTradeOf};
+ghost use Rattle.gu_tree.specs.Shown.{GivesBack, IsTradeOf, named_node};
 ghost use Rattle.gu_book.specs.Filed.{IsDue, Follows, MayGo, IsGone};
+ghost use Rattle.gu_book.specs.Found.{IsFoundThere};
 ghost use Rattle.gu_book.specs.Live.{record_of};
 
+use crate::found::Sought;
 use crate::live::Change;
-use gu_base::{AccountId, Command, Entry, Memory, NodeName, Number, Part, Place, State};
+use gu_base::{AccountId, Command, Entry, Memory, Number, Part, Place, State};
 use gu_tree::{Row, Tree, Trees};
 use std::alloc::Global;
 
@@ -29,57 +32,66 @@ fn plant(trees: &mut Trees<Global>, alloc: Global, made: &Change<'_>, place: Pla
 fn split(
     trees: &mut Trees<Global>,
     made: &Change<'_>,
-    node: NodeName,
+    sought: &Sought,
     parts: &[Part],
 ) -> Result<(), Memory>
     requires due { IsDue (record_of made.now) trees.old }
     requires place_room { 1 ≤ trees.old.place_room }
-    requires split { made.now.entry.now.command ≡ Split node parts.now }
+    requires split { (n : EntryPart) × (made.now.entry.now.command ≡ Split n parts.now) }
+    requires there { IsFoundThere trees.old (named_node made.now.entry.now.command) sought.now.named sought.now.path.items }
     ensures follows { OnOk result (Follows (record_of made.now) trees.old trees.new) }
     ensures last { OnOk result (last_place trees.new ≤ made.now.number) }
     ensures unchanged { OnErr result (IsSameGrove trees.old trees.new) }
 {
-    let Some(spot) = trees.find(node) else {
+    let Some(named) = &sought.named else {
         unreachable!()
     };
-    trees.split(spot.0, &spot.1, made.number, parts)
+    trees.split(named.found.trade, &sought.path, made.number, parts)
 }
 
 /// Moves the node into the account of its claim.
-fn claim(trees: &mut Trees<Global>, made: &Change<'_>, node: NodeName, account: AccountId)
+fn claim(trees: &mut Trees<Global>, made: &Change<'_>, sought: &Sought, account: AccountId)
     requires due { IsDue (record_of made.now) trees.old }
     requires place_room { 1 ≤ trees.old.place_room }
-    requires claim { made.now.entry.now.command ≡ Claim node account }
+    requires claim { (n : EntryPart) × (made.now.entry.now.command ≡ Claim n account) }
+    requires there { IsFoundThere trees.old (named_node made.now.entry.now.command) sought.now.named sought.now.path.items }
     ensures follows { Follows (record_of made.now) trees.old trees.new }
     ensures last { last_place trees.new ≤ made.now.number }
 {
-    let Some(spot) = trees.find(node) else {
+    let Some(named) = &sought.named else {
         unreachable!()
     };
     let place = Place {
         firm: made.entry.firm,
         account,
     };
-    trees.claim(spot.0, &spot.1, made.number, place);
+    trees.claim(named.found.trade, &sought.path, made.number, place);
 }
 
 /// Gives the node back to its giver: `state` is Refused or Cancelled.
-fn give_back(trees: &mut Trees<Global>, made: &Change<'_>, node: NodeName, state: State)
+fn give_back(trees: &mut Trees<Global>, made: &Change<'_>, sought: &Sought, state: State)
     requires due { IsDue (record_of made.now) trees.old }
     requires place_room { 1 ≤ trees.old.place_room }
-    requires back { GivesBack node state made.now.entry.now.command }
+    requires back { (n : EntryPart) × GivesBack n state made.now.entry.now.command }
+    requires there { IsFoundThere trees.old (named_node made.now.entry.now.command) sought.now.named sought.now.path.items }
     ensures follows { Follows (record_of made.now) trees.old trees.new }
     ensures last { last_place trees.new ≤ made.now.number }
 {
-    let Some(spot) = trees.find(node) else {
+    let Some(named) = &sought.named else {
         unreachable!()
     };
-    trees.give_back(spot.0, &spot.1, made.number, state);
+    trees.give_back(named.found.trade, &sought.path, made.number, state);
 }
 
 /// Does to the trees what an accepted change says. There has to be room for a tree and a place.
-fn make(trees: &mut Trees<Global>, alloc: Global, made: &Change<'_>) -> Result<(), Memory>
+fn make(
+    trees: &mut Trees<Global>,
+    alloc: Global,
+    made: &Change<'_>,
+    sought: &Sought,
+) -> Result<(), Memory>
     requires due { IsDue (record_of made.now) trees.old }
+    requires there { IsFoundThere trees.old (named_node made.now.entry.now.command) sought.now.named sought.now.path.items }
     requires tree_room { 1 ≤ trees.old.tree_room }
     requires place_room { 1 ≤ trees.old.place_room }
     ensures follows { OnOk result (Follows (record_of made.now) trees.old trees.new) }
@@ -99,30 +111,31 @@ fn make(trees: &mut Trees<Global>, alloc: Global, made: &Change<'_>) -> Result<(
             };
             plant(trees, alloc, made, place, *lots);
         }
-        Command::Split { node, parts } => {
-            split(trees, made, *node, parts.as_slice())?;
-        }
-        Command::Claim { node, account } => claim(trees, made, *node, *account),
-        Command::Refuse { node } => give_back(trees, made, *node, State::Refused),
-        Command::Cancel { node } => give_back(trees, made, *node, State::Cancelled),
+        Command::Split { parts, .. } => split(trees, made, sought, parts.as_slice())?,
+        Command::Claim { account, .. } => claim(trees, made, sought, *account),
+        Command::Refuse { .. } => give_back(trees, made, sought, State::Refused),
+        Command::Cancel { .. } => give_back(trees, made, sought, State::Cancelled),
         _ => {}
     }
     Ok(())
 }
 
-/// Does to the trees what an accepted change says. Its growths come before anything changes.
+/// Does to the trees what an accepted change says, at the node that it names and that was found before. Its growths come before
+/// anything changes.
 pub(crate) fn change(
     trees: &mut Trees<Global>,
     alloc: Global,
     made: &Change<'_>,
+    sought: &Sought,
 ) -> Result<(), Memory>
-    requires { IsDue (record_of made.now) trees.old }
+    requires due { IsDue (record_of made.now) trees.old }
+    requires there { IsFoundThere trees.old (named_node made.now.entry.now.command) sought.now.named sought.now.path.items }
     ensures follows { OnOk result (Follows (record_of made.now) trees.old trees.new) }
     ensures last { OnOk result (last_place trees.new ≤ made.now.number) }
     ensures unchanged { OnErr result (IsSameGrove trees.old trees.new) }
 {
     trees.ready()?;
-    make(trees, alloc, made)
+    make(trees, alloc, made, sought)
 }
 
 /// Takes the change of this number back, at the node that it made or named; nothing may stand on it. The trees are then those of

@@ -2,12 +2,16 @@ use Rattle.std.proofs.Common.{◌≤◌, ◌∙◌, List, length, subst, arith}
 use Rattle.gu_base.specs.History.{live}
 use Rattle.gu_base.specs.declared.entry.Record.{Record}
 use Rattle.gu_base.proofs.LiveLaws.{change_is_no_reverse}
+use Rattle.gu_base.proofs.Passing.{refusal_parts}
+use Rattle.gu_tree.specs.Shown.{named_node}
 use Rattle.gu_book.specs.Charging.{AreFeesOf}
 use Rattle.gu_book.specs.Holdings.{ArePositionsOf}
 use Rattle.gu_book.proofs.Charging.{fees_push, has_room}
 use Rattle.gu_book.proofs.Indexed.{ids_back, index_put}
 use Rattle.gu_book.proofs.Keeps.{next_kept, kept_change, kept_alike, live_few, live_more}
 use Rattle.gu_book.proofs.Leaves.{live_rises}
+use Rattle.gu_book.proofs.OnePlace.{found_there}
+use Rattle.gu_book.proofs.Orders.{names_there}
 use Rattle.gu_book.proofs.Standings.{has_taken, have_room, positions_push}
 use Rattle.gu_book.proofs.book.Book.keep_change.Goals as goal
 
@@ -17,10 +21,19 @@ charge_of-charge-requires-clause-rises c = rw (c.of-changes.ensures, c.as_slice.
 pub taken_by-taken-requires-clause-named : goal.taken_by-taken-requires-clause-named
 taken_by-taken-requires-clause-named c = rw (c.of-changes.ensures, c.as_slice.ensures.value) (rw (← c.self.view_is) at c.requires.named)
 
-pub change-requires : goal.change-requires
-change-requires c =
+pub change-requires-clause-due : goal.change-requires-clause-due
+change-requires-clause-due c =
     let ok = rw (← c.self.view_is) at c.requires.accepted in
     (c.self.inside.house, live c.self.inside.entries.items, next_kept c.self.invariant.kept c.args.number c.args.kept ok c.requires.change)
+
+pub change-requires-clause-there : goal.change-requires-clause-there
+change-requires-clause-there c =
+    let ok = rw (← c.self.view_is) at c.requires.accepted in
+    let next = next_kept c.self.invariant.kept c.args.number c.args.kept ok c.requires.change in
+    let l = live c.self.inside.entries.items in
+    found_there l c.self.inside.trees (named_node c.args.kept.command) c.args.sought.now.named c.args.sought.now.path.items next.filed
+    (rw (← c.self.view_is) at c.requires.named) (rw (← c.self.view_is) at c.requires.there)
+    (λ n names. names_there c.self.inside.house l c.args.kept.firm c.args.kept.command n (refusal_parts c.self.inside.house l c.args.kept.firm c.args.kept.command next.lawful).1 names)
 
 pub add-requires : goal.add-requires
 add-requires c =
