@@ -265,17 +265,15 @@ impl Book {
         self.entries.reserve(1)?;
         charges::ready(&mut self.fees, &charge)?;
         holdings::ready(&mut self.positions, &kept.firm, &kept.command, &taken)?;
-        self.index.ids.put(&kept.firm, &kept.id, number)?;
+        self.index.ids.ready()?;
         let made = Change {
             number,
             entry: &kept,
         };
-        if let Err(lack) = grove::change(&mut self.trees, alloc, &made, sought) {
-            self.index.ids.remove(&kept.firm, &kept.id);
-            return Err(lack);
-        }
+        grove::change(&mut self.trees, alloc, &made, sought)?;
         charges::add(&mut self.fees, &charge);
         holdings::move_lots(&mut self.positions, &kept.firm, &kept.command, &taken);
+        self.index.ids.add(&kept);
         self.entries.push_reserved(kept);
         Ok(())
     }
@@ -294,11 +292,9 @@ impl Book {
         ensures unchanged { OnErr result (self.new ≡ self.old) }
     {
         self.entries.reserve(1)?;
-        self.index.ids.put(&kept.firm, &kept.id, number)?;
-        if let Err(lack) = self.consents.give(alloc, entry, kept.firm) {
-            self.index.ids.remove(&kept.firm, &kept.id);
-            return Err(lack);
-        }
+        self.index.ids.ready()?;
+        self.consents.give(alloc, entry, kept.firm)?;
+        self.index.ids.add(&kept);
         self.entries.push_reserved(kept);
         Ok(())
     }
@@ -311,8 +307,9 @@ impl Book {
         ensures unchanged { OnErr result (self.new ≡ self.old) }
     {
         self.entries.reserve(1)?;
-        self.index.ids.put(&kept.firm, &kept.id, number)?;
+        self.index.ids.ready()?;
         self.consents.clear(entry);
+        self.index.ids.add(&kept);
         self.entries.push_reserved(kept);
         Ok(())
     }
@@ -337,15 +334,13 @@ impl Book {
         let charge = charges::charge_of(&self.house, &changes, &undone.command);
         let taken = holdings::taken_before(&changes, &self.trees, &undone.command);
         holdings::ready_taken(&mut self.positions, &taken)?;
-        self.index.ids.put(&kept.firm, &kept.id, number)?;
-        if let Err(lack) = self.index.reversals.put(change, number) {
-            self.index.ids.remove(&kept.firm, &kept.id);
-            return Err(lack);
-        }
+        self.index.ids.ready()?;
+        self.index.reversals.put(change, number)?;
         grove::undo(&mut self.trees, change, undone);
         charges::take_back(&mut self.fees, &charge);
         holdings::move_back(&mut self.positions, &undone.firm, &undone.command, &taken);
         self.consents.clear(change);
+        self.index.ids.add(&kept);
         self.entries.push_reserved(kept);
         Ok(())
     }

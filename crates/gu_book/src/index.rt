@@ -2,16 +2,12 @@
 ghost use Rattle.std.specs.Prelude.{◌≡◌, ◌&&◌, ◌==◌, List, [], ℕ, Some, None, bytes_eq, if◌then◌else◌, OnOk, OnErr};
 ghost use Rattle.gu_book.specs.Index.{number_in, reversal_in, IsIndexOf};
 
-use gu_base::{AllocId, FirmId, Memory, Number};
+use gu_base::{Memory, Number};
+use gu_ids::Ids;
 use std::alloc::Global;
-use std::collections::BTreeMap;
 
-/// A firm and an id of its own. The id is compared first, since it tells most entries apart.
-#[derive(Clone, Copy, Debug, PartialEq, Eq, PartialOrd, Ord)]
-struct Key {
-    id: AllocId,
-    firm: FirmId,
-}
+/// The seed of the hash of ids.
+const SEED: u64 = 0x1357_9bdf_2468_ace0;
 
 /// What is found of a history without going over it.
 #[derive(Drop)]
@@ -28,61 +24,9 @@ impl Index {
         ensures { IsIndexOf result [] }
     {
         Index {
-            ids: Ids::new(alloc),
+            ids: Ids::new(alloc, SEED),
             reversals: Reversals::new(alloc),
         }
-    }
-}
-
-/// The number of each entry of a history, by the firm and the id of its call.
-#[derive(Drop)]
-pub(crate) struct Ids {
-    numbers: BTreeMap<Key, Number>,
-}
-
-impl Ids {
-    /// No entry.
-    pub(crate) fn new(alloc: Global) -> Ids
-        ensures { (firm id : List ℕ) → number_in result firm id ≡ None }
-    {
-        Ids {
-            numbers: BTreeMap::new(alloc),
-        }
-    }
-
-    /// The number of the firm's entry of this id.
-    pub(crate) fn number(&self, firm: &FirmId, id: &AllocId) -> Option<Number>
-        ensures { result ≡ number_in self.now firm.now id.now }
-    {
-        let key = Key {
-            firm: *firm,
-            id: *id,
-        };
-        self.numbers.get(&key).copied()
-    }
-
-    /// Puts the number of an entry in.
-    pub(crate) fn put(&mut self, firm: &FirmId, id: &AllocId, number: Number) -> Result<(), Memory>
-        ensures put { OnOk result ((f i : List ℕ) → number_in self.new f i ≡ (if bytes_eq firm.now f && bytes_eq id.now i then Some number else number_in self.old f i)) }
-        ensures unchanged { OnErr result ((f i : List ℕ) → number_in self.new f i ≡ number_in self.old f i) }
-    {
-        let key = Key {
-            firm: *firm,
-            id: *id,
-        };
-        self.numbers.insert(key, number)?;
-        Ok(())
-    }
-
-    /// Takes the number of an entry out.
-    pub(crate) fn remove(&mut self, firm: &FirmId, id: &AllocId)
-        ensures { (f i : List ℕ) → number_in self.new f i ≡ (if bytes_eq firm.now f && bytes_eq id.now i then None else number_in self.old f i) }
-    {
-        let key = Key {
-            firm: *firm,
-            id: *id,
-        };
-        self.numbers.remove(&key);
     }
 }
 

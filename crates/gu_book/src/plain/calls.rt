@@ -16,11 +16,11 @@ ghost use Rattle.gu_consent.specs.Given.{given};
 ghost use Rattle.gu_fees.specs.Sums.{AreSumsOf};
 ghost use Rattle.gu_tree.specs.Shown.{named_node};
 
-use crate::index::Ids;
 use crate::plain::naming::naming_refusal;
 use crate::plain::refusals::change_refusal;
 use crate::plain::standing::Standing;
 use gu_base::{AllocId, Answer, Command, Entry, FirmId, Number, Refusal, State};
+use gu_ids::Ids;
 
 /// The answer to a call whose firm and id this entry has.
 fn known_answer(number: Number, e: &Entry, command: &Command) -> Answer
@@ -48,7 +48,7 @@ fn known(
     requires ids { AreIdsOf ids.now entries.now }
     ensures { (other : Answer) → unwrap_or result other ≡ answer_by (find (is_same_call (record { firm = by.now; id = id.now; command = command.now })) (records entries.now)) (find (is_same_id (record { firm = by.now; id = id.now; command = command.now })) (records entries.now)) other }
 {
-    let Some(number) = ids.number(by, id) else {
+    let Some(number) = ids.number(entries, by, id) else {
         return None;
     };
     let place = number.get() as usize - 1;

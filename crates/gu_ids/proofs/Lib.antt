@@ -1,0 +1,4 @@
+pub mod Linked
+pub mod Links
+pub mod NewestLaws
+pub mod Walk

@@ -1,0 +1,13 @@
+use Rattle.std.proofs.Common.{◌≡◌, length}
+use Rattle.gu_ids.specs.Chains.{hashes_of, befores_of, AreChains, count}
+use Rattle.gu_ids.proofs.ids.Ids.link_anew.Given as goal
+
+-- the entries so far are linked
+abbrev pub invariant-loop-place : goal.invariant-loop-place
+invariant-loop-place l = record {
+  hasher : l.self.hasher ≡ l.initial.self.hasher;
+  hashes : hashes_of l.self.links.items ≡ hashes_of l.initial.self.links.items;
+  buckets : length l.self.heads.items ≡ l.buckets;
+  count : count l.self ≡ count l.initial.self;
+  chains : AreChains (hashes_of l.self.links.items) (befores_of l.self.links.items) l.self.heads.items l.place;
+}

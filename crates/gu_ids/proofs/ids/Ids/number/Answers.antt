@@ -1,0 +1,60 @@
+use Rattle.std.proofs.Common.{◌≡◌, ◌<◌, ◌-◌, suc, length, sym, ◌∙◌, ap, subst, arith, eqb}
+use Rattle.std.specs.Prelude.{Some, slice_index_or}
+use Rattle.std.proofs.lemmas.Bool.{and_parts}
+use Rattle.std.proofs.lemmas.Grind.{get_or_default_zero}
+use Rattle.gu_ids.specs.Chains.{hash_of, bucket_of}
+use Rattle.gu_ids.specs.Newest.{is_of}
+use Rattle.gu_ids.proofs.Walk.{Stands, long, walk_begins, walk_goes_on, walk_sinks, walk_finds, is_read, not_here, read_before}
+use Rattle.gu_ids.proofs.ids.Ids.number.Goals as goal
+
+pub loop-number-init : goal.loop-number-init
+loop-number-init c =
+    let ids = c.args.self.now in
+    let full = ids.heads.ok.0 in
+    let len : c.len.result ≡ length ids.heads.items = omega (arith, c.len.ensures, full) in
+    let is : c.bucket_of.result ≡ bucket_of (hash_of ids.hasher c.args.firm.now c.args.id.now) (length ids.heads.items) =
+    c.bucket_of.ensures.value ∙ (ap (λ x. bucket_of x c.len.result) c.hash-hash.ensures ∙ ap (bucket_of (hash_of ids.hasher c.args.firm.now c.args.id.now)) len) in
+    let inside : c.bucket_of.result < length ids.heads.items = omega (arith, len, c.bucket_of.ensures.within) in
+    walk_begins ids c.args.entries.now c.args.firm.now c.args.id.now c.requires.ids (omega (arith, is, inside)) c.index-number.result.now
+    (c.index-number.ensures ∙ (get_or_default_zero ids.heads.items c.bucket_of.result c.index-number.result.now inside ∙ ap (λ b. slice_index_or ids.heads.items b 0) is))
+
+pub returns-then-is_of : goal.returns-then-is_of
+returns-then-is_of c =
+    let ids = c.args.self.now in
+    let k = c.loop-number.number - 1 in
+    let some = c.loop-number-test.true in
+    let number : c.loop-number.number ≡ suc k = omega (arith, some) in
+    let at = subst (Stands ids c.args.entries.now c.args.firm.now c.args.id.now) number c.loop-number.invariant in
+    let within = c.loop-number.invariant.within in
+    let asked = and_parts (eqb c.index-link.result.now.hash c.hash-hash.result) (is_of c.args.firm.now c.args.id.now c.index-entries-place.result) (sym c.is_of.ensures ∙ c.if-is_of.true) in
+    let here = is_read ids c.args.entries.now c.args.firm.now c.args.id.now c.requires.ids k c.index-entries-place.result c.index-entries-place.is (omega (arith, number, within)) ∙ asked.1 in
+    let made : c.at_place.result ≡ suc k = omega (arith, c.at_place.ensures) in
+    ap Some made ∙ sym (walk_finds ids c.args.entries.now c.args.firm.now c.args.id.now c.requires.ids k at here)
+
+pub loop-number-smaller : goal.loop-number-smaller
+loop-number-smaller c =
+    let ids = c.args.self.now in
+    let k = c.loop-number.number - 1 in
+    let some = c.loop-number-test.true in
+    let number : c.loop-number.number ≡ suc k = omega (arith, some) in
+    let at = subst (Stands ids c.args.entries.now c.args.firm.now c.args.id.now) number c.loop-number.invariant in
+    let within = c.loop-number.invariant.within in
+    let many = long ids c.args.entries.now c.args.firm.now c.args.id.now c.requires.ids in
+    let least = walk_sinks ids c.args.entries.now c.args.firm.now c.args.id.now c.requires.ids k at c.index-link.result.now.before
+    (read_before ids c.args.entries.now c.args.firm.now c.args.id.now c.requires.ids k c.index-link.result.now c.index-link.ensures (omega (arith, number, within, many))) in
+    omega (arith, number, least)
+
+pub loop-number-preserved : goal.loop-number-preserved
+loop-number-preserved c =
+    let ids = c.args.self.now in
+    let k = c.loop-number.number - 1 in
+    let some = c.loop-number-test.true in
+    let number : c.loop-number.number ≡ suc k = omega (arith, some) in
+    let at = subst (Stands ids c.args.entries.now c.args.firm.now c.args.id.now) number c.loop-number.invariant in
+    let within = c.loop-number.invariant.within in
+    let many = long ids c.args.entries.now c.args.firm.now c.args.id.now c.requires.ids in
+    let there : k < length ids.links.items = omega (arith, number, within, many) in
+    walk_goes_on ids c.args.entries.now c.args.firm.now c.args.id.now c.requires.ids k at c.index-link.result.now.before
+    (read_before ids c.args.entries.now c.args.firm.now c.args.id.now c.requires.ids k c.index-link.result.now c.index-link.ensures there)
+    (not_here ids c.args.entries.now c.args.firm.now c.args.id.now c.requires.ids k c.index-link.result.now c.index-entries-place.result c.hash-hash.result c.hash-hash.ensures c.index-link.ensures there
+    c.index-entries-place.is (sym c.is_of.ensures ∙ c.if-is_of.false))

@@ -1,0 +1,46 @@
+-- Chains of entries, one for each bucket: from its newest entry to the one before it in the bucket, and so on.
+use Rattle.std.specs.Prelude.{◌≡◌, ◌≤◌, ◌<◌, ◌-◌, ◌/◌, ◌^◌, ◌==◌, ℕ, Bool, List, length, map, slice_index_or, bit_and, vec_len, vec_capacity}
+use Rattle.std.specs.Hash.FoldHasher as folding
+use Rattle.std.specs.declared.hash.FoldHasher.{FoldHasher}
+use Rattle.gu_base.specs.declared.entry.Entry.{Entry}
+use Rattle.gu_ids.specs.declared.ids.Ids.{Ids}
+use Rattle.gu_ids.specs.declared.ids.Link.{Link}
+use Rattle.gu_ids.specs.Newest.{newest}
+
+-- the hash of a firm and an id: the upper half of what the hasher makes of their bytes
+unfoldable pub hash_of : FoldHasher → List ℕ → List ℕ → ℕ
+hash_of hasher firm id = folding.finish (folding.write (folding.write hasher firm) id) / 2 ^ 32
+
+-- the bucket of a hash among n, a power of two
+unfoldable pub bucket_of : ℕ → ℕ → ℕ
+bucket_of hash n = bit_and hash (n - 1)
+
+abbrev pub hashes_of : List Link → List ℕ
+hashes_of links = map (λ l. l.hash) links
+
+abbrev pub befores_of : List Link → List ℕ
+befores_of links = map (λ l. l.before) links
+
+-- the hash at this place falls into bucket b of n
+abbrev pub is_in : List ℕ → ℕ → ℕ → ℕ → Bool
+is_in hashes n b place = bucket_of (slice_index_or hashes place 0) n == b
+
+-- each bucket leads to the newest of its entries among the first k, and each of these to the newest one before it in its bucket
+pub record AreChains (hashes befores heads : List ℕ) (k : ℕ) : Type 0 where
+  pub head : (b : ℕ) → b < length heads → slice_index_or heads b 0 ≡ newest (is_in hashes (length heads) b) k
+  pub before : (j : ℕ) → j < k → slice_index_or befores j 0 ≡ newest (is_in hashes (length heads) (bucket_of (slice_index_or hashes j 0) (length heads))) j
+
+-- the chains are those of this history
+pub record AreIdsOf (ids : Ids) (h : List Entry) : Type 0 where
+  pub hashes : hashes_of ids.links.items ≡ map (λ e. hash_of ids.hasher e.firm e.id) h
+  pub chains : AreChains (hashes_of ids.links.items) (befores_of ids.links.items) ids.heads.items (length ids.links.items)
+  pub few : length ids.links.items ≤ length ids.heads.items
+
+-- the entries that are kept
+abbrev pub count : Ids → ℕ
+count ids = length ids.links.items
+
+-- there is room for one entry more, and a bucket for it
+pub record IsReady (ids : Ids) : Type 0 where
+  pub room : vec_len ids.links < vec_capacity ids.links
+  pub buckets : count ids < length ids.heads.items

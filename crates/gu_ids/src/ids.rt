@@ -1,0 +1,151 @@
+//! The numbers of a history's entries, in chains by hash.
+ghost use Rattle.std.specs.Prelude.{◌≡◌, ◌≤◌, ◌<◌, ◌==◌, ◌&&◌, [], ◌∷◌, ◌++◌, List, length, OnOk};
+ghost use Rattle.gu_base.specs.Limits.{most_entries};
+ghost use Rattle.gu_base.specs.declared.entry.Entry.{Entry};
+ghost use Rattle.gu_ids.specs.Chains.{hash_of, bucket_of, hashes_of, befores_of, AreChains, AreIdsOf, IsReady, count};
+ghost use Rattle.gu_ids.specs.Newest.{is_of, newest_of};
+
+use gu_base::{AllocId, Entry, FirmId, Memory, Number};
+use std::alloc::Global;
+use std::hash::{FoldHasher, Hasher};
+
+/// The buckets of the first growth.
+const FEWEST_BUCKETS: usize = 16;
+
+/// What is kept of an entry.
+#[derive(Clone, Copy)]
+struct Link {
+    /// The hash of its firm and id.
+    hash: u32,
+    /// The number of the entry before it in its bucket, 0 for none.
+    before: u32,
+}
+
+/// The number of each entry of a history, by the firm and the id of its call.
+#[derive(Drop)]
+pub struct Ids {
+    hasher: FoldHasher,
+    /// For each entry of the history.
+    links: Vec<Link>,
+    /// The number of the newest entry of each bucket, 0 for none.
+    heads: Vec<u32>,
+}
+
+/// The bucket of a hash among this many, a power of two.
+#[inline(always)]
+#[tactic(auto, unfolding(crate::specs::Chains::bucket_of))]
+fn bucket_of(hash: u32, buckets: usize) -> usize
+    requires { 1 ≤ buckets }
+    ensures value { result ≡ bucket_of hash buckets }
+    ensures within { result < buckets }
+{
+    hash as usize & (buckets - 1)
+}
+
+/// Whether an entry has this firm and id. Its link is asked first: the entry itself is looked at where the hash is the same.
+fn is_of(link: Link, hash: u32, entry: &Entry, firm: &FirmId, id: &AllocId) -> bool
+    ensures { result ≡ (link.hash == hash && is_of firm.now id.now entry.now) }
+{
+    link.hash == hash && entry.firm == *firm && entry.id == *id
+}
+
+impl Ids {
+    /// The ids of no history. Whoever knows the seed of its hash can choose ids that fall together.
+    pub fn new(alloc: Global, seed: u64) -> Ids
+        ensures { AreIdsOf result [] }
+    {
+        let mut hasher = FoldHasher::default();
+        hasher.write_u64(seed);
+        Ids {
+            hasher,
+            links: Vec::new(alloc),
+            heads: Vec::new(alloc),
+        }
+    }
+
+    /// The hash of a firm and an id.
+    #[tactic(auto, unfolding(crate::specs::Chains::hash_of))]
+    fn hash(&self, firm: &FirmId, id: &AllocId) -> u32
+        ensures { result ≡ hash_of self.now.hasher firm.now id.now }
+    {
+        let mut hasher = self.hasher;
+        hasher.write(firm.as_bytes());
+        hasher.write(id.as_bytes());
+        (hasher.finish() >> 32) as u32
+    }
+
+    /// The number of the newest entry of this firm and id in the history whose ids these are.
+    pub fn number(&self, entries: &[Entry], firm: &FirmId, id: &AllocId) -> Option<Number>
+        requires ids { AreIdsOf self.now entries.now }
+        requires few { length entries.now ≤ most_entries }
+        ensures { result ≡ newest_of entries.now firm.now id.now }
+    {
+        if self.heads.is_empty() {
+            return None;
+        }
+        let hash = self.hash(firm, id);
+        let mut number = self.heads[bucket_of(hash, self.heads.len())];
+        while number != 0 {
+            let place = number as usize - 1;
+            let link = self.links[place];
+            if is_of(link, hash, &entries[place], firm, id) {
+                return Some(Number::at_place(place));
+            }
+            number = link.before;
+        }
+        None
+    }
+
+    /// Makes room for one more entry. Where there are no more buckets than entries it makes twice as many, and links all entries anew.
+    ///
+    /// # Errors
+    ///
+    /// `Memory` where a growth was refused.
+    pub fn ready(&mut self) -> Result<(), Memory>
+        requires { count self.old ≤ most_entries }
+        ensures ready { OnOk result (IsReady self.new) }
+        ensures same { (h : List Entry) → AreIdsOf self.old h → AreIdsOf self.new h }
+    {
+        if self.links.len() >= self.heads.len() {
+            let buckets = self.links.len().max(FEWEST_BUCKETS / 2) * 2;
+            self.heads.resize(buckets, 0)?;
+            self.link_anew();
+        }
+        self.links.reserve(1)?;
+        Ok(())
+    }
+
+    /// Links all entries anew, by their hashes.
+    fn link_anew(&mut self)
+        requires few { count self.old ≤ length self.old.heads.items }
+        requires numbered { count self.old ≤ most_entries }
+        ensures hasher { self.new.hasher ≡ self.old.hasher }
+        ensures hashes { hashes_of self.new.links.items ≡ hashes_of self.old.links.items }
+        ensures buckets { length self.new.heads.items ≡ length self.old.heads.items }
+        ensures count { count self.new ≡ count self.old }
+        ensures chains { AreChains (hashes_of self.new.links.items) (befores_of self.new.links.items) self.new.heads.items (count self.new) }
+    {
+        let buckets = self.heads.len();
+        self.heads.fill(0);
+        for place in 0..self.links.len() {
+            let hash = self.links[place].hash;
+            let bucket = bucket_of(hash, buckets);
+            let before = self.heads[bucket];
+            self.links[place] = Link { hash, before };
+            self.heads[bucket] = place as u32 + 1;
+        }
+    }
+
+    /// Adds the entry that comes next in the history.
+    pub fn add(&mut self, entry: &Entry)
+        requires ready { IsReady self.old }
+        requires few { count self.old < most_entries }
+        ensures { (h : List Entry) → AreIdsOf self.old h → AreIdsOf self.new (h ++ entry.now ∷ []) }
+    {
+        let hash = self.hash(&entry.firm, &entry.id);
+        let bucket = bucket_of(hash, self.heads.len());
+        let before = self.heads[bucket];
+        self.links.push_reserved(Link { hash, before });
+        self.heads[bucket] = self.links.len() as u32;
+    }
+}
