@@ -1,5 +1,5 @@
 -- What is found of a history without going over it is what a search of it finds, also with one more entry.
-use Rattle.std.proofs.Common.{◌≡◌, ℕ, suc, ◌+◌, ◌-◌, ◌<◌, Bool, true, false, ◌&&◌, List, [], ◌∷◌, ◌++◌, length, get_or, refl, sym, ◌∙◌, ap, subst, arith, Option, cond, BTreeMap}
+use Rattle.std.proofs.Common.{◌≡◌, ℕ, suc, ◌+◌, ◌-◌, ◌<◌, ◌≤◌, Bool, true, false, ◌&&◌, List, [], ◌∷◌, ◌++◌, length, get_or, refl, sym, ◌∙◌, ap, subst, arith, Option, cond, BTreeMap}
 use Rattle.std.specs.Prelude.{Some, None, find, bytes_eq, option_map, ◌==◌}
 use Rattle.std.specs.Option.{option_or}
 use Rattle.std.specs.List.{AllByRecursion}
@@ -30,31 +30,15 @@ use Rattle.gu_base.proofs.Basics.{bytes_symm, nothing_here}
 use Rattle.gu_base.proofs.LiveLaws.{numbered_push}
 use Rattle.gu_base.proofs.Numbered.{found_at}
 use Rattle.gu_book.specs.Ids.{same_id, NoIdTwice}
-use Rattle.gu_book.specs.Index.{key_cmp, number_in, reversal_in, number_of, AreIdsOf, AreReversalsOf, IsIndexOf}
-use Rattle.gu_book.specs.declared.index.Key.{Key}
-use Rattle.gu_book.specs.declared.index.Ids.{Ids}
+use Rattle.gu_ids.specs.declared.ids.Ids.{Ids}
+use Rattle.gu_ids.specs.Chains.{count, AreIdsOf as AreChainsOf}
+use Rattle.gu_ids.specs.Newest.{newest_of}
+use Rattle.gu_ids.proofs.NewestLaws.{newest_push}
+use Rattle.gu_ids.proofs.Walk.{count_is}
+use Rattle.gu_base.specs.Limits.{most_entries}
+use Rattle.gu_book.specs.Index.{reversal_in, number_of, AreIdsOf, AreReversalsOf, IsIndexOf}
 use Rattle.gu_book.specs.declared.index.Index.{Index}
 use Rattle.gu_book.specs.declared.index.Reversals.{Reversals}
-
--- ---- the keys of ids
-
-and_turned : (a b : Bool) → (a && b) ≡ (b && a)
-and_turned true true = refl
-and_turned true false = refl
-and_turned false true = refl
-and_turned false false = refl
-
-same_key : (a b : Key) → is_eq (key_cmp a b) ≡ (bytes_eq a.firm b.firm && bytes_eq a.id b.id)
-same_key a b =
-    sym (tied_then (slice_cmp nat_cmp a.id b.id) (slice_cmp nat_cmp a.firm b.firm))
-    ∙ (ap (λ s. s && is_eq (slice_cmp nat_cmp a.firm b.firm)) (is_eq-slice_cmp a.id b.id)
-    ∙ (ap (λ s. bytes_eq a.id b.id && s) (is_eq-slice_cmp a.firm b.firm) ∙ and_turned (bytes_eq a.id b.id) (bytes_eq a.firm b.firm)))
-
-pub key_updated : (m n : BTreeMap Key ℕ) (k : Key) (w : Option ℕ) → UpdatesBy key_cmp (key_cmp k) m n w → (firm id : List ℕ)
-    → get key_cmp n (record { firm = firm; id = id }) ≡ cond (bytes_eq k.firm firm && bytes_eq k.id id) w (get key_cmp m (record { firm = firm; id = id }))
-key_updated m n k w h firm id =
-    let q : Key = record { firm = firm; id = id } in
-    h.0 q ∙ ap (λ b. cond b w (get key_cmp m q)) (same_key k q)
 
 -- ---- a search of a history with one more entry
 
@@ -88,32 +72,20 @@ new_id h e none c same =
     ap (λ f. find (λ (r : Record). bytes_eq r.firm f && bytes_eq r.id c.id) (records h)) firm
     ∙ (ap (λ i. find (λ (r : Record). bytes_eq r.firm e.firm && bytes_eq r.id i) (records h)) id ∙ none)
 
-put_back : (b : Bool) (o new mid old : Option ℕ) (n : ℕ) → new ≡ cond b None mid → mid ≡ cond b (Some n) old → old ≡ o → (b ≡ true → o ≡ None) → new ≡ o
-put_back true o new mid old n a b c none = a ∙ sym (none refl)
-put_back false o new mid old n a b c none = a ∙ (b ∙ c)
-
-module _ {h : List Entry} {ids : Ids} (are : AreIdsOf ids h) where
-  pub ids_same : (new : Ids) → ((f i : List ℕ) → number_in new f i ≡ number_in ids f i) → AreIdsOf new h
-  ids_same new same = record { numbers = λ c. same c.firm c.id ∙ are.numbers c }
-
-  module _ (t : House) (e : Entry) (n : ℕ) (ok : answer_to t h (call_of e) ≡ Accepted n e.status) (put : Ids)
-      (is_put : (f i : List ℕ) → number_in put f i ≡ cond (bytes_eq e.firm f && bytes_eq e.id i) (Some n) (number_in ids f i)) where
-    -- the id of an accepted entry, put in
-    pub ids_put : AreIdsOf put (h ++ e ∷ [])
-    ids_put =
-        let a = allowed t h e n ok in
-        record {
-          numbers = λ c. is_put c.firm c.id
-              ∙ (ap (λ o. cond (bytes_eq e.firm c.firm && bytes_eq e.id c.id) (Some n) o) (are.numbers c) ∙ sym (number_push (is_same_id c) h e n a.number (new_id h e a.id c)));
-        }
-
-    -- the same, taken out again
-    pub ids_back : (new : Ids) → ((f i : List ℕ) → number_in new f i ≡ cond (bytes_eq e.firm f && bytes_eq e.id i) None (number_in put f i)) → AreIdsOf new h
-    ids_back new is_out = record {
-      numbers = λ c. put_back (bytes_eq e.firm c.firm && bytes_eq e.id c.id) (number_of h c) (number_in new c.firm c.id) (number_in put c.firm c.id) (number_in ids c.firm c.id) n
-          (is_out c.firm c.id) (is_put c.firm c.id) (are.numbers c)
-          (λ same. ap (option_map (λ (r : Record). r.number)) (new_id h e (allowed t h e n ok).id c same));
-    }
+module _ {h : List Entry} {ids : Ids} (are : AreIdsOf ids h) (t : House) (e : Entry) (n : ℕ) (ok : answer_to t h (call_of e) ≡ Accepted n e.status) (added : Ids)
+    (is_added : AreChainsOf added (h ++ e ∷ [])) where
+  -- the id of an accepted entry, added
+  pub ids_added : AreIdsOf added (h ++ e ∷ [])
+  ids_added =
+      let a = allowed t h e n ok in
+      let number = a.number in
+      let last : suc (length h) ≡ n = omega (arith, number) in
+      record {
+        chained = is_added;
+        numbers = λ c. newest_push h e c.firm c.id
+            ∙ (ap (λ m. cond (bytes_eq e.firm c.firm && bytes_eq e.id c.id) (Some m) (newest_of h c.firm c.id)) last
+            ∙ (ap (λ o. cond (bytes_eq e.firm c.firm && bytes_eq e.id c.id) (Some n) o) (are.numbers c) ∙ sym (number_push (is_same_id c) h e n a.number (new_id h e a.id c))));
+      }
 
 -- ---- the call that an id names
 
@@ -257,13 +229,27 @@ module _ {h : List Entry} {rs : Reversals} (are : AreReversalsOf rs h) where
 
 -- ---- both
 
+-- other chains of the same history
+pub index_same : {h : List Entry} {ix : Index} → IsIndexOf ix h → (ids : Ids) → AreChainsOf ids h → IsIndexOf (record { ids = ids; reversals = ix.reversals }) h
+index_same are ids same = record { ids = record { chained = same; numbers = are.ids.numbers }; reversals = are.reversals }
+
 module _ {h : List Entry} {ix : Index} (are : IsIndexOf ix h) (t : House) (e : Entry) (n : ℕ) (ok : answer_to t h (call_of e) ≡ Accepted n e.status)
-    (ids : Ids) (is_put : (f i : List ℕ) → number_in ids f i ≡ cond (bytes_eq e.firm f && bytes_eq e.id i) (Some n) (number_in ix.ids f i)) where
+    (ids : Ids) (is_added : AreChainsOf ids (h ++ e ∷ [])) where
   -- an accepted entry that reverses nothing
-  pub index_put : ((m : ℕ) → is_reverse_of m e.command ≡ false) → IsIndexOf (record { ids = ids; reversals = ix.reversals }) (h ++ e ∷ [])
-  index_put none = record { ids = ids_put are.ids t e n ok ids is_put; reversals = reversals_same are.reversals e none }
+  pub index_added : ((m : ℕ) → is_reverse_of m e.command ≡ false) → IsIndexOf (record { ids = ids; reversals = ix.reversals }) (h ++ e ∷ [])
+  index_added none = record { ids = ids_added are.ids t e n ok ids is_added; reversals = reversals_same are.reversals e none }
 
   -- an accepted Reverse
   pub index_reverse : (k : ℕ) → e.command ≡ Reverse k → (rs : Reversals) → ((m : ℕ) → reversal_in rs m ≡ cond (k == m) (Some n) (reversal_in ix.reversals m))
       → IsIndexOf (record { ids = ids; reversals = rs }) (h ++ e ∷ [])
-  index_reverse k reverse rs is_reversal = record { ids = ids_put are.ids t e n ok ids is_put; reversals = reversals_put are.reversals t e n k ok reverse rs is_reversal }
+  index_reverse k reverse rs is_reversal = record { ids = ids_added are.ids t e n ok ids is_added; reversals = reversals_put are.reversals t e n k ok reverse rs is_reversal }
+
+-- there is a number for one entry more
+pub ids_few : {h : List Entry} {ix : Index} → IsIndexOf ix h → length h ≤ most_entries → count ix.ids ≤ most_entries
+ids_few {h} {ix} are few = let many = count_is ix.ids h are.ids.chained in omega (arith, many, few)
+
+pub ids_fewer : (h : List Entry) (ids : Ids) → AreChainsOf ids h → (t : House) (e : Entry) (n : ℕ) → answer_to t h (call_of e) ≡ Accepted n e.status → count ids < most_entries
+ids_fewer h ids are t e n ok =
+    let many = count_is ids h are in
+    let room = (allowed t h e n ok).room in
+    omega (arith, many, room)

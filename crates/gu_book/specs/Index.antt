@@ -1,25 +1,14 @@
 -- What is found of a history without going over it.
 use Rattle.std.specs.Prelude.{◌≡◌, ℕ, List, Option, Some, None, find, option_map, slice_index_or, if◌then◌else◌}
-use Rattle.std.specs.declared.cmp.Ordering.{Ordering}
-use Rattle.std.specs.Ordering.{nat_cmp, ordering_then}
-use Rattle.std.specs.Cmp.Lexicographic.{slice_cmp}
-use Rattle.std.specs.BTreeMap.{get}
 use Rattle.gu_base.specs.Numbers.{is_number}
 use Rattle.gu_base.specs.History.{records}
 use Rattle.gu_base.specs.Answers.{Call, is_same_id, reversal_of}
 use Rattle.gu_base.specs.declared.entry.Entry.{Entry}
-use Rattle.gu_book.specs.declared.index.Key.{Key}
-use Rattle.gu_book.specs.declared.index.Ids.{Ids}
+use Rattle.gu_ids.specs.declared.ids.Ids.{Ids}
+use Rattle.gu_ids.specs.Chains.{AreIdsOf as AreChainsOf}
+use Rattle.gu_ids.specs.Newest.{newest_of}
 use Rattle.gu_book.specs.declared.index.Index.{Index}
 use Rattle.gu_book.specs.declared.index.Reversals.{Reversals}
-
--- by the id, and then by the firm
-abbrev pub key_cmp : Key → Key → Ordering
-key_cmp a b = ordering_then (slice_cmp nat_cmp a.id b.id) (slice_cmp nat_cmp a.firm b.firm)
-
--- the number that is kept at a firm and an id
-abbrev pub number_in : Ids → List ℕ → List ℕ → Option ℕ
-number_in ids firm id = get key_cmp ids.numbers (record { firm = firm; id = id })
 
 -- an entry's number; 0 is none
 abbrev pub number_or_none : ℕ → Option ℕ
@@ -33,9 +22,10 @@ reversal_in reversals entry = number_or_none (slice_index_or reversals.numbers.i
 abbrev pub number_of : List Entry → Call → Option ℕ
 number_of h c = option_map (λ r. r.number) (find (is_same_id c) (records h))
 
--- at each firm and id, the number of its first entry in the history
+-- their chains are those of the history, and the newest entry of each firm and id is the first
 pub record AreIdsOf (ids : Ids) (h : List Entry) : Type 0 where
-  pub numbers : (c : Call) → number_in ids c.firm c.id ≡ number_of h c
+  pub chained : AreChainsOf ids h
+  pub numbers : (c : Call) → newest_of h c.firm c.id ≡ number_of h c
 
 -- at each entry, the number of the first Reverse in the history that names it
 pub record AreReversalsOf (reversals : Reversals) (h : List Entry) : Type 0 where

@@ -1,6 +1,6 @@
 //! Where in the history the entry of a firm's id stands, and the Reverse of an entry: found without going over the history.
-ghost use Rattle.std.specs.Prelude.{◌≡◌, ◌&&◌, ◌==◌, List, [], ℕ, Some, None, bytes_eq, if◌then◌else◌, OnOk, OnErr};
-ghost use Rattle.gu_book.specs.Index.{number_in, reversal_in, IsIndexOf};
+ghost use Rattle.std.specs.Prelude.{◌≡◌, ◌==◌, [], ℕ, Some, None, if◌then◌else◌, OnOk, OnErr};
+ghost use Rattle.gu_book.specs.Index.{reversal_in, IsIndexOf};
 
 use gu_base::{Memory, Number};
 use gu_ids::Ids;

@@ -13,6 +13,10 @@ use Rattle.gu_ids.specs.Newest.{newest, is_of, is_at, unless_zero, newest_of}
 use Rattle.gu_ids.proofs.Links.{length_map}
 use Rattle.gu_ids.proofs.NewestLaws.{newest_within, newest_again, newest_there, newest_skips, fails_too}
 
+-- as many entries are kept as the history has
+pub count_is : (ids : Ids) (h : List Entry) → AreIdsOf ids h → count ids ≡ length h
+count_is ids h are = sym (length_map (λ (l : Link). l.hash) ids.links.items) ∙ (ap length are.hashes ∙ length_map (λ (e : Entry). hash_of ids.hasher e.firm e.id) h)
+
 -- an entry of a firm and id has their hash
 same_hash : (hasher : FoldHasher) (firm id : List ℕ) (h : List Entry) (j : ℕ) → slice_index_or (map (is_of firm id) h) j false ≡ true
     → slice_index_or (map (λ (e : Entry). hash_of hasher e.firm e.id) h) j 0 ≡ hash_of hasher firm id
@@ -37,9 +41,6 @@ both_true : (a b : Bool) → a ≡ true → b ≡ true → (a && b) ≡ true
 both_true a b x y = ap (λ c. c && b) x ∙ y
 
 module _ (ids : Ids) (h : List Entry) (firm id : List ℕ) (are : AreIdsOf ids h) where
-  pub long : count ids ≡ length h
-  long = sym (length_map (λ (l : Link). l.hash) ids.links.items) ∙ (ap length are.hashes ∙ length_map (λ (e : Entry). hash_of ids.hasher e.firm e.id) h)
-
   in_chain : (j : ℕ) → is_at h firm id j ≡ true → (chain ids firm id) j ≡ true
   in_chain j e = eq-eqb (bucket_of (slice_index_or (hashes_of ids.links.items) j 0) (length ids.heads.items)) (bucket_of (hash_of ids.hasher firm id) (length ids.heads.items))
       (ap (λ l. bucket_of (slice_index_or l j 0) (length ids.heads.items)) are.hashes ∙ ap (λ x. bucket_of x (length ids.heads.items)) (same_hash ids.hasher firm id h j e))
@@ -47,7 +48,7 @@ module _ (ids : Ids) (h : List Entry) (firm id : List ℕ) (are : AreIdsOf ids h
   pub walk_begins : bucket_of (hash_of ids.hasher firm id) (length ids.heads.items) < length ids.heads.items → (number : ℕ)
       → number ≡ slice_index_or ids.heads.items (bucket_of (hash_of ids.hasher firm id) (length ids.heads.items)) 0 → Stands ids h firm id number
   walk_begins within number is =
-      let head : number ≡ newest (chain ids firm id) (length h) = is ∙ (are.chains.head (bucket_of (hash_of ids.hasher firm id) (length ids.heads.items)) within ∙ ap (newest (chain ids firm id)) long) in
+      let head : number ≡ newest (chain ids firm id) (length h) = is ∙ (are.chains.head (bucket_of (hash_of ids.hasher firm id) (length ids.heads.items)) within ∙ ap (newest (chain ids firm id)) (count_is ids h are)) in
       subst (Stands ids h firm id) (sym head) (record {
         so_far = sym (newest_skips (is_at h firm id) (chain ids firm id) (length h) in_chain);
         within = newest_within (chain ids firm id) (length h);
@@ -59,7 +60,7 @@ module _ (ids : Ids) (h : List Entry) (firm id : List ℕ) (are : AreIdsOf ids h
     pub before_it : slice_index_or (befores_of ids.links.items) k 0 ≡ newest (chain ids firm id) k
     before_it =
         let within = at.within in
-        are.chains.before k (omega (arith, within, long))
+        are.chains.before k (let many = count_is ids h are in omega (arith, within, many))
         ∙ ap (λ b. newest (is_in (hashes_of ids.links.items) (length ids.heads.items) b) k)
             (eqb-true (bucket_of (slice_index_or (hashes_of ids.links.items) k 0) (length ids.heads.items)) (bucket_of (hash_of ids.hasher firm id) (length ids.heads.items)) (newest_there (chain ids firm id) k at.chained))
 
@@ -101,5 +102,5 @@ module _ (ids : Ids) (h : List Entry) (firm id : List ℕ) (are : AreIdsOf ids h
   not_here place l e hash hash_is link_is within entry_is asked =
       fails_too (is_at h firm id place) (eqb l.hash hash && is_of firm id e)
       (λ t. both_true (eqb l.hash hash) (is_of firm id e) (eq-eqb l.hash hash (other_hash place l link_is within t ∙ sym hash_is))
-          (sym (is_read place e entry_is (omega (arith, long, within))) ∙ t))
+          (sym (is_read place e entry_is (let many = count_is ids h are in omega (arith, many, within))) ∙ t))
       asked

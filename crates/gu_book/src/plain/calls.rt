@@ -46,6 +46,7 @@ fn known(
 ) -> Option<Answer>
     requires once { NoIdTwice entries.now }
     requires ids { AreIdsOf ids.now entries.now }
+    requires few { length entries.now ≤ most_entries }
     ensures { (other : Answer) → unwrap_or result other ≡ answer_by (find (is_same_call (record { firm = by.now; id = id.now; command = command.now })) (records entries.now)) (find (is_same_id (record { firm = by.now; id = id.now; command = command.now })) (records entries.now)) other }
 {
     let Some(number) = ids.number(entries, by, id) else {

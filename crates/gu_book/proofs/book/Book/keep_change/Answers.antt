@@ -7,7 +7,7 @@ use Rattle.gu_tree.specs.Shown.{named_node}
 use Rattle.gu_book.specs.Charging.{AreFeesOf}
 use Rattle.gu_book.specs.Holdings.{ArePositionsOf}
 use Rattle.gu_book.proofs.Charging.{fees_push, has_room}
-use Rattle.gu_book.proofs.Indexed.{ids_back, index_put}
+use Rattle.gu_book.proofs.Indexed.{index_same, ids_few, ids_fewer, index_added}
 use Rattle.gu_book.proofs.Keeps.{next_kept, kept_change, kept_alike, live_few, live_more}
 use Rattle.gu_book.proofs.Leaves.{live_rises}
 use Rattle.gu_book.proofs.OnePlace.{found_there}
@@ -65,8 +65,8 @@ invariant_of-self-2 c =
     let more = live_more c.self.invariant.kept c.args.number c.args.kept ok c.requires.change in
     simp (c.push_reserved.ensures.items, c.reserve.ensures.items)
     (record {
-      kept = kept_change c.self.invariant.kept c.args.number c.args.kept ok c.requires.change c.change.new.trees (c.in_default.ensures.follows c.self.inside.house (live c.self.inside.entries.items) next) c.in_default.ensures.last;
-      indexed = index_put c.self.invariant.indexed c.self.inside.house c.args.kept c.args.number ok c.put.new.self c.in_ok-put.ensures.put (λ m. change_is_no_reverse m c.args.kept.command c.requires.change);
+      kept = kept_change c.self.invariant.kept c.args.number c.args.kept ok c.requires.change c.change.new.trees (c.in_ok-change.ensures.follows c.self.inside.house (live c.self.inside.entries.items) next) c.in_ok-change.ensures.last;
+      indexed = index_added c.self.invariant.indexed c.self.inside.house c.args.kept c.args.number ok c.add-2.new.self (c.add-2.ensures c.self.inside.entries.items (c.in_ok-ready-3.ensures.same c.self.inside.entries.items c.self.invariant.indexed.ids.chained)) (λ m. change_is_no_reverse m c.args.kept.command c.requires.change);
       charged = subst (λ (l : List Record). AreFeesOf c.self.inside.house l c.add.new.fees) more
           (fees_push next c.self.inside.fees c.ready.new.fees c.add.new.fees c.self.invariant.charged c.in_ok-ready.ensures.same c.charge_of-charge.result
           (rw (c.of-changes.ensures, c.as_slice.ensures.value) at c.charge_of-charge.ensures.value) c.charge_of-charge.ensures.lots c.charge_of-charge.ensures.rate c.add.ensures);
@@ -75,16 +75,20 @@ invariant_of-self-2 c =
           (rw (c.of-changes.ensures, c.as_slice.ensures.value) at c.taken_by-taken.ensures.value) c.move_lots.ensures);
     })
 
-pub invariant_of-self-in-Err : goal.invariant_of-self-in-Err
-invariant_of-self-in-Err c =
-    let ok = rw (← c.self.view_is) at c.requires.accepted in
+
+pub ready-requires-3 : goal.ready-requires-3
+ready-requires-3 c = ids_few c.self.invariant.indexed c.self.invariant.kept.few
+
+pub add-requires-2-clause-few : goal.add-requires-2-clause-few
+add-requires-2-clause-few c =
+    ids_fewer c.self.inside.entries.items c.ready-3.new.self (c.in_ok-ready-3.ensures.same c.self.inside.entries.items c.self.invariant.indexed.ids.chained) c.self.inside.house c.args.kept c.args.number (rw (← c.self.view_is) at c.requires.accepted)
+
+pub invariant_of-self-in_err-change : goal.invariant_of-self-in_err-change
+invariant_of-self-in_err-change c =
     simp (c.reserve.ensures.items)
     (record {
-      kept = kept_alike c.self.invariant.kept c.change.new.trees c.in-Err.ensures.unchanged;
-      indexed = record {
-        ids = ids_back c.self.invariant.indexed.ids c.self.inside.house c.args.kept c.args.number ok c.put.new.self c.in_ok-put.ensures.put c.remove.new.self c.remove.ensures;
-        reversals = c.self.invariant.indexed.reversals;
-      };
+      kept = kept_alike c.self.invariant.kept c.change.new.trees c.in_err-change.ensures.unchanged;
+      indexed = index_same c.self.invariant.indexed c.ready-3.new.self (c.in_ok-ready-3.ensures.same c.self.inside.entries.items c.self.invariant.indexed.ids.chained);
       charged = record { sums = c.in_ok-ready.ensures.same _ c.self.invariant.charged.sums; small = c.self.invariant.charged.small };
       stands = record { lots = λ at_key side. c.in_ok-ready-2.ensures.same at_key side ∙ c.self.invariant.stands.lots at_key side };
     })

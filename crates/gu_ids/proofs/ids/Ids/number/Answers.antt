@@ -4,7 +4,7 @@ use Rattle.std.proofs.lemmas.Bool.{and_parts}
 use Rattle.std.proofs.lemmas.Grind.{get_or_default_zero}
 use Rattle.gu_ids.specs.Chains.{hash_of, bucket_of}
 use Rattle.gu_ids.specs.Newest.{is_of}
-use Rattle.gu_ids.proofs.Walk.{Stands, long, walk_begins, walk_goes_on, walk_sinks, walk_finds, is_read, not_here, read_before}
+use Rattle.gu_ids.proofs.Walk.{Stands, count_is, walk_begins, walk_goes_on, walk_sinks, walk_finds, is_read, not_here, read_before}
 use Rattle.gu_ids.proofs.ids.Ids.number.Goals as goal
 
 pub loop-number-init : goal.loop-number-init
@@ -39,7 +39,7 @@ loop-number-smaller c =
     let number : c.loop-number.number ≡ suc k = omega (arith, some) in
     let at = subst (Stands ids c.args.entries.now c.args.firm.now c.args.id.now) number c.loop-number.invariant in
     let within = c.loop-number.invariant.within in
-    let many = long ids c.args.entries.now c.args.firm.now c.args.id.now c.requires.ids in
+    let many = count_is ids c.args.entries.now c.requires.ids in
     let least = walk_sinks ids c.args.entries.now c.args.firm.now c.args.id.now c.requires.ids k at c.index-link.result.now.before
     (read_before ids c.args.entries.now c.args.firm.now c.args.id.now c.requires.ids k c.index-link.result.now c.index-link.ensures (omega (arith, number, within, many))) in
     omega (arith, number, least)
@@ -52,7 +52,7 @@ loop-number-preserved c =
     let number : c.loop-number.number ≡ suc k = omega (arith, some) in
     let at = subst (Stands ids c.args.entries.now c.args.firm.now c.args.id.now) number c.loop-number.invariant in
     let within = c.loop-number.invariant.within in
-    let many = long ids c.args.entries.now c.args.firm.now c.args.id.now c.requires.ids in
+    let many = count_is ids c.args.entries.now c.requires.ids in
     let there : k < length ids.links.items = omega (arith, number, within, many) in
     walk_goes_on ids c.args.entries.now c.args.firm.now c.args.id.now c.requires.ids k at c.index-link.result.now.before
     (read_before ids c.args.entries.now c.args.firm.now c.args.id.now c.requires.ids k c.index-link.result.now c.index-link.ensures there)
