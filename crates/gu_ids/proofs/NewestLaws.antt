@@ -66,8 +66,8 @@ newest_push h e firm id =
     get_or-map (is_of firm id) (h ++ e ∷ []) (length h) e false (omega (arith, longer)) ∙ ap (is_of firm id) (get_or_push h e e (length h) refl) in
     let before : newest p (length h) ≡ newest (is_at h firm id) (length h) =
     newest_same p (is_at h firm id) (length h) (λ j within.
-        get_or-map (is_of firm id) (h ++ e ∷ []) j e false (omega (arith, longer, within))
-        ∙ (ap (is_of firm id) (get_or_append_left h (e ∷ []) e j within) ∙ sym (get_or-map (is_of firm id) h j e false within))) in
+    get_or-map (is_of firm id) (h ++ e ∷ []) j e false (omega (arith, longer, within))
+    ∙ (ap (is_of firm id) (get_or_append_left h (e ∷ []) e j within) ∙ sym (get_or-map (is_of firm id) h j e false within))) in
     ap (λ n. unless_zero (newest p n)) longer
     ∙ (ap (λ b. unless_zero (cond b (suc (length h)) (newest p (length h)))) last
     ∙ (ap (λ n. unless_zero (cond (is_of firm id e) (suc (length h)) n)) before ∙ number_of_last (is_of firm id e) (length h) (newest (is_at h firm id) (length h))))

@@ -62,7 +62,7 @@ module _ (ids : Ids) (h : List Entry) (firm id : List ℕ) (are : AreIdsOf ids h
         let within = at.within in
         are.chains.before k (let many = count_is ids h are in omega (arith, within, many))
         ∙ ap (λ b. newest (is_in (hashes_of ids.links.items) (length ids.heads.items) b) k)
-            (eqb-true (bucket_of (slice_index_or (hashes_of ids.links.items) k 0) (length ids.heads.items)) (bucket_of (hash_of ids.hasher firm id) (length ids.heads.items)) (newest_there (chain ids firm id) k at.chained))
+        (eqb-true (bucket_of (slice_index_or (hashes_of ids.links.items) k 0) (length ids.heads.items)) (bucket_of (hash_of ids.hasher firm id) (length ids.heads.items)) (newest_there (chain ids firm id) k at.chained))
 
     pub walk_goes_on : (number : ℕ) → number ≡ slice_index_or (befores_of ids.links.items) k 0 → is_at h firm id k ≡ false → Stands ids h firm id number
     walk_goes_on number is other =
@@ -102,5 +102,5 @@ module _ (ids : Ids) (h : List Entry) (firm id : List ℕ) (are : AreIdsOf ids h
   not_here place l e hash hash_is link_is within entry_is asked =
       fails_too (is_at h firm id place) (eqb l.hash hash && is_of firm id e)
       (λ t. both_true (eqb l.hash hash) (is_of firm id e) (eq-eqb l.hash hash (other_hash place l link_is within t ∙ sym hash_is))
-          (sym (is_read place e entry_is (let many = count_is ids h are in omega (arith, many, within))) ∙ t))
+      (sym (is_read place e entry_is (let many = count_is ids h are in omega (arith, many, within))) ∙ t))
       asked
