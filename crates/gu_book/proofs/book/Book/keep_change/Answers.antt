@@ -75,7 +75,6 @@ invariant_of-self-2 c =
           (rw (c.of-changes.ensures, c.as_slice.ensures.value) at c.taken_by-taken.ensures.value) c.move_lots.ensures);
     })
 
-
 pub ready-requires-3 : goal.ready-requires-3
 ready-requires-3 c = ids_few c.self.invariant.indexed c.self.invariant.kept.few
 
