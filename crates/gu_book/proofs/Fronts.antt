@@ -154,9 +154,6 @@ not_accepted (Accepted n s) other = absurd (other n s refl)
 not_accepted (Repeated n s) other = refl
 not_accepted (Refused r) other = refl
 
-pub not_kept : (t : House) (h : List Entry) (c : Call) (a : Answer) → a ≡ answer_to t h c → is_accepted a ≡ false → h ≡ after t h c
-not_kept t h c a e out = not_added h c a out ∙ ap (after_by h c) e
-
 pub record IsSettled (t : House) (h : List Entry) (c : Call) (a : Answer) : Type 0 where
   pub answered : a ≡ answer_to t h c
   pub kept : h ≡ after t h c

@@ -174,20 +174,6 @@ module _ {t : House} {h : List Entry} {ts : Grove} {cs : Consents} (kept : IsKep
       (no_later us (let before = kept.placed in omega (arith, placed, before)))
       (λ m. less m ∙ (ap (λ fs. cond (m == k) [] fs) (kept.consented m) ∙ left_reverse h e k m same))
 
--- the consents alone have changed, and not in what they say
-pub kept_same : (t : House) (h : List Entry) (ts : Grove) (cs ds : Consents) → IsKept t h ts cs → ((m : ℕ) → given ds m ≡ given cs m) → IsKept t h ts ds
-kept_same t h ts cs ds kept same = record {
-  few = kept.few;
-  behind = kept.behind;
-  replayed = kept.replayed;
-  within = kept.within;
-  accepted = kept.accepted;
-  once = kept.once;
-  filed = kept.filed;
-  placed = kept.placed;
-  consented = λ m. same m ∙ kept.consented m;
-}
-
 -- the trees alone have changed, and nothing that is seen of them
 pub kept_alike : {t : House} {h : List Entry} {old : Grove} {cs : Consents} → IsKept t h old cs → (new : Grove) → IsSameGrove old new → IsKept t h new cs
 kept_alike {h = h} {old = old} kept new same = record {

@@ -1,5 +1,5 @@
 -- How many nodes a call visits, from what was seen before it was kept and what it made.
-use Rattle.std.proofs.Common.{◌≡◌, ℕ, ◌+◌, ◌≤◌, true, false, List, length, refl, sym, ◌∙◌, ap, subst, arith, Option}
+use Rattle.std.proofs.Common.{◌≡◌, ℕ, ◌+◌, ◌≤◌, true, List, length, refl, sym, ◌∙◌, ap, subst, arith, Option}
 use Rattle.std.specs.Prelude.{Some, None, IsSome, IsSomeAnd, option_and_then, option_map, unwrap_or}
 use Rattle.gu_base.specs.Numbers.{EntryPart}
 use Rattle.gu_base.specs.House.{House}
@@ -72,11 +72,7 @@ parts_of_named l k r found = ap (λ (o : Option Record). unwrap_or (option_map (
 
 -- ---- the visits of a call
 
--- a call that isn't kept visits what was seen
-pub visits_seen : (l : List Record) (c : Command) (seen : ℕ) → seen ≤ depth_meant l c + parts_named l c + 1 → AreVisits l c false seen
-visits_seen l c seen most = record { most = omega (arith, most); least = λ kept _. absurd (cc) }
-
--- one that is kept visits what was seen, and what it made
+-- a call that is kept visits what was seen, and what it made
 pub visits_kept : (t : House) (h : List Entry) (e : Entry) (n : ℕ) → answer_to t h (call_of e) ≡ Accepted n e.status
     → (c : Command) → e.command ≡ c → (seen made : ℕ) → seen ≤ depth_meant (live h) c + parts_named (live h) c + 1
     → (IsMet (live h) c → depth_meant (live h) c + parts_named (live h) c + 1 ≤ seen) → made ≡ nodes_made c → AreVisits (live h) c true (seen + made)
