@@ -61,18 +61,6 @@ pub moved_here : (new old : PositionRows) (first : ℕ) (h : Holding) (hs : List
     → lots_in old at side + sum_by (counted_at at side) (h ∷ hs) ≡ first → lots_in new at side + sum_by (counted_at at side) hs ≡ first
 moved_here new old first h hs at side added moved = let sum = sum_by-cons (counted_at at side) h hs in omega (arith, sum, added, moved)
 
--- what is taken out first, and then what is put in
-pub taken_then_added : (old now new : PositionRows) (h : Holding) (hs : List Holding) → ((at : Key) (s : Side) → lots_in now at s + counted_at at s h ≡ lots_in old at s)
-    → HaveMoved now new None hs → HaveMoved old new (Some h) hs
-taken_then_added old now new h hs taken added = λ at side. let a = taken at side in let b = added at side in omega (arith, a, b)
-
-pub room_taken : (old now : PositionRows) (h : Holding) (hs : List Holding) → ((at : Key) (s : Side) → lots_in now at s + counted_at at s h ≡ lots_in old at s)
-    → ((at : Key) → IsReady old at → IsReady now at) → HaveRoom old hs → HaveRoom now hs
-room_taken old now h hs taken stays room = record {
-  ready = All-weaker (λ (h : Holding). IsReady old h.key) (λ (h : Holding). IsReady now h.key) (λ h is. stays h.key is) hs room.ready;
-  fits = λ at side. let a = taken at side in let b = room.fits at side in omega (arith, a, b);
-}
-
 pub some_here : {X Y : Type 0} (f : X → Option Y) (xs : List X) (i : ℕ) (x : X) (y : Y) → i < length xs → x ≡ get_or xs i x → Some y ≡ f x → filter_map f (drop i xs) ≡ y ∷ filter_map f (drop (i + 1) xs)
 some_here f xs i x y within here is = given_here f xs i x within here ∙ ap (λ o. cons_option o (filter_map f (drop (i + 1) xs))) (sym is)
 
@@ -125,14 +113,3 @@ there_left old new h hs there taken at side =
 pub back_here : (new old : PositionRows) (first total : ℕ) (h : Holding) (hs : List Holding) (at : Key) (side : Side) → lots_in new at side + counted_at at side h ≡ lots_in old at side
     → first + sum_by (counted_at at side) (h ∷ hs) ≡ lots_in old at side + total → first + sum_by (counted_at at side) hs ≡ lots_in new at side + total
 back_here new old first total h hs at side taken moved = let sum = sum_by-cons (counted_at at side) h hs in omega (arith, sum, taken, moved)
-
--- what was taken has its place again
-pub can_put_back : (old now : PositionRows) (h : Holding) (hs : List Holding) → HasPlace old h hs → HaveMoved now old None hs → ((at : Key) → IsReady old at → IsReady now at) → CanAdd now h.key h.side h.lots
-can_put_back old now h hs place moved stays =
-    let a = moved h.key h.side in
-    let b = place.fits in
-    record { ready = stays h.key place.ready; fits = omega (arith, a, b) }
-
-pub removed_then_back : (old now new : PositionRows) (h : Holding) (hs : List Holding) → HaveMoved now old None hs → ((at : Key) (s : Side) → lots_in new at s ≡ lots_in now at s + counted_at at s h)
-    → HaveMoved new old (Some h) hs
-removed_then_back old now new h hs moved added = λ at side. let a = moved at side in let b = added at side in omega (arith, a, b)
