@@ -17,7 +17,6 @@ use Rattle.gu_base.specs.declared.entry.Record.{Record}
 use Rattle.gu_base.specs.declared.node.Node.{Node}
 use Rattle.gu_base.proofs.Basics.{or_none, or_false}
 use Rattle.gu_base.proofs.NodeNames.{made, made_of}
-use Rattle.gu_base.proofs.Passing.{refusal_parts}
 use Rattle.gu_tree.specs.Rose.{Rose, head_of, named}
 use Rattle.gu_tree.specs.Paths.{node_at}
 use Rattle.gu_tree.specs.Grove.{Grove, tree_of, tree_in, place_of, last_place, IsPlace, ChangesTree, Places, IsSameGrove}
@@ -32,7 +31,7 @@ use Rattle.gu_book.specs.Filed.{IsIn, IsFiled, IsNext, IsDue, Follows}
 use Rattle.gu_book.specs.TreeRows.{is_trade, is_live_trade}
 use Rattle.gu_book.proofs.Leaves.{other_number, sound_first}
 use Rattle.gu_book.proofs.Named.{count_of, found_counts}
-use Rattle.gu_book.proofs.Orders.{names_there, InOrder, in_order, sound_before, earlier}
+use Rattle.gu_book.proofs.Orders.{InOrder, in_order, sound_before, earlier}
 use Rattle.gu_book.proofs.Sound.{Sound, From, before, here, node_from}
 
 -- ---- of two groves
@@ -218,12 +217,6 @@ module _ {t : House} {l : List Record} {r : Record} {g : Grove} (next : IsNext t
       let at : n.entry < b.0 = (b.3.low n x e).1 in
       let behind : b.0 ≤ r.number = b.2 in
       omega arith
-
-  -- the node that the change names lies in a tree
-  pub names_place : (n : EntryPart) → named_node r.command ≡ Some n → (trade : ℕ) × (p : List ℕ) × IsPlace g n trade p
-  names_place n names =
-      let x = names_there t l r.firm r.command n (refusal_parts t l r.firm r.command next.lawful).1 names in
-      placed_in n (next.filed.whole n x.0 x.1)
 
   -- a tree without the node that the change names
   kept : (k : ℕ) (tree : Rose) → tree_of g k ≡ Some tree → ((n : EntryPart) → named_node r.command ≡ Some n → named n tree ≡ 0) → IsTreeOf (l ++ r ∷ []) k tree

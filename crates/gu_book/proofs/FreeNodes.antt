@@ -1,5 +1,5 @@
 -- What the trees say of a change on which nothing stands: it can be taken back at its node.
-use Rattle.std.proofs.Common.{◌≡◌, ◌≢◌, ℕ, ◌<◌, ◌≤◌, true, false, ◌&&◌, ◌||◌, List, [], ◌∷◌, length, refl, sym, ◌∙◌, ap, subst, arith, cond, Option, All, Contains, IsTrue, ◌⊎◌, inl, inr}
+use Rattle.std.proofs.Common.{◌≡◌, ◌≢◌, ℕ, ◌<◌, ◌≤◌, Bool, true, false, ◌&&◌, ◌||◌, List, [], ◌∷◌, length, refl, sym, ◌∙◌, ap, subst, arith, cond, Option, All, Contains, IsTrue, ◌⊎◌, inl, inr}
 use Rattle.std.specs.Prelude.{is_none, Some, None, find, ◌==◌, is_some, option_and_then, option_map, IsSomeAnd}
 use Rattle.std.specs.List.{list_any}
 use Rattle.std.proofs.lemmas.Bool.{or_parts, or_cases}
@@ -289,28 +289,17 @@ module _ {t : House} {l : List Record} {r : Record} {g : Grove} (u : IsFree t l 
   its_spot trade p n is at =
       spot u.filed order trade p n (subst (λ (o : Option EntryPart). IsSomeAnd o (λ m. IsPlace g m trade p)) (own_place ∙ place_named r.number r.command n is) at)
 
-  -- a node that no change names has no Split and no decision
-  no_split : (m : EntryPart) → ((e : Record) → Contains l e → splits m e.command ≡ false) → split_of l m ≡ None
-  no_split m none =
-      no_some (split_of l m) (λ d h.
-      let is_so = find_passes (λ (e : Record). splits m e.command) l d h in
-      let no = none d (found_in (λ (e : Record). splits m e.command) l d h) in
-      let z : true ≡ false = sym is_so ∙ no in absurd (cc))
-
-  no_decision : (m : EntryPart) → ((e : Record) → Contains l e → decides m e.command ≡ false) → decision_of l m ≡ None
-  no_decision m none =
-      no_some (decision_of l m) (λ d h.
-      let is_so = find_passes (λ (e : Record). decides m e.command) l d h in
-      let no = none d (found_in (λ (e : Record). decides m e.command) l d h) in
-      let z : true ≡ false = sym is_so ∙ no in absurd (cc))
+  -- what no change passes isn't found: a node that none names has no Split and no decision
+  none_found : (p : Record → Bool) → ((e : Record) → Contains l e → p e ≡ false) → find p l ≡ None
+  none_found p none = no_some (find p l) (λ d h. let z : true ≡ false = sym (find_passes p l d h) ∙ none d (found_in p l d h) in absurd (cc))
 
   bare_each : (xs : List Node) → ((e : Record) → Contains l e → list_any (λ x. names x.name e.command) xs ≡ false) → All (IsBare l) xs
   bare_each [] none = All-nil (IsBare l)
   bare_each (x ∷ xs) none =
       let here : (e : Record) → Contains l e → names x.name e.command ≡ false = λ e among. (or_parts (names x.name e.command) (list_any (λ x. names x.name e.command) xs) (none e among)).0 in
       All-cons (IsBare l) x xs (
-        no_split x.name (λ e among. (or_parts (splits x.name e.command) (decides x.name e.command) (here e among)).0),
-        no_decision x.name (λ e among. (or_parts (splits x.name e.command) (decides x.name e.command) (here e among)).1),
+        none_found (λ (d : Record). splits x.name d.command) (λ e among. (or_parts (splits x.name e.command) (decides x.name e.command) (here e among)).0),
+        none_found (λ (d : Record). decides x.name d.command) (λ e among. (or_parts (splits x.name e.command) (decides x.name e.command) (here e among)).1),
       )
       (bare_each xs (λ e among. (or_parts (names x.name e.command) (list_any (λ x. names x.name e.command) xs) (none e among)).1))
 
@@ -395,7 +384,7 @@ module _ {t : House} {l : List Record} {r : Record} {g : Grove} (u : IsFree t l 
         ap (decision_of l) (s.said.named ∙ s.called) ∙ found_once (λ (d : Record). decides n d.command) l r u.among is (once.decisions_once n)
 
     whole : IsWhole s.node
-    whole = whole_by l s.said.above s.said.node s.node s.said.shown (ap (split_of l) (s.said.named ∙ s.called) ∙ no_split n none_under)
+    whole = whole_by l s.said.above s.said.node s.node s.said.shown (ap (split_of l) (s.said.named ∙ s.called) ∙ none_found (λ (d : Record). splits n d.command) none_under)
 
     is_given_there : is_given s.said.node.kind ≡ true
     is_given_there =
@@ -467,7 +456,7 @@ module _ {t : House} {l : List Record} {r : Record} {g : Grove} (u : IsFree t l 
     root_unsplit e among = sym (under_trade r.number r.firm r.command e.command trades) ∙ unnamed e among
 
     root_whole : IsWhole has_tree.0
-    root_whole = whole_by l None root_shown.root has_tree.0 root_shown.tree (ap (split_of l) root_called ∙ no_split root_name root_unsplit)
+    root_whole = whole_by l None root_shown.root has_tree.0 root_shown.tree (ap (split_of l) root_called ∙ none_found (λ (d : Record). splits root_name d.command) root_unsplit)
 
     pub root_leaf : (h : Head) × (tree_of g r.number ≡ Some (leaf h)) × (h.name ≡ root_name)
     root_leaf = (

@@ -498,33 +498,24 @@ module _ {t : House} {l : List Record} {r : Record} (c : IsCounted t l r) where
       → sum_by (lots_at (l ++ r ∷ []) at i s) (filter (λ y. same_name m y.name) (nodes l)) ≡ sum_by (lots_at l at i s) (filter (λ y. same_name m y.name) (nodes l))
   back_balances m x there at i s same = sum_named l c.bound c.sound m x there (lots_at (l ++ r ∷ []) at i s) ∙ (same ∙ sym (sum_named l c.bound c.sound m x there (lots_at l at i s)))
 
-refuse_balances : (t : House) (l : List Record) (k : ℕ) (by id : List ℕ) (m : EntryPart) (status : State) (x : Node)
-    → IsCounted t l (record { number = k; firm = by; id = id; command = Refuse m; status = status }) → node_of l m ≡ Some x → is_given x.kind ≡ true → decision_of l x.name ≡ None
-    → (at : Place) (i : List ℕ) (s : Side) → Balances at i s l (record { number = k; firm = by; id = id; command = Refuse m; status = status })
-refuse_balances t l k by id m status x c there given undecided at i s =
-    let same = back_balances c m x there at i s (back_same c m x there given undecided (name_same m) refl refl at i s) in
-    record { there = omega arith; equal = omega (arith, same) }
+-- ---- what takes nothing out, puts nothing in and makes nothing
 
-cancel_balances : (t : House) (l : List Record) (k : ℕ) (by id : List ℕ) (m : EntryPart) (status : State) (x : Node)
-    → IsCounted t l (record { number = k; firm = by; id = id; command = Cancel m; status = status }) → node_of l m ≡ Some x → is_given x.kind ≡ true → decision_of l x.name ≡ None
-    → (at : Place) (i : List ℕ) (s : Side) → Balances at i s l (record { number = k; firm = by; id = id; command = Cancel m; status = status })
-cancel_balances t l k by id m status x c there given undecided at i s =
-    let same = back_balances c m x there at i s (back_same c m x there given undecided (name_same m) refl refl at i s) in
-    record { there = omega arith; equal = omega (arith, same) }
-
--- ---- each change
-
--- no change: it names nothing
-nothing_balances : (at : Place) (i : List ℕ) (s : Side) (l : List Record) (r : Record) → taken_by l r.command ≡ None → added_by r.firm r.command None ≡ [] → made r ≡ []
-    → ((f : Node → ℕ) → sum_by f (named_by l r) ≡ 0) → Balances at i s l r
-nothing_balances at i s l r takes adds makes none =
+-- it balances where what it names counts the same
+stays_balanced : (at : Place) (i : List ℕ) (s : Side) (l : List Record) (r : Record) → taken_by l r.command ≡ None → added_by r.firm r.command None ≡ [] → made r ≡ []
+    → sum_by (lots_at (l ++ r ∷ []) at i s) (named_by l r) ≡ sum_by (lots_at l at i s) (named_by l r) → Balances at i s l r
+stays_balanced at i s l r takes adds makes same =
     let a = ap (taken_at (key_at at i) s) takes in
     let b = ap (λ o. sum_by (counted_at (key_at at i) s) (added_by r.firm r.command o)) takes in
     let d = ap (sum_by (counted_at (key_at at i) s)) adds in
     let e = ap (sum_by (lots_at (l ++ r ∷ []) at i s)) makes in
-    let f = none (lots_at l at i s) in
-    let g = none (lots_at (l ++ r ∷ []) at i s) in
-    record { there = omega (arith, a); equal = omega (arith, a, b, d, e, f, g) }
+    record { there = omega (arith, a); equal = omega (arith, a, b, d, e, same) }
+
+-- no change names nothing
+nothing_balances : (at : Place) (i : List ℕ) (s : Side) (l : List Record) (r : Record) → taken_by l r.command ≡ None → added_by r.firm r.command None ≡ [] → made r ≡ []
+    → ((f : Node → ℕ) → sum_by f (named_by l r) ≡ 0) → Balances at i s l r
+nothing_balances at i s l r takes adds makes none = stays_balanced at i s l r takes adds makes (none (lots_at (l ++ r ∷ []) at i s) ∙ sym (none (lots_at l at i s)))
+
+-- ---- each change
 
 pub balances : (t : House) (l : List Record) (k : ℕ) (by id : List ℕ) (c : Command) (status : State) → IsCounted t l (record { number = k; firm = by; id = id; command = c; status = status })
     → (at : Place) (i : List ℕ) (s : Side) → Balances at i s l (record { number = k; firm = by; id = id; command = c; status = status })
@@ -539,11 +530,11 @@ balances t l k by id (Claim m account) status c at i s =
 balances t l k by id (Refuse m) status c at i s =
     let there = at_node_none (refuse_row l by) (node_of l m) c.last.accepted in
     let passes = decision_passes l there.0 (is_taker by there.0.kind) there.1.1 in
-    refuse_balances t l k by id m status there.0 c there.1.0 passes.0 passes.1 at i s
+    stays_balanced at i s l (record { number = k; firm = by; id = id; command = Refuse m; status = status }) refl refl refl (back_balances c m there.0 there.1.0 at i s (back_same c m there.0 there.1.0 passes.0 passes.1 (name_same m) refl refl at i s))
 balances t l k by id (Cancel m) status c at i s =
     let there = at_node_none (cancel_row l by) (node_of l m) c.last.accepted in
     let passes = decision_passes l there.0 (is_giver by there.0.kind) there.1.1 in
-    cancel_balances t l k by id m status there.0 c there.1.0 passes.0 passes.1 at i s
+    stays_balanced at i s l (record { number = k; firm = by; id = id; command = Cancel m; status = status }) refl refl refl (back_balances c m there.0 there.1.0 at i s (back_same c m there.0 there.1.0 passes.0 passes.1 (name_same m) refl refl at i s))
 balances t l k by id (Initiate e) status c at i s = nothing_balances at i s l (record { number = k; firm = by; id = id; command = Initiate e; status = status }) refl refl refl (λ f. none_kept f (nodes l))
 balances t l k by id (Decline e) status c at i s = nothing_balances at i s l (record { number = k; firm = by; id = id; command = Decline e; status = status }) refl refl refl (λ f. none_kept f (nodes l))
 balances t l k by id (Reverse e) status c at i s = nothing_balances at i s l (record { number = k; firm = by; id = id; command = Reverse e; status = status }) refl refl refl (λ f. none_kept f (nodes l))

@@ -133,7 +133,13 @@ impl Book {
         self.note(seen);
         match answer {
             Answer::Accepted { number, status } => {
-                self.keep(alloc, by, id, command, &sought, number, status)?;
+                let kept = Entry {
+                    firm: *by,
+                    id: *id,
+                    command: command.copy(alloc)?,
+                    status,
+                };
+                self.keep(alloc, kept, &sought, number)?;
                 self.note(seen + visits::nodes_made(command));
                 Ok(answer)
             }
@@ -216,29 +222,29 @@ impl Book {
     fn keep(
         &mut self,
         alloc: Global,
-        by: &FirmId,
-        id: &AllocId,
-        command: &Command,
+        kept: Entry,
         sought: &Sought,
         number: Number,
-        status: State,
     ) -> Result<(), Memory>
-        requires named { IsNamedIn (live self.old.history) (named_node command.now) sought.now.named }
+        requires named { IsNamedIn (live self.old.history) (named_node kept.command) sought.now.named }
         requires there { LiesThere (live self.old.history) sought.now.named sought.now.path.items }
-        requires accepted { answer_to self.old.house self.old.history (record { firm = by.now; id = id.now; command = command.now }) ≡ Accepted number status }
-        ensures kept { OnOk result (self.new ≡ record self.old { history = after self.old.house self.old.history (record { firm = by.now; id = id.now; command = command.now }) }) }
+        requires accepted { answer_to self.old.house self.old.history (call_of kept) ≡ Accepted number kept.status }
+        ensures kept { OnOk result (self.new ≡ record self.old { history = after self.old.house self.old.history (call_of kept) }) }
         ensures unchanged { OnErr result (self.new ≡ self.old) }
     {
-        let kept = Entry {
-            firm: *by,
-            id: *id,
-            command: command.copy(alloc)?,
-            status,
-        };
-        match command {
-            Command::Initiate { entry } => self.keep_consent(alloc, kept, *entry, number),
-            Command::Decline { entry } => self.keep_decline(kept, *entry, number),
-            Command::Reverse { entry } => self.keep_reversal(alloc, kept, *entry, number),
+        match &kept.command {
+            Command::Initiate { entry } => {
+                let entry = *entry;
+                self.keep_consent(alloc, kept, entry, number)
+            }
+            Command::Decline { entry } => {
+                let entry = *entry;
+                self.keep_decline(kept, entry, number)
+            }
+            Command::Reverse { entry } => {
+                let entry = *entry;
+                self.keep_reversal(alloc, kept, entry, number)
+            }
             _ => self.keep_change(alloc, kept, sought, number),
         }
     }

@@ -1,9 +1,9 @@
 //! The lots that stand in an account, and which of them a change moves.
-ghost use Rattle.std.specs.Prelude.{◌≡◌, ◌≤◌, ◌==◌, find, filter_map, Some, None, option_and_then, IfSome, OnOk};
+ghost use Rattle.std.specs.Prelude.{◌≡◌, ◌≤◌, ◌==◌, ◌∷◌, [], find, filter_map, Some, None, option_and_then, IfSome, OnOk};
 ghost use Rattle.gu_base.specs.Nodes.{deal_in, node_of};
 ghost use Rattle.gu_base.specs.Limits.{most_lots};
 ghost use Rattle.gu_book.specs.Found.{AreTreesOf, IsNamedBy, IsNamedIn};
-ghost use Rattle.gu_book.specs.Holdings.{held_at, holding_of, held_above, taken_by, taken_before, part_holding, added_by, HasTaken, AreReady, HaveRoom, SameLots, HaveMoved, HaveThere, IsReadyTaken, HasRoomBack};
+ghost use Rattle.gu_book.specs.Holdings.{held_at, holding_of, held_above, taken_by, taken_before, part_holding, added_by, HasTaken, AreReady, HaveRoom, SameLots, HaveMoved, HaveThere, IsReadyTaken, HasRoomBack, CanGo, AllCanGo, HaveGone};
 ghost use Rattle.gu_book.specs.Limits.{AllWithinLimits};
 ghost use Rattle.gu_positions.specs.Rows.{IsReady};
 ghost use Rattle.gu_tree.specs.Shown.{named_node};
@@ -23,6 +23,13 @@ pub(crate) struct Holding {
     key: Key,
     side: Side,
     lots: u64,
+}
+
+/// Which way lots go: into an account, or out of it.
+#[derive(Clone, Copy)]
+enum Way {
+    In,
+    Out,
 }
 
 /// What was traded by the entry of this number.
@@ -227,22 +234,51 @@ pub(crate) fn ready(
     }
 }
 
-/// Puts the lots of the parts into their accounts.
-fn add_parts(positions: &mut Positions, whole: &Holding, by: &FirmId, parts: &[Part])
-    requires { HaveRoom positions.old (filter_map (part_holding whole.now by.now) parts.now) }
-    ensures { HaveMoved positions.old positions.new None (filter_map (part_holding whole.now by.now) parts.now) }
+/// Puts one holding into its account, or takes it out.
+#[inline(always)]
+fn move_one(positions: &mut Positions, way: Way, h: &Holding)
+    requires { CanGo way positions.old h.now }
+    ensures gone { HaveGone way positions.old positions.new (h.now ∷ []) }
+    ensures stays_ready { (at : KeyData) → IsReady positions.old at → IsReady positions.new at }
+{
+    match way {
+        Way::In => positions.add(&h.key, h.side, h.lots),
+        Way::Out => positions.take(&h.key, h.side, h.lots),
+    }
+}
+
+/// Puts the lots of the parts into their accounts, or takes them out.
+#[inline(always)]
+fn move_parts(
+    positions: &mut Positions,
+    way: Way,
+    whole: &Holding,
+    by: &FirmId,
+    parts: &[Part],
+)
+    requires { AllCanGo way positions.old (filter_map (part_holding whole.now by.now) parts.now) }
+    ensures gone { HaveGone way positions.old positions.new (filter_map (part_holding whole.now by.now) parts.now) }
+    ensures stays_ready { (at : KeyData) → IsReady positions.old at → IsReady positions.new at }
 {
     for part in parts {
         if let Some(h) = part_holding(whole, by, part) {
-            positions.add(&h.key, h.side, h.lots);
+            move_one(positions, way, &h);
         }
     }
 }
 
-/// Puts the lots of a command into their accounts.
-fn add(positions: &mut Positions, by: &FirmId, command: &Command, taken: &Option<Holding>)
-    requires { HaveRoom positions.old (added_by by.now command.now taken.now) }
-    ensures { HaveMoved positions.old positions.new None (added_by by.now command.now taken.now) }
+/// Puts the lots that a command adds into their accounts, or takes them out.
+#[inline(always)]
+fn move_added(
+    positions: &mut Positions,
+    way: Way,
+    by: &FirmId,
+    command: &Command,
+    taken: &Option<Holding>,
+)
+    requires { AllCanGo way positions.old (added_by by.now command.now taken.now) }
+    ensures gone { HaveGone way positions.old positions.new (added_by by.now command.now taken.now) }
+    ensures stays_ready { (at : KeyData) → IsReady positions.old at → IsReady positions.new at }
 {
     match command {
         Command::Trade {
@@ -257,11 +293,16 @@ fn add(positions: &mut Positions, by: &FirmId, command: &Command, taken: &Option
                 account: *account,
                 instrument: *instrument,
             };
-            positions.add(&key, *side, *lots);
+            let traded = Holding {
+                key,
+                side: *side,
+                lots: *lots,
+            };
+            move_one(positions, way, &traded);
         }
         Command::Split { parts, .. } => {
             if let Some(whole) = taken {
-                add_parts(positions, whole, by, parts.as_slice());
+                move_parts(positions, way, whole, by, parts.as_slice());
             }
         }
         Command::Claim { account, .. } => {
@@ -271,7 +312,12 @@ fn add(positions: &mut Positions, by: &FirmId, command: &Command, taken: &Option
                     account: *account,
                     instrument: whole.key.instrument,
                 };
-                positions.add(&key, whole.side, whole.lots);
+                let claimed = Holding {
+                    key,
+                    side: whole.side,
+                    lots: whole.lots,
+                };
+                move_one(positions, way, &claimed);
             }
         }
         _ => {}
@@ -291,62 +337,9 @@ pub(crate) fn move_lots(
     ensures { HaveMoved positions.old positions.new taken.now (added_by by.now command.now taken.now) }
 {
     if let Some(h) = taken {
-        positions.take(&h.key, h.side, h.lots);
+        move_one(positions, Way::Out, h);
     }
-    add(positions, by, command, taken);
-}
-
-/// Takes the lots of the parts out of their accounts.
-fn remove_parts(positions: &mut Positions, whole: &Holding, by: &FirmId, parts: &[Part])
-    requires { HaveThere positions.old (filter_map (part_holding whole.now by.now) parts.now) }
-    ensures moved { HaveMoved positions.new positions.old None (filter_map (part_holding whole.now by.now) parts.now) }
-    ensures stays_ready { (at : KeyData) → IsReady positions.old at → IsReady positions.new at }
-{
-    for part in parts {
-        if let Some(h) = part_holding(whole, by, part) {
-            positions.take(&h.key, h.side, h.lots);
-        }
-    }
-}
-
-/// Takes the lots that a command put into accounts out of them.
-fn remove(positions: &mut Positions, by: &FirmId, command: &Command, taken: &Option<Holding>)
-    requires { HaveThere positions.old (added_by by.now command.now taken.now) }
-    ensures moved { HaveMoved positions.new positions.old None (added_by by.now command.now taken.now) }
-    ensures stays_ready { (at : KeyData) → IsReady positions.old at → IsReady positions.new at }
-{
-    match command {
-        Command::Trade {
-            firm,
-            account,
-            instrument,
-            side,
-            lots,
-        } => {
-            let key = Key {
-                firm: *firm,
-                account: *account,
-                instrument: *instrument,
-            };
-            positions.take(&key, *side, *lots);
-        }
-        Command::Split { parts, .. } => {
-            if let Some(whole) = taken {
-                remove_parts(positions, whole, by, parts.as_slice());
-            }
-        }
-        Command::Claim { account, .. } => {
-            if let Some(whole) = taken {
-                let key = Key {
-                    firm: *by,
-                    account: *account,
-                    instrument: whole.key.instrument,
-                };
-                positions.take(&key, whole.side, whole.lots);
-            }
-        }
-        _ => {}
-    }
+    move_added(positions, Way::In, by, command, taken);
 }
 
 /// Makes the row out of which a command took lots. No lots change, not even where memory is refused.
@@ -372,8 +365,8 @@ pub(crate) fn move_back(
     requires room { HasRoomBack positions.old taken.now (added_by by.now command.now taken.now) }
     ensures { HaveMoved positions.new positions.old taken.now (added_by by.now command.now taken.now) }
 {
-    remove(positions, by, command, taken);
-    if let Some(held) = taken {
-        positions.add(&held.key, held.side, held.lots);
+    move_added(positions, Way::Out, by, command, taken);
+    if let Some(h) = taken {
+        move_one(positions, Way::In, h);
     }
 }
