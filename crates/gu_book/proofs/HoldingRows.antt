@@ -1,6 +1,6 @@
 -- Running rows of positions, into and out of which holdings go one by one.
 use Rattle.std.proofs.Common.{refl, ◌≡◌, ℕ, ◌+◌, ◌<◌, ◌≤◌, Bool, true, false, ◌&&◌, List, [], ◌∷◌, ◌++◌, length, take, drop, get_or, sym, ◌∙◌, ap, arith, Option, cond, append-nil}
-use Rattle.std.specs.Prelude.{Some, None, filter_map, sum_by, IfSome, bytes_eq}
+use Rattle.std.specs.Prelude.{Some, None, filter_map, IfSome, bytes_eq}
 use Rattle.gu_base.specs.declared.command.Side.TheVariants.{Buy, Sell}
 use Rattle.std.proofs.lemmas.Slice.Eq.{bytes_eq-Decides}
 use Rattle.std.specs.List.{cons_option}

@@ -249,13 +249,7 @@ fn move_one(positions: &mut Positions, way: Way, h: &Holding)
 
 /// Puts the lots of the parts into their accounts, or takes them out.
 #[inline(always)]
-fn move_parts(
-    positions: &mut Positions,
-    way: Way,
-    whole: &Holding,
-    by: &FirmId,
-    parts: &[Part],
-)
+fn move_parts(positions: &mut Positions, way: Way, whole: &Holding, by: &FirmId, parts: &[Part])
     requires { AllCanGo way positions.old (filter_map (part_holding whole.now by.now) parts.now) }
     ensures gone { HaveGone way positions.old positions.new (filter_map (part_holding whole.now by.now) parts.now) }
     ensures stays_ready { (at : KeyData) → IsReady positions.old at → IsReady positions.new at }
