@@ -8,7 +8,7 @@ use crate::inbound::Inbound;
 use crate::index::Index;
 use crate::msg_types;
 use crate::test_req_id::TestReqId;
-use crate::values::count;
+use crate::values::{YES, count};
 use gu_codec::tags;
 
 /// EncryptMethod (98) of a session without encryption.
@@ -17,9 +17,7 @@ const NO_ENCRYPTION: &[u8] = b"0";
 /// DefaultApplVerID (1137) of FIX 5.0 SP2.
 const FIX50SP2: &[u8] = b"9";
 
-/// The values of a flag.
-const YES: &[u8] = b"Y";
-
+/// A flag that isn't set.
 const NO: &[u8] = b"N";
 
 /// The value of a flag.
