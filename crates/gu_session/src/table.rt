@@ -9,12 +9,9 @@ use crate::link::{Link, Waiting};
 use crate::verdict::{Say, Span, Verdict};
 use gu_base::{AllocId, FirmId};
 use gu_codec::tags;
-use gu_message::{Heading, Inbound, LogoutText, Reject};
+use gu_message::{Heading, Inbound, LogoutText, Reject, VALUE_IS_INCORRECT};
 use gu_parties::House;
 use jiff::Timestamp;
-
-/// SessionRejectReason (373) of a value that isn't allowed.
-const VALUE_IS_INCORRECT: u8 = 5;
 
 /// Nothing is sent.
 fn silent(link: Link) -> Verdict
