@@ -1,6 +1,6 @@
 //! The book: the house table, the history, and beside it a tree for each live trade, the consents, an index, the fees and the
 //! positions.
-ghost use Rattle.std.specs.Prelude.{true, ◌≡◌, ◌≤◌, ◌+◌, [], ◌∷◌, ◌++◌, length, map, option_map, IsTrue, IfOk, OnOk, OnErr};
+ghost use Rattle.std.specs.Prelude.{true, ◌≡◌, ◌≤◌, ◌<◌, ◌+◌, ◌^◌, ℕ, [], ◌∷◌, ◌++◌, length, map, option_map, IsTrue, IfOk, OnOk, OnErr};
 ghost use Rattle.gu_base.specs.Limits.{most_entries};
 ghost use Rattle.gu_base.specs.History.{is_change, live};
 ghost use Rattle.gu_base.specs.Positions.{position_of};
@@ -17,9 +17,9 @@ ghost use Rattle.gu_book.specs.Ids.{NoIdTwice};
 ghost use Rattle.gu_book.specs.Found.{IsNamedIn, LiesThere};
 ghost use Rattle.gu_book.specs.Seen.{stored};
 ghost use Rattle.gu_book.specs.TreeRows.{is_live_trade, tree_rows};
-ghost use Rattle.gu_book.specs.Visits.{AreVisits, IsMet, depth_meant, parts_named, is_kept};
+ghost use Rattle.gu_book.specs.Visits.{AreVisits, IsMet, depth_meant, parts_named, nodes_made, is_kept};
 
-use crate::found::{Named, Sought, find_named};
+use crate::found::{Named, Sought, seek};
 use crate::index::Index;
 use crate::live::{Change, Live};
 use crate::plain::calls::front_answer;
@@ -127,7 +127,8 @@ impl Book {
         ensures unchanged { OnErr result (stored self.new ≡ stored self.old) }
         ensures visits { AreVisits (live self.old.history) command.now (is_kept result) self.new.visits }
     {
-        let sought = self.sought(command);
+        let mut sought = Sought::nothing();
+        self.seek(command, &mut sought);
         let answer = self.answer(by, id, command, sought.named);
         let seen = self.nodes_seen(command, &sought.named, &answer);
         self.note(seen);
@@ -162,19 +163,21 @@ impl Book {
         self.visits = visits;
     }
 
-    /// The node that a command names, if it names one.
-    fn sought(&self, command: &Command) -> Sought
-        ensures named { IsNamedIn (live self.now.history) (named_node command.now) result.named }
-        ensures there { LiesThere (live self.now.history) result.named result.path.items }
+    /// Puts the node that a command names in, if it names one.
+    fn seek(&self, command: &Command, sought: &mut Sought)
+        requires { sought.old.named ≡ None }
+        ensures named { IsNamedIn (live self.now.history) (named_node command.now) sought.new.named }
+        ensures there { LiesThere (live self.now.history) sought.new.named sought.new.path.items }
     {
         let changes = Live::of(self.entries.as_slice(), &self.index.reversals);
-        find_named(&changes, &self.trees, command)
+        seek(&changes, &self.trees, command, sought);
     }
 
     /// How many nodes were looked at for this answer.
     fn nodes_seen(&self, command: &Command, named: &Option<Named>, answer: &Answer) -> u64
         requires { IsNamedIn (live self.now.history) (named_node command.now) named.now }
         ensures most { result ≤ depth_meant (live self.now.history) command.now + parts_named (live self.now.history) command.now + 1 }
+        ensures fits { (made : ℕ) → made ≡ nodes_made command.now → made < 2 ^ 63 → result + made < 2 ^ 64 }
         ensures least { is_accepted answer.now ≡ true → IsMet (live self.now.history) command.now → depth_meant (live self.now.history) command.now + parts_named (live self.now.history) command.now + 1 ≤ result }
     {
         let changes = Live::of(self.entries.as_slice(), &self.index.reversals);

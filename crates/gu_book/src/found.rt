@@ -101,7 +101,7 @@ pub(crate) struct Sought {
 
 impl Sought {
     /// No node.
-    fn nothing() -> Sought
+    pub(crate) fn nothing() -> Sought
         ensures { result.named ≡ None }
     {
         Sought {
@@ -111,36 +111,41 @@ impl Sought {
     }
 }
 
-/// The node of this name. One that no live change makes isn't looked for in the trees.
-fn node_named(changes: &Live<'_>, trees: &Trees<Global>, name: NodeName) -> Sought
-    requires { AreTreesOf changes.now trees.now }
-    ensures named { IsNamedBy changes.now name result.named }
-    ensures there { LiesThere changes.now result.named result.path.items }
+/// Puts the node of this name in. One that no live change makes isn't looked for in the trees.
+fn seek_node(changes: &Live<'_>, trees: &Trees<Global>, name: NodeName, sought: &mut Sought)
+    requires trees { AreTreesOf changes.now trees.now }
+    requires nothing { sought.old.named ≡ None }
+    ensures named { IsNamedBy changes.now name sought.new.named }
+    ensures there { LiesThere changes.now sought.new.named sought.new.path.items }
 {
     let Some(node) = node_of(changes, &name) else {
-        return Sought::nothing();
+        return;
     };
     let Some(spot) = trees.find(name) else {
         unreachable!()
     };
     let found = found_at(trees, spot.0, &spot.1);
-    Sought {
-        named: Some(Named { node, found }),
-        path: spot.1,
-    }
+    sought.named = Some(Named { node, found });
+    sought.path = spot.1;
 }
 
-/// The node that a command names, if it names one.
-pub(crate) fn find_named(changes: &Live<'_>, trees: &Trees<Global>, command: &Command) -> Sought
-    requires { AreTreesOf changes.now trees.now }
-    ensures named { IsNamedIn changes.now (named_node command.now) result.named }
-    ensures there { LiesThere changes.now result.named result.path.items }
+/// Puts the node that a command names in, if it names one.
+pub(crate) fn seek(
+    changes: &Live<'_>,
+    trees: &Trees<Global>,
+    command: &Command,
+    sought: &mut Sought,
+)
+    requires trees { AreTreesOf changes.now trees.now }
+    requires nothing { sought.old.named ≡ None }
+    ensures named { IsNamedIn changes.now (named_node command.now) sought.new.named }
+    ensures there { LiesThere changes.now sought.new.named sought.new.path.items }
 {
     match command {
-        Command::Split { node, .. } => node_named(changes, trees, *node),
-        Command::Claim { node, .. } => node_named(changes, trees, *node),
-        Command::Refuse { node } => node_named(changes, trees, *node),
-        Command::Cancel { node } => node_named(changes, trees, *node),
-        _ => Sought::nothing(),
+        Command::Split { node, .. } => seek_node(changes, trees, *node, sought),
+        Command::Claim { node, .. } => seek_node(changes, trees, *node, sought),
+        Command::Refuse { node } => seek_node(changes, trees, *node, sought),
+        Command::Cancel { node } => seek_node(changes, trees, *node, sought),
+        _ => {}
     }
 }

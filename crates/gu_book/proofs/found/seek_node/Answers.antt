@@ -7,26 +7,26 @@ use Rattle.gu_base.proofs.Basics.{none_is_some}
 use Rattle.gu_book.specs.Found.{IsFoundAs}
 use Rattle.gu_book.proofs.FoundAs.{found_none, found_node}
 use Rattle.gu_book.proofs.OnePlace.{has_path, lies_there}
-use Rattle.gu_book.proofs.found.node_named.Goals as goal
+use Rattle.gu_book.proofs.found.seek_node.Goals as goal
 
 pub unreachable-requires : goal.unreachable-requires
 unreachable-requires c =
     let l = c.args.changes.now in
-    none_is_some (node_of l c.args.name) c.in-Some.node (found_none c.requires c.args.name (rw c.in_default-find.is at c.find.ensures.absent)) (sym c.node_of.ensures ∙ c.in-Some.is)
+    none_is_some (node_of l c.args.name) c.in-Some.node (found_none c.requires.trees c.args.name (rw c.in_default-find.is at c.find.ensures.absent)) (sym c.node_of.ensures ∙ c.in-Some.is)
 
 pub found_at-found-requires : goal.found_at-found-requires
 found_at-found-requires c = has_path (rw c.in-Some-find.is at c.find.ensures.found)
 
 pub returns-in_default-clause-named : goal.returns-in_default-clause-named
-returns-in_default-clause-named c = rw c.nothing.ensures (sym c.node_of.ensures ∙ c.in_default.is)
+returns-in_default-clause-named c = rw c.requires.nothing (sym c.node_of.ensures ∙ c.in_default.is)
 
 pub returns-in_default-clause-there : goal.returns-in_default-clause-there
-returns-in_default-clause-there c = rw c.nothing.ensures tt
+returns-in_default-clause-there c = rw c.requires.nothing tt
 
 pub returns-clause-named : goal.returns-clause-named
 returns-clause-named c =
     let l = c.args.changes.now in
-    let q = c.found_at-found.ensures.found l c.args.name c.requires (rw c.in-Some-find.is at c.find.ensures.found) in
+    let q = c.found_at-found.ensures.found l c.args.name c.requires.trees (rw c.in-Some-find.is at c.find.ensures.found) in
     let there : node_of l c.args.name ≡ Some c.in-Some.node = sym c.node_of.ensures ∙ c.in-Some.is in
     let one : q.0 ≡ c.in-Some.node = same_Some q.0 c.in-Some.node (sym (found_node q) ∙ there) in
     (there, subst (λ (x : Node). x.name ≡ c.args.name) one q.1, subst (λ (x : Node). IsFoundAs l x c.found_at-found.result) one q.2)
@@ -34,9 +34,9 @@ returns-clause-named c =
 pub returns-clause-there : goal.returns-clause-there
 returns-clause-there c =
     let l = c.args.changes.now in
-    let q = c.found_at-found.ensures.found l c.args.name c.requires (rw c.in-Some-find.is at c.find.ensures.found) in
+    let q = c.found_at-found.ensures.found l c.args.name c.requires.trees (rw c.in-Some-find.is at c.find.ensures.found) in
     let there : node_of l c.args.name ≡ Some c.in-Some.node = sym c.node_of.ensures ∙ c.in-Some.is in
     let one : q.0 ≡ c.in-Some.node = same_Some q.0 c.in-Some.node (sym (found_node q) ∙ there) in
     let called = subst (λ (x : Node). x.name ≡ c.args.name) one q.1 in
-    lies_there c.requires.filed c.args.name (record { node = c.in-Some.node; found = c.found_at-found.result }) c.in-Some-find.spot.0 c.in-Some-find.spot.1.items
+    lies_there c.requires.trees.filed c.args.name (record { node = c.in-Some.node; found = c.found_at-found.result }) c.in-Some-find.spot.0 c.in-Some-find.spot.1.items
     called c.found_at-found.ensures.trade (rw c.in-Some-find.is at c.find.ensures.found)
