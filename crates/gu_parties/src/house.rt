@@ -153,24 +153,33 @@ impl House {
         Some((*pair, *agreement))
     }
 
+    /// Puts all that stands in this table into another, in place of what stands there.
+    fn copy_into(&self, copy: &mut House) -> Result<(), Memory>
+        ensures { IfOk result (λ _. copy.new ≡ self.now) }
+    {
+        copy.house = self.house;
+        copy.firms = self.firms.clone()?;
+        copy.accounts = self.accounts.clone()?;
+        copy.instruments = self.instruments.clone()?;
+        copy.agreements = self.agreements.clone()?;
+        Ok(())
+    }
+
     /// The same table once more. The one call beside `parse` that takes memory.
     ///
     /// # Errors
     ///
     /// `Memory` where a growth was refused.
-    pub fn copy(&self, _alloc: Global) -> Result<House, Memory>
+    pub fn copy(&self, alloc: Global) -> Result<House, Memory>
         ensures { IfOk result (λ copy. copy ≡ self.now) }
     {
-        let firms = self.firms.clone()?;
-        let accounts = self.accounts.clone()?;
-        let instruments = self.instruments.clone()?;
-        let agreements = self.agreements.clone()?;
-        Ok(House {
-            house: self.house,
-            firms,
-            accounts,
-            instruments,
-            agreements,
-        })
+        let mut copy = House::alone(alloc, self.house);
+        match self.copy_into(&mut copy) {
+            Ok(()) => Ok(copy),
+            Err(memory) => {
+                drop(copy);
+                Err(memory)
+            }
+        }
     }
 }

@@ -1,9 +1,10 @@
 //! The house file, line by line.
-ghost use Rattle.std.specs.Prelude.{◌≡◌, Some, None, MatchResult};
+ghost use Rattle.std.specs.Prelude.{◌≡◌, Some, None, Ok, MatchResult};
 ghost use Rattle.gu_parties.specs.Words.{words, lines};
 ghost use Rattle.gu_parties.specs.Causes.{house_cause};
 ghost use Rattle.gu_parties.specs.HouseFile.{second_word};
-ghost use Rattle.gu_parties.specs.Parsing.{Gives, GivesBehind, Answers};
+ghost use Rattle.gu_parties.specs.Parsing.{Gives, GivesBehind, StopsBehind, house_behind, Answers};
+ghost use Rattle.gu_parties.specs.Steps.{house_alone};
 
 use crate::fault::{Cause, HouseError};
 use crate::house::House;
@@ -38,11 +39,13 @@ fn house_named(line: &[u8]) -> Result<FirmId, Cause>
     }
 }
 
-/// Reads the lines from line 3 on, behind a line 2 that names this house.
-fn read_rest(alloc: Global, name: FirmId, text: &[u8]) -> Result<House, HouseError>
-    ensures { GivesBehind result name (lines text.now) }
+/// Adds the lines from line 3 on to the table of a house with nothing else.
+fn add_lines(house: &mut House, text: &[u8]) -> Result<(), HouseError>
+    requires alone { house.now ≡ house_alone house.now.house }
+    ensures { MatchResult result
+        (λ _. house_behind house.old.house (lines text.now) ≡ Ok house.new)
+        (λ e. StopsBehind e.cause e.line house.old.house (lines text.now)) }
 {
-    let mut house = House::alone(alloc, name);
     let mut rest = text;
     let mut line = 3;
     while let Some((here, behind)) = first_line(rest) {
@@ -59,7 +62,21 @@ fn read_rest(alloc: Global, name: FirmId, text: &[u8]) -> Result<House, HouseErr
         line += 1;
         rest = behind;
     }
-    Ok(house)
+    Ok(())
+}
+
+/// Reads the lines from line 3 on, behind a line 2 that names this house.
+fn read_rest(alloc: Global, name: FirmId, text: &[u8]) -> Result<House, HouseError>
+    ensures { GivesBehind result name (lines text.now) }
+{
+    let mut house = House::alone(alloc, name);
+    match add_lines(&mut house, text) {
+        Ok(()) => Ok(house),
+        Err(fault) => {
+            drop(house);
+            Err(fault)
+        }
+    }
 }
 
 /// Reads the lines of a text.
