@@ -1,18 +1,14 @@
 -- What the trees say of a node is what the changes say of it.
-use Rattle.std.proofs.Common.{◌≡◌, ◌≢◌, ℕ, ◌==◌, true, false, ◌&&◌, List, length, find, refl, sym, ◌∙◌, ap, subst, Option}
-use Rattle.std.specs.Prelude.{Some, None, option_map, option_and_then, is_none, unwrap_or, bytes_eq}
+use Rattle.std.proofs.Common.{◌≡◌, ℕ, ◌==◌, false, List, length, find, sym, ◌∙◌, ap, subst, Option}
+use Rattle.std.specs.Prelude.{Some, None, option_map, option_and_then, unwrap_or, bytes_eq}
 use Rattle.std.proofs.lemmas.Option.{same_Some}
 use Rattle.gu_base.specs.Numbers.{EntryPart}
-use Rattle.gu_base.specs.Nodes.{deal_in, node_of, split_of, decision_of, is_given, is_offered, parent}
+use Rattle.gu_base.specs.Nodes.{deal_in, node_of, split_of, parent}
 use Rattle.gu_base.specs.Places.{place_of, depth_of, root_of}
 use Rattle.gu_base.specs.Refusals.{owns}
-use Rattle.gu_base.specs.Rows.{state_of}
 use Rattle.gu_base.specs.declared.entry.Record.{Record}
-use Rattle.gu_base.specs.declared.node.Kind.{Kind}
-use Rattle.gu_base.specs.declared.node.Kind.TheVariants.{Root, Own, Given}
 use Rattle.gu_base.specs.declared.node.Node.{Node}
 use Rattle.gu_base.specs.declared.node.Place.{Place}
-use Rattle.gu_base.specs.declared.state.State.TheVariants.{Offered}
 use Rattle.gu_base.proofs.Basics.{no_some}
 use Rattle.gu_tree.specs.Grove.{Grove, tree_of, IsPlace}
 use Rattle.gu_tree.specs.Paths.{node_at, HasAt}
@@ -20,7 +16,6 @@ use Rattle.gu_tree.specs.Rose.{Rose, leaf, parted, head_of, split_of_node}
 use Rattle.gu_tree.specs.Shown.{IsNodeOf, IsHeadOf}
 use Rattle.gu_tree.specs.declared.head.Head.{Head}
 use Rattle.gu_tree.proofs.Parts.{at_fact}
-use Rattle.gu_tree.proofs.ShowsChanges.{decided_state}
 use Rattle.gu_book.specs.Found.{AreTreesOf, IsFoundAs, IsFoundIn}
 use Rattle.gu_book.specs.Holdings.{traded_at, held_at, holding_of, held_above}
 use Rattle.gu_book.specs.declared.found.Found.{Found}
@@ -60,29 +55,11 @@ found_as {l} {g} are n trade p tree f o place found at deep its part split =
       },
     )
 
--- ---- what a refusal asks of what was found
+-- ---- what is asked of what was found
 
 module _ {l : List Record} {x : Node} {f : Found} (is : IsFoundAs l x f) where
   pub owned_as : (by : List ℕ) → owns l by x.name ≡ bytes_eq f.head.place.firm by
   owned_as by = ap (λ o. unwrap_or (option_map (λ owner. bytes_eq owner by) (option_map (λ (p : Place). p.firm) o)) false) is.place
-
-  pub offered_as : f.head.state ≡ Offered → true ≡ is_offered l x
-  offered_as e = sym (offered_given x.kind (decision_of l x.name) (sym is.state ∙ e))
-    where
-      offered_given : (k : Kind) (d : Option Record) → state_of k d ≡ Offered → (is_given k && is_none d) ≡ true
-      offered_given (Root _) d h = absurd (cc)
-      offered_given (Own _ _ _) d h = absurd (cc)
-      offered_given (Given _ _ _) None h = refl
-      offered_given (Given _ _ _) (Some r) h = absurd (decided_state r.command h)
-
-  pub free_as : f.head.state ≢ Offered → false ≡ is_offered l x
-  free_as other = sym (free_given x.kind (decision_of l x.name) (λ e. other (is.state ∙ e)))
-    where
-      free_given : (k : Kind) (d : Option Record) → state_of k d ≢ Offered → (is_given k && is_none d) ≡ false
-      free_given (Root _) d h = refl
-      free_given (Own _ _ _) d h = refl
-      free_given (Given _ _ _) None h = absurd (h refl)
-      free_given (Given _ _ _) (Some r) h = refl
 
   -- the lots of what was traded, where the node stands
   pub holding_as : (w : Option Deal) → w ≡ option_and_then (λ (r : Record). deal_in r.command) (find (λ (r : Record). r.number == f.trade) l)

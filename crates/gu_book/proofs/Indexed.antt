@@ -201,9 +201,6 @@ module _ {h : List Entry} {rs : Reversals} (are : AreReversalsOf rs h) where
         ∙ ap (λ b. cond b (Some (length h + 1)) (option_map (λ (r : Record). r.number) (reversal_of h m))) (none m));
   }
 
-  pub reversals_kept : (new : Reversals) → ((m : ℕ) → reversal_in new m ≡ reversal_in rs m) → AreReversalsOf new h
-  reversals_kept new same = record { numbers = λ m. same m ∙ are.numbers m }
-
   -- an accepted Reverse, put in
   pub reversals_put : (t : House) (e : Entry) (n k : ℕ) → answer_to t h (call_of e) ≡ Accepted n e.status → e.command ≡ Reverse k → (new : Reversals)
       → ((m : ℕ) → reversal_in new m ≡ cond (k == m) (Some n) (reversal_in rs m)) → AreReversalsOf new (h ++ e ∷ [])

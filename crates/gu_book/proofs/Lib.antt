@@ -1,5 +1,6 @@
 pub mod ByNumber
 pub mod Steps
+pub mod Made
 pub mod Within
 pub mod Refused
 pub mod Keeps
@@ -9,6 +10,7 @@ pub mod Holdings
 pub mod Standings
 pub mod Indexed
 pub mod Sums
+pub mod Parties
 pub mod Known
 pub mod Balance
 pub mod Sound

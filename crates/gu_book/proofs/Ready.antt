@@ -1,93 +1,62 @@
 -- A reversal for which all is ready is accepted, and what a refused one names.
-use Rattle.std.proofs.Common.{◌≡◌, ℕ, ◌+◌, Bool, true, false, not, ◌&&◌, ◌||◌, List, [], ◌∷◌, length, refl, sym, ◌∙◌, ap, subst, Option, cond, inl, inr, ◌⊎◌}
-use Rattle.std.specs.Prelude.{Some, None, find, nat_lt, option_map, bytes_eq, IfSome}
-use Rattle.std.specs.List.{All, list_any}
+use Rattle.std.proofs.Common.{◌≡◌, ℕ, ◌+◌, Bool, true, false, not, ◌&&◌, ◌||◌, List, [], ◌∷◌, ◌++◌, length, refl, sym, ◌∙◌, ap, subst, Option, cond, inl, inr, ◌⊎◌}
+use Rattle.std.specs.Prelude.{Some, None, find, nat_lt, option_map, bytes_eq}
+use Rattle.std.specs.List.{list_any}
 use Rattle.std.proofs.lemmas.Bool.{lt-ltb, not-true, and_parts, or_cases, or_parts}
-use Rattle.std.proofs.lemmas.List.Elements.{All-nil, All-cons, All-head, All-tail}
+use Rattle.std.proofs.lemmas.List.Elements.{All-head, All-tail}
 use Rattle.std.proofs.lemmas.Slice.Eq.{bytes_eq-Decides}
 use Rattle.gu_base.specs.House.{House, knows_firm}
 use Rattle.gu_base.specs.History.{numbered_as, numbered_from, records, is_change, is_reverse_of, is_reversed, live}
-use Rattle.gu_base.specs.Nodes.{node_of}
 use Rattle.gu_base.specs.Refusals.{refusal_of, first, unless}
 use Rattle.gu_base.specs.Same.{same_command}
 use Rattle.gu_base.specs.SamePartsLaws.{bytes_same}
 use Rattle.gu_base.specs.Standing.{first_refused, standing_on}
-use Rattle.gu_base.specs.Consents.{parties_of, consents_of, is_among, missing, of_node, taker_and_giver, giver_alone}
+use Rattle.gu_base.specs.Consents.{parties_of, consents_of, is_among, missing}
 use Rattle.gu_base.specs.Answers.{Call, answer_to, answer_by, accepted_or, entry_of, reversal_of, on_change, initiate_rest, reverse_rest, command_refusal, is_same_id, is_same_call}
 use Rattle.gu_base.specs.Runs.{after_all}
-use Rattle.gu_base.specs.declared.command.Command.{Command}
-use Rattle.gu_base.specs.declared.command.Command.TheVariants.{Trade, Split, Claim, Refuse, Cancel, Initiate, Decline, Reverse}
+use Rattle.gu_base.specs.declared.command.Command.TheVariants.{Initiate, Reverse}
 use Rattle.gu_base.specs.declared.entry.Answer.TheVariants.{Accepted, Refused}
 use Rattle.gu_base.specs.declared.entry.Entry.{Entry}
 use Rattle.gu_base.specs.declared.entry.Record.{Record}
-use Rattle.gu_base.specs.declared.node.Kind.{Kind}
-use Rattle.gu_base.specs.declared.node.Kind.TheVariants.{Root, Own, Given}
-use Rattle.gu_base.specs.declared.node.Node.{Node}
 use Rattle.gu_base.specs.declared.refusal.Refusal.{Refusal}
 use Rattle.gu_base.specs.declared.refusal.Refusal.TheVariants.{UnknownFirm, UnknownEntry, NotAChange, AlreadyReversed, NotAParty, NeedsConsent, StandsOn, DuplicateId, BookFull, AlreadyConsented}
 use Rattle.gu_base.specs.declared.state.State.{State}
 use Rattle.gu_base.specs.declared.state.State.TheVariants.{ReversalPending, Reversed}
 use Rattle.gu_base.proofs.LiveLaws.{is_live}
 use Rattle.gu_base.proofs.LegalLaws.{first_refused-cut}
-use Rattle.gu_book.proofs.Known.{KindKnown}
 use Rattle.gu_book.specs.Headline.{IsAcceptedWhereReady, IsConsentAccepted, IsNewestUndone, NamedBy, IsNamed}
 use Rattle.gu_base.proofs.RunLaws.{run_all}
 use Rattle.gu_base.proofs.Numbered.{listed, found_at}
 use Rattle.gu_base.proofs.Basics.{nothing_here}
-use Rattle.gu_book.proofs.Known.{firms_known, node_known}
+use Rattle.gu_book.proofs.Known.{change_known, firms_known}
+use Rattle.gu_book.proofs.Parties.{AllPass, parties_pass}
 use Rattle.gu_book.proofs.Restored.{newest_is_free}
-use Rattle.gu_base.proofs.Passing.{trade_passes, refusal_parts}
 
 -- ---- the parties of a live change are firms of the house table
-
-abbrev AllKnown : House → List (List ℕ) → Type 0
-AllKnown t firms = All (λ f. knows_firm t f ≡ true) firms
-
-one_known : (t : House) (f : List ℕ) → knows_firm t f ≡ true → AllKnown t (f ∷ [])
-one_known t f h = All-cons (λ f. knows_firm t f ≡ true) f [] h (All-nil (λ f. knows_firm t f ≡ true))
-
-two_known : (t : House) (f g : List ℕ) → knows_firm t f ≡ true → knows_firm t g ≡ true → AllKnown t (f ∷ g ∷ [])
-two_known t f g h k = All-cons (λ f. knows_firm t f ≡ true) f (g ∷ []) h (one_known t g k)
-
-none_known : (t : House) → AllKnown t []
-none_known t = All-nil (λ f. knows_firm t f ≡ true)
-
-both_known : (t : House) (k : Kind) → KindKnown t k → AllKnown t (taker_and_giver k)
-both_known t (Root _) h = none_known t
-both_known t (Own _ _ _) h = none_known t
-both_known t (Given _ giver taker) h = two_known t taker giver h.taker_known h.giver_known
-
-giver_known : (t : House) (k : Kind) → KindKnown t k → AllKnown t (giver_alone k)
-giver_known t (Root _) h = none_known t
-giver_known t (Own _ _ _) h = none_known t
-giver_known t (Given _ giver taker) h = one_known t giver h.giver_known
-
-of_node_known : (t : House) (f : Kind → List (List ℕ)) → ((k : Kind) → KindKnown t k → AllKnown t (f k)) → (o : Option Node) → IfSome o (λ x. KindKnown t x.kind) → AllKnown t (of_node f o)
-of_node_known t f has None h = none_known t
-of_node_known t f has (Some x) h = has x.kind h
 
 house_known : (t : House) → knows_firm t t.house ≡ true
 house_known t = ap (λ b. b || list_any (bytes_eq t.house) t.firms) (bytes_same t.house)
 
-parties_known : (t : House) (l before : List Record) (by : List ℕ) (c : Command) → first_refused t [] l ≡ None → refusal_of t before by c ≡ None → AllKnown t (parties_of t l by c)
-parties_known t l before by (Trade firm account instrument side lots) none accepted =
-    let passes = trade_passes t by firm account instrument lots (refusal_parts t before by (Trade firm account instrument side lots) accepted).1 in
-    two_known t t.house firm (house_known t) passes.firm_known
-parties_known t l before by (Split n ps) none accepted = one_known t by (refusal_parts t before by (Split n ps) accepted).0
-parties_known t l before by (Claim n account) none accepted = of_node_known t taker_and_giver (both_known t) (node_of l n) (node_known t l n (firms_known t l none))
-parties_known t l before by (Refuse n) none accepted = of_node_known t taker_and_giver (both_known t) (node_of l n) (node_known t l n (firms_known t l none))
-parties_known t l before by (Cancel n) none accepted = of_node_known t giver_alone (giver_known t) (node_of l n) (node_known t l n (firms_known t l none))
-parties_known t l before by (Initiate _) none accepted = none_known t
-parties_known t l before by (Decline _) none accepted = none_known t
-parties_known t l before by (Reverse _) none accepted = none_known t
+parties_known : (t : House) (l before : List Record) (r : Record) → first_refused t [] l ≡ None → refusal_of t before r.firm r.command ≡ None → AllPass (knows_firm t) (parties_of t l r.firm r.command)
+parties_known t l before r none accepted =
+    let known = change_known t before r accepted in
+    parties_pass (knows_firm t) t l r.firm r.command (house_known t) known.by known.named (firms_known t l none)
 
-among_known : (t : House) (by : List ℕ) (firms : List (List ℕ)) → AllKnown t firms → is_among by firms ≡ true → knows_firm t by ≡ true
+among_known : (t : House) (by : List ℕ) (firms : List (List ℕ)) → AllPass (knows_firm t) firms → is_among by firms ≡ true → knows_firm t by ≡ true
 among_known t by [] all h = absurd (cc)
 among_known t by (f ∷ firms) all h =
     elim (or_cases (bytes_eq by f) (is_among by firms) h) [
       | inl here ↦ subst (λ g. knows_firm t g ≡ true) (sym ((bytes_eq-Decides by f).0 here)) (All-head (λ f. knows_firm t f ≡ true) f firms all)
       | inr later ↦ among_known t by firms (All-tail (λ f. knows_firm t f ≡ true) f firms all) later
     ]
+
+party_known : (t : House) (calls : List Call) (before after : List Record) (r : Record) (by : List ℕ) → live (after_all t [] calls) ≡ before ++ r ∷ after
+    → is_among by (parties_of t (live (after_all t [] calls)) r.firm r.command) ≡ true → knows_firm t by ≡ true
+party_known t calls before after r by same party =
+    let l = live (after_all t [] calls) in
+    let run = run_all t calls in
+    let lawful = first_refused-cut t [] before r after (subst (λ l. first_refused t [] l ≡ None) same run.replayed) in
+    among_known t by (parties_of t l r.firm r.command) (parties_known t l before r run.replayed lawful) party
 
 -- ---- a reversal that nothing refuses
 
@@ -118,11 +87,9 @@ pub accepted_where_ready : (t : House) → IsAcceptedWhereReady t
 accepted_where_ready t calls before after r by id same ready fresh room =
     let h = after_all t [] calls in
     let call : Call = record { firm = by; id = id; command = Reverse r.number } in
-    let run = run_all t calls in
     let at = listed (is_live h) 1 h r before after same in
     let passes = and_parts (is_change r.command) (not (is_reversed h r.number)) at.passes in
-    let lawful = first_refused-cut t [] before r after (subst (λ l. first_refused t [] l ≡ None) same run.replayed) in
-    let known = among_known t by (parties_of t (live h) r.firm r.command) (parties_known t (live h) before r.firm r.command run.replayed lawful) ready.party in
+    let known = party_known t calls before after r by same ready.party in
     let clear : command_refusal t h by (Reverse r.number) ≡ None =
     ap (λ o. first (unless (knows_firm t by) UnknownFirm ∷ on_change t h by (reverse_rest t h) o ∷ [])) at.found
     ∙ all_clear (knows_firm t by) (is_change r.command) (is_among by (parties_of t (live h) r.firm r.command)) (reversal_of h r.number) (missing (parties_of t (live h) r.firm r.command) (consents_of h r.number)) (standing_on t (live h) r.number)
@@ -139,11 +106,9 @@ pub consent_accepted : (t : House) → IsConsentAccepted t
 consent_accepted t calls before after r by id same party lacks fresh room =
     let h = after_all t [] calls in
     let call : Call = record { firm = by; id = id; command = Initiate r.number } in
-    let run = run_all t calls in
     let at = listed (is_live h) 1 h r before after same in
     let passes = and_parts (is_change r.command) (not (is_reversed h r.number)) at.passes in
-    let lawful = first_refused-cut t [] before r after (subst (λ l. first_refused t [] l ≡ None) same run.replayed) in
-    let known = among_known t by (parties_of t (live h) r.firm r.command) (parties_known t (live h) before r.firm r.command run.replayed lawful) party in
+    let known = party_known t calls before after r by same party in
     let clear : command_refusal t h by (Initiate r.number) ≡ None =
     ap (λ o. first (unless (knows_firm t by) UnknownFirm ∷ on_change t h by (initiate_rest h by) o ∷ [])) at.found
     ∙ initiate_clear (knows_firm t by) (is_change r.command) (is_among by (parties_of t (live h) r.firm r.command)) (is_among by (consents_of h r.number)) (reversal_of h r.number)
