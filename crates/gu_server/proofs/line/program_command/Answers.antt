@@ -1,14 +1,9 @@
-use Rattle.std.proofs.Common.{◌≡◌, ◌∙◌, ap, ap₂, rules}
-use Rattle.clap.specs.Words.{App, app_of, with_subcommand}
-use Rattle.gu_server.specs.Lines.{top}
+use Rattle.clap.specs.Words.{with_subcommand}
+use Rattle.gu_server.specs.Lines.{top, batch, trace, serve}
 use Rattle.gu_server.proofs.line.program_command.Goals as goal
 
-pub returns-clause-shape : goal.returns-clause-shape
-returns-clause-shape c =
-    let top_is : app_of c.disable_help_subcommand.result ≡ top = search rules in
-    let batch_is = c.in_ok-batch_command.ensures.shape in
-    let trace_is = c.in_ok-trace_command.ensures.shape in
-    let serve_is = c.in_ok-serve_command.ensures.shape in
-    let first = c.in_ok-subcommand.ensures.shape (search rules) ∙ ap₂ with_subcommand top_is (ap (λ (a : App). a.top) batch_is) in
-    let second = c.in_ok-subcommand-2.ensures.shape (search rules) ∙ ap₂ with_subcommand first (ap (λ (a : App). a.top) trace_is) in
-    c.in_ok-command.ensures.shape (search rules) ∙ ap₂ with_subcommand second (ap (λ (a : App). a.top) serve_is)
+pub returns : goal.returns
+returns c =
+    let one = with_subcommand top batch.top in
+    let two = with_subcommand one trace.top in
+    c.with_command.ensures two serve (c.with_command-command-2.ensures one trace (c.with_command-command.ensures top batch c.bare_command.ensures c.batch_command.ensures) c.trace_command.ensures) c.serve_command.ensures
