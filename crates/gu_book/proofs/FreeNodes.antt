@@ -103,6 +103,11 @@ claim_names n (Initiate _) e = absurd e
 claim_names n (Decline _) e = absurd e
 claim_names n (Reverse _) e = absurd e
 
+-- a Refuse or a Cancel turns down the part that it names
+pub turned_down : {c : Command} → ((n : EntryPart) × c ≡ Refuse n) ⊎ ((n : EntryPart) × c ≡ Cancel n) → (n : EntryPart) × TurnsDown n c
+turned_down (inl r) = (r.0, subst (TurnsDown r.0) (sym r.1) refl)
+turned_down (inr r) = (r.0, subst (TurnsDown r.0) (sym r.1) refl)
+
 pub turned_names : (n : EntryPart) (c : Command) → TurnsDown n c → (named_node c ≡ Some n) × (decides n c ≡ true) × (is_given_back (state_after c) ≡ true)
 turned_names n (Refuse m) e = (ap (λ k. Some k) e, ap (λ k. same_name k n) e ∙ name_same n, refl)
 turned_names n (Cancel m) e = (ap (λ k. Some k) e, ap (λ k. same_name k n) e ∙ name_same n, refl)

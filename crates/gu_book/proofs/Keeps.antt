@@ -152,15 +152,28 @@ module _ {t : House} {h : List Entry} {ts : Grove} {cs : Consents} (kept : IsKep
       let number = (found_at k 1 h o.0 o.1.found).number in
       not_reversed k 1 h (subst (λ m. reversal_of h m ≡ None) number o.1.unreversed)
 
-  pub kept_initiate : (k : ℕ) → e.command ≡ Initiate k → (ds : Consents) → ((m : ℕ) → given ds m ≡ cond (m == k) (given cs m ++ e.firm ∷ []) (given cs m))
+  kept_initiate : (k : ℕ) → e.command ≡ Initiate k → (ds : Consents) → ((m : ℕ) → given ds m ≡ cond (m == k) (given cs m ++ e.firm ∷ []) (given cs m))
       → IsKept t (h ++ e ∷ []) ts ds
   kept_initiate k same ds more =
       kept_consenting (ap is_consenting same) ds
       (λ m. more m ∙ (ap (λ fs. cond (m == k) (fs ++ e.firm ∷ []) fs) (kept.consented m) ∙ left_initiate h e k m same (open_entry k same)))
 
-  pub kept_decline : (k : ℕ) → e.command ≡ Decline k → (ds : Consents) → ((m : ℕ) → given ds m ≡ cond (m == k) [] (given cs m)) → IsKept t (h ++ e ∷ []) ts ds
+  kept_decline : (k : ℕ) → e.command ≡ Decline k → (ds : Consents) → ((m : ℕ) → given ds m ≡ cond (m == k) [] (given cs m)) → IsKept t (h ++ e ∷ []) ts ds
   kept_decline k same ds less =
       kept_consenting (ap is_consenting same) ds (λ m. less m ∙ (ap (λ fs. cond (m == k) [] fs) (kept.consented m) ∙ left_decline h e k m same))
+
+  told_by : (c : Command) → e.command ≡ c → is_consenting c ≡ true → (ds : Consents)
+      → ((k m : ℕ) → e.command ≡ Initiate k → given ds m ≡ cond (m == k) (given cs m ++ e.firm ∷ []) (given cs m))
+      → ((k m : ℕ) → e.command ≡ Decline k → given ds m ≡ cond (m == k) [] (given cs m)) → IsKept t (h ++ e ∷ []) ts ds
+  told_by (Initiate k) same is ds more less = kept_initiate k same ds (λ m. more k m same)
+  told_by (Decline k) same is ds more less = kept_decline k same ds (λ m. less k m same)
+  told_by _ same is ds more less = absurd (cc)
+
+  -- a consent is given, or the consents to one reversal are taken back
+  pub kept_consents : is_consenting e.command ≡ true → (ds : Consents)
+      → ((k m : ℕ) → e.command ≡ Initiate k → given ds m ≡ cond (m == k) (given cs m ++ e.firm ∷ []) (given cs m))
+      → ((k m : ℕ) → e.command ≡ Decline k → given ds m ≡ cond (m == k) [] (given cs m)) → IsKept t (h ++ e ∷ []) ts ds
+  kept_consents is = told_by e.command refl is
 
   -- ---- a Reverse
 

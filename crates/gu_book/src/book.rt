@@ -1,7 +1,8 @@
 //! The book: the house table, the history, and beside it a tree for each live trade, the consents, an index, the fees and the
 //! positions.
-ghost use Rattle.std.specs.Prelude.{true, ◌≡◌, ◌≤◌, ◌<◌, ◌+◌, ◌^◌, ℕ, [], ◌∷◌, ◌++◌, length, map, option_map, IsTrue, IfOk, OnOk, OnErr};
+ghost use Rattle.std.specs.Prelude.{true, ◌≡◌, ◌==◌, ◌≤◌, ◌<◌, ◌+◌, ◌^◌, ℕ, [], ◌∷◌, ◌++◌, length, map, option_map, IsTrue, IfOk, OnOk, OnErr, if◌then◌else◌};
 ghost use Rattle.gu_base.specs.Limits.{most_entries};
+ghost use Rattle.gu_base.specs.Consents.{is_consenting};
 ghost use Rattle.gu_base.specs.History.{is_change, live};
 ghost use Rattle.gu_base.specs.Positions.{position_of};
 ghost use Rattle.gu_base.specs.Fees.{paid_by, received_by, used_of};
@@ -11,6 +12,7 @@ ghost use Rattle.gu_base.specs.declared.command.Side.TheVariants.{Buy, Sell};
 ghost use Rattle.gu_base.specs.declared.entry.Answer.TheVariants.{Accepted};
 ghost use Rattle.gu_base.specs.Runs.{IsRunFrom, call_of};
 ghost use Rattle.gu_base.specs.declared.command.Command.TheVariants.{Initiate, Decline, Reverse};
+ghost use Rattle.gu_consent.specs.Given.{given};
 ghost use Rattle.gu_tree.specs.Shown.{shown, named_node};
 ghost use Rattle.gu_book.specs.Front.{may_lack};
 ghost use Rattle.gu_book.specs.Ids.{NoIdTwice};
@@ -236,13 +238,8 @@ impl Book {
         ensures unchanged { OnErr result (self.new ≡ self.old) }
     {
         match &kept.command {
-            Command::Initiate { entry } => {
-                let entry = *entry;
-                self.keep_consent(alloc, kept, entry, number)
-            }
-            Command::Decline { entry } => {
-                let entry = *entry;
-                self.keep_decline(kept, entry, number)
+            Command::Initiate { .. } | Command::Decline { .. } => {
+                self.keep_consenting(alloc, kept, number)
             }
             Command::Reverse { entry } => {
                 let entry = *entry;
@@ -287,37 +284,21 @@ impl Book {
         Ok(())
     }
 
-    /// Puts an accepted Initiate at the end of the history, and its firm among those that consent.
-    fn keep_consent(
+    /// Puts an accepted Initiate or Decline at the end of the history, and does to the consents what it says.
+    fn keep_consenting(
         &mut self,
         alloc: Global,
         kept: Entry,
-        entry: Number,
         number: Number,
     ) -> Result<(), Memory>
-        requires names { kept.command ≡ Initiate entry }
+        requires consenting { is_consenting kept.command ≡ true }
         requires accepted { answer_to self.old.house self.old.history (call_of kept) ≡ Accepted number kept.status }
         ensures kept { OnOk result (self.new ≡ record self.old { history = self.old.history ++ kept ∷ [] }) }
         ensures unchanged { OnErr result (self.new ≡ self.old) }
     {
         self.entries.reserve(1)?;
         self.index.ids.ready()?;
-        self.consents.give(alloc, entry, kept.firm)?;
-        self.index.ids.add(&kept);
-        self.entries.push_reserved(kept);
-        Ok(())
-    }
-
-    /// Puts an accepted Decline at the end of the history, and clears the consents to its entry's reversal.
-    fn keep_decline(&mut self, kept: Entry, entry: Number, number: Number) -> Result<(), Memory>
-        requires names { kept.command ≡ Decline entry }
-        requires accepted { answer_to self.old.house self.old.history (call_of kept) ≡ Accepted number kept.status }
-        ensures kept { OnOk result (self.new ≡ record self.old { history = self.old.history ++ kept ∷ [] }) }
-        ensures unchanged { OnErr result (self.new ≡ self.old) }
-    {
-        self.entries.reserve(1)?;
-        self.index.ids.ready()?;
-        self.consents.clear(entry);
+        consent(&mut self.consents, alloc, &kept)?;
         self.index.ids.add(&kept);
         self.entries.push_reserved(kept);
         Ok(())
@@ -403,5 +384,22 @@ impl Book {
         ensures { result ≡ used_of self.now.house (live self.now.history) giver.now taker.now }
     {
         self.fees.used(giver, taker)
+    }
+}
+
+/// Adds the consent that an accepted Initiate gives, or clears those that a Decline takes back.
+fn consent(consents: &mut Consents, alloc: Global, kept: &Entry) -> Result<(), Memory>
+    requires consenting { is_consenting kept.now.command ≡ true }
+    ensures gives { OnOk result ((k m : ℕ) → kept.now.command ≡ Initiate k → given consents.new m ≡ (if m == k then given consents.old m ++ kept.now.firm ∷ [] else given consents.old m)) }
+    ensures clears { OnOk result ((k m : ℕ) → kept.now.command ≡ Decline k → given consents.new m ≡ (if m == k then [] else given consents.old m)) }
+    ensures unchanged { OnErr result ((m : ℕ) → given consents.new m ≡ given consents.old m) }
+{
+    match &kept.command {
+        Command::Initiate { entry } => consents.give(alloc, *entry, kept.firm),
+        Command::Decline { entry } => {
+            consents.clear(*entry);
+            Ok(())
+        }
+        _ => unreachable!(),
     }
 }

@@ -153,8 +153,7 @@ pub(crate) fn undo(trees: &mut Trees<Global>, number: Number, undone: &Entry)
         Command::Trade { .. } => trees.uproot(number),
         Command::Split { .. } => trees.unsplit(spot.0, &spot.1),
         Command::Claim { .. } => trees.unclaim(spot.0, &spot.1),
-        Command::Refuse { .. } => trees.offer_again(spot.0, &spot.1),
-        Command::Cancel { .. } => trees.offer_again(spot.0, &spot.1),
+        Command::Refuse { .. } | Command::Cancel { .. } => trees.offer_again(spot.0, &spot.1),
         _ => unreachable!(),
     }
 }

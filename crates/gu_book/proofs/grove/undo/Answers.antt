@@ -1,6 +1,6 @@
 use Rattle.std.proofs.Common.{refl, sym, ap, subst}
 use Rattle.gu_tree.specs.Shown.{SplitsNode, named_node}
-use Rattle.gu_book.proofs.FreeNodes.{Claims, TurnsDown}
+use Rattle.gu_book.proofs.FreeNodes.{Claims, turned_down, turned_names}
 use Rattle.gu_book.specs.TreeRows.{is_trade}
 use Rattle.gu_book.proofs.FreeNodes.{has_place, its_spot, root_alone}
 use Rattle.gu_book.proofs.Gone.{may_unsplit, split_in, free_parts, unsplit_gone, claimed_there, claim_part, claim_in, claim_gone, turned_there, turned_part, turned_in, turned_gone, sapling_there, root_gone}
@@ -73,45 +73,26 @@ returns-in-Claim-clause-gone c = λ t l u.
 pub offer_again-requires-clause-part : goal.offer_again-requires-clause-part
 offer_again-requires-clause-part c =
     let go = c.requires.may_go in
-    let s = its_spot go.2 c.in-Some.spot.0 c.in-Some.spot.1.items c.in-Refuse.node (ap named_node c.in-Refuse.is) (rw c.in-Some.is at c.place.ensures.found) in
-    turned_part go.2 s (subst (TurnsDown c.in-Refuse.node) (sym c.in-Refuse.is) refl)
+    let n = turned_down c.in-Refuse.is in
+    let s = its_spot go.2 c.in-Some.spot.0 c.in-Some.spot.1.items n.0 (turned_names n.0 c.args.undone.now.command n.1).0 (rw c.in-Some.is at c.place.ensures.found) in
+    turned_part go.2 s n.1
 
 pub offer_again-requires-clause-given_back : goal.offer_again-requires-clause-given_back
 offer_again-requires-clause-given_back c =
     let go = c.requires.may_go in
-    let s = its_spot go.2 c.in-Some.spot.0 c.in-Some.spot.1.items c.in-Refuse.node (ap named_node c.in-Refuse.is) (rw c.in-Some.is at c.place.ensures.found) in
-    turned_there go.2 s (subst (TurnsDown c.in-Refuse.node) (sym c.in-Refuse.is) refl)
+    let n = turned_down c.in-Refuse.is in
+    let s = its_spot go.2 c.in-Some.spot.0 c.in-Some.spot.1.items n.0 (turned_names n.0 c.args.undone.now.command n.1).0 (rw c.in-Some.is at c.place.ensures.found) in
+    turned_there go.2 s n.1
 
 pub offer_again-requires-clause-decided : goal.offer_again-requires-clause-decided
 offer_again-requires-clause-decided c =
     let go = c.requires.may_go in
-    let s = its_spot go.2 c.in-Some.spot.0 c.in-Some.spot.1.items c.in-Refuse.node (ap named_node c.in-Refuse.is) (rw c.in-Some.is at c.place.ensures.found) in
-    turned_in go.2 s (subst (TurnsDown c.in-Refuse.node) (sym c.in-Refuse.is) refl)
+    let n = turned_down c.in-Refuse.is in
+    let s = its_spot go.2 c.in-Some.spot.0 c.in-Some.spot.1.items n.0 (turned_names n.0 c.args.undone.now.command n.1).0 (rw c.in-Some.is at c.place.ensures.found) in
+    turned_in go.2 s n.1
 
 pub returns-in-Refuse-clause-gone : goal.returns-in-Refuse-clause-gone
 returns-in-Refuse-clause-gone c = λ t l u.
-    let s = its_spot u c.in-Some.spot.0 c.in-Some.spot.1.items c.in-Refuse.node (ap named_node c.in-Refuse.is) (rw c.in-Some.is at c.place.ensures.found) in
-    turned_gone u s (subst (TurnsDown c.in-Refuse.node) (sym c.in-Refuse.is) refl) c.offer_again.new.self c.offer_again.ensures.tree c.offer_again.ensures.place c.offer_again.ensures.shows
-
-pub offer_again-requires-in-Cancel-clause-part : goal.offer_again-requires-in-Cancel-clause-part
-offer_again-requires-in-Cancel-clause-part c =
-    let go = c.requires.may_go in
-    let s = its_spot go.2 c.in-Some.spot.0 c.in-Some.spot.1.items c.in-Cancel.node (ap named_node c.in-Cancel.is) (rw c.in-Some.is at c.place.ensures.found) in
-    turned_part go.2 s (subst (TurnsDown c.in-Cancel.node) (sym c.in-Cancel.is) refl)
-
-pub offer_again-requires-in-Cancel-clause-given_back : goal.offer_again-requires-in-Cancel-clause-given_back
-offer_again-requires-in-Cancel-clause-given_back c =
-    let go = c.requires.may_go in
-    let s = its_spot go.2 c.in-Some.spot.0 c.in-Some.spot.1.items c.in-Cancel.node (ap named_node c.in-Cancel.is) (rw c.in-Some.is at c.place.ensures.found) in
-    turned_there go.2 s (subst (TurnsDown c.in-Cancel.node) (sym c.in-Cancel.is) refl)
-
-pub offer_again-requires-in-Cancel-clause-decided : goal.offer_again-requires-in-Cancel-clause-decided
-offer_again-requires-in-Cancel-clause-decided c =
-    let go = c.requires.may_go in
-    let s = its_spot go.2 c.in-Some.spot.0 c.in-Some.spot.1.items c.in-Cancel.node (ap named_node c.in-Cancel.is) (rw c.in-Some.is at c.place.ensures.found) in
-    turned_in go.2 s (subst (TurnsDown c.in-Cancel.node) (sym c.in-Cancel.is) refl)
-
-pub returns-in-Cancel-clause-gone : goal.returns-in-Cancel-clause-gone
-returns-in-Cancel-clause-gone c = λ t l u.
-    let s = its_spot u c.in-Some.spot.0 c.in-Some.spot.1.items c.in-Cancel.node (ap named_node c.in-Cancel.is) (rw c.in-Some.is at c.place.ensures.found) in
-    turned_gone u s (subst (TurnsDown c.in-Cancel.node) (sym c.in-Cancel.is) refl) c.offer_again-in-Cancel.new.self c.offer_again-in-Cancel.ensures.tree c.offer_again-in-Cancel.ensures.place c.offer_again-in-Cancel.ensures.shows
+    let n = turned_down c.in-Refuse.is in
+    let s = its_spot u c.in-Some.spot.0 c.in-Some.spot.1.items n.0 (turned_names n.0 c.args.undone.now.command n.1).0 (rw c.in-Some.is at c.place.ensures.found) in
+    turned_gone u s n.1 c.offer_again.new.self c.offer_again.ensures.tree c.offer_again.ensures.place c.offer_again.ensures.shows
