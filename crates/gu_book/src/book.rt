@@ -285,12 +285,7 @@ impl Book {
     }
 
     /// Puts an accepted Initiate or Decline at the end of the history, and does to the consents what it says.
-    fn keep_consenting(
-        &mut self,
-        alloc: Global,
-        kept: Entry,
-        number: Number,
-    ) -> Result<(), Memory>
+    fn keep_consenting(&mut self, alloc: Global, kept: Entry, number: Number) -> Result<(), Memory>
         requires consenting { is_consenting kept.command ≡ true }
         requires accepted { answer_to self.old.house self.old.history (call_of kept) ≡ Accepted number kept.status }
         ensures kept { OnOk result (self.new ≡ record self.old { history = self.old.history ++ kept ∷ [] }) }
