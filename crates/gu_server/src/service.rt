@@ -38,6 +38,20 @@ impl Gate for Open {
     }
 }
 
+/// Listens on a port of 127.0.0.1.
+fn listen<R: Net<Stream = TcpStream, Listener = TcpListener>>(
+    rt: &R,
+    port: u16,
+) -> Result<TcpListener, ServiceError> {
+    match TcpListener::bind(rt, (Ipv4Addr::LOCALHOST, port)) {
+        Ok(listener) => Ok(listener),
+        Err(error) => match error.kind() {
+            ErrorKind::OutOfMemory => Err(ServiceError::Serve(ServeError::Memory)),
+            _ => Err(ServiceError::Listen),
+        },
+    }
+}
+
 /// Serves so many connections (0: without end) on a port of 127.0.0.1, by 1 to 16 workers that share an empty book of this house, and gives
 /// the book when all have ended.
 pub(crate) fn serve_port<
@@ -53,17 +67,17 @@ pub(crate) fn serve_port<
     requires { IsTrue (is_worker_count workers) }
     ensures { IfOk result (λ b. IsServed house (stored b)) }
 {
-    let listener = match TcpListener::bind(rt, (Ipv4Addr::LOCALHOST, port)) {
+    let listener = match listen(rt, port) {
         Ok(listener) => listener,
         Err(error) => {
-            return Err(match error.kind() {
-                ErrorKind::OutOfMemory => ServiceError::Serve(ServeError::Memory),
-                _ => ServiceError::Listen,
-            });
+            drop(house);
+            return Err(error);
         }
     };
     let book = Book::new(alloc, house);
-    match serve(rt, alloc, &listener, book, workers, connections, &Open) {
+    let served = serve(rt, alloc, &listener, book, workers, connections, &Open);
+    drop(listener);
+    match served {
         Ok(book) => Ok(book),
         Err(error) => Err(ServiceError::Serve(error)),
     }
