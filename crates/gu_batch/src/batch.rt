@@ -14,6 +14,7 @@ use gu_codec::{Feed, MAX_FRAME_LEN};
 use gu_parties::House;
 use std::alloc::Global;
 use std::io::ErrorKind;
+use std::mem::ManuallyDrop;
 use thiserror::Error;
 
 /// Why a batch ended before its stream did.
@@ -172,6 +173,9 @@ pub(crate) fn answer_stream<R: Source, W: Sink>(
 }
 
 /// Answers the messages of a stream as they come. Whatever was answered before a fault was written.
+///
+/// Where the stream ended well its book is left as it is, and not taken apart node by node: a process that ran a batch ends behind it, and
+/// the system then takes all its memory back at once. So each call keeps the memory of its book.
 pub fn run_batch<R: Source, W: Sink>(
     alloc: Global,
     reader: &mut R,
@@ -183,6 +187,7 @@ pub fn run_batch<R: Source, W: Sink>(
         (record { left = R.remaining reader.new; made = R.made reader.new; reads_failed = R.failed reader.new; contents = W.contents writer.new; writes_failed = W.failed writer.new })
         result }
 {
-    let _answering = answer_stream(alloc, reader, writer, house)?;
+    let answering = answer_stream(alloc, reader, writer, house)?;
+    let _kept = ManuallyDrop::new(answering);
     Ok(())
 }

@@ -4,6 +4,7 @@ use Rattle.std.specs.Prelude.{is_some, option_and_then}
 use Rattle.std.proofs.lemmas.Option.{same_Some}
 use Rattle.gu_base.specs.Numbers.{EntryPart}
 use Rattle.gu_base.specs.Nodes.{node_of, nodes_of}
+use Rattle.gu_base.specs.House.{House}
 use Rattle.gu_base.specs.declared.entry.Record.{Record}
 use Rattle.gu_base.specs.declared.node.Place.{Place}
 use Rattle.gu_base.specs.declared.node.Node.{Node}
@@ -11,13 +12,13 @@ use Rattle.gu_tree.specs.Rose.{Rose, Roses, leaf, parted, no_parts, part_then, h
 use Rattle.gu_tree.specs.Paths.{part_at, node_at, LeadsTo, HasPath}
 use Rattle.gu_tree.specs.Grove.{Grove, tree_of, tree_in, IsPlace, IsSameGrove, HasTree}
 use Rattle.gu_tree.specs.Filing.{slot_of}
-use Rattle.gu_tree.specs.Shown.{IsNodeOf, ArePartsOf, IsTreeOf}
+use Rattle.gu_tree.specs.Shown.{IsNodeOf, ArePartsOf, IsTreeOf, named_node}
 use Rattle.gu_tree.proofs.Along.{its-head}
 use Rattle.gu_tree.proofs.Parts.{some_and}
-use Rattle.gu_book.specs.Filed.{IsFiled}
+use Rattle.gu_book.specs.Filed.{IsFiled, IsNext}
 use Rattle.gu_book.specs.Found.{IsNamedIn, LiesThere, IsFoundThere}
 use Rattle.gu_book.specs.declared.found.Named.{Named}
-use Rattle.gu_book.proofs.Filed.{tree_shown}
+use Rattle.gu_book.proofs.Filed.{Spot, tree_shown, spot, order}
 
 -- the path leads to a node of this name
 abbrev Leads : List ℕ → EntryPart → Option Rose → Type 0
@@ -98,6 +99,11 @@ there_alike old new (Some n) (Some m) p same is = record {
 -- it is a place of the node that a command names
 pub its_place : {g : Grove} (k : Option EntryPart) (o : Option Named) (p : List ℕ) → IsFoundThere g k o p → (n : EntryPart) → k ≡ Some n → (m : Named) → o ≡ Some m → IsPlace g n m.found.trade p
 its_place {g} k o p is n named m e = rw (named, e) at is
+
+-- so that is where the node lies that the next change names
+pub named_spot : {t : House} {l : List Record} {r : Record} {g : Grove} → IsNext t l r g → (o : Option Named) (p : List ℕ) → IsFoundThere g (named_node r.command) o p
+    → (n : EntryPart) → named_node r.command ≡ Some n → (m : Named) → o ≡ Some m → Spot l g m.found.trade p n
+named_spot {r = r} next o p there n named m e = spot next.filed (order next) m.found.trade p n (its_place (named_node r.command) o p there n named m e)
 
 -- and there is one
 pub never_none : (g : Grove) (k : Option EntryPart) (o : Option Named) (p : List ℕ) → IsFoundThere g k o p → (n : EntryPart) → k ≡ Some n → o ≡ None → ⊥

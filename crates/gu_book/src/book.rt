@@ -135,14 +135,8 @@ impl Book {
         let seen = self.nodes_seen(command, &sought.named, &answer);
         self.note(seen);
         match answer {
-            Answer::Accepted { number, status } => {
-                let kept = Entry {
-                    firm: *by,
-                    id: *id,
-                    command: command.copy(alloc)?,
-                    status,
-                };
-                self.keep(alloc, kept, &sought, number)?;
+            Answer::Accepted { .. } => {
+                self.carry_out(alloc, by, id, command, &sought, &answer)?;
                 self.note(seen + visits::nodes_made(command));
                 Ok(answer)
             }
@@ -221,6 +215,37 @@ impl Book {
             Some(other) => Answer::Refused(Refusal::StandsOn(other)),
             None => answer,
         }
+    }
+
+    /// Keeps the command where it is accepted. It is not inlined: each local is zeroed where a function begins, and a call that is
+    /// refused would pay for those of this one.
+    #[inline(never)]
+    fn carry_out(
+        &mut self,
+        alloc: Global,
+        by: &FirmId,
+        id: &AllocId,
+        command: &Command,
+        sought: &Sought,
+        answer: &Answer,
+    ) -> Result<(), Memory>
+        requires named { IsNamedIn (live self.old.history) (named_node command.now) sought.now.named }
+        requires there { LiesThere (live self.old.history) sought.now.named sought.now.path.items }
+        requires answered { answer.now ≡ answer_to self.old.house self.old.history (record { firm = by.now; id = id.now; command = command.now }) }
+        requires accepted { IsTrue (is_accepted answer.now) }
+        ensures kept { OnOk result (self.new ≡ record self.old { history = after self.old.house self.old.history (record { firm = by.now; id = id.now; command = command.now }) }) }
+        ensures unchanged { OnErr result (self.new ≡ self.old) }
+    {
+        let Answer::Accepted { number, status } = *answer else {
+            unreachable!()
+        };
+        let kept = Entry {
+            firm: *by,
+            id: *id,
+            command: command.copy(alloc)?,
+            status,
+        };
+        self.keep(alloc, kept, sought, number)
     }
 
     /// Keeps an accepted command.

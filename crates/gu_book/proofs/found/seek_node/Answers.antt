@@ -4,9 +4,10 @@ use Rattle.std.proofs.lemmas.Option.{same_Some}
 use Rattle.gu_base.specs.Nodes.{node_of}
 use Rattle.gu_base.specs.declared.node.Node.{Node}
 use Rattle.gu_base.proofs.Basics.{none_is_some}
-use Rattle.gu_book.specs.Found.{IsFoundAs}
+use Rattle.gu_book.specs.Found.{IsFoundAs, IsNamedBy}
 use Rattle.gu_book.proofs.FoundAs.{found_none, found_node}
 use Rattle.gu_book.proofs.OnePlace.{has_path, lies_there}
+use Rattle.gu_book.proofs.found.seek_node.Goals.{After-found_at-found}
 use Rattle.gu_book.proofs.found.seek_node.Goals as goal
 
 pub unreachable-requires : goal.unreachable-requires
@@ -23,20 +24,20 @@ returns-in_default-clause-named c = rw c.requires.nothing (sym c.node_of.ensures
 pub returns-in_default-clause-there : goal.returns-in_default-clause-there
 returns-in_default-clause-there c = rw c.requires.nothing tt
 
-pub returns-clause-named : goal.returns-clause-named
-returns-clause-named c =
+-- the node that stands there is the one that the list has under the name
+its_node : (c : After-found_at-found) → IsNamedBy c.args.changes.now c.args.name (Some (record { node = c.in-Some.node; found = c.found_at-found.result }))
+its_node c =
     let l = c.args.changes.now in
     let q = c.found_at-found.ensures.found l c.args.name c.requires.trees (rw c.in-Some-find.is at c.find.ensures.found) in
     let there : node_of l c.args.name ≡ Some c.in-Some.node = sym c.node_of.ensures ∙ c.in-Some.is in
     let one : q.0 ≡ c.in-Some.node = same_Some q.0 c.in-Some.node (sym (found_node q) ∙ there) in
     (there, subst (λ (x : Node). x.name ≡ c.args.name) one q.1, subst (λ (x : Node). IsFoundAs l x c.found_at-found.result) one q.2)
 
+pub returns-clause-named : goal.returns-clause-named
+returns-clause-named c = its_node (goal.at.returns-clause-named c).After-found_at-found
+
 pub returns-clause-there : goal.returns-clause-there
 returns-clause-there c =
-    let l = c.args.changes.now in
-    let q = c.found_at-found.ensures.found l c.args.name c.requires.trees (rw c.in-Some-find.is at c.find.ensures.found) in
-    let there : node_of l c.args.name ≡ Some c.in-Some.node = sym c.node_of.ensures ∙ c.in-Some.is in
-    let one : q.0 ≡ c.in-Some.node = same_Some q.0 c.in-Some.node (sym (found_node q) ∙ there) in
-    let called = subst (λ (x : Node). x.name ≡ c.args.name) one q.1 in
+    let is = its_node (goal.at.returns-clause-there c).After-found_at-found in
     lies_there c.requires.trees.filed c.args.name (record { node = c.in-Some.node; found = c.found_at-found.result }) c.in-Some-find.spot.0 c.in-Some-find.spot.1.items
-    called c.found_at-found.ensures.trade (rw c.in-Some-find.is at c.find.ensures.found)
+    is.1 c.found_at-found.ensures.trade (rw c.in-Some-find.is at c.find.ensures.found)

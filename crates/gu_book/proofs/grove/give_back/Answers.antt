@@ -1,7 +1,6 @@
 use Rattle.gu_tree.specs.Shown.{named_node}
-use Rattle.gu_book.proofs.Filed.{spot, order}
 use Rattle.gu_book.proofs.FiledChanges.{back_names, may_give_back, given_back}
-use Rattle.gu_book.proofs.OnePlace.{its_place, never_none}
+use Rattle.gu_book.proofs.OnePlace.{named_spot, never_none}
 use Rattle.gu_book.proofs.grove.give_back.Goals as goal
 
 pub unreachable-requires : goal.unreachable-requires
@@ -10,8 +9,8 @@ unreachable-requires c = never_none c.args.trees.now (named_node c.args.made.now
 pub give_back-requires-clause-offered : goal.give_back-requires-clause-offered
 give_back-requires-clause-offered c =
     let due = c.requires.due in
-    let s = spot due.2.filed (order due.2) c.in-Some.named.found.trade c.args.sought.now.path.items c.requires.back.0
-    (its_place (named_node c.args.made.now.entry.now.command) c.args.sought.now.named c.args.sought.now.path.items c.requires.there c.requires.back.0 (back_names c.requires.due.2 c.requires.back.0 c.args.state c.args.made.now.entry.now.command c.requires.back.1) c.in-Some.named c.in-Some.is) in
+    let names = back_names due.2 c.requires.back.0 c.args.state c.args.made.now.entry.now.command c.requires.back.1 in
+    let s = named_spot due.2 c.args.sought.now.named c.args.sought.now.path.items c.requires.there c.requires.back.0 names c.in-Some.named c.in-Some.is in
     may_give_back due.2 s c.args.state c.requires.back.1
 
 pub give_back-requires-clause-above : goal.give_back-requires-clause-above
@@ -19,6 +18,6 @@ give_back-requires-clause-above c = let due = c.requires.due in due.2.later
 
 pub returns-clause-follows : goal.returns-clause-follows
 returns-clause-follows c = λ t l next.
-    let s = spot next.filed (order next) c.in-Some.named.found.trade c.args.sought.now.path.items c.requires.back.0
-    (its_place (named_node c.args.made.now.entry.now.command) c.args.sought.now.named c.args.sought.now.path.items c.requires.there c.requires.back.0 (back_names c.requires.due.2 c.requires.back.0 c.args.state c.args.made.now.entry.now.command c.requires.back.1) c.in-Some.named c.in-Some.is) in
+    let names = back_names next c.requires.back.0 c.args.state c.args.made.now.entry.now.command c.requires.back.1 in
+    let s = named_spot next c.args.sought.now.named c.args.sought.now.path.items c.requires.there c.requires.back.0 names c.in-Some.named c.in-Some.is in
     given_back next s c.args.state c.requires.back.1 c.give_back.new.self (record { tree = c.give_back.ensures.tree; place = c.give_back.ensures.place }) c.give_back.ensures.shows

@@ -1,10 +1,37 @@
-use Rattle.std.proofs.Common.{refl, sym, ap, subst}
+use Rattle.std.proofs.Common.{List, refl, sym, ap, subst}
+use Rattle.gu_base.specs.Numbers.{EntryPart}
+use Rattle.gu_base.specs.House.{House}
+use Rattle.gu_base.specs.History.{numbered_as}
+use Rattle.gu_base.specs.declared.entry.Record.{Record}
+use Rattle.gu_book.specs.Filed.{IsFree}
 use Rattle.gu_tree.specs.Shown.{SplitsNode, named_node}
-use Rattle.gu_book.proofs.FreeNodes.{Claims, turned_down, turned_names}
+use Rattle.gu_book.proofs.Filed.{Spot}
 use Rattle.gu_book.specs.TreeRows.{is_trade}
-use Rattle.gu_book.proofs.FreeNodes.{has_place, its_spot, root_alone}
+use Rattle.gu_book.proofs.FreeNodes.{Claims, TurnsDown, turned_down, turned_names, has_place, its_spot, root_alone}
 use Rattle.gu_book.proofs.Gone.{may_unsplit, split_in, free_parts, unsplit_gone, claimed_there, claim_part, claim_in, claim_gone, turned_there, turned_part, turned_in, turned_gone, sapling_there, root_gone}
+use Rattle.gu_book.proofs.grove.undo.Goals.{In-Split, In-Claim, In-Refuse}
 use Rattle.gu_book.proofs.grove.undo.Goals as goal
+
+-- where the node lies that the change names: of a Split, of a Claim, and of what turns an offer down
+split_at : (c : In-Split) → {t : House} {l : List Record} → IsFree t l (numbered_as c.args.number c.args.undone.now) c.args.trees.now
+    → Spot l c.args.trees.now c.in-Some.spot.0 c.in-Some.spot.1.items c.in-Split.node × SplitsNode c.in-Split.node c.args.undone.now.command
+split_at c u = (
+  its_spot u c.in-Some.spot.0 c.in-Some.spot.1.items c.in-Split.node (ap named_node c.in-Split.is) (rw c.in-Some.is at c.place.ensures.found),
+  subst (SplitsNode c.in-Split.node) (sym c.in-Split.is) refl,
+)
+
+claim_at : (c : In-Claim) → {t : House} {l : List Record} → IsFree t l (numbered_as c.args.number c.args.undone.now) c.args.trees.now
+    → Spot l c.args.trees.now c.in-Some.spot.0 c.in-Some.spot.1.items c.in-Claim.node × Claims c.in-Claim.node c.args.undone.now.command
+claim_at c u = (
+  its_spot u c.in-Some.spot.0 c.in-Some.spot.1.items c.in-Claim.node (ap named_node c.in-Claim.is) (rw c.in-Some.is at c.place.ensures.found),
+  subst (Claims c.in-Claim.node) (sym c.in-Claim.is) refl,
+)
+
+turned_at : (c : In-Refuse) → {t : House} {l : List Record} → IsFree t l (numbered_as c.args.number c.args.undone.now) c.args.trees.now
+    → (n : EntryPart) × Spot l c.args.trees.now c.in-Some.spot.0 c.in-Some.spot.1.items n × TurnsDown n c.args.undone.now.command
+turned_at c u =
+    let n = turned_down c.in-Refuse.is in
+    (n.0, its_spot u c.in-Some.spot.0 c.in-Some.spot.1.items n.0 (turned_names n.0 c.args.undone.now.command n.1).0 (rw c.in-Some.is at c.place.ensures.found), n.1)
 
 pub unreachable-requires : goal.unreachable-requires
 unreachable-requires c =
@@ -25,74 +52,37 @@ pub returns-in-Trade-clause-gone : goal.returns-in-Trade-clause-gone
 returns-in-Trade-clause-gone c = λ t l u. root_gone u (ap is_trade c.in-Trade.is) c.uproot.new.self c.uproot.ensures.tree c.uproot.ensures.place
 
 pub unsplit-requires-clause-undecided : goal.unsplit-requires-clause-undecided
-unsplit-requires-clause-undecided c =
-    let go = c.requires.may_go in
-    let s = its_spot go.2 c.in-Some.spot.0 c.in-Some.spot.1.items c.in-Split.node (ap named_node c.in-Split.is) (rw c.in-Some.is at c.place.ensures.found) in
-    may_unsplit go.2 s (subst (SplitsNode c.in-Split.node) (sym c.in-Split.is) refl)
+unsplit-requires-clause-undecided c = let u = c.requires.may_go.2 in let s = split_at (goal.at.unsplit-requires-clause-undecided c).In-Split u in may_unsplit u s.0 s.1
 
 pub unsplit-requires-clause-split : goal.unsplit-requires-clause-split
-unsplit-requires-clause-split c =
-    let go = c.requires.may_go in
-    let s = its_spot go.2 c.in-Some.spot.0 c.in-Some.spot.1.items c.in-Split.node (ap named_node c.in-Split.is) (rw c.in-Some.is at c.place.ensures.found) in
-    split_in go.2 s (subst (SplitsNode c.in-Split.node) (sym c.in-Split.is) refl)
+unsplit-requires-clause-split c = let u = c.requires.may_go.2 in let s = split_at (goal.at.unsplit-requires-clause-split c).In-Split u in split_in u s.0 s.1
 
 pub unsplit-requires-clause-free : goal.unsplit-requires-clause-free
-unsplit-requires-clause-free c =
-    let go = c.requires.may_go in
-    let s = its_spot go.2 c.in-Some.spot.0 c.in-Some.spot.1.items c.in-Split.node (ap named_node c.in-Split.is) (rw c.in-Some.is at c.place.ensures.found) in
-    free_parts go.2 s (subst (SplitsNode c.in-Split.node) (sym c.in-Split.is) refl)
+unsplit-requires-clause-free c = let u = c.requires.may_go.2 in let s = split_at (goal.at.unsplit-requires-clause-free c).In-Split u in free_parts u s.0 s.1
 
 pub returns-in-Split-clause-gone : goal.returns-in-Split-clause-gone
-returns-in-Split-clause-gone c = λ t l u.
-    let s = its_spot u c.in-Some.spot.0 c.in-Some.spot.1.items c.in-Split.node (ap named_node c.in-Split.is) (rw c.in-Some.is at c.place.ensures.found) in
-    unsplit_gone u s (subst (SplitsNode c.in-Split.node) (sym c.in-Split.is) refl) c.unsplit.new.self c.unsplit.ensures.tree c.unsplit.ensures.place c.unsplit.ensures.shows
+returns-in-Split-clause-gone c = λ t l u. let s = split_at (goal.at.returns-in-Split-clause-gone c).In-Split u in unsplit_gone u s.0 s.1 c.unsplit.new.self c.unsplit.ensures.tree c.unsplit.ensures.place c.unsplit.ensures.shows
 
 pub unclaim-requires-clause-part : goal.unclaim-requires-clause-part
-unclaim-requires-clause-part c =
-    let go = c.requires.may_go in
-    let s = its_spot go.2 c.in-Some.spot.0 c.in-Some.spot.1.items c.in-Claim.node (ap named_node c.in-Claim.is) (rw c.in-Some.is at c.place.ensures.found) in
-    claim_part go.2 s (subst (Claims c.in-Claim.node) (sym c.in-Claim.is) refl)
+unclaim-requires-clause-part c = let u = c.requires.may_go.2 in let s = claim_at (goal.at.unclaim-requires-clause-part c).In-Claim u in claim_part u s.0 s.1
 
 pub unclaim-requires-clause-claimed : goal.unclaim-requires-clause-claimed
-unclaim-requires-clause-claimed c =
-    let go = c.requires.may_go in
-    let s = its_spot go.2 c.in-Some.spot.0 c.in-Some.spot.1.items c.in-Claim.node (ap named_node c.in-Claim.is) (rw c.in-Some.is at c.place.ensures.found) in
-    claimed_there go.2 s (subst (Claims c.in-Claim.node) (sym c.in-Claim.is) refl)
+unclaim-requires-clause-claimed c = let u = c.requires.may_go.2 in let s = claim_at (goal.at.unclaim-requires-clause-claimed c).In-Claim u in claimed_there u s.0 s.1
 
 pub unclaim-requires-clause-decided : goal.unclaim-requires-clause-decided
-unclaim-requires-clause-decided c =
-    let go = c.requires.may_go in
-    let s = its_spot go.2 c.in-Some.spot.0 c.in-Some.spot.1.items c.in-Claim.node (ap named_node c.in-Claim.is) (rw c.in-Some.is at c.place.ensures.found) in
-    claim_in go.2 s (subst (Claims c.in-Claim.node) (sym c.in-Claim.is) refl)
+unclaim-requires-clause-decided c = let u = c.requires.may_go.2 in let s = claim_at (goal.at.unclaim-requires-clause-decided c).In-Claim u in claim_in u s.0 s.1
 
 pub returns-in-Claim-clause-gone : goal.returns-in-Claim-clause-gone
-returns-in-Claim-clause-gone c = λ t l u.
-    let s = its_spot u c.in-Some.spot.0 c.in-Some.spot.1.items c.in-Claim.node (ap named_node c.in-Claim.is) (rw c.in-Some.is at c.place.ensures.found) in
-    claim_gone u s (subst (Claims c.in-Claim.node) (sym c.in-Claim.is) refl) c.unclaim.new.self c.unclaim.ensures.tree c.unclaim.ensures.place c.unclaim.ensures.shows
+returns-in-Claim-clause-gone c = λ t l u. let s = claim_at (goal.at.returns-in-Claim-clause-gone c).In-Claim u in claim_gone u s.0 s.1 c.unclaim.new.self c.unclaim.ensures.tree c.unclaim.ensures.place c.unclaim.ensures.shows
 
 pub offer_again-requires-clause-part : goal.offer_again-requires-clause-part
-offer_again-requires-clause-part c =
-    let go = c.requires.may_go in
-    let n = turned_down c.in-Refuse.is in
-    let s = its_spot go.2 c.in-Some.spot.0 c.in-Some.spot.1.items n.0 (turned_names n.0 c.args.undone.now.command n.1).0 (rw c.in-Some.is at c.place.ensures.found) in
-    turned_part go.2 s n.1
+offer_again-requires-clause-part c = let u = c.requires.may_go.2 in let s = turned_at (goal.at.offer_again-requires-clause-part c).In-Refuse u in turned_part u s.1 s.2
 
 pub offer_again-requires-clause-given_back : goal.offer_again-requires-clause-given_back
-offer_again-requires-clause-given_back c =
-    let go = c.requires.may_go in
-    let n = turned_down c.in-Refuse.is in
-    let s = its_spot go.2 c.in-Some.spot.0 c.in-Some.spot.1.items n.0 (turned_names n.0 c.args.undone.now.command n.1).0 (rw c.in-Some.is at c.place.ensures.found) in
-    turned_there go.2 s n.1
+offer_again-requires-clause-given_back c = let u = c.requires.may_go.2 in let s = turned_at (goal.at.offer_again-requires-clause-given_back c).In-Refuse u in turned_there u s.1 s.2
 
 pub offer_again-requires-clause-decided : goal.offer_again-requires-clause-decided
-offer_again-requires-clause-decided c =
-    let go = c.requires.may_go in
-    let n = turned_down c.in-Refuse.is in
-    let s = its_spot go.2 c.in-Some.spot.0 c.in-Some.spot.1.items n.0 (turned_names n.0 c.args.undone.now.command n.1).0 (rw c.in-Some.is at c.place.ensures.found) in
-    turned_in go.2 s n.1
+offer_again-requires-clause-decided c = let u = c.requires.may_go.2 in let s = turned_at (goal.at.offer_again-requires-clause-decided c).In-Refuse u in turned_in u s.1 s.2
 
 pub returns-in-Refuse-clause-gone : goal.returns-in-Refuse-clause-gone
-returns-in-Refuse-clause-gone c = λ t l u.
-    let n = turned_down c.in-Refuse.is in
-    let s = its_spot u c.in-Some.spot.0 c.in-Some.spot.1.items n.0 (turned_names n.0 c.args.undone.now.command n.1).0 (rw c.in-Some.is at c.place.ensures.found) in
-    turned_gone u s n.1 c.offer_again.new.self c.offer_again.ensures.tree c.offer_again.ensures.place c.offer_again.ensures.shows
+returns-in-Refuse-clause-gone c = λ t l u. let s = turned_at (goal.at.returns-in-Refuse-clause-gone c).In-Refuse u in turned_gone u s.1 s.2 c.offer_again.new.self c.offer_again.ensures.tree c.offer_again.ensures.place c.offer_again.ensures.shows
