@@ -4,10 +4,10 @@ use Rattle.std.proofs.lemmas.List.{length-append}
 use Rattle.gu_trace.specs.Reports.{told, entries_for}
 use Rattle.gu_trace.proofs.Within.{run_within}
 use Rattle.gu_trace.proofs.Walk.{rest, filled, filled_start, walk, all_found, full_found, walked_past, walked_on}
-use Rattle.gu_trace.proofs.Each.{reading}
+use Rattle.gu_trace.proofs.Each.{IsReading, reading}
 use Rattle.gu_trace.proofs.Concerned.{one_concerns, one_told, on_err}
 use Rattle.gu_trace.proofs.telling.reports.Goals as goal
-use Rattle.gu_trace.proofs.telling.reports.Goals.{in-Some+in_ok-push-in-Some, in-None}
+use Rattle.gu_trace.proofs.telling.reports.Goals.{After-loop-place, Then-len-eq-MOST_REPORTS, in-Some+in_ok-push-in-Some, in-None}
 
 pub loop-place-init : goal.loop-place-init
 loop-place-init c = record {
@@ -45,47 +45,39 @@ loop-place-preserved c =
       }
     ]
 
-pub returns-clause-value : goal.returns-clause-value
-returns-clause-value c =
+-- what is found once no entry is left
+at_end : (c : After-loop-place) → IsReading c.args.book.now.house c.args.book.now.history c.args.firm.now c.args.after c.loop-place.found.items
+at_end c =
     let past : length c.history-entries.result.now ≤ c.loop-place.place = omega arith in
     let all = rw (c.house-house.ensures, c.house.ensures, c.history-entries.ensures.value) at
     (all_found c.house-house.result c.history-entries.result.now c.args.firm.now c.args.after c.loop-place.place c.loop-place.found.items past c.loop-place.invariant.so_far) in
-    (reading c.args.book.now.house c.args.book.now.history c.args.firm.now c.args.after c.loop-place.found.items c.history-entries.ensures.run all).value
+    reading c.args.book.now.house c.args.book.now.history c.args.firm.now c.args.after c.loop-place.found.items c.history-entries.ensures.run all
+
+-- what is found once there is room for no more
+when_full : (c : Then-len-eq-MOST_REPORTS) → IsReading c.args.book.now.house c.args.book.now.history c.args.firm.now c.args.after c.loop-place.found.items
+when_full c =
+    let full : length c.loop-place.found.items ≡ 100 = omega arith in
+    let all = rw (c.house-house.ensures, c.house.ensures, c.history-entries.ensures.value) at
+    (full_found c.house-house.result c.history-entries.result.now c.args.firm.now c.args.after c.loop-place.place c.loop-place.found.items full c.loop-place.invariant.so_far) in
+    reading c.args.book.now.house c.args.book.now.history c.args.firm.now c.args.after c.loop-place.found.items c.history-entries.ensures.run all
+
+pub returns-clause-value : goal.returns-clause-value
+returns-clause-value c = (at_end c).value
 
 pub returns-clause-each : goal.returns-clause-each
-returns-clause-each c =
-    let past : length c.history-entries.result.now ≤ c.loop-place.place = omega arith in
-    let all = rw (c.house-house.ensures, c.house.ensures, c.history-entries.ensures.value) at
-    (all_found c.house-house.result c.history-entries.result.now c.args.firm.now c.args.after c.loop-place.place c.loop-place.found.items past c.loop-place.invariant.so_far) in
-    (reading c.args.book.now.house c.args.book.now.history c.args.firm.now c.args.after c.loop-place.found.items c.history-entries.ensures.run all).each
+returns-clause-each c = (at_end c).each
 
 pub returns-clause-short : goal.returns-clause-short
-returns-clause-short c =
-    let past : length c.history-entries.result.now ≤ c.loop-place.place = omega arith in
-    let all = rw (c.house-house.ensures, c.house.ensures, c.history-entries.ensures.value) at
-    (all_found c.house-house.result c.history-entries.result.now c.args.firm.now c.args.after c.loop-place.place c.loop-place.found.items past c.loop-place.invariant.so_far) in
-    (reading c.args.book.now.house c.args.book.now.history c.args.firm.now c.args.after c.loop-place.found.items c.history-entries.ensures.run all).short
+returns-clause-short c = (at_end c).short
 
 pub returns-then-len-eq-MOST_REPORTS-clause-value : goal.returns-then-len-eq-MOST_REPORTS-clause-value
-returns-then-len-eq-MOST_REPORTS-clause-value c =
-    let full : length c.loop-place.found.items ≡ 100 = omega arith in
-    let all = rw (c.house-house.ensures, c.house.ensures, c.history-entries.ensures.value) at
-    (full_found c.house-house.result c.history-entries.result.now c.args.firm.now c.args.after c.loop-place.place c.loop-place.found.items full c.loop-place.invariant.so_far) in
-    (reading c.args.book.now.house c.args.book.now.history c.args.firm.now c.args.after c.loop-place.found.items c.history-entries.ensures.run all).value
+returns-then-len-eq-MOST_REPORTS-clause-value c = (when_full c).value
 
 pub returns-then-len-eq-MOST_REPORTS-clause-each : goal.returns-then-len-eq-MOST_REPORTS-clause-each
-returns-then-len-eq-MOST_REPORTS-clause-each c =
-    let full : length c.loop-place.found.items ≡ 100 = omega arith in
-    let all = rw (c.house-house.ensures, c.house.ensures, c.history-entries.ensures.value) at
-    (full_found c.house-house.result c.history-entries.result.now c.args.firm.now c.args.after c.loop-place.place c.loop-place.found.items full c.loop-place.invariant.so_far) in
-    (reading c.args.book.now.house c.args.book.now.history c.args.firm.now c.args.after c.loop-place.found.items c.history-entries.ensures.run all).each
+returns-then-len-eq-MOST_REPORTS-clause-each c = (when_full c).each
 
 pub returns-then-len-eq-MOST_REPORTS-clause-short : goal.returns-then-len-eq-MOST_REPORTS-clause-short
-returns-then-len-eq-MOST_REPORTS-clause-short c =
-    let full : length c.loop-place.found.items ≡ 100 = omega arith in
-    let all = rw (c.house-house.ensures, c.house.ensures, c.history-entries.ensures.value) at
-    (full_found c.house-house.result c.history-entries.result.now c.args.firm.now c.args.after c.loop-place.place c.loop-place.found.items full c.loop-place.invariant.so_far) in
-    (reading c.args.book.now.house c.args.book.now.history c.args.firm.now c.args.after c.loop-place.found.items c.history-entries.ensures.run all).short
+returns-then-len-eq-MOST_REPORTS-clause-short c = (when_full c).short
 
 pub returns-in_err-outcome-clause-memory : goal.returns-in_err-outcome-clause-memory
 returns-in_err-outcome-clause-memory c =
