@@ -1,6 +1,5 @@
-use Rattle.std.proofs.Common.{◌≡◌, ◌+◌, ◌++◌, List, ℕ, length, ap, ◌∙◌, arith}
+use Rattle.std.proofs.Common.{◌≡◌, ◌++◌, List, ap, ◌∙◌, arith}
 use Rattle.gu_session.specs.declared.kept.Entry.{Entry}
-use Rattle.gu_session.specs.Keeping.{total}
 use Rattle.gu_session.proofs.KeptLists.{added_size, added_last}
 use Rattle.gu_session.proofs.kept.KeptMessages.add.Goals as goal
 
