@@ -1,21 +1,19 @@
 -- Running rows of positions, into and out of which holdings go one by one.
 use Rattle.std.proofs.Common.{refl, ◌≡◌, ℕ, ◌+◌, ◌<◌, ◌≤◌, Bool, true, false, ◌&&◌, List, [], ◌∷◌, ◌++◌, length, take, drop, get_or, sym, ◌∙◌, ap, arith, Option, cond, append-nil}
-use Rattle.std.specs.Prelude.{Some, None, filter_map, IfSome, bytes_eq}
+use Rattle.std.specs.Prelude.{Some, None, filter_map, IfSome, bytes_eq, Result, Ok, Err, is_err, OnOk}
 use Rattle.gu_base.specs.declared.command.Side.TheVariants.{Buy, Sell}
 use Rattle.std.proofs.lemmas.Slice.Eq.{bytes_eq-Decides}
 use Rattle.std.specs.List.{cons_option}
 use Rattle.std.proofs.lemmas.List.{take_more}
-use Rattle.std.proofs.lemmas.List.Elements.{All-head, All-tail, All-push, All-weaker, filter_map-append}
+use Rattle.std.proofs.lemmas.List.Elements.{filter_map-append}
 use Rattle.std.proofs.lemmas.List.Sums.{sum_by-cons, sum_by-append}
 use Rattle.gu_base.specs.Positions.{same_side}
 use Rattle.gu_base.specs.declared.command.Side.{Side}
 use Rattle.gu_base.specs.declared.node.Place.{Place}
-use Rattle.gu_positions.specs.Rows.{PositionRows, is_key, IsReady}
+use Rattle.gu_positions.specs.Rows.{PositionRows, lots_in, is_key}
 use Rattle.gu_positions.specs.declared.positions.Key.{Key}
-use Rattle.gu_book.specs.Holdings.{held_at, counted_at, AreReady, CanGo, AllCanGo, HaveGone}
+use Rattle.gu_book.specs.Holdings.{held_at, counted_at, HaveRoom, SameLots, HaveMoved, HaveThere}
 use Rattle.gu_book.specs.declared.plain.holdings.Holding.{Holding}
-use Rattle.gu_book.specs.declared.plain.holdings.Way.{Way}
-use Rattle.gu_book.specs.declared.plain.holdings.Way.TheVariants.{In, Out}
 use Rattle.gu_base.specs.declared.node.Deal.{Deal}
 use Rattle.gu_book.proofs.Steps.{drop_here}
 
@@ -30,10 +28,6 @@ given_more f xs i x within here =
 pub given_here : {X Y : Type 0} (f : X → Option Y) (xs : List X) (i : ℕ) (x : X) → i < length xs → x ≡ get_or xs i x
     → filter_map f (drop i xs) ≡ cons_option (f x) (filter_map f (drop (i + 1) xs))
 given_here f xs i x within here = ap (filter_map f) (drop_here xs i x within here)
-
-pub ready_more : (old new : PositionRows) (hs : List Holding) (h : Holding) → AreReady old hs → ((at : Key) → IsReady old at → IsReady new at) → IsReady new h.key → AreReady new (hs ++ h ∷ [])
-ready_more old new hs h all stays here =
-    All-push (λ (h : Holding). IsReady new h.key) hs h (All-weaker (λ (h : Holding). IsReady old h.key) (λ (h : Holding). IsReady new h.key) (λ h is. stays h.key is) hs all) here
 
 pub some_here : {X Y : Type 0} (f : X → Option Y) (xs : List X) (i : ℕ) (x : X) (y : Y) → i < length xs → x ≡ get_or xs i x → Some y ≡ f x → filter_map f (drop i xs) ≡ y ∷ filter_map f (drop (i + 1) xs)
 some_here f xs i x y within here is = given_here f xs i x within here ∙ ap (λ o. cons_option o (filter_map f (drop (i + 1) xs))) (sym is)
@@ -73,51 +67,82 @@ at_most : (b : Bool) (n : ℕ) → cond b n 0 ≤ n
 at_most true n = omega arith
 at_most false n = omega arith
 
--- where all may go, the first may
-pub can_go : (w : Way) (rows : PositionRows) (h : Holding) (hs : List Holding) → AllCanGo w rows (h ∷ hs) → CanGo w rows h
-can_go In rows h hs room =
-    let sum = sum_by-cons (λ (h : Holding). h.lots) h hs in
-    let fits = room.fits h.key h.side in
-    record { ready = All-head (λ (h : Holding). IsReady rows h.key) h hs room.ready; fits = omega (arith, sum, fits) }
-can_go Out rows h hs there =
+-- where all are there, the first is
+pub first_there : (rows : PositionRows) (h : Holding) (hs : List Holding) → HaveThere rows (h ∷ hs) → h.lots ≤ lots_in rows h.key h.side
+first_there rows h hs there =
     let a = there h.key h.side in
     let b = sum_by-cons (counted_at h.key h.side) h hs in
     let c = ap (λ b. cond b h.lots 0) (is_own_key h.key h.side) in
     omega (arith, a, b, c)
 
--- and once it has gone the others still may
-pub can_still : (w : Way) (old new : PositionRows) (h : Holding) (hs : List Holding) → AllCanGo w old (h ∷ hs) → HaveGone w old new (h ∷ [])
-    → ((at : Key) → IsReady old at → IsReady new at) → AllCanGo w new hs
-can_still In old new h hs room gone stays =
-    let sum = sum_by-cons (λ (h : Holding). h.lots) h hs in
-    record {
-      ready = All-weaker (λ (h : Holding). IsReady old h.key) (λ (h : Holding). IsReady new h.key) (λ h is. stays h.key is) hs (All-tail (λ (h : Holding). IsReady old h.key) h hs room.ready);
-      fits = λ at side.
-          let more = gone at side in
-          let one = sum_by-cons (counted_at at side) h [] in
-          let most = at_most (is_key h.key at && same_side h.side side) h.lots in
-          let fits = room.fits at side in
-          omega (arith, sum, more, one, most, fits);
-    }
-can_still Out old new h hs there gone stays = λ at side.
+-- and once it is taken the others are there still
+pub rest_there : (old new : PositionRows) (h : Holding) (hs : List Holding) → HaveThere old (h ∷ hs) → HaveMoved new old None (h ∷ []) → HaveThere new hs
+rest_there old new h hs there gone = λ at side.
     let a = there at side in
     let b = sum_by-cons (counted_at at side) h hs in
     let c = gone at side in
     let d = sum_by-cons (counted_at at side) h [] in
     omega (arith, a, b, c, d)
 
-pub none_gone : (w : Way) (rows : PositionRows) → HaveGone w rows rows []
-none_gone In rows = λ at side. refl
-none_gone Out rows = λ at side. refl
+-- what one call took is the one holding
+pub one_taken : (old new : PositionRows) (h : Holding) → ((at : Key) (s : Side) → lots_in new at s + cond (is_key h.key at && same_side h.side s) h.lots 0 ≡ lots_in old at s) → HaveMoved new old None (h ∷ [])
+one_taken old new h taken = λ at side.
+    let a = taken at side in
+    let b = sum_by-cons (counted_at at side) h [] in
+    omega (arith, a, b)
 
-pub one_more_gone : (w : Way) (first old new : PositionRows) (hs : List Holding) (h : Holding) → HaveGone w first old hs → HaveGone w old new (h ∷ []) → HaveGone w first new (hs ++ h ∷ [])
-one_more_gone In first old new hs h gone one = λ at side.
+pub none_gone : (rows : PositionRows) → HaveMoved rows rows None []
+none_gone rows = λ at side. refl
+
+pub more_taken : (first old new : PositionRows) (hs more : List Holding) → HaveMoved old first None hs → HaveMoved new old None more → HaveMoved new first None (hs ++ more)
+more_taken first old new hs more gone one = λ at side.
     let a = gone at side in
     let b = one at side in
-    let c = sum_by-append (counted_at at side) hs (h ∷ []) in
+    let c = sum_by-append (counted_at at side) hs more in
     omega (arith, a, b, c)
-one_more_gone Out first old new hs h gone one = λ at side.
-    let a = gone at side in
+
+pub more_put : (first old new : PositionRows) (hs more : List Holding) → HaveMoved first old None hs → HaveMoved old new None more → HaveMoved first new None (hs ++ more)
+more_put first old new hs more put one = λ at side.
+    let a = put at side in
     let b = one at side in
-    let c = sum_by-append (counted_at at side) hs (h ∷ []) in
+    let c = sum_by-append (counted_at at side) hs more in
     omega (arith, a, b, c)
+
+-- what was put is there
+pub put_there : (old new : PositionRows) (hs : List Holding) → HaveMoved old new None hs → HaveThere new hs
+put_there old new hs put = λ at side. let a = put at side in omega (arith, a)
+
+-- what is put and taken out again moves nothing
+pub put_and_taken : (first old new : PositionRows) (hs : List Holding) → HaveMoved first old None hs → HaveMoved new old None hs → SameLots first new
+put_and_taken first old new hs put taken = λ at side.
+    let a = put at side in
+    let b = taken at side in
+    omega (arith, a, b)
+
+-- where all have room, the first has, if there is one
+pub room_first : (rows : PositionRows) (o : Option Holding) (hs : List Holding) → HaveRoom rows (cons_option o hs) → HaveRoom rows (cons_option o [])
+room_first rows None hs room = λ at side. let a = room at side in omega (arith, a)
+room_first rows (Some h) hs room = λ at side.
+    let a = room at side in
+    let b = sum_by-cons (λ (h : Holding). h.lots) h hs in
+    let c = sum_by-cons (λ (h : Holding). h.lots) h [] in
+    omega (arith, a, b, c)
+
+-- and once it is put the others have room still
+pub room_still : (old new : PositionRows) (o : Option Holding) (hs : List Holding) → HaveRoom old (cons_option o hs) → HaveMoved old new None (cons_option o []) → HaveRoom new hs
+room_still old new None hs room put = λ at side.
+    let a = room at side in
+    let b = put at side in
+    omega (arith, a, b)
+room_still old new (Some h) hs room put = λ at side.
+    let sum = sum_by-cons (λ (h : Holding). h.lots) h hs in
+    let more = put at side in
+    let one = sum_by-cons (counted_at at side) h [] in
+    let most = at_most (is_key h.key at && same_side h.side side) h.lots in
+    let fits = room at side in
+    omega (arith, sum, more, one, most, fits)
+
+-- what holds where there is a value
+pub put_ok : {X E P : Type 0} {b : Bool} (r : Result X E) → is_err r ≡ b → b ≡ false → OnOk r P → P
+put_ok (Ok x) is fine p = p
+put_ok (Err e) is fine p = absurd (cc)

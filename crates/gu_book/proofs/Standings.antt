@@ -32,7 +32,7 @@ use Rattle.gu_positions.specs.Sums.{AreSumsOf}
 use Rattle.gu_positions.specs.declared.positions.Key.{Key}
 use Rattle.gu_tree.specs.Grove.{Grove}
 use Rattle.gu_book.specs.Filed.{IsNext}
-use Rattle.gu_book.specs.Holdings.{taken_by, part_holding, added_by, counted_at, taken_at, HasTaken, AreReady, HaveRoom, SameLots, HaveMoved, ArePositionsOf}
+use Rattle.gu_book.specs.Holdings.{taken_by, part_holding, added_by, counted_at, taken_at, HasTaken, HaveRoom, HaveMoved, ArePositionsOf}
 use Rattle.gu_book.specs.Limits.{PartsWithinLimits, IsWithinLimits, AllWithinLimits}
 use Rattle.gu_book.specs.declared.plain.holdings.Holding.{Holding}
 use Rattle.gu_book.proofs.HoldingRows.{is_own_key}
@@ -88,13 +88,14 @@ module _ {t : House} {l : List Record} {r : Record} {ts : Grove} (next : IsNext 
       ≡ position_of l at.firm at.account instrument side + sum_by (counted_at (key_at at instrument) side) (added_by r.firm r.command (taken_by l r.command))
   position_moved = moved_by counted (replay_push t [] l r next.replayed next.lawful)
 
-  pub positions_push : (rows now new : PositionRows) → ArePositionsOf l rows → SameLots rows now → (o : Option Holding) → o ≡ taken_by l r.command → HaveMoved now new o (added_by r.firm r.command o) → ArePositionsOf (l ++ r ∷ []) new
-  positions_push rows now new are same o is moved = record {
+  pub positions_push : (rows now new : PositionRows) → ArePositionsOf l rows → (o : Option Holding) → o ≡ taken_by l r.command → HaveMoved rows now None (added_by r.firm r.command o) → HaveMoved now new o []
+      → ArePositionsOf (l ++ r ∷ []) new
+  positions_push rows now new are o is put taken = record {
     lots = λ at side.
         let place : Place = record { firm = at.firm; account = at.account } in
         let a = are.lots at side in
-        let b = same at side in
-        let c = moved at side in
+        let b = put at side in
+        let c = taken at side in
         let d = position_moved place at.instrument side in
         let e = ap (taken_at at side) is in
         let f = ap (λ o. sum_by (counted_at at side) (added_by r.firm r.command o)) is in
@@ -111,11 +112,11 @@ module _ {t : House} {l : List Record} {r : Record} {ts : Grove} (next : IsNext 
       → taken_at (key_at at instrument) side (taken_by l r.command) ≤ position_of l at.firm at.account instrument side
   taken_there = taken_part (counted next) (replay_push t [] l r next.replayed next.lawful)
 
-  pub has_taken : (rows now : PositionRows) → ArePositionsOf l rows → SameLots rows now → (o : Option Holding) → o ≡ taken_by l r.command → HasTaken now o
-  has_taken rows now are same None is = tt
-  has_taken rows now are same (Some h) is =
+  pub has_taken : (rows now : PositionRows) → ArePositionsOf l rows → (hs : List Holding) → HaveMoved rows now None hs → (o : Option Holding) → o ≡ taken_by l r.command → HasTaken now o
+  has_taken rows now are hs put None is = tt
+  has_taken rows now are hs put (Some h) is =
       let a = are.lots h.key h.side in
-      let b = same h.key h.side in
+      let b = put h.key h.side in
       let c = taken_there (record { firm = h.key.firm; account = h.key.account }) h.key.instrument h.side in
       let d = ap (taken_at h.key h.side) is in
       let e = ap (λ b. cond b h.lots 0) (is_own_key h.key h.side) in
@@ -204,15 +205,11 @@ added_lots by (Initiate _) o h small = omega arith
 added_lots by (Decline _) o h small = omega arith
 added_lots by (Reverse _) o h small = omega arith
 
-pub have_room : {t : House} {l : List Record} {r : Record} {ts : Grove} → IsNext t l r ts → length l ≤ 1000000 → AllWithinLimits l → (rows now : PositionRows) → ArePositionsOf l rows → SameLots rows now
-    → (o : Option Holding) → IfSome o (λ h. h.lots ≤ 10000000) → AreReady now (added_by r.firm r.command o) → HaveRoom now (added_by r.firm r.command o)
-have_room {t} {l} {r} next few all rows now are same o small ready = record {
-  ready = ready;
-  fits = λ at side.
-      let a = are.lots at side in
-      let b = same at side in
-      let c = position_within l all (record { firm = at.firm; account = at.account }) at.instrument side in
-      let d = added_lots r.firm r.command o (accepted_small t l r.firm r.command next.lawful) small in
-      let e : length l * 1000000000 ≤ 1000000 * 1000000000 = mul-le-mul_right 1000000000 few in
-      omega (arith, a, b, c, d, e);
-}
+pub have_room : {t : House} {l : List Record} {r : Record} {ts : Grove} → IsNext t l r ts → length l ≤ 1000000 → AllWithinLimits l → (rows : PositionRows) → ArePositionsOf l rows
+    → (o : Option Holding) → IfSome o (λ h. h.lots ≤ 10000000) → HaveRoom rows (added_by r.firm r.command o)
+have_room {t} {l} {r} next few all rows are o small at side =
+    let a = are.lots at side in
+    let c = position_within l all (record { firm = at.firm; account = at.account }) at.instrument side in
+    let d = added_lots r.firm r.command o (accepted_small t l r.firm r.command next.lawful) small in
+    let e : length l * 1000000000 ≤ 1000000 * 1000000000 = mul-le-mul_right 1000000000 few in
+    omega (arith, a, c, d, e)

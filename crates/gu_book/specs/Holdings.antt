@@ -1,6 +1,5 @@
 -- What stands in accounts, and what a change moves from one to another.
 use Rattle.std.specs.Prelude.{◌≡◌, ℕ, ◌+◌, ◌<◌, ◌≤◌, ◌^◌, ◌&&◌, ◌==◌, if◌then◌else◌, List, [], ◌∷◌, find, filter_map, sum_by, Option, Some, None, option_map, option_and_then, bytes_eq}
-use Rattle.std.specs.List.{All}
 use Rattle.gu_base.specs.Numbers.{EntryPart}
 use Rattle.gu_base.specs.Nodes.{deal_in, node_of, parent}
 use Rattle.gu_base.specs.Places.{place_of, root_of}
@@ -12,11 +11,9 @@ use Rattle.gu_base.specs.declared.command.Command.TheVariants.{Trade, Split, Cla
 use Rattle.gu_base.specs.declared.entry.Record.{Record}
 use Rattle.gu_base.specs.declared.node.Node.{Node}
 use Rattle.gu_base.specs.declared.node.Place.{Place}
-use Rattle.gu_positions.specs.Rows.{PositionRows, lots_in, is_key, IsReady, CanAdd}
+use Rattle.gu_positions.specs.Rows.{PositionRows, lots_in, is_key, IsReady}
 use Rattle.gu_positions.specs.declared.positions.Key.{Key}
 use Rattle.gu_book.specs.declared.plain.holdings.Holding.{Holding}
-use Rattle.gu_book.specs.declared.plain.holdings.Way.{Way}
-use Rattle.gu_book.specs.declared.plain.holdings.Way.TheVariants.{In, Out}
 use Rattle.gu_base.specs.declared.node.Deal.{Deal}
 
 -- what a node's trade trades
@@ -79,14 +76,9 @@ abbrev pub HasTaken : PositionRows → Option Holding → Type 0
 HasTaken rows None = Unit {0}
 HasTaken rows (Some h) = h.lots ≤ lots_in rows h.key h.side
 
--- the rows of these holdings are there
-abbrev pub AreReady : PositionRows → List Holding → Type 0
-AreReady rows hs = All (λ h. IsReady rows h.key) hs
-
--- and each row has room for all of their lots
-pub record HaveRoom (rows : PositionRows) (hs : List Holding) : Type 0 where
-  pub ready : AreReady rows hs
-  pub fits : (at : Key) (side : Side) → lots_in rows at side + sum_by (λ h. h.lots) hs < 2 ^ 64
+-- each row has room for all of these holdings' lots
+abbrev pub HaveRoom : PositionRows → List Holding → Type 0
+HaveRoom rows hs = (at : Key) (side : Side) → lots_in rows at side + sum_by (λ h. h.lots) hs < 2 ^ 64
 
 -- the rows have the same lots
 abbrev pub SameLots : PositionRows → PositionRows → Type 0
@@ -99,21 +91,6 @@ HaveMoved old new taken added = (at : Key) (side : Side) → lots_in new at side
 -- all of these holdings are there
 abbrev pub HaveThere : PositionRows → List Holding → Type 0
 HaveThere rows hs = (at : Key) (side : Side) → sum_by (counted_at at side) hs ≤ lots_in rows at side
-
--- a holding may go this way: its row has room for it, or its lots are there
-abbrev pub CanGo : Way → PositionRows → Holding → Type 0
-CanGo In rows h = CanAdd rows h.key h.side h.lots
-CanGo Out rows h = h.lots ≤ lots_in rows h.key h.side
-
--- all of them may
-abbrev pub AllCanGo : Way → PositionRows → List Holding → Type 0
-AllCanGo In rows hs = HaveRoom rows hs
-AllCanGo Out rows hs = HaveThere rows hs
-
--- they have gone this way
-abbrev pub HaveGone : Way → PositionRows → PositionRows → List Holding → Type 0
-HaveGone In old new hs = HaveMoved old new None hs
-HaveGone Out old new hs = HaveMoved new old None hs
 
 -- the row of what was taken is there, if something was
 abbrev pub IsReadyTaken : PositionRows → Option Holding → Type 0

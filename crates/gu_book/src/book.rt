@@ -274,7 +274,8 @@ impl Book {
         }
     }
 
-    /// Puts an accepted change at the end of the history, and changes its tree. All growths come before anything changes.
+    /// Puts an accepted change at the end of the history, and changes its tree. The lots that it adds are put where they go with the
+    /// growth of their rows, and taken out again where a later growth is refused; all else changes behind the last growth.
     fn keep_change(
         &mut self,
         alloc: Global,
@@ -295,15 +296,18 @@ impl Book {
         let taken = holdings::taken_by(&changes, &sought.named, &kept.command);
         self.entries.reserve(1)?;
         charges::ready(&mut self.fees, &charge)?;
-        holdings::ready(&mut self.positions, &kept.firm, &kept.command, &taken)?;
         self.index.ids.ready()?;
+        holdings::put_added(&mut self.positions, &kept.firm, &kept.command, &taken)?;
         let made = Change {
             number,
             entry: &kept,
         };
-        grove::change(&mut self.trees, alloc, &made, sought)?;
+        if let Err(e) = grove::change(&mut self.trees, alloc, &made, sought) {
+            holdings::take_added(&mut self.positions, &kept.firm, &kept.command, &taken);
+            return Err(e);
+        }
         charges::add(&mut self.fees, &charge);
-        holdings::move_lots(&mut self.positions, &kept.firm, &kept.command, &taken);
+        holdings::take_whole(&mut self.positions, &taken);
         self.index.ids.add(&kept);
         self.entries.push_reserved(kept);
         Ok(())

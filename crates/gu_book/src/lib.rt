@@ -6,7 +6,8 @@
 //! - `Book::apply` answers every call exactly as the rules say at the history, keeps it at the end of the history where it is
 //!   accepted, and leaves house table and history where it is not. `visits` tells what the call cost: no more nodes than its node lies deep,
 //!   its parts, and two.
-//! - `Memory` comes only where the rules accept the call. All growths come before anything changes, so it leaves everything too.
+//! - `Memory` comes only where the rules accept the call. All growths come before anything changes, but for the lots that a change adds;
+//!   they are taken out again. So it leaves everything too.
 //! - `live` gives the numbers of the live changes, `tree_rows` the rows of a live trade's tree. `position` is a running
 //!   row of what stands in an account; `paid`, `received` and `used` are running sums of what the live claims cost. All fit.
 //! - The type keeps that its history is one that calls made of the empty book, that no firm and id stand in it twice, that none of

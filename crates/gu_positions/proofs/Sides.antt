@@ -9,7 +9,7 @@ use Rattle.gu_base.specs.declared.command.Side.{Side}
 use Rattle.gu_base.specs.declared.command.Side.TheVariants.{Buy, Sell}
 use Rattle.gu_positions.specs.declared.positions.Key.{Key}
 use Rattle.gu_positions.specs.declared.positions.Row.{Row}
-use Rattle.gu_positions.specs.Rows.{PositionRows, lots_on, row_at, lots_in, is_key, IsReady, CanAdd}
+use Rattle.gu_positions.specs.Rows.{PositionRows, lots_on, lots_in, is_key, IsReady, CanAdd}
 
 -- the row, if the account has one
 abbrev pub found : PositionRows → Key → Option Row
@@ -114,9 +114,8 @@ lots_absent rows key side none = lots_found (found rows key) None side (sym none
     zero Buy = refl
     zero Sell = refl
 
-pub room_there : (rows : PositionRows) (key : Key) (row : Row) (side : Side) (lots : ℕ) → Some row ≡ found rows key → CanAdd rows key side lots → lots_on side row + lots < 2 ^ 64
-room_there rows key row side lots there can =
-    let fits : lots_in rows key side + lots < 2 ^ 64 = can.fits in
+pub room_there : (rows : PositionRows) (key : Key) (row : Row) (side : Side) (lots : ℕ) → Some row ≡ found rows key → lots_in rows key side + lots < 2 ^ 64 → lots_on side row + lots < 2 ^ 64
+room_there rows key row side lots there fits =
     let same : lots_in rows key side ≡ lots_on side row = lots_there rows key row side there in
     omega (arith, fits, same)
 
@@ -128,7 +127,7 @@ pub can_add_there : (rows : PositionRows) (key : Key) (row : Row) (side : Side) 
 can_add_there rows key row side lots b there room =
     let same : lots_in rows key side ≡ lots_on side row = lots_there rows key row side there in (
       λ h. record { ready = subst (λ (o : Option Row). IsTrue (is_some o)) there refl; fits = let small = room.0 h in omega (arith, small, same) },
-      λ can. room.1 (room_there rows key row side lots there can),
+      λ can. room.1 (room_there rows key row side lots there can.fits),
     )
 
 pub not_ready : (rows : PositionRows) (key : Key) → None ≡ found rows key → IsReady rows key → ⊥

@@ -1,5 +1,5 @@
 //! The positions of a book.
-ghost use Rattle.std.specs.Prelude.{◌≡◌, ◌+◌, ◌<◌, ◌≤◌, ◌^◌, ◌&&◌, ◌++◌, List, [], ◌∷◌, cond, IsTrue, ◌↔◌, OnOk};
+ghost use Rattle.std.specs.Prelude.{◌≡◌, ◌+◌, ◌<◌, ◌≤◌, ◌^◌, ◌&&◌, ◌++◌, List, [], ◌∷◌, cond, IsTrue, ◌↔◌, OnOk, OnErr};
 ghost use Rattle.gu_base.specs.Positions.{same_side};
 ghost use Rattle.gu_base.specs.declared.command.Side.{Side};
 ghost use Rattle.gu_base.specs.declared.command.Side.TheVariants.{Buy, Sell};
@@ -128,6 +128,30 @@ impl Positions {
         if let Some(row) = self.rows.get_mut(key) {
             *row = row.with(side, lots);
         }
+    }
+
+    /// Puts lots into the account, on the side of their trade, and makes its row where there is none. One look finds a row that is
+    /// there.
+    ///
+    /// Its sum has to stay below 2^64.
+    ///
+    /// # Errors
+    ///
+    /// `Memory` where a row was wanted. No sum has changed then.
+    pub fn put(&mut self, key: &Key, side: Side, lots: u64) -> Result<(), Memory>
+        requires { lots_in self.old key.now side + lots < 2 ^ 64 }
+        ensures added { OnOk result ((at : Key) (s : Side) → lots_in self.new at s ≡ lots_in self.old at s + cond (is_key key.now at && same_side side s) lots 0) }
+        ensures same { OnErr result ((at : Key) (s : Side) → lots_in self.new at s ≡ lots_in self.old at s) }
+        ensures stays_ready { (at : Key) → IsReady self.old at → IsReady self.new at }
+        ensures sums { OnOk result ((before after : List Standing) → AreSumsOf self.old (before ++ after) → AreSumsOf self.new (before ++ record { key = key.now; side = side; lots = lots } ∷ after)) }
+    {
+        if let Some(row) = self.rows.get_mut(key) {
+            *row = row.with(side, lots);
+            return Ok(());
+        }
+        self.ready(key)?;
+        self.add(key, side, lots);
+        Ok(())
     }
 
     /// Takes lots out of the account again: what `add` of the same put in.

@@ -1,9 +1,10 @@
 //! The lots that stand in an account, and which of them a change moves.
-ghost use Rattle.std.specs.Prelude.{◌≡◌, ◌≤◌, ◌==◌, ◌∷◌, [], find, filter_map, Some, None, option_and_then, IfSome, OnOk};
+ghost use Rattle.std.specs.Prelude.{◌≡◌, ◌≤◌, ◌==◌, [], length, take, find, filter_map, Some, None, option_and_then, IfSome, OnOk, OnErr};
+ghost use Rattle.std.specs.List.{cons_option};
 ghost use Rattle.gu_base.specs.Nodes.{deal_in, node_of};
 ghost use Rattle.gu_base.specs.Limits.{most_lots};
 ghost use Rattle.gu_book.specs.Found.{AreTreesOf, IsNamedBy, IsNamedIn};
-ghost use Rattle.gu_book.specs.Holdings.{held_at, holding_of, held_above, taken_by, taken_before, part_holding, added_by, HasTaken, AreReady, HaveRoom, SameLots, HaveMoved, HaveThere, IsReadyTaken, HasRoomBack, CanGo, AllCanGo, HaveGone};
+ghost use Rattle.gu_book.specs.Holdings.{held_at, holding_of, held_above, taken_by, taken_before, part_holding, added_by, HasTaken, HaveRoom, SameLots, HaveMoved, HaveThere, IsReadyTaken, HasRoomBack};
 ghost use Rattle.gu_book.specs.Limits.{AllWithinLimits};
 ghost use Rattle.gu_positions.specs.Rows.{IsReady};
 ghost use Rattle.gu_tree.specs.Shown.{named_node};
@@ -15,7 +16,7 @@ use crate::plain::nodes::parent_of;
 use gu_base::{Command, Deal, FirmId, Memory, NodeName, Number, Part, Place, Side};
 use gu_positions::{Key, Positions};
 use gu_tree::Trees;
-use std::alloc::Global;
+use std::alloc::{AllocError, Global};
 
 /// Lots of one instrument and side that stand in an account.
 #[derive(Clone, Copy, Debug)]
@@ -23,13 +24,6 @@ pub(crate) struct Holding {
     key: Key,
     side: Side,
     lots: u64,
-}
-
-/// Which way lots go: into an account, or out of it.
-#[derive(Clone, Copy)]
-enum Way {
-    In,
-    Out,
 }
 
 /// What was traded by the entry of this number.
@@ -179,99 +173,130 @@ fn part_holding(whole: &Holding, by: &FirmId, part: &Part) -> Option<Holding>
     }
 }
 
-/// Makes the rows of the parts. No lots change, not even where memory is refused.
-fn ready_parts(
+/// Puts what a part of the whole holds into its account.
+#[inline(always)]
+fn put_part(
+    positions: &mut Positions,
+    whole: &Holding,
+    by: &FirmId,
+    part: &Part,
+) -> Result<(), Memory>
+    requires { HaveRoom positions.old (cons_option (part_holding whole.now by.now part.now) []) }
+    ensures put { OnOk result (HaveMoved positions.old positions.new None (cons_option (part_holding whole.now by.now part.now) [])) }
+    ensures same { OnErr result (SameLots positions.old positions.new) }
+{
+    match part_holding(whole, by, part) {
+        None => Ok(()),
+        Some(h) => positions.put(&h.key, h.side, h.lots),
+    }
+}
+
+/// Puts the lots of the parts into their accounts, up to the first part for whose row memory is refused. How many parts it put.
+#[inline(always)]
+fn put_parts(positions: &mut Positions, whole: &Holding, by: &FirmId, parts: &[Part]) -> usize
+    requires { HaveRoom positions.old (filter_map (part_holding whole.now by.now) parts.now) }
+    ensures within { result ≤ length parts.now }
+    ensures put { HaveMoved positions.old positions.new None (filter_map (part_holding whole.now by.now) (take result parts.now)) }
+{
+    let mut done = 0;
+    for part in parts {
+        if put_part(positions, whole, by, part).is_err() {
+            return done;
+        }
+        done += 1;
+    }
+    done
+}
+
+/// Takes the lots of the parts out of their accounts.
+fn take_parts(positions: &mut Positions, whole: &Holding, by: &FirmId, parts: &[Part])
+    requires { HaveThere positions.old (filter_map (part_holding whole.now by.now) parts.now) }
+    ensures gone { HaveMoved positions.new positions.old None (filter_map (part_holding whole.now by.now) parts.now) }
+    ensures stays_ready { (at : KeyData) → IsReady positions.old at → IsReady positions.new at }
+{
+    for part in parts {
+        if let Some(h) = part_holding(whole, by, part) {
+            positions.take(&h.key, h.side, h.lots);
+        }
+    }
+}
+
+/// Puts the lots of all parts into their accounts, or those of none where memory is refused.
+#[inline(always)]
+fn put_all(
     positions: &mut Positions,
     whole: &Holding,
     by: &FirmId,
     parts: &[Part],
 ) -> Result<(), Memory>
-    ensures ready { OnOk result (AreReady positions.new (filter_map (part_holding whole.now by.now) parts.now)) }
-    ensures same { SameLots positions.old positions.new }
+    requires { HaveRoom positions.old (filter_map (part_holding whole.now by.now) parts.now) }
+    ensures put { OnOk result (HaveMoved positions.old positions.new None (filter_map (part_holding whole.now by.now) parts.now)) }
+    ensures same { OnErr result (SameLots positions.old positions.new) }
 {
-    for part in parts {
-        if let Some(h) = part_holding(whole, by, part) {
-            positions.ready(&h.key)?;
-        }
+    let done = put_parts(positions, whole, by, parts);
+    if done < parts.len() {
+        take_parts(positions, whole, by, &parts[..done]);
+        return Err(AllocError);
     }
     Ok(())
 }
 
-/// Makes the rows into which a command puts lots, where it takes these. No lots change, not even where memory is refused.
-pub(crate) fn ready(
+/// Puts the lots that a command adds into their accounts, where it takes these, and makes the rows that aren't there. The rows have
+/// to have room. No lots change where memory is refused.
+#[inline(always)]
+pub(crate) fn put_added(
     positions: &mut Positions,
     by: &FirmId,
     command: &Command,
     taken: &Option<Holding>,
 ) -> Result<(), Memory>
-    ensures ready { OnOk result (AreReady positions.new (added_by by.now command.now taken.now)) }
-    ensures same { SameLots positions.old positions.new }
+    requires { HaveRoom positions.old (added_by by.now command.now taken.now) }
+    ensures put { OnOk result (HaveMoved positions.old positions.new None (added_by by.now command.now taken.now)) }
+    ensures same { OnErr result (SameLots positions.old positions.new) }
 {
     match command {
         Command::Trade {
             firm,
             account,
             instrument,
-            ..
-        } => positions.ready(&Key {
-            firm: *firm,
-            account: *account,
-            instrument: *instrument,
-        }),
+            side,
+            lots,
+        } => {
+            let key = Key {
+                firm: *firm,
+                account: *account,
+                instrument: *instrument,
+            };
+            positions.put(&key, *side, *lots)
+        }
         Command::Split { parts, .. } => match taken {
             None => Ok(()),
-            Some(whole) => ready_parts(positions, whole, by, parts.as_slice()),
+            Some(whole) => put_all(positions, whole, by, parts.as_slice()),
         },
         Command::Claim { account, .. } => match taken {
             None => Ok(()),
-            Some(whole) => positions.ready(&Key {
-                firm: *by,
-                account: *account,
-                instrument: whole.key.instrument,
-            }),
+            Some(whole) => {
+                let key = Key {
+                    firm: *by,
+                    account: *account,
+                    instrument: whole.key.instrument,
+                };
+                positions.put(&key, whole.side, whole.lots)
+            }
         },
         _ => Ok(()),
     }
 }
 
-/// Puts one holding into its account, or takes it out.
-#[inline(always)]
-fn move_one(positions: &mut Positions, way: Way, h: &Holding)
-    requires { CanGo way positions.old h.now }
-    ensures gone { HaveGone way positions.old positions.new (h.now ∷ []) }
-    ensures stays_ready { (at : KeyData) → IsReady positions.old at → IsReady positions.new at }
-{
-    match way {
-        Way::In => positions.add(&h.key, h.side, h.lots),
-        Way::Out => positions.take(&h.key, h.side, h.lots),
-    }
-}
-
-/// Puts the lots of the parts into their accounts, or takes them out.
-#[inline(always)]
-fn move_parts(positions: &mut Positions, way: Way, whole: &Holding, by: &FirmId, parts: &[Part])
-    requires { AllCanGo way positions.old (filter_map (part_holding whole.now by.now) parts.now) }
-    ensures gone { HaveGone way positions.old positions.new (filter_map (part_holding whole.now by.now) parts.now) }
-    ensures stays_ready { (at : KeyData) → IsReady positions.old at → IsReady positions.new at }
-{
-    for part in parts {
-        if let Some(h) = part_holding(whole, by, part) {
-            move_one(positions, way, &h);
-        }
-    }
-}
-
-/// Puts the lots that a command adds into their accounts, or takes them out.
-#[inline(always)]
-fn move_added(
+/// Takes the lots that a command adds out of their accounts.
+pub(crate) fn take_added(
     positions: &mut Positions,
-    way: Way,
     by: &FirmId,
     command: &Command,
     taken: &Option<Holding>,
 )
-    requires { AllCanGo way positions.old (added_by by.now command.now taken.now) }
-    ensures gone { HaveGone way positions.old positions.new (added_by by.now command.now taken.now) }
+    requires { HaveThere positions.old (added_by by.now command.now taken.now) }
+    ensures gone { HaveMoved positions.new positions.old None (added_by by.now command.now taken.now) }
     ensures stays_ready { (at : KeyData) → IsReady positions.old at → IsReady positions.new at }
 {
     match command {
@@ -287,16 +312,11 @@ fn move_added(
                 account: *account,
                 instrument: *instrument,
             };
-            let traded = Holding {
-                key,
-                side: *side,
-                lots: *lots,
-            };
-            move_one(positions, way, &traded);
+            positions.take(&key, *side, *lots);
         }
         Command::Split { parts, .. } => {
             if let Some(whole) = taken {
-                move_parts(positions, way, whole, by, parts.as_slice());
+                take_parts(positions, whole, by, parts.as_slice());
             }
         }
         Command::Claim { account, .. } => {
@@ -306,34 +326,21 @@ fn move_added(
                     account: *account,
                     instrument: whole.key.instrument,
                 };
-                let claimed = Holding {
-                    key,
-                    side: whole.side,
-                    lots: whole.lots,
-                };
-                move_one(positions, way, &claimed);
+                positions.take(&key, whole.side, whole.lots);
             }
         }
         _ => {}
     }
 }
 
-/// Moves what a command moves: takes these lots out of their account, and puts those of the command into theirs. The rows have to
-/// be ready and to have room.
-pub(crate) fn move_lots(
-    positions: &mut Positions,
-    by: &FirmId,
-    command: &Command,
-    taken: &Option<Holding>,
-)
-    requires there { HasTaken positions.old taken.now }
-    requires room { HaveRoom positions.old (added_by by.now command.now taken.now) }
-    ensures { HaveMoved positions.old positions.new taken.now (added_by by.now command.now taken.now) }
+/// Takes what a command takes out of its account.
+pub(crate) fn take_whole(positions: &mut Positions, taken: &Option<Holding>)
+    requires { HasTaken positions.old taken.now }
+    ensures { HaveMoved positions.old positions.new taken.now [] }
 {
     if let Some(h) = taken {
-        move_one(positions, Way::Out, h);
+        positions.take(&h.key, h.side, h.lots);
     }
-    move_added(positions, Way::In, by, command, taken);
 }
 
 /// Makes the row out of which a command took lots. No lots change, not even where memory is refused.
@@ -359,8 +366,8 @@ pub(crate) fn move_back(
     requires room { HasRoomBack positions.old taken.now (added_by by.now command.now taken.now) }
     ensures { HaveMoved positions.new positions.old taken.now (added_by by.now command.now taken.now) }
 {
-    move_added(positions, Way::Out, by, command, taken);
+    take_added(positions, by, command, taken);
     if let Some(h) = taken {
-        move_one(positions, Way::In, h);
+        positions.add(&h.key, h.side, h.lots);
     }
 }

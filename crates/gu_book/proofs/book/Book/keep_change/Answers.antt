@@ -5,8 +5,9 @@ use Rattle.gu_base.proofs.LiveLaws.{change_is_no_reverse}
 use Rattle.gu_base.proofs.Passing.{refusal_parts}
 use Rattle.gu_tree.specs.Shown.{named_node}
 use Rattle.gu_book.specs.Charging.{AreFeesOf}
-use Rattle.gu_book.specs.Holdings.{ArePositionsOf}
+use Rattle.gu_book.specs.Holdings.{added_by, ArePositionsOf}
 use Rattle.gu_book.proofs.Charging.{fees_push, has_room}
+use Rattle.gu_book.proofs.HoldingRows.{put_there, put_and_taken}
 use Rattle.gu_book.proofs.Indexed.{index_same, ids_few, ids_fewer, index_added}
 use Rattle.gu_book.proofs.Keeps.{next_kept, kept_change, kept_alike, live_few, live_more}
 use Rattle.gu_book.proofs.Leaves.{live_rises}
@@ -43,20 +44,24 @@ add-requires c =
     has_room c.self.inside.house (live c.self.inside.entries.items) c.self.inside.fees c.self.invariant.charged within c.ready.new.fees c.in_ok-ready.ensures.same c.charge_of-charge.result
     c.charge_of-charge.ensures.lots c.charge_of-charge.ensures.rate c.in_ok-ready.ensures.ready
 
-pub move_lots-requires-clause-there : goal.move_lots-requires-clause-there
-move_lots-requires-clause-there c =
-    let ok = rw (← c.self.view_is) at c.requires.accepted in
-    let next = next_kept c.self.invariant.kept c.args.number c.args.kept ok c.requires.change in
-    has_taken next c.self.inside.positions c.ready-2.new.positions c.self.invariant.stands c.in_ok-ready-2.ensures.same c.taken_by-taken.result (rw (c.of-changes.ensures, c.as_slice.ensures.value) at c.taken_by-taken.ensures.value)
-
-pub move_lots-requires-clause-room : goal.move_lots-requires-clause-room
-move_lots-requires-clause-room c =
+pub put_added-requires : goal.put_added-requires
+put_added-requires c =
     let ok = rw (← c.self.view_is) at c.requires.accepted in
     let next = next_kept c.self.invariant.kept c.args.number c.args.kept ok c.requires.change in
     let few = c.self.invariant.kept.few in
     let fewer = live_few c.self.inside.entries.items in
     let within : length (live c.self.inside.entries.items) ≤ 1000000 = omega (arith, few, fewer) in
-    have_room next within c.self.invariant.kept.within c.self.inside.positions c.ready-2.new.positions c.self.invariant.stands c.in_ok-ready-2.ensures.same c.taken_by-taken.result c.taken_by-taken.ensures.lots c.in_ok-ready-2.ensures.ready
+    have_room next within c.self.invariant.kept.within c.self.inside.positions c.self.invariant.stands c.taken_by-taken.result c.taken_by-taken.ensures.lots
+
+pub take_added-requires : goal.take_added-requires
+take_added-requires c = put_there c.self.inside.positions c.put_added.new.positions (added_by c.args.kept.firm c.args.kept.command c.taken_by-taken.result) c.in_ok-put_added.ensures.put
+
+pub take_whole-requires : goal.take_whole-requires
+take_whole-requires c =
+    let ok = rw (← c.self.view_is) at c.requires.accepted in
+    let next = next_kept c.self.invariant.kept c.args.number c.args.kept ok c.requires.change in
+    has_taken next c.self.inside.positions c.put_added.new.positions c.self.invariant.stands (added_by c.args.kept.firm c.args.kept.command c.taken_by-taken.result) c.in_ok-put_added.ensures.put c.taken_by-taken.result
+    (rw (c.of-changes.ensures, c.as_slice.ensures.value) at c.taken_by-taken.ensures.value)
 
 pub invariant_of-self-2 : goal.invariant_of-self-2
 invariant_of-self-2 c =
@@ -65,29 +70,33 @@ invariant_of-self-2 c =
     let more = live_more c.self.invariant.kept c.args.number c.args.kept ok c.requires.change in
     simp (c.push_reserved.ensures.items, c.reserve.ensures.items)
     (record {
-      kept = kept_change c.self.invariant.kept c.args.number c.args.kept ok c.requires.change c.change.new.trees (c.in_ok-change.ensures.follows c.self.inside.house (live c.self.inside.entries.items) next) c.in_ok-change.ensures.last;
-      indexed = index_added c.self.invariant.indexed c.self.inside.house c.args.kept c.args.number ok c.add-2.new.self (c.add-2.ensures c.self.inside.entries.items (c.in_ok-ready-3.ensures.same c.self.inside.entries.items c.self.invariant.indexed.ids.chained)) (λ m. change_is_no_reverse m c.args.kept.command c.requires.change);
+      kept = kept_change c.self.invariant.kept c.args.number c.args.kept ok c.requires.change c.change.new.trees (c.in_default.ensures.follows c.self.inside.house (live c.self.inside.entries.items) next) c.in_default.ensures.last;
+      indexed = index_added c.self.invariant.indexed c.self.inside.house c.args.kept c.args.number ok c.add-2.new.self (c.add-2.ensures c.self.inside.entries.items (c.in_ok-ready-2.ensures.same c.self.inside.entries.items c.self.invariant.indexed.ids.chained)) (λ m. change_is_no_reverse m c.args.kept.command c.requires.change);
       charged = subst (λ (l : List Record). AreFeesOf c.self.inside.house l c.add.new.fees) more
           (fees_push next c.self.inside.fees c.ready.new.fees c.add.new.fees c.self.invariant.charged c.in_ok-ready.ensures.same c.charge_of-charge.result
           (rw (c.of-changes.ensures, c.as_slice.ensures.value) at c.charge_of-charge.ensures.value) c.charge_of-charge.ensures.lots c.charge_of-charge.ensures.rate c.add.ensures);
-      stands = subst (λ (l : List Record). ArePositionsOf l c.move_lots.new.positions) more
-          (positions_push next c.self.inside.positions c.ready-2.new.positions c.move_lots.new.positions c.self.invariant.stands c.in_ok-ready-2.ensures.same c.taken_by-taken.result
-          (rw (c.of-changes.ensures, c.as_slice.ensures.value) at c.taken_by-taken.ensures.value) c.move_lots.ensures);
+      stands = subst (λ (l : List Record). ArePositionsOf l c.take_whole.new.positions) more
+          (positions_push next c.self.inside.positions c.put_added.new.positions c.take_whole.new.positions c.self.invariant.stands c.taken_by-taken.result
+          (rw (c.of-changes.ensures, c.as_slice.ensures.value) at c.taken_by-taken.ensures.value) c.in_ok-put_added.ensures.put c.take_whole.ensures);
     })
 
-pub ready-requires-3 : goal.ready-requires-3
-ready-requires-3 c = ids_few c.self.invariant.indexed c.self.invariant.kept.few
+pub ready-requires-2 : goal.ready-requires-2
+ready-requires-2 c = ids_few c.self.invariant.indexed c.self.invariant.kept.few
 
 pub add-requires-2-clause-few : goal.add-requires-2-clause-few
 add-requires-2-clause-few c =
-    ids_fewer c.self.inside.entries.items c.ready-3.new.self (c.in_ok-ready-3.ensures.same c.self.inside.entries.items c.self.invariant.indexed.ids.chained) c.self.inside.house c.args.kept c.args.number (rw (← c.self.view_is) at c.requires.accepted)
+    ids_fewer c.self.inside.entries.items c.ready-2.new.self (c.in_ok-ready-2.ensures.same c.self.inside.entries.items c.self.invariant.indexed.ids.chained) c.self.inside.house c.args.kept c.args.number (rw (← c.self.view_is) at c.requires.accepted)
 
-pub invariant_of-self-in_err-change : goal.invariant_of-self-in_err-change
-invariant_of-self-in_err-change c =
+pub invariant_of-self-in-Err : goal.invariant_of-self-in-Err
+invariant_of-self-in-Err c =
     simp (c.reserve.ensures.items)
     (record {
-      kept = kept_alike c.self.invariant.kept c.change.new.trees c.in_err-change.ensures.unchanged;
-      indexed = index_same c.self.invariant.indexed c.ready-3.new.self (c.in_ok-ready-3.ensures.same c.self.inside.entries.items c.self.invariant.indexed.ids.chained);
+      kept = kept_alike c.self.invariant.kept c.change.new.trees c.in-Err.ensures.unchanged;
+      indexed = index_same c.self.invariant.indexed c.ready-2.new.self (c.in_ok-ready-2.ensures.same c.self.inside.entries.items c.self.invariant.indexed.ids.chained);
       charged = record { sums = c.in_ok-ready.ensures.same _ c.self.invariant.charged.sums; small = c.self.invariant.charged.small };
-      stands = record { lots = λ at_key side. c.in_ok-ready-2.ensures.same at_key side ∙ c.self.invariant.stands.lots at_key side };
+      stands = record {
+        lots = λ at_key side.
+            put_and_taken c.self.inside.positions c.put_added.new.positions c.take_added.new.positions (added_by c.args.kept.firm c.args.kept.command c.taken_by-taken.result) c.in_ok-put_added.ensures.put c.take_added.ensures.gone at_key side
+            ∙ c.self.invariant.stands.lots at_key side;
+      };
     })

@@ -8,7 +8,7 @@ use Rattle.gu_positions.proofs.positions.Positions.add.Goals as goal
 use Rattle.gu_positions.proofs.positions.Positions.add.Goals.{in-Some, in_default}
 
 pub with-requires : goal.with-requires
-with-requires c = room_there c.self.inside.rows.entries c.args.key.now c.in-Some.row.now c.args.side c.args.lots c.in-Some.ensures.value (rw (← c.self.view_is) at c.requires)
+with-requires c = room_there c.self.inside.rows.entries c.args.key.now c.in-Some.row.now c.args.side c.args.lots c.in-Some.ensures.value (rw (← c.self.view_is) at c.requires).fits
 
 pub returns-clause-added : goal.returns-clause-added
 returns-clause-added c =
