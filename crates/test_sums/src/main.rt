@@ -69,6 +69,19 @@ fn tell_positions(rt: &impl Print, alloc: Global, key: &Key) -> io::Result<()> {
     println!(rt; "long {long}, short {short}")
 }
 
+/// Writes what stands where lots are put without a row, and then into a row.
+fn tell_put(rt: &impl Print, alloc: Global, key: &Key) -> io::Result<()> {
+    let mut positions = Positions::new(alloc);
+    if positions.of(key).0 <= 1_000 {
+        positions.put(key, Side::Buy, 70)?;
+    }
+    if positions.of(key).0 <= 1_000 {
+        positions.put(key, Side::Buy, 5)?;
+    }
+    let (long, short) = positions.of(key);
+    println!(rt; "put without a row, then into it: long {long}, short {short}")
+}
+
 fn main(rt: HostRuntime) -> io::Result<()> {
     let alloc = rt.alloc();
     tell_sums(&rt, alloc)?;
@@ -80,13 +93,11 @@ fn main(rt: HostRuntime) -> io::Result<()> {
     else {
         return println!(rt; "no names");
     };
-    tell_positions(
-        &rt,
-        alloc,
-        &Key {
-            firm,
-            account,
-            instrument,
-        },
-    )
+    let key = Key {
+        firm,
+        account,
+        instrument,
+    };
+    tell_positions(&rt, alloc, &key)?;
+    tell_put(&rt, alloc, &key)
 }
