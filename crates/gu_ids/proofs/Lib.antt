@@ -1,4 +1,5 @@
 pub mod Linked
 pub mod Links
+pub mod Marked
 pub mod NewestLaws
 pub mod Walk

@@ -3,7 +3,8 @@ use Rattle.std.proofs.Common.{◌≡◌, ◌≤◌, ◌<◌, ◌⊎◌, inl, inr
 use Rattle.std.specs.Prelude.{slice_index_or}
 use Rattle.std.proofs.lemmas.Bool.Decides.{eqb_tells}
 use Rattle.std.proofs.lemmas.List.{get_or-set_same, get_or-set_other, length-set}
-use Rattle.gu_ids.specs.Chains.{bucket_of, is_in, AreChains}
+use Rattle.gu_ids.specs.Chains.{is_in, AreChains}
+use Rattle.gu_ids.specs.Marks.{bucket_of}
 use Rattle.gu_ids.specs.Newest.{newest}
 use Rattle.gu_ids.proofs.NewestLaws.{newest_same}
 

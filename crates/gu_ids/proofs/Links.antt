@@ -4,7 +4,8 @@ use Rattle.std.specs.Prelude.{slice_index_or}
 use Rattle.std.proofs.lemmas.List.{get_or-map, get_or_push, get_or_append_left, get_or-set_same, get_or-set_other, map-set}
 use Rattle.std.proofs.Math.Seq.{map-set_same}
 use Rattle.gu_ids.specs.declared.ids.Link.{Link}
-use Rattle.gu_ids.specs.Chains.{bucket_of, hashes_of, befores_of, AreChains}
+use Rattle.gu_ids.specs.Chains.{hashes_of, befores_of, AreChains}
+use Rattle.gu_ids.specs.Marks.{bucket_of}
 use Rattle.gu_ids.proofs.Linked.{linked_as}
 
 pub map_push : {X Y : Type 0} (f : X → Y) (xs : List X) (y : X) → map f (xs ++ y ∷ []) ≡ map f xs ++ f y ∷ []

@@ -10,6 +10,11 @@ newest_same p q zero same = refl
 newest_same p q (suc k) same =
     ap (λ b. cond b (suc k) (newest p k)) (same k (omega arith)) ∙ ap (λ n. cond (q k) (suc k) n) (newest_same p q k (λ j within. same j (omega (arith, within))))
 
+pub newest_none : (p : ℕ → Bool) (k : ℕ) → ((j : ℕ) → j < k → p j ≡ false) → newest p k ≡ 0
+newest_none p zero none = refl
+newest_none p (suc k) none =
+    ap (λ b. cond b (suc k) (newest p k)) (none k (omega arith)) ∙ newest_none p k (λ j within. none j (omega (arith, within)))
+
 within_by : (b : Bool) (k n : ℕ) → n ≤ k → cond b (suc k) n ≤ suc k
 within_by true k n e = omega arith
 within_by false k n e = omega (arith, e)

@@ -1,6 +1,6 @@
 -- The way along a chain, from an entry to the one before it in its bucket.
 use Rattle.std.proofs.Common.{◌≡◌, ◌≤◌, ◌<◌, ℕ, zero, suc, Bool, true, false, cond, ◌&&◌, List, [], ◌∷◌, length, map, sym, ◌∙◌, ap, subst, arith, eqb}
-use Rattle.std.specs.Prelude.{Some, slice_index_or, bytes_eq}
+use Rattle.std.specs.Prelude.{Some, None, slice_index_or, bytes_eq}
 use Rattle.std.proofs.lemmas.Bool.{and_parts, eq-eqb, eqb-true}
 use Rattle.std.proofs.lemmas.List.{get_or-map}
 use Rattle.std.proofs.lemmas.Slice.Eq.{bytes_eq-Decides}
@@ -8,10 +8,11 @@ use Rattle.std.specs.declared.hash.FoldHasher.{FoldHasher}
 use Rattle.gu_base.specs.declared.entry.Entry.{Entry}
 use Rattle.gu_ids.specs.declared.ids.Ids.{Ids}
 use Rattle.gu_ids.specs.declared.ids.Link.{Link}
-use Rattle.gu_ids.specs.Chains.{hash_of, bucket_of, hashes_of, befores_of, is_in, AreIdsOf, count}
+use Rattle.gu_ids.specs.Chains.{hash_of, hashes_of, befores_of, newests_of, is_in, AreIdsOf, count}
+use Rattle.gu_ids.specs.Marks.{bucket_of, bears, marks_of}
 use Rattle.gu_ids.specs.Newest.{newest, is_of, is_at, unless_zero, newest_of}
 use Rattle.gu_ids.proofs.Links.{length_map}
-use Rattle.gu_ids.proofs.NewestLaws.{newest_within, newest_again, newest_there, newest_skips, fails_too}
+use Rattle.gu_ids.proofs.NewestLaws.{newest_within, newest_again, newest_there, newest_skips, newest_none, fails_too}
 
 -- as many entries are kept as the history has
 pub count_is : (ids : Ids) (h : List Entry) → AreIdsOf ids h → count ids ≡ length h
@@ -29,7 +30,7 @@ same_hash hasher firm id (d ∷ h) (suc j) e = same_hash hasher firm id h j e
 
 -- the places of the entries that share the bucket of this firm and id
 abbrev pub chain : Ids → List ℕ → List ℕ → ℕ → Bool
-chain ids firm id = is_in (hashes_of ids.links.items) (length ids.heads.items) (bucket_of (hash_of ids.hasher firm id) (length ids.heads.items))
+chain ids firm id = is_in (hashes_of ids.links.items) (length (newests_of ids.heads.items)) (bucket_of (hash_of ids.hasher firm id) (length (newests_of ids.heads.items)))
 
 -- where a walk stands at a number: no entry above it has the firm and id, and it is of their chain
 pub record Stands (ids : Ids) (h : List Entry) (firm id : List ℕ) (number : ℕ) : Type 0 where
@@ -42,13 +43,13 @@ both_true a b x y = ap (λ c. c && b) x ∙ y
 
 module _ (ids : Ids) (h : List Entry) (firm id : List ℕ) (are : AreIdsOf ids h) where
   in_chain : (j : ℕ) → is_at h firm id j ≡ true → (chain ids firm id) j ≡ true
-  in_chain j e = eq-eqb (bucket_of (slice_index_or (hashes_of ids.links.items) j 0) (length ids.heads.items)) (bucket_of (hash_of ids.hasher firm id) (length ids.heads.items))
-      (ap (λ l. bucket_of (slice_index_or l j 0) (length ids.heads.items)) are.hashes ∙ ap (λ x. bucket_of x (length ids.heads.items)) (same_hash ids.hasher firm id h j e))
+  in_chain j e = eq-eqb (bucket_of (slice_index_or (hashes_of ids.links.items) j 0) (length (newests_of ids.heads.items))) (bucket_of (hash_of ids.hasher firm id) (length (newests_of ids.heads.items)))
+      (ap (λ l. bucket_of (slice_index_or l j 0) (length (newests_of ids.heads.items))) are.hashes ∙ ap (λ x. bucket_of x (length (newests_of ids.heads.items))) (same_hash ids.hasher firm id h j e))
 
-  pub walk_begins : bucket_of (hash_of ids.hasher firm id) (length ids.heads.items) < length ids.heads.items → (number : ℕ)
-      → number ≡ slice_index_or ids.heads.items (bucket_of (hash_of ids.hasher firm id) (length ids.heads.items)) 0 → Stands ids h firm id number
+  pub walk_begins : bucket_of (hash_of ids.hasher firm id) (length (newests_of ids.heads.items)) < length (newests_of ids.heads.items) → (number : ℕ)
+      → number ≡ slice_index_or (newests_of ids.heads.items) (bucket_of (hash_of ids.hasher firm id) (length (newests_of ids.heads.items))) 0 → Stands ids h firm id number
   walk_begins within number is =
-      let head : number ≡ newest (chain ids firm id) (length h) = is ∙ (are.chains.head (bucket_of (hash_of ids.hasher firm id) (length ids.heads.items)) within ∙ ap (newest (chain ids firm id)) (count_is ids h are)) in
+      let head : number ≡ newest (chain ids firm id) (length h) = is ∙ (are.chains.head (bucket_of (hash_of ids.hasher firm id) (length (newests_of ids.heads.items))) within ∙ ap (newest (chain ids firm id)) (count_is ids h are)) in
       subst (Stands ids h firm id) (sym head) (record {
         so_far = sym (newest_skips (is_at h firm id) (chain ids firm id) (length h) in_chain);
         within = newest_within (chain ids firm id) (length h);
@@ -61,8 +62,8 @@ module _ (ids : Ids) (h : List Entry) (firm id : List ℕ) (are : AreIdsOf ids h
     before_it =
         let within = at.within in
         are.chains.before k (let many = count_is ids h are in omega (arith, within, many))
-        ∙ ap (λ b. newest (is_in (hashes_of ids.links.items) (length ids.heads.items) b) k)
-        (eqb-true (bucket_of (slice_index_or (hashes_of ids.links.items) k 0) (length ids.heads.items)) (bucket_of (hash_of ids.hasher firm id) (length ids.heads.items)) (newest_there (chain ids firm id) k at.chained))
+        ∙ ap (λ b. newest (is_in (hashes_of ids.links.items) (length (newests_of ids.heads.items)) b) k)
+        (eqb-true (bucket_of (slice_index_or (hashes_of ids.links.items) k 0) (length (newests_of ids.heads.items))) (bucket_of (hash_of ids.hasher firm id) (length (newests_of ids.heads.items))) (newest_there (chain ids firm id) k at.chained))
 
     pub walk_goes_on : (number : ℕ) → number ≡ slice_index_or (befores_of ids.links.items) k 0 → is_at h firm id k ≡ false → Stands ids h firm id number
     walk_goes_on number is other =
@@ -104,3 +105,13 @@ module _ (ids : Ids) (h : List Entry) (firm id : List ℕ) (are : AreIdsOf ids h
       (λ t. both_true (eqb l.hash hash) (is_of firm id e) (eq-eqb l.hash hash (other_hash place l link_is within t ∙ sym hash_is))
       (sym (is_read place e entry_is (let many = count_is ids h are in omega (arith, many, within))) ∙ t))
       asked
+
+  -- no entry has an id whose mark its bucket lacks
+  pub none_marked : bears (slice_index_or (marks_of ids.heads.items) (bucket_of (hash_of ids.hasher firm id) (length (marks_of ids.heads.items))) 0) (hash_of ids.hasher firm id) ≡ false → newest_of h firm id ≡ None
+  none_marked lacks =
+      let marks = marks_of ids.heads.items in
+      let hash = hash_of ids.hasher firm id in
+      ap unless_zero (newest_none (is_at h firm id) (length h) (λ j less. fails_too (is_at h firm id j) (bears (slice_index_or marks (bucket_of hash (length marks)) 0) hash)
+      (λ t. let is : slice_index_or (hashes_of ids.links.items) j 0 ≡ hash = ap (λ l. slice_index_or l j 0) are.hashes ∙ same_hash ids.hasher firm id h j t in
+      ap (λ x. bears (slice_index_or marks (bucket_of x (length marks)) 0) x) (sym is) ∙ are.marked j (let many = count_is ids h are in omega (arith, many, less)))
+      lacks))

@@ -1,25 +1,26 @@
 -- Chains of entries, one for each bucket: from its newest entry to the one before it in the bucket, and so on.
-use Rattle.std.specs.Prelude.{◌≡◌, ◌≤◌, ◌<◌, ◌-◌, ◌/◌, ◌^◌, ◌==◌, ℕ, Bool, List, length, map, slice_index_or, bit_and, vec_len, vec_capacity}
+use Rattle.std.specs.Prelude.{◌≡◌, ◌≤◌, ◌<◌, ◌/◌, ◌^◌, ◌==◌, ℕ, Bool, List, length, map, slice_index_or, vec_len, vec_capacity}
 use Rattle.std.specs.Hash.FoldHasher as folding
 use Rattle.std.specs.declared.hash.FoldHasher.{FoldHasher}
 use Rattle.gu_base.specs.declared.entry.Entry.{Entry}
 use Rattle.gu_ids.specs.declared.ids.Ids.{Ids}
 use Rattle.gu_ids.specs.declared.ids.Link.{Link}
+use Rattle.gu_ids.specs.declared.ids.Head.{Head}
+use Rattle.gu_ids.specs.Marks.{bucket_of, marks_of, AreMarked}
 use Rattle.gu_ids.specs.Newest.{newest}
 
 -- the hash of a firm and an id: the upper half of what the hasher makes of their bytes
 unfoldable pub hash_of : FoldHasher → List ℕ → List ℕ → ℕ
 hash_of hasher firm id = folding.finish (folding.write (folding.write hasher firm) id) / 2 ^ 32
 
--- the bucket of a hash among n, a power of two
-unfoldable pub bucket_of : ℕ → ℕ → ℕ
-bucket_of hash n = bit_and hash (n - 1)
-
 abbrev pub hashes_of : List Link → List ℕ
 hashes_of links = map (λ l. l.hash) links
 
 abbrev pub befores_of : List Link → List ℕ
 befores_of links = map (λ l. l.before) links
+
+abbrev pub newests_of : List Head → List ℕ
+newests_of heads = map (λ h. h.newest) heads
 
 -- the hash at this place falls into bucket b of n
 abbrev pub is_in : List ℕ → ℕ → ℕ → ℕ → Bool
@@ -33,7 +34,8 @@ pub record AreChains (hashes befores heads : List ℕ) (k : ℕ) : Type 0 where
 -- the chains are those of this history
 pub record AreIdsOf (ids : Ids) (h : List Entry) : Type 0 where
   pub hashes : hashes_of ids.links.items ≡ map (λ e. hash_of ids.hasher e.firm e.id) h
-  pub chains : AreChains (hashes_of ids.links.items) (befores_of ids.links.items) ids.heads.items (length ids.links.items)
+  pub chains : AreChains (hashes_of ids.links.items) (befores_of ids.links.items) (newests_of ids.heads.items) (length ids.links.items)
+  pub marked : AreMarked (hashes_of ids.links.items) (marks_of ids.heads.items) (length ids.links.items)
   pub few : length ids.links.items ≤ length ids.heads.items
 
 -- the entries that are kept

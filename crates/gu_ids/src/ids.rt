@@ -1,8 +1,9 @@
 //! The numbers of a history's entries, in chains by hash.
-ghost use Rattle.std.specs.Prelude.{◌≡◌, ◌≤◌, ◌<◌, ◌==◌, ◌&&◌, [], ◌∷◌, ◌++◌, List, length, OnOk};
+ghost use Rattle.std.specs.Prelude.{true, ◌≡◌, ◌≤◌, ◌<◌, ◌==◌, ◌&&◌, [], ◌∷◌, ◌++◌, ℕ, List, length, OnOk};
 ghost use Rattle.gu_base.specs.Limits.{most_entries};
 ghost use Rattle.gu_base.specs.declared.entry.Entry.{Entry};
-ghost use Rattle.gu_ids.specs.Chains.{hash_of, bucket_of, hashes_of, befores_of, AreChains, AreIdsOf, IsReady, count};
+ghost use Rattle.gu_ids.specs.Chains.{hash_of, hashes_of, befores_of, newests_of, AreChains, AreIdsOf, IsReady, count};
+ghost use Rattle.gu_ids.specs.Marks.{bucket_of, mark_of, bears, marks_of, AreMarked};
 ghost use Rattle.gu_ids.specs.Newest.{is_of, newest_of};
 
 use gu_base::{AllocId, Entry, FirmId, Memory, Number};
@@ -21,25 +22,74 @@ struct Link {
     before: u32,
 }
 
+/// What is kept of a bucket.
+#[derive(Clone, Copy)]
+struct Head {
+    /// The number of its newest entry, 0 for none.
+    newest: u32,
+    /// The marks of its entries, a bit each.
+    marks: u32,
+}
+
 /// The number of each entry of a history, by the firm and the id of its call.
 #[derive(Drop)]
 pub struct Ids {
     hasher: FoldHasher,
     /// For each entry of the history.
     links: Vec<Link>,
-    /// The number of the newest entry of each bucket, 0 for none.
-    heads: Vec<u32>,
+    /// For each bucket.
+    heads: Vec<Head>,
 }
 
 /// The bucket of a hash among this many, a power of two.
 #[inline(always)]
-#[tactic(auto, unfolding(crate::specs::Chains::bucket_of))]
+#[tactic(auto, unfolding(crate::specs::Marks::bucket_of))]
 fn bucket_of(hash: u32, buckets: usize) -> usize
     requires { 1 ≤ buckets }
     ensures value { result ≡ bucket_of hash buckets }
     ensures within { result < buckets }
 {
     hash as usize & (buckets - 1)
+}
+
+/// Which bit of its bucket's marks is the mark of a hash: its upper five bits tell, which choose no bucket.
+#[inline(always)]
+#[tactic(auto, unfolding(crate::specs::Marks::mark_of))]
+fn mark_of(hash: u32) -> u32
+    ensures value { result ≡ mark_of hash }
+    ensures within { result < 32 }
+{
+    hash >> 27
+}
+
+impl Head {
+    /// Of a bucket without entries.
+    const NONE: Head = Head {
+        newest: 0,
+        marks: 0,
+    };
+
+    /// Whether an entry of this mark may be in the bucket. Most ids that are new are told so, from one place in memory and by a branch that
+    /// nearly always goes one way.
+    #[inline(always)]
+    fn bears(self, hash: u32) -> bool
+        ensures { result ≡ bears self.marks hash }
+    {
+        (self.marks >> mark_of(hash)) & 1 == 1
+    }
+
+    /// With the entry of this number and hash as the newest.
+    #[inline(always)]
+    fn with(self, number: u32, hash: u32) -> Head
+        ensures newest { result.newest ≡ number }
+        ensures own { bears result.marks hash ≡ true }
+        ensures others { (h : ℕ) → bears self.marks h ≡ true → bears result.marks h ≡ true }
+    {
+        Head {
+            newest: number,
+            marks: self.marks | 1 << mark_of(hash),
+        }
+    }
 }
 
 /// Whether an entry has this firm and id. Its link is asked first: the entry itself is looked at where the hash is the same.
@@ -84,7 +134,12 @@ impl Ids {
             return None;
         }
         let hash = self.hash(firm, id);
-        let mut number = self.heads[bucket_of(hash, self.heads.len())];
+        let bucket = bucket_of(hash, self.heads.len());
+        let head = self.heads[bucket];
+        if !head.bears(hash) {
+            return None;
+        }
+        let mut number = head.newest;
         while number != 0 {
             let place = number as usize - 1;
             let link = self.links[place];
@@ -108,7 +163,7 @@ impl Ids {
     {
         if self.links.len() >= self.heads.len() {
             let buckets = self.links.len().max(FEWEST_BUCKETS / 2) * 2;
-            self.heads.resize(buckets, 0)?;
+            self.heads.resize(buckets, Head::NONE)?;
             self.link_anew();
         }
         self.links.reserve(1)?;
@@ -123,16 +178,20 @@ impl Ids {
         ensures hashes { hashes_of self.new.links.items ≡ hashes_of self.old.links.items }
         ensures buckets { length self.new.heads.items ≡ length self.old.heads.items }
         ensures count { count self.new ≡ count self.old }
-        ensures chains { AreChains (hashes_of self.new.links.items) (befores_of self.new.links.items) self.new.heads.items (count self.new) }
+        ensures chains { AreChains (hashes_of self.new.links.items) (befores_of self.new.links.items) (newests_of self.new.heads.items) (count self.new) }
+        ensures marked { AreMarked (hashes_of self.new.links.items) (marks_of self.new.heads.items) (count self.new) }
     {
         let buckets = self.heads.len();
-        self.heads.fill(0);
+        self.heads.fill(Head::NONE);
         for place in 0..self.links.len() {
             let hash = self.links[place].hash;
             let bucket = bucket_of(hash, buckets);
-            let before = self.heads[bucket];
-            self.links[place] = Link { hash, before };
-            self.heads[bucket] = place as u32 + 1;
+            let head = self.heads[bucket];
+            self.links[place] = Link {
+                hash,
+                before: head.newest,
+            };
+            self.heads[bucket] = head.with(place as u32 + 1, hash);
         }
     }
 
@@ -144,8 +203,11 @@ impl Ids {
     {
         let hash = self.hash(&entry.firm, &entry.id);
         let bucket = bucket_of(hash, self.heads.len());
-        let before = self.heads[bucket];
-        self.links.push_reserved(Link { hash, before });
-        self.heads[bucket] = self.links.len() as u32;
+        let head = self.heads[bucket];
+        self.links.push_reserved(Link {
+            hash,
+            before: head.newest,
+        });
+        self.heads[bucket] = head.with(self.links.len() as u32, hash);
     }
 }

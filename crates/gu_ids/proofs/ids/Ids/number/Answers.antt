@@ -1,23 +1,52 @@
 use Rattle.std.proofs.Common.{◌≡◌, ◌<◌, ◌-◌, suc, length, sym, ◌∙◌, ap, subst, arith, eqb}
 use Rattle.std.specs.Prelude.{Some, slice_index_or}
 use Rattle.std.proofs.lemmas.Bool.{and_parts}
-use Rattle.std.proofs.lemmas.Grind.{get_or_default_zero}
-use Rattle.gu_ids.specs.Chains.{hash_of, bucket_of}
+use Rattle.gu_ids.specs.Chains.{hash_of, newests_of}
+use Rattle.gu_ids.specs.Marks.{bucket_of, bears, marks_of}
 use Rattle.gu_ids.specs.Newest.{is_of}
-use Rattle.gu_ids.proofs.Walk.{Stands, count_is, walk_begins, walk_goes_on, walk_sinks, walk_finds, is_read, not_here, read_before}
-use Rattle.gu_ids.proofs.ids.Ids.number.Goals.{After-index-entries-place}
+use Rattle.gu_ids.proofs.Marked.{newests_long, marks_long, newest_read, marks_read}
+use Rattle.gu_ids.proofs.Walk.{Stands, count_is, walk_begins, walk_goes_on, walk_sinks, walk_finds, is_read, not_here, read_before, none_marked}
+use Rattle.gu_ids.proofs.ids.Ids.number.Goals.{After-index-head, After-index-entries-place}
 use Rattle.gu_ids.proofs.ids.Ids.number.Goals as goal
+
+-- the bucket of the firm and the id, and what is read of its head
+read_head : (c : After-index-head) → record {
+  is : c.bucket_of-bucket.result ≡ bucket_of (hash_of c.args.self.now.hasher c.args.firm.now c.args.id.now) (length c.args.self.now.heads.items);
+  inside : c.bucket_of-bucket.result < length c.args.self.now.heads.items;
+}
+read_head c =
+    let ids = c.args.self.now in
+    let full = ids.heads.ok.0 in
+    let len : c.len.result ≡ length ids.heads.items = omega (arith, c.len.ensures, full) in
+    record {
+      is = c.bucket_of-bucket.ensures.value ∙ (ap (λ x. bucket_of x c.len.result) c.hash-hash.ensures ∙ ap (bucket_of (hash_of ids.hasher c.args.firm.now c.args.id.now)) len);
+      inside = omega (arith, len, c.bucket_of-bucket.ensures.within);
+    }
+
+pub returns-then-not-bears : goal.returns-then-not-bears
+returns-then-not-bears c =
+    let ids = c.args.self.now in
+    let heads = ids.heads.items in
+    let hash = hash_of ids.hasher c.args.firm.now c.args.id.now in
+    let at = read_head (goal.at.returns-then-not-bears c).After-index-head in
+    let long = marks_long heads in
+    let is : c.bucket_of-bucket.result ≡ bucket_of hash (length (marks_of heads)) = at.is ∙ ap (bucket_of hash) (sym long) in
+    sym (none_marked ids c.args.entries.now c.args.firm.now c.args.id.now c.requires.ids
+    (ap (λ b. bears (slice_index_or (marks_of heads) b 0) hash) (sym is)
+    ∙ (ap (λ m. bears m hash) (sym (marks_read heads c.bucket_of-bucket.result c.index-head.result.now c.index-head.ensures at.inside))
+    ∙ (ap (bears c.index-head.result.now.marks) (sym c.hash-hash.ensures) ∙ (sym c.bears.ensures ∙ c.if-not-bears.true)))))
 
 pub loop-number-init : goal.loop-number-init
 loop-number-init c =
     let ids = c.args.self.now in
-    let full = ids.heads.ok.0 in
-    let len : c.len.result ≡ length ids.heads.items = omega (arith, c.len.ensures, full) in
-    let is : c.bucket_of.result ≡ bucket_of (hash_of ids.hasher c.args.firm.now c.args.id.now) (length ids.heads.items) =
-    c.bucket_of.ensures.value ∙ (ap (λ x. bucket_of x c.len.result) c.hash-hash.ensures ∙ ap (bucket_of (hash_of ids.hasher c.args.firm.now c.args.id.now)) len) in
-    let inside : c.bucket_of.result < length ids.heads.items = omega (arith, len, c.bucket_of.ensures.within) in
-    walk_begins ids c.args.entries.now c.args.firm.now c.args.id.now c.requires.ids (omega (arith, is, inside)) c.index-number.result.now
-    (c.index-number.ensures ∙ (get_or_default_zero ids.heads.items c.bucket_of.result c.index-number.result.now inside ∙ ap (λ b. slice_index_or ids.heads.items b 0) is))
+    let heads = ids.heads.items in
+    let hash = hash_of ids.hasher c.args.firm.now c.args.id.now in
+    let at = read_head (goal.at.loop-number-init c).After-index-head in
+    let long = newests_long heads in
+    let is : c.bucket_of-bucket.result ≡ bucket_of hash (length (newests_of heads)) = at.is ∙ ap (bucket_of hash) (sym long) in
+    let inside = at.inside in
+    walk_begins ids c.args.entries.now c.args.firm.now c.args.id.now c.requires.ids (omega (arith, is, inside, long)) c.index-head.result.now.newest
+    (newest_read heads c.bucket_of-bucket.result c.index-head.result.now c.index-head.ensures inside ∙ ap (λ b. slice_index_or (newests_of heads) b 0) is)
 
 -- the number isn't 0, so the walk stands on an entry
 on_entry : (c : After-index-entries-place) → record {
