@@ -1,13 +1,13 @@
 //! What the trees say of a node, found by its name.
-ghost use Rattle.std.specs.Prelude.{◌≡◌, List, None};
+ghost use Rattle.std.specs.Prelude.{◌≡◌, List, None, Some};
 ghost use Rattle.gu_base.specs.Numbers.{EntryPart};
 ghost use Rattle.gu_base.specs.Nodes.{is_offered};
 ghost use Rattle.gu_base.specs.Refusals.{owns};
 ghost use Rattle.gu_base.specs.declared.entry.Record.{Record as RecordData};
 ghost use Rattle.gu_base.specs.declared.node.Node.{Node as NodeData};
 ghost use Rattle.gu_book.specs.Found.{AreTreesOf, IsFoundAs, IsFoundIn, IsNamedBy, IsNamedIn, LiesThere};
-ghost use Rattle.gu_tree.specs.Grove.{HasTree, IsPlace};
-ghost use Rattle.gu_tree.specs.Paths.{HasPath};
+ghost use Rattle.gu_tree.specs.Grove.{Grove, HasTree, IsPlace};
+ghost use Rattle.gu_tree.specs.Paths.{node_at};
 ghost use Rattle.gu_tree.specs.Shown.{named_node};
 
 use crate::live::Live;
@@ -54,7 +54,11 @@ impl Found {
 }
 
 /// What the trees say of the node that was looked up, to which this path leads.
-fn found_at(spot: &Spot<'_, Global>, path: &Path) -> Found {
+fn found_at(spot: &Spot<'_, Global>, path: &Path) -> Found
+    ensures found { (l : List RecordData) (n : EntryPart) (g : Grove) → AreTreesOf l g → IsPlace g n spot.now.trade path.now.items
+        → HasTree g spot.now.trade (λ t. node_at path.now.items t ≡ Some spot.now.node.now) → IsFoundIn l n (Some result) }
+    ensures trade { result.trade ≡ spot.now.trade }
+{
     let split = match spot.node.parted() {
         Some(parted) => Some(parted.0),
         None => None,

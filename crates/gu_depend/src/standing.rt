@@ -6,7 +6,6 @@ ghost use Rattle.gu_base.specs.Standing.{IsLegal, standing_on, without};
 ghost use Rattle.gu_base.specs.declared.entry.Record.{Record};
 ghost use Rattle.gu_tree.specs.ShownAll.{ShowsAll};
 ghost use Rattle.gu_tree.specs.Rose.{split_of_node};
-ghost use Rattle.gu_tree.specs.Paths.{HasPath, HasAt};
 ghost use Rattle.gu_depend.specs.Touch.{Touches, is_trade_or_decision};
 
 use crate::touch::Touched;
