@@ -10,12 +10,12 @@ use Rattle.gu_base.specs.declared.entry.Record.{Record}
 use Rattle.gu_base.specs.declared.node.Node.{Node}
 use Rattle.gu_base.specs.declared.node.Place.{Place}
 use Rattle.gu_base.proofs.Basics.{no_some}
-use Rattle.gu_tree.specs.Grove.{Grove, tree_of, IsPlace}
+use Rattle.gu_tree.specs.Grove.{Grove, tree_of, HasTree, IsPlace}
 use Rattle.gu_tree.specs.Paths.{node_at, HasAt}
 use Rattle.gu_tree.specs.Rose.{Rose, leaf, parted, head_of, split_of_node}
 use Rattle.gu_tree.specs.Shown.{IsNodeOf, IsHeadOf}
 use Rattle.gu_tree.specs.declared.head.Head.{Head}
-use Rattle.gu_tree.proofs.Parts.{at_fact}
+use Rattle.gu_tree.proofs.Parts.{at_fact, at_there, some_and}
 use Rattle.gu_book.specs.Found.{AreTreesOf, IsFoundAs, IsFoundIn}
 use Rattle.gu_book.specs.Holdings.{traded_at, held_at, holding_of, held_above}
 use Rattle.gu_book.specs.declared.found.Found.{Found}
@@ -54,6 +54,13 @@ found_as {l} {g} are n trade p tree f o place found at deep its part split =
         split = split ∙ (ap (option_map (λ (q : ℕ × ℕ). q.0)) parts ∙ split_told l s.said.above s.said.node s.node s.said.shown);
       },
     )
+
+-- and so is one that was looked up in the trees
+pub found_spot : {l : List Record} {g : Grove} → AreTreesOf l g → (n : EntryPart) (trade : ℕ) (p : List ℕ) (u : Rose) (f : Found) (o : Option (ℕ × ℕ)) → IsPlace g n trade p → HasTree g trade (λ t. node_at p t ≡ Some u)
+    → f.head ≡ head_of u → length p ≡ f.depth → f.trade ≡ trade → o ≡ split_of_node u → f.split ≡ option_map (λ (q : ℕ × ℕ). q.0) o → IsFoundIn l n (Some f)
+found_spot {l} {g} are n trade p u f o place at head deep its parts split =
+    let t = some_and (λ t. node_at p t ≡ Some u) (tree_of g trade) at in
+    found_as are n trade p t.0 f o place t.1 (at_there (λ w. head_of w ≡ f.head) (node_at p t.0) u t.2 (sym head)) deep its (at_there (λ w. o ≡ split_of_node w) (node_at p t.0) u t.2 parts) split
 
 -- ---- what is asked of what was found
 

@@ -1,19 +1,19 @@
 //! What the trees say of a node, found by its name.
-ghost use Rattle.std.specs.Prelude.{◌≡◌, List, None};
+ghost use Rattle.std.specs.Prelude.{◌≡◌, List, None, Some};
 ghost use Rattle.gu_base.specs.Numbers.{EntryPart};
 ghost use Rattle.gu_base.specs.Nodes.{is_offered};
 ghost use Rattle.gu_base.specs.Refusals.{owns};
 ghost use Rattle.gu_base.specs.declared.entry.Record.{Record as RecordData};
 ghost use Rattle.gu_base.specs.declared.node.Node.{Node as NodeData};
 ghost use Rattle.gu_book.specs.Found.{AreTreesOf, IsFoundAs, IsFoundIn, IsNamedBy, IsNamedIn, LiesThere};
-ghost use Rattle.gu_tree.specs.Grove.{HasTree, IsPlace};
-ghost use Rattle.gu_tree.specs.Paths.{HasPath};
+ghost use Rattle.gu_tree.specs.Grove.{Grove, HasTree, IsPlace};
+ghost use Rattle.gu_tree.specs.Paths.{node_at};
 ghost use Rattle.gu_tree.specs.Shown.{named_node};
 
 use crate::live::Live;
 use crate::plain::nodes::node_of;
 use gu_base::{Command, FirmId, Node, NodeName, Number, State};
-use gu_tree::{Head, Path, Trees};
+use gu_tree::{Head, Path, Spot, Trees};
 use std::alloc::Global;
 
 /// What the trees say of a node.
@@ -53,22 +53,19 @@ impl Found {
     }
 }
 
-/// What the trees say of the node to which the path leads in the tree of the trade.
-fn found_at(trees: &Trees<Global>, trade: Number, path: &Path) -> Found
-    requires { HasTree trees.now trade (HasPath path.now.items) }
-    ensures found { (l : List RecordData) (n : EntryPart) → AreTreesOf l trees.now → IsPlace trees.now n trade path.now.items → IsFoundIn l n (Some result) }
-    ensures trade { result.trade ≡ trade }
+/// What the trees say of the node that was looked up, to which this path leads.
+fn found_at(spot: &Spot<'_, Global>, path: &Path) -> Found
+    ensures found { (l : List RecordData) (n : EntryPart) (g : Grove) → AreTreesOf l g → IsPlace g n spot.now.trade path.now.items
+        → HasTree g spot.now.trade (λ t. node_at path.now.items t ≡ Some spot.now.node.now) → IsFoundIn l n (Some result) }
+    ensures trade { result.trade ≡ spot.now.trade }
 {
-    let Some(tree) = trees.tree(trade) else {
-        unreachable!()
-    };
-    let split = match tree.parted(path) {
+    let split = match spot.node.parted() {
         Some(parted) => Some(parted.0),
         None => None,
     };
     Found {
-        head: *tree.head(path),
-        trade,
+        head: *spot.node.head(),
+        trade: spot.trade,
         depth: path.len() as u32,
         split,
     }
@@ -78,10 +75,11 @@ fn found_at(trees: &Trees<Global>, trade: Number, path: &Path) -> Found
 pub(crate) fn find(trees: &Trees<Global>, name: NodeName) -> Option<Found>
     ensures { (l : List RecordData) → AreTreesOf l trees.now → IsFoundIn l name result }
 {
-    let Some(spot) = trees.find(name) else {
+    let mut path = Path::new();
+    let Some(spot) = trees.find(name, &mut path) else {
         return None;
     };
-    Some(found_at(trees, spot.0, &spot.1))
+    Some(found_at(&spot, &path))
 }
 
 /// A node that a live change makes, and what the trees say of it.
@@ -121,12 +119,11 @@ fn seek_node(changes: &Live<'_>, trees: &Trees<Global>, name: NodeName, sought: 
     let Some(node) = node_of(changes, &name) else {
         return;
     };
-    let Some(spot) = trees.find(name) else {
+    let Some(spot) = trees.find(name, &mut sought.path) else {
         unreachable!()
     };
-    let found = found_at(trees, spot.0, &spot.1);
+    let found = found_at(&spot, &sought.path);
     sought.named = Some(Named { node, found });
-    sought.path = spot.1;
 }
 
 /// Puts the node that a command names in, if it names one.

@@ -6,12 +6,11 @@ ghost use Rattle.gu_base.specs.Standing.{IsLegal, standing_on, without};
 ghost use Rattle.gu_base.specs.declared.entry.Record.{Record};
 ghost use Rattle.gu_tree.specs.ShownAll.{ShowsAll};
 ghost use Rattle.gu_tree.specs.Rose.{split_of_node};
-ghost use Rattle.gu_tree.specs.Paths.{HasPath, HasAt};
 ghost use Rattle.gu_depend.specs.Touch.{Touches, is_trade_or_decision};
 
 use crate::touch::Touched;
 use gu_base::{Command, Number};
-use gu_tree::{Path, Tree, Trees};
+use gu_tree::{Node, Path, Trees};
 use std::alloc::Allocator;
 
 /// What the command of this number makes or decides where it is accepted. Takes no memory.
@@ -37,17 +36,14 @@ pub fn first_standing<A: Allocator + Clone>(trees: &Trees<A>, k: Number) -> Opti
     ensures first { (t : House) (l : List Record) → RisesFrom 0 l → IsLegal t l → ShowsAll l trees.now → result ≡ standing_on t l k }
     ensures none { (t : House) (l : List Record) → RisesFrom 0 l → IsLegal t l → ShowsAll l trees.now → (result ≡ None) ↔ IsLegal t (without l k) }
 {
-    let Some((trade, path)) = trees.place(k) else {
+    let mut path = Path::new();
+    let Some(spot) = trees.named(k, &mut path) else {
         return None;
     };
-    let Some(tree) = trees.tree(trade) else {
-        unreachable!()
-    };
-    let decision = tree.head(&path).decision;
-    if is_trade_or_decision(k, trade, decision) {
-        split_of(tree, &path)
+    if is_trade_or_decision(k, spot.trade, spot.node.head().decision) {
+        split_of(spot.node)
     } else {
-        tree.first_on_parts(&path)
+        spot.node.first_on_parts()
     }
 }
 
@@ -62,11 +58,10 @@ fn is_trade_or_decision(k: Number, trade: Number, decision: Option<Number>) -> b
 }
 
 /// The number of the node's Split.
-fn split_of<A: Allocator + Clone>(tree: &Tree<A>, path: &Path) -> Option<Number>
-    requires { HasPath path.now.items tree.now }
-    ensures { HasAt path.now.items (λ t. result ≡ option_map (λ s. s.0) (split_of_node t)) tree.now }
+fn split_of<A: Allocator>(node: &Node<A>) -> Option<Number>
+    ensures { result ≡ option_map (λ s. s.0) (split_of_node node.now) }
 {
-    match tree.parted(path) {
+    match node.parted() {
         Some((split, _)) => Some(split),
         None => None,
     }

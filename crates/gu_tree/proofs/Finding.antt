@@ -1,14 +1,14 @@
 -- Where the node of a name lies.
-use Rattle.std.proofs.Common.{◌≡◌, ◌≢◌, ℕ, zero, suc, ◌+◌, ◌<◌, ◌≤◌, Option, Some, None, IsSome, IsSomeAnd, List, [], ◌∷◌, ◌++◌, length, refl, ap, sym, ◌∙◌, subst, arith, length-append}
+use Rattle.std.proofs.Common.{◌≡◌, ◌≢◌, ℕ, ◌+◌, ◌-◌, ◌≤◌, Option, Some, None, IsSome, IsSomeAnd, List, [], ◌∷◌, ◌++◌, refl, ap, sym, ◌∙◌, subst, arith}
 use Rattle.std.specs.Prelude.{option_and_then}
 use Rattle.gu_base.specs.Numbers.{EntryPart}
-use Rattle.gu_tree.specs.Rose.{Rose, Roses, leaf, parted, no_parts, part_then, head_of, part_count, split_of_node, height_of}
+use Rattle.gu_tree.specs.Rose.{Rose, leaf, parted, head_of, height_of}
 use Rattle.gu_tree.specs.Paths.{part_at, node_at, LeadsTo, HasPath}
 use Rattle.gu_tree.specs.Filing.{name_in, Leads, turned}
-use Rattle.gu_tree.specs.Grove.{Grove, tree_of, place_of, IsGrove, IsPlace}
+use Rattle.gu_tree.specs.Grove.{Grove, tree_of, place_of, HasTree, IsGrove, IsPlace}
 use Rattle.gu_tree.proofs.Edits.{height_of-at}
 use Rattle.gu_tree.proofs.Groves.{leads-one, turned-turned}
-use Rattle.gu_tree.proofs.Parts.{some_and, some_value}
+use Rattle.gu_tree.proofs.Parts.{at_there, some_and}
 
 -- ---- one step further
 
@@ -21,58 +21,6 @@ pub node_at-step : (p : List ℕ) (i : ℕ) (t u : Rose) → node_at p t ≡ Som
 node_at-step [] i t u e = let s : t ≡ u = cc in ap (node_at (i ∷ [])) s
 node_at-step (j ∷ p) i (leaf h) u e = absurd (cc)
 node_at-step (j ∷ p) i (parted h n ts) u e = through-part p i u (λ t d. node_at-step p i t u d) (part_at j ts) e
-
-part_there : (ts : Roses) (i : ℕ) → i < part_count ts → (t : Rose) × (part_at i ts ≡ Some t)
-part_there no_parts i less = absurd (omega arith)
-part_there (part_then t ts) zero less = (t, refl)
-part_there (part_then t ts) (suc i) less = part_there ts i (omega arith)
-
-part_least : (ts : Roses) (i : ℕ) (t : Rose) → part_at i ts ≡ Some t → i < part_count ts
-part_least no_parts i t e = absurd (cc)
-part_least (part_then u ts) zero t e = omega arith
-part_least (part_then u ts) (suc i) t e = omega (arith, part_least ts i t e)
-
-one_part : (ts : Roses) (i : ℕ) (o : Option Rose) (w : Rose) → part_at i ts ≡ o → option_and_then (node_at []) o ≡ Some w → i < part_count ts
-one_part ts i None w e d = absurd (cc)
-one_part ts i (Some t) w e d = part_least ts i t e
-
-counts : (a b : ℕ × ℕ) → Some a ≡ Some b → a.1 ≡ b.1
-counts a b e = let s : a ≡ b = cc in ap (λ (x : ℕ × ℕ). x.1) s
-
-below : (u w : Rose) (i : ℕ) → node_at (i ∷ []) u ≡ Some w → (n : ℕ) × (k : ℕ) × (split_of_node u ≡ Some (n, k)) × (i < k)
-below (leaf h) w i e = absurd (cc)
-below (parted h n ts) w i e = (n, part_count ts, refl, one_part ts i (part_at i ts) w refl e)
-
-there : (u : Rose) (i n k : ℕ) → split_of_node u ≡ Some (n, k) → i < k → (w : Rose) × (node_at (i ∷ []) u ≡ Some w)
-there (leaf h) i n k e less = absurd (cc)
-there (parted h m ts) i n k e less =
-    let same : part_count ts ≡ k = counts (m, part_count ts) (n, k) e in
-    let w = part_there ts i (omega (arith, same, less)) in
-    (w.0, ap (option_and_then (node_at [])) w.1)
-
--- where the path leads to a node with so many parts, it goes on to each of them, and to no other
-pub step-there : (p : List ℕ) (i n k : ℕ) (t u : Rose) → node_at p t ≡ Some u → split_of_node u ≡ Some (n, k) → i < k → HasPath (p ++ i ∷ []) t
-step-there p i n k t u at split less =
-    let w = there u i n k split less in
-    subst IsSome (sym (node_at-step p i t u at ∙ w.1)) refl
-
-pub step-none : (p : List ℕ) (i : ℕ) (t u : Rose) (name : EntryPart) → node_at p t ≡ Some u → LeadsTo (p ++ i ∷ []) t name
-    → (n : ℕ) × (k : ℕ) × (split_of_node u ≡ Some (n, k)) × (i < k)
-step-none p i t u name at led =
-    let w = some_and (λ v. (head_of v).name ≡ name) (node_at (p ++ i ∷ []) t) led in
-    below u w.0 i (sym (node_at-step p i t u at) ∙ w.1)
-
-pub step-beyond : (p : List ℕ) (i n k : ℕ) (t u : Rose) (name : EntryPart) → node_at p t ≡ Some u → split_of_node u ≡ Some (n, k) → k ≤ i → LeadsTo (p ++ i ∷ []) t name → ⊥
-step-beyond p i n k t u name at split beyond led =
-    let b = step-none p i t u name at led in
-    let same : b.1 ≡ k = counts (b.0, b.1) (n, k) (sym b.2 ∙ split) in
-    let less : i < b.1 = b.3 in
-    omega arith
-
-pub step-short : (p : List ℕ) (i n k : ℕ) (t u : Rose) → node_at p t ≡ Some u → split_of_node u ≡ Some (n, k) → i < k → height_of t ≤ 64 → length p < 64
-step-short p i n k t u at split less low =
-    let w = some_value (node_at (p ++ i ∷ []) t) (step-there p i n k t u at split less) in
-    omega (arith, height_of-at (p ++ i ∷ []) t w.0 w.1, length-append p (i ∷ []), low)
 
 -- ---- in a grove
 
@@ -138,3 +86,47 @@ below-place g n other above tree is part at found never trade p place =
     place_and : (o : Option EntryPart) → IsSomeAnd o (λ m. IsPlace g m other above) → (m : EntryPart) × (o ≡ Some m) × IsPlace g m other above
     place_and None h = absurd h
     place_and (Some m) h = (m, refl, h)
+
+-- what stands one step below a node of the trees
+pub record IsNext (g : Grove) (n : EntryPart) (other : ℕ) (above : List ℕ) (w : Rose) : Type 0 where
+  pub place : IsPlace g n other (above ++ (n.part - 1) ∷ [])
+  pub node : HasTree g other (λ t. node_at (above ++ (n.part - 1) ∷ []) t ≡ Some w)
+
+-- the node above the one of this name, in its tree
+module _ (g : Grove) (n : EntryPart) (other : ℕ) (above : List ℕ) (u : Rose) (at : HasTree g other (λ t. node_at above t ≡ Some u)) where
+  its-tree : (t : Rose) × (tree_of g other ≡ Some t) × (node_at above t ≡ Some u)
+  its-tree = some_and (λ t. node_at above t ≡ Some u) (tree_of g other) at
+
+  -- the part of this name is the node
+  pub next-there : (w : Rose) → node_at ((n.part - 1) ∷ []) u ≡ Some w → (head_of w).name ≡ n → IsNext g n other above w
+  next-there w step called =
+      let t = its-tree in
+      let led : node_at (above ++ (n.part - 1) ∷ []) t.0 ≡ Some w = node_at-step above (n.part - 1) t.0 u t.2 ∙ step in
+      record {
+        place = record { tree = t.0; found = t.1; there = at_there (λ v. (head_of v).name ≡ n) _ w led called };
+        node = at_there (λ x. node_at (above ++ (n.part - 1) ∷ []) x ≡ Some w) _ t.0 t.1 led;
+      }
+
+  -- where no part has it there is no such node
+  pub next-absent : IsGrove g → n.part ≢ 0 → IsSomeAnd (place_of g n.entry) (λ m. IsPlace g m other above) → (LeadsTo ((n.part - 1) ∷ []) u n → ⊥) → (trade : ℕ) (p : List ℕ) → IsPlace g n trade p → ⊥
+  next-absent is part found none =
+      let t = its-tree in
+      below-place g n other above t.0 is part found t.1 (λ i step led.
+          let same : i ≡ n.part - 1 = omega (arith, step) in
+          none (subst (λ o. IsSomeAnd o (λ v. (head_of v).name ≡ n)) (node_at-step above (n.part - 1) t.0 u t.2) (subst (λ k. LeadsTo (above ++ k ∷ []) t.0 n) same led)))
+
+-- a node with a part has a height
+pub next-height : (i : ℕ) (u w : Rose) → node_at (i ∷ []) u ≡ Some w → 1 ≤ height_of u
+next-height i u w e = omega (arith, height_of-at (i ∷ []) u w e)
+
+-- where the tree of a place was found, the path leads to its node
+pub has-place : (g : Grove) (trade : ℕ) (p : List ℕ) (t : Rose) (o : Option EntryPart) → IsSomeAnd o (λ n. IsPlace g n trade p) → tree_of g trade ≡ Some t → HasPath p t
+has-place g trade p t None h found = absurd h
+has-place g trade p t (Some n) place found =
+    let same : place.tree ≡ t = same_tree place.tree t (sym place.found ∙ found) in
+    let v = some_and (λ v. (head_of v).name ≡ n) (node_at p t) (subst (λ x. LeadsTo p x n) same place.there) in
+    subst IsSome (sym v.1) refl
+
+pub no-tree : (g : Grove) (trade : ℕ) (p : List ℕ) (o : Option EntryPart) → IsSomeAnd o (λ n. IsPlace g n trade p) → tree_of g trade ≡ None → ⊥
+no-tree g trade p None h none = h
+no-tree g trade p (Some n) place none = let z = sym none ∙ place.found in cc

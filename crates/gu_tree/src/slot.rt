@@ -1,6 +1,5 @@
 //! What each entry named, filed by the number of the entry.
-ghost use Rattle.std.specs.Prelude.{◌≡◌, ◌<◌, ℕ, IfOk, OnErr};
-ghost use Rattle.arrayvec.specs.ArrayVec.{array_vec_len};
+ghost use Rattle.std.specs.Prelude.{◌≡◌, ◌<◌, ℕ, IfOk, OnErr, []};
 ghost use Rattle.gu_base.specs.Limits.{most_parts};
 ghost use Rattle.gu_base.specs.Numbers.{EntryPart};
 ghost use Rattle.gu_tree.specs.Filing.{IsRising, IsFiledAt, IsNotFiled, IsRoot, slot_of, without_slot, name_in, Climbs, IsClimbed};
@@ -79,30 +78,44 @@ impl Filed {
     }
 }
 
-/// Where the entry is filed, or where it would be. Since most entries are filed, it is first looked for as far below the last place before
-/// `end` as its number is below the one that is filed there.
-fn find(slots: &[Filed], end: usize, entry: Number) -> Result<usize, usize>
+/// Where the entry is filed, or where it would be: a search by halves.
+#[cold]
+#[inline(never)]
+fn search(slots: &[Filed], entry: Number) -> Result<usize, usize>
     requires { IsRising slots.now }
     ensures found { IfOk result (IsFiledAt slots.now entry) }
     ensures absent { OnErr result (IsNotFiled slots.now entry) }
 {
-    if 1 <= end && end <= slots.len() {
-        let last = end - 1;
-        let below = slots[last].entry().wrapping_sub(entry.get());
-        let place = last.wrapping_sub(below as usize);
-        if place < slots.len() && slots[place].entry() == entry.get() {
-            return Ok(place);
-        }
-    }
     slots.binary_search_by_key(&entry.get(), |filed| filed.entry())
 }
 
-/// What the entry named, and where it is filed if it is; `end` as for `find`.
-fn filed_at(slots: &[Filed], end: usize, entry: Number) -> (usize, Slot)
+/// Where the entry is filed, or where it would be. It is first looked for at `near`.
+fn find(slots: &[Filed], near: usize, entry: Number) -> Result<usize, usize>
+    requires { IsRising slots.now }
+    ensures found { IfOk result (IsFiledAt slots.now entry) }
+    ensures absent { OnErr result (IsNotFiled slots.now entry) }
+{
+    if near < slots.len() && slots[near].entry() == entry.get() {
+        return Ok(near);
+    }
+    search(slots, entry)
+}
+
+/// Where the entry is filed if each number from it on has a slot, as most have: as far below the last slot as its number is below the last.
+fn guess(slots: &[Filed], entry: Number) -> usize {
+    let Some(last) = slots.last() else {
+        return 0;
+    };
+    let below = last.entry().wrapping_sub(entry.get());
+    (slots.len() - 1).wrapping_sub(below as usize)
+}
+
+/// What the entry named, and where it is filed if it is; `near` as for `find`.
+fn filed_at(slots: &[Filed], near: usize, entry: Number) -> (usize, Slot)
     requires { IsRising slots.now }
     ensures { result.1 ≡ slot_of slots.now entry }
 {
-    match find(slots, end, entry) {
+    match find(slots, near, entry) {
         Ok(i) => (i, slots[i].slot()),
         Err(i) => (i, Slot::Empty),
     }
@@ -113,7 +126,7 @@ pub(crate) fn slot_at(slots: &[Filed], entry: Number) -> Slot
     requires { IsRising slots.now }
     ensures { result ≡ slot_of slots.now entry }
 {
-    filed_at(slots, slots.len(), entry).1
+    filed_at(slots, guess(slots, entry), entry).1
 }
 
 /// Where the tree of a trade stands among the trees.
@@ -139,24 +152,30 @@ pub(crate) fn named_by(slot: Slot, entry: Number) -> Option<NodeName>
     }
 }
 
-/// Appends to the path the steps that lead from the root to the node, and gives the root's trade. `end` is a place in
-/// the slots before which the node's entry is filed: the nearer, the sooner it is found.
-pub(crate) fn climb(slots: &[Filed], end: usize, node: NodeName, path: &mut Path) -> Number
+/// Leaves in an empty path the steps that lead from the root to the node, and gives the root's trade.
+///
+/// The steps are gone upward, and turned round at the end. Each slot is first looked for as far below the one before as its number is lower.
+pub(crate) fn climb(slots: &[Filed], node: NodeName, path: &mut Path) -> Number
     requires rising { IsRising slots.now }
-    requires room { Climbs slots.now node (array_vec_len path.old) }
+    requires room { Climbs slots.now node 0 }
     requires falls { (e : ℕ) (n : EntryPart) → slot_of slots.now e ≡ Slot.Node n → n.entry < e }
-    ensures { IsClimbed slots.now node path.old.items path.new.items result }
+    requires empty { path.old.items ≡ [] }
+    ensures { IsClimbed slots.now node [] path.new.items result }
 {
-    if node.part() == 0 {
-        return node.entry();
+    let mut node = node;
+    let mut near = guess(slots, node.entry());
+    while node.part() != 0 {
+        path.push(node.part() - 1);
+        let (place, slot) = filed_at(slots, near, node.entry());
+        let Slot::Node(above) = slot else {
+            unreachable!()
+        };
+        let below = node.entry().get().wrapping_sub(above.entry().get());
+        near = place.wrapping_sub(below as usize);
+        node = above;
     }
-    let (place, slot) = filed_at(slots, end, node.entry());
-    let Slot::Node(parent) = slot else {
-        unreachable!()
-    };
-    let trade = climb(slots, place, parent, path);
-    path.push(node.part() - 1);
-    trade
+    path.as_mut_slice().reverse();
+    node.entry()
 }
 
 /// Takes the slot of an entry out.
@@ -164,7 +183,8 @@ pub(crate) fn clear<A: Allocator>(slots: &mut Vec<Filed, A>, entry: Number)
     requires { IsRising slots.old.items }
     ensures { slots.new.items ≡ without_slot slots.old.items entry }
 {
-    if let Ok(i) = find(slots.as_slice(), slots.len(), entry) {
+    let near = guess(slots.as_slice(), entry);
+    if let Ok(i) = find(slots.as_slice(), near, entry) {
         slots[i] = Filed::new(entry, Slot::Empty);
     }
 }

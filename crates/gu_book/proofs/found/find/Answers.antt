@@ -1,12 +1,8 @@
 use Rattle.gu_book.proofs.FoundAs.{found_none}
-use Rattle.gu_book.proofs.OnePlace.{has_path}
 use Rattle.gu_book.proofs.found.find.Goals as goal
-
-pub found_at-requires : goal.found_at-requires
-found_at-requires c = has_path (rw c.in-Some.is at c.find.ensures.found)
 
 pub returns-in_default : goal.returns-in_default
 returns-in_default c = λ l are. found_none are c.args.name (rw c.in_default.is at c.find.ensures.absent)
 
 pub returns : goal.returns
-returns c = λ l are. c.found_at.ensures.found l c.args.name are (rw c.in-Some.is at c.find.ensures.found)
+returns c = λ l are. c.found_at.ensures.found l c.args.name c.args.trees.now are (rw c.in-Some.is at c.find.ensures.found) (rw c.in-Some.is at c.find.ensures.node)

@@ -6,7 +6,7 @@ use Rattle.gu_base.specs.declared.node.Node.{Node}
 use Rattle.gu_base.proofs.Basics.{none_is_some}
 use Rattle.gu_book.specs.Found.{IsFoundAs, IsNamedBy}
 use Rattle.gu_book.proofs.FoundAs.{found_none, found_node}
-use Rattle.gu_book.proofs.OnePlace.{has_path, lies_there}
+use Rattle.gu_book.proofs.OnePlace.{lies_there}
 use Rattle.gu_book.proofs.found.seek_node.Goals.{After-found_at-found}
 use Rattle.gu_book.proofs.found.seek_node.Goals as goal
 
@@ -14,9 +14,6 @@ pub unreachable-requires : goal.unreachable-requires
 unreachable-requires c =
     let l = c.args.changes.now in
     none_is_some (node_of l c.args.name) c.in-Some.node (found_none c.requires.trees c.args.name (rw c.in_default-find.is at c.find.ensures.absent)) (sym c.node_of.ensures ∙ c.in-Some.is)
-
-pub found_at-found-requires : goal.found_at-found-requires
-found_at-found-requires c = has_path (rw c.in-Some-find.is at c.find.ensures.found)
 
 pub returns-in_default-clause-named : goal.returns-in_default-clause-named
 returns-in_default-clause-named c = rw c.requires.nothing (sym c.node_of.ensures ∙ c.in_default.is)
@@ -28,7 +25,7 @@ returns-in_default-clause-there c = rw c.requires.nothing tt
 its_node : (c : After-found_at-found) → IsNamedBy c.args.changes.now c.args.name (Some (record { node = c.in-Some.node; found = c.found_at-found.result }))
 its_node c =
     let l = c.args.changes.now in
-    let q = c.found_at-found.ensures.found l c.args.name c.requires.trees (rw c.in-Some-find.is at c.find.ensures.found) in
+    let q = c.found_at-found.ensures.found l c.args.name c.args.trees.now c.requires.trees (rw c.in-Some-find.is at c.find.ensures.found) (rw c.in-Some-find.is at c.find.ensures.node) in
     let there : node_of l c.args.name ≡ Some c.in-Some.node = sym c.node_of.ensures ∙ c.in-Some.is in
     let one : q.0 ≡ c.in-Some.node = same_Some q.0 c.in-Some.node (sym (found_node q) ∙ there) in
     (there, subst (λ (x : Node). x.name ≡ c.args.name) one q.1, subst (λ (x : Node). IsFoundAs l x c.found_at-found.result) one q.2)
@@ -39,5 +36,5 @@ returns-clause-named c = its_node (goal.at.returns-clause-named c).After-found_a
 pub returns-clause-there : goal.returns-clause-there
 returns-clause-there c =
     let is = its_node (goal.at.returns-clause-there c).After-found_at-found in
-    lies_there c.requires.trees.filed c.args.name (record { node = c.in-Some.node; found = c.found_at-found.result }) c.in-Some-find.spot.0 c.in-Some-find.spot.1.items
+    lies_there c.requires.trees.filed c.args.name (record { node = c.in-Some.node; found = c.found_at-found.result }) c.in-Some-find.spot.trade c.find.new.path.items
     is.1 c.found_at-found.ensures.trade (rw c.in-Some-find.is at c.find.ensures.found)

@@ -3,7 +3,7 @@ use Rattle.gu_tree.proofs.Slots.{without_slot-found, without_slot-absent}
 use Rattle.gu_tree.proofs.slot.clear.Goals as goal
 
 pub returns-in-Ok : goal.returns-in-Ok
-returns-in-Ok g c = rw c.new.ensures (without_slot-found _ _ c.in-Ok.i c.requires (rw c.as_slice.ensures.value at c.in-Ok.ensures.found))
+returns-in-Ok g c = rw c.new.ensures (without_slot-found _ _ c.in-Ok.i c.requires (rw c.as_slice-2.ensures.value at c.in-Ok.ensures.found))
 
 pub returns-in_default : goal.returns-in_default
-returns-in_default g c = sym (without_slot-absent _ _ (rw c.as_slice.ensures.value at c.in_default.ensures.absent))
+returns-in_default g c = sym (without_slot-absent _ _ (rw c.as_slice-2.ensures.value at c.in_default.ensures.absent))

@@ -2,11 +2,11 @@ use Rattle.std.proofs.Common.{rules}
 use Rattle.std.proofs.lemmas.List.Sorted.{answers_always}
 use Rattle.gu_tree.specs.Filing.{Filing}
 use Rattle.gu_tree.proofs.Slots.{searched}
-use Rattle.gu_tree.proofs.slot.find.Goals as goal
+use Rattle.gu_tree.proofs.slot.search.Goals as goal
 
 -- the closure gives the number of an entry
 pub returns : goal.returns
 returns c =
     let facts = c.binary_search_by_key.ensures in
     let by_key = facts.position (λ (x : Filing). x.entry) (answers_always _ _ _ (λ f a r g called. search rules)) in
-    rw (← c.get-2.ensures.value) (searched _ c.requires c.get-2.result _ facts.bound by_key)
+    rw (← c.get.ensures.value) (searched _ c.requires c.get.result _ facts.bound by_key)

@@ -1,0 +1,20 @@
+use Rattle.std.proofs.Common.{refl}
+use Rattle.gu_tree.specs.Rose.{head_of}
+use Rattle.gu_tree.specs.Changes.{offer_again_node}
+use Rattle.gu_tree.proofs.Inverses.{cut-tree}
+use Rattle.gu_tree.proofs.Parts.{some_and}
+use Rattle.gu_tree.proofs.ShowsLess.{offer_again-shows}
+use Rattle.gu_tree.proofs.tree.Tree.take_giving_back.Goals as goal
+
+pub returns-clause-node : goal.returns-clause-node
+returns-clause-node g c = rw (c.as_slice.ensures.value, c.self.view_is) at c.offer_again_at.ensures.node
+
+pub invariant_of-self : goal.invariant_of-self
+invariant_of-self g c =
+    let v = some_and _ _ c.requires in
+    cut-tree offer_again_node c.args.path.now.items c.args.self.now v.0 _ _ v.1 refl refl (returns-clause-node g c) (rw c.self.view_is at c.self.invariant)
+
+pub returns-clause-shows : goal.returns-clause-shows
+returns-clause-shows g c =
+    let v = some_and _ _ c.requires in
+    offer_again-shows c.args.path.now.items c.args.self.now v.0 _ v.1 v.2 (rw c.self.view_is at c.self.invariant).once (returns-clause-node g c)
