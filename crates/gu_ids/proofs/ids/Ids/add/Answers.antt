@@ -9,9 +9,8 @@ use Rattle.gu_ids.proofs.Links.{links_pushed, map_push, length_push}
 use Rattle.gu_ids.proofs.ids.Ids.add.Goals as goal
 
 pub returns : goal.returns
-returns c h are =
+returns c h e firm id are =
     let ids = c.args.self.now in
-    let e = c.args.entry.now in
     let link : Link = record { hash = c.hash-hash.result; before = c.index-before.result.now } in
     let full = ids.heads.ok.0 in
     let len : c.len.result ≡ length ids.heads.items = omega (arith, c.len.ensures, full) in
@@ -26,7 +25,7 @@ returns c h are =
     let heads' = set ids.heads.items c.bucket_of-bucket.result c.len-2.result in
     record {
       hashes = ap hashes_of c.push_reserved.ensures.items ∙ (map_push (λ (l : Link). l.hash) ids.links.items link
-          ∙ (ap (λ l. l ++ link.hash ∷ []) are.hashes ∙ (ap (λ x. map (λ (e : Entry). hash_of ids.hasher e.firm e.id) h ++ x ∷ []) c.hash-hash.ensures
+          ∙ (ap (λ l. l ++ link.hash ∷ []) are.hashes ∙ (ap (λ x. map (λ (e : Entry). hash_of ids.hasher e.firm e.id) h ++ x ∷ []) (c.hash-hash.ensures ∙ (ap (λ f. hash_of ids.hasher f c.args.id.now) (sym firm) ∙ ap (λ i. hash_of ids.hasher e.firm i) (sym id)))
           ∙ sym (map_push (λ (e : Entry). hash_of ids.hasher e.firm e.id) h e))));
       chains = subst (λ (l : List Link). AreChains (hashes_of l) (befores_of l) heads' (length l)) (sym c.push_reserved.ensures.items)
           (links_pushed ids.links.items ids.heads.items link are.chains (omega (arith, is, inside))
