@@ -1,5 +1,5 @@
 -- The running sums of what the live claims cost, with one change more.
-use Rattle.std.proofs.Common.{◌≡◌, ℕ, ◌+◌, ◌*◌, ◌≤◌, Bool, true, cond, refl, List, [], ◌∷◌, ◌++◌, length, sym, ◌∙◌, ap, subst, arith, Option}
+use Rattle.std.proofs.Common.{◌≡◌, ℕ, ◌+◌, ◌*◌, ◌≤◌, Bool, true, cond, refl, List, [], ◌∷◌, ◌++◌, length, sym, ◌∙◌, ap, subst, arith, Option, append-nil}
 use Rattle.std.specs.Prelude.{Some, None, filter, filter_map, sum_by, bytes_eq, ◌&&◌, IfSome}
 use Rattle.std.specs.List.{All, cons_option}
 use Rattle.std.proofs.Math.Nat.{mul-le-mul, mul-le-mul_right}
@@ -55,6 +55,10 @@ fees_push {t} {l} {r} next fees now new are same o is lots rate more =
       sums = subst (λ (cs : List Charge). AreSumsOf new cs) all (more (charges t l) (same (charges t l) are.sums));
       small = subst (λ (cs : List Charge). All IsSmallCharge cs) all (All-append IsSmallCharge (charges t l) (cons_option o []) are.small (small_option o lots rate));
     }
+
+-- a change that costs nothing
+pub fees_stay : {t : House} {l : List Record} {r : Record} {ts : Grove} → IsNext t l r ts → (fees : FeeRows) → AreFeesOf t l fees → None ≡ charge_of t l r.command → AreFeesOf t (l ++ r ∷ []) fees
+fees_stay next fees are free = fees_push next fees fees fees are (λ cs sums. sums) None free tt tt (λ cs sums. subst (AreSumsOf fees) (sym (append-nil cs)) sums)
 
 pub no_fees : (t : House) (fees : FeeRows) → AreSumsOf fees [] → AreFeesOf t [] fees
 no_fees t fees are = record { sums = are; small = All-nil IsSmallCharge }

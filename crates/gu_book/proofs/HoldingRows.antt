@@ -91,6 +91,14 @@ one_taken old new h taken = λ at side.
     let b = sum_by-cons (counted_at at side) h [] in
     omega (arith, a, b)
 
+-- and what one call put
+pub one_put : (old new : PositionRows) (h : Holding) (k : Key) → k ≡ h.key → ((at : Key) (s : Side) → lots_in new at s ≡ lots_in old at s + cond (is_key k at && same_side h.side s) h.lots 0) → HaveMoved old new None (h ∷ [])
+one_put old new h k is put = λ at side.
+    let a = put at side in
+    let b = sum_by-cons (counted_at at side) h [] in
+    let c = ap (λ k. cond (is_key k at && same_side h.side side) h.lots 0) is in
+    omega (arith, a, b, c)
+
 pub none_gone : (rows : PositionRows) → HaveMoved rows rows None []
 none_gone rows = λ at side. refl
 

@@ -56,7 +56,7 @@ abbrev pub told : List ℕ → Side → Option Deal → Bool
 told instrument side None = false
 told instrument side (Some t) = bytes_eq t.instrument instrument && same_side t.side side
 
-abbrev asked : {X : Type 0} → (X → Bool) → Option X → Bool
+abbrev pub asked : {X : Type 0} → (X → Bool) → Option X → Bool
 asked q None = false
 asked q (Some x) = q x
 
@@ -76,7 +76,7 @@ one_found_at p q x xs rest true once = kept_alone (q x) x (find (λ x. p x && q 
 one_found_at p q x xs rest false once = rest (omega (arith, once))
 
 -- where at most one passes the first test, both are passed where that one passes the second
-one_found : {X : Type 0} (p q : X → Bool) (xs : List X) → count_by p xs ≤ 1 → is_some (find (λ x. p x && q x) xs) ≡ asked q (find p xs)
+pub one_found : {X : Type 0} (p q : X → Bool) (xs : List X) → count_by p xs ≤ 1 → is_some (find (λ x. p x && q x) xs) ≡ asked q (find p xs)
 one_found p q [] once = refl
 one_found p q (x ∷ xs) once = let a = count_cons p x xs in one_found_at p q x xs (one_found p q xs) (p x) (omega (arith, a, once))
 

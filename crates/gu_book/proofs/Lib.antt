@@ -37,3 +37,5 @@ pub mod FiledLess
 pub mod FreeNodes
 pub mod Gone
 pub mod Crossing
+mod PartsAway
+mod TradesKept

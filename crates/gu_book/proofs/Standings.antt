@@ -88,19 +88,24 @@ module _ {t : House} {l : List Record} {r : Record} {ts : Grove} (next : IsNext 
       ≡ position_of l at.firm at.account instrument side + sum_by (counted_at (key_at at instrument) side) (added_by r.firm r.command (taken_by l r.command))
   position_moved = moved_by counted (replay_push t [] l r next.replayed next.lawful)
 
-  pub positions_push : (rows now new : PositionRows) → ArePositionsOf l rows → (o : Option Holding) → o ≡ taken_by l r.command → HaveMoved rows now None (added_by r.firm r.command o) → HaveMoved now new o []
-      → ArePositionsOf (l ++ r ∷ []) new
-  positions_push rows now new are o is put taken = record {
+  -- rows that have moved as the change says
+  pub positions_moved : (rows new : PositionRows) → ArePositionsOf l rows → (o : Option Holding) → o ≡ taken_by l r.command → HaveMoved rows new o (added_by r.firm r.command o) → ArePositionsOf (l ++ r ∷ []) new
+  positions_moved rows new are o is moved = record {
     lots = λ at side.
         let place : Place = record { firm = at.firm; account = at.account } in
         let a = are.lots at side in
-        let b = put at side in
-        let c = taken at side in
+        let b = moved at side in
         let d = position_moved place at.instrument side in
         let e = ap (taken_at at side) is in
         let f = ap (λ o. sum_by (counted_at at side) (added_by r.firm r.command o)) is in
-        omega (arith, a, b, c, d, e, f);
+        omega (arith, a, b, d, e, f);
   }
+
+  -- what was added and then taken
+  pub positions_push : (rows now new : PositionRows) → ArePositionsOf l rows → (o : Option Holding) → o ≡ taken_by l r.command → HaveMoved rows now None (added_by r.firm r.command o) → HaveMoved now new o []
+      → ArePositionsOf (l ++ r ∷ []) new
+  positions_push rows now new are o is put taken =
+      positions_moved rows new are o is (λ at side. let b = put at side in let c = taken at side in omega (arith, b, c))
 
 pub no_positions : (rows : PositionRows) → AreSumsOf rows [] → ArePositionsOf [] rows
 no_positions rows are = record { lots = λ at side. are.lots at side }

@@ -53,6 +53,17 @@ part_holding whole by p =
     then option_map (λ account. record { key = record { firm = by; account = account; instrument = whole.key.instrument }; side = whole.side; lots = p.lots }) p.account
     else Some (record { key = whole.key; side = whole.side; lots = p.lots })
 
+-- so many lots of the whole's in an account of the firm
+abbrev pub holding_away : Holding → List ℕ → List ℕ → ℕ → Holding
+holding_away whole by account lots = record { key = record { firm = by; account = account; instrument = whole.key.instrument }; side = whole.side; lots = lots }
+
+-- what a part holds in another account than the one in which the whole stood
+abbrev pub part_away : Holding → List ℕ → Part → Option Holding
+part_away whole by p =
+    if bytes_eq p.firm by
+    then option_and_then (λ account. if bytes_eq account whole.key.account then None else Some (holding_away whole by account p.lots)) p.account
+    else None
+
 -- what a change puts into accounts: a Trade its lots, a Split those of its parts, a Claim what it took, in its own account
 abbrev pub added_by : List ℕ → Command → Option Holding → List Holding
 added_by by (Trade firm account instrument side lots) taken =

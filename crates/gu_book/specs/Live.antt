@@ -8,9 +8,13 @@ use Rattle.gu_book.specs.Index.{AreReversalsOf}
 use Rattle.gu_book.specs.declared.index.Reversals.{Reversals}
 use Rattle.gu_book.specs.declared.live.Change.{Change}
 
+-- the entry
+abbrev pub entry_of_change : Change → Entry
+entry_of_change c = record { firm = c.firm.now; id = c.id.now; status = c.status; command = c.command.now }
+
 -- the entry with its number
 abbrev pub record_of : Change → Record
-record_of c = numbered_as c.number c.entry.now
+record_of c = numbered_as c.number (entry_of_change c)
 
 -- the history is no longer than a book's, and its reversals can be looked up
 pub record CanBeFound (h : List Entry) (rs : Reversals) : Type 0 where

@@ -1,11 +1,12 @@
 //! The book: the house table, the history, and beside it a tree for each live trade, the consents, an index, the fees and the
 //! positions.
-ghost use Rattle.std.specs.Prelude.{true, ◌≡◌, ◌==◌, ◌≤◌, ◌<◌, ◌+◌, ◌^◌, ℕ, [], ◌∷◌, ◌++◌, length, map, option_map, IsTrue, IfOk, OnOk, OnErr, if◌then◌else◌};
+ghost use Rattle.std.specs.Prelude.{true, vec_len, vec_capacity, ◌≡◌, ◌==◌, ◌≤◌, ◌<◌, ◌+◌, ◌^◌, ℕ, [], ◌∷◌, ◌++◌, length, map, option_map, IsTrue, IfOk, OnOk, OnErr, if◌then◌else◌};
 ghost use Rattle.gu_base.specs.Limits.{most_entries};
 ghost use Rattle.gu_base.specs.Consents.{is_consenting};
 ghost use Rattle.gu_base.specs.History.{is_change, live};
 ghost use Rattle.gu_base.specs.Positions.{position_of};
 ghost use Rattle.gu_base.specs.Fees.{paid_by, received_by, used_of};
+ghost use Rattle.gu_base.specs.Nodes.{is_split};
 ghost use Rattle.gu_base.specs.Standing.{IsLegal};
 ghost use Rattle.gu_base.specs.Answers.{Call, answer_to, after, is_accepted};
 ghost use Rattle.gu_base.specs.declared.command.Side.TheVariants.{Buy, Sell};
@@ -17,8 +18,9 @@ ghost use Rattle.gu_tree.specs.Shown.{shown, named_node};
 ghost use Rattle.gu_book.specs.Front.{may_lack};
 ghost use Rattle.gu_book.specs.Ids.{NoIdTwice};
 ghost use Rattle.gu_book.specs.Found.{IsNamedIn, LiesThere};
+ghost use Rattle.gu_book.specs.Live.{entry_of_change};
 ghost use Rattle.gu_book.specs.Seen.{stored};
-ghost use Rattle.gu_book.specs.TreeRows.{is_live_trade, tree_rows};
+ghost use Rattle.gu_book.specs.TreeRows.{is_live_trade, is_trade, tree_rows};
 ghost use Rattle.gu_book.specs.Visits.{AreVisits, IsMet, depth_meant, parts_named, nodes_made, is_kept};
 
 use crate::found::{Named, Sought, seek};
@@ -29,8 +31,8 @@ use crate::plain::standing::Standing;
 use crate::plain::{charges, holdings};
 use crate::{grove, visits};
 use gu_base::{
-    AccountId, AllocId, Answer, Command, Entry, FirmId, InstrumentId, Memory, Number, Refusal,
-    State,
+    AccountId, AllocId, Answer, Command, Entry, FirmId, InstrumentId, Memory, Number, Place,
+    Refusal,
 };
 use gu_consent::Consents;
 use gu_depend::first_standing;
@@ -131,12 +133,19 @@ impl Book {
     {
         let mut sought = Sought::nothing();
         self.seek(command, &mut sought);
-        let answer = self.answer(by, id, command, sought.named);
+        let answer = self.answer(by, id, command, &sought.named);
         let seen = self.nodes_seen(command, &sought.named, &answer);
         self.note(seen);
         match answer {
-            Answer::Accepted { .. } => {
-                self.carry_out(alloc, by, id, command, &sought, &answer)?;
+            Answer::Accepted { number, status } => {
+                let made = Change {
+                    number,
+                    firm: by,
+                    id,
+                    status,
+                    command,
+                };
+                self.carry_out(alloc, &made, &sought)?;
                 self.note(seen + visits::nodes_made(command));
                 Ok(answer)
             }
@@ -191,8 +200,8 @@ impl Book {
     }
 
     /// The answer to a call whose command names this node. Keeps nothing and takes no memory.
-    fn answer(&self, by: &FirmId, id: &AllocId, command: &Command, named: Option<Named>) -> Answer
-        requires { IsNamedIn (live self.now.history) (named_node command.now) named }
+    fn answer(&self, by: &FirmId, id: &AllocId, command: &Command, named: &Option<Named>) -> Answer
+        requires { IsNamedIn (live self.now.history) (named_node command.now) named.now }
         ensures { result ≡ answer_to self.now.house self.now.history (record { firm = by.now; id = id.now; command = command.now }) }
     {
         let at = Standing {
@@ -217,129 +226,176 @@ impl Book {
         }
     }
 
-    /// Keeps the command where it is accepted. It is not inlined: each local is zeroed where a function begins, and a call that is
-    /// refused would pay for those of this one.
-    #[inline(never)]
-    fn carry_out(
-        &mut self,
-        alloc: Global,
-        by: &FirmId,
-        id: &AllocId,
-        command: &Command,
-        sought: &Sought,
-        answer: &Answer,
-    ) -> Result<(), Memory>
-        requires named { IsNamedIn (live self.old.history) (named_node command.now) sought.now.named }
+    /// Keeps an accepted call: each kind in a function of its own, so that each runs through no more code and no larger a frame than it needs.
+    fn carry_out(&mut self, alloc: Global, made: &Change<'_>, sought: &Sought) -> Result<(), Memory>
+        requires named { IsNamedIn (live self.old.history) (named_node made.now.command.now) sought.now.named }
         requires there { LiesThere (live self.old.history) sought.now.named sought.now.path.items }
-        requires answered { answer.now ≡ answer_to self.old.house self.old.history (record { firm = by.now; id = id.now; command = command.now }) }
-        requires accepted { IsTrue (is_accepted answer.now) }
-        ensures kept { OnOk result (self.new ≡ record self.old { history = after self.old.house self.old.history (record { firm = by.now; id = id.now; command = command.now }) }) }
+        requires accepted { answer_to self.old.house self.old.history (call_of (entry_of_change made.now)) ≡ Accepted made.now.number made.now.status }
+        ensures kept { OnOk result (self.new ≡ record self.old { history = self.old.history ++ entry_of_change made.now ∷ [] }) }
         ensures unchanged { OnErr result (self.new ≡ self.old) }
     {
-        let Answer::Accepted { number, status } = *answer else {
-            unreachable!()
-        };
-        let kept = Entry {
-            firm: *by,
-            id: *id,
-            command: command.copy(alloc)?,
-            status,
-        };
-        self.keep(alloc, kept, sought, number)
-    }
-
-    /// Keeps an accepted command.
-    fn keep(
-        &mut self,
-        alloc: Global,
-        kept: Entry,
-        sought: &Sought,
-        number: Number,
-    ) -> Result<(), Memory>
-        requires named { IsNamedIn (live self.old.history) (named_node kept.command) sought.now.named }
-        requires there { LiesThere (live self.old.history) sought.now.named sought.now.path.items }
-        requires accepted { answer_to self.old.house self.old.history (call_of kept) ≡ Accepted number kept.status }
-        ensures kept { OnOk result (self.new ≡ record self.old { history = after self.old.house self.old.history (call_of kept) }) }
-        ensures unchanged { OnErr result (self.new ≡ self.old) }
-    {
-        match &kept.command {
-            Command::Initiate { .. } | Command::Decline { .. } => {
-                self.keep_consenting(alloc, kept, number)
+        match made.command {
+            Command::Trade { .. } => self.keep_trade(alloc, made),
+            Command::Split { .. } => self.keep_split(alloc, made, sought),
+            Command::Claim { .. } | Command::Refuse { .. } | Command::Cancel { .. } => {
+                self.keep_decision(alloc, made, sought)
             }
-            Command::Reverse { entry } => {
-                let entry = *entry;
-                self.keep_reversal(alloc, kept, entry, number)
-            }
-            _ => self.keep_change(alloc, kept, sought, number),
+            Command::Initiate { .. } | Command::Decline { .. } => self.keep_consenting(alloc, made),
+            Command::Reverse { entry } => self.keep_reversal(made, *entry),
         }
     }
 
-    /// Puts an accepted change at the end of the history, and changes its tree. The lots that it adds are put where they go with the
-    /// growth of their rows, and taken out again where a later growth is refused; all else changes behind the last growth.
-    fn keep_change(
+    /// Puts an accepted Trade at the end of the history, its lots where they go, and its tree beside the others.
+    #[inline(never)]
+    fn keep_trade(&mut self, alloc: Global, made: &Change<'_>) -> Result<(), Memory>
+        requires trade { is_trade made.now.command.now ≡ true }
+        requires accepted { answer_to self.old.house self.old.history (call_of (entry_of_change made.now)) ≡ Accepted made.now.number made.now.status }
+        ensures kept { OnOk result (self.new ≡ record self.old { history = self.old.history ++ entry_of_change made.now ∷ [] }) }
+        ensures unchanged { OnErr result (self.new ≡ self.old) }
+    {
+        let Command::Trade {
+            firm,
+            account,
+            instrument,
+            side,
+            lots,
+        } = made.command
+        else {
+            unreachable!()
+        };
+        self.entries.reserve(1)?;
+        self.index.ids.ready()?;
+        self.trees.ready()?;
+        let key = Key {
+            firm: *firm,
+            account: *account,
+            instrument: *instrument,
+        };
+        self.positions.put(&key, *side, *lots)?;
+        let place = Place {
+            firm: *firm,
+            account: *account,
+        };
+        grove::plant(&mut self.trees, alloc, made, place, *lots);
+        self.index.ids.add(made.firm, made.id);
+        let kept = Command::Trade {
+            firm: *firm,
+            account: *account,
+            instrument: *instrument,
+            side: *side,
+            lots: *lots,
+        };
+        push(&mut self.entries, made, kept);
+        Ok(())
+    }
+
+    /// Puts an accepted Split at the end of the history, the lots of its parts where they go, and the parts below their node. The
+    /// lots are taken out again where the growth of the tree is refused.
+    #[inline(never)]
+    fn keep_split(
         &mut self,
         alloc: Global,
-        kept: Entry,
+        made: &Change<'_>,
         sought: &Sought,
-        number: Number,
     ) -> Result<(), Memory>
-        requires change { is_change kept.command ≡ true }
-        requires named { IsNamedIn (live self.old.history) (named_node kept.command) sought.now.named }
+        requires split { is_split made.now.command.now ≡ true }
+        requires named { IsNamedIn (live self.old.history) (named_node made.now.command.now) sought.now.named }
         requires there { LiesThere (live self.old.history) sought.now.named sought.now.path.items }
-        requires next { number ≡ length self.old.history + 1 }
-        requires accepted { answer_to self.old.house self.old.history (call_of kept) ≡ Accepted number kept.status }
-        ensures kept { OnOk result (self.new ≡ record self.old { history = self.old.history ++ kept ∷ [] }) }
+        requires accepted { answer_to self.old.house self.old.history (call_of (entry_of_change made.now)) ≡ Accepted made.now.number made.now.status }
+        ensures kept { OnOk result (self.new ≡ record self.old { history = self.old.history ++ entry_of_change made.now ∷ [] }) }
+        ensures unchanged { OnErr result (self.new ≡ self.old) }
+    {
+        let Command::Split { node, parts } = made.command else {
+            unreachable!()
+        };
+        self.entries.reserve(1)?;
+        self.index.ids.ready()?;
+        self.trees.ready()?;
+        let kept = parts.copy(alloc)?;
+        let changes = Live::of(self.entries.as_slice(), &self.index.reversals);
+        let Some(named) = &sought.named else {
+            unreachable!()
+        };
+        let whole = holdings::whole_of(&changes, named);
+        let moved = holdings::put_all_away(
+            &mut self.positions,
+            &whole,
+            made.firm,
+            parts.as_slice(),
+        )?;
+        if let Err(e) = grove::split(&mut self.trees, made, sought, parts.as_slice()) {
+            holdings::take_away(&mut self.positions, &whole, made.firm, parts.as_slice());
+            return Err(e);
+        }
+        holdings::take_moved(&mut self.positions, &whole, moved);
+        self.index.ids.add(made.firm, made.id);
+        let kept = Command::Split {
+            node: *node,
+            parts: kept,
+        };
+        push(&mut self.entries, made, kept);
+        Ok(())
+    }
+
+    /// Puts an accepted Claim, Refuse or Cancel at the end of the history, and decides its node. The lots of a Claim are put where they go with the
+    /// growth of their row, and taken out again where a later growth is refused; all else changes behind the last growth.
+    #[inline(never)]
+    fn keep_decision(
+        &mut self,
+        alloc: Global,
+        made: &Change<'_>,
+        sought: &Sought,
+    ) -> Result<(), Memory>
+        requires change { is_change made.now.command.now ≡ true }
+        requires named { IsNamedIn (live self.old.history) (named_node made.now.command.now) sought.now.named }
+        requires there { LiesThere (live self.old.history) sought.now.named sought.now.path.items }
+        requires accepted { answer_to self.old.house self.old.history (call_of (entry_of_change made.now)) ≡ Accepted made.now.number made.now.status }
+        ensures kept { OnOk result (self.new ≡ record self.old { history = self.old.history ++ entry_of_change made.now ∷ [] }) }
         ensures unchanged { OnErr result (self.new ≡ self.old) }
     {
         let changes = Live::of(self.entries.as_slice(), &self.index.reversals);
-        let charge = charges::charge_of(&self.house, &changes, &kept.command);
-        let taken = holdings::taken_by(&changes, &sought.named, &kept.command);
+        let charge = charges::charge_named(&self.house, &sought.named, made.command);
+        let taken = holdings::taken_by(&changes, &sought.named, made.command);
+        let kept = made.command.copy(alloc)?;
         self.entries.reserve(1)?;
         charges::ready(&mut self.fees, &charge)?;
         self.index.ids.ready()?;
-        holdings::put_added(&mut self.positions, &kept.firm, &kept.command, &taken)?;
-        let made = Change {
-            number,
-            entry: &kept,
-        };
-        if let Err(e) = grove::change(&mut self.trees, alloc, &made, sought) {
-            holdings::take_added(&mut self.positions, &kept.firm, &kept.command, &taken);
+        holdings::put_added(&mut self.positions, made.firm, made.command, &taken)?;
+        if let Err(e) = grove::change(&mut self.trees, alloc, made, sought) {
+            holdings::take_added(&mut self.positions, made.firm, made.command, &taken);
             return Err(e);
         }
         charges::add(&mut self.fees, &charge);
         holdings::take_whole(&mut self.positions, &taken);
-        self.index.ids.add(&kept);
-        self.entries.push_reserved(kept);
+        self.index.ids.add(made.firm, made.id);
+        push(&mut self.entries, made, kept);
         Ok(())
     }
 
     /// Puts an accepted Initiate or Decline at the end of the history, and does to the consents what it says.
-    fn keep_consenting(&mut self, alloc: Global, kept: Entry, number: Number) -> Result<(), Memory>
-        requires consenting { is_consenting kept.command ≡ true }
-        requires accepted { answer_to self.old.house self.old.history (call_of kept) ≡ Accepted number kept.status }
-        ensures kept { OnOk result (self.new ≡ record self.old { history = self.old.history ++ kept ∷ [] }) }
+    #[inline(never)]
+    fn keep_consenting(&mut self, alloc: Global, made: &Change<'_>) -> Result<(), Memory>
+        requires consenting { is_consenting made.now.command.now ≡ true }
+        requires accepted { answer_to self.old.house self.old.history (call_of (entry_of_change made.now)) ≡ Accepted made.now.number made.now.status }
+        ensures kept { OnOk result (self.new ≡ record self.old { history = self.old.history ++ entry_of_change made.now ∷ [] }) }
         ensures unchanged { OnErr result (self.new ≡ self.old) }
     {
+        let kept = made.command.copy(alloc)?;
         self.entries.reserve(1)?;
         self.index.ids.ready()?;
-        consent(&mut self.consents, alloc, &kept)?;
-        self.index.ids.add(&kept);
-        self.entries.push_reserved(kept);
+        consent(&mut self.consents, alloc, made)?;
+        self.index.ids.add(made.firm, made.id);
+        push(&mut self.entries, made, kept);
         Ok(())
     }
 
     /// Puts an accepted Reverse at the end of the history, takes its change back at its node, and moves back what the change moved and
     /// charged. All growths come before anything changes.
-    fn keep_reversal(
-        &mut self,
-        alloc: Global,
-        kept: Entry,
-        change: Number,
-        number: Number,
-    ) -> Result<(), Memory>
-        requires names { kept.command ≡ Reverse change }
-        requires accepted { answer_to self.old.house self.old.history (call_of kept) ≡ Accepted number kept.status }
-        ensures kept { OnOk result (self.new ≡ record self.old { history = self.old.history ++ kept ∷ [] }) }
+    #[inline(never)]
+    fn keep_reversal(&mut self, made: &Change<'_>, change: Number) -> Result<(), Memory>
+        requires names { made.now.command.now ≡ Reverse change }
+        requires accepted { answer_to self.old.house self.old.history (call_of (entry_of_change made.now)) ≡ Accepted made.now.number made.now.status }
+        ensures kept { OnOk result (self.new ≡ record self.old { history = self.old.history ++ entry_of_change made.now ∷ [] }) }
         ensures unchanged { OnErr result (self.new ≡ self.old) }
     {
         self.entries.reserve(1)?;
@@ -349,13 +405,13 @@ impl Book {
         let taken = holdings::taken_before(&changes, &self.trees, &undone.command);
         holdings::ready_taken(&mut self.positions, &taken)?;
         self.index.ids.ready()?;
-        self.index.reversals.put(change, number)?;
+        self.index.reversals.put(change, made.number)?;
         grove::undo(&mut self.trees, change, undone);
         charges::take_back(&mut self.fees, &charge);
         holdings::move_back(&mut self.positions, &undone.firm, &undone.command, &taken);
         self.consents.clear(change);
-        self.index.ids.add(&kept);
-        self.entries.push_reserved(kept);
+        self.index.ids.add(made.firm, made.id);
+        push(&mut self.entries, made, Command::Reverse { entry: change });
         Ok(())
     }
 
@@ -411,15 +467,30 @@ impl Book {
     }
 }
 
+/// Puts the entry of an accepted call at the end of the history; there has to be room for it. It is put together where it then lies.
+#[inline(always)]
+fn push(entries: &mut Vec<Entry>, made: &Change<'_>, command: Command)
+    requires room { vec_len entries.old < vec_capacity entries.old }
+    requires same { command ≡ made.now.command.now }
+    ensures { entries.new.items ≡ entries.old.items ++ entry_of_change made.now ∷ [] }
+{
+    entries.push_reserved(Entry {
+        firm: *made.firm,
+        id: *made.id,
+        status: made.status,
+        command,
+    });
+}
+
 /// Adds the consent that an accepted Initiate gives, or clears those that a Decline takes back.
-fn consent(consents: &mut Consents, alloc: Global, kept: &Entry) -> Result<(), Memory>
-    requires consenting { is_consenting kept.now.command ≡ true }
-    ensures gives { OnOk result ((k m : ℕ) → kept.now.command ≡ Initiate k → given consents.new m ≡ (if m == k then given consents.old m ++ kept.now.firm ∷ [] else given consents.old m)) }
-    ensures clears { OnOk result ((k m : ℕ) → kept.now.command ≡ Decline k → given consents.new m ≡ (if m == k then [] else given consents.old m)) }
+fn consent(consents: &mut Consents, alloc: Global, made: &Change<'_>) -> Result<(), Memory>
+    requires consenting { is_consenting made.now.command.now ≡ true }
+    ensures gives { OnOk result ((k m : ℕ) → made.now.command.now ≡ Initiate k → given consents.new m ≡ (if m == k then given consents.old m ++ made.now.firm.now ∷ [] else given consents.old m)) }
+    ensures clears { OnOk result ((k m : ℕ) → made.now.command.now ≡ Decline k → given consents.new m ≡ (if m == k then [] else given consents.old m)) }
     ensures unchanged { OnErr result ((m : ℕ) → given consents.new m ≡ given consents.old m) }
 {
-    match &kept.command {
-        Command::Initiate { entry } => consents.give(alloc, *entry, kept.firm),
+    match made.command {
+        Command::Initiate { entry } => consents.give(alloc, *entry, *made.firm),
         Command::Decline { entry } => {
             consents.clear(*entry);
             Ok(())

@@ -17,7 +17,13 @@ use gu_tree::{Row, Tree, Trees};
 use std::alloc::Global;
 
 /// Adds the tree of a Trade.
-fn plant(trees: &mut Trees<Global>, alloc: Global, made: &Change<'_>, place: Place, lots: u64)
+pub(crate) fn plant(
+    trees: &mut Trees<Global>,
+    alloc: Global,
+    made: &Change<'_>,
+    place: Place,
+    lots: u64,
+)
     requires due { IsDue (record_of made.now) trees.old }
     requires tree_room { 1 ≤ trees.old.tree_room }
     requires place_room { 1 ≤ trees.old.place_room }
@@ -29,7 +35,7 @@ fn plant(trees: &mut Trees<Global>, alloc: Global, made: &Change<'_>, place: Pla
 }
 
 /// Gives the node its parts.
-fn split(
+pub(crate) fn split(
     trees: &mut Trees<Global>,
     made: &Change<'_>,
     sought: &Sought,
@@ -37,8 +43,8 @@ fn split(
 ) -> Result<(), Memory>
     requires due { IsDue (record_of made.now) trees.old }
     requires place_room { 1 ≤ trees.old.place_room }
-    requires split { (n : EntryPart) × (made.now.entry.now.command ≡ Split n parts.now) }
-    requires there { IsFoundThere trees.old (named_node made.now.entry.now.command) sought.now.named sought.now.path.items }
+    requires split { (n : EntryPart) × (made.now.command.now ≡ Split n parts.now) }
+    requires there { IsFoundThere trees.old (named_node made.now.command.now) sought.now.named sought.now.path.items }
     ensures follows { OnOk result (Follows (record_of made.now) trees.old trees.new) }
     ensures last { OnOk result (last_place trees.new ≤ made.now.number) }
     ensures unchanged { OnErr result (IsSameGrove trees.old trees.new) }
@@ -53,8 +59,8 @@ fn split(
 fn claim(trees: &mut Trees<Global>, made: &Change<'_>, sought: &Sought, account: AccountId)
     requires due { IsDue (record_of made.now) trees.old }
     requires place_room { 1 ≤ trees.old.place_room }
-    requires claim { (n : EntryPart) × (made.now.entry.now.command ≡ Claim n account) }
-    requires there { IsFoundThere trees.old (named_node made.now.entry.now.command) sought.now.named sought.now.path.items }
+    requires claim { (n : EntryPart) × (made.now.command.now ≡ Claim n account) }
+    requires there { IsFoundThere trees.old (named_node made.now.command.now) sought.now.named sought.now.path.items }
     ensures follows { Follows (record_of made.now) trees.old trees.new }
     ensures last { last_place trees.new ≤ made.now.number }
 {
@@ -62,7 +68,7 @@ fn claim(trees: &mut Trees<Global>, made: &Change<'_>, sought: &Sought, account:
         unreachable!()
     };
     let place = Place {
-        firm: made.entry.firm,
+        firm: *made.firm,
         account,
     };
     trees.claim(named.found.trade, &sought.path, made.number, place);
@@ -72,8 +78,8 @@ fn claim(trees: &mut Trees<Global>, made: &Change<'_>, sought: &Sought, account:
 fn give_back(trees: &mut Trees<Global>, made: &Change<'_>, sought: &Sought, state: State)
     requires due { IsDue (record_of made.now) trees.old }
     requires place_room { 1 ≤ trees.old.place_room }
-    requires back { (n : EntryPart) × GivesBack n state made.now.entry.now.command }
-    requires there { IsFoundThere trees.old (named_node made.now.entry.now.command) sought.now.named sought.now.path.items }
+    requires back { (n : EntryPart) × GivesBack n state made.now.command.now }
+    requires there { IsFoundThere trees.old (named_node made.now.command.now) sought.now.named sought.now.path.items }
     ensures follows { Follows (record_of made.now) trees.old trees.new }
     ensures last { last_place trees.new ≤ made.now.number }
 {
@@ -91,14 +97,14 @@ fn make(
     sought: &Sought,
 ) -> Result<(), Memory>
     requires due { IsDue (record_of made.now) trees.old }
-    requires there { IsFoundThere trees.old (named_node made.now.entry.now.command) sought.now.named sought.now.path.items }
+    requires there { IsFoundThere trees.old (named_node made.now.command.now) sought.now.named sought.now.path.items }
     requires tree_room { 1 ≤ trees.old.tree_room }
     requires place_room { 1 ≤ trees.old.place_room }
     ensures follows { OnOk result (Follows (record_of made.now) trees.old trees.new) }
     ensures last { OnOk result (last_place trees.new ≤ made.now.number) }
     ensures unchanged { OnErr result (IsSameGrove trees.old trees.new) }
 {
-    match &made.entry.command {
+    match made.command {
         Command::Trade {
             firm,
             account,
@@ -129,7 +135,7 @@ pub(crate) fn change(
     sought: &Sought,
 ) -> Result<(), Memory>
     requires due { IsDue (record_of made.now) trees.old }
-    requires there { IsFoundThere trees.old (named_node made.now.entry.now.command) sought.now.named sought.now.path.items }
+    requires there { IsFoundThere trees.old (named_node made.now.command.now) sought.now.named sought.now.path.items }
     ensures follows { OnOk result (Follows (record_of made.now) trees.old trees.new) }
     ensures last { OnOk result (last_place trees.new ≤ made.now.number) }
     ensures unchanged { OnErr result (IsSameGrove trees.old trees.new) }

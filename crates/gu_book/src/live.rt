@@ -7,15 +7,18 @@ ghost use Rattle.gu_book.specs.Live.{record_of};
 
 use crate::index::Reversals;
 use crate::plain::naming::is_change;
-use gu_base::{Entry, Memory, Number};
+use gu_base::{AllocId, Command, Entry, FirmId, Memory, Number, State};
 use std::alloc::Global;
 use std::marker::Model;
 
-/// An entry, and its number.
+/// An entry and its number, borrowed from the history or from the call that becomes the entry.
 #[derive(Clone, Copy)]
 pub(crate) struct Change<'a> {
     pub(crate) number: Number,
-    pub(crate) entry: &'a Entry,
+    pub(crate) firm: &'a FirmId,
+    pub(crate) id: &'a AllocId,
+    pub(crate) status: State,
+    pub(crate) command: &'a Command,
 }
 
 /// The live changes of a history: its changes that no Reverse names. Nothing is copied; a change is found by its number.
@@ -62,7 +65,13 @@ impl<'a> Live<'a> {
         }
         match self.reversals.number(number) {
             Some(_) => None,
-            None => Some(Change { number, entry }),
+            None => Some(Change {
+                number,
+                firm: &entry.firm,
+                id: &entry.id,
+                status: entry.status,
+                command: &entry.command,
+            }),
         }
     }
 

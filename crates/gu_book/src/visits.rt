@@ -57,5 +57,5 @@ pub(crate) fn nodes_asked(changes: &Live<'_>, trees: &Trees<Global>, number: Num
     let Some(spot) = trees.place(number) else {
         return 0;
     };
-    spot.1.len() as u64 + 1 + parts_in(&made.entry.command)
+    spot.1.len() as u64 + 1 + parts_in(made.command)
 }

@@ -195,13 +195,13 @@ impl Ids {
         }
     }
 
-    /// Adds the entry that comes next in the history.
-    pub fn add(&mut self, entry: &Entry)
+    /// Adds the entry of this firm and id that comes next in the history.
+    pub fn add(&mut self, firm: &FirmId, id: &AllocId)
         requires ready { IsReady self.old }
         requires few { count self.old < most_entries }
-        ensures { (h : List Entry) → AreIdsOf self.old h → AreIdsOf self.new (h ++ entry.now ∷ []) }
+        ensures { (h : List Entry) (e : Entry) → e.firm ≡ firm.now → e.id ≡ id.now → AreIdsOf self.old h → AreIdsOf self.new (h ++ e ∷ []) }
     {
-        let hash = self.hash(&entry.firm, &entry.id);
+        let hash = self.hash(firm, id);
         let bucket = bucket_of(hash, self.heads.len());
         let head = self.heads[bucket];
         self.links.push_reserved(Link {

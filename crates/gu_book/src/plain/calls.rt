@@ -23,6 +23,8 @@ use gu_base::{AllocId, Answer, Command, Entry, FirmId, Number, Refusal, State};
 use gu_ids::Ids;
 
 /// The answer to a call whose firm and id this entry has.
+#[cold]
+#[inline(never)]
 fn known_answer(number: Number, e: &Entry, command: &Command) -> Answer
     ensures { result ≡ (if same_command e.now.command command.now then Repeated number e.now.status else Refused (DuplicateId number)) }
 {
@@ -85,7 +87,7 @@ fn front_refusal(at: &Standing<'_>, by: &FirmId, command: &Command) -> Option<Re
     requires few { length at.now.entries.now ≤ most_entries }
     requires live { at.now.changes ≡ live at.now.entries.now }
     requires rises { RisesFrom 1 at.now.changes }
-    requires named { IsNamedIn at.now.changes (named_node command.now) at.now.named }
+    requires named { IsNamedIn at.now.changes (named_node command.now) at.now.named.now }
     ensures { result ≡ front_refusal at.now.house.now at.now.entries.now (given at.now.consents.now) by.now command.now }
 {
     match command {
@@ -106,7 +108,7 @@ fn new_answer(at: &Standing<'_>, by: &FirmId, command: &Command) -> Answer
     requires few { length at.now.entries.now ≤ most_entries }
     requires live { at.now.changes ≡ live at.now.entries.now }
     requires rises { RisesFrom 1 at.now.changes }
-    requires named { IsNamedIn at.now.changes (named_node command.now) at.now.named }
+    requires named { IsNamedIn at.now.changes (named_node command.now) at.now.named.now }
     ensures { result ≡ front_rules at.now.house.now at.now.entries.now (given at.now.consents.now) by.now command.now }
 {
     if at.entries.len() >= Number::MAX as usize {
@@ -134,7 +136,7 @@ pub(crate) fn front_answer(
     requires few { length at.now.entries.now ≤ most_entries }
     requires live { at.now.changes ≡ live at.now.entries.now }
     requires rises { RisesFrom 1 at.now.changes }
-    requires named { IsNamedIn at.now.changes (named_node command.now) at.now.named }
+    requires named { IsNamedIn at.now.changes (named_node command.now) at.now.named.now }
     ensures { result ≡ front_answer at.now.house.now at.now.entries.now (given at.now.consents.now) (record { firm = by.now; id = id.now; command = command.now }) }
 {
     if let Some(answer) = known(&at.index.ids, at.entries, by, id, command) {

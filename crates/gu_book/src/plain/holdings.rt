@@ -1,19 +1,19 @@
 //! The lots that stand in an account, and which of them a change moves.
-ghost use Rattle.std.specs.Prelude.{◌≡◌, ◌≤◌, ◌==◌, [], length, take, find, filter_map, Some, None, option_and_then, IfSome, OnOk, OnErr};
+ghost use Rattle.std.specs.Prelude.{◌≡◌, ◌≤◌, ◌==◌, [], length, take, find, filter_map, sum_by, Some, None, option_and_then, option_map, IfSome, IsSome, IfOk, OnOk, OnErr};
 ghost use Rattle.std.specs.List.{cons_option};
 ghost use Rattle.gu_base.specs.Nodes.{deal_in, node_of};
 ghost use Rattle.gu_base.specs.Limits.{most_lots};
-ghost use Rattle.gu_book.specs.Found.{AreTreesOf, IsNamedBy, IsNamedIn};
-ghost use Rattle.gu_book.specs.Holdings.{held_at, holding_of, held_above, taken_by, taken_before, part_holding, added_by, HasTaken, HaveRoom, SameLots, HaveMoved, HaveThere, IsReadyTaken, HasRoomBack};
+ghost use Rattle.gu_book.specs.Found.{AreTreesOf, IsFoundAs, IsNamedBy, IsNamedIn};
+ghost use Rattle.gu_book.specs.Holdings.{held_at, holding_of, held_above, taken_by, taken_before, part_holding, holding_away, part_away, added_by, HasTaken, HaveRoom, SameLots, HaveMoved, HaveThere, IsReadyTaken, HasRoomBack};
 ghost use Rattle.gu_book.specs.Limits.{AllWithinLimits};
-ghost use Rattle.gu_positions.specs.Rows.{IsReady};
+ghost use Rattle.gu_positions.specs.Rows.{IsReady, lots_in};
 ghost use Rattle.gu_tree.specs.Shown.{named_node};
 ghost use Rattle.gu_positions.specs.declared.positions.Key.{Key as KeyData};
 
 use crate::found::{Named, find};
 use crate::live::Live;
 use crate::plain::nodes::parent_of;
-use gu_base::{Command, Deal, FirmId, Memory, NodeName, Number, Part, Place, Side};
+use gu_base::{AccountId, Command, Deal, FirmId, Memory, NodeName, Number, Part, Place, Side};
 use gu_positions::{Key, Positions};
 use gu_tree::Trees;
 use std::alloc::{AllocError, Global};
@@ -31,7 +31,7 @@ fn traded_under(changes: &Live<'_>, number: Number) -> Option<Deal>
     ensures { result ≡ option_and_then (λ r. deal_in r.command) (find (λ r. r.number == number) changes.now) }
 {
     match changes.change(number) {
-        Some(made) => Deal::in_command(&made.entry.command),
+        Some(made) => Deal::in_command(made.command),
         None => None,
     }
 }
@@ -51,6 +51,28 @@ fn held_at(place: &Place, traded: &Option<Deal>, lots: u64) -> Option<Holding>
             side: traded.side,
             lots,
         }),
+    }
+}
+
+/// The lots of a node that was found, where it stands.
+#[inline(always)]
+pub(crate) fn whole_of(changes: &Live<'_>, named: &Named) -> Holding
+    requires there { IsSome (holding_of changes.now named.now.node) }
+    requires found { IsFoundAs changes.now named.now.node named.now.found }
+    ensures { Some result ≡ holding_of changes.now named.now.node }
+{
+    let Some(traded) = traded_under(changes, named.found.trade) else {
+        unreachable!()
+    };
+    let place = &named.found.head.place;
+    Holding {
+        key: Key {
+            firm: place.firm,
+            account: place.account,
+            instrument: traded.instrument,
+        },
+        side: traded.side,
+        lots: named.found.head.lots,
     }
 }
 
@@ -170,6 +192,105 @@ fn part_holding(whole: &Holding, by: &FirmId, part: &Part) -> Option<Holding>
             side: whole.side,
             lots: part.lots,
         }),
+    }
+}
+
+/// What a part of the whole holds in another account than the one in which the whole stood, and which one.
+#[inline(always)]
+fn account_away<'a>(whole: &Holding, by: &FirmId, part: &'a Part) -> Option<&'a AccountId>
+    ensures { option_map (λ a. holding_away whole.now by.now a.now part.now.lots) result ≡ part_away whole.now by.now part.now }
+{
+    if part.firm != *by {
+        return None;
+    }
+    match &part.account {
+        None => None,
+        Some(account) => {
+            if *account == whole.key.account {
+                None
+            } else {
+                Some(account)
+            }
+        }
+    }
+}
+
+/// Puts the lots of the parts that go to other accounts than the whole's into these, up to the first part for whose row memory is refused. How
+/// many parts it went over, and how many lots it put.
+#[inline(always)]
+fn put_away(positions: &mut Positions, whole: &Holding, by: &FirmId, parts: &[Part]) -> (usize, u64)
+    requires home { whole.now.key.firm ≡ by.now }
+    requires room { HaveRoom positions.old (filter_map (part_away whole.now by.now) parts.now) }
+    ensures within { result.0 ≤ length parts.now }
+    ensures put { HaveMoved positions.old positions.new None (filter_map (part_away whole.now by.now) (take result.0 parts.now)) }
+    ensures moved { result.1 ≡ sum_by (λ h. h.lots) (filter_map (part_away whole.now by.now) (take result.0 parts.now)) }
+{
+    let mut key = whole.key;
+    let mut done = 0;
+    let mut moved = 0;
+    for part in parts {
+        if let Some(account) = account_away(whole, by, part) {
+            key.account = *account;
+            if positions.put(&key, whole.side, part.lots).is_err() {
+                return (done, moved);
+            }
+            moved += part.lots;
+        }
+        done += 1;
+    }
+    (done, moved)
+}
+
+/// Takes the lots of the parts that went to other accounts than the whole's out of these again.
+#[cold]
+#[inline(never)]
+pub(crate) fn take_away(positions: &mut Positions, whole: &Holding, by: &FirmId, parts: &[Part])
+    requires { HaveThere positions.old (filter_map (part_away whole.now by.now) parts.now) }
+    ensures { HaveMoved positions.new positions.old None (filter_map (part_away whole.now by.now) parts.now) }
+{
+    for part in parts {
+        if let Some(account) = account_away(whole, by, part) {
+            let key = Key {
+                firm: *by,
+                account: *account,
+                instrument: whole.key.instrument,
+            };
+            positions.take(&key, whole.side, part.lots);
+        }
+    }
+}
+
+/// Puts the lots of all parts that go to other accounts than the whole's into these, or those of none where memory is refused. How many lots
+/// these are.
+#[inline(always)]
+pub(crate) fn put_all_away(
+    positions: &mut Positions,
+    whole: &Holding,
+    by: &FirmId,
+    parts: &[Part],
+) -> Result<u64, Memory>
+    requires home { whole.now.key.firm ≡ by.now }
+    requires room { HaveRoom positions.old (filter_map (part_away whole.now by.now) parts.now) }
+    ensures put { OnOk result (HaveMoved positions.old positions.new None (filter_map (part_away whole.now by.now) parts.now)) }
+    ensures moved { IfOk result (λ moved. moved ≡ sum_by (λ h. h.lots) (filter_map (part_away whole.now by.now) parts.now)) }
+    ensures same { OnErr result (SameLots positions.old positions.new) }
+{
+    let (done, moved) = put_away(positions, whole, by, parts);
+    if done < parts.len() {
+        take_away(positions, whole, by, &parts[..done]);
+        return Err(AllocError);
+    }
+    Ok(moved)
+}
+
+/// Takes the lots that went to other accounts out of the whole's.
+#[inline(always)]
+pub(crate) fn take_moved(positions: &mut Positions, whole: &Holding, moved: u64)
+    requires { moved ≤ lots_in positions.old whole.now.key whole.now.side }
+    ensures { HaveMoved positions.old positions.new (Some (record whole.now { lots = moved })) [] }
+{
+    if moved > 0 {
+        positions.take(&whole.key, whole.side, moved);
     }
 }
 

@@ -141,6 +141,7 @@ fn entry_refusal(
 }
 
 /// Why a command that names the entry of this number is refused.
+#[inline(never)]
 pub(crate) fn naming_refusal(
     at: &Standing<'_>,
     by: &FirmId,

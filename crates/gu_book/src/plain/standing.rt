@@ -13,7 +13,7 @@ pub(crate) struct Standing<'a> {
     pub(crate) house: &'a House,
     pub(crate) entries: &'a [Entry],
     pub(crate) changes: Live<'a>,
-    pub(crate) named: Option<Named>,
+    pub(crate) named: &'a Option<Named>,
     pub(crate) fees: &'a Fees,
     pub(crate) index: &'a Index,
     pub(crate) consents: &'a Consents,

@@ -10,7 +10,7 @@ make-requires-clause-due c = due_same (record_of c.args.made.now) c.args.trees.n
 
 pub make-requires-clause-there : goal.make-requires-clause-there
 make-requires-clause-there c =
-    there_alike c.args.trees.now c.ready.new.self (named_node c.args.made.now.entry.now.command) c.args.sought.now.named c.args.sought.now.path.items c.in_ok-ready.ensures.same c.requires.there
+    there_alike c.args.trees.now c.ready.new.self (named_node c.args.made.now.command.now) c.args.sought.now.named c.args.sought.now.path.items c.in_ok-ready.ensures.same c.requires.there
 
 on_ok : {T E P Q : Type 0} (o : Result T E) → (P → Q) → OnOk o P → OnOk o Q
 on_ok (Ok x) f p = f p

@@ -1,0 +1,231 @@
+-- Of what a split moves, the lots of the parts that stay where the whole stood cancel: the others alone have to be moved.
+use Rattle.std.proofs.Common.{◌≡◌, ℕ, ◌+◌, ◌≤◌, Bool, true, false, not, ◌&&◌, ◌||◌, List, [], ◌∷◌, refl, sym, ◌∙◌, ap, subst, arith, Option, cond}
+use Rattle.std.specs.Prelude.{Some, None, IsSome, map, find, filter_map, sum_by, count_by, is_some, unwrap_or, option_map, option_and_then, bytes_eq, ◌==◌}
+use Rattle.std.specs.List.{cons_option, list_any}
+use Rattle.std.proofs.lemmas.Bool.{eqb-true}
+use Rattle.std.proofs.lemmas.List.Sums.{sum_by-cons}
+use Rattle.std.proofs.lemmas.Option.{same_Some}
+use Rattle.std.proofs.lemmas.Slice.Eq.{bytes_eq-Decides}
+use Rattle.gu_base.specs.House.{House, knows_account}
+use Rattle.gu_base.specs.History.{RisesFrom}
+use Rattle.gu_base.specs.Numbers.{EntryPart}
+use Rattle.gu_base.specs.Nodes.{deal_in, node_of}
+use Rattle.gu_base.specs.Places.{place_of, root_of}
+use Rattle.gu_base.specs.Refusals.{first, owns, refusal_of, refusal_of_part, row, split_row, knows_own_account}
+use Rattle.gu_base.specs.declared.command.Part.{Part}
+use Rattle.gu_base.specs.declared.command.Side.{Side}
+use Rattle.gu_base.specs.declared.command.Command.{Command}
+use Rattle.gu_base.specs.declared.command.Command.TheVariants.{Trade, Split, Claim, Refuse, Cancel, Initiate, Decline, Reverse}
+use Rattle.gu_base.specs.declared.entry.Record.{Record}
+use Rattle.gu_base.specs.declared.node.Deal.{Deal}
+use Rattle.gu_base.specs.declared.node.Node.{Node}
+use Rattle.gu_base.specs.declared.node.Place.{Place}
+use Rattle.gu_base.specs.Positions.{same_side}
+use Rattle.gu_base.proofs.Accepted.{first_none}
+use Rattle.gu_base.proofs.Passing.{at_node_none, split_passes, part_passes, refusal_parts}
+use Rattle.gu_depend.proofs.Replay.{number_once}
+use Rattle.gu_depend.proofs.StandsUnder.{rises_distinct}
+use Rattle.gu_positions.specs.Rows.{PositionRows, lots_in, is_key}
+use Rattle.gu_positions.specs.declared.positions.Key.{Key}
+use Rattle.gu_tree.specs.Grove.{Grove, tree_of, IsPlace}
+use Rattle.gu_book.specs.Filed.{IsFiled, IsNext}
+use Rattle.gu_book.specs.Found.{IsFoundAs, IsNamedIn, LiesThere}
+use Rattle.gu_book.specs.Holdings.{traded_at, held_at, holding_of, taken_by, part_holding, holding_away, part_away, added_by, counted_at, taken_at, HaveMoved, ArePositionsOf}
+use Rattle.gu_book.specs.TreeRows.{is_trade, is_live_trade}
+use Rattle.gu_book.specs.declared.found.Named.{Named}
+use Rattle.gu_book.specs.declared.found.Found.{Found}
+use Rattle.gu_book.specs.declared.plain.holdings.Holding.{Holding}
+use Rattle.gu_book.proofs.Holdings.{asked, one_found}
+
+-- ---- sums
+
+abbrev lots_told : Option Holding → ℕ
+lots_told None = 0
+lots_told (Some h) = h.lots
+
+sum_or : (at : Key) (side : Side) (o : Option Holding) (hs : List Holding) → sum_by (counted_at at side) (cons_option o hs) ≡ taken_at at side o + sum_by (counted_at at side) hs
+sum_or at side None hs = omega arith
+sum_or at side (Some h) hs = sum_by-cons (counted_at at side) h hs
+
+lots_or : (o : Option Holding) (hs : List Holding) → sum_by (λ (h : Holding). h.lots) (cons_option o hs) ≡ lots_told o + sum_by (λ (h : Holding). h.lots) hs
+lots_or None hs = omega arith
+lots_or (Some h) hs = sum_by-cons (λ (h : Holding). h.lots) h hs
+
+both_counted : (w : Bool) (a b : ℕ) → cond w (a + b) 0 ≡ cond w a 0 + cond w b 0
+both_counted true a b = refl
+both_counted false a b = refl
+
+none_counted : (w : Bool) → ◌≡◌ {A = ℕ} (cond w 0 0) 0
+none_counted true = refl
+none_counted false = refl
+
+-- ---- one part
+
+-- so many lots where the whole stood
+abbrev pub at_whole : Holding → ℕ → Holding
+at_whole whole n = record { key = whole.key; side = whole.side; lots = n }
+
+abbrev away_told : (whole : Holding) (by a : List ℕ) (n : ℕ) → Bool → Option Holding
+away_told whole by a n b = cond b None (Some (holding_away whole by a n))
+
+own_moves : (whole : Holding) (by a : List ℕ) (n : ℕ) → whole.key.firm ≡ by → (at : Key) (side : Side) (b : Bool) → bytes_eq a whole.key.account ≡ b
+    → counted_at at side (holding_away whole by a n) + counted_at at side (at_whole whole (lots_told (away_told whole by a n b))) ≡ taken_at at side (away_told whole by a n b) + counted_at at side (at_whole whole n)
+own_moves whole by a n home at side false e = refl
+own_moves whole by a n home at side true e =
+    let here : a ≡ whole.key.account = (bytes_eq-Decides a whole.key.account).0 e in
+    let key : holding_away whole by a n ≡ at_whole whole n =
+    ap (λ f. holding_away whole f a n) (sym home) ∙ ap (λ x. holding_away whole whole.key.firm x n) here in
+    let same = ap (counted_at at side) key in
+    let nothing = none_counted (is_key whole.key at && same_side whole.side side) in
+    omega (arith, same, nothing)
+
+given_moves : (whole : Holding) (n : ℕ) (at : Key) (side : Side) → counted_at at side (at_whole whole n) + counted_at at side (at_whole whole 0) ≡ 0 + counted_at at side (at_whole whole n)
+given_moves whole n at side = let nothing = none_counted (is_key whole.key at && same_side whole.side side) in omega (arith, nothing)
+
+abbrev holding_told : (whole : Holding) (by : List ℕ) (o : Option (List ℕ)) (n : ℕ) → Bool → Option Holding
+holding_told whole by o n b = cond b (option_map (λ a. holding_away whole by a n) o) (Some (at_whole whole n))
+
+abbrev elsewhere_told : (whole : Holding) (by : List ℕ) (o : Option (List ℕ)) (n : ℕ) → Bool → Option Holding
+elsewhere_told whole by o n b = cond b (option_and_then (λ a. cond (bytes_eq a whole.key.account) None (Some (holding_away whole by a n))) o) None
+
+moves_told : (t : House) (whole : Holding) (by : List ℕ) (o : Option (List ℕ)) (n : ℕ) → whole.key.firm ≡ by → (at : Key) (side : Side) (b : Bool)
+    → (not b || unwrap_or (option_map (knows_account t by) o) false) ≡ true
+    → taken_at at side (holding_told whole by o n b) + counted_at at side (at_whole whole (lots_told (elsewhere_told whole by o n b)))
+    ≡ taken_at at side (elsewhere_told whole by o n b) + counted_at at side (at_whole whole n)
+moves_told t whole by o n home at side false known = given_moves whole n at side
+moves_told t whole by None n home at side true known = absurd (cc)
+moves_told t whole by (Some a) n home at side true known = own_moves whole by a n home at side (bytes_eq a whole.key.account) refl
+
+part_moves : (t : House) (whole : Holding) (by : List ℕ) (p : Part) → whole.key.firm ≡ by → knows_own_account t by p ≡ true → (at : Key) (side : Side)
+    → taken_at at side (part_holding whole by p) + counted_at at side (at_whole whole (lots_told (part_away whole by p))) ≡ taken_at at side (part_away whole by p) + counted_at at side (at_whole whole p.lots)
+part_moves t whole by p home known at side = moves_told t whole by p.account p.lots home at side (bytes_eq p.firm by) known
+
+few_away : (whole : Holding) (by a : List ℕ) (n : ℕ) (b : Bool) → lots_told (away_told whole by a n b) ≤ n
+few_away whole by a n true = omega arith
+few_away whole by a n false = omega arith
+
+few_told : (whole : Holding) (by : List ℕ) (o : Option (List ℕ)) (n : ℕ) (b : Bool) → lots_told (elsewhere_told whole by o n b) ≤ n
+few_told whole by o n false = omega arith
+few_told whole by None n true = omega arith
+few_told whole by (Some a) n true = few_away whole by a n (bytes_eq a whole.key.account)
+
+-- ---- all parts
+
+-- the lots that go elsewhere
+abbrev pub moved : Holding → List ℕ → List Part → ℕ
+moved whole by ps = sum_by (λ (h : Holding). h.lots) (filter_map (part_away whole by) ps)
+
+-- are no more than those of all parts
+pub moved_few : (whole : Holding) (by : List ℕ) (ps : List Part) → moved whole by ps ≤ sum_by (λ (p : Part). p.lots) ps
+moved_few whole by [] = omega arith
+moved_few whole by (p ∷ ps) =
+    let a = lots_or (part_away whole by p) (filter_map (part_away whole by) ps) in
+    let b = few_told whole by p.account p.lots (bytes_eq p.firm by) in
+    let c = moved_few whole by ps in
+    let d = sum_by-cons (λ (p : Part). p.lots) p ps in
+    omega (arith, a, b, c, d)
+
+-- what all parts hold, less the lots of the whole, is what goes elsewhere, less so many lots where the whole stood
+pub parts_move : (t : House) (whole : Holding) (by : List ℕ) (ps : List Part) → whole.key.firm ≡ by → first (map (refusal_of_part t by) ps) ≡ None → (at : Key) (side : Side)
+    → sum_by (counted_at at side) (filter_map (part_holding whole by) ps) + counted_at at side (at_whole whole (moved whole by ps))
+    ≡ sum_by (counted_at at side) (filter_map (part_away whole by) ps) + counted_at at side (at_whole whole (sum_by (λ (p : Part). p.lots) ps))
+parts_move t whole by [] home fine at side = refl
+parts_move t whole by (p ∷ ps) home fine at side =
+    let f = first_none (refusal_of_part t by p) (map (refusal_of_part t by) ps) fine in
+    let one = part_moves t whole by p home (part_passes t by p f.0).1 at side in
+    let rest = parts_move t whole by ps home f.1 at side in
+    let w = is_key whole.key at && same_side whole.side side in
+    let a = sum_or at side (part_holding whole by p) (filter_map (part_holding whole by) ps) in
+    let b = sum_or at side (part_away whole by p) (filter_map (part_away whole by) ps) in
+    let c = ap (λ n. cond w n 0) (lots_or (part_away whole by p) (filter_map (part_away whole by) ps)) in
+    let d = both_counted w (lots_told (part_away whole by p)) (moved whole by ps) in
+    let e = ap (λ n. cond w n 0) (sum_by-cons (λ (p : Part). p.lots) p ps) in
+    let g = both_counted w p.lots (sum_by (λ (p : Part). p.lots) ps) in
+    omega (arith, one, rest, a, b, c, d, e, g)
+
+-- ---- what a node that is named holds
+
+any_here : {X : Type 0} (p : X → Bool) (x : X) (xs : List X) → list_any p xs ≡ is_some (find p xs) → (b : Bool) → (b || list_any p xs) ≡ is_some (cond b (Some x) (find p xs))
+any_here p x xs rest true = refl
+any_here p x xs rest false = rest
+
+any_found : {X : Type 0} (p : X → Bool) (xs : List X) → list_any p xs ≡ is_some (find p xs)
+any_found p [] = refl
+any_found p (x ∷ xs) = any_here p x xs (any_found p xs) (p x)
+
+deal_of : (c : Command) → is_trade c ≡ true → (d : Deal) × (deal_in c ≡ Some d)
+deal_of (Trade _ _ instrument side _) is = (record { instrument = instrument; side = side }, refl)
+deal_of (Split _ _) is = absurd (cc)
+deal_of (Claim _ _) is = absurd (cc)
+deal_of (Refuse _) is = absurd (cc)
+deal_of (Cancel _) is = absurd (cc)
+deal_of (Initiate _) is = absurd (cc)
+deal_of (Decline _) is = absurd (cc)
+deal_of (Reverse _) is = absurd (cc)
+
+deal_asked : (o : Option Record) → asked (λ (r : Record). is_trade r.command) o ≡ true → (d : Deal) × (option_and_then (λ (r : Record). deal_in r.command) o ≡ Some d)
+deal_asked None is = absurd (cc)
+deal_asked (Some r) is = deal_of r.command is
+
+-- a live trade trades something
+deal_there : (l : List Record) (k : ℕ) → RisesFrom 1 l → is_live_trade l k ≡ true → (d : Deal) × (option_and_then (λ (r : Record). deal_in r.command) (find (λ (r : Record). r.number == k) l) ≡ Some d)
+deal_there l k rises live =
+    let once = number_once l (rises_distinct 1 l rises) k in
+    deal_asked (find (λ (r : Record). r.number == k) l)
+    (sym (one_found (λ (r : Record). r.number == k) (λ (r : Record). is_trade r.command) l once) ∙ (sym (any_found (λ (r : Record). (r.number == k) && is_trade r.command) l) ∙ live))
+
+-- so each node that was found holds something
+pub holds_some : {l : List Record} {g : Grove} → IsFiled l g → RisesFrom 1 l → {x : Node} {f : Found} {p : List ℕ} → IsFoundAs l x f → IsPlace g x.name f.trade p → IsSome (holding_of l x)
+holds_some {l} {g} filed rises {x} {f} is place =
+    let d = deal_there l f.trade rises (sym (filed.live f.trade) ∙ ap is_some place.found) in
+    let of_root : EntryPart → Option Deal = λ root. option_and_then (λ (r : Record). deal_in r.command) (find (λ (r : Record). r.number == root.entry) l) in
+    let traded : traded_at l x.name ≡ Some d.0 = ap (option_and_then of_root) is.rooted ∙ d.1 in
+    subst IsSome (sym (ap (λ o. held_at o (traded_at l x.name) x.lots) is.place ∙ ap (λ w. held_at (Some f.head.place) w x.lots) traded)) refl
+
+-- ---- a Split that may follow
+
+-- what is known of its node, and of the lots that stand there
+pub record SplitWell (t : House) (l : List Record) (by : List ℕ) (n : EntryPart) (ps : List Part) : Type 0 where
+  pub node : Node
+  pub there : node_of l n ≡ Some node
+  pub owned : owns l by node.name ≡ true
+  pub parts : first (map (refusal_of_part t by) ps) ≡ None
+  pub sums : sum_by (λ (p : Part). p.lots) ps ≡ node.lots
+
+pub split_well : (t : House) (l : List Record) (by : List ℕ) (n : EntryPart) (ps : List Part) → refusal_of t l by (Split n ps) ≡ None → SplitWell t l by n ps
+split_well t l by n ps lawful =
+    let there = at_node_none (split_row t l by ps) (node_of l n) (refusal_parts t l by (Split n ps) lawful).1 in
+    let holds = (split_passes t l by ps there.0 there.1.1).0 in
+    record {
+      node = there.0;
+      there = there.1.0;
+      owned = holds.owned;
+      parts = holds.parts;
+      sums = eqb-true (sum_by (λ (p : Part). p.lots) ps) there.0.lots holds.sums;
+    }
+
+-- what is held somewhere is held by the firm that stands there
+held_where : (o : Option Place) (w : Option Deal) (n : ℕ) (h : Holding) → Some h ≡ held_at o w n → (by : List ℕ) → unwrap_or (option_map (λ owner. bytes_eq owner by) (option_map (λ (p : Place). p.firm) o)) false ≡ true
+    → (h.key.firm ≡ by) × (h.lots ≡ n)
+held_where None w n h is by owned = absurd (cc)
+held_where (Some p) None n h is by owned = absurd (cc)
+held_where (Some p) (Some d) n h is by owned =
+    let same = same_Some h (record { key = record { firm = p.firm; account = p.account; instrument = d.instrument }; side = d.side; lots = n }) is in
+    (ap (λ (h : Holding). h.key.firm) same ∙ (bytes_eq-Decides p.firm by).0 owned, ap (λ (h : Holding). h.lots) same)
+
+-- the whole stands in an account of the firm that splits it, and has the lots of its parts
+pub whole_well : {t : House} {l : List Record} {by : List ℕ} {n : EntryPart} {ps : List Part} → (w : SplitWell t l by n ps) → (h : Holding) → Some h ≡ holding_of l w.node → (h.key.firm ≡ by) × (h.lots ≡ sum_by (λ (p : Part). p.lots) ps)
+whole_well {t} {l} {by} w h is =
+    let held = held_where (place_of l w.node.name) (traded_at l w.node.name) w.node.lots h is by w.owned in
+    (held.0, held.1 ∙ sym w.sums)
+
+-- what goes elsewhere was put there, and so many lots were taken from where the whole stands: then the rows have moved as the split says
+pub split_moved : (t : House) (whole : Holding) (by : List ℕ) (ps : List Part) → whole.key.firm ≡ by → whole.lots ≡ sum_by (λ (p : Part). p.lots) ps → first (map (refusal_of_part t by) ps) ≡ None
+    → (rows mid new : PositionRows) → HaveMoved rows mid None (filter_map (part_away whole by) ps) → HaveMoved mid new (Some (at_whole whole (moved whole by ps))) []
+    → HaveMoved rows new (Some whole) (filter_map (part_holding whole by) ps)
+split_moved t whole by ps home lots fine rows mid new put taken at side =
+    let a = put at side in
+    let b = taken at side in
+    let c = parts_move t whole by ps home fine at side in
+    let d = ap (λ n. cond (is_key whole.key at && same_side whole.side side) n 0) lots in
+    omega (arith, a, b, c, d)

@@ -1,0 +1,154 @@
+use Rattle.std.proofs.Common.{◌≡◌, ◌≤◌, ◌∙◌, List, length, refl, sym, ap, subst, arith}
+use Rattle.std.specs.Prelude.{Some, None, filter_map}
+use Rattle.gu_base.specs.History.{live, is_change}
+use Rattle.gu_base.specs.Nodes.{node_of}
+use Rattle.gu_base.specs.declared.command.Part.{Part}
+use Rattle.gu_base.specs.declared.entry.Record.{Record}
+use Rattle.gu_base.proofs.LiveLaws.{change_is_no_reverse}
+use Rattle.gu_base.proofs.Passing.{refusal_parts}
+use Rattle.gu_tree.specs.Shown.{named_node}
+use Rattle.gu_book.specs.Charging.{AreFeesOf}
+use Rattle.gu_book.specs.Filed.{IsNext}
+use Rattle.gu_book.specs.Found.{IsNamedBy}
+use Rattle.gu_book.specs.Holdings.{holding_of, part_away, HaveMoved, ArePositionsOf}
+use Rattle.gu_book.specs.Live.{entry_of_change, record_of}
+use Rattle.gu_book.proofs.Filed.{due_same, follows_same, same_both}
+use Rattle.gu_book.proofs.HoldingRows.{put_and_taken}
+use Rattle.gu_book.proofs.Indexed.{index_same, ids_few, ids_fewer, index_added}
+use Rattle.gu_book.proofs.Keeps.{next_kept, kept_change, kept_alike, live_few, live_more}
+use Rattle.gu_book.proofs.Leaves.{live_rises}
+use Rattle.gu_book.proofs.OnePlace.{found_there, there_alike}
+use Rattle.gu_book.proofs.Orders.{names_there}
+use Rattle.gu_book.proofs.PartsAway.{at_whole, holds_some}
+use Rattle.gu_book.proofs.TradesKept.{split_free, split_fits, split_takes, split_stands}
+use Rattle.gu_book.proofs.book.Book.keep_split.Goals.{After-whole_of-whole}
+use Rattle.gu_book.proofs.book.Book.keep_split.Goals as goal
+
+-- the split may follow the live changes
+next : (c : After-whole_of-whole) → IsNext c.self.inside.house (live c.self.inside.entries.items) (record_of c.args.made.now) c.self.inside.trees
+next c = next_kept c.self.invariant.kept c.args.made.now.number (entry_of_change c.args.made.now) (rw (← c.self.view_is) at c.requires.accepted) (ap is_change c.in-Split.is)
+
+-- the node that it names is the one that was found
+named : (c : After-whole_of-whole) → IsNamedBy (live c.self.inside.entries.items) c.in-Split.node (Some c.in-Some.named)
+named c = let is = rw (← c.self.view_is) at c.requires.named in rw (c.in-Split.is, c.in-Some.is) at is
+
+-- and its lots are the whole
+holds : (c : After-whole_of-whole) → Some c.whole_of-whole.result ≡ holding_of (live c.self.inside.entries.items) c.in-Some.named.node
+holds c =
+    let are : c.of-changes.result ≡ live c.self.inside.entries.items = c.of-changes.ensures ∙ ap live (c.as_slice.ensures.value ∙ c.reserve.ensures.items) in
+    rw are at c.whole_of-whole.ensures
+
+pub whole_of-whole-requires-clause-there : goal.whole_of-whole-requires-clause-there
+whole_of-whole-requires-clause-there c =
+    let l = live c.self.inside.entries.items in
+    let are : c.of-changes.result ≡ l = c.of-changes.ensures ∙ ap live (c.as_slice.ensures.value ∙ c.reserve.ensures.items) in
+    let is = rw (← c.self.view_is) at c.requires.named in
+    let found = rw (c.in-Split.is, c.in-Some.is) at is in
+    let there = rw (← c.self.view_is) at c.requires.there in
+    let lies = rw (c.in-Some.is) at there in
+    rw are (holds_some c.self.invariant.kept.filed (live_rises c.self.inside.entries.items) found.2 (lies c.self.inside.trees c.self.invariant.kept.filed))
+
+pub put_all_away-requires-clause-room : goal.put_all_away-requires-clause-room
+put_all_away-requires-clause-room c =
+    let w = (goal.at.put_all_away-requires-clause-room c).After-whole_of-whole in
+    let few = c.self.invariant.kept.few in
+    let fewer = live_few c.self.inside.entries.items in
+    let within : length (live c.self.inside.entries.items) ≤ 1000000 = omega (arith, few, fewer) in
+    rw c.as_slice-2.ensures
+    (split_fits (next w) c.in-Split.node c.in-Split.parts c.in-Split.is c.in-Some.named.node (named w).0 c.whole_of-whole.result (holds w) within c.self.invariant.kept.within c.self.inside.positions c.self.invariant.stands)
+
+pub split-requires-clause-due : goal.split-requires-clause-due
+split-requires-clause-due c =
+    let w = (goal.at.split-requires-clause-due c).After-whole_of-whole in
+    due_same (record_of c.args.made.now) c.self.inside.trees c.ready-2.new.self c.in_ok-ready-2.ensures.same (c.self.inside.house, live c.self.inside.entries.items, next w)
+
+pub split-requires-clause-there : goal.split-requires-clause-there
+split-requires-clause-there c =
+    let w = (goal.at.split-requires-clause-there c).After-whole_of-whole in
+    let l = live c.self.inside.entries.items in
+    let by = c.args.made.now.firm.now in
+    let command = c.args.made.now.command.now in
+    there_alike c.self.inside.trees c.ready-2.new.self (named_node command) c.args.sought.now.named c.args.sought.now.path.items c.in_ok-ready-2.ensures.same
+    (found_there l c.self.inside.trees (named_node command) c.args.sought.now.named c.args.sought.now.path.items (next w).filed
+    (rw (← c.self.view_is) at c.requires.named) (rw (← c.self.view_is) at c.requires.there)
+    (λ n names. names_there c.self.inside.house l by command n (refusal_parts c.self.inside.house l by command (next w).lawful).1 names))
+
+pub take_moved-requires : goal.take_moved-requires
+take_moved-requires c =
+    let w = (goal.at.take_moved-requires c).After-whole_of-whole in
+    let put = rw c.as_slice-2.ensures at c.in_ok-moved.ensures.put in
+    let is = rw c.as_slice-2.ensures at c.in_ok-moved.ensures.moved in
+    rw is (split_takes (next w) c.in-Split.node c.in-Split.parts c.in-Split.is c.in-Some.named.node (named w).0 c.whole_of-whole.result (holds w) c.self.inside.positions c.put_all_away.new.positions c.self.invariant.stands put)
+
+pub add-requires-clause-few : goal.add-requires-clause-few
+add-requires-clause-few c =
+    ids_fewer c.self.inside.entries.items c.ready.new.self (c.in_ok-ready.ensures.same c.self.inside.entries.items c.self.invariant.indexed.ids.chained) c.self.inside.house (entry_of_change c.args.made.now) c.args.made.now.number (rw (← c.self.view_is) at c.requires.accepted)
+
+pub invariant_of-self-2 : goal.invariant_of-self-2
+invariant_of-self-2 c =
+    let w = (goal.at.invariant_of-self-2 c).After-whole_of-whole in
+    let ok = rw (← c.self.view_is) at c.requires.accepted in
+    let change = ap is_change c.in-Split.is in
+    let h = c.self.inside.entries.items in
+    let e = entry_of_change c.args.made.now in
+    let more = live_more c.self.invariant.kept c.args.made.now.number e ok change in
+    let put = rw c.as_slice-2.ensures at c.in_ok-moved.ensures.put in
+    let is = rw c.as_slice-2.ensures at c.in_ok-moved.ensures.moved in
+    let taken = rw is at c.take_moved.ensures in
+    simp (c.push.ensures, c.reserve.ensures.items)
+    (record {
+      kept = kept_change c.self.invariant.kept c.args.made.now.number e ok change c.split.new.trees
+          (follows_same (record_of c.args.made.now) c.self.inside.trees c.ready-2.new.self c.split.new.trees c.in_ok-ready-2.ensures.same c.in_default-split.ensures.follows c.self.inside.house (live h) (next w)) c.in_default-split.ensures.last;
+      indexed = index_added c.self.invariant.indexed c.self.inside.house e c.args.made.now.number ok c.add.new.self (c.add.ensures h e refl refl (c.in_ok-ready.ensures.same h c.self.invariant.indexed.ids.chained)) (λ m. change_is_no_reverse m c.args.made.now.command.now change);
+      charged = subst (λ (l : List Record). AreFeesOf c.self.inside.house l c.self.inside.fees) more (split_free (next w) c.in-Split.node c.in-Split.parts c.in-Split.is c.self.inside.fees c.self.invariant.charged);
+      stands = subst (λ (l : List Record). ArePositionsOf l c.take_moved.new.positions) more
+          (split_stands (next w) c.in-Split.node c.in-Split.parts c.in-Split.is c.in-Some.named.node (named w).0 c.whole_of-whole.result (holds w) c.self.inside.positions c.put_all_away.new.positions c.take_moved.new.positions c.self.invariant.stands put taken);
+    })
+
+-- ---- where a growth is refused
+
+pub invariant_of-self-in_err-ready-2 : goal.invariant_of-self-in_err-ready-2
+invariant_of-self-in_err-ready-2 c =
+    simp (c.reserve.ensures.items)
+    (record {
+      kept = kept_alike c.self.invariant.kept c.ready-2.new.self c.in_err-ready-2.ensures.same;
+      indexed = index_same c.self.invariant.indexed c.ready.new.self (c.in_ok-ready.ensures.same c.self.inside.entries.items c.self.invariant.indexed.ids.chained);
+      charged = c.self.invariant.charged;
+      stands = c.self.invariant.stands;
+    })
+
+pub invariant_of-self-in_err-kept : goal.invariant_of-self-in_err-kept
+invariant_of-self-in_err-kept c =
+    simp (c.reserve.ensures.items)
+    (record {
+      kept = kept_alike c.self.invariant.kept c.ready-2.new.self c.in_ok-ready-2.ensures.same;
+      indexed = index_same c.self.invariant.indexed c.ready.new.self (c.in_ok-ready.ensures.same c.self.inside.entries.items c.self.invariant.indexed.ids.chained);
+      charged = c.self.invariant.charged;
+      stands = c.self.invariant.stands;
+    })
+
+pub invariant_of-self-in_err-moved : goal.invariant_of-self-in_err-moved
+invariant_of-self-in_err-moved c =
+    simp (c.reserve.ensures.items)
+    (record {
+      kept = kept_alike c.self.invariant.kept c.ready-2.new.self c.in_ok-ready-2.ensures.same;
+      indexed = index_same c.self.invariant.indexed c.ready.new.self (c.in_ok-ready.ensures.same c.self.inside.entries.items c.self.invariant.indexed.ids.chained);
+      charged = c.self.invariant.charged;
+      stands = record { lots = λ at_key side. c.in_err-moved.ensures.same at_key side ∙ c.self.invariant.stands.lots at_key side };
+    })
+
+pub invariant_of-self-in-Err : goal.invariant_of-self-in-Err
+invariant_of-self-in-Err c =
+    let put = rw c.as_slice-2.ensures at c.in_ok-moved.ensures.put in
+    let gone = rw c.as_slice-in-Err.ensures at c.take_away.ensures in
+    simp (c.reserve.ensures.items)
+    (record {
+      kept = kept_alike c.self.invariant.kept c.split.new.trees (same_both c.self.inside.trees c.ready-2.new.self c.split.new.trees c.in_ok-ready-2.ensures.same c.in-Err.ensures.unchanged);
+      indexed = index_same c.self.invariant.indexed c.ready.new.self (c.in_ok-ready.ensures.same c.self.inside.entries.items c.self.invariant.indexed.ids.chained);
+      charged = c.self.invariant.charged;
+      stands = record {
+        lots = λ at_key side.
+            put_and_taken c.self.inside.positions c.put_all_away.new.positions c.take_away.new.positions (filter_map (part_away c.whole_of-whole.result c.args.made.now.firm.now) c.in-Split.parts) put gone at_key side
+            ∙ c.self.invariant.stands.lots at_key side;
+      };
+    })
