@@ -1,13 +1,13 @@
 -- Fields with short tags, which are told without a walk over them.
-use Rattle.std.proofs.Common.{◌≡◌, ◌≢◌, ℕ, zero, suc, ◌+◌, ◌-◌, ◌*◌, ◌<◌, ◌≤◌, inl, inr, ◌⊎◌, Bool, true, false, cond, eqb, ltb, List, [], ◌∷◌, ◌++◌, length, get_or, take, drop, Option, Some, None, refl, sym, ap, subst, ◌∙◌, arith, below_more, length-drop}
+use Rattle.std.proofs.Common.{◌≡◌, ◌≢◌, ℕ, zero, suc, ◌+◌, ◌-◌, ◌*◌, ◌<◌, ◌≤◌, inl, inr, ◌⊎◌, Bool, true, false, eqb, ltb, List, [], ◌∷◌, length, get_or, take, drop, Some, refl, sym, ap, subst, ◌∙◌, arith, below_more, length-drop}
 use Rattle.std.specs.Prelude.{◌&&◌, ◌||◌, not}
 use Rattle.std.proofs.lemmas.List.{get_or_past, get_or-take, get_or-drop, drop-drop, nil_from_length}
-use Rattle.std.proofs.lemmas.Bool.{eqb-true, eq-eqb, ne_eqb, ltb-true, lt-ltb, and_parts, cases_lt, cases_Bool}
+use Rattle.std.proofs.lemmas.Bool.{eqb-true, eq-eqb, lt-ltb, and_parts, cases_lt}
 use Rattle.std.proofs.lemmas.List.Sums.{fails_before_first, passes_at_first}
-use Rattle.std.specs.List.{position_or_len, before_first, after_first}
+use Rattle.std.specs.List.{position_or_len, before_first}
 use Rattle.gu_base.specs.Names.{is_digit}
-use Rattle.gu_codec.specs.Fields.{is_tag_digit, tag_after, is_soh, value_at, field_at, are_fields, is_short_front, short_front, ShortBehind, AllShort}
-use Rattle.gu_codec.proofs.FieldSteps.{tag_goes, tag_stops, test_goes, test_ends, field_shrinks}
+use Rattle.gu_codec.specs.Fields.{tag_after, is_soh, value_at, field_at, are_fields, is_short_front, short_front, ShortBehind, AllShort}
+use Rattle.gu_codec.proofs.FieldSteps.{tag_goes, test_goes, test_ends}
 
 front_behind : (bytes : List ℕ) (k : ℕ) → is_short_front (get_or bytes (k + 1) 0) (get_or bytes (k + 2) 0) (get_or bytes (k + 3) 0) (get_or bytes (k + 4) 0) (get_or bytes (k + 5) 0) ≡ short_front bytes (k + 1)
 front_behind bytes k =
