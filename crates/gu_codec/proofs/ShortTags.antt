@@ -1,13 +1,13 @@
 -- Fields with short tags, which are told without a walk over them.
-use Rattle.std.proofs.Common.{◌≡◌, ◌≢◌, ℕ, zero, suc, ◌+◌, ◌-◌, ◌*◌, ◌<◌, ◌≤◌, inl, inr, ◌⊎◌, Bool, true, false, cond, eqb, ltb, List, [], ◌∷◌, ◌++◌, length, get_or, take, drop, Option, Some, None, refl, sym, ap, subst, ◌∙◌, arith, below_more, length-drop}
+use Rattle.std.proofs.Common.{◌≡◌, ◌≢◌, ℕ, zero, suc, ◌+◌, ◌-◌, ◌*◌, ◌<◌, ◌≤◌, inl, inr, ◌⊎◌, Bool, true, false, eqb, ltb, List, [], ◌∷◌, length, get_or, take, drop, Some, refl, sym, ap, subst, ◌∙◌, arith, below_more, length-drop}
 use Rattle.std.specs.Prelude.{◌&&◌, ◌||◌, not}
 use Rattle.std.proofs.lemmas.List.{get_or_past, get_or-take, get_or-drop, drop-drop, nil_from_length}
-use Rattle.std.proofs.lemmas.Bool.{eqb-true, eq-eqb, ne_eqb, ltb-true, lt-ltb, and_parts, cases_lt, cases_Bool}
+use Rattle.std.proofs.lemmas.Bool.{eqb-true, eq-eqb, lt-ltb, and_parts, cases_lt}
 use Rattle.std.proofs.lemmas.List.Sums.{fails_before_first, passes_at_first}
-use Rattle.std.specs.List.{position_or_len, before_first, after_first}
+use Rattle.std.specs.List.{position_or_len, before_first}
 use Rattle.gu_base.specs.Names.{is_digit}
-use Rattle.gu_codec.specs.Fields.{is_tag_digit, tag_after, is_soh, value_at, field_at, are_fields, is_short_front, short_front, ShortBehind, AllShort}
-use Rattle.gu_codec.proofs.FieldSteps.{tag_goes, tag_stops, test_goes, test_ends, field_shrinks}
+use Rattle.gu_codec.specs.Fields.{tag_after, is_soh, value_at, field_at, are_fields, is_short_front, short_front, ShortBehind, AllShort}
+use Rattle.gu_codec.proofs.FieldSteps.{tag_goes, test_goes, test_ends}
 
 front_behind : (bytes : List ℕ) (k : ℕ) → is_short_front (get_or bytes (k + 1) 0) (get_or bytes (k + 2) 0) (get_or bytes (k + 3) 0) (get_or bytes (k + 4) 0) (get_or bytes (k + 5) 0) ≡ short_front bytes (k + 1)
 front_behind bytes k =
@@ -34,27 +34,13 @@ no_soh : (b : ℕ) → not (eqb b 1) ≡ true → b ≢ 1
 no_soh b e is = let same : eqb b 1 ≡ true = eq-eqb b 1 is in absurd (cc)
 
 -- the last five bytes, of which the first alone may be a SOH before a field
-pub ends_behind : (bytes : List ℕ) (may : Bool) → length bytes ≡ 5 → may ≡ is_short_front (get_or bytes 1 0) (get_or bytes 2 0) (get_or bytes 3 0) (get_or bytes 4 0) 0
-    → ((((not (eqb (get_or bytes 0 0) 1) || may) && not (eqb (get_or bytes 1 0) 1)) && not (eqb (get_or bytes 2 0) 1)) && not (eqb (get_or bytes 3 0) 1)) ≡ true → ShortBehind bytes 4
-ends_behind bytes may five is all zero lt soh =
-    let past : get_or bytes 5 0 ≡ 0 = get_or_past bytes 5 0 (omega arith) in
-    let three = and_parts _ _ all in
-    let two = and_parts _ _ three.0 in
-    let one = and_parts _ _ two.0 in
-    rw past (sym is) ∙ or_right (not (eqb (get_or bytes 0 0) 1)) may (ap not (eq-eqb (get_or bytes 0 0) 1 soh)) one.0
-ends_behind bytes may five is all (suc zero) lt soh =
-    let three = and_parts _ _ all in
-    let two = and_parts _ _ three.0 in
-    let one = and_parts _ _ two.0 in
-    absurd (no_soh (get_or bytes 1 0) one.1 soh)
-ends_behind bytes may five is all (suc (suc zero)) lt soh =
-    let three = and_parts _ _ all in
-    let two = and_parts _ _ three.0 in
-    absurd (no_soh (get_or bytes 2 0) two.1 soh)
-ends_behind bytes may five is all (suc (suc (suc zero))) lt soh =
-    let three = and_parts _ _ all in
-    absurd (no_soh (get_or bytes 3 0) three.1 soh)
-ends_behind bytes may five is all (suc (suc (suc (suc k)))) lt soh = absurd (omega arith)
+pub ends_behind : (bytes : List ℕ) → length bytes ≡ 5 → is_short_front (get_or bytes 1 0) (get_or bytes 2 0) (get_or bytes 3 0) (get_or bytes 4 0) 0 ≡ true
+    → get_or bytes 1 0 ≢ 1 → get_or bytes 2 0 ≢ 1 → get_or bytes 3 0 ≢ 1 → ShortBehind bytes 4
+ends_behind bytes five front one two three zero lt soh = let past : get_or bytes 5 0 ≡ 0 = get_or_past bytes 5 0 (omega arith) in rw past front
+ends_behind bytes five front one two three (suc zero) lt soh = absurd (one soh)
+ends_behind bytes five front one two three (suc (suc zero)) lt soh = absurd (two soh)
+ends_behind bytes five front one two three (suc (suc (suc zero))) lt soh = absurd (three soh)
+ends_behind bytes five front one two three (suc (suc (suc (suc k)))) lt soh = absurd (omega arith)
 
 -- ---- pieces
 

@@ -1,7 +1,6 @@
 use Rattle.std.proofs.Common.{◌≡◌, ◌≤◌, ◌+◌, ◌-◌, ℕ, List, length, take, drop, sym, subst, arith, length-drop}
 use Rattle.std.proofs.lemmas.Bool.{and_parts}
 use Rattle.std.proofs.lemmas.List.{take_all}
-use Rattle.gu_codec.specs.Fields.{ShortBehind}
 use Rattle.gu_codec.proofs.ShortTags.{IsPiece, piece_of, piece_behind, behind_joined, short_to_end}
 use Rattle.gu_codec.proofs.fields.are_short.Goals as goal
 
