@@ -112,8 +112,8 @@ module _ (g : Grove) (n : EntryPart) (other : ℕ) (above : List ℕ) (u : Rose)
   next-absent is part found none =
       let t = its-tree in
       below-place g n other above t.0 is part found t.1 (λ i step led.
-          let same : i ≡ n.part - 1 = omega (arith, step) in
-          none (subst (λ o. IsSomeAnd o (λ v. (head_of v).name ≡ n)) (node_at-step above (n.part - 1) t.0 u t.2) (subst (λ k. LeadsTo (above ++ k ∷ []) t.0 n) same led)))
+      let same : i ≡ n.part - 1 = omega (arith, step) in
+      none (subst (λ o. IsSomeAnd o (λ v. (head_of v).name ≡ n)) (node_at-step above (n.part - 1) t.0 u t.2) (subst (λ k. LeadsTo (above ++ k ∷ []) t.0 n) same led)))
 
 -- a node with a part has a height
 pub next-height : (i : ℕ) (u w : Rose) → node_at (i ∷ []) u ≡ Some w → 1 ≤ height_of u
