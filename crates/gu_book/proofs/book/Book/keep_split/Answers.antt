@@ -20,7 +20,7 @@ use Rattle.gu_book.proofs.Leaves.{live_rises}
 use Rattle.gu_book.proofs.OnePlace.{found_there, there_alike}
 use Rattle.gu_book.proofs.Orders.{names_there}
 use Rattle.gu_book.proofs.PartsAway.{at_whole, holds_some}
-use Rattle.gu_book.proofs.TradesKept.{split_free, split_fits, split_takes, split_stands}
+use Rattle.gu_book.proofs.TradesKept.{split_free, split_home, split_fits, split_takes, split_stands}
 use Rattle.gu_book.proofs.book.Book.keep_split.Goals.{After-whole_of-whole}
 use Rattle.gu_book.proofs.book.Book.keep_split.Goals as goal
 
@@ -35,18 +35,23 @@ named c = let is = rw (← c.self.view_is) at c.requires.named in rw (c.in-Split
 -- and its lots are the whole
 holds : (c : After-whole_of-whole) → Some c.whole_of-whole.result ≡ holding_of (live c.self.inside.entries.items) c.in-Some.named.node
 holds c =
-    let are : c.of-changes.result ≡ live c.self.inside.entries.items = c.of-changes.ensures ∙ ap live (c.as_slice.ensures.value ∙ c.reserve.ensures.items) in
+    let are : c.of-changes.result ≡ live c.self.inside.entries.items = c.of-changes.ensures ∙ ap live (c.as_slice.ensures.value ∙ c.make_room.ensures.items) in
     rw are at c.whole_of-whole.ensures
 
 pub whole_of-whole-requires-clause-there : goal.whole_of-whole-requires-clause-there
 whole_of-whole-requires-clause-there c =
     let l = live c.self.inside.entries.items in
-    let are : c.of-changes.result ≡ l = c.of-changes.ensures ∙ ap live (c.as_slice.ensures.value ∙ c.reserve.ensures.items) in
+    let are : c.of-changes.result ≡ l = c.of-changes.ensures ∙ ap live (c.as_slice.ensures.value ∙ c.make_room.ensures.items) in
     let is = rw (← c.self.view_is) at c.requires.named in
     let found = rw (c.in-Split.is, c.in-Some.is) at is in
     let there = rw (← c.self.view_is) at c.requires.there in
     let lies = rw (c.in-Some.is) at there in
     rw are (holds_some c.self.invariant.kept.filed (live_rises c.self.inside.entries.items) found.2 (lies c.self.inside.trees c.self.invariant.kept.filed))
+
+pub put_all_away-requires-clause-home : goal.put_all_away-requires-clause-home
+put_all_away-requires-clause-home c =
+    let w = (goal.at.put_all_away-requires-clause-home c).After-whole_of-whole in
+    split_home (next w) c.in-Split.node c.in-Split.parts c.in-Split.is c.in-Some.named.node (named w).0 c.whole_of-whole.result (holds w)
 
 pub put_all_away-requires-clause-room : goal.put_all_away-requires-clause-room
 put_all_away-requires-clause-room c =
@@ -95,7 +100,7 @@ invariant_of-self-2 c =
     let put = rw c.as_slice-2.ensures at c.in_ok-moved.ensures.put in
     let is = rw c.as_slice-2.ensures at c.in_ok-moved.ensures.moved in
     let taken = rw is at c.take_moved.ensures in
-    simp (c.push.ensures, c.reserve.ensures.items)
+    simp (c.push.ensures, c.make_room.ensures.items)
     (record {
       kept = kept_change c.self.invariant.kept c.args.made.now.number e ok change c.split.new.trees
           (follows_same (record_of c.args.made.now) c.self.inside.trees c.ready-2.new.self c.split.new.trees c.in_ok-ready-2.ensures.same c.in_default-split.ensures.follows c.self.inside.house (live h) (next w)) c.in_default-split.ensures.last;
@@ -109,7 +114,7 @@ invariant_of-self-2 c =
 
 pub invariant_of-self-in_err-ready-2 : goal.invariant_of-self-in_err-ready-2
 invariant_of-self-in_err-ready-2 c =
-    simp (c.reserve.ensures.items)
+    simp (c.make_room.ensures.items)
     (record {
       kept = kept_alike c.self.invariant.kept c.ready-2.new.self c.in_err-ready-2.ensures.same;
       indexed = index_same c.self.invariant.indexed c.ready.new.self (c.in_ok-ready.ensures.same c.self.inside.entries.items c.self.invariant.indexed.ids.chained);
@@ -119,7 +124,7 @@ invariant_of-self-in_err-ready-2 c =
 
 pub invariant_of-self-in_err-kept : goal.invariant_of-self-in_err-kept
 invariant_of-self-in_err-kept c =
-    simp (c.reserve.ensures.items)
+    simp (c.make_room.ensures.items)
     (record {
       kept = kept_alike c.self.invariant.kept c.ready-2.new.self c.in_ok-ready-2.ensures.same;
       indexed = index_same c.self.invariant.indexed c.ready.new.self (c.in_ok-ready.ensures.same c.self.inside.entries.items c.self.invariant.indexed.ids.chained);
@@ -129,7 +134,7 @@ invariant_of-self-in_err-kept c =
 
 pub invariant_of-self-in_err-moved : goal.invariant_of-self-in_err-moved
 invariant_of-self-in_err-moved c =
-    simp (c.reserve.ensures.items)
+    simp (c.make_room.ensures.items)
     (record {
       kept = kept_alike c.self.invariant.kept c.ready-2.new.self c.in_ok-ready-2.ensures.same;
       indexed = index_same c.self.invariant.indexed c.ready.new.self (c.in_ok-ready.ensures.same c.self.inside.entries.items c.self.invariant.indexed.ids.chained);
@@ -141,7 +146,7 @@ pub invariant_of-self-in-Err : goal.invariant_of-self-in-Err
 invariant_of-self-in-Err c =
     let put = rw c.as_slice-2.ensures at c.in_ok-moved.ensures.put in
     let gone = rw c.as_slice-in-Err.ensures at c.take_away.ensures in
-    simp (c.reserve.ensures.items)
+    simp (c.make_room.ensures.items)
     (record {
       kept = kept_alike c.self.invariant.kept c.split.new.trees (same_both c.self.inside.trees c.ready-2.new.self c.split.new.trees c.in_ok-ready-2.ensures.same c.in-Err.ensures.unchanged);
       indexed = index_same c.self.invariant.indexed c.ready.new.self (c.in_ok-ready.ensures.same c.self.inside.entries.items c.self.invariant.indexed.ids.chained);
