@@ -1,8 +1,6 @@
-use Rattle.std.proofs.Common.{◌≡◌, ◌≤◌, ◌∙◌, List, length, refl, sym, ap, subst, arith}
-use Rattle.std.specs.Prelude.{Some, None, filter_map}
+use Rattle.std.proofs.Common.{◌≡◌, ◌≤◌, ◌∙◌, List, length, refl, ap, subst, arith}
+use Rattle.std.specs.Prelude.{Some, filter_map}
 use Rattle.gu_base.specs.History.{live, is_change}
-use Rattle.gu_base.specs.Nodes.{node_of}
-use Rattle.gu_base.specs.declared.command.Part.{Part}
 use Rattle.gu_base.specs.declared.entry.Record.{Record}
 use Rattle.gu_base.proofs.LiveLaws.{change_is_no_reverse}
 use Rattle.gu_base.proofs.Passing.{refusal_parts}
@@ -10,7 +8,7 @@ use Rattle.gu_tree.specs.Shown.{named_node}
 use Rattle.gu_book.specs.Charging.{AreFeesOf}
 use Rattle.gu_book.specs.Filed.{IsNext}
 use Rattle.gu_book.specs.Found.{IsNamedBy}
-use Rattle.gu_book.specs.Holdings.{holding_of, part_away, HaveMoved, ArePositionsOf}
+use Rattle.gu_book.specs.Holdings.{holding_of, part_away, ArePositionsOf}
 use Rattle.gu_book.specs.Live.{entry_of_change, record_of}
 use Rattle.gu_book.proofs.Filed.{due_same, follows_same, same_both}
 use Rattle.gu_book.proofs.HoldingRows.{put_and_taken}
@@ -19,7 +17,7 @@ use Rattle.gu_book.proofs.Keeps.{next_kept, kept_change, kept_alike, live_few, l
 use Rattle.gu_book.proofs.Leaves.{live_rises}
 use Rattle.gu_book.proofs.OnePlace.{found_there, there_alike}
 use Rattle.gu_book.proofs.Orders.{names_there}
-use Rattle.gu_book.proofs.PartsAway.{at_whole, holds_some}
+use Rattle.gu_book.proofs.PartsAway.{holds_some}
 use Rattle.gu_book.proofs.TradesKept.{split_free, split_home, split_fits, split_takes, split_stands}
 use Rattle.gu_book.proofs.book.Book.keep_split.Goals.{After-whole_of-whole}
 use Rattle.gu_book.proofs.book.Book.keep_split.Goals as goal
@@ -84,6 +82,9 @@ take_moved-requires c =
     let put = rw c.as_slice-2.ensures at c.in_ok-moved.ensures.put in
     let is = rw c.as_slice-2.ensures at c.in_ok-moved.ensures.moved in
     rw is (split_takes (next w) c.in-Split.node c.in-Split.parts c.in-Split.is c.in-Some.named.node (named w).0 c.whole_of-whole.result (holds w) c.self.inside.positions c.put_all_away.new.positions c.self.invariant.stands put)
+
+pub ready-requires : goal.ready-requires
+ready-requires c = ids_few c.self.invariant.indexed c.self.invariant.kept.few
 
 pub add-requires-clause-few : goal.add-requires-clause-few
 add-requires-clause-few c =

@@ -25,6 +25,9 @@ plant-requires-clause-due c =
     due_same (record_of c.args.made.now) c.self.inside.trees c.ready-2.new.self c.in_ok-ready-2.ensures.same
     (c.self.inside.house, live c.self.inside.entries.items, next_kept c.self.invariant.kept c.args.made.now.number (entry_of_change c.args.made.now) (rw (← c.self.view_is) at c.requires.accepted) (ap is_change c.in-Trade.is))
 
+pub ready-requires : goal.ready-requires
+ready-requires c = ids_few c.self.invariant.indexed c.self.invariant.kept.few
+
 pub add-requires-clause-few : goal.add-requires-clause-few
 add-requires-clause-few c =
     ids_fewer c.self.inside.entries.items c.ready.new.self (c.in_ok-ready.ensures.same c.self.inside.entries.items c.self.invariant.indexed.ids.chained) c.self.inside.house (entry_of_change c.args.made.now) c.args.made.now.number (rw (← c.self.view_is) at c.requires.accepted)
