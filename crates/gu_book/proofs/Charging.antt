@@ -22,7 +22,7 @@ use Rattle.gu_fees.specs.Rows.{FeeRows, paid_in, received_in, used_in}
 use Rattle.gu_fees.specs.Sums.{AreSumsOf, cost}
 use Rattle.gu_tree.specs.Grove.{Grove}
 use Rattle.gu_book.specs.Filed.{IsNext}
-use Rattle.gu_book.specs.Charging.{IsSmallCharge, AreFeesOf, IsReadyFor, HasRoomFor, IsCharged}
+use Rattle.gu_book.specs.Charging.{IsSmallCharge, AreFeesOf, HasRoomFor, IsCharged}
 
 -- the same sums
 pub sums_same : (old new : FeeRows) → ((firm : List ℕ) → paid_in new firm ≡ paid_in old firm) → ((firm : List ℕ) → received_in new firm ≡ received_in old firm)
@@ -91,11 +91,10 @@ bounded t l w takes most few all =
     let f : length cs * most ≤ 1000000 * most = mul-le-mul_right most e in
     omega (arith, a, f)
 
-pub has_room : (t : House) (l : List Record) (fees : FeeRows) → AreFeesOf t l fees → length l ≤ 1000000 → (now : FeeRows) → ((cs : List Charge) → AreSumsOf fees cs → AreSumsOf now cs)
-    → (o : Option Charge) → IfSome o (λ c. c.lots ≤ most_lots) → IfSome o (λ c. c.rate ≤ highest_rate) → IsReadyFor now o → HasRoomFor now o
-has_room t l fees are few now same None lots rate ready = tt
-has_room t l fees are few now same (Some c) lots rate ready =
-    let sums = same (charges t l) are.sums in
+pub has_room : (t : House) (l : List Record) (fees : FeeRows) → AreFeesOf t l fees → length l ≤ 1000000 → (o : Option Charge) → IfSome o (λ c. c.lots ≤ most_lots) → IfSome o (λ c. c.rate ≤ highest_rate) → HasRoomFor fees o
+has_room t l fees are few None lots rate = tt
+has_room t l fees are few (Some c) lots rate =
+    let sums = are.sums in
     let costs = All-weaker IsSmallCharge (λ (c : Charge). cost c ≤ 1000000000000) (λ c s. small_cost c s.lots s.rate) (charges t l) are.small in
     let each = All-weaker IsSmallCharge (λ (c : Charge). c.lots ≤ 10000000) (λ c s. s.lots) (charges t l) are.small in
     let own = small_cost c lots rate in
@@ -106,7 +105,6 @@ has_room t l fees are few now same (Some c) lots rate ready =
     let used = sums.used c.giver c.taker in
     let used_most = bounded t l (λ d. d.lots) (λ d. bytes_eq d.giver c.giver && bytes_eq d.taker c.taker) 10000000 few each in
     record {
-      ready = ready;
       paid = omega (arith, own, paid, paid_most);
       received = omega (arith, own, received, received_most);
       used = omega (arith, lots, used, used_most);

@@ -1,6 +1,6 @@
 -- Of what a split moves, the lots of the parts that stay where the whole stood cancel: the others alone have to be moved.
 use Rattle.std.proofs.Common.{◌≡◌, ℕ, ◌+◌, ◌≤◌, Bool, true, false, not, ◌&&◌, ◌||◌, List, [], ◌∷◌, refl, sym, ◌∙◌, ap, subst, arith, Option, cond}
-use Rattle.std.specs.Prelude.{Some, None, IsSome, map, find, filter_map, sum_by, count_by, is_some, unwrap_or, option_map, option_and_then, bytes_eq, ◌==◌}
+use Rattle.std.specs.Prelude.{Some, None, IsSome, map, find, filter_map, sum_by, is_some, unwrap_or, option_map, option_and_then, bytes_eq, ◌==◌}
 use Rattle.std.specs.List.{cons_option, list_any}
 use Rattle.std.proofs.lemmas.Bool.{eqb-true}
 use Rattle.std.proofs.lemmas.List.Sums.{sum_by-cons}
@@ -10,8 +10,8 @@ use Rattle.gu_base.specs.House.{House, knows_account}
 use Rattle.gu_base.specs.History.{RisesFrom}
 use Rattle.gu_base.specs.Numbers.{EntryPart}
 use Rattle.gu_base.specs.Nodes.{deal_in, node_of}
-use Rattle.gu_base.specs.Places.{place_of, root_of}
-use Rattle.gu_base.specs.Refusals.{first, owns, refusal_of, refusal_of_part, row, split_row, knows_own_account}
+use Rattle.gu_base.specs.Places.{place_of}
+use Rattle.gu_base.specs.Refusals.{first, owns, refusal_of, refusal_of_part, split_row, knows_own_account}
 use Rattle.gu_base.specs.declared.command.Part.{Part}
 use Rattle.gu_base.specs.declared.command.Side.{Side}
 use Rattle.gu_base.specs.declared.command.Command.{Command}
@@ -25,14 +25,13 @@ use Rattle.gu_base.proofs.Accepted.{first_none}
 use Rattle.gu_base.proofs.Passing.{at_node_none, split_passes, part_passes, refusal_parts}
 use Rattle.gu_depend.proofs.Replay.{number_once}
 use Rattle.gu_depend.proofs.StandsUnder.{rises_distinct}
-use Rattle.gu_positions.specs.Rows.{PositionRows, lots_in, is_key}
+use Rattle.gu_positions.specs.Rows.{PositionRows, is_key}
 use Rattle.gu_positions.specs.declared.positions.Key.{Key}
-use Rattle.gu_tree.specs.Grove.{Grove, tree_of, IsPlace}
-use Rattle.gu_book.specs.Filed.{IsFiled, IsNext}
-use Rattle.gu_book.specs.Found.{IsFoundAs, IsNamedIn, LiesThere}
-use Rattle.gu_book.specs.Holdings.{traded_at, held_at, holding_of, taken_by, part_holding, holding_away, part_away, added_by, counted_at, taken_at, HaveMoved, ArePositionsOf}
+use Rattle.gu_tree.specs.Grove.{Grove, IsPlace}
+use Rattle.gu_book.specs.Filed.{IsFiled}
+use Rattle.gu_book.specs.Found.{IsFoundAs}
+use Rattle.gu_book.specs.Holdings.{traded_at, held_at, holding_of, part_holding, holding_away, part_away, counted_at, taken_at, HaveMoved}
 use Rattle.gu_book.specs.TreeRows.{is_trade, is_live_trade}
-use Rattle.gu_book.specs.declared.found.Named.{Named}
 use Rattle.gu_book.specs.declared.found.Found.{Found}
 use Rattle.gu_book.specs.declared.plain.holdings.Holding.{Holding}
 use Rattle.gu_book.proofs.Holdings.{asked, one_found}

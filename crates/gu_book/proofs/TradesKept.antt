@@ -1,10 +1,15 @@
--- What a Trade and a Split leave of the fees and the positions: neither costs anything; the lots of a Trade go into one row, and of a Split only
--- what goes to other accounts is moved.
+-- What each kind of change leaves of the fees and the positions: a Claim alone costs something; the lots of a Trade go into one row, those of a
+-- Claim from one into another, and of a Split only what goes to other accounts is moved.
 use Rattle.std.proofs.Common.{◌≡◌, ℕ, ◌+◌, ◌<◌, ◌≤◌, ◌^◌, true, ◌&&◌, List, [], ◌∷◌, ◌++◌, length, refl, sym, ◌∙◌, ap, subst, arith, cond, ◌*◌, Option}
 use Rattle.std.specs.Prelude.{Some, None, sum_by, filter_map, option_and_then, IfSome}
 use Rattle.std.proofs.lemmas.List.Sums.{sum_by-cons}
 use Rattle.gu_base.specs.House.{House}
-use Rattle.gu_base.specs.Fees.{charge_of}
+use Rattle.gu_base.specs.Fees.{charge_of, charge_of_node}
+use Rattle.gu_base.specs.History.{is_change}
+use Rattle.gu_base.specs.Places.{place_of}
+use Rattle.gu_base.specs.declared.node.Charge.{Charge}
+use Rattle.gu_base.specs.declared.node.Deal.{Deal}
+use Rattle.gu_base.specs.declared.node.Place.{Place}
 use Rattle.gu_base.specs.Nodes.{node_of}
 use Rattle.gu_base.specs.Refusals.{refusal_of}
 use Rattle.gu_base.specs.declared.node.Node.{Node}
@@ -14,7 +19,7 @@ use Rattle.gu_base.specs.Positions.{same_side}
 use Rattle.gu_base.specs.declared.command.Part.{Part}
 use Rattle.gu_base.specs.declared.command.Side.{Side}
 use Rattle.gu_base.specs.declared.command.Command.{Command}
-use Rattle.gu_base.specs.declared.command.Command.TheVariants.{Trade, Split}
+use Rattle.gu_base.specs.declared.command.Command.TheVariants.{Trade, Split, Claim, Refuse, Cancel, Initiate, Decline, Reverse}
 use Rattle.gu_base.specs.declared.entry.Record.{Record}
 use Rattle.gu_base.specs.Numbers.{EntryPart}
 use Rattle.gu_positions.specs.Rows.{PositionRows, lots_in, is_key}
@@ -22,14 +27,64 @@ use Rattle.gu_positions.specs.declared.positions.Key.{Key}
 use Rattle.gu_tree.specs.Grove.{Grove}
 use Rattle.gu_book.specs.Charging.{AreFeesOf}
 use Rattle.gu_book.specs.Filed.{IsNext}
-use Rattle.gu_book.specs.Holdings.{holding_of, taken_by, part_away, added_by, counted_at, HaveRoom, HaveMoved, ArePositionsOf}
+use Rattle.gu_book.specs.Kinds.{is_return}
+use Rattle.gu_book.specs.Holdings.{held_at, traded_at, holding_of, taken_by, holding_away, part_away, added_by, counted_at, HaveRoom, HaveMoved, ArePositionsOf}
 use Rattle.gu_book.specs.Limits.{AllWithinLimits}
 use Rattle.gu_fees.specs.Rows.{FeeRows}
 use Rattle.gu_book.specs.declared.plain.holdings.Holding.{Holding}
 use Rattle.gu_book.proofs.Charging.{fees_stay}
 use Rattle.gu_book.proofs.PartsAway.{at_whole, moved, moved_few, SplitWell, split_well, whole_well, split_moved}
-use Rattle.gu_book.proofs.Standings.{have_room, has_taken, position_within, positions_moved}
+use Rattle.gu_book.proofs.Standings.{have_room, has_taken, position_within, positions_moved, positions_push}
+use Rattle.gu_book.proofs.HoldingRows.{put_there, first_there}
 use Rattle.gu_book.proofs.Within.{node_within}
+
+-- what is held somewhere has the lots that it is said to have
+held_lots : (o : Option Place) (w : Option Deal) (n : ℕ) (h : Holding) → Some h ≡ held_at o w n → h.lots ≡ n
+held_lots None w n h is = absurd (cc)
+held_lots (Some p) None n h is = absurd (cc)
+held_lots (Some p) (Some d) n h is =
+    ap (λ (h : Holding). h.lots) (same_Some h (record { key = record { firm = p.firm; account = p.account; instrument = d.instrument }; side = d.side; lots = n }) is)
+
+costs_none : (t : House) (l : List Record) (c : Command) → is_return c ≡ true → None ≡ charge_of t l c
+costs_none t l (Refuse _) is = refl
+costs_none t l (Cancel _) is = refl
+costs_none t l (Trade _ _ _ _ _) is = absurd (cc)
+costs_none t l (Split _ _) is = absurd (cc)
+costs_none t l (Claim _ _) is = absurd (cc)
+costs_none t l (Initiate _) is = absurd (cc)
+costs_none t l (Decline _) is = absurd (cc)
+costs_none t l (Reverse _) is = absurd (cc)
+
+takes_none : (l : List Record) (c : Command) → is_return c ≡ true → None ≡ taken_by l c
+takes_none l (Refuse _) is = refl
+takes_none l (Cancel _) is = refl
+takes_none l (Trade _ _ _ _ _) is = absurd (cc)
+takes_none l (Split _ _) is = absurd (cc)
+takes_none l (Claim _ _) is = absurd (cc)
+takes_none l (Initiate _) is = absurd (cc)
+takes_none l (Decline _) is = absurd (cc)
+takes_none l (Reverse _) is = absurd (cc)
+
+adds_none : (by : List ℕ) (c : Command) → is_return c ≡ true → added_by by c None ≡ []
+adds_none by (Refuse _) is = refl
+adds_none by (Cancel _) is = refl
+adds_none by (Trade _ _ _ _ _) is = absurd (cc)
+adds_none by (Split _ _) is = absurd (cc)
+adds_none by (Claim _ _) is = absurd (cc)
+adds_none by (Initiate _) is = absurd (cc)
+adds_none by (Decline _) is = absurd (cc)
+adds_none by (Reverse _) is = absurd (cc)
+
+-- each is a change
+pub return_changes : (c : Command) → is_return c ≡ true → is_change c ≡ true
+return_changes (Refuse _) is = refl
+return_changes (Cancel _) is = refl
+return_changes (Trade _ _ _ _ _) is = refl
+return_changes (Split _ _) is = refl
+return_changes (Claim _ _) is = refl
+return_changes (Initiate _) is = absurd (cc)
+return_changes (Decline _) is = absurd (cc)
+return_changes (Reverse _) is = absurd (cc)
 
 module _ {t : House} {l : List Record} {r : Record} {ts : Grove} (next : IsNext t l r ts) where
   -- ---- a Trade
@@ -107,3 +162,64 @@ module _ {t : House} {l : List Record} {r : Record} {ts : Grove} (next : IsNext 
           positions_moved next rows new are (Some whole) takes
           (subst (λ (hs : List Holding). HaveMoved rows new (Some whole) hs) (sym (ap (λ c. added_by r.firm c (Some whole)) splits))
           (split_moved t whole r.firm ps its_whole.0 its_whole.1 well.parts rows mid new put taken))
+
+  -- ---- a Claim
+
+  module _ (n : EntryPart) (account : List ℕ) (claims : r.command ≡ Claim n account) (x : Node) (there : node_of l n ≡ Some x) (whole : Holding) (holds : Some whole ≡ holding_of l x) where
+    claim_takes : Some whole ≡ taken_by l r.command
+    claim_takes = holds ∙ sym (ap (taken_by l) claims ∙ ap (option_and_then (holding_of l)) there)
+
+    -- what it costs
+    pub claim_costs : (o : Option Charge) → o ≡ charge_of_node t x → o ≡ charge_of t l r.command
+    claim_costs o is = is ∙ sym (ap (charge_of t l) claims ∙ ap (option_and_then (charge_of_node t)) there)
+
+    -- the lots in the account of the claim
+    abbrev pub claimed_lots : Holding
+    claimed_lots = holding_away whole r.firm account whole.lots
+
+    claim_adds : added_by r.firm r.command (Some whole) ≡ claimed_lots ∷ []
+    claim_adds = ap (λ c. added_by r.firm c (Some whole)) claims
+
+    -- the row has room
+    pub claim_fits : length l ≤ 1000000 → AllWithinLimits l → (rows : PositionRows) → ArePositionsOf l rows → lots_in rows claimed_lots.key whole.side + whole.lots < 2 ^ 64
+    claim_fits few all rows are =
+        let small : x.lots ≤ 10000000 = subst (λ (o : Option Node). IfSome o (λ x. x.lots ≤ 10000000)) there (node_within l n all) in
+        let same = held_lots (place_of l x.name) (traded_at l x.name) x.lots whole holds in
+        let room = have_room next few all rows are (Some whole) (omega (arith, small, same)) claimed_lots.key whole.side in
+        let sum = ap (sum_by (λ (h : Holding). h.lots)) claim_adds in
+        let one = sum_by-cons (λ (h : Holding). h.lots) claimed_lots [] in
+        omega (arith, room, sum, one)
+
+    module _ (rows mid : PositionRows) (are : ArePositionsOf l rows) (put : HaveMoved rows mid None (claimed_lots ∷ [])) where
+      -- once they are put they are there
+      pub claim_there : whole.lots ≤ lots_in mid claimed_lots.key whole.side
+      claim_there = first_there mid claimed_lots [] (put_there rows mid (claimed_lots ∷ []) put)
+
+      -- and taken out again they leave what was
+      pub claim_undone : (new : PositionRows) → HaveMoved mid new (Some claimed_lots) [] → ArePositionsOf l new
+      claim_undone new taken = record {
+        lots = λ at side.
+            let a = put at side in
+            let b = taken at side in
+            let c = sum_by-cons (counted_at at side) claimed_lots [] in
+            let d = are.lots at side in
+            omega (arith, a, b, c, d);
+      }
+
+      -- so many stand where the node stood
+      pub claim_whole : whole.lots ≤ lots_in mid whole.key whole.side
+      claim_whole = has_taken next rows mid are (claimed_lots ∷ []) put (Some whole) claim_takes
+
+      pub claim_stands : (new : PositionRows) → HaveMoved mid new (Some whole) [] → ArePositionsOf (l ++ r ∷ []) new
+      claim_stands new taken = positions_push next rows mid new are (Some whole) claim_takes (subst (λ (hs : List Holding). HaveMoved rows mid None hs) (sym claim_adds) put) taken
+
+  -- ---- a Refuse or a Cancel
+
+  module _ (returns : is_return r.command ≡ true) where
+    pub return_free : (fees : FeeRows) → AreFeesOf t l fees → AreFeesOf t (l ++ r ∷ []) fees
+    return_free fees are = fees_stay next fees are (costs_none t l r.command returns)
+
+    pub return_stands : (rows : PositionRows) → ArePositionsOf l rows → ArePositionsOf (l ++ r ∷ []) rows
+    return_stands rows are =
+        positions_moved next rows rows are None (takes_none l r.command returns)
+        (λ at side. let a = ap (sum_by (counted_at at side)) (adds_none r.firm r.command returns) in omega (arith, a))

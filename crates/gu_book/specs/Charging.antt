@@ -6,7 +6,7 @@ use Rattle.gu_base.specs.House.{House}
 use Rattle.gu_base.specs.Fees.{charges}
 use Rattle.gu_base.specs.declared.entry.Record.{Record}
 use Rattle.gu_base.specs.declared.node.Charge.{Charge}
-use Rattle.gu_fees.specs.Rows.{FeeRows, IsReady, CanCharge, CanUncharge}
+use Rattle.gu_fees.specs.Rows.{FeeRows, HasRoom, CanUncharge}
 use Rattle.gu_fees.specs.Sums.{AreSumsOf}
 
 -- at most 10,000,000 lots, at a rate of at most 100,000
@@ -19,15 +19,10 @@ pub record AreFeesOf (t : House) (l : List Record) (fees : FeeRows) : Type 0 whe
   pub sums : AreSumsOf fees (charges t l)
   pub small : All IsSmallCharge (charges t l)
 
--- the rows that the charge changes are there, if there is one
-abbrev pub IsReadyFor : FeeRows → Option Charge → Type 0
-IsReadyFor fees None = Unit {0}
-IsReadyFor fees (Some c) = IsReady fees c.giver c.taker
-
--- and each sum has room for it
+-- each sum has room for the charge, if there is one
 abbrev pub HasRoomFor : FeeRows → Option Charge → Type 0
 HasRoomFor fees None = Unit {0}
-HasRoomFor fees (Some c) = CanCharge fees c.giver c.taker c.lots c.rate
+HasRoomFor fees (Some c) = HasRoom fees c.giver c.taker c.lots c.rate
 
 -- each sum has it, if there is one
 abbrev pub IsCharged : FeeRows → Option Charge → Type 0

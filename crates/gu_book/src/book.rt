@@ -17,6 +17,7 @@ ghost use Rattle.gu_consent.specs.Given.{given};
 ghost use Rattle.gu_tree.specs.Shown.{shown, named_node};
 ghost use Rattle.gu_book.specs.Front.{may_lack};
 ghost use Rattle.gu_book.specs.Ids.{NoIdTwice};
+ghost use Rattle.gu_book.specs.Kinds.{is_claim, is_return};
 ghost use Rattle.gu_book.specs.Found.{IsNamedIn, LiesThere};
 ghost use Rattle.gu_book.specs.Live.{entry_of_change};
 ghost use Rattle.gu_book.specs.Seen.{stored};
@@ -32,7 +33,7 @@ use crate::plain::{charges, holdings};
 use crate::{grove, visits};
 use gu_base::{
     AccountId, AllocId, Answer, Command, Entry, FirmId, InstrumentId, Memory, Number, Place,
-    Refusal,
+    Refusal, State,
 };
 use gu_consent::Consents;
 use gu_depend::first_standing;
@@ -237,9 +238,8 @@ impl Book {
         match made.command {
             Command::Trade { .. } => self.keep_trade(alloc, made),
             Command::Split { .. } => self.keep_split(alloc, made, sought),
-            Command::Claim { .. } | Command::Refuse { .. } | Command::Cancel { .. } => {
-                self.keep_decision(alloc, made, sought)
-            }
+            Command::Claim { .. } => self.keep_claim(made, sought),
+            Command::Refuse { .. } | Command::Cancel { .. } => self.keep_return(made, sought),
             Command::Initiate { .. } | Command::Decline { .. } => self.keep_consenting(alloc, made),
             Command::Reverse { entry } => self.keep_reversal(made, *entry),
         }
@@ -263,7 +263,7 @@ impl Book {
         else {
             unreachable!()
         };
-        self.entries.reserve(1)?;
+        make_room(&mut self.entries)?;
         self.index.ids.ready()?;
         self.trees.ready()?;
         let key = Key {
@@ -308,7 +308,7 @@ impl Book {
         let Command::Split { node, parts } = made.command else {
             unreachable!()
         };
-        self.entries.reserve(1)?;
+        make_room(&mut self.entries)?;
         self.index.ids.ready()?;
         self.trees.ready()?;
         let kept = parts.copy(alloc)?;
@@ -337,36 +337,65 @@ impl Book {
         Ok(())
     }
 
-    /// Puts an accepted Claim, Refuse or Cancel at the end of the history, and decides its node. The lots of a Claim are put where they go with the
-    /// growth of their row, and taken out again where a later growth is refused; all else changes behind the last growth.
+    /// Puts an accepted Claim at the end of the history, charges it, and moves its node with its lots. What it puts is taken out again where a
+    /// later growth is refused; all else changes behind the last growth.
     #[inline(never)]
-    fn keep_decision(
-        &mut self,
-        alloc: Global,
-        made: &Change<'_>,
-        sought: &Sought,
-    ) -> Result<(), Memory>
-        requires change { is_change made.now.command.now ≡ true }
+    fn keep_claim(&mut self, made: &Change<'_>, sought: &Sought) -> Result<(), Memory>
+        requires claim { is_claim made.now.command.now ≡ true }
         requires named { IsNamedIn (live self.old.history) (named_node made.now.command.now) sought.now.named }
         requires there { LiesThere (live self.old.history) sought.now.named sought.now.path.items }
         requires accepted { answer_to self.old.house self.old.history (call_of (entry_of_change made.now)) ≡ Accepted made.now.number made.now.status }
         ensures kept { OnOk result (self.new ≡ record self.old { history = self.old.history ++ entry_of_change made.now ∷ [] }) }
         ensures unchanged { OnErr result (self.new ≡ self.old) }
     {
-        let changes = Live::of(self.entries.as_slice(), &self.index.reversals);
-        let charge = charges::charge_named(&self.house, &sought.named, made.command);
-        let taken = holdings::taken_by(&changes, &sought.named, made.command);
-        let kept = made.command.copy(alloc)?;
-        self.entries.reserve(1)?;
-        charges::ready(&mut self.fees, &charge)?;
+        let Command::Claim { node, account } = made.command else {
+            unreachable!()
+        };
+        make_room(&mut self.entries)?;
         self.index.ids.ready()?;
-        holdings::put_added(&mut self.positions, made.firm, made.command, &taken)?;
-        if let Err(e) = grove::change(&mut self.trees, alloc, made, sought) {
-            holdings::take_added(&mut self.positions, made.firm, made.command, &taken);
+        self.trees.ready()?;
+        let changes = Live::of(self.entries.as_slice(), &self.index.reversals);
+        let Some(named) = &sought.named else {
+            unreachable!()
+        };
+        let whole = holdings::whole_of(&changes, named);
+        let charge = charges::node_charge(&self.house, &named.node);
+        let claimed = holdings::in_account(&whole, made.firm, account);
+        holdings::put(&mut self.positions, &claimed)?;
+        if let Err(e) = charges::put(&mut self.fees, &charge) {
+            holdings::take(&mut self.positions, &claimed);
             return Err(e);
         }
-        charges::add(&mut self.fees, &charge);
-        holdings::take_whole(&mut self.positions, &taken);
+        grove::claim(&mut self.trees, made, sought, *account);
+        holdings::take(&mut self.positions, &whole);
+        self.index.ids.add(made.firm, made.id);
+        let kept = Command::Claim {
+            node: *node,
+            account: *account,
+        };
+        push(&mut self.entries, made, kept);
+        Ok(())
+    }
+
+    /// Puts an accepted Refuse or Cancel at the end of the history, and gives its node back.
+    #[inline(never)]
+    fn keep_return(&mut self, made: &Change<'_>, sought: &Sought) -> Result<(), Memory>
+        requires back { is_return made.now.command.now ≡ true }
+        requires named { IsNamedIn (live self.old.history) (named_node made.now.command.now) sought.now.named }
+        requires there { LiesThere (live self.old.history) sought.now.named sought.now.path.items }
+        requires accepted { answer_to self.old.house self.old.history (call_of (entry_of_change made.now)) ≡ Accepted made.now.number made.now.status }
+        ensures kept { OnOk result (self.new ≡ record self.old { history = self.old.history ++ entry_of_change made.now ∷ [] }) }
+        ensures unchanged { OnErr result (self.new ≡ self.old) }
+    {
+        make_room(&mut self.entries)?;
+        self.index.ids.ready()?;
+        self.trees.ready()?;
+        let (kept, state) = match made.command {
+            Command::Refuse { node } => (Command::Refuse { node: *node }, State::Refused),
+            Command::Cancel { node } => (Command::Cancel { node: *node }, State::Cancelled),
+            _ => unreachable!(),
+        };
+        grove::give_back(&mut self.trees, made, sought, state);
         self.index.ids.add(made.firm, made.id);
         push(&mut self.entries, made, kept);
         Ok(())
@@ -381,7 +410,7 @@ impl Book {
         ensures unchanged { OnErr result (self.new ≡ self.old) }
     {
         let kept = made.command.copy(alloc)?;
-        self.entries.reserve(1)?;
+        make_room(&mut self.entries)?;
         self.index.ids.ready()?;
         consent(&mut self.consents, alloc, made)?;
         self.index.ids.add(made.firm, made.id);
@@ -398,7 +427,7 @@ impl Book {
         ensures kept { OnOk result (self.new ≡ record self.old { history = self.old.history ++ entry_of_change made.now ∷ [] }) }
         ensures unchanged { OnErr result (self.new ≡ self.old) }
     {
-        self.entries.reserve(1)?;
+        make_room(&mut self.entries)?;
         let changes = Live::of(self.entries.as_slice(), &self.index.reversals);
         let undone = &self.entries[change.get() as usize - 1];
         let charge = charges::charge_of(&self.house, &changes, &undone.command);
@@ -465,6 +494,29 @@ impl Book {
     {
         self.fees.used(giver, taker)
     }
+}
+
+/// Makes room for one entry more. There mostly is some, so the growth stands apart from the code that runs each time.
+#[inline(always)]
+fn make_room(entries: &mut Vec<Entry>) -> Result<(), Memory>
+    ensures items { entries.new.items ≡ entries.old.items }
+    ensures room { OnOk result (vec_len entries.new < vec_capacity entries.new) }
+{
+    if entries.len() < entries.capacity() {
+        return Ok(());
+    }
+    grow(entries)
+}
+
+/// Makes room for one entry more where there is none.
+#[cold]
+#[inline(never)]
+fn grow(entries: &mut Vec<Entry>) -> Result<(), Memory>
+    ensures items { entries.new.items ≡ entries.old.items }
+    ensures room { OnOk result (vec_len entries.new < vec_capacity entries.new) }
+{
+    entries.reserve(1)?;
+    Ok(())
 }
 
 /// Puts the entry of an accepted call at the end of the history; there has to be room for it. It is put together where it then lies.

@@ -56,7 +56,12 @@ pub(crate) fn split(
 }
 
 /// Moves the node into the account of its claim.
-fn claim(trees: &mut Trees<Global>, made: &Change<'_>, sought: &Sought, account: AccountId)
+pub(crate) fn claim(
+    trees: &mut Trees<Global>,
+    made: &Change<'_>,
+    sought: &Sought,
+    account: AccountId,
+)
     requires due { IsDue (record_of made.now) trees.old }
     requires place_room { 1 ≤ trees.old.place_room }
     requires claim { (n : EntryPart) × (made.now.command.now ≡ Claim n account) }
@@ -75,7 +80,7 @@ fn claim(trees: &mut Trees<Global>, made: &Change<'_>, sought: &Sought, account:
 }
 
 /// Gives the node back to its giver: `state` is Refused or Cancelled.
-fn give_back(trees: &mut Trees<Global>, made: &Change<'_>, sought: &Sought, state: State)
+pub(crate) fn give_back(trees: &mut Trees<Global>, made: &Change<'_>, sought: &Sought, state: State)
     requires due { IsDue (record_of made.now) trees.old }
     requires place_room { 1 ≤ trees.old.place_room }
     requires back { (n : EntryPart) × GivesBack n state made.now.command.now }
@@ -87,61 +92,6 @@ fn give_back(trees: &mut Trees<Global>, made: &Change<'_>, sought: &Sought, stat
         unreachable!()
     };
     trees.give_back(named.found.trade, &sought.path, made.number, state);
-}
-
-/// Does to the trees what an accepted change says. There has to be room for a tree and a place.
-fn make(
-    trees: &mut Trees<Global>,
-    alloc: Global,
-    made: &Change<'_>,
-    sought: &Sought,
-) -> Result<(), Memory>
-    requires due { IsDue (record_of made.now) trees.old }
-    requires there { IsFoundThere trees.old (named_node made.now.command.now) sought.now.named sought.now.path.items }
-    requires tree_room { 1 ≤ trees.old.tree_room }
-    requires place_room { 1 ≤ trees.old.place_room }
-    ensures follows { OnOk result (Follows (record_of made.now) trees.old trees.new) }
-    ensures last { OnOk result (last_place trees.new ≤ made.now.number) }
-    ensures unchanged { OnErr result (IsSameGrove trees.old trees.new) }
-{
-    match made.command {
-        Command::Trade {
-            firm,
-            account,
-            lots,
-            ..
-        } => {
-            let place = Place {
-                firm: *firm,
-                account: *account,
-            };
-            plant(trees, alloc, made, place, *lots);
-        }
-        Command::Split { parts, .. } => split(trees, made, sought, parts.as_slice())?,
-        Command::Claim { account, .. } => claim(trees, made, sought, *account),
-        Command::Refuse { .. } => give_back(trees, made, sought, State::Refused),
-        Command::Cancel { .. } => give_back(trees, made, sought, State::Cancelled),
-        _ => {}
-    }
-    Ok(())
-}
-
-/// Does to the trees what an accepted change says, at the node that it names and that was found before. Its growths come before
-/// anything changes.
-pub(crate) fn change(
-    trees: &mut Trees<Global>,
-    alloc: Global,
-    made: &Change<'_>,
-    sought: &Sought,
-) -> Result<(), Memory>
-    requires due { IsDue (record_of made.now) trees.old }
-    requires there { IsFoundThere trees.old (named_node made.now.command.now) sought.now.named sought.now.path.items }
-    ensures follows { OnOk result (Follows (record_of made.now) trees.old trees.new) }
-    ensures last { OnOk result (last_place trees.new ≤ made.now.number) }
-    ensures unchanged { OnErr result (IsSameGrove trees.old trees.new) }
-{
-    trees.ready()?;
-    make(trees, alloc, made, sought)
 }
 
 /// Takes the change of this number back, at the node that it made or named; nothing may stand on it. The trees are then those of

@@ -30,6 +30,12 @@ pub record IsReady (r : FeeRows) (giver taker : List ℕ) : Type 0 where
   pub receives : IsTrue (has_row (bytes_eq giver) r.received)
   pub uses : IsTrue (has_row (is_pair giver taker) r.used)
 
+-- each sum has room for these lots at this rate
+pub record HasRoom (r : FeeRows) (giver taker : List ℕ) (lots rate : ℕ) : Type 0 where
+  pub paid : paid_in r taker + lots * rate < 2 ^ 64
+  pub received : received_in r giver + lots * rate < 2 ^ 64
+  pub used : used_in r giver taker + lots < 2 ^ 64
+
 -- the rows are there, and each sum has room for these lots at this rate
 pub record CanCharge (r : FeeRows) (giver taker : List ℕ) (lots rate : ℕ) : Type 0 where
   pub ready : IsReady r giver taker

@@ -1,7 +1,7 @@
 //! The fees of a book.
-ghost use Rattle.std.specs.Prelude.{◌≡◌, ◌+◌, ◌*◌, ◌&&◌, ◌++◌, ℕ, List, [], ◌∷◌, cond, bytes_eq, OnOk, IsTrue, ◌↔◌};
+ghost use Rattle.std.specs.Prelude.{◌≡◌, ◌+◌, ◌*◌, ◌&&◌, ◌++◌, ℕ, List, [], ◌∷◌, cond, bytes_eq, OnOk, OnErr, IsTrue, ◌↔◌};
 ghost use Rattle.gu_base.specs.declared.node.Charge.{Charge};
-ghost use Rattle.gu_fees.specs.Rows.{paid_in, received_in, used_in, IsReady, CanCharge, CanUncharge};
+ghost use Rattle.gu_fees.specs.Rows.{paid_in, received_in, used_in, IsReady, HasRoom, CanCharge, CanUncharge};
 ghost use Rattle.gu_fees.specs.Sums.{AreSumsOf};
 
 use gu_base::{FirmId, Memory, Pair};
@@ -73,6 +73,44 @@ impl Fees {
         self.paid.add(taker, cost);
         self.received.add(giver, cost);
         self.used.add(&pair, lots);
+    }
+
+    /// Adds a claim as `charge` does, and makes its rows where there are none. One look finds a row that is there.
+    ///
+    /// Each sum has to stay below 2^64.
+    ///
+    /// # Errors
+    ///
+    /// `Memory` where a row was wanted. No sum has changed then.
+    pub fn put(
+        &mut self,
+        giver: &FirmId,
+        taker: &FirmId,
+        lots: u64,
+        rate: u64,
+    ) -> Result<(), Memory>
+        requires { HasRoom self.old giver.now taker.now lots rate }
+        ensures sums { OnOk result ((before after : List Charge) → AreSumsOf self.old (before ++ after) → AreSumsOf self.new (before ++ record { giver = giver.now; taker = taker.now; lots = lots; rate = rate } ∷ after)) }
+        ensures same_paid { OnErr result ((firm : List ℕ) → paid_in self.new firm ≡ paid_in self.old firm) }
+        ensures same_received { OnErr result ((firm : List ℕ) → received_in self.new firm ≡ received_in self.old firm) }
+        ensures same_used { OnErr result ((g t : List ℕ) → used_in self.new g t ≡ used_in self.old g t) }
+    {
+        let pair = Pair {
+            giver: *giver,
+            taker: *taker,
+        };
+        let fee = lots * rate;
+        self.paid.put(taker, fee)?;
+        if let Err(e) = self.received.put(giver, fee) {
+            self.paid.take(taker, fee);
+            return Err(e);
+        }
+        if let Err(e) = self.used.put(&pair, lots) {
+            self.received.take(giver, fee);
+            self.paid.take(taker, fee);
+            return Err(e);
+        }
+        Ok(())
     }
 
     /// Takes a claim away again: what `charge` of the same added.

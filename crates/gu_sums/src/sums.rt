@@ -1,5 +1,5 @@
 //! A number at each key.
-ghost use Rattle.std.specs.Prelude.{◌≡◌, ◌+◌, ◌≤◌, [], cond, IsTrue, ◌↔◌, OnOk};
+ghost use Rattle.std.specs.Prelude.{◌≡◌, ◌+◌, ◌<◌, ◌≤◌, ◌^◌, [], cond, IsTrue, ◌↔◌, OnOk, OnErr};
 ghost use Rattle.gu_sums.specs.Sums.{number_at, has_row, CanAdd};
 
 use gu_base::Memory;
@@ -85,6 +85,25 @@ impl<K: Eq + Hash + Copy + Drop> Sums<K> {
         if !self.rows.contains_key(key) {
             self.rows.insert(*key, 0)?;
         }
+        Ok(())
+    }
+
+    /// Adds to the number at a key, and makes its row where there is none. One look finds a row that is there.
+    ///
+    /// # Errors
+    ///
+    /// `Memory` where a row was wanted. No number has changed then.
+    pub fn put(&mut self, key: &K, by: u64) -> Result<(), Memory>
+        requires { number_at (K.eq key.now) self.old + by < 2 ^ 64 }
+        ensures added { OnOk result ((q : K) → number_at (K.eq q) self.new ≡ number_at (K.eq q) self.old + cond (K.eq key.now q) by 0) }
+        ensures same { OnErr result ((q : K) → number_at (K.eq q) self.new ≡ number_at (K.eq q) self.old) }
+    {
+        if let Some(sum) = self.rows.get_mut(key) {
+            *sum += by;
+            return Ok(());
+        }
+        self.ready(key)?;
+        self.add(key, by);
         Ok(())
     }
 }

@@ -1,5 +1,5 @@
 //! The lots that stand in an account, and which of them a change moves.
-ghost use Rattle.std.specs.Prelude.{◌≡◌, ◌≤◌, ◌==◌, [], length, take, find, filter_map, sum_by, Some, None, option_and_then, option_map, IfSome, IsSome, IfOk, OnOk, OnErr};
+ghost use Rattle.std.specs.Prelude.{◌≡◌, ◌≤◌, ◌<◌, ◌+◌, ◌^◌, ◌==◌, [], ◌∷◌, length, take, find, filter_map, sum_by, Some, None, option_and_then, option_map, IfSome, IsSome, IfOk, OnOk, OnErr};
 ghost use Rattle.std.specs.List.{cons_option};
 ghost use Rattle.gu_base.specs.Nodes.{deal_in, node_of};
 ghost use Rattle.gu_base.specs.Limits.{most_lots};
@@ -93,41 +93,6 @@ fn holding_named(changes: &Live<'_>, trees: &Trees<Global>, name: NodeName) -> O
     }
 }
 
-/// The lots of the node that was found, where it stands.
-fn holding_found(changes: &Live<'_>, named: &Option<Named>, name: NodeName) -> Option<Holding>
-    requires within { AllWithinLimits changes.now }
-    requires named { IsNamedBy changes.now name named.now }
-    ensures value { result ≡ option_and_then (holding_of changes.now) (node_of changes.now name) }
-    ensures lots { IfSome result (λ h. h.lots ≤ most_lots) }
-{
-    match named {
-        None => None,
-        Some(x) => held_at(
-            &x.found.head.place,
-            &traded_under(changes, x.found.trade),
-            x.found.head.lots,
-        ),
-    }
-}
-
-/// What a command takes out of an account. The node that it names was found before.
-pub(crate) fn taken_by(
-    changes: &Live<'_>,
-    named: &Option<Named>,
-    command: &Command,
-) -> Option<Holding>
-    requires within { AllWithinLimits changes.now }
-    requires named { IsNamedIn changes.now (named_node command.now) named.now }
-    ensures value { result ≡ taken_by changes.now command.now }
-    ensures lots { IfSome result (λ h. h.lots ≤ most_lots) }
-{
-    match command {
-        Command::Split { node, .. } => holding_found(changes, named, *node),
-        Command::Claim { node, .. } => holding_found(changes, named, *node),
-        _ => None,
-    }
-}
-
 /// The lots of the node of this name, with the node above it.
 fn holding_above(changes: &Live<'_>, trees: &Trees<Global>, name: NodeName) -> Option<Holding>
     requires within { AllWithinLimits changes.now }
@@ -193,6 +158,41 @@ fn part_holding(whole: &Holding, by: &FirmId, part: &Part) -> Option<Holding>
             lots: part.lots,
         }),
     }
+}
+
+/// The same lots in an account of a firm.
+#[inline(always)]
+pub(crate) fn in_account(whole: &Holding, firm: &FirmId, account: &AccountId) -> Holding
+    ensures { result ≡ holding_away whole.now firm.now account.now whole.now.lots }
+{
+    Holding {
+        key: Key {
+            firm: *firm,
+            account: *account,
+            instrument: whole.key.instrument,
+        },
+        side: whole.side,
+        lots: whole.lots,
+    }
+}
+
+/// Puts lots into their account, and makes its row where there is none.
+#[inline(always)]
+pub(crate) fn put(positions: &mut Positions, held: &Holding) -> Result<(), Memory>
+    requires { lots_in positions.old held.now.key held.now.side + held.now.lots < 2 ^ 64 }
+    ensures put { OnOk result (HaveMoved positions.old positions.new None (held.now ∷ [])) }
+    ensures same { OnErr result (SameLots positions.old positions.new) }
+{
+    positions.put(&held.key, held.side, held.lots)
+}
+
+/// Takes lots out of their account.
+#[inline(always)]
+pub(crate) fn take(positions: &mut Positions, held: &Holding)
+    requires { held.now.lots ≤ lots_in positions.old held.now.key held.now.side }
+    ensures { HaveMoved positions.old positions.new (Some held.now) [] }
+{
+    positions.take(&held.key, held.side, held.lots);
 }
 
 /// What a part of the whole holds in another account than the one in which the whole stood, and which one.
@@ -294,41 +294,6 @@ pub(crate) fn take_moved(positions: &mut Positions, whole: &Holding, moved: u64)
     }
 }
 
-/// Puts what a part of the whole holds into its account.
-#[inline(always)]
-fn put_part(
-    positions: &mut Positions,
-    whole: &Holding,
-    by: &FirmId,
-    part: &Part,
-) -> Result<(), Memory>
-    requires { HaveRoom positions.old (cons_option (part_holding whole.now by.now part.now) []) }
-    ensures put { OnOk result (HaveMoved positions.old positions.new None (cons_option (part_holding whole.now by.now part.now) [])) }
-    ensures same { OnErr result (SameLots positions.old positions.new) }
-{
-    match part_holding(whole, by, part) {
-        None => Ok(()),
-        Some(h) => positions.put(&h.key, h.side, h.lots),
-    }
-}
-
-/// Puts the lots of the parts into their accounts, up to the first part for whose row memory is refused. How many parts it put.
-#[inline(always)]
-fn put_parts(positions: &mut Positions, whole: &Holding, by: &FirmId, parts: &[Part]) -> usize
-    requires { HaveRoom positions.old (filter_map (part_holding whole.now by.now) parts.now) }
-    ensures within { result ≤ length parts.now }
-    ensures put { HaveMoved positions.old positions.new None (filter_map (part_holding whole.now by.now) (take result parts.now)) }
-{
-    let mut done = 0;
-    for part in parts {
-        if put_part(positions, whole, by, part).is_err() {
-            return done;
-        }
-        done += 1;
-    }
-    done
-}
-
 /// Takes the lots of the parts out of their accounts.
 fn take_parts(positions: &mut Positions, whole: &Holding, by: &FirmId, parts: &[Part])
     requires { HaveThere positions.old (filter_map (part_holding whole.now by.now) parts.now) }
@@ -339,73 +304,6 @@ fn take_parts(positions: &mut Positions, whole: &Holding, by: &FirmId, parts: &[
         if let Some(h) = part_holding(whole, by, part) {
             positions.take(&h.key, h.side, h.lots);
         }
-    }
-}
-
-/// Puts the lots of all parts into their accounts, or those of none where memory is refused.
-#[inline(always)]
-fn put_all(
-    positions: &mut Positions,
-    whole: &Holding,
-    by: &FirmId,
-    parts: &[Part],
-) -> Result<(), Memory>
-    requires { HaveRoom positions.old (filter_map (part_holding whole.now by.now) parts.now) }
-    ensures put { OnOk result (HaveMoved positions.old positions.new None (filter_map (part_holding whole.now by.now) parts.now)) }
-    ensures same { OnErr result (SameLots positions.old positions.new) }
-{
-    let done = put_parts(positions, whole, by, parts);
-    if done < parts.len() {
-        take_parts(positions, whole, by, &parts[..done]);
-        return Err(AllocError);
-    }
-    Ok(())
-}
-
-/// Puts the lots that a command adds into their accounts, where it takes these, and makes the rows that aren't there. The rows have
-/// to have room. No lots change where memory is refused.
-#[inline(always)]
-pub(crate) fn put_added(
-    positions: &mut Positions,
-    by: &FirmId,
-    command: &Command,
-    taken: &Option<Holding>,
-) -> Result<(), Memory>
-    requires { HaveRoom positions.old (added_by by.now command.now taken.now) }
-    ensures put { OnOk result (HaveMoved positions.old positions.new None (added_by by.now command.now taken.now)) }
-    ensures same { OnErr result (SameLots positions.old positions.new) }
-{
-    match command {
-        Command::Trade {
-            firm,
-            account,
-            instrument,
-            side,
-            lots,
-        } => {
-            let key = Key {
-                firm: *firm,
-                account: *account,
-                instrument: *instrument,
-            };
-            positions.put(&key, *side, *lots)
-        }
-        Command::Split { parts, .. } => match taken {
-            None => Ok(()),
-            Some(whole) => put_all(positions, whole, by, parts.as_slice()),
-        },
-        Command::Claim { account, .. } => match taken {
-            None => Ok(()),
-            Some(whole) => {
-                let key = Key {
-                    firm: *by,
-                    account: *account,
-                    instrument: whole.key.instrument,
-                };
-                positions.put(&key, whole.side, whole.lots)
-            }
-        },
-        _ => Ok(()),
     }
 }
 
@@ -451,16 +349,6 @@ pub(crate) fn take_added(
             }
         }
         _ => {}
-    }
-}
-
-/// Takes what a command takes out of its account.
-pub(crate) fn take_whole(positions: &mut Positions, taken: &Option<Holding>)
-    requires { HasTaken positions.old taken.now }
-    ensures { HaveMoved positions.old positions.new taken.now [] }
-{
-    if let Some(h) = taken {
-        positions.take(&h.key, h.side, h.lots);
     }
 }
 

@@ -1,8 +1,6 @@
-use Rattle.std.proofs.Common.{◌≡◌, ◌≤◌, ◌∙◌, List, length, refl, sym, ap, subst, arith}
-use Rattle.std.specs.Prelude.{Some, None, filter_map}
+use Rattle.std.proofs.Common.{◌≡◌, ◌≤◌, ◌∙◌, List, length, refl, ap, subst, arith}
+use Rattle.std.specs.Prelude.{Some, filter_map}
 use Rattle.gu_base.specs.History.{live, is_change}
-use Rattle.gu_base.specs.Nodes.{node_of}
-use Rattle.gu_base.specs.declared.command.Part.{Part}
 use Rattle.gu_base.specs.declared.entry.Record.{Record}
 use Rattle.gu_base.proofs.LiveLaws.{change_is_no_reverse}
 use Rattle.gu_base.proofs.Passing.{refusal_parts}
@@ -10,7 +8,7 @@ use Rattle.gu_tree.specs.Shown.{named_node}
 use Rattle.gu_book.specs.Charging.{AreFeesOf}
 use Rattle.gu_book.specs.Filed.{IsNext}
 use Rattle.gu_book.specs.Found.{IsNamedBy}
-use Rattle.gu_book.specs.Holdings.{holding_of, part_away, HaveMoved, ArePositionsOf}
+use Rattle.gu_book.specs.Holdings.{holding_of, part_away, ArePositionsOf}
 use Rattle.gu_book.specs.Live.{entry_of_change, record_of}
 use Rattle.gu_book.proofs.Filed.{due_same, follows_same, same_both}
 use Rattle.gu_book.proofs.HoldingRows.{put_and_taken}
@@ -19,8 +17,8 @@ use Rattle.gu_book.proofs.Keeps.{next_kept, kept_change, kept_alike, live_few, l
 use Rattle.gu_book.proofs.Leaves.{live_rises}
 use Rattle.gu_book.proofs.OnePlace.{found_there, there_alike}
 use Rattle.gu_book.proofs.Orders.{names_there}
-use Rattle.gu_book.proofs.PartsAway.{at_whole, holds_some}
-use Rattle.gu_book.proofs.TradesKept.{split_free, split_fits, split_takes, split_stands}
+use Rattle.gu_book.proofs.PartsAway.{holds_some}
+use Rattle.gu_book.proofs.TradesKept.{split_free, split_home, split_fits, split_takes, split_stands}
 use Rattle.gu_book.proofs.book.Book.keep_split.Goals.{After-whole_of-whole}
 use Rattle.gu_book.proofs.book.Book.keep_split.Goals as goal
 
@@ -35,18 +33,23 @@ named c = let is = rw (← c.self.view_is) at c.requires.named in rw (c.in-Split
 -- and its lots are the whole
 holds : (c : After-whole_of-whole) → Some c.whole_of-whole.result ≡ holding_of (live c.self.inside.entries.items) c.in-Some.named.node
 holds c =
-    let are : c.of-changes.result ≡ live c.self.inside.entries.items = c.of-changes.ensures ∙ ap live (c.as_slice.ensures.value ∙ c.reserve.ensures.items) in
+    let are : c.of-changes.result ≡ live c.self.inside.entries.items = c.of-changes.ensures ∙ ap live (c.as_slice.ensures.value ∙ c.make_room.ensures.items) in
     rw are at c.whole_of-whole.ensures
 
 pub whole_of-whole-requires-clause-there : goal.whole_of-whole-requires-clause-there
 whole_of-whole-requires-clause-there c =
     let l = live c.self.inside.entries.items in
-    let are : c.of-changes.result ≡ l = c.of-changes.ensures ∙ ap live (c.as_slice.ensures.value ∙ c.reserve.ensures.items) in
+    let are : c.of-changes.result ≡ l = c.of-changes.ensures ∙ ap live (c.as_slice.ensures.value ∙ c.make_room.ensures.items) in
     let is = rw (← c.self.view_is) at c.requires.named in
     let found = rw (c.in-Split.is, c.in-Some.is) at is in
     let there = rw (← c.self.view_is) at c.requires.there in
     let lies = rw (c.in-Some.is) at there in
     rw are (holds_some c.self.invariant.kept.filed (live_rises c.self.inside.entries.items) found.2 (lies c.self.inside.trees c.self.invariant.kept.filed))
+
+pub put_all_away-requires-clause-home : goal.put_all_away-requires-clause-home
+put_all_away-requires-clause-home c =
+    let w = (goal.at.put_all_away-requires-clause-home c).After-whole_of-whole in
+    split_home (next w) c.in-Split.node c.in-Split.parts c.in-Split.is c.in-Some.named.node (named w).0 c.whole_of-whole.result (holds w)
 
 pub put_all_away-requires-clause-room : goal.put_all_away-requires-clause-room
 put_all_away-requires-clause-room c =
@@ -80,6 +83,9 @@ take_moved-requires c =
     let is = rw c.as_slice-2.ensures at c.in_ok-moved.ensures.moved in
     rw is (split_takes (next w) c.in-Split.node c.in-Split.parts c.in-Split.is c.in-Some.named.node (named w).0 c.whole_of-whole.result (holds w) c.self.inside.positions c.put_all_away.new.positions c.self.invariant.stands put)
 
+pub ready-requires : goal.ready-requires
+ready-requires c = ids_few c.self.invariant.indexed c.self.invariant.kept.few
+
 pub add-requires-clause-few : goal.add-requires-clause-few
 add-requires-clause-few c =
     ids_fewer c.self.inside.entries.items c.ready.new.self (c.in_ok-ready.ensures.same c.self.inside.entries.items c.self.invariant.indexed.ids.chained) c.self.inside.house (entry_of_change c.args.made.now) c.args.made.now.number (rw (← c.self.view_is) at c.requires.accepted)
@@ -95,7 +101,7 @@ invariant_of-self-2 c =
     let put = rw c.as_slice-2.ensures at c.in_ok-moved.ensures.put in
     let is = rw c.as_slice-2.ensures at c.in_ok-moved.ensures.moved in
     let taken = rw is at c.take_moved.ensures in
-    simp (c.push.ensures, c.reserve.ensures.items)
+    simp (c.push.ensures, c.make_room.ensures.items)
     (record {
       kept = kept_change c.self.invariant.kept c.args.made.now.number e ok change c.split.new.trees
           (follows_same (record_of c.args.made.now) c.self.inside.trees c.ready-2.new.self c.split.new.trees c.in_ok-ready-2.ensures.same c.in_default-split.ensures.follows c.self.inside.house (live h) (next w)) c.in_default-split.ensures.last;
@@ -109,7 +115,7 @@ invariant_of-self-2 c =
 
 pub invariant_of-self-in_err-ready-2 : goal.invariant_of-self-in_err-ready-2
 invariant_of-self-in_err-ready-2 c =
-    simp (c.reserve.ensures.items)
+    simp (c.make_room.ensures.items)
     (record {
       kept = kept_alike c.self.invariant.kept c.ready-2.new.self c.in_err-ready-2.ensures.same;
       indexed = index_same c.self.invariant.indexed c.ready.new.self (c.in_ok-ready.ensures.same c.self.inside.entries.items c.self.invariant.indexed.ids.chained);
@@ -119,7 +125,7 @@ invariant_of-self-in_err-ready-2 c =
 
 pub invariant_of-self-in_err-kept : goal.invariant_of-self-in_err-kept
 invariant_of-self-in_err-kept c =
-    simp (c.reserve.ensures.items)
+    simp (c.make_room.ensures.items)
     (record {
       kept = kept_alike c.self.invariant.kept c.ready-2.new.self c.in_ok-ready-2.ensures.same;
       indexed = index_same c.self.invariant.indexed c.ready.new.self (c.in_ok-ready.ensures.same c.self.inside.entries.items c.self.invariant.indexed.ids.chained);
@@ -129,7 +135,7 @@ invariant_of-self-in_err-kept c =
 
 pub invariant_of-self-in_err-moved : goal.invariant_of-self-in_err-moved
 invariant_of-self-in_err-moved c =
-    simp (c.reserve.ensures.items)
+    simp (c.make_room.ensures.items)
     (record {
       kept = kept_alike c.self.invariant.kept c.ready-2.new.self c.in_ok-ready-2.ensures.same;
       indexed = index_same c.self.invariant.indexed c.ready.new.self (c.in_ok-ready.ensures.same c.self.inside.entries.items c.self.invariant.indexed.ids.chained);
@@ -141,7 +147,7 @@ pub invariant_of-self-in-Err : goal.invariant_of-self-in-Err
 invariant_of-self-in-Err c =
     let put = rw c.as_slice-2.ensures at c.in_ok-moved.ensures.put in
     let gone = rw c.as_slice-in-Err.ensures at c.take_away.ensures in
-    simp (c.reserve.ensures.items)
+    simp (c.make_room.ensures.items)
     (record {
       kept = kept_alike c.self.invariant.kept c.split.new.trees (same_both c.self.inside.trees c.ready-2.new.self c.split.new.trees c.in_ok-ready-2.ensures.same c.in-Err.ensures.unchanged);
       indexed = index_same c.self.invariant.indexed c.ready.new.self (c.in_ok-ready.ensures.same c.self.inside.entries.items c.self.invariant.indexed.ids.chained);

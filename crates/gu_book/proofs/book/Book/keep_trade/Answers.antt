@@ -25,13 +25,16 @@ plant-requires-clause-due c =
     due_same (record_of c.args.made.now) c.self.inside.trees c.ready-2.new.self c.in_ok-ready-2.ensures.same
     (c.self.inside.house, live c.self.inside.entries.items, next_kept c.self.invariant.kept c.args.made.now.number (entry_of_change c.args.made.now) (rw (← c.self.view_is) at c.requires.accepted) (ap is_change c.in-Trade.is))
 
+pub ready-requires : goal.ready-requires
+ready-requires c = ids_few c.self.invariant.indexed c.self.invariant.kept.few
+
 pub add-requires-clause-few : goal.add-requires-clause-few
 add-requires-clause-few c =
     ids_fewer c.self.inside.entries.items c.ready.new.self (c.in_ok-ready.ensures.same c.self.inside.entries.items c.self.invariant.indexed.ids.chained) c.self.inside.house (entry_of_change c.args.made.now) c.args.made.now.number (rw (← c.self.view_is) at c.requires.accepted)
 
 pub invariant_of-self-in_err-ready-2 : goal.invariant_of-self-in_err-ready-2
 invariant_of-self-in_err-ready-2 c =
-    simp (c.reserve.ensures.items)
+    simp (c.make_room.ensures.items)
     (record {
       kept = kept_alike c.self.invariant.kept c.ready-2.new.self c.in_err-ready-2.ensures.same;
       indexed = index_same c.self.invariant.indexed c.ready.new.self (c.in_ok-ready.ensures.same c.self.inside.entries.items c.self.invariant.indexed.ids.chained);
@@ -41,7 +44,7 @@ invariant_of-self-in_err-ready-2 c =
 
 pub invariant_of-self-in_err-put : goal.invariant_of-self-in_err-put
 invariant_of-self-in_err-put c =
-    simp (c.reserve.ensures.items)
+    simp (c.make_room.ensures.items)
     (record {
       kept = kept_alike c.self.invariant.kept c.ready-2.new.self c.in_ok-ready-2.ensures.same;
       indexed = index_same c.self.invariant.indexed c.ready.new.self (c.in_ok-ready.ensures.same c.self.inside.entries.items c.self.invariant.indexed.ids.chained);
@@ -58,7 +61,7 @@ invariant_of-self-2 c =
     let e = entry_of_change c.args.made.now in
     let more = live_more c.self.invariant.kept c.args.made.now.number e ok change in
     let key : Key = record { firm = c.in-Trade.firm; account = c.in-Trade.account; instrument = c.in-Trade.instrument } in
-    simp (c.push.ensures, c.reserve.ensures.items)
+    simp (c.push.ensures, c.make_room.ensures.items)
     (record {
       kept = kept_change c.self.invariant.kept c.args.made.now.number e ok change c.plant.new.trees
           (follows_same (record_of c.args.made.now) c.self.inside.trees c.ready-2.new.self c.plant.new.trees c.in_ok-ready-2.ensures.same c.plant.ensures.follows c.self.inside.house (live h) follows) c.plant.ensures.last;

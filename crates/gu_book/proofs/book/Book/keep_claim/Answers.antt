@@ -1,0 +1,162 @@
+use Rattle.std.proofs.Common.{◌≡◌, ◌≤◌, ◌∙◌, Option, List, length, refl, ap, subst, arith}
+use Rattle.std.specs.Prelude.{Some, IfSome}
+use Rattle.gu_base.specs.History.{live, is_change}
+use Rattle.gu_base.specs.declared.node.Node.{Node}
+use Rattle.gu_base.specs.declared.entry.Record.{Record}
+use Rattle.gu_base.proofs.LiveLaws.{change_is_no_reverse}
+use Rattle.gu_base.proofs.Passing.{refusal_parts}
+use Rattle.gu_tree.specs.Shown.{named_node}
+use Rattle.gu_book.specs.Charging.{AreFeesOf}
+use Rattle.gu_book.specs.Filed.{IsNext}
+use Rattle.gu_book.specs.Found.{IsNamedBy}
+use Rattle.gu_book.specs.Holdings.{holding_of, ArePositionsOf}
+use Rattle.gu_book.specs.Live.{entry_of_change, record_of}
+use Rattle.gu_book.proofs.Charging.{fees_push, has_room}
+use Rattle.gu_book.proofs.Filed.{due_same, follows_same}
+use Rattle.gu_book.proofs.Indexed.{index_same, ids_few, ids_fewer, index_added}
+use Rattle.gu_book.proofs.Keeps.{next_kept, kept_change, kept_alike, live_few, live_more}
+use Rattle.gu_book.proofs.Leaves.{live_rises}
+use Rattle.gu_book.proofs.OnePlace.{found_there, there_alike}
+use Rattle.gu_book.proofs.Orders.{names_there}
+use Rattle.gu_book.proofs.PartsAway.{holds_some}
+use Rattle.gu_book.proofs.TradesKept.{claim_costs, claim_fits, claim_there, claim_undone, claim_whole, claim_stands}
+use Rattle.gu_book.proofs.Within.{node_within}
+use Rattle.gu_book.proofs.book.Book.keep_claim.Goals.{After-whole_of-whole}
+use Rattle.gu_book.proofs.book.Book.keep_claim.Goals as goal
+
+-- the claim may follow the live changes
+next : (c : After-whole_of-whole) → IsNext c.self.inside.house (live c.self.inside.entries.items) (record_of c.args.made.now) c.self.inside.trees
+next c = next_kept c.self.invariant.kept c.args.made.now.number (entry_of_change c.args.made.now) (rw (← c.self.view_is) at c.requires.accepted) (ap is_change c.in-Claim.is)
+
+-- the node that it names is the one that was found
+named : (c : After-whole_of-whole) → IsNamedBy (live c.self.inside.entries.items) c.in-Claim.node (Some c.in-Some.named)
+named c = let is = rw (← c.self.view_is) at c.requires.named in rw (c.in-Claim.is, c.in-Some.is) at is
+
+-- and its lots are the whole
+holds : (c : After-whole_of-whole) → Some c.whole_of-whole.result ≡ holding_of (live c.self.inside.entries.items) c.in-Some.named.node
+holds c =
+    let are : c.of-changes.result ≡ live c.self.inside.entries.items = c.of-changes.ensures ∙ ap live (c.as_slice.ensures.value ∙ c.make_room.ensures.items) in
+    rw are at c.whole_of-whole.ensures
+
+pub whole_of-whole-requires-clause-there : goal.whole_of-whole-requires-clause-there
+whole_of-whole-requires-clause-there c =
+    let l = live c.self.inside.entries.items in
+    let are : c.of-changes.result ≡ l = c.of-changes.ensures ∙ ap live (c.as_slice.ensures.value ∙ c.make_room.ensures.items) in
+    let is = rw (← c.self.view_is) at c.requires.named in
+    let found = rw (c.in-Claim.is, c.in-Some.is) at is in
+    let there = rw (← c.self.view_is) at c.requires.there in
+    let lies = rw (c.in-Some.is) at there in
+    rw are (holds_some c.self.invariant.kept.filed (live_rises c.self.inside.entries.items) found.2 (lies c.self.inside.trees c.self.invariant.kept.filed))
+
+pub node_charge-charge-requires : goal.node_charge-charge-requires
+node_charge-charge-requires c =
+    let w = (goal.at.node_charge-charge-requires c).After-whole_of-whole in
+    subst (λ (o : Option Node). IfSome o (λ x. x.lots ≤ 10000000)) (named w).0 (node_within (live c.self.inside.entries.items) c.in-Claim.node c.self.invariant.kept.within)
+
+pub put-requires : goal.put-requires
+put-requires c =
+    let w = (goal.at.put-requires c).After-whole_of-whole in
+    let few = c.self.invariant.kept.few in
+    let fewer = live_few c.self.inside.entries.items in
+    let within : length (live c.self.inside.entries.items) ≤ 1000000 = omega (arith, few, fewer) in
+    rw c.in_account-claimed.ensures
+    (claim_fits (next w) c.in-Claim.node c.in-Claim.account c.in-Claim.is c.in-Some.named.node (named w).0 c.whole_of-whole.result (holds w) within c.self.invariant.kept.within c.self.inside.positions c.self.invariant.stands)
+
+pub put-requires-2 : goal.put-requires-2
+put-requires-2 c =
+    let few = c.self.invariant.kept.few in
+    let fewer = live_few c.self.inside.entries.items in
+    let within : length (live c.self.inside.entries.items) ≤ 1000000 = omega (arith, few, fewer) in
+    has_room c.self.inside.house (live c.self.inside.entries.items) c.self.inside.fees c.self.invariant.charged within c.node_charge-charge.result c.node_charge-charge.ensures.lots c.node_charge-charge.ensures.rate
+
+pub take-requires : goal.take-requires
+take-requires c =
+    let w = (goal.at.take-requires c).After-whole_of-whole in
+    let put = rw c.in_account-claimed.ensures at c.in_ok-put.ensures.put in
+    rw c.in_account-claimed.ensures
+    (claim_there (next w) c.in-Claim.node c.in-Claim.account c.in-Claim.is c.in-Some.named.node (named w).0 c.whole_of-whole.result (holds w) c.self.inside.positions c.put.new.positions c.self.invariant.stands put)
+
+pub claim-requires-clause-due : goal.claim-requires-clause-due
+claim-requires-clause-due c =
+    let w = (goal.at.claim-requires-clause-due c).After-whole_of-whole in
+    due_same (record_of c.args.made.now) c.self.inside.trees c.ready-2.new.self c.in_ok-ready-2.ensures.same (c.self.inside.house, live c.self.inside.entries.items, next w)
+
+pub claim-requires-clause-there : goal.claim-requires-clause-there
+claim-requires-clause-there c =
+    let w = (goal.at.claim-requires-clause-there c).After-whole_of-whole in
+    let l = live c.self.inside.entries.items in
+    let by = c.args.made.now.firm.now in
+    let command = c.args.made.now.command.now in
+    there_alike c.self.inside.trees c.ready-2.new.self (named_node command) c.args.sought.now.named c.args.sought.now.path.items c.in_ok-ready-2.ensures.same
+    (found_there l c.self.inside.trees (named_node command) c.args.sought.now.named c.args.sought.now.path.items (next w).filed
+    (rw (← c.self.view_is) at c.requires.named) (rw (← c.self.view_is) at c.requires.there)
+    (λ n names. names_there c.self.inside.house l by command n (refusal_parts c.self.inside.house l by command (next w).lawful).1 names))
+
+pub take-requires-2 : goal.take-requires-2
+take-requires-2 c =
+    let w = (goal.at.take-requires-2 c).After-whole_of-whole in
+    let put = rw c.in_account-claimed.ensures at c.in_ok-put.ensures.put in
+    claim_whole (next w) c.in-Claim.node c.in-Claim.account c.in-Claim.is c.in-Some.named.node (named w).0 c.whole_of-whole.result (holds w) c.self.inside.positions c.put.new.positions c.self.invariant.stands put
+
+pub ready-requires : goal.ready-requires
+ready-requires c = ids_few c.self.invariant.indexed c.self.invariant.kept.few
+
+pub add-requires-clause-few : goal.add-requires-clause-few
+add-requires-clause-few c =
+    ids_fewer c.self.inside.entries.items c.ready.new.self (c.in_ok-ready.ensures.same c.self.inside.entries.items c.self.invariant.indexed.ids.chained) c.self.inside.house (entry_of_change c.args.made.now) c.args.made.now.number (rw (← c.self.view_is) at c.requires.accepted)
+
+pub invariant_of-self-2 : goal.invariant_of-self-2
+invariant_of-self-2 c =
+    let w = (goal.at.invariant_of-self-2 c).After-whole_of-whole in
+    let ok = rw (← c.self.view_is) at c.requires.accepted in
+    let change = ap is_change c.in-Claim.is in
+    let h = c.self.inside.entries.items in
+    let e = entry_of_change c.args.made.now in
+    let more = live_more c.self.invariant.kept c.args.made.now.number e ok change in
+    let put = rw c.in_account-claimed.ensures at c.in_ok-put.ensures.put in
+    let costs = claim_costs (next w) c.in-Claim.node c.in-Claim.account c.in-Claim.is c.in-Some.named.node (named w).0 c.whole_of-whole.result (holds w) c.node_charge-charge.result c.node_charge-charge.ensures.value in
+    simp (c.push.ensures, c.make_room.ensures.items)
+    (record {
+      kept = kept_change c.self.invariant.kept c.args.made.now.number e ok change c.claim.new.trees
+          (follows_same (record_of c.args.made.now) c.self.inside.trees c.ready-2.new.self c.claim.new.trees c.in_ok-ready-2.ensures.same c.claim.ensures.follows c.self.inside.house (live h) (next w)) c.claim.ensures.last;
+      indexed = index_added c.self.invariant.indexed c.self.inside.house e c.args.made.now.number ok c.add.new.self (c.add.ensures h e refl refl (c.in_ok-ready.ensures.same h c.self.invariant.indexed.ids.chained)) (λ m. change_is_no_reverse m c.args.made.now.command.now change);
+      charged = subst (λ (l : List Record). AreFeesOf c.self.inside.house l c.put-2.new.fees) more
+          (fees_push (next w) c.self.inside.fees c.self.inside.fees c.put-2.new.fees c.self.invariant.charged (λ cs sums. sums) c.node_charge-charge.result costs c.node_charge-charge.ensures.lots c.node_charge-charge.ensures.rate c.in_default-put.ensures.put);
+      stands = subst (λ (l : List Record). ArePositionsOf l c.take-2.new.positions) more
+          (claim_stands (next w) c.in-Claim.node c.in-Claim.account c.in-Claim.is c.in-Some.named.node (named w).0 c.whole_of-whole.result (holds w) c.self.inside.positions c.put.new.positions c.self.invariant.stands put c.take-2.new.positions c.take-2.ensures);
+    })
+
+-- ---- where a growth is refused
+
+pub invariant_of-self-in_err-ready-2 : goal.invariant_of-self-in_err-ready-2
+invariant_of-self-in_err-ready-2 c =
+    simp (c.make_room.ensures.items)
+    (record {
+      kept = kept_alike c.self.invariant.kept c.ready-2.new.self c.in_err-ready-2.ensures.same;
+      indexed = index_same c.self.invariant.indexed c.ready.new.self (c.in_ok-ready.ensures.same c.self.inside.entries.items c.self.invariant.indexed.ids.chained);
+      charged = c.self.invariant.charged;
+      stands = c.self.invariant.stands;
+    })
+
+pub invariant_of-self-in_err-put : goal.invariant_of-self-in_err-put
+invariant_of-self-in_err-put c =
+    simp (c.make_room.ensures.items)
+    (record {
+      kept = kept_alike c.self.invariant.kept c.ready-2.new.self c.in_ok-ready-2.ensures.same;
+      indexed = index_same c.self.invariant.indexed c.ready.new.self (c.in_ok-ready.ensures.same c.self.inside.entries.items c.self.invariant.indexed.ids.chained);
+      charged = c.self.invariant.charged;
+      stands = record { lots = λ at_key side. c.in_err-put.ensures.same at_key side ∙ c.self.invariant.stands.lots at_key side };
+    })
+
+pub invariant_of-self-in-Err : goal.invariant_of-self-in-Err
+invariant_of-self-in-Err c =
+    let w = (goal.at.invariant_of-self-in-Err c).After-whole_of-whole in
+    let put = rw c.in_account-claimed.ensures at c.in_ok-put.ensures.put in
+    let taken = rw c.in_account-claimed.ensures at c.take.ensures in
+    simp (c.make_room.ensures.items)
+    (record {
+      kept = kept_alike c.self.invariant.kept c.ready-2.new.self c.in_ok-ready-2.ensures.same;
+      indexed = index_same c.self.invariant.indexed c.ready.new.self (c.in_ok-ready.ensures.same c.self.inside.entries.items c.self.invariant.indexed.ids.chained);
+      charged = record { sums = c.in-Err.ensures.same _ c.self.invariant.charged.sums; small = c.self.invariant.charged.small };
+      stands = claim_undone (next w) c.in-Claim.node c.in-Claim.account c.in-Claim.is c.in-Some.named.node (named w).0 c.whole_of-whole.result (holds w) c.self.inside.positions c.put.new.positions c.self.invariant.stands put c.take.new.positions taken;
+    })

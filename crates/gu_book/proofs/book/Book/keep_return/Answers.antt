@@ -1,0 +1,68 @@
+use Rattle.std.proofs.Common.{List, refl, subst}
+use Rattle.gu_base.specs.History.{live}
+use Rattle.gu_base.specs.declared.entry.Record.{Record}
+use Rattle.gu_base.proofs.LiveLaws.{change_is_no_reverse}
+use Rattle.gu_base.proofs.Passing.{refusal_parts}
+use Rattle.gu_tree.specs.Shown.{named_node}
+use Rattle.gu_book.specs.Charging.{AreFeesOf}
+use Rattle.gu_book.specs.Holdings.{ArePositionsOf}
+use Rattle.gu_book.specs.Live.{entry_of_change, record_of}
+use Rattle.gu_book.proofs.Filed.{due_same, follows_same}
+use Rattle.gu_book.proofs.Indexed.{index_same, ids_few, ids_fewer, index_added}
+use Rattle.gu_book.proofs.Keeps.{next_kept, kept_change, kept_alike, live_more}
+use Rattle.gu_book.proofs.OnePlace.{found_there, there_alike}
+use Rattle.gu_book.proofs.Orders.{names_there}
+use Rattle.gu_book.proofs.TradesKept.{return_free, return_stands, return_changes}
+use Rattle.gu_book.proofs.book.Book.keep_return.Goals as goal
+
+pub ready-requires : goal.ready-requires
+ready-requires c = ids_few c.self.invariant.indexed c.self.invariant.kept.few
+
+pub give_back-requires-clause-due : goal.give_back-requires-clause-due
+give_back-requires-clause-due c =
+    let ok = rw (← c.self.view_is) at c.requires.accepted in
+    due_same (record_of c.args.made.now) c.self.inside.trees c.ready-2.new.self c.in_ok-ready-2.ensures.same
+    (c.self.inside.house, live c.self.inside.entries.items, next_kept c.self.invariant.kept c.args.made.now.number (entry_of_change c.args.made.now) ok (return_changes c.args.made.now.command.now c.requires.back))
+
+pub give_back-requires-clause-there : goal.give_back-requires-clause-there
+give_back-requires-clause-there c =
+    let ok = rw (← c.self.view_is) at c.requires.accepted in
+    let next = next_kept c.self.invariant.kept c.args.made.now.number (entry_of_change c.args.made.now) ok (return_changes c.args.made.now.command.now c.requires.back) in
+    let l = live c.self.inside.entries.items in
+    let by = c.args.made.now.firm.now in
+    let command = c.args.made.now.command.now in
+    there_alike c.self.inside.trees c.ready-2.new.self (named_node command) c.args.sought.now.named c.args.sought.now.path.items c.in_ok-ready-2.ensures.same
+    (found_there l c.self.inside.trees (named_node command) c.args.sought.now.named c.args.sought.now.path.items next.filed
+    (rw (← c.self.view_is) at c.requires.named) (rw (← c.self.view_is) at c.requires.there)
+    (λ n names. names_there c.self.inside.house l by command n (refusal_parts c.self.inside.house l by command next.lawful).1 names))
+
+pub add-requires-clause-few : goal.add-requires-clause-few
+add-requires-clause-few c =
+    ids_fewer c.self.inside.entries.items c.ready.new.self (c.in_ok-ready.ensures.same c.self.inside.entries.items c.self.invariant.indexed.ids.chained) c.self.inside.house (entry_of_change c.args.made.now) c.args.made.now.number (rw (← c.self.view_is) at c.requires.accepted)
+
+pub invariant_of-self-2 : goal.invariant_of-self-2
+invariant_of-self-2 c =
+    let ok = rw (← c.self.view_is) at c.requires.accepted in
+    let change = return_changes c.args.made.now.command.now c.requires.back in
+    let h = c.self.inside.entries.items in
+    let e = entry_of_change c.args.made.now in
+    let next = next_kept c.self.invariant.kept c.args.made.now.number e ok change in
+    let more = live_more c.self.invariant.kept c.args.made.now.number e ok change in
+    simp (c.push.ensures, c.make_room.ensures.items)
+    (record {
+      kept = kept_change c.self.invariant.kept c.args.made.now.number e ok change c.give_back.new.trees
+          (follows_same (record_of c.args.made.now) c.self.inside.trees c.ready-2.new.self c.give_back.new.trees c.in_ok-ready-2.ensures.same c.give_back.ensures.follows c.self.inside.house (live h) next) c.give_back.ensures.last;
+      indexed = index_added c.self.invariant.indexed c.self.inside.house e c.args.made.now.number ok c.add.new.self (c.add.ensures h e refl refl (c.in_ok-ready.ensures.same h c.self.invariant.indexed.ids.chained)) (λ m. change_is_no_reverse m c.args.made.now.command.now change);
+      charged = subst (λ (l : List Record). AreFeesOf c.self.inside.house l c.self.inside.fees) more (return_free next c.requires.back c.self.inside.fees c.self.invariant.charged);
+      stands = subst (λ (l : List Record). ArePositionsOf l c.self.inside.positions) more (return_stands next c.requires.back c.self.inside.positions c.self.invariant.stands);
+    })
+
+pub invariant_of-self-in_err-ready-2 : goal.invariant_of-self-in_err-ready-2
+invariant_of-self-in_err-ready-2 c =
+    simp (c.make_room.ensures.items)
+    (record {
+      kept = kept_alike c.self.invariant.kept c.ready-2.new.self c.in_err-ready-2.ensures.same;
+      indexed = index_same c.self.invariant.indexed c.ready.new.self (c.in_ok-ready.ensures.same c.self.inside.entries.items c.self.invariant.indexed.ids.chained);
+      charged = c.self.invariant.charged;
+      stands = c.self.invariant.stands;
+    })

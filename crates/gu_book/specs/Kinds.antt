@@ -1,0 +1,14 @@
+-- Which command it is.
+use Rattle.std.specs.Prelude.{Bool, true, false}
+use Rattle.gu_base.specs.declared.command.Command.{Command}
+use Rattle.gu_base.specs.declared.command.Command.TheVariants.{Claim, Refuse, Cancel}
+
+abbrev pub is_claim : Command → Bool
+is_claim (Claim _ _) = true
+is_claim _ = false
+
+-- one that gives a node back to its giver
+abbrev pub is_return : Command → Bool
+is_return (Refuse _) = true
+is_return (Cancel _) = true
+is_return _ = false
