@@ -1,8 +1,10 @@
 -- What is appended piece by piece, each text between two values as one, are a header's fields.
-use Rattle.std.proofs.Common.{◌≡◌, ◌∙◌, ℕ, List, [], ◌∷◌, ◌++◌, ap, sym, arith, append_assoc}
-use Rattle.std.specs.Prelude.{decimal}
+use Rattle.std.proofs.Common.{◌≡◌, ◌∙◌, ◌≤◌, ◌<◌, ◌+◌, ◌/◌, ℕ, List, [], ◌∷◌, ◌++◌, length, ap, sym, arith, append_assoc, length-append}
+use Rattle.std.specs.Prelude.{decimal, Option, Some, None}
 use Rattle.std.proofs.lemmas.Fmt.{decimal_digit}
-use Rattle.itoa.proofs.Decimal.{decimal_two, decimal_pair}
+use Rattle.itoa.proofs.Decimal.{decimal_two, decimal_pair, length_one, length_two, length_pair}
+use Rattle.gu_codec.specs.Writing.{HeaderText, field, fields_text, resend_pairs, resend_len, header_pairs, values_len}
+use Rattle.gu_codec.proofs.TagTexts.{two_len}
 
 -- a text that begins with SOH, a value, and the SOH that ends it with what follows
 then_value : (o text value rest : List ℕ) → ((o ++ 1 ∷ text) ++ value) ++ 1 ∷ rest ≡ o ++ 1 ∷ (text ++ ((value ++ 1 ∷ []) ++ rest))
@@ -43,3 +45,21 @@ resent_text o sent first =
     let orig : List ℕ = 49 ∷ 50 ∷ 50 ∷ 61 ∷ [] in
     rw (decimal_two 43 (omega arith) (omega arith), decimal_two 52 (omega arith) (omega arith), decimal_pair 122 (omega arith) (omega arith), decimal_digit 1 (omega arith))
     (then_value ((o ++ 1 ∷ again) ++ sent) orig first [] ∙ then_value o again sent (orig ++ ((first ++ 1 ∷ []) ++ [])))
+
+three_len : (n : ℕ) (v : List ℕ) → 100 ≤ n → n < 1000 → length v + 5 ≡ length (field n v)
+three_len n v lo hi = omega (arith, length_pair n lo (omega arith), length_one (n / 100) (omega arith), length-append (decimal n) (61 ∷ (v ++ 1 ∷ [])), length-append v (1 ∷ []))
+
+resend_fields : (o : Option (List ℕ)) (sent : List ℕ) → length sent + resend_len o + 4 ≡ length (fields_text (resend_pairs o sent))
+resend_fields None sent = omega (arith, two_len 52 sent (omega arith) (omega arith), length-append (field 52 sent) [])
+resend_fields (Some t) sent =
+    let first = field 122 t ++ [] in
+    omega (arith, two_len 43 (89 ∷ []) (omega arith) (omega arith), two_len 52 sent (omega arith) (omega arith), three_len 122 t (omega arith) (omega arith), length-append (field 122 t) [], length-append (field 52 sent) first, length-append (field 43 (89 ∷ [])) (field 52 sent ++ first))
+
+-- how many bytes a header's fields have
+pub header_len : (h : HeaderText) → values_len h + 20 ≡ length (fields_text (header_pairs h))
+header_len h =
+    let r4 = fields_text (resend_pairs h.resent h.sent) in
+    let r3 = field 34 (decimal h.number) ++ r4 in
+    let r2 = field 56 h.target ++ r3 in
+    let r1 = field 49 h.sender ++ r2 in
+    omega (arith, resend_fields h.resent h.sent, two_len 35 h.kind (omega arith) (omega arith), two_len 49 h.sender (omega arith) (omega arith), two_len 56 h.target (omega arith) (omega arith), two_len 34 (decimal h.number) (omega arith) (omega arith), length-append (field 34 (decimal h.number)) r4, length-append (field 56 h.target) r3, length-append (field 49 h.sender) r2, length-append (field 35 h.kind) r1)

@@ -40,7 +40,10 @@ fn flag_in(message: &Index<'_, '_>, tag: u32) -> Result<bool, Reject>
 {
     match message.first(tag) {
         None => Ok(false),
-        Some(text) => flag(text).ok_or(Reject::bad_kind(tag)),
+        Some(text) => match flag(text) {
+            Some(flag) => Ok(flag),
+            None => Err(Reject::bad_kind(tag)),
+        },
     }
 }
 
@@ -50,7 +53,10 @@ fn count_in(message: &Index<'_, '_>, tag: u32) -> Result<u32, Reject>
     ensures { result ≡ count_in_of tag message.now }
 {
     let text = message.needed(tag)?;
-    count(text).ok_or(Reject::bad_kind(tag))
+    match count(text) {
+        Some(count) => Ok(count),
+        None => Err(Reject::bad_kind(tag)),
+    }
 }
 
 #[tactic(auto, unfolding(crate::specs::SessionMessages::logon_of))]
@@ -75,8 +81,10 @@ fn test_request(message: &Index<'_, '_>) -> Result<Inbound, Reject>
     ensures { result ≡ test_request_of message.now }
 {
     let text = message.needed(tags::TEST_REQ_ID)?;
-    let id = TestReqId::new(text).ok_or(Reject::bad_value(tags::TEST_REQ_ID))?;
-    Ok(Inbound::TestRequest { id })
+    match TestReqId::new(text) {
+        Some(id) => Ok(Inbound::TestRequest { id }),
+        None => Err(Reject::bad_value(tags::TEST_REQ_ID)),
+    }
 }
 
 #[tactic(auto, unfolding(crate::specs::SessionMessages::resend_request_of))]
