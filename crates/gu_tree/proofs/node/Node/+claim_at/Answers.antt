@@ -1,4 +1,4 @@
-use Rattle.std.proofs.Common.{rules, refl, ◌∙◌, arith}
+use Rattle.std.proofs.Common.{rules, ◌∙◌, arith}
 use Rattle.std.proofs.Math.ListN.{length-set}
 use Rattle.gu_tree.specs.Changes.{claim_node}
 use Rattle.gu_tree.proofs.Parts.{goes, goes-below, goes-edit, goes-has, goes-sum, some_and, lots_of-with_head}

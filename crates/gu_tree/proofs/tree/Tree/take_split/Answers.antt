@@ -1,5 +1,4 @@
 use Rattle.std.proofs.Common.{refl}
-use Rattle.gu_tree.specs.Rose.{head_of}
 use Rattle.gu_tree.specs.Changes.{unsplit_node}
 use Rattle.gu_tree.proofs.Inverses.{cut-tree}
 use Rattle.gu_tree.proofs.Parts.{some_and}

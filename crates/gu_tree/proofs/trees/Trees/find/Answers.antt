@@ -1,4 +1,4 @@
-use Rattle.std.proofs.Common.{rules, ◌≢◌, ◌-◌, ◌∙◌, ap, arith, sym, subst, option_copied}
+use Rattle.std.proofs.Common.{◌-◌, ◌∙◌, ap, arith, sym, subst, option_copied}
 use Rattle.gu_tree.specs.Grove.{tree_of, IsGrove}
 use Rattle.gu_tree.proofs.Finding.{root-place, no-root, no-above, next-there, next-absent, next-height}
 use Rattle.gu_tree.proofs.trees.Trees.find.Goals as goal
