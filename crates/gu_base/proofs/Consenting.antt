@@ -11,7 +11,7 @@ use Rattle.gu_base.specs.Consents.{consents_of, consents_left, is_initiate_of, i
 use Rattle.gu_base.specs.declared.command.Command.{Command}
 use Rattle.gu_base.specs.declared.command.Command.TheVariants.{Trade, Split, Claim, Refuse, Cancel, Initiate, Decline, Reverse}
 use Rattle.gu_base.specs.declared.entry.Entry.{Entry}
-use Rattle.gu_base.proofs.Basics.{nothing_here, eqb_symm}
+use Rattle.gu_base.proofs.Basics.{or_false, nothing_here, eqb_symm}
 use Rattle.gu_base.proofs.LiveLaws.{reversed_push}
 
 -- ---- what stands after the last
@@ -64,17 +64,22 @@ left_push h e n =
     ap (λ b. cond b [] (consents_of (h ++ e ∷ []) n)) (reversed_push h e n)
     ∙ ap (λ cs. cond (is_reversed h n || is_reverse_of n e.command) [] cs) (consents_push h e n)
 
+-- the same, where the new command is this one
+left_named : (h : List Entry) (e : Entry) (n : ℕ) (c : Command) → e.command ≡ c
+    → left_by (is_reversed h n) (is_reverse_of n c) (is_decline_of n c) (is_initiate_of n c) (consents_of h n) e.firm ≡ consents_left (h ++ e ∷ []) n
+left_named h e n c same = ap (λ c. left_by (is_reversed h n) (is_reverse_of n c) (is_decline_of n c) (is_initiate_of n c) (consents_of h n) e.firm) (sym same) ∙ sym (left_push h e n)
+
 -- a command that names nothing leaves the consents
 left_plain : (reversed : Bool) (cs : List (List ℕ)) (firm : List ℕ) → cond reversed [] cs ≡ left_by reversed false false false cs firm
 left_plain true cs firm = refl
 left_plain false cs firm = sym (append-nil cs)
 
 pub left_change : (h : List Entry) (e : Entry) (n : ℕ) (c : Command) → e.command ≡ c → is_change c ≡ true → consents_left h n ≡ consents_left (h ++ e ∷ []) n
-left_change h e n (Trade _ _ _ _ _) same is = left_plain (is_reversed h n) (consents_of h n) e.firm ∙ (ap (λ c. left_by (is_reversed h n) (is_reverse_of n c) (is_decline_of n c) (is_initiate_of n c) (consents_of h n) e.firm) (sym same) ∙ sym (left_push h e n))
-left_change h e n (Split _ _) same is = left_plain (is_reversed h n) (consents_of h n) e.firm ∙ (ap (λ c. left_by (is_reversed h n) (is_reverse_of n c) (is_decline_of n c) (is_initiate_of n c) (consents_of h n) e.firm) (sym same) ∙ sym (left_push h e n))
-left_change h e n (Claim _ _) same is = left_plain (is_reversed h n) (consents_of h n) e.firm ∙ (ap (λ c. left_by (is_reversed h n) (is_reverse_of n c) (is_decline_of n c) (is_initiate_of n c) (consents_of h n) e.firm) (sym same) ∙ sym (left_push h e n))
-left_change h e n (Refuse _) same is = left_plain (is_reversed h n) (consents_of h n) e.firm ∙ (ap (λ c. left_by (is_reversed h n) (is_reverse_of n c) (is_decline_of n c) (is_initiate_of n c) (consents_of h n) e.firm) (sym same) ∙ sym (left_push h e n))
-left_change h e n (Cancel _) same is = left_plain (is_reversed h n) (consents_of h n) e.firm ∙ (ap (λ c. left_by (is_reversed h n) (is_reverse_of n c) (is_decline_of n c) (is_initiate_of n c) (consents_of h n) e.firm) (sym same) ∙ sym (left_push h e n))
+left_change h e n (Trade _ _ _ _ _) same is = left_plain (is_reversed h n) (consents_of h n) e.firm ∙ left_named h e n _ same
+left_change h e n (Split _ _) same is = left_plain (is_reversed h n) (consents_of h n) e.firm ∙ left_named h e n _ same
+left_change h e n (Claim _ _) same is = left_plain (is_reversed h n) (consents_of h n) e.firm ∙ left_named h e n _ same
+left_change h e n (Refuse _) same is = left_plain (is_reversed h n) (consents_of h n) e.firm ∙ left_named h e n _ same
+left_change h e n (Cancel _) same is = left_plain (is_reversed h n) (consents_of h n) e.firm ∙ left_named h e n _ same
 left_change h e n (Initiate _) same is = absurd (cc)
 left_change h e n (Decline _) same is = absurd (cc)
 left_change h e n (Reverse _) same is = absurd (cc)
@@ -91,31 +96,30 @@ pub left_initiate : (h : List Entry) (e : Entry) (k n : ℕ) → e.command ≡ I
 left_initiate h e k n same unnamed =
     given_more (is_reversed h n) (n == k) (consents_of h n) e.firm (λ at. ap (is_reversed h) ((Decides-eqb n k).0 at) ∙ unnamed)
     ∙ (ap (λ b. left_by (is_reversed h n) false false b (consents_of h n) e.firm) (eqb_symm n k)
-    ∙ (ap (λ c. left_by (is_reversed h n) (is_reverse_of n c) (is_decline_of n c) (is_initiate_of n c) (consents_of h n) e.firm) (sym same) ∙ sym (left_push h e n)))
+    ∙ left_named h e n _ same)
 
-declined : (reversed same : Bool) (cs : List (List ℕ)) (firm : List ℕ) → cond same [] (cond reversed [] cs) ≡ left_by reversed false same false cs firm
-declined true true cs firm = refl
-declined true false cs firm = refl
-declined false true cs firm = refl
-declined false false cs firm = sym (append-nil cs)
+-- a command that declines or reverses the change takes them away
+gone : (reversed reverses declines : Bool) (cs : List (List ℕ)) (firm : List ℕ)
+    → cond (reverses || declines) [] (cond reversed [] cs) ≡ left_by reversed reverses declines false cs firm
+gone true true declines cs firm = refl
+gone true false true cs firm = refl
+gone true false false cs firm = refl
+gone false true declines cs firm = refl
+gone false false true cs firm = refl
+gone false false false cs firm = sym (append-nil cs)
+
+left_gone : (h : List Entry) (e : Entry) (n : ℕ) (b : Bool) (c : Command) → e.command ≡ c → b ≡ (is_reverse_of n c || is_decline_of n c) → is_initiate_of n c ≡ false
+    → cond b [] (consents_left h n) ≡ consents_left (h ++ e ∷ []) n
+left_gone h e n b c same named gives =
+    ap (λ a. cond a [] (consents_left h n)) named
+    ∙ (gone (is_reversed h n) (is_reverse_of n c) (is_decline_of n c) (consents_of h n) e.firm
+    ∙ (ap (λ a. left_by (is_reversed h n) (is_reverse_of n c) (is_decline_of n c) a (consents_of h n) e.firm) (sym gives) ∙ left_named h e n c same))
 
 pub left_decline : (h : List Entry) (e : Entry) (k n : ℕ) → e.command ≡ Decline k → cond (n == k) [] (consents_left h n) ≡ consents_left (h ++ e ∷ []) n
-left_decline h e k n same =
-    declined (is_reversed h n) (n == k) (consents_of h n) e.firm
-    ∙ (ap (λ b. left_by (is_reversed h n) false b false (consents_of h n) e.firm) (eqb_symm n k)
-    ∙ (ap (λ c. left_by (is_reversed h n) (is_reverse_of n c) (is_decline_of n c) (is_initiate_of n c) (consents_of h n) e.firm) (sym same) ∙ sym (left_push h e n)))
-
-undone : (reversed same : Bool) (cs : List (List ℕ)) (firm : List ℕ) → cond same [] (cond reversed [] cs) ≡ left_by reversed same false false cs firm
-undone true true cs firm = refl
-undone true false cs firm = refl
-undone false true cs firm = refl
-undone false false cs firm = sym (append-nil cs)
+left_decline h e k n same = left_gone h e n (n == k) (Decline k) same (eqb_symm n k) refl
 
 pub left_reverse : (h : List Entry) (e : Entry) (k n : ℕ) → e.command ≡ Reverse k → cond (n == k) [] (consents_left h n) ≡ consents_left (h ++ e ∷ []) n
-left_reverse h e k n same =
-    undone (is_reversed h n) (n == k) (consents_of h n) e.firm
-    ∙ (ap (λ b. left_by (is_reversed h n) b false false (consents_of h n) e.firm) (eqb_symm n k)
-    ∙ (ap (λ c. left_by (is_reversed h n) (is_reverse_of n c) (is_decline_of n c) (is_initiate_of n c) (consents_of h n) e.firm) (sym same) ∙ sym (left_push h e n)))
+left_reverse h e k n same = left_gone h e n (n == k) (Reverse k) same (eqb_symm n k ∙ sym (or_false (k == n))) refl
 
 -- ---- a change that no Reverse names
 

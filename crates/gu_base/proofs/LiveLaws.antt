@@ -19,26 +19,6 @@ numbered_push n [] e = ap (λ m. numbered_as m e ∷ []) (omega arith)
 numbered_push n (d ∷ h) e =
     ap (λ rs. numbered_as n d ∷ rs) (numbered_push (n + 1) h e ∙ ap (λ m. numbered_from (n + 1) h ++ numbered_as m e ∷ []) (omega arith))
 
-pub change_is_no_reverse : (n : ℕ) (c : Command) → is_change c ≡ true → is_reverse_of n c ≡ false
-change_is_no_reverse n (Trade _ _ _ _ _) h = refl
-change_is_no_reverse n (Split _ _) h = refl
-change_is_no_reverse n (Claim _ _) h = refl
-change_is_no_reverse n (Refuse _) h = refl
-change_is_no_reverse n (Cancel _) h = refl
-change_is_no_reverse n (Initiate _) h = refl
-change_is_no_reverse n (Decline _) h = refl
-change_is_no_reverse n (Reverse _) h = cc
-
-pub consent_is_no_reverse : (n : ℕ) (c : Command) → is_consenting c ≡ true → is_reverse_of n c ≡ false
-consent_is_no_reverse n (Trade _ _ _ _ _) h = refl
-consent_is_no_reverse n (Split _ _) h = refl
-consent_is_no_reverse n (Claim _ _) h = refl
-consent_is_no_reverse n (Refuse _) h = refl
-consent_is_no_reverse n (Cancel _) h = refl
-consent_is_no_reverse n (Initiate _) h = refl
-consent_is_no_reverse n (Decline _) h = refl
-consent_is_no_reverse n (Reverse _) h = cc
-
 consent_is_no_change : (c : Command) → is_consenting c ≡ true → is_change c ≡ false
 consent_is_no_change (Trade _ _ _ _ _) h = cc
 consent_is_no_change (Split _ _) h = cc
@@ -48,6 +28,23 @@ consent_is_no_change (Cancel _) h = cc
 consent_is_no_change (Initiate _) h = refl
 consent_is_no_change (Decline _) h = refl
 consent_is_no_change (Reverse _) h = refl
+
+-- no other command is a Reverse
+no_reverse : (n : ℕ) (c : Command) → (is_change c || is_consenting c) ≡ true → is_reverse_of n c ≡ false
+no_reverse n (Trade _ _ _ _ _) h = refl
+no_reverse n (Split _ _) h = refl
+no_reverse n (Claim _ _) h = refl
+no_reverse n (Refuse _) h = refl
+no_reverse n (Cancel _) h = refl
+no_reverse n (Initiate _) h = refl
+no_reverse n (Decline _) h = refl
+no_reverse n (Reverse _) h = cc
+
+pub change_is_no_reverse : (n : ℕ) (c : Command) → is_change c ≡ true → is_reverse_of n c ≡ false
+change_is_no_reverse n c h = no_reverse n c (ap (λ b. b || is_consenting c) h)
+
+pub consent_is_no_reverse : (n : ℕ) (c : Command) → is_consenting c ≡ true → is_reverse_of n c ≡ false
+consent_is_no_reverse n c h = no_reverse n c (ap (λ b. b || is_consenting c) (consent_is_no_change c h) ∙ h)
 
 pub reversed_push : (h : List Entry) (e : Entry) (n : ℕ) → is_reversed (h ++ e ∷ []) n ≡ (is_reversed h n || is_reverse_of n e.command)
 reversed_push h e n = list_any-append (λ d. is_reverse_of n d.command) h (e ∷ []) ∙ ap (λ b. is_reversed h n || b) (or_false (is_reverse_of n e.command))

@@ -1,24 +1,21 @@
 -- Each node lies in the entry that its name tells.
-use Rattle.std.proofs.Common.{◌≡◌, ℕ, zero, suc, ◌+◌, ◌-◌, ◌<◌, ◌≤◌, Bool, true, false, List, [], ◌∷◌, ◌++◌, refl, sym, ◌∙◌, ap, arith, Option, cond, eqb, length, get_or}
-use Rattle.std.specs.Prelude.{Some, None, find, flat_map, slice_get, option_map, option_and_then, ◌==◌}
+use Rattle.std.proofs.Common.{◌≡◌, ℕ, zero, suc, ◌+◌, ◌-◌, ◌<◌, ◌≤◌, Bool, true, false, List, [], ◌∷◌, ◌++◌, refl, sym, ◌∙◌, ap, arith, Option, cond, eqb, length}
+use Rattle.std.specs.Prelude.{Some, None, find, flat_map, option_and_then, ◌==◌}
 use Rattle.std.specs.Option.{option_or}
-use Rattle.std.proofs.lemmas.Bool.{false≢true, false_from_ne_true}
+use Rattle.std.proofs.lemmas.Bool.{false≢true}
 use Rattle.std.proofs.lemmas.Bool.Decides.{Decides-eqb}
-use Rattle.std.proofs.lemmas.Option.{slice_get_read, slice_get_past}
 use Rattle.std.proofs.lemmas.List.Folds.{find-append}
 use Rattle.gu_base.specs.Numbers.{EntryPart}
 use Rattle.gu_base.specs.History.{numbered_as, numbered_from, records}
-use Rattle.gu_base.specs.Nodes.{node_of, nodes_of, nodes_of_parts, same_name, kind_of_part, parent}
+use Rattle.gu_base.specs.Nodes.{node_of, nodes_of, same_name, parent}
 use Rattle.gu_base.specs.Places.{line_within, root_along}
 use Rattle.gu_base.specs.Answers.{entry_of}
-use Rattle.gu_base.specs.declared.command.Part.{Part}
 use Rattle.gu_base.specs.declared.command.Command.{Command}
 use Rattle.gu_base.specs.declared.entry.Entry.{Entry}
 use Rattle.gu_base.specs.declared.entry.Record.{Record}
 use Rattle.gu_base.specs.declared.node.Node.{Node}
 use Rattle.gu_base.proofs.Basics.{or_none, no_some}
 use Rattle.gu_base.proofs.NodeNames.{made_entry, made}
-use Rattle.std.proofs.Math.Bool.{and-false}
 use Rattle.gu_base.proofs.Numbered.{length_numbered}
 
 abbrev is_named : EntryPart → Node → Bool

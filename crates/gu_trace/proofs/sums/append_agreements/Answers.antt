@@ -1,5 +1,5 @@
-use Rattle.std.proofs.Common.{◌++◌, sym, ◌∙◌, ap, arith}
-use Rattle.std.specs.Prelude.{string_bytes, flat_map}
+use Rattle.std.proofs.Common.{sym, ◌∙◌, ap, arith}
+use Rattle.std.specs.Prelude.{string_bytes}
 use Rattle.gu_base.specs.History.{live}
 use Rattle.gu_trace.specs.Totals.{use_of}
 use Rattle.gu_trace.proofs.Texts.{written, is_there}
@@ -10,11 +10,8 @@ pub loop-place-preserved : goal.loop-place-preserved
 loop-place-preserved c =
     let book = c.args.book.now in
     let f = use_of book.house (live book.history) in
-    let xs = book.house.agreements in
-    let whole = string_bytes c.args.text.now ++ flat_map f xs in
+    let at = sym (rw c.house-house.ensures at c.agreement_at.ensures) in
     elim c.match-agreement_at.branch [
-      | in-Some+in_ok-append_agreement-in-Some w ↦ written f xs c.loop-place.place w.in-Some.line (string_bytes c.loop-place.text) (string_bytes c.match-agreement_at.text) whole
-          (sym (rw c.house-house.ensures at c.agreement_at.ensures) ∙ w.in-Some.is) (ap string_bytes w.text-is ∙ w.in_ok-append_agreement-in-Some.ensures) c.loop-place.invariant
-      | in-None w ↦ let count = rw c.house-house.ensures at c.agreement_count-place-end.ensures in
-          absurd (is_there xs c.loop-place.place (omega (arith, count)) (sym (rw c.house-house.ensures at c.agreement_at.ensures) ∙ w.in-None.is))
+      | in-Some+in_ok-append_agreement-in-Some w ↦ written f book.house.agreements c.loop-place.place _ (string_bytes c.loop-place.text) _ _ (at ∙ w.in-Some.is) (ap string_bytes w.text-is ∙ w.in_ok-append_agreement-in-Some.ensures) c.loop-place.invariant
+      | in-None w ↦ let count = rw c.house-house.ensures at c.agreement_count-place-end.ensures in absurd (is_there book.house.agreements c.loop-place.place (omega (arith, count)) (at ∙ w.in-None.is))
     ]

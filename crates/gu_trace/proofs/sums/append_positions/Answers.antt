@@ -1,4 +1,4 @@
-use Rattle.std.proofs.Common.{◌++◌, sym, ◌∙◌, ap, arith}
+use Rattle.std.proofs.Common.{sym, ◌∙◌, ap, arith}
 use Rattle.std.specs.Prelude.{string_bytes, flat_map}
 use Rattle.gu_base.specs.History.{live}
 use Rattle.gu_base.specs.declared.house.Account.{Account}
@@ -11,11 +11,8 @@ pub loop-place-preserved : goal.loop-place-preserved
 loop-place-preserved c =
     let book = c.args.book.now in
     let f = λ (a : Account). flat_map (position_in (live book.history) a) book.house.instruments in
-    let xs = book.house.accounts in
-    let whole = string_bytes c.args.text.now ++ flat_map f xs in
+    let at = sym (rw c.house-house.ensures at c.account_at.ensures) in
     elim c.match-account_at.branch [
-      | in-Some+in_ok-append_account-in-Some w ↦ written f xs c.loop-place.place w.in-Some.account (string_bytes c.loop-place.text) (string_bytes c.match-account_at.text) whole
-          (sym (rw c.house-house.ensures at c.account_at.ensures) ∙ w.in-Some.is) (ap string_bytes w.text-is ∙ w.in_ok-append_account-in-Some.ensures) c.loop-place.invariant
-      | in-None w ↦ let count = rw c.house-house.ensures at c.account_count-place-end.ensures in
-          absurd (is_there xs c.loop-place.place (omega (arith, count)) (sym (rw c.house-house.ensures at c.account_at.ensures) ∙ w.in-None.is))
+      | in-Some+in_ok-append_account-in-Some w ↦ written f book.house.accounts c.loop-place.place _ (string_bytes c.loop-place.text) _ _ (at ∙ w.in-Some.is) (ap string_bytes w.text-is ∙ w.in_ok-append_account-in-Some.ensures) c.loop-place.invariant
+      | in-None w ↦ let count = rw c.house-house.ensures at c.account_count-place-end.ensures in absurd (is_there book.house.accounts c.loop-place.place (omega (arith, count)) (at ∙ w.in-None.is))
     ]
