@@ -69,17 +69,29 @@ left_named : (h : List Entry) (e : Entry) (n : ℕ) (c : Command) → e.command 
     → left_by (is_reversed h n) (is_reverse_of n c) (is_decline_of n c) (is_initiate_of n c) (consents_of h n) e.firm ≡ consents_left (h ++ e ∷ []) n
 left_named h e n c same = ap (λ c. left_by (is_reversed h n) (is_reverse_of n c) (is_decline_of n c) (is_initiate_of n c) (consents_of h n) e.firm) (sym same) ∙ sym (left_push h e n)
 
--- a command that names nothing leaves the consents
-left_plain : (reversed : Bool) (cs : List (List ℕ)) (firm : List ℕ) → cond reversed [] cs ≡ left_by reversed false false false cs firm
-left_plain true cs firm = refl
-left_plain false cs firm = sym (append-nil cs)
+-- what a command leaves that gives no consent: nothing where it declines or reverses the change, else what was there
+given_none : (reversed reverses declines : Bool) (cs : List (List ℕ)) (firm : List ℕ)
+    → cond (reverses || declines) [] (cond reversed [] cs) ≡ left_by reversed reverses declines false cs firm
+given_none true true declines cs firm = refl
+given_none true false true cs firm = refl
+given_none true false false cs firm = refl
+given_none false true declines cs firm = refl
+given_none false false true cs firm = refl
+given_none false false false cs firm = sym (append-nil cs)
+
+left_given_none : (h : List Entry) (e : Entry) (n : ℕ) (b : Bool) (c : Command) → e.command ≡ c → b ≡ (is_reverse_of n c || is_decline_of n c) → is_initiate_of n c ≡ false
+    → cond b [] (consents_left h n) ≡ consents_left (h ++ e ∷ []) n
+left_given_none h e n b c same named gives =
+    ap (λ a. cond a [] (consents_left h n)) named
+    ∙ (given_none (is_reversed h n) (is_reverse_of n c) (is_decline_of n c) (consents_of h n) e.firm
+    ∙ (ap (λ a. left_by (is_reversed h n) (is_reverse_of n c) (is_decline_of n c) a (consents_of h n) e.firm) (sym gives) ∙ left_named h e n c same))
 
 pub left_change : (h : List Entry) (e : Entry) (n : ℕ) (c : Command) → e.command ≡ c → is_change c ≡ true → consents_left h n ≡ consents_left (h ++ e ∷ []) n
-left_change h e n (Trade _ _ _ _ _) same is = left_plain (is_reversed h n) (consents_of h n) e.firm ∙ left_named h e n _ same
-left_change h e n (Split _ _) same is = left_plain (is_reversed h n) (consents_of h n) e.firm ∙ left_named h e n _ same
-left_change h e n (Claim _ _) same is = left_plain (is_reversed h n) (consents_of h n) e.firm ∙ left_named h e n _ same
-left_change h e n (Refuse _) same is = left_plain (is_reversed h n) (consents_of h n) e.firm ∙ left_named h e n _ same
-left_change h e n (Cancel _) same is = left_plain (is_reversed h n) (consents_of h n) e.firm ∙ left_named h e n _ same
+left_change h e n (Trade _ _ _ _ _) same is = left_given_none h e n false _ same refl refl
+left_change h e n (Split _ _) same is = left_given_none h e n false _ same refl refl
+left_change h e n (Claim _ _) same is = left_given_none h e n false _ same refl refl
+left_change h e n (Refuse _) same is = left_given_none h e n false _ same refl refl
+left_change h e n (Cancel _) same is = left_given_none h e n false _ same refl refl
 left_change h e n (Initiate _) same is = absurd (cc)
 left_change h e n (Decline _) same is = absurd (cc)
 left_change h e n (Reverse _) same is = absurd (cc)
@@ -98,28 +110,11 @@ left_initiate h e k n same unnamed =
     ∙ (ap (λ b. left_by (is_reversed h n) false false b (consents_of h n) e.firm) (eqb_symm n k)
     ∙ left_named h e n _ same)
 
--- a command that declines or reverses the change takes them away
-gone : (reversed reverses declines : Bool) (cs : List (List ℕ)) (firm : List ℕ)
-    → cond (reverses || declines) [] (cond reversed [] cs) ≡ left_by reversed reverses declines false cs firm
-gone true true declines cs firm = refl
-gone true false true cs firm = refl
-gone true false false cs firm = refl
-gone false true declines cs firm = refl
-gone false false true cs firm = refl
-gone false false false cs firm = sym (append-nil cs)
-
-left_gone : (h : List Entry) (e : Entry) (n : ℕ) (b : Bool) (c : Command) → e.command ≡ c → b ≡ (is_reverse_of n c || is_decline_of n c) → is_initiate_of n c ≡ false
-    → cond b [] (consents_left h n) ≡ consents_left (h ++ e ∷ []) n
-left_gone h e n b c same named gives =
-    ap (λ a. cond a [] (consents_left h n)) named
-    ∙ (gone (is_reversed h n) (is_reverse_of n c) (is_decline_of n c) (consents_of h n) e.firm
-    ∙ (ap (λ a. left_by (is_reversed h n) (is_reverse_of n c) (is_decline_of n c) a (consents_of h n) e.firm) (sym gives) ∙ left_named h e n c same))
-
 pub left_decline : (h : List Entry) (e : Entry) (k n : ℕ) → e.command ≡ Decline k → cond (n == k) [] (consents_left h n) ≡ consents_left (h ++ e ∷ []) n
-left_decline h e k n same = left_gone h e n (n == k) (Decline k) same (eqb_symm n k) refl
+left_decline h e k n same = left_given_none h e n (n == k) (Decline k) same (eqb_symm n k) refl
 
 pub left_reverse : (h : List Entry) (e : Entry) (k n : ℕ) → e.command ≡ Reverse k → cond (n == k) [] (consents_left h n) ≡ consents_left (h ++ e ∷ []) n
-left_reverse h e k n same = left_gone h e n (n == k) (Reverse k) same (eqb_symm n k ∙ sym (or_false (k == n))) refl
+left_reverse h e k n same = left_given_none h e n (n == k) (Reverse k) same (eqb_symm n k ∙ sym (or_false (k == n))) refl
 
 -- ---- a change that no Reverse names
 
