@@ -4,7 +4,7 @@
 //! Memory is ample here, so each row is made ready; then what was added, and what was taken again, is written.
 #![tactic(auto)]
 
-use gu_base::{AccountId, FirmId, InstrumentId, Side};
+use gu_base::{AccountId, FirmId, InstrumentId, Memory, Side};
 use gu_fees::Fees;
 use gu_positions::{Key, Positions};
 use gu_sums::Sums;
@@ -82,6 +82,32 @@ fn tell_put(rt: &impl Print, alloc: Global, key: &Key) -> io::Result<()> {
     println!(rt; "put without a row, then into it: long {long}, short {short}")
 }
 
+/// Puts seven lots at a rate of three, where the sums are small.
+fn put_some(fees: &mut Fees, giver: &FirmId, taker: &FirmId) -> Result<(), Memory> {
+    if fees.paid(taker) <= 1_000 {
+        if fees.received(giver) <= 1_000 {
+            if fees.used(giver, taker) <= 1_000 {
+                fees.put(giver, taker, 7, 3)?;
+            }
+        }
+    }
+    Ok(())
+}
+
+/// Writes what is paid, received and used where claims are put without rows, and then into rows.
+fn tell_put_fees(rt: &impl Print, alloc: Global, giver: &FirmId, taker: &FirmId) -> io::Result<()> {
+    let mut fees = Fees::new(alloc);
+    put_some(&mut fees, giver, taker)?;
+    put_some(&mut fees, giver, taker)?;
+    println!(rt;
+        "put without rows, then into them: paid {}, received {}, used {}; the other way round {}",
+        fees.paid(taker),
+        fees.received(giver),
+        fees.used(giver, taker),
+        fees.used(taker, giver)
+    )
+}
+
 fn main(rt: HostRuntime) -> io::Result<()> {
     let alloc = rt.alloc();
     tell_sums(&rt, alloc)?;
@@ -99,5 +125,6 @@ fn main(rt: HostRuntime) -> io::Result<()> {
         instrument,
     };
     tell_positions(&rt, alloc, &key)?;
-    tell_put(&rt, alloc, &key)
+    tell_put(&rt, alloc, &key)?;
+    tell_put_fees(&rt, alloc, &firm, &other)
 }
