@@ -223,7 +223,7 @@ impl Answering {
         if !walked.is_whole {
             return Ok(());
         }
-        let message = Index::new(fields, &slots, walked.carried);
+        let message = Index::new(fields, &slots, walked);
         let mut meaning = meaning_in(alloc, &message, &house, &mut room.parts);
         let answered = self.answer_meaning(alloc, fields, &meaning, &mut room.body, out);
         give_back(alloc, &mut meaning, &mut room.parts);
