@@ -27,7 +27,7 @@ const BATCH_TIME: &[u8] = b"19700101-00:00:00.000";
 /// A firm's call of the book, which has another answer where it came as a trade report.
 #[derive(Clone, Copy)]
 struct Call<'a> {
-    firm: FirmId,
+    firm: &'a FirmId,
     trade: bool,
     id: &'a AllocId,
     command: &'a Command,
@@ -88,25 +88,26 @@ impl Answering {
         &self.book
     }
 
-    /// Appends a reply to a firm, with the next number. An `Err` appends nothing.
+    /// Appends a reply to a firm, with the next number. An `Err` appends nothing. The one place where a frame is written, which all answers share.
+    #[inline(never)]
     fn send(
         &mut self,
         out: &mut Vec<u8>,
-        target: FirmId,
+        target: &FirmId,
         kind: &[u8],
         body: &[u8],
     ) -> Result<(), Memory>
         requires kind { IsText kind.now }
         requires body { length body.now ≤ longest_body }
         requires counted { self.old.written + 1 < 2 ^ 64 }
-        ensures ok { (fs : Message) → body.now ≡ fields_text fs → OnOk result (out.new.items ≡ out.old.items ++ message_text (message_of (stamp self.old.house.house (self.old.written + 1)) (record { target = target; kind = kind.now; fields = fs }))) }
+        ensures ok { (fs : Message) → body.now ≡ fields_text fs → OnOk result (out.new.items ≡ out.old.items ++ message_text (message_of (stamp self.old.house.house (self.old.written + 1)) (record { target = target.now; kind = kind.now; fields = fs }))) }
         ensures after { OnOk result (self.new ≡ record self.old { written = self.old.written + 1 }) }
         ensures err { OnErr result (out.new.items ≡ out.old.items) }
     {
         let header = Header {
             kind,
             sender: self.book.house().house(),
-            target,
+            target: *target,
             number: self.written + 1,
             sent: BATCH_TIME,
             resent: None,
@@ -125,25 +126,27 @@ impl Answering {
         out: &mut Vec<u8>,
     ) -> Result<(), Memory>
         requires { self.old.written + 1 < 2 ^ 64 }
-        ensures ok { let asked = call_of call.now.firm call.now.id.now call.now.command.now in OnOk result (out.new.items ≡ out.old.items ++ message_text (message_of (stamp self.old.house.house (self.old.written + 1)) (answer_reply call.now.firm call.now.trade call.now.id.now (answer_to self.old.house self.old.history asked)))) }
-        ensures after { let asked = call_of call.now.firm call.now.id.now call.now.command.now in OnOk result (self.new ≡ record { house = self.old.house; history = after self.old.house self.old.history asked; written = self.old.written + 1 }) }
+        ensures ok { let asked = call_of call.now.firm.now call.now.id.now call.now.command.now in OnOk result (out.new.items ≡ out.old.items ++ message_text (message_of (stamp self.old.house.house (self.old.written + 1)) (answer_reply call.now.firm.now call.now.trade call.now.id.now (answer_to self.old.house self.old.history asked)))) }
+        ensures after { let asked = call_of call.now.firm.now call.now.id.now call.now.command.now in OnOk result (self.new ≡ record { house = self.old.house; history = after self.old.house self.old.history asked; written = self.old.written + 1 }) }
         ensures err { OnErr result (out.new.items ≡ out.old.items) }
     {
         body.clear();
-        match self.book.apply(alloc, &call.firm, call.id, call.command) {
+        match &self.book.apply(alloc, call.firm, call.id, call.command) {
             Ok(answer) if call.trade => {
-                trade_ack(body, call.id, &answer)?;
+                trade_ack(body, call.id, answer)?;
                 self.send(out, call.firm, msg_types::TRADE_CAPTURE_REPORT_ACK, body)
             }
             Ok(answer) => {
-                ack(body, call.id, &answer)?;
+                ack(body, call.id, answer)?;
                 self.send(out, call.firm, msg_types::ALLOCATION_INSTRUCTION_ACK, body)
             }
-            Err(e) => Err(e),
+            Err(_) => Err(AllocError),
         }
     }
 
     /// Sends the Reject of a message. An `Err` appends nothing.
+    #[cold]
+    #[inline(never)]
     fn answer_fault(
         &mut self,
         fields: Fields<'_>,
@@ -158,7 +161,7 @@ impl Answering {
     {
         body.clear();
         reject(body, fields, fault)?;
-        self.send(out, reject_target(fields), msg_types::REJECT, body)
+        self.send(out, &reject_target(fields), msg_types::REJECT, body)
     }
 
     /// Appends the answer to a message that means this. An `Err` appends nothing.
@@ -187,7 +190,7 @@ impl Answering {
                 },
             ) => {
                 let call = Call {
-                    firm: *firm,
+                    firm,
                     trade: *trade,
                     id,
                     command,
@@ -220,7 +223,7 @@ impl Answering {
         if !walked.is_whole {
             return Ok(());
         }
-        let message = Index::new(fields, &slots, walked.carried);
+        let message = Index::new(fields, &slots, walked);
         let mut meaning = meaning_in(alloc, &message, &house, &mut room.parts);
         let answered = self.answer_meaning(alloc, fields, &meaning, &mut room.body, out);
         give_back(alloc, &mut meaning, &mut room.parts);

@@ -8,5 +8,5 @@ pub returns-clause-ok : goal.returns-clause-ok
 returns-clause-ok c fs e =
     let same : c.house-2.result ≡ c.args.self.now.house.house = search rules in
     let number : c.self.inside.written ≡ c.args.self.now.written = ap (λ (p : Progress). p.written) c.self.view_is in
-    sent_text (header_of (stamp c.args.self.now.house.house (c.args.self.now.written + 1)) (record { target = c.args.target; kind = c.args.kind.now; fields = fs })) fs c.args.body.now _ _ e
+    sent_text (header_of (stamp c.args.self.now.house.house (c.args.self.now.written + 1)) (record { target = c.args.target.now; kind = c.args.kind.now; fields = fs })) fs c.args.body.now _ _ e
     (rw (← same, ← number) c.in_ok-write_frame.ensures.ok)
