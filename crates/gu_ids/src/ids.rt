@@ -1,5 +1,5 @@
 //! The numbers of a history's entries, in chains by hash.
-ghost use Rattle.std.specs.Prelude.{true, ◌≡◌, ◌≤◌, ◌<◌, ◌==◌, ◌&&◌, [], ◌∷◌, ◌++◌, ℕ, List, length, OnOk};
+ghost use Rattle.std.specs.Prelude.{true, ◌≡◌, ◌≤◌, ◌<◌, ◌==◌, ◌&&◌, [], ◌∷◌, ◌++◌, ℕ, List, length, replicate, OnOk};
 ghost use Rattle.gu_base.specs.Limits.{most_entries};
 ghost use Rattle.gu_base.specs.declared.entry.Entry.{Entry};
 ghost use Rattle.gu_ids.specs.Chains.{hash_of, hashes_of, befores_of, newests_of, AreChains, AreIdsOf, IsReady, count};
@@ -162,16 +162,30 @@ impl Ids {
         ensures same { (h : List Entry) → AreIdsOf self.old h → AreIdsOf self.new h }
     {
         if self.links.len() >= self.heads.len() {
-            let buckets = self.links.len().max(FEWEST_BUCKETS / 2) * 2;
-            self.heads.resize(buckets, Head::NONE)?;
-            self.link_anew();
+            self.grow()?;
         }
         self.links.reserve(1)?;
         Ok(())
     }
 
-    /// Links all entries anew, by their hashes.
+    /// Makes twice as many buckets as there are entries, in place of those that are there, and links all entries anew.
+    #[cold]
+    #[inline(never)]
+    fn grow(&mut self) -> Result<(), Memory>
+        requires { count self.old ≤ most_entries }
+        ensures buckets { OnOk result (count self.new < length self.new.heads.items) }
+        ensures same { (h : List Entry) → AreIdsOf self.old h → AreIdsOf self.new h }
+    {
+        let buckets = self.links.len().max(FEWEST_BUCKETS / 2) * 2;
+        let alloc = *self.heads.allocator();
+        self.heads = Vec::from_elem(alloc, Head::NONE, buckets)?;
+        self.link_anew();
+        Ok(())
+    }
+
+    /// Links all entries anew, by their hashes. The buckets are new.
     fn link_anew(&mut self)
+        requires new { self.old.heads.items ≡ replicate (length self.old.heads.items) (record { newest = 0; marks = 0 }) }
         requires few { count self.old ≤ length self.old.heads.items }
         requires numbered { count self.old ≤ most_entries }
         ensures hasher { self.new.hasher ≡ self.old.hasher }
@@ -182,7 +196,6 @@ impl Ids {
         ensures marked { AreMarked (hashes_of self.new.links.items) (marks_of self.new.heads.items) (count self.new) }
     {
         let buckets = self.heads.len();
-        self.heads.fill(Head::NONE);
         for place in 0..self.links.len() {
             let hash = self.links[place].hash;
             let bucket = bucket_of(hash, buckets);

@@ -1,6 +1,6 @@
 use Rattle.std.proofs.Common.{◌≡◌, ◌<◌, ◌+◌, suc, length, set, refl, sym, ◌∙◌, ap, arith}
-use Rattle.std.specs.Prelude.{slice_index_or, vec_len}
-use Rattle.std.proofs.lemmas.List.{length-set, get_or-map, get_or-replicate, length-replicate}
+use Rattle.std.specs.Prelude.{slice_index_or}
+use Rattle.std.proofs.lemmas.List.{length-set, get_or-map, get_or-replicate}
 use Rattle.gu_ids.specs.declared.ids.Head.{Head}
 use Rattle.gu_ids.specs.declared.ids.Link.{Link}
 use Rattle.gu_ids.specs.Chains.{hashes_of, newests_of}
@@ -53,20 +53,17 @@ loop-place-preserved c =
 pub loop-place-init : goal.loop-place-init
 loop-place-init c =
     let none : Head = record { newest = 0; marks = 0 } in
-    let old = vec_len c.args.self.now.heads in
-    let new = c.fill.new.self.items in
-    let filled = c.fill.ensures.items (λ y e. e) in
-    let long : length new ≡ old = ap length filled ∙ length-replicate old none in
-    let longer = newests_long new in
+    let heads = c.args.self.now.heads.items in
+    let longer = newests_long heads in
     record {
       hasher = refl;
       hashes = refl;
-      buckets = omega (arith, long, c.len-buckets.ensures);
+      buckets = omega (arith, c.len-buckets.ensures, c.args.self.now.heads.ok.0);
       count = refl;
       chains = record {
         head = λ b inside.
-            get_or-map (λ (h : Head). h.newest) new b none 0 (omega (arith, inside, longer))
-            ∙ (ap (λ l. (slice_index_or l b none).newest) filled ∙ ap (λ (h : Head). h.newest) (get_or-replicate old b none none (omega (arith, inside, longer, long))));
+            get_or-map (λ (h : Head). h.newest) heads b none 0 (omega (arith, inside, longer))
+            ∙ (ap (λ l. (slice_index_or l b none).newest) c.requires.new ∙ ap (λ (h : Head). h.newest) (get_or-replicate (length heads) b none none (omega (arith, inside, longer))));
         before = λ j less. absurd (omega (arith, less));
       };
       marked = λ j less. absurd (omega (arith, less));
