@@ -1,10 +1,10 @@
 //! What each entry named, filed by the number of the entry.
-ghost use Rattle.std.specs.Prelude.{◌≡◌, ◌<◌, ℕ, IfOk, OnErr, []};
+ghost use Rattle.std.specs.Prelude.{◌≡◌, ◌<◌, ℕ, IfOk, OnErr, IfSome, IfNone, []};
 ghost use Rattle.gu_base.specs.Limits.{most_parts};
 ghost use Rattle.gu_base.specs.Numbers.{EntryPart};
 ghost use Rattle.gu_tree.specs.Filing.{IsRising, IsFiledAt, IsNotFiled, IsRoot, slot_of, without_slot, name_in, Climbs, IsClimbed};
 
-use crate::path::Path;
+use crate::path::{MAX_DEPTH, Path};
 use gu_base::{NodeName, Number};
 use std::alloc::Allocator;
 use std::marker::Model;
@@ -89,35 +89,39 @@ fn search(slots: &[Filed], entry: Number) -> Result<usize, usize>
     slots.binary_search_by_key(&entry.get(), |filed| filed.entry())
 }
 
-/// Where the entry is filed, or where it would be. It is first looked for at `near`.
-fn find(slots: &[Filed], near: usize, entry: Number) -> Result<usize, usize>
+/// Where the entry is filed, and how far above its number that is, `None` where it isn't. It is first looked for as far above as `shift` says.
+fn find(slots: &[Filed], shift: usize, entry: Number) -> Option<(usize, usize)>
     requires { IsRising slots.now }
-    ensures found { IfOk result (IsFiledAt slots.now entry) }
-    ensures absent { OnErr result (IsNotFiled slots.now entry) }
+    ensures found { IfSome result (λ r. IsFiledAt slots.now entry r.0) }
+    ensures absent { IfNone result (IsNotFiled slots.now entry) }
 {
+    let number = entry.get() as usize;
+    let near = number.wrapping_add(shift);
     if near < slots.len() && slots[near].entry() == entry.get() {
-        return Ok(near);
+        return Some((near, shift));
     }
-    search(slots, entry)
+    match search(slots, entry) {
+        Ok(i) => Some((i, i.wrapping_sub(number))),
+        Err(_) => None,
+    }
 }
 
-/// Where the entry is filed if each number from it on has a slot, as most have: as far below the last slot as its number is below the last.
-fn guess(slots: &[Filed], entry: Number) -> usize {
+/// How far above its number an entry is filed if each number from it on has a slot, as most have.
+fn shift_of(slots: &[Filed]) -> usize {
     let Some(last) = slots.last() else {
         return 0;
     };
-    let below = last.entry().wrapping_sub(entry.get());
-    (slots.len() - 1).wrapping_sub(below as usize)
+    (slots.len() - 1).wrapping_sub(last.entry() as usize)
 }
 
-/// What the entry named, and where it is filed if it is; `near` as for `find`.
-fn filed_at(slots: &[Filed], near: usize, entry: Number) -> (usize, Slot)
+/// What the entry named, and how far above its number it is filed if it is; `shift` as for `find`.
+fn filed_at(slots: &[Filed], shift: usize, entry: Number) -> (usize, Slot)
     requires { IsRising slots.now }
     ensures { result.1 ≡ slot_of slots.now entry }
 {
-    match find(slots, near, entry) {
-        Ok(i) => (i, slots[i].slot()),
-        Err(i) => (i, Slot::Empty),
+    match find(slots, shift, entry) {
+        Some((i, found)) => (found, slots[i].slot()),
+        None => (shift, Slot::Empty),
     }
 }
 
@@ -126,7 +130,7 @@ pub(crate) fn slot_at(slots: &[Filed], entry: Number) -> Slot
     requires { IsRising slots.now }
     ensures { result ≡ slot_of slots.now entry }
 {
-    filed_at(slots, guess(slots, entry), entry).1
+    filed_at(slots, shift_of(slots), entry).1
 }
 
 /// Where the tree of a trade stands among the trees.
@@ -154,7 +158,7 @@ pub(crate) fn named_by(slot: Slot, entry: Number) -> Option<NodeName>
 
 /// Leaves in an empty path the steps that lead from the root to the node, and gives the root's trade.
 ///
-/// The steps are gone upward, and turned round at the end. Each slot is first looked for as far below the one before as its number is lower.
+/// The steps are gone upward, and kept from the last on. Each slot is first looked for as far above its number as the one before was found.
 pub(crate) fn climb(slots: &[Filed], node: NodeName, path: &mut Path) -> Number
     requires rising { IsRising slots.now }
     requires room { Climbs slots.now node 0 }
@@ -162,19 +166,26 @@ pub(crate) fn climb(slots: &[Filed], node: NodeName, path: &mut Path) -> Number
     requires empty { path.old.items ≡ [] }
     ensures { IsClimbed slots.now node [] path.new.items result }
 {
+    if node.part() == 0 {
+        return node.entry();
+    }
     let mut node = node;
-    let mut near = guess(slots, node.entry());
+    let mut shift = shift_of(slots);
+    let mut steps = [0; MAX_DEPTH];
+    let mut first = MAX_DEPTH;
     while node.part() != 0 {
-        path.push(node.part() - 1);
-        let (place, slot) = filed_at(slots, near, node.entry());
+        first -= 1;
+        steps[first] = node.part() - 1;
+        let (found, slot) = filed_at(slots, shift, node.entry());
         let Slot::Node(above) = slot else {
             unreachable!()
         };
-        let below = node.entry().get().wrapping_sub(above.entry().get());
-        near = place.wrapping_sub(below as usize);
+        shift = found;
         node = above;
     }
-    path.as_mut_slice().reverse();
+    let Ok(()) = path.try_extend_from_slice(&steps[first..]) else {
+        unreachable!()
+    };
     node.entry()
 }
 
@@ -183,8 +194,8 @@ pub(crate) fn clear<A: Allocator>(slots: &mut Vec<Filed, A>, entry: Number)
     requires { IsRising slots.old.items }
     ensures { slots.new.items ≡ without_slot slots.old.items entry }
 {
-    let near = guess(slots.as_slice(), entry);
-    if let Ok(i) = find(slots.as_slice(), near, entry) {
+    let shift = shift_of(slots.as_slice());
+    if let Some((i, _)) = find(slots.as_slice(), shift, entry) {
         slots[i] = Filed::new(entry, Slot::Empty);
     }
 }

@@ -1,23 +1,33 @@
-use Rattle.std.proofs.Common.{rules, ◌≡◌, ◌≢◌, ◌∙◌, ◌+◌, ◌-◌, ap, arith, sym, length, reverse}
-use Rattle.std.proofs.lemmas.List.{length-reverse}
+use Rattle.std.proofs.Common.{rules, ◌≡◌, ◌≢◌, ◌∙◌, ◌+◌, ◌-◌, ap, arith, sym}
+use Rattle.std.proofs.lemmas.List.{length-set}
 use Rattle.gu_tree.specs.Filing.{slot_of}
-use Rattle.gu_tree.proofs.Groves.{way-there, way-further, way-ends, refill-all}
+use Rattle.gu_tree.proofs.Groves.{way-there, way-cell, way-further, way-ends, written-before, read-out}
 use Rattle.gu_tree.proofs.slot.climb.Goals as goal
+
+pub overflow_sub-first : goal.overflow_sub-first
+overflow_sub-first c =
+    let part : c.loop-first.node.part ≢ 0 = search rules in
+    way-cell _ _ _ _ _ c.loop-first.invariant.cells part c.loop-first.invariant.way
 
 pub unreachable-requires : goal.unreachable-requires
 unreachable-requires c =
-    let part : c.loop-path.node.part ≢ 0 = search rules in
-    let there = way-there _ _ _ _ part c.loop-path.invariant in
-    c.in_default.not-Node there.0 (c.filed_at-place.ensures ∙ (ap (slot_of c.args.slots.now) c.entry-in-loop-path.ensures ∙ there.1))
+    let part : c.loop-first.node.part ≢ 0 = search rules in
+    let there = way-there _ _ _ _ part c.loop-first.invariant.way in
+    c.in_default.not-Node there.0 (c.filed_at-found.ensures ∙ (ap (slot_of c.args.slots.now) c.entry-in-loop-first.ensures ∙ there.1))
 
-pub loop-path-preserved : goal.loop-path-preserved
-loop-path-preserved c =
-    let part : c.loop-path.node.part ≢ 0 = search rules in
-    let i : c.loop-path.node.part ≡ c.part-in-loop-path.result - 1 + 1 = omega (arith, part, c.part-in-loop-path.ensures.value) in
-    way-further _ _ _ _ _ _ _ part i (sym (ap (slot_of c.args.slots.now) c.entry-in-loop-path.ensures) ∙ (sym c.filed_at-place.ensures ∙ c.in-Node.is)) c.push.ensures.items c.loop-path.invariant
+pub loop-first-preserved : goal.loop-first-preserved
+loop-first-preserved c =
+    let part : c.loop-first.node.part ≢ 0 = search rules in
+    let i : c.loop-first.node.part ≡ c.part-in-loop-first-2.result - 1 + 1 = omega (arith, part, c.part-in-loop-first-2.ensures.value) in
+    let some = way-cell _ _ _ _ _ c.loop-first.invariant.cells part c.loop-first.invariant.way in
+    let more = written-before c.loop-first.steps c.loop-first.first (c.part-in-loop-first-2.result - 1) some (omega (arith, c.loop-first.invariant.cells, c.loop-first.invariant.within)) in
+    record {
+      way = way-further _ _ _ _ _ _ _ part i (sym (ap (slot_of c.args.slots.now) c.entry-in-loop-first.ensures) ∙ (sym c.filed_at-found.ensures ∙ c.in-Node.is)) more c.loop-first.invariant.way;
+      cells = length-set c.loop-first.steps _ _ ∙ c.loop-first.invariant.cells;
+      within = omega (arith, c.loop-first.invariant.within);
+    }
 
 pub returns : goal.returns
 returns c =
-    let turned_round = c.reverse.ensures.after ∙ ap reverse c.as_mut_slice.ensures.value in
-    let all = refill-all c.loop-path.path.items _ (ap length turned_round ∙ length-reverse c.loop-path.path.items) in
-    way-ends _ _ c.loop-path.node c.loop-path.path.items _ _ (search rules) c.entry-2.ensures (all ∙ turned_round) c.loop-path.invariant
+    let steps = read-out _ _ _ _ c.loop-first.invariant.cells c.requires.empty c.in-Ok.ensures.ok in
+    way-ends _ _ c.loop-first.node _ _ _ (search rules) c.entry-2.ensures steps c.loop-first.invariant.way

@@ -1,8 +1,15 @@
+use Rattle.std.proofs.Common.{◌≡◌, ◌≤◌, drop, length}
+use Rattle.gu_tree.specs.Filing.{turned}
 use Rattle.gu_tree.proofs.Groves.{IsOnWay}
 use Rattle.gu_tree.proofs.slot.climb.Given as goal
 
-abbrev pub invariant-loop-path : goal.invariant-loop-path
-invariant-loop-path l = IsOnWay l.slots l.fn.node l.node l.path.items
+abbrev pub invariant-loop-first : goal.invariant-loop-first
+invariant-loop-first l =
+    record {
+      way : IsOnWay l.slots l.fn.node l.node (turned (drop l.first l.steps));
+      cells : length l.steps ≡ 64;
+      within : l.first ≤ 64;
+    }
 
-abbrev pub decreases-loop-path : goal.decreases-loop-path
-decreases-loop-path l = l.node.entry
+abbrev pub decreases-loop-first : goal.decreases-loop-first
+decreases-loop-first l = l.node.entry
