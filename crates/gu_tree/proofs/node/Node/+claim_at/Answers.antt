@@ -1,47 +1,34 @@
-use Rattle.std.proofs.Common.{rules, ◌∙◌, arith}
-use Rattle.std.proofs.Math.ListN.{length-set}
+use Rattle.std.proofs.Common.{rules, arith}
 use Rattle.gu_tree.specs.Changes.{claim_node}
-use Rattle.gu_tree.proofs.Parts.{goes, goes-below, goes-edit, goes-has, goes-sum, some_and, lots_of-with_head}
+use Rattle.gu_tree.proofs.Parts.{going, goes-below, goes-edit, goes-has, goes-parted, lots_of-with_head}
 use Rattle.gu_tree.proofs.node.Node.+claim_at.Goals as goal
 
 pub index_mut-requires : goal.index_mut-requires
 index_mut-requires g t c =
-    let v = some_and _ _ c.requires in
-    let e = goes _ _ _ _ _ _ _ _ c.in-Some.ensures.cases.0 (rw c.in-Parted.is at c.self.view_is) v.1 in
+    let e = going _ _ _ _ _ _ _ _ c.in-Some.ensures.cases.0 (rw c.in-Parted.is at c.self.view_is) c.requires in
     omega (arith, e.there, c.in-Parted.parts.ok)
 
 pub claim_at-requires : goal.claim_at-requires
 claim_at-requires g t c κs within =
-    let v = some_and _ _ c.requires in
-    let e = goes _ _ _ _ _ _ _ _ c.in-Some.ensures.cases.0 (rw c.in-Parted.is at c.self.view_is) v.1 in
+    let e = going _ _ _ _ _ _ _ _ c.in-Some.ensures.cases.0 (rw c.in-Parted.is at c.self.view_is) c.requires in
     (search rules, (search rules, rw (← goes-below _ e c.index_mut.ensures.value) c.requires))
 
 pub invariant_of-self-2 : goal.invariant_of-self-2
 invariant_of-self-2 g t c =
-    let v = some_and _ _ c.requires in
-    let e = goes _ _ _ _ _ _ _ _ c.in-Some.ensures.cases.0 (rw c.in-Parted.is at c.self.view_is) v.1 in
-    let sound = rw c.in-Parted.is at c.self.invariant in
-    record {
-      sum = goes-sum (claim_node c.args.decision c.args.place.now) _ _ _ e c.index_mut.ensures.value c.claim_at.ensures.node v.1 (lots_of-with_head _ _) ∙ sound.sum;
-      some = simp length-set sound.some;
-      most = simp length-set sound.most;
-      decided = sound.decided;
-    }
+    let e = going _ _ _ _ _ _ _ _ c.in-Some.ensures.cases.0 (rw c.in-Parted.is at c.self.view_is) c.requires in
+    goes-parted (claim_node c.args.decision c.args.place.now) _ _ _ e c.index_mut.ensures.value c.claim_at.ensures.node c.requires (λ v. lots_of-with_head _ v) (rw c.in-Parted.is at c.self.invariant)
 
 pub returns-clause-name : goal.returns-clause-name
 returns-clause-name g t c =
-    let v = some_and _ _ c.requires in
-    let e = goes _ _ _ _ _ _ _ _ c.in-Some.ensures.cases.0 (rw c.in-Parted.is at c.self.view_is) v.1 in
+    let e = going _ _ _ _ _ _ _ _ c.in-Some.ensures.cases.0 (rw c.in-Parted.is at c.self.view_is) c.requires in
     goes-has _ _ e c.index_mut.ensures.value c.claim_at.ensures.name
 
 pub returns-clause-leaf : goal.returns-clause-leaf
 returns-clause-leaf g t c =
-    let v = some_and _ _ c.requires in
-    let e = goes _ _ _ _ _ _ _ _ c.in-Some.ensures.cases.0 (rw c.in-Parted.is at c.self.view_is) v.1 in
+    let e = going _ _ _ _ _ _ _ _ c.in-Some.ensures.cases.0 (rw c.in-Parted.is at c.self.view_is) c.requires in
     goes-has _ _ e c.index_mut.ensures.value c.claim_at.ensures.leaf
 
 pub returns-clause-node : goal.returns-clause-node
 returns-clause-node g t c =
-    let v = some_and _ _ c.requires in
-    let e = goes _ _ _ _ _ _ _ _ c.in-Some.ensures.cases.0 (rw c.in-Parted.is at c.self.view_is) v.1 in
+    let e = going _ _ _ _ _ _ _ _ c.in-Some.ensures.cases.0 (rw c.in-Parted.is at c.self.view_is) c.requires in
     goes-edit _ _ _ e c.index_mut.ensures.value c.claim_at.ensures.node

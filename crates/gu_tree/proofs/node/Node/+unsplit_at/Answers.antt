@@ -1,41 +1,29 @@
-use Rattle.std.proofs.Common.{rules, refl, ◌∙◌, arith}
-use Rattle.std.proofs.Math.ListN.{length-set}
+use Rattle.std.proofs.Common.{rules, refl, arith}
 use Rattle.gu_tree.specs.Changes.{unsplit_node}
-use Rattle.gu_tree.proofs.Parts.{goes, goes-below, goes-edit, goes-has, goes-sum, some_and}
+use Rattle.gu_tree.proofs.Parts.{going, goes-below, goes-edit, goes-has, goes-parted}
 use Rattle.gu_tree.proofs.node.Node.+unsplit_at.Goals as goal
 
 pub index_mut-requires : goal.index_mut-requires
 index_mut-requires g t c =
-    let v = some_and _ _ c.requires in
-    let e = goes _ _ _ _ _ _ _ _ c.in-Some.ensures.cases.0 (rw c.in-Parted-kind.is at c.self.view_is) v.1 in
+    let e = going _ _ _ _ _ _ _ _ c.in-Some.ensures.cases.0 (rw c.in-Parted-kind.is at c.self.view_is) c.requires in
     omega (arith, e.there, c.in-Parted-kind.parts.ok)
 
 pub unsplit_at-requires : goal.unsplit_at-requires
 unsplit_at-requires g t c κs within =
-    let v = some_and _ _ c.requires in
-    let e = goes _ _ _ _ _ _ _ _ c.in-Some.ensures.cases.0 (rw c.in-Parted-kind.is at c.self.view_is) v.1 in
+    let e = going _ _ _ _ _ _ _ _ c.in-Some.ensures.cases.0 (rw c.in-Parted-kind.is at c.self.view_is) c.requires in
     (search rules, (search rules, rw (← goes-below _ e c.index_mut.ensures.value) c.requires))
 
 pub invariant_of-self-2 : goal.invariant_of-self-2
 invariant_of-self-2 g t c =
-    let v = some_and _ _ c.requires in
-    let e = goes _ _ _ _ _ _ _ _ c.in-Some.ensures.cases.0 (rw c.in-Parted-kind.is at c.self.view_is) v.1 in
-    let sound = rw c.in-Parted-kind.is at c.self.invariant in
-    record {
-      sum = goes-sum (unsplit_node) _ _ _ e c.index_mut.ensures.value c.unsplit_at.ensures.node v.1 refl ∙ sound.sum;
-      some = simp length-set sound.some;
-      most = simp length-set sound.most;
-      decided = sound.decided;
-    }
+    let e = going _ _ _ _ _ _ _ _ c.in-Some.ensures.cases.0 (rw c.in-Parted-kind.is at c.self.view_is) c.requires in
+    goes-parted unsplit_node _ _ _ e c.index_mut.ensures.value c.unsplit_at.ensures.node c.requires (λ v. refl) (rw c.in-Parted-kind.is at c.self.invariant)
 
 pub returns-clause-split : goal.returns-clause-split
 returns-clause-split g t c =
-    let v = some_and _ _ c.requires in
-    let e = goes _ _ _ _ _ _ _ _ c.in-Some.ensures.cases.0 (rw c.in-Parted-kind.is at c.self.view_is) v.1 in
+    let e = going _ _ _ _ _ _ _ _ c.in-Some.ensures.cases.0 (rw c.in-Parted-kind.is at c.self.view_is) c.requires in
     goes-has _ _ e c.index_mut.ensures.value c.unsplit_at.ensures.split
 
 pub returns-clause-node : goal.returns-clause-node
 returns-clause-node g t c =
-    let v = some_and _ _ c.requires in
-    let e = goes _ _ _ _ _ _ _ _ c.in-Some.ensures.cases.0 (rw c.in-Parted-kind.is at c.self.view_is) v.1 in
+    let e = going _ _ _ _ _ _ _ _ c.in-Some.ensures.cases.0 (rw c.in-Parted-kind.is at c.self.view_is) c.requires in
     goes-edit _ _ _ e c.index_mut.ensures.value c.unsplit_at.ensures.node
