@@ -2,7 +2,7 @@
 use Rattle.std.proofs.Common.{◌≡◌, ◌∙◌, ◌≤◌, ◌<◌, ◌+◌, ◌/◌, ℕ, List, [], ◌∷◌, ◌++◌, length, ap, sym, arith, append_assoc, length-append}
 use Rattle.std.specs.Prelude.{decimal, Option, Some, None}
 use Rattle.std.proofs.lemmas.Fmt.{decimal_digit}
-use Rattle.itoa.proofs.Decimal.{decimal_two, decimal_pair, length_one, length_two, length_pair}
+use Rattle.itoa.proofs.Decimal.{decimal_two, decimal_pair, length_one, length_pair}
 use Rattle.gu_codec.specs.Writing.{HeaderText, field, fields_text, resend_pairs, resend_len, header_pairs, values_len}
 use Rattle.gu_codec.proofs.TagTexts.{two_len}
 

@@ -1,5 +1,5 @@
 -- Texts that are put in their places, and the digits of numbers.
-use Rattle.std.proofs.Common.{◌≡◌, ◌∙◌, ◌≤◌, ◌<◌, ◌+◌, ◌-◌, ◌^◌, ◌/◌, ℕ, List, ◌++◌, length, take, drop, ap, sym, arith, append_assoc, length-append}
+use Rattle.std.proofs.Common.{◌≡◌, ◌∙◌, ◌≤◌, ◌<◌, ◌+◌, ◌-◌, ◌/◌, ℕ, List, ◌++◌, length, take, drop, ap, sym, arith, append_assoc, length-append}
 use Rattle.std.specs.Prelude.{decimal}
 use Rattle.std.proofs.lemmas.List.{take-append-drop, take_at, length-take-le, drop-take}
 use Rattle.itoa.proofs.Decimal.{length_one, length_pair}

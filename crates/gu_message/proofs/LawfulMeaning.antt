@@ -7,18 +7,19 @@ use Rattle.std.specs.Option.{ok_or}
 use Rattle.gu_base.specs.Names.{is_firm_text, is_id_text}
 use Rattle.gu_base.specs.declared.command.Part.{Part}
 use Rattle.gu_base.specs.declared.command.Command.{Command}
+use Rattle.gu_base.specs.declared.command.Command.TheVariants.{Refuse, Cancel, Initiate, Decline, Reverse}
 use Rattle.gu_message.specs.declared.fault.Reject.{Reject}
 use Rattle.gu_message.specs.declared.heading.Heading.{Heading}
 use Rattle.gu_message.specs.declared.inbound.Inbound.{Inbound}
 use Rattle.gu_message.specs.declared.inbound.Inbound.TheVariants as inbound
 use Rattle.gu_message.specs.declared.instruction.Asked.{Asked}
 use Rattle.gu_message.specs.declared.instruction.Asked.TheVariants as asked
-use Rattle.gu_message.specs.Checks.{◌>>=◌, bad_value, name_of, id_of}
+use Rattle.gu_message.specs.Checks.{◌>>=◌, ok_map, bad_value, name_of, id_of}
 use Rattle.gu_message.specs.Finding.{value_of}
 use Rattle.gu_message.specs.SplitParts.{named, named_in, named_if, named_by, given_to, part_for, part_of, parts_of, counted_parts}
 use Rattle.gu_message.specs.Heading.{heading_of}
 use Rattle.gu_message.specs.TradeReport.{trading_firm, trade_of}
-use Rattle.gu_message.specs.Instructions.{node_in, command_of, instruction_of}
+use Rattle.gu_message.specs.Instructions.{node_in, entry_in, command_of, instruction_of}
 use Rattle.gu_message.specs.SessionMessages.{logon_of, test_request_of, resend_request_of, sequence_reset_of, session_message_of}
 use Rattle.gu_message.specs.Meaning.{by_type, meaning_of}
 use Rattle.gu_base.specs.FirmsNamed.{NamesOnly}
@@ -35,24 +36,27 @@ any_then : {A B : Type 0} (q : B → Type 0) (r : Result A Reject) (f : A → Re
 any_then q (Ok x) f h = h x
 any_then q (Err e) f h = tt
 
+any_map : {A B : Type 0} (q : B → Type 0) (f : A → B) (r : Result A Reject) → ((x : A) → q (f x)) → Passes q (ok_map f r)
+any_map q f (Ok x) h = h x
+any_map q f (Err e) h = tt
+
 -- from what holds of it, the rest gives so
 then : {A B : Type 0} (p : A → Type 0) (q : B → Type 0) (r : Result A Reject) (f : A → Result B Reject) → Passes p r → ((x : A) → p x → Passes q (f x)) → Passes q (r >>= f)
 then p q (Ok x) f k h = h x k
 then p q (Err e) f k h = tt
 
-name_passes : (t : List ℕ) (e : Reject) → Passes (λ firm. IsTrue (is_firm_text firm)) (ok_or (name_of t) e)
-name_passes t e = by_test (is_firm_text t) refl
+text_passes : (is : List ℕ → Bool) (t : List ℕ) (e : Reject) → Passes (λ x. IsTrue (is x)) (ok_or (cond (is t) (Some t) None) e)
+text_passes is t e = by_test (is t) refl
   where
-    by_test : (b : Bool) → is_firm_text t ≡ b → Passes (λ firm. IsTrue (is_firm_text firm)) (ok_or (cond b (Some t) None) e)
+    by_test : (b : Bool) → is t ≡ b → Passes (λ x. IsTrue (is x)) (ok_or (cond b (Some t) None) e)
     by_test true h = h
     by_test false h = tt
 
+name_passes : (t : List ℕ) (e : Reject) → Passes (λ firm. IsTrue (is_firm_text firm)) (ok_or (name_of t) e)
+name_passes = text_passes is_firm_text
+
 id_passes : (t : List ℕ) (e : Reject) → Passes (λ id. IsTrue (is_id_text id)) (ok_or (id_of t) e)
-id_passes t e = by_test (is_id_text t) refl
-  where
-    by_test : (b : Bool) → is_id_text t ≡ b → Passes (λ id. IsTrue (is_id_text id)) (ok_or (cond b (Some t) None) e)
-    by_test true h = h
-    by_test false h = tt
+id_passes = text_passes is_id_text
 
 name_then : {B : Type 0} (q : B → Type 0) (t : List ℕ) (e : Reject) (f : List ℕ → Result B Reject) → ((x : List ℕ) → IsTrue (is_firm_text x) → Passes q (f x)) → Passes q (ok_or (name_of t) e >>= f)
 name_then q t e f h = then (λ x. IsTrue (is_firm_text x)) q (ok_or (name_of t) e) f (name_passes t e) h
@@ -150,11 +154,11 @@ unfolding command_of
 command_passes by asked.Split fs lawful =
     any_then (NamesOnly is_firm_text) (node_in fs) _ (λ node. then (All (λ (q : Part). IsTrue (is_firm_text q.firm))) (NamesOnly is_firm_text) (counted_parts by fs) _ (counted_passes by fs lawful) (λ parts h. h))
 command_passes by asked.Claim fs lawful = search any_then
-command_passes by asked.Refuse fs lawful = search any_then
-command_passes by asked.Cancel fs lawful = search any_then
-command_passes by asked.Initiate fs lawful = search any_then
-command_passes by asked.Decline fs lawful = search any_then
-command_passes by asked.Reverse fs lawful = search any_then
+command_passes by asked.Refuse fs lawful = any_map (NamesOnly is_firm_text) Refuse (node_in fs) (λ node. tt)
+command_passes by asked.Cancel fs lawful = any_map (NamesOnly is_firm_text) Cancel (node_in fs) (λ node. tt)
+command_passes by asked.Initiate fs lawful = any_map (NamesOnly is_firm_text) Initiate (entry_in fs) (λ entry. tt)
+command_passes by asked.Decline fs lawful = any_map (NamesOnly is_firm_text) Decline (entry_in fs) (λ entry. tt)
+command_passes by asked.Reverse fs lawful = any_map (NamesOnly is_firm_text) Reverse (entry_in fs) (λ entry. tt)
 
 command_then : {B : Type 0} (q : B → Type 0) (by : List ℕ) (what : Asked) (fs : List (ℕ × List ℕ)) (f : Command → Result B Reject) → IsTrue (is_firm_text by)
     → ((x : Command) → NamesOnly is_firm_text x → Passes q (f x)) → Passes q (command_of by what fs >>= f)
@@ -169,25 +173,9 @@ chosen : (b : Bool) (x y : Result Inbound Reject) → Passes IsLawfulMeaning x �
 chosen true x y h k = h
 chosen false x y h k = k
 
-logon_passes : (fs : List (ℕ × List ℕ)) → Passes IsLawfulMeaning (logon_of fs)
-unfolding logon_of
-logon_passes fs = search any_then depth 20 fits 4000
-
-test_request_passes : (fs : List (ℕ × List ℕ)) → Passes IsLawfulMeaning (test_request_of fs)
-unfolding test_request_of
-test_request_passes fs = search any_then depth 20 fits 4000
-
-resend_request_passes : (fs : List (ℕ × List ℕ)) → Passes IsLawfulMeaning (resend_request_of fs)
-unfolding resend_request_of
-resend_request_passes fs = search any_then depth 20 fits 4000
-
-sequence_reset_passes : (fs : List (ℕ × List ℕ)) → Passes IsLawfulMeaning (sequence_reset_of fs)
-unfolding sequence_reset_of
-sequence_reset_passes fs = search any_then depth 20 fits 4000
-
 session_passes : (t : List ℕ) (fs : List (ℕ × List ℕ)) → Passes IsLawfulMeaning (session_message_of t fs)
-unfolding session_message_of
-session_passes t fs = search (chosen, logon_passes, test_request_passes, resend_request_passes, sequence_reset_passes) depth 20 fits 4000
+unfolding session_message_of logon_of test_request_of resend_request_of sequence_reset_of
+session_passes t fs = search (chosen, any_then) depth 40 fits 16000
 
 type_passes : (by t : List ℕ) (fs : List (ℕ × List ℕ)) → IsTrue (is_firm_text by) → Passes IsLawfulMeaning (by_type by t fs)
 unfolding by_type

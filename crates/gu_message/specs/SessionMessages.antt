@@ -7,8 +7,7 @@ use Rattle.gu_message.specs.declared.inbound.Inbound.{Inbound}
 use Rattle.gu_message.specs.declared.inbound.Inbound.TheVariants as inbound
 use Rattle.gu_message.specs.Limits.{longest_test_req_id}
 use Rattle.gu_message.specs.Finding.{value_of}
-use Rattle.gu_message.specs.Values.{count_of}
-use Rattle.gu_message.specs.Checks.{◌>>=◌, needed, bad_value, bad_kind, bad_type, guard}
+use Rattle.gu_message.specs.Checks.{◌>>=◌, needed, count_in, bad_value, bad_kind, bad_type, guard}
 
 -- a flag: `Y` or `N`
 unfoldable pub flag_of : List ℕ → Option Bool
@@ -21,12 +20,6 @@ flag_if tag (Some t) = ok_or (flag_of t) (bad_kind tag)
 
 abbrev pub flag_in : ℕ → List (ℕ × List ℕ) → Result Bool Reject
 flag_in tag fs = flag_if tag (value_of tag fs)
-
--- a field that is a count
-unfoldable pub count_in : ℕ → List (ℕ × List ℕ) → Result ℕ Reject
-count_in tag fs = do
-  text ← needed tag fs
-  ok_or (count_of text) (bad_kind tag)
 
 -- Logon (A): EncryptMethod (98) `0`, HeartBtInt (108), DefaultApplVerID (1137) `9`, ResetSeqNumFlag (141)
 unfoldable pub logon_of : List (ℕ × List ℕ) → Result Inbound Reject

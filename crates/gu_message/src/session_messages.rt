@@ -1,7 +1,8 @@
 //! The messages of the session: Logon, Heartbeat, TestRequest, ResendRequest, Reject, SequenceReset and Logout.
 
 ghost use Rattle.std.specs.Prelude.{◌≡◌};
-ghost use Rattle.gu_message.specs.SessionMessages.{flag_of, flag_in as flag_in_of, count_in as count_in_of, logon_of, test_request_of, resend_request_of, sequence_reset_of, session_message_of};
+ghost use Rattle.gu_message.specs.Checks.{count_in as count_in_of};
+ghost use Rattle.gu_message.specs.SessionMessages.{flag_of, flag_in as flag_in_of, logon_of, test_request_of, resend_request_of, sequence_reset_of, session_message_of};
 
 use crate::fault::Reject;
 use crate::inbound::Inbound;
@@ -48,7 +49,7 @@ fn flag_in(message: &Index<'_, '_>, tag: u32) -> Result<bool, Reject>
 }
 
 /// A field that is a count.
-#[tactic(auto, unfolding(crate::specs::SessionMessages::count_in))]
+#[tactic(auto, unfolding(crate::specs::Checks::count_in))]
 fn count_in(message: &Index<'_, '_>, tag: u32) -> Result<u32, Reject>
     ensures { result ≡ count_in_of tag message.now }
 {

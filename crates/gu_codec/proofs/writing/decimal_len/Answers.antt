@@ -1,5 +1,4 @@
-use Rattle.std.proofs.Common.{◌≡◌, ◌+◌, ◌≤◌, ◌/◌, length, arith}
-use Rattle.std.specs.Prelude.{decimal}
+use Rattle.std.proofs.Common.{arith}
 use Rattle.std.proofs.lemmas.Fmt.{length-decimal-le}
 use Rattle.itoa.proofs.Decimal.{length_four}
 use Rattle.gu_codec.proofs.writing.decimal_len.Goals as goal

@@ -1,4 +1,4 @@
-use Rattle.std.proofs.Common.{◌≡◌, ℕ, List, ◌+◌, ◌++◌, ◌%◌, length, take, drop, ap, sym, ◌∙◌, arith, length-append}
+use Rattle.std.proofs.Common.{◌≡◌, ℕ, List, ◌++◌, ◌%◌, length, take, drop, ap, sym, ◌∙◌, arith, length-append}
 use Rattle.std.specs.Prelude.{decimal, sum}
 use Rattle.std.proofs.lemmas.List.{take_all, length-take-le}
 use Rattle.gu_codec.specs.Writing.{view, fields_text, header_pairs}

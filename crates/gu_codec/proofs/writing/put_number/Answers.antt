@@ -1,4 +1,4 @@
-use Rattle.std.proofs.Common.{◌≡◌, ap, ◌∙◌, sym, take, arith}
+use Rattle.std.proofs.Common.{◌≡◌, arith}
 use Rattle.std.specs.Prelude.{decimal}
 use Rattle.gu_codec.proofs.Putting.{put_there}
 use Rattle.gu_codec.proofs.writing.put_number.Goals as goal

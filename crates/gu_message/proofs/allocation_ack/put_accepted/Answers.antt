@@ -1,4 +1,4 @@
-use Rattle.std.proofs.Common.{◌≡◌, ◌∙◌, length, take, sym, arith}
+use Rattle.std.proofs.Common.{◌≡◌, ◌∙◌, take, sym, arith}
 use Rattle.std.specs.Prelude.{decimal}
 use Rattle.std.proofs.lemmas.List.{take_all}
 use Rattle.gu_message.proofs.Joined.{instruction_text}

@@ -1,4 +1,4 @@
-use Rattle.std.proofs.Common.{◌≡◌, ◌≤◌, length, subst}
+use Rattle.std.proofs.Common.{◌≤◌, length, subst}
 use Rattle.gu_codec.specs.Answer.{pairs}
 use Rattle.gu_message.specs.Finding.{entries}
 use Rattle.gu_message.proofs.Indexing.{lone_end, side_slot}

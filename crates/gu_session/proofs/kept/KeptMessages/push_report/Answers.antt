@@ -1,12 +1,7 @@
-use Rattle.gu_session.proofs.KeptLists.{pushed, pushed_size}
+use Rattle.gu_session.proofs.KeptLists.{pushed_size}
 use Rattle.gu_session.proofs.kept.KeptMessages.push_report.Goals as goal
 
 pub invariant_of-self-2 : goal.invariant_of-self-2
 invariant_of-self-2 c =
     rw (c.push_back_reserved.ensures.items, c.reserve.ensures.items)
     (pushed_size c.self.inside.entries.items c.self.inside.gone c.self.inside.bytes.items c.write_report.new.bytes.items c.in_ok-entry.entry _ c.self.invariant c.in_ok-entry.ensures.ok)
-
-pub returns-clause-ok : goal.returns-clause-ok
-returns-clause-ok c =
-    rw (c.push_back_reserved.ensures.items, c.reserve.ensures.items)
-    (pushed c.args.self.now c.self.inside.entries.items c.self.inside.gone c.self.inside.bytes.items c.write_report.new.bytes.items c.in_ok-entry.entry _ c.self.invariant c.self.view_is c.in_ok-entry.ensures.ok)
