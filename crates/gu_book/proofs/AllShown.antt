@@ -66,13 +66,6 @@ all_shown {l} {g} filed = record {
   places = filed.placed;
 }
 
--- ---- what stands on a change of the book
-
--- what the trees answer for each list that they show, they answer for the live changes
-pub standing_found : {t : House} {h : List Entry} {g : Grove} {cs : Consents} → IsKept t h g cs → (k : ℕ) (o : Option ℕ)
-    → ((t : House) (l : List Record) → RisesFrom 0 l → IsLegal t l → ShowsAll l g → o ≡ standing_on t l k) → o ≡ standing_on t (live h) k
-standing_found {t} {h} kept k o first = first t (live h) (rises_later 0 1 (live h) (omega arith) (live_rises h)) (legal_from_replay t (live h) kept.replayed) (all_shown kept.filed)
-
 -- ---- a change whose Reverse is accepted
 
 found_step : {X : Type 0} (p q : X → Bool) (y : X) (ys : List X) (x : X) → q x ≡ true → (find p ys ≡ Some x → find p (filter q ys) ≡ Some x)

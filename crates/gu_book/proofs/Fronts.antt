@@ -132,17 +132,6 @@ module _ (t : House) (h : List Entry) (given : ℕ → List (List ℕ)) (left : 
       split_answer c
       ∙ front_left (find (is_same_call c) (records h)) (find (is_same_id c) (records h)) (length h + 1) (status_of c.firm c.command) (unless (nat_lt (length h) 1000000) BookFull) (front_refusal t h given c.firm c.command) (stands_refusal t h c.command) plain
 
--- nothing stands in the way of what is no Reverse
-pub none_in_way : (t : House) (h : List Entry) (c : Command) → ((k : ℕ) → c ≡ Reverse k → ⊥) → stands_refusal t h c ≡ None
-none_in_way t h (Trade _ _ _ _ _) other = refl
-none_in_way t h (Split _ _) other = refl
-none_in_way t h (Claim _ _) other = refl
-none_in_way t h (Refuse _) other = refl
-none_in_way t h (Cancel _) other = refl
-none_in_way t h (Initiate _) other = refl
-none_in_way t h (Decline _) other = refl
-none_in_way t h (Reverse k) other = absurd (other k refl)
-
 -- an answer that isn't accepted adds nothing
 not_added : (h : List Entry) (c : Call) (a : Answer) → is_accepted a ≡ false → h ≡ after_by h c a
 not_added h c (Accepted n s) e = absurd (cc)

@@ -38,4 +38,6 @@ pub mod FreeNodes
 pub mod Gone
 pub mod Crossing
 mod PartsAway
+mod MovesBack
+mod Undone
 mod TradesKept

@@ -30,7 +30,7 @@ use Rattle.gu_positions.specs.declared.positions.Key.{Key}
 use Rattle.gu_tree.specs.Grove.{Grove, IsPlace}
 use Rattle.gu_book.specs.Filed.{IsFiled}
 use Rattle.gu_book.specs.Found.{IsFoundAs}
-use Rattle.gu_book.specs.Holdings.{traded_at, held_at, holding_of, part_holding, holding_away, part_away, counted_at, taken_at, HaveMoved}
+use Rattle.gu_book.specs.Holdings.{traded_at, held_at, holding_of, part_holding, holding_away, part_away, lots_told, counted_at, taken_at, HaveMoved}
 use Rattle.gu_book.specs.TreeRows.{is_trade, is_live_trade}
 use Rattle.gu_book.specs.declared.found.Found.{Found}
 use Rattle.gu_book.specs.declared.plain.holdings.Holding.{Holding}
@@ -38,15 +38,11 @@ use Rattle.gu_book.proofs.Holdings.{asked, one_found}
 
 -- ---- sums
 
-abbrev lots_told : Option Holding → ℕ
-lots_told None = 0
-lots_told (Some h) = h.lots
-
 sum_or : (at : Key) (side : Side) (o : Option Holding) (hs : List Holding) → sum_by (counted_at at side) (cons_option o hs) ≡ taken_at at side o + sum_by (counted_at at side) hs
 sum_or at side None hs = omega arith
 sum_or at side (Some h) hs = sum_by-cons (counted_at at side) h hs
 
-lots_or : (o : Option Holding) (hs : List Holding) → sum_by (λ (h : Holding). h.lots) (cons_option o hs) ≡ lots_told o + sum_by (λ (h : Holding). h.lots) hs
+pub lots_or : (o : Option Holding) (hs : List Holding) → sum_by (λ (h : Holding). h.lots) (cons_option o hs) ≡ lots_told o + sum_by (λ (h : Holding). h.lots) hs
 lots_or None hs = omega arith
 lots_or (Some h) hs = sum_by-cons (λ (h : Holding). h.lots) h hs
 

@@ -54,7 +54,7 @@ use Rattle.gu_book.proofs.Sound.{node_push}
 use Rattle.gu_base.proofs.NodeNames.{made_of, node_called}
 use Rattle.gu_base.proofs.Passing.{at_node_none, claim_passes}
 use Rattle.gu_book.specs.Charging.{IsSmallCharge, AreFeesOf, IsCharged}
-use Rattle.gu_book.specs.Holdings.{traded_at, held_at, holding_of, held_above, taken_before, taken_by, added_by, counted_at, taken_at, SameLots, HaveMoved, HaveThere, IsReadyTaken, HasRoomBack, ArePositionsOf}
+use Rattle.gu_book.specs.Holdings.{traded_at, held_at, holding_of, held_above, taken_before, taken_by, added_by, counted_at, taken_at, SameLots, HaveMoved, HaveThere, HasRoomBack, ArePositionsOf}
 use Rattle.gu_book.specs.Limits.{AllWithinLimits}
 use Rattle.gu_book.specs.declared.plain.holdings.Holding.{Holding}
 use Rattle.gu_base.specs.declared.node.Deal.{Deal}
@@ -160,17 +160,20 @@ module _ (t : House) (l : List Record) (r : Record) (replayed : first_refused t 
       let y = All-contains (NamesThere others) others d before.grown.named (found_in (λ r. splits n r.command) others d e) n (ap (λ b. b || decides n d.command) is) in
       none_is_some (node_of others n) y.0 (unmade n own) y.1)
 
+  -- the others don't refuse it
+  pub lawful : refusal_of t others r.firm r.command ≡ None
+  lawful = (none_refused (refusal_of t others r.firm r.command) r.number None (sym (replay_on t [] others (r ∷ []) free) ∙ legal)).0
+
   counted : IsCounted t others r
   counted =
       let w : InOrder others = in_order t others free (rises_without 1 r.number l rises) in
-      let lawful = none_refused (refusal_of t others r.firm r.command) r.number None (sym (replay_on t [] others (r ∷ []) free) ∙ legal) in
       record {
         last = before;
         bound = w.bound;
         sound = w.sound;
         unmade = unmade;
         unsplit = unsplit;
-        next = next_from_accepted t others r (All-contains (λ (d : Record). 1 ≤ d.number) l r (rises_all 1 l rises) among) lawful.0;
+        next = next_from_accepted t others r (All-contains (λ (d : Record). 1 ≤ d.number) l r (rises_all 1 l rises) among) lawful;
         settled = (facts t others free).settled;
         stand = λ x e. let p = node_stands t others w.bound w.sound free x e in (p.place, p.is);
       }
@@ -328,10 +331,10 @@ module _ (t : House) (l : List Record) (r : Record) (replayed : first_refused t 
       let f = same at side in
       omega (arith, a, b, c, d, e, f)
 
-  pub room_back : length l ≤ 1000000 → AllWithinLimits l → (rows now : PositionRows) → ArePositionsOf l rows → SameLots rows now → (o : Option Holding) → o ≡ taken_by others r.command → IsReadyTaken now o
+  pub room_back : length l ≤ 1000000 → AllWithinLimits l → (rows now : PositionRows) → ArePositionsOf l rows → SameLots rows now → (o : Option Holding) → o ≡ taken_by others r.command
       → HasRoomBack now o (added_by r.firm r.command o)
-  room_back few all rows now are same None is ready = tt
-  room_back few all rows now are same (Some h) is ready =
+  room_back few all rows now are same None is = tt
+  room_back few all rows now are same (Some h) is =
       let place : Place = record { firm = h.key.firm; account = h.key.account } in
       let a = are.lots h.key h.side in
       let b = position_with place h.key.instrument h.side in
@@ -342,7 +345,7 @@ module _ (t : House) (l : List Record) (r : Record) (replayed : first_refused t 
       let g = ap (λ b. cond b h.lots 0) (is_own_key h.key h.side) in
       let fewer : length others ≤ 1000000 = omega (arith, without_within r.number l, few) in
       let i : length others * 1000000000 ≤ 1000000 * 1000000000 = mul-le-mul_right 1000000000 fewer in
-      record { ready = ready; fits = omega (arith, a, b, c, d, e, f, g, i) }
+      omega (arith, a, b, c, d, e, f, g, i)
 
   pub positions_without : (rows now new : PositionRows) → ArePositionsOf l rows → SameLots rows now → (o : Option Holding) → o ≡ taken_by others r.command → HaveMoved new now o (added_by r.firm r.command o)
       → ArePositionsOf others new

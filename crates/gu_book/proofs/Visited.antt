@@ -29,7 +29,7 @@ some_there : {X : Type 0} (o : Option X) (x : X) → o ≡ Some x → IsSome o
 some_there None x e = absurd (cc)
 some_there (Some y) x e = refl
 
-some_place : (P : EntryPart → Type 0) (o : Option EntryPart) → IsSomeAnd o P → (n : EntryPart) × (o ≡ Some n) × P n
+pub some_place : (P : EntryPart → Type 0) (o : Option EntryPart) → IsSomeAnd o P → (n : EntryPart) × (o ≡ Some n) × P n
 some_place P None h = absurd h
 some_place P (Some n) h = (n, refl, h)
 
@@ -52,7 +52,7 @@ place_some k (Initiate _) h = absurd (cc)
 place_some k (Decline _) h = absurd (cc)
 place_some k (Reverse _) h = absurd (cc)
 
-reverse_met : (t : House) (h : List Entry) (e : Entry) (n k : ℕ) → answer_to t h (call_of e) ≡ Accepted n e.status → e.command ≡ Reverse k → IsSome (place_in (live h) k)
+pub reverse_met : (t : House) (h : List Entry) (e : Entry) (n k : ℕ) → answer_to t h (call_of e) ≡ Accepted n e.status → e.command ≡ Reverse k → IsSome (place_in (live h) k)
 reverse_met t h e n k ok same =
     let u = undone t h e n k ok same in
     subst (λ (o : Option Record). IsSome (option_and_then (λ (r : Record). named_place r.number r.command) o)) (sym u.1.found) (place_some u.0.number u.0.command u.1.change)

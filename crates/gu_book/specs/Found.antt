@@ -1,18 +1,23 @@
 -- What the trees say of a node.
-use Rattle.std.specs.Prelude.{◌≡◌, ℕ, List, [], Option, Some, None, option_map}
+use Rattle.std.specs.Prelude.{◌≡◌, ℕ, List, [], Option, Some, None, IsSomeAnd, option_map}
 use Rattle.gu_base.specs.Numbers.{EntryPart}
 use Rattle.gu_base.specs.House.{House}
 use Rattle.gu_base.specs.History.{RisesFrom}
 use Rattle.gu_base.specs.Nodes.{node_of, split_of, decision_of}
 use Rattle.gu_base.specs.Places.{place_of, depth_of, root_of}
 use Rattle.gu_base.specs.Rows.{state_of}
-use Rattle.gu_base.specs.Standing.{first_refused}
+use Rattle.gu_base.specs.Standing.{IsLegal, first_refused, standing_on}
+use Rattle.gu_base.specs.declared.command.Command.{Command}
+use Rattle.gu_base.specs.declared.command.Command.TheVariants.{Reverse}
 use Rattle.gu_base.specs.declared.entry.Record.{Record}
 use Rattle.gu_base.specs.declared.node.Node.{Node}
-use Rattle.gu_tree.specs.Grove.{Grove, IsPlace}
+use Rattle.gu_tree.specs.Grove.{Grove, IsPlace, place_of as place_kept}
+use Rattle.gu_tree.specs.ShownAll.{place_in}
 use Rattle.gu_book.specs.Filed.{IsFiled}
 use Rattle.gu_book.specs.declared.found.Found.{Found}
 use Rattle.gu_book.specs.declared.found.Named.{Named}
+use Rattle.gu_book.specs.declared.found.Sought.{Sought}
+use Rattle.gu_book.specs.declared.found.Undone.{Undone}
 
 -- the trees are those of these changes, none of which a house refuses
 pub record AreTreesOf (l : List Record) (g : Grove) : Type 0 where
@@ -56,3 +61,33 @@ abbrev pub IsFoundThere : Grove → Option EntryPart → Option Named → List �
 IsFoundThere g None o p = Unit {0}
 IsFoundThere g (Some n) None p = ⊥
 IsFoundThere g (Some n) (Some m) p = IsPlace g n m.found.trade p
+
+-- of the live change of this number: what was found of the node that it made or named, to which the path leads in whatever trees these changes have,
+-- and what stands on the change
+pub record IsUndoneAs (l : List Record) (k : ℕ) (u : Undone) (p : List ℕ) : Type 0 where
+  pub name : EntryPart
+  pub place : place_in l k ≡ Some name
+  pub found : IsFoundIn l name (Some u.found)
+  pub there : (g : Grove) → IsFiled l g → IsPlace g name u.found.trade p
+  pub stands : (t : House) → IsLegal t l → u.standing ≡ standing_on t l k
+
+-- if there is one
+abbrev pub IsUndoneBy : List Record → ℕ → Option Undone → List ℕ → Type 0
+IsUndoneBy l k None p = place_in l k ≡ None
+IsUndoneBy l k (Some u) p = IsUndoneAs l k u p
+
+-- of the change that a Reverse names
+abbrev pub IsUndoneIn : List Record → Command → Option Undone → List ℕ → Type 0
+IsUndoneIn l (Reverse k) o p = IsUndoneBy l k o p
+IsUndoneIn l c o p = o ≡ None
+
+-- something was found, and these trees have the node of the change of this number where the path leads
+abbrev pub IsUndoneThere : Grove → ℕ → Option Undone → List ℕ → Type 0
+IsUndoneThere g k None p = ⊥
+IsUndoneThere g k (Some u) p = IsSomeAnd (place_kept g k) (λ n. IsPlace g n u.found.trade p)
+
+-- nothing was looked up yet
+pub record IsNothing (s : Sought) : Type 0 where
+  pub named : s.named ≡ None
+  pub undone : s.undone ≡ None
+  pub nodes : s.nodes ≡ 0

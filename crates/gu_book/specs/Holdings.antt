@@ -64,6 +64,11 @@ part_away whole by p =
     then option_and_then (λ account. if bytes_eq account whole.key.account then None else Some (holding_away whole by account p.lots)) p.account
     else None
 
+-- the lots that are held, if any are
+abbrev pub lots_told : Option Holding → ℕ
+lots_told None = 0
+lots_told (Some h) = h.lots
+
 -- what a change puts into accounts: a Trade its lots, a Split those of its parts, a Claim what it took, in its own account
 abbrev pub added_by : List ℕ → Command → Option Holding → List Holding
 added_by by (Trade firm account instrument side lots) taken =
@@ -72,6 +77,21 @@ added_by by (Split _ parts) (Some whole) = filter_map (part_holding whole by) pa
 added_by by (Claim _ account) (Some whole) =
     record { key = record { firm = by; account = account; instrument = whole.key.instrument }; side = whole.side; lots = whole.lots } ∷ []
 added_by by _ _ = []
+
+-- what goes back of the lots that a change took: of a Split's those of the parts that went to other accounts
+abbrev pub goes_back : List ℕ → Command → Option Holding → Option Holding
+goes_back by (Split _ parts) (Some whole) = Some (record { key = whole.key; side = whole.side; lots = sum_by (λ h. h.lots) (filter_map (part_away whole by) parts) })
+goes_back by c taken = taken
+
+-- and where it has been meanwhile, as what a Trade brought has
+abbrev pub comes_from : List ℕ → Command → Option Holding → List Holding
+comes_from by (Split _ parts) (Some back) = filter_map (part_away back by) parts
+comes_from by c back = added_by by c back
+
+-- the lots of the parts of a Split are few enough to be counted
+abbrev pub HasFewLots : Command → Type 0
+HasFewLots (Split _ parts) = sum_by (λ p. p.lots) parts < 2 ^ 64
+HasFewLots _ = Unit {0}
 
 -- what a holding counts in an account, of one instrument and on one side
 abbrev pub counted_at : Key → Side → Holding → ℕ
@@ -103,19 +123,15 @@ HaveMoved old new taken added = (at : Key) (side : Side) → lots_in new at side
 abbrev pub HaveThere : PositionRows → List Holding → Type 0
 HaveThere rows hs = (at : Key) (side : Side) → sum_by (counted_at at side) hs ≤ lots_in rows at side
 
--- the row of what was taken is there, if something was
-abbrev pub IsReadyTaken : PositionRows → Option Holding → Type 0
-IsReadyTaken rows None = Unit {0}
-IsReadyTaken rows (Some h) = IsReady rows h.key
+-- the row to which lots go back is there, if some do
+abbrev pub IsReadyBack : PositionRows → Option Holding → Type 0
+IsReadyBack rows None = Unit {0}
+IsReadyBack rows (Some h) = 0 < h.lots → IsReady rows h.key
 
--- it is, and has room for it once the holdings are gone
-pub record HasPlace (rows : PositionRows) (h : Holding) (hs : List Holding) : Type 0 where
-  pub ready : IsReady rows h.key
-  pub fits : lots_in rows h.key h.side + h.lots < 2 ^ 64 + sum_by (counted_at h.key h.side) hs
-
+-- and has room for them once the holdings are gone
 abbrev pub HasRoomBack : PositionRows → Option Holding → List Holding → Type 0
 HasRoomBack rows None hs = Unit {0}
-HasRoomBack rows (Some h) hs = HasPlace rows h hs
+HasRoomBack rows (Some h) hs = lots_in rows h.key h.side + h.lots < 2 ^ 64 + sum_by (counted_at h.key h.side) hs
 
 -- the rows are the positions of the list
 pub record ArePositionsOf (l : List Record) (rows : PositionRows) : Type 0 where

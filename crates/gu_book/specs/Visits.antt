@@ -1,7 +1,7 @@
 -- How many nodes of the trees a call visits.
 -- A visit is a node that the call looks at, makes or takes away, counted once for the call: the nodes on the ways from their roots that it
 -- hands to the trees, and the parts that it makes, takes away or asks after.
-use Rattle.std.specs.Prelude.{◌≡◌, ◌≤◌, ◌+◌, ℕ, Bool, true, false, if◌then◌else◌, List, length, Option, option_map, unwrap_or, IsSome, IsSomeAnd, Result, Ok, Err}
+use Rattle.std.specs.Prelude.{◌≡◌, ◌≤◌, ◌<◌, ◌+◌, ◌^◌, ℕ, Bool, true, false, if◌then◌else◌, List, length, Option, option_map, unwrap_or, IsSome, IsSomeAnd, Result, Ok, Err}
 use Rattle.gu_base.specs.Numbers.{EntryPart}
 use Rattle.gu_base.specs.Nodes.{node_of}
 use Rattle.gu_base.specs.Places.{depth_of}
@@ -65,3 +65,9 @@ IsMet l c = IsSomeAnd (named_node c) (λ n. IsSome (node_of l n))
 abbrev pub nodes_made : Command → ℕ
 nodes_made (Trade _ _ _ _ _) = 1
 nodes_made c = parts_in c
+
+-- so many nodes were looked at for what a command names
+pub record AreSeen (l : List Record) (c : Command) (nodes : ℕ) : Type 0 where
+  pub most : nodes ≤ depth_meant l c + parts_named l c + 1
+  pub least : IsMet l c → depth_meant l c + parts_named l c + 1 ≤ nodes
+  pub fits : (made : ℕ) → made ≡ nodes_made c → made < 2 ^ 63 → nodes + made < 2 ^ 64

@@ -18,13 +18,13 @@ ghost use Rattle.gu_tree.specs.Shown.{shown, named_node};
 ghost use Rattle.gu_book.specs.Front.{may_lack};
 ghost use Rattle.gu_book.specs.Ids.{NoIdTwice};
 ghost use Rattle.gu_book.specs.Kinds.{is_claim, is_return};
-ghost use Rattle.gu_book.specs.Found.{IsNamedIn, LiesThere};
+ghost use Rattle.gu_book.specs.Found.{IsNamedIn, IsNothing, IsUndoneIn, LiesThere};
 ghost use Rattle.gu_book.specs.Live.{entry_of_change};
 ghost use Rattle.gu_book.specs.Seen.{stored};
 ghost use Rattle.gu_book.specs.TreeRows.{is_live_trade, is_trade, tree_rows};
-ghost use Rattle.gu_book.specs.Visits.{AreVisits, IsMet, depth_meant, parts_named, nodes_made, is_kept};
+ghost use Rattle.gu_book.specs.Visits.{AreSeen, AreVisits, is_kept};
 
-use crate::found::{Named, Sought, seek};
+use crate::found::{Sought, seek};
 use crate::index::Index;
 use crate::live::{Change, Live};
 use crate::plain::calls::front_answer;
@@ -36,7 +36,6 @@ use gu_base::{
     Refusal, State,
 };
 use gu_consent::Consents;
-use gu_depend::first_standing;
 use gu_fees::Fees;
 use gu_parties::House;
 use gu_positions::{Key, Positions};
@@ -134,9 +133,8 @@ impl Book {
     {
         let mut sought = Sought::nothing();
         self.seek(command, &mut sought);
-        let answer = self.answer(by, id, command, &sought.named);
-        let seen = self.nodes_seen(command, &sought.named, &answer);
-        self.note(seen);
+        let answer = self.answer(by, id, command, &sought);
+        self.note(sought.nodes);
         match answer {
             Answer::Accepted { number, status } => {
                 let made = Change {
@@ -147,7 +145,7 @@ impl Book {
                     command,
                 };
                 self.carry_out(alloc, &made, &sought)?;
-                self.note(seen + visits::nodes_made(command));
+                self.note(sought.nodes + visits::nodes_made(command));
                 Ok(answer)
             }
             Answer::Repeated { .. } | Answer::Refused(_) => Ok(answer),
@@ -169,47 +167,29 @@ impl Book {
         self.visits = visits;
     }
 
-    /// Puts the node that a command names in, if it names one.
+    /// Puts in what a command names, so that the processor fetches it before it is asked whether the id is known.
     fn seek(&self, command: &Command, sought: &mut Sought)
-        requires { sought.old.named ≡ None }
+        requires { IsNothing sought.old }
         ensures named { IsNamedIn (live self.now.history) (named_node command.now) sought.new.named }
+        ensures undone { IsUndoneIn (live self.now.history) command.now sought.new.undone sought.new.path.items }
         ensures there { LiesThere (live self.now.history) sought.new.named sought.new.path.items }
+        ensures seen { AreSeen (live self.now.history) command.now sought.new.nodes }
     {
         let changes = Live::of(self.entries.as_slice(), &self.index.reversals);
         seek(&changes, &self.trees, command, sought);
     }
 
-    /// How many nodes were looked at for this answer.
-    fn nodes_seen(&self, command: &Command, named: &Option<Named>, answer: &Answer) -> u64
-        requires { IsNamedIn (live self.now.history) (named_node command.now) named.now }
-        ensures most { result ≤ depth_meant (live self.now.history) command.now + parts_named (live self.now.history) command.now + 1 }
-        ensures fits { (made : ℕ) → made ≡ nodes_made command.now → made < 2 ^ 63 → result + made < 2 ^ 64 }
-        ensures least { is_accepted answer.now ≡ true → IsMet (live self.now.history) command.now → depth_meant (live self.now.history) command.now + parts_named (live self.now.history) command.now + 1 ≤ result }
-    {
-        let changes = Live::of(self.entries.as_slice(), &self.index.reversals);
-        if let Command::Reverse { entry } = command {
-            return if visits::was_asked(answer) {
-                visits::nodes_asked(&changes, &self.trees, *entry)
-            } else {
-                0
-            };
-        }
-        match named {
-            Some(x) => x.found.depth as u64 + 1,
-            None => 0,
-        }
-    }
-
-    /// The answer to a call whose command names this node. Keeps nothing and takes no memory.
-    fn answer(&self, by: &FirmId, id: &AllocId, command: &Command, named: &Option<Named>) -> Answer
-        requires { IsNamedIn (live self.now.history) (named_node command.now) named.now }
+    /// The answer to a call of whose command this is known. Keeps nothing and takes no memory.
+    fn answer(&self, by: &FirmId, id: &AllocId, command: &Command, sought: &Sought) -> Answer
+        requires named { IsNamedIn (live self.now.history) (named_node command.now) sought.now.named }
+        requires undone { IsUndoneIn (live self.now.history) command.now sought.now.undone sought.now.path.items }
         ensures { result ≡ answer_to self.now.house self.now.history (record { firm = by.now; id = id.now; command = command.now }) }
     {
         let at = Standing {
             house: &self.house,
             entries: &self.entries,
             changes: Live::of(self.entries.as_slice(), &self.index.reversals),
-            named,
+            named: &sought.named,
             fees: &self.fees,
             index: &self.index,
             consents: &self.consents,
@@ -218,10 +198,10 @@ impl Book {
         let Answer::Accepted { .. } = answer else {
             return answer;
         };
-        let Command::Reverse { entry } = command else {
+        let Some(undone) = &sought.undone else {
             return answer;
         };
-        match first_standing(&self.trees, *entry) {
+        match undone.standing {
             Some(other) => Answer::Refused(Refusal::StandsOn(other)),
             None => answer,
         }
@@ -230,6 +210,7 @@ impl Book {
     /// Keeps an accepted call: each kind in a function of its own, so that each runs through no more code and no larger a frame than it needs.
     fn carry_out(&mut self, alloc: Global, made: &Change<'_>, sought: &Sought) -> Result<(), Memory>
         requires named { IsNamedIn (live self.old.history) (named_node made.now.command.now) sought.now.named }
+        requires undone { IsUndoneIn (live self.old.history) made.now.command.now sought.now.undone sought.now.path.items }
         requires there { LiesThere (live self.old.history) sought.now.named sought.now.path.items }
         requires accepted { answer_to self.old.house self.old.history (call_of (entry_of_change made.now)) ≡ Accepted made.now.number made.now.status }
         ensures kept { OnOk result (self.new ≡ record self.old { history = self.old.history ++ entry_of_change made.now ∷ [] }) }
@@ -241,7 +222,7 @@ impl Book {
             Command::Claim { .. } => self.keep_claim(made, sought),
             Command::Refuse { .. } | Command::Cancel { .. } => self.keep_return(made, sought),
             Command::Initiate { .. } | Command::Decline { .. } => self.keep_consenting(alloc, made),
-            Command::Reverse { entry } => self.keep_reversal(made, *entry),
+            Command::Reverse { entry } => self.keep_reversal(made, *entry, sought),
         }
     }
 
@@ -421,23 +402,32 @@ impl Book {
     /// Puts an accepted Reverse at the end of the history, takes its change back at its node, and moves back what the change moved and
     /// charged. All growths come before anything changes.
     #[inline(never)]
-    fn keep_reversal(&mut self, made: &Change<'_>, change: Number) -> Result<(), Memory>
+    fn keep_reversal(
+        &mut self,
+        made: &Change<'_>,
+        change: Number,
+        sought: &Sought,
+    ) -> Result<(), Memory>
         requires names { made.now.command.now ≡ Reverse change }
+        requires undone { IsUndoneIn (live self.old.history) made.now.command.now sought.now.undone sought.now.path.items }
         requires accepted { answer_to self.old.house self.old.history (call_of (entry_of_change made.now)) ≡ Accepted made.now.number made.now.status }
         ensures kept { OnOk result (self.new ≡ record self.old { history = self.old.history ++ entry_of_change made.now ∷ [] }) }
         ensures unchanged { OnErr result (self.new ≡ self.old) }
     {
         make_room(&mut self.entries)?;
         let changes = Live::of(self.entries.as_slice(), &self.index.reversals);
-        let undone = &self.entries[change.get() as usize - 1];
-        let charge = charges::charge_of(&self.house, &changes, &undone.command);
-        let taken = holdings::taken_before(&changes, &self.trees, &undone.command);
-        holdings::ready_taken(&mut self.positions, &taken)?;
+        let entry = &self.entries[change.get() as usize - 1];
+        let Some(undone) = &sought.undone else {
+            unreachable!()
+        };
+        let charge = charges::charge_of(&self.house, &changes, &entry.command);
+        let back = holdings::goes_back(&changes, &self.trees, entry, &undone.found);
+        holdings::ready_back(&mut self.positions, &back)?;
         self.index.ids.ready()?;
         self.index.reversals.put(change, made.number)?;
-        grove::undo(&mut self.trees, change, undone);
+        grove::undo(&mut self.trees, change, entry, sought);
         charges::take_back(&mut self.fees, &charge);
-        holdings::move_back(&mut self.positions, &undone.firm, &undone.command, &taken);
+        holdings::move_back(&mut self.positions, entry, &back);
         self.consents.clear(change);
         self.index.ids.add(made.firm, made.id);
         push(&mut self.entries, made, Command::Reverse { entry: change });

@@ -1,18 +1,24 @@
 //! What the trees say of a node, found by its name.
-ghost use Rattle.std.specs.Prelude.{◌≡◌, List, None, Some};
+ghost use Rattle.std.specs.Prelude.{◌≡◌, ◌≤◌, ◌<◌, ◌+◌, ◌^◌, List, length, None, Some, IsSome};
 ghost use Rattle.gu_base.specs.Numbers.{EntryPart};
-ghost use Rattle.gu_base.specs.Nodes.{is_offered};
+ghost use Rattle.gu_base.specs.Nodes.{is_offered, node_of};
+ghost use Rattle.gu_base.specs.Places.{depth_of};
 ghost use Rattle.gu_base.specs.Refusals.{owns};
+ghost use Rattle.gu_base.specs.declared.command.Command.TheVariants.{Reverse};
 ghost use Rattle.gu_base.specs.declared.entry.Record.{Record as RecordData};
 ghost use Rattle.gu_base.specs.declared.node.Node.{Node as NodeData};
-ghost use Rattle.gu_book.specs.Found.{AreTreesOf, IsFoundAs, IsFoundIn, IsNamedBy, IsNamedIn, LiesThere};
+ghost use Rattle.gu_book.specs.Found.{AreTreesOf, IsFoundAs, IsFoundIn, IsNamedBy, IsNamedIn, IsNothing, IsUndoneBy, IsUndoneIn, LiesThere};
+ghost use Rattle.gu_book.specs.Visits.{AreSeen, depth_meant, parts_named};
 ghost use Rattle.gu_tree.specs.Grove.{Grove, HasTree, IsPlace};
 ghost use Rattle.gu_tree.specs.Paths.{node_at};
 ghost use Rattle.gu_tree.specs.Shown.{named_node};
+ghost use Rattle.gu_tree.specs.ShownAll.{place_in};
 
 use crate::live::Live;
 use crate::plain::nodes::node_of;
+use crate::visits;
 use gu_base::{Command, FirmId, Node, NodeName, Number, State};
+use gu_depend::first_standing_at;
 use gu_tree::{Head, Path, Spot, Trees};
 use std::alloc::Global;
 
@@ -58,6 +64,7 @@ fn found_at(spot: &Spot<'_, Global>, path: &Path) -> Found
     ensures found { (l : List RecordData) (n : EntryPart) (g : Grove) → AreTreesOf l g → IsPlace g n spot.now.trade path.now.items
         → HasTree g spot.now.trade (λ t. node_at path.now.items t ≡ Some spot.now.node.now) → IsFoundIn l n (Some result) }
     ensures trade { result.trade ≡ spot.now.trade }
+    ensures deep { result.depth ≡ length path.now.items }
 {
     let split = match spot.node.parted() {
         Some(parted) => Some(parted.0),
@@ -89,22 +96,38 @@ pub(crate) struct Named {
     pub(crate) found: Found,
 }
 
-/// The node that a command names, if it names one that a live change makes, and the way to it, so that nothing climbs there again.
+/// What the trees say of a live change that is to be undone.
+#[derive(Clone, Copy, Debug)]
+pub(crate) struct Undone {
+    /// The node that it made or named.
+    pub(crate) found: Found,
+    /// The first change that stands on it.
+    pub(crate) standing: Option<Number>,
+}
+
+/// What the trees say of what a command names, so that nothing is looked up and climbed to again.
 #[derive(Drop)]
 pub(crate) struct Sought {
+    /// The node that it names, if a live change makes it.
     pub(crate) named: Option<Named>,
-    /// From the root of the trade in whose tree the node lies; empty where there is no node.
+    /// The change that a Reverse names, if it is live.
+    pub(crate) undone: Option<Undone>,
+    /// From the root of the trade in whose tree the node lies; of no use where there is no node.
     pub(crate) path: Path,
+    /// How many nodes were looked at: those on the way, and the parts of the Split that a Reverse names.
+    pub(crate) nodes: u64,
 }
 
 impl Sought {
-    /// No node.
+    /// Nothing.
     pub(crate) fn nothing() -> Sought
-        ensures { result.named ≡ None }
+        ensures { IsNothing result }
     {
         Sought {
             named: None,
+            undone: None,
             path: Path::new(),
+            nodes: 0,
         }
     }
 }
@@ -112,9 +135,13 @@ impl Sought {
 /// Puts the node of this name in. One that no live change makes isn't looked for in the trees.
 fn seek_node(changes: &Live<'_>, trees: &Trees<Global>, name: NodeName, sought: &mut Sought)
     requires trees { AreTreesOf changes.now trees.now }
-    requires nothing { sought.old.named ≡ None }
+    requires nothing { IsNothing sought.old }
     ensures named { IsNamedBy changes.now name sought.new.named }
     ensures there { LiesThere changes.now sought.new.named sought.new.path.items }
+    ensures undone { sought.new.undone ≡ None }
+    ensures few { sought.new.nodes ≤ 2 ^ 32 }
+    ensures most { sought.new.nodes ≤ depth_of changes.now name + 1 }
+    ensures least { IsSome (node_of changes.now name) → depth_of changes.now name + 1 ≤ sought.new.nodes }
 {
     let Some(node) = node_of(changes, &name) else {
         return;
@@ -123,10 +150,35 @@ fn seek_node(changes: &Live<'_>, trees: &Trees<Global>, name: NodeName, sought: 
         unreachable!()
     };
     let found = found_at(&spot, &sought.path);
+    sought.nodes = found.depth as u64 + 1;
     sought.named = Some(Named { node, found });
 }
 
-/// Puts the node that a command names in, if it names one.
+/// Puts the live change of this number in.
+fn seek_change(changes: &Live<'_>, trees: &Trees<Global>, number: Number, sought: &mut Sought)
+    requires trees { AreTreesOf changes.now trees.now }
+    requires nothing { IsNothing sought.old }
+    ensures undone { IsUndoneBy changes.now number sought.new.undone sought.new.path.items }
+    ensures named { sought.new.named ≡ None }
+    ensures few { sought.new.nodes < 2 ^ 64 }
+    ensures most { sought.new.nodes ≤ depth_meant changes.now (Reverse number) + parts_named changes.now (Reverse number) + 1 }
+    ensures least { IsSome (place_in changes.now number) → depth_meant changes.now (Reverse number) + parts_named changes.now (Reverse number) + 1 ≤ sought.new.nodes }
+{
+    let Some(made) = changes.change(number) else {
+        return;
+    };
+    let Some(spot) = trees.named(number, &mut sought.path) else {
+        return;
+    };
+    let found = found_at(&spot, &sought.path);
+    sought.nodes = found.depth as u64 + 1 + visits::parts_in(made.command);
+    sought.undone = Some(Undone {
+        found,
+        standing: first_standing_at(&spot, number),
+    });
+}
+
+/// Puts in what a command names.
 pub(crate) fn seek(
     changes: &Live<'_>,
     trees: &Trees<Global>,
@@ -134,15 +186,18 @@ pub(crate) fn seek(
     sought: &mut Sought,
 )
     requires trees { AreTreesOf changes.now trees.now }
-    requires nothing { sought.old.named ≡ None }
+    requires nothing { IsNothing sought.old }
     ensures named { IsNamedIn changes.now (named_node command.now) sought.new.named }
+    ensures undone { IsUndoneIn changes.now command.now sought.new.undone sought.new.path.items }
     ensures there { LiesThere changes.now sought.new.named sought.new.path.items }
+    ensures seen { AreSeen changes.now command.now sought.new.nodes }
 {
     match command {
         Command::Split { node, .. } => seek_node(changes, trees, *node, sought),
         Command::Claim { node, .. } => seek_node(changes, trees, *node, sought),
         Command::Refuse { node } => seek_node(changes, trees, *node, sought),
         Command::Cancel { node } => seek_node(changes, trees, *node, sought),
+        Command::Reverse { entry } => seek_change(changes, trees, *entry, sought),
         _ => {}
     }
 }

@@ -7,7 +7,7 @@ ghost use Rattle.gu_tree.specs.Grove.{tree_of, last_place, IsSameGrove};
 ghost use Rattle.gu_tree.specs.Rose.{rows};
 ghost use Rattle.gu_tree.specs.Shown.{GivesBack, IsTradeOf, named_node};
 ghost use Rattle.gu_book.specs.Filed.{IsDue, Follows, MayGo, IsGone};
-ghost use Rattle.gu_book.specs.Found.{IsFoundThere};
+ghost use Rattle.gu_book.specs.Found.{IsFoundThere, IsUndoneThere};
 ghost use Rattle.gu_book.specs.Live.{record_of};
 
 use crate::found::Sought;
@@ -96,20 +96,22 @@ pub(crate) fn give_back(trees: &mut Trees<Global>, made: &Change<'_>, sought: &S
 
 /// Takes the change of this number back, at the node that it made or named; nothing may stand on it. The trees are then those of
 /// the other changes. Takes no memory.
-pub(crate) fn undo(trees: &mut Trees<Global>, number: Number, undone: &Entry)
-    requires may_go { MayGo (numbered_as number undone.now) trees.old }
-    requires change { is_change undone.now.command ≡ true }
-    ensures gone { IsGone (numbered_as number undone.now) trees.old trees.new }
+pub(crate) fn undo(trees: &mut Trees<Global>, number: Number, entry: &Entry, sought: &Sought)
+    requires may_go { MayGo (numbered_as number entry.now) trees.old }
+    requires change { is_change entry.now.command ≡ true }
+    requires there { IsUndoneThere trees.old number sought.now.undone sought.now.path.items }
+    ensures gone { IsGone (numbered_as number entry.now) trees.old trees.new }
     ensures last { last_place trees.new ≡ last_place trees.old }
 {
-    let Some(spot) = trees.place(number) else {
+    let Some(undone) = &sought.undone else {
         unreachable!()
     };
-    match &undone.command {
+    let trade = undone.found.trade;
+    match &entry.command {
         Command::Trade { .. } => trees.uproot(number),
-        Command::Split { .. } => trees.unsplit(spot.0, &spot.1),
-        Command::Claim { .. } => trees.unclaim(spot.0, &spot.1),
-        Command::Refuse { .. } | Command::Cancel { .. } => trees.offer_again(spot.0, &spot.1),
+        Command::Split { .. } => trees.unsplit(trade, &sought.path),
+        Command::Claim { .. } => trees.unclaim(trade, &sought.path),
+        Command::Refuse { .. } | Command::Cancel { .. } => trees.offer_again(trade, &sought.path),
         _ => unreachable!(),
     }
 }

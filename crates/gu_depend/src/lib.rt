@@ -1,7 +1,7 @@
 //! Which changes stand on which, by what they name alone.
 //!
 //! `first_standing` reads off the trees what stands on a change, and takes no memory: the first change that would be refused
-//! without it, for every legal list that the trees show. `touched` says what a change made or decided.
+//! without it, for every legal list that the trees show; `first_standing_at` the same at a node that was looked up. `touched` says what a change made or decided.
 //!
 //! The laws here speak of lists of changes and of nothing else; calling one gives its clauses as facts. They hold for
 //! every legal list whose numbers are distinct, in whatever order it stands; only where "first" becomes "least" the
@@ -24,5 +24,5 @@ pub mod laws;
 mod standing;
 mod touch;
 
-pub use standing::{first_standing, touched};
+pub use standing::{first_standing, first_standing_at, touched};
 pub use touch::Touched;

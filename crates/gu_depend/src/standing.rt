@@ -1,16 +1,18 @@
 //! What a change touches, and what stands on it there.
-ghost use Rattle.std.specs.Prelude.{◌≡◌, ◌↔◌, List, None, option_map};
+ghost use Rattle.std.specs.Prelude.{◌≡◌, ◌↔◌, ℕ, List, None, Some, IsSomeAnd, option_map};
 ghost use Rattle.gu_base.specs.History.{RisesFrom};
 ghost use Rattle.gu_base.specs.House.{House};
 ghost use Rattle.gu_base.specs.Standing.{IsLegal, standing_on, without};
 ghost use Rattle.gu_base.specs.declared.entry.Record.{Record};
 ghost use Rattle.gu_tree.specs.ShownAll.{ShowsAll};
+ghost use Rattle.gu_tree.specs.Grove.{Grove, HasTree, IsPlace, place_of};
+ghost use Rattle.gu_tree.specs.Paths.{node_at};
 ghost use Rattle.gu_tree.specs.Rose.{split_of_node};
 ghost use Rattle.gu_depend.specs.Touch.{Touches, is_trade_or_decision};
 
 use crate::touch::Touched;
 use gu_base::{Command, Number};
-use gu_tree::{Node, Path, Trees};
+use gu_tree::{Node, Path, Spot, Trees};
 use std::alloc::Allocator;
 
 /// What the command of this number makes or decides where it is accepted. Takes no memory.
@@ -40,6 +42,14 @@ pub fn first_standing<A: Allocator + Clone>(trees: &Trees<A>, k: Number) -> Opti
     let Some(spot) = trees.named(k, &mut path) else {
         return None;
     };
+    first_standing_at(&spot, k)
+}
+
+/// The same, where the node that the change made or named was looked up already: nothing climbs there again.
+pub fn first_standing_at<A: Allocator>(spot: &Spot<'_, A>, k: Number) -> Option<Number>
+    ensures { (t : House) (l : List Record) (g : Grove) (p : List ℕ) → RisesFrom 0 l → IsLegal t l → ShowsAll l g
+        → IsSomeAnd (place_of g k) (λ n. IsPlace g n spot.now.trade p) → HasTree g spot.now.trade (λ v. node_at p v ≡ Some spot.now.node.now) → result ≡ standing_on t l k }
+{
     if is_trade_or_decision(k, spot.trade, spot.node.head().decision) {
         split_of(spot.node)
     } else {

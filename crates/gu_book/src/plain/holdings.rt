@@ -2,18 +2,19 @@
 ghost use Rattle.std.specs.Prelude.{◌≡◌, ◌≤◌, ◌<◌, ◌+◌, ◌^◌, ◌==◌, [], ◌∷◌, length, take, find, filter_map, sum_by, Some, None, option_and_then, option_map, IfSome, IsSome, IfOk, OnOk, OnErr};
 ghost use Rattle.std.specs.List.{cons_option};
 ghost use Rattle.gu_base.specs.Nodes.{deal_in, node_of};
-ghost use Rattle.gu_base.specs.Limits.{most_lots};
-ghost use Rattle.gu_book.specs.Found.{AreTreesOf, IsFoundAs, IsNamedBy, IsNamedIn};
-ghost use Rattle.gu_book.specs.Holdings.{held_at, holding_of, held_above, taken_by, taken_before, part_holding, holding_away, part_away, added_by, HasTaken, HaveRoom, SameLots, HaveMoved, HaveThere, IsReadyTaken, HasRoomBack};
-ghost use Rattle.gu_book.specs.Limits.{AllWithinLimits};
+ghost use Rattle.gu_base.specs.Numbers.{EntryPart};
+ghost use Rattle.gu_book.specs.Found.{AreTreesOf, IsFoundAs, IsFoundIn};
+ghost use Rattle.gu_book.specs.Holdings.{held_at, holding_of, held_above, taken_before, holding_away, part_away, lots_told, goes_back, comes_from, HasFewLots, HaveRoom, SameLots, HaveMoved, HaveThere, IsReadyBack, HasRoomBack};
 ghost use Rattle.gu_positions.specs.Rows.{IsReady, lots_in};
 ghost use Rattle.gu_tree.specs.Shown.{named_node};
 ghost use Rattle.gu_positions.specs.declared.positions.Key.{Key as KeyData};
 
-use crate::found::{Named, find};
+use crate::found::{Found, Named, find};
 use crate::live::Live;
 use crate::plain::nodes::parent_of;
-use gu_base::{AccountId, Command, Deal, FirmId, Memory, NodeName, Number, Part, Place, Side};
+use gu_base::{
+    AccountId, Command, Deal, Entry, FirmId, Memory, NodeName, Number, Part, Place, Side,
+};
 use gu_positions::{Key, Positions};
 use gu_tree::Trees;
 use std::alloc::{AllocError, Global};
@@ -76,33 +77,28 @@ pub(crate) fn whole_of(changes: &Live<'_>, named: &Named) -> Holding
     }
 }
 
-/// The lots of the node of this name, where it stands.
-fn holding_named(changes: &Live<'_>, trees: &Trees<Global>, name: NodeName) -> Option<Holding>
-    requires within { AllWithinLimits changes.now }
-    requires trees { AreTreesOf changes.now trees.now }
-    ensures value { result ≡ option_and_then (holding_of changes.now) (node_of changes.now name) }
-    ensures lots { IfSome result (λ h. h.lots ≤ most_lots) }
+/// The lots of a node that was found, where it stands.
+fn holding_found(changes: &Live<'_>, found: &Found) -> Option<Holding>
+    ensures { (n : EntryPart) → IsFoundIn changes.now n (Some found.now) → result ≡ option_and_then (holding_of changes.now) (node_of changes.now n) }
 {
-    match find(trees, name) {
-        None => None,
-        Some(found) => held_at(
-            &found.head.place,
-            &traded_under(changes, found.trade),
-            found.head.lots,
-        ),
-    }
+    held_at(
+        &found.head.place,
+        &traded_under(changes, found.trade),
+        found.head.lots,
+    )
 }
 
-/// The lots of the node of this name, with the node above it.
-fn holding_above(changes: &Live<'_>, trees: &Trees<Global>, name: NodeName) -> Option<Holding>
-    requires within { AllWithinLimits changes.now }
+/// The lots of the node of this name, which was found, with the node above it.
+fn holding_above(
+    changes: &Live<'_>,
+    trees: &Trees<Global>,
+    name: NodeName,
+    found: &Found,
+) -> Option<Holding>
     requires trees { AreTreesOf changes.now trees.now }
-    ensures value { result ≡ option_and_then (held_above changes.now) (node_of changes.now name) }
-    ensures lots { IfSome result (λ h. h.lots ≤ most_lots) }
+    requires found { IsFoundIn changes.now name (Some found.now) }
+    ensures { result ≡ option_and_then (held_above changes.now) (node_of changes.now name) }
 {
-    let Some(node) = find(trees, name) else {
-        return None;
-    };
     let Some(parent) = parent_of(changes, &name) else {
         return None;
     };
@@ -110,53 +106,9 @@ fn holding_above(changes: &Live<'_>, trees: &Trees<Global>, name: NodeName) -> O
         None => None,
         Some(above) => held_at(
             &above.head.place,
-            &traded_under(changes, node.trade),
-            node.head.lots,
+            &traded_under(changes, found.trade),
+            found.head.lots,
         ),
-    }
-}
-
-/// What a live change took out of an account, read while it is still there: a Split took the lots of its node from where that
-/// stands, a Claim from where the node above stands.
-pub(crate) fn taken_before(
-    changes: &Live<'_>,
-    trees: &Trees<Global>,
-    command: &Command,
-) -> Option<Holding>
-    requires within { AllWithinLimits changes.now }
-    requires trees { AreTreesOf changes.now trees.now }
-    ensures value { result ≡ taken_before changes.now command.now }
-    ensures lots { IfSome result (λ h. h.lots ≤ most_lots) }
-{
-    match command {
-        Command::Split { node, .. } => holding_named(changes, trees, *node),
-        Command::Claim { node, .. } => holding_above(changes, trees, *node),
-        _ => None,
-    }
-}
-
-/// What a part of the whole holds.
-fn part_holding(whole: &Holding, by: &FirmId, part: &Part) -> Option<Holding>
-    ensures { result ≡ part_holding whole.now by.now part.now }
-{
-    if part.firm != *by {
-        return Some(Holding {
-            key: whole.key,
-            side: whole.side,
-            lots: part.lots,
-        });
-    }
-    match &part.account {
-        None => None,
-        Some(account) => Some(Holding {
-            key: Key {
-                firm: *by,
-                account: *account,
-                instrument: whole.key.instrument,
-            },
-            side: whole.side,
-            lots: part.lots,
-        }),
     }
 }
 
@@ -242,11 +194,11 @@ fn put_away(positions: &mut Positions, whole: &Holding, by: &FirmId, parts: &[Pa
 }
 
 /// Takes the lots of the parts that went to other accounts than the whole's out of these again.
-#[cold]
 #[inline(never)]
 pub(crate) fn take_away(positions: &mut Positions, whole: &Holding, by: &FirmId, parts: &[Part])
     requires { HaveThere positions.old (filter_map (part_away whole.now by.now) parts.now) }
-    ensures { HaveMoved positions.new positions.old None (filter_map (part_away whole.now by.now) parts.now) }
+    ensures gone { HaveMoved positions.new positions.old None (filter_map (part_away whole.now by.now) parts.now) }
+    ensures stays_ready { (at : KeyData) → IsReady positions.old at → IsReady positions.new at }
 {
     for part in parts {
         if let Some(account) = account_away(whole, by, part) {
@@ -294,31 +246,76 @@ pub(crate) fn take_moved(positions: &mut Positions, whole: &Holding, moved: u64)
     }
 }
 
-/// Takes the lots of the parts out of their accounts.
-fn take_parts(positions: &mut Positions, whole: &Holding, by: &FirmId, parts: &[Part])
-    requires { HaveThere positions.old (filter_map (part_holding whole.now by.now) parts.now) }
-    ensures gone { HaveMoved positions.new positions.old None (filter_map (part_holding whole.now by.now) parts.now) }
-    ensures stays_ready { (at : KeyData) → IsReady positions.old at → IsReady positions.new at }
+/// The lots of a part that went to another account than the whole's, and 0 of one that stayed.
+#[inline(always)]
+fn part_lots_away(whole: &Holding, by: &FirmId, part: &Part) -> u64
+    ensures { result ≡ lots_told (part_away whole.now by.now part.now) }
 {
-    for part in parts {
-        if let Some(h) = part_holding(whole, by, part) {
-            positions.take(&h.key, h.side, h.lots);
-        }
+    match account_away(whole, by, part) {
+        Some(_) => part.lots,
+        None => 0,
     }
 }
 
-/// Takes the lots that a command adds out of their accounts.
-pub(crate) fn take_added(
-    positions: &mut Positions,
-    by: &FirmId,
-    command: &Command,
-    taken: &Option<Holding>,
-)
-    requires { HaveThere positions.old (added_by by.now command.now taken.now) }
-    ensures gone { HaveMoved positions.new positions.old None (added_by by.now command.now taken.now) }
+/// The lots of the parts that went to other accounts than the whole's.
+fn lots_away(whole: &Holding, by: &FirmId, parts: &[Part]) -> u64
+    requires { sum_by (λ h. h.lots) (filter_map (part_away whole.now by.now) parts.now) < 2 ^ 64 }
+    ensures { result ≡ sum_by (λ h. h.lots) (filter_map (part_away whole.now by.now) parts.now) }
+{
+    let mut away = 0;
+    for part in parts {
+        away += part_lots_away(whole, by, part);
+    }
+    away
+}
+
+/// What goes back where it came from when this live change is undone, read while it still stands at the node that was found. A Split took the
+/// lots of its node from where that stands, and those of the parts that stayed there don't move; a Claim took them from where the node above stands.
+pub(crate) fn goes_back(
+    changes: &Live<'_>,
+    trees: &Trees<Global>,
+    entry: &Entry,
+    found: &Found,
+) -> Option<Holding>
+    requires trees { AreTreesOf changes.now trees.now }
+    requires found { (n : EntryPart) → named_node entry.now.command ≡ Some n → IsFoundIn changes.now n (Some found.now) }
+    requires few { HasFewLots entry.now.command }
+    ensures { result ≡ goes_back entry.now.firm entry.now.command (taken_before changes.now entry.now.command) }
+{
+    match &entry.command {
+        Command::Split { parts, .. } => match holding_found(changes, found) {
+            None => None,
+            Some(whole) => Some(Holding {
+                key: whole.key,
+                side: whole.side,
+                lots: lots_away(&whole, &entry.firm, parts.as_slice()),
+            }),
+        },
+        Command::Claim { node, .. } => holding_above(changes, trees, *node, found),
+        _ => None,
+    }
+}
+
+/// Makes the row to which lots go back, if some do. No lots change, not even where memory is refused.
+pub(crate) fn ready_back(positions: &mut Positions, back: &Option<Holding>) -> Result<(), Memory>
+    ensures ready { OnOk result (IsReadyBack positions.new back.now) }
+    ensures same { SameLots positions.old positions.new }
+{
+    if let Some(h) = back {
+        if h.lots > 0 {
+            return positions.ready(&h.key);
+        }
+    }
+    Ok(())
+}
+
+/// Takes the lots that go back out of the accounts into which the change put them, and those that a Trade brought out of its own.
+fn take_from(positions: &mut Positions, entry: &Entry, back: &Option<Holding>)
+    requires { HaveThere positions.old (comes_from entry.now.firm entry.now.command back.now) }
+    ensures gone { HaveMoved positions.new positions.old None (comes_from entry.now.firm entry.now.command back.now) }
     ensures stays_ready { (at : KeyData) → IsReady positions.old at → IsReady positions.new at }
 {
-    match command {
+    match &entry.command {
         Command::Trade {
             firm,
             account,
@@ -334,14 +331,14 @@ pub(crate) fn take_added(
             positions.take(&key, *side, *lots);
         }
         Command::Split { parts, .. } => {
-            if let Some(whole) = taken {
-                take_parts(positions, whole, by, parts.as_slice());
+            if let Some(whole) = back {
+                take_away(positions, whole, &entry.firm, parts.as_slice());
             }
         }
         Command::Claim { account, .. } => {
-            if let Some(whole) = taken {
+            if let Some(whole) = back {
                 let key = Key {
-                    firm: *by,
+                    firm: entry.firm,
                     account: *account,
                     instrument: whole.key.instrument,
                 };
@@ -352,31 +349,17 @@ pub(crate) fn take_added(
     }
 }
 
-/// Makes the row out of which a command took lots. No lots change, not even where memory is refused.
-pub(crate) fn ready_taken(positions: &mut Positions, taken: &Option<Holding>) -> Result<(), Memory>
-    ensures ready { OnOk result (IsReadyTaken positions.new taken.now) }
-    ensures same { SameLots positions.old positions.new }
+/// Moves back what this change moved. The row to which lots go back has to be ready and to have room.
+pub(crate) fn move_back(positions: &mut Positions, entry: &Entry, back: &Option<Holding>)
+    requires there { HaveThere positions.old (comes_from entry.now.firm entry.now.command back.now) }
+    requires ready { IsReadyBack positions.old back.now }
+    requires room { HasRoomBack positions.old back.now (comes_from entry.now.firm entry.now.command back.now) }
+    ensures { HaveMoved positions.new positions.old back.now (comes_from entry.now.firm entry.now.command back.now) }
 {
-    match taken {
-        None => Ok(()),
-        Some(h) => positions.ready(&h.key),
-    }
-}
-
-/// Moves back what a command moved: takes its lots out of their accounts, and puts these back into theirs. The row for them has
-/// to be ready and to have room.
-pub(crate) fn move_back(
-    positions: &mut Positions,
-    by: &FirmId,
-    command: &Command,
-    taken: &Option<Holding>,
-)
-    requires there { HaveThere positions.old (added_by by.now command.now taken.now) }
-    requires room { HasRoomBack positions.old taken.now (added_by by.now command.now taken.now) }
-    ensures { HaveMoved positions.new positions.old taken.now (added_by by.now command.now taken.now) }
-{
-    take_added(positions, by, command, taken);
-    if let Some(h) = taken {
-        positions.add(&h.key, h.side, h.lots);
+    take_from(positions, entry, back);
+    if let Some(h) = back {
+        if h.lots > 0 {
+            positions.add(&h.key, h.side, h.lots);
+        }
     }
 }

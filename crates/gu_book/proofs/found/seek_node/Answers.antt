@@ -1,4 +1,5 @@
-use Rattle.std.proofs.Common.{◌≡◌, ◌∙◌, sym, subst}
+use Rattle.std.proofs.Common.{◌≡◌, ◌∙◌, sym, ap, subst, arith}
+use Rattle.gu_base.specs.Places.{depth_of}
 use Rattle.std.specs.Prelude.{Some}
 use Rattle.std.proofs.lemmas.Option.{same_Some}
 use Rattle.gu_base.specs.Nodes.{node_of}
@@ -16,10 +17,10 @@ unreachable-requires c =
     none_is_some (node_of l c.args.name) c.in-Some.node (found_none c.requires.trees c.args.name (rw c.in_default-find.is at c.find.ensures.absent)) (sym c.node_of.ensures ∙ c.in-Some.is)
 
 pub returns-in_default-clause-named : goal.returns-in_default-clause-named
-returns-in_default-clause-named c = rw c.requires.nothing (sym c.node_of.ensures ∙ c.in_default.is)
+returns-in_default-clause-named c = rw c.requires.nothing.named (sym c.node_of.ensures ∙ c.in_default.is)
 
 pub returns-in_default-clause-there : goal.returns-in_default-clause-there
-returns-in_default-clause-there c = rw c.requires.nothing tt
+returns-in_default-clause-there c = rw c.requires.nothing.named tt
 
 -- the node that stands there is the one that the list has under the name
 its_node : (c : After-found_at-found) → IsNamedBy c.args.changes.now c.args.name (Some (record { node = c.in-Some.node; found = c.found_at-found.result }))
@@ -38,3 +39,15 @@ returns-clause-there c =
     let is = its_node (goal.at.returns-clause-there c).After-found_at-found in
     lies_there c.requires.trees.filed c.args.name (record { node = c.in-Some.node; found = c.found_at-found.result }) c.in-Some-find.spot.trade c.find.new.path.items
     is.1 c.found_at-found.ensures.trade (rw c.in-Some-find.is at c.find.ensures.found)
+
+pub returns-clause-most : goal.returns-clause-most
+returns-clause-most c =
+    let is = its_node (goal.at.returns-clause-most c).After-found_at-found in
+    let deep = ap (depth_of c.args.changes.now) (sym is.1) ∙ is.2.deep in
+    omega (arith, deep)
+
+pub returns-clause-least : goal.returns-clause-least
+returns-clause-least c = λ _.
+    let is = its_node (goal.at.returns-clause-least c).After-found_at-found in
+    let deep = ap (depth_of c.args.changes.now) (sym is.1) ∙ is.2.deep in
+    omega (arith, deep)

@@ -7,36 +7,31 @@ use Rattle.gu_book.specs.Filed.{IsFree}
 use Rattle.gu_tree.specs.Shown.{SplitsNode, named_node}
 use Rattle.gu_book.proofs.Filed.{Spot}
 use Rattle.gu_book.specs.TreeRows.{is_trade}
-use Rattle.gu_book.proofs.FreeNodes.{Claims, TurnsDown, turned_down, turned_names, has_place, its_spot, root_alone}
+use Rattle.gu_book.proofs.FreeNodes.{Claims, TurnsDown, turned_down, turned_names, its_spot, root_alone}
 use Rattle.gu_book.proofs.Gone.{may_unsplit, split_in, free_parts, unsplit_gone, claimed_there, claim_part, claim_in, claim_gone, turned_there, turned_part, turned_in, turned_gone, sapling_there, root_gone}
 use Rattle.gu_book.proofs.grove.undo.Goals.{In-Split, In-Claim, In-Refuse}
 use Rattle.gu_book.proofs.grove.undo.Goals as goal
 
 -- where the node lies that the change names: of a Split, of a Claim, and of what turns an offer down
-split_at : (c : In-Split) → {t : House} {l : List Record} → IsFree t l (numbered_as c.args.number c.args.undone.now) c.args.trees.now
-    → Spot l c.args.trees.now c.in-Some.spot.0 c.in-Some.spot.1.items c.in-Split.node × SplitsNode c.in-Split.node c.args.undone.now.command
+split_at : (c : In-Split) → {t : House} {l : List Record} → IsFree t l (numbered_as c.args.number c.args.entry.now) c.args.trees.now
+    → Spot l c.args.trees.now c.in-Some.undone.found.trade c.args.sought.now.path.items c.in-Split.node × SplitsNode c.in-Split.node c.args.entry.now.command
 split_at c u = (
-  its_spot u c.in-Some.spot.0 c.in-Some.spot.1.items c.in-Split.node (ap named_node c.in-Split.is) (rw c.in-Some.is at c.place.ensures.found),
+  its_spot u c.in-Some.undone.found.trade c.args.sought.now.path.items c.in-Split.node (ap named_node c.in-Split.is) (rw c.in-Some.is at c.requires.there),
   subst (SplitsNode c.in-Split.node) (sym c.in-Split.is) refl,
 )
 
-claim_at : (c : In-Claim) → {t : House} {l : List Record} → IsFree t l (numbered_as c.args.number c.args.undone.now) c.args.trees.now
-    → Spot l c.args.trees.now c.in-Some.spot.0 c.in-Some.spot.1.items c.in-Claim.node × Claims c.in-Claim.node c.args.undone.now.command
+claim_at : (c : In-Claim) → {t : House} {l : List Record} → IsFree t l (numbered_as c.args.number c.args.entry.now) c.args.trees.now
+    → Spot l c.args.trees.now c.in-Some.undone.found.trade c.args.sought.now.path.items c.in-Claim.node × Claims c.in-Claim.node c.args.entry.now.command
 claim_at c u = (
-  its_spot u c.in-Some.spot.0 c.in-Some.spot.1.items c.in-Claim.node (ap named_node c.in-Claim.is) (rw c.in-Some.is at c.place.ensures.found),
+  its_spot u c.in-Some.undone.found.trade c.args.sought.now.path.items c.in-Claim.node (ap named_node c.in-Claim.is) (rw c.in-Some.is at c.requires.there),
   subst (Claims c.in-Claim.node) (sym c.in-Claim.is) refl,
 )
 
-turned_at : (c : In-Refuse) → {t : House} {l : List Record} → IsFree t l (numbered_as c.args.number c.args.undone.now) c.args.trees.now
-    → (n : EntryPart) × Spot l c.args.trees.now c.in-Some.spot.0 c.in-Some.spot.1.items n × TurnsDown n c.args.undone.now.command
+turned_at : (c : In-Refuse) → {t : House} {l : List Record} → IsFree t l (numbered_as c.args.number c.args.entry.now) c.args.trees.now
+    → (n : EntryPart) × Spot l c.args.trees.now c.in-Some.undone.found.trade c.args.sought.now.path.items n × TurnsDown n c.args.entry.now.command
 turned_at c u =
     let n = turned_down c.in-Refuse.is in
-    (n.0, its_spot u c.in-Some.spot.0 c.in-Some.spot.1.items n.0 (turned_names n.0 c.args.undone.now.command n.1).0 (rw c.in-Some.is at c.place.ensures.found), n.1)
-
-pub unreachable-requires : goal.unreachable-requires
-unreachable-requires c =
-    let go = c.requires.may_go in
-    has_place go.2 c.requires.change c.in_default.ensures.absent
+    (n.0, its_spot u c.in-Some.undone.found.trade c.args.sought.now.path.items n.0 (turned_names n.0 c.args.entry.now.command n.1).0 (rw c.in-Some.is at c.requires.there), n.1)
 
 pub uproot-requires-clause-sapling : goal.uproot-requires-clause-sapling
 uproot-requires-clause-sapling c =

@@ -1,22 +1,21 @@
-use Rattle.std.proofs.Common.{◌≡◌, ℕ, sym, ◌∙◌, ap, Option, Some, None}
-use Rattle.std.specs.Prelude.{option_map}
+use Rattle.std.proofs.Common.{◌≡◌, sym, ◌∙◌, ap, Option}
+use Rattle.std.specs.Prelude.{option_and_then, option_map}
 use Rattle.gu_base.specs.Answers.{Call, accepted_or, answer_to}
-use Rattle.gu_base.specs.History.{live}
-use Rattle.gu_base.specs.Standing.{standing_on}
+use Rattle.gu_base.specs.declared.refusal.Refusal.{Refusal}
 use Rattle.gu_base.specs.declared.refusal.Refusal.TheVariants.{StandsOn}
 use Rattle.gu_consent.specs.Given.{given}
-use Rattle.gu_book.proofs.Fronts.{stands_refusal}
-use Rattle.gu_book.proofs.AllShown.{standing_found}
-use Rattle.gu_book.proofs.Fronts.{decided, settles, not_accepted, none_in_way}
+use Rattle.gu_book.specs.declared.found.Undone.{Undone}
+use Rattle.gu_book.proofs.Fronts.{stands_refusal, decided, settles, not_accepted}
 use Rattle.gu_book.proofs.Leaves.{live_rises}
-use Rattle.gu_book.proofs.book.Book.answer.Goals.{In-Accepted, In-Reverse}
+use Rattle.gu_book.proofs.Undone.{stands_found}
+use Rattle.gu_book.proofs.book.Book.answer.Goals.{In-Accepted}
 use Rattle.gu_book.proofs.book.Book.answer.Goals as goal
 
 pub front_answer-answer-requires-clause-rises : goal.front_answer-answer-requires-clause-rises
 front_answer-answer-requires-clause-rises c = rw (c.of.ensures, c.as_slice.ensures.value) (live_rises c.self.inside.entries.items)
 
 pub front_answer-answer-requires-clause-named : goal.front_answer-answer-requires-clause-named
-front_answer-answer-requires-clause-named c = rw (c.of.ensures, c.as_slice.ensures.value) (rw (← c.self.view_is) at c.requires)
+front_answer-answer-requires-clause-named c = rw (c.of.ensures, c.as_slice.ensures.value) (rw (← c.self.view_is) at c.requires.named)
 
 pub returns-in_default : goal.returns-in_default
 returns-in_default c =
@@ -34,26 +33,25 @@ accepts c =
     (decided c.self.inside.house c.self.inside.entries.items (given c.self.inside.consents) c.self.invariant.kept.consented
     (record { firm = c.args.by.now; id = c.args.id.now; command = c.args.command.now }) c.in-Accepted.number c.in-Accepted.status (sym e ∙ c.in-Accepted.is)).1
 
--- and the change of a Reverse is looked up
-reverses : (c : In-Reverse) → (o : Option ℕ) → o ≡ standing_on c.self.inside.house (live c.self.inside.entries.items) c.in-Reverse.entry
-    → stands_refusal c.self.inside.house c.self.inside.entries.items c.args.command.now ≡ option_map (λ k. StandsOn k) o
-reverses c o is = ap (stands_refusal c.self.inside.house c.self.inside.entries.items) c.in-Reverse.is ∙ ap (option_map (λ k. StandsOn k)) (sym is)
+-- what was found to stand on the change, as a refusal
+abbrev refusal_by : Option Undone → Option Refusal
+refusal_by o = option_map (λ k. StandsOn k) (option_and_then (λ (u : Undone). u.standing) o)
 
-pub returns-in_default-command : goal.returns-in_default-command
-returns-in_default-command c =
-    let d = accepts (goal.at.returns-in_default-command c).In-Accepted in
-    rw (← c.self.view_is)
-    (c.in-Accepted.is ∙ sym (d ∙ ap (accepted_or c.in-Accepted.number c.in-Accepted.status)
-    (none_in_way c.self.inside.house c.self.inside.entries.items c.args.command.now c.in_default-command.not-Reverse)))
+-- and that was found with the change
+stands : (c : In-Accepted) → stands_refusal c.self.inside.house c.self.inside.entries.items c.args.command.now ≡ refusal_by c.args.sought.now.undone
+stands c = stands_found c.self.invariant.kept c.args.command.now c.args.sought.now.undone c.args.sought.now.path.items (rw (← c.self.view_is) at c.requires.undone)
 
-pub returns-in-Some : goal.returns-in-Some
-returns-in-Some c =
-    let stands = standing_found c.self.invariant.kept c.in-Reverse.entry (Some c.in-Some.other) c.in-Some.ensures.first in
-    let d = accepts (goal.at.returns-in-Some c).In-Accepted ∙ ap (accepted_or c.in-Accepted.number c.in-Accepted.status) (reverses (goal.at.returns-in-Some c).In-Reverse (Some c.in-Some.other) stands) in
-    rw (← c.self.view_is) (sym d)
+pub returns-in_default-undone : goal.returns-in_default-undone
+returns-in_default-undone c =
+    let w = (goal.at.returns-in_default-undone c).In-Accepted in
+    rw (← c.self.view_is) (c.in-Accepted.is ∙ sym (accepts w ∙ ap (accepted_or c.in-Accepted.number c.in-Accepted.status) (stands w ∙ ap refusal_by c.in_default-undone.is)))
+
+pub returns-in-Some-standing : goal.returns-in-Some-standing
+returns-in-Some-standing c =
+    let w = (goal.at.returns-in-Some-standing c).In-Accepted in
+    rw (← c.self.view_is) (sym (accepts w ∙ ap (accepted_or c.in-Accepted.number c.in-Accepted.status) (stands w ∙ (ap refusal_by c.in-Some.is ∙ ap (option_map (λ k. StandsOn k)) c.in-Some-standing.is))))
 
 pub returns-in-None : goal.returns-in-None
 returns-in-None c =
-    let stands = standing_found c.self.invariant.kept c.in-Reverse.entry None c.in-None.ensures.first in
-    let d = accepts (goal.at.returns-in-None c).In-Accepted ∙ ap (accepted_or c.in-Accepted.number c.in-Accepted.status) (reverses (goal.at.returns-in-None c).In-Reverse None stands) in
-    rw (← c.self.view_is) (c.in-Accepted.is ∙ sym d)
+    let w = (goal.at.returns-in-None c).In-Accepted in
+    rw (← c.self.view_is) (c.in-Accepted.is ∙ sym (accepts w ∙ ap (accepted_or c.in-Accepted.number c.in-Accepted.status) (stands w ∙ (ap refusal_by c.in-Some.is ∙ ap (option_map (λ k. StandsOn k)) c.in-None.is))))

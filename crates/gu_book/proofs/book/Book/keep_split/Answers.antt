@@ -146,7 +146,7 @@ invariant_of-self-in_err-moved c =
 pub invariant_of-self-in-Err : goal.invariant_of-self-in-Err
 invariant_of-self-in-Err c =
     let put = rw c.as_slice-2.ensures at c.in_ok-moved.ensures.put in
-    let gone = rw c.as_slice-in-Err.ensures at c.take_away.ensures in
+    let gone = rw c.as_slice-in-Err.ensures at c.take_away.ensures.gone in
     simp (c.make_room.ensures.items)
     (record {
       kept = kept_alike c.self.invariant.kept c.split.new.trees (same_both c.self.inside.trees c.ready-2.new.self c.split.new.trees c.in_ok-ready-2.ensures.same c.in-Err.ensures.unchanged);

@@ -14,7 +14,7 @@ take-requires c =
     first_there c.loop-part.positions (holding_away c.args.whole.now c.args.by.now c.in-Some.account.now c.part-item.result.lots) (filter_map f (drop (c.loop-part.part-index + 1) c.args.parts.now)) (subst (λ (hs : List Holding). HaveThere c.loop-part.positions hs) here c.loop-part.invariant.there)
 
 pub loop-part-init : goal.loop-part-init
-loop-part-init c = record { there = c.requires; gone = none_gone c.args.positions.now }
+loop-part-init c = record { there = c.requires; gone = none_gone c.args.positions.now; stays = λ at is. is }
 
 pub loop-part-preserved : goal.loop-part-preserved
 loop-part-preserved c =
@@ -29,6 +29,7 @@ loop-part-preserved c =
           rw w.positions-is (record {
             there = rest_there c.loop-part.positions w.take.new.self (holding_away c.args.whole.now c.args.by.now w.in-Some.account.now c.part-item.result.lots) rest (subst (λ (hs : List Holding). HaveThere c.loop-part.positions hs) here c.loop-part.invariant.there) one;
             gone = subst (λ (hs : List Holding). HaveMoved w.take.new.self c.args.positions.now None hs) (sym more) (more_taken c.args.positions.now c.loop-part.positions w.take.new.self done ((holding_away c.args.whole.now c.args.by.now w.in-Some.account.now c.part-item.result.lots) ∷ []) c.loop-part.invariant.gone one);
+            stays = λ at is. w.take.ensures.stays_ready at (c.loop-part.invariant.stays at is);
           })
           )
       | in_default w ↦ (
@@ -37,10 +38,11 @@ loop-part-preserved c =
           rw w.positions-is (record {
             there = subst (λ (hs : List Holding). HaveThere c.loop-part.positions hs) here c.loop-part.invariant.there;
             gone = subst (λ (hs : List Holding). HaveMoved c.loop-part.positions c.args.positions.now None hs) (sym more) c.loop-part.invariant.gone;
+            stays = c.loop-part.invariant.stays;
           })
           )
     ]
 
-pub returns : goal.returns
-returns c =
+pub returns-clause-gone : goal.returns-clause-gone
+returns-clause-gone c =
     subst (λ (ps : List Part). HaveMoved c.loop-part.positions c.args.positions.now None (filter_map (part_away c.args.whole.now c.args.by.now) ps)) (take_all c.loop-part.part-index c.args.parts.now c.loop-part-test.false) c.loop-part.invariant.gone

@@ -1,5 +1,7 @@
 use Rattle.std.proofs.Common.{take, drop}
 use Rattle.std.specs.Prelude.{None, filter_map}
+use Rattle.gu_positions.specs.Rows.{IsReady}
+use Rattle.gu_positions.specs.declared.positions.Key.{Key}
 use Rattle.gu_book.specs.Holdings.{part_away, HaveMoved, HaveThere}
 use Rattle.gu_book.proofs.plain.holdings.take_away.Given as goal
 
@@ -7,4 +9,5 @@ abbrev pub invariant-loop-part : goal.invariant-loop-part
 invariant-loop-part l = record {
   there : HaveThere l.positions (filter_map (part_away l.whole l.by) (drop l.part-index l.parts));
   gone : HaveMoved l.positions l.fn.positions None (filter_map (part_away l.whole l.by) (take l.part-index l.parts));
+  stays : (at : Key) → IsReady l.fn.positions at → IsReady l.positions at;
 }

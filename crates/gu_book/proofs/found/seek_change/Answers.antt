@@ -1,0 +1,43 @@
+use Rattle.std.proofs.Common.{◌≡◌, ◌≤◌, ◌∙◌, ℕ, IsSomeAnd, sym, ap, subst, arith}
+use Rattle.std.specs.Prelude.{Some, option_map}
+use Rattle.gu_base.proofs.Numbered.{rises_later}
+use Rattle.gu_tree.specs.Grove.{HasTree, IsPlace, place_of}
+use Rattle.gu_tree.specs.Paths.{node_at}
+use Rattle.gu_tree.specs.ShownAll.{change_of}
+use Rattle.gu_book.specs.Live.{record_of}
+use Rattle.gu_book.proofs.AllShown.{all_shown}
+use Rattle.gu_book.proofs.OnePlace.{one_place}
+use Rattle.gu_book.proofs.Visited.{some_place, way_to, parts_of_named}
+use Rattle.gu_book.proofs.found.seek_change.Goals.{After-found_at-found}
+use Rattle.gu_book.proofs.found.seek_change.Goals as goal
+
+-- the parts are those of the change
+its_parts : (c : After-found_at-found) → change_of c.args.changes.now c.args.number ≡ Some (record_of c.in-Some.made)
+its_parts c = sym (sym (ap (option_map record_of) c.in-Some.is) ∙ c.change.ensures)
+
+pub returns-clause-undone : goal.returns-clause-undone
+returns-clause-undone c =
+    let l = c.args.changes.now in
+    let are = c.requires.trees in
+    let at : IsSomeAnd (place_of c.args.trees.now c.args.number) (λ n. IsPlace c.args.trees.now n c.in-Some-named.spot.trade c.named.new.path.items) = rw c.in-Some-named.is at c.named.ensures.found in
+    let tree : HasTree c.args.trees.now c.in-Some-named.spot.trade (λ v. node_at c.named.new.path.items v ≡ Some c.in-Some-named.spot.node.now) = rw c.in-Some-named.is at c.named.ensures.node in
+    let m = some_place (λ n. IsPlace c.args.trees.now n c.in-Some-named.spot.trade c.named.new.path.items) (place_of c.args.trees.now c.args.number) at in
+    record {
+      name = m.0;
+      place = sym (are.filed.placed c.args.number) ∙ m.1;
+      found = c.found_at-found.ensures.found l m.0 c.args.trees.now are m.2 tree;
+      there = λ h filed. subst (λ (k : ℕ). IsPlace h m.0 k c.named.new.path.items) (sym c.found_at-found.ensures.trade) (one_place are.filed m.0 c.in-Some-named.spot.trade c.named.new.path.items m.2 h filed);
+      stands = λ t legal. c.first_standing_at.ensures t l c.args.trees.now c.named.new.path.items (rises_later 0 1 l (omega arith) are.rises) legal (all_shown are.filed) at tree;
+    }
+
+pub returns-clause-most : goal.returns-clause-most
+returns-clause-most c =
+    let way = way_to c.requires.trees c.args.number c.in-Some-named.spot.trade c.named.new.path.items (rw c.in-Some-named.is at c.named.ensures.found) in
+    let parts = parts_of_named c.args.changes.now c.args.number (record_of c.in-Some.made) (its_parts (goal.at.returns-clause-most c).After-found_at-found) in
+    omega (arith, way, parts, c.found_at-found.ensures.deep, c.parts_in.ensures.value)
+
+pub returns-clause-least : goal.returns-clause-least
+returns-clause-least c = λ _.
+    let way = way_to c.requires.trees c.args.number c.in-Some-named.spot.trade c.named.new.path.items (rw c.in-Some-named.is at c.named.ensures.found) in
+    let parts = parts_of_named c.args.changes.now c.args.number (record_of c.in-Some.made) (its_parts (goal.at.returns-clause-least c).After-found_at-found) in
+    omega (arith, way, parts, c.found_at-found.ensures.deep, c.parts_in.ensures.value)

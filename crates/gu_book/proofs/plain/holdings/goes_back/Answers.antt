@@ -1,0 +1,13 @@
+use Rattle.std.proofs.Common.{◌<◌, ◌^◌, arith, subst}
+use Rattle.std.specs.Prelude.{sum_by}
+use Rattle.gu_base.specs.declared.command.Command.{Command}
+use Rattle.gu_base.specs.declared.command.Part.{Part}
+use Rattle.gu_book.specs.Holdings.{HasFewLots}
+use Rattle.gu_book.proofs.PartsAway.{moved_few}
+use Rattle.gu_book.proofs.plain.holdings.goes_back.Goals as goal
+
+pub lots_away-requires : goal.lots_away-requires
+lots_away-requires c =
+    let few : sum_by (λ (p : Part). p.lots) c.in-Split.parts < 2 ^ 64 = subst HasFewLots c.in-Split.is c.requires.few in
+    let less = moved_few c.in-Some.whole c.args.entry.now.firm c.in-Split.parts in
+    rw c.as_slice.ensures (omega (arith, few, less))
