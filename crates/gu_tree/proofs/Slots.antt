@@ -57,10 +57,6 @@ rises-with_slot n (y ∷ s) e x rises low h = (rises.0, rises-with_slot y.entry 
 pub rising-with_slot : (s : List Filing) (e : ℕ) (x : Slot) → IsRising s → last_of s < e → IsRising (with_slot s e x)
 rising-with_slot s e x rises h = rises-with_slot 0 s e x rises (omega (arith, h)) h
 
--- what is appended is filed
-pub filed : (old new : List Filing) (x y : Filing) → new ≡ old ++ x ∷ [] → x ≡ y → new ≡ old ++ y ∷ []
-filed old new x y e q = e ∙ ap (λ (f : Filing). old ++ f ∷ []) q
-
 -- ---- what has a slot isn't above all
 
 low-by : (y : Filing) (s : List Filing) (k : ℕ) (x : Slot) → x ≢ Empty → (slot_of s k ≡ x → k ≤ last_of s) → (b : Bool) → (y.entry == k) ≡ b → (if b then y.slot else slot_of s k) ≡ x → k ≤ last_of (y ∷ s)

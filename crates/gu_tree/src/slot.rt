@@ -1,5 +1,5 @@
 //! What each entry named, filed by the number of the entry.
-ghost use Rattle.std.specs.Prelude.{◌≡◌, ◌<◌, ℕ, IfOk, OnErr, IfSome, IfNone, []};
+ghost use Rattle.std.specs.Prelude.{◌≡◌, ◌<◌, ◌++◌, ◌∷◌, ℕ, IfOk, OnErr, IfSome, IfNone, [], vec_len, vec_capacity};
 ghost use Rattle.gu_base.specs.Limits.{most_parts};
 ghost use Rattle.gu_base.specs.Numbers.{EntryPart};
 ghost use Rattle.gu_tree.specs.Filing.{IsRising, IsFiledAt, IsNotFiled, IsRoot, slot_of, without_slot, name_in, Climbs, IsClimbed};
@@ -50,7 +50,7 @@ impl Model for Filed {
 }
 
 impl Filed {
-    pub(crate) fn new(entry: Number, slot: Slot) -> Filed
+    fn new(entry: Number, slot: Slot) -> Filed
         ensures { result ≡ record { entry = entry; slot = slot } }
     {
         let packed = match slot {
@@ -187,6 +187,14 @@ pub(crate) fn climb(slots: &[Filed], node: NodeName, path: &mut Path) -> Number
         unreachable!()
     };
     node.entry()
+}
+
+/// Files an entry behind all others, for which there is room.
+pub(crate) fn file<A: Allocator>(slots: &mut Vec<Filed, A>, entry: Number, slot: Slot)
+    requires { vec_len slots.old < vec_capacity slots.old }
+    ensures { slots.new.items ≡ slots.old.items ++ record { entry = entry; slot = slot } ∷ [] }
+{
+    slots.push_reserved(Filed::new(entry, slot));
 }
 
 /// Takes the slot of an entry out.
