@@ -4,10 +4,10 @@ use Rattle.std.specs.Prelude.{filter, Some, None, find, ◌==◌, is_some, optio
 use Rattle.std.proofs.lemmas.Bool.Decides.{Decides-eqb}
 use Rattle.std.proofs.lemmas.Option.{same_Some}
 use Rattle.gu_base.specs.House.{House, knows_firm}
-use Rattle.gu_base.specs.History.{numbered_as, records, is_change, is_reversed, live, RisesFrom}
+use Rattle.gu_base.specs.History.{numbered_as, records, is_change, is_reversed, live}
 use Rattle.gu_base.specs.Nodes.{node_of, nodes_of, same_name}
 use Rattle.gu_base.specs.Refusals.{unless}
-use Rattle.gu_base.specs.Standing.{IsLegal, standing_on}
+use Rattle.gu_base.specs.Standing.{standing_on}
 use Rattle.gu_base.specs.Consents.{missing, parties_of, consents_of}
 use Rattle.gu_base.specs.Answers.{answer_to, entry_of, on_change, reverse_rest, command_refusal}
 use Rattle.gu_base.specs.Runs.{call_of}
@@ -20,8 +20,7 @@ use Rattle.gu_base.specs.declared.node.Node.{Node}
 use Rattle.gu_base.specs.declared.refusal.Refusal.TheVariants.{UnknownFirm, NeedsConsent, StandsOn}
 use Rattle.gu_base.proofs.Accepted.{first_none, allowed, open_from_none}
 use Rattle.gu_base.proofs.Basics.{no_some, mapped_none}
-use Rattle.gu_base.proofs.LegalLaws.{legal_from_replay}
-use Rattle.gu_base.proofs.Numbered.{found_at, known_entry, rises_later}
+use Rattle.gu_base.proofs.Numbered.{found_at, known_entry}
 use Rattle.gu_base.proofs.Consenting.{not_reversed}
 use Rattle.gu_base.proofs.Searches.{found_in}
 use Rattle.gu_tree.specs.Rose.{Rose}

@@ -1,4 +1,4 @@
-use Rattle.std.proofs.Common.{◌≡◌, ◌≤◌, ◌∙◌, ℕ, IsSomeAnd, sym, ap, subst, arith}
+use Rattle.std.proofs.Common.{◌≡◌, ◌∙◌, ℕ, IsSomeAnd, sym, ap, subst, arith}
 use Rattle.std.specs.Prelude.{Some, option_map}
 use Rattle.gu_base.proofs.Numbered.{rises_later}
 use Rattle.gu_tree.specs.Grove.{HasTree, IsPlace, place_of}

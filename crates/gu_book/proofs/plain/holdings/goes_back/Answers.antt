@@ -1,6 +1,5 @@
 use Rattle.std.proofs.Common.{◌<◌, ◌^◌, arith, subst}
 use Rattle.std.specs.Prelude.{sum_by}
-use Rattle.gu_base.specs.declared.command.Command.{Command}
 use Rattle.gu_base.specs.declared.command.Part.{Part}
 use Rattle.gu_book.specs.Holdings.{HasFewLots}
 use Rattle.gu_book.proofs.PartsAway.{moved_few}
