@@ -12,17 +12,10 @@ use gu_message::{Inbound, MeaningError, Reject, ack, meaning, reject, reject_tar
 use std::alloc::{AllocError, Global};
 use std::io;
 use std::io::Read;
+use test_bodies::{append_with, framed};
 
 /// The header of a message of AAA behind its type.
 const HEADER: &[u8] = b"|49=AAA|56=HSE|34=7|52=20260302-09:00:01|";
-
-/// Appends a text with one byte in place of another.
-fn append_with(out: &mut Vec<u8>, text: &[u8], from: u8, to: u8) -> Result<(), AllocError> {
-    for b in text {
-        out.push(if *b == from { to } else { *b })?;
-    }
-    Ok(())
-}
 
 /// Appends the body that a line stands for.
 fn append_body(body: &mut Vec<u8>, line: &[u8]) -> Result<(), AllocError> {
@@ -35,21 +28,6 @@ fn append_body(body: &mut Vec<u8>, line: &[u8]) -> Result<(), AllocError> {
         }
         _ => append_with(body, line, b'|', 1),
     }
-}
-
-/// The frame with this body.
-fn framed(alloc: Global, body: &[u8]) -> Result<Vec<u8>, AllocError> {
-    let mut frame = Vec::new(alloc);
-    let count = format!(in alloc; "8=FIXT.1.1\x019={}\x01", body.len())?;
-    frame.extend_from_slice(count.as_bytes())?;
-    frame.extend_from_slice(body)?;
-    let mut sum = 0u8;
-    for b in frame.as_slice() {
-        sum = sum.wrapping_add(*b);
-    }
-    let trailer = format!(in alloc; "10={:03}\x01", sum)?;
-    frame.extend_from_slice(trailer.as_bytes())?;
-    Ok(frame)
 }
 
 /// Writes a body with `|` for SOH.

@@ -6,7 +6,7 @@
 //! - `<< BODY`: a message with this body, header and all;
 //! - `tick`, `end`;
 //! - `reply accepted N`, `reply refused`, `reply none`, each perhaps followed by `with K`: a Reply, with K reports;
-//! - `calls A B`: a message of a call for each number from A to B, with its answer.
+//! - `call N`: a message of a call with this number; `calls A B`: one for each number from A to B, with its answer.
 //! The program writes each line again, and behind an event what the session asks for: the fields of each frame that goes out behind `>`, the
 //! call, `close`; and then `awaiting` where a call waits, `closed` where the session is closed. An empty line is copied.
 #![tactic(auto)]
@@ -25,10 +25,11 @@ use gu_codec::{Frame, read_frame};
 use gu_parties::House;
 use gu_session::{Actions, Event, Session, is_moment};
 use jiff::Timestamp;
-use showing::{decimal, show, shows_answer, tell_refused};
+use showing::{call_line, show, shows_answer, tell_refused};
 use std::alloc::{AllocError, Global};
 use std::io;
 use std::io::{Eprint, Read};
+use test_bodies::{append_with, framed};
 
 /// 09:00:00 on 2 March 2026, in milliseconds since 1970.
 const START: i64 = 1_772_442_000_000;
@@ -65,10 +66,7 @@ fn number(word: &[u8]) -> u32 {
 
 /// Appends a text with SOH for `|`.
 fn append(out: &mut Vec<u8>, text: &[u8]) -> Result<(), AllocError> {
-    for b in text {
-        out.push(if *b == b'|' { 1 } else { *b })?;
-    }
-    Ok(())
+    append_with(out, text, b'|', 1)
 }
 
 /// The body of a message of AAA.
@@ -81,21 +79,6 @@ fn body_of(alloc: Global, kind: &[u8], number: &[u8], rest: &[u8]) -> Result<Vec
     append(&mut body, TIME)?;
     append(&mut body, rest)?;
     Ok(body)
-}
-
-/// The frame with this body.
-fn framed(alloc: Global, body: &[u8]) -> Result<Vec<u8>, AllocError> {
-    let mut frame = Vec::new(alloc);
-    let count = format!(in alloc; "8=FIXT.1.1\x019={}\x01", body.len())?;
-    frame.extend_from_slice(count.as_bytes())?;
-    frame.extend_from_slice(body)?;
-    let mut sum = 0u8;
-    for b in frame.as_slice() {
-        sum = sum.wrapping_add(*b);
-    }
-    let trailer = format!(in alloc; "10={:03}\x01", sum)?;
-    frame.extend_from_slice(trailer.as_bytes())?;
-    Ok(frame)
 }
 
 /// Steps a session, if the moment is one that it takes.
@@ -214,6 +197,50 @@ fn reply(
     step(alloc, session, Event::Reply(answer, told), moment)
 }
 
+/// Steps a session with the event that a text stands for.
+fn attempt(
+    alloc: Global,
+    session: &mut Session<'_>,
+    text: &[u8],
+    moment: Timestamp,
+) -> Result<Actions, AllocError> {
+    let (what, rest) = word(text);
+    if what == b"<".as_slice() {
+        let (kind, rest) = word(rest);
+        let (number, rest) = word(rest);
+        message(alloc, session, kind, number, rest, moment)
+    } else if what == b"<<".as_slice() {
+        let mut body = Vec::new(alloc);
+        append(&mut body, rest)?;
+        take(alloc, session, body.as_slice(), moment)
+    } else if what == b"call".as_slice() {
+        message(alloc, session, b"J", rest, SPLIT, moment)
+    } else if what == b"reply".as_slice() {
+        reply(alloc, session, rest, moment)
+    } else if what == b"end".as_slice() {
+        step(alloc, session, Event::End, moment)
+    } else {
+        step(alloc, session, Event::Tick, moment)
+    }
+}
+
+/// The same. An event that lacks memory is handed in once more.
+fn attempt_twice(
+    rt: &impl Eprint,
+    alloc: Global,
+    session: &mut Session<'_>,
+    text: &[u8],
+    moment: Timestamp,
+) -> Result<Actions, AllocError> {
+    match attempt(alloc, session, text, moment) {
+        Ok(actions) => Ok(actions),
+        Err(_) => {
+            tell_refused(rt);
+            attempt(alloc, session, text, moment)
+        }
+    }
+}
+
 /// Steps a session with a call of this number, and with its answer. Whether it was answered with its number.
 fn call(
     rt: &impl Eprint,
@@ -222,20 +249,11 @@ fn call(
     number: u32,
     moment: Timestamp,
 ) -> Result<bool, AllocError> {
-    let digits = decimal(rt, alloc, number)?;
-    let asked = message(alloc, session, b"J", digits.as_bytes(), SPLIT, moment);
-    if asked.is_err() {
-        tell_refused(rt);
-        message(alloc, session, b"J", digits.as_bytes(), SPLIT, moment)?;
-    }
-    let actions = match reply(alloc, session, b"accepted 2", moment) {
-        Ok(actions) => actions,
-        Err(_) => {
-            tell_refused(rt);
-            reply(alloc, session, b"accepted 2", moment)?
-        }
-    };
-    Ok(shows_answer(actions.send.as_slice(), digits.as_bytes()))
+    let asked = call_line(rt, alloc, number)?;
+    attempt_twice(rt, alloc, session, asked.as_bytes(), moment)?;
+    let actions = attempt_twice(rt, alloc, session, b"reply accepted 2", moment)?;
+    let (_, digits) = word(asked.as_bytes());
+    Ok(shows_answer(actions.send.as_slice(), digits))
 }
 
 /// Steps a session with a call of each number from one to another, and with its answer, and writes how many were answered.
@@ -257,32 +275,7 @@ fn calls(
     println!(rt; "  {answered} answers, numbered {from} to {to}")
 }
 
-/// Steps a session with the event that a text stands for.
-fn attempt(
-    alloc: Global,
-    session: &mut Session<'_>,
-    text: &[u8],
-    moment: Timestamp,
-) -> Result<Actions, AllocError> {
-    let (what, rest) = word(text);
-    if what == b"<".as_slice() {
-        let (kind, rest) = word(rest);
-        let (number, rest) = word(rest);
-        message(alloc, session, kind, number, rest, moment)
-    } else if what == b"<<".as_slice() {
-        let mut body = Vec::new(alloc);
-        append(&mut body, rest)?;
-        take(alloc, session, body.as_slice(), moment)
-    } else if what == b"reply".as_slice() {
-        reply(alloc, session, rest, moment)
-    } else if what == b"end".as_slice() {
-        step(alloc, session, Event::End, moment)
-    } else {
-        step(alloc, session, Event::Tick, moment)
-    }
-}
-
-/// Does what a text asks for, at a moment, and writes what comes of it. An event that lacks memory is handed in once more.
+/// Does what a text asks for, at a moment, and writes what comes of it.
 fn act(
     rt: &(impl Print + Eprint),
     alloc: Global,
@@ -294,13 +287,7 @@ fn act(
     if what == b"calls".as_slice() {
         return calls(rt, alloc, session, rest, moment);
     }
-    let actions = match attempt(alloc, session, text, moment) {
-        Ok(actions) => actions,
-        Err(_) => {
-            tell_refused(rt);
-            attempt(alloc, session, text, moment)?
-        }
-    };
+    let actions = attempt_twice(rt, alloc, session, text, moment)?;
     show(rt, alloc, session, &actions)
 }
 

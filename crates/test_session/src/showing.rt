@@ -12,13 +12,13 @@ pub fn tell_refused(rt: &impl Eprint) {
     let _ = eprintln!(rt; "refused, asked again");
 }
 
-/// A number in digits.
-pub fn decimal(rt: &impl Eprint, alloc: Global, number: u32) -> Result<String, AllocError> {
-    match format!(in alloc; "{number}") {
-        Ok(digits) => Ok(digits),
+/// The event of a call with this number.
+pub fn call_line(rt: &impl Eprint, alloc: Global, number: u32) -> Result<String, AllocError> {
+    match format!(in alloc; "call {number}") {
+        Ok(line) => Ok(line),
         Err(_) => {
             tell_refused(rt);
-            format!(in alloc; "{number}")
+            format!(in alloc; "call {number}")
         }
     }
 }
