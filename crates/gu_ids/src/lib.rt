@@ -1,8 +1,9 @@
 //! Where in a history the entry of a firm's id stands, found by hash.
 //!
 //! `Ids` keeps no firm and no id: the history has them. It keeps eight bytes for each entry, its hash and the number of the entry before
-//! it in its bucket, and four for each bucket. `ready` alone takes memory. `add` can't fail, so an entry is added last, and none is
-//! ever taken out. Its cases are the repeats and the duplicate ids among those of the program `test_book`.
+//! it in its bucket, and eight for each bucket, the number of its newest entry and its marks. `ready` alone takes memory. `add` can't
+//! fail, so an entry is added last, and none is ever taken out. Its cases are the repeats and the duplicate ids among those of the program
+//! `test_book`.
 #![tactic(auto)]
 
 mod ids;
