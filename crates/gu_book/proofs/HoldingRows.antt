@@ -41,11 +41,6 @@ some_more f xs i x y within here is = given_more f xs i x within here ∙ ap (λ
 pub none_more : {X Y : Type 0} (f : X → Option Y) (xs : List X) (i : ℕ) (x : X) → i < length xs → x ≡ get_or xs i x → None ≡ f x → filter_map f (take (i + 1) xs) ≡ filter_map f (take i xs)
 none_more f xs i x within here is = given_more f xs i x within here ∙ (ap (λ o. filter_map f (take i xs) ++ cons_option o []) (sym is) ∙ append-nil (filter_map f (take i xs)))
 
-pub held_small : (o : Option Place) (w : Option Deal) (n most : ℕ) → n ≤ most → IfSome (held_at o w n) (λ h. h.lots ≤ most)
-held_small None w n most h = tt
-held_small (Some p) None n most h = tt
-held_small (Some p) (Some w) n most h = h
-
 -- ---- holdings that go one by one
 
 pub is_own_key : (k : Key) (s : Side) → (is_key k k && same_side s s) ≡ true
