@@ -1,6 +1,6 @@
 -- Running rows of positions, into and out of which holdings go one by one.
 use Rattle.std.proofs.Common.{refl, ◌≡◌, ℕ, ◌+◌, ◌<◌, ◌≤◌, Bool, true, false, ◌&&◌, List, [], ◌∷◌, ◌++◌, length, take, drop, get_or, sym, ◌∙◌, ap, arith, Option, cond, append-nil}
-use Rattle.std.specs.Prelude.{Some, None, filter_map, IfSome, bytes_eq, Result, Ok, Err, is_err, OnOk}
+use Rattle.std.specs.Prelude.{Some, None, filter_map, bytes_eq, Result, Ok, Err, is_err, OnOk}
 use Rattle.gu_base.specs.declared.command.Side.TheVariants.{Buy, Sell}
 use Rattle.std.proofs.lemmas.Slice.Eq.{bytes_eq-Decides}
 use Rattle.std.specs.List.{cons_option}
@@ -9,12 +9,10 @@ use Rattle.std.proofs.lemmas.List.Elements.{filter_map-append}
 use Rattle.std.proofs.lemmas.List.Sums.{sum_by-cons, sum_by-append}
 use Rattle.gu_base.specs.Positions.{same_side}
 use Rattle.gu_base.specs.declared.command.Side.{Side}
-use Rattle.gu_base.specs.declared.node.Place.{Place}
 use Rattle.gu_positions.specs.Rows.{PositionRows, lots_in, is_key}
 use Rattle.gu_positions.specs.declared.positions.Key.{Key}
-use Rattle.gu_book.specs.Holdings.{held_at, counted_at, HaveRoom, SameLots, HaveMoved, HaveThere}
+use Rattle.gu_book.specs.Holdings.{counted_at, HaveRoom, SameLots, HaveMoved, HaveThere}
 use Rattle.gu_book.specs.declared.plain.holdings.Holding.{Holding}
-use Rattle.gu_base.specs.declared.node.Deal.{Deal}
 use Rattle.gu_book.proofs.Steps.{drop_here}
 
 -- what one element more gives

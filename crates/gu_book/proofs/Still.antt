@@ -1,5 +1,5 @@
 -- A book whose trees and ids have got room, and whose accounts have the same lots, keeps all that it kept.
-use Rattle.std.proofs.Common.{◌≡◌, ◌∙◌, List}
+use Rattle.std.proofs.Common.{◌∙◌, List}
 use Rattle.gu_base.specs.House.{House}
 use Rattle.gu_base.specs.declared.entry.Entry.{Entry}
 use Rattle.gu_consent.specs.declared.Consents.{Consents}

@@ -4,8 +4,6 @@ use Rattle.gu_base.specs.History.{live, is_change}
 use Rattle.gu_base.specs.declared.node.Node.{Node}
 use Rattle.gu_base.specs.declared.entry.Record.{Record}
 use Rattle.gu_base.proofs.LiveLaws.{change_is_no_reverse}
-use Rattle.gu_base.proofs.Passing.{refusal_parts}
-use Rattle.gu_tree.specs.Shown.{named_node}
 use Rattle.gu_book.specs.Charging.{AreFeesOf}
 use Rattle.gu_book.specs.Filed.{IsNext}
 use Rattle.gu_book.specs.Found.{IsNamedBy}
@@ -17,7 +15,6 @@ use Rattle.gu_book.proofs.Indexed.{index_same, ids_few, ids_fewer, index_added}
 use Rattle.gu_book.proofs.Keeps.{next_kept, kept_change, kept_alike, live_few, live_more}
 use Rattle.gu_book.proofs.Leaves.{live_rises}
 use Rattle.gu_book.proofs.OnePlace.{next_there}
-use Rattle.gu_book.proofs.Orders.{names_there}
 use Rattle.gu_book.proofs.PartsAway.{holds_some}
 use Rattle.gu_book.proofs.Still.{still}
 use Rattle.gu_book.proofs.TradesKept.{claim_costs, claim_fits, claim_there, claim_undone, claim_whole, claim_stands}

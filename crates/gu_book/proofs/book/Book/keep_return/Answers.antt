@@ -2,16 +2,13 @@ use Rattle.std.proofs.Common.{List, refl, subst}
 use Rattle.gu_base.specs.History.{live}
 use Rattle.gu_base.specs.declared.entry.Record.{Record}
 use Rattle.gu_base.proofs.LiveLaws.{change_is_no_reverse}
-use Rattle.gu_base.proofs.Passing.{refusal_parts}
-use Rattle.gu_tree.specs.Shown.{named_node}
 use Rattle.gu_book.specs.Charging.{AreFeesOf}
 use Rattle.gu_book.specs.Holdings.{ArePositionsOf}
 use Rattle.gu_book.specs.Live.{entry_of_change, record_of}
 use Rattle.gu_book.proofs.Filed.{due_same, follows_same}
-use Rattle.gu_book.proofs.Indexed.{index_same, ids_few, ids_fewer, index_added}
-use Rattle.gu_book.proofs.Keeps.{next_kept, kept_change, kept_alike, live_more}
+use Rattle.gu_book.proofs.Indexed.{ids_few, ids_fewer, index_added}
+use Rattle.gu_book.proofs.Keeps.{next_kept, kept_change, live_more}
 use Rattle.gu_book.proofs.OnePlace.{next_there}
-use Rattle.gu_book.proofs.Orders.{names_there}
 use Rattle.gu_book.proofs.Still.{still}
 use Rattle.gu_book.proofs.TradesKept.{return_free, return_stands, return_changes}
 use Rattle.gu_book.proofs.book.Book.keep_return.Goals as goal

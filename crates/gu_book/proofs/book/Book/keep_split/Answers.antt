@@ -3,8 +3,6 @@ use Rattle.std.specs.Prelude.{Some, filter_map}
 use Rattle.gu_base.specs.History.{live, is_change}
 use Rattle.gu_base.specs.declared.entry.Record.{Record}
 use Rattle.gu_base.proofs.LiveLaws.{change_is_no_reverse}
-use Rattle.gu_base.proofs.Passing.{refusal_parts}
-use Rattle.gu_tree.specs.Shown.{named_node}
 use Rattle.gu_book.specs.Charging.{AreFeesOf}
 use Rattle.gu_book.specs.Filed.{IsNext}
 use Rattle.gu_book.specs.Found.{IsNamedBy}
@@ -12,11 +10,10 @@ use Rattle.gu_book.specs.Holdings.{holding_of, part_away, ArePositionsOf}
 use Rattle.gu_book.specs.Live.{entry_of_change, record_of}
 use Rattle.gu_book.proofs.Filed.{due_same, follows_same, same_both}
 use Rattle.gu_book.proofs.HoldingRows.{put_and_taken}
-use Rattle.gu_book.proofs.Indexed.{index_same, ids_few, ids_fewer, index_added}
-use Rattle.gu_book.proofs.Keeps.{next_kept, kept_change, kept_alike, live_few, live_more}
+use Rattle.gu_book.proofs.Indexed.{ids_few, ids_fewer, index_added}
+use Rattle.gu_book.proofs.Keeps.{next_kept, kept_change, live_few, live_more}
 use Rattle.gu_book.proofs.Leaves.{live_rises}
 use Rattle.gu_book.proofs.OnePlace.{next_there}
-use Rattle.gu_book.proofs.Orders.{names_there}
 use Rattle.gu_book.proofs.PartsAway.{holds_some}
 use Rattle.gu_book.proofs.Still.{still}
 use Rattle.gu_book.proofs.TradesKept.{split_free, split_home, split_fits, split_takes, split_stands}
