@@ -1,6 +1,6 @@
 -- Running rows of positions, into and out of which holdings go one by one.
 use Rattle.std.proofs.Common.{refl, ◌≡◌, ℕ, ◌+◌, ◌<◌, ◌≤◌, Bool, true, false, ◌&&◌, List, [], ◌∷◌, ◌++◌, length, take, drop, get_or, sym, ◌∙◌, ap, arith, Option, cond, append-nil}
-use Rattle.std.specs.Prelude.{Some, None, filter_map, IfSome, bytes_eq, Result, Ok, Err, is_err, OnOk}
+use Rattle.std.specs.Prelude.{Some, None, filter_map, bytes_eq, Result, Ok, Err, is_err, OnOk}
 use Rattle.gu_base.specs.declared.command.Side.TheVariants.{Buy, Sell}
 use Rattle.std.proofs.lemmas.Slice.Eq.{bytes_eq-Decides}
 use Rattle.std.specs.List.{cons_option}
@@ -9,12 +9,10 @@ use Rattle.std.proofs.lemmas.List.Elements.{filter_map-append}
 use Rattle.std.proofs.lemmas.List.Sums.{sum_by-cons, sum_by-append}
 use Rattle.gu_base.specs.Positions.{same_side}
 use Rattle.gu_base.specs.declared.command.Side.{Side}
-use Rattle.gu_base.specs.declared.node.Place.{Place}
 use Rattle.gu_positions.specs.Rows.{PositionRows, lots_in, is_key}
 use Rattle.gu_positions.specs.declared.positions.Key.{Key}
-use Rattle.gu_book.specs.Holdings.{held_at, counted_at, HaveRoom, SameLots, HaveMoved, HaveThere}
+use Rattle.gu_book.specs.Holdings.{counted_at, HaveRoom, SameLots, HaveMoved, HaveThere}
 use Rattle.gu_book.specs.declared.plain.holdings.Holding.{Holding}
-use Rattle.gu_base.specs.declared.node.Deal.{Deal}
 use Rattle.gu_book.proofs.Steps.{drop_here}
 
 -- what one element more gives
@@ -40,11 +38,6 @@ some_more f xs i x y within here is = given_more f xs i x within here ∙ ap (λ
 
 pub none_more : {X Y : Type 0} (f : X → Option Y) (xs : List X) (i : ℕ) (x : X) → i < length xs → x ≡ get_or xs i x → None ≡ f x → filter_map f (take (i + 1) xs) ≡ filter_map f (take i xs)
 none_more f xs i x within here is = given_more f xs i x within here ∙ (ap (λ o. filter_map f (take i xs) ++ cons_option o []) (sym is) ∙ append-nil (filter_map f (take i xs)))
-
-pub held_small : (o : Option Place) (w : Option Deal) (n most : ℕ) → n ≤ most → IfSome (held_at o w n) (λ h. h.lots ≤ most)
-held_small None w n most h = tt
-held_small (Some p) None n most h = tt
-held_small (Some p) (Some w) n most h = h
 
 -- ---- holdings that go one by one
 

@@ -38,6 +38,7 @@ pub mod FreeNodes
 pub mod Gone
 pub mod Crossing
 mod PartsAway
+mod Still
 mod MovesBack
 mod Undone
 mod TradesKept

@@ -18,7 +18,9 @@ use Rattle.gu_tree.proofs.Parts.{some_and}
 use Rattle.gu_book.specs.Filed.{IsFiled, IsNext}
 use Rattle.gu_book.specs.Found.{IsNamedIn, LiesThere, IsFoundThere}
 use Rattle.gu_book.specs.declared.found.Named.{Named}
+use Rattle.gu_base.proofs.Passing.{refusal_parts}
 use Rattle.gu_book.proofs.Filed.{Spot, tree_shown, spot, order}
+use Rattle.gu_book.proofs.Orders.{names_there}
 
 -- the path leads to a node of this name
 abbrev Leads : List ℕ → EntryPart → Option Rose → Type 0
@@ -108,3 +110,11 @@ named_spot {r = r} next o p there n named m e = spot next.filed (order next) m.f
 -- and there is one
 pub never_none : (g : Grove) (k : Option EntryPart) (o : Option Named) (p : List ℕ) → IsFoundThere g k o p → (n : EntryPart) → k ≡ Some n → o ≡ None → ⊥
 never_none g k o p is n named e = rw (named, e) at is
+
+-- what the next change names was found there, in trees that look alike too
+pub next_there : {t : House} {l : List Record} {r : Record} {g : Grove} → IsNext t l r g → (new : Grove) → IsSameGrove g new → (o : Option Named) (p : List ℕ) → IsNamedIn l (named_node r.command) o → LiesThere l o p
+    → IsFoundThere new (named_node r.command) o p
+next_there {t} {l} {r} {g} next new same o p named lies =
+    there_alike g new (named_node r.command) o p same
+    (found_there l g (named_node r.command) o p next.filed named lies
+    (λ n names. names_there t l r.firm r.command n (refusal_parts t l r.firm r.command next.lawful).1 names))

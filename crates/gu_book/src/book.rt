@@ -390,9 +390,13 @@ impl Book {
         ensures kept { OnOk result (self.new ≡ record self.old { history = self.old.history ++ entry_of_change made.now ∷ [] }) }
         ensures unchanged { OnErr result (self.new ≡ self.old) }
     {
-        let kept = made.command.copy(alloc)?;
         make_room(&mut self.entries)?;
         self.index.ids.ready()?;
+        let kept = match made.command {
+            Command::Initiate { entry } => Command::Initiate { entry: *entry },
+            Command::Decline { entry } => Command::Decline { entry: *entry },
+            _ => unreachable!(),
+        };
         consent(&mut self.consents, alloc, made)?;
         self.index.ids.add(made.firm, made.id);
         push(&mut self.entries, made, kept);

@@ -16,7 +16,7 @@
 //! - `free_can_stand_last`: a change on which nothing stands can as well stand last.
 //! - `last_moves_its_own`: a change that stands last moves what it names and makes, and nothing else.
 //!
-//! `proofs/Worked.antt` computes one list of changes through these laws. The cases of `first_standing` are the reversals among those of the
+//! `proofs/Worked.antt` computes one list of changes through these laws. The cases of `first_standing_at` are the reversals among those of the
 //! program `test_book`.
 #![tactic(auto)]
 

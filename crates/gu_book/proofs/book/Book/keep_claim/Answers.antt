@@ -4,8 +4,6 @@ use Rattle.gu_base.specs.History.{live, is_change}
 use Rattle.gu_base.specs.declared.node.Node.{Node}
 use Rattle.gu_base.specs.declared.entry.Record.{Record}
 use Rattle.gu_base.proofs.LiveLaws.{change_is_no_reverse}
-use Rattle.gu_base.proofs.Passing.{refusal_parts}
-use Rattle.gu_tree.specs.Shown.{named_node}
 use Rattle.gu_book.specs.Charging.{AreFeesOf}
 use Rattle.gu_book.specs.Filed.{IsNext}
 use Rattle.gu_book.specs.Found.{IsNamedBy}
@@ -16,9 +14,9 @@ use Rattle.gu_book.proofs.Filed.{due_same, follows_same}
 use Rattle.gu_book.proofs.Indexed.{index_same, ids_few, ids_fewer, index_added}
 use Rattle.gu_book.proofs.Keeps.{next_kept, kept_change, kept_alike, live_few, live_more}
 use Rattle.gu_book.proofs.Leaves.{live_rises}
-use Rattle.gu_book.proofs.OnePlace.{found_there, there_alike}
-use Rattle.gu_book.proofs.Orders.{names_there}
+use Rattle.gu_book.proofs.OnePlace.{next_there}
 use Rattle.gu_book.proofs.PartsAway.{holds_some}
+use Rattle.gu_book.proofs.Still.{still}
 use Rattle.gu_book.proofs.TradesKept.{claim_costs, claim_fits, claim_there, claim_undone, claim_whole, claim_stands}
 use Rattle.gu_book.proofs.Within.{node_within}
 use Rattle.gu_book.proofs.book.Book.keep_claim.Goals.{After-whole_of-whole}
@@ -83,14 +81,8 @@ claim-requires-clause-due c =
 
 pub claim-requires-clause-there : goal.claim-requires-clause-there
 claim-requires-clause-there c =
-    let w = (goal.at.claim-requires-clause-there c).After-whole_of-whole in
-    let l = live c.self.inside.entries.items in
-    let by = c.args.made.now.firm.now in
-    let command = c.args.made.now.command.now in
-    there_alike c.self.inside.trees c.ready-2.new.self (named_node command) c.args.sought.now.named c.args.sought.now.path.items c.in_ok-ready-2.ensures.same
-    (found_there l c.self.inside.trees (named_node command) c.args.sought.now.named c.args.sought.now.path.items (next w).filed
+    next_there (next (goal.at.claim-requires-clause-there c).After-whole_of-whole) c.ready-2.new.self c.in_ok-ready-2.ensures.same c.args.sought.now.named c.args.sought.now.path.items
     (rw (← c.self.view_is) at c.requires.named) (rw (← c.self.view_is) at c.requires.there)
-    (λ n names. names_there c.self.inside.house l by command n (refusal_parts c.self.inside.house l by command (next w).lawful).1 names))
 
 pub take-requires-2 : goal.take-requires-2
 take-requires-2 c =
@@ -131,22 +123,12 @@ invariant_of-self-2 c =
 pub invariant_of-self-in_err-ready-2 : goal.invariant_of-self-in_err-ready-2
 invariant_of-self-in_err-ready-2 c =
     simp (c.make_room.ensures.items)
-    (record {
-      kept = kept_alike c.self.invariant.kept c.ready-2.new.self c.in_err-ready-2.ensures.same;
-      indexed = index_same c.self.invariant.indexed c.ready.new.self (c.in_ok-ready.ensures.same c.self.inside.entries.items c.self.invariant.indexed.ids.chained);
-      charged = c.self.invariant.charged;
-      stands = c.self.invariant.stands;
-    })
+    (still c.self.invariant c.ready-2.new.self c.in_err-ready-2.ensures.same c.ready.new.self (c.in_ok-ready.ensures.same c.self.inside.entries.items c.self.invariant.indexed.ids.chained) c.self.inside.positions (λ at side. refl))
 
 pub invariant_of-self-in_err-put : goal.invariant_of-self-in_err-put
 invariant_of-self-in_err-put c =
     simp (c.make_room.ensures.items)
-    (record {
-      kept = kept_alike c.self.invariant.kept c.ready-2.new.self c.in_ok-ready-2.ensures.same;
-      indexed = index_same c.self.invariant.indexed c.ready.new.self (c.in_ok-ready.ensures.same c.self.inside.entries.items c.self.invariant.indexed.ids.chained);
-      charged = c.self.invariant.charged;
-      stands = record { lots = λ at_key side. c.in_err-put.ensures.same at_key side ∙ c.self.invariant.stands.lots at_key side };
-    })
+    (still c.self.invariant c.ready-2.new.self c.in_ok-ready-2.ensures.same c.ready.new.self (c.in_ok-ready.ensures.same c.self.inside.entries.items c.self.invariant.indexed.ids.chained) c.put.new.positions c.in_err-put.ensures.same)
 
 pub invariant_of-self-in-Err : goal.invariant_of-self-in-Err
 invariant_of-self-in-Err c =

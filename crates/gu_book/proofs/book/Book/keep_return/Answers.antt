@@ -2,16 +2,14 @@ use Rattle.std.proofs.Common.{List, refl, subst}
 use Rattle.gu_base.specs.History.{live}
 use Rattle.gu_base.specs.declared.entry.Record.{Record}
 use Rattle.gu_base.proofs.LiveLaws.{change_is_no_reverse}
-use Rattle.gu_base.proofs.Passing.{refusal_parts}
-use Rattle.gu_tree.specs.Shown.{named_node}
 use Rattle.gu_book.specs.Charging.{AreFeesOf}
 use Rattle.gu_book.specs.Holdings.{ArePositionsOf}
 use Rattle.gu_book.specs.Live.{entry_of_change, record_of}
 use Rattle.gu_book.proofs.Filed.{due_same, follows_same}
-use Rattle.gu_book.proofs.Indexed.{index_same, ids_few, ids_fewer, index_added}
-use Rattle.gu_book.proofs.Keeps.{next_kept, kept_change, kept_alike, live_more}
-use Rattle.gu_book.proofs.OnePlace.{found_there, there_alike}
-use Rattle.gu_book.proofs.Orders.{names_there}
+use Rattle.gu_book.proofs.Indexed.{ids_few, ids_fewer, index_added}
+use Rattle.gu_book.proofs.Keeps.{next_kept, kept_change, live_more}
+use Rattle.gu_book.proofs.OnePlace.{next_there}
+use Rattle.gu_book.proofs.Still.{still}
 use Rattle.gu_book.proofs.TradesKept.{return_free, return_stands, return_changes}
 use Rattle.gu_book.proofs.book.Book.keep_return.Goals as goal
 
@@ -28,13 +26,7 @@ pub give_back-requires-clause-there : goal.give_back-requires-clause-there
 give_back-requires-clause-there c =
     let ok = rw (← c.self.view_is) at c.requires.accepted in
     let next = next_kept c.self.invariant.kept c.args.made.now.number (entry_of_change c.args.made.now) ok (return_changes c.args.made.now.command.now c.requires.back) in
-    let l = live c.self.inside.entries.items in
-    let by = c.args.made.now.firm.now in
-    let command = c.args.made.now.command.now in
-    there_alike c.self.inside.trees c.ready-2.new.self (named_node command) c.args.sought.now.named c.args.sought.now.path.items c.in_ok-ready-2.ensures.same
-    (found_there l c.self.inside.trees (named_node command) c.args.sought.now.named c.args.sought.now.path.items next.filed
-    (rw (← c.self.view_is) at c.requires.named) (rw (← c.self.view_is) at c.requires.there)
-    (λ n names. names_there c.self.inside.house l by command n (refusal_parts c.self.inside.house l by command next.lawful).1 names))
+    next_there next c.ready-2.new.self c.in_ok-ready-2.ensures.same c.args.sought.now.named c.args.sought.now.path.items (rw (← c.self.view_is) at c.requires.named) (rw (← c.self.view_is) at c.requires.there)
 
 pub add-requires-clause-few : goal.add-requires-clause-few
 add-requires-clause-few c =
@@ -60,9 +52,4 @@ invariant_of-self-2 c =
 pub invariant_of-self-in_err-ready-2 : goal.invariant_of-self-in_err-ready-2
 invariant_of-self-in_err-ready-2 c =
     simp (c.make_room.ensures.items)
-    (record {
-      kept = kept_alike c.self.invariant.kept c.ready-2.new.self c.in_err-ready-2.ensures.same;
-      indexed = index_same c.self.invariant.indexed c.ready.new.self (c.in_ok-ready.ensures.same c.self.inside.entries.items c.self.invariant.indexed.ids.chained);
-      charged = c.self.invariant.charged;
-      stands = c.self.invariant.stands;
-    })
+    (still c.self.invariant c.ready-2.new.self c.in_err-ready-2.ensures.same c.ready.new.self (c.in_ok-ready.ensures.same c.self.inside.entries.items c.self.invariant.indexed.ids.chained) c.self.inside.positions (λ at side. refl))

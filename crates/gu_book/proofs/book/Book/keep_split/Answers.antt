@@ -3,8 +3,6 @@ use Rattle.std.specs.Prelude.{Some, filter_map}
 use Rattle.gu_base.specs.History.{live, is_change}
 use Rattle.gu_base.specs.declared.entry.Record.{Record}
 use Rattle.gu_base.proofs.LiveLaws.{change_is_no_reverse}
-use Rattle.gu_base.proofs.Passing.{refusal_parts}
-use Rattle.gu_tree.specs.Shown.{named_node}
 use Rattle.gu_book.specs.Charging.{AreFeesOf}
 use Rattle.gu_book.specs.Filed.{IsNext}
 use Rattle.gu_book.specs.Found.{IsNamedBy}
@@ -12,12 +10,12 @@ use Rattle.gu_book.specs.Holdings.{holding_of, part_away, ArePositionsOf}
 use Rattle.gu_book.specs.Live.{entry_of_change, record_of}
 use Rattle.gu_book.proofs.Filed.{due_same, follows_same, same_both}
 use Rattle.gu_book.proofs.HoldingRows.{put_and_taken}
-use Rattle.gu_book.proofs.Indexed.{index_same, ids_few, ids_fewer, index_added}
-use Rattle.gu_book.proofs.Keeps.{next_kept, kept_change, kept_alike, live_few, live_more}
+use Rattle.gu_book.proofs.Indexed.{ids_few, ids_fewer, index_added}
+use Rattle.gu_book.proofs.Keeps.{next_kept, kept_change, live_few, live_more}
 use Rattle.gu_book.proofs.Leaves.{live_rises}
-use Rattle.gu_book.proofs.OnePlace.{found_there, there_alike}
-use Rattle.gu_book.proofs.Orders.{names_there}
+use Rattle.gu_book.proofs.OnePlace.{next_there}
 use Rattle.gu_book.proofs.PartsAway.{holds_some}
+use Rattle.gu_book.proofs.Still.{still}
 use Rattle.gu_book.proofs.TradesKept.{split_free, split_home, split_fits, split_takes, split_stands}
 use Rattle.gu_book.proofs.book.Book.keep_split.Goals.{After-whole_of-whole}
 use Rattle.gu_book.proofs.book.Book.keep_split.Goals as goal
@@ -67,14 +65,8 @@ split-requires-clause-due c =
 
 pub split-requires-clause-there : goal.split-requires-clause-there
 split-requires-clause-there c =
-    let w = (goal.at.split-requires-clause-there c).After-whole_of-whole in
-    let l = live c.self.inside.entries.items in
-    let by = c.args.made.now.firm.now in
-    let command = c.args.made.now.command.now in
-    there_alike c.self.inside.trees c.ready-2.new.self (named_node command) c.args.sought.now.named c.args.sought.now.path.items c.in_ok-ready-2.ensures.same
-    (found_there l c.self.inside.trees (named_node command) c.args.sought.now.named c.args.sought.now.path.items (next w).filed
+    next_there (next (goal.at.split-requires-clause-there c).After-whole_of-whole) c.ready-2.new.self c.in_ok-ready-2.ensures.same c.args.sought.now.named c.args.sought.now.path.items
     (rw (← c.self.view_is) at c.requires.named) (rw (← c.self.view_is) at c.requires.there)
-    (λ n names. names_there c.self.inside.house l by command n (refusal_parts c.self.inside.house l by command (next w).lawful).1 names))
 
 pub take_moved-requires : goal.take_moved-requires
 take_moved-requires c =
@@ -116,45 +108,22 @@ invariant_of-self-2 c =
 pub invariant_of-self-in_err-ready-2 : goal.invariant_of-self-in_err-ready-2
 invariant_of-self-in_err-ready-2 c =
     simp (c.make_room.ensures.items)
-    (record {
-      kept = kept_alike c.self.invariant.kept c.ready-2.new.self c.in_err-ready-2.ensures.same;
-      indexed = index_same c.self.invariant.indexed c.ready.new.self (c.in_ok-ready.ensures.same c.self.inside.entries.items c.self.invariant.indexed.ids.chained);
-      charged = c.self.invariant.charged;
-      stands = c.self.invariant.stands;
-    })
+    (still c.self.invariant c.ready-2.new.self c.in_err-ready-2.ensures.same c.ready.new.self (c.in_ok-ready.ensures.same c.self.inside.entries.items c.self.invariant.indexed.ids.chained) c.self.inside.positions (λ at side. refl))
 
 pub invariant_of-self-in_err-kept : goal.invariant_of-self-in_err-kept
 invariant_of-self-in_err-kept c =
     simp (c.make_room.ensures.items)
-    (record {
-      kept = kept_alike c.self.invariant.kept c.ready-2.new.self c.in_ok-ready-2.ensures.same;
-      indexed = index_same c.self.invariant.indexed c.ready.new.self (c.in_ok-ready.ensures.same c.self.inside.entries.items c.self.invariant.indexed.ids.chained);
-      charged = c.self.invariant.charged;
-      stands = c.self.invariant.stands;
-    })
+    (still c.self.invariant c.ready-2.new.self c.in_ok-ready-2.ensures.same c.ready.new.self (c.in_ok-ready.ensures.same c.self.inside.entries.items c.self.invariant.indexed.ids.chained) c.self.inside.positions (λ at side. refl))
 
 pub invariant_of-self-in_err-moved : goal.invariant_of-self-in_err-moved
 invariant_of-self-in_err-moved c =
     simp (c.make_room.ensures.items)
-    (record {
-      kept = kept_alike c.self.invariant.kept c.ready-2.new.self c.in_ok-ready-2.ensures.same;
-      indexed = index_same c.self.invariant.indexed c.ready.new.self (c.in_ok-ready.ensures.same c.self.inside.entries.items c.self.invariant.indexed.ids.chained);
-      charged = c.self.invariant.charged;
-      stands = record { lots = λ at_key side. c.in_err-moved.ensures.same at_key side ∙ c.self.invariant.stands.lots at_key side };
-    })
+    (still c.self.invariant c.ready-2.new.self c.in_ok-ready-2.ensures.same c.ready.new.self (c.in_ok-ready.ensures.same c.self.inside.entries.items c.self.invariant.indexed.ids.chained) c.put_all_away.new.positions c.in_err-moved.ensures.same)
 
 pub invariant_of-self-in-Err : goal.invariant_of-self-in-Err
 invariant_of-self-in-Err c =
     let put = rw c.as_slice-2.ensures at c.in_ok-moved.ensures.put in
     let gone = rw c.as_slice-in-Err.ensures at c.take_away.ensures.gone in
     simp (c.make_room.ensures.items)
-    (record {
-      kept = kept_alike c.self.invariant.kept c.split.new.trees (same_both c.self.inside.trees c.ready-2.new.self c.split.new.trees c.in_ok-ready-2.ensures.same c.in-Err.ensures.unchanged);
-      indexed = index_same c.self.invariant.indexed c.ready.new.self (c.in_ok-ready.ensures.same c.self.inside.entries.items c.self.invariant.indexed.ids.chained);
-      charged = c.self.invariant.charged;
-      stands = record {
-        lots = λ at_key side.
-            put_and_taken c.self.inside.positions c.put_all_away.new.positions c.take_away.new.positions (filter_map (part_away c.whole_of-whole.result c.args.made.now.firm.now) c.in-Split.parts) put gone at_key side
-            ∙ c.self.invariant.stands.lots at_key side;
-      };
-    })
+    (still c.self.invariant c.split.new.trees (same_both c.self.inside.trees c.ready-2.new.self c.split.new.trees c.in_ok-ready-2.ensures.same c.in-Err.ensures.unchanged) c.ready.new.self (c.in_ok-ready.ensures.same c.self.inside.entries.items c.self.invariant.indexed.ids.chained) c.take_away.new.positions
+    (put_and_taken c.self.inside.positions c.put_all_away.new.positions c.take_away.new.positions (filter_map (part_away c.whole_of-whole.result c.args.made.now.firm.now) c.in-Split.parts) put gone))

@@ -1,4 +1,4 @@
-use Rattle.std.proofs.Common.{◌≤◌, ◌∙◌, List, length, refl, ap, subst, arith}
+use Rattle.std.proofs.Common.{◌≤◌, List, length, refl, ap, subst, arith}
 use Rattle.gu_base.specs.History.{live, is_change}
 use Rattle.gu_base.specs.declared.entry.Record.{Record}
 use Rattle.gu_base.proofs.LiveLaws.{change_is_no_reverse}
@@ -6,8 +6,9 @@ use Rattle.gu_book.specs.Charging.{AreFeesOf}
 use Rattle.gu_book.specs.Holdings.{ArePositionsOf}
 use Rattle.gu_book.specs.Live.{entry_of_change, record_of}
 use Rattle.gu_book.proofs.Filed.{due_same, follows_same}
-use Rattle.gu_book.proofs.Indexed.{index_same, ids_few, ids_fewer, index_added}
-use Rattle.gu_book.proofs.Keeps.{next_kept, kept_change, kept_alike, live_few, live_more}
+use Rattle.gu_book.proofs.Indexed.{ids_few, ids_fewer, index_added}
+use Rattle.gu_book.proofs.Keeps.{next_kept, kept_change, live_few, live_more}
+use Rattle.gu_book.proofs.Still.{still}
 use Rattle.gu_book.proofs.TradesKept.{trade_free, trade_fits, trade_stands}
 use Rattle.gu_positions.specs.declared.positions.Key.{Key}
 use Rattle.gu_book.proofs.book.Book.keep_trade.Goals as goal
@@ -35,22 +36,12 @@ add-requires-clause-few c =
 pub invariant_of-self-in_err-ready-2 : goal.invariant_of-self-in_err-ready-2
 invariant_of-self-in_err-ready-2 c =
     simp (c.make_room.ensures.items)
-    (record {
-      kept = kept_alike c.self.invariant.kept c.ready-2.new.self c.in_err-ready-2.ensures.same;
-      indexed = index_same c.self.invariant.indexed c.ready.new.self (c.in_ok-ready.ensures.same c.self.inside.entries.items c.self.invariant.indexed.ids.chained);
-      charged = c.self.invariant.charged;
-      stands = c.self.invariant.stands;
-    })
+    (still c.self.invariant c.ready-2.new.self c.in_err-ready-2.ensures.same c.ready.new.self (c.in_ok-ready.ensures.same c.self.inside.entries.items c.self.invariant.indexed.ids.chained) c.self.inside.positions (λ at side. refl))
 
 pub invariant_of-self-in_err-put : goal.invariant_of-self-in_err-put
 invariant_of-self-in_err-put c =
     simp (c.make_room.ensures.items)
-    (record {
-      kept = kept_alike c.self.invariant.kept c.ready-2.new.self c.in_ok-ready-2.ensures.same;
-      indexed = index_same c.self.invariant.indexed c.ready.new.self (c.in_ok-ready.ensures.same c.self.inside.entries.items c.self.invariant.indexed.ids.chained);
-      charged = c.self.invariant.charged;
-      stands = record { lots = λ at_key side. c.in_err-put.ensures.same at_key side ∙ c.self.invariant.stands.lots at_key side };
-    })
+    (still c.self.invariant c.ready-2.new.self c.in_ok-ready-2.ensures.same c.ready.new.self (c.in_ok-ready.ensures.same c.self.inside.entries.items c.self.invariant.indexed.ids.chained) c.put.new.self c.in_err-put.ensures.same)
 
 pub invariant_of-self-2 : goal.invariant_of-self-2
 invariant_of-self-2 c =
