@@ -14,6 +14,7 @@ use Rattle.gu_base.specs.declared.node.Node.{Node}
 use Rattle.gu_tree.specs.Grove.{Grove, IsPlace, place_of as place_kept}
 use Rattle.gu_tree.specs.ShownAll.{place_in}
 use Rattle.gu_book.specs.Filed.{IsFiled}
+use Rattle.gu_book.specs.Holdings.{deal_of}
 use Rattle.gu_book.specs.declared.found.Found.{Found}
 use Rattle.gu_book.specs.declared.found.Named.{Named}
 use Rattle.gu_book.specs.declared.found.Sought.{Sought}
@@ -63,12 +64,13 @@ IsFoundThere g (Some n) None p = ⊥
 IsFoundThere g (Some n) (Some m) p = IsPlace g n m.found.trade p
 
 -- of the live change of this number: what was found of the node that it made or named, to which the path leads in whatever trees these changes have,
--- and what stands on the change
+-- what is traded there, and what stands on the change
 pub record IsUndoneAs (l : List Record) (k : ℕ) (u : Undone) (p : List ℕ) : Type 0 where
   pub name : EntryPart
   pub place : place_in l k ≡ Some name
   pub found : IsFoundIn l name (Some u.found)
   pub there : (g : Grove) → IsFiled l g → IsPlace g name u.found.trade p
+  pub deal : u.deal ≡ deal_of l u.found.trade
   pub stands : (t : House) → IsLegal t l → u.standing ≡ standing_on t l k
 
 -- if there is one

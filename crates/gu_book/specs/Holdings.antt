@@ -16,9 +16,13 @@ use Rattle.gu_positions.specs.declared.positions.Key.{Key}
 use Rattle.gu_book.specs.declared.plain.holdings.Holding.{Holding}
 use Rattle.gu_base.specs.declared.node.Deal.{Deal}
 
+-- what the change of this number trades
+abbrev pub deal_of : List Record → ℕ → Option Deal
+deal_of l k = option_and_then (λ r. deal_in r.command) (find (λ r. r.number == k) l)
+
 -- what a node's trade trades
 abbrev pub traded_at : List Record → EntryPart → Option Deal
-traded_at l n = option_and_then (λ root. option_and_then (λ r. deal_in r.command) (find (λ r. r.number == root.entry) l)) (root_of l n)
+traded_at l n = option_and_then (λ root. deal_of l root.entry) (root_of l n)
 
 -- so many lots of what was traded, in an account
 abbrev pub held_at : Option Place → Option Deal → ℕ → Option Holding

@@ -425,7 +425,7 @@ impl Book {
             unreachable!()
         };
         let charge = charges::charge_of(&self.house, &changes, &entry.command);
-        let back = holdings::goes_back(&changes, &self.trees, entry, &undone.found);
+        let back = holdings::goes_back(&changes, &self.trees, entry, undone);
         holdings::ready_back(&mut self.positions, &back)?;
         self.index.ids.ready()?;
         self.index.reversals.put(change, made.number)?;

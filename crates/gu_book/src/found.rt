@@ -15,9 +15,10 @@ ghost use Rattle.gu_tree.specs.Shown.{named_node};
 ghost use Rattle.gu_tree.specs.ShownAll.{place_in};
 
 use crate::live::Live;
+use crate::plain::holdings::traded_under;
 use crate::plain::nodes::node_of;
 use crate::visits;
-use gu_base::{Command, FirmId, Node, NodeName, Number, State};
+use gu_base::{Command, Deal, FirmId, Node, NodeName, Number, State};
 use gu_depend::first_standing_at;
 use gu_tree::{Head, Path, Spot, Trees};
 use std::alloc::Global;
@@ -101,6 +102,8 @@ pub(crate) struct Named {
 pub(crate) struct Undone {
     /// The node that it made or named.
     pub(crate) found: Found,
+    /// What is traded there.
+    pub(crate) deal: Option<Deal>,
     /// The first change that stands on it.
     pub(crate) standing: Option<Number>,
 }
@@ -174,6 +177,7 @@ fn seek_change(changes: &Live<'_>, trees: &Trees<Global>, number: Number, sought
     sought.nodes = found.depth as u64 + 1 + visits::parts_in(made.command);
     sought.undone = Some(Undone {
         found,
+        deal: traded_under(changes, spot.trade),
         standing: first_standing_at(&spot, number),
     });
 }

@@ -1,15 +1,16 @@
 //! The lots that stand in an account, and which of them a change moves.
 ghost use Rattle.std.specs.Prelude.{◌≡◌, ◌≤◌, ◌<◌, ◌+◌, ◌^◌, ◌==◌, [], ◌∷◌, length, take, find, filter_map, sum_by, Some, None, option_and_then, option_map, IfSome, IsSome, IfOk, OnOk, OnErr};
 ghost use Rattle.std.specs.List.{cons_option};
-ghost use Rattle.gu_base.specs.Nodes.{deal_in, node_of};
+ghost use Rattle.gu_base.specs.Nodes.{node_of};
+ghost use Rattle.gu_base.specs.declared.entry.Record.{Record as RecordData};
 ghost use Rattle.gu_base.specs.Numbers.{EntryPart};
 ghost use Rattle.gu_book.specs.Found.{AreTreesOf, IsFoundAs, IsFoundIn};
-ghost use Rattle.gu_book.specs.Holdings.{held_at, holding_of, held_above, taken_before, holding_away, part_away, lots_told, goes_back, comes_from, HasFewLots, HaveRoom, SameLots, HaveMoved, HaveThere, IsReadyBack, HasRoomBack};
+ghost use Rattle.gu_book.specs.Holdings.{deal_of, held_at, holding_of, held_above, taken_before, holding_away, part_away, lots_told, goes_back, comes_from, HasFewLots, HaveRoom, SameLots, HaveMoved, HaveThere, IsReadyBack, HasRoomBack};
 ghost use Rattle.gu_positions.specs.Rows.{IsReady, lots_in};
 ghost use Rattle.gu_tree.specs.Shown.{named_node};
 ghost use Rattle.gu_positions.specs.declared.positions.Key.{Key as KeyData};
 
-use crate::found::{Found, Named, find};
+use crate::found::{Named, Undone, find};
 use crate::live::Live;
 use crate::plain::nodes::parent_of;
 use gu_base::{
@@ -28,8 +29,8 @@ pub(crate) struct Holding {
 }
 
 /// What was traded by the entry of this number.
-fn traded_under(changes: &Live<'_>, number: Number) -> Option<Deal>
-    ensures { result ≡ option_and_then (λ r. deal_in r.command) (find (λ r. r.number == number) changes.now) }
+pub(crate) fn traded_under(changes: &Live<'_>, number: Number) -> Option<Deal>
+    ensures { result ≡ deal_of changes.now number }
 {
     match changes.change(number) {
         Some(made) => Deal::in_command(made.command),
@@ -77,26 +78,25 @@ pub(crate) fn whole_of(changes: &Live<'_>, named: &Named) -> Holding
     }
 }
 
-/// The lots of a node that was found, where it stands.
-fn holding_found(changes: &Live<'_>, found: &Found) -> Option<Holding>
-    ensures { (n : EntryPart) → IsFoundIn changes.now n (Some found.now) → result ≡ option_and_then (holding_of changes.now) (node_of changes.now n) }
+/// The lots of the node of a change that is to be undone, where it stands.
+fn holding_found(undone: &Undone) -> Option<Holding>
+    ensures { (l : List RecordData) (n : EntryPart) → IsFoundIn l n (Some undone.now.found) → undone.now.deal ≡ deal_of l undone.now.found.trade
+        → result ≡ option_and_then (holding_of l) (node_of l n) }
 {
-    held_at(
-        &found.head.place,
-        &traded_under(changes, found.trade),
-        found.head.lots,
-    )
+    let found = &undone.found;
+    held_at(&found.head.place, &undone.deal, found.head.lots)
 }
 
-/// The lots of the node of this name, which was found, with the node above it.
+/// The lots of the node of this name, whose change is to be undone, with the node above it.
 fn holding_above(
     changes: &Live<'_>,
     trees: &Trees<Global>,
     name: NodeName,
-    found: &Found,
+    undone: &Undone,
 ) -> Option<Holding>
     requires trees { AreTreesOf changes.now trees.now }
-    requires found { IsFoundIn changes.now name (Some found.now) }
+    requires found { IsFoundIn changes.now name (Some undone.now.found) }
+    requires deal { undone.now.deal ≡ deal_of changes.now undone.now.found.trade }
     ensures { result ≡ option_and_then (held_above changes.now) (node_of changes.now name) }
 {
     let Some(parent) = parent_of(changes, &name) else {
@@ -104,11 +104,7 @@ fn holding_above(
     };
     match find(trees, parent) {
         None => None,
-        Some(above) => held_at(
-            &above.head.place,
-            &traded_under(changes, found.trade),
-            found.head.lots,
-        ),
+        Some(above) => held_at(&above.head.place, &undone.deal, undone.found.head.lots),
     }
 }
 
@@ -275,15 +271,16 @@ pub(crate) fn goes_back(
     changes: &Live<'_>,
     trees: &Trees<Global>,
     entry: &Entry,
-    found: &Found,
+    undone: &Undone,
 ) -> Option<Holding>
     requires trees { AreTreesOf changes.now trees.now }
-    requires found { (n : EntryPart) → named_node entry.now.command ≡ Some n → IsFoundIn changes.now n (Some found.now) }
+    requires found { (n : EntryPart) → named_node entry.now.command ≡ Some n → IsFoundIn changes.now n (Some undone.now.found) }
+    requires deal { undone.now.deal ≡ deal_of changes.now undone.now.found.trade }
     requires few { HasFewLots entry.now.command }
     ensures { result ≡ goes_back entry.now.firm entry.now.command (taken_before changes.now entry.now.command) }
 {
     match &entry.command {
-        Command::Split { parts, .. } => match holding_found(changes, found) {
+        Command::Split { parts, .. } => match holding_found(undone) {
             None => None,
             Some(whole) => Some(Holding {
                 key: whole.key,
@@ -291,7 +288,7 @@ pub(crate) fn goes_back(
                 lots: lots_away(&whole, &entry.firm, parts.as_slice()),
             }),
         },
-        Command::Claim { node, .. } => holding_above(changes, trees, *node, found),
+        Command::Claim { node, .. } => holding_above(changes, trees, *node, undone),
         _ => None,
     }
 }

@@ -4,6 +4,7 @@ use Rattle.gu_base.proofs.Numbered.{rises_later}
 use Rattle.gu_tree.specs.Grove.{HasTree, IsPlace, place_of}
 use Rattle.gu_tree.specs.Paths.{node_at}
 use Rattle.gu_tree.specs.ShownAll.{change_of}
+use Rattle.gu_book.specs.Holdings.{deal_of}
 use Rattle.gu_book.specs.Live.{record_of}
 use Rattle.gu_book.proofs.AllShown.{all_shown}
 use Rattle.gu_book.proofs.OnePlace.{one_place}
@@ -27,6 +28,7 @@ returns-clause-undone c =
       place = sym (are.filed.placed c.args.number) ∙ m.1;
       found = c.found_at-found.ensures.found l m.0 c.args.trees.now are m.2 tree;
       there = λ h filed. subst (λ (k : ℕ). IsPlace h m.0 k c.named.new.path.items) (sym c.found_at-found.ensures.trade) (one_place are.filed m.0 c.in-Some-named.spot.trade c.named.new.path.items m.2 h filed);
+      deal = c.traded_under.ensures ∙ ap (deal_of l) (sym c.found_at-found.ensures.trade);
       stands = λ t legal. c.first_standing_at.ensures t l c.args.trees.now c.named.new.path.items (rises_later 0 1 l (omega arith) are.rises) legal (all_shown are.filed) at tree;
     }
 
