@@ -1,5 +1,5 @@
 //! The lots that stand in an account, and which of them a change moves.
-ghost use Rattle.std.specs.Prelude.{◌≡◌, ◌≤◌, ◌<◌, ◌+◌, ◌^◌, ◌==◌, [], ◌∷◌, length, take, find, filter_map, sum_by, Some, None, option_and_then, option_map, IfSome, IsSome, IfOk, OnOk, OnErr};
+ghost use Rattle.std.specs.Prelude.{◌≡◌, ◌≤◌, ◌<◌, ◌+◌, ◌^◌, ◌==◌, List, [], ◌∷◌, length, take, filter_map, sum_by, Some, None, option_and_then, option_map, IfSome, IsSome, IfOk, OnOk, OnErr};
 ghost use Rattle.std.specs.List.{cons_option};
 ghost use Rattle.gu_base.specs.Nodes.{node_of};
 ghost use Rattle.gu_base.specs.declared.entry.Record.{Record as RecordData};
