@@ -8,7 +8,7 @@ use Rattle.std.specs.declared.hash.FoldHasher.{FoldHasher}
 use Rattle.gu_base.specs.declared.entry.Entry.{Entry}
 use Rattle.gu_ids.specs.declared.ids.Ids.{Ids}
 use Rattle.gu_ids.specs.declared.ids.Link.{Link}
-use Rattle.gu_ids.specs.Chains.{hash_of, hashes_of, befores_of, newests_of, is_in, AreIdsOf, count}
+use Rattle.gu_ids.specs.Chains.{hash_of, hashes_of, befores_of, newests_of, is_in, AreIdsOf, Stands, chain, count}
 use Rattle.gu_ids.specs.Marks.{bucket_of, bears, marks_of}
 use Rattle.gu_ids.specs.Newest.{newest, is_of, is_at, unless_zero, newest_of}
 use Rattle.gu_ids.proofs.Links.{length_map}
@@ -27,16 +27,6 @@ same_hash hasher firm id (d ∷ h) zero e =
     let p = and_parts (bytes_eq d.firm firm) (bytes_eq d.id id) e in
     ap (λ f. hash_of hasher f d.id) ((bytes_eq-Decides d.firm firm).0 p.0) ∙ ap (hash_of hasher firm) ((bytes_eq-Decides d.id id).0 p.1)
 same_hash hasher firm id (d ∷ h) (suc j) e = same_hash hasher firm id h j e
-
--- the places of the entries that share the bucket of this firm and id
-abbrev pub chain : Ids → List ℕ → List ℕ → ℕ → Bool
-chain ids firm id = is_in (hashes_of ids.links.items) (length (newests_of ids.heads.items)) (bucket_of (hash_of ids.hasher firm id) (length (newests_of ids.heads.items)))
-
--- where a walk stands at a number: no entry above it has the firm and id, and it is of their chain
-pub record Stands (ids : Ids) (h : List Entry) (firm id : List ℕ) (number : ℕ) : Type 0 where
-  pub so_far : newest (is_at h firm id) number ≡ newest (is_at h firm id) (length h)
-  pub within : number ≤ length h
-  pub chained : newest (chain ids firm id) number ≡ number
 
 both_true : (a b : Bool) → a ≡ true → b ≡ true → (a && b) ≡ true
 both_true a b x y = ap (λ c. c && b) x ∙ y

@@ -7,7 +7,7 @@ use Rattle.gu_ids.specs.declared.ids.Ids.{Ids}
 use Rattle.gu_ids.specs.declared.ids.Link.{Link}
 use Rattle.gu_ids.specs.declared.ids.Head.{Head}
 use Rattle.gu_ids.specs.Marks.{bucket_of, marks_of, AreMarked}
-use Rattle.gu_ids.specs.Newest.{newest}
+use Rattle.gu_ids.specs.Newest.{newest, is_at}
 
 -- the hash of a firm and an id: the upper half of what the hasher makes of their bytes
 unfoldable pub hash_of : FoldHasher → List ℕ → List ℕ → ℕ
@@ -46,3 +46,13 @@ count ids = length ids.links.items
 pub record IsReady (ids : Ids) : Type 0 where
   pub room : vec_len ids.links < vec_capacity ids.links
   pub buckets : count ids < length ids.heads.items
+
+-- the places of the entries that share the bucket of this firm and id
+abbrev pub chain : Ids → List ℕ → List ℕ → ℕ → Bool
+chain ids firm id = is_in (hashes_of ids.links.items) (length (newests_of ids.heads.items)) (bucket_of (hash_of ids.hasher firm id) (length (newests_of ids.heads.items)))
+
+-- where a walk stands at a number: no entry above it has the firm and id, and it is of their chain
+pub record Stands (ids : Ids) (h : List Entry) (firm id : List ℕ) (number : ℕ) : Type 0 where
+  pub so_far : newest (is_at h firm id) number ≡ newest (is_at h firm id) (length h)
+  pub within : number ≤ length h
+  pub chained : newest (chain ids firm id) number ≡ number

@@ -2,7 +2,7 @@
 ghost use Rattle.std.specs.Prelude.{true, ◌≡◌, ◌≤◌, ◌<◌, ◌==◌, ◌&&◌, [], ◌∷◌, ◌++◌, ℕ, List, length, replicate, OnOk};
 ghost use Rattle.gu_base.specs.Limits.{most_entries};
 ghost use Rattle.gu_base.specs.declared.entry.Entry.{Entry};
-ghost use Rattle.gu_ids.specs.Chains.{hash_of, hashes_of, befores_of, newests_of, AreChains, AreIdsOf, IsReady, count};
+ghost use Rattle.gu_ids.specs.Chains.{hash_of, hashes_of, befores_of, newests_of, AreChains, AreIdsOf, IsReady, Stands, count};
 ghost use Rattle.gu_ids.specs.Marks.{bucket_of, mark_of, bears, marks_of, AreMarked};
 ghost use Rattle.gu_ids.specs.Newest.{is_of, newest_of};
 
@@ -139,7 +139,28 @@ impl Ids {
         if !head.bears(hash) {
             return None;
         }
-        let mut number = head.newest;
+        self.walk(entries, firm, id, hash, head.newest)
+    }
+
+    /// The same, by a walk along a chain from the entry of this number on, 0 for none. It stands apart, so that a new id is told by the marks alone:
+    /// that its bucket is empty too is a branch that can't be foreseen, and what comes behind would wait for it.
+    #[cold]
+    #[inline(never)]
+    fn walk(
+        &self,
+        entries: &[Entry],
+        firm: &FirmId,
+        id: &AllocId,
+        hash: u32,
+        newest: u32,
+    ) -> Option<Number>
+        requires ids { AreIdsOf self.now entries.now }
+        requires few { length entries.now ≤ most_entries }
+        requires hash { hash ≡ hash_of self.now.hasher firm.now id.now }
+        requires stands { Stands self.now entries.now firm.now id.now newest }
+        ensures { result ≡ newest_of entries.now firm.now id.now }
+    {
+        let mut number = newest;
         while number != 0 {
             let place = number as usize - 1;
             let link = self.links[place];

@@ -1,5 +1,5 @@
-use Rattle.gu_ids.proofs.Walk.{Stands}
-use Rattle.gu_ids.proofs.ids.Ids.number.Given as goal
+use Rattle.gu_ids.specs.Chains.{Stands}
+use Rattle.gu_ids.proofs.ids.Ids.walk.Given as goal
 
 abbrev pub invariant-loop-number : goal.invariant-loop-number
 invariant-loop-number l = Stands l.self l.entries l.firm l.id l.number
