@@ -30,10 +30,10 @@ abbrev pub ReadsHouse : Option (List ℕ) → Result House Fault → Type 0
 ReadsHouse known (Ok house) = Names known (Ok house)
 ReadsHouse known (Err e) = IsHouseFault known e
 
--- the words ask for a server, and the house file that they name has a house table
-pub record IsAskedToServe (words : List Text) (bytes_at : Text → Option (List ℕ)) : Type 0 where
+-- the words are those of this command, and the house file that they name has a house table
+pub record Asks (command : Text) (words : List Text) (bytes_at : Text → Option (List ℕ)) : Type 0 where
   pub path : Text
-  pub command : command_in words ≡ Some (codes "serve")
+  pub is : command_in words ≡ Some command
   pub asked : house_in words ≡ Some path
   pub house : House
   pub named : Names (bytes_at path) (Ok house)
@@ -42,28 +42,20 @@ pub record IsAskedToServe (words : List Text) (bytes_at : Text → Option (List 
 abbrev pub Stops : List Text → (Text → Option (List ℕ)) → Fault → Type 0
 Stops words bytes_at (Usage text) = Unit {0}
 Stops words bytes_at (Run Memory) = Unit {0}
-Stops words bytes_at (Service error) = IsAskedToServe words bytes_at
+Stops words bytes_at (Service error) = Asks (codes "serve") words bytes_at
 Stops words bytes_at e = (path : Text) × (house_in words ≡ Some path) × IsHouseFault (bytes_at path) e
 
 -- a batch was run, by the house table that the house file of the words names
 pub record HasRun {A : Type 0} (words : List Text) (bytes_at : Text → Option (List ℕ)) (old new : Told) (result : Result A RunError) : Type 0 where
-  pub path : Text
-  pub command : command_in words ≡ Some (codes "batch")
-  pub asked : house_in words ≡ Some path
-  pub house : House
-  pub named : Names (bytes_at path) (Ok house)
-  pub runs : Runs house old new result
+  pub by : Asks (codes "batch") words bytes_at
+  pub runs : Runs by.house old new result
 
 -- a trace was run, by the house table that the house file of the words names, for the trade that they name
 pub record HasTraced {A : Type 0} (words : List Text) (bytes_at : Text → Option (List ℕ)) (old new : Told) (result : Result A RunError) : Type 0 where
-  pub path : Text
-  pub command : command_in words ≡ Some (codes "trace")
-  pub asked : house_in words ≡ Some path
+  pub by : Asks (codes "trace") words bytes_at
   pub trade : Option ℕ
   pub meant : trade_meant (trade_in words) ≡ Some trade
-  pub house : House
-  pub named : Names (bytes_at path) (Ok house)
-  pub traces : Traces house trade old new result
+  pub traces : Traces by.house trade old new result
 
 -- ---- the server
 
@@ -80,13 +72,9 @@ Serves {A} house old new failed_before failed (Err _) = ⊥
 
 -- connections were served, by the house table that the house file of the words names, and the totals of the book behind them were written
 pub record HasServed {A : Type 0} (words : List Text) (bytes_at : Text → Option (List ℕ)) (old new : Told) (result : Result A RunError) : Type 0 where
-  pub path : Text
-  pub command : command_in words ≡ Some (codes "serve")
-  pub asked : house_in words ≡ Some path
-  pub house : House
-  pub named : Names (bytes_at path) (Ok house)
+  pub by : Asks (codes "serve") words bytes_at
   pub book : HouseAndHistory
-  pub served : IsServed house book
+  pub served : IsServed by.house book
   pub unread : (new.left ≡ old.left) × (new.made ≡ old.made) × (new.reads_failed ≡ old.reads_failed)
   pub totals : WritesTotals book.house book.history old.contents new.contents old.writes_failed new.writes_failed result
 
