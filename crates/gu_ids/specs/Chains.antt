@@ -1,5 +1,5 @@
 -- Chains of entries, one for each bucket: from its newest entry to the one before it in the bucket, and so on.
-use Rattle.std.specs.Prelude.{◌≡◌, ◌≤◌, ◌<◌, ◌/◌, ◌^◌, ◌==◌, ℕ, Bool, List, length, map, slice_index_or, vec_len, vec_capacity}
+use Rattle.std.specs.Prelude.{◌≡◌, ◌≤◌, ◌<◌, ◌*◌, ◌/◌, ◌^◌, ◌==◌, ℕ, Bool, List, length, map, slice_index_or, vec_len, vec_capacity}
 use Rattle.std.specs.Hash.FoldHasher as folding
 use Rattle.std.specs.declared.hash.FoldHasher.{FoldHasher}
 use Rattle.gu_base.specs.declared.entry.Entry.{Entry}
@@ -36,7 +36,7 @@ pub record AreIdsOf (ids : Ids) (h : List Entry) : Type 0 where
   pub hashes : hashes_of ids.links.items ≡ map (λ e. hash_of ids.hasher e.firm e.id) h
   pub chains : AreChains (hashes_of ids.links.items) (befores_of ids.links.items) (newests_of ids.heads.items) (length ids.links.items)
   pub marked : AreMarked (hashes_of ids.links.items) (marks_of ids.heads.items) (length ids.links.items)
-  pub few : length ids.links.items ≤ length ids.heads.items
+  pub few : length ids.links.items ≤ 2 * length ids.heads.items
 
 -- the entries that are kept
 abbrev pub count : Ids → ℕ
@@ -45,7 +45,7 @@ count ids = length ids.links.items
 -- there is room for one entry more, and a bucket for it
 pub record IsReady (ids : Ids) : Type 0 where
   pub room : vec_len ids.links < vec_capacity ids.links
-  pub buckets : count ids < length ids.heads.items
+  pub buckets : count ids < 2 * length ids.heads.items
 
 -- the places of the entries that share the bucket of this firm and id
 abbrev pub chain : Ids → List ℕ → List ℕ → ℕ → Bool

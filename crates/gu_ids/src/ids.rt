@@ -1,5 +1,5 @@
 //! The numbers of a history's entries, in chains by hash.
-ghost use Rattle.std.specs.Prelude.{true, ◌≡◌, ◌≤◌, ◌<◌, ◌==◌, ◌&&◌, [], ◌∷◌, ◌++◌, ℕ, List, length, replicate, OnOk};
+ghost use Rattle.std.specs.Prelude.{true, ◌≡◌, ◌≤◌, ◌<◌, ◌*◌, ◌==◌, ◌&&◌, [], ◌∷◌, ◌++◌, ℕ, List, length, replicate, OnOk};
 ghost use Rattle.gu_base.specs.Limits.{most_entries};
 ghost use Rattle.gu_base.specs.declared.entry.Entry.{Entry};
 ghost use Rattle.gu_ids.specs.Chains.{hash_of, hashes_of, befores_of, newests_of, AreChains, AreIdsOf, IsReady, Stands, count};
@@ -172,7 +172,7 @@ impl Ids {
         None
     }
 
-    /// Makes room for one more entry. Where there are no more buckets than entries it makes twice as many, and links all entries anew.
+    /// Makes room for one more entry. Where there are twice as many entries as buckets it makes twice as many buckets, and links all entries anew.
     ///
     /// # Errors
     ///
@@ -182,22 +182,22 @@ impl Ids {
         ensures ready { OnOk result (IsReady self.new) }
         ensures same { (h : List Entry) → AreIdsOf self.old h → AreIdsOf self.new h }
     {
-        if self.links.len() >= self.heads.len() {
+        if self.links.len() / 2 >= self.heads.len() {
             self.grow()?;
         }
         self.links.reserve(1)?;
         Ok(())
     }
 
-    /// Makes twice as many buckets as there are entries, in place of those that are there, and links all entries anew.
+    /// Makes as many buckets as there are entries, in place of those that are there, and links all entries anew.
     #[cold]
     #[inline(never)]
     fn grow(&mut self) -> Result<(), Memory>
         requires { count self.old ≤ most_entries }
-        ensures buckets { OnOk result (count self.new < length self.new.heads.items) }
+        ensures buckets { OnOk result (count self.new < 2 * length self.new.heads.items) }
         ensures same { (h : List Entry) → AreIdsOf self.old h → AreIdsOf self.new h }
     {
-        let buckets = self.links.len().max(FEWEST_BUCKETS / 2) * 2;
+        let buckets = self.links.len().max(FEWEST_BUCKETS);
         let alloc = *self.heads.allocator();
         self.heads = Vec::from_elem(alloc, Head::NONE, buckets)?;
         self.link_anew();
