@@ -1,6 +1,6 @@
 -- The least number that stands on the parts of a node, and which it is in a list that the tree shows.
-use Rattle.std.proofs.Common.{◌≡◌, ℕ, zero, suc, ◌+◌, ◌<◌, min, Option, Some, None, IsSomeAnd, List, [], ◌∷◌, ◌++◌, length, get_or, take, refl, ap, sym, ◌∙◌, subst, arith, append_assoc, append-nil}
-use Rattle.std.specs.Prelude.{flat_map, option_map, option_and_then}
+use Rattle.std.proofs.Common.{◌≡◌, Bool, true, false, ◌&&◌, ℕ, zero, suc, ◌+◌, ◌<◌, min, Option, Some, None, IsSomeAnd, List, [], ◌∷◌, ◌++◌, length, get_or, take, refl, ap, sym, ◌∙◌, subst, arith, append_assoc, append-nil}
+use Rattle.std.specs.Prelude.{flat_map, is_none, option_map, option_and_then}
 use Rattle.std.specs.Option.{option_to_list}
 use Rattle.std.proofs.lemmas.List.{take_more}
 use Rattle.gu_base.specs.Nodes.{nodes_of, decision_of}
@@ -9,7 +9,9 @@ use Rattle.gu_base.specs.declared.entry.Record.{Record}
 use Rattle.gu_base.specs.declared.node.Place.{Place}
 use Rattle.gu_base.specs.declared.node.Node.{Node}
 use Rattle.gu_tree.specs.Rose.{Rose, Roses, leaf, parted, no_parts, part_then, from_list, head_of}
+use Rattle.gu_tree.specs.Changes.{is_undecided_leaf, are_undecided_leaves}
 use Rattle.gu_tree.specs.Paths.{part_at, node_at, HasAt}
+use Rattle.gu_tree.specs.declared.head.Head.{Head}
 use Rattle.gu_tree.specs.Shown.{IsNodeOf, ArePartsOf, IsTreeOf}
 use Rattle.gu_tree.specs.NumbersOn.{number_in, numbers_on, least_with, least, lesser, numbers_at, numbers_at_each, numbers_on_parts}
 use Rattle.gu_tree.proofs.Along.{its-head}
@@ -40,6 +42,29 @@ least-more xs i u h e =
     rw (take_more xs i u h, ← e)
     (ap least (each-append (take i xs) (u ∷ []) ∙ ap (λ ns. numbers_at_each (from_list (take i xs)) ++ ns) (append-nil (numbers_at u)))
     ∙ least-append (numbers_at_each (from_list (take i xs))) (numbers_at u))
+
+-- ---- where nothing stands on the parts
+
+undecided-numbers : (t : Rose) → is_undecided_leaf t ≡ true → numbers_at t ≡ []
+undecided-numbers (leaf h) is = none h.decision is
+  where
+    none : (o : Option ℕ) → is_none o ≡ true → option_to_list o ≡ []
+    none None e = refl
+    none (Some n) e = absurd (cc)
+undecided-numbers (parted h n ts) is = absurd (cc)
+
+both : (a b : Bool) → (a && b) ≡ true → (a ≡ true) × (b ≡ true)
+both true b e = (refl, e)
+both false b e = absurd (cc)
+
+undecided-each : (ts : Roses) → are_undecided_leaves ts ≡ true → numbers_at_each ts ≡ []
+undecided-each no_parts is = refl
+undecided-each (part_then t ts) is =
+    let b = both (is_undecided_leaf t) (are_undecided_leaves ts) is in
+    rw (undecided-numbers t b.0, undecided-each ts b.1) refl
+
+pub first-of_none : (t : Rose) (h : Head) (n : ℕ) (xs : List Rose) → parted h n (from_list xs) ≡ t → are_undecided_leaves (from_list xs) ≡ true → None ≡ least (numbers_on_parts t)
+first-of_none t h n xs o is = rw (← o, undecided-each (from_list xs) is) refl
 
 -- ---- in a list that the tree shows
 
