@@ -14,6 +14,7 @@ ghost use Rattle.gu_base.specs.declared.entry.Answer.TheVariants.{Accepted};
 ghost use Rattle.gu_base.specs.Runs.{IsRunFrom, call_of};
 ghost use Rattle.gu_base.specs.declared.command.Command.TheVariants.{Initiate, Decline, Reverse};
 ghost use Rattle.gu_consent.specs.Given.{given};
+ghost use Rattle.gu_ids.specs.Chains.{IsHashOf};
 ghost use Rattle.gu_tree.specs.Shown.{shown, named_node};
 ghost use Rattle.gu_book.specs.Front.{may_lack};
 ghost use Rattle.gu_book.specs.Ids.{NoIdTwice};
@@ -37,6 +38,7 @@ use gu_base::{
 };
 use gu_consent::Consents;
 use gu_fees::Fees;
+use gu_ids::IdHash;
 use gu_parties::House;
 use gu_positions::{Key, Positions};
 use gu_tree::{Row, Trees};
@@ -133,7 +135,8 @@ impl Book {
     {
         let mut sought = Sought::nothing();
         self.seek(command, &mut sought);
-        let answer = self.answer(by, id, command, &sought);
+        let hash = IdHash::of(by, id);
+        let answer = self.answer(by, id, hash, command, &sought);
         self.note(sought.nodes);
         match answer {
             Answer::Accepted { number, status } => {
@@ -144,7 +147,7 @@ impl Book {
                     status,
                     command,
                 };
-                self.carry_out(alloc, &made, &sought)?;
+                self.carry_out(alloc, &made, hash, &sought)?;
                 self.note(sought.nodes + visits::nodes_made(command));
                 Ok(answer)
             }
@@ -180,7 +183,15 @@ impl Book {
     }
 
     /// The answer to a call of whose command this is known. Keeps nothing and takes no memory.
-    fn answer(&self, by: &FirmId, id: &AllocId, command: &Command, sought: &Sought) -> Answer
+    fn answer(
+        &self,
+        by: &FirmId,
+        id: &AllocId,
+        hash: IdHash,
+        command: &Command,
+        sought: &Sought,
+    ) -> Answer
+        requires hashed { IsHashOf hash by.now id.now }
         requires named { IsNamedIn (live self.now.history) (named_node command.now) sought.now.named }
         requires undone { IsUndoneIn (live self.now.history) command.now sought.now.undone sought.now.path.items }
         ensures { result ≡ answer_to self.now.house self.now.history (record { firm = by.now; id = id.now; command = command.now }) }
@@ -194,7 +205,7 @@ impl Book {
             index: &self.index,
             consents: &self.consents,
         };
-        let answer = front_answer(&at, by, id, command);
+        let answer = front_answer(&at, by, id, hash, command);
         let Answer::Accepted { .. } = answer else {
             return answer;
         };
@@ -208,28 +219,38 @@ impl Book {
     }
 
     /// Keeps an accepted call: each kind in a function of its own, so that each runs through no more code and no larger a frame than it needs.
-    fn carry_out(&mut self, alloc: Global, made: &Change<'_>, sought: &Sought) -> Result<(), Memory>
+    fn carry_out(
+        &mut self,
+        alloc: Global,
+        made: &Change<'_>,
+        hash: IdHash,
+        sought: &Sought,
+    ) -> Result<(), Memory>
         requires named { IsNamedIn (live self.old.history) (named_node made.now.command.now) sought.now.named }
         requires undone { IsUndoneIn (live self.old.history) made.now.command.now sought.now.undone sought.now.path.items }
         requires there { LiesThere (live self.old.history) sought.now.named sought.now.path.items }
+        requires hashed { IsHashOf hash made.now.firm.now made.now.id.now }
         requires accepted { answer_to self.old.house self.old.history (call_of (entry_of_change made.now)) ≡ Accepted made.now.number made.now.status }
         ensures kept { OnOk result (self.new ≡ record self.old { history = self.old.history ++ entry_of_change made.now ∷ [] }) }
         ensures unchanged { OnErr result (self.new ≡ self.old) }
     {
         match made.command {
-            Command::Trade { .. } => self.keep_trade(alloc, made),
-            Command::Split { .. } => self.keep_split(alloc, made, sought),
-            Command::Claim { .. } => self.keep_claim(made, sought),
-            Command::Refuse { .. } | Command::Cancel { .. } => self.keep_return(made, sought),
-            Command::Initiate { .. } | Command::Decline { .. } => self.keep_consenting(alloc, made),
-            Command::Reverse { entry } => self.keep_reversal(made, *entry, sought),
+            Command::Trade { .. } => self.keep_trade(alloc, made, hash),
+            Command::Split { .. } => self.keep_split(alloc, made, hash, sought),
+            Command::Claim { .. } => self.keep_claim(made, hash, sought),
+            Command::Refuse { .. } | Command::Cancel { .. } => self.keep_return(made, hash, sought),
+            Command::Initiate { .. } | Command::Decline { .. } => {
+                self.keep_consenting(alloc, made, hash)
+            }
+            Command::Reverse { entry } => self.keep_reversal(made, hash, *entry, sought),
         }
     }
 
     /// Puts an accepted Trade at the end of the history, its lots where they go, and its tree beside the others.
     #[inline(never)]
-    fn keep_trade(&mut self, alloc: Global, made: &Change<'_>) -> Result<(), Memory>
+    fn keep_trade(&mut self, alloc: Global, made: &Change<'_>, hash: IdHash) -> Result<(), Memory>
         requires trade { is_trade made.now.command.now ≡ true }
+        requires hashed { IsHashOf hash made.now.firm.now made.now.id.now }
         requires accepted { answer_to self.old.house self.old.history (call_of (entry_of_change made.now)) ≡ Accepted made.now.number made.now.status }
         ensures kept { OnOk result (self.new ≡ record self.old { history = self.old.history ++ entry_of_change made.now ∷ [] }) }
         ensures unchanged { OnErr result (self.new ≡ self.old) }
@@ -258,7 +279,7 @@ impl Book {
             account: *account,
         };
         grove::plant(&mut self.trees, alloc, made, place, *lots);
-        self.index.ids.add(made.firm, made.id);
+        self.index.ids.add(hash);
         let kept = Command::Trade {
             firm: *firm,
             account: *account,
@@ -277,11 +298,13 @@ impl Book {
         &mut self,
         alloc: Global,
         made: &Change<'_>,
+        hash: IdHash,
         sought: &Sought,
     ) -> Result<(), Memory>
         requires split { is_split made.now.command.now ≡ true }
         requires named { IsNamedIn (live self.old.history) (named_node made.now.command.now) sought.now.named }
         requires there { LiesThere (live self.old.history) sought.now.named sought.now.path.items }
+        requires hashed { IsHashOf hash made.now.firm.now made.now.id.now }
         requires accepted { answer_to self.old.house self.old.history (call_of (entry_of_change made.now)) ≡ Accepted made.now.number made.now.status }
         ensures kept { OnOk result (self.new ≡ record self.old { history = self.old.history ++ entry_of_change made.now ∷ [] }) }
         ensures unchanged { OnErr result (self.new ≡ self.old) }
@@ -309,7 +332,7 @@ impl Book {
             return Err(e);
         }
         holdings::take_moved(&mut self.positions, &whole, moved);
-        self.index.ids.add(made.firm, made.id);
+        self.index.ids.add(hash);
         let kept = Command::Split {
             node: *node,
             parts: kept,
@@ -321,10 +344,11 @@ impl Book {
     /// Puts an accepted Claim at the end of the history, charges it, and moves its node with its lots. What it puts is taken out again where a
     /// later growth is refused; all else changes behind the last growth.
     #[inline(never)]
-    fn keep_claim(&mut self, made: &Change<'_>, sought: &Sought) -> Result<(), Memory>
+    fn keep_claim(&mut self, made: &Change<'_>, hash: IdHash, sought: &Sought) -> Result<(), Memory>
         requires claim { is_claim made.now.command.now ≡ true }
         requires named { IsNamedIn (live self.old.history) (named_node made.now.command.now) sought.now.named }
         requires there { LiesThere (live self.old.history) sought.now.named sought.now.path.items }
+        requires hashed { IsHashOf hash made.now.firm.now made.now.id.now }
         requires accepted { answer_to self.old.house self.old.history (call_of (entry_of_change made.now)) ≡ Accepted made.now.number made.now.status }
         ensures kept { OnOk result (self.new ≡ record self.old { history = self.old.history ++ entry_of_change made.now ∷ [] }) }
         ensures unchanged { OnErr result (self.new ≡ self.old) }
@@ -349,7 +373,7 @@ impl Book {
         }
         grove::claim(&mut self.trees, made, sought, *account);
         holdings::take(&mut self.positions, &whole);
-        self.index.ids.add(made.firm, made.id);
+        self.index.ids.add(hash);
         let kept = Command::Claim {
             node: *node,
             account: *account,
@@ -360,10 +384,16 @@ impl Book {
 
     /// Puts an accepted Refuse or Cancel at the end of the history, and gives its node back.
     #[inline(never)]
-    fn keep_return(&mut self, made: &Change<'_>, sought: &Sought) -> Result<(), Memory>
+    fn keep_return(
+        &mut self,
+        made: &Change<'_>,
+        hash: IdHash,
+        sought: &Sought,
+    ) -> Result<(), Memory>
         requires back { is_return made.now.command.now ≡ true }
         requires named { IsNamedIn (live self.old.history) (named_node made.now.command.now) sought.now.named }
         requires there { LiesThere (live self.old.history) sought.now.named sought.now.path.items }
+        requires hashed { IsHashOf hash made.now.firm.now made.now.id.now }
         requires accepted { answer_to self.old.house self.old.history (call_of (entry_of_change made.now)) ≡ Accepted made.now.number made.now.status }
         ensures kept { OnOk result (self.new ≡ record self.old { history = self.old.history ++ entry_of_change made.now ∷ [] }) }
         ensures unchanged { OnErr result (self.new ≡ self.old) }
@@ -377,15 +407,21 @@ impl Book {
             _ => unreachable!(),
         };
         grove::give_back(&mut self.trees, made, sought, state);
-        self.index.ids.add(made.firm, made.id);
+        self.index.ids.add(hash);
         push(&mut self.entries, made, kept);
         Ok(())
     }
 
     /// Puts an accepted Initiate or Decline at the end of the history, and does to the consents what it says.
     #[inline(never)]
-    fn keep_consenting(&mut self, alloc: Global, made: &Change<'_>) -> Result<(), Memory>
+    fn keep_consenting(
+        &mut self,
+        alloc: Global,
+        made: &Change<'_>,
+        hash: IdHash,
+    ) -> Result<(), Memory>
         requires consenting { is_consenting made.now.command.now ≡ true }
+        requires hashed { IsHashOf hash made.now.firm.now made.now.id.now }
         requires accepted { answer_to self.old.house self.old.history (call_of (entry_of_change made.now)) ≡ Accepted made.now.number made.now.status }
         ensures kept { OnOk result (self.new ≡ record self.old { history = self.old.history ++ entry_of_change made.now ∷ [] }) }
         ensures unchanged { OnErr result (self.new ≡ self.old) }
@@ -398,7 +434,7 @@ impl Book {
             _ => unreachable!(),
         };
         consent(&mut self.consents, alloc, made)?;
-        self.index.ids.add(made.firm, made.id);
+        self.index.ids.add(hash);
         push(&mut self.entries, made, kept);
         Ok(())
     }
@@ -409,11 +445,13 @@ impl Book {
     fn keep_reversal(
         &mut self,
         made: &Change<'_>,
+        hash: IdHash,
         change: Number,
         sought: &Sought,
     ) -> Result<(), Memory>
         requires names { made.now.command.now ≡ Reverse change }
         requires undone { IsUndoneIn (live self.old.history) made.now.command.now sought.now.undone sought.now.path.items }
+        requires hashed { IsHashOf hash made.now.firm.now made.now.id.now }
         requires accepted { answer_to self.old.house self.old.history (call_of (entry_of_change made.now)) ≡ Accepted made.now.number made.now.status }
         ensures kept { OnOk result (self.new ≡ record self.old { history = self.old.history ++ entry_of_change made.now ∷ [] }) }
         ensures unchanged { OnErr result (self.new ≡ self.old) }
@@ -433,7 +471,7 @@ impl Book {
         charges::take_back(&mut self.fees, &charge);
         holdings::move_back(&mut self.positions, entry, &back);
         self.consents.clear(change);
-        self.index.ids.add(made.firm, made.id);
+        self.index.ids.add(hash);
         push(&mut self.entries, made, Command::Reverse { entry: change });
         Ok(())
     }

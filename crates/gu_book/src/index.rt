@@ -6,9 +6,6 @@ use gu_base::{Memory, Number};
 use gu_ids::Ids;
 use std::alloc::Global;
 
-/// The seed of the hash of ids.
-const SEED: u64 = 0x1357_9bdf_2468_ace0;
-
 /// What is found of a history without going over it.
 #[derive(Drop)]
 pub(crate) struct Index {
@@ -24,7 +21,7 @@ impl Index {
         ensures { IsIndexOf result [] }
     {
         Index {
-            ids: Ids::new(alloc, SEED),
+            ids: Ids::new(alloc),
             reversals: Reversals::new(alloc),
         }
     }

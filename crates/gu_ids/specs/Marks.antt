@@ -1,5 +1,5 @@
--- Marks: which hashes a bucket may have entries of, a bit for each of 32 kinds.
-use Rattle.std.specs.Prelude.{◌≡◌, ◌<◌, ◌-◌, ◌/◌, ◌^◌, ◌==◌, ℕ, Bool, true, List, length, map, slice_index_or, bit_and}
+-- Marks: which hashes a bucket may have entries of, two of 32 bits for each.
+use Rattle.std.specs.Prelude.{◌≡◌, ◌<◌, ◌-◌, ◌/◌, ◌%◌, ◌^◌, ◌==◌, ◌&&◌, ℕ, Bool, true, List, length, map, slice_index_or, bit_and}
 use Rattle.std.specs.Int.{bit_at}
 use Rattle.gu_ids.specs.declared.ids.Head.{Head}
 
@@ -7,17 +7,25 @@ use Rattle.gu_ids.specs.declared.ids.Head.{Head}
 unfoldable pub bucket_of : ℕ → ℕ → ℕ
 bucket_of hash n = bit_and hash (n - 1)
 
--- the bit that is the mark of a hash
+-- the bit that is the first mark of a hash
 unfoldable pub mark_of : ℕ → ℕ
 mark_of hash = hash / 2 ^ 27
 
--- the marks have that of the hash
+-- the bit that is the second
+unfoldable pub second_mark_of : ℕ → ℕ
+second_mark_of hash = hash / 2 ^ 22 % 32
+
+-- the bit is among the marks
+abbrev pub is_marked : ℕ → ℕ → Bool
+is_marked marks bit = bit_at marks bit == 1
+
+-- the marks have both of the hash
 abbrev pub bears : ℕ → ℕ → Bool
-bears marks hash = bit_at marks (mark_of hash) == 1
+bears marks hash = is_marked marks (mark_of hash) && is_marked marks (second_mark_of hash)
 
 abbrev pub marks_of : List Head → List ℕ
 marks_of heads = map (λ h. h.marks) heads
 
--- each of the first k entries has its mark in its bucket
+-- each of the first k entries has its marks in its bucket
 abbrev pub AreMarked : List ℕ → List ℕ → ℕ → Type 0
 AreMarked hashes marks k = (j : ℕ) → j < k → bears (slice_index_or marks (bucket_of (slice_index_or hashes j 0) (length marks)) 0) (slice_index_or hashes j 0) ≡ true

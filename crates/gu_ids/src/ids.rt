@@ -2,8 +2,8 @@
 ghost use Rattle.std.specs.Prelude.{true, ◌≡◌, ◌≤◌, ◌<◌, ◌*◌, ◌==◌, ◌&&◌, [], ◌∷◌, ◌++◌, ℕ, List, length, replicate, OnOk};
 ghost use Rattle.gu_base.specs.Limits.{most_entries};
 ghost use Rattle.gu_base.specs.declared.entry.Entry.{Entry};
-ghost use Rattle.gu_ids.specs.Chains.{hash_of, hashes_of, befores_of, newests_of, AreChains, AreIdsOf, IsReady, Stands, count};
-ghost use Rattle.gu_ids.specs.Marks.{bucket_of, mark_of, bears, marks_of, AreMarked};
+ghost use Rattle.gu_ids.specs.Chains.{hash_of, hashes_of, befores_of, newests_of, AreChains, AreIdsOf, IsHashOf, IsReady, Stands, count};
+ghost use Rattle.gu_ids.specs.Marks.{bucket_of, mark_of, second_mark_of, is_marked, bears, marks_of, AreMarked};
 ghost use Rattle.gu_ids.specs.Newest.{is_of, newest_of};
 
 use gu_base::{AllocId, Entry, FirmId, Memory, Number};
@@ -12,6 +12,32 @@ use std::hash::{FoldHasher, Hasher};
 
 /// The buckets of the first growth.
 const FEWEST_BUCKETS: usize = 16;
+
+/// The hash of a firm and an id. The last byte of the id chooses the place beside the hash of all before it, so ids that count up lie side by
+/// side in the buckets, and the next one is mostly found where the processor already looks. Whoever chooses ids can choose ones that fall
+/// together.
+#[derive(Clone, Copy)]
+pub struct IdHash {
+    value: u32,
+}
+
+impl IdHash {
+    /// That of this firm and id.
+    #[tactic(auto, unfolding(crate::specs::Chains::hash_of))]
+    pub fn of(firm: &FirmId, id: &AllocId) -> IdHash
+        ensures { IsHashOf result firm.now id.now }
+    {
+        let bytes = id.as_bytes();
+        let last = bytes.len() - 1;
+        let mut hasher = FoldHasher::default();
+        hasher.write(firm.as_bytes());
+        hasher.write(&bytes[..last]);
+        let upper = (hasher.finish() >> 32) as u32;
+        IdHash {
+            value: upper ^ bytes[last] as u32,
+        }
+    }
+}
 
 /// What is kept of an entry.
 #[derive(Clone, Copy)]
@@ -27,14 +53,13 @@ struct Link {
 struct Head {
     /// The number of its newest entry, 0 for none.
     newest: u32,
-    /// The marks of its entries, a bit each.
+    /// The marks of its entries, two bits each.
     marks: u32,
 }
 
 /// The number of each entry of a history, by the firm and the id of its call.
 #[derive(Drop)]
 pub struct Ids {
-    hasher: FoldHasher,
     /// For each entry of the history.
     links: Vec<Link>,
     /// For each bucket.
@@ -52,7 +77,7 @@ fn bucket_of(hash: u32, buckets: usize) -> usize
     hash as usize & (buckets - 1)
 }
 
-/// Which bit of its bucket's marks is the mark of a hash: its upper five bits tell, which choose no bucket.
+/// Which bit of its bucket's marks is the first mark of a hash: its upper five bits tell, which choose no bucket.
 #[inline(always)]
 #[tactic(auto, unfolding(crate::specs::Marks::mark_of))]
 fn mark_of(hash: u32) -> u32
@@ -62,6 +87,35 @@ fn mark_of(hash: u32) -> u32
     hash >> 27
 }
 
+/// Which bit is the second: the five bits below those tell, which choose none either.
+#[inline(always)]
+#[tactic(auto, unfolding(crate::specs::Marks::second_mark_of))]
+fn second_mark_of(hash: u32) -> u32
+    ensures value { result ≡ second_mark_of hash }
+    ensures within { result < 32 }
+{
+    (hash >> 22) % 32
+}
+
+/// Whether this bit is among the marks.
+#[inline(always)]
+fn is_marked(marks: u32, bit: u32) -> bool
+    requires { bit < 32 }
+    ensures { result ≡ is_marked marks bit }
+{
+    (marks >> bit) & 1 == 1
+}
+
+/// The marks, and this bit among them.
+#[inline(always)]
+fn marked(marks: u32, bit: u32) -> u32
+    requires { bit < 32 }
+    ensures own { is_marked result bit ≡ true }
+    ensures others { (b : ℕ) → is_marked marks b ≡ true → is_marked result b ≡ true }
+{
+    marks | 1 << bit
+}
+
 impl Head {
     /// Of a bucket without entries.
     const NONE: Head = Head {
@@ -69,13 +123,13 @@ impl Head {
         marks: 0,
     };
 
-    /// Whether an entry of this mark may be in the bucket. Most ids that are new are told so, from one place in memory and by a branch that
-    /// nearly always goes one way.
+    /// Whether an entry of this hash may be in the bucket: both its marks are there. Most ids that are new are told so, from one place in
+    /// memory and by a branch that nearly always goes one way.
     #[inline(always)]
     fn bears(self, hash: u32) -> bool
         ensures { result ≡ bears self.marks hash }
     {
-        (self.marks >> mark_of(hash)) & 1 == 1
+        is_marked(self.marks, mark_of(hash)) && is_marked(self.marks, second_mark_of(hash))
     }
 
     /// With the entry of this number and hash as the newest.
@@ -87,7 +141,7 @@ impl Head {
     {
         Head {
             newest: number,
-            marks: self.marks | 1 << mark_of(hash),
+            marks: marked(marked(self.marks, mark_of(hash)), second_mark_of(hash)),
         }
     }
 }
@@ -100,46 +154,38 @@ fn is_of(link: Link, hash: u32, entry: &Entry, firm: &FirmId, id: &AllocId) -> b
 }
 
 impl Ids {
-    /// The ids of no history. Whoever knows the seed of its hash can choose ids that fall together.
-    pub fn new(alloc: Global, seed: u64) -> Ids
+    /// The ids of no history.
+    pub fn new(alloc: Global) -> Ids
         ensures { AreIdsOf result [] }
     {
-        let mut hasher = FoldHasher::default();
-        hasher.write_u64(seed);
         Ids {
-            hasher,
             links: Vec::new(alloc),
             heads: Vec::new(alloc),
         }
     }
 
-    /// The hash of a firm and an id.
-    #[tactic(auto, unfolding(crate::specs::Chains::hash_of))]
-    fn hash(&self, firm: &FirmId, id: &AllocId) -> u32
-        ensures { result ≡ hash_of self.now.hasher firm.now id.now }
-    {
-        let mut hasher = self.hasher;
-        hasher.write(firm.as_bytes());
-        hasher.write(id.as_bytes());
-        (hasher.finish() >> 32) as u32
-    }
-
-    /// The number of the newest entry of this firm and id in the history whose ids these are.
-    pub fn number(&self, entries: &[Entry], firm: &FirmId, id: &AllocId) -> Option<Number>
+    /// The number of the newest entry of this firm and id, which have this hash, in the history whose ids these are.
+    pub fn number(
+        &self,
+        entries: &[Entry],
+        firm: &FirmId,
+        id: &AllocId,
+        hash: IdHash,
+    ) -> Option<Number>
         requires ids { AreIdsOf self.now entries.now }
         requires few { length entries.now ≤ most_entries }
+        requires hash { IsHashOf hash firm.now id.now }
         ensures { result ≡ newest_of entries.now firm.now id.now }
     {
         if self.heads.is_empty() {
             return None;
         }
-        let hash = self.hash(firm, id);
-        let bucket = bucket_of(hash, self.heads.len());
+        let bucket = bucket_of(hash.value, self.heads.len());
         let head = self.heads[bucket];
-        if !head.bears(hash) {
+        if !head.bears(hash.value) {
             return None;
         }
-        self.walk(entries, firm, id, hash, head.newest)
+        self.walk(entries, firm, id, hash.value, head.newest)
     }
 
     /// The same, by a walk along a chain from the entry of this number on, 0 for none. It stands apart, so that a new id is told by the marks alone:
@@ -156,7 +202,7 @@ impl Ids {
     ) -> Option<Number>
         requires ids { AreIdsOf self.now entries.now }
         requires few { length entries.now ≤ most_entries }
-        requires hash { hash ≡ hash_of self.now.hasher firm.now id.now }
+        requires hash { hash ≡ hash_of firm.now id.now }
         requires stands { Stands self.now entries.now firm.now id.now newest }
         ensures { result ≡ newest_of entries.now firm.now id.now }
     {
@@ -172,7 +218,8 @@ impl Ids {
         None
     }
 
-    /// Makes room for one more entry. Where there are twice as many entries as buckets it makes twice as many buckets, and links all entries anew.
+    /// Makes room for one more entry. Where there are four times as many entries as buckets it makes twice as many buckets, and links all
+    /// entries anew.
     ///
     /// # Errors
     ///
@@ -182,22 +229,22 @@ impl Ids {
         ensures ready { OnOk result (IsReady self.new) }
         ensures same { (h : List Entry) → AreIdsOf self.old h → AreIdsOf self.new h }
     {
-        if self.links.len() / 2 >= self.heads.len() {
+        if self.links.len() / 4 >= self.heads.len() {
             self.grow()?;
         }
         self.links.reserve(1)?;
         Ok(())
     }
 
-    /// Makes as many buckets as there are entries, in place of those that are there, and links all entries anew.
+    /// Makes half as many buckets as there are entries, in place of those that are there, and links all entries anew.
     #[cold]
     #[inline(never)]
     fn grow(&mut self) -> Result<(), Memory>
         requires { count self.old ≤ most_entries }
-        ensures buckets { OnOk result (count self.new < 2 * length self.new.heads.items) }
+        ensures buckets { OnOk result (count self.new < 4 * length self.new.heads.items) }
         ensures same { (h : List Entry) → AreIdsOf self.old h → AreIdsOf self.new h }
     {
-        let buckets = self.links.len().max(FEWEST_BUCKETS);
+        let buckets = (self.links.len() / 2).max(FEWEST_BUCKETS);
         let alloc = *self.heads.allocator();
         self.heads = Vec::from_elem(alloc, Head::NONE, buckets)?;
         self.link_anew();
@@ -207,9 +254,8 @@ impl Ids {
     /// Links all entries anew, by their hashes. The buckets are new.
     fn link_anew(&mut self)
         requires new { self.old.heads.items ≡ replicate (length self.old.heads.items) (record { newest = 0; marks = 0 }) }
-        requires few { count self.old ≤ length self.old.heads.items }
+        requires some { 1 ≤ length self.old.heads.items }
         requires numbered { count self.old ≤ most_entries }
-        ensures hasher { self.new.hasher ≡ self.old.hasher }
         ensures hashes { hashes_of self.new.links.items ≡ hashes_of self.old.links.items }
         ensures buckets { length self.new.heads.items ≡ length self.old.heads.items }
         ensures count { count self.new ≡ count self.old }
@@ -229,19 +275,18 @@ impl Ids {
         }
     }
 
-    /// Adds the entry of this firm and id that comes next in the history.
-    pub fn add(&mut self, firm: &FirmId, id: &AllocId)
+    /// Adds the entry that comes next in the history, whose firm and id have this hash.
+    pub fn add(&mut self, hash: IdHash)
         requires ready { IsReady self.old }
         requires few { count self.old < most_entries }
-        ensures { (h : List Entry) (e : Entry) → e.firm ≡ firm.now → e.id ≡ id.now → AreIdsOf self.old h → AreIdsOf self.new (h ++ e ∷ []) }
+        ensures { (h : List Entry) (e : Entry) → IsHashOf hash e.firm e.id → AreIdsOf self.old h → AreIdsOf self.new (h ++ e ∷ []) }
     {
-        let hash = self.hash(firm, id);
-        let bucket = bucket_of(hash, self.heads.len());
+        let bucket = bucket_of(hash.value, self.heads.len());
         let head = self.heads[bucket];
         self.links.push_reserved(Link {
-            hash,
+            hash: hash.value,
             before: head.newest,
         });
-        self.heads[bucket] = head.with(self.links.len() as u32, hash);
+        self.heads[bucket] = head.with(self.links.len() as u32, hash.value);
     }
 }

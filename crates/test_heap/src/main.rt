@@ -4,9 +4,13 @@
 //! heap of that size a split into 100 parts gets no memory and changes nothing, and then the split into two is accepted.
 //! After it the rows, the leaves and a copy of a tree are asked for in heaps that grow in the same steps: each call is refused
 //! until it gives what it gives where memory is ample, and no refusal changes the tree.
+//!
+//! Then a trade and one of its parts are split, and both Splits taken back, ten times in the least heap that takes them once: nothing is lost
+//! on the way, whether something stood on the parts or not.
 #![tactic(auto)]
 
 mod growths;
+mod rounds;
 mod splits;
 mod trees;
 
@@ -15,5 +19,6 @@ use std::io;
 fn main(rt: HostRuntime) -> io::Result<()> {
     let alloc = rt.alloc();
     splits::tell(&rt, alloc)?;
-    growths::tell(&rt, alloc)
+    growths::tell(&rt, alloc)?;
+    rounds::tell(&rt, alloc)
 }

@@ -14,13 +14,14 @@ ghost use Rattle.gu_book.specs.Ids.{NoIdTwice};
 ghost use Rattle.gu_book.specs.Index.{AreIdsOf, IsIndexOf};
 ghost use Rattle.gu_consent.specs.Given.{given};
 ghost use Rattle.gu_fees.specs.Sums.{AreSumsOf};
+ghost use Rattle.gu_ids.specs.Chains.{IsHashOf};
 ghost use Rattle.gu_tree.specs.Shown.{named_node};
 
 use crate::plain::naming::naming_refusal;
 use crate::plain::refusals::change_refusal;
 use crate::plain::standing::Standing;
 use gu_base::{AllocId, Answer, Command, Entry, FirmId, Number, Refusal, State};
-use gu_ids::Ids;
+use gu_ids::{IdHash, Ids};
 
 /// The answer to a call whose firm and id this entry has.
 #[cold]
@@ -44,14 +45,16 @@ fn known(
     entries: &[Entry],
     by: &FirmId,
     id: &AllocId,
+    hash: IdHash,
     command: &Command,
 ) -> Option<Answer>
+    requires hashed { IsHashOf hash by.now id.now }
     requires once { NoIdTwice entries.now }
     requires ids { AreIdsOf ids.now entries.now }
     requires few { length entries.now ≤ most_entries }
     ensures { (other : Answer) → unwrap_or result other ≡ answer_by (find (is_same_call (record { firm = by.now; id = id.now; command = command.now })) (records entries.now)) (find (is_same_id (record { firm = by.now; id = id.now; command = command.now })) (records entries.now)) other }
 {
-    let Some(number) = ids.number(entries, by, id) else {
+    let Some(number) = ids.number(entries, by, id, hash) else {
         return None;
     };
     let place = number.get() as usize - 1;
@@ -130,8 +133,10 @@ pub(crate) fn front_answer(
     at: &Standing<'_>,
     by: &FirmId,
     id: &AllocId,
+    hash: IdHash,
     command: &Command,
 ) -> Answer
+    requires hashed { IsHashOf hash by.now id.now }
     requires once { NoIdTwice at.now.entries.now }
     requires indexed { IsIndexOf at.now.index.now at.now.entries.now }
     requires charged { AreSumsOf at.now.fees.now (charges at.now.house.now at.now.changes) }
@@ -141,7 +146,7 @@ pub(crate) fn front_answer(
     requires named { IsNamedIn at.now.changes (named_node command.now) at.now.named.now }
     ensures { result ≡ front_answer at.now.house.now at.now.entries.now (given at.now.consents.now) (record { firm = by.now; id = id.now; command = command.now }) }
 {
-    if let Some(answer) = known(&at.index.ids, at.entries, by, id, command) {
+    if let Some(answer) = known(&at.index.ids, at.entries, by, id, hash, command) {
         return answer;
     }
     new_answer(at, by, command)

@@ -111,7 +111,7 @@ invariant_of-self-2 c =
     (record {
       kept = kept_change c.self.invariant.kept c.args.made.now.number e ok change c.claim.new.trees
           (follows_same (record_of c.args.made.now) c.self.inside.trees c.ready-2.new.self c.claim.new.trees c.in_ok-ready-2.ensures.same c.claim.ensures.follows c.self.inside.house (live h) (next w)) c.claim.ensures.last;
-      indexed = index_added c.self.invariant.indexed c.self.inside.house e c.args.made.now.number ok c.add.new.self (c.add.ensures h e refl refl (c.in_ok-ready.ensures.same h c.self.invariant.indexed.ids.chained)) (λ m. change_is_no_reverse m c.args.made.now.command.now change);
+      indexed = index_added c.self.invariant.indexed c.self.inside.house e c.args.made.now.number ok c.add.new.self (c.add.ensures h e c.requires.hashed (c.in_ok-ready.ensures.same h c.self.invariant.indexed.ids.chained)) (λ m. change_is_no_reverse m c.args.made.now.command.now change);
       charged = subst (λ (l : List Record). AreFeesOf c.self.inside.house l c.put-2.new.fees) more
           (fees_push (next w) c.self.inside.fees c.self.inside.fees c.put-2.new.fees c.self.invariant.charged (λ cs sums. sums) c.node_charge-charge.result costs c.node_charge-charge.ensures.lots c.node_charge-charge.ensures.rate c.in_default-put.ensures.put);
       stands = subst (λ (l : List Record). ArePositionsOf l c.take-2.new.positions) more

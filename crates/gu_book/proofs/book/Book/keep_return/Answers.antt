@@ -44,7 +44,7 @@ invariant_of-self-2 c =
     (record {
       kept = kept_change c.self.invariant.kept c.args.made.now.number e ok change c.give_back.new.trees
           (follows_same (record_of c.args.made.now) c.self.inside.trees c.ready-2.new.self c.give_back.new.trees c.in_ok-ready-2.ensures.same c.give_back.ensures.follows c.self.inside.house (live h) next) c.give_back.ensures.last;
-      indexed = index_added c.self.invariant.indexed c.self.inside.house e c.args.made.now.number ok c.add.new.self (c.add.ensures h e refl refl (c.in_ok-ready.ensures.same h c.self.invariant.indexed.ids.chained)) (λ m. change_is_no_reverse m c.args.made.now.command.now change);
+      indexed = index_added c.self.invariant.indexed c.self.inside.house e c.args.made.now.number ok c.add.new.self (c.add.ensures h e c.requires.hashed (c.in_ok-ready.ensures.same h c.self.invariant.indexed.ids.chained)) (λ m. change_is_no_reverse m c.args.made.now.command.now change);
       charged = subst (λ (l : List Record). AreFeesOf c.self.inside.house l c.self.inside.fees) more (return_free next c.requires.back c.self.inside.fees c.self.invariant.charged);
       stands = subst (λ (l : List Record). ArePositionsOf l c.self.inside.positions) more (return_stands next c.requires.back c.self.inside.positions c.self.invariant.stands);
     })

@@ -97,7 +97,7 @@ invariant_of-self-2 c =
     (record {
       kept = kept_change c.self.invariant.kept c.args.made.now.number e ok change c.split.new.trees
           (follows_same (record_of c.args.made.now) c.self.inside.trees c.ready-2.new.self c.split.new.trees c.in_ok-ready-2.ensures.same c.in_default-split.ensures.follows c.self.inside.house (live h) (next w)) c.in_default-split.ensures.last;
-      indexed = index_added c.self.invariant.indexed c.self.inside.house e c.args.made.now.number ok c.add.new.self (c.add.ensures h e refl refl (c.in_ok-ready.ensures.same h c.self.invariant.indexed.ids.chained)) (λ m. change_is_no_reverse m c.args.made.now.command.now change);
+      indexed = index_added c.self.invariant.indexed c.self.inside.house e c.args.made.now.number ok c.add.new.self (c.add.ensures h e c.requires.hashed (c.in_ok-ready.ensures.same h c.self.invariant.indexed.ids.chained)) (λ m. change_is_no_reverse m c.args.made.now.command.now change);
       charged = subst (λ (l : List Record). AreFeesOf c.self.inside.house l c.self.inside.fees) more (split_free (next w) c.in-Split.node c.in-Split.parts c.in-Split.is c.self.inside.fees c.self.invariant.charged);
       stands = subst (λ (l : List Record). ArePositionsOf l c.take_moved.new.positions) more
           (split_stands (next w) c.in-Split.node c.in-Split.parts c.in-Split.is c.in-Some.named.node (named w).0 c.whole_of-whole.result (holds w) c.self.inside.positions c.put_all_away.new.positions c.take_moved.new.positions c.self.invariant.stands put taken);

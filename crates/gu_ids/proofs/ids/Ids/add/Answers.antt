@@ -10,11 +10,11 @@ use Rattle.gu_ids.proofs.Marked.{newests_long, marks_long, newest_read, marks_re
 use Rattle.gu_ids.proofs.ids.Ids.add.Goals as goal
 
 pub returns : goal.returns
-returns c h e firm id are =
+returns c h e hashed are =
     let ids = c.args.self.now in
     let heads = ids.heads.items in
     let head = c.index-head.result.now in
-    let link : Link = record { hash = c.hash-hash.result; before = head.newest } in
+    let link : Link = record { hash = c.args.hash.value; before = head.newest } in
     let full = ids.heads.ok.0 in
     let bucket = c.bucket_of-bucket.result in
     let new = c.with.result in
@@ -36,8 +36,8 @@ returns c h e firm id are =
     let hs_is : hashes_of (ids.links.items ++ link ∷ []) ≡ hs ++ link.hash ∷ [] = map_push (λ (l : Link). l.hash) ids.links.items link in
     record {
       hashes = ap hashes_of c.push_reserved.ensures.items ∙ (hs_is
-          ∙ (ap (λ l. l ++ link.hash ∷ []) are.hashes ∙ (ap (λ x. map (λ (e : Entry). hash_of ids.hasher e.firm e.id) h ++ x ∷ []) (c.hash-hash.ensures ∙ (ap (λ f. hash_of ids.hasher f c.args.id.now) (sym firm) ∙ ap (λ i. hash_of ids.hasher e.firm i) (sym id)))
-          ∙ sym (map_push (λ (e : Entry). hash_of ids.hasher e.firm e.id) h e))));
+          ∙ (ap (λ l. l ++ link.hash ∷ []) are.hashes ∙ (ap (λ x. map (λ (e : Entry). hash_of e.firm e.id) h ++ x ∷ []) hashed
+          ∙ sym (map_push (λ (e : Entry). hash_of e.firm e.id) h e))));
       chains = subst (λ (l : List Link). AreChains (hashes_of l) (befores_of l) (newests_of (set heads bucket new)) (length l)) (sym c.push_reserved.ensures.items)
           (links_pushed ids.links.items (newests_of heads) link are.chains (omega (arith, is_newest, inside, newests))
           (newest_read heads bucket head c.index-head.ensures inside ∙ ap (λ b. slice_index_or (newests_of heads) b 0) is_newest)

@@ -35,7 +35,6 @@ loop-place-preserved c =
     let stay = hashes_stay links (newests_of heads) place c.index.result.now link c.index.ensures refl in
     let hash_there : slice_index_or (hashes_of links) place 0 ≡ link.hash = get_or-map (λ (l : Link). l.hash) links place c.index.result.now 0 there ∙ ap (λ (l : Link). l.hash) (sym c.index.ensures) in
     record {
-      hasher = at.hasher;
       hashes = stay ∙ at.hashes;
       buckets = length-set heads bucket new ∙ at.buckets;
       count = length-set links place link ∙ at.count;
@@ -56,7 +55,6 @@ loop-place-init c =
     let heads = c.args.self.now.heads.items in
     let longer = newests_long heads in
     record {
-      hasher = refl;
       hashes = refl;
       buckets = omega (arith, c.len-buckets.ensures, c.args.self.now.heads.ok.0);
       count = refl;

@@ -6,7 +6,6 @@ use Rattle.gu_ids.proofs.ids.Ids.link_anew.Given as goal
 -- the entries so far are linked
 abbrev pub invariant-loop-place : goal.invariant-loop-place
 invariant-loop-place l = record {
-  hasher : l.self.hasher ≡ l.initial.self.hasher;
   hashes : hashes_of l.self.links.items ≡ hashes_of l.initial.self.links.items;
   buckets : length l.self.heads.items ≡ l.buckets;
   count : count l.self ≡ count l.initial.self;
