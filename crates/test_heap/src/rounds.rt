@@ -7,22 +7,10 @@ use linked_list_allocator::LocalHeap;
 use std::alloc::{Allocator, Global};
 use std::io;
 use std::io::Print;
-use test_splits::Outcome;
+use test_splits::{Outcome, unsplit};
 
 /// How often the splits are made and taken back.
 const ROUNDS: u32 = 10;
-
-/// Takes the Split of the node back, where it can be: whether it was.
-fn unsplit<A: Allocator + Clone>(tree: &mut Tree<A>, name: NodeName) -> bool {
-    let Some(path) = tree.find(name) else {
-        return false;
-    };
-    if !tree.can_unsplit(&path) {
-        return false;
-    }
-    tree.unsplit(&path);
-    true
-}
 
 /// Splits the trade and its part of 60 lots, and takes both Splits back: whether all of it was done.
 fn round<A: Allocator + Clone>(tree: &mut Tree<A>) -> io::Result<bool> {
@@ -31,7 +19,7 @@ fn round<A: Allocator + Clone>(tree: &mut Tree<A>) -> io::Result<bool> {
     }
     let part = NodeName::in_entry(Number::at_place(1), 1);
     let root = NodeName::in_entry(Number::at_place(0), 0);
-    Ok(unsplit(tree, part) && unsplit(tree, root))
+    Ok(unsplit(tree, part) == Outcome::Done && unsplit(tree, root) == Outcome::Done)
 }
 
 /// How many rounds are done in a new heap of this size.

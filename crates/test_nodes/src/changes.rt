@@ -45,18 +45,6 @@ pub(crate) fn refuse(tree: &mut Tree<Global>, name: NodeName, decision: Number) 
     Outcome::Done
 }
 
-/// Takes a Split back, where nothing stands on its parts.
-pub(crate) fn unsplit(tree: &mut Tree<Global>, name: NodeName) -> Outcome {
-    let Some(path) = tree.find(name) else {
-        return Outcome::Unfit;
-    };
-    if !tree.can_unsplit(&path) {
-        return Outcome::Unfit;
-    }
-    tree.unsplit(&path);
-    Outcome::Done
-}
-
 /// Takes a Claim back, where the node is a claimed leaf.
 pub(crate) fn unclaim(tree: &mut Tree<Global>, name: NodeName) -> Outcome {
     let Some(path) = tree.find(name) else {

@@ -1,11 +1,11 @@
 //! The change that a line asks for.
 
-use crate::changes::{claim, offer_again, refuse, unclaim, unsplit};
+use crate::changes::{claim, offer_again, refuse, unclaim};
 use crate::words::{first_word, node_of, number_of, part_of, place_of};
 use gu_base::{Memory, NodeName, Number, Part};
 use gu_tree::Tree;
 use std::alloc::Global;
-use test_splits::{Outcome, split};
+use test_splits::{Outcome, split, unsplit};
 
 /// The parts of these words.
 fn parts_of(alloc: Global, words: &str) -> Result<Vec<Part>, Memory> {

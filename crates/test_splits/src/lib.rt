@@ -1,4 +1,4 @@
-//! The split of a tree's node, made where all that it asks for holds, for the programs that change trees (`test_nodes`, `test_heap`).
+//! The split of a tree's node and its undo, made where all that they ask for holds, for the programs that change trees (`test_nodes`, `test_heap`).
 //!
 //! It has no cases of its own: those of the two programs try it.
 #![tactic(auto)]
@@ -52,4 +52,16 @@ pub fn split<A: Allocator + Clone>(
         Ok(()) => Outcome::Done,
         Err(_) => Outcome::Memory,
     }
+}
+
+/// Takes the Split of the node of that name back, where nothing stands on its parts.
+pub fn unsplit<A: Allocator + Clone>(tree: &mut Tree<A>, name: NodeName) -> Outcome {
+    let Some(path) = tree.find(name) else {
+        return Outcome::Unfit;
+    };
+    if !tree.can_unsplit(&path) {
+        return Outcome::Unfit;
+    }
+    tree.unsplit(&path);
+    Outcome::Done
 }
