@@ -39,7 +39,7 @@ class House:
 
 @dataclass(slots=True)
 class Node:
-    """What has lots. `firm` is that of the trade or of the split that made it; a given part has a taker, and `firm` is its giver."""
+    """What has lots. `firm` is that of the trade or split that made it: of a given part, which has a taker, it is the giver."""
 
     name: str
     lots: int
@@ -138,6 +138,12 @@ class Book:
     def fee(self, node):
         """The hundredths of a claimed node."""
         return node.lots * self.house.agreements[node.firm, node.taker][0] if node.state == "claimed" else 0
+
+    def words(self, node):
+        """The words of a trace for the state of a node."""
+        kept = {"held": "held", "offered": f"offered to {node.taker}", "refused": f"refused by {node.taker}"}
+        given = {"cancelled": f"cancelled for {node.taker}", "claimed": f"claimed from {node.firm} fee {self.fee(node)}"}
+        return (kept | given)[node.state]
 
     def parties(self, entry):
         """Who has to consent to the reversal of a change."""
