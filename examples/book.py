@@ -127,10 +127,10 @@ class Book:
                 total[:] = total[0] + 1, total[1] + node.lots, total[2] + self.fee(node)
         return sums
 
-    def fees(self):
+    def fees(self, hops=None):
         """Of each firm that paid or received some, the house first: the hundredths that it paid and received."""
         sums = {firm: [0, 0] for firm in self.house.firms}
-        for (giver, taker), (_, _, fee) in self.hops().items():
+        for (giver, taker), (_, _, fee) in (hops or self.hops()).items():
             sums[taker][0] += fee
             sums[giver][1] += fee
         return {firm: total for firm, total in sums.items() if any(total)}

@@ -51,8 +51,9 @@ def firsts(fields):
 
 def group(fields, count, first):
     """The entries of a group behind its count: each begins at a field with the group's first tag."""
-    behind = next((i for i, (tag, _) in enumerate(fields) if tag == count), len(fields))
-    starts = [i for i, (tag, _) in enumerate(fields) if tag == first and i > behind]
+    tags = [tag for tag, _ in fields]
+    behind = tags.index(count) + 1 if count in tags else len(tags)
+    starts = [i for i in range(behind, len(tags)) if tags[i] == first]
     return [fields[start:end] for start, end in zip(starts, starts[1:] + [len(fields)])]
 
 
