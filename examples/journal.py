@@ -23,8 +23,8 @@ class NoJournal(Exception):
 
 
 def frames(stream):
-    """The fields of each frame. A garbled one is passed over, and a last one that is torn is left out."""
-    at = 0
+    """The fields of each frame. A garbled one is passed over; a last one that is torn is left out, and NULs behind it."""
+    stream, at = stream.rstrip(b"\0"), 0
     while at < len(stream):
         opening = OPENING.match(stream, at)
         if not opening:
