@@ -76,6 +76,7 @@ class Book:
 
     def __init__(self, house):
         self.house = house
+        self.accounts, self.instruments = set(house.accounts), set(house.instruments)
         self.entries, self.nodes, self.ids = [], {}, set()
         self.consents = {}  # of an entry: the firms whose consent to its reversal stands
 
@@ -97,7 +98,8 @@ class Book:
                 self.ids.add((entry.firm, entry.id))
                 self.entries.append(entry)
         except (KeyError, IndexError, ValueError) as fault:
-            raise NoJournal(f"entry {number} can't be ({fault}): a day's input has to come with its answers") from fault
+            told = f"entry {number} can't be ({fault}): a day's input is read with its --answers, a journal with its own house file"
+            raise NoJournal(told) from fault
 
     def entry(self, number):
         must(0 < number <= len(self.entries), f"there is no entry {number}")
@@ -154,8 +156,13 @@ class Book:
         node = self.nodes[entry.names]
         return [node.firm] if entry.kind == "cancel" else [node.taker, node.firm]
 
+    def has_account(self, firm, account):
+        must((firm, account) in self.accounts, f"{firm} has no account {account}")
+
     def _trade(self, entry):
-        firm, account, _, _, lots = entry.detail
+        firm, account, instrument, _, lots = entry.detail
+        must(instrument in self.instruments, f"there is no instrument {instrument}")
+        self.has_account(firm, account)
         entry.trade = entry.number
         self.nodes[f"{entry.number}.0"] = Node(f"{entry.number}.0", lots, firm, account, trade=entry.number)
 
@@ -165,15 +172,19 @@ class Book:
         entry.trade = parent.trade
         for i, (lots, firm, account) in enumerate(entry.detail, 1):
             taker = None if firm == entry.firm else firm
+            if taker is None:
+                self.has_account(firm, account)
             part = Node(f"{entry.number}.{i}", lots, entry.firm, account, taker, parent.trade, parent)
             self.nodes[part.name] = part
             parent.parts.append(part)
 
     def _claim(self, entry):
         node = self.nodes[entry.names]
-        agreed = (node.firm, node.taker) in self.house.agreements
         must(node.state == "offered", f"{node.name} isn't offered")
-        must(entry.kind != "claim" or agreed, f"{node.firm} and {node.taker} have no agreement")
+        if entry.kind == "claim":
+            agreed = (node.firm, node.taker) in self.house.agreements
+            must(agreed, f"{node.firm} and {node.taker} have no agreement")
+            self.has_account(node.taker, entry.detail)
         node.decision, entry.trade = entry, node.trade
 
     _refuse = _cancel = _claim
