@@ -14,7 +14,7 @@ sys.path.insert(0, f"{TOP}/examples")
 from book import Book, House
 from journal import firsts, frames, number_of
 
-FIRMS = ["AAA", "<script>", "</script>", "&lt;b>x", "A/B", "=1+1", "'\"`${x}\\n", "WWWWWWWWWWWWWWWW", "]]>", "constructor"]
+FIRMS = ["AAA", "<script>", "</script>", "&lt;b>x", "A/B", "/A", "=1+1", "'\"`${x}\\n", "WWWWWWWWWWWWWWWW", "]]>", "constructor"]
 ACCOUNTS = ["A1", "<img/src=x>", "MMMMMMMMMMMMMMMM", "a/held"]
 INSTRUMENTS = ["ESZ6", "<!--", "{{DAY}}", "@@@@@@@@@@@@@@@@"]
 IDS = ["T", "<script>x=1</script>", "<b onclick='x=1'>", "</script><script>", "=HYPERLINK(0)", "a  b", " -1", '"><img src=y>', "\\u003c"]
