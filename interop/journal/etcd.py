@@ -1,0 +1,1 @@
+EtcdLog = show = None
