@@ -4,6 +4,7 @@ A connection's session, by the tables of docs/profile.md, takes a message where 
 or closes. Each AE and J that is taken is answered by one message, in their order: a P or AR, or a Reject. So the calls that have
 no answer yet stand in a queue, and an answer is that of the first. Where an answer doesn't fit it, Astray says so.
 """
+import itertools
 import re
 from collections import deque, namedtuple
 
@@ -11,6 +12,7 @@ from frames import Broken, count, cut, fields_of, is_time
 
 LAST_NUMBER = 999_999_999
 CALLS = {b"AE": b"571", b"J": b"70"}
+REJECTED = (b"372=AE", b"372=J")
 DATA = {b"95", b"96", b"212", b"213", b"354", b"355"}
 NAME = re.compile(rb"[!-~]{1,16}")
 FLAGS = (None, b"Y", b"N")
@@ -38,25 +40,29 @@ class Calls:
         self.came, self.sent, self.waiting = b"", b"", deque()
 
     def take(self, piece):
-        """Takes what the firm sent."""
+        """Takes what the firm sent, and gives what of it is to be passed on: whole frames, up to the one that closes. Behind that the server
+        reads nothing, and would cut off its own answers if there were something to read."""
         if self.closed:
-            return
+            return b""
         self.came += piece
+        broken = False
         try:
             frames, at = cut(self.came)
-        except Broken as broken:
-            frames, at = cut(self.came[: broken.args[0]])
-            self.take_all(frames)
-            self.closed = True
-            return
+        except Broken as fault:
+            broken, at = True, fault.args[0]
+            frames = cut(self.came[:at])[0]
         self.came = self.came[at:]
-        self.take_all(frames)
+        passed = list(itertools.takewhile(self.goes_on, frames))
+        taken = b"".join(frames[: len(passed) + 1])
+        self.closed = self.closed or broken
+        return taken
 
-    def take_all(self, frames):
-        for frame in frames:
-            fields = fields_of(frame)
-            if fields and not self.closed:
-                self.message(frame, fields)
+    def goes_on(self, frame):
+        """Takes a frame; whether the session goes on behind it. A garbled one is no message."""
+        fields = fields_of(frame)
+        if fields:
+            self.message(frame, fields)
+        return not self.closed
 
     def heading(self, fields):
         """SenderCompID and MsgSeqNum, where the header has them and names the house; else None."""
@@ -109,7 +115,8 @@ class Calls:
         if kind == b"AS":
             return Sent(frame, int(first[4:]), None, False)
         if kind == b"3":
-            if self.waiting and self.waiting[0].number == int(first[3:]):
+            # a SequenceReset that is rejected may have the number of a call behind it, so the type has to be a call's
+            if third in REJECTED and self.waiting and self.waiting[0].number == int(first[3:]):
                 self.waiting.popleft()
             return Sent(frame, 0, None, False)
         if kind not in (b"P", b"AR"):

@@ -91,8 +91,7 @@ class Connection:
     def from_client(self):
         piece = self.client.receive()
         if piece:
-            self.calls.take(piece)
-            self.server.push(piece)
+            self.server.push(self.calls.take(piece), end=self.calls.closed)
         elif piece == b"":
             self.reading = False
             self.server.push(b"", end=True)
@@ -136,7 +135,7 @@ class Connection:
         self.server.push(b"", end=True)
 
     def watch(self):
-        self.client.watch(self.reading and len(self.server.out) < MOST_HELD)
+        self.client.watch(self.reading and not self.calls.closed and len(self.server.out) < MOST_HELD)
         self.server.watch(self.served)
 
     def over(self, now):

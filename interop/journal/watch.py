@@ -38,7 +38,7 @@ class Batch:
 
 def said(answer):
     """What an answer says, without what the session or the batch puts there."""
-    return {tag: value for tag, value in fields_of(answer).items() if tag not in OWN}
+    return {tag: value for tag, value in (fields_of(answer) or {}).items() if tag not in OWN}
 
 
 def watch(book, name, program):
