@@ -22,9 +22,9 @@ SENT = re.compile(
     rb"(?:122=[^\x01]+\x01)?([^\x01]*)\x01([^\x01]*)\x01?([^\x01]*)"
 )
 Call = namedtuple("Call", "number id ticket frame")
-# A frame that the server sent. `entry` is the entry that it shows; `call` the call that it answers, if it is the answer to one;
-# `refused` says that the book refused it.
-Sent = namedtuple("Sent", "frame entry call refused")
+# Whole messages that the server sent: their bytes; the last entry that they show; whether the book refused a call; and of the calls that
+# they accept each entry, the call and its answer.
+Sent = namedtuple("Sent", "data entry refused accepted")
 
 
 class Astray(Exception):
@@ -100,32 +100,30 @@ class Calls:
             self.waiting.append(Call(number, fields.get(CALLS[fields[b"35"]]), next(self.tickets), frame))
 
     def answers(self, piece):
-        """Takes what the server sent, and gives its whole messages as `Sent`."""
-        data, at = self.sent + piece, 0
+        """Takes what the server sent, and gives the messages that came whole."""
+        data, at, entry, refused, accepted = self.sent + piece, 0, 0, False, []
         while found := SENT.match(data, at):
-            begin = found.start(2) - 3
-            end = begin + int(found[1]) + 7
+            length, kind, again, first, second, third = found.groups()
+            end = found.start(2) - 3 + int(length) + 7
             if end > len(data):
                 break
-            yield self.answer(data[at:end], *found.groups()[1:])
+            shown = 0
+            if kind == b"AS":
+                shown = int(first[4:])
+            elif kind == b"P" or kind == b"AR":
+                shown = entry_of(kind, second, third)
+                refused = refused or not shown
+                call = None if again else self.call(first)
+                if call and shown:
+                    accepted.append((shown, call, data[at:end]))
+            elif third in REJECTED and self.waiting and self.waiting[0].number == int(first[3:]):
+                # a SequenceReset that is rejected may have the number of a call behind it: so the type has to be a call's
+                self.waiting.popleft()
+            if shown > entry:
+                entry = shown
             at = end
         self.sent = data[at:]
-
-    def answer(self, frame, kind, again, first, second, third):
-        if kind == b"AS":
-            return Sent(frame, int(first[4:]), None, False)
-        if kind == b"3":
-            # a SequenceReset that is rejected may have the number of a call behind it, so the type has to be a call's
-            if third in REJECTED and self.waiting and self.waiting[0].number == int(first[3:]):
-                self.waiting.popleft()
-            return Sent(frame, 0, None, False)
-        if kind not in (b"P", b"AR"):
-            return Sent(frame, 0, None, False)
-        if kind == b"P":
-            entry = int(second[4:]) if second.startswith(b"793=") else 0
-        else:
-            entry = int(third[9:]) if second == b"939=0" else 0
-        return Sent(frame, entry, None if again else self.call(first), not entry)
+        return Sent(data[:at], entry, refused, accepted)
 
     def call(self, named):
         """The first call that waits, which has to have this id."""
@@ -133,6 +131,13 @@ class Calls:
         if not call or call.id != named.split(b"=", 1)[1]:
             raise Astray(f"{named!r} was answered to {self.firm!r} where {call and call.id!r} was the call")
         return call
+
+
+def entry_of(kind, second, third):
+    """The entry that an answer tells of; 0 of a refusal."""
+    if kind == b"P":
+        return int(second[4:]) if second.startswith(b"793=") else 0
+    return int(third[9:]) if second == b"939=0" else 0
 
 
 def has_header(fields):

@@ -7,6 +7,7 @@ OPENING = re.compile(rb"8=FIXT\.1\.1\x019=(\d{1,6})\x01")
 BEGINNING = re.compile(rb"8=FIXT\.1\.1\x019=\d{0,6}")
 CLOSING = re.compile(rb"\x0110=\d{3}\x01")
 BODY = re.compile(rb"35=[^\x01]+\x01(?:[1-9]\d{0,8}=[^\x01]+\x01)*")
+FIELD = re.compile(rb"([1-9]\d{0,8})=([^\x01]+)\x01")
 TIME = re.compile(rb"(\d{4})(0[1-9]|1[0-2])(\d\d)-(?:[01]\d|2[0-3]):[0-5]\d:(?:[0-5]\d|60)(?:\.\d{1,12})?")
 
 
@@ -40,7 +41,7 @@ def fields_of(frame):
     at = frame.index(b"\x01", 13) + 1
     if sum(frame[:-7]) & 255 != int(frame[-4:-1]) or not BODY.fullmatch(frame, at, len(frame) - 7):
         return None
-    return dict(field.split(b"=", 1) for field in reversed(frame[at:-8].split(b"\x01")))
+    return dict(reversed(FIELD.findall(frame, at, len(frame) - 7)))
 
 
 def framed(body):

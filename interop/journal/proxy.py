@@ -99,10 +99,11 @@ class Connection:
     def from_server(self):
         piece = self.server.receive()
         if piece:
-            for sent in self.calls.answers(piece):
-                self.answered += bool(sent.call)
-                self.proxy.order.note(sent)
-                self.queue.append((sent.entry, sent.refused and self.proxy.order.issued(), sent.frame))
+            sent, order = self.calls.answers(piece), self.proxy.order
+            order.note(sent)
+            if sent.data:
+                self.queue.append((sent.entry, sent.refused and order.issued(), sent.data))
+            self.answered += len(sent.accepted)
         elif piece == b"":
             self.served, self.ended = False, time.monotonic()
 
@@ -110,15 +111,15 @@ class Connection:
         """Lets out what may be told now."""
         out = []
         while self.queue:
-            entry, ticket, frame = self.queue[0]
+            entry, ticket, data = self.queue[0]
             if ticket:
                 if self.proxy.oldest() <= ticket:
                     break
                 entry = self.proxy.order.highest
-                self.queue[0] = (entry, False, frame)
+                self.queue[0] = (entry, False, data)
             if entry > self.proxy.log.last:
                 break
-            out.append(frame)
+            out.append(data)
             self.queue.popleft()
         done = not self.served and not self.queue
         if out or done:
@@ -158,11 +159,12 @@ class Order:
         self.log, self.tickets, self.new, self.highest = log, tickets, {}, log.last
 
     def note(self, sent):
-        """Keeps the command of an entry that is told of for the first time. The answer to a repeat may come before the first one; its
-        command is the same."""
+        """Keeps the commands of the entries that are told of for the first time. The answer to a repeat may come before the first one;
+        its command is the same."""
         self.highest = max(self.highest, sent.entry)
-        if sent.call and sent.entry > self.log.last:
-            self.new.setdefault(sent.entry, (sent.call.frame, sent.frame))
+        for entry, call, answer in sent.accepted:
+            if entry > self.log.last:
+                self.new.setdefault(entry, (call.frame, answer))
 
     def issued(self):
         """A ticket of its own: greater than those of all calls that were passed on before."""
@@ -230,7 +232,7 @@ class Proxy:
             connection.close()
             self.connections.remove(connection)
             firm = (connection.calls.firm or b"no firm").decode(errors="replace")
-            say(f"connection {connection.number} of {firm} ends, {connection.answered} answers; {self.log.last} entries")
+            say(f"connection {connection.number} of {firm} ends, {connection.answered} calls accepted; {self.log.last} entries")
         for connection in self.connections:
             if connection.stuck(now) and connection.reading:
                 connection.cut_off()

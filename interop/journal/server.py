@@ -50,15 +50,15 @@ class Session:
         self.stream.sendall(data)
 
     def ask(self, frames):
-        """Sends commands, and gives the entries that their answers name, 0 for what isn't answered by one."""
-        self.send(*(numbered(frame, self.number + i) for i, frame in enumerate(frames)))
-        entries = []
+        """Sends commands, and gives the entry of each, 0 where it isn't accepted."""
+        first, entries = self.number, {}
+        self.send(*(numbered(frame, first + i) for i, frame in enumerate(frames)))
         while self.calls.waiting:
             piece = self.stream.recv(PIECE)
             if not piece:
                 break
-            entries += [sent.entry for sent in self.calls.answers(piece) if sent.call]
-        return entries + [0] * (len(frames) - len(entries))
+            entries |= {call.number: entry for entry, call, _ in self.calls.answers(piece).accepted}
+        return [entries.get(first + i, 0) for i in range(len(frames))]
 
     def close(self):
         self.stream.shutdown(socket.SHUT_WR)
