@@ -32,7 +32,7 @@ def text(path):
 
 def framed(body):
     """The frame of a body whose fields end with '|'."""
-    body = body.encode().replace(b"|", b"\x01")
+    body = body.encode("latin-1").replace(b"|", b"\x01")
     whole = b"8=FIXT.1.1\x019=%d\x01" % len(body) + body
     return whole + b"10=%03d\x01" % (sum(whole) % 256)
 
