@@ -1,7 +1,8 @@
-"""What the harnesses of this folder share: the programs that the gate built, growths that are refused, and the count in the end.
+"""What the harnesses of this folder share: the programs that the gate built, growths that are refused, and the count
+in the end.
 
-A harness runs programs that `rt ci` has proved and built, crates/NAME/out/NAME, and proves and builds none. Its last line is
-'N passed, M failed', and its status is 0 where M is 0.
+A harness runs programs that `rt ci` has proved and built, crates/NAME/out/NAME, and proves and builds none. Its
+last line is 'N passed, M failed', and its status is 0 where M is 0.
 """
 import os
 import re
