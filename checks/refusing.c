@@ -1,22 +1,32 @@
 /* Refuses one growth of a program: the N-th, where the environment has REFUSED_GROWTH=N. Preloaded, it stands before the C library's `malloc`
-   and `realloc`, through which each growth of a built program goes. With TOLD_GROWTHS=1 it tells on standard error, at the end, how many bytes
-   the largest growth asked for. */
-#include <stdio.h>
-#include <stdlib.h>
-extern void *__libc_malloc(size_t);
-extern void *__libc_realloc(void *, size_t);
-static long left;
-static size_t largest;
+   and `realloc`, through which each growth of a built program goes. With TOLD_GROWTHS=1 it tells on standard error, at the end, how many
+   growths there were, how many bytes the largest asked for, and how many were refused; of a program that ends by `_exit` too. It needs no
+   header, so that the kit's own clang will do. */
+typedef unsigned long size;
+extern void *__libc_malloc(size);
+extern void *__libc_realloc(void *, size);
+extern char *getenv(const char *);
+extern long atol(const char *);
+extern int dprintf(int, const char *, ...);
+extern long syscall(long, ...);
+static long nth, growths, refused;
+static size largest;
 __attribute__((constructor)) static void begin(void) {
     const char *growth = getenv("REFUSED_GROWTH");
-    left = growth ? atol(growth) : 0;
+    nth = growth ? atol(growth) : 0;
 }
 __attribute__((destructor)) static void end(void) {
-    if (getenv("TOLD_GROWTHS")) dprintf(2, "largest growth: %zu bytes\n", largest);
+    if (getenv("TOLD_GROWTHS")) dprintf(2, "growths: %ld, largest %lu bytes, refused %ld\n", growths, largest, refused);
 }
-static int refused(size_t size) {
-    if (size > largest) largest = size;
-    return left > 0 && --left == 0;
+static int is_refused(size bytes) {
+    if (bytes > largest) largest = bytes;
+    if (__atomic_add_fetch(&growths, 1, __ATOMIC_SEQ_CST) != nth) return 0;
+    refused++;
+    return 1;
 }
-void *malloc(size_t size) { return refused(size) ? NULL : __libc_malloc(size); }
-void *realloc(void *old, size_t size) { return refused(size) ? NULL : __libc_realloc(old, size); }
+void *malloc(size bytes) { return is_refused(bytes) ? 0 : __libc_malloc(bytes); }
+void *realloc(void *old, size bytes) { return is_refused(bytes) ? 0 : __libc_realloc(old, bytes); }
+__attribute__((noreturn)) void _exit(int status) {
+    end();
+    for (;;) syscall(231, status); /* exit_group */
+}

@@ -1,7 +1,8 @@
 //! A question, and what the book tells.
 
-use gu_base::{AccountId, FirmId, InstrumentId};
+use gu_base::{AccountId, FirmId, InstrumentId, Pair, Place};
 use gu_book::Book;
+use gu_book::laws::live_changes_alone;
 use gu_tree::Row;
 use std::alloc::Global;
 use std::io;
@@ -82,6 +83,48 @@ fn show_rows(
     Ok(())
 }
 
+/// Writes what the live changes alone give of a trade, of an account of its giver, and of the giver and a taker.
+fn show_alone(
+    rt: &(impl Print + Eprint),
+    alloc: Global,
+    book: &Book,
+    words: &[u8],
+) -> io::Result<()> {
+    let (trade, rest) = first_word(words);
+    let (giver, rest) = first_word(rest);
+    let (account, rest) = first_word(rest);
+    let (instrument, taker) = first_word(rest);
+    let (Some(trade), Some(giver), Some(account), Some(instrument), Some(taker)) = (
+        number_of(trade),
+        FirmId::new(giver),
+        AccountId::new(account),
+        InstrumentId::new(instrument),
+        FirmId::new(taker),
+    ) else {
+        return println!(rt; "what?");
+    };
+    let place = Place {
+        firm: giver,
+        account,
+    };
+    let pair = Pair { giver, taker };
+    let told = twice(rt, || {
+        live_changes_alone(book, alloc, trade, &place, &instrument, &taker, &pair)
+    })?;
+    let (long, short) = told.position;
+    println!(rt;
+        "alone: long {long} short {short}, {taker} paid {} received {}, used {}",
+        told.paid, told.received, told.used
+    )?;
+    let Some(rows) = &told.rows else {
+        return println!(rt; "no live trade");
+    };
+    for row in rows {
+        show_row(rt, row)?;
+    }
+    Ok(())
+}
+
 /// Writes the numbers of the live changes.
 fn show_live(rt: &(impl Print + Eprint), alloc: Global, book: &Book) -> io::Result<()> {
     print!(rt; "live")?;
@@ -104,6 +147,9 @@ pub(crate) fn answer(
     }
     if what == b"live".as_slice() {
         return show_live(rt, alloc, book);
+    }
+    if what == b"alone".as_slice() {
+        return show_alone(rt, alloc, book, rest);
     }
     if what == b"position".as_slice() {
         return show_position(rt, book, rest);

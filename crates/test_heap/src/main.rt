@@ -5,6 +5,9 @@
 //! After it the rows, the leaves and a copy of a tree are asked for in heaps that grow in the same steps: each call is refused
 //! until it gives what it gives where memory is ample, and no refusal changes the tree.
 //!
+//! In a heap of that size a copy of a tree of 100 parts gets no memory, and leaves the tree and the heap as they were; and behind a split into
+//! two that just fits, a claim, a refusal, a cancel and the undo of each, and that of the split, need no more room.
+//!
 //! Then a trade and one of its parts are split, and both Splits taken back, ten times in the least heap that takes them once: nothing is lost
 //! on the way, whether something stood on the parts or not.
 #![tactic(auto)]
@@ -12,6 +15,7 @@
 mod growths;
 mod rounds;
 mod splits;
+mod tight;
 mod trees;
 
 use std::io;
@@ -19,6 +23,7 @@ use std::io;
 fn main(rt: HostRuntime) -> io::Result<()> {
     let alloc = rt.alloc();
     splits::tell(&rt, alloc)?;
+    tight::tell(&rt, alloc)?;
     growths::tell(&rt, alloc)?;
     rounds::tell(&rt, alloc)
 }

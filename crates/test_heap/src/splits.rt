@@ -17,7 +17,7 @@ fn split_in_heap(alloc: Global, size: usize) -> io::Result<Outcome> {
 }
 
 /// The least heap in which the split into two is accepted.
-fn least_heap(alloc: Global) -> io::Result<Option<usize>> {
+pub(crate) fn least_heap(alloc: Global) -> io::Result<Option<usize>> {
     for steps in 1..1000 {
         let size = 16 * steps;
         if split_in_heap(alloc, size)? == Outcome::Done {

@@ -25,6 +25,14 @@ pub(crate) fn part(lots: u64) -> io::Result<Part> {
     })
 }
 
+/// The account B1 of BBB.
+pub(crate) fn taken() -> io::Result<Place> {
+    match (FirmId::new(b"BBB"), AccountId::new(b"B1")) {
+        (Some(firm), Some(account)) => Ok(Place { firm, account }),
+        _ => Err(io::Error::from(ErrorKind::InvalidData)),
+    }
+}
+
 /// The trade 1 of 100 lots into AAA/A1.
 pub(crate) fn trade<A: Allocator + Clone>(alloc: A) -> io::Result<Tree<A>> {
     Ok(Tree::new(alloc, Number::at_place(0), place()?, 100))
@@ -33,6 +41,18 @@ pub(crate) fn trade<A: Allocator + Clone>(alloc: A) -> io::Result<Tree<A>> {
 /// Splits the trade into parts of 60 and 40 lots.
 pub(crate) fn split_in_two<A: Allocator + Clone>(tree: &mut Tree<A>) -> io::Result<Outcome> {
     let parts = [part(60)?, part(40)?];
+    let root = NodeName::in_entry(Number::at_place(0), 0);
+    Ok(split(tree, root, Number::at_place(1), &parts))
+}
+
+/// Splits the trade into a part of 60 lots and one of 40 that is given up to BBB.
+pub(crate) fn give_up<A: Allocator + Clone>(tree: &mut Tree<A>) -> io::Result<Outcome> {
+    let given = Part {
+        lots: 40,
+        firm: taken()?.firm,
+        account: None,
+    };
+    let parts = [part(60)?, given];
     let root = NodeName::in_entry(Number::at_place(0), 0);
     Ok(split(tree, root, Number::at_place(1), &parts))
 }

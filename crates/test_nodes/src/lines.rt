@@ -1,11 +1,10 @@
 //! The change that a line asks for.
 
-use crate::changes::{claim, offer_again, refuse, unclaim};
 use crate::words::{first_word, node_of, number_of, part_of, place_of};
 use gu_base::{Memory, NodeName, Number, Part};
 use gu_tree::Tree;
 use std::alloc::Global;
-use test_splits::{Outcome, split, unsplit};
+use test_splits::{Outcome, cancel, claim, offer_again, refuse, split, unclaim, unsplit};
 
 /// The parts of these words.
 fn parts_of(alloc: Global, words: &str) -> Result<Vec<Part>, Memory> {
@@ -51,6 +50,7 @@ fn make(
     let outcome = match verb {
         "split" => split(tree, node, entry, parts_of(alloc, words)?.as_slice()),
         "refuse" => refuse(tree, node, entry),
+        "cancel" => cancel(tree, node, entry),
         "claim" => match place_of(words) {
             Some(into) => claim(tree, node, entry, into),
             None => Outcome::Unfit,

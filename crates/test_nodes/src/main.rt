@@ -2,16 +2,18 @@
 //!
 //! A line of standard input is a name for what follows (`# ..`, written again), or
 //! - `trade LOTS`: a new tree, of the trade 1 of so many lots into AAA/A1;
-//! - a change: `split NODE ENTRY LOTS/FIRM/ACCOUNT ..`, `claim NODE ENTRY FIRM/ACCOUNT`, `refuse NODE ENTRY`;
+//! - a change: `split NODE ENTRY LOTS/FIRM/ACCOUNT ..`, `claim NODE ENTRY FIRM/ACCOUNT`, `refuse NODE ENTRY`, `cancel NODE ENTRY`;
 //! - a change that is taken back at its node: `unsplit NODE`, `unclaim NODE`, `offer NODE`;
 //! - a question: `? rows`, `? leaves`, `? copy`, `? node NODE`, `? entry ENTRY`.
 //!
 //! Of each change the program writes whether all that the tree asks for held, and it was made. A row is its depth, the node, its lots, the
-//! account in which it stands, its state, the firm to which it was given, and the entry that decided it.
+//! account in which it stands, its state, the firm to which it was given, and the entry that decided it. At last it writes what commands of each
+//! kind touch, and the place of a trade in the trees of a book.
 #![tactic(auto)]
 
 mod changes;
 mod lines;
+mod places;
 mod questions;
 mod words;
 
@@ -44,5 +46,5 @@ fn main(rt: HostRuntime) -> io::Result<()> {
         let line = line?;
         tell(&rt, alloc, &mut tree, line.as_str())?;
     }
-    Ok(())
+    places::tell(&rt, alloc)
 }

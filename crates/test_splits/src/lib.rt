@@ -1,9 +1,10 @@
-//! The split of a tree's node and its undo, made where all that they ask for holds, for the programs that change trees (`test_nodes`, `test_heap`).
+//! The changes of a tree's node and their undo, each made where all that it asks for holds, for the programs that change trees (`test_nodes`,
+//! `test_heap`).
 //!
 //! It has no cases of its own: those of the two programs try it.
 #![tactic(auto)]
 
-use gu_base::{NodeName, Number, Part, State};
+use gu_base::{NodeName, Number, Part, Place, State};
 use gu_tree::{MAX_DEPTH, Tree};
 use std::alloc::Allocator;
 use std::fmt;
@@ -63,5 +64,85 @@ pub fn unsplit<A: Allocator + Clone>(tree: &mut Tree<A>, name: NodeName) -> Outc
         return Outcome::Unfit;
     }
     tree.unsplit(&path);
+    Outcome::Done
+}
+
+/// Moves an offered part into the account of its Claim.
+pub fn claim<A: Allocator + Clone>(
+    tree: &mut Tree<A>,
+    name: NodeName,
+    decision: Number,
+    into: Place,
+) -> Outcome {
+    let Some(path) = tree.find(name) else {
+        return Outcome::Unfit;
+    };
+    let head = *tree.head(&path);
+    if head.state != State::Offered {
+        return Outcome::Unfit;
+    }
+    tree.claim(&path, decision, into);
+    Outcome::Done
+}
+
+/// Gives an offered part back, by its taker.
+pub fn refuse<A: Allocator + Clone>(
+    tree: &mut Tree<A>,
+    name: NodeName,
+    decision: Number,
+) -> Outcome {
+    let Some(path) = tree.find(name) else {
+        return Outcome::Unfit;
+    };
+    let head = *tree.head(&path);
+    if head.state != State::Offered {
+        return Outcome::Unfit;
+    }
+    tree.give_back(&path, decision, State::Refused);
+    Outcome::Done
+}
+
+/// Gives an offered part back, by its giver.
+pub fn cancel<A: Allocator + Clone>(
+    tree: &mut Tree<A>,
+    name: NodeName,
+    decision: Number,
+) -> Outcome {
+    let Some(path) = tree.find(name) else {
+        return Outcome::Unfit;
+    };
+    let head = *tree.head(&path);
+    if head.state != State::Offered {
+        return Outcome::Unfit;
+    }
+    tree.give_back(&path, decision, State::Cancelled);
+    Outcome::Done
+}
+
+/// Takes a Claim back, where the node is a claimed leaf.
+pub fn unclaim<A: Allocator + Clone>(tree: &mut Tree<A>, name: NodeName) -> Outcome {
+    let Some(path) = tree.find(name) else {
+        return Outcome::Unfit;
+    };
+    let head = *tree.head(&path);
+    let parted = tree.parted(&path);
+    if path.is_empty() || parted.is_some() || head.state != State::Claimed {
+        return Outcome::Unfit;
+    }
+    tree.unclaim(&path);
+    Outcome::Done
+}
+
+/// Takes a Refuse or a Cancel back, where the node is a leaf that was given back.
+pub fn offer_again<A: Allocator + Clone>(tree: &mut Tree<A>, name: NodeName) -> Outcome {
+    let Some(path) = tree.find(name) else {
+        return Outcome::Unfit;
+    };
+    let head = *tree.head(&path);
+    let parted = tree.parted(&path);
+    if parted.is_some() || (head.state != State::Refused && head.state != State::Cancelled) {
+        return Outcome::Unfit;
+    }
+    tree.offer_again(&path);
     Outcome::Done
 }

@@ -1,0 +1,120 @@
+"""What the harnesses of this folder share: the programs that the gate built, growths that are refused, and the count
+in the end.
+
+A harness runs programs that `rt ci` has proved and built, crates/NAME/out/NAME, and proves and builds none. Its
+last line is 'N passed, M failed', and its status is 0 where M is 0.
+"""
+import os
+import re
+import shutil
+import socket
+import subprocess
+import sys
+import tempfile
+import time
+from concurrent.futures import ThreadPoolExecutor
+
+TOP = os.path.dirname(os.path.dirname(os.path.abspath(__file__)))
+TOLD = re.compile(rb"growths: (\d+), largest (\d+) bytes, refused (\d+)\n\Z")
+
+
+def built(name):
+    """The program of a crate, as `rt ci` or `rt run` left it."""
+    program = f"{TOP}/crates/{name}/out/{name}"
+    if not os.access(program, os.X_OK):
+        sys.exit(f"{name} isn't built: rt ci proves and builds it (or rt run in crates/{name})")
+    return program
+
+
+def text(path):
+    with open(f"{TOP}/{path}", "rb") as it:
+        return it.read()
+
+
+def framed(body):
+    """The frame of a body whose fields end with '|'."""
+    body = body.encode("latin-1").replace(b"|", b"\x01")
+    whole = b"8=FIXT.1.1\x019=%d\x01" % len(body) + body
+    return whole + b"10=%03d\x01" % (sum(whole) % 256)
+
+
+def exchanged(started, send):
+    """Has a client send this to a server as soon as it listens, and end what it sends: the server's run, and what the client got until it was
+    closed. `started` starts a server of one connection on a port, which may be taken meanwhile: then it is another port's turn."""
+    for _ in range(10):
+        with socket.socket() as probe:
+            probe.bind(("127.0.0.1", 0))
+            port = probe.getsockname()[1]
+        server, got = started(port), b""
+        while server.poll() is None:
+            try:
+                with socket.create_connection(("127.0.0.1", port), timeout=20) as client:
+                    client.sendall(send)
+                    client.shutdown(socket.SHUT_WR)
+                    while piece := client.recv(65_536):
+                        got += piece
+                break
+            except ConnectionRefusedError:
+                time.sleep(0.01)
+            except OSError:
+                break
+        try:
+            out, err = server.communicate(timeout=30)
+        except subprocess.TimeoutExpired:
+            server.kill()
+            out, err = server.communicate()
+        if not err.startswith(b"cannot listen"):
+            break
+    return subprocess.CompletedProcess(server.args, server.returncode, out, err), got
+
+
+def end(passed, failed):
+    """The last line of a harness, and its status."""
+    print(f"{passed} passed, {failed} failed")
+    sys.exit(1 if failed else 0)
+
+
+def compiled(source, out):
+    """Makes a library to be preloaded: by cc, or by the kit's clang and linker."""
+    cc = shutil.which("cc")
+    if cc:
+        return subprocess.run([cc, "-shared", "-fPIC", "-O1", "-o", out, source], check=True)
+    page = subprocess.run(["rt", "doc"], capture_output=True, text=True, check=True).stdout.strip()
+    tools = f"{os.path.dirname(page)}/toolchain/bin"
+    subprocess.run([f"{tools}/clang", "--target=x86_64-unknown-linux-gnu", "-fPIC", "-O1", "-c", "-o", f"{out}.o", source], check=True)
+    return subprocess.run([f"{tools}/ld.lld", "-shared", "-o", out, f"{out}.o"], check=True)
+
+
+class Run:
+    """A run of a program with its growths counted: how it ended, what it wrote, and of its growths how many there were, how many bytes the
+    largest asked for, and how many were refused."""
+
+    def __init__(self, done):
+        told = TOLD.search(done.stderr)
+        self.status, self.out = done.returncode, done.stdout
+        self.err = done.stderr[: told.start()] if told else done.stderr
+        self.growths, self.largest, self.refused = map(int, told.groups()) if told else (0, 0, 0)
+
+
+class Growths:
+    """Runs programs with one growth refused."""
+
+    def __init__(self):
+        self.room = tempfile.TemporaryDirectory(prefix="checks-growths-")
+        self.shim = f"{self.room.name}/refusing.so"
+        compiled(f"{TOP}/checks/refusing.c", self.shim)
+
+    def env(self, nth):
+        """What has a program's N-th growth refused, or none, and told how many there were."""
+        return dict(os.environ, LD_PRELOAD=self.shim, TOLD_GROWTHS="1", REFUSED_GROWTH=str(nth))
+
+    def run(self, words, given, nth=0):
+        """The run with the N-th growth refused, or with none."""
+        return Run(subprocess.run(words, input=given, capture_output=True, cwd=TOP, env=self.env(nth), timeout=120))
+
+    def each(self, words, given, first=1):
+        """The run with none refused, and then those with one refused, for each growth from the `first` on until a run meets none."""
+        whole = self.run(words, given)
+        numbers = range(first, whole.growths + 2)
+        with ThreadPoolExecutor(os.cpu_count()) as pool:
+            return whole, list(zip(numbers, pool.map(lambda nth: self.run(words, given, nth), numbers)))
