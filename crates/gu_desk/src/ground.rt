@@ -1,5 +1,5 @@
 //! What a desk is made of.
-ghost use Rattle.std.specs.Prelude.{◌≡◌, ◌≤◌, ◌&&◌, leb, IfOk, IfErr, IsTrue};
+ghost use Rattle.std.specs.Prelude.{◌≡◌, IfOk, IfErr, IsTrue};
 ghost use Rattle.gu_book.specs.Seen.{stored};
 ghost use Rattle.gu_desk.specs.Views.{is_worker_count};
 

@@ -1,4 +1,4 @@
-use Rattle.std.proofs.Common.{arith, ◌≡◌, ◌∙◌, ℕ, ◌+◌, ◌-◌, ◌==◌, List, [], ◌∷◌, ◌++◌, length, ap, sym, subst, length-append}
+use Rattle.std.proofs.Common.{arith, ◌≡◌, ◌∙◌, ◌+◌, ◌-◌, ◌==◌, List, [], ◌∷◌, ◌++◌, length, ap, sym, subst}
 use mathlib.Core.Option.{some}
 use prog.Atomic.{either}
 use Rattle.atomic_table.specs.Table.{Allows, step, Me}

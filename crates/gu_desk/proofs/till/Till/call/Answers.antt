@@ -1,4 +1,4 @@
-use Rattle.std.proofs.Common.{arith, ap, sym, subst, ◌≡◌, ◌∙◌, [], List, length}
+use Rattle.std.proofs.Common.{arith, ap, sym, subst, ◌∙◌, [], List}
 use Rattle.atomic_table.specs.Table.{Me}
 use Rattle.gu_base.specs.declared.entry.Entry.{Entry}
 use Rattle.gu_book.specs.Seen.{stored}
