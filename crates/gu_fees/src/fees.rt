@@ -94,6 +94,7 @@ impl Fees {
         ensures same_paid { OnErr result ((firm : List ℕ) → paid_in self.new firm ≡ paid_in self.old firm) }
         ensures same_received { OnErr result ((firm : List ℕ) → received_in self.new firm ≡ received_in self.old firm) }
         ensures same_used { OnErr result ((g t : List ℕ) → used_in self.new g t ≡ used_in self.old g t) }
+        ensures stays_ready { (g t : List ℕ) → IsReady self.old g t → IsReady self.new g t }
     {
         let pair = Pair {
             giver: *giver,

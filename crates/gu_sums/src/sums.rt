@@ -97,6 +97,7 @@ impl<K: Eq + Hash + Copy + Drop> Sums<K> {
         requires { number_at (K.eq key.now) self.old + by < 2 ^ 64 }
         ensures added { OnOk result ((q : K) → number_at (K.eq q) self.new ≡ number_at (K.eq q) self.old + cond (K.eq key.now q) by 0) }
         ensures same { OnErr result ((q : K) → number_at (K.eq q) self.new ≡ number_at (K.eq q) self.old) }
+        ensures stays_ready { (q : K) → IsTrue (has_row (K.eq q) self.old) → IsTrue (has_row (K.eq q) self.new) }
     {
         if let Some(sum) = self.rows.get_mut(key) {
             *sum += by;

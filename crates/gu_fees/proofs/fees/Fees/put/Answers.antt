@@ -1,8 +1,10 @@
-use Rattle.std.proofs.Common.{ℕ, ◌≡◌, ◌+◌, ◌&&◌, arith, bytes_eq, List}
+use Rattle.std.proofs.Common.{ℕ, ◌≡◌, ◌+◌, ◌&&◌, arith, bytes_eq}
 use Rattle.std.specs.Prelude.{OnErr, Result, Ok, Err}
 use Rattle.gu_base.specs.declared.node.Charge.{Charge}
 use Rattle.gu_sums.proofs.OneMore.{more_sum}
 use Rattle.gu_fees.specs.Sums.{cost}
+use Rattle.gu_base.proofs.Basics.{still_true}
+use Rattle.gu_fees.proofs.Ready.{stay_ready}
 use Rattle.gu_fees.proofs.fees.Fees.put.Goals as goal
 
 -- what was added and taken out again changes nothing
@@ -40,3 +42,18 @@ returns-clause-sums c = λ before after are.
       received = λ firm. more_sum cost (λ k. bytes_eq k.giver firm) before x after _ _ (c.in_default.ensures.added firm) (was.received firm);
       used = λ g t. more_sum (λ k. k.lots) (λ k. bytes_eq k.giver g && bytes_eq k.taker t) before x after _ _ (c.in_default-put.ensures.added (record { giver = g; taker = t })) (was.used g t);
     }
+
+pub returns-in_err-put-clause-stays_ready : goal.returns-in_err-put-clause-stays_ready
+returns-in_err-put-clause-stays_ready c = rw (← c.self.view_is) (stay_ready _ _ c.put.ensures.stays_ready (λ q is. is) (λ q is. is))
+
+pub returns-in-Err-clause-stays_ready : goal.returns-in-Err-clause-stays_ready
+returns-in-Err-clause-stays_ready c = rw (← c.self.view_is) (stay_ready _ _
+    (λ q is. still_true _ _ (c.take.ensures.stays_ready q) (c.put.ensures.stays_ready q is)) c.put-2.ensures.stays_ready (λ q is. is))
+
+pub returns-in-Err-put-clause-stays_ready : goal.returns-in-Err-put-clause-stays_ready
+returns-in-Err-put-clause-stays_ready c = rw (← c.self.view_is) (stay_ready _ _
+    (λ q is. still_true _ _ (c.take-in-Err-put-2.ensures.stays_ready q) (c.put.ensures.stays_ready q is))
+    (λ q is. still_true _ _ (c.take-in-Err-put.ensures.stays_ready q) (c.put-2.ensures.stays_ready q is)) c.put-3.ensures.stays_ready)
+
+pub returns-clause-stays_ready : goal.returns-clause-stays_ready
+returns-clause-stays_ready c = rw (← c.self.view_is) (stay_ready _ _ c.put.ensures.stays_ready c.put-2.ensures.stays_ready c.put-3.ensures.stays_ready)
