@@ -10,7 +10,8 @@
 //!   greater by one exactly where the answer is Accepted, and it has then seen the history that the call left. The answer is that of the
 //!   rules at a history that begins with what the seat had seen; the reports are those at what it has then seen.
 //! - The count is one word of an atomic table. Its rule (`specs/Passes.antt`) ties the passes of all seats to one history: the book's pass has seen
-//!   it whole, each other a beginning of it. Passes are values of the proofs alone and take no bytes; a call costs three or four accesses of the word.
+//!   it whole, each other a beginning of it. Passes are values of the proofs alone and take no bytes; a call costs four or five accesses of the word,
+//!   and `Seat::seen` is what the last of them found.
 //! - `Desk::close` gives the book back against all seats: its history is as long as the opening one and the sum of the shares, and begins with
 //!   what each seat has seen.
 //! - `Desk::call` and `Desk::read_reports` may wait for the lock; nothing else here waits.
