@@ -1,3 +1,4 @@
+pub mod Moves
 pub mod Running
 pub mod Workers
 pub mod Crossing

@@ -10,7 +10,9 @@ use Rattle.gu_base.specs.declared.entry.Answer.TheVariants.{Accepted, Repeated, 
 use Rattle.gu_base.proofs.Accepted.{allowed}
 use Rattle.gu_book.specs.Seen.{HouseAndHistory}
 use Rattle.gu_desk.specs.Runs.{IsRunOf}
-use Rattle.gu_desk.specs.Shares.{gained}
+use Rattle.gu_desk.specs.Begins.{BeginsWith}
+use Rattle.gu_desk.specs.Shares.{gained, Gains}
+use Rattle.gu_desk.proofs.Moves.{begins_itself}
 
 -- the opening history is one
 pub run_starts : (t : House) (o : List Entry) → IsRunFrom t o o
@@ -83,3 +85,20 @@ grown {E = E} opening old new c (Err e) run answered kept unchanged = (
   subst (λ (b : HouseAndHistory). IsRunOf opening b) (sym unchanged) run,
   ap (λ (b : HouseAndHistory). length b.history) unchanged ∙ omega arith,
 )
+
+-- what the history gains by a call, of which `apply` says this
+pub gains : {E : Type 0} (old new : HouseAndHistory) (c : Call) (r : Result Answer E)
+    → IfOk r (λ a. a ≡ answer_to old.house old.history c) → OnOk r (new ≡ record { house = old.house; history = after old.house old.history c }) → OnErr r (new ≡ old)
+    → Gains r old.history new.history
+gains old new c (Ok (Accepted n s)) answered kept unchanged =
+    (record { firm = c.firm; id = c.id; command = c.command; status = s }, ap (λ (b : HouseAndHistory). b.history) kept ∙ ap (λ (x : Answer). after_by old.history c x) (sym answered))
+gains old new c (Ok (Repeated n s)) answered kept unchanged = ap (λ (b : HouseAndHistory). b.history) kept ∙ ap (λ (x : Answer). after_by old.history c x) (sym answered)
+gains old new c (Ok (Refused r)) answered kept unchanged = ap (λ (b : HouseAndHistory). b.history) kept ∙ ap (λ (x : Answer). after_by old.history c x) (sym answered)
+gains old new c (Err e) answered kept unchanged = ap (λ (b : HouseAndHistory). b.history) unchanged
+
+-- what gained a record at most begins with what it was
+pub grows : {E : Type 0} (r : Result Answer E) (old new : List Entry) → Gains r old new → BeginsWith new old
+grows (Ok (Accepted n s)) old new more = record { rest = more.0 ∷ []; is = more.1 }
+grows (Ok (Repeated n s)) old new same = subst (λ (l : List Entry). BeginsWith l old) (sym same) (begins_itself old)
+grows (Ok (Refused r)) old new same = subst (λ (l : List Entry). BeginsWith l old) (sym same) (begins_itself old)
+grows (Err e) old new same = subst (λ (l : List Entry). BeginsWith l old) (sym same) (begins_itself old)

@@ -1,3 +1,5 @@
-pub mod Views
-pub mod Shares
+pub mod Begins
+pub mod Passes
 pub mod Runs
+pub mod Shares
+pub mod Views

@@ -1,20 +1,24 @@
 -- What contracts see of a ground, a desk and a seat.
-use Rattle.std.specs.Prelude.{ℕ, Bool, ◌&&◌, leb, []}
+use Rattle.std.specs.Prelude.{ℕ, Bool, ◌&&◌, leb, List, []}
+use Rattle.atomic_table.specs.Seated.{TableId}
+use Rattle.gu_base.specs.declared.entry.Entry.{Entry}
 use Rattle.gu_book.specs.Seen.{HouseAndHistory}
 
--- the name of its ledger, how many workers its desk has, and the house table and history of its book
+-- the name of its ledger, how many workers its desk has, the table that counts its records, and the house table and history of its book
 pub record GroundView : Type 0 where
   pub name : ℕ
   pub workers : ℕ
+  pub table : TableId
   pub opening : HouseAndHistory
 
 -- how many seats were given out
 pub record DeskView : Type 0 where
   pub seats : ℕ
 
--- how many of the calls that were made with it were accepted
+-- how many of the calls that were made with it were accepted, and the history that it has seen
 pub record SeatView : Type 0 where
   pub share : ℕ
+  pub seen : List Entry
 
 -- the workers that one desk may have at the most
 abbrev pub most_workers : ℕ
@@ -27,3 +31,7 @@ is_worker_count n = leb 1 n && leb n most_workers
 -- the book of nobody, for a job that is no desk's
 abbrev pub no_book : HouseAndHistory
 no_book = record { house = record { house = []; firms = []; accounts = []; instruments = []; agreements = [] }; history = [] }
+
+-- the table of nobody
+abbrev pub no_table : TableId
+no_table = record { words = 0; slots = 0; views_name = 0; atom = 0; block = 0; offset = 0; slot_names = [] }

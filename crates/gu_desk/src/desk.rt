@@ -1,12 +1,16 @@
 //! The desk that workers share.
-ghost use Rattle.std.specs.Prelude.{◌≡◌, ◌+◌, ◌<◌, ◌≤◌, length, vec_len, IfOk, IfErr, OnOk, OnErr};
+ghost use Rattle.std.specs.Prelude.{◌≡◌, ◌+◌, ◌<◌, ◌≤◌, [], length, vec_len, IfOk, IfErr, OnOk, OnErr};
 ghost use Rattle.std.specs.List.{All, sum_by};
-ghost use Rattle.gu_base.specs.Limits.{most_parts};
+ghost use Rattle.gu_base.specs.Limits.{most_entries, most_parts};
 ghost use Rattle.gu_book.specs.Seen.{stored};
-ghost use Rattle.gu_trace.specs.Reports.{most_reports};
-ghost use Rattle.gu_desk.specs.Runs.{IsRunOf, IsAnswerOf, IsReadingOf, IsToldOf};
+ghost use Rattle.gu_book.specs.Ids.{NoIdTwice};
+ghost use Rattle.gu_trace.specs.Reports.{entries_for, most_reports};
+ghost use Rattle.gu_desk.specs.Begins.{BeginsWith};
+ghost use Rattle.gu_desk.specs.Passes.{of_book};
+ghost use Rattle.gu_desk.specs.Runs.{IsRunOf, IsAnswerOf, IsReadingOf, IsToldOf, IsCallBy, IsReadingAt, HasSeen};
 ghost use Rattle.gu_desk.specs.Shares.{gained};
 
+use crate::count::{Count, Pass};
 use crate::ground::Ground;
 use crate::seat::{Job, Seat};
 use crate::till::Till;
@@ -42,37 +46,55 @@ pub struct CloseError<J: Job> {
     pub seats: Vec<Seat<J>>,
 }
 
-/// A seat for each worker, with a part of the opening share and nothing counted. One part is left.
+/// A seat for each worker, with a part of the opening share and nothing counted, that has seen what the book's pass has. One part is left.
 fn cut_seats<J: Job>(
     alloc: Global,
     opening: &mut Share<J>,
+    count: &Count,
+    pass: &mut Pass,
     workers: u32,
 ) -> Result<Vec<Seat<J>>, Memory>
     requires parts { opening.old.parts ≡ workers + 1 }
     requires amount { opening.old.amount ≡ 0 }
+    requires tables { (pass.old.table_id ≡ count.now.shared.table_id) × (count.now.shared.table_id.words ≡ 1) }
+    requires job { count.now.shared.table_id ≡ J.table }
+    requires books { pass.old.me ≡ (of_book pass.old.me.0.seen, []) }
+    requires fits { length pass.old.me.0.seen ≤ most_entries }
     ensures seats { IfOk result (λ v. vec_len v ≡ workers) }
     ensures shares { IfOk result (λ v. All (λ s. s.share ≡ 0) v.items) }
+    ensures seen { IfOk result (λ v. All (λ s. s.seen ≡ pass.old.me.0.seen) v.items) }
     ensures parts { OnOk result (opening.new.parts ≡ 1) }
     ensures amount { OnOk result (opening.new.amount ≡ 0) }
+    ensures table { pass.new.table_id ≡ pass.old.table_id }
+    ensures same { pass.new.me ≡ pass.old.me }
 {
     let mut seats = Vec::new(alloc);
     for _ in 0..workers {
         let share = opening.split_off(1, 0);
-        seats.push(Seat { share })?;
+        seats.push(Seat::new(share, count, pass))?;
     }
     Ok(seats)
 }
 
-/// The opening share with the shares of the seats.
-fn merge_seats<J: Job>(opening: Share<J>, seats: Vec<Seat<J>>) -> Share<J>
+/// The opening share with the shares of the seats, whose passes are laid into the book's.
+fn merge_seats<J: Job>(
+    opening: Share<J>,
+    count: &Count,
+    pass: &mut Pass,
+    seats: Vec<Seat<J>>,
+) -> Share<J>
     requires some { 1 ≤ vec_len seats }
+    requires tables { (pass.old.table_id ≡ count.now.shared.table_id) × (count.now.shared.table_id.words ≡ 1) }
+    requires job { count.now.shared.table_id ≡ J.table }
+    requires books { pass.old.me ≡ (of_book pass.old.me.0.seen, []) }
     ensures parts { result.parts ≡ opening.parts + vec_len seats }
     ensures amount { result.amount ≡ opening.amount + sum_by (λ s. s.share) seats.items }
     ensures apart { result.parts ≤ J.parts }
+    ensures begins { All (λ s. BeginsWith pass.old.me.0.seen s.seen) seats.items }
 {
     let mut all = opening;
     for seat in seats {
-        let Seat { share } = seat;
+        let share = seat.into_share(count, pass);
         all.merge(share);
     }
     all
@@ -87,19 +109,24 @@ impl<J: Job> Desk<J> {
     pub fn new(alloc: Global, ground: Ground) -> Result<(Desk<J>, Vec<Seat<J>>), (Book, Memory)>
         requires name { ground.name ≡ J.name }
         requires parts { ground.workers + 1 ≡ J.parts }
+        requires table { ground.table ≡ J.table }
         requires opening { ground.opening ≡ J.opening }
         ensures desk { IfOk result (λ r. r.0.seats ≡ ground.workers) }
         ensures seats { IfOk result (λ r. vec_len r.1 ≡ ground.workers) }
         ensures shares { IfOk result (λ r. All (λ s. s.share ≡ 0) r.1.items) }
+        ensures seen { IfOk result (λ r. All (λ s. s.seen ≡ ground.opening.history) r.1.items) }
+        ensures once { IfOk result (λ r. All (λ s. NoIdTwice s.seen) r.1.items) }
         ensures unchanged { IfErr result (λ e. stored e.0 ≡ ground.opening) }
     {
         let Ground {
             book,
             workers,
             blank,
+            count,
+            mut pass,
         } = ground;
         let (mut total, mut opening) = blank.open::<J>();
-        let Ok(seats) = cut_seats(alloc, &mut opening, workers) else {
+        let Ok(seats) = cut_seats(alloc, &mut opening, &count, &mut pass, workers) else {
             return Err((book, AllocError));
         };
         total.add(&mut opening, book.history().len() as u64);
@@ -107,6 +134,8 @@ impl<J: Job> Desk<J> {
             book,
             total,
             opening,
+            count,
+            pass,
         };
         let desk = Desk {
             till: Mutex::new(till),
@@ -131,6 +160,9 @@ impl<J: Job> Desk<J> {
     ) -> (Seat<J>, Result<Answer, Memory>)
         ensures share { result.0.share ≡ seat.share + gained result.1 }
         ensures answered { IsAnswerOf J.opening (record { firm = by.now; id = id.now; command = command.now }) result.1 }
+        ensures seen { IsCallBy J.opening seat.seen (record { firm = by.now; id = id.now; command = command.now }) result.1 result.0.seen }
+        ensures later { HasSeen J.opening seat.seen result.0.seen }
+        ensures once { NoIdTwice result.0.seen }
     {
         self.till.lock(rt).call(alloc, seat, by, id, command)
     }
@@ -148,11 +180,15 @@ impl<J: Job> Desk<J> {
         firm: &FirmId,
         after: u32,
     ) -> (Seat<J>, Result<Vec<Report>, Memory>)
-        ensures share { result.0 ≡ seat }
+        ensures share { result.0.share ≡ seat.share }
         ensures read { IfOk result.1 (λ v. IsReadingOf J.opening firm.now after v.items) }
         ensures memory { OnErr result.1 (IsToldOf J.opening firm.now after) }
         ensures few { IfOk result.1 (λ v. length v.items ≤ most_reports) }
         ensures short { IfOk result.1 (λ v. All (λ r. length r.parts ≤ most_parts) v.items) }
+        ensures seen { HasSeen J.opening seat.seen result.0.seen }
+        ensures told { IfOk result.1 (λ v. IsReadingAt J.opening.house result.0.seen firm.now after v.items) }
+        ensures lacked { OnErr result.1 (1 ≤ length (entries_for J.opening.house.house result.0.seen firm.now after)) }
+        ensures once { NoIdTwice result.0.seen }
     {
         self.till.lock(rt).read(alloc, seat, firm, after)
     }
@@ -165,6 +201,7 @@ impl<J: Job> Desk<J> {
     pub fn close(self, seats: Vec<Seat<J>>) -> Result<Book, CloseError<J>>
         ensures length { IfOk result (λ b. length b.history ≡ length J.opening.history + sum_by (λ s. s.share) seats.items) }
         ensures run { IfOk result (λ b. IsRunOf J.opening (stored b)) }
+        ensures seen { IfOk result (λ b. All (λ s. BeginsWith b.history s.seen) seats.items) }
         ensures missing { IfErr result (λ e. vec_len seats < self.seats) }
         ensures desk { IfErr result (λ e. e.desk ≡ self) }
         ensures seats { IfErr result (λ e. e.seats ≡ seats) }
@@ -177,8 +214,10 @@ impl<J: Job> Desk<J> {
             book,
             mut total,
             opening,
+            count,
+            mut pass,
         } = till.into_inner();
-        let mut all = merge_seats(opening, seats);
+        let mut all = merge_seats(opening, &count, &mut pass, seats);
         total.audit(&mut all);
         Ok(book)
     }

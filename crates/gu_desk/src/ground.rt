@@ -1,35 +1,40 @@
 //! What a desk is made of.
-ghost use Rattle.std.specs.Prelude.{◌≡◌, ◌≤◌, ◌&&◌, leb, IfOk, IfErr, IsTrue};
+ghost use Rattle.std.specs.Prelude.{◌≡◌, IfOk, IfErr, IsTrue};
 ghost use Rattle.gu_book.specs.Seen.{stored};
 ghost use Rattle.gu_desk.specs.Views.{is_worker_count};
 
+use crate::count::{Count, Pass};
 use gu_base::Memory;
 use gu_book::Book;
-use std::alloc::Global;
+use std::alloc::{AllocError, Global};
 use std::marker::Model;
 use std::sync::ledger::Blank;
 
 /// The most workers of a desk.
 pub(crate) const MOST_WORKERS: u32 = 16;
 
-/// A book, and a ledger that no type names yet. It is of use to one desk alone.
+/// A book, a count of its records with the book's pass, and a ledger that no type names yet. It is of use to one desk alone.
 #[derive(Drop)]
 pub struct Ground {
     pub(crate) book: Book,
     pub(crate) workers: u32,
     pub(crate) blank: Blank,
+    pub(crate) count: Count,
+    pub(crate) pass: Pass,
 }
 
 impl Model for Ground {
-    ghost use Rattle.std.specs.Prelude.{◌≡◌, ◌+◌, IsTrue};
+    ghost use Rattle.std.specs.Prelude.{◌≡◌, ◌+◌, ◌≤◌, [], length, IsTrue};
+    ghost use Rattle.gu_base.specs.Limits.{most_entries};
     ghost use Rattle.gu_book.specs.Seen.{stored};
+    ghost use Rattle.gu_desk.specs.Passes.{of_book};
     ghost use Rattle.gu_desk.specs.Views.{GroundView, is_worker_count};
 
     ghost Value = { GroundView };
 
-    ghost view = { λ g. record { name = g.blank.name; workers = g.workers; opening = stored g.book } };
+    ghost view = { λ g. record { name = g.blank.name; workers = g.workers; table = g.count.shared.table_id; opening = stored g.book } };
 
-    ghost invariant = { λ g. (g.blank.parts ≡ g.workers + 1) × IsTrue (is_worker_count g.workers) };
+    ghost invariant = { λ g. (g.blank.parts ≡ g.workers + 1) × IsTrue (is_worker_count g.workers) × (g.count.shared.table_id.words ≡ 1) × (g.pass.table_id ≡ g.count.shared.table_id) × (g.pass.me ≡ (of_book g.book.history, [])) × (length g.book.history ≤ most_entries) };
 }
 
 impl Ground {
@@ -45,16 +50,22 @@ impl Ground {
     /// # Errors
     ///
     /// The book, and `Memory` where a growth was refused.
-    pub fn new(_alloc: Global, book: Book, workers: u32) -> Result<Ground, (Book, Memory)>
+    pub fn new(alloc: Global, book: Book, workers: u32) -> Result<Ground, (Book, Memory)>
         requires { IsTrue (is_worker_count workers) }
         ensures opening { IfOk result (λ g. g.opening ≡ stored book) }
         ensures workers { IfOk result (λ g. g.workers ≡ workers) }
         ensures unchanged { IfErr result (λ e. e.0 ≡ book) }
     {
+        let length = book.history().len() as u64;
+        let Ok((count, pass)) = Count::of_words(alloc, &[length], &book) else {
+            return Err((book, AllocError));
+        };
         Ok(Ground {
             book,
             workers,
             blank: Blank::new(workers as u64 + 1),
+            count,
+            pass,
         })
     }
 }

@@ -1,17 +1,24 @@
-//! The shared desk: one book behind one lock, and seats that count what was accepted.
+//! The shared desk: one book behind one lock, and seats that count what was accepted and carry the history that they have seen.
 //!
-//! - `Ground` is a book with a ledger that no type names yet; `Desk::new` makes of it a desk and a seat for each worker. Both, and
-//!   what lies behind the lock, are generic in a `Job`, which stands for one ground: a seat of another desk is of another type.
-//! - Behind the lock lies a `Till`: the book, and the total of the ledger. Its type keeps that the book's history is one that calls
-//!   made of the opening book, and that it is as long as the total. `Till::call` and `Till::read` answer what the rules say at the
-//!   till's own history.
+//! - `Ground` is a book with a count of its records and a ledger that no type names yet; `Desk::new` makes of it a desk and a seat for each
+//!   worker. Both, and what lies behind the lock, are generic in a `Job`, which stands for one ground: a seat of another desk is of another
+//!   type.
+//! - Behind the lock lies a `Till`: the book, the total of the ledger, the count and the book's pass. Its type keeps that the book's history is
+//!   one that calls made of the opening book, that it is as long as the total, and that the book's pass has seen it all. `Till::call` and
+//!   `Till::read` answer what the rules say at the till's own history.
 //! - `Desk::call` and `Desk::read_reports` take the lock and hand on the till's answer. A seat goes in and comes back: its share is
-//!   greater by one exactly where the answer is Accepted.
-//! - `Desk::close` gives the book back against all seats: its history is as long as the opening one and the sum of the shares.
+//!   greater by one exactly where the answer is Accepted, and it has then seen the history that the call left. The answer is that of the
+//!   rules at a history that begins with what the seat had seen; the reports are those at what it has then seen.
+//! - The count is one word of an atomic table. Its rule (`specs/Passes.antt`) ties the passes of all seats to one history: the book's pass has seen
+//!   it whole, each other a beginning of it. Passes are values of the proofs alone and take no bytes; a call costs four or five accesses of the word,
+//!   and `Seat::seen` is what the last of them found.
+//! - `Desk::close` gives the book back against all seats: its history is as long as the opening one and the sum of the shares, and begins with
+//!   what each seat has seen.
 //! - `Desk::call` and `Desk::read_reports` may wait for the lock; nothing else here waits.
 //! - Its cases stand in the program `test_desk`.
 #![tactic(auto)]
 
+mod count;
 mod desk;
 mod gate;
 mod ground;

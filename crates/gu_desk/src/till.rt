@@ -4,10 +4,13 @@ ghost use Rattle.std.specs.List.{All};
 ghost use Rattle.gu_base.specs.Limits.{most_parts};
 ghost use Rattle.gu_base.specs.Answers.{answer_to, after};
 ghost use Rattle.gu_book.specs.Front.{may_lack};
+ghost use Rattle.gu_book.specs.Ids.{NoIdTwice};
 ghost use Rattle.gu_trace.specs.Reports.{most_reports, entries_for, reports_for};
-ghost use Rattle.gu_desk.specs.Runs.{IsRunOf};
+ghost use Rattle.gu_desk.specs.Begins.{BeginsWith};
+ghost use Rattle.gu_desk.specs.Runs.{IsRunOf, HasSeen};
 ghost use Rattle.gu_desk.specs.Shares.{gained};
 
+use crate::count::{Count, Pass, publish_accepted};
 use crate::seat::{Job, Seat};
 use gu_base::{AllocId, Answer, Command, Entry, FirmId, Memory, Report};
 use gu_book::Book;
@@ -17,30 +20,40 @@ use std::marker::Model;
 use std::sync::ledger;
 use std::sync::ledger::Share;
 
-/// The book, the total of all shares, and the share of the opening history. `Desk::new` alone makes one.
+/// The book, the total of all shares, the share of the opening history, the count of the records, and the book's pass. `Desk::new` alone makes one.
 ///
-/// Contracts see the house table and the history of the book. Whenever the lock is free, its history is one that calls made of the opening book.
+/// Contracts see the house table and the history of the book. Whenever the lock is free, its history is one that calls made of the opening book,
+/// and the book's pass has seen it all.
 #[derive(Drop)]
 pub struct Till<J: Job> {
     pub(crate) book: Book,
     pub(crate) total: ledger::Book<J>,
     pub(crate) opening: Share<J>,
+    pub(crate) count: Count,
+    pub(crate) pass: Pass,
 }
 
 impl<J: Job> Model for Till<J> {
-    ghost use Rattle.std.specs.Prelude.{◌≡◌, length};
+    ghost use Rattle.std.specs.Prelude.{◌≡◌, ◌≤◌, [], length};
+    ghost use Rattle.gu_base.specs.Limits.{most_entries};
+    ghost use Rattle.gu_book.specs.Ids.{NoIdTwice};
     ghost use Rattle.gu_book.specs.Seen.{HouseAndHistory, stored};
+    ghost use Rattle.gu_desk.specs.Passes.{of_book};
     ghost use Rattle.gu_desk.specs.Runs.{IsRunOf};
 
     ghost Value = { HouseAndHistory };
 
     ghost view = { λ t. stored t.book };
 
-    ghost invariant = { λ t. IsRunOf J.opening (stored t.book) × (length t.book.history ≡ t.total.total) × (t.opening.parts ≡ 1) × (t.opening.amount ≡ length J.opening.history) };
+    ghost invariant = { λ t. IsRunOf J.opening (stored t.book) × (length t.book.history ≡ t.total.total) × (t.opening.parts ≡ 1) × (t.opening.amount ≡ length J.opening.history) × (t.count.shared.table_id ≡ J.table) × (t.count.shared.table_id.words ≡ 1) × (t.pass.table_id ≡ t.count.shared.table_id) × (t.pass.me ≡ (of_book t.book.history, [])) × NoIdTwice t.book.history × (length t.book.history ≤ most_entries) };
 }
 
 /// Counts an accepted call in the total and in the share of the seat that made it.
-fn count<J: Job>(total: &mut ledger::Book<J>, share: &mut Share<J>, answer: &Result<Answer, Memory>)
+fn add_gained<J: Job>(
+    total: &mut ledger::Book<J>,
+    share: &mut Share<J>,
+    answer: &Result<Answer, Memory>,
+)
     requires { share.old.parts ≡ 1 }
     ensures total { total.new.total ≡ total.old.total + gained answer.now }
     ensures amount { share.new.amount ≡ share.old.amount + gained answer.now }
@@ -79,11 +92,17 @@ impl<J: Job> Till<J> {
         ensures unchanged { OnErr result.1 (self.new ≡ self.old) }
         ensures share { result.0.share ≡ seat.share + gained result.1 }
         ensures run { IsRunOf J.opening self.old }
+        ensures begins { BeginsWith self.old.history seat.seen }
+        ensures seen { result.0.seen ≡ self.new.history }
+        ensures later { HasSeen J.opening seat.seen self.new.history }
+        ensures once { NoIdTwice self.new.history }
     {
-        let Seat { mut share } = seat;
+        let mut share = seat.into_share(&self.count, &mut self.pass);
         let answer = self.book.apply(alloc, by, id, command);
-        count(&mut self.total, &mut share, &answer);
-        (Seat { share }, answer)
+        add_gained(&mut self.total, &mut share, &answer);
+        publish_accepted(&self.count, &mut self.pass, self.book.history(), &answer);
+        let seat = Seat::new(share, &self.count, &mut self.pass);
+        (seat, answer)
     }
 
     /// The first 100 reports to the firm above a number, and the seat again.
@@ -104,10 +123,15 @@ impl<J: Job> Till<J> {
         ensures few { IfOk result.1 (λ v. length v.items ≤ most_reports) }
         ensures short { IfOk result.1 (λ v. All (λ r. length r.parts ≤ most_parts) v.items) }
         ensures same { self.new ≡ self.old }
-        ensures share { result.0 ≡ seat }
+        ensures share { result.0.share ≡ seat.share }
         ensures run { IsRunOf J.opening self.old }
+        ensures begins { BeginsWith self.old.history seat.seen }
+        ensures seen { result.0.seen ≡ self.old.history }
+        ensures once { NoIdTwice self.old.history }
     {
+        let share = seat.into_share(&self.count, &mut self.pass);
         let told = reports(alloc, &self.book, firm, after);
+        let seat = Seat::new(share, &self.count, &mut self.pass);
         (seat, told)
     }
 }

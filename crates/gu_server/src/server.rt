@@ -2,6 +2,7 @@
 ghost use Rattle.std.specs.Prelude.{◌≡◌, ◌+◌, IfOk, IsTrue};
 ghost use Rattle.gu_book.specs.Seen.{stored};
 ghost use Rattle.gu_desk.specs.Views.{is_worker_count};
+ghost use Rattle.gu_desk.specs.Begins.{BeginsWith};
 ghost use Rattle.gu_desk.specs.Runs.{IsRunOf};
 
 use crate::worker::Worker;
@@ -151,6 +152,7 @@ fn run_desk<J: Job + Send + Sync, R: Threads + Wait + Clock + Sync, G: Gate + Sy
 ) -> Result<Book, ServeError>
     requires name { ground.name ≡ J.name }
     requires parts { ground.workers + 1 ≡ J.parts }
+    requires table { ground.table ≡ J.table }
     requires opening { ground.opening ≡ J.opening }
     ensures { IfOk result (λ b. IsRunOf J.opening (stored b)) }
 {
@@ -223,7 +225,8 @@ pub fn serve<R: Threads + Wait + Clock + Sync, G: Gate + Sync>(
     gate: &G,
 ) -> Result<Book, ServeError>
     requires { IsTrue (is_worker_count workers) }
-    ensures { IfOk result (λ b. IsRunOf (stored book) (stored b)) }
+    ensures run { IfOk result (λ b. IsRunOf (stored book) (stored b)) }
+    ensures begins { IfOk result (λ b. BeginsWith b.history book.history) }
 {
     let (house, ground) = prepare(alloc, book, workers)?;
     run_desk::<Brand, R, G>(rt, alloc, listener, &house, ground, connections, gate)

@@ -30,6 +30,48 @@ pub(crate) fn trade(id: &[u8], firm: &[u8], account: &[u8], lots: u64) -> Option
     Some(Call { by, id, command })
 }
 
+/// A firm's split of the root of this trade into a part that it keeps in this account, and one that it gives to another firm.
+pub(crate) fn split_and_give(
+    alloc: Global,
+    by: &[u8],
+    trade: u32,
+    account: &[u8],
+    lots: u64,
+    taker: &[u8],
+    given: u64,
+) -> Result<Option<Call>, Memory> {
+    let (Some(by), Some(id), Some(node), Some(taker)) = (
+        FirmId::new(by),
+        AllocId::new(b"S1"),
+        NodeName::new(trade, 0),
+        FirmId::new(taker),
+    ) else {
+        return Ok(None);
+    };
+    let mut parts = Vec::new(alloc);
+    parts.push(own_part(by, account, lots))?;
+    parts.push(Part {
+        lots: given,
+        firm: taker,
+        account: None,
+    })?;
+    let command = Command::Split {
+        node,
+        parts: Parts::from_vec(parts),
+    };
+    Ok(Some(Call { by, id, command }))
+}
+
+/// A firm's claim of a part of a split, into this account.
+pub(crate) fn claim(by: &[u8], split: u32, part: u8, account: &[u8]) -> Option<Call> {
+    let by = FirmId::new(by)?;
+    let id = AllocId::new(b"C1")?;
+    let node = NodeName::new(split, part)?;
+    let account = AccountId::new(account)?;
+    let command = Command::Claim { node, account };
+    Some(Call { by, id, command })
+}
+
 /// The part of these lots that a firm keeps in this account.
 fn own_part(firm: FirmId, account: &[u8], lots: u64) -> Part {
     Part {

@@ -1,4 +1,4 @@
-//! A gate that holds the first call until it is released.
+//! A gate that holds the first call until it is released. What releases it is also the flag by which one worker tells the other.
 
 use gu_desk::Gate;
 use std::sync::{Mutex, Wait};
@@ -51,7 +51,7 @@ impl<'a, R: Wait + Clock> Holds<'a, R> {
     }
 
     /// Waits until the first call is released. `false` where it wasn't in time.
-    fn is_released(&self) -> bool {
+    pub(crate) fn is_released(&self) -> bool {
         for _ in 0..10_000 {
             if self.turns.lock(self.rt).released {
                 return true;

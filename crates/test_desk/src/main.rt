@@ -4,19 +4,25 @@
 //! CCC's worker splits CCC's trade and gets entry 3, so nobody waits for the held worker. Then the gate lets AAA's worker go on: its split
 //! is entry 4. Each reads its firm's reports above 1 with the seat that came back. The desk isn't closed with one seat, and gives
 //! desk and seat back; with both it gives a book of 4 entries.
+//! Then a desk over another book, of one trade of 100 lots for AAA. AAA's worker splits it, gives 40 lots to BBB, and tells the other worker, whose
+//! seat then claims them for BBB. Each reads its firm's reports with the seat that came back: AAA's begin with 1 and 2, and BBB's are 2 and 3,
+//! since a seat that comes back has seen what was accepted before. AAA reads again after the joins, and the desk is closed.
 //! What finds no memory is asked for once more, and standard error tells of it: a ground and a desk give the book back, a call and a
 //! reading the seat. So one refused growth changes nothing of what is written on standard output.
 #![tactic(auto)]
 
+mod beside;
 mod calls;
 mod closing;
+mod following;
 mod holding;
 mod opening;
 mod running;
 mod working;
 
-use calls::{Call, split, trade};
+use calls::{Call, claim, split, split_and_give, trade};
 use closing::Closed;
+use following::{Followed, follow};
 use gu_base::Answer;
 use gu_book::Book;
 use gu_parties::House;
@@ -119,6 +125,99 @@ fn play<R: Threads + Wait + Clock + Print + Eprint + Sync>(
     }
 }
 
+/// The calls of the second case: the house's trade, AAA's split, and BBB's claim of what it was given.
+#[derive(Drop)]
+struct Chain {
+    first: Call,
+    split: Call,
+    claim: Call,
+}
+
+/// The second case at a desk over this book. Where there is no memory for the ground or the desk, once more with the book that comes back.
+fn followed<R: Threads + Wait + Clock + Eprint + Sync>(
+    rt: &R,
+    alloc: Global,
+    book: Book,
+    chain: &Chain,
+) -> Option<Followed> {
+    let book = match follow(rt, alloc, book, &chain.split, &chain.claim) {
+        Ok(followed) => return followed,
+        Err(book) => book,
+    };
+    tell_refused(rt);
+    match follow(rt, alloc, book, &chain.split, &chain.claim) {
+        Ok(followed) => followed,
+        Err(book) => {
+            drop(book);
+            None
+        }
+    }
+}
+
+/// The first two of these, which are there whether or not the other worker was faster.
+fn first_two(told: &[u32]) -> &[u32] {
+    &told[..told.len().min(2)]
+}
+
+/// The second case, over a book of this house.
+fn play_chain<R: Threads + Wait + Clock + Print + Eprint + Sync>(
+    rt: &R,
+    alloc: Global,
+    house: House,
+    chain: &Chain,
+) -> io::Result<()> {
+    let mut book = Book::new(alloc, house);
+    if !make(rt, alloc, &mut book, &chain.first) {
+        drop(book);
+        return println!(rt; "the trade isn't accepted");
+    }
+    match followed(rt, alloc, book, chain) {
+        Some(followed) => {
+            tell(
+                rt,
+                "AAA",
+                &followed.first.answer,
+                first_two(followed.first.told.as_slice()),
+            )?;
+            tell(
+                rt,
+                "BBB",
+                &followed.second.answer,
+                followed.second.told.as_slice(),
+            )?;
+            print!(rt; "AAA, told of")?;
+            for number in followed.again.as_slice() {
+                print!(rt; " {number}")?;
+            }
+            println!(rt;)?;
+            match followed.entries {
+                Some(entries) => println!(rt; "closed: {entries} entries"),
+                None => println!(rt; "no book"),
+            }
+        }
+        None => println!(rt; "no desk"),
+    }
+}
+
+/// The calls of the second case. None where a name isn't one.
+fn the_chain(rt: &impl Eprint, alloc: Global) -> io::Result<Option<Chain>> {
+    let (Some(first), Some(split), Some(claim)) = (
+        trade(b"T1", b"AAA", b"A1", 100),
+        twice(
+            rt,
+            || split_and_give(alloc, b"AAA", 1, b"A1", 60, b"BBB", 40),
+        )?,
+        claim(b"BBB", 2, 2, b"B1"),
+    ) else {
+        return Ok(None);
+    };
+    Ok(Some(Chain {
+        first,
+        split,
+        claim,
+    }))
+}
+
 /// The calls. None where a name isn't one.
 fn the_case(rt: &impl Eprint, alloc: Global) -> io::Result<Option<Case>> {
     let (Some(first), Some(second), Some(held), Some(free)) = (
@@ -154,7 +253,14 @@ fn main(rt: HostRuntime) -> io::Result<()> {
         return println!(rt; "no calls");
     };
     match twice(&rt, || House::parse(alloc, text.as_slice())) {
-        Ok(house) => play(&rt, alloc, house, &case),
+        Ok(house) => play(&rt, alloc, house, &case)?,
+        Err(_) => return println!(rt; "no house"),
+    }
+    let Some(chain) = the_chain(&rt, alloc)? else {
+        return println!(rt; "no calls");
+    };
+    match twice(&rt, || House::parse(alloc, text.as_slice())) {
+        Ok(house) => play_chain(&rt, alloc, house, &chain),
         Err(_) => println!(rt; "no house"),
     }
 }

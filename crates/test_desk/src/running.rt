@@ -2,18 +2,17 @@
 
 ghost use Rattle.std.specs.Prelude.{◌≡◌, ◌+◌};
 
+use crate::beside::side_by_side;
 use crate::calls::Call;
 use crate::closing::{Closed, close};
-use crate::holding::Turns;
-use crate::working::{Work, held_work, released_work};
+use crate::working::{Duty, Work};
 use gu_base::Answer;
 use gu_book::Book;
 use gu_desk::{Desk, Ground, Job};
 use std::alloc::Global;
 use std::io::Eprint;
 use std::marker::Brand;
-use std::sync::{Mutex, Wait};
-use std::thread;
+use std::sync::Wait;
 use std::thread::Threads;
 use std::time::Clock;
 
@@ -32,7 +31,8 @@ pub(crate) struct Outcome {
     pub(crate) closed: Closed,
 }
 
-/// The two workers at a desk over this ground, to its close. The book comes back where there is no memory for it. None where there are no two seats.
+/// The two workers at a desk over this ground, to its close. The book comes back where there is no memory for it. None where there are no two seats, or
+/// no thread.
 fn run<J: Job + Send + Sync, R: Threads + Wait + Clock + Eprint + Sync>(
     rt: &R,
     alloc: Global,
@@ -42,6 +42,7 @@ fn run<J: Job + Send + Sync, R: Threads + Wait + Clock + Eprint + Sync>(
 ) -> Result<Option<Outcome>, Book>
     requires name { ground.name ≡ J.name }
     requires parts { ground.workers + 1 ≡ J.parts }
+    requires table { ground.table ≡ J.table }
     requires opening { ground.opening ≡ J.opening }
 {
     let (desk, mut seats) = match Desk::<J>::new(alloc, ground) {
@@ -52,12 +53,17 @@ fn run<J: Job + Send + Sync, R: Threads + Wait + Clock + Eprint + Sync>(
         drop(desk);
         return Ok(None);
     };
-    let turns = Mutex::new(Turns::new());
-    let (held, free) = thread::join(
+    let Some((held, free)) = side_by_side(
         rt,
-        || held_work(rt, alloc, &desk, first, &turns, held_call),
-        || released_work(rt, alloc, &desk, second, &turns, free_call),
-    );
+        alloc,
+        &desk,
+        (first, second),
+        (Duty::IsHeld, Duty::Frees),
+        (held_call, free_call),
+    ) else {
+        drop(desk);
+        return Ok(None);
+    };
     let Work {
         seat: first,
         answer,

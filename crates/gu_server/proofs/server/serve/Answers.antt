@@ -2,7 +2,10 @@ use Rattle.std.proofs.Common.{subst}
 use Rattle.std.specs.Prelude.{IfOk}
 use Rattle.gu_book.specs.Seen.{HouseAndHistory, BookView, stored}
 use Rattle.gu_desk.specs.Runs.{IsRunOf}
+use Rattle.gu_server.proofs.Begun.{begun}
 use Rattle.gu_server.proofs.server.serve.Goals as goal
 
 pub returns : goal.returns
-returns g c = subst (λ (o : HouseAndHistory). IfOk c.run_desk.result (λ (b : BookView). IsRunOf o (stored b))) c.in_ok-house.ensures.opening c.run_desk.ensures
+returns g c =
+    let run = subst (λ (o : HouseAndHistory). IfOk c.run_desk.result (λ (b : BookView). IsRunOf o (stored b))) c.in_ok-house.ensures.opening c.run_desk.ensures in
+    record { run = run; begins = begun c.args.book c.run_desk.result run }

@@ -1,8 +1,11 @@
 use Rattle.std.proofs.Common.{arith, ◌≡◌, ◌∙◌, ap, sym, subst, refl, length, List}
+use Rattle.atomic_table.specs.Table.{Me}
 use Rattle.gu_base.specs.declared.entry.Entry.{Entry}
+use Rattle.gu_book.specs.Ids.{NoIdTwice}
 use Rattle.gu_book.specs.Seen.{HouseAndHistory, stored}
 use Rattle.gu_desk.specs.Views.{GroundView}
 use Rattle.gu_desk.specs.Runs.{IsRunOf}
+use Rattle.gu_desk.specs.declared.count.PassView.{PassView}
 use Rattle.gu_desk.proofs.Running.{run_starts}
 use Rattle.gu_desk.proofs.desk.Desk.new.Goals as goal
 
@@ -16,4 +19,20 @@ invariant_of-till g c =
       omega (arith, c.add.ensures.total, c.open-total.ensures.total, history),
       omega (arith, c.add.ensures.parts, c.in-Ok.ensures.parts),
       omega (arith, c.add.ensures.amount, c.in-Ok.ensures.amount, history, opening),
+      ap (λ (v : GroundView). v.table) c.ground.view_is ∙ c.requires.table,
+      c.ground.invariant.2,
+      c.in-Ok.ensures.table ∙ c.ground.invariant.3,
+      c.in-Ok.ensures.same ∙ c.ground.invariant.4,
+      c.history.ensures.once,
+      c.ground.invariant.5,
     )
+
+pub cut_seats-requires-clause-fits : goal.cut_seats-requires-clause-fits
+cut_seats-requires-clause-fits g c = omega (arith, c.ground.invariant.5, ap (λ (m : Me Entry PassView). length m.0.seen) c.ground.invariant.4)
+
+-- the book's pass has seen the opening history, and so has each seat
+pub returns-clause-seen : goal.returns-clause-seen
+returns-clause-seen g c = λ k d low. c.in-Ok.ensures.seen k d low ∙ (ap (λ (m : Me Entry PassView). m.0.seen) c.ground.invariant.4 ∙ ap (λ (v : GroundView). v.opening.history) c.ground.view_is)
+
+pub returns-clause-once : goal.returns-clause-once
+returns-clause-once g c = λ k d low. subst (λ (h : List Entry). NoIdTwice h) (sym (c.in-Ok.ensures.seen k d low ∙ ap (λ (m : Me Entry PassView). m.0.seen) c.ground.invariant.4)) c.history.ensures.once
