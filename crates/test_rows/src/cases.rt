@@ -11,6 +11,11 @@ pub(crate) enum Way {
     FailingReader,
     FailingWriter,
     QuietWriter,
+    WideWriter,
+    Interrupted,
+    InterruptedReader,
+    InterruptedWriter,
+    EndlessReader,
 }
 
 /// A case: its name, its way and its input.
@@ -29,6 +34,11 @@ fn way_of(text: &str) -> Option<Way> {
         "failing reader" => Some(Way::FailingReader),
         "failing writer" => Some(Way::FailingWriter),
         "quiet writer" => Some(Way::QuietWriter),
+        "wide writer" => Some(Way::WideWriter),
+        "interrupted" => Some(Way::Interrupted),
+        "interrupted reader" => Some(Way::InterruptedReader),
+        "interrupted writer" => Some(Way::InterruptedWriter),
+        "endless reader" => Some(Way::EndlessReader),
         _ => None,
     }
 }

@@ -6,7 +6,10 @@
 //! - `pieces` in pieces of 1, of 7 and of 134 bytes;
 //! - `in two` cut in two at each place;
 //! - `failing reader` fails after each number of bytes;
-//! - `failing writer` takes one byte a call and fails after each number of bytes; `quiet writer` takes no byte more.
+//! - `failing writer` takes one byte a call and fails after each number of bytes; `quiet writer` takes no byte more; `wide writer` takes up to 50
+//!   bytes a call, and then fails;
+//! - `interrupted` has each read and each write interrupted once before it is made; `interrupted reader` and `interrupted writer` have it each time;
+//! - `endless reader` gives the input a byte a call, over and over.
 //!
 //! Expected outputs were computed from the written rules by a script outside this repository, never from a run.
 #![tactic(auto)]

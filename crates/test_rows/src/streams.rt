@@ -51,30 +51,90 @@ impl<'a> Read for Pieces<'a> {
     }
 }
 
-/// Takes one byte a call and `room` bytes in all. Then it fails or, where it is quiet, takes none.
+/// Gives its text a byte a call, over and over.
+#[derive(Drop)]
+pub(crate) struct Endless<'a> {
+    pub(crate) text: &'a [u8],
+    pub(crate) at: usize,
+}
+
+impl<'a> Read for Endless<'a> {
+    fn read(&mut self, buf: &mut [u8]) -> io::Result<usize> {
+        if self.at >= self.text.len() {
+            self.at = 0;
+        }
+        match self.text.get(self.at) {
+            Some(b) if !buf.is_empty() => {
+                buf[0] = *b;
+                self.at = self.at.saturating_add(1);
+                Ok(1)
+            }
+            _ => Ok(0),
+        }
+    }
+}
+
+/// A reader or writer whose calls are interrupted, each once before it is made, or always.
+#[derive(Drop)]
+pub(crate) struct Interrupted<T> {
+    pub(crate) inner: T,
+    pub(crate) always: bool,
+    pub(crate) was: bool,
+}
+
+impl<T> Interrupted<T> {
+    /// Whether this call is interrupted.
+    fn is_now(&mut self) -> bool {
+        self.was = self.always || !self.was;
+        self.was
+    }
+}
+
+impl<T: Read> Read for Interrupted<T> {
+    fn read(&mut self, buf: &mut [u8]) -> io::Result<usize> {
+        if self.is_now() {
+            return Err(io::Error::from(ErrorKind::Interrupted));
+        }
+        self.inner.read(buf)
+    }
+}
+
+impl<T: Write> Write for Interrupted<T> {
+    fn write(&mut self, buf: &[u8]) -> io::Result<usize> {
+        if self.is_now() {
+            return Err(io::Error::from(ErrorKind::Interrupted));
+        }
+        self.inner.write(buf)
+    }
+
+    fn flush(&mut self) -> io::Result<()> {
+        Ok(())
+    }
+}
+
+/// Takes at most `most` bytes a call and `room` bytes in all. Then it fails or, where it is quiet, takes none.
 #[derive(Drop)]
 pub(crate) struct Narrow {
     pub(crate) held: Vec<u8>,
+    pub(crate) most: usize,
     pub(crate) room: usize,
     pub(crate) quiet: bool,
 }
 
 impl Write for Narrow {
     fn write(&mut self, buf: &[u8]) -> io::Result<usize> {
-        if self.held.len() >= self.room {
+        let room = self.room.saturating_sub(self.held.len());
+        if room == 0 {
             if self.quiet {
                 return Ok(0);
             }
             return Err(io::Error::from(ErrorKind::BrokenPipe));
         }
-        match buf.first() {
-            Some(b) => {
-                if self.held.push(*b).is_err() {
-                    return Err(io::Error::from(ErrorKind::OutOfMemory));
-                }
-                Ok(1)
-            }
-            None => Ok(0),
+        let count = buf.len().min(self.most).min(room);
+        let (front, _) = buf.split_at(count);
+        match self.held.extend_from_slice(front) {
+            Ok(()) => Ok(count),
+            Err(_) => Err(io::Error::from(ErrorKind::OutOfMemory)),
         }
     }
 

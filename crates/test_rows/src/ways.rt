@@ -1,7 +1,7 @@
 //! The ways to run a case.
 
 use crate::cases::{Case, Way};
-use crate::streams::{Narrow, Pieces, pieces_of};
+use crate::streams::{Endless, Interrupted, Narrow, Pieces, pieces_of};
 use gu_batch::{Counted, RunError, run_batch};
 use gu_parties::House;
 use std::alloc::{AllocError, Global};
@@ -35,11 +35,28 @@ fn read_from(alloc: Global, reader: Pieces<'_>) -> io::Result<Outcome> {
     Ok(Outcome { result, out })
 }
 
-fn write_to(alloc: Global, input: &[u8], room: usize, quiet: bool) -> io::Result<Outcome> {
+/// How a writer takes bytes before it has no room: how many a call at most, and whether it is then quiet.
+#[derive(Clone, Copy)]
+struct Taking {
+    most: usize,
+    quiet: bool,
+}
+
+fn takes(most: usize, quiet: bool) -> Taking {
+    Taking { most, quiet }
+}
+
+fn write_to(alloc: Global, input: &[u8], room: usize, taking: Taking) -> io::Result<Outcome> {
     let house = house(alloc)?;
     let held = Vec::new(alloc);
+    let Taking { most, quiet } = taking;
     let mut reader = Counted::new(pieces_of(input, 4096));
-    let mut writer = Counted::new(Narrow { held, room, quiet });
+    let mut writer = Counted::new(Narrow {
+        held,
+        most,
+        room,
+        quiet,
+    });
     let result = run_batch(alloc, &mut reader, &mut writer, house);
     let Narrow { held, .. } = writer.into_inner();
     Ok(Outcome { result, out: held })
@@ -106,32 +123,72 @@ fn failing_reader<R: Print>(rt: &R, alloc: Global, case: &Case) -> io::Result<()
 }
 
 /// With how much room what was written is so much of the output of the whole.
-fn failing_writer<R: Print>(rt: &R, alloc: Global, case: &Case, quiet: bool) -> io::Result<()> {
+fn failing_writer<R: Print>(rt: &R, alloc: Global, case: &Case, taking: Taking) -> io::Result<()> {
     let whole = read_from(alloc, pieces_of(&case.input, 4096))?;
     let mut fronts = 0u64;
     for room in 0..whole.out.len() {
-        let outcome = write_to(alloc, &case.input, room, quiet)?;
+        let outcome = write_to(alloc, &case.input, room, taking)?;
         let (front, _) = whole.out.split_at(room);
         if outcome.result == Err(RunError::Write) && outcome.out.as_slice() == front {
             fronts = fronts.saturating_add(1);
         }
     }
     println!(rt; "write failed, with the front of the output: {fronts} times")?;
-    let outcome = write_to(alloc, &case.input, whole.out.len(), quiet)?;
+    let outcome = write_to(alloc, &case.input, whole.out.len(), taking)?;
     tell(rt, alloc, case.name.as_str(), &outcome)
+}
+
+/// What comes of calls that are interrupted, once each or the reads or the writes always.
+fn interrupted(alloc: Global, input: &[u8], reads: bool, writes: bool) -> io::Result<Outcome> {
+    let house = house(alloc)?;
+    let mut reader = Counted::new(Interrupted {
+        inner: pieces_of(input, 7),
+        always: reads,
+        was: false,
+    });
+    let mut writer = Counted::new(Interrupted {
+        inner: Vec::new(alloc),
+        always: writes,
+        was: false,
+    });
+    let result = run_batch(alloc, &mut reader, &mut writer, house);
+    let Interrupted { inner, .. } = writer.into_inner();
+    Ok(Outcome { result, out: inner })
+}
+
+/// What comes of a reader that never ends.
+fn endless(alloc: Global, input: &[u8]) -> io::Result<Outcome> {
+    let house = house(alloc)?;
+    let mut reader = Counted::new(Endless { text: input, at: 0 });
+    let mut writer = Counted::new(Vec::new(alloc));
+    let result = run_batch(alloc, &mut reader, &mut writer, house);
+    let out = writer.into_inner();
+    Ok(Outcome { result, out })
+}
+
+/// What comes of a case of one run.
+fn run_once(alloc: Global, case: &Case) -> io::Result<Outcome> {
+    match case.way {
+        Way::Interrupted => interrupted(alloc, &case.input, false, false),
+        Way::InterruptedReader => interrupted(alloc, &case.input, true, false),
+        Way::InterruptedWriter => interrupted(alloc, &case.input, false, true),
+        Way::EndlessReader => endless(alloc, &case.input),
+        _ => read_from(alloc, pieces_of(&case.input, 4096)),
+    }
 }
 
 /// Runs a case and prints what came of it.
 pub(crate) fn run_case<R: Print>(rt: &R, alloc: Global, case: &Case) -> io::Result<()> {
     match case.way {
-        Way::Whole => {
-            let outcome = read_from(alloc, pieces_of(&case.input, 4096))?;
-            tell(rt, alloc, case.name.as_str(), &outcome)
-        }
         Way::Pieces => in_pieces(rt, alloc, case),
         Way::InTwo => in_two(rt, alloc, case),
         Way::FailingReader => failing_reader(rt, alloc, case),
-        Way::FailingWriter => failing_writer(rt, alloc, case, false),
-        Way::QuietWriter => failing_writer(rt, alloc, case, true),
+        Way::FailingWriter => failing_writer(rt, alloc, case, takes(1, false)),
+        Way::QuietWriter => failing_writer(rt, alloc, case, takes(1, true)),
+        Way::WideWriter => failing_writer(rt, alloc, case, takes(50, false)),
+        _ => {
+            let outcome = run_once(alloc, case)?;
+            tell(rt, alloc, case.name.as_str(), &outcome)
+        }
     }
 }

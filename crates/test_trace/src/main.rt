@@ -1,7 +1,7 @@
 //! Days of a small house, and what is told of them. Input and output are data: the files `stdin` and `stdout` beside `src/`.
 //!
-//! The days are lines as `test_days` says. The questions are `? reports FIRM AFTER`, `? trace TRADE`, `? totals`, and
-//! `? frames FIRM AFTER`: the reports as a session sends them.
+//! The days are lines as `test_days` says. The questions are `? reports FIRM AFTER`, `? trace TRADE`, `? totals`, `? written`, the totals as a
+//! server writes them in the end, and `? frames FIRM AFTER`: the reports as a session sends them.
 //! A trace or totals that found no memory have to leave what they were to write behind as it was.
 #![tactic(auto)]
 

@@ -2,6 +2,7 @@
 
 use crate::frames::frames;
 use gu_base::{FirmId, Number, Report, Target};
+use gu_batch::{Counted, write_totals};
 use gu_book::Book;
 use gu_trace::{TraceError, reports, totals, trace};
 use jiff::Timestamp;
@@ -130,6 +131,20 @@ fn show_totals(rt: &(impl Print + Eprint), alloc: Global, book: &Book) -> io::Re
     println!(rt; "no memory")
 }
 
+/// Writes the totals as a server writes them in the end. Where no memory is found it asks again, with a new writer.
+fn show_written(rt: &(impl Print + Eprint), alloc: Global, book: &Book) -> io::Result<()> {
+    for _again in 0..2 {
+        let mut writer = Counted::new(Vec::new(alloc));
+        let written = write_totals(alloc, book, &mut writer);
+        let text = writer.into_inner();
+        if written.is_ok() {
+            return print!(rt; "{}", shown(text.as_slice()));
+        }
+        tell_refused(rt);
+    }
+    println!(rt; "no memory")
+}
+
 /// Writes what a question asks for.
 pub(crate) fn answer(
     rt: &(impl Print + Eprint),
@@ -146,6 +161,9 @@ pub(crate) fn answer(
     }
     if what == b"totals".as_slice() {
         return show_totals(rt, alloc, book);
+    }
+    if what == b"written".as_slice() {
+        return show_written(rt, alloc, book);
     }
     match number_of(rest) {
         Some(trade) => show_trace(rt, alloc, book, trade),
