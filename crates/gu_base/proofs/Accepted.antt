@@ -10,7 +10,7 @@ use Rattle.gu_base.specs.Consents.{parties_of, is_among}
 use Rattle.gu_base.specs.Answers.{answer_to, answer_by, accepted_or, command_refusal, on_change, reversal_of, is_same_id, is_same_call, status_of}
 use Rattle.gu_base.specs.Runs.{call_of}
 use Rattle.gu_base.specs.declared.command.Command.{Command}
-use Rattle.gu_base.specs.declared.command.Command.TheVariants.{Trade, Split, Claim, Refuse, Cancel, Initiate, Decline, Reverse}
+use Rattle.gu_base.specs.declared.command.Command.TheVariants.{Trade, Split, Claim, Refuse, Cancel, Agree, Raise, Initiate, Decline, Reverse}
 use Rattle.gu_base.specs.declared.entry.Answer.TheVariants.{Accepted}
 use Rattle.gu_base.specs.declared.entry.Entry.{Entry}
 use Rattle.gu_base.specs.declared.entry.Record.{Record}
@@ -42,6 +42,8 @@ change_refused t h by (Split _ _) e = refl
 change_refused t h by (Claim _ _) e = refl
 change_refused t h by (Refuse _) e = refl
 change_refused t h by (Cancel _) e = refl
+change_refused t h by (Agree _ _ _ _) e = refl
+change_refused t h by (Raise _ _) e = refl
 change_refused t h by (Initiate _) e = cc
 change_refused t h by (Decline _) e = cc
 change_refused t h by (Reverse _) e = cc

@@ -9,7 +9,7 @@ use Rattle.std.proofs.lemmas.List.Sums.{suffix_len-le-length}
 use Rattle.gu_base.specs.History.{numbered_as, numbered_from, is_change, is_reverse_of, is_reversed}
 use Rattle.gu_base.specs.Consents.{consents_of, consents_left, is_initiate_of, is_decline_of}
 use Rattle.gu_base.specs.declared.command.Command.{Command}
-use Rattle.gu_base.specs.declared.command.Command.TheVariants.{Trade, Split, Claim, Refuse, Cancel, Initiate, Decline, Reverse}
+use Rattle.gu_base.specs.declared.command.Command.TheVariants.{Trade, Split, Claim, Refuse, Cancel, Agree, Raise, Initiate, Decline, Reverse}
 use Rattle.gu_base.specs.declared.entry.Entry.{Entry}
 use Rattle.gu_base.proofs.Basics.{or_false, nothing_here, eqb_symm}
 use Rattle.gu_base.proofs.LiveLaws.{reversed_push}
@@ -92,6 +92,8 @@ left_change h e n (Split _ _) same is = left_given_none h e n false _ same refl 
 left_change h e n (Claim _ _) same is = left_given_none h e n false _ same refl refl
 left_change h e n (Refuse _) same is = left_given_none h e n false _ same refl refl
 left_change h e n (Cancel _) same is = left_given_none h e n false _ same refl refl
+left_change h e n (Agree _ _ _ _) same is = left_given_none h e n false _ same refl refl
+left_change h e n (Raise _ _) same is = left_given_none h e n false _ same refl refl
 left_change h e n (Initiate _) same is = absurd (cc)
 left_change h e n (Decline _) same is = absurd (cc)
 left_change h e n (Reverse _) same is = absurd (cc)

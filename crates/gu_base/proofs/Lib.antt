@@ -16,3 +16,5 @@ pub mod Passing
 pub mod Decisions
 pub mod Consenting
 pub mod RunLaws
+pub mod Dealt
+pub mod Opening

@@ -9,7 +9,7 @@ use Rattle.gu_base.specs.History.{numbered_as, numbered_from, records, is_change
 use Rattle.gu_base.specs.Standing.{without}
 use Rattle.gu_base.specs.Consents.{is_consenting}
 use Rattle.gu_base.specs.declared.command.Command.{Command}
-use Rattle.gu_base.specs.declared.command.Command.TheVariants.{Trade, Split, Claim, Refuse, Cancel, Initiate, Decline, Reverse}
+use Rattle.gu_base.specs.declared.command.Command.TheVariants.{Trade, Split, Claim, Refuse, Cancel, Agree, Raise, Initiate, Decline, Reverse}
 use Rattle.gu_base.specs.declared.entry.Entry.{Entry}
 use Rattle.gu_base.specs.declared.entry.Record.{Record}
 use Rattle.gu_base.proofs.Basics.{or_false, eqb_symm, filter_twice}
@@ -25,6 +25,8 @@ consent_is_no_change (Split _ _) h = cc
 consent_is_no_change (Claim _ _) h = cc
 consent_is_no_change (Refuse _) h = cc
 consent_is_no_change (Cancel _) h = cc
+consent_is_no_change (Agree _ _ _ _) h = cc
+consent_is_no_change (Raise _ _) h = cc
 consent_is_no_change (Initiate _) h = refl
 consent_is_no_change (Decline _) h = refl
 consent_is_no_change (Reverse _) h = refl
@@ -36,6 +38,8 @@ no_reverse n (Split _ _) h = refl
 no_reverse n (Claim _ _) h = refl
 no_reverse n (Refuse _) h = refl
 no_reverse n (Cancel _) h = refl
+no_reverse n (Agree _ _ _ _) h = refl
+no_reverse n (Raise _ _) h = refl
 no_reverse n (Initiate _) h = refl
 no_reverse n (Decline _) h = refl
 no_reverse n (Reverse _) h = cc

@@ -12,7 +12,7 @@ use Rattle.gu_base.specs.Nodes.{node_of, nodes, nodes_of, nodes_of_parts, same_n
 use Rattle.gu_base.specs.SameLaws.{same_name-Decides}
 use Rattle.gu_base.specs.declared.command.Part.{Part}
 use Rattle.gu_base.specs.declared.command.Command.{Command}
-use Rattle.gu_base.specs.declared.command.Command.TheVariants.{Trade, Split, Claim, Refuse, Cancel, Initiate, Decline, Reverse}
+use Rattle.gu_base.specs.declared.command.Command.TheVariants.{Trade, Split, Claim, Refuse, Cancel, Agree, Raise, Initiate, Decline, Reverse}
 use Rattle.gu_base.specs.declared.entry.Record.{Record}
 use Rattle.gu_base.specs.declared.node.Kind.TheVariants.{Root, Own, Given}
 use Rattle.gu_base.specs.declared.node.Node.{Node}
@@ -70,6 +70,8 @@ made_entry n k by (Split m ps) x h = part_entry n m k 1 by ps x h
 made_entry n k by (Claim _ _) x h = absurd (cc)
 made_entry n k by (Refuse _) x h = absurd (cc)
 made_entry n k by (Cancel _) x h = absurd (cc)
+made_entry n k by (Agree _ _ _ _) x h = absurd (cc)
+made_entry n k by (Raise _ _) x h = absurd (cc)
 made_entry n k by (Initiate _) x h = absurd (cc)
 made_entry n k by (Decline _) x h = absurd (cc)
 made_entry n k by (Reverse _) x h = absurd (cc)

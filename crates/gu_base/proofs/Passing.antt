@@ -1,18 +1,19 @@
 -- What holds where nothing is refused, and that nothing is refused where it holds.
 use Rattle.std.proofs.Common.{◌≡◌, ℕ, ◌+◌, Bool, true, not, ◌&&◌, List, [], ◌∷◌, length, refl, ◌∙◌, ap, subst, Option}
 use Rattle.std.specs.Prelude.{⊤, Some, None, map, nat_le, nat_lt, ◌==◌, sum_by, option_map, is_none, bytes_eq}
-use Rattle.gu_base.specs.Numbers.{EntryPart, is_lots}
+use Rattle.gu_base.specs.Numbers.{EntryPart, is_lots, are_terms}
+use Rattle.gu_base.specs.Terms.{terms_of, limit_of}
 use Rattle.gu_base.specs.House.{House, knows_firm, knows_account, knows_instrument}
 use Rattle.gu_base.specs.Nodes.{node_of, split_of, decision_of, is_offered, is_given, splits, decides}
 use Rattle.gu_base.specs.Places.{depth_of}
-use Rattle.gu_base.specs.Refusals.{unless, first, at_node, row, refusal_of, refusal_of_part, split_row, claim_row, refuse_row, cancel_row, owns, is_taker, is_giver, agreement_row, terms, used_by, trade_row, knows_own_account}
+use Rattle.gu_base.specs.Refusals.{unless, first, at_node, row, refusal_of, refusal_of_part, split_row, claim_row, refuse_row, cancel_row, owns, is_taker, is_giver, limit_row, limit_by, used_by, trade_row, agree_row, raise_row, raised_row, knows_own_account}
 use Rattle.gu_base.specs.declared.command.Part.{Part}
 use Rattle.gu_base.specs.declared.command.Command.{Command}
-use Rattle.gu_base.specs.declared.command.Command.TheVariants.{Trade, Split, Claim, Refuse, Cancel, Initiate, Decline, Reverse}
+use Rattle.gu_base.specs.declared.command.Command.TheVariants.{Trade, Split, Claim, Refuse, Cancel, Agree, Raise, Initiate, Decline, Reverse}
 use Rattle.gu_base.specs.declared.entry.Record.{Record}
 use Rattle.gu_base.specs.declared.node.Node.{Node}
 use Rattle.gu_base.specs.declared.refusal.Refusal.{Refusal}
-use Rattle.gu_base.specs.declared.refusal.Refusal.TheVariants.{UnknownFirm, UnknownAccount, NotYours, AlreadySplit, StillOffered, NotOffered, SumDiffers, BadPartCount, TooDeep, UnknownInstrument, BadLots, HouseOnly}
+use Rattle.gu_base.specs.declared.refusal.Refusal.TheVariants.{UnknownFirm, UnknownAccount, NotYours, AlreadySplit, StillOffered, NotOffered, SumDiffers, BadPartCount, TooDeep, UnknownInstrument, BadLots, HouseOnly, OwnAgreement, BadTerms, AgreementExists}
 use Rattle.std.proofs.lemmas.Bool.{and_parts}
 use Rattle.gu_base.proofs.Accepted.{first_none, unless_none}
 use Rattle.gu_base.proofs.NodeNames.{name_is, node_called}
@@ -137,18 +138,18 @@ claim_lines t l by account x =
     unless (is_offered l x) NotOffered
     ∷ unless (is_taker by x.kind) NotYours
     ∷ unless (knows_account t by account) UnknownAccount
-    ∷ agreement_row (used_by t l x.kind + x.lots) (terms t x.kind)
+    ∷ limit_row (used_by l x.kind + x.lots) (limit_by t l x.kind)
     ∷ []
 
 pub claim_passes : (t : House) (l : List Record) (by account : List ℕ) (x : Node) → claim_row t l by account x ≡ None
-    → ClaimHolds t by account x × (decision_of l x.name ≡ None) × (agreement_row (used_by t l x.kind + x.lots) (terms t x.kind) ≡ None)
+    → ClaimHolds t by account x × (decision_of l x.name ≡ None) × (limit_row (used_by l x.kind + x.lots) (limit_by t l x.kind) ≡ None)
 claim_passes t l by account x h =
     let p = none_of (claim_lines t l by account x) h in
     let g = given_of l x (unless_none _ _ p.0) in
     (record { given = g.0; taker = unless_none _ _ p.1.0; known = unless_none _ _ p.1.1.0 }, g.1, p.1.1.1.0)
 
 pub claim_accepted : (t : House) (l : List Record) (by account : List ℕ) (x : Node) → ClaimHolds t by account x → decision_of l x.name ≡ None
-    → agreement_row (used_by t l x.kind + x.lots) (terms t x.kind) ≡ None → claim_row t l by account x ≡ None
+    → limit_row (used_by l x.kind + x.lots) (limit_by t l x.kind) ≡ None → claim_row t l by account x ≡ None
 claim_accepted t l by account x h none within =
     of_none (claim_lines t l by account x) (none_unless _ _ (offered_of l x h.given none), (none_unless _ _ h.taker, (none_unless _ _ h.known, (within, tt))))
 
@@ -164,6 +165,55 @@ pub decision_accepted : (l : List Record) (x : Node) (b : Bool) → is_given x.k
     → first (unless (is_offered l x) NotOffered ∷ unless b NotYours ∷ []) ≡ None
 decision_accepted l x b given none yours =
     of_none (unless (is_offered l x) NotOffered ∷ unless b NotYours ∷ []) (none_unless _ _ (offered_of l x given none), (none_unless _ _ yours, tt))
+
+-- the lines of an Agree's row but the last
+pub record AgreeHolds (t : House) (by giver taker : List ℕ) (rate limit : ℕ) : Type 0 where
+  pub house : bytes_eq by t.house ≡ true
+  pub giver_known : knows_firm t giver ≡ true
+  pub taker_known : knows_firm t taker ≡ true
+  pub apart : not (bytes_eq giver taker) ≡ true
+  pub in_range : are_terms rate limit ≡ true
+
+abbrev agree_lines : House → List Record → List ℕ → (giver taker : List ℕ) → ℕ → ℕ → List (Option Refusal)
+agree_lines t l by giver taker rate limit =
+    unless (bytes_eq by t.house) HouseOnly
+    ∷ unless (knows_firm t giver) UnknownFirm
+    ∷ unless (knows_firm t taker) UnknownFirm
+    ∷ unless (not (bytes_eq giver taker)) OwnAgreement
+    ∷ unless (are_terms rate limit) BadTerms
+    ∷ unless (is_none (terms_of t l giver taker)) AgreementExists
+    ∷ []
+
+pub agree_passes : (t : House) (l : List Record) (by giver taker : List ℕ) (rate limit : ℕ) → agree_row t l by giver taker rate limit ≡ None
+    → AgreeHolds t by giver taker rate limit × (is_none (terms_of t l giver taker) ≡ true)
+agree_passes t l by giver taker rate limit h =
+    let p = none_of (agree_lines t l by giver taker rate limit) h in (
+      record {
+        house = unless_none _ _ p.0;
+        giver_known = unless_none _ _ p.1.0;
+        taker_known = unless_none _ _ p.1.1.0;
+        apart = unless_none _ _ p.1.1.1.0;
+        in_range = unless_none _ _ p.1.1.1.1.0;
+      },
+      unless_none _ _ p.1.1.1.1.1.0,
+    )
+
+pub agree_accepted : (t : House) (l : List Record) (by giver taker : List ℕ) (rate limit : ℕ) → AgreeHolds t by giver taker rate limit → is_none (terms_of t l giver taker) ≡ true
+    → agree_row t l by giver taker rate limit ≡ None
+agree_accepted t l by giver taker rate limit h none =
+    of_none (agree_lines t l by giver taker rate limit) (
+      none_unless _ _ h.house,
+      (none_unless _ _ h.giver_known, (none_unless _ _ h.taker_known, (none_unless _ _ h.apart, (none_unless _ _ h.in_range, (none_unless _ _ none, tt))))),
+    )
+
+-- a raise: the giver is known, and the limit can be raised by so much
+pub raise_passes : (t : House) (l : List Record) (by giver : List ℕ) (lots : ℕ) → raise_row t l by giver lots ≡ None → (knows_firm t giver ≡ true) × (raised_row lots (limit_of t l giver by) ≡ None)
+raise_passes t l by giver lots h =
+    let p = none_of (unless (knows_firm t giver) UnknownFirm ∷ raised_row lots (limit_of t l giver by) ∷ []) h in
+    (unless_none _ _ p.0, p.1.0)
+
+pub raise_accepted : (t : House) (l : List Record) (by giver : List ℕ) (lots : ℕ) → knows_firm t giver ≡ true → raised_row lots (limit_of t l giver by) ≡ None → raise_row t l by giver lots ≡ None
+raise_accepted t l by giver lots known within = of_none (unless (knows_firm t giver) UnknownFirm ∷ raised_row lots (limit_of t l giver by) ∷ []) (none_unless _ _ known, (within, tt))
 
 -- a change that is not refused is called for by a firm of the house table, and its row refuses nothing
 pub refusal_parts : (t : House) (l : List Record) (by : List ℕ) (c : Command) → refusal_of t l by c ≡ None → (knows_firm t by ≡ true) × (row t l by c ≡ None)
@@ -200,6 +250,8 @@ splits_well t l by (Trade _ _ _ _ _) n h is = absurd (cc)
 splits_well t l by (Claim _ _) n h is = absurd (cc)
 splits_well t l by (Refuse _) n h is = absurd (cc)
 splits_well t l by (Cancel _) n h is = absurd (cc)
+splits_well t l by (Agree _ _ _ _) n h is = absurd (cc)
+splits_well t l by (Raise _ _) n h is = absurd (cc)
 splits_well t l by (Initiate _) n h is = absurd (cc)
 splits_well t l by (Decline _) n h is = absurd (cc)
 splits_well t l by (Reverse _) n h is = absurd (cc)
@@ -234,6 +286,8 @@ decides_well t l by (Cancel m) n h is =
     decides_from l m n there.0 (name_is m n is) there.1.0 passes.0 passes.1
 decides_well t l by (Trade _ _ _ _ _) n h is = absurd (cc)
 decides_well t l by (Split _ _) n h is = absurd (cc)
+decides_well t l by (Agree _ _ _ _) n h is = absurd (cc)
+decides_well t l by (Raise _ _) n h is = absurd (cc)
 decides_well t l by (Initiate _) n h is = absurd (cc)
 decides_well t l by (Decline _) n h is = absurd (cc)
 decides_well t l by (Reverse _) n h is = absurd (cc)

@@ -10,7 +10,7 @@ use Rattle.gu_base.specs.Consents.{parties_of, consents_of, missing, is_consenti
 use Rattle.gu_base.specs.Answers.{Call, answer_to, after, after_by, entry_of, on_change, reverse_rest, command_refusal}
 use Rattle.gu_base.specs.Runs.{after_all, call_of}
 use Rattle.gu_base.specs.declared.command.Command.{Command}
-use Rattle.gu_base.specs.declared.command.Command.TheVariants.{Trade, Split, Claim, Refuse, Cancel, Initiate, Decline, Reverse}
+use Rattle.gu_base.specs.declared.command.Command.TheVariants.{Trade, Split, Claim, Refuse, Cancel, Agree, Raise, Initiate, Decline, Reverse}
 use Rattle.gu_base.specs.declared.entry.Answer.{Answer}
 use Rattle.gu_base.specs.declared.entry.Answer.TheVariants.{Accepted, Repeated, Refused}
 use Rattle.gu_base.specs.declared.entry.Entry.{Entry}
@@ -83,6 +83,8 @@ module _ {t : House} {h : List Entry} (run : IsRun t h) (e : Entry) (n : ℕ) (o
   push_any (Claim _ _) same = push_change (ap is_change same)
   push_any (Refuse _) same = push_change (ap is_change same)
   push_any (Cancel _) same = push_change (ap is_change same)
+  push_any (Agree _ _ _ _) same = push_change (ap is_change same)
+  push_any (Raise _ _) same = push_change (ap is_change same)
   push_any (Initiate _) same = push_consent (ap is_consenting same)
   push_any (Decline _) same = push_consent (ap is_consenting same)
   push_any (Reverse k) same = push_reverse k same

@@ -7,7 +7,8 @@ use Rattle.gu_base.specs.History.{live}
 use Rattle.gu_base.specs.Positions.{position_of}
 use Rattle.gu_base.specs.Places.{depth_of}
 use Rattle.gu_base.specs.Standing.{first_refused}
-use Rattle.gu_base.specs.Fees.{paid_by, received_by, used_of}
+use Rattle.gu_base.specs.Fees.{paid_by, received_by}
+use Rattle.gu_base.specs.Terms.{used_of, limit_of}
 use Rattle.gu_base.specs.Rows.{rows_of, Row}
 use Rattle.gu_base.specs.Texts.{refusal_text}
 use Rattle.gu_base.specs.Answers.{Call, answer_to}
@@ -16,12 +17,12 @@ use Rattle.gu_base.specs.declared.node.Place.{Place}
 use Rattle.gu_base.specs.declared.command.Side.TheVariants.{Buy}
 use Rattle.gu_base.specs.declared.command.Part.{Part}
 use Rattle.gu_base.specs.declared.command.Command.{Command}
-use Rattle.gu_base.specs.declared.command.Command.TheVariants.{Trade, Split, Claim, Refuse, Cancel, Initiate, Decline, Reverse}
+use Rattle.gu_base.specs.declared.command.Command.TheVariants.{Trade, Split, Claim, Refuse, Cancel, Agree, Raise, Initiate, Decline, Reverse}
 use Rattle.gu_base.specs.declared.entry.Record.{Record}
 use Rattle.gu_base.specs.declared.entry.Answer.TheVariants.{Accepted, Repeated, Refused}
 use Rattle.gu_base.specs.declared.state.State.{State}
 use Rattle.gu_base.specs.declared.state.State.TheVariants.{Held, Offered, Claimed, Refused as WasRefused, Cancelled, ReversalPending, Reversed}
-use Rattle.gu_base.specs.declared.refusal.Refusal.TheVariants.{UnknownFirm, UnknownAccount, UnknownInstrument, NotYours, SumDiffers, BadLots, BadPartCount, StillOffered, UnknownNode, AlreadyReversed, NotAChange, UnknownEntry, LimitExceeded, NotAParty, NeedsConsent, NothingPending, NoAgreement, TooDeep, StandsOn, NotOffered, AlreadyConsented, DuplicateId, HouseOnly}
+use Rattle.gu_base.specs.declared.refusal.Refusal.TheVariants.{UnknownFirm, UnknownAccount, UnknownInstrument, NotYours, SumDiffers, BadLots, BadPartCount, StillOffered, UnknownNode, AlreadyReversed, NotAChange, UnknownEntry, LimitExceeded, NotAParty, NeedsConsent, NothingPending, NoAgreement, TooDeep, StandsOn, NotOffered, AlreadyConsented, DuplicateId, HouseOnly, OwnAgreement, BadTerms, AgreementExists}
 
 abbrev pub hse : List ℕ
 hse = codes "HSE"
@@ -61,6 +62,7 @@ house = record {
   accounts = record { firm = aaa; name = a1 } ∷ record { firm = aaa; name = a2 } ∷ record { firm = bbb; name = b1 } ∷ record { firm = bbb; name = b2 } ∷ record { firm = ccc; name = c1 } ∷ [];
   instruments = esz6 ∷ [];
   agreements = (record { giver = aaa; taker = bbb }, record { rate = 125; limit = 500 }) ∷ (record { giver = bbb; taker = ccc }, record { rate = 40; limit = 100 }) ∷ [];
+  opening = [];
 }
 
 abbrev pub node : ℕ → ℕ → EntryPart
@@ -210,7 +212,7 @@ reversal_frees_capacity : answers house [] freed
     ∷ Accepted 5 ReversalPending ∷ Accepted 6 ReversalPending ∷ Accepted 7 Reversed ∷ Accepted 8 Claimed ∷ []
 reversal_frees_capacity = refl
 
-reversal_frees_capacity_sums : (used_of house (live (after_all house [] freed)) aaa bbb ≡ 201) × (paid freed bbb ≡ 25125)
+reversal_frees_capacity_sums : (used_of (live (after_all house [] freed)) aaa bbb ≡ 201) × (paid freed bbb ≡ 25125)
 reversal_frees_capacity_sums = (refl, refl)
 
 -- stands on the first: the first later change that would be refused, and not a later one
@@ -291,3 +293,53 @@ falling = record { number = 5; firm = hse; id = 1 ∷ []; command = Trade aaa a1
 
 falling_numbers : (first_refused house [] falling ≡ None) × (depth_of falling (node 1 1) ≡ 1) × (position_of falling aaa a1 esz6 Buy ≡ 100)
 falling_numbers = (refl, refl, refl)
+
+-- ---- terms that are made, raised and reversed
+
+-- a limit of 500 that is raised by 100
+abbrev raised : List Call
+raised = call hse 1 (Trade aaa a1 esz6 Buy 1000) ∷ call aaa 2 (Split (node 1 0) (to 500 bbb ∷ to 50 bbb ∷ to 50 bbb ∷ own 400 aaa a1 ∷ [])) ∷ call bbb 3 (Claim (node 2 1) b1)
+    ∷ call bbb 4 (Claim (node 2 2) b1) ∷ call bbb 5 (Raise aaa 100) ∷ call bbb 6 (Claim (node 2 2) b1) ∷ call bbb 7 (Claim (node 2 3) b1) ∷ []
+
+raise_and_claim : answers house [] raised
+    ≡ Accepted 1 Held ∷ Accepted 2 Offered ∷ Accepted 3 Claimed ∷ Refused LimitExceeded ∷ Accepted 4 Held ∷ Accepted 5 Claimed ∷ Accepted 6 Claimed ∷ []
+raise_and_claim = refl
+
+abbrev lowered : List Call
+lowered = call bbb 8 (Initiate 4) ∷ call aaa 9 (Initiate 4) ∷ call aaa 10 (Reverse 4) ∷ call bbb 11 (Initiate 5) ∷ call aaa 12 (Initiate 5) ∷ call aaa 13 (Reverse 5) ∷ call aaa 14 (Reverse 4)
+    ∷ call bbb 15 (Initiate 6) ∷ call aaa 16 (Initiate 6) ∷ call aaa 17 (Reverse 6) ∷ call aaa 18 (Reverse 4) ∷ []
+
+-- the reversal of the raise names the first of the claims that pass the limit without it
+raise_and_reverse : answers house (after_all house [] raised) lowered
+    ≡ Accepted 7 ReversalPending ∷ Accepted 8 ReversalPending ∷ Refused (StandsOn 5) ∷ Accepted 9 ReversalPending ∷ Accepted 10 ReversalPending ∷ Accepted 11 Reversed ∷ Refused (StandsOn 6)
+    ∷ Accepted 12 ReversalPending ∷ Accepted 13 ReversalPending ∷ Accepted 14 Reversed ∷ Accepted 15 Reversed ∷ []
+raise_and_reverse = refl
+
+raise_and_reverse_sums : let l = live (after_all house [] (raised ++ lowered)) in (used_of l aaa bbb ≡ 500) × (limit_of house l aaa bbb ≡ Some 500) × (paid_by house l bbb ≡ 62500)
+raise_and_reverse_sums = (refl, refl, refl)
+
+-- 450 of 500 used before the raise: it is the second of the later claims that passes the limit without it
+raise_after_a_claim : answers house [] (
+    call hse 1 (Trade aaa a1 esz6 Buy 1000) ∷ call aaa 2 (Split (node 1 0) (to 450 bbb ∷ to 50 bbb ∷ to 50 bbb ∷ own 450 aaa a1 ∷ [])) ∷ call bbb 3 (Claim (node 2 1) b1)
+    ∷ call bbb 4 (Raise aaa 100) ∷ call bbb 5 (Claim (node 2 2) b1) ∷ call bbb 6 (Claim (node 2 3) b1) ∷ call bbb 7 (Initiate 4) ∷ call aaa 8 (Initiate 4) ∷ call aaa 9 (Reverse 4) ∷ [])
+    ≡ Accepted 1 Held ∷ Accepted 2 Offered ∷ Accepted 3 Claimed ∷ Accepted 4 Held ∷ Accepted 5 Claimed ∷ Accepted 6 Claimed ∷ Accepted 7 ReversalPending ∷ Accepted 8 ReversalPending ∷ Refused (StandsOn 6) ∷ []
+raise_after_a_claim = refl
+
+-- no terms in the table: they are made by calls
+abbrev bare : House
+bare = record house { agreements = [] }
+
+abbrev made : List Call
+made = call hse 1 (Agree aaa bbb 125 500) ∷ call hse 2 (Agree bbb ccc 40 100) ∷ call hse 3 (Trade aaa a1 esz6 Buy 100)
+    ∷ call aaa 4 (Split (node 3 0) (own 60 aaa a1 ∷ to 40 bbb ∷ [])) ∷ call bbb 5 (Claim (node 4 2) b1) ∷ []
+
+made_by_calls : answers bare [] (made ++ call hse 6 (Initiate 1) ∷ call aaa 7 (Initiate 1) ∷ call aaa 8 (Reverse 1) ∷ call bbb 9 (Initiate 1) ∷ call hse 10 (Reverse 1)
+    ∷ call hse 11 (Agree aaa bbb 10 10) ∷ call aaa 12 (Agree aaa bbb 10 10) ∷ call hse 13 (Agree aaa aaa 1 1) ∷ call hse 14 (Agree ccc aaa 100001 0) ∷ call aaa 15 (Raise bbb 1) ∷ call hse 16 (Agree ccc aaa 50 0) ∷ [])
+    ≡ Accepted 1 Held ∷ Accepted 2 Held ∷ Accepted 3 Held ∷ Accepted 4 Offered ∷ Accepted 5 Claimed ∷ Accepted 6 ReversalPending ∷ Accepted 7 ReversalPending ∷ Refused (NeedsConsent bbb)
+    ∷ Accepted 8 ReversalPending ∷ Refused (StandsOn 5) ∷ Refused AgreementExists ∷ Refused HouseOnly ∷ Refused OwnAgreement ∷ Refused BadTerms ∷ Refused NoAgreement ∷ Accepted 9 Held ∷ []
+made_by_calls = refl
+
+-- a raise is refused by the order of its row: an unknown giver, no terms, no lots or too many
+raise_refusals : answers house [] (call bbb 1 (Raise (codes "DDD") 0) ∷ call aaa 2 (Raise bbb 0) ∷ call bbb 3 (Raise aaa 0) ∷ call bbb 4 (Raise aaa 9999999999501) ∷ call bbb 5 (Raise aaa 9999999999500) ∷ call bbb 6 (Raise aaa 1) ∷ [])
+    ≡ Refused UnknownFirm ∷ Refused NoAgreement ∷ Refused BadTerms ∷ Refused BadTerms ∷ Accepted 1 Held ∷ Refused BadTerms ∷ []
+raise_refusals = refl

@@ -13,7 +13,7 @@ use Rattle.gu_base.specs.declared.entry.Entry.{Entry}
 use Rattle.gu_base.specs.declared.entry.Answer.{Answer}
 use Rattle.gu_base.specs.declared.entry.Answer.TheVariants.{Accepted, Repeated, Refused}
 use Rattle.gu_base.specs.declared.command.Command.{Command}
-use Rattle.gu_base.specs.declared.command.Command.TheVariants.{Trade, Split, Claim, Refuse, Cancel, Initiate, Decline, Reverse}
+use Rattle.gu_base.specs.declared.command.Command.TheVariants.{Trade, Split, Claim, Refuse, Cancel, Agree, Raise, Initiate, Decline, Reverse}
 use Rattle.gu_base.specs.declared.state.State.{State}
 use Rattle.gu_base.specs.declared.state.State.TheVariants.{Held, Offered, Claimed, Refused as WasRefused, Cancelled, ReversalPending, Reversed}
 use Rattle.gu_base.specs.declared.refusal.Refusal.{Refusal}
@@ -77,6 +77,8 @@ status_of by (Split _ parts) = if gives_up by parts then Offered else Held
 status_of by (Claim _ _) = Claimed
 status_of by (Refuse _) = WasRefused
 status_of by (Cancel _) = Cancelled
+status_of by (Agree _ _ _ _) = Held
+status_of by (Raise _ _) = Held
 status_of by (Initiate _) = ReversalPending
 status_of by (Decline _) = Held
 status_of by (Reverse _) = Reversed

@@ -10,7 +10,7 @@ use Rattle.gu_base.specs.declared.node.Kind.{Kind}
 use Rattle.gu_base.specs.declared.node.Kind.TheVariants.{Given}
 use Rattle.gu_base.specs.declared.node.Node.{Node}
 use Rattle.gu_base.specs.declared.command.Command.{Command}
-use Rattle.gu_base.specs.declared.command.Command.TheVariants.{Trade, Split, Claim, Refuse, Cancel, Initiate, Decline}
+use Rattle.gu_base.specs.declared.command.Command.TheVariants.{Trade, Split, Claim, Refuse, Cancel, Agree, Raise, Initiate, Decline}
 
 abbrev pub taker_and_giver : Kind → List (List ℕ)
 taker_and_giver (Given _ giver taker) = taker ∷ giver ∷ []
@@ -32,6 +32,8 @@ parties_of t l by (Split _ _) = by ∷ []
 parties_of t l by (Claim n _) = of_node taker_and_giver (node_of l n)
 parties_of t l by (Refuse n) = of_node taker_and_giver (node_of l n)
 parties_of t l by (Cancel n) = of_node giver_alone (node_of l n)
+parties_of t l by (Agree giver taker _ _) = t.house ∷ giver ∷ taker ∷ []
+parties_of t l by (Raise giver _) = by ∷ giver ∷ []
 parties_of t l by _ = []
 
 -- a command that speaks of the consents to a reversal

@@ -2,7 +2,7 @@
 use Rattle.std.specs.Prelude.{◌≡◌, ℕ, Bool, true, List}
 use Rattle.std.specs.List.{All}
 use Rattle.gu_base.specs.declared.command.Command.{Command}
-use Rattle.gu_base.specs.declared.command.Command.TheVariants.{Trade, Split, Claim, Refuse, Cancel, Initiate, Decline, Reverse}
+use Rattle.gu_base.specs.declared.command.Command.TheVariants.{Trade, Split, Claim, Refuse, Cancel, Agree, Raise, Initiate, Decline, Reverse}
 
 -- the firms that a command names pass the test
 abbrev pub NamesOnly : (List ℕ → Bool) → Command → Type 0
@@ -11,6 +11,8 @@ NamesOnly p (Split _ parts) = All (λ q. p q.firm ≡ true) parts
 NamesOnly p (Claim _ _) = Unit {0}
 NamesOnly p (Refuse _) = Unit {0}
 NamesOnly p (Cancel _) = Unit {0}
+NamesOnly p (Agree giver taker _ _) = (p giver ≡ true) × (p taker ≡ true)
+NamesOnly p (Raise giver _) = p giver ≡ true
 NamesOnly p (Initiate _) = Unit {0}
 NamesOnly p (Decline _) = Unit {0}
 NamesOnly p (Reverse _) = Unit {0}

@@ -2,7 +2,7 @@
 use Rattle.std.specs.Prelude.{ℕ, ◌+◌, ◌≤◌, Bool, true, false, not, ◌&&◌, ◌==◌, List, [], ◌∷◌, filter}
 use Rattle.std.specs.List.{list_any}
 use Rattle.gu_base.specs.declared.command.Command.{Command}
-use Rattle.gu_base.specs.declared.command.Command.TheVariants.{Trade, Split, Claim, Refuse, Cancel, Initiate, Decline, Reverse}
+use Rattle.gu_base.specs.declared.command.Command.TheVariants.{Trade, Split, Claim, Refuse, Cancel, Agree, Raise, Initiate, Decline, Reverse}
 use Rattle.gu_base.specs.declared.entry.Entry.{Entry}
 use Rattle.gu_base.specs.declared.entry.Record.{Record}
 
@@ -19,13 +19,15 @@ numbered_from n (e ∷ es) = numbered_as n e ∷ numbered_from (n + 1) es
 abbrev pub records : List Entry → List Record
 records h = numbered_from 1 h
 
--- whether a command changes trees, positions or fees
+-- whether a command changes trees, positions, fees or terms
 abbrev pub is_change : Command → Bool
 is_change (Trade _ _ _ _ _) = true
 is_change (Split _ _) = true
 is_change (Claim _ _) = true
 is_change (Refuse _) = true
 is_change (Cancel _) = true
+is_change (Agree _ _ _ _) = true
+is_change (Raise _ _) = true
 is_change (Initiate _) = false
 is_change (Decline _) = false
 is_change (Reverse _) = false

@@ -8,6 +8,8 @@ pub mod History
 pub mod Nodes
 pub mod Places
 pub mod Positions
+pub mod Terms
+pub mod Dealt
 pub mod Fees
 pub mod Refusals
 pub mod Standing

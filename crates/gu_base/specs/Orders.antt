@@ -1,6 +1,7 @@
 -- The orders in which changes may stand.
-use Rattle.std.specs.Prelude.{Bool, true, ◌&&◌, ◌||◌, List, [], ◌∷◌, ◌++◌, is_some, is_none, IsPermutation, IsTrue}
+use Rattle.std.specs.Prelude.{◌≡◌, ℕ, Bool, true, ◌&&◌, ◌||◌, List, [], ◌∷◌, ◌++◌, is_some, is_none, IsPermutation, IsTrue}
 use Rattle.gu_base.specs.Nodes.{node_of, decision_of}
+use Rattle.gu_base.specs.Terms.{dealings}
 use Rattle.gu_base.specs.declared.entry.Record.{Record}
 use Rattle.gu_base.specs.declared.command.Command.{Command}
 use Rattle.gu_base.specs.declared.command.Command.TheVariants.{Split, Claim, Refuse, Cancel}
@@ -17,7 +18,9 @@ abbrev pub in_lawful_order : List Record → List Record → List Record → Boo
 in_lawful_order l before [] = true
 in_lawful_order l before (r ∷ rest) = is_ready l before r.command && in_lawful_order l (before ++ r ∷ []) rest
 
--- the same changes, with their numbers, in an order in which each comes after what it stands on
+-- the same changes, with their numbers, in an order in which each comes after what made or decided its node, and in which the Agree, the
+-- Raises and the Claims of each giver and taker stand as they stood
 pub record IsLawfulOrder (l order : List Record) : Type 0 where
   pub same : IsPermutation l order
   pub after_its_node : IsTrue (in_lawful_order l [] order)
+  pub pairs_stand : (giver taker : List ℕ) → dealings order giver taker ≡ dealings l giver taker

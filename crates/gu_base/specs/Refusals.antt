@@ -1,21 +1,20 @@
 -- Why a change is refused over a list of changes: each command's row of the table, in order.
-use Rattle.std.specs.Prelude.{ℕ, ◌+◌, Bool, false, not, ◌&&◌, ◌||◌, ◌==◌, nat_le, nat_lt, if◌then◌else◌, List, [], ◌∷◌, map, length, sum_by, Option, Some, None, option_map, unwrap_or, bytes_eq}
-use Rattle.gu_base.specs.Limits.{most_parts, deepest}
-use Rattle.gu_base.specs.Numbers.{EntryPart, is_lots}
-use Rattle.gu_base.specs.House.{House, agreement, knows_firm, knows_account, knows_instrument}
+use Rattle.std.specs.Prelude.{ℕ, ◌+◌, Bool, false, not, ◌&&◌, ◌||◌, ◌==◌, nat_le, nat_lt, if◌then◌else◌, List, [], ◌∷◌, map, length, sum_by, Option, Some, None, is_none, option_map, unwrap_or, bytes_eq}
+use Rattle.gu_base.specs.Limits.{most_parts, deepest, highest_limit}
+use Rattle.gu_base.specs.Numbers.{EntryPart, is_lots, are_terms}
+use Rattle.gu_base.specs.House.{House, knows_firm, knows_account, knows_instrument}
 use Rattle.gu_base.specs.Nodes.{node_of, split_of, is_offered}
 use Rattle.gu_base.specs.Places.{owner_of, depth_of}
-use Rattle.gu_base.specs.Fees.{used_of}
-use Rattle.gu_base.specs.declared.house.Agreement.{Agreement}
+use Rattle.gu_base.specs.Terms.{terms_of, limit_of, used_of}
 use Rattle.gu_base.specs.declared.entry.Record.{Record}
 use Rattle.gu_base.specs.declared.node.Kind.{Kind}
 use Rattle.gu_base.specs.declared.node.Kind.TheVariants.{Given}
 use Rattle.gu_base.specs.declared.node.Node.{Node}
 use Rattle.gu_base.specs.declared.command.Part.{Part}
 use Rattle.gu_base.specs.declared.command.Command.{Command}
-use Rattle.gu_base.specs.declared.command.Command.TheVariants.{Trade, Split, Claim, Refuse, Cancel, Initiate, Decline, Reverse}
+use Rattle.gu_base.specs.declared.command.Command.TheVariants.{Trade, Split, Claim, Refuse, Cancel, Agree, Raise, Initiate, Decline, Reverse}
 use Rattle.gu_base.specs.declared.refusal.Refusal.{Refusal}
-use Rattle.gu_base.specs.declared.refusal.Refusal.TheVariants.{UnknownFirm, UnknownAccount, UnknownInstrument, UnknownNode, NotYours, AlreadySplit, StillOffered, NotOffered, BadLots, SumDiffers, BadPartCount, NoAgreement, LimitExceeded, TooDeep, HouseOnly}
+use Rattle.gu_base.specs.declared.refusal.Refusal.TheVariants.{UnknownFirm, UnknownAccount, UnknownInstrument, UnknownNode, NotYours, AlreadySplit, StillOffered, NotOffered, BadLots, SumDiffers, BadPartCount, NoAgreement, LimitExceeded, TooDeep, HouseOnly, OwnAgreement, BadTerms, AgreementExists}
 
 -- the refusal, unless the test holds
 abbrev pub unless : Bool → Refusal → Option Refusal
@@ -72,32 +71,50 @@ split_row t l by parts x = first (
     ∷ first (map (refusal_of_part t by) parts)
     ∷ unless (sum_by (λ p. p.lots) parts == x.lots) SumDiffers ∷ [])
 
--- the agreement's refusal, for these lots with those already used
-abbrev pub agreement_row : ℕ → Option Agreement → Option Refusal
-agreement_row lots None = Some NoAgreement
-agreement_row lots (Some a) = unless (nat_le lots a.limit) LimitExceeded
+-- the refusal of a use of a limit, for these lots with those already used
+abbrev pub limit_row : ℕ → Option ℕ → Option Refusal
+limit_row lots None = Some NoAgreement
+limit_row lots (Some limit) = unless (nat_le lots limit) LimitExceeded
 
--- the agreement of a given part's giver and taker
-abbrev pub terms : House → Kind → Option Agreement
-terms t (Given _ giver taker) = agreement t giver taker
-terms t _ = None
+-- the limit of a given part's giver and taker
+abbrev pub limit_by : House → List Record → Kind → Option ℕ
+limit_by t l (Given _ giver taker) = limit_of t l giver taker
+limit_by t l _ = None
 
-abbrev pub used_by : House → List Record → Kind → ℕ
-used_by t l (Given _ giver taker) = used_of t l giver taker
-used_by t l _ = 0
+abbrev pub used_by : List Record → Kind → ℕ
+used_by l (Given _ giver taker) = used_of l giver taker
+used_by l _ = 0
 
 abbrev pub claim_row : House → List Record → List ℕ → List ℕ → Node → Option Refusal
 claim_row t l by account x = first (
     unless (is_offered l x) NotOffered
     ∷ unless (is_taker by x.kind) NotYours
     ∷ unless (knows_account t by account) UnknownAccount
-    ∷ agreement_row (used_by t l x.kind + x.lots) (terms t x.kind) ∷ [])
+    ∷ limit_row (used_by l x.kind + x.lots) (limit_by t l x.kind) ∷ [])
 
 abbrev pub refuse_row : List Record → List ℕ → Node → Option Refusal
 refuse_row l by x = first (unless (is_offered l x) NotOffered ∷ unless (is_taker by x.kind) NotYours ∷ [])
 
 abbrev pub cancel_row : List Record → List ℕ → Node → Option Refusal
 cancel_row l by x = first (unless (is_offered l x) NotOffered ∷ unless (is_giver by x.kind) NotYours ∷ [])
+
+-- terms are made once
+abbrev pub agree_row : House → List Record → List ℕ → (giver taker : List ℕ) → ℕ → ℕ → Option Refusal
+agree_row t l by giver taker rate limit = first (
+    unless (bytes_eq by t.house) HouseOnly
+    ∷ unless (knows_firm t giver) UnknownFirm
+    ∷ unless (knows_firm t taker) UnknownFirm
+    ∷ unless (not (bytes_eq giver taker)) OwnAgreement
+    ∷ unless (are_terms rate limit) BadTerms
+    ∷ unless (is_none (terms_of t l giver taker)) AgreementExists ∷ [])
+
+-- the refusal of a raise of a limit
+abbrev pub raised_row : ℕ → Option ℕ → Option Refusal
+raised_row lots None = Some NoAgreement
+raised_row lots (Some limit) = unless (nat_le 1 lots && nat_le (limit + lots) highest_limit) BadTerms
+
+abbrev pub raise_row : House → List Record → List ℕ → List ℕ → ℕ → Option Refusal
+raise_row t l by giver lots = first (unless (knows_firm t giver) UnknownFirm ∷ raised_row lots (limit_of t l giver by) ∷ [])
 
 -- the row of each change; Initiate, Decline and Reverse have theirs over the history
 abbrev pub row : House → List Record → List ℕ → Command → Option Refusal
@@ -106,6 +123,8 @@ row t l by (Split n parts) = at_node (split_row t l by parts) (node_of l n)
 row t l by (Claim n account) = at_node (claim_row t l by account) (node_of l n)
 row t l by (Refuse n) = at_node (refuse_row l by) (node_of l n)
 row t l by (Cancel n) = at_node (cancel_row l by) (node_of l n)
+row t l by (Agree giver taker rate limit) = agree_row t l by giver taker rate limit
+row t l by (Raise giver lots) = raise_row t l by giver lots
 row t l by (Initiate _) = None
 row t l by (Decline _) = None
 row t l by (Reverse _) = None

@@ -13,7 +13,7 @@ use Rattle.gu_base.specs.Same.{same_command}
 use Rattle.gu_base.specs.declared.command.Side.{Side}
 use Rattle.gu_base.specs.declared.command.Side.TheVariants.{Buy, Sell}
 use Rattle.gu_base.specs.declared.command.Command.{Command}
-use Rattle.gu_base.specs.declared.command.Command.TheVariants.{Trade, Split, Claim, Refuse, Cancel, Initiate, Decline, Reverse}
+use Rattle.gu_base.specs.declared.command.Command.TheVariants.{Trade, Split, Claim, Refuse, Cancel, Agree, Raise, Initiate, Decline, Reverse}
 
 pub same_name-Decides : (a b : EntryPart) → Decides (same_name a b) (a ≡ b)
 same_name-Decides a b = decides_from same_name a b
@@ -32,6 +32,8 @@ same_command-refl (Split n ps) = rw ((same_name-Decides n n).1 refl, (same_parts
 same_command-refl (Claim n a) = rw ((same_name-Decides n n).1 refl, bytes_same a) refl
 same_command-refl (Refuse n) = (same_name-Decides n n).1 refl
 same_command-refl (Cancel n) = (same_name-Decides n n).1 refl
+same_command-refl (Agree g k r l) = rw (bytes_same g, bytes_same k, number_same r, number_same l) refl
+same_command-refl (Raise g l) = rw (bytes_same g, number_same l) refl
 same_command-refl (Initiate e) = number_same e
 same_command-refl (Decline e) = number_same e
 same_command-refl (Reverse e) = number_same e
@@ -48,6 +50,13 @@ same_command-told (Claim n a) (Claim n' a') h =
     let p = and_parts _ _ h in let en : n ≡ n' = (same_name-Decides _ _).0 p.0 in let ea : a ≡ a' = (bytes_eq-Decides _ _).0 p.1 in cc
 same_command-told (Refuse n) (Refuse n') h = ap (λ x. Refuse x) ((same_name-Decides _ _).0 h)
 same_command-told (Cancel n) (Cancel n') h = ap (λ x. Cancel x) ((same_name-Decides _ _).0 h)
+same_command-told (Agree g k r l) (Agree g' k' r' l') h =
+    let p = and_parts _ _ h in let q = and_parts _ _ p.0 in let s = and_parts _ _ q.0 in
+    let eg : g ≡ g' = (bytes_eq-Decides _ _).0 s.0 in let ek : k ≡ k' = (bytes_eq-Decides _ _).0 s.1 in
+    let er : r ≡ r' = (Decides-eqb _ _).0 q.1 in let el : l ≡ l' = (Decides-eqb _ _).0 p.1 in
+    cc
+same_command-told (Raise g l) (Raise g' l') h =
+    let p = and_parts _ _ h in let eg : g ≡ g' = (bytes_eq-Decides _ _).0 p.0 in let el : l ≡ l' = (Decides-eqb _ _).0 p.1 in cc
 same_command-told (Initiate e) (Initiate e') h = ap (λ x. Initiate x) ((Decides-eqb _ _).0 h)
 same_command-told (Decline e) (Decline e') h = ap (λ x. Decline x) ((Decides-eqb _ _).0 h)
 same_command-told (Reverse e) (Reverse e') h = ap (λ x. Reverse x) ((Decides-eqb _ _).0 h)

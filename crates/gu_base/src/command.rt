@@ -1,4 +1,4 @@
-//! What a firm can ask of the book: the eight commands.
+//! What a firm can ask of the book: the ten commands.
 ghost use Rattle.std.specs.Prelude.{◌≡◌, IfOk, OnErr, IsTrue, ◌↔◌};
 ghost use Rattle.gu_base.specs.Nodes.{is_split};
 ghost use Rattle.gu_base.specs.SameParts.{same_account};
@@ -130,7 +130,7 @@ fn same_account(a: &Option<AccountId>, b: &Option<AccountId>) -> bool
     }
 }
 
-/// A command. Trade, Split, Claim, Refuse and Cancel are changes; Initiate, Decline and Reverse speak of one.
+/// A command. Trade, Split, Claim, Refuse, Cancel, Agree and Raise are changes; Initiate, Decline and Reverse speak of one.
 #[derive(Debug, Drop)]
 pub enum Command {
     /// A trade of the clearing house for an account of a firm (TradeCaptureReport).
@@ -158,6 +158,21 @@ pub enum Command {
     /// The giver takes an offer back.
     Cancel {
         node: NodeName,
+    },
+    /// The clearing house makes terms for a giver and a taker.
+    Agree {
+        giver: FirmId,
+        taker: FirmId,
+        /// What a claimed lot is to cost the taker, as it was asked for: the book refuses what is out of range.
+        rate: u64,
+        /// The lots that may be claimed, as they were asked for.
+        limit: u64,
+    },
+    /// The taker raises the limit of its terms with a giver.
+    Raise {
+        giver: FirmId,
+        /// By how many lots, as it was asked for.
+        lots: u64,
     },
     /// A party consents to the reversal of a change.
     Initiate {
@@ -222,6 +237,29 @@ impl PartialEq for Command {
             ) => *node == *node_2 && *account == *account_2,
             (Command::Refuse { node }, Command::Refuse { node: node_2 }) => *node == *node_2,
             (Command::Cancel { node }, Command::Cancel { node: node_2 }) => *node == *node_2,
+            (
+                Command::Agree {
+                    giver,
+                    taker,
+                    rate,
+                    limit,
+                },
+                Command::Agree {
+                    giver: giver_2,
+                    taker: taker_2,
+                    rate: rate_2,
+                    limit: limit_2,
+                },
+            ) => {
+                *giver == *giver_2 && *taker == *taker_2 && *rate == *rate_2 && *limit == *limit_2
+            }
+            (
+                Command::Raise { giver, lots },
+                Command::Raise {
+                    giver: giver_2,
+                    lots: lots_2,
+                },
+            ) => *giver == *giver_2 && *lots == *lots_2,
             (Command::Initiate { entry }, Command::Initiate { entry: entry_2 }) => *entry
                 == *entry_2,
             (Command::Decline { entry }, Command::Decline { entry: entry_2 }) => *entry == *entry_2,
@@ -278,6 +316,21 @@ impl Command {
             },
             Command::Refuse { node } => Command::Refuse { node: *node },
             Command::Cancel { node } => Command::Cancel { node: *node },
+            Command::Agree {
+                giver,
+                taker,
+                rate,
+                limit,
+            } => Command::Agree {
+                giver: *giver,
+                taker: *taker,
+                rate: *rate,
+                limit: *limit,
+            },
+            Command::Raise { giver, lots } => Command::Raise {
+                giver: *giver,
+                lots: *lots,
+            },
             Command::Initiate { entry } => Command::Initiate { entry: *entry },
             Command::Decline { entry } => Command::Decline { entry: *entry },
             Command::Reverse { entry } => Command::Reverse { entry: *entry },

@@ -1,5 +1,6 @@
-//! The lines of the house table.
+//! The lines of the house table, and what is dealt under terms.
 use crate::names::{AccountId, FirmId};
+use crate::numbers::Number;
 
 /// An account of a firm.
 #[derive(Clone, Copy, Debug, PartialEq, Eq, Hash)]
@@ -27,4 +28,22 @@ pub struct Agreement {
 impl Agreement {
     /// The highest limit of an agreement, in lots.
     pub const MAX_LIMIT: u64 = 10_000_000_000_000;
+}
+
+/// What an entry does to the terms of a giver and a taker.
+#[derive(Clone, Copy, Debug, PartialEq, Eq)]
+pub enum Deed {
+    /// An Agree makes them.
+    Makes(Agreement),
+    /// A Raise raises their limit by so many lots.
+    Raises(u64),
+    /// A Claim uses so many lots.
+    Uses(u64),
+}
+
+/// An entry of a giver and a taker: its number, and what it does to their terms.
+#[derive(Clone, Copy, Debug, PartialEq, Eq)]
+pub struct Dealing {
+    pub number: Number,
+    pub deed: Deed,
 }

@@ -5,7 +5,7 @@
 //! - `==` on commands is equality of values, and a copy of a command equals it.
 //! - `Refusal::number` and `Refusal::text` are the table of refusals, byte for byte.
 //! - `specs/` has the model of the book, on which every other crate is proved: the house table, histories and their live
-//!   changes, nodes, places, positions, fees, refusals, what stands on what, consents, the answer to a call, runs, the
+//!   changes, nodes, places, positions, terms, fees, refusals, what stands on what, consents, the answer to a call, runs, the
 //!   rows of a tree and lawful orders. They are filters, sums and a replay over flat lists.
 //! - `proofs/Worked.antt` computes small worked histories by these definitions, so that a change of a definition that
 //!   breaks one of them breaks the build.
@@ -27,7 +27,7 @@ pub mod state;
 
 pub use command::{Command, Part, Parts, Side};
 pub use entry::{Answer, Entry, Record};
-pub use house::{Account, Agreement, Pair};
+pub use house::{Account, Agreement, Dealing, Deed, Pair};
 pub use memory::Memory;
 pub use names::{AccountId, AllocId, FirmId, InstrumentId};
 pub use node::{Charge, Deal, Kind, Node, Place};

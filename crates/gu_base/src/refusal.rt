@@ -88,6 +88,15 @@ pub enum Refusal {
     /// Nobody's consent stands.
     #[error("nothing pending")]
     NothingPending,
+    /// Giver and taker are one firm.
+    #[error("own agreement")]
+    OwnAgreement,
+    /// A rate is above 100,000, a limit is or would pass 10,000,000,000,000, or a raise is of no lots.
+    #[error("terms out of range")]
+    BadTerms,
+    /// Giver and taker have terms already.
+    #[error("agreement exists")]
+    AgreementExists,
 }
 
 /// Appends a number's digits.
@@ -103,10 +112,10 @@ fn push_number(text: &mut ArrayString<48>, n: u32)
 }
 
 impl Refusal {
-    /// Its number in the table of refusals, 1 to 25.
+    /// Its number in the table of refusals, 1 to 28.
     pub fn number(&self) -> u8
         ensures value { result ≡ number_of self.now }
-        ensures small { result ≤ 25 }
+        ensures small { result ≤ 28 }
     {
         match self {
             Refusal::UnknownFirm => 1,
@@ -134,6 +143,9 @@ impl Refusal {
             Refusal::HouseOnly => 23,
             Refusal::AlreadyConsented => 24,
             Refusal::NothingPending => 25,
+            Refusal::OwnAgreement => 26,
+            Refusal::BadTerms => 27,
+            Refusal::AgreementExists => 28,
         }
     }
 
@@ -168,6 +180,9 @@ impl Refusal {
             Refusal::HouseOnly => " house only",
             Refusal::AlreadyConsented => " already consented",
             Refusal::NothingPending => " nothing pending",
+            Refusal::OwnAgreement => " own agreement",
+            Refusal::BadTerms => " terms out of range",
+            Refusal::AgreementExists => " agreement exists",
         }
     }
 

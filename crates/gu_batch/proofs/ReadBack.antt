@@ -6,7 +6,11 @@ use Rattle.std.proofs.lemmas.List.Elements.{All-nil}
 use Rattle.std.proofs.lemmas.Bool.{ltb-true}
 use Rattle.gu_base.specs.Names.{is_firm_text}
 use Rattle.gu_base.specs.House.{House}
-use Rattle.gu_base.specs.Answers.{answer_to}
+use Rattle.gu_base.specs.Answers.{answer_to, after}
+use Rattle.gu_base.specs.Runs.{after_all, opening_call, opening_from}
+use Rattle.gu_base.specs.declared.entry.Entry.{Entry}
+use Rattle.gu_base.specs.declared.house.Pair.{Pair}
+use Rattle.gu_base.specs.declared.house.Agreement.{Agreement}
 use Rattle.gu_book.specs.PartyNames.{EntryNames}
 use Rattle.gu_codec.specs.Fields.{IsBody}
 use Rattle.gu_codec.specs.Writing.{IsText, IsWritable}
@@ -21,7 +25,7 @@ use Rattle.gu_message.specs.Reply.{Reply, IsLawfulReply}
 use Rattle.gu_message.proofs.LawfulMeaning.{Passes, IsLawfulMeaning, meaning_passes}
 use Rattle.gu_message.proofs.Replies.{answer_lawful as answer_reply_lawful, reject_lawful, sent_writable}
 use Rattle.gu_codec.specs.Readings.{messages_of, frames_of, end_of}
-use Rattle.gu_batch.specs.Output.{Progress, start, batch_time, stamp, call_of, replies_by, sent, progress_by, answers_to, progress_after, answers_along, answers_of, output_of}
+use Rattle.gu_batch.specs.Output.{Progress, HasFirmNames, start, batch_time, stamp, call_of, replies_by, sent, progress_by, answers_to, progress_after, answers_along, answers_of, output_of}
 use Rattle.gu_batch.proofs.Holding.{after_written}
 use Rattle.gu_batch.proofs.Lawful.{answer_lawful, after_named}
 use Rattle.gu_codec.proofs.Readings.{stream_is}
@@ -121,8 +125,19 @@ came_of : (fs : List Seen) (offset : ℕ) (bytes : List ℕ) (end : Option End) 
 came_of [] offset bytes end h = record { bodies = tt; few = omega arith }
 came_of (f ∷ fs) offset bytes end h = came_next f.fields f.len bytes fs h.0 (came_of fs (offset + f.len) (drop f.len bytes) end h.1)
 
-pub output_read : (house : House) (bytes : List ℕ) → IsTrue (is_firm_text house.house) → length bytes < 2 ^ 64
+-- the opening calls name the house, and the firms of the opening
+opening_named : (t : House) (i : ℕ) (es : List (Pair × Agreement)) (h : List Entry) → IsTrue (is_firm_text t.house) → AllByRecursion (λ e. IsTrue (is_firm_text e.0.giver) × IsTrue (is_firm_text e.0.taker)) es
+    → All (EntryNames is_firm_text) h → All (EntryNames is_firm_text) (after_all t h (opening_from t i es))
+opening_named t i [] h lawful names named = named
+opening_named t i (e ∷ es) h lawful names named =
+    let c = opening_call t i e in
+    opening_named t (i + 1) es (after t h c) lawful names.1 (after_named t h c.firm c.id c.command lawful names.0 named)
+
+start_sound : (house : House) → HasFirmNames house → IsSound (start house)
+start_sound house names = record { house = names.house; named = opening_named house 1 house.opening [] names.house names.opening (All-nil (EntryNames is_firm_text)) }
+
+pub output_read : (house : House) (bytes : List ℕ) → HasFirmNames house → length bytes < 2 ^ 64
     → (end_of (output_of house bytes) ≡ Clean) × (messages_of (output_of house bytes) ≡ answers_of house bytes)
-output_read house bytes lawful few =
+output_read house bytes names few =
     let came = came_of (frames_of bytes) 0 bytes (Some (end_of bytes)) (stream_is bytes) in
-    messages_read (answers_of house bytes) (all_lawful (start house) (messages_of bytes) (record { house = lawful; named = All-nil (EntryNames is_firm_text) }) (omega (arith, came.few, few)) came.bodies)
+    messages_read (answers_of house bytes) (all_lawful (start house) (messages_of bytes) (start_sound house names) (omega (arith, came.few, few)) came.bodies)

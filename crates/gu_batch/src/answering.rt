@@ -68,15 +68,19 @@ impl Model for Answering {
 }
 
 impl Answering {
+    ghost use Rattle.std.specs.Prelude.{IfOk};
     ghost use Rattle.gu_batch.specs.Output.{start, stamp, call_of, answers_to, answers_to_body, progress_after, progress_behind};
 
-    /// Nothing answered yet, over an empty book of this house.
-    pub(crate) fn new(alloc: Global, house: House) -> Answering
-        ensures { result ≡ start house }
+    /// Nothing answered yet, over the opening book of this house.
+    pub(crate) fn open(alloc: Global, house: House) -> Result<Answering, Memory>
+        ensures { IfOk result (λ a. a ≡ start house) }
     {
-        Answering {
-            book: Book::new(alloc, house),
-            written: 0,
+        match Book::open(alloc, house) {
+            Ok(book) => Ok(Answering { book, written: 0 }),
+            Err((house, memory)) => {
+                drop(house);
+                Err(memory)
+            }
         }
     }
 

@@ -165,7 +165,10 @@ pub(crate) fn answer_stream<R: Source, W: Sink>(
         (record { left = R.remaining reader.new; made = R.made reader.new; reads_failed = R.failed reader.new; contents = W.contents writer.new; writes_failed = W.failed writer.new })
         result }
 {
-    let mut answering = Answering::new(alloc, house);
+    let Ok(opened) = Answering::open(alloc, house) else {
+        return Err(RunError::Memory);
+    };
+    let mut answering = opened;
     match answer_reads(alloc, reader, writer, &mut answering) {
         Ok(()) => Ok(answering),
         Err(e) => Err(e),

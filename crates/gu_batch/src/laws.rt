@@ -1,11 +1,10 @@
 //! Laws of the output of a stream, over the definitions alone.
 
-ghost use Rattle.std.specs.Prelude.{◌≡◌, ◌<◌, ◌^◌, ℕ, List, ◌++◌, length, IsTrue};
+ghost use Rattle.std.specs.Prelude.{◌≡◌, ◌<◌, ◌^◌, ℕ, List, ◌++◌, length};
 ghost use Rattle.gu_base.specs.House.{House};
-ghost use Rattle.gu_base.specs.Names.{is_firm_text};
 ghost use Rattle.gu_codec.specs.Messages.{Clean, Broken};
 ghost use Rattle.gu_codec.specs.Readings.{messages_of, end_of};
-ghost use Rattle.gu_batch.specs.Output.{answers_of, output_of};
+ghost use Rattle.gu_batch.specs.Output.{HasFirmNames, answers_of, output_of};
 
 /// A stream that is broken stays so, at the same byte and with the same output, whatever follows.
 pub fn broken_stays()
@@ -15,6 +14,6 @@ pub fn broken_stays()
 /// What is written for a stream is read back: it ends cleanly, and its messages are the answers, each the fields of its header and then
 /// those of its body.
 pub fn output_is_read_back()
-    ensures { (house : House) (bytes : List ℕ) → IsTrue (is_firm_text house.house) → length bytes < 2 ^ 64
+    ensures { (house : House) (bytes : List ℕ) → HasFirmNames house → length bytes < 2 ^ 64
         → (end_of (output_of house bytes) ≡ Clean) × (messages_of (output_of house bytes) ≡ answers_of house bytes) }
 {}

@@ -12,7 +12,7 @@ use Rattle.gu_base.specs.Consents.{missing, parties_of, consents_of}
 use Rattle.gu_base.specs.Answers.{answer_to, entry_of, on_change, reverse_rest, command_refusal}
 use Rattle.gu_base.specs.Runs.{call_of}
 use Rattle.gu_base.specs.declared.command.Command.{Command}
-use Rattle.gu_base.specs.declared.command.Command.TheVariants.{Trade, Split, Claim, Refuse, Cancel, Initiate, Decline, Reverse}
+use Rattle.gu_base.specs.declared.command.Command.TheVariants.{Trade, Split, Claim, Refuse, Cancel, Agree, Raise, Initiate, Decline, Reverse}
 use Rattle.gu_base.specs.declared.entry.Answer.TheVariants.{Accepted}
 use Rattle.gu_base.specs.declared.entry.Entry.{Entry}
 use Rattle.gu_base.specs.declared.entry.Record.{Record}
@@ -22,7 +22,7 @@ use Rattle.gu_base.proofs.Accepted.{first_none, allowed, open_from_none}
 use Rattle.gu_base.proofs.Basics.{no_some, mapped_none}
 use Rattle.gu_base.proofs.Numbered.{found_at, known_entry}
 use Rattle.gu_base.proofs.Consenting.{not_reversed}
-use Rattle.gu_base.proofs.Searches.{found_in}
+use Rattle.gu_base.proofs.Searches.{found_in, find_passes}
 use Rattle.gu_tree.specs.Rose.{Rose}
 use Rattle.gu_tree.specs.Grove.{Grove, tree_of}
 use Rattle.gu_tree.specs.Shown.{IsTreeOf}
@@ -44,6 +44,8 @@ makes_root k n by (Split m ps) x h = let z : None ≡ Some x = sym (no-root-part
 makes_root k n by (Claim _ _) x h = absurd (cc)
 makes_root k n by (Refuse _) x h = absurd (cc)
 makes_root k n by (Cancel _) x h = absurd (cc)
+makes_root k n by (Agree _ _ _ _) x h = absurd (cc)
+makes_root k n by (Raise _ _) x h = absurd (cc)
 makes_root k n by (Initiate _) x h = absurd (cc)
 makes_root k n by (Decline _) x h = absurd (cc)
 makes_root k n by (Reverse _) x h = absurd (cc)
@@ -136,3 +138,12 @@ module _ {t : House} {h : List Entry} {g : Grove} {cs : Consents} (kept : IsKept
   -- so it may go from the trees
   pub undone_goes : (d : Entry) → d ≡ get_or h (k - 1) d → IsFree t (live h) (numbered_as k d) g
   undone_goes d is = record { filed = kept.filed; replayed = kept.replayed; rises = live_rises h; among = undone_among d is; free = undone_free }
+
+  -- the same of the change as it was found
+  pub undone_number : (undone t h e n k ok same).0.number ≡ k
+  undone_number = let u = undone t h e n k ok same in (Decides-eqb u.0.number k).0 (find_passes (λ (q : Record). q.number == k) (live h) u.0 u.1.found)
+
+  pub undone_may_go : IsFree t (live h) (undone t h e n k ok same).0 g
+  undone_may_go =
+      let u = undone t h e n k ok same in
+      record { filed = kept.filed; replayed = kept.replayed; rises = live_rises h; among = u.1.among; free = subst (λ m. standing_on t (live h) m ≡ None) (sym undone_number) u.1.free }

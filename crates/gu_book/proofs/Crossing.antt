@@ -9,6 +9,7 @@ use Rattle.gu_base.proofs.entry.Record.TheSendSync as made
 use Rattle.gu_parties.proofs.house.House.TheSendSync as house
 use Rattle.gu_consent.proofs.Consents.TheSendSync as consents
 use Rattle.gu_fees.proofs.fees.Fees.TheSendSync as fees
+use Rattle.gu_fees.proofs.terms.Terms.TheSendSync as terms
 use Rattle.gu_positions.proofs.positions.Positions.TheSendSync as positions
 use Rattle.gu_book.proofs.index.Index.TheSendSync as index
 use Rattle.gu_tree.proofs.head.Head.TheSendSync as head
@@ -29,4 +30,4 @@ trees_send : IsSend (Trees.the_row heap.the_row ghosts)
 trees_send = search (tree_send, filed.the_send, crosses, sendable) depth 12
 
 pub book_send : IsSend Book.the_row
-book_send = search (house.the_send, entry.the_send, made.the_send, trees_send, consents.the_field_send, index.the_field_send, fees.the_send, positions.the_send, crosses, sendable) depth 20
+book_send = search (house.the_send, entry.the_send, made.the_send, trees_send, consents.the_field_send, index.the_field_send, fees.the_send, positions.the_send, terms.the_send, crosses, sendable) depth 20

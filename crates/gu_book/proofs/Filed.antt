@@ -12,7 +12,7 @@ use Rattle.gu_base.specs.House.{House}
 use Rattle.gu_base.specs.Nodes.{node_of}
 use Rattle.gu_base.specs.Places.{root_of}
 use Rattle.gu_base.specs.declared.command.Command.{Command}
-use Rattle.gu_base.specs.declared.command.Command.TheVariants.{Trade, Split, Claim, Refuse, Cancel, Initiate, Decline, Reverse}
+use Rattle.gu_base.specs.declared.command.Command.TheVariants.{Trade, Split, Claim, Refuse, Cancel, Agree, Raise, Initiate, Decline, Reverse}
 use Rattle.gu_base.specs.declared.entry.Record.{Record}
 use Rattle.gu_base.specs.declared.node.Node.{Node}
 use Rattle.gu_base.proofs.Basics.{or_none, or_false}
@@ -177,6 +177,8 @@ not_trade (Split _ _) n e = refl
 not_trade (Claim _ _) n e = refl
 not_trade (Refuse _) n e = refl
 not_trade (Cancel _) n e = refl
+not_trade (Agree _ _ _ _) n e = refl
+not_trade (Raise _ _) n e = refl
 not_trade (Initiate _) n e = refl
 not_trade (Decline _) n e = refl
 not_trade (Reverse _) n e = refl
@@ -187,6 +189,8 @@ place_named k (Split _ _) n e = e
 place_named k (Claim _ _) n e = e
 place_named k (Refuse _) n e = e
 place_named k (Cancel _) n e = e
+place_named k (Agree _ _ _ _) n e = absurd (cc)
+place_named k (Raise _ _) n e = absurd (cc)
 place_named k (Initiate _) n e = absurd (cc)
 place_named k (Decline _) n e = absurd (cc)
 place_named k (Reverse _) n e = absurd (cc)

@@ -8,12 +8,12 @@ use Rattle.gu_base.specs.Numbers.{EntryPart}
 use Rattle.gu_base.specs.House.{House, knows_account}
 use Rattle.gu_base.specs.Nodes.{node_of, nodes_of, decision_of, split_of, is_given, is_offered}
 use Rattle.gu_base.specs.Places.{place_of, depth_of}
-use Rattle.gu_base.specs.Refusals.{row, split_row, claim_row, refuse_row, cancel_row, first, unless, is_taker, is_giver, agreement_row, used_by, terms, refusal_of_part}
+use Rattle.gu_base.specs.Refusals.{row, split_row, claim_row, refuse_row, cancel_row, first, unless, is_taker, is_giver, limit_row, limit_by, used_by, refusal_of_part}
 use Rattle.gu_base.specs.Rows.{state_of, taker_of}
 use Rattle.gu_base.specs.declared.command.Part.{Part}
 use Rattle.gu_base.specs.declared.command.Side.{Side}
 use Rattle.gu_base.specs.declared.command.Command.{Command}
-use Rattle.gu_base.specs.declared.command.Command.TheVariants.{Trade, Split, Claim, Refuse, Cancel, Initiate, Decline, Reverse}
+use Rattle.gu_base.specs.declared.command.Command.TheVariants.{Trade, Split, Claim, Refuse, Cancel, Agree, Raise, Initiate, Decline, Reverse}
 use Rattle.gu_base.specs.declared.entry.Record.{Record}
 use Rattle.gu_base.specs.declared.node.Kind.{Kind}
 use Rattle.gu_base.specs.declared.node.Kind.TheVariants.{Root, Own, Given}
@@ -136,7 +136,7 @@ module _ {t : House} {l : List Record} {r : Record} {g : Grove} (next : IsNext t
   claim_lines : (n : EntryPart) (account : List ℕ) → r.command ≡ Claim n account → (x : Node) × (node_of l n ≡ Some x) × (is_offered l x ≡ true) × (is_taker r.firm x.kind ≡ true)
   claim_lines n account e =
       let there = at_node_none (claim_row t l r.firm account) (node_of l n) (row_passes next (Claim n account) e) in
-      let last = agreement_row (used_by t l there.0.kind + there.0.lots) (terms t there.0.kind) ∷ [] in
+      let last = limit_row (used_by l there.0.kind + there.0.lots) (limit_by t l there.0.kind) ∷ [] in
       let third = unless (knows_account t r.firm account) UnknownAccount ∷ last in
       let second = unless (is_taker r.firm there.0.kind) NotYours ∷ third in
       let a = first_none (unless (is_offered l there.0) NotOffered) second there.1.1 in
@@ -337,6 +337,8 @@ plain_command k by (Split n ps) trade split claim refuse cancel = absurd (split 
 plain_command k by (Claim n a) trade split claim refuse cancel = absurd (claim n a refl)
 plain_command k by (Refuse n) trade split claim refuse cancel = absurd (refuse n refl)
 plain_command k by (Cancel n) trade split claim refuse cancel = absurd (cancel n refl)
+plain_command k by (Agree _ _ _ _) trade split claim refuse cancel = record { names = refl; trades = refl; own = refl; makes = refl }
+plain_command k by (Raise _ _) trade split claim refuse cancel = record { names = refl; trades = refl; own = refl; makes = refl }
 plain_command k by (Initiate _) trade split claim refuse cancel = record { names = refl; trades = refl; own = refl; makes = refl }
 plain_command k by (Decline _) trade split claim refuse cancel = record { names = refl; trades = refl; own = refl; makes = refl }
 plain_command k by (Reverse _) trade split claim refuse cancel = record { names = refl; trades = refl; own = refl; makes = refl }

@@ -12,7 +12,7 @@ use Rattle.gu_base.specs.History.{RisesFrom}
 use Rattle.gu_base.specs.Nodes.{node_of, same_name}
 use Rattle.gu_base.specs.Standing.{first_refused, standing_on, without}
 use Rattle.gu_base.specs.declared.command.Command.{Command}
-use Rattle.gu_base.specs.declared.command.Command.TheVariants.{Trade, Split, Claim, Refuse, Cancel, Initiate, Decline, Reverse}
+use Rattle.gu_base.specs.declared.command.Command.TheVariants.{Trade, Split, Claim, Refuse, Cancel, Agree, Raise, Initiate, Decline, Reverse}
 use Rattle.gu_base.specs.declared.entry.Record.{Record}
 use Rattle.gu_base.proofs.Basics.{or_false, none_is_some}
 use Rattle.gu_base.proofs.NodeNames.{name_is, node_called}
@@ -72,6 +72,8 @@ names_one n m (Claim a _) e is = sym (name_is a m is) ∙ same_Some a n e
 names_one n m (Refuse a) e is = sym (name_is a m is) ∙ same_Some a n e
 names_one n m (Cancel a) e is = sym (name_is a m is) ∙ same_Some a n e
 names_one n m (Trade _ _ _ _ _) e is = absurd (cc)
+names_one n m (Agree _ _ _ _) e is = absurd (cc)
+names_one n m (Raise _ _) e is = absurd (cc)
 names_one n m (Initiate _) e is = absurd (cc)
 names_one n m (Decline _) e is = absurd (cc)
 names_one n m (Reverse _) e is = absurd (cc)
@@ -104,6 +106,29 @@ module _ (t : House) (l : List Record) (r : Record) (replayed : first_refused t 
     | inl same ↦ takes k ∙ (if_here k r.number None (place_of g k) same ∙ (sym (place_gone r.number l) ∙ ap (place_in (without l r.number)) (sym same)))
     | inr other ↦ takes k ∙ (if_there k r.number None (place_of g k) other ∙ (filed.placed k ∙ sym (place_left r.number k l (λ e. other (sym e)))))
   ]
+
+  -- ---- an Agree or a Raise, which has no place in the trees
+
+  module _ (trades : is_trade r.command ≡ false) (unnamed : (n : EntryPart) → names n r.command ≡ false) (placeless : place_of g r.number ≡ None) where
+    shown_alone : (k : ℕ) (o : Option Rose) → tree_of g k ≡ o → IfSome o (IsTreeOf (without l r.number) k)
+    shown_alone k None e = tt
+    shown_alone k (Some tree) e =
+        shown_still t l r replayed rises among free k tree (no_tree k trades (sym (filed.live k) ∙ ap is_some e)) (λ m is. let z : true ≡ false = sym is ∙ unnamed m in absurd (cc)) (tree_shown filed k tree e)
+
+    takes_nothing : Takes g g r.number
+    takes_nothing k = elim (by-cases k r.number) [
+      | inl same ↦ ap (place_of g) same ∙ (placeless ∙ sym (if_here k r.number None (place_of g k) same))
+      | inr other ↦ sym (if_there k r.number None (place_of g k) other)
+    ]
+
+    -- the trees are those of the others
+    pub left_alone : IsFiled (without l r.number) g
+    left_alone = record {
+      live = λ k. filed.live k ∙ sym (left_live k trades);
+      shown = λ k. shown_alone k (tree_of g k) refl;
+      whole = λ m x e. filed.whole m x ((within t l r replayed rises among free).nodes m x e);
+      placed = left_placed g takes_nothing;
+    }
 
   -- ---- a Split or a decision, taken back at its node
 

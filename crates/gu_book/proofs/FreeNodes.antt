@@ -2,7 +2,7 @@
 use Rattle.std.proofs.Common.{◌≡◌, ◌≢◌, ℕ, ◌<◌, ◌≤◌, Bool, true, false, ◌&&◌, ◌||◌, List, [], ◌∷◌, length, refl, sym, ◌∙◌, ap, subst, arith, cond, Option, All, Contains, IsTrue, ◌⊎◌, inl, inr}
 use Rattle.std.specs.Prelude.{is_none, Some, None, find, ◌==◌, is_some, option_and_then, option_map, IsSomeAnd}
 use Rattle.std.specs.List.{list_any}
-use Rattle.std.proofs.lemmas.Bool.{or_parts, or_cases}
+use Rattle.std.proofs.lemmas.Bool.{or_parts, or_cases, false_from_ne_true}
 use Rattle.std.proofs.lemmas.Bool.Decides.{Decides-eqb}
 use Rattle.std.proofs.lemmas.List.Elements.{All-nil, All-cons, All-head, All-tail, All-contains}
 use Rattle.std.proofs.lemmas.Option.{same_Some}
@@ -12,7 +12,7 @@ use Rattle.gu_base.specs.History.{is_change}
 use Rattle.gu_base.specs.Nodes.{node_of, nodes_of, same_name, split_of, decision_of, splits, decides, is_given, parent}
 use Rattle.gu_base.specs.Rows.{state_of, state_after}
 use Rattle.gu_base.specs.declared.command.Command.{Command}
-use Rattle.gu_base.specs.declared.command.Command.TheVariants.{Trade, Split, Claim, Refuse, Cancel, Initiate, Decline, Reverse}
+use Rattle.gu_base.specs.declared.command.Command.TheVariants.{Trade, Split, Claim, Refuse, Cancel, Agree, Raise, Initiate, Decline, Reverse}
 use Rattle.gu_base.specs.declared.entry.Record.{Record}
 use Rattle.gu_base.specs.declared.node.Kind.{Kind}
 use Rattle.gu_base.specs.declared.node.Kind.TheVariants.{Root, Own, Given}
@@ -55,6 +55,8 @@ names_it n (Claim m _) e = ap (λ k. same_name k n) (same_Some m n e) ∙ name_s
 names_it n (Refuse m) e = ap (λ k. same_name k n) (same_Some m n e) ∙ name_same n
 names_it n (Cancel m) e = ap (λ k. same_name k n) (same_Some m n e) ∙ name_same n
 names_it n (Trade _ _ _ _ _) e = absurd (cc)
+names_it n (Agree _ _ _ _) e = absurd (cc)
+names_it n (Raise _ _) e = absurd (cc)
 names_it n (Initiate _) e = absurd (cc)
 names_it n (Decline _) e = absurd (cc)
 names_it n (Reverse _) e = absurd (cc)
@@ -66,6 +68,8 @@ split_names n (Trade _ _ _ _ _) e = absurd e
 split_names n (Claim _ _) e = absurd e
 split_names n (Refuse _) e = absurd e
 split_names n (Cancel _) e = absurd e
+split_names n (Agree _ _ _ _) e = absurd e
+split_names n (Raise _ _) e = absurd e
 split_names n (Initiate _) e = absurd e
 split_names n (Decline _) e = absurd e
 split_names n (Reverse _) e = absurd e
@@ -77,6 +81,8 @@ under_split n k by (Trade _ _ _ _ _) e is = absurd is
 under_split n k by (Claim _ _) e is = absurd is
 under_split n k by (Refuse _) e is = absurd is
 under_split n k by (Cancel _) e is = absurd is
+under_split n k by (Agree _ _ _ _) e is = absurd is
+under_split n k by (Raise _ _) e is = absurd is
 under_split n k by (Initiate _) e is = absurd is
 under_split n k by (Decline _) e is = absurd is
 under_split n k by (Reverse _) e is = absurd is
@@ -99,6 +105,8 @@ claim_names n (Split _ _) e = absurd e
 claim_names n (Trade _ _ _ _ _) e = absurd e
 claim_names n (Refuse _) e = absurd e
 claim_names n (Cancel _) e = absurd e
+claim_names n (Agree _ _ _ _) e = absurd e
+claim_names n (Raise _ _) e = absurd e
 claim_names n (Initiate _) e = absurd e
 claim_names n (Decline _) e = absurd e
 claim_names n (Reverse _) e = absurd e
@@ -114,6 +122,8 @@ turned_names n (Cancel m) e = (ap (λ k. Some k) e, ap (λ k. same_name k n) e �
 turned_names n (Claim _ _) e = absurd e
 turned_names n (Split _ _) e = absurd e
 turned_names n (Trade _ _ _ _ _) e = absurd e
+turned_names n (Agree _ _ _ _) e = absurd e
+turned_names n (Raise _ _) e = absurd e
 turned_names n (Initiate _) e = absurd e
 turned_names n (Decline _) e = absurd e
 turned_names n (Reverse _) e = absurd e
@@ -125,6 +135,8 @@ decides_node n (Refuse m) e = name_is m n e
 decides_node n (Cancel m) e = name_is m n e
 decides_node n (Split _ _) e = absurd (cc)
 decides_node n (Trade _ _ _ _ _) e = absurd (cc)
+decides_node n (Agree _ _ _ _) e = absurd (cc)
+decides_node n (Raise _ _) e = absurd (cc)
 decides_node n (Initiate _) e = absurd (cc)
 decides_node n (Decline _) e = absurd (cc)
 decides_node n (Reverse _) e = absurd (cc)
@@ -136,6 +148,8 @@ under_decision n k by (Refuse m) e is = ap (λ a. splits a e) (name_is m n is)
 under_decision n k by (Cancel m) e is = ap (λ a. splits a e) (name_is m n is)
 under_decision n k by (Split _ _) e is = absurd (cc)
 under_decision n k by (Trade _ _ _ _ _) e is = absurd (cc)
+under_decision n k by (Agree _ _ _ _) e is = absurd (cc)
+under_decision n k by (Raise _ _) e is = absurd (cc)
 under_decision n k by (Initiate _) e is = absurd (cc)
 under_decision n k by (Decline _) e is = absurd (cc)
 under_decision n k by (Reverse _) e is = absurd (cc)
@@ -147,6 +161,8 @@ under_trade k by (Split _ _) e is = absurd (cc)
 under_trade k by (Claim _ _) e is = absurd (cc)
 under_trade k by (Refuse _) e is = absurd (cc)
 under_trade k by (Cancel _) e is = absurd (cc)
+under_trade k by (Agree _ _ _ _) e is = absurd (cc)
+under_trade k by (Raise _ _) e is = absurd (cc)
 under_trade k by (Initiate _) e is = absurd (cc)
 under_trade k by (Decline _) e is = absurd (cc)
 under_trade k by (Reverse _) e is = absurd (cc)
@@ -168,6 +184,8 @@ no_root n k trade by (Trade _ _ _ _ _) is = absurd is
 no_root n k trade by (Claim _ _) is = absurd is
 no_root n k trade by (Refuse _) is = absurd is
 no_root n k trade by (Cancel _) is = absurd is
+no_root n k trade by (Agree _ _ _ _) is = absurd is
+no_root n k trade by (Raise _ _) is = absurd is
 no_root n k trade by (Initiate _) is = absurd is
 no_root n k trade by (Decline _) is = absurd is
 no_root n k trade by (Reverse _) is = absurd is
@@ -179,19 +197,11 @@ placed_by k (Split a ps) m e = inr (names_it m (Split a ps) e)
 placed_by k (Claim a account) m e = inr (names_it m (Claim a account) e)
 placed_by k (Refuse a) m e = inr (names_it m (Refuse a) e)
 placed_by k (Cancel a) m e = inr (names_it m (Cancel a) e)
+placed_by k (Agree _ _ _ _) m e = absurd (cc)
+placed_by k (Raise _ _) m e = absurd (cc)
 placed_by k (Initiate _) m e = absurd (cc)
 placed_by k (Decline _) m e = absurd (cc)
 placed_by k (Reverse _) m e = absurd (cc)
-
-no_place : (k : ℕ) (c : Command) → is_change c ≡ true → named_place k c ≡ None → ⊥
-no_place k (Trade _ _ _ _ _) change e = cc
-no_place k (Split _ _) change e = cc
-no_place k (Claim _ _) change e = cc
-no_place k (Refuse _) change e = cc
-no_place k (Cancel _) change e = cc
-no_place k (Initiate _) change e = cc
-no_place k (Decline _) change e = cc
-no_place k (Reverse _) change e = cc
 
 -- a change of the list with its place
 record IsPlacedBy (l : List Record) (k : ℕ) (m : EntryPart) : Type 0 where
@@ -278,17 +288,15 @@ module _ {t : House} {l : List Record} {r : Record} {g : Grove} (u : IsFree t l 
 
   -- nothing stands on it
   unnamed : (e : Record) → Contains l e → stands_under r e ≡ false
-  unnamed = subst (IsLeastUnder l r) u.free (standing_is_least t l r (rises_later 0 1 l (omega arith) u.rises) u.replayed u.among)
+  unnamed e there =
+      let least = subst (IsLeastUnder t l r) u.free (standing_is_least t l r (rises_later 0 1 l (omega arith) u.rises) u.replayed u.among) in
+      false_from_ne_true (stands_under r e) (λ yes. least e there (inl yes))
 
   -- its place is the node that it made or named
   own_place : place_of g r.number ≡ named_place r.number r.command
   own_place =
       u.filed.placed r.number
       ∙ ap (option_and_then (λ (d : Record). named_place d.number d.command)) (found_once (λ (d : Record). d.number == r.number) l r u.among ((Decides-eqb r.number r.number).1 refl) (numbers r.number))
-
-  -- a change has a place
-  pub has_place : is_change r.command ≡ true → place_of g r.number ≡ None → ⊥
-  has_place change none = no_place r.number r.command change (sym own_place ∙ none)
 
   pub its_spot : (trade : ℕ) (p : List ℕ) (n : EntryPart) → named_node r.command ≡ Some n → IsSomeAnd (place_of g r.number) (λ m. IsPlace g m trade p) → Spot l g trade p n
   its_spot trade p n is at =

@@ -8,7 +8,7 @@ use Rattle.gu_base.specs.Standing.{standing_on}
 use Rattle.gu_base.specs.Consents.{parties_of, consents_of, is_among, missing, consents_left}
 use Rattle.gu_base.specs.Answers.{Call, answer_to, answer_by, accepted_or, entry_of, reversal_of, on_change, initiate_rest, decline_rest, reverse_rest, command_refusal, after, after_by, is_empty, is_same_id, is_same_call, status_of, is_accepted}
 use Rattle.gu_base.specs.declared.command.Command.{Command}
-use Rattle.gu_base.specs.declared.command.Command.TheVariants.{Trade, Split, Claim, Refuse, Cancel, Initiate, Decline, Reverse}
+use Rattle.gu_base.specs.declared.command.Command.TheVariants.{Trade, Split, Claim, Refuse, Cancel, Agree, Raise, Initiate, Decline, Reverse}
 use Rattle.gu_base.specs.declared.entry.Answer.{Answer}
 use Rattle.gu_base.specs.declared.entry.Answer.TheVariants.{Accepted, Repeated, Refused}
 use Rattle.gu_base.specs.declared.entry.Entry.{Entry}
@@ -101,6 +101,8 @@ module _ (t : House) (h : List Entry) (given : ℕ → List (List ℕ)) (left : 
   refusal_split by (Claim n a) = first_self (refusal_of t (live h) by (Claim n a))
   refusal_split by (Refuse n) = first_self (refusal_of t (live h) by (Refuse n))
   refusal_split by (Cancel n) = first_self (refusal_of t (live h) by (Cancel n))
+  refusal_split by (Agree g k rate limit) = first_self (refusal_of t (live h) by (Agree g k rate limit))
+  refusal_split by (Raise g lots) = first_self (refusal_of t (live h) by (Raise g lots))
   refusal_split by (Initiate k) =
       ap (λ o. first (unless (knows_firm t by) UnknownFirm ∷ o ∷ []))
       (change_same by (initiate_rest h by) (own_of t h given by (Initiate k)) (λ r unnamed. ap (λ cs. unless (not (is_among by cs)) AlreadyConsented) (given_open r.number unnamed)) (entry_of h k))

@@ -6,7 +6,7 @@ use Rattle.gu_base.specs.House.{House}
 use Rattle.gu_base.specs.Nodes.{decides}
 use Rattle.gu_base.specs.Standing.{without}
 use Rattle.gu_base.specs.declared.command.Command.{Command}
-use Rattle.gu_base.specs.declared.command.Command.TheVariants.{Trade, Split, Claim, Refuse, Cancel, Initiate, Decline, Reverse}
+use Rattle.gu_base.specs.declared.command.Command.TheVariants.{Trade, Split, Claim, Refuse, Cancel, Agree, Raise, Initiate, Decline, Reverse}
 use Rattle.gu_base.specs.declared.entry.Record.{Record}
 use Rattle.gu_base.specs.declared.node.Place.{Place}
 use Rattle.gu_depend.specs.Under.{names}
@@ -34,6 +34,8 @@ unnamed_trade (Split _ _) is n = absurd (cc)
 unnamed_trade (Claim _ _) is n = absurd (cc)
 unnamed_trade (Refuse _) is n = absurd (cc)
 unnamed_trade (Cancel _) is n = absurd (cc)
+unnamed_trade (Agree _ _ _ _) is n = absurd (cc)
+unnamed_trade (Raise _ _) is n = absurd (cc)
 unnamed_trade (Initiate _) is n = absurd (cc)
 unnamed_trade (Decline _) is n = absurd (cc)
 unnamed_trade (Reverse _) is n = absurd (cc)

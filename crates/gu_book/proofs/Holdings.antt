@@ -21,7 +21,7 @@ use Rattle.gu_base.specs.SamePartsLaws.{number_same}
 use Rattle.gu_base.specs.declared.command.Part.{Part}
 use Rattle.gu_base.specs.declared.command.Side.{Side}
 use Rattle.gu_base.specs.declared.command.Command.{Command}
-use Rattle.gu_base.specs.declared.command.Command.TheVariants.{Trade, Split, Claim, Refuse, Cancel, Initiate, Decline, Reverse}
+use Rattle.gu_base.specs.declared.command.Command.TheVariants.{Trade, Split, Claim, Refuse, Cancel, Agree, Raise, Initiate, Decline, Reverse}
 use Rattle.gu_base.specs.declared.entry.Record.{Record}
 use Rattle.gu_base.specs.declared.node.Kind.{Kind}
 use Rattle.gu_base.specs.declared.node.Kind.TheVariants.{Root, Own, Given}
@@ -86,6 +86,8 @@ told_by instrument side (Split _ _) = refl
 told_by instrument side (Claim _ _) = refl
 told_by instrument side (Refuse _) = refl
 told_by instrument side (Cancel _) = refl
+told_by instrument side (Agree _ _ _ _) = refl
+told_by instrument side (Raise _ _) = refl
 told_by instrument side (Initiate _) = refl
 told_by instrument side (Decline _) = refl
 told_by instrument side (Reverse _) = refl
@@ -190,6 +192,8 @@ free_as t l by (Trade _ _ _ _ _) n x s is found = absurd (cc)
 free_as t l by (Claim _ _) n x s is found = absurd (cc)
 free_as t l by (Refuse _) n x s is found = absurd (cc)
 free_as t l by (Cancel _) n x s is found = absurd (cc)
+free_as t l by (Agree _ _ _ _) n x s is found = absurd (cc)
+free_as t l by (Raise _ _) n x s is found = absurd (cc)
 free_as t l by (Initiate _) n x s is found = absurd (cc)
 free_as t l by (Decline _) n x s is found = absurd (cc)
 free_as t l by (Reverse _) n x s is found = absurd (cc)
@@ -535,6 +539,8 @@ balances t l k by id (Cancel m) status c at i s =
     let there = at_node_none (cancel_row l by) (node_of l m) c.last.accepted in
     let passes = decision_passes l there.0 (is_giver by there.0.kind) there.1.1 in
     stays_balanced at i s l (record { number = k; firm = by; id = id; command = Cancel m; status = status }) refl refl refl (back_balances c m there.0 there.1.0 at i s (back_same c m there.0 there.1.0 passes.0 passes.1 (name_same m) refl refl at i s))
+balances t l k by id (Agree giver taker rate limit) status c at i s = nothing_balances at i s l (record { number = k; firm = by; id = id; command = Agree giver taker rate limit; status = status }) refl refl refl (λ f. none_kept f (nodes l))
+balances t l k by id (Raise giver lots) status c at i s = nothing_balances at i s l (record { number = k; firm = by; id = id; command = Raise giver lots; status = status }) refl refl refl (λ f. none_kept f (nodes l))
 balances t l k by id (Initiate e) status c at i s = nothing_balances at i s l (record { number = k; firm = by; id = id; command = Initiate e; status = status }) refl refl refl (λ f. none_kept f (nodes l))
 balances t l k by id (Decline e) status c at i s = nothing_balances at i s l (record { number = k; firm = by; id = id; command = Decline e; status = status }) refl refl refl (λ f. none_kept f (nodes l))
 balances t l k by id (Reverse e) status c at i s = nothing_balances at i s l (record { number = k; firm = by; id = id; command = Reverse e; status = status }) refl refl refl (λ f. none_kept f (nodes l))

@@ -1,5 +1,5 @@
 -- One more accepted change leaves true what a book keeps.
-use Rattle.std.proofs.Common.{◌≡◌, ℕ, ◌+◌, ◌≤◌, true, false, ◌&&◌, ◌||◌, List, [], ◌∷◌, ◌++◌, length, refl, sym, ◌∙◌, ap, subst, arith, cond, append-nil, append_assoc, length-append}
+use Rattle.std.proofs.Common.{◌≡◌, ℕ, ◌+◌, ◌<◌, ◌≤◌, true, false, ◌&&◌, ◌||◌, List, [], ◌∷◌, ◌++◌, length, refl, sym, ◌∙◌, ap, subst, arith, cond, append-nil, append_assoc, length-append}
 use Rattle.std.specs.Prelude.{None, find, bytes_eq, ◌==◌}
 use Rattle.std.specs.List.{list_any, IsDistinct}
 use Rattle.std.specs.Cmp.{IsEquivalence}
@@ -14,7 +14,7 @@ use Rattle.gu_base.specs.Standing.{without}
 use Rattle.gu_base.specs.Answers.{answer_to, command_refusal, entry_of, reversal_of, on_change, initiate_rest, is_same_id}
 use Rattle.gu_base.specs.Runs.{call_of, IsRunFrom}
 use Rattle.gu_base.specs.declared.command.Command.{Command}
-use Rattle.gu_base.specs.declared.command.Command.TheVariants.{Initiate, Decline, Reverse}
+use Rattle.gu_base.specs.declared.command.Command.TheVariants.{Agree, Raise, Initiate, Decline, Reverse}
 use Rattle.gu_base.specs.declared.entry.Answer.TheVariants.{Accepted}
 use Rattle.gu_base.specs.declared.entry.Entry.{Entry}
 use Rattle.gu_base.specs.declared.entry.Record.{Record}
@@ -102,8 +102,18 @@ module _ {t : House} {h : List Entry} {ts : Grove} {cs : Consents} (kept : IsKep
       }
 
   -- what stays as it was is no later than the history was
-  no_later : (us : Grove) → last_place us ≤ length h → last_place us ≤ n
+  pub no_later : (us : Grove) → last_place us ≤ length h → last_place us ≤ n
   no_later us placed = let number = shown.number in omega (arith, number, placed)
+
+  -- its number is above all before it, and none is above it
+  pub above_all : (m : ℕ) → m ≤ length h → m < n
+  above_all m low = let number = shown.number in omega (arith, number, low)
+
+  pub none_above : (m : ℕ) → m ≤ n → m ≤ length (h ++ e ∷ [])
+  none_above m low = let number = shown.number in omega (arith, length-append h (e ∷ []), number, low)
+
+  pub still_before : (m : ℕ) → m ≤ length h → m ≤ length (h ++ e ∷ [])
+  still_before m low = omega (arith, length-append h (e ∷ []), low)
 
   -- ---- a change
 

@@ -5,6 +5,9 @@ pub mod Within
 pub mod Refused
 pub mod Keeps
 pub mod Charging
+mod Dealing
+mod TermsKept
+mod Opening
 pub mod HoldingRows
 pub mod Holdings
 pub mod Standings

@@ -9,7 +9,7 @@ use Rattle.gu_base.specs.Refusals.{first, refusal_of, refusal_of_part}
 use Rattle.gu_base.specs.Standing.{first_refused, standing_on, without}
 use Rattle.gu_base.specs.declared.command.Part.{Part}
 use Rattle.gu_base.specs.declared.command.Command.{Command}
-use Rattle.gu_base.specs.declared.command.Command.TheVariants.{Trade, Split, Claim, Refuse, Cancel, Initiate, Decline, Reverse}
+use Rattle.gu_base.specs.declared.command.Command.TheVariants.{Trade, Split, Claim, Refuse, Cancel, Agree, Raise, Initiate, Decline, Reverse}
 use Rattle.gu_base.specs.declared.entry.Record.{Record}
 use Rattle.gu_base.specs.declared.node.Node.{Node}
 use Rattle.gu_positions.specs.Rows.{PositionRows, lots_in, is_key}
@@ -89,6 +89,8 @@ module _ (t : House) (l : List Record) (r : Record) (replayed : first_refused t 
   back_as (Claim n a) e o is = all_back r.firm (Claim n a) o refl refl
   back_as (Refuse n) e o is = all_back r.firm (Refuse n) o refl refl
   back_as (Cancel n) e o is = all_back r.firm (Cancel n) o refl refl
+  back_as (Agree a b c d) e o is = all_back r.firm (Agree a b c d) o refl refl
+  back_as (Raise a n) e o is = all_back r.firm (Raise a n) o refl refl
   back_as (Initiate k) e o is = all_back r.firm (Initiate k) o refl refl
   back_as (Decline k) e o is = all_back r.firm (Decline k) o refl refl
   back_as (Reverse k) e o is = all_back r.firm (Reverse k) o refl refl
@@ -106,6 +108,8 @@ module _ (t : House) (l : List Record) (r : Record) (replayed : first_refused t 
   few_as all (Claim _ _) e = tt
   few_as all (Refuse _) e = tt
   few_as all (Cancel _) e = tt
+  few_as all (Agree _ _ _ _) e = tt
+  few_as all (Raise _ _) e = tt
   few_as all (Initiate _) e = tt
   few_as all (Decline _) e = tt
   few_as all (Reverse _) e = tt

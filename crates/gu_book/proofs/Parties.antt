@@ -9,7 +9,7 @@ use Rattle.gu_base.specs.Nodes.{node_of, nodes_of}
 use Rattle.gu_base.specs.Consents.{parties_of, of_node, taker_and_giver, giver_alone}
 use Rattle.gu_base.specs.declared.command.Part.{Part}
 use Rattle.gu_base.specs.declared.command.Command.{Command}
-use Rattle.gu_base.specs.declared.command.Command.TheVariants.{Trade, Split, Claim, Refuse, Cancel, Initiate, Decline, Reverse}
+use Rattle.gu_base.specs.declared.command.Command.TheVariants.{Trade, Split, Claim, Refuse, Cancel, Agree, Raise, Initiate, Decline, Reverse}
 use Rattle.gu_base.specs.declared.entry.Record.{Record}
 use Rattle.gu_base.specs.declared.node.Kind.{Kind}
 use Rattle.gu_base.specs.declared.node.Kind.TheVariants.{Root, Own, Given}
@@ -44,6 +44,8 @@ name_made p k by (Split m ps) h named =
 name_made p k by (Claim _ _) h named = All-nil (λ (x : Node). KindNames p x.kind)
 name_made p k by (Refuse _) h named = All-nil (λ (x : Node). KindNames p x.kind)
 name_made p k by (Cancel _) h named = All-nil (λ (x : Node). KindNames p x.kind)
+name_made p k by (Agree _ _ _ _) h named = All-nil (λ (x : Node). KindNames p x.kind)
+name_made p k by (Raise _ _) h named = All-nil (λ (x : Node). KindNames p x.kind)
 name_made p k by (Initiate _) h named = All-nil (λ (x : Node). KindNames p x.kind)
 name_made p k by (Decline _) h named = All-nil (λ (x : Node). KindNames p x.kind)
 name_made p k by (Reverse _) h named = All-nil (λ (x : Node). KindNames p x.kind)
@@ -84,6 +86,8 @@ parties_pass p t l by (Split n ps) house h named all = one p by h
 parties_pass p t l by (Claim n account) house h named all = node_passes p taker_and_giver (both_pass p) (node_of l n) (name_node p l n all)
 parties_pass p t l by (Refuse n) house h named all = node_passes p taker_and_giver (both_pass p) (node_of l n) (name_node p l n all)
 parties_pass p t l by (Cancel n) house h named all = node_passes p giver_alone (giver_passes p) (node_of l n) (name_node p l n all)
+parties_pass p t l by (Agree giver taker rate limit) house h named all = All-cons (λ f. p f ≡ true) t.house (giver ∷ taker ∷ []) house (two p giver taker named.0 named.1)
+parties_pass p t l by (Raise giver lots) house h named all = two p by giver h named
 parties_pass p t l by (Initiate _) house h named all = no_one p
 parties_pass p t l by (Decline _) house h named all = no_one p
 parties_pass p t l by (Reverse _) house h named all = no_one p

@@ -15,7 +15,7 @@ use Rattle.gu_base.specs.Refusals.{first, owns, refusal_of, refusal_of_part, spl
 use Rattle.gu_base.specs.declared.command.Part.{Part}
 use Rattle.gu_base.specs.declared.command.Side.{Side}
 use Rattle.gu_base.specs.declared.command.Command.{Command}
-use Rattle.gu_base.specs.declared.command.Command.TheVariants.{Trade, Split, Claim, Refuse, Cancel, Initiate, Decline, Reverse}
+use Rattle.gu_base.specs.declared.command.Command.TheVariants.{Trade, Split, Claim, Refuse, Cancel, Agree, Raise, Initiate, Decline, Reverse}
 use Rattle.gu_base.specs.declared.entry.Record.{Record}
 use Rattle.gu_base.specs.declared.node.Deal.{Deal}
 use Rattle.gu_base.specs.declared.node.Node.{Node}
@@ -154,6 +154,8 @@ deal_of (Split _ _) is = absurd (cc)
 deal_of (Claim _ _) is = absurd (cc)
 deal_of (Refuse _) is = absurd (cc)
 deal_of (Cancel _) is = absurd (cc)
+deal_of (Agree _ _ _ _) is = absurd (cc)
+deal_of (Raise _ _) is = absurd (cc)
 deal_of (Initiate _) is = absurd (cc)
 deal_of (Decline _) is = absurd (cc)
 deal_of (Reverse _) is = absurd (cc)

@@ -14,7 +14,7 @@ use Rattle.gu_base.specs.Positions.{position_of, stands_at, trades_in}
 use Rattle.gu_base.specs.declared.command.Part.{Part}
 use Rattle.gu_base.specs.declared.command.Side.{Side}
 use Rattle.gu_base.specs.declared.command.Command.{Command}
-use Rattle.gu_base.specs.declared.command.Command.TheVariants.{Trade, Split, Claim, Refuse, Cancel, Initiate, Decline, Reverse}
+use Rattle.gu_base.specs.declared.command.Command.TheVariants.{Trade, Split, Claim, Refuse, Cancel, Agree, Raise, Initiate, Decline, Reverse}
 use Rattle.gu_base.specs.declared.entry.Record.{Record}
 use Rattle.gu_base.specs.declared.node.Kind.TheVariants.{Root}
 use Rattle.gu_base.specs.declared.node.Node.{Node}
@@ -155,6 +155,8 @@ made_lots k by (Split m ps) h = let a = parts_lots k 1 m by ps in let b = few_lo
 made_lots k by (Claim _ _) h = omega arith
 made_lots k by (Refuse _) h = omega arith
 made_lots k by (Cancel _) h = omega arith
+made_lots k by (Agree _ _ _ _) h = omega arith
+made_lots k by (Raise _ _) h = omega arith
 made_lots k by (Initiate _) h = omega arith
 made_lots k by (Decline _) h = omega arith
 made_lots k by (Reverse _) h = omega arith
@@ -206,6 +208,8 @@ added_lots by (Claim m account) (Some whole) h small =
 added_lots by (Claim m account) None h small = omega arith
 added_lots by (Refuse _) o h small = omega arith
 added_lots by (Cancel _) o h small = omega arith
+added_lots by (Agree _ _ _ _) o h small = omega arith
+added_lots by (Raise _ _) o h small = omega arith
 added_lots by (Initiate _) o h small = omega arith
 added_lots by (Decline _) o h small = omega arith
 added_lots by (Reverse _) o h small = omega arith

@@ -19,7 +19,7 @@ use Rattle.gu_base.specs.Positions.{same_side}
 use Rattle.gu_base.specs.declared.command.Part.{Part}
 use Rattle.gu_base.specs.declared.command.Side.{Side}
 use Rattle.gu_base.specs.declared.command.Command.{Command}
-use Rattle.gu_base.specs.declared.command.Command.TheVariants.{Trade, Split, Claim, Refuse, Cancel, Initiate, Decline, Reverse}
+use Rattle.gu_base.specs.declared.command.Command.TheVariants.{Trade, Split, Claim, Refuse, Cancel, Agree, Raise, Initiate, Decline, Reverse}
 use Rattle.gu_base.specs.declared.entry.Record.{Record}
 use Rattle.gu_base.specs.Numbers.{EntryPart}
 use Rattle.gu_positions.specs.Rows.{PositionRows, lots_in, is_key}
@@ -51,6 +51,8 @@ costs_none t l (Cancel _) is = refl
 costs_none t l (Trade _ _ _ _ _) is = absurd (cc)
 costs_none t l (Split _ _) is = absurd (cc)
 costs_none t l (Claim _ _) is = absurd (cc)
+costs_none t l (Agree _ _ _ _) is = absurd (cc)
+costs_none t l (Raise _ _) is = absurd (cc)
 costs_none t l (Initiate _) is = absurd (cc)
 costs_none t l (Decline _) is = absurd (cc)
 costs_none t l (Reverse _) is = absurd (cc)
@@ -61,6 +63,8 @@ takes_none l (Cancel _) is = refl
 takes_none l (Trade _ _ _ _ _) is = absurd (cc)
 takes_none l (Split _ _) is = absurd (cc)
 takes_none l (Claim _ _) is = absurd (cc)
+takes_none l (Agree _ _ _ _) is = absurd (cc)
+takes_none l (Raise _ _) is = absurd (cc)
 takes_none l (Initiate _) is = absurd (cc)
 takes_none l (Decline _) is = absurd (cc)
 takes_none l (Reverse _) is = absurd (cc)
@@ -71,6 +75,8 @@ adds_none by (Cancel _) is = refl
 adds_none by (Trade _ _ _ _ _) is = absurd (cc)
 adds_none by (Split _ _) is = absurd (cc)
 adds_none by (Claim _ _) is = absurd (cc)
+adds_none by (Agree _ _ _ _) is = absurd (cc)
+adds_none by (Raise _ _) is = absurd (cc)
 adds_none by (Initiate _) is = absurd (cc)
 adds_none by (Decline _) is = absurd (cc)
 adds_none by (Reverse _) is = absurd (cc)
@@ -82,6 +88,8 @@ return_changes (Cancel _) is = refl
 return_changes (Trade _ _ _ _ _) is = refl
 return_changes (Split _ _) is = refl
 return_changes (Claim _ _) is = refl
+return_changes (Agree _ _ _ _) is = refl
+return_changes (Raise _ _) is = refl
 return_changes (Initiate _) is = absurd (cc)
 return_changes (Decline _) is = absurd (cc)
 return_changes (Reverse _) is = absurd (cc)
@@ -170,8 +178,8 @@ module _ {t : House} {l : List Record} {r : Record} {ts : Grove} (next : IsNext 
     claim_takes = holds ∙ sym (ap (taken_by l) claims ∙ ap (option_and_then (holding_of l)) there)
 
     -- what it costs
-    pub claim_costs : (o : Option Charge) → o ≡ charge_of_node t x → o ≡ charge_of t l r.command
-    claim_costs o is = is ∙ sym (ap (charge_of t l) claims ∙ ap (option_and_then (charge_of_node t)) there)
+    pub claim_costs : (o : Option Charge) → o ≡ charge_of_node t l x → o ≡ charge_of t l r.command
+    claim_costs o is = is ∙ sym (ap (charge_of t l) claims ∙ ap (option_and_then (charge_of_node t l)) there)
 
     -- the lots in the account of the claim
     abbrev pub claimed_lots : Holding

@@ -1,6 +1,6 @@
 -- A live change on which nothing stands can as well stand last: so the fees and positions without it are those with it, less what it moved.
-use Rattle.std.proofs.Common.{◌≡◌, ◌≢◌, ℕ, suc, ◌+◌, ◌*◌, ◌≤◌, true, not, ◌||◌, List, [], ◌∷◌, ◌++◌, length, refl, sym, ◌∙◌, ap, subst, arith, Option, All, Contains, cond, false, Bool}
-use Rattle.std.specs.Prelude.{Some, None, find, filter_map, sum_by, option_and_then, ◌==◌, IfSome}
+use Rattle.std.proofs.Common.{◌≡◌, ◌≢◌, ℕ, suc, ◌+◌, ◌*◌, ◌≤◌, true, not, ◌&&◌, ◌||◌, List, [], ◌∷◌, ◌++◌, length, refl, sym, ◌∙◌, ap, subst, arith, Option, All, Contains, IsPermutation, cond, false, Bool}
+use Rattle.std.specs.Prelude.{Some, None, find, filter, filter_map, sum_by, option_and_then, bytes_eq, ◌==◌, IfSome}
 use Rattle.std.specs.List.{cons_option}
 use Rattle.std.proofs.Math.Nat.{mul-le-mul_right}
 use Rattle.std.proofs.lemmas.Bool.Decides.{Decides-eqb}
@@ -11,13 +11,12 @@ use Rattle.gu_base.specs.Limits.{most_lots, highest_rate}
 use Rattle.gu_base.specs.Fees.{charges, charge_of}
 use Rattle.gu_base.specs.History.{RisesFrom}
 use Rattle.gu_base.specs.Nodes.{deal_in, node_of, split_of, splits, decides, decision_of, claimed_account, is_given, parent}
-use Rattle.gu_base.specs.Orders.{IsLawfulOrder}
 use Rattle.gu_base.specs.Positions.{position_of}
 use Rattle.gu_base.specs.Places.{line_within, line_of, place_along, place_of_kind, place_of, root_along, root_of}
 use Rattle.gu_base.specs.Refusals.{refusal_of, row, split_row, claim_row}
 use Rattle.gu_base.specs.Standing.{first_refused, standing_on, without}
 use Rattle.gu_base.specs.declared.command.Command.{Command}
-use Rattle.gu_base.specs.declared.command.Command.TheVariants.{Trade, Split, Claim, Refuse, Cancel, Initiate, Decline, Reverse}
+use Rattle.gu_base.specs.declared.command.Command.TheVariants.{Trade, Split, Claim, Refuse, Cancel, Agree, Raise, Initiate, Decline, Reverse}
 use Rattle.gu_base.specs.declared.command.Part.{Part}
 use Rattle.gu_base.specs.declared.command.Side.{Side}
 use Rattle.gu_base.specs.declared.entry.Record.{Record}
@@ -31,16 +30,18 @@ use Rattle.gu_base.proofs.LegalLaws.{none_refused}
 use Rattle.gu_base.proofs.Searches.{found_in, find_passes}
 use Rattle.gu_depend.specs.Same.{IsSameState}
 use Rattle.gu_depend.specs.Under.{names}
-use Rattle.gu_depend.proofs.Charges.{charge_same}
+use Rattle.gu_depend.proofs.Cuts.{cut_at, moved_to_end}
 use Rattle.gu_depend.proofs.Finds.{count_permuted, found_once, none_before}
 use Rattle.gu_depend.proofs.Grown.{Within, NamesThere, Grown, SplitsDecided, line_of_grown, place_same, above}
-use Rattle.gu_depend.proofs.LastMoves.{IsBefore, is_before, moves_its_own, split_kept, root_found}
+use Rattle.gu_depend.proofs.LastMoves.{IsBefore, is_before, moves_its_own, split_kept, root_found, charge_kept}
+use Rattle.gu_depend.proofs.LastMoves as before_last
+use Rattle.gu_depend.proofs.StandsLast.{gone}
 use Rattle.gu_depend.proofs.NamedOnce.{named_once}
 use Rattle.gu_depend.proofs.Names.{maker, made_number}
-use Rattle.gu_depend.proofs.Replay.{NumbersOnce, number_once, order_replays, SameFinds, same_finds}
-use Rattle.gu_depend.proofs.Settled.{facts, accepted_there}
+use Rattle.gu_depend.proofs.Replay.{NumbersOnce, number_once, SameFinds, same_finds}
+use Rattle.gu_depend.proofs.Settled.{facts}
 use Rattle.gu_depend.proofs.StandsUnder.{rises_distinct, can_stand_last}
-use Rattle.gu_depend.proofs.State.{state_same}
+use Rattle.gu_depend.proofs.State.{SameDeals, charge_same}
 use Rattle.gu_fees.specs.Rows.{FeeRows}
 use Rattle.gu_fees.specs.Sums.{AreSumsOf}
 use Rattle.gu_positions.specs.Rows.{PositionRows}
@@ -60,6 +61,7 @@ use Rattle.gu_book.specs.declared.plain.holdings.Holding.{Holding}
 use Rattle.gu_base.specs.declared.node.Deal.{Deal}
 use Rattle.gu_book.proofs.Holdings.{IsCounted, key_at, decision_kept, given_parent}
 use Rattle.gu_book.proofs.Charging.{is_charged}
+use Rattle.gu_book.proofs.Dealing.{uses_charged}
 use Rattle.gu_book.proofs.HoldingRows.{is_own_key}
 use Rattle.gu_book.proofs.Orders.{InOrder, in_order}
 use Rattle.gu_book.proofs.Placed.{node_stands}
@@ -124,20 +126,28 @@ module _ (t : House) (l : List Record) (r : Record) (replayed : first_refused t 
   once : NumbersOnce l
   once = number_once l (rises_distinct 1 l rises)
 
-  order : IsLawfulOrder l last
-  order = can_stand_last t l r once replayed among free
+  -- the same changes, in another order
+  same : IsPermutation l last
+  same =
+      let c = cut_at l r among in
+      let gone_is = gone t c.before r c.behind (subst NumbersOnce c.is once) (subst (λ (z : List Record). first_refused t [] z ≡ None) c.is replayed) in
+      subst (λ (z : List Record). IsPermutation z (without z r.number ++ r ∷ [])) (sym c.is)
+      (subst (λ (z : List Record). IsPermutation (c.before ++ r ∷ c.behind) (z ++ r ∷ [])) (sym gone_is) (moved_to_end c.before r c.behind))
 
   legal : first_refused t [] last ≡ None
-  legal = order_replays t l last once replayed order
+  legal = (can_stand_last t l r once replayed among free).0
 
   last_once : NumbersOnce last
-  last_once n = let a = count_permuted (λ (d : Record). d.number == n) l last order.same in let b = once n in omega (arith, a, b)
+  last_once n = let a = count_permuted (λ (d : Record). d.number == n) l last same in let b = once n in omega (arith, a, b)
 
   state : IsSameState t l last
-  state = state_same t l last order.same once (named_once t l replayed)
+  state = (can_stand_last t l r once replayed among free).1
 
   finds : SameFinds l last
-  finds = same_finds l last order.same once (named_once t l replayed)
+  finds = same_finds l last same once (named_once t l replayed)
+
+  deals : SameDeals t l last
+  deals = record { terms = state.terms; limits = state.limits; used = state.used }
 
   before : IsBefore t others r
   before = is_before t others r last_once legal
@@ -186,17 +196,23 @@ module _ (t : House) (l : List Record) (r : Record) (replayed : first_refused t 
     decisions = λ n d e. sym (finds.decisions n) ∙ before.grown.within.decisions n d e;
   }
 
-  little : (ds : List Record) → All (NamesThere others) ds → All (CostsLittle t l) ds → All (CostsLittle t others) ds
-  little [] there each = All-nil (CostsLittle t others)
-  little (d ∷ ds) there each =
-      let named = All-head (NamesThere others) d ds there in
-      All-cons (CostsLittle t others) d ds
-      (λ c e. All-head (CostsLittle t l) d ds each c (sym (charge_same t l others within d.command named) ∙ e))
-      (little ds (All-tail (NamesThere others) d ds there) (All-tail (CostsLittle t l) d ds each))
+  -- what another change costs can be read off either list
+  other_charge : (d : Record) → Contains others d → charge_of t others d.command ≡ charge_of t l d.command
+  other_charge d there = charge_kept before d there ∙ charge_same t l last finds deals d.command
 
-  -- what it costs can be read off either list
+  little : All (CostsLittle t l) others → All (CostsLittle t others) others
+  little each =
+      All-weaker (Contains others) (CostsLittle t others)
+      (λ d there c e. All-contains (CostsLittle t l) others d each there c (sym (other_charge d there) ∙ e)) others (All-contains_itself others)
+
+  -- and what it costs itself
   pub own_charge : charge_of t l r.command ≡ charge_of t others r.command
-  own_charge = sym (charge_same t l others within r.command (accepted_there t others r.firm r.command before.accepted))
+  own_charge = sym (before_last.own_charge before ∙ charge_same t l last finds deals r.command)
+
+  -- a change among the others uses what it used
+  same_uses : (giver taker : List ℕ)
+      → sum_by (λ c. c.lots) (filter (λ c. bytes_eq c.giver giver && bytes_eq c.taker taker) (charges t l)) ≡ sum_by (λ c. c.lots) (filter (λ c. bytes_eq c.giver giver && bytes_eq c.taker taker) (charges t last))
+  same_uses giver taker = uses_charged t l replayed giver taker ∙ (sym (state.used giver taker) ∙ sym (uses_charged t last legal giver taker))
 
   -- the sums are those of the other changes' charges and its own
   charges_with : (fees : FeeRows) → AreFeesOf t l fees → AreSumsOf fees (charges t others ++ cons_option (charge_of t others r.command) [])
@@ -205,7 +221,7 @@ module _ (t : House) (l : List Record) (r : Record) (replayed : first_refused t 
       (record {
         paid = λ firm. are.sums.paid firm ∙ sym (state.paid firm);
         received = λ firm. are.sums.received firm ∙ sym (state.received firm);
-        used = λ giver taker. are.sums.used giver taker ∙ sym (state.used giver taker);
+        used = λ giver taker. are.sums.used giver taker ∙ same_uses giver taker;
       })
 
   -- and its own can be taken out of them
@@ -219,8 +235,7 @@ module _ (t : House) (l : List Record) (r : Record) (replayed : first_refused t 
   fees_without fees new are o is less = record {
     sums = less (charges t others) (subst (λ (o : Option Charge). AreSumsOf fees (charges t others ++ cons_option o [])) (sym is) (charges_with fees are));
     small = all_small (λ d. charge_of t others d.command) others
-        (little others before.grown.named
-        (All-filter (λ (d : Record). not (d.number == r.number)) (CostsLittle t l) l (each_small (λ d. charge_of t l d.command) l are.small)));
+        (little (All-filter (λ (d : Record). not (d.number == r.number)) (CostsLittle t l) l (each_small (λ d. charge_of t l d.command) l are.small)));
   }
 
   -- ---- what it took
@@ -305,6 +320,8 @@ module _ (t : House) (l : List Record) (r : Record) (replayed : first_refused t 
       by_command (Claim n account) e = claim_took n account e
       by_command (Refuse _) e = refl
       by_command (Cancel _) e = refl
+      by_command (Agree _ _ _ _) e = refl
+      by_command (Raise _ _) e = refl
       by_command (Initiate _) e = refl
       by_command (Decline _) e = refl
       by_command (Reverse _) e = refl

@@ -1,5 +1,5 @@
 -- How many nodes a call visits, from what was seen before it was kept and what it made.
-use Rattle.std.proofs.Common.{◌≡◌, ℕ, ◌+◌, ◌≤◌, true, List, length, refl, sym, ◌∙◌, ap, subst, arith, Option}
+use Rattle.std.proofs.Common.{◌≡◌, ℕ, ◌+◌, ◌≤◌, true, false, List, length, refl, sym, ◌∙◌, ap, subst, arith, Option}
 use Rattle.std.specs.Prelude.{Some, None, IsSome, IsSomeAnd, option_and_then, option_map, unwrap_or}
 use Rattle.gu_base.specs.Numbers.{EntryPart}
 use Rattle.gu_base.specs.House.{House}
@@ -10,7 +10,7 @@ use Rattle.gu_base.specs.Refusals.{refusal_of}
 use Rattle.gu_base.specs.Answers.{answer_to}
 use Rattle.gu_base.specs.Runs.{call_of}
 use Rattle.gu_base.specs.declared.command.Command.{Command}
-use Rattle.gu_base.specs.declared.command.Command.TheVariants.{Trade, Split, Claim, Refuse, Cancel, Initiate, Decline, Reverse}
+use Rattle.gu_base.specs.declared.command.Command.TheVariants.{Trade, Split, Claim, Refuse, Cancel, Agree, Raise, Initiate, Decline, Reverse}
 use Rattle.gu_base.specs.declared.entry.Answer.TheVariants.{Accepted}
 use Rattle.gu_base.specs.declared.entry.Entry.{Entry}
 use Rattle.gu_base.specs.declared.entry.Record.{Record}
@@ -20,7 +20,7 @@ use Rattle.gu_tree.specs.Grove.{Grove, place_of, IsPlace}
 use Rattle.gu_tree.specs.Shown.{named_node}
 use Rattle.gu_tree.specs.ShownAll.{named_place, place_in, change_of}
 use Rattle.gu_book.specs.Found.{AreTreesOf}
-use Rattle.gu_book.specs.Visits.{AreVisits, IsMet, depth_meant, parts_in, parts_named, nodes_made}
+use Rattle.gu_book.specs.Visits.{AreVisits, IsMet, depth_meant, parts_in, parts_named, entries_met, is_of_trees, changes_trees, nodes_made}
 use Rattle.gu_book.proofs.AllShown.{undone}
 use Rattle.gu_book.proofs.Filed.{spot}
 use Rattle.gu_book.proofs.Orders.{names_there, in_order}
@@ -42,20 +42,23 @@ change_met t h e n ok change m named =
     let x = names_there t (live h) e.firm e.command m (refusal_parts t (live h) e.firm e.command lawful).1 named in
     some_there (node_of (live h) m) x.0 x.1
 
-place_some : (k : ℕ) (c : Command) → is_change c ≡ true → IsSome (named_place k c)
+place_some : (k : ℕ) (c : Command) → is_of_trees c ≡ true → IsSome (named_place k c)
 place_some k (Trade _ _ _ _ _) h = refl
 place_some k (Split _ _) h = refl
 place_some k (Claim _ _) h = refl
 place_some k (Refuse _) h = refl
 place_some k (Cancel _) h = refl
+place_some k (Agree _ _ _ _) h = absurd (cc)
+place_some k (Raise _ _) h = absurd (cc)
 place_some k (Initiate _) h = absurd (cc)
 place_some k (Decline _) h = absurd (cc)
 place_some k (Reverse _) h = absurd (cc)
 
-pub reverse_met : (t : House) (h : List Entry) (e : Entry) (n k : ℕ) → answer_to t h (call_of e) ≡ Accepted n e.status → e.command ≡ Reverse k → IsSome (place_in (live h) k)
-reverse_met t h e n k ok same =
+reverse_met : (t : House) (h : List Entry) (e : Entry) (n k : ℕ) → answer_to t h (call_of e) ≡ Accepted n e.status → e.command ≡ Reverse k → changes_trees (live h) (Reverse k) ≡ true → IsSome (place_in (live h) k)
+reverse_met t h e n k ok same changes =
     let u = undone t h e n k ok same in
-    subst (λ (o : Option Record). IsSome (option_and_then (λ (r : Record). named_place r.number r.command) o)) (sym u.1.found) (place_some u.0.number u.0.command u.1.change)
+    let is : is_of_trees u.0.command ≡ true = sym (ap (λ (o : Option Record). unwrap_or (option_map (λ (r : Record). is_of_trees r.command) o) false) u.1.found) ∙ changes in
+    subst (λ (o : Option Record). IsSome (option_and_then (λ (r : Record). named_place r.number r.command) o)) (sym u.1.found) (place_some u.0.number u.0.command is)
 
 -- ---- what is counted
 
@@ -74,23 +77,26 @@ parts_of_named l k r found = ap (λ (o : Option Record). unwrap_or (option_map (
 
 -- a call that is kept visits what was seen, and what it made
 pub visits_kept : (t : House) (h : List Entry) (e : Entry) (n : ℕ) → answer_to t h (call_of e) ≡ Accepted n e.status
-    → (c : Command) → e.command ≡ c → (seen made : ℕ) → seen ≤ depth_meant (live h) c + parts_named (live h) c + 1
-    → (IsMet (live h) c → depth_meant (live h) c + parts_named (live h) c + 1 ≤ seen) → made ≡ nodes_made c → AreVisits (live h) c true (seen + made)
-visits_kept t h e n ok (Trade a b d s lots) same seen made most least is = record { most = omega (arith, most, is); least = λ _ _. omega (arith, is) }
-visits_kept t h e n ok (Split m ps) same seen made most least is =
+    → (c : Command) → e.command ≡ c → (by : List ℕ) (seen made : ℕ) → seen ≤ depth_meant (live h) c + parts_named (live h) c + entries_met (live h) by c + 1
+    → (IsMet (live h) c → depth_meant (live h) c + parts_named (live h) c + 1 ≤ seen) → made ≡ nodes_made c → AreVisits (live h) by c true (seen + made)
+visits_kept t h e n ok (Trade a b d s lots) same by seen made most least is = record { most = omega (arith, most, is); least = λ _ _. omega (arith, is) }
+visits_kept t h e n ok (Split m ps) same by seen made most least is =
     let met = least (change_met t h e n ok (ap is_change same) m (ap named_node same)) in
     record { most = omega (arith, most, is); least = λ _ _. omega (arith, met, is) }
-visits_kept t h e n ok (Claim m a) same seen made most least is =
+visits_kept t h e n ok (Claim m a) same by seen made most least is =
     let met = least (change_met t h e n ok (ap is_change same) m (ap named_node same)) in
     record { most = omega (arith, most, is); least = λ _ _. omega (arith, met, is) }
-visits_kept t h e n ok (Refuse m) same seen made most least is =
+visits_kept t h e n ok (Refuse m) same by seen made most least is =
     let met = least (change_met t h e n ok (ap is_change same) m (ap named_node same)) in
     record { most = omega (arith, most, is); least = λ _ _. omega (arith, met, is) }
-visits_kept t h e n ok (Cancel m) same seen made most least is =
+visits_kept t h e n ok (Cancel m) same by seen made most least is =
     let met = least (change_met t h e n ok (ap is_change same) m (ap named_node same)) in
     record { most = omega (arith, most, is); least = λ _ _. omega (arith, met, is) }
-visits_kept t h e n ok (Initiate k) same seen made most least is = record { most = omega (arith, most, is); least = λ _ z. absurd (cc) }
-visits_kept t h e n ok (Decline k) same seen made most least is = record { most = omega (arith, most, is); least = λ _ z. absurd (cc) }
-visits_kept t h e n ok (Reverse k) same seen made most least is =
-    let met = least (reverse_met t h e n k ok same) in
-    record { most = omega (arith, most, is); least = λ _ _. omega (arith, met, is) }
+visits_kept t h e n ok (Agree g k rate limit) same by seen made most least is = record { most = omega (arith, most, is); least = λ _ z. absurd (cc) }
+visits_kept t h e n ok (Raise g lots) same by seen made most least is = record { most = omega (arith, most, is); least = λ _ z. absurd (cc) }
+visits_kept t h e n ok (Initiate k) same by seen made most least is = record { most = omega (arith, most, is); least = λ _ z. absurd (cc) }
+visits_kept t h e n ok (Decline k) same by seen made most least is = record { most = omega (arith, most, is); least = λ _ z. absurd (cc) }
+visits_kept t h e n ok (Reverse k) same by seen made most least is = record {
+  most = omega (arith, most, is);
+  least = λ _ changes. let met = least (reverse_met t h e n k ok same changes) in omega (arith, met, is);
+}

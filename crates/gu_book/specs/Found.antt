@@ -6,7 +6,7 @@ use Rattle.gu_base.specs.History.{RisesFrom}
 use Rattle.gu_base.specs.Nodes.{node_of, split_of, decision_of}
 use Rattle.gu_base.specs.Places.{place_of, depth_of, root_of}
 use Rattle.gu_base.specs.Rows.{state_of}
-use Rattle.gu_base.specs.Standing.{IsLegal, first_refused, standing_on}
+use Rattle.gu_base.specs.Standing.{first_refused, standing_on}
 use Rattle.gu_base.specs.declared.command.Command.{Command}
 use Rattle.gu_base.specs.declared.command.Command.TheVariants.{Reverse}
 use Rattle.gu_base.specs.declared.entry.Record.{Record}
@@ -64,14 +64,13 @@ IsFoundThere g (Some n) None p = ⊥
 IsFoundThere g (Some n) (Some m) p = IsPlace g n m.found.trade p
 
 -- of the live change of this number: what was found of the node that it made or named, to which the path leads in whatever trees these changes have,
--- what is traded there, and what stands on the change
+-- and what is traded there
 pub record IsUndoneAs (l : List Record) (k : ℕ) (u : Undone) (p : List ℕ) : Type 0 where
   pub name : EntryPart
   pub place : place_in l k ≡ Some name
   pub found : IsFoundIn l name (Some u.found)
   pub there : (g : Grove) → IsFiled l g → IsPlace g name u.found.trade p
   pub deal : u.deal ≡ deal_of l u.found.trade
-  pub stands : (t : House) → IsLegal t l → u.standing ≡ standing_on t l k
 
 -- if there is one
 abbrev pub IsUndoneBy : List Record → ℕ → Option Undone → List ℕ → Type 0
@@ -83,6 +82,11 @@ abbrev pub IsUndoneIn : List Record → Command → Option Undone → List ℕ �
 IsUndoneIn l (Reverse k) o p = IsUndoneBy l k o p
 IsUndoneIn l c o p = o ≡ None
 
+-- the first change that stands on the one which a Reverse names
+abbrev pub IsStandingIn : House → List Record → Command → Option ℕ → Type 0
+IsStandingIn t l (Reverse k) o = o ≡ standing_on t l k
+IsStandingIn t l c o = o ≡ None
+
 -- something was found, and these trees have the node of the change of this number where the path leads
 abbrev pub IsUndoneThere : Grove → ℕ → Option Undone → List ℕ → Type 0
 IsUndoneThere g k None p = ⊥
@@ -92,4 +96,5 @@ IsUndoneThere g k (Some u) p = IsSomeAnd (place_kept g k) (λ n. IsPlace g n u.f
 pub record IsNothing (s : Sought) : Type 0 where
   pub named : s.named ≡ None
   pub undone : s.undone ≡ None
+  pub standing : s.standing ≡ None
   pub nodes : s.nodes ≡ 0

@@ -13,6 +13,8 @@ use Rattle.gu_book.specs.Filed.{IsFiled}
 use Rattle.gu_book.specs.Charging.{AreFeesOf}
 use Rattle.gu_book.specs.Holdings.{ArePositionsOf}
 use Rattle.gu_fees.specs.Rows.{FeeRows}
+use Rattle.gu_fees.specs.Terms.{TermsView, last_entry}
+use Rattle.gu_depend.specs.Terms.{AreTermsOf}
 use Rattle.gu_positions.specs.Rows.{PositionRows}
 use Rattle.gu_base.specs.Consents.{consents_left}
 use Rattle.gu_book.specs.Ids.{NoIdTwice}
@@ -40,9 +42,12 @@ pub record IsKept (house : House) (history : List Entry) (trees : Grove) (consen
   pub placed : last_place trees ≤ length history
   pub consented : (n : ℕ) → given consents n ≡ consents_left history n
 
--- all that a book keeps: the same, that its index is one of the history, and its fees and positions are those of the live changes
-pub record IsBook (house : House) (history : List Entry) (trees : Grove) (consents : Consents) (index : Index) (fees : FeeRows) (positions : PositionRows) : Type 0 where
+-- all that a book keeps: the same, that its index is one of the history, and its fees, positions and terms are those of the live changes; no
+-- entry of a giver and a taker is still to come
+pub record IsBook (house : House) (history : List Entry) (trees : Grove) (consents : Consents) (index : Index) (fees : FeeRows) (positions : PositionRows) (terms : TermsView) : Type 0 where
   pub kept : IsKept house history trees consents
   pub indexed : IsIndexOf index history
   pub charged : AreFeesOf house (live history) fees
   pub stands : ArePositionsOf (live history) positions
+  pub dealt : AreTermsOf house (live history) terms
+  pub dealt_before : last_entry terms ≤ length history

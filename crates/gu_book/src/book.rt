@@ -1,25 +1,27 @@
-//! The book: the house table, the history, and beside it a tree for each live trade, the consents, an index, the fees and the
-//! positions.
-ghost use Rattle.std.specs.Prelude.{true, vec_len, vec_capacity, ◌≡◌, ◌==◌, ◌≤◌, ◌<◌, ◌+◌, ◌^◌, ℕ, [], ◌∷◌, ◌++◌, length, map, option_map, IsTrue, IfOk, OnOk, OnErr, if◌then◌else◌};
+//! The book: the house table, the history, and beside it a tree for each live trade, the consents, an index, the fees, the positions and the
+//! terms.
+ghost use Rattle.std.specs.Prelude.{true, vec_len, vec_capacity, ◌≡◌, ◌==◌, ◌≤◌, ◌<◌, ◌+◌, ◌^◌, ℕ, List, [], ◌∷◌, ◌++◌, length, map, option_map, IsTrue, IfOk, IfErr, OnOk, OnErr, IsSome, IsSomeAnd, slice_get, if◌then◌else◌};
 ghost use Rattle.gu_base.specs.Limits.{most_entries};
 ghost use Rattle.gu_base.specs.Consents.{is_consenting};
 ghost use Rattle.gu_base.specs.History.{is_change, live};
 ghost use Rattle.gu_base.specs.Positions.{position_of};
-ghost use Rattle.gu_base.specs.Fees.{paid_by, received_by, used_of};
+ghost use Rattle.gu_base.specs.Fees.{paid_by, received_by};
+ghost use Rattle.gu_base.specs.Terms.{limit_of, used_of};
 ghost use Rattle.gu_base.specs.Nodes.{is_split};
 ghost use Rattle.gu_base.specs.Standing.{IsLegal};
 ghost use Rattle.gu_base.specs.Answers.{Call, answer_to, after, is_accepted};
 ghost use Rattle.gu_base.specs.declared.command.Side.TheVariants.{Buy, Sell};
 ghost use Rattle.gu_base.specs.declared.entry.Answer.TheVariants.{Accepted};
-ghost use Rattle.gu_base.specs.Runs.{IsRunFrom, call_of};
+ghost use Rattle.gu_base.specs.Runs.{IsRunFrom, call_of, opening_calls, opening_history};
 ghost use Rattle.gu_base.specs.declared.command.Command.TheVariants.{Initiate, Decline, Reverse};
 ghost use Rattle.gu_consent.specs.Given.{given};
 ghost use Rattle.gu_ids.specs.Chains.{IsHashOf};
 ghost use Rattle.gu_tree.specs.Shown.{shown, named_node};
+ghost use Rattle.gu_tree.specs.ShownAll.{place_in};
 ghost use Rattle.gu_book.specs.Front.{may_lack};
 ghost use Rattle.gu_book.specs.Ids.{NoIdTwice};
-ghost use Rattle.gu_book.specs.Kinds.{is_claim, is_return};
-ghost use Rattle.gu_book.specs.Found.{IsNamedIn, IsNothing, IsUndoneIn, LiesThere};
+ghost use Rattle.gu_book.specs.Kinds.{is_agree, is_claim, is_raise, is_return};
+ghost use Rattle.gu_book.specs.Found.{IsNamedIn, IsNothing, IsStandingIn, IsUndoneIn, LiesThere};
 ghost use Rattle.gu_book.specs.Live.{entry_of_change};
 ghost use Rattle.gu_book.specs.Seen.{stored};
 ghost use Rattle.gu_book.specs.TreeRows.{is_live_trade, is_trade, tree_rows};
@@ -30,14 +32,14 @@ use crate::index::Index;
 use crate::live::{Change, Live};
 use crate::plain::calls::front_answer;
 use crate::plain::standing::Standing;
-use crate::plain::{charges, holdings};
+use crate::plain::{charges, holdings, terms};
 use crate::{grove, visits};
 use gu_base::{
-    AccountId, AllocId, Answer, Command, Entry, FirmId, InstrumentId, Memory, Number, Place,
+    AccountId, Agreement, AllocId, Answer, Command, Entry, FirmId, InstrumentId, Memory, Number, Place,
     Refusal, State,
 };
 use gu_consent::Consents;
-use gu_fees::Fees;
+use gu_fees::{Fees, Terms};
 use gu_ids::IdHash;
 use gu_parties::House;
 use gu_positions::{Key, Positions};
@@ -55,6 +57,7 @@ pub struct Book {
     index: Index,
     fees: Fees,
     positions: Positions,
+    terms: Terms,
     visits: u64,
 }
 
@@ -66,7 +69,7 @@ impl Model for Book {
 
     ghost view = { λ b. record { house = b.house; history = b.entries.items; visits = b.visits } };
 
-    ghost invariant = { λ b. IsBook b.house b.entries.items b.trees b.consents b.index b.fees b.positions };
+    ghost invariant = { λ b. IsBook b.house b.entries.items b.trees b.consents b.index b.fees b.positions b.terms };
 }
 
 impl Book {
@@ -82,8 +85,49 @@ impl Book {
             index: Index::new(alloc),
             fees: Fees::new(alloc),
             positions: Positions::new(alloc),
+            terms: Terms::new(alloc),
             visits: 0,
         }
+    }
+
+    /// The book of a house behind its opening calls, by which the clearing house makes the agreements of a house file of version 2. A file of
+    /// version 1 has none of these, and its book is `new`.
+    ///
+    /// # Errors
+    ///
+    /// The house, and `Memory`, where a growth was refused.
+    pub fn open(alloc: Global, house: House) -> Result<Book, (House, Memory)>
+        ensures opened { IfOk result (λ b. stored b ≡ record { house = house; history = opening_history house }) }
+        ensures given_back { IfErr result (λ e. e.0 ≡ house) }
+    {
+        let mut book = Book::new(alloc, house);
+        for place in 0..book.house.opening_count() {
+            if let Err(e) = book.make_opening_call(alloc, place) {
+                return Err((book.into_house(), e));
+            }
+        }
+        Ok(book)
+    }
+
+    /// The house table, without the book.
+    fn into_house(self) -> House
+        ensures { result ≡ self.house }
+    {
+        self.house
+    }
+
+    /// Makes the opening call at this place.
+    fn make_opening_call(&mut self, alloc: Global, place: usize) -> Result<(), Memory>
+        requires { place < length (opening_calls self.old.house) }
+        ensures made { OnOk result (IsSomeAnd (slice_get (opening_calls self.old.house) place) (λ c. stored self.new ≡ record { house = self.old.house; history = after self.old.house self.old.history c })) }
+        ensures unchanged { OnErr result (stored self.new ≡ stored self.old) }
+    {
+        let Some((id, command)) = self.house.opening_at(place) else {
+            unreachable!()
+        };
+        let by = self.house.house();
+        self.apply(alloc, &by, &id, &command)?;
+        Ok(())
     }
 
     /// The house table.
@@ -131,7 +175,7 @@ impl Book {
         ensures kept { OnOk result (stored self.new ≡ record { house = self.old.house; history = after self.old.house self.old.history (record { firm = by.now; id = id.now; command = command.now }) }) }
         ensures memory { OnErr result (IsTrue (may_lack (answer_to self.old.house self.old.history (record { firm = by.now; id = id.now; command = command.now })))) }
         ensures unchanged { OnErr result (stored self.new ≡ stored self.old) }
-        ensures visits { AreVisits (live self.old.history) command.now (is_kept result) self.new.visits }
+        ensures visits { AreVisits (live self.old.history) by.now command.now (is_kept result) self.new.visits }
     {
         let mut sought = Sought::nothing();
         self.seek(command, &mut sought);
@@ -155,8 +199,8 @@ impl Book {
         }
     }
 
-    /// How many nodes of the trees the last `apply` visited, each counted once: those on the ways to the nodes that it looked at, and the parts
-    /// that it made, took away or asked after. A call that is refused, repeated or finds no memory changes this number too.
+    /// How many nodes of the trees the last `apply` visited, each counted once: those on the ways to the nodes that it looked at, the parts
+    /// that it made, took away or asked after, and the entries of a giver and a taker that it looked at. A call that is refused, repeated or finds no memory changes this number too.
     pub fn visits(&self) -> u64
         ensures { result ≡ self.now.visits }
     {
@@ -176,10 +220,11 @@ impl Book {
         ensures named { IsNamedIn (live self.now.history) (named_node command.now) sought.new.named }
         ensures undone { IsUndoneIn (live self.now.history) command.now sought.new.undone sought.new.path.items }
         ensures there { LiesThere (live self.now.history) sought.new.named sought.new.path.items }
-        ensures seen { AreSeen (live self.now.history) command.now sought.new.nodes }
+        ensures standing { IsStandingIn self.now.house (live self.now.history) command.now sought.new.standing }
+        ensures seen { (by : List ℕ) → AreSeen (live self.now.history) by command.now sought.new.nodes }
     {
         let changes = Live::of(self.entries.as_slice(), &self.index.reversals);
-        seek(&changes, &self.trees, command, sought);
+        seek(&changes, &self.trees, &self.terms, command, sought);
     }
 
     /// The answer to a call of whose command this is known. Keeps nothing and takes no memory.
@@ -193,7 +238,7 @@ impl Book {
     ) -> Answer
         requires hashed { IsHashOf hash by.now id.now }
         requires named { IsNamedIn (live self.now.history) (named_node command.now) sought.now.named }
-        requires undone { IsUndoneIn (live self.now.history) command.now sought.now.undone sought.now.path.items }
+        requires standing { IsStandingIn self.now.house (live self.now.history) command.now sought.now.standing }
         ensures { result ≡ answer_to self.now.house self.now.history (record { firm = by.now; id = id.now; command = command.now }) }
     {
         let at = Standing {
@@ -202,6 +247,7 @@ impl Book {
             changes: Live::of(self.entries.as_slice(), &self.index.reversals),
             named: &sought.named,
             fees: &self.fees,
+            terms: &self.terms,
             index: &self.index,
             consents: &self.consents,
         };
@@ -209,10 +255,7 @@ impl Book {
         let Answer::Accepted { .. } = answer else {
             return answer;
         };
-        let Some(undone) = &sought.undone else {
-            return answer;
-        };
-        match undone.standing {
+        match sought.standing {
             Some(other) => Answer::Refused(Refusal::StandsOn(other)),
             None => answer,
         }
@@ -242,7 +285,12 @@ impl Book {
             Command::Initiate { .. } | Command::Decline { .. } => {
                 self.keep_consenting(alloc, made, hash)
             }
-            Command::Reverse { entry } => self.keep_reversal(made, hash, *entry, sought),
+            Command::Agree { .. } => self.keep_agree(made, hash),
+            Command::Raise { .. } => self.keep_raise(made, hash),
+            Command::Reverse { entry } => match &sought.undone {
+                Some(_) => self.keep_reversal(made, hash, *entry, sought),
+                None => self.keep_terms_reversal(made, hash, *entry),
+            },
         }
     }
 
@@ -341,7 +389,7 @@ impl Book {
         Ok(())
     }
 
-    /// Puts an accepted Claim at the end of the history, charges it, and moves its node with its lots. What it puts is taken out again where a
+    /// Puts an accepted Claim at the end of the history, charges it, puts it to the terms, and moves its node with its lots. What it puts is taken out again where a
     /// later growth is refused; all else changes behind the last growth.
     #[inline(never)]
     fn keep_claim(&mut self, made: &Change<'_>, hash: IdHash, sought: &Sought) -> Result<(), Memory>
@@ -363,8 +411,9 @@ impl Book {
         let Some(named) = &sought.named else {
             unreachable!()
         };
+        terms::ready_claim(&mut self.terms, &self.house, &named.node)?;
         let whole = holdings::whole_of(&changes, named);
-        let charge = charges::node_charge(&self.house, &named.node);
+        let charge = charges::node_charge(&self.house, &self.terms, &named.node);
         let claimed = holdings::in_account(&whole, made.firm, account);
         holdings::put(&mut self.positions, &claimed)?;
         if let Err(e) = charges::put(&mut self.fees, &charge) {
@@ -373,6 +422,7 @@ impl Book {
         }
         grove::claim(&mut self.trees, made, sought, *account);
         holdings::take(&mut self.positions, &whole);
+        terms::claim(&mut self.terms, made.number, &named.node);
         self.index.ids.add(hash);
         let kept = Command::Claim {
             node: *node,
@@ -412,6 +462,68 @@ impl Book {
         Ok(())
     }
 
+    /// Puts an accepted Agree at the end of the history, and its terms beside the others.
+    #[inline(never)]
+    fn keep_agree(&mut self, made: &Change<'_>, hash: IdHash) -> Result<(), Memory>
+        requires agree { is_agree made.now.command.now ≡ true }
+        requires hashed { IsHashOf hash made.now.firm.now made.now.id.now }
+        requires accepted { answer_to self.old.house self.old.history (call_of (entry_of_change made.now)) ≡ Accepted made.now.number made.now.status }
+        ensures kept { OnOk result (self.new ≡ record self.old { history = self.old.history ++ entry_of_change made.now ∷ [] }) }
+        ensures unchanged { OnErr result (self.new ≡ self.old) }
+    {
+        let Command::Agree {
+            giver,
+            taker,
+            rate,
+            limit,
+        } = made.command
+        else {
+            unreachable!()
+        };
+        make_room(&mut self.entries)?;
+        self.index.ids.ready()?;
+        terms::ready(&mut self.terms, &self.house, giver, taker)?;
+        let agreed = Agreement {
+            rate: *rate,
+            limit: *limit,
+        };
+        self.terms.agree(giver, taker, made.number, agreed);
+        self.index.ids.add(hash);
+        let kept = Command::Agree {
+            giver: *giver,
+            taker: *taker,
+            rate: *rate,
+            limit: *limit,
+        };
+        push(&mut self.entries, made, kept);
+        Ok(())
+    }
+
+    /// Puts an accepted Raise at the end of the history, and raises the limit of its giver and taker.
+    #[inline(never)]
+    fn keep_raise(&mut self, made: &Change<'_>, hash: IdHash) -> Result<(), Memory>
+        requires raise { is_raise made.now.command.now ≡ true }
+        requires hashed { IsHashOf hash made.now.firm.now made.now.id.now }
+        requires accepted { answer_to self.old.house self.old.history (call_of (entry_of_change made.now)) ≡ Accepted made.now.number made.now.status }
+        ensures kept { OnOk result (self.new ≡ record self.old { history = self.old.history ++ entry_of_change made.now ∷ [] }) }
+        ensures unchanged { OnErr result (self.new ≡ self.old) }
+    {
+        let Command::Raise { giver, lots } = made.command else {
+            unreachable!()
+        };
+        make_room(&mut self.entries)?;
+        self.index.ids.ready()?;
+        terms::ready(&mut self.terms, &self.house, giver, made.firm)?;
+        self.terms.raise(giver, made.firm, made.number, *lots);
+        self.index.ids.add(hash);
+        let kept = Command::Raise {
+            giver: *giver,
+            lots: *lots,
+        };
+        push(&mut self.entries, made, kept);
+        Ok(())
+    }
+
     /// Puts an accepted Initiate or Decline at the end of the history, and does to the consents what it says.
     #[inline(never)]
     fn keep_consenting(
@@ -439,8 +551,8 @@ impl Book {
         Ok(())
     }
 
-    /// Puts an accepted Reverse at the end of the history, takes its change back at its node, and moves back what the change moved and
-    /// charged. All growths come before anything changes.
+    /// Puts an accepted Reverse of a change of trees at the end of the history, takes its change back at its node, and moves back what the change
+    /// moved and charged. All growths come before anything changes.
     #[inline(never)]
     fn keep_reversal(
         &mut self,
@@ -450,6 +562,7 @@ impl Book {
         sought: &Sought,
     ) -> Result<(), Memory>
         requires names { made.now.command.now ≡ Reverse change }
+        requires found { IsSome sought.now.undone }
         requires undone { IsUndoneIn (live self.old.history) made.now.command.now sought.now.undone sought.now.path.items }
         requires hashed { IsHashOf hash made.now.firm.now made.now.id.now }
         requires accepted { answer_to self.old.house self.old.history (call_of (entry_of_change made.now)) ≡ Accepted made.now.number made.now.status }
@@ -462,17 +575,43 @@ impl Book {
         let Some(undone) = &sought.undone else {
             unreachable!()
         };
-        let charge = charges::charge_of(&self.house, &changes, &entry.command);
+        let charge = charges::charge_of(&self.house, &self.terms, &changes, &entry.command);
         let back = holdings::goes_back(&changes, &self.trees, entry, undone);
         holdings::ready_back(&mut self.positions, &back)?;
         self.index.ids.ready()?;
         self.index.reversals.put(change, made.number)?;
         grove::undo(&mut self.trees, change, entry, sought);
         charges::take_back(&mut self.fees, &charge);
+        terms::take_out_claim(&mut self.terms, change, entry);
         holdings::move_back(&mut self.positions, entry, &back);
         self.consents.clear(change);
         self.index.ids.add(hash);
         push(&mut self.entries, made, Command::Reverse { entry: change });
+        Ok(())
+    }
+
+    /// Puts an accepted Reverse of an Agree or a Raise at the end of the history, and takes its change out of the terms of its giver and taker.
+    #[inline(never)]
+    fn keep_terms_reversal(
+        &mut self,
+        made: &Change<'_>,
+        hash: IdHash,
+        entry: Number,
+    ) -> Result<(), Memory>
+        requires names { made.now.command.now ≡ Reverse entry }
+        requires placeless { place_in (live self.old.history) entry ≡ None }
+        requires hashed { IsHashOf hash made.now.firm.now made.now.id.now }
+        requires accepted { answer_to self.old.house self.old.history (call_of (entry_of_change made.now)) ≡ Accepted made.now.number made.now.status }
+        ensures kept { OnOk result (self.new ≡ record self.old { history = self.old.history ++ entry_of_change made.now ∷ [] }) }
+        ensures unchanged { OnErr result (self.new ≡ self.old) }
+    {
+        make_room(&mut self.entries)?;
+        self.index.ids.ready()?;
+        self.index.reversals.put(entry, made.number)?;
+        self.terms.take_out(entry);
+        self.consents.clear(entry);
+        self.index.ids.add(hash);
+        push(&mut self.entries, made, Command::Reverse { entry });
         Ok(())
     }
 
@@ -522,9 +661,16 @@ impl Book {
 
     /// The lots of the live claims under the agreement of a giver and a taker.
     pub fn used(&self, giver: &FirmId, taker: &FirmId) -> u64
-        ensures { result ≡ used_of self.now.house (live self.now.history) giver.now taker.now }
+        ensures { result ≡ used_of (live self.now.history) giver.now taker.now }
     {
         self.fees.used(giver, taker)
+    }
+
+    /// The lots of live claims that the giver allows the taker, `None` where they have no terms: the limit of their agreement, and their Raises.
+    pub fn limit(&self, giver: &FirmId, taker: &FirmId) -> Option<u64>
+        ensures { result ≡ limit_of self.now.house (live self.now.history) giver.now taker.now }
+    {
+        terms::limit_of(&self.house, &self.terms, giver, taker)
     }
 }
 

@@ -1,14 +1,17 @@
 //! What the trees say of a node, found by its name.
-ghost use Rattle.std.specs.Prelude.{◌≡◌, ◌≤◌, ◌<◌, ◌+◌, ◌^◌, List, length, None, Some, IsSome};
+ghost use Rattle.std.specs.Prelude.{◌≡◌, ◌≤◌, ◌<◌, ◌+◌, ◌^◌, ℕ, List, length, None, Some, IsSome};
+ghost use Rattle.gu_base.specs.House.{House};
 ghost use Rattle.gu_base.specs.Numbers.{EntryPart};
 ghost use Rattle.gu_base.specs.Nodes.{is_offered, node_of};
 ghost use Rattle.gu_base.specs.Places.{depth_of};
 ghost use Rattle.gu_base.specs.Refusals.{owns};
+ghost use Rattle.gu_base.specs.Standing.{IsLegal, standing_on};
 ghost use Rattle.gu_base.specs.declared.command.Command.TheVariants.{Reverse};
 ghost use Rattle.gu_base.specs.declared.entry.Record.{Record as RecordData};
 ghost use Rattle.gu_base.specs.declared.node.Node.{Node as NodeData};
-ghost use Rattle.gu_book.specs.Found.{AreTreesOf, IsFoundAs, IsFoundIn, IsNamedBy, IsNamedIn, IsNothing, IsUndoneBy, IsUndoneIn, LiesThere};
+ghost use Rattle.gu_book.specs.Found.{AreTreesOf, IsFoundAs, IsFoundIn, IsNamedBy, IsNamedIn, IsNothing, IsStandingIn, IsUndoneBy, IsUndoneIn, LiesThere};
 ghost use Rattle.gu_book.specs.Visits.{AreSeen, depth_meant, parts_named};
+ghost use Rattle.gu_depend.specs.Terms.{AreTermsOf};
 ghost use Rattle.gu_tree.specs.Grove.{Grove, HasTree, IsPlace};
 ghost use Rattle.gu_tree.specs.Paths.{node_at};
 ghost use Rattle.gu_tree.specs.Shown.{named_node};
@@ -19,7 +22,8 @@ use crate::plain::holdings::traded_under;
 use crate::plain::nodes::node_of;
 use crate::visits;
 use gu_base::{Command, Deal, FirmId, Node, NodeName, Number, State};
-use gu_depend::first_standing_at;
+use gu_depend::{first_standing, first_standing_at};
+use gu_fees::Terms;
 use gu_tree::{Head, Path, Spot, Trees};
 use std::alloc::Global;
 
@@ -104,17 +108,17 @@ pub(crate) struct Undone {
     pub(crate) found: Found,
     /// What is traded there.
     pub(crate) deal: Option<Deal>,
-    /// The first change that stands on it.
-    pub(crate) standing: Option<Number>,
 }
 
-/// What the trees say of what a command names, so that nothing is looked up and climbed to again.
+/// What the trees and the terms say of what a command names, so that nothing is looked up and climbed to again.
 #[derive(Drop)]
 pub(crate) struct Sought {
     /// The node that it names, if a live change makes it.
     pub(crate) named: Option<Named>,
-    /// The change that a Reverse names, if it is live.
+    /// The change that a Reverse names, if it is live and has a place in the trees: an Agree and a Raise have none.
     pub(crate) undone: Option<Undone>,
+    /// The first change that stands on the one which a Reverse names.
+    pub(crate) standing: Option<Number>,
     /// From the root of the trade in whose tree the node lies; of no use where there is no node.
     pub(crate) path: Path,
     /// How many nodes were looked at: those on the way, and the parts of the Split that a Reverse names.
@@ -129,6 +133,7 @@ impl Sought {
         Sought {
             named: None,
             undone: None,
+            standing: None,
             path: Path::new(),
             nodes: 0,
         }
@@ -142,6 +147,7 @@ fn seek_node(changes: &Live<'_>, trees: &Trees<Global>, name: NodeName, sought: 
     ensures named { IsNamedBy changes.now name sought.new.named }
     ensures there { LiesThere changes.now sought.new.named sought.new.path.items }
     ensures undone { sought.new.undone ≡ None }
+    ensures standing { sought.new.standing ≡ None }
     ensures few { sought.new.nodes ≤ 2 ^ 32 }
     ensures most { sought.new.nodes ≤ depth_of changes.now name + 1 }
     ensures least { IsSome (node_of changes.now name) → depth_of changes.now name + 1 ≤ sought.new.nodes }
@@ -158,11 +164,18 @@ fn seek_node(changes: &Live<'_>, trees: &Trees<Global>, name: NodeName, sought: 
 }
 
 /// Puts the live change of this number in.
-fn seek_change(changes: &Live<'_>, trees: &Trees<Global>, number: Number, sought: &mut Sought)
+fn seek_change(
+    changes: &Live<'_>,
+    trees: &Trees<Global>,
+    terms: &Terms,
+    number: Number,
+    sought: &mut Sought,
+)
     requires trees { AreTreesOf changes.now trees.now }
     requires nothing { IsNothing sought.old }
     ensures undone { IsUndoneBy changes.now number sought.new.undone sought.new.path.items }
     ensures named { sought.new.named ≡ None }
+    ensures standing { (t : House) → IsLegal t changes.now → AreTermsOf t changes.now terms.now → sought.new.standing ≡ standing_on t changes.now number }
     ensures few { sought.new.nodes < 2 ^ 64 }
     ensures most { sought.new.nodes ≤ depth_meant changes.now (Reverse number) + parts_named changes.now (Reverse number) + 1 }
     ensures least { IsSome (place_in changes.now number) → depth_meant changes.now (Reverse number) + parts_named changes.now (Reverse number) + 1 ≤ sought.new.nodes }
@@ -171,6 +184,7 @@ fn seek_change(changes: &Live<'_>, trees: &Trees<Global>, number: Number, sought
         return;
     };
     let Some(spot) = trees.named(number, &mut sought.path) else {
+        sought.standing = first_standing(trees, terms, number);
         return;
     };
     let found = found_at(&spot, &sought.path);
@@ -178,14 +192,15 @@ fn seek_change(changes: &Live<'_>, trees: &Trees<Global>, number: Number, sought
     sought.undone = Some(Undone {
         found,
         deal: traded_under(changes, spot.trade),
-        standing: first_standing_at(&spot, number),
     });
+    sought.standing = first_standing_at(&spot, number);
 }
 
 /// Puts in what a command names.
 pub(crate) fn seek(
     changes: &Live<'_>,
     trees: &Trees<Global>,
+    terms: &Terms,
     command: &Command,
     sought: &mut Sought,
 )
@@ -194,14 +209,15 @@ pub(crate) fn seek(
     ensures named { IsNamedIn changes.now (named_node command.now) sought.new.named }
     ensures undone { IsUndoneIn changes.now command.now sought.new.undone sought.new.path.items }
     ensures there { LiesThere changes.now sought.new.named sought.new.path.items }
-    ensures seen { AreSeen changes.now command.now sought.new.nodes }
+    ensures standing { (t : House) → IsLegal t changes.now → AreTermsOf t changes.now terms.now → IsStandingIn t changes.now command.now sought.new.standing }
+    ensures seen { (by : List ℕ) → AreSeen changes.now by command.now sought.new.nodes }
 {
     match command {
         Command::Split { node, .. } => seek_node(changes, trees, *node, sought),
         Command::Claim { node, .. } => seek_node(changes, trees, *node, sought),
         Command::Refuse { node } => seek_node(changes, trees, *node, sought),
         Command::Cancel { node } => seek_node(changes, trees, *node, sought),
-        Command::Reverse { entry } => seek_change(changes, trees, *entry, sought),
+        Command::Reverse { entry } => seek_change(changes, trees, terms, *entry, sought),
         _ => {}
     }
 }

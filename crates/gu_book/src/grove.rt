@@ -1,6 +1,6 @@
 //! The trees of the live trades, and the places of the live changes in them.
 ghost use Rattle.std.specs.Prelude.{true, ◌≡◌, ◌≤◌, option_map, IfOk, OnOk, OnErr, IsSome};
-ghost use Rattle.gu_base.specs.History.{is_change, numbered_as};
+ghost use Rattle.gu_base.specs.History.{numbered_as};
 ghost use Rattle.gu_base.specs.Numbers.{EntryPart};
 ghost use Rattle.gu_base.specs.declared.command.Command.TheVariants.{Split, Claim};
 ghost use Rattle.gu_tree.specs.Grove.{tree_of, last_place, IsSameGrove};
@@ -9,6 +9,7 @@ ghost use Rattle.gu_tree.specs.Shown.{GivesBack, IsTradeOf, named_node};
 ghost use Rattle.gu_book.specs.Filed.{IsDue, Follows, MayGo, IsGone};
 ghost use Rattle.gu_book.specs.Found.{IsFoundThere, IsUndoneThere};
 ghost use Rattle.gu_book.specs.Live.{record_of};
+ghost use Rattle.gu_book.specs.Visits.{is_of_trees};
 
 use crate::found::Sought;
 use crate::live::Change;
@@ -98,7 +99,7 @@ pub(crate) fn give_back(trees: &mut Trees<Global>, made: &Change<'_>, sought: &S
 /// the other changes. Takes no memory.
 pub(crate) fn undo(trees: &mut Trees<Global>, number: Number, entry: &Entry, sought: &Sought)
     requires may_go { MayGo (numbered_as number entry.now) trees.old }
-    requires change { is_change entry.now.command ≡ true }
+    requires change { is_of_trees entry.now.command ≡ true }
     requires there { IsUndoneThere trees.old number sought.now.undone sought.now.path.items }
     ensures gone { IsGone (numbered_as number entry.now) trees.old trees.new }
     ensures last { last_place trees.new ≡ last_place trees.old }

@@ -1,15 +1,16 @@
 //! The book of a clearing house: what its firms have called for and what was accepted, in a flat list, and beside it the
 //! allocation tree of each live trade.
 //!
-//! - `Book` is seen by clauses as its house table, its history, and how many nodes of the trees its last call visited. `Book::new` is the
-//!   empty book of any house.
+//! - `Book` is seen by clauses as its house table, its history, and how many nodes of the trees and entries of two firms its last call visited.
+//!   `Book::new` is the empty book of any house.
 //! - `Book::apply` answers every call exactly as the rules say at the history, keeps it at the end of the history where it is
 //!   accepted, and leaves house table and history where it is not. `visits` tells what the call cost: no more nodes than its node lies deep,
-//!   its parts, and two.
+//!   its parts, and two, and no more entries than its giver and taker have.
 //! - `Memory` comes only where the rules accept the call. All growths come before anything changes, but for the lots that a change adds;
 //!   they are taken out again. So it leaves everything too.
 //! - `live` gives the numbers of the live changes, `tree_rows` the rows of a live trade's tree. `position` is a running
-//!   row of what stands in an account; `paid`, `received` and `used` are running sums of what the live claims cost. All fit.
+//!   row of what stands in an account; `paid`, `received` and `used` are running sums of what the live claims cost; `limit` is what the
+//!   agreement of two firms and their Raises allow. All fit.
 //! - The type keeps that its history is one that calls made of the empty book, that no firm and id stand in it twice, that none of
 //!   its live changes would be refused after those before it, that the trees show the live changes, and that the consents are those
 //!   that the history left.

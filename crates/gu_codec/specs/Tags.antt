@@ -129,6 +129,20 @@ nested_party_id_source = 525
 abbrev pub nested_party_role : ℕ
 nested_party_role = 538
 
+-- ---- an agreement in an AllocationInstruction, in tags of this profile's own
+
+abbrev pub agreement_giver : ℕ
+agreement_giver = 5001
+
+abbrev pub agreement_taker : ℕ
+agreement_taker = 5002
+
+abbrev pub agreement_rate : ℕ
+agreement_rate = 5003
+
+abbrev pub agreement_limit : ℕ
+agreement_limit = 5004
+
 -- ---- the session
 
 abbrev pub encrypt_method : ℕ

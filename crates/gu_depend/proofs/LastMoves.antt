@@ -4,7 +4,7 @@ use Rattle.std.specs.Prelude.{Some, None, find, filter, filter_map, sum_by, is_s
 use Rattle.std.specs.List.{cons_option}
 use Rattle.std.specs.Option.{option_or}
 use Rattle.std.proofs.lemmas.Bool.Decides.{Decides-eqb}
-use Rattle.std.proofs.lemmas.List.Elements.{All-head, All-tail, All-weaker, All-contains_itself, filter_map-append}
+use Rattle.std.proofs.lemmas.List.Elements.{All-head, All-tail, All-weaker, All-contains, All-contains_itself, filter_map-append}
 use Rattle.std.proofs.lemmas.List.Folds.{find-append}
 use Rattle.std.proofs.lemmas.List.Sums.{sum_by-cons, sum_by-append}
 use Rattle.gu_base.specs.Numbers.{EntryPart}
@@ -21,14 +21,27 @@ use Rattle.gu_base.specs.declared.node.Charge.{Charge}
 use Rattle.gu_base.specs.declared.node.Node.{Node}
 use Rattle.gu_base.specs.declared.node.Place.{Place}
 use Rattle.gu_base.proofs.Basics.{or_none, none_is_some}
-use Rattle.gu_base.proofs.LegalLaws.{none_refused}
+use Rattle.gu_base.proofs.LegalLaws.{none_refused, replay_front}
 use Rattle.gu_depend.specs.Under.{names}
 use Rattle.gu_depend.specs.Moves.{lots_at, named_by, MovesItsOwn}
 use Rattle.gu_depend.proofs.Finds.{none_before}
 use Rattle.gu_depend.proofs.Names.{at_name, maker, made_number}
 use Rattle.gu_depend.proofs.Grown.{Grown, NamesThere, line_of_grown, place_same}
 use Rattle.gu_depend.proofs.Charges.{charge_same}
-use Rattle.gu_depend.proofs.Settled.{front_facts, accepted_there}
+use Rattle.gu_depend.proofs.Settled.{front_facts, facts, accepted_there}
+use Rattle.gu_depend.proofs.Deals.{of_pair, dealings_grown, dealings_append, row_fits, not_empty}
+use Rattle.gu_depend.proofs.Cuts.{cut_at}
+use Rattle.gu_base.proofs.Dealt.{fits, may_use, AllFit, all_sound, terms_stay}
+use Rattle.gu_base.specs.House.{agreement}
+use Rattle.gu_base.specs.Terms.{use_of_kind, use_of_node, deed_of, dealings_in, dealings, terms_under, raised_under, used_under, terms_of}
+use Rattle.gu_base.specs.declared.house.Agreement.{Agreement}
+use Rattle.gu_base.specs.declared.house.Deed.{Deed}
+use Rattle.gu_base.specs.declared.house.Deed.TheVariants.{Uses}
+use Rattle.gu_base.specs.declared.command.Command.{Command}
+use Rattle.gu_base.specs.declared.command.Command.TheVariants.{Trade, Split, Claim, Refuse, Cancel, Agree, Raise, Initiate, Decline, Reverse}
+use Rattle.gu_base.specs.declared.node.Kind.{Kind}
+use Rattle.gu_base.specs.declared.node.Kind.TheVariants.{Root, Own, Given}
+use Rattle.std.specs.Prelude.{bytes_eq}
 use Rattle.gu_depend.proofs.Replay.{NumbersOnce}
 use Rattle.gu_depend.proofs.StandsLast.{replay_rest, decision_cut}
 use Rattle.gu_depend.proofs.StandsUnder.{found_some}
@@ -84,11 +97,16 @@ root_found (suc f) l p m x found h =
 
 -- ---- a change behind the others
 
+abbrev is_claim : Command → Bool
+is_claim (Claim _ _) = true
+is_claim _ = false
+
 -- a front of a legal list, of which one change is left
 pub record IsBefore (t : House) (l : List Record) (r : Record) : Type 0 where
   pub grown : Grown (l ++ r ∷ []) l
   pub once : NumbersOnce (l ++ r ∷ [])
   pub accepted : row t l r.firm r.command ≡ None
+  pub deals : (g k : List ℕ) → AllFit (agreement t g k) [] (dealings l g k)
 
 module _ {t : House} {l : List Record} {r : Record} (b : IsBefore t l r) where
   root_kept : (m : EntryPart) (x : Node) → node_of l m ≡ Some x → root_of (l ++ r ∷ []) m ≡ root_of l m
@@ -157,13 +175,112 @@ module _ {t : House} {l : List Record} {r : Record} (b : IsBefore t l r) where
       swapped (old x) (new x) (p x) (λ un. lots_kept at instrument side x y.0 y.1 un)) (nodes l) (All-contains_itself (nodes l))) in
       omega (arith, whole, before, cut, olds, news, left, right, each)
 
+  -- whoever deals has terms
+  terms_kept_by : (g k : List ℕ) → ((dealings l g k ≡ []) → ⊥) → (o : Option Agreement) → terms_of t l g k ≡ o → terms_of t l g k ≡ terms_of t (l ++ r ∷ []) g k
+  terms_kept_by g k some None e = absurd (some ((all_sound (agreement t g k) (dealings l g k) (b.deals g k)).none e))
+  terms_kept_by g k some (Some a) e =
+      let more : dealings (l ++ r ∷ []) g k ≡ dealings l g k ++ dealings_in (l ++ r ∷ []) (r ∷ []) g k =
+      dealings_append (l ++ r ∷ []) l (r ∷ []) g k ∙ ap (λ z. z ++ dealings_in (l ++ r ∷ []) (r ∷ []) g k) (sym (dealings_grown (l ++ r ∷ []) l g k b.grown)) in
+      e ∙ sym (ap (terms_under (agreement t g k)) more ∙ terms_stay (agreement t g k) (dealings l g k) (dealings_in (l ++ r ∷ []) (r ∷ []) g k) a e)
+
+  deals_there : (d : Record) → Contains l d → (g k : List ℕ) (e : Deed) → deed_of l g k d.firm d.command ≡ Some e → dealings l g k ≡ [] → ⊥
+  deals_there d among g k e deals empty =
+      let c = cut_at l d among in
+      let cut : dealings_in l l g k ≡ dealings_in l c.before g k ++ (record { number = d.number; deed = e } ∷ dealings_in l c.behind g k) =
+      ap (λ z. dealings_in l z g k) c.is
+      ∙ (dealings_append l c.before (d ∷ c.behind) g k ∙ ap (λ o. dealings_in l c.before g k ++ cons_option (option_map (λ f. record { number = d.number; deed = f }) o) (dealings_in l c.behind g k)) deals) in
+      not_empty (dealings_in l c.before g k) (record { number = d.number; deed = e }) (dealings_in l c.behind g k) (sym empty ∙ cut)
+
+  -- a claim deals whoever asks
+  deeds_alike : (g k by : List ℕ) (c : Command) (e : Deed) → is_claim c ≡ true → deed_of l g k [] c ≡ Some e → deed_of l g k by c ≡ Some e
+  deeds_alike g k by (Claim _ _) e is h = h
+  deeds_alike g k by (Trade _ _ _ _ _) e is h = absurd (cc)
+  deeds_alike g k by (Split _ _) e is h = absurd (cc)
+  deeds_alike g k by (Refuse _) e is h = absurd (cc)
+  deeds_alike g k by (Cancel _) e is h = absurd (cc)
+  deeds_alike g k by (Agree _ _ _ _) e is h = absurd (cc)
+  deeds_alike g k by (Raise _ _) e is h = absurd (cc)
+  deeds_alike g k by (Initiate _) e is h = absurd (cc)
+  deeds_alike g k by (Decline _) e is h = absurd (cc)
+  deeds_alike g k by (Reverse _) e is h = absurd (cc)
+
+  -- what is no claim is charged nothing
+  uncharged : (t : House) (x y : List Record) (c : Command) → is_claim c ≡ false → charge_of t x c ≡ charge_of t y c
+  uncharged t x y (Claim _ _) is = absurd (cc)
+  uncharged t x y (Trade _ _ _ _ _) is = refl
+  uncharged t x y (Split _ _) is = refl
+  uncharged t x y (Refuse _) is = refl
+  uncharged t x y (Cancel _) is = refl
+  uncharged t x y (Agree _ _ _ _) is = refl
+  uncharged t x y (Raise _ _) is = refl
+  uncharged t x y (Initiate _) is = refl
+  uncharged t x y (Decline _) is = refl
+  uncharged t x y (Reverse _) is = refl
+
+  charge_kept_by : (d : Record) → Contains l d → NamesThere l d → (test : Bool) → is_claim d.command ≡ test → charge_of t l d.command ≡ charge_of t (l ++ r ∷ []) d.command
+  charge_kept_by d among there false is = uncharged t l (l ++ r ∷ []) d.command is
+  charge_kept_by d among there true is =
+      charge_same t (l ++ r ∷ []) l b.grown.within d.command there
+      (λ g k e deals. terms_kept_by g k (deals_there d among g k e (deeds_alike g k d.firm d.command e is deals)) (terms_of t l g k) refl)
+
+  -- a change before it costs what it cost
+  pub charge_kept : (d : Record) → Contains l d → charge_of t l d.command ≡ charge_of t (l ++ r ∷ []) d.command
+  charge_kept d among = charge_kept_by d among (All-contains (NamesThere l) l d b.grown.named among) (is_claim d.command) refl
+
+  -- and so has whoever claims behind the others
+  own_terms : (g k : List ℕ) (e : Deed) → deed_of l g k r.firm r.command ≡ Some e → is_claim r.command ≡ true → terms_of t l g k ≡ terms_of t (l ++ r ∷ []) g k
+  own_terms g k e deals is = own_by g k (use_of_claim g k r.firm r.command e is deals) (terms_of t l g k) refl (row_fits t l g k r.firm r.command e b.accepted deals)
+    where
+      use_of_claim : (g k by : List ℕ) (c : Command) (e : Deed) → is_claim c ≡ true → deed_of l g k by c ≡ Some e → (lots : ℕ) × (e ≡ Uses lots)
+      use_of_claim g k by (Claim n _) e is h = of_node (node_of l n) h
+        where
+          of_kind : (lots : ℕ) (kind : Kind) → use_of_kind g k lots kind ≡ Some e → (lots : ℕ) × (e ≡ Uses lots)
+          of_kind lots (Root _) h = absurd (cc)
+          of_kind lots (Own _ _ _) h = absurd (cc)
+          of_kind lots (Given m x y) h = let p = of_pair g k x y (Uses lots) e (bytes_eq x g && bytes_eq y k) refl h in (lots, sym p.1.1)
+
+          of_node : (o : Option Node) → option_and_then (use_of_node g k) o ≡ Some e → (lots : ℕ) × (e ≡ Uses lots)
+          of_node None h = absurd (cc)
+          of_node (Some x) h = of_kind x.lots x.kind h
+      use_of_claim g k by (Trade _ _ _ _ _) e is h = absurd (cc)
+      use_of_claim g k by (Split _ _) e is h = absurd (cc)
+      use_of_claim g k by (Refuse _) e is h = absurd (cc)
+      use_of_claim g k by (Cancel _) e is h = absurd (cc)
+      use_of_claim g k by (Agree _ _ _ _) e is h = absurd (cc)
+      use_of_claim g k by (Raise _ _) e is h = absurd (cc)
+      use_of_claim g k by (Initiate _) e is h = absurd (cc)
+      use_of_claim g k by (Decline _) e is h = absurd (cc)
+      use_of_claim g k by (Reverse _) e is h = absurd (cc)
+
+      some_kept : (g k : List ℕ) (a : Agreement) → terms_of t l g k ≡ Some a → terms_of t l g k ≡ terms_of t (l ++ r ∷ []) g k
+      some_kept g k a e =
+          let more : dealings (l ++ r ∷ []) g k ≡ dealings l g k ++ dealings_in (l ++ r ∷ []) (r ∷ []) g k =
+          dealings_append (l ++ r ∷ []) l (r ∷ []) g k ∙ ap (λ z. z ++ dealings_in (l ++ r ∷ []) (r ∷ []) g k) (sym (dealings_grown (l ++ r ∷ []) l g k b.grown)) in
+          e ∙ sym (ap (terms_under (agreement t g k)) more ∙ terms_stay (agreement t g k) (dealings l g k) (dealings_in (l ++ r ∷ []) (r ∷ []) g k) a e)
+
+      own_by : (g k : List ℕ) → (lots : ℕ) × (e ≡ Uses lots) → (o : Option Agreement) → terms_of t l g k ≡ o → fits (agreement t g k) (dealings l g k) e ≡ true → terms_of t l g k ≡ terms_of t (l ++ r ∷ []) g k
+      own_by g k of None none fit =
+          let f : false ≡ true = sym (ap (λ o. may_use (used_under (dealings l g k) + of.0) (option_map (λ (a : Agreement). a.limit + raised_under (dealings l g k)) o)) none) ∙ (sym (ap (fits (agreement t g k) (dealings l g k)) of.1) ∙ fit) in
+          absurd (cc)
+      own_by g k of (Some a) e fit = some_kept g k a e
+
+  own_charge_by : (test : Bool) → is_claim r.command ≡ test → charge_of t l r.command ≡ charge_of t (l ++ r ∷ []) r.command
+  own_charge_by false is = uncharged t l (l ++ r ∷ []) r.command is
+  own_charge_by true is =
+      charge_same t (l ++ r ∷ []) l b.grown.within r.command (accepted_there t l r.firm r.command b.accepted)
+      (λ g k e deals. own_terms g k e (deeds_alike g k r.firm r.command e is deals) is)
+
+  -- what it costs itself can be read off either list
+  pub own_charge : charge_of t l r.command ≡ charge_of t (l ++ r ∷ []) r.command
+  own_charge = own_charge_by (is_claim r.command) refl
+
   charges_moved : charges t (l ++ r ∷ []) ≡ charges t l ++ cons_option (charge_of t l r.command) []
   charges_moved =
       let h : Record → Option Charge = λ d. charge_of t (l ++ r ∷ []) d.command in
-      let own : h r ≡ charge_of t l r.command = sym (charge_same t (l ++ r ∷ []) l b.grown.within r.command (accepted_there t l r.firm r.command b.accepted)) in
+      let own : h r ≡ charge_of t l r.command = sym own_charge in
       filter_map-append h l (r ∷ [])
       ∙ (ap (λ cs. cs ++ cons_option (h r) []) (sym (charged_alike (λ d. charge_of t l d.command) h l
-      (All-weaker (NamesThere l) (λ (d : Record). charge_of t l d.command ≡ charge_of t (l ++ r ∷ []) d.command) (λ d there. charge_same t (l ++ r ∷ []) l b.grown.within d.command there) l b.grown.named)))
+      (All-weaker (Contains l) (λ (d : Record). charge_of t l d.command ≡ charge_of t (l ++ r ∷ []) d.command) charge_kept l (All-contains_itself l))))
       ∙ ap (λ o. charges t l ++ cons_option o []) own)
 
 pub is_before : (t : House) (l : List Record) (r : Record) → NumbersOnce (l ++ r ∷ []) → first_refused t [] (l ++ r ∷ []) ≡ None → IsBefore t l r
@@ -171,6 +288,7 @@ is_before t l r once none =
     let here = none_refused (refusal_of t l r.firm r.command) r.number None (replay_rest t [] l (r ∷ []) none) in
     record {
       grown = (front_facts t (l ++ r ∷ []) l (r ∷ []) refl none).grown;
+      deals = (facts t l (replay_front t [] l (r ∷ []) none)).deals;
       once = once;
       accepted = (refusal_parts t l r.firm r.command here.0).1;
     }

@@ -8,7 +8,7 @@ use Rattle.std.proofs.lemmas.List.Sums.{sum_by-le-sum_by}
 use Rattle.gu_base.specs.Numbers.{EntryPart}
 use Rattle.gu_base.specs.Nodes.{node_of, nodes, nodes_of, same_name, parent, splits}
 use Rattle.gu_base.specs.declared.command.Command.{Command}
-use Rattle.gu_base.specs.declared.command.Command.TheVariants.{Trade, Split, Claim, Refuse, Cancel, Initiate, Decline, Reverse}
+use Rattle.gu_base.specs.declared.command.Command.TheVariants.{Trade, Split, Claim, Refuse, Cancel, Agree, Raise, Initiate, Decline, Reverse}
 use Rattle.gu_base.specs.declared.entry.Record.{Record}
 use Rattle.gu_base.specs.declared.node.Kind.TheVariants.{Root}
 use Rattle.gu_base.specs.declared.node.Node.{Node}
@@ -69,6 +69,8 @@ parent_made n m k by (Split o ps) x h up = same_splits o m (sym (part_parent n o
 parent_made n m k by (Claim _ _) x h up = absurd (cc)
 parent_made n m k by (Refuse _) x h up = absurd (cc)
 parent_made n m k by (Cancel _) x h up = absurd (cc)
+parent_made n m k by (Agree _ _ _ _) x h up = absurd (cc)
+parent_made n m k by (Raise _ _) x h up = absurd (cc)
 parent_made n m k by (Initiate _) x h up = absurd (cc)
 parent_made n m k by (Decline _) x h up = absurd (cc)
 parent_made n m k by (Reverse _) x h up = absurd (cc)

@@ -12,7 +12,7 @@ use Rattle.gu_base.specs.Rows.{made_by, parts_of}
 use Rattle.gu_base.specs.Standing.{IsLegal, first_refused, standing_on, without}
 use Rattle.gu_base.specs.declared.command.Part.{Part}
 use Rattle.gu_base.specs.declared.command.Command.{Command}
-use Rattle.gu_base.specs.declared.command.Command.TheVariants.{Trade, Split, Claim, Refuse, Cancel, Initiate, Decline, Reverse}
+use Rattle.gu_base.specs.declared.command.Command.TheVariants.{Trade, Split, Claim, Refuse, Cancel, Agree, Raise, Initiate, Decline, Reverse}
 use Rattle.gu_base.specs.declared.entry.Record.{Record}
 use Rattle.gu_base.specs.declared.node.Node.{Node}
 use Rattle.gu_base.proofs.LegalLaws.{legal_from_replay, replay_from_legal}
@@ -29,13 +29,13 @@ use Rattle.gu_tree.proofs.Parts.{some_and, at_fact}
 use Rattle.gu_tree.proofs.ShowsLess.{no-root-part}
 use Rattle.gu_tree.proofs.ToldAt.{IsToldAt, told-at}
 use Rattle.gu_depend.specs.Touch.{is_trade_or_decision}
-use Rattle.gu_depend.specs.Under.{numbers_under}
+use Rattle.gu_depend.specs.Under.{numbers_under, deals_under}
 use Rattle.gu_depend.proofs.Finds.{found_once}
 use Rattle.gu_depend.proofs.NamedOnce.{NamedOnce, named_once}
 use Rattle.gu_depend.proofs.Names.{maker, made_number}
 use Rattle.gu_depend.proofs.Replay.{NumbersOnce, number_once}
 use Rattle.gu_depend.proofs.StandsUnder.{rises_distinct}
-use Rattle.gu_depend.proofs.LookedUp.{looked_up}
+use Rattle.gu_depend.proofs.LookedUp.{looked_up, least_one}
 
 least_in : (o : Option Record) → least (number_in o) ≡ option_map (λ r. r.number) o
 least_in None = refl
@@ -93,10 +93,10 @@ module _ (l : List Record) (once : NumbersOnce l) (k : ℕ) (r : Record) (there 
       let decided : decides n (Split n ps) ≡ true = ap (decides n) (sym is) ∙ (ap (λ (z : Record). decides n z.command) (sym one) ∙ find_passes (λ r. decides n r.command) l d e) in
       absurd (cc)
 
-  module _ (named : NamedOnce l) (trade : ℕ) (v : Rose) (told : IsToldAt l trade v) where
+  module _ (t : House) (named : NamedOnce l) (trade : ℕ) (v : Rose) (told : IsToldAt l trade v) where
     -- where the change is the trade of the root, or decided the node, the node's Split stands on it
     by_split : (c : Command) → r.command ≡ c → named_place r.number c ≡ Some (head_of v).name → (trade ≡ k) ⊎ ((head_of v).decision ≡ Some k)
-        → option_map (λ s. s.0) (split_of_node v) ≡ least (numbers_under l r.number r.firm c)
+        → option_map (λ s. s.0) (split_of_node v) ≡ least (numbers_under t l r.number r.firm c)
     by_split (Trade _ _ _ _ _) is at which =
         told.split ∙ (ap (λ n. option_map (λ r. r.number) (split_of l n)) (sym (same_Some _ _ at)) ∙ sym (least_in (split_of l (record { entry = r.number; part = 0 }))))
     by_split (Split n ps) is at (inl same) = absurd (split_no_trade n ps is trade told.root told.has_root same)
@@ -108,6 +108,8 @@ module _ (l : List Record) (once : NumbersOnce l) (k : ℕ) (r : Record) (there 
         told.split ∙ (ap (λ n. option_map (λ r. r.number) (split_of l n)) (sym (same_Some _ _ at)) ∙ sym (least_in (split_of l n)))
     by_split (Cancel n) is at which =
         told.split ∙ (ap (λ n. option_map (λ r. r.number) (split_of l n)) (sym (same_Some _ _ at)) ∙ sym (least_in (split_of l n)))
+    by_split (Agree _ _ _ _) is at which = absurd (cc)
+    by_split (Raise _ _) is at which = absurd (cc)
     by_split (Initiate _) is at which = absurd (cc)
     by_split (Decline _) is at which = absurd (cc)
     by_split (Reverse _) is at which = absurd (cc)
@@ -122,7 +124,7 @@ module _ (l : List Record) (once : NumbersOnce l) (k : ℕ) (r : Record) (there 
 
     -- else it split the node, and what names a part stands on it
     by_parts : (c : Command) → r.command ≡ c → named_place r.number c ≡ Some (head_of v).name → trade ≢ k → (head_of v).decision ≢ Some k
-        → least (numbers_on_parts v) ≡ least (numbers_under l r.number r.firm c)
+        → least (numbers_on_parts v) ≡ least (numbers_under t l r.number r.firm c)
     by_parts (Trade _ _ _ _ _) is at other undecided =
         let name : record { entry = r.number; part = 0 } ≡ (head_of v).name = same_Some _ _ at in
         let root : (head_of v).name.entry ≡ trade = told.rooted (sym (ap (λ (m : EntryPart). m.part) name)) in
@@ -136,6 +138,8 @@ module _ (l : List Record) (once : NumbersOnce l) (k : ℕ) (r : Record) (there 
     by_parts (Claim n a) is at other undecided = absurd (undecided (its_decision n (ap (decides n) is ∙ name_same n) at))
     by_parts (Refuse n) is at other undecided = absurd (undecided (its_decision n (ap (decides n) is ∙ name_same n) at))
     by_parts (Cancel n) is at other undecided = absurd (undecided (its_decision n (ap (decides n) is ∙ name_same n) at))
+    by_parts (Agree _ _ _ _) is at other undecided = absurd (cc)
+    by_parts (Raise _ _) is at other undecided = absurd (cc)
     by_parts (Initiate _) is at other undecided = absurd (cc)
     by_parts (Decline _) is at other undecided = absurd (cc)
     by_parts (Reverse _) is at other undecided = absurd (cc)
@@ -182,24 +186,26 @@ module _ (g : Grove) (t : House) (l : List Record) (rises : RisesFrom 0 l) (lega
   abbrev numbered : NumbersOnce l
   numbered = number_once l (rises_distinct 0 l rises)
 
-  -- the number of a change without a place is that of none, and then nothing stands on it
-  nothing_named : (k : ℕ) (o : Option Record) → change_of l k ≡ o → option_and_then (λ r. named_place r.number r.command) o ≡ None → None ≡ standing_on t l k
+  -- what stands on a change without a place, of those whose giver and taker it deals for
+  nothing_named : (k : ℕ) (o : Option Record) → change_of l k ≡ o → option_and_then (λ r. named_place r.number r.command) o ≡ None → option_and_then (λ r. deals_under t l r.number r.firm r.command) o ≡ standing_on t l k
   nothing_named k None e none = sym (ap (first_refused t []) (nothing_out l k e) ∙ replay_from_legal t l legal)
   nothing_named k (Some r) e none =
       let law = looked_up t l r rises (replay_from_legal t l legal) (among l numbered k r e) in
-      sym (ap (standing_on t l) (sym (number_is l numbered k r e)) ∙ (law ∙ ap least (none_under r.command none)))
+      sym (ap (standing_on t l) (sym (number_is l numbered k r e)) ∙ (law ∙ deals_alone r.command none))
     where
-      none_under : (c : Command) → named_place r.number c ≡ None → numbers_under l r.number r.firm c ≡ []
-      none_under (Trade _ _ _ _ _) h = absurd (cc)
-      none_under (Split _ _) h = absurd (cc)
-      none_under (Claim _ _) h = absurd (cc)
-      none_under (Refuse _) h = absurd (cc)
-      none_under (Cancel _) h = absurd (cc)
-      none_under (Initiate _) h = refl
-      none_under (Decline _) h = refl
-      none_under (Reverse _) h = refl
+      deals_alone : (c : Command) → named_place r.number c ≡ None → least (numbers_under t l r.number r.firm c) ≡ deals_under t l r.number r.firm c
+      deals_alone (Trade _ _ _ _ _) h = absurd (cc)
+      deals_alone (Split _ _) h = absurd (cc)
+      deals_alone (Claim _ _) h = absurd (cc)
+      deals_alone (Refuse _) h = absurd (cc)
+      deals_alone (Cancel _) h = absurd (cc)
+      deals_alone (Agree giver taker rate limit) h = least_one (deals_under t l r.number r.firm (Agree giver taker rate limit))
+      deals_alone (Raise giver lots) h = least_one (deals_under t l r.number r.firm (Raise giver lots))
+      deals_alone (Initiate _) h = refl
+      deals_alone (Decline _) h = refl
+      deals_alone (Reverse _) h = refl
 
-  pub nothing_placed : (k : ℕ) → place_of g k ≡ None → None ≡ standing_on t l k
+  pub nothing_placed : (k : ℕ) → place_of g k ≡ None → option_and_then (λ r. deals_under t l r.number r.firm r.command) (change_of l k) ≡ standing_on t l k
   nothing_placed k none = nothing_named k (change_of l k) refl (sym (shows.places k) ∙ none)
 
   its_tree : (trade : ℕ) (tree : Rose) → tree_of g trade ≡ Some tree → IsTreeOf l trade tree
@@ -212,7 +218,7 @@ module _ (g : Grove) (t : House) (l : List Record) (rises : RisesFrom 0 l) (lega
   from_split k trade p tree v at which (Some r) e named =
       let none = replay_from_legal t l legal in
       let law = looked_up t l r rises none (among l numbered k r e) in
-      by_split l numbered k r e (named_once t l none) trade v (told-at l trade tree (its_tree trade tree at.found) p v at.led) r.command refl named which
+      by_split l numbered k r e t (named_once t l none) trade v (told-at l trade tree (its_tree trade tree at.found) p v at.led) r.command refl named which
       ∙ (sym law ∙ ap (standing_on t l) (number_is l numbered k r e))
 
   -- the Split of the node that a trade made, or that a decision names
@@ -227,7 +233,7 @@ module _ (g : Grove) (t : House) (l : List Record) (rises : RisesFrom 0 l) (lega
   from_parts k trade p tree v at other undecided (Some r) e named =
       let none = replay_from_legal t l legal in
       let law = looked_up t l r rises none (among l numbered k r e) in
-      by_parts l numbered k r e (named_once t l none) trade v (told-at l trade tree (its_tree trade tree at.found) p v at.led) r.command refl named other undecided
+      by_parts l numbered k r e t (named_once t l none) trade v (told-at l trade tree (its_tree trade tree at.found) p v at.led) r.command refl named other undecided
       ∙ (sym law ∙ ap (standing_on t l) (number_is l numbered k r e))
 
   -- the first on the parts that a Split made

@@ -1,22 +1,28 @@
 -- A lawful order of a legal list is legal.
-use Rattle.std.proofs.Common.{◌≡◌, ℕ, ◌+◌, ◌≤◌, Bool, true, false, not, ◌&&◌, ◌||◌, List, [], ◌∷◌, ◌++◌, length, refl, sym, ◌∙◌, ap, subst, arith, cond, Option, All, append_assoc, IsPermutation, map}
+use Rattle.std.proofs.Common.{◌≡◌, ℕ, ◌+◌, ◌≤◌, Bool, true, false, not, ◌&&◌, ◌||◌, List, [], ◌∷◌, ◌++◌, length, refl, sym, ◌∙◌, ap, subst, arith, cond, Option, All, append_assoc, append-nil, IsPermutation, map}
 use Rattle.std.specs.Prelude.{Some, None, count_by, is_none, is_some, nat_lt, ◌==◌}
 use Rattle.std.specs.List.{AllByRecursion}
 use Rattle.std.proofs.lemmas.Bool.Decides.{Decides-eqb}
-use Rattle.std.proofs.lemmas.List.Elements.{All-head, All-tail}
-use Rattle.std.proofs.lemmas.List.Sorted.{All-permutation, length_permutation, sum_by-IsPermutation}
+use Rattle.std.proofs.lemmas.List.Elements.{All-head, All-tail, All-nil, All-cons}
+use Rattle.std.proofs.lemmas.List.Sorted.{All-permutation, length_permutation}
 use Rattle.std.proofs.lemmas.Map.Keys.{IsDistinct-head, IsDistinct-tail}
 use Rattle.gu_base.specs.Numbers.{EntryPart}
 use Rattle.gu_base.specs.House.{House}
 use Rattle.gu_base.specs.Nodes.{node_of, split_of, decision_of, is_given, splits, decides, same_name}
-use Rattle.gu_base.specs.Fees.{charge_of, charge_of_node}
-use Rattle.gu_base.specs.Refusals.{refusal_of, row, split_row, claim_row, refuse_row, cancel_row, is_taker, is_giver, agreement_row, terms, used_by}
+use Rattle.gu_base.specs.House.{agreement}
+use Rattle.gu_base.specs.Terms.{use_of_node, deed_of, dealings_in, dealings, limit_of}
+use Rattle.std.specs.Prelude.{filter_map, option_map, option_and_then}
+use Rattle.std.specs.List.{cons_option}
+use Rattle.gu_base.specs.Refusals.{refusal_of, row, split_row, claim_row, refuse_row, cancel_row, is_taker, is_giver}
 use Rattle.gu_base.specs.Standing.{first_refused, IsLegal}
 use Rattle.gu_base.specs.Orders.{is_ready, in_lawful_order, IsLawfulOrder}
-use Rattle.gu_base.specs.declared.house.Agreement.{Agreement}
+use Rattle.gu_base.specs.declared.house.Deed.{Deed}
+use Rattle.gu_base.specs.declared.house.Deed.TheVariants.{Makes, Raises}
+use Rattle.gu_base.specs.declared.house.Dealing.{Dealing}
+use Rattle.gu_base.proofs.Dealt.{fits, AllFit}
 use Rattle.gu_base.specs.declared.command.Part.{Part}
 use Rattle.gu_base.specs.declared.command.Command.{Command}
-use Rattle.gu_base.specs.declared.command.Command.TheVariants.{Trade, Split, Claim, Refuse, Cancel, Initiate, Decline, Reverse}
+use Rattle.gu_base.specs.declared.command.Command.TheVariants.{Trade, Split, Claim, Refuse, Cancel, Agree, Raise, Initiate, Decline, Reverse}
 use Rattle.gu_base.specs.declared.entry.Record.{Record}
 use Rattle.gu_base.specs.declared.node.Node.{Node}
 use Rattle.gu_base.specs.declared.refusal.Refusal.{Refusal}
@@ -28,9 +34,9 @@ use Rattle.gu_depend.proofs.Finds.{count_cons, count_permuted, find_permuted, no
 use Rattle.gu_depend.proofs.Names.{at_name, node_permuted}
 use Rattle.gu_depend.proofs.NamedOnce.{NamedOnce, named_once}
 use Rattle.gu_depend.proofs.Grown.{Within, Grown, grown_none, grown_push, owns_same, depth_same}
-use Rattle.gu_depend.proofs.Charges.{used_among, uses, KeepsLimits, claim_charge, fits}
-use Rattle.gu_depend.proofs.Settled.{SettledAs, Settled, Facts, facts, front_within, front_short}
-use Rattle.gu_base.proofs.Passing.{none_at_node, SplitHolds, split_accepted, claim_accepted, decision_accepted, refusal_none}
+use Rattle.gu_depend.proofs.Deals.{both_same, dealings_grown, dealings_append, may_raised, claim_within}
+use Rattle.gu_depend.proofs.Settled.{SettledAs, Settled, facts, front_within, front_short}
+use Rattle.gu_base.proofs.Passing.{none_at_node, SplitHolds, split_accepted, claim_accepted, agree_accepted, raise_accepted, decision_accepted, refusal_none}
 use Rattle.gu_base.proofs.NodeNames.{name_is, name_same, node_called}
 
 -- ---- numbers that stand once
@@ -118,6 +124,8 @@ ready_there l b (Claim m _) h n is = moved b m n is h
 ready_there l b (Refuse m) h n is = moved b m n is h
 ready_there l b (Cancel m) h n is = moved b m n is h
 ready_there l b (Trade _ _ _ _ _) h n is = absurd (cc)
+ready_there l b (Agree _ _ _ _) h n is = absurd (cc)
+ready_there l b (Raise _ _) h n is = absurd (cc)
 ready_there l b (Initiate _) h n is = absurd (cc)
 ready_there l b (Decline _) h n is = absurd (cc)
 ready_there l b (Reverse _) h n is = absurd (cc)
@@ -135,18 +143,20 @@ ready_decided l b (Claim _ _) w h n is = absurd (cc)
 ready_decided l b (Refuse _) w h n is = absurd (cc)
 ready_decided l b (Cancel _) w h n is = absurd (cc)
 ready_decided l b (Trade _ _ _ _ _) w h n is = absurd (cc)
+ready_decided l b (Agree _ _ _ _) w h n is = absurd (cc)
+ready_decided l b (Raise _ _) w h n is = absurd (cc)
 ready_decided l b (Initiate _) w h n is = absurd (cc)
 ready_decided l b (Decline _) w h n is = absurd (cc)
 ready_decided l b (Reverse _) w h n is = absurd (cc)
 
 -- what a change finds before it
-record IsDue (t : House) (l b : List Record) (c : Command) : Type 0 where
+record IsDue (t : House) (l b : List Record) (by : List ℕ) (c : Command) : Type 0 where
   grown : Grown l b
   there : (n : EntryPart) → names n c ≡ true → (x : Node) × (node_of b n ≡ Some x)
   decided : (n : EntryPart) → splits n c ≡ true → decision_of b n ≡ decision_of l n
   whole : (n : EntryPart) → splits n c ≡ true → split_of b n ≡ None
   undecided : (n : EntryPart) → decides n c ≡ true → decision_of b n ≡ None
-  afforded : (x : Node) (a : Agreement) → charge_of t l c ≡ charge_of_node t x → terms t x.kind ≡ Some a → agreement_row (used_by t b x.kind + x.lots) (terms t x.kind) ≡ None
+  afforded : (g k : List ℕ) (d : Deed) → deed_of l g k by c ≡ Some d → fits (agreement t g k) (dealings b g k) d ≡ true
 
 -- the node that is there in the one is that of the other
 there_both : (l b : List Record) (n : EntryPart) (x : Node) → Within l b → node_of l n ≡ Some x → (y : Node) × (node_of b n ≡ Some y) → node_of b n ≡ Some x
@@ -166,7 +176,7 @@ split_holds t l b by ps x g found same h = record {
 undecided_named : (b : List Record) (n : EntryPart) (x : Node) → node_of b n ≡ Some x → decision_of b n ≡ None → decision_of b x.name ≡ None
 undecided_named b n x found none = subst (λ (z : EntryPart). decision_of b z ≡ None) (sym (node_called b n x found)) none
 
-accepts : (t : House) (l b : List Record) (by : List ℕ) (c : Command) → SettledAs t l by c → IsDue t l b c → row t b by c ≡ None
+accepts : (t : House) (l b : List Record) (by : List ℕ) (c : Command) → SettledAs t l by c → IsDue t l b by c → row t b by c ≡ None
 accepts t l b by (Trade firm account instrument side lots) s due = s
 accepts t l b by (Split n ps) s due =
     let is : names n (Split n ps) ≡ true = or_true (same_name n n) (name_same n) in
@@ -180,7 +190,7 @@ accepts t l b by (Claim n account) s due =
     let found = there_both l b n s.node due.grown.within s.there (due.there n (name_same n)) in
     none_at_node (claim_row t b by account) (node_of b n) s.node found
     (claim_accepted t b by account s.node s.holds (undecided_named b n s.node found (due.undecided n (name_same n)))
-    (due.afforded s.node s.agreement (claim_charge t l n account s.node s.there) s.agrees))
+    (claim_within t l b n by account s.node s.there due.afforded s.node.kind refl s.holds.given))
 accepts t l b by (Refuse n) s due =
     let found = there_both l b n s.node due.grown.within s.there (due.there n (name_same n)) in
     none_at_node (refuse_row b by) (node_of b n) s.node found
@@ -189,57 +199,133 @@ accepts t l b by (Cancel n) s due =
     let found = there_both l b n s.node due.grown.within s.there (due.there n (name_same n)) in
     none_at_node (cancel_row b by) (node_of b n) s.node found
     (decision_accepted b s.node (is_giver by s.node.kind) s.given (undecided_named b n s.node found (due.undecided n (name_same n))) s.asked)
+accepts t l b by (Agree giver taker rate limit) s due =
+    let made : Deed = Makes (record { rate = rate; limit = limit }) in
+    agree_accepted t b by giver taker rate limit s (due.afforded giver taker made (ap (λ b. cond b (Some made) None) (both_same giver taker)))
+accepts t l b by (Raise giver lots) s due =
+    raise_accepted t b by giver lots s (may_raised lots (limit_of t b giver by) (due.afforded giver by (Raises lots) (ap (λ b. cond b (Some (Raises lots)) None) (both_same giver by))))
 accepts t l b by (Initiate _) s due = refl
 accepts t l b by (Decline _) s due = refl
 accepts t l b by (Reverse _) s due = refl
 
 -- ---- along the order
 
+-- ---- what deals fits
+
+-- for each giver and taker, what some changes deal fits behind what others do; nodes are looked up in the first list
+abbrev pub PairsFit : House → List Record → List Record → List Record → Type 0
+PairsFit t l b rest = (g k : List ℕ) → AllFit (agreement t g k) (dealings_in l b g k) (dealings_in l rest g k)
+
+fit_head_by : (t : House) (l b : List Record) (r : Record) (rest : List Record) (g k : List ℕ) (d : Deed) → deed_of l g k r.firm r.command ≡ Some d
+    → AllFit (agreement t g k) (dealings_in l b g k) (dealings_in l (r ∷ rest) g k) → fits (agreement t g k) (dealings_in l b g k) d ≡ true
+fit_head_by t l b r rest g k d e all =
+    let whole : AllFit (agreement t g k) (dealings_in l b g k) (record { number = r.number; deed = d } ∷ dealings_in l rest g k) =
+    subst (λ o. AllFit (agreement t g k) (dealings_in l b g k) (cons_option (option_map (λ d. record { number = r.number; deed = d }) o) (dealings_in l rest g k))) e all in
+    whole.0
+
+fit_tail_by : (t : House) (l b : List Record) (r : Record) (rest : List Record) (g k : List ℕ) (o : Option Deed) → deed_of l g k r.firm r.command ≡ o
+    → AllFit (agreement t g k) (dealings_in l b g k) (dealings_in l (r ∷ rest) g k) → AllFit (agreement t g k) (dealings_in l (b ++ r ∷ []) g k) (dealings_in l rest g k)
+fit_tail_by t l b r rest g k None e all =
+    subst (λ z. AllFit (agreement t g k) z (dealings_in l rest g k))
+    (sym (dealings_append l b (r ∷ []) g k ∙ (ap (λ o. dealings_in l b g k ++ cons_option (option_map (λ d. record { number = r.number; deed = d }) o) []) e ∙ append-nil (dealings_in l b g k))))
+    (subst (λ o. AllFit (agreement t g k) (dealings_in l b g k) (cons_option (option_map (λ d. record { number = r.number; deed = d }) o) (dealings_in l rest g k))) e all)
+fit_tail_by t l b r rest g k (Some d) e all =
+    let whole : AllFit (agreement t g k) (dealings_in l b g k) (record { number = r.number; deed = d } ∷ dealings_in l rest g k) =
+    subst (λ o. AllFit (agreement t g k) (dealings_in l b g k) (cons_option (option_map (λ d. record { number = r.number; deed = d }) o) (dealings_in l rest g k))) e all in
+    subst (λ z. AllFit (agreement t g k) z (dealings_in l rest g k))
+    (sym (dealings_append l b (r ∷ []) g k ∙ ap (λ o. dealings_in l b g k ++ cons_option (option_map (λ d. record { number = r.number; deed = d }) o) []) e))
+    whole.1
+
+-- ---- along the order
+
 -- what holds of an order as a whole
-record OrderFacts (t : House) (l o : List Record) : Type 0 where
-  finds : SameFinds l o
-  splits_once : (n : EntryPart) → count_by (λ r. splits n r.command) o ≤ 1
-  decisions_once : (n : EntryPart) → count_by (λ r. decides n r.command) o ≤ 1
-  limits : KeepsLimits t (used_among t l o)
+pub record OrderFacts (t : House) (l o : List Record) : Type 0 where
+  pub finds : SameFinds l o
+  pub splits_once : (n : EntryPart) → count_by (λ r. splits n r.command) o ≤ 1
+  pub decisions_once : (n : EntryPart) → count_by (λ r. decides n r.command) o ≤ 1
 
 goes_on : (o : Option Refusal) (n : ℕ) (rest : Option ℕ) → o ≡ None → rest ≡ None → cond (is_some o) (Some n) rest ≡ None
 goes_on o n rest e h = ap (λ p. cond (is_some p) (Some n) rest) e ∙ h
 
-due_here : (t : House) (l o b : List Record) (r : Record) (rest : List Record) → OrderFacts t l o → o ≡ b ++ r ∷ rest → Grown l b → is_ready l b r.command ≡ true → IsDue t l b r.command
-due_here t l o b r rest f e g ready = record {
+due_here : (t : House) (l o b : List Record) (r : Record) (rest : List Record) → OrderFacts t l o → o ≡ b ++ r ∷ rest → Grown l b → is_ready l b r.command ≡ true
+    → ((g k : List ℕ) (d : Deed) → deed_of l g k r.firm r.command ≡ Some d → fits (agreement t g k) (dealings_in l b g k) d ≡ true) → IsDue t l b r.firm r.command
+due_here t l o b r rest f e g ready fit = record {
   grown = g;
   there = ready_there l b r.command ready;
   decided = ready_decided l b r.command g.within ready;
   whole = λ n is. none_before (λ r. splits n r.command) b r rest (subst (λ (z : List Record). count_by (λ r. splits n r.command) z ≤ 1) e (f.splits_once n)) is;
   undecided = λ n is. none_before (λ r. decides n r.command) b r rest (subst (λ (z : List Record). count_by (λ r. decides n r.command) z ≤ 1) e (f.decisions_once n)) is;
-  afforded = λ x a charge are. fits t l b r rest x a g (subst (λ (z : List Record). KeepsLimits t (used_among t l z)) e f.limits) charge are;
+  afforded = λ x y d deals. subst (λ z. fits (agreement t x y) z d ≡ true) (sym (dealings_grown l b x y g)) (fit x y d deals);
 }
 
-lawful_from : (t : House) (l o b rest : List Record) → OrderFacts t l o → o ≡ b ++ rest → Grown l b → All (Settled t l) rest → in_lawful_order l b rest ≡ true → first_refused t b rest ≡ None
-lawful_from t l o b [] f e g all lawful = refl
-lawful_from t l o b (r ∷ rest) f e g all lawful =
+-- a front of an order, each change of which is ready and fits: none of it is refused
+pub record Runs (t : House) (l b rest : List Record) : Type 0 where
+  pub replayed : first_refused t b rest ≡ None
+  pub grown : Grown l (b ++ rest)
+
+pub lawful_from : (t : House) (l o b rest tail : List Record) → OrderFacts t l o → o ≡ b ++ (rest ++ tail) → Grown l b → All (Settled t l) rest → in_lawful_order l b rest ≡ true → PairsFit t l b rest
+    → Runs t l b rest
+lawful_from t l o b [] tail f e g all lawful fit = record { replayed = refl; grown = subst (Grown l) (sym (append-nil b)) g }
+lawful_from t l o b (r ∷ rest) tail f e g all lawful fit =
     let p = and_parts (is_ready l b r.command) (in_lawful_order l (b ++ r ∷ []) rest) lawful in
     let s = All-head (Settled t l) r rest all in
-    let due = due_here t l o b r rest f e g p.0 in
-    let cut : o ≡ (b ++ r ∷ []) ++ rest = e ∙ sym (append_assoc b (r ∷ []) rest) in
-    let more = grown_push l b r g (order_within l o (b ++ r ∷ []) rest f.finds cut) (order_short l o (b ++ r ∷ []) rest f.finds cut) due.there due.decided in
-    goes_on (refusal_of t b r.firm r.command) r.number (first_refused t (b ++ r ∷ []) rest)
-    (refusal_none t b r.firm r.command s.known (accepts t l b r.firm r.command s.stands due))
-    (lawful_from t l o (b ++ r ∷ []) rest f cut more (All-tail (Settled t l) r rest all) p.1)
+    let due = due_here t l o b r (rest ++ tail) f e g p.0 (λ x y d deals. fit_head_by t l b r rest x y d deals (fit x y)) in
+    let cut : o ≡ (b ++ r ∷ []) ++ (rest ++ tail) = e ∙ sym (append_assoc b (r ∷ []) (rest ++ tail)) in
+    let more = grown_push l b r g (order_within l o (b ++ r ∷ []) (rest ++ tail) f.finds cut) (order_short l o (b ++ r ∷ []) (rest ++ tail) f.finds cut) due.there due.decided in
+    let later = lawful_from t l o (b ++ r ∷ []) rest tail f cut more (All-tail (Settled t l) r rest all) p.1 (λ x y. fit_tail_by t l b r rest x y (deed_of l x y r.firm r.command) refl (fit x y)) in
+    record {
+      replayed = goes_on (refusal_of t b r.firm r.command) r.number (first_refused t (b ++ r ∷ []) rest)
+          (refusal_none t b r.firm r.command s.known (accepts t l b r.firm r.command s.stands due)) later.replayed;
+      grown = subst (Grown l) (append_assoc b (r ∷ []) rest) later.grown;
+    }
 
-order_facts : (t : House) (l o : List Record) → IsPermutation l o → NumbersOnce l → NamedOnce l → Facts t l l → OrderFacts t l o
-order_facts t l o same once s f = record {
+pub order_facts : (t : House) (l o : List Record) → IsPermutation l o → NumbersOnce l → NamedOnce l → OrderFacts t l o
+order_facts t l o same once s = record {
   finds = same_finds l o same once s;
   splits_once = λ n. omega (arith, count_permuted (λ r. splits n r.command) l o same, s.splits_once n);
   decisions_once = λ n. omega (arith, count_permuted (λ r. decides n r.command) l o same, s.decisions_once n);
-  limits = λ giver taker a e. omega (arith, sum_by-IsPermutation (uses t l giver taker) l o same, f.limits giver taker a e);
 }
+
+all_front : {X : Type 0} (P : X → Type 0) (xs ys : List X) → All P (xs ++ ys) → All P xs
+all_front P [] ys all = All-nil P
+all_front P (x ∷ xs) ys all = All-cons P x xs (All-head P x (xs ++ ys) all) (all_front P xs ys (All-tail P x (xs ++ ys) all))
+
+-- the same changes, each ready where it stands; what deals may stand elsewhere
+pub record StandsReady (l o : List Record) : Type 0 where
+  pub same : IsPermutation l o
+  pub after_its_node : in_lawful_order l [] o ≡ true
+
+pub ready_replays : (t : House) (l o front tail : List Record) → NumbersOnce l → first_refused t [] l ≡ None → StandsReady l o → o ≡ front ++ tail → in_lawful_order l [] front ≡ true → PairsFit t l [] front
+    → Runs t l [] front
+ready_replays t l o front tail once none lawful e ready fit =
+    let f = facts t l none in
+    let all = All-permutation (Settled t l) l o lawful.same f.settled in
+    lawful_from t l o [] front tail (order_facts t l o lawful.same once (named_once t l none)) e (grown_none l)
+    (all_front (Settled t l) front tail (subst (All (Settled t l)) e all)) ready fit
+
+deed_found : (l o : List Record) → SameFinds l o → (g k by : List ℕ) (c : Command) → deed_of o g k by c ≡ deed_of l g k by c
+deed_found l o f g k by (Claim n account) = ap (option_and_then (use_of_node g k)) (f.nodes n)
+deed_found l o f g k by (Trade _ _ _ _ _) = refl
+deed_found l o f g k by (Split _ _) = refl
+deed_found l o f g k by (Refuse _) = refl
+deed_found l o f g k by (Cancel _) = refl
+deed_found l o f g k by (Agree _ _ _ _) = refl
+deed_found l o f g k by (Raise _ _) = refl
+deed_found l o f g k by (Initiate _) = refl
+deed_found l o f g k by (Decline _) = refl
+deed_found l o f g k by (Reverse _) = refl
+
+-- lists that find the same deal the same
+pub dealings_found : (l o : List Record) → SameFinds l o → (g k : List ℕ) → dealings o g k ≡ dealings_in l o g k
+dealings_found l o f g k =
+    ap (λ (h : Record → Option Dealing). filter_map h o) (λ i r. option_map (λ d. record { number = r.number; deed = d }) (deed_found l o f g k r.firm r.command i))
 
 pub order_replays : (t : House) (l o : List Record) → NumbersOnce l → first_refused t [] l ≡ None → IsLawfulOrder l o → first_refused t [] o ≡ None
 order_replays t l o once none lawful =
     let f = facts t l none in
-    lawful_from t l o [] o (order_facts t l o lawful.same once (named_once t l none) f) refl (grown_none l)
-    (All-permutation (Settled t l) l o lawful.same f.settled) lawful.after_its_node
+    let finds = same_finds l o lawful.same once (named_once t l none) in
+    (ready_replays t l o o [] once none (record { same = lawful.same; after_its_node = lawful.after_its_node }) (sym (append-nil o)) lawful.after_its_node
+    (λ g k. subst (AllFit (agreement t g k) []) (sym (lawful.pairs_stand g k) ∙ dealings_found l o finds g k) (f.deals g k))).replayed
 
 pub order_is_legal : (t : House) (l o : List Record) → HasDistinctNumbers l → IsLegal t l → IsLawfulOrder l o → IsLegal t o
 order_is_legal t l o distinct legal lawful = legal_from_replay t o (order_replays t l o (number_once l distinct) (replay_from_legal t l legal) lawful)

@@ -1,16 +1,15 @@
 -- What holds of the changes of a legal list over the whole list, wherever each of them stands.
-use Rattle.std.proofs.Common.{◌≡◌, ℕ, ◌+◌, ◌≤◌, Bool, true, false, not, ◌&&◌, List, [], ◌∷◌, ◌++◌, length, length-append, refl, sym, ◌∙◌, ap, subst, arith, Option, All, append-nil, append_assoc, inl, inr}
+use Rattle.std.proofs.Common.{◌≡◌, ℕ, ◌≤◌, Bool, true, false, not, ◌&&◌, List, [], ◌∷◌, ◌++◌, length, length-append, refl, sym, ◌∙◌, ap, subst, arith, Option, All, append-nil, append_assoc, inl, inr}
 use Rattle.std.specs.Prelude.{Some, None, is_none, nat_lt}
 use Rattle.std.proofs.lemmas.List.Elements.{All-nil, All-push}
 use Rattle.gu_base.specs.Numbers.{EntryPart}
 use Rattle.gu_base.specs.House.{House, knows_firm}
 use Rattle.gu_base.specs.Nodes.{node_of, decision_of, is_offered, is_given, splits, decides}
-use Rattle.gu_base.specs.Refusals.{refusal_of, row, trade_row, split_row, claim_row, refuse_row, cancel_row, is_taker, is_giver, terms, used_by}
+use Rattle.gu_base.specs.Refusals.{refusal_of, row, trade_row, split_row, claim_row, refuse_row, cancel_row, is_taker, is_giver}
 use Rattle.gu_base.specs.Standing.{first_refused}
-use Rattle.gu_base.specs.declared.house.Agreement.{Agreement}
 use Rattle.gu_base.specs.declared.command.Part.{Part}
 use Rattle.gu_base.specs.declared.command.Command.{Command}
-use Rattle.gu_base.specs.declared.command.Command.TheVariants.{Trade, Split, Claim, Refuse, Cancel, Initiate, Decline, Reverse}
+use Rattle.gu_base.specs.declared.command.Command.TheVariants.{Trade, Split, Claim, Refuse, Cancel, Agree, Raise, Initiate, Decline, Reverse}
 use Rattle.gu_base.specs.declared.entry.Record.{Record}
 use Rattle.gu_base.specs.declared.node.Kind.{Kind}
 use Rattle.gu_base.specs.declared.node.Node.{Node}
@@ -21,9 +20,15 @@ use Rattle.gu_depend.proofs.Finds.{find_more}
 use Rattle.gu_depend.proofs.Names.{at_name}
 use Rattle.gu_depend.proofs.NamedOnce.{NamedOnce, named_once}
 use Rattle.gu_depend.proofs.Grown.{Within, Grown, grown_none, grown_push, owns_same, depth_same}
-use Rattle.gu_depend.proofs.Charges.{agreed, used_among, KeepsLimits, keeps_push}
+use Rattle.gu_depend.proofs.Deals.{deed_grown, dealings_grown, dealings_append, row_fits}
+use Rattle.gu_base.specs.House.{agreement}
+use Rattle.gu_base.specs.Terms.{deed_of, dealings_in}
+use Rattle.std.specs.List.{cons_option}
+use Rattle.std.specs.Prelude.{option_map}
+use Rattle.gu_base.specs.declared.house.Deed.{Deed}
+use Rattle.gu_base.proofs.Dealt.{fits, AllFit, fit_append}
 use Rattle.std.proofs.lemmas.Option.{same_Some}
-use Rattle.gu_base.proofs.Passing.{at_node_none, split_passes, SplitHolds, claim_passes, ClaimHolds, decision_passes, refusal_parts, splits_well, decides_well}
+use Rattle.gu_base.proofs.Passing.{at_node_none, split_passes, SplitHolds, claim_passes, ClaimHolds, agree_passes, AgreeHolds, raise_passes, decision_passes, refusal_parts, splits_well, decides_well}
 use Rattle.gu_base.proofs.NodeNames.{node_called}
 use Rattle.gu_base.proofs.Basics.{no_some}
 use Rattle.std.proofs.lemmas.Bool.{or_cases}
@@ -37,8 +42,6 @@ pub record SettledClaim (t : House) (l : List Record) (by : List ℕ) (n : Entry
   pub node : Node
   pub there : node_of l n ≡ Some node
   pub holds : ClaimHolds t by account node
-  pub agreement : Agreement
-  pub agrees : terms t node.kind ≡ Some agreement
 
 pub record SettledDecision (l : List Record) (n : EntryPart) (yours : Kind → Bool) : Type 0 where
   pub node : Node
@@ -52,6 +55,8 @@ SettledAs t l by (Split n ps) = SettledSplit t l by n ps
 SettledAs t l by (Claim n account) = SettledClaim t l by n account
 SettledAs t l by (Refuse n) = SettledDecision l n (is_taker by)
 SettledAs t l by (Cancel n) = SettledDecision l n (is_giver by)
+SettledAs t l by (Agree giver taker rate limit) = AgreeHolds t by giver taker rate limit
+SettledAs t l by (Raise giver lots) = knows_firm t giver ≡ true
 SettledAs t l by _ = Unit {0}
 
 pub record Settled (t : House) (l : List Record) (r : Record) : Type 0 where
@@ -108,13 +113,10 @@ settles t l b by (Split n ps) s g h =
 settles t l b by (Claim n account) s g h =
     let there = at_node_none (claim_row t b by account) (node_of b n) h in
     let passes = claim_passes t b by account there.0 there.1.1 in
-    let terms_are = agreed (used_by t b there.0.kind + there.0.lots) (terms t there.0.kind) passes.2 in
     record {
       node = there.0;
       there = g.within.nodes n there.0 there.1.0;
       holds = passes.0;
-      agreement = terms_are.terms_of;
-      agrees = terms_are.are;
     }
 settles t l b by (Refuse n) s g h =
     let there = at_node_none (refuse_row b by) (node_of b n) h in
@@ -124,6 +126,8 @@ settles t l b by (Cancel n) s g h =
     let there = at_node_none (cancel_row b by) (node_of b n) h in
     let passes = decision_passes b there.0 (is_giver by there.0.kind) there.1.1 in
     record { node = there.0; there = g.within.nodes n there.0 there.1.0; given = passes.0; asked = passes.2 }
+settles t l b by (Agree giver taker rate limit) s g h = (agree_passes t b by giver taker rate limit h).0
+settles t l b by (Raise giver lots) s g h = (raise_passes t b by giver lots h).0
 settles t l b by (Initiate _) s g h = tt
 settles t l b by (Decline _) s g h = tt
 settles t l b by (Reverse _) s g h = tt
@@ -151,7 +155,19 @@ front_short l b rest e = omega (arith, length-append b rest, ap length e)
 pub record Facts (t : House) (l b : List Record) : Type 0 where
   pub grown : Grown l b
   pub settled : All (Settled t l) b
-  pub limits : KeepsLimits t (used_among t l b)
+  pub deals : (giver taker : List ℕ) → AllFit (agreement t giver taker) [] (dealings_in l b giver taker)
+
+-- one more change that is accepted fits
+deals_push : (t : House) (l b : List Record) (r : Record) → Facts t l b → (g k : List ℕ) → row t b r.firm r.command ≡ None → (o : Option Deed) → deed_of l g k r.firm r.command ≡ o
+    → AllFit (agreement t g k) [] (dealings_in l (b ++ r ∷ []) g k)
+deals_push t l b r f g k h None e =
+    subst (AllFit (agreement t g k) []) (sym (dealings_append l b (r ∷ []) g k ∙ (ap (λ o. dealings_in l b g k ++ cons_option (option_map (λ d. record { number = r.number; deed = d }) o) []) e ∙ append-nil (dealings_in l b g k))))
+    (f.deals g k)
+deals_push t l b r f g k h (Some d) e =
+    let same : deed_of b g k r.firm r.command ≡ Some d = deed_grown l b g k r.firm r.command f.grown.within (accepted_there t b r.firm r.command h) ∙ e in
+    let fit : fits (agreement t g k) (dealings_in l b g k) d ≡ true = subst (λ z. fits (agreement t g k) z d ≡ true) (dealings_grown l b g k f.grown) (row_fits t b g k r.firm r.command d h same) in
+    subst (AllFit (agreement t g k) []) (sym (dealings_append l b (r ∷ []) g k ∙ ap (λ o. dealings_in l b g k ++ cons_option (option_map (λ d. record { number = r.number; deed = d }) o) []) e))
+    (fit_append (agreement t g k) [] (dealings_in l b g k) (record { number = r.number; deed = d } ∷ []) (f.deals g k) (fit, tt))
 
 facts_push : (t : House) (l b : List Record) (r : Record) → NamedOnce l → Within l (b ++ r ∷ []) → length (b ++ r ∷ []) ≤ length l → Facts t l b → refusal_of t b r.firm r.command ≡ None → Facts t l (b ++ r ∷ [])
 facts_push t l b r s w short f h =
@@ -160,7 +176,7 @@ facts_push t l b r s w short f h =
       grown = grown_push l b r f.grown w short (accepted_there t b r.firm r.command p.1)
           (λ n is. let y = splits_well t b r.firm r.command n p.1 is in free_decided l b n y.node s f.grown.within y.there y.free);
       settled = All-push (Settled t l) b r f.settled (record { known = p.0; stands = settles t l b r.firm r.command s f.grown p.1 });
-      limits = keeps_push t l b r f.grown f.limits p.1;
+      deals = λ g k. deals_push t l b r f g k p.1 (deed_of l g k r.firm r.command) refl;
     }
 
 -- along the list, up to a front of it
@@ -173,7 +189,7 @@ facts_to t l b (r ∷ front) rest s e f none =
     (facts_to t l (b ++ r ∷ []) front rest s cut (facts_push t l b r s (front_within l (b ++ r ∷ []) (front ++ rest) cut) (front_short l (b ++ r ∷ []) (front ++ rest) cut) f p.0) p.1)
 
 facts_none : (t : House) (l : List Record) → Facts t l []
-facts_none t l = record { grown = grown_none l; settled = All-nil (Settled t l); limits = λ giver taker a e. omega arith }
+facts_none t l = record { grown = grown_none l; settled = All-nil (Settled t l); deals = λ giver taker. tt }
 
 -- what holds of a front of a legal list, over the whole list
 pub front_facts : (t : House) (l front rest : List Record) → l ≡ front ++ rest → first_refused t [] l ≡ None → Facts t l front

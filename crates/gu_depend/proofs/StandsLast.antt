@@ -1,5 +1,5 @@
 -- A change that stands under none of those behind it can stand behind them all.
-use Rattle.std.proofs.Common.{◌≡◌, ℕ, Bool, true, false, ◌&&◌, ◌||◌, List, [], ◌∷◌, ◌++◌, refl, sym, ◌∙◌, ap, subst, cond, Option, Contains, All, append-nil, append_assoc, inl, inr}
+use Rattle.std.proofs.Common.{◌≡◌, ℕ, ◌+◌, Bool, true, false, ◌&&◌, ◌||◌, List, [], ◌∷◌, ◌++◌, refl, sym, ◌∙◌, ap, subst, cond, Option, Contains, All, append-nil, append_assoc, inl, inr}
 use Rattle.std.specs.Prelude.{Some, None, find, is_some, is_none, option_and_then}
 use Rattle.std.specs.Option.{option_or}
 use Rattle.std.specs.List.{list_any}
@@ -10,24 +10,40 @@ use Rattle.gu_base.specs.House.{House}
 use Rattle.gu_base.specs.Nodes.{node_of, nodes_of, decision_of, is_given, same_name, splits, decides}
 use Rattle.gu_base.specs.Refusals.{refusal_of, row}
 use Rattle.gu_base.specs.Standing.{first_refused}
-use Rattle.gu_base.specs.Orders.{is_ready, in_lawful_order, IsLawfulOrder}
+use Rattle.gu_base.specs.Orders.{is_ready, in_lawful_order}
 use Rattle.gu_base.specs.declared.command.Command.{Command}
-use Rattle.gu_base.specs.declared.command.Command.TheVariants.{Trade, Split, Claim, Refuse, Cancel, Initiate, Decline, Reverse}
+use Rattle.gu_base.specs.declared.command.Command.TheVariants.{Trade, Split, Claim, Refuse, Cancel, Agree, Raise, Initiate, Decline, Reverse}
 use Rattle.gu_base.specs.declared.entry.Record.{Record}
 use Rattle.gu_base.specs.declared.node.Kind.TheVariants.{Root}
 use Rattle.gu_base.specs.declared.node.Node.{Node}
 use Rattle.gu_base.specs.declared.refusal.Refusal.{Refusal}
 use Rattle.gu_base.proofs.Basics.{or_none, no_some}
 use Rattle.std.proofs.lemmas.Bool.{and_parts, or_cases, false_from_ne_true}
-use Rattle.gu_base.proofs.LegalLaws.{none_refused, replay_front}
-use Rattle.gu_depend.specs.Under.{names, is_under, stands_under}
+use Rattle.gu_base.proofs.LegalLaws.{none_refused}
+use Rattle.gu_depend.specs.Under.{names, is_under, stands_under, deals_under}
 use Rattle.gu_depend.proofs.Finds.{found_once}
 use Rattle.gu_depend.proofs.Names.{makes, node_by_maker, makers_once, made_alone}
 use Rattle.gu_depend.proofs.NamedOnce.{NamedOnce, named_once}
 use Rattle.gu_depend.proofs.Grown.{Within}
-use Rattle.gu_depend.proofs.Settled.{free_decided, front_within}
-use Rattle.gu_depend.proofs.Replay.{NumbersOnce, order_replays}
-use Rattle.gu_depend.proofs.Cuts.{moved_to_end, stands_between}
+use Rattle.gu_depend.proofs.Settled.{free_decided, front_within, accepted_there, facts}
+use Rattle.gu_depend.proofs.Deals.{deed_grown, dealings_grown, dealings_append, row_fits, deal_is, same_pair, unfit_without, left_out, deal_cut}
+use Rattle.gu_base.specs.House.{agreement}
+use Rattle.gu_base.specs.Terms.{deed_of, dealings_in, dealings}
+use Rattle.gu_base.specs.Dealt.{leave_out, first_under_deed}
+use Rattle.gu_base.specs.Standing.{without}
+use Rattle.gu_base.specs.declared.house.Deed.{Deed}
+use Rattle.gu_base.specs.declared.house.Dealing.{Dealing}
+use Rattle.gu_base.proofs.Dealt.{fits, AllFit, first_unfit, none_unfit, fit_front, unfit_cut}
+use Rattle.std.specs.List.{cons_option}
+use Rattle.std.specs.Prelude.{option_map, ◌==◌}
+use Rattle.std.proofs.lemmas.Bool.Decides.{Decides-eqb}
+use Rattle.gu_depend.proofs.Replay.{NumbersOnce, StandsReady, PairsFit, ready_replays, same_finds, dealings_found}
+use Rattle.gu_depend.proofs.State.{state_same}
+use Rattle.gu_depend.specs.Same.{IsSameState}
+use Rattle.gu_base.proofs.Dealt.{fit_last, terms_last, raised_last, used_last}
+use Rattle.gu_base.specs.Terms.{terms_under, raised_under, limit_under, used_under, terms_of, limit_of, used_of}
+use Rattle.gu_base.specs.declared.house.Agreement.{Agreement}
+use Rattle.gu_depend.proofs.Cuts.{moved_to_end, stands_between, filter_one}
 use Rattle.std.proofs.lemmas.Option.{same_Some}
 use Rattle.gu_base.proofs.Passing.{refusal_parts, splits_well, decides_well}
 use Rattle.gu_base.proofs.NodeNames.{name_is, name_same, made_of, node_cut}
@@ -75,6 +91,8 @@ undecided_by k by (Refuse m) c n un is = other_name m n c un is
 undecided_by k by (Cancel m) c n un is = other_name m n c un is
 undecided_by k by (Trade _ _ _ _ _) c n un is = refl
 undecided_by k by (Split _ _) c n un is = refl
+undecided_by k by (Agree _ _ _ _) c n un is = refl
+undecided_by k by (Raise _ _) c n un is = refl
 undecided_by k by (Initiate _) c n un is = refl
 undecided_by k by (Decline _) c n un is = refl
 undecided_by k by (Reverse _) c n un is = refl
@@ -107,6 +125,8 @@ unmade_by k by (Split m ps) c n un is given =
 unmade_by k by (Claim _ _) c n un is given = refl
 unmade_by k by (Refuse _) c n un is given = refl
 unmade_by k by (Cancel _) c n un is given = refl
+unmade_by k by (Agree _ _ _ _) c n un is given = refl
+unmade_by k by (Raise _ _) c n un is given = refl
 unmade_by k by (Initiate _) c n un is given = refl
 unmade_by k by (Decline _) c n un is given = refl
 unmade_by k by (Reverse _) c n un is given = refl
@@ -146,6 +166,8 @@ accepted_ready t l b by (Claim n account) s w h = ap is_some (decides_well t b b
 accepted_ready t l b by (Refuse n) s w h = ap is_some (decides_well t b by (Refuse n) n h (name_same n)).there
 accepted_ready t l b by (Cancel n) s w h = ap is_some (decides_well t b by (Cancel n) n h (name_same n)).there
 accepted_ready t l b by (Trade _ _ _ _ _) s w h = refl
+accepted_ready t l b by (Agree _ _ _ _) s w h = refl
+accepted_ready t l b by (Raise _ _) s w h = refl
 accepted_ready t l b by (Initiate _) s w h = refl
 accepted_ready t l b by (Decline _) s w h = refl
 accepted_ready t l b by (Reverse _) s w h = refl
@@ -180,6 +202,8 @@ ready_with_one_less l x y k (Claim n account) s a h = ap is_some (sym (s.nodes_s
 ready_with_one_less l x y k (Refuse n) s a h = ap is_some (sym (s.nodes_same n (a.unmade n (name_same n)))) ∙ h
 ready_with_one_less l x y k (Cancel n) s a h = ap is_some (sym (s.nodes_same n (a.unmade n (name_same n)))) ∙ h
 ready_with_one_less l x y k (Trade _ _ _ _ _) s a h = refl
+ready_with_one_less l x y k (Agree _ _ _ _) s a h = refl
+ready_with_one_less l x y k (Raise _ _) s a h = refl
 ready_with_one_less l x y k (Initiate _) s a h = refl
 ready_with_one_less l x y k (Decline _) s a h = refl
 ready_with_one_less l x y k (Reverse _) s a h = refl
@@ -208,6 +232,8 @@ ready_more l b z (Claim n account) h = node_more_is b z n h
 ready_more l b z (Refuse n) h = node_more_is b z n h
 ready_more l b z (Cancel n) h = node_more_is b z n h
 ready_more l b z (Trade _ _ _ _ _) h = refl
+ready_more l b z (Agree _ _ _ _) h = refl
+ready_more l b z (Raise _ _) h = refl
 ready_more l b z (Initiate _) h = refl
 ready_more l b z (Decline _) h = refl
 ready_more l b z (Reverse _) h = refl
@@ -239,10 +265,20 @@ order_beside t l x y (r ∷ s) tail k once among sn beside e none un last =
     (order_beside t l (x ++ r ∷ []) (y ++ r ∷ []) s tail k once among sn (one_less_push k x y (r ∷ []) beside) cut p.1 (All-tail (λ e. stands_under k e ≡ false) r s un)
     (subst (λ (z : List Record). in_lawful_order l z tail ≡ true) (sym (append_assoc y (r ∷ []) s)) last))
 
--- the change moved behind those that it doesn't stand under
-pub moved_lawful : (t : House) (p : List Record) (k : Record) (s : List Record) → NumbersOnce (p ++ k ∷ s) → first_refused t [] (p ++ k ∷ s) ≡ None
-    → All (λ e. stands_under k e ≡ false) s → IsLawfulOrder (p ++ k ∷ s) ((p ++ s) ++ k ∷ [])
-moved_lawful t p k s once none un =
+-- the change moved behind those that it doesn't stand under: each is ready where it stands
+pub record MovesBehind (p : List Record) (k : Record) (s : List Record) : Type 0 where
+  pub order : StandsReady (p ++ k ∷ s) ((p ++ s) ++ k ∷ [])
+  pub others : in_lawful_order (p ++ k ∷ s) [] (p ++ s) ≡ true
+
+ready_front : (l b front tail : List Record) → in_lawful_order l b (front ++ tail) ≡ true → in_lawful_order l b front ≡ true
+ready_front l b [] tail h = refl
+ready_front l b (r ∷ front) tail h =
+    let p = and_parts (is_ready l b r.command) (in_lawful_order l (b ++ r ∷ []) (front ++ tail)) h in
+    both_true (is_ready l b r.command) (in_lawful_order l (b ++ r ∷ []) front) p.0 (ready_front l (b ++ r ∷ []) front tail p.1)
+
+pub moves_behind : (t : House) (p : List Record) (k : Record) (s : List Record) → NumbersOnce (p ++ k ∷ s) → first_refused t [] (p ++ k ∷ s) ≡ None
+    → All (λ e. stands_under k e ≡ false) s → MovesBehind p k s
+moves_behind t p k s once none un =
     let l : List Record = p ++ k ∷ s in
     let sn = named_once t l none in
     let here = none_refused (refusal_of t p k.firm k.command) k.number (first_refused t (p ++ k ∷ []) s) (replay_rest t [] p (k ∷ s) none) in
@@ -250,13 +286,157 @@ moved_lawful t p k s once none un =
     let last : in_lawful_order l (p ++ s) (k ∷ []) ≡ true = both_true (is_ready l (p ++ s) k.command) true (ready_more l p s k.command ready) refl in
     let behind = order_beside t l (p ++ k ∷ []) p s (k ∷ []) k once (stands_between p k s) sn (one_less_start k p) (sym (append_assoc p (k ∷ []) s)) here.1 un last in
     let all = order_front t l [] p (k ∷ s) (s ++ k ∷ []) sn refl none behind in
+    let whole : in_lawful_order l [] ((p ++ s) ++ k ∷ []) ≡ true = subst (λ (z : List Record). in_lawful_order l [] z ≡ true) (sym (append_assoc p s (k ∷ []))) all in
     record {
-      same = moved_to_end p k s;
-      after_its_node = subst (λ (z : List Record). in_lawful_order l [] z ≡ true) (sym (append_assoc p s (k ∷ []))) all;
+      order = record { same = moved_to_end p k s; after_its_node = whole };
+      others = ready_front l [] (p ++ s) (k ∷ []) whole;
     }
 
--- without a change that stands under none of those behind it, none of them is refused
-pub replays_without : (t : House) (p : List Record) (k : Record) (s : List Record) → NumbersOnce (p ++ k ∷ s) → first_refused t [] (p ++ k ∷ s) ≡ None
-    → All (λ e. stands_under k e ≡ false) s → first_refused t [] (p ++ s) ≡ None
-replays_without t p k s once none un =
-    replay_front t [] (p ++ s) (k ∷ []) (order_replays t (p ++ k ∷ s) ((p ++ s) ++ k ∷ []) once none (moved_lawful t p k s once none un))
+-- ---- what deals, without one change
+
+module _ (t : House) (p : List Record) (k : Record) (s : List Record) (once : NumbersOnce (p ++ k ∷ s)) (none : first_refused t [] (p ++ k ∷ s) ≡ None) where
+  abbrev pub whole : List Record
+  whole = p ++ k ∷ s
+
+  pub deals_whole : (x y : List ℕ) → AllFit (agreement t x y) [] (dealings whole x y)
+  deals_whole x y = (facts t whole none).deals x y
+
+  pub gone : without whole k.number ≡ p ++ s
+  gone = filter_one (λ r. r.number == k.number) p k s ((Decides-eqb k.number k.number).1 refl) (once k.number)
+
+  -- the dealings, cut at the change
+  pub deals_cut : (x y : List ℕ) (o : Option Deed) → deed_of whole x y k.firm k.command ≡ o
+      → dealings whole x y ≡ dealings_in whole p x y ++ cons_option (option_map (λ d. record { number = k.number; deed = d }) o) (dealings_in whole s x y)
+  deals_cut x y o e =
+      dealings_append whole p (k ∷ s) x y
+      ∙ ap (λ o. dealings_in whole p x y ++ cons_option (option_map (λ d. record { number = k.number; deed = d }) o) (dealings_in whole s x y)) e
+
+  pub deals_left : (x y : List ℕ) → dealings_in whole (p ++ s) x y ≡ dealings_in whole p x y ++ dealings_in whole s x y
+  deals_left x y = dealings_append whole p s x y
+
+  left_here : (x y : List ℕ) (d : Deed) → deed_of whole x y k.firm k.command ≡ Some d
+      → leave_out k.number (dealings_in whole p x y ++ record { number = k.number; deed = d } ∷ dealings_in whole s x y) ≡ dealings_in whole p x y ++ dealings_in whole s x y
+  left_here x y d e =
+      ap (leave_out k.number) (sym (deals_cut x y (Some d) e))
+      ∙ (left_out whole x y k.number whole ∙ (ap (λ z. dealings_in whole z x y) gone ∙ deals_left x y))
+
+  -- where the change deals for them, the first that doesn't fit without it is the first that stands on it
+  pub unfit_here : (x y : List ℕ) (d : Deed) → deed_of whole x y k.firm k.command ≡ Some d
+      → first_unfit (agreement t x y) [] (dealings_in whole (p ++ s) x y) ≡ deals_under t whole k.number k.firm k.command
+  unfit_here x y d e =
+      let cut = deals_cut x y (Some d) e in
+      let all = subst (AllFit (agreement t x y) []) cut (deals_whole x y) in
+      ap (first_unfit (agreement t x y) []) (deals_left x y)
+      ∙ (unfit_without (agreement t x y) (dealings_in whole p x y) (record { number = k.number; deed = d }) (dealings_in whole s x y) all (left_here x y d e)
+      ∙ (ap (λ z. first_under_deed (agreement t x y) z k.number d) (sym cut)
+      ∙ sym (deal_is t whole x y k.number k.firm k.command d e)))
+
+  -- for all others, each fits
+  pub fit_others : (x y : List ℕ) → deed_of whole x y k.firm k.command ≡ None → AllFit (agreement t x y) [] (dealings_in whole (p ++ s) x y)
+  fit_others x y e = subst (AllFit (agreement t x y) []) (deals_cut x y None e ∙ sym (deals_left x y)) (deals_whole x y)
+
+  fit_where_by : (x y : List ℕ) → deals_under t whole k.number k.firm k.command ≡ None → (o : Option Deed) → deed_of whole x y k.firm k.command ≡ o → AllFit (agreement t x y) [] (dealings_in whole (p ++ s) x y)
+  fit_where_by x y under None e = fit_others x y e
+  fit_where_by x y under (Some d) e = none_unfit (agreement t x y) [] (dealings_in whole (p ++ s) x y) (unfit_here x y d e ∙ under)
+
+  -- where nothing stands on what it deals, all others fit
+  pub fit_without : deals_under t whole k.number k.firm k.command ≡ None → PairsFit t whole [] (p ++ s)
+  fit_without under x y = fit_where_by x y under (deed_of whole x y k.firm k.command) refl
+
+  -- so without it none is refused
+  pub replays_without : All (λ e. stands_under k e ≡ false) s → deals_under t whole k.number k.firm k.command ≡ None → first_refused t [] (p ++ s) ≡ None
+  replays_without un under =
+      let m = moves_behind t p k s once none un in
+      (ready_replays t whole ((p ++ s) ++ k ∷ []) (p ++ s) (k ∷ []) once none m.order refl m.others (fit_without under)).replayed
+
+  -- ---- and where what deals is refused
+
+  -- a front of the others, before the first dealing that doesn't fit
+  front_fits_by : (x y : List ℕ) (front : List Record) (change : Record) (behind : List Record) → p ++ s ≡ front ++ change ∷ behind
+      → (d : Deed) → deed_of whole x y k.firm k.command ≡ Some d → AllFit (agreement t x y) [] (dealings_in whole front x y)
+      → (u v : List ℕ) → (o : Option Deed) → deed_of whole u v k.firm k.command ≡ o → AllFit (agreement t u v) [] (dealings_in whole front u v)
+  front_fits_by x y front change behind cut d deals fit u v None e =
+      fit_front (agreement t u v) [] (dealings_in whole front u v) (dealings_in whole (change ∷ behind) u v)
+      (subst (AllFit (agreement t u v) []) (ap (λ z. dealings_in whole z u v) cut ∙ dealings_append whole front (change ∷ behind) u v) (fit_others u v e))
+  front_fits_by x y front change behind cut d deals fit u v (Some f) e =
+      let same = same_pair whole x y u v k.firm k.command d f deals e in
+      subst (λ z. AllFit (agreement t u z) [] (dealings_in whole front u z)) same.1 (subst (λ z. AllFit (agreement t z y) [] (dealings_in whole front z y)) same.0 fit)
+
+  pub stops_at : (x y : List ℕ) (d : Deed) → deed_of whole x y k.firm k.command ≡ Some d → All (λ e. stands_under k e ≡ false) s
+      → (n : ℕ) → first_unfit (agreement t x y) [] (dealings_in whole (p ++ s) x y) ≡ Some n → first_refused t [] (p ++ s) ≡ Some n
+  stops_at x y d deals un n unfit =
+      let c = unfit_cut (agreement t x y) [] (dealings_in whole (p ++ s) x y) n unfit in
+      let r = deal_cut whole (p ++ s) x y c.before c.deal c.behind c.is in
+      let m = moves_behind t p k s once none un in
+      let order : (p ++ s) ++ k ∷ [] ≡ r.front ++ ((r.change ∷ r.behind) ++ k ∷ []) = ap (λ z. z ++ k ∷ []) r.is ∙ append_assoc r.front (r.change ∷ r.behind) (k ∷ []) in
+      let ready = ready_front whole [] r.front (r.change ∷ r.behind) (subst (λ (z : List Record). in_lawful_order whole [] z ≡ true) r.is m.others) in
+      let fit_here : AllFit (agreement t x y) [] (dealings_in whole r.front x y) = subst (AllFit (agreement t x y) []) (sym r.deals) c.fit in
+      let runs = ready_replays t whole ((p ++ s) ++ k ∷ []) r.front ((r.change ∷ r.behind) ++ k ∷ []) once none m.order order ready
+      (λ u v. front_fits_by x y r.front r.change r.behind r.is d deals fit_here u v (deed_of whole u v k.firm k.command) refl) in
+      let refused : refusal_of t r.front r.change.firm r.change.command ≡ None → ⊥ = λ accepted.
+      let row_none = (refusal_parts t r.front r.change.firm r.change.command accepted).1 in
+      let deed : deed_of r.front x y r.change.firm r.change.command ≡ Some c.deal.deed =
+      deed_grown whole r.front x y r.change.firm r.change.command runs.grown.within (accepted_there t r.front r.change.firm r.change.command row_none) ∙ r.deed_is in
+      let fit = row_fits t r.front x y r.change.firm r.change.command c.deal.deed row_none deed in
+      let no : fits (agreement t x y) (dealings r.front x y) c.deal.deed ≡ false =
+      ap (λ z. fits (agreement t x y) z c.deal.deed) (dealings_grown whole r.front x y runs.grown ∙ r.deals) ∙ c.unfit in
+      not_both (fits (agreement t x y) (dealings r.front x y) c.deal.deed) fit no in
+      ap (first_refused t []) r.is
+      ∙ (replay_stops t [] r.front r.change r.behind runs.replayed refused ∙ ap (λ z. Some z) (r.number ∙ c.number))
+
+  -- ---- the change last, where the others alone fit
+
+  abbrev last : List Record
+  last = (p ++ s) ++ k ∷ []
+
+  deals_last : (x y : List ℕ) (o : Option Deed) → deed_of whole x y k.firm k.command ≡ o
+      → dealings_in whole last x y ≡ (dealings_in whole p x y ++ dealings_in whole s x y) ++ cons_option (option_map (λ d. record { number = k.number; deed = d }) o) []
+  deals_last x y o e =
+      dealings_append whole (p ++ s) (k ∷ []) x y
+      ∙ (ap (λ z. z ++ dealings_in whole (k ∷ []) x y) (deals_left x y)
+      ∙ ap (λ o. (dealings_in whole p x y ++ dealings_in whole s x y) ++ cons_option (option_map (λ d. record { number = k.number; deed = d }) o) []) e)
+
+  fit_last_by : PairsFit t whole [] (p ++ s) → (x y : List ℕ) (o : Option Deed) → deed_of whole x y k.firm k.command ≡ o → AllFit (agreement t x y) [] (dealings_in whole last x y)
+  fit_last_by others x y None e =
+      subst (AllFit (agreement t x y) []) (sym (deals_last x y None e ∙ (append-nil (dealings_in whole p x y ++ dealings_in whole s x y) ∙ sym (deals_left x y)))) (others x y)
+  fit_last_by others x y (Some d) e =
+      subst (AllFit (agreement t x y) []) (sym (deals_last x y (Some d) e))
+      (fit_last (agreement t x y) (dealings_in whole p x y) (record { number = k.number; deed = d }) (dealings_in whole s x y)
+      (subst (AllFit (agreement t x y) []) (deals_cut x y (Some d) e) (deals_whole x y)) (subst (AllFit (agreement t x y) []) (deals_left x y) (others x y)))
+
+  found_last : All (λ e. stands_under k e ≡ false) s → (x y : List ℕ) → dealings last x y ≡ dealings_in whole last x y
+  found_last un x y = dealings_found whole last (same_finds whole last (moved_to_end p k s) once (named_once t whole none)) x y
+
+  -- the terms, the limit and the use of a giver and a taker are the same
+  same_by : All (λ e. stands_under k e ≡ false) s → PairsFit t whole [] (p ++ s) → (x y : List ℕ) (o : Option Deed) → deed_of whole x y k.firm k.command ≡ o
+      → (terms_of t last x y ≡ terms_of t whole x y) × ((limit_of t last x y ≡ limit_of t whole x y) × (used_of last x y ≡ used_of whole x y))
+  same_by un others x y None e =
+      let same : dealings last x y ≡ dealings whole x y =
+      found_last un x y ∙ (deals_last x y None e ∙ (append-nil (dealings_in whole p x y ++ dealings_in whole s x y) ∙ sym (deals_cut x y None e))) in
+      (ap (terms_under (agreement t x y)) same, (ap (limit_under (agreement t x y)) same, ap used_under same))
+  same_by un others x y (Some d) e =
+      let xs = dealings_in whole p x y in
+      let ys = dealings_in whole s x y in
+      let kd : Dealing = record { number = k.number; deed = d } in
+      let new : dealings last x y ≡ (xs ++ ys) ++ kd ∷ [] = found_last un x y ∙ deals_last x y (Some d) e in
+      let old : dealings whole x y ≡ xs ++ kd ∷ ys = deals_cut x y (Some d) e in
+      let terms : terms_of t last x y ≡ terms_of t whole x y =
+      ap (terms_under (agreement t x y)) new
+      ∙ (terms_last (agreement t x y) xs kd ys (subst (AllFit (agreement t x y) []) old (deals_whole x y)) (subst (AllFit (agreement t x y) []) (deals_left x y) (others x y))
+      ∙ sym (ap (terms_under (agreement t x y)) old)) in
+      let raised : raised_under (dealings last x y) ≡ raised_under (dealings whole x y) = ap raised_under new ∙ (raised_last xs kd ys ∙ sym (ap raised_under old)) in
+      let used : used_under (dealings last x y) ≡ used_under (dealings whole x y) = ap used_under new ∙ (used_last xs kd ys ∙ sym (ap used_under old)) in
+      (terms, (ap (option_map (λ (a : Agreement). a.limit + raised_under (dealings last x y))) terms ∙ ap (λ r. option_map (λ (a : Agreement). a.limit + r) (terms_of t whole x y)) raised, used))
+
+  pub stands_last : All (λ e. stands_under k e ≡ false) s → deals_under t whole k.number k.firm k.command ≡ None → (first_refused t [] last ≡ None) × IsSameState t whole last
+  stands_last un under =
+      let m = moves_behind t p k s once none un in
+      let others = fit_without under in
+      let same = λ (x : List ℕ) (y : List ℕ). same_by un others x y (deed_of whole x y k.firm k.command) refl in (
+        (ready_replays t whole last last [] once none m.order (sym (append-nil last)) m.order.after_its_node (λ x y. fit_last_by others x y (deed_of whole x y k.firm k.command) refl)).replayed,
+        state_same t whole last m.order.same once (named_once t whole none) (record {
+          terms = λ x y. (same x y).0;
+          limits = λ x y. (same x y).1.0;
+          used = λ x y. (same x y).1.1;
+        }),
+      )

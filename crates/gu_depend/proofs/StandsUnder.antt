@@ -1,10 +1,10 @@
 -- The first change that would be refused without another is the first that the other stands under.
-use Rattle.std.proofs.Common.{◌≡◌, ℕ, zero, suc, ◌+◌, ◌<◌, ◌≤◌, Bool, true, false, not, ◌&&◌, ◌||◌, List, [], ◌∷◌, ◌++◌, length, get_or, refl, sym, ◌∙◌, ap, subst, arith, cond, Option, Contains, append_assoc, map}
+use Rattle.std.proofs.Common.{◌≡◌, ℕ, zero, suc, ◌+◌, ◌<◌, ◌≤◌, Bool, true, false, not, ◌&&◌, ◌||◌, List, [], ◌∷◌, ◌++◌, length, get_or, refl, sym, ◌∙◌, ap, subst, arith, cond, Option, Contains, All, append_assoc, map, inl, inr}
 use Rattle.std.specs.Prelude.{Some, None, find, count_by, is_some, is_none, option_and_then, option_map, ◌==◌}
 use Rattle.std.specs.Option.{option_or}
 use Rattle.std.specs.List.{list_any, AllByRecursion, IsDistinct}
 use Rattle.std.proofs.lemmas.Bool.Decides.{Decides-eqb}
-use Rattle.std.proofs.lemmas.List.Elements.{All-contains}
+use Rattle.std.proofs.lemmas.List.Elements.{All-contains, All-contains_itself, All-filter, Contains-append_right}
 use Rattle.std.proofs.lemmas.List.Folds.{find-append}
 use Rattle.std.proofs.lemmas.Map.Keys.{IsDistinct-cons}
 use Rattle.gu_base.specs.Numbers.{EntryPart}
@@ -12,28 +12,30 @@ use Rattle.gu_base.specs.House.{House}
 use Rattle.gu_base.specs.Nodes.{node_of, nodes_of, decision_of, is_given, same_name, splits, decides}
 use Rattle.gu_base.specs.Refusals.{refusal_of}
 use Rattle.gu_base.specs.Standing.{first_refused, without, standing_on}
-use Rattle.gu_base.specs.Orders.{IsLawfulOrder}
+use Rattle.gu_base.specs.declared.refusal.Refusal.{Refusal}
+use Rattle.gu_depend.specs.Same.{IsSameState}
 use Rattle.gu_base.specs.declared.command.Command.{Command}
-use Rattle.gu_base.specs.declared.command.Command.TheVariants.{Trade, Split, Claim, Refuse, Cancel, Initiate, Decline, Reverse}
+use Rattle.gu_base.specs.declared.command.Command.TheVariants.{Trade, Split, Claim, Refuse, Cancel, Agree, Raise, Initiate, Decline, Reverse}
 use Rattle.gu_base.specs.declared.entry.Record.{Record}
 use Rattle.gu_base.specs.declared.node.Kind.TheVariants.{Root}
 use Rattle.gu_base.specs.declared.node.Node.{Node}
 use Rattle.gu_base.proofs.LegalLaws.{none_refused, replay_front}
 use Rattle.gu_tree.specs.Shown.{HasDistinctNumbers}
-use Rattle.gu_depend.specs.Under.{names, is_under, stands_under, first_under, IsLeastUnder}
+use Rattle.gu_depend.specs.Under.{names, is_under, stands_under, deals_under, first_under, IsLeastUnder}
 use Rattle.gu_depend.proofs.Finds.{none_counts, counts_in, found_once, none_before, count_append, count_permuted}
 use Rattle.gu_depend.proofs.Names.{makes, node_by_maker, makers_once}
 use Rattle.gu_depend.proofs.NamedOnce.{named_once}
-use Rattle.gu_depend.proofs.Grown.{NamesThere, SplitsDecided}
+use Rattle.gu_depend.proofs.Grown.{NamesThere, SplitsDecided, Grown}
 use Rattle.gu_depend.proofs.Settled.{accepted_there, front_facts}
-use Rattle.gu_depend.proofs.Replay.{NumbersOnce, number_once, same_finds, order_within}
-use Rattle.gu_depend.proofs.Cuts.{cut_at, stands_between, first_cut, none_passes, filter_one, moved_to_end}
-use Rattle.gu_depend.proofs.StandsLast.{replay_rest, replay_stops, not_both, replays_without, moved_lawful}
+use Rattle.gu_depend.proofs.Replay.{NumbersOnce, number_once, same_finds, order_within, ready_replays}
+use Rattle.gu_depend.proofs.Cuts.{cut_at, stands_between, first_cut, none_passes, moved_to_end}
+use Rattle.gu_depend.proofs.Deals.{deals_some}
+use Rattle.gu_depend.proofs.StandsLast.{replay_rest, replay_stops, not_both, gone, unfit_here, fit_without, moves_behind, replays_without, stops_at, stands_last}
 use Rattle.std.proofs.lemmas.Option.{same_Some}
 use Rattle.gu_base.proofs.Passing.{refusal_parts, splits_well}
 use Rattle.gu_base.specs.History.{RisesFrom}
 use Rattle.gu_base.proofs.NodeNames.{name_same, node_called, made_of}
-use Rattle.gu_base.proofs.Basics.{none_is_some, no_some, mapped_none}
+use Rattle.gu_base.proofs.Basics.{none_is_some, no_some}
 use Rattle.gu_base.proofs.Searches.{found_in, find_passes}
 use Rattle.std.proofs.lemmas.Bool.{false_from_ne_true}
 
@@ -74,6 +76,8 @@ under_is k by (Split m ps) c h =
 under_is k by (Claim m account) c h = decided m h (name_same m)
 under_is k by (Refuse m) c h = decided m h (name_same m)
 under_is k by (Cancel m) c h = decided m h (name_same m)
+under_is k by (Agree _ _ _ _) c h = absurd (cc)
+under_is k by (Raise _ _) c h = absurd (cc)
 under_is k by (Initiate _) c h = absurd (cc)
 under_is k by (Decline _) c h = absurd (cc)
 under_is k by (Reverse _) c h = absurd (cc)
@@ -84,6 +88,8 @@ no_split_decides n (Trade _ _ _ _ _) a b = absurd (cc)
 no_split_decides n (Claim _ _) a b = absurd (cc)
 no_split_decides n (Refuse _) a b = absurd (cc)
 no_split_decides n (Cancel _) a b = absurd (cc)
+no_split_decides n (Agree _ _ _ _) a b = absurd (cc)
+no_split_decides n (Raise _ _) a b = absurd (cc)
 no_split_decides n (Initiate _) a b = absurd (cc)
 no_split_decides n (Decline _) a b = absurd (cc)
 no_split_decides n (Reverse _) a b = absurd (cc)
@@ -172,31 +178,54 @@ refused_under t p k s once none by c (decided n split h) accepted =
 numbers_front : (xs ys : List Record) → NumbersOnce (xs ++ ys) → NumbersOnce xs
 numbers_front xs ys once n = omega (arith, count_append (λ r. r.number == n) xs ys, once n)
 
+-- what stands under a node deals for nobody's terms
+deals_none : (t : House) (l : List Record) (k : ℕ) (by : List ℕ) (d c : Command) → is_under k by d c ≡ true → deals_under t l k by d ≡ None
+deals_none t l k by (Trade _ _ _ _ _) c h = refl
+deals_none t l k by (Split _ _) c h = refl
+deals_none t l k by (Claim _ _) c h = refl
+deals_none t l k by (Refuse _) c h = refl
+deals_none t l k by (Cancel _) c h = refl
+deals_none t l k by (Agree _ _ _ _) c h = absurd (cc)
+deals_none t l k by (Raise _ _) c h = absurd (cc)
+deals_none t l k by (Initiate _) c h = refl
+deals_none t l k by (Decline _) c h = refl
+deals_none t l k by (Reverse _) c h = refl
+
+-- where nothing stands under it by a node, it is the first that stands under what it deals
+standing_deals : (t : House) (p : List Record) (k : Record) (s : List Record) → NumbersOnce (p ++ k ∷ s) → first_refused t [] (p ++ k ∷ s) ≡ None → All (λ e. stands_under k e ≡ false) s
+    → (o : Option ℕ) → deals_under t (p ++ k ∷ s) k.number k.firm k.command ≡ o → first_refused t [] (p ++ s) ≡ o
+standing_deals t p k s once none un None e = replays_without t p k s once none un e
+standing_deals t p k s once none un (Some n) e =
+    let d = deals_some t (p ++ k ∷ s) k.number k.firm k.command n e in
+    stops_at t p k s once none d.giver d.taker d.deed d.deals un n (unfit_here t p k s once none d.giver d.taker d.deed d.deals ∙ e)
+
 standing_by : (t : House) (p : List Record) (k : Record) (s : List Record) → NumbersOnce (p ++ k ∷ s) → first_refused t [] (p ++ k ∷ s) ≡ None
-    → (o : Option Record) → find (stands_under k) s ≡ o → first_refused t [] (p ++ s) ≡ option_map (λ e. e.number) o
-standing_by t p k s once none None found = replays_without t p k s once none (none_passes (stands_under k) s found)
+    → (o : Option Record) → find (stands_under k) s ≡ o
+    → first_refused t [] (p ++ s) ≡ option_or (option_map (λ e. e.number) o) (deals_under t (p ++ k ∷ s) k.number k.firm k.command)
+standing_by t p k s once none None found = standing_deals t p k s once none (none_passes (stands_under k) s found) (deals_under t (p ++ k ∷ s) k.number k.firm k.command) refl
 standing_by t p k s once none (Some e) found =
     let c = first_cut (stands_under k) s e found in
     let whole : p ++ k ∷ s ≡ (p ++ k ∷ c.before) ++ e ∷ c.behind = ap (λ z. p ++ k ∷ z) c.is ∙ sym (append_assoc p (k ∷ c.before) (e ∷ c.behind)) in
     let once_front = numbers_front (p ++ k ∷ c.before) (e ∷ c.behind) (subst NumbersOnce whole once) in
     let none_front = replay_front t [] (p ++ k ∷ c.before) (e ∷ c.behind) (subst (λ (z : List Record). first_refused t [] z ≡ None) whole none) in
     let under = under_is k.number k.firm k.command e.command c.passes in
-    let stops = replay_stops t [] (p ++ c.before) e c.behind (replays_without t p k c.before once_front none_front c.none)
+    let stops = replay_stops t [] (p ++ c.before) e c.behind
+    (replays_without t p k c.before once_front none_front c.none (deals_none t (p ++ k ∷ c.before) k.number k.firm k.command e.command c.passes))
     (refused_under t p k c.before once_front none_front e.firm e.command under) in
     let cut : p ++ s ≡ (p ++ c.before) ++ e ∷ c.behind = ap (λ z. p ++ z) c.is ∙ sym (append_assoc p c.before (e ∷ c.behind)) in
     ap (first_refused t []) cut ∙ stops
 
 standing_cut : (t : House) (p : List Record) (k : Record) (s : List Record) → NumbersOnce (p ++ k ∷ s) → first_refused t [] (p ++ k ∷ s) ≡ None
-    → standing_on t (p ++ k ∷ s) k.number ≡ first_under (p ++ k ∷ s) k
+    → standing_on t (p ++ k ∷ s) k.number ≡ first_under t (p ++ k ∷ s) k
 standing_cut t p k s once none =
-    ap (first_refused t []) (filter_one (λ r. r.number == k.number) p k s ((Decides-eqb k.number k.number).1 refl) (once k.number))
+    ap (first_refused t []) (gone t p k s once none)
     ∙ (standing_by t p k s once none (find (stands_under k) s) refl
-    ∙ sym (ap (option_map (λ e. e.number)) (found_behind t p k s once none)))
+    ∙ sym (ap (λ o. option_or (option_map (λ (e : Record). e.number) o) (deals_under t (p ++ k ∷ s) k.number k.firm k.command)) (found_behind t p k s once none)))
 
-pub standing_is_first : (t : House) (l : List Record) (k : Record) → NumbersOnce l → first_refused t [] l ≡ None → Contains l k → standing_on t l k.number ≡ first_under l k
+pub standing_is_first : (t : House) (l : List Record) (k : Record) → NumbersOnce l → first_refused t [] l ≡ None → Contains l k → standing_on t l k.number ≡ first_under t l k
 standing_is_first t l k once none among =
     let c = cut_at l k among in
-    subst (λ (z : List Record). standing_on t z k.number ≡ first_under z k) (sym c.is)
+    subst (λ (z : List Record). standing_on t z k.number ≡ first_under t z k) (sym c.is)
     (standing_cut t c.before k c.behind (subst NumbersOnce c.is once) (subst (λ (z : List Record). first_refused t [] z ≡ None) c.is none))
 
 -- ---- in the order of the numbers
@@ -240,38 +269,95 @@ rises_distinct n [] rises = no_numbers
 rises_distinct n (r ∷ l) rises =
     IsDistinct-cons (λ a b. a == b) r.number (map (λ r. r.number) l) (rises_apart r.number (r.number + 1) l (omega arith) rises.1) (rises_distinct (r.number + 1) l rises.1)
 
-least_by : (n : ℕ) (l : List Record) (k : Record) → RisesFrom n l → (o : Option Record) → find (stands_under k) l ≡ o → IsLeastUnder l k (option_map (λ e. e.number) o)
-least_by n l k rises None found = λ e among. All-contains (λ e. stands_under k e ≡ false) l e (none_passes (stands_under k) l found) among
-least_by n l k rises (Some e) found = (
-  e,
-  found_in (stands_under k) l e found,
-  find_passes (stands_under k) l e found,
-  refl,
-  λ d among under.
-      let at : get_or l among.0 d ≡ d = among.2 in
-      let low = least (stands_under k) n l rises e among.0 d found among.1 (ap (stands_under k) at ∙ under) in
-      subst (λ (z : Record). e.number ≤ z.number) at low,
-)
+-- the change that is refused first is one of the list
+refused_at : (t : House) (b : List Record) (r : Record) (rest : List Record) (n : ℕ) → (first_refused t (b ++ r ∷ []) rest ≡ Some n → (e : Record) × (Contains rest e × (e.number ≡ n)))
+    → (o : Option Refusal) → cond (is_some o) (Some r.number) (first_refused t (b ++ r ∷ []) rest) ≡ Some n → (e : Record) × (Contains (r ∷ rest) e × (e.number ≡ n))
+refused_at t b r rest n later None h = let e = later h in (e.0, (Contains-append_right (r ∷ []) rest e.0 e.1.0, e.1.1))
+refused_at t b r rest n later (Some f) h = (r, ((zero, omega arith, refl), same_Some r.number n h))
 
-pub standing_is_least : (t : House) (l : List Record) (k : Record) → RisesFrom 0 l → first_refused t [] l ≡ None → Contains l k → IsLeastUnder l k (standing_on t l k.number)
+refused_in : (t : House) (b rest : List Record) (n : ℕ) → first_refused t b rest ≡ Some n → (e : Record) × (Contains rest e × (e.number ≡ n))
+refused_in t b [] n h = absurd (cc)
+refused_in t b (r ∷ rest) n h = refused_at t b r rest n (refused_in t (b ++ r ∷ []) rest n) (refusal_of t b r.firm r.command) h
+
+in_whole : (l : List Record) (k : ℕ) (e : Record) → Contains (without l k) e → Contains l e
+in_whole l k e among = All-contains (Contains l) (without l k) e (All-filter (λ (r : Record). not (r.number == k)) (Contains l) l (All-contains_itself l)) among
+
+module _ (t : House) (l : List Record) (k : Record) (rises : RisesFrom 0 l) where
+  least_deals : find (stands_under k) l ≡ None → (o : Option ℕ) → deals_under t l k.number k.firm k.command ≡ o → standing_on t l k.number ≡ o → IsLeastUnder t l k o
+  least_deals found None e stands = λ c among under. elim under [
+    | inl node ↦ not_both (stands_under k c) node (All-contains (λ e. stands_under k e ≡ false) l c (none_passes (stands_under k) l found) among)
+    | inr deal ↦ none_is_some (deals_under t l k.number k.firm k.command) c.number e deal
+  ]
+  least_deals found (Some n) e stands =
+      let r = refused_in t [] (without l k.number) n stands in (
+        r.0,
+        in_whole l k.number r.0 r.1.0,
+        inr (e ∙ ap (λ z. Some z) (sym r.1.1)),
+        r.1.1,
+        λ d among under. elim under [
+          | inl node ↦ absurd (not_both (stands_under k d) node (All-contains (λ e. stands_under k e ≡ false) l d (none_passes (stands_under k) l found) among))
+          | inr deal ↦ (let one : n ≡ d.number = same_Some n d.number (sym e ∙ deal) in omega (arith, one))
+        ],
+      )
+
+  least_by : (o : Option Record) → find (stands_under k) l ≡ o → standing_on t l k.number ≡ option_or (option_map (λ e. e.number) o) (deals_under t l k.number k.firm k.command)
+      → IsLeastUnder t l k (option_or (option_map (λ e. e.number) o) (deals_under t l k.number k.firm k.command))
+  least_by None found stands = least_deals found (deals_under t l k.number k.firm k.command) refl stands
+  least_by (Some e) found stands = (
+    e,
+    found_in (stands_under k) l e found,
+    inl (find_passes (stands_under k) l e found),
+    refl,
+    λ d among under. elim under [
+      | inl node ↦ (
+          let at : get_or l among.0 d ≡ d = among.2 in
+          let low = least (stands_under k) 0 l rises e among.0 d found among.1 (ap (stands_under k) at ∙ node) in
+          subst (λ (z : Record). e.number ≤ z.number) at low)
+      | inr deal ↦ absurd (none_is_some (deals_under t l k.number k.firm k.command) d.number (deals_none t l k.number k.firm k.command e.command (find_passes (stands_under k) l e found)) deal)
+    ],
+  )
+
+pub standing_is_least : (t : House) (l : List Record) (k : Record) → RisesFrom 0 l → first_refused t [] l ≡ None → Contains l k → IsLeastUnder t l k (standing_on t l k.number)
 standing_is_least t l k rises none among =
-    subst (IsLeastUnder l k) (sym (standing_is_first t l k (number_once l (rises_distinct 0 l rises)) none among)) (least_by 0 l k rises (find (stands_under k) l) refl)
+    let first = standing_is_first t l k (number_once l (rises_distinct 0 l rises)) none among in
+    subst (IsLeastUnder t l k) (sym first) (least_by t l k rises (find (stands_under k) l) refl first)
 
 -- ---- where nothing stands on a change
 
+free_by : (o : Option Record) (q : Option ℕ) → option_or (option_map (λ (e : Record). e.number) o) q ≡ None → (o ≡ None) × (q ≡ None)
+free_by None q h = (refl, h)
+free_by (Some e) q h = absurd (cc)
+
 last_cut : (t : House) (p : List Record) (k : Record) (s : List Record) → NumbersOnce (p ++ k ∷ s) → first_refused t [] (p ++ k ∷ s) ≡ None
-    → standing_on t (p ++ k ∷ s) k.number ≡ None → IsLawfulOrder (p ++ k ∷ s) (without (p ++ k ∷ s) k.number ++ k ∷ [])
+    → standing_on t (p ++ k ∷ s) k.number ≡ None → (first_refused t [] (without (p ++ k ∷ s) k.number ++ k ∷ []) ≡ None) × IsSameState t (p ++ k ∷ s) (without (p ++ k ∷ s) k.number ++ k ∷ [])
 last_cut t p k s once none free =
-    let under = mapped_none (λ e. e.number) (find (stands_under k) (p ++ k ∷ s)) (sym (standing_cut t p k s once none) ∙ free) in
-    let behind = none_passes (stands_under k) s (sym (found_behind t p k s once none) ∙ under) in
-    subst (λ (z : List Record). IsLawfulOrder (p ++ k ∷ s) (z ++ k ∷ [])) (sym (filter_one (λ r. r.number == k.number) p k s ((Decides-eqb k.number k.number).1 refl) (once k.number)))
-    (moved_lawful t p k s once none behind)
+    let under = free_by (find (stands_under k) (p ++ k ∷ s)) (deals_under t (p ++ k ∷ s) k.number k.firm k.command) (sym (standing_cut t p k s once none) ∙ free) in
+    let behind = none_passes (stands_under k) s (sym (found_behind t p k s once none) ∙ under.0) in
+    subst (λ (z : List Record). (first_refused t [] (z ++ k ∷ []) ≡ None) × IsSameState t (p ++ k ∷ s) (z ++ k ∷ [])) (sym (gone t p k s once none))
+    (stands_last t p k s once none behind under.1)
 
 -- then it can as well stand last
 pub can_stand_last : (t : House) (l : List Record) (k : Record) → NumbersOnce l → first_refused t [] l ≡ None → Contains l k → standing_on t l k.number ≡ None
-    → IsLawfulOrder l (without l k.number ++ k ∷ [])
+    → (first_refused t [] (without l k.number ++ k ∷ []) ≡ None) × IsSameState t l (without l k.number ++ k ∷ [])
 can_stand_last t l k once none among free =
     let c = cut_at l k among in
-    subst (λ (z : List Record). IsLawfulOrder z (without z k.number ++ k ∷ [])) (sym c.is)
+    subst (λ (z : List Record). (first_refused t [] (without z k.number ++ k ∷ []) ≡ None) × IsSameState t z (without z k.number ++ k ∷ [])) (sym c.is)
     (last_cut t c.before k c.behind (subst NumbersOnce c.is once) (subst (λ (z : List Record). first_refused t [] z ≡ None) c.is none)
+    (subst (λ (z : List Record). standing_on t z k.number ≡ None) c.is free))
+
+less_cut : (t : House) (p : List Record) (k : Record) (s : List Record) → NumbersOnce (p ++ k ∷ s) → first_refused t [] (p ++ k ∷ s) ≡ None
+    → standing_on t (p ++ k ∷ s) k.number ≡ None → Grown (p ++ k ∷ s) (without (p ++ k ∷ s) k.number)
+less_cut t p k s once none free =
+    let under = free_by (find (stands_under k) (p ++ k ∷ s)) (deals_under t (p ++ k ∷ s) k.number k.firm k.command) (sym (standing_cut t p k s once none) ∙ free) in
+    let behind = none_passes (stands_under k) s (sym (found_behind t p k s once none) ∙ under.0) in
+    let m = moves_behind t p k s once none behind in
+    subst (Grown (p ++ k ∷ s)) (sym (gone t p k s once none))
+    (ready_replays t (p ++ k ∷ s) ((p ++ s) ++ k ∷ []) (p ++ s) (k ∷ []) once none m.order refl m.others (fit_without t p k s once none under.1)).grown
+
+-- and the others say of their nodes what the whole says
+pub grown_less : (t : House) (l : List Record) (k : Record) → NumbersOnce l → first_refused t [] l ≡ None → Contains l k → standing_on t l k.number ≡ None → Grown l (without l k.number)
+grown_less t l k once none among free =
+    let c = cut_at l k among in
+    subst (λ (z : List Record). Grown z (without z k.number)) (sym c.is)
+    (less_cut t c.before k c.behind (subst NumbersOnce c.is once) (subst (λ (z : List Record). first_refused t [] z ≡ None) c.is none)
     (subst (λ (z : List Record). standing_on t z k.number ≡ None) c.is free))

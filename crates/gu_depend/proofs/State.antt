@@ -9,11 +9,16 @@ use Rattle.gu_base.specs.House.{House}
 use Rattle.gu_base.specs.Nodes.{node_of, nodes, split_of, claim_of, claimed_account, parent}
 use Rattle.gu_base.specs.Places.{line_within, line_of, place_of_kind, place_along, place_of, root_along, root_of, same_place}
 use Rattle.gu_base.specs.Positions.{is_trade_of, trades_in, stands_at, position_of}
-use Rattle.gu_base.specs.Fees.{charge_of_node, charge_of, charges, counted}
+use Rattle.gu_base.specs.House.{agreement}
+use Rattle.gu_base.specs.Terms.{dealings, terms_under, limit_under, used_under, terms_of, limit_of, used_of}
+use Rattle.gu_base.specs.Fees.{charge_of_kind, charge_of_node, charge_of, charges, counted}
+use Rattle.gu_base.specs.declared.house.Agreement.{Agreement}
+use Rattle.gu_base.specs.declared.node.Kind.{Kind}
+use Rattle.gu_base.specs.declared.node.Kind.TheVariants.{Root, Own, Given}
 use Rattle.gu_base.specs.Rows.{Row, row_of, state_of, taker_of, made_by, parts_of, rows_within, rows_from, rows_of}
 use Rattle.gu_base.specs.declared.command.Side.{Side}
 use Rattle.gu_base.specs.declared.command.Command.{Command}
-use Rattle.gu_base.specs.declared.command.Command.TheVariants.{Trade, Split, Claim, Refuse, Cancel, Initiate, Decline, Reverse}
+use Rattle.gu_base.specs.declared.command.Command.TheVariants.{Trade, Split, Claim, Refuse, Cancel, Agree, Raise, Initiate, Decline, Reverse}
 use Rattle.gu_base.specs.declared.entry.Record.{Record}
 use Rattle.gu_base.specs.declared.node.Charge.{Charge}
 use Rattle.gu_base.specs.declared.node.Node.{Node}
@@ -136,32 +141,58 @@ module _ {l o : List Record} (same : IsPermutation l o) (once : NumbersOnce l) (
 
 -- ---- sums over the charges
 
-charge_same : (t : House) (l o : List Record) → SameFinds l o → (c : Command) → charge_of t o c ≡ charge_of t l c
-charge_same t l o f (Claim n account) = ap (option_and_then (charge_of_node t)) (f.nodes n)
-charge_same t l o f (Trade _ _ _ _ _) = refl
-charge_same t l o f (Split _ _) = refl
-charge_same t l o f (Refuse _) = refl
-charge_same t l o f (Cancel _) = refl
-charge_same t l o f (Initiate _) = refl
-charge_same t l o f (Decline _) = refl
-charge_same t l o f (Reverse _) = refl
+-- the terms of each giver and taker are the same, and so are the limits, and what is used
+pub record SameDeals (t : House) (l o : List Record) : Type 0 where
+  pub terms : (g k : List ℕ) → terms_of t o g k ≡ terms_of t l g k
+  pub limits : (g k : List ℕ) → limit_of t o g k ≡ limit_of t l g k
+  pub used : (g k : List ℕ) → used_of o g k ≡ used_of l g k
 
-charges_same : (t : House) (takes : Charge → Bool) (counts : Charge → ℕ) (l o : List Record) → IsPermutation l o → SameFinds l o
+pub same_deals : (t : House) (l o : List Record) → ((g k : List ℕ) → dealings o g k ≡ dealings l g k) → SameDeals t l o
+same_deals t l o same = record {
+  terms = λ g k. ap (terms_under (agreement t g k)) (same g k);
+  limits = λ g k. ap (limit_under (agreement t g k)) (same g k);
+  used = λ g k. ap used_under (same g k);
+}
+
+kind_same : (t : House) (l o : List Record) → SameDeals t l o → (lots : ℕ) (kind : Kind) → charge_of_kind t o lots kind ≡ charge_of_kind t l lots kind
+kind_same t l o deals lots (Root _) = refl
+kind_same t l o deals lots (Own _ _ _) = refl
+kind_same t l o deals lots (Given m g k) = ap (option_map (λ (a : Agreement). record { giver = g; taker = k; lots = lots; rate = a.rate })) (deals.terms g k)
+
+-- and what a change costs
+pub charge_same : (t : House) (l o : List Record) → SameFinds l o → SameDeals t l o → (c : Command) → charge_of t o c ≡ charge_of t l c
+charge_same t l o f deals (Claim n account) =
+    ap (option_and_then (charge_of_node t o)) (f.nodes n)
+    ∙ ap (λ (h : Node → Option Charge). option_and_then h (node_of l n)) (λ i x. kind_same t l o deals x.lots x.kind i)
+charge_same t l o f deals (Trade _ _ _ _ _) = refl
+charge_same t l o f deals (Split _ _) = refl
+charge_same t l o f deals (Refuse _) = refl
+charge_same t l o f deals (Cancel _) = refl
+charge_same t l o f deals (Agree _ _ _ _) = refl
+charge_same t l o f deals (Raise _ _) = refl
+charge_same t l o f deals (Initiate _) = refl
+charge_same t l o f deals (Decline _) = refl
+charge_same t l o f deals (Reverse _) = refl
+
+charges_same : (t : House) (takes : Charge → Bool) (counts : Charge → ℕ) (l o : List Record) → IsPermutation l o → SameFinds l o → SameDeals t l o
     → sum_by counts (filter takes (charges t o)) ≡ sum_by counts (filter takes (charges t l))
-charges_same t takes counts l o same f =
+charges_same t takes counts l o same f deals =
     sum_charged takes counts (λ r. charge_of t o r.command) o
-    ∙ (ap (λ (g : Record → Option Charge). sum_by (λ r. counted takes counts (g r)) o) (λ i r. charge_same t l o f r.command i)
+    ∙ (ap (λ (g : Record → Option Charge). sum_by (λ r. counted takes counts (g r)) o) (λ i r. charge_same t l o f deals r.command i)
     ∙ (sum_by-IsPermutation (λ r. counted takes counts (charge_of t l r.command)) l o same
     ∙ sym (sum_charged takes counts (λ r. charge_of t l r.command) l)))
 
--- every order of a list in which a node is split once and decided once, and no number stands twice, leaves the same
-pub state_same : (t : House) (l o : List Record) → IsPermutation l o → NumbersOnce l → NamedOnce l → IsSameState t l o
-state_same t l o same once s =
+-- every order of a list in which a node is split once and decided once, and no number stands twice, leaves the same, where it leaves the same
+-- terms
+pub state_same : (t : House) (l o : List Record) → IsPermutation l o → NumbersOnce l → NamedOnce l → SameDeals t l o → IsSameState t l o
+state_same t l o same once s deals =
     let f = same_finds l o same once s in
     record {
       trees = trees_same f;
       positions = positions_same same once f;
-      paid = λ firm. charges_same t (λ c. bytes_eq c.taker firm) (λ c. c.lots * c.rate) l o same f;
-      received = λ firm. charges_same t (λ c. bytes_eq c.giver firm) (λ c. c.lots * c.rate) l o same f;
-      used = λ giver taker. charges_same t (λ c. bytes_eq c.giver giver && bytes_eq c.taker taker) (λ c. c.lots) l o same f;
+      paid = λ firm. charges_same t (λ c. bytes_eq c.taker firm) (λ c. c.lots * c.rate) l o same f deals;
+      received = λ firm. charges_same t (λ c. bytes_eq c.giver firm) (λ c. c.lots * c.rate) l o same f deals;
+      used = deals.used;
+      terms = deals.terms;
+      limits = deals.limits;
     }

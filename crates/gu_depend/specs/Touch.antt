@@ -1,18 +1,18 @@
 -- What a change touches in the trees.
-use Rattle.std.specs.Prelude.{◌≡◌, ℕ, Bool, false, ◌||◌, ◌==◌, IsTrue, Option, Some, None, List, [], ◌∷◌, map}
-use Rattle.gu_base.specs.History.{is_change}
+use Rattle.std.specs.Prelude.{◌≡◌, ℕ, Bool, ◌||◌, ◌==◌, IsTrue, Option, Some, None, List, [], ◌∷◌, map}
 use Rattle.gu_base.specs.Nodes.{nodes_of, is_split, decides}
+use Rattle.gu_tree.specs.ShownAll.{named_place}
 use Rattle.gu_base.specs.declared.command.Command.{Command}
 use Rattle.gu_depend.specs.declared.touch.Touched.{Touched}
 use Rattle.gu_depend.specs.declared.touch.Touched.TheVariants.{Root, Parts, Node, Nothing}
 
 -- a command of this number touches the one node that it makes, which is part 0 of that number; the parts that it makes, where it
--- is a Split; the node that it decides; or nothing, where it is no change
+-- is a Split; the node that it decides; or nothing, where it has no place in the trees
 abbrev pub Touches : ℕ → Command → Touched → Type 0
 Touches k c Root = (by : List ℕ) → map (λ x. x.name) (nodes_of k by c) ≡ record { entry = k; part = 0 } ∷ []
 Touches k c Parts = IsTrue (is_split c)
 Touches k c (Node n) = IsTrue (decides n c)
-Touches k c Nothing = is_change c ≡ false
+Touches k c Nothing = named_place k c ≡ None
 
 -- whether a number is the trade's, or that of the decision of a node
 abbrev pub is_trade_or_decision : ℕ → ℕ → Option ℕ → Bool

@@ -9,9 +9,11 @@ ghost use Rattle.gu_tree.specs.Grove.{Grove, HasTree, IsPlace, place_of};
 ghost use Rattle.gu_tree.specs.Paths.{node_at};
 ghost use Rattle.gu_tree.specs.Rose.{split_of_node};
 ghost use Rattle.gu_depend.specs.Touch.{Touches, is_trade_or_decision};
+ghost use Rattle.gu_depend.specs.Terms.{AreTermsOf};
 
 use crate::touch::Touched;
 use gu_base::{Command, Number};
+use gu_fees::Terms;
 use gu_tree::{Node, Path, Spot, Trees};
 use std::alloc::Allocator;
 
@@ -32,17 +34,22 @@ pub fn touched(entry: Number, command: &Command) -> Touched
 /// The first change that stands on the one of this number: what would be refused first if that one weren't there. `None` where
 /// nothing stands on it, so that it may go.
 ///
-/// It is handed the trees and no list: for whatever legal list they show, in the order of its numbers, the answer is the list's.
-/// It looks at the node that the change made or named, and where that is a Split's at the parts, and at nothing else; it takes no memory.
-pub fn first_standing<A: Allocator + Clone>(trees: &Trees<A>, k: Number) -> Option<Number>
-    ensures first { (t : House) (l : List Record) → RisesFrom 0 l → IsLegal t l → ShowsAll l trees.now → result ≡ standing_on t l k }
-    ensures none { (t : House) (l : List Record) → RisesFrom 0 l → IsLegal t l → ShowsAll l trees.now → (result ≡ None) ↔ IsLegal t (without l k) }
+/// It is handed the trees and the terms, and no list: for whatever legal list they show, in the order of its numbers, the answer is the list's.
+/// It looks at the node that the change made or named, and where that is a Split's at the parts; where it is an Agree or a Raise, at the
+/// entries of its giver and taker; and at nothing else. It takes no memory.
+pub fn first_standing<A: Allocator + Clone>(
+    trees: &Trees<A>,
+    terms: &Terms,
+    k: Number,
+) -> Option<Number>
+    ensures first { (t : House) (l : List Record) → RisesFrom 0 l → IsLegal t l → ShowsAll l trees.now → AreTermsOf t l terms.now → result ≡ standing_on t l k }
+    ensures none { (t : House) (l : List Record) → RisesFrom 0 l → IsLegal t l → ShowsAll l trees.now → AreTermsOf t l terms.now → (result ≡ None) ↔ IsLegal t (without l k) }
 {
     let mut path = Path::new();
-    let Some(spot) = trees.named(k, &mut path) else {
-        return None;
-    };
-    first_standing_at(&spot, k)
+    match trees.named(k, &mut path) {
+        Some(spot) => first_standing_at(&spot, k),
+        None => terms.first_standing(k),
+    }
 }
 
 /// The same, where the node that the change made or named was looked up already: nothing climbs there again.

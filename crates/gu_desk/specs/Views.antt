@@ -30,7 +30,7 @@ is_worker_count n = leb 1 n && leb n most_workers
 
 -- the book of nobody, for a job that is no desk's
 abbrev pub no_book : HouseAndHistory
-no_book = record { house = record { house = []; firms = []; accounts = []; instruments = []; agreements = [] }; history = [] }
+no_book = record { house = record { house = []; firms = []; accounts = []; instruments = []; agreements = []; opening = [] }; history = [] }
 
 -- the table of nobody
 abbrev pub no_table : TableId

@@ -1,1 +1,4 @@
 pub mod Ready
+pub mod Filings
+pub mod Dealings
+pub mod Places

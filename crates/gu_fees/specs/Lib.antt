@@ -1,2 +1,5 @@
 pub mod Rows
 pub mod Sums
+pub mod Filing
+pub mod Pairs
+pub mod Terms

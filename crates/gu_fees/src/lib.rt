@@ -1,14 +1,29 @@
-//! What firms have paid and received for claims, and what their agreements have used, as running rows.
+//! What firms have paid and received for claims, as running rows, and the terms of each giver and taker with what they deal under them.
 //!
+//! `Fees` is the sums:
 //! - `charge` adds a claim and `uncharge` takes one away. Each finds three rows by hash, takes no memory and can't fail.
 //! - `paid`, `received` and `used` are the sums of what was charged, less what was uncharged (`AreSumsOf`).
 //! - `ready` makes the rows that a charge changes. It changes no sum: a row of zero and no row
 //!   are seen as the same. A row that is ready stays ready.
 //! - `put` adds a claim, and makes the rows where there are none. It and `ready` alone take memory.
-//! - What a call asks of its caller, a test of this crate answers: `can_charge`, `can_uncharge`; for `put` the sums.
-//! - Its cases stand in the program `test_sums`.
+//!
+//! `Terms` is the Agree, the Raises and the Claims of each pair, in the order of their numbers:
+//! - `agree`, `raise` and `claim` put an entry behind those of its pair, and `take_out` takes one out. They take no memory and can't fail.
+//! - `terms`, `rate`, `limit` and `used` are what the pair's entries come to, over the terms of the house table that its first `ready` was given
+//!   (`terms_under`, `limit_under`, `used_under`). They walk over no Raise and no Claim.
+//! - `first_standing` is the first entry of the pair that stands on another. It walks over the pair's entries once.
+//! - `ready` makes room for one more entry of a pair, and alone takes memory.
+//! - An entry is found by halves. What is taken out leaves a mark, so nothing behind it moves; a pair's marks go where they outnumber its entries.
+//!
+//! What a call asks of its caller, a test of this crate answers: `can_charge`, `can_uncharge`, `can_put`; for `Fees::put` the sums.
+//! Its cases stand in the program `test_sums`.
 #![tactic(auto)]
 
 mod fees;
+mod filing;
+mod pair;
+mod terms;
 
 pub use fees::Fees;
+pub use pair::PairTerms;
+pub use terms::Terms;

@@ -7,7 +7,7 @@ use Rattle.std.specs.Option.{ok_or}
 use Rattle.gu_base.specs.Names.{is_firm_text, is_id_text}
 use Rattle.gu_base.specs.declared.command.Part.{Part}
 use Rattle.gu_base.specs.declared.command.Command.{Command}
-use Rattle.gu_base.specs.declared.command.Command.TheVariants.{Refuse, Cancel, Initiate, Decline, Reverse}
+use Rattle.gu_base.specs.declared.command.Command.TheVariants.{Refuse, Cancel, Agree, Raise, Initiate, Decline, Reverse}
 use Rattle.gu_message.specs.declared.fault.Reject.{Reject}
 use Rattle.gu_message.specs.declared.heading.Heading.{Heading}
 use Rattle.gu_message.specs.declared.inbound.Inbound.{Inbound}
@@ -19,7 +19,7 @@ use Rattle.gu_message.specs.Finding.{value_of}
 use Rattle.gu_message.specs.SplitParts.{named, named_in, named_if, named_by, given_to, part_for, part_of, parts_of, counted_parts}
 use Rattle.gu_message.specs.Heading.{heading_of}
 use Rattle.gu_message.specs.TradeReport.{trading_firm, trade_of}
-use Rattle.gu_message.specs.Instructions.{node_in, entry_in, command_of, instruction_of}
+use Rattle.gu_message.specs.Instructions.{node_in, entry_in, firm_in, terms_in, agreement_in, raise_in, command_of, instruction_of}
 use Rattle.gu_message.specs.SessionMessages.{logon_of, test_request_of, resend_request_of, sequence_reset_of, session_message_of}
 use Rattle.gu_message.specs.Meaning.{by_type, meaning_of}
 use Rattle.gu_base.specs.FirmsNamed.{NamesOnly}
@@ -149,6 +149,23 @@ counted_passes by fs lawful = search (parts_passes, any_then) depth 12 fits 2000
 
 -- ---- an instruction
 
+firm_in_passes : (tag : ℕ) (fs : List (ℕ × List ℕ)) → Passes (λ firm. IsTrue (is_firm_text firm)) (firm_in tag fs)
+unfolding firm_in
+firm_in_passes tag fs = search (name_passes, any_then) depth 12 fits 2000
+
+firm_in_then : {B : Type 0} (q : B → Type 0) (tag : ℕ) (fs : List (ℕ × List ℕ)) (f : List ℕ → Result B Reject) → ((x : List ℕ) → IsTrue (is_firm_text x) → Passes q (f x)) → Passes q (firm_in tag fs >>= f)
+firm_in_then q tag fs f h = then (λ x. IsTrue (is_firm_text x)) q (firm_in tag fs) f (firm_in_passes tag fs) h
+
+agreement_passes : (fs : List (ℕ × List ℕ)) → Passes (NamesOnly is_firm_text) (agreement_in fs)
+unfolding agreement_in
+agreement_passes fs =
+    firm_in_then (NamesOnly is_firm_text) 5001 fs _ (λ giver g. firm_in_then (NamesOnly is_firm_text) 5002 fs _ (λ taker t.
+    any_then (NamesOnly is_firm_text) (terms_in 5003 fs) _ (λ rate. any_then (NamesOnly is_firm_text) (terms_in 5004 fs) _ (λ limit. (g, t)))))
+
+raise_passes : (fs : List (ℕ × List ℕ)) → Passes (NamesOnly is_firm_text) (raise_in fs)
+unfolding raise_in
+raise_passes fs = firm_in_then (NamesOnly is_firm_text) 5001 fs _ (λ giver g. any_then (NamesOnly is_firm_text) (terms_in 5004 fs) _ (λ lots. g))
+
 command_passes : (by : List ℕ) (what : Asked) (fs : List (ℕ × List ℕ)) → IsTrue (is_firm_text by) → Passes (NamesOnly is_firm_text) (command_of by what fs)
 unfolding command_of
 command_passes by asked.Split fs lawful =
@@ -156,6 +173,8 @@ command_passes by asked.Split fs lawful =
 command_passes by asked.Claim fs lawful = search any_then
 command_passes by asked.Refuse fs lawful = any_map (NamesOnly is_firm_text) Refuse (node_in fs) (λ node. tt)
 command_passes by asked.Cancel fs lawful = any_map (NamesOnly is_firm_text) Cancel (node_in fs) (λ node. tt)
+command_passes by asked.Agree fs lawful = agreement_passes fs
+command_passes by asked.Raise fs lawful = raise_passes fs
 command_passes by asked.Initiate fs lawful = any_map (NamesOnly is_firm_text) Initiate (entry_in fs) (λ entry. tt)
 command_passes by asked.Decline fs lawful = any_map (NamesOnly is_firm_text) Decline (entry_in fs) (λ entry. tt)
 command_passes by asked.Reverse fs lawful = any_map (NamesOnly is_firm_text) Reverse (entry_in fs) (λ entry. tt)

@@ -1,5 +1,5 @@
 -- The terms of the agreements of a table are in range.
-use Rattle.std.proofs.Common.{◌≡◌, ◌≤◌, Bool, true, false, List, [], ◌∷◌, ◌++◌, refl, IsTrue, IfSome, arith, rules}
+use Rattle.std.proofs.Common.{◌≡◌, ◌≤◌, Bool, true, false, List, [], ◌∷◌, refl, IsTrue, IfSome, arith, rules}
 use Rattle.std.specs.Map.{lookup}
 use Rattle.std.proofs.lemmas.Grind.{common_steps}
 use Rattle.gu_base.specs.declared.house.Pair.{Pair}
@@ -22,8 +22,3 @@ found_in_range test (e ∷ es) h = by (test e.0) refl (and_parts (is_in_range e.
         → IfSome (lookup test (e ∷ es)) (λ a. (a.rate ≤ highest_rate) × (a.limit ≤ highest_limit))
     by true t here rest = rw t (in_range_limits e.1 here.0)
     by false t here rest = rw t (rest here.1)
-
--- one agreement more
-pub more_in_range : (es : List (Pair × Agreement)) (e : Pair × Agreement) → IsTrue (are_in_range es) → IsTrue (is_in_range e.1) → IsTrue (are_in_range (es ++ e ∷ []))
-more_in_range [] e h k = rw k refl
-more_in_range (x ∷ es) e h k = let here = and_parts (is_in_range x.1) (are_in_range es) h in rw here.0 (more_in_range es e here.1 k)

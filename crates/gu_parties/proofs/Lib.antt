@@ -1,6 +1,8 @@
 pub mod Cut
 pub mod Added
 pub mod InRange
+pub mod Lawful
+pub mod OpeningCalls
 pub mod LongLine
 pub mod Names
 pub mod Stated

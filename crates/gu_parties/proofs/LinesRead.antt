@@ -1,15 +1,15 @@
 -- The lines read so far.
-use Rattle.std.proofs.Common.{◌≡◌, ◌≤◌, ◌<◌, ℕ, ◌+◌, ◌-◌, true, false, List, [], ◌∷◌, ◌++◌, length, take, map, Ok, Err, Result, Option, Some, None, refl, sym, ap, ◌∙◌, arith, length-append, append_assoc}
-use Rattle.std.specs.Prelude.{nat_lt, bytes_eq, codes}
+use Rattle.std.proofs.Common.{◌≡◌, ◌≤◌, ◌<◌, ℕ, ◌+◌, ◌-◌, Bool, true, false, List, [], ◌∷◌, ◌++◌, length, take, map, Ok, Err, Result, Option, Some, None, refl, sym, ap, ◌∙◌, arith, length-append, append_assoc}
+use Rattle.std.specs.Prelude.{nat_lt}
 use Rattle.std.specs.List.{filter_map, cons_option, enumerate_from}
 use Rattle.std.proofs.lemmas.Grind.{common_steps}
 use Rattle.std.proofs.lemmas.List.{length-map}
 use Rattle.gu_base.specs.House.{House}
 use Rattle.gu_parties.specs.Words.{words}
-use Rattle.gu_parties.specs.Table.{table_of}
-use Rattle.gu_parties.specs.Causes.{house_cause}
+use Rattle.gu_parties.specs.Table.{table_of, is_opening, opened_if}
+use Rattle.gu_parties.specs.Causes.{house_cause, version_cause}
 use Rattle.gu_parties.specs.Steps.{add_line, Fails, house_alone}
-use Rattle.gu_parties.specs.HouseFile.{at_line, line_cause, later_faults, second_word, faults_of, house_of_lines}
+use Rattle.gu_parties.specs.HouseFile.{at_line, line_cause, later_faults, second_word, faults_of, house_of_lines, unless_faulty}
 use Rattle.gu_parties.specs.Parsing.{Stops, StopsBehind, Gives, GivesBehind, IsCleanUpto, house_behind}
 use Rattle.gu_parties.proofs.Stated.{added, refused, addable, table_more}
 use Rattle.gu_parties.specs.declared.fault.HouseError.{HouseError}
@@ -99,26 +99,47 @@ module _ (house : List ℕ) (ls : List (List ℕ)) (line : List ℕ) (rest : Lis
   reads_stop UnknownName h e = stop_cause UnknownName h e
   reads_stop NamedTwice h e = stop_cause NamedTwice h e
 
-module _ (version second house : List ℕ) (ls : List (List ℕ)) (v : bytes_eq version (codes "GIVEUP 1") ≡ true) (h : house_cause (Some (words second)) ≡ None) (w : second_word (Some (words second)) ≡ house) where
-  whole : house_of_lines (version ∷ second ∷ ls) ≡ house_behind house ls
+-- a fault stays one, whatever the table
+still_faulty : (fs : List (ℕ × Cause)) (t u : House) (e : ℕ × Cause) → unless_faulty fs t ≡ Err e → unless_faulty fs u ≡ Err e
+still_faulty [] t u e h = cc
+still_faulty (f ∷ fs) t u e h = cc
+
+-- where there is no fault, the table is by the version
+pub opened_behind : (opens : Bool) (house : List ℕ) (ls : List (List ℕ)) (t : House) → house_behind house ls ≡ Ok t
+    → unless_faulty (later_faults house (map words ls)) (opened_if opens (table_of house (map words ls))) ≡ Ok (opened_if opens t)
+opened_behind opens house ls t h = by (later_faults house (map words ls)) refl
+  where
+    by : (fs : List (ℕ × Cause)) → later_faults house (map words ls) ≡ fs
+        → unless_faulty (later_faults house (map words ls)) (opened_if opens (table_of house (map words ls))) ≡ Ok (opened_if opens t)
+    by [] e =
+        let same : Ok (table_of house (map words ls)) ≡ Ok t = rw e at h in
+        let is : table_of house (map words ls) ≡ t = cc in
+        rw e (ap (λ (u : House). Ok (opened_if opens u)) is)
+    by (f ∷ fs) e = let no : Err f ≡ Ok t = rw e at h in cc
+
+module _ (version second house : List ℕ) (ls : List (List ℕ)) (v : version_cause (Some version) ≡ None) (h : house_cause (Some (words second)) ≡ None) (w : second_word (Some (words second)) ≡ house) where
+  whole : house_of_lines (version ∷ second ∷ ls) ≡ unless_faulty (later_faults house (map words ls)) (opened_if (is_opening version) (table_of house (map words ls)))
   whole = rw (v, h, w) refl
 
   faults_whole : faults_of (version ∷ second ∷ ls) ≡ later_faults house (map words ls)
   faults_whole = rw (v, h, w) refl
 
+  stop : (c : Cause) (n : ℕ) → house_behind house ls ≡ Err (n, c) → house_of_lines (version ∷ second ∷ ls) ≡ Err (n, c)
+  stop c n s = whole ∙ still_faulty (later_faults house (map words ls)) _ _ (n, c) s
+
   stops_behind : (c : Cause) (n : ℕ) → StopsBehind c n house ls → Stops c n (version ∷ second ∷ ls)
   stops_behind Memory n s = (s.0, omega (arith, s.1), rw faults_whole s.2)
-  stops_behind TooManyLines n s = whole ∙ s
-  stops_behind BadVersion n s = whole ∙ s
-  stops_behind NoHouse n s = whole ∙ s
-  stops_behind BadLine n s = whole ∙ s
-  stops_behind BadName n s = whole ∙ s
-  stops_behind BadNumber n s = whole ∙ s
-  stops_behind OwnAgreement n s = whole ∙ s
-  stops_behind UnknownName n s = whole ∙ s
-  stops_behind NamedTwice n s = whole ∙ s
+  stops_behind TooManyLines n s = stop TooManyLines n s
+  stops_behind BadVersion n s = stop BadVersion n s
+  stops_behind NoHouse n s = stop NoHouse n s
+  stops_behind BadLine n s = stop BadLine n s
+  stops_behind BadName n s = stop BadName n s
+  stops_behind BadNumber n s = stop BadNumber n s
+  stops_behind OwnAgreement n s = stop OwnAgreement n s
+  stops_behind UnknownName n s = stop UnknownName n s
+  stops_behind NamedTwice n s = stop NamedTwice n s
 
-  pub gives_all : (r : Result House HouseError) → GivesBehind r house ls → Gives r (version ∷ second ∷ ls)
+  pub gives_all : (r : Result House HouseError) → GivesBehind (is_opening version) r house ls → Gives r (version ∷ second ∷ ls)
   gives_all (Ok u) e = whole ∙ e
   gives_all (Err e) s = stops_behind e.cause e.line s
 

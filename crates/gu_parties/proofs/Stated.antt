@@ -19,6 +19,7 @@ with_line t ws = record {
   accounts = t.accounts ++ filter_map account_of (ws ∷ []);
   instruments = t.instruments ++ filter_map instrument_of (ws ∷ []);
   agreements = t.agreements ++ filter_map agreement_of (ws ∷ []);
+  opening = t.opening;
 }
 
 no_instrument : (w : List ℕ) → bytes_eq w (codes "FIRM") ≡ true → bytes_eq w (codes "INSTRUMENT") ≡ false

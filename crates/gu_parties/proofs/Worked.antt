@@ -18,18 +18,35 @@ lawful : house_of (codes "GIVEUP 1\nHOUSE HSE\nFIRM AAA\nACCOUNT AAA A1\nINSTRUM
   accounts = record { firm = codes "AAA"; name = codes "A1" } ∷ [];
   instruments = codes "ESZ6" ∷ [];
   agreements = (record { giver = codes "HSE"; taker = codes "AAA" }, record { rate = 125; limit = 500 }) ∷ [];
+  opening = [];
 })
 unfolding number_upto
 lawful = refl
 
+-- of version 2, the agreements are those of the opening
+opens : house_of (codes "GIVEUP 2\nHOUSE HSE\nFIRM AAA\nAGREEMENT HSE AAA 125 500\nAGREEMENT AAA HSE 0 0\n") ≡ Ok (record {
+  house = codes "HSE";
+  firms = codes "AAA" ∷ [];
+  accounts = [];
+  instruments = [];
+  agreements = [];
+  opening = (record { giver = codes "HSE"; taker = codes "AAA" }, record { rate = 125; limit = 500 })
+      ∷ (record { giver = codes "AAA"; taker = codes "HSE" }, record { rate = 0; limit = 0 }) ∷ [];
+})
+unfolding number_upto
+opens = refl
+
 empty : house_of [] ≡ Err (1, BadVersion)
 empty = refl
 
-version : house_of (codes "GIVEUP 2") ≡ Err (1, BadVersion)
+version : house_of (codes "GIVEUP 3") ≡ Err (1, BadVersion)
 version = refl
 
 no_house : house_of (codes "GIVEUP 1") ≡ Err (2, NoHouse)
 no_house = refl
+
+opens_no_house : house_of (codes "GIVEUP 2") ≡ Err (2, NoHouse)
+opens_no_house = refl
 
 other_word : house_of (codes "GIVEUP 1\nHOUSEX A") ≡ Err (2, NoHouse)
 other_word = refl
@@ -42,6 +59,10 @@ unknown = refl
 
 twice : house_of (codes "GIVEUP 1\nHOUSE HSE\nFIRM HSE\n") ≡ Err (3, NamedTwice)
 twice = refl
+
+opens_twice : house_of (codes "GIVEUP 2\nHOUSE HSE\nFIRM A\nAGREEMENT HSE A 1 1\nAGREEMENT HSE A 2 2\n") ≡ Err (5, NamedTwice)
+unfolding number_upto
+opens_twice = refl
 
 own : house_of (codes "GIVEUP 1\nHOUSE HSE\nAGREEMENT HSE HSE 1 1\n") ≡ Err (3, OwnAgreement)
 unfolding number_upto

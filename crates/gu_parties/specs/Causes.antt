@@ -1,8 +1,9 @@
 -- What is wrong with a line, after the table of the lines before it. A line is the list of its words.
-use Rattle.std.specs.Prelude.{ℕ, Bool, List, [], ◌∷◌, Option, None, Some, is_some, bytes_eq, codes, if◌then◌else◌}
+use Rattle.std.specs.Prelude.{ℕ, Bool, ◌||◌, List, [], ◌∷◌, Option, None, Some, is_some, bytes_eq, codes, if◌then◌else◌}
 use Rattle.gu_base.specs.House.{House, knows_firm, knows_account, knows_instrument, agreement}
 use Rattle.gu_base.specs.Names.{is_firm_text}
 use Rattle.gu_parties.specs.Numbers.{rate_of, limit_of}
+use Rattle.gu_parties.specs.Table.{is_fixed, is_opening}
 use Rattle.gu_parties.specs.declared.fault.Cause.{Cause}
 use Rattle.gu_parties.specs.declared.fault.Cause.TheVariants.{BadVersion, NoHouse, BadLine, BadName, BadNumber, OwnAgreement, UnknownName, NamedTwice}
 
@@ -76,4 +77,4 @@ house_cause (Some (w ∷ rest)) = first (unless (bytes_eq w (codes "HOUSE")) NoH
 -- of line 1, which may be missing
 abbrev pub version_cause : Option (List ℕ) → Option Cause
 version_cause None = Some BadVersion
-version_cause (Some line) = unless (bytes_eq line (codes "GIVEUP 1")) BadVersion
+version_cause (Some line) = unless (is_fixed line || is_opening line) BadVersion

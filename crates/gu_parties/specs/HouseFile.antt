@@ -1,9 +1,9 @@
 -- What a house file says: the table that its lines name, or the first line with a cause and its first cause.
-use Rattle.std.specs.Prelude.{ℕ, ◌-◌, nat_lt, List, [], ◌∷◌, Option, Some, Result, Ok, Err, option_map, take, drop, map, slice_get, if◌then◌else◌}
+use Rattle.std.specs.Prelude.{ℕ, ◌-◌, Bool, false, nat_lt, List, [], ◌∷◌, Option, None, Some, Result, Ok, Err, option_map, take, drop, map, slice_get, if◌then◌else◌}
 use Rattle.std.specs.List.{filter_map, enumerate_from, cons_option}
 use Rattle.gu_base.specs.House.{House}
 use Rattle.gu_parties.specs.Words.{words}
-use Rattle.gu_parties.specs.Table.{table_of}
+use Rattle.gu_parties.specs.Table.{table_of, is_opening, opened_if}
 use Rattle.gu_parties.specs.Causes.{cause_of, house_cause, version_cause}
 use Rattle.gu_parties.specs.declared.fault.Cause.{Cause}
 use Rattle.gu_parties.specs.declared.fault.Cause.TheVariants.{TooManyLines}
@@ -33,9 +33,14 @@ faults_of ls =
     cons_option (at_line 1 (version_cause (slice_get ls 0)))
     (cons_option (at_line 2 (house_cause second)) (later_faults (second_word second) (map words (drop 2 ls))))
 
--- the table of line 2 and the lines behind it
+-- whether line 1 is that of version 2
+abbrev pub is_second_version : Option (List ℕ) → Bool
+is_second_version None = false
+is_second_version (Some line) = is_opening line
+
+-- the table of line 2 and the lines behind it, by the version in line 1
 abbrev pub table_of_lines : List (List ℕ) → House
-table_of_lines ls = table_of (second_word (option_map words (slice_get ls 1))) (map words (drop 2 ls))
+table_of_lines ls = opened_if (is_second_version (slice_get ls 0)) (table_of (second_word (option_map words (slice_get ls 1))) (map words (drop 2 ls)))
 
 -- the table, where there is no fault, and else the first fault
 abbrev pub unless_faulty : List (ℕ × Cause) → House → Result House (ℕ × Cause)

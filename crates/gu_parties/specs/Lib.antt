@@ -8,3 +8,4 @@ pub mod HouseFile
 pub mod Steps
 pub mod Line
 pub mod Parsing
+pub mod Kept

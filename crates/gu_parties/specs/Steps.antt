@@ -16,7 +16,7 @@ unless_caused (Some c) t = Err c
 
 -- the table of a house alone
 abbrev pub house_alone : List ℕ → House
-house_alone name = record { house = name; firms = []; accounts = []; instruments = []; agreements = [] }
+house_alone name = record { house = name; firms = []; accounts = []; instruments = []; agreements = []; opening = [] }
 
 -- with one more firm
 abbrev pub add_firm : House → List ℕ → Result House Cause

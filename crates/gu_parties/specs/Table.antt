@@ -1,5 +1,5 @@
 -- The house table that lines name. A line is the list of its words.
-use Rattle.std.specs.Prelude.{ℕ, List, [], ◌∷◌, Option, None, Some, bytes_eq, codes, if◌then◌else◌}
+use Rattle.std.specs.Prelude.{ℕ, Bool, List, [], ◌∷◌, Option, None, Some, bytes_eq, codes, if◌then◌else◌}
 use Rattle.std.specs.List.{filter_map}
 use Rattle.gu_base.specs.House.{House}
 use Rattle.gu_base.specs.declared.house.Account.{Account}
@@ -32,7 +32,7 @@ abbrev pub agreement_of : List (List ℕ) → Option (Pair × Agreement)
 agreement_of (w ∷ g ∷ t ∷ r ∷ l ∷ []) = if bytes_eq w (codes "AGREEMENT") then terms_of g t (rate_of r) (limit_of l) else None
 agreement_of _ = None
 
--- the table of a house and these lines: what they name, in their order
+-- the table of a house and these lines: what they name, in their order, each agreement fixed
 abbrev pub table_of : List ℕ → List (List (List ℕ)) → House
 table_of house lines = record {
   house = house;
@@ -40,4 +40,21 @@ table_of house lines = record {
   accounts = filter_map account_of lines;
   instruments = filter_map instrument_of lines;
   agreements = filter_map agreement_of lines;
+  opening = [];
 }
+
+-- line 1 of version 1, whose agreements are fixed
+abbrev pub is_fixed : List ℕ → Bool
+is_fixed line = bytes_eq line (codes "GIVEUP 1")
+
+-- line 1 of version 2, whose agreements the clearing house makes by its first calls
+abbrev pub is_opening : List ℕ → Bool
+is_opening line = bytes_eq line (codes "GIVEUP 2")
+
+-- the table, with the agreements that were fixed in the opening
+abbrev pub opened : House → House
+opened t = record t { agreements = []; opening = t.agreements }
+
+-- the same, where the version says so
+abbrev pub opened_if : Bool → House → House
+opened_if opens t = if opens then opened t else t

@@ -14,6 +14,6 @@ is_in_range a = nat_le a.rate highest_rate && nat_le a.limit highest_limit
 abbrev pub are_in_range : List (Pair × Agreement) → Bool
 are_in_range agreements = list_all (λ e. is_in_range e.1) agreements
 
--- all agreements of the table have their terms in range
+-- all agreements of the table that are fixed have their terms in range
 abbrev pub has_terms_in_range : House → Bool
 has_terms_in_range t = are_in_range t.agreements

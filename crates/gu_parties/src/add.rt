@@ -1,5 +1,5 @@
 //! What each line of a house file adds to the table.
-ghost use Rattle.std.specs.Prelude.{◌≡◌, IsTrue, OnErr};
+ghost use Rattle.std.specs.Prelude.{◌≡◌, [], IsTrue, OnErr};
 ghost use Rattle.gu_parties.specs.Terms.{is_in_range};
 ghost use Rattle.gu_parties.specs.Steps.{add_firm, add_account, add_instrument, add_terms, add_agreement, Does};
 
@@ -21,9 +21,10 @@ impl House {
             return Err(Cause::NamedTwice);
         }
         match self.firms.insert(firm) {
-            Ok(_) => Ok(()),
-            Err(_) => Err(Cause::Memory),
+            Ok(_) => {}
+            Err(_) => return Err(Cause::Memory),
         }
+        Ok(())
     }
 
     /// Adds an account to a firm.
@@ -68,7 +69,8 @@ impl House {
 
     /// Adds the terms between a giver and a taker.
     fn add_terms(&mut self, giver: FirmId, taker: FirmId, agreement: Agreement) -> Result<(), Cause>
-        requires { IsTrue (is_in_range agreement) }
+        requires in_range { IsTrue (is_in_range agreement) }
+        requires none_made { self.old.opening ≡ [] }
         ensures does { Does self.new result (add_terms self.old giver taker agreement) }
         ensures refused { OnErr result (self.new ≡ self.old) }
     {
@@ -100,6 +102,7 @@ impl House {
         rate: &[u8],
         limit: &[u8],
     ) -> Result<(), Cause>
+        requires none_made { self.old.opening ≡ [] }
         ensures does { Does self.new result (add_agreement self.old giver.now taker.now rate.now limit.now) }
         ensures refused { OnErr result (self.new ≡ self.old) }
     {

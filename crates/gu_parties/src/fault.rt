@@ -8,7 +8,7 @@ pub enum Cause {
     /// The line is line 100,001: a house file has at most 100,000 lines.
     #[error("too many lines")]
     TooManyLines,
-    /// Line 1 isn't `GIVEUP 1`, or is missing.
+    /// Line 1 is neither `GIVEUP 1` nor `GIVEUP 2`, or is missing.
     #[error("bad version")]
     BadVersion,
     /// Line 2 doesn't begin with the word `HOUSE`, or is missing.

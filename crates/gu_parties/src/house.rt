@@ -1,5 +1,5 @@
 //! The house table: who takes part, and on which terms.
-ghost use Rattle.std.specs.Prelude.{◌≡◌, ◌≤◌, IsTrue, IfSome, IfOk, length, slice_get};
+ghost use Rattle.std.specs.Prelude.{◌≡◌, ◌≤◌, [], IsTrue, IfSome, IfOk, length, slice_get};
 ghost use Rattle.gu_base.specs.House.{knows_firm, knows_account, knows_instrument, agreement};
 ghost use Rattle.gu_base.specs.Limits.{highest_rate, highest_limit};
 ghost use Rattle.gu_parties.specs.Steps.{house_alone};
@@ -21,18 +21,18 @@ pub struct House {
     pub(crate) accounts: IndexSet<Account>,
     pub(crate) instruments: IndexSet<InstrumentId>,
     pub(crate) agreements: IndexMap<Pair, Agreement>,
+    pub(crate) opening: IndexMap<Pair, Agreement>,
 }
 
 impl Model for House {
-    ghost use Rattle.std.specs.Prelude.{IsTrue};
     ghost use Rattle.gu_base.specs.House.{House as Table};
-    ghost use Rattle.gu_parties.specs.Terms.{are_in_range};
+    ghost use Rattle.gu_parties.specs.Kept.{table, HasLawfulAgreements};
 
     ghost Value = { Table };
 
-    ghost view = { λ t. record { house = t.house; firms = t.firms.keys; accounts = t.accounts.keys; instruments = t.instruments.keys; agreements = t.agreements.entries } };
+    ghost view = { table };
 
-    ghost invariant = { λ t. IsTrue (are_in_range t.agreements.entries) };
+    ghost invariant = { λ t. HasLawfulAgreements (table t) };
 }
 
 impl House {
@@ -46,6 +46,7 @@ impl House {
             accounts: IndexSet::new(alloc),
             instruments: IndexSet::new(alloc),
             agreements: IndexMap::new(alloc),
+            opening: IndexMap::new(alloc),
         }
     }
 
@@ -82,7 +83,7 @@ impl House {
     }
 
     /// The terms on which `taker` takes what `giver` gives up: a rate of 0 to 100,000 hundredths a lot, and a limit of 0 to
-    /// 10,000,000,000,000 lots. `None` where the file has no agreement of the two in this direction.
+    /// 10,000,000,000,000 lots. `None` where the file has no agreement of the two in this direction, or is of version 2.
     pub fn agreement(&self, giver: &FirmId, taker: &FirmId) -> Option<Agreement>
         ensures value { result ≡ agreement self.now giver.now taker.now }
         ensures in_range { IfSome result (λ a. (a.rate ≤ highest_rate) × (a.limit ≤ highest_limit)) }
@@ -116,7 +117,7 @@ impl House {
         self.instruments.len()
     }
 
-    /// How many lines `AGREEMENT` the file has.
+    /// How many lines `AGREEMENT` a file of version 1 has; none where it is of version 2.
     pub fn agreement_count(&self) -> usize
         ensures { result ≡ length self.now.agreements }
     {
@@ -145,7 +146,7 @@ impl House {
     }
 
     /// The giver, the taker and the terms, in hundredths a lot and in lots, of the line `AGREEMENT` at this place among those lines, from 0;
-    /// `None` behind the last.
+    /// `None` behind the last, and where the file is of version 2.
     pub fn agreement_at(&self, place: usize) -> Option<(Pair, Agreement)>
         ensures { result ≡ slice_get self.now.agreements place }
     {
@@ -153,16 +154,37 @@ impl House {
         Some((*pair, *agreement))
     }
 
-    /// Puts all that stands in this table into another, in place of what stands there.
-    fn copy_into(&self, copy: &mut House) -> Result<(), Memory>
-        ensures { IfOk result (λ _. copy.new ≡ self.now) }
+    /// Puts all but the agreements of this table into another, which has none, in place of what stands there.
+    fn copy_names_into(&self, copy: &mut House) -> Result<(), Memory>
+        requires fixed { copy.old.agreements ≡ [] }
+        requires made { copy.old.opening ≡ [] }
+        ensures { IfOk result (λ _. copy.new ≡ record self.now { agreements = []; opening = [] }) }
     {
         copy.house = self.house;
         copy.firms = self.firms.clone()?;
         copy.accounts = self.accounts.clone()?;
         copy.instruments = self.instruments.clone()?;
-        copy.agreements = self.agreements.clone()?;
         Ok(())
+    }
+
+    /// Puts the agreements of this table into another, which is the same but has none.
+    fn copy_agreements_into(&self, copy: &mut House) -> Result<(), Memory>
+        requires { copy.old ≡ record self.now { agreements = []; opening = [] } }
+        ensures { IfOk result (λ _. copy.new ≡ self.now) }
+    {
+        copy.agreements = self.agreements.clone()?;
+        copy.opening = self.opening.clone()?;
+        Ok(())
+    }
+
+    /// Puts all that stands in this table into another, which has no agreements.
+    fn copy_into(&self, copy: &mut House) -> Result<(), Memory>
+        requires fixed { copy.old.agreements ≡ [] }
+        requires made { copy.old.opening ≡ [] }
+        ensures { IfOk result (λ _. copy.new ≡ self.now) }
+    {
+        self.copy_names_into(copy)?;
+        self.copy_agreements_into(copy)
     }
 
     /// The same table once more. The one call beside `parse` that takes memory.

@@ -6,7 +6,11 @@
 //! A `House` never changes. It answers by hash whether a firm, an account or an instrument is there and on which terms two firms deal, and
 //! by place what was named there, in file order from 0. None of these look-ups takes memory. `House::copy` gives an equal table.
 //!
-//! In each table the terms are in range: a rate of at most 100,000 hundredths a lot, a limit of at most 10,000,000,000,000 lots.
+//! The agreements of a file of version 1 are fixed: `agreement` and `agreement_at` give them. Those of version 2 the clearing house makes by
+//! the first calls of the book, which `opening_at` gives.
+//!
+//! In each table the agreements are of two firms of the table, no two of one pair, and their terms are in range: a rate of at most 100,000
+//! hundredths a lot, a limit of at most 10,000,000,000,000 lots.
 //! The format is described in docs/profile.md; the definition of the table that the lines of a text name is `house_of_lines` in specs/HouseFile.antt.
 //! Its cases are data of the program `test_house`.
 #![tactic(auto)]
@@ -16,6 +20,7 @@ pub mod fault;
 pub mod house;
 mod line;
 mod number;
+mod opening;
 mod parse;
 mod words;
 

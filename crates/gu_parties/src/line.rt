@@ -1,5 +1,5 @@
 //! The lines behind line 2.
-ghost use Rattle.std.specs.Prelude.{◌≡◌, OnErr};
+ghost use Rattle.std.specs.Prelude.{◌≡◌, [], OnErr};
 ghost use Rattle.gu_base.specs.House.{House as Table};
 ghost use Rattle.gu_parties.specs.Steps.{add_line, Does};
 ghost use Rattle.gu_parties.specs.Words.{words};
@@ -62,6 +62,7 @@ pub(crate) fn line_of(text: &[u8]) -> Line<'_>
 impl House {
     /// Does what a line says.
     pub(crate) fn add_line(&mut self, text: &[u8]) -> Result<(), Cause>
+        requires none_made { self.old.opening ≡ [] }
         ensures does { Does self.new result (add_line self.old (words text.now)) }
         ensures refused { OnErr result (self.new ≡ self.old) }
     {

@@ -1,7 +1,9 @@
 //! The house file, line by line.
-ghost use Rattle.std.specs.Prelude.{◌≡◌, Some, None, Ok, MatchResult};
+ghost use Rattle.std.specs.Prelude.{◌≡◌, Some, None, Ok, MatchResult, MatchOption};
 ghost use Rattle.gu_parties.specs.Words.{words, lines};
-ghost use Rattle.gu_parties.specs.Causes.{house_cause};
+ghost use Rattle.gu_parties.specs.Causes.{house_cause, version_cause};
+ghost use Rattle.gu_parties.specs.Table.{is_opening};
+ghost use Rattle.gu_parties.specs.declared.fault.Cause.TheVariants.{BadVersion};
 ghost use Rattle.gu_parties.specs.HouseFile.{second_word};
 ghost use Rattle.gu_parties.specs.Parsing.{Gives, GivesBehind, StopsBehind, house_behind, Answers};
 ghost use Rattle.gu_parties.specs.Steps.{house_alone};
@@ -14,6 +16,19 @@ use std::alloc::Global;
 
 /// The most lines that a house file may have.
 const MAX_LINES: u32 = 100_000;
+
+/// Whether the agreements of a file with this line 1 are those of the opening; `None` where that is the line 1 of no version.
+fn version_opens(line: &[u8]) -> Option<bool>
+    ensures { MatchOption result (version_cause (Some line.now) ≡ Some BadVersion) (λ opens. (version_cause (Some line.now) ≡ None) × (opens ≡ is_opening line.now)) }
+{
+    if line == b"GIVEUP 2".as_slice() {
+        return Some(true);
+    }
+    if line == b"GIVEUP 1".as_slice() {
+        return Some(false);
+    }
+    None
+}
 
 /// The house that line 2 names.
 #[tactic(auto, using(crate::proofs::LongLine::long_names))]
@@ -65,13 +80,16 @@ fn add_lines(house: &mut House, text: &[u8]) -> Result<(), HouseError>
     Ok(())
 }
 
-/// Reads the lines from line 3 on, behind a line 2 that names this house.
-fn read_rest(alloc: Global, name: FirmId, text: &[u8]) -> Result<House, HouseError>
-    ensures { GivesBehind result name (lines text.now) }
+/// Reads the lines from line 3 on, behind a line 2 that names this house, of a file whose agreements are those of the opening or are fixed.
+fn read_rest(alloc: Global, opens: bool, name: FirmId, text: &[u8]) -> Result<House, HouseError>
+    ensures { GivesBehind opens result name (lines text.now) }
 {
     let mut house = House::alone(alloc, name);
     match add_lines(&mut house, text) {
-        Ok(()) => Ok(house),
+        Ok(()) => {
+            house.open_if(alloc, opens);
+            Ok(house)
+        }
         Err(fault) => {
             drop(house);
             Err(fault)
@@ -89,12 +107,12 @@ fn read_file(alloc: Global, text: &[u8]) -> Result<House, HouseError>
             cause: Cause::BadVersion,
         });
     };
-    if version != b"GIVEUP 1".as_slice() {
+    let Some(opens) = version_opens(version) else {
         return Err(HouseError {
             line: 1,
             cause: Cause::BadVersion,
         });
-    }
+    };
     let Some((second, rest)) = first_line(rest) else {
         return Err(HouseError {
             line: 2,
@@ -102,7 +120,7 @@ fn read_file(alloc: Global, text: &[u8]) -> Result<House, HouseError>
         });
     };
     match house_named(second) {
-        Ok(house) => read_rest(alloc, house, rest),
+        Ok(house) => read_rest(alloc, opens, house, rest),
         Err(cause) => Err(HouseError { line: 2, cause }),
     }
 }

@@ -2,7 +2,7 @@
 use Rattle.std.specs.Prelude.{◌≡◌, ℕ, ◌⊎◌, codes, List, [], Option, Some, Result, Ok, Err}
 use Rattle.clap.specs.Words.{Text}
 use Rattle.gu_base.specs.House.{House}
-use Rattle.gu_base.specs.Runs.{IsRunFrom}
+use Rattle.gu_base.specs.Runs.{IsRunFrom, opening_history}
 use Rattle.gu_batch.specs.Runs.{Told, Runs}
 use Rattle.gu_batch.specs.Traces.{Traces, WritesTotals}
 use Rattle.gu_batch.specs.declared.batch.RunError.{RunError}
@@ -59,9 +59,9 @@ pub record HasTraced {A : Type 0} (words : List Text) (bytes_at : Text → Optio
 
 -- ---- the server
 
--- the book is what calls of the firms made of an empty one
+-- the book is what calls of the firms made of the opening one
 abbrev pub IsServed : House → HouseAndHistory → Type 0
-IsServed house b = (b.house ≡ house) × IsRunFrom house [] b.history
+IsServed house b = (b.house ≡ house) × IsRunFrom house (opening_history house) b.history
 
 -- a server ended without a book, and nothing was written, or the totals of its book were
 abbrev pub Serves : {A : Type 0} → House → Option (List ℕ) → Option (List ℕ) → ℕ → ℕ → Result A Fault → Type 0

@@ -52,8 +52,8 @@ fn listen<R: Net<Stream = TcpStream, Listener = TcpListener>>(
     }
 }
 
-/// Serves so many connections (0: without end) on a port of 127.0.0.1, by 1 to 16 workers that share an empty book of this house, and gives
-/// the book when all have ended.
+/// Serves so many connections (0: without end) on a port of 127.0.0.1, by 1 to 16 workers that share the opening book of this house, and
+/// gives the book when all have ended.
 pub(crate) fn serve_port<
     R: Threads + Wait + Clock + Net<Stream = TcpStream, Listener = TcpListener> + Sync,
 >(
@@ -74,7 +74,14 @@ pub(crate) fn serve_port<
             return Err(error);
         }
     };
-    let book = Book::new(alloc, house);
+    let book = match Book::open(alloc, house) {
+        Ok(book) => book,
+        Err((house, _)) => {
+            drop(house);
+            drop(listener);
+            return Err(ServiceError::Serve(ServeError::Memory));
+        }
+    };
     let served = serve(rt, alloc, &listener, book, workers, connections, &Open);
     drop(listener);
     match served {

@@ -7,3 +7,4 @@ pub mod Short
 pub mod Found
 pub mod Each
 pub mod Concerned
+pub mod Made

@@ -64,10 +64,10 @@ five_pieces t0 t1 t2 t3 t4 t5 a b c d e one two three four five =
     (two_pieces t1 t2 t5 b (c ++ (d ++ e)) two (two_pieces t2 t3 t5 c (d ++ e) three (two_pieces t3 t4 t5 d e four five)))
 
 -- the words of a claim whose giver and taker are known
-pub claim_told : (t : House) (lots fee : ℕ) (giver taker : List ℕ) (g k : Option (List ℕ)) → Some giver ≡ g → k ≡ Some taker → fee ≡ fee_of t lots giver taker
-    → fee_words giver fee ≡ claimed_words t lots g k
-claim_told t lots fee giver taker g k given taken cost =
-    ap (fee_words giver) cost ∙ (ap (λ o. claimed_words t lots (Some giver) o) (sym taken) ∙ ap (λ o. claimed_words t lots o k) given)
+pub claim_told : (t : House) (h : List Entry) (lots fee : ℕ) (giver taker : List ℕ) (g k : Option (List ℕ)) → Some giver ≡ g → k ≡ Some taker → fee ≡ fee_of t h lots giver taker
+    → fee_words giver fee ≡ claimed_words t h lots g k
+claim_told t h lots fee giver taker g k given taken cost =
+    ap (fee_words giver) cost ∙ (ap (λ o. claimed_words t h lots (Some giver) o) (sym taken) ∙ ap (λ o. claimed_words t h lots o k) given)
 
 only : {A : Type 0} (b : Bool) (x y : A) → Some x ≡ cond b (Some y) None → x ≡ y
 only true x y h = cc

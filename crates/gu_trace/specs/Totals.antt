@@ -1,12 +1,15 @@
--- The text of all positions, fees and agreements, in the order of the house file.
-use Rattle.std.specs.Prelude.{ℕ, ◌&&◌, ◌==◌, if◌then◌else◌, List, [], ◌∷◌, ◌++◌, codes, decimal, flat_map}
+-- The text of all positions, fees and agreements, in the order of the house file; agreements that were made by number behind those that are fixed.
+use Rattle.std.specs.Prelude.{ℕ, ◌&&◌, ◌==◌, if◌then◌else◌, List, [], ◌∷◌, ◌++◌, codes, decimal, flat_map, unwrap_or}
 use Rattle.gu_base.specs.House.{House}
 use Rattle.gu_base.specs.History.{live}
 use Rattle.gu_base.specs.Positions.{position_of}
-use Rattle.gu_base.specs.Fees.{paid_by, received_by, used_of}
+use Rattle.gu_base.specs.Fees.{paid_by, received_by}
+use Rattle.gu_base.specs.Terms.{used_of, limit_of}
 use Rattle.gu_base.specs.declared.house.Account.{Account}
 use Rattle.gu_base.specs.declared.house.Pair.{Pair}
 use Rattle.gu_base.specs.declared.house.Agreement.{Agreement}
+use Rattle.gu_base.specs.declared.command.Command.{Command}
+use Rattle.gu_base.specs.declared.command.Command.TheVariants.{Agree}
 use Rattle.gu_base.specs.declared.entry.Entry.{Entry}
 use Rattle.gu_base.specs.declared.entry.Record.{Record}
 use Rattle.gu_base.specs.declared.command.Side.TheVariants.{Buy, Sell}
@@ -43,8 +46,18 @@ abbrev pub agreement_line : List ℕ → List ℕ → ℕ → ℕ → List ℕ
 agreement_line giver taker used limit = if used == 0 then [] else
     codes "agreement " ++ giver ++ codes " " ++ taker ++ codes " used " ++ decimal used ++ codes " limit " ++ decimal limit ++ 10 ∷ []
 
-abbrev pub use_of : House → List Record → Pair × Agreement → List ℕ
-use_of t l line = agreement_line line.0.giver line.0.taker (used_of t l line.0.giver line.0.taker) line.1.limit
+-- the line of a giver and a taker, with the limit as it is raised
+abbrev pub use_of : House → List Record → List ℕ → List ℕ → List ℕ
+use_of t l giver taker = agreement_line giver taker (used_of l giver taker) (unwrap_or (limit_of t l giver taker) 0)
+
+-- the line of an agreement that is fixed
+abbrev pub fixed_line : House → List Record → Pair × Agreement → List ℕ
+fixed_line t l e = use_of t l e.0.giver e.0.taker
+
+-- the line of the agreement that a command makes, if it makes one
+abbrev pub made_line : House → List Record → Command → List ℕ
+made_line t l (Agree giver taker _ _) = use_of t l giver taker
+made_line t l _ = []
 
 -- a line for each account and within it each instrument
 abbrev pub positions_text : House → List Record → List ℕ
@@ -54,9 +67,9 @@ positions_text t l = flat_map (λ a. flat_map (position_in l a) t.instruments) t
 abbrev pub fees_text : House → List Record → List ℕ
 fees_text t l = flat_map (fees_of t l) (t.house ∷ t.firms)
 
--- a line for each agreement
+-- a line for each agreement: those that are fixed, and then those that changes made, by their numbers
 abbrev pub agreements_text : House → List Record → List ℕ
-agreements_text t l = flat_map (use_of t l) t.agreements
+agreements_text t l = flat_map (fixed_line t l) t.agreements ++ flat_map (λ r. made_line t l r.command) l
 
 -- the three of them, over the live changes
 abbrev pub totals_text : House → List Entry → List ℕ

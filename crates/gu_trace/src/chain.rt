@@ -59,10 +59,10 @@ fn append_taker(text: &mut String, words: &str, taker: &Option<FirmId>) -> Resul
 }
 
 /// What the claim of these lots costs the taker, in hundredths.
-fn fee_of(house: &House, lots: u64, giver: &FirmId, taker: &FirmId) -> u128
-    ensures { result ≡ fee_of house.now lots giver.now taker.now }
+fn fee_of(book: &Book, lots: u64, giver: &FirmId, taker: &FirmId) -> u128
+    ensures { result ≡ fee_of book.now.house book.now.history lots giver.now taker.now }
 {
-    match house.agreement(giver, taker) {
+    match book.terms(giver, taker) {
         Some(terms) => u128::from(lots) * u128::from(terms.rate),
         None => 0,
     }
@@ -93,7 +93,7 @@ fn append_fee(text: &mut String, giver: &FirmId, fee: u128) -> Result<(), Memory
 
 /// Appends from whom a node was claimed, and what the claim costs its taker in hundredths.
 fn append_claim(text: &mut String, book: &Book, head: &Head) -> Result<(), Memory>
-    ensures { OnOk result (string_bytes text.new ≡ string_bytes text.old ++ claimed_words book.now.house head.now.lots (giver_of book.now.history head.now.name) head.now.taker) }
+    ensures { OnOk result (string_bytes text.new ≡ string_bytes text.old ++ claimed_words book.now.house book.now.history head.now.lots (giver_of book.now.history head.now.name) head.now.taker) }
 {
     let Some(split) = entry_at(book.history(), head.name.entry()) else {
         return Ok(());
@@ -101,13 +101,13 @@ fn append_claim(text: &mut String, book: &Book, head: &Head) -> Result<(), Memor
     let Some(taker) = head.taker else {
         return Ok(());
     };
-    let fee = fee_of(book.house(), head.lots, &split.firm, &taker);
+    let fee = fee_of(book, head.lots, &split.firm, &taker);
     append_fee(text, &split.firm, fee)
 }
 
 /// Appends the words for a node's state.
 fn append_words(text: &mut String, book: &Book, head: &Head) -> Result<(), Memory>
-    ensures { OnOk result (string_bytes text.new ≡ string_bytes text.old ++ words_for book.now.house head.now.lots (giver_of book.now.history head.now.name) head.now.taker head.now.state) }
+    ensures { OnOk result (string_bytes text.new ≡ string_bytes text.old ++ words_for book.now.house book.now.history head.now.lots (giver_of book.now.history head.now.name) head.now.taker head.now.state) }
 {
     match head.state {
         State::Held => text.push_str("held"),

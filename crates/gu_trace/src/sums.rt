@@ -1,9 +1,10 @@
 //! The totals of the day in text: positions, fees and used agreements.
 ghost use Rattle.std.specs.Prelude.{◌≡◌, ◌++◌, [], flat_map, OnOk, OnErr, string_bytes};
 ghost use Rattle.gu_base.specs.History.{live};
-ghost use Rattle.gu_trace.specs.Totals.{account_words, lots_words, position_line, position_in, fees_of, use_of, positions_text, fees_text, agreements_text, totals_text};
+ghost use Rattle.gu_trace.specs.Totals.{account_words, lots_words, position_line, position_in, fees_of, use_of, fixed_line, made_line, positions_text, fees_text, totals_text};
 
-use gu_base::{Account, Agreement, FirmId, InstrumentId, Memory, Pair};
+use crate::lookup::entry_at;
+use gu_base::{Account, Command, FirmId, InstrumentId, Memory};
 use gu_book::Book;
 use std::alloc::Global;
 use std::fmt::Write;
@@ -112,34 +113,50 @@ fn append_fees(text: &mut String, book: &Book) -> Result<(), Memory>
     Ok(())
 }
 
-/// Appends the line of an agreement, unless nothing is used of it.
-fn append_agreement(
-    text: &mut String,
-    book: &Book,
-    pair: &Pair,
-    terms: &Agreement,
-) -> Result<(), Memory>
-    ensures { OnOk result (string_bytes text.new ≡ string_bytes text.old ++ use_of book.now.house (live book.now.history) (pair.now, terms.now)) }
+/// Appends what a giver and a taker have used, with their limit, unless they have used nothing.
+fn append_use(text: &mut String, book: &Book, giver: &FirmId, taker: &FirmId) -> Result<(), Memory>
+    ensures { OnOk result (string_bytes text.new ≡ string_bytes text.old ++ use_of book.now.house (live book.now.history) giver.now taker.now) }
 {
-    let used = book.used(&pair.giver, &pair.taker);
+    let used = book.used(giver, taker);
     if used == 0 {
         return Ok(());
     }
-    writeln!(
-        text,
-        "agreement {} {} used {used} limit {}",
-        pair.giver, pair.taker, terms.limit
-    )
+    let limit = book.limit(giver, taker).unwrap_or(0);
+    writeln!(text, "agreement {giver} {taker} used {used} limit {limit}")
 }
 
-/// Appends what is used of each agreement.
-fn append_agreements(text: &mut String, book: &Book) -> Result<(), Memory>
-    ensures { OnOk result (string_bytes text.new ≡ string_bytes text.old ++ agreements_text book.now.house (live book.now.history)) }
+/// Appends what is used of each agreement that is fixed.
+fn append_fixed(text: &mut String, book: &Book) -> Result<(), Memory>
+    ensures { OnOk result (string_bytes text.new ≡ string_bytes text.old ++ flat_map (fixed_line book.now.house (live book.now.history)) book.now.house.agreements) }
 {
     let house = book.house();
     for place in 0..house.agreement_count() {
         match house.agreement_at(place) {
-            Some(line) => append_agreement(text, book, &line.0, &line.1)?,
+            Some(line) => append_use(text, book, &line.0.giver, &line.0.taker)?,
+            None => {}
+        }
+    }
+    Ok(())
+}
+
+/// Appends what is used of the agreement that the command makes, if it makes one.
+fn append_made_by(text: &mut String, book: &Book, command: &Command) -> Result<(), Memory>
+    ensures { OnOk result (string_bytes text.new ≡ string_bytes text.old ++ made_line book.now.house (live book.now.history) command.now) }
+{
+    match command {
+        Command::Agree { giver, taker, .. } => append_use(text, book, giver, taker),
+        _ => Ok(()),
+    }
+}
+
+/// Appends what is used of each agreement that a live change made.
+fn append_made(text: &mut String, alloc: Global, book: &Book) -> Result<(), Memory>
+    ensures { OnOk result (string_bytes text.new ≡ string_bytes text.old ++ flat_map (λ r. made_line book.now.house (live book.now.history) r.command) (live book.now.history)) }
+{
+    let numbers = book.live(alloc)?;
+    for number in numbers.as_slice() {
+        match entry_at(book.history(), *number) {
+            Some(entry) => append_made_by(text, book, &entry.command)?,
             None => {}
         }
     }
@@ -148,7 +165,7 @@ fn append_agreements(text: &mut String, book: &Book) -> Result<(), Memory>
 
 /// Appends the totals, in the order of the house file: a line for each account and instrument in which lots stand, with those of buy
 /// trades and those of sell trades; a line for each firm that pays or receives something for live claims, in hundredths, the
-/// house first; and a line for each agreement of which lots are used.
+/// house first; and a line for each agreement of which lots are used, the fixed ones first, then those that were made, by their numbers.
 ///
 /// # Errors
 ///
@@ -160,6 +177,7 @@ pub fn totals(alloc: Global, book: &Book, out: &mut Vec<u8>) -> Result<(), Memor
     let mut text = String::new(alloc);
     append_positions(&mut text, book)?;
     append_fees(&mut text, book)?;
-    append_agreements(&mut text, book)?;
+    append_fixed(&mut text, book)?;
+    append_made(&mut text, alloc, book)?;
     out.extend_from_slice(text.as_bytes())
 }

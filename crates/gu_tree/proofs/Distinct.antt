@@ -12,7 +12,7 @@ use Rattle.gu_base.specs.declared.entry.Record.{Record}
 use Rattle.gu_base.specs.declared.node.Node.{Node}
 use Rattle.gu_base.specs.declared.command.Part.{Part}
 use Rattle.gu_base.specs.declared.command.Command.{Command}
-use Rattle.gu_base.specs.declared.command.Command.TheVariants.{Trade, Split, Claim, Refuse, Cancel, Initiate, Decline, Reverse}
+use Rattle.gu_base.specs.declared.command.Command.TheVariants.{Trade, Split, Claim, Refuse, Cancel, Agree, Raise, Initiate, Decline, Reverse}
 use Rattle.gu_base.proofs.Basics.{or_none}
 use Rattle.gu_base.proofs.NodeNames.{name_same, name_is, made_entry, parent_by}
 use Rattle.gu_tree.specs.Shown.{HasDistinctNumbers}
@@ -106,6 +106,8 @@ split-in l m k by (Trade _ _ _ _ _) e at = absurd (cc)
 split-in l m k by (Claim _ _) e at = absurd (cc)
 split-in l m k by (Refuse _) e at = absurd (cc)
 split-in l m k by (Cancel _) e at = absurd (cc)
+split-in l m k by (Agree _ _ _ _) e at = absurd (cc)
+split-in l m k by (Raise _ _) e at = absurd (cc)
 split-in l m k by (Initiate _) e at = absurd (cc)
 split-in l m k by (Decline _) e at = absurd (cc)
 split-in l m k by (Reverse _) e at = absurd (cc)

@@ -8,7 +8,7 @@ use Rattle.gu_base.specs.declared.entry.Record.{Record}
 use Rattle.gu_base.specs.declared.node.Place.{Place}
 use Rattle.gu_base.specs.declared.node.Node.{Node}
 use Rattle.gu_base.specs.declared.command.Command.{Command}
-use Rattle.gu_base.specs.declared.command.Command.TheVariants.{Trade, Split, Claim, Refuse, Cancel, Initiate, Decline, Reverse}
+use Rattle.gu_base.specs.declared.command.Command.TheVariants.{Trade, Split, Claim, Refuse, Cancel, Agree, Raise, Initiate, Decline, Reverse}
 use Rattle.gu_base.proofs.NodeNames.{name_is, part_parent}
 use Rattle.gu_tree.specs.Rose.{Rose, Roses, leaf, parted, no_parts, part_then, height_of, heights_of}
 use Rattle.gu_tree.specs.Shown.{IsNodeOf, ArePartsOf, IsTreeOf}
@@ -66,6 +66,8 @@ low-one f h (Trade _ _ _ _ _) = omega arith
 low-one f h (Claim _ _) = omega arith
 low-one f h (Refuse _) = omega arith
 low-one f h (Cancel _) = omega arith
+low-one f h (Agree _ _ _ _) = omega arith
+low-one f h (Raise _ _) = omega arith
 low-one f h (Initiate _) = omega arith
 low-one f h (Decline _) = omega arith
 low-one f h (Reverse _) = omega arith
@@ -76,6 +78,8 @@ low-more f h k (Trade _ _ _ _ _) less = omega arith
 low-more f h k (Claim _ _) less = omega arith
 low-more f h k (Refuse _) less = omega arith
 low-more f h k (Cancel _) less = omega arith
+low-more f h k (Agree _ _ _ _) less = omega arith
+low-more f h k (Raise _ _) less = omega arith
 low-more f h k (Initiate _) less = omega arith
 low-more f h k (Decline _) less = omega arith
 low-more f h k (Reverse _) less = omega arith
@@ -87,6 +91,8 @@ low-next f h n (Trade _ _ _ _ _) e is = absurd (cc)
 low-next f h n (Claim _ _) e is = absurd (cc)
 low-next f h n (Refuse _) e is = absurd (cc)
 low-next f h n (Cancel _) e is = absurd (cc)
+low-next f h n (Agree _ _ _ _) e is = absurd (cc)
+low-next f h n (Raise _ _) e is = absurd (cc)
 low-next f h n (Initiate _) e is = absurd (cc)
 low-next f h n (Decline _) e is = absurd (cc)
 low-next f h n (Reverse _) e is = absurd (cc)
@@ -135,6 +141,8 @@ low-root f h n k by (Trade _ _ _ _ _) x e top = refl
 low-root f h n k by (Claim _ _) x e top = refl
 low-root f h n k by (Refuse _) x e top = refl
 low-root f h n k by (Cancel _) x e top = refl
+low-root f h n k by (Agree _ _ _ _) x e top = refl
+low-root f h n k by (Raise _ _) x e top = refl
 low-root f h n k by (Initiate _) x e top = refl
 low-root f h n k by (Decline _) x e top = refl
 low-root f h n k by (Reverse _) x e top = refl

@@ -9,7 +9,7 @@ use Rattle.gu_base.specs.declared.node.Place.{Place}
 use Rattle.gu_base.specs.declared.node.Node.{Node}
 use Rattle.gu_base.specs.declared.command.Part.{Part}
 use Rattle.gu_base.specs.declared.command.Command.{Command}
-use Rattle.gu_base.specs.declared.command.Command.TheVariants.{Trade, Split, Claim, Refuse, Cancel, Initiate, Decline, Reverse}
+use Rattle.gu_base.specs.declared.command.Command.TheVariants.{Trade, Split, Claim, Refuse, Cancel, Agree, Raise, Initiate, Decline, Reverse}
 use Rattle.gu_base.proofs.NodeNames.{node_called}
 use Rattle.gu_base.proofs.Searches.{find_passes}
 use Rattle.gu_tree.specs.Rose.{Rose, Roses, leaf, parted, no_parts, part_then, head_of, split_of_node}
@@ -36,6 +36,8 @@ split-counted n k by (Trade _ _ _ _ _) e = absurd (cc)
 split-counted n k by (Claim _ _) e = absurd (cc)
 split-counted n k by (Refuse _) e = absurd (cc)
 split-counted n k by (Cancel _) e = absurd (cc)
+split-counted n k by (Agree _ _ _ _) e = absurd (cc)
+split-counted n k by (Raise _ _) e = absurd (cc)
 split-counted n k by (Initiate _) e = absurd (cc)
 split-counted n k by (Decline _) e = absurd (cc)
 split-counted n k by (Reverse _) e = absurd (cc)

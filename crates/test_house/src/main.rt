@@ -9,7 +9,7 @@
 mod long;
 mod small;
 
-use gu_base::Account;
+use gu_base::{Account, Command};
 use gu_parties::House;
 use std::alloc::{AllocError, Global};
 use std::io;
@@ -59,12 +59,55 @@ fn show_terms(rt: &impl Print, house: &House) -> io::Result<()> {
     Ok(())
 }
 
+/// Writes the calls that the clearing house makes first.
+fn show_opening(rt: &impl Print, house: &House) -> io::Result<()> {
+    for place in 0..PLACES {
+        match house.opening_at(place) {
+            Some((id, command)) => {
+                print!(rt; "{id} ")?;
+                show_command(rt, &command)?;
+            }
+            None => break,
+        }
+    }
+    println!(rt;
+        "{} fixed, {} made",
+        house.agreement_count(),
+        house.opening_count()
+    )
+}
+
+/// Writes the command of an opening call.
+fn show_command(rt: &impl Print, command: &Command) -> io::Result<()> {
+    match command {
+        Command::Agree {
+            giver,
+            taker,
+            rate,
+            limit,
+        } => println!(rt; "agree {giver} {taker} rate {rate} limit {limit}"),
+        _ => println!(rt; "is another command"),
+    }
+}
+
+/// Whether two houses have the same opening call at a place.
+fn same_opening(one: &House, other: &House, place: usize) -> bool {
+    match (one.opening_at(place), other.opening_at(place)) {
+        (Some((id, command)), Some((other_id, other_command))) => {
+            id == other_id && command == other_command
+        }
+        (None, None) => true,
+        _ => false,
+    }
+}
+
 /// Whether two houses have the same entries at a place.
 fn same_at(one: &House, other: &House, place: usize) -> bool {
     one.firm_at(place) == other.firm_at(place)
         && one.account_at(place) == other.account_at(place)
         && one.instrument_at(place) == other.instrument_at(place)
         && one.agreement_at(place) == other.agreement_at(place)
+        && same_opening(one, other, place)
 }
 
 /// Whether two houses say the same of the firms and the names of two accounts.
@@ -108,7 +151,8 @@ fn all_same(one: &House, other: &House) -> bool {
 /// Writes a table.
 fn show(rt: &impl Print, house: &House) -> io::Result<()> {
     show_firms(rt, house)?;
-    show_terms(rt, house)
+    show_terms(rt, house)?;
+    show_opening(rt, house)
 }
 
 /// Writes a copy of a table, and whether it differs.

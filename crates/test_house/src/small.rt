@@ -8,13 +8,16 @@ use std::io;
 /// One entry of each kind.
 const TEXT: &[u8] = b"GIVEUP 1\nHOUSE H\nFIRM A\nACCOUNT A X\nINSTRUMENT I\nAGREEMENT A H 1 2\n";
 
+/// The same of version 2.
+const OPENING: &[u8] = b"GIVEUP 2\nHOUSE H\nFIRM A\nACCOUNT A X\nINSTRUMENT I\nAGREEMENT A H 1 2\n";
+
 /// Reads the house. Where memory lacks, the fault has to name a line that adds a name, and the house is read once more.
-fn small(alloc: Global) -> Result<House, HouseError> {
-    match House::parse(alloc, TEXT) {
+fn small(alloc: Global, text: &[u8]) -> Result<House, HouseError> {
+    match House::parse(alloc, text) {
         Ok(house) => Ok(house),
         Err(fault) => {
             if fault.cause == Cause::Memory && 3 <= fault.line && fault.line <= 6 {
-                House::parse(alloc, TEXT)
+                House::parse(alloc, text)
             } else {
                 Err(fault)
             }
@@ -57,6 +60,13 @@ fn tell_agreement(rt: &impl Print, house: &House, giver: &str, taker: &str) -> i
     }
 }
 
+fn tell_opening(rt: &impl Print, house: &House) -> io::Result<()> {
+    match house.opening_at(0) {
+        Some((id, _)) => println!(rt; "opening: {} from {id} on", house.opening_count()),
+        None => println!(rt; "opening: none"),
+    }
+}
+
 fn tell_instrument(rt: &impl Print, house: &House, name: &str) -> io::Result<()> {
     match InstrumentId::new(name.as_bytes()) {
         Some(instrument) => println!(rt; "instrument {name}: {}", house.instrument(&instrument)),
@@ -70,6 +80,7 @@ fn tell_house(rt: &impl Print, house: &House) -> io::Result<()> {
     tell_firm(rt, house, "B")?;
     tell_agreement(rt, house, "A", "H")?;
     tell_agreement(rt, house, "H", "A")?;
+    tell_opening(rt, house)?;
     tell_instrument(rt, house, "I")?;
     tell_instrument(rt, house, "J")
 }
@@ -85,10 +96,15 @@ fn tell_both(rt: &impl Print, alloc: Global, house: &House) -> io::Result<()> {
     tell_copy(rt, alloc, house)
 }
 
-/// Writes what the house answers, and what its copy answers.
-pub(crate) fn tell(rt: &impl Print, alloc: Global) -> io::Result<()> {
-    match small(alloc) {
+fn tell_text(rt: &impl Print, alloc: Global, text: &[u8]) -> io::Result<()> {
+    match small(alloc, text) {
         Ok(house) => tell_both(rt, alloc, &house),
         Err(fault) => println!(rt; "{fault}"),
     }
+}
+
+/// Writes what the house of each version answers, and what its copy answers.
+pub(crate) fn tell(rt: &impl Print, alloc: Global) -> io::Result<()> {
+    tell_text(rt, alloc, TEXT)?;
+    tell_text(rt, alloc, OPENING)
 }

@@ -81,6 +81,19 @@ fn show_command(rt: &impl Print, command: &Command) -> io::Result<State> {
             println!(rt; "cancel {node}")?;
             Ok(State::Cancelled)
         }
+        Command::Agree {
+            giver,
+            taker,
+            rate,
+            limit,
+        } => {
+            println!(rt; "agree {giver} {taker} rate {rate} limit {limit}")?;
+            Ok(State::Held)
+        }
+        Command::Raise { giver, lots } => {
+            println!(rt; "raise {giver} {lots}")?;
+            Ok(State::Held)
+        }
         Command::Initiate { entry } => {
             println!(rt; "initiate {}", entry.get())?;
             Ok(State::ReversalPending)

@@ -1,9 +1,12 @@
-//! Running sums, and the fees and positions that are kept as such. There is no input; the file `stdout` beside `src/` holds what must be
+//! Running sums, and the fees, positions and terms that are kept as such. There is no input; the file `stdout` beside `src/` holds what must be
 //! printed.
 //!
 //! Memory is ample here, so each row is made ready; then what was added, and what was taken again, is written.
 #![tactic(auto)]
 
+mod agreements;
+
+use agreements::tell_terms;
 use gu_base::{AccountId, FirmId, InstrumentId, Memory, Side};
 use gu_fees::Fees;
 use gu_positions::{Key, Positions};
@@ -126,5 +129,6 @@ fn main(rt: HostRuntime) -> io::Result<()> {
     };
     tell_positions(&rt, alloc, &key)?;
     tell_put(&rt, alloc, &key)?;
-    tell_put_fees(&rt, alloc, &firm, &other)
+    tell_put_fees(&rt, alloc, &firm, &other)?;
+    tell_terms(&rt, alloc, &firm, &other)
 }

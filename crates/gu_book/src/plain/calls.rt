@@ -2,18 +2,18 @@
 ghost use Rattle.std.specs.Prelude.{◌≡◌, ◌≤◌, length, find, unwrap_or, if◌then◌else◌};
 ghost use Rattle.gu_base.specs.Limits.{most_entries};
 ghost use Rattle.gu_base.specs.Same.{same_command};
-ghost use Rattle.gu_base.specs.Fees.{charges};
 ghost use Rattle.gu_base.specs.History.{records, live, RisesFrom};
 ghost use Rattle.gu_base.specs.Answers.{is_same_call, is_same_id, answer_by, status_of};
 ghost use Rattle.gu_base.specs.declared.entry.Answer.{Answer};
 ghost use Rattle.gu_base.specs.declared.entry.Answer.TheVariants.{Repeated, Refused};
 ghost use Rattle.gu_base.specs.declared.refusal.Refusal.TheVariants.{DuplicateId};
+ghost use Rattle.gu_book.specs.Charging.{AreUsesOf};
 ghost use Rattle.gu_book.specs.Found.{IsNamedIn};
 ghost use Rattle.gu_book.specs.Front.{front_answer, front_rules, front_refusal};
 ghost use Rattle.gu_book.specs.Ids.{NoIdTwice};
 ghost use Rattle.gu_book.specs.Index.{AreIdsOf, IsIndexOf};
 ghost use Rattle.gu_consent.specs.Given.{given};
-ghost use Rattle.gu_fees.specs.Sums.{AreSumsOf};
+ghost use Rattle.gu_depend.specs.Terms.{AreTermsOf};
 ghost use Rattle.gu_ids.specs.Chains.{IsHashOf};
 ghost use Rattle.gu_tree.specs.Shown.{named_node};
 
@@ -77,6 +77,7 @@ fn status_of(by: &FirmId, command: &Command) -> State
         Command::Claim { .. } => State::Claimed,
         Command::Refuse { .. } => State::Refused,
         Command::Cancel { .. } => State::Cancelled,
+        Command::Agree { .. } | Command::Raise { .. } => State::Held,
         Command::Initiate { .. } => State::ReversalPending,
         Command::Decline { .. } => State::Held,
         Command::Reverse { .. } => State::Reversed,
@@ -86,7 +87,8 @@ fn status_of(by: &FirmId, command: &Command) -> State
 /// Why a command is refused, but for what stands on a change.
 fn front_refusal(at: &Standing<'_>, by: &FirmId, command: &Command) -> Option<Refusal>
     requires indexed { IsIndexOf at.now.index.now at.now.entries.now }
-    requires charged { AreSumsOf at.now.fees.now (charges at.now.house.now at.now.changes) }
+    requires used { AreUsesOf at.now.changes at.now.fees.now }
+    requires dealt { AreTermsOf at.now.house.now at.now.changes at.now.terms.now }
     requires few { length at.now.entries.now ≤ most_entries }
     requires live { at.now.changes ≡ live at.now.entries.now }
     requires rises { RisesFrom 1 at.now.changes }
@@ -109,7 +111,8 @@ fn front_refusal(at: &Standing<'_>, by: &FirmId, command: &Command) -> Option<Re
 /// The answer to a call whose id no entry has, if nothing stood on any change.
 fn new_answer(at: &Standing<'_>, by: &FirmId, command: &Command) -> Answer
     requires indexed { IsIndexOf at.now.index.now at.now.entries.now }
-    requires charged { AreSumsOf at.now.fees.now (charges at.now.house.now at.now.changes) }
+    requires used { AreUsesOf at.now.changes at.now.fees.now }
+    requires dealt { AreTermsOf at.now.house.now at.now.changes at.now.terms.now }
     requires few { length at.now.entries.now ≤ most_entries }
     requires live { at.now.changes ≡ live at.now.entries.now }
     requires rises { RisesFrom 1 at.now.changes }
@@ -139,7 +142,8 @@ pub(crate) fn front_answer(
     requires hashed { IsHashOf hash by.now id.now }
     requires once { NoIdTwice at.now.entries.now }
     requires indexed { IsIndexOf at.now.index.now at.now.entries.now }
-    requires charged { AreSumsOf at.now.fees.now (charges at.now.house.now at.now.changes) }
+    requires used { AreUsesOf at.now.changes at.now.fees.now }
+    requires dealt { AreTermsOf at.now.house.now at.now.changes at.now.terms.now }
     requires few { length at.now.entries.now ≤ most_entries }
     requires live { at.now.changes ≡ live at.now.entries.now }
     requires rises { RisesFrom 1 at.now.changes }

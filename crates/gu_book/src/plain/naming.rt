@@ -15,7 +15,7 @@ use gu_base::{Command, Entry, FirmId, Kind, Node, Number, Refusal};
 use gu_consent::Consents;
 use gu_parties::House;
 
-/// Whether a command changes trees, positions or fees.
+/// Whether a command changes trees, positions, fees or terms.
 pub(crate) fn is_change(command: &Command) -> bool
     ensures { result ≡ is_change command.now }
 {
@@ -25,6 +25,8 @@ pub(crate) fn is_change(command: &Command) -> bool
         Command::Claim { .. } => true,
         Command::Refuse { .. } => true,
         Command::Cancel { .. } => true,
+        Command::Agree { .. } => true,
+        Command::Raise { .. } => true,
         Command::Initiate { .. } => false,
         Command::Decline { .. } => false,
         Command::Reverse { .. } => false,
@@ -32,29 +34,29 @@ pub(crate) fn is_change(command: &Command) -> bool
 }
 
 /// The taker and the giver of a node, and how many they are: none where it isn't given.
-fn taker_and_giver(node: &Option<Node>, by: &FirmId) -> ([FirmId; 2], usize)
+fn taker_and_giver(node: &Option<Node>, by: &FirmId) -> ([FirmId; 3], usize)
     ensures value { take result.1 result.0 ≡ of_node taker_and_giver node.now }
-    ensures fits { result.1 ≤ 2 }
+    ensures fits { result.1 ≤ 3 }
 {
     match node {
-        None => ([*by, *by], 0),
+        None => ([*by, *by, *by], 0),
         Some(x) => match &x.kind {
-            Kind::Given { giver, taker, .. } => ([*taker, *giver], 2),
-            Kind::Root(_) | Kind::Own { .. } => ([*by, *by], 0),
+            Kind::Given { giver, taker, .. } => ([*taker, *giver, *giver], 2),
+            Kind::Root(_) | Kind::Own { .. } => ([*by, *by, *by], 0),
         },
     }
 }
 
 /// The giver of a node, if it is given.
-fn giver_alone(node: &Option<Node>, by: &FirmId) -> ([FirmId; 2], usize)
+fn giver_alone(node: &Option<Node>, by: &FirmId) -> ([FirmId; 3], usize)
     ensures value { take result.1 result.0 ≡ of_node giver_alone node.now }
-    ensures fits { result.1 ≤ 2 }
+    ensures fits { result.1 ≤ 3 }
 {
     match node {
-        None => ([*by, *by], 0),
+        None => ([*by, *by, *by], 0),
         Some(x) => match &x.kind {
-            Kind::Given { giver, .. } => ([*giver, *giver], 1),
-            Kind::Root(_) | Kind::Own { .. } => ([*by, *by], 0),
+            Kind::Given { giver, .. } => ([*giver, *giver, *giver], 1),
+            Kind::Root(_) | Kind::Own { .. } => ([*by, *by, *by], 0),
         },
     }
 }
@@ -65,19 +67,21 @@ fn parties_of(
     changes: &Live<'_>,
     by: &FirmId,
     command: &Command,
-) -> ([FirmId; 2], usize)
+) -> ([FirmId; 3], usize)
     requires { RisesFrom 1 changes.now }
     ensures value { take result.1 result.0 ≡ parties_of house.now changes.now by.now command.now }
-    ensures fits { result.1 ≤ 2 }
+    ensures fits { result.1 ≤ 3 }
 {
     match command {
-        Command::Trade { firm, .. } => ([house.house(), *firm], 2),
-        Command::Split { .. } => ([*by, *by], 1),
+        Command::Trade { firm, .. } => ([house.house(), *firm, *firm], 2),
+        Command::Split { .. } => ([*by, *by, *by], 1),
         Command::Claim { node, .. } => taker_and_giver(&node_of(changes, node), by),
         Command::Refuse { node } => taker_and_giver(&node_of(changes, node), by),
         Command::Cancel { node } => giver_alone(&node_of(changes, node), by),
+        Command::Agree { giver, taker, .. } => ([house.house(), *giver, *taker], 3),
+        Command::Raise { giver, .. } => ([*by, *giver, *giver], 2),
         Command::Initiate { .. } | Command::Decline { .. } | Command::Reverse { .. } => {
-            ([*by, *by], 0)
+            ([*by, *by, *by], 0)
         }
     }
 }

@@ -1,9 +1,12 @@
 use Rattle.std.proofs.Common.{◌≡◌, ◌∙◌, ℕ, IsSomeAnd, sym, ap, subst, arith}
-use Rattle.std.specs.Prelude.{Some, option_map}
+use Rattle.std.specs.Prelude.{Some, None, option_map, option_and_then}
+use Rattle.gu_base.specs.declared.entry.Record.{Record}
+use Rattle.gu_depend.specs.Under.{deals_under}
+use Rattle.gu_depend.proofs.ReadOff.{nothing_placed}
 use Rattle.gu_base.proofs.Numbered.{rises_later}
 use Rattle.gu_tree.specs.Grove.{HasTree, IsPlace, place_of}
 use Rattle.gu_tree.specs.Paths.{node_at}
-use Rattle.gu_tree.specs.ShownAll.{change_of}
+use Rattle.gu_tree.specs.ShownAll.{named_place, change_of}
 use Rattle.gu_book.specs.Holdings.{deal_of}
 use Rattle.gu_book.specs.Live.{record_of}
 use Rattle.gu_book.proofs.AllShown.{all_shown}
@@ -29,8 +32,34 @@ returns-clause-undone c =
       found = c.found_at-found.ensures.found l m.0 c.args.trees.now are m.2 tree;
       there = λ h filed. subst (λ (k : ℕ). IsPlace h m.0 k c.named.new.path.items) (sym c.found_at-found.ensures.trade) (one_place are.filed m.0 c.in-Some-named.spot.trade c.named.new.path.items m.2 h filed);
       deal = c.traded_under.ensures ∙ ap (deal_of l) (sym c.found_at-found.ensures.trade);
-      stands = λ t legal. c.first_standing_at.ensures t l c.args.trees.now c.named.new.path.items (rises_later 0 1 l (omega arith) are.rises) legal (all_shown are.filed) at tree;
     }
+
+-- what stands there
+pub returns-clause-standing : goal.returns-clause-standing
+returns-clause-standing c = λ t legal dealt.
+    let l = c.args.changes.now in
+    let are = c.requires.trees in
+    let at : IsSomeAnd (place_of c.args.trees.now c.args.number) (λ n. IsPlace c.args.trees.now n c.in-Some-named.spot.trade c.named.new.path.items) = rw c.in-Some-named.is at c.named.ensures.found in
+    let tree : HasTree c.args.trees.now c.in-Some-named.spot.trade (λ v. node_at c.named.new.path.items v ≡ Some c.in-Some-named.spot.node.now) = rw c.in-Some-named.is at c.named.ensures.node in
+    c.first_standing_at-sought.ensures t l c.args.trees.now c.named.new.path.items (rises_later 0 1 l (omega arith) are.rises) legal (all_shown are.filed) at tree
+
+-- a change without a place stands among those of its giver and taker
+pub returns-in_default-named-clause-standing : goal.returns-in_default-named-clause-standing
+returns-in_default-named-clause-standing c = λ t legal dealt.
+    let l = c.args.changes.now in
+    let are = c.requires.trees in
+    c.first_standing-sought.ensures.first t l (rises_later 0 1 l (omega arith) are.rises) legal (all_shown are.filed) dealt
+
+-- and nothing stands on what isn't there
+pub returns-in_default-clause-standing : goal.returns-in_default-clause-standing
+returns-in_default-clause-standing c = λ t legal dealt.
+    let l = c.args.changes.now in
+    let are = c.requires.trees in
+    let none : change_of l c.args.number ≡ None = sym c.change.ensures ∙ ap (option_map record_of) c.in_default.is in
+    let placeless = are.filed.placed c.args.number ∙ ap (option_and_then (λ (r : Record). named_place r.number r.command)) none in
+    c.requires.nothing.standing
+    ∙ (sym (ap (option_and_then (λ (r : Record). deals_under t l r.number r.firm r.command)) none)
+    ∙ nothing_placed c.args.trees.now t l (rises_later 0 1 l (omega arith) are.rises) legal (all_shown are.filed) c.args.number placeless)
 
 pub returns-clause-most : goal.returns-clause-most
 returns-clause-most c =

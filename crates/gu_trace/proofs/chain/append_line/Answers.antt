@@ -14,6 +14,6 @@ returns c =
     c.append_end.result
     (λ last. five_pieces (string_bytes c.args.text.now) (string_bytes c.append_indent.new.text) (string_bytes c.append_node.new.text) (string_bytes c.append_place.new.text)
     (string_bytes c.append_words.new.text) (string_bytes c.append_end.new.text)
-    (indent c.args.row.now.depth) (node_words head.name head.lots) (place_words (Some head.place)) (words_for book.house head.lots (giver_of book.history head.name) head.taker head.state) (10 ∷ [])
+    (indent c.args.row.now.depth) (node_words head.name head.lots) (place_words (Some head.place)) (words_for book.house book.history head.lots (giver_of book.history head.name) head.taker head.state) (10 ∷ [])
     c.in_ok-append_indent.ensures c.in_ok-append_node.ensures c.in_ok-append_place.ensures c.in_ok-append_words.ensures last)
     c.append_end.ensures

@@ -1,10 +1,10 @@
-use Rattle.std.proofs.Common.{◌≡◌, sym, ◌∙◌, ap, Option}
-use Rattle.std.specs.Prelude.{option_and_then, option_map}
+use Rattle.std.proofs.Common.{◌≡◌, sym, ◌∙◌, ap}
+use Rattle.std.specs.Prelude.{option_map}
+use Rattle.gu_base.specs.History.{live}
 use Rattle.gu_base.specs.Answers.{Call, accepted_or, answer_to}
-use Rattle.gu_base.specs.declared.refusal.Refusal.{Refusal}
 use Rattle.gu_base.specs.declared.refusal.Refusal.TheVariants.{StandsOn}
 use Rattle.gu_consent.specs.Given.{given}
-use Rattle.gu_book.specs.declared.found.Undone.{Undone}
+use Rattle.gu_book.proofs.Dealing.{uses_are}
 use Rattle.gu_book.proofs.Fronts.{stands_refusal, decided, settles, not_accepted}
 use Rattle.gu_book.proofs.Leaves.{live_rises}
 use Rattle.gu_book.proofs.Undone.{stands_found}
@@ -16,6 +16,14 @@ front_answer-answer-requires-clause-rises c = rw (c.of.ensures, c.as_slice.ensur
 
 pub front_answer-answer-requires-clause-named : goal.front_answer-answer-requires-clause-named
 front_answer-answer-requires-clause-named c = rw (c.of.ensures, c.as_slice.ensures.value) (rw (← c.self.view_is) at c.requires.named)
+
+pub front_answer-answer-requires-clause-used : goal.front_answer-answer-requires-clause-used
+front_answer-answer-requires-clause-used c =
+    rw (c.of.ensures, c.as_slice.ensures.value)
+    (uses_are c.self.inside.house (live c.self.inside.entries.items) c.self.invariant.kept.replayed c.self.inside.fees c.self.invariant.charged)
+
+pub front_answer-answer-requires-clause-dealt : goal.front_answer-answer-requires-clause-dealt
+front_answer-answer-requires-clause-dealt c = rw (c.of.ensures, c.as_slice.ensures.value) c.self.invariant.dealt
 
 pub returns-in_default : goal.returns-in_default
 returns-in_default c =
@@ -33,25 +41,16 @@ accepts c =
     (decided c.self.inside.house c.self.inside.entries.items (given c.self.inside.consents) c.self.invariant.kept.consented
     (record { firm = c.args.by.now; id = c.args.id.now; command = c.args.command.now }) c.in-Accepted.number c.in-Accepted.status (sym e ∙ c.in-Accepted.is)).1
 
--- what was found to stand on the change, as a refusal
-abbrev refusal_by : Option Undone → Option Refusal
-refusal_by o = option_map (λ k. StandsOn k) (option_and_then (λ (u : Undone). u.standing) o)
-
 -- and that was found with the change
-stands : (c : In-Accepted) → stands_refusal c.self.inside.house c.self.inside.entries.items c.args.command.now ≡ refusal_by c.args.sought.now.undone
-stands c = stands_found c.self.invariant.kept c.args.command.now c.args.sought.now.undone c.args.sought.now.path.items (rw (← c.self.view_is) at c.requires.undone)
+stands : (c : In-Accepted) → stands_refusal c.self.inside.house c.self.inside.entries.items c.args.command.now ≡ option_map (λ k. StandsOn k) c.args.sought.now.standing
+stands c = stands_found c.self.inside.house c.self.inside.entries.items c.args.command.now c.args.sought.now.standing (rw (← c.self.view_is) at c.requires.standing)
 
-pub returns-in_default-undone : goal.returns-in_default-undone
-returns-in_default-undone c =
-    let w = (goal.at.returns-in_default-undone c).In-Accepted in
-    rw (← c.self.view_is) (c.in-Accepted.is ∙ sym (accepts w ∙ ap (accepted_or c.in-Accepted.number c.in-Accepted.status) (stands w ∙ ap refusal_by c.in_default-undone.is)))
-
-pub returns-in-Some-standing : goal.returns-in-Some-standing
-returns-in-Some-standing c =
-    let w = (goal.at.returns-in-Some-standing c).In-Accepted in
-    rw (← c.self.view_is) (sym (accepts w ∙ ap (accepted_or c.in-Accepted.number c.in-Accepted.status) (stands w ∙ (ap refusal_by c.in-Some.is ∙ ap (option_map (λ k. StandsOn k)) c.in-Some-standing.is))))
+pub returns-in-Some : goal.returns-in-Some
+returns-in-Some c =
+    let w = (goal.at.returns-in-Some c).In-Accepted in
+    rw (← c.self.view_is) (sym (accepts w ∙ ap (accepted_or c.in-Accepted.number c.in-Accepted.status) (stands w ∙ ap (option_map (λ k. StandsOn k)) c.in-Some.is)))
 
 pub returns-in-None : goal.returns-in-None
 returns-in-None c =
     let w = (goal.at.returns-in-None c).In-Accepted in
-    rw (← c.self.view_is) (c.in-Accepted.is ∙ sym (accepts w ∙ ap (accepted_or c.in-Accepted.number c.in-Accepted.status) (stands w ∙ (ap refusal_by c.in-Some.is ∙ ap (option_map (λ k. StandsOn k)) c.in-None.is))))
+    rw (← c.self.view_is) (c.in-Accepted.is ∙ sym (accepts w ∙ ap (accepted_or c.in-Accepted.number c.in-Accepted.status) (stands w ∙ ap (option_map (λ k. StandsOn k)) c.in-None.is)))

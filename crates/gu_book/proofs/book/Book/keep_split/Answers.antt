@@ -3,6 +3,8 @@ use Rattle.std.specs.Prelude.{Some, filter_map}
 use Rattle.gu_base.specs.History.{live, is_change}
 use Rattle.gu_base.specs.declared.entry.Record.{Record}
 use Rattle.gu_base.proofs.LiveLaws.{change_is_no_reverse}
+use Rattle.gu_depend.specs.Terms.{AreTermsOf, pair_of}
+use Rattle.gu_fees.specs.Terms.{last_entry}
 use Rattle.gu_book.specs.Charging.{AreFeesOf}
 use Rattle.gu_book.specs.Filed.{IsNext}
 use Rattle.gu_book.specs.Found.{IsNamedBy}
@@ -11,11 +13,12 @@ use Rattle.gu_book.specs.Live.{entry_of_change, record_of}
 use Rattle.gu_book.proofs.Filed.{due_same, follows_same, same_both}
 use Rattle.gu_book.proofs.HoldingRows.{put_and_taken}
 use Rattle.gu_book.proofs.Indexed.{ids_few, ids_fewer, index_added}
-use Rattle.gu_book.proofs.Keeps.{next_kept, kept_change, live_few, live_more}
+use Rattle.gu_book.proofs.Keeps.{next_kept, kept_change, live_few, live_more, still_before}
 use Rattle.gu_book.proofs.Leaves.{live_rises}
 use Rattle.gu_book.proofs.OnePlace.{next_there}
 use Rattle.gu_book.proofs.PartsAway.{holds_some}
 use Rattle.gu_book.proofs.Still.{still}
+use Rattle.gu_book.proofs.TermsKept.{dealt_apart}
 use Rattle.gu_book.proofs.TradesKept.{split_free, split_home, split_fits, split_takes, split_stands}
 use Rattle.gu_book.proofs.book.Book.keep_split.Goals.{After-whole_of-whole}
 use Rattle.gu_book.proofs.book.Book.keep_split.Goals as goal
@@ -101,6 +104,9 @@ invariant_of-self-2 c =
       charged = subst (λ (l : List Record). AreFeesOf c.self.inside.house l c.self.inside.fees) more (split_free (next w) c.in-Split.node c.in-Split.parts c.in-Split.is c.self.inside.fees c.self.invariant.charged);
       stands = subst (λ (l : List Record). ArePositionsOf l c.take_moved.new.positions) more
           (split_stands (next w) c.in-Split.node c.in-Split.parts c.in-Split.is c.in-Some.named.node (named w).0 c.whole_of-whole.result (holds w) c.self.inside.positions c.put_all_away.new.positions c.take_moved.new.positions c.self.invariant.stands put taken);
+      dealt = subst (λ (l : List Record). AreTermsOf c.self.inside.house l c.self.inside.terms) more
+          (dealt_apart (next w) c.self.inside.terms c.self.invariant.dealt (ap (pair_of (live h) c.args.made.now.firm.now) c.in-Split.is));
+      dealt_before = still_before c.self.invariant.kept c.args.made.now.number e ok (last_entry c.self.inside.terms) c.self.invariant.dealt_before;
     })
 
 -- ---- where a growth is refused

@@ -2,13 +2,16 @@ use Rattle.std.proofs.Common.{◌≤◌, List, length, refl, ap, subst, arith}
 use Rattle.gu_base.specs.History.{live, is_change}
 use Rattle.gu_base.specs.declared.entry.Record.{Record}
 use Rattle.gu_base.proofs.LiveLaws.{change_is_no_reverse}
+use Rattle.gu_depend.specs.Terms.{AreTermsOf, pair_of}
+use Rattle.gu_fees.specs.Terms.{last_entry}
 use Rattle.gu_book.specs.Charging.{AreFeesOf}
 use Rattle.gu_book.specs.Holdings.{ArePositionsOf}
 use Rattle.gu_book.specs.Live.{entry_of_change, record_of}
 use Rattle.gu_book.proofs.Filed.{due_same, follows_same}
 use Rattle.gu_book.proofs.Indexed.{ids_few, ids_fewer, index_added}
-use Rattle.gu_book.proofs.Keeps.{next_kept, kept_change, live_few, live_more}
+use Rattle.gu_book.proofs.Keeps.{next_kept, kept_change, live_few, live_more, still_before}
 use Rattle.gu_book.proofs.Still.{still}
+use Rattle.gu_book.proofs.TermsKept.{dealt_apart}
 use Rattle.gu_book.proofs.TradesKept.{trade_free, trade_fits, trade_stands}
 use Rattle.gu_positions.specs.declared.positions.Key.{Key}
 use Rattle.gu_book.proofs.book.Book.keep_trade.Goals as goal
@@ -60,4 +63,7 @@ invariant_of-self-2 c =
       charged = subst (λ (l : List Record). AreFeesOf c.self.inside.house l c.self.inside.fees) more (trade_free follows key c.in-Trade.side c.in-Trade.lots c.in-Trade.is c.self.inside.fees c.self.invariant.charged);
       stands = subst (λ (l : List Record). ArePositionsOf l c.put.new.self) more
           (trade_stands follows key c.in-Trade.side c.in-Trade.lots c.in-Trade.is c.self.inside.positions c.put.new.self c.self.invariant.stands c.in_ok-put.ensures.added);
+      dealt = subst (λ (l : List Record). AreTermsOf c.self.inside.house l c.self.inside.terms) more
+          (dealt_apart follows c.self.inside.terms c.self.invariant.dealt (ap (pair_of (live h) c.args.made.now.firm.now) c.in-Trade.is));
+      dealt_before = still_before c.self.invariant.kept c.args.made.now.number e ok (last_entry c.self.inside.terms) c.self.invariant.dealt_before;
     })

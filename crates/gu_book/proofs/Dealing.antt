@@ -1,0 +1,298 @@
+-- The terms that a book keeps: what they say of a giver and a taker, and how they follow the changes.
+use Rattle.std.proofs.Common.{◌≡◌, ℕ, ◌+◌, ◌*◌, ◌≤◌, ◌<◌, ◌^◌, Bool, true, false, ◌&&◌, List, [], ◌∷◌, ◌++◌, length, refl, sym, ◌∙◌, ap, subst, arith, cond, Option, All, Contains}
+use Rattle.std.specs.Prelude.{Some, None, IfSome, IsSomeAnd, filter, filter_map, sum_by, option_map, option_and_then, bytes_eq}
+use Rattle.std.specs.List.{cons_option}
+use Rattle.std.specs.Option.{option_or}
+use Rattle.std.proofs.Math.Nat.{mul-le-mul_right}
+use Rattle.std.proofs.lemmas.Option.{same_Some}
+use Rattle.std.proofs.lemmas.List.Elements.{All-nil, All-cons, All-head, All-tail, All-contains, All-contains_itself, All-weaker}
+use Rattle.std.proofs.lemmas.List.Sums.{sum_by-le, sum_by-cons}
+use Rattle.gu_base.specs.Limits.{most_lots, highest_rate}
+use Rattle.gu_base.specs.House.{House, agreement}
+use Rattle.gu_base.specs.History.{RisesFrom}
+use Rattle.gu_base.specs.Nodes.{node_of}
+use Rattle.gu_base.specs.Fees.{charge_of, charge_of_kind, charges, counted}
+use Rattle.gu_base.specs.Refusals.{refusal_of}
+use Rattle.gu_base.specs.Standing.{first_refused}
+use Rattle.gu_base.specs.Terms.{use_of_kind, use_of_node, deed_of, dealing_of, dealings_in, dealings, made_by_deed, made_in, raised_by_deed, used_by_deed, terms_under, raised_under, limit_under, used_under, terms_of, limit_of, used_of}
+use Rattle.gu_base.specs.declared.house.Agreement.{Agreement}
+use Rattle.gu_base.specs.declared.house.Dealing.{Dealing}
+use Rattle.gu_base.specs.declared.house.Deed.{Deed}
+use Rattle.gu_base.specs.declared.house.Deed.TheVariants.{Makes, Raises, Uses}
+use Rattle.gu_base.specs.declared.command.Command.{Command}
+use Rattle.gu_base.specs.declared.command.Command.TheVariants.{Trade, Split, Claim, Refuse, Cancel, Agree, Raise, Initiate, Decline, Reverse}
+use Rattle.gu_base.specs.declared.entry.Record.{Record}
+use Rattle.gu_base.specs.declared.node.Charge.{Charge}
+use Rattle.gu_base.specs.declared.node.Kind.{Kind}
+use Rattle.gu_base.specs.declared.node.Kind.TheVariants.{Root, Own, Given}
+use Rattle.gu_base.specs.declared.node.Node.{Node}
+use Rattle.gu_base.proofs.Basics.{none_is_some}
+use Rattle.gu_base.proofs.Dealt.{all_sound}
+use Rattle.gu_base.proofs.Sums.{sum_option}
+use Rattle.gu_depend.specs.Terms.{AreTermsOf}
+use Rattle.gu_depend.proofs.Deals.{both_same}
+use Rattle.gu_depend.proofs.Settled.{facts}
+use Rattle.gu_depend.proofs.TermsReadied.{without_row}
+use Rattle.gu_fees.specs.Pairs.{PairView}
+use Rattle.gu_fees.specs.Rows.{FeeRows}
+use Rattle.gu_fees.specs.Terms.{TermsView, row_of}
+use Rattle.gu_book.specs.Charging.{AreFeesOf, AreUsesOf}
+use Rattle.gu_book.specs.Dealing.{IsSmallDeed}
+use Rattle.gu_book.specs.Limits.{IsWithinLimits, AllWithinLimits}
+use Rattle.gu_book.proofs.Within.{node_within}
+
+-- ---- dealings of changes
+
+abbrev numbered : ℕ → Deed → Dealing
+numbered n d = record { number = n; deed = d }
+
+no_cons : (n : ℕ) (o : Option Deed) (rest : List Dealing) → cons_option (option_map (numbered n) o) rest ≡ [] → (o ≡ None) × (rest ≡ [])
+no_cons n None rest e = (refl, e)
+no_cons n (Some d) rest e = absurd (cc)
+
+none_dealt : (l : List Record) (g k : List ℕ) (among : List Record) → dealings_in l among g k ≡ [] → All (λ r. deed_of l g k r.firm r.command ≡ None) among
+none_dealt l g k [] e = All-nil (λ r. deed_of l g k r.firm r.command ≡ None)
+none_dealt l g k (r ∷ among) e =
+    let p = no_cons r.number (deed_of l g k r.firm r.command) (dealings_in l among g k) e in
+    All-cons (λ r. deed_of l g k r.firm r.command ≡ None) r among p.0 (none_dealt l g k among p.1)
+
+-- ---- what is kept of a giver and a taker
+
+module _ {t : House} {l : List Record} {v : TermsView} (are : AreTermsOf t l v) (g k : List ℕ) where
+  abbrev kept_terms : Option PairView → Option Agreement
+  kept_terms o = option_and_then (λ (r : PairView). terms_under r.file r.dealings) o
+
+  abbrev kept_limit : Option PairView → Option ℕ
+  kept_limit o = option_and_then (λ (r : PairView). limit_under r.file r.dealings) o
+
+  row_terms : (r : PairView) → row_of v g k ≡ Some r → terms_under r.file r.dealings ≡ terms_of t l g k
+  row_terms r e = let p = are.rows g k r e in ap (λ f. terms_under f r.dealings) p.0 ∙ ap (terms_under (agreement t g k)) p.1
+
+  row_limit : (r : PairView) → row_of v g k ≡ Some r → limit_under r.file r.dealings ≡ limit_of t l g k
+  row_limit r e = let p = are.rows g k r e in ap (λ f. limit_under f r.dealings) p.0 ∙ ap (limit_under (agreement t g k)) p.1
+
+  file_none : (o p : Option Agreement) → option_or o p ≡ None → o ≡ None
+  file_none None p e = refl
+  file_none (Some a) p e = absurd (cc)
+
+  -- the terms of the house table come first
+  pub terms_filed : (a : Agreement) → agreement t g k ≡ Some a → Some a ≡ terms_of t l g k
+  terms_filed a h = ap (λ f. terms_under f (dealings l g k)) (sym h)
+
+  terms_by : agreement t g k ≡ None → (o : Option PairView) → row_of v g k ≡ o → kept_terms o ≡ terms_of t l g k
+  terms_by absent None e = sym (ap (λ f. terms_under f (dealings l g k)) absent ∙ ap made_in (without_row t l v are g k e))
+  terms_by absent (Some r) e = row_terms r e
+
+  -- and where it has none, those that are kept
+  pub terms_kept : agreement t g k ≡ None → kept_terms (row_of v g k) ≡ terms_of t l g k
+  terms_kept absent = terms_by absent (row_of v g k) refl
+
+  limit_by_row : (n : ℕ) (o : Option PairView) → row_of v g k ≡ o → kept_limit o ≡ Some n → Some n ≡ limit_of t l g k
+  limit_by_row n None e h = absurd (cc)
+  limit_by_row n (Some r) e h = sym h ∙ row_limit r e
+
+  pub limit_kept : (n : ℕ) → kept_limit (row_of v g k) ≡ Some n → Some n ≡ limit_of t l g k
+  limit_kept n h = limit_by_row n (row_of v g k) refl h
+
+  no_limit : (o : Option Agreement) (n : ℕ) → option_map (λ (a : Agreement). a.limit + n) o ≡ None → o ≡ None
+  no_limit None n e = refl
+  no_limit (Some a) n e = absurd (cc)
+
+  file_limit : (o : Option Agreement) → option_map (λ (a : Agreement). a.limit) o ≡ option_map (λ (a : Agreement). a.limit + 0) (option_or o None)
+  file_limit None = refl
+  file_limit (Some a) = ap (λ n. Some n) (omega arith)
+
+  limit_by_file : (o : Option PairView) → row_of v g k ≡ o → kept_limit o ≡ None → option_map (λ (a : Agreement). a.limit) (agreement t g k) ≡ limit_of t l g k
+  limit_by_file None e h = file_limit (agreement t g k) ∙ ap (limit_under (agreement t g k)) (sym (without_row t l v are g k e))
+  limit_by_file (Some r) e h =
+      let p = are.rows g k r e in
+      let none = no_limit (terms_under r.file r.dealings) (raised_under r.dealings) h in
+      ap (option_map (λ (a : Agreement). a.limit)) (sym p.0 ∙ file_none r.file (made_in r.dealings) none) ∙ (sym h ∙ row_limit r e)
+
+  pub limit_filed : kept_limit (row_of v g k) ≡ None → option_map (λ (a : Agreement). a.limit) (agreement t g k) ≡ limit_of t l g k
+  limit_filed h = limit_by_file (row_of v g k) refl h
+
+-- ---- what the charges say of uses
+
+abbrev used_told : Option Deed → ℕ
+used_told None = 0
+used_told (Some d) = used_by_deed d
+
+abbrev of_pair : List ℕ → List ℕ → Charge → Bool
+of_pair g k c = bytes_eq c.giver g && bytes_eq c.taker k
+
+-- a change costs as many lots as it uses
+abbrev UsesCharged : House → List Record → List ℕ → List ℕ → Record → Type 0
+UsesCharged t l g k r = counted (of_pair g k) (λ c. c.lots) (charge_of t l r.command) ≡ used_told (deed_of l g k r.firm r.command)
+
+used_cons : (n : ℕ) (o : Option Deed) (ds : List Dealing) → used_under (cons_option (option_map (numbered n) o) ds) ≡ used_told o + used_under ds
+used_cons n None ds = omega arith
+used_cons n (Some d) ds = sum_by-cons (λ (d : Dealing). used_by_deed d.deed) (numbered n d) ds
+
+uses_in : (t : House) (l : List Record) (g k : List ℕ) (among : List Record) → All (UsesCharged t l g k) among
+    → sum_by (λ c. c.lots) (filter (of_pair g k) (filter_map (λ r. charge_of t l r.command) among)) ≡ used_under (dealings_in l among g k)
+uses_in t l g k [] each = refl
+uses_in t l g k (r ∷ among) each =
+    let a = sum_option (of_pair g k) (λ (c : Charge). c.lots) (charge_of t l r.command) (filter_map (λ r. charge_of t l r.command) among) in
+    let b = used_cons r.number (deed_of l g k r.firm r.command) (dealings_in l among g k) in
+    let c = All-head (UsesCharged t l g k) r among each in
+    let d = uses_in t l g k among (All-tail (UsesCharged t l g k) r among each) in
+    omega (arith, a, b, c, d)
+
+lots_told : (b : Bool) (lots : ℕ) → cond b lots 0 ≡ used_told (cond b (Some (Uses lots)) None)
+lots_told true lots = refl
+lots_told false lots = refl
+
+module _ (t : House) (l : List Record) (none : first_refused t [] l ≡ None) where
+  -- whoever deals has terms
+  has_terms : (g k : List ℕ) (r : Record) (d : Deed) → Contains l r → deed_of l g k r.firm r.command ≡ Some d → terms_of t l g k ≡ None → ⊥
+  has_terms g k r d there deals absent =
+      let empty = (all_sound (agreement t g k) (dealings l g k) ((facts t l none).deals g k)).none absent in
+      none_is_some (deed_of l g k r.firm r.command) d (All-contains (λ (r : Record). deed_of l g k r.firm r.command ≡ None) l r (none_dealt l g k l empty) there) deals
+
+  given_charged : (g k x y : List ℕ) (lots : ℕ) (o : Option Agreement) → (o ≡ None → ⊥)
+      → counted (of_pair g k) (λ c. c.lots) (option_map (λ (a : Agreement). record { giver = x; taker = y; lots = lots; rate = a.rate }) o) ≡ used_told (cond (bytes_eq x g && bytes_eq y k) (Some (Uses lots)) None)
+  given_charged g k x y lots None some = absurd (some refl)
+  given_charged g k x y lots (Some a) some = lots_told (bytes_eq x g && bytes_eq y k) lots
+
+  kind_charged : (g k : List ℕ) (lots : ℕ) (kind : Kind) → ((x y : List ℕ) (d : Deed) → use_of_kind x y lots kind ≡ Some d → terms_of t l x y ≡ None → ⊥)
+      → counted (of_pair g k) (λ c. c.lots) (charge_of_kind t l lots kind) ≡ used_told (use_of_kind g k lots kind)
+  kind_charged g k lots (Root _) some = refl
+  kind_charged g k lots (Own _ _ _) some = refl
+  kind_charged g k lots (Given m x y) some =
+      given_charged g k x y lots (terms_of t l x y) (some x y (Uses lots) (ap (λ b. cond b (Some (Uses lots)) None) (both_same x y)))
+
+  claim_charged : (g k : List ℕ) (o : Option Node) → ((x y : List ℕ) (d : Deed) → option_and_then (use_of_node x y) o ≡ Some d → terms_of t l x y ≡ None → ⊥)
+      → counted (of_pair g k) (λ c. c.lots) (option_and_then (λ (x : Node). charge_of_kind t l x.lots x.kind) o) ≡ used_told (option_and_then (use_of_node g k) o)
+  claim_charged g k None some = refl
+  claim_charged g k (Some x) some = kind_charged g k x.lots x.kind some
+
+  change_charged : (g k by : List ℕ) (c : Command) → ((x y : List ℕ) (d : Deed) → deed_of l x y by c ≡ Some d → terms_of t l x y ≡ None → ⊥)
+      → counted (of_pair g k) (λ c. c.lots) (charge_of t l c) ≡ used_told (deed_of l g k by c)
+  change_charged g k by (Claim n _) some = claim_charged g k (node_of l n) some
+  change_charged g k by (Agree x y rate limit) some = made (bytes_eq x g && bytes_eq y k)
+    where
+      made : (b : Bool) → 0 ≡ used_told (cond b (Some (Makes (record { rate = rate; limit = limit }))) None)
+      made true = refl
+      made false = refl
+  change_charged g k by (Raise x lots) some = raised (bytes_eq x g && bytes_eq by k)
+    where
+      raised : (b : Bool) → 0 ≡ used_told (cond b (Some (Raises lots)) None)
+      raised true = refl
+      raised false = refl
+  change_charged g k by (Trade _ _ _ _ _) some = refl
+  change_charged g k by (Split _ _) some = refl
+  change_charged g k by (Refuse _) some = refl
+  change_charged g k by (Cancel _) some = refl
+  change_charged g k by (Initiate _) some = refl
+  change_charged g k by (Decline _) some = refl
+  change_charged g k by (Reverse _) some = refl
+
+  -- the lots that are charged under an agreement are those that are used of it
+  pub uses_charged : (g k : List ℕ) → sum_by (λ c. c.lots) (filter (λ c. bytes_eq c.giver g && bytes_eq c.taker k) (charges t l)) ≡ used_of l g k
+  uses_charged g k =
+      uses_in t l g k l
+      (All-weaker (Contains l) (UsesCharged t l g k) (λ r there. change_charged g k r.firm r.command (λ x y d deals. has_terms x y r d there deals)) l (All-contains_itself l))
+
+  pub uses_are : (fees : FeeRows) → AreFeesOf t l fees → AreUsesOf l fees
+  uses_are fees are g k = are.sums.used g k ∙ uses_charged g k
+
+-- ---- small dealings
+
+small_if : (b : Bool) (d : Deed) → IsSmallDeed d → IfSome (cond b (Some d) None) IsSmallDeed
+small_if true d small = small
+small_if false d small = tt
+
+small_kind : (g k : List ℕ) (lots : ℕ) (kind : Kind) → lots ≤ most_lots → IfSome (use_of_kind g k lots kind) IsSmallDeed
+small_kind g k lots (Root _) small = tt
+small_kind g k lots (Own _ _ _) small = tt
+small_kind g k lots (Given m x y) small = small_if (bytes_eq x g && bytes_eq y k) (Uses lots) small
+
+small_node : (g k : List ℕ) (o : Option Node) → IfSome o (λ x. x.lots ≤ 10000000) → IfSome (option_and_then (use_of_node g k) o) IsSmallDeed
+small_node g k None small = tt
+small_node g k (Some x) small = small_kind g k x.lots x.kind small
+
+pub deed_small : (l : List Record) (g k by : List ℕ) (c : Command) → AllWithinLimits l → IsWithinLimits c → IfSome (deed_of l g k by c) IsSmallDeed
+deed_small l g k by (Agree x y rate limit) all within = small_if (bytes_eq x g && bytes_eq y k) (Makes (record { rate = rate; limit = limit })) within
+deed_small l g k by (Raise x lots) all within = small_if (bytes_eq x g && bytes_eq by k) (Raises lots) within
+deed_small l g k by (Claim n _) all within = small_node g k (node_of l n) (node_within l n all)
+deed_small l g k by (Trade _ _ _ _ _) all within = tt
+deed_small l g k by (Split _ _) all within = tt
+deed_small l g k by (Refuse _) all within = tt
+deed_small l g k by (Cancel _) all within = tt
+deed_small l g k by (Initiate _) all within = tt
+deed_small l g k by (Decline _) all within = tt
+deed_small l g k by (Reverse _) all within = tt
+
+abbrev HasSmallDeed : Dealing → Type 0
+HasSmallDeed d = IsSmallDeed d.deed
+
+small_cons : (n : ℕ) (o : Option Deed) (ds : List Dealing) → IfSome o IsSmallDeed → All HasSmallDeed ds → All HasSmallDeed (cons_option (option_map (numbered n) o) ds)
+small_cons n None ds small all = all
+small_cons n (Some d) ds small all = All-cons HasSmallDeed (numbered n d) ds small all
+
+fewer_cons : (n : ℕ) (o : Option Deed) (ds : List Dealing) (m : ℕ) → length ds ≤ m → length (cons_option (option_map (numbered n) o) ds) ≤ m + 1
+fewer_cons n None ds m few = omega (arith, few)
+fewer_cons n (Some d) ds m few = omega (arith, few)
+
+small_in : (l : List Record) (g k : List ℕ) → AllWithinLimits l → (among : List Record) → AllWithinLimits among → All HasSmallDeed (dealings_in l among g k)
+small_in l g k all [] within = All-nil HasSmallDeed
+small_in l g k all (r ∷ among) within =
+    small_cons r.number (deed_of l g k r.firm r.command) (dealings_in l among g k)
+    (deed_small l g k r.firm r.command all (All-head (λ (r : Record). IsWithinLimits r.command) r among within))
+    (small_in l g k all among (All-tail (λ (r : Record). IsWithinLimits r.command) r among within))
+
+fewer_in : (l : List Record) (g k : List ℕ) (among : List Record) → length (dealings_in l among g k) ≤ length among
+fewer_in l g k [] = omega arith
+fewer_in l g k (r ∷ among) =
+    let a = fewer_cons r.number (deed_of l g k r.firm r.command) (dealings_in l among g k) (length among) (fewer_in l g k among) in
+    omega (arith, a)
+
+raised_small : (d : Dealing) → HasSmallDeed d → raised_by_deed d.deed ≤ 10000000000000
+raised_small d small = by_deed d.deed small
+  where
+    by_deed : (d : Deed) → IsSmallDeed d → raised_by_deed d ≤ 10000000000000
+    by_deed (Makes a) small = omega arith
+    by_deed (Raises lots) small = small
+    by_deed (Uses lots) small = omega arith
+
+used_small : (d : Dealing) → HasSmallDeed d → used_by_deed d.deed ≤ 10000000
+used_small d small = by_deed d.deed small
+  where
+    by_deed : (d : Deed) → IsSmallDeed d → used_by_deed d ≤ 10000000
+    by_deed (Makes a) small = omega arith
+    by_deed (Raises lots) small = omega arith
+    by_deed (Uses lots) small = small
+
+-- what is raised and what is used in a list of a million changes at most
+pub raised_most : (l : List Record) (g k : List ℕ) → AllWithinLimits l → length l ≤ 1000000 → raised_under (dealings l g k) ≤ 10000000000000000000
+raised_most l g k all few =
+    let a = sum_by-le (λ (d : Dealing). raised_by_deed d.deed) 10000000000000 (dealings l g k)
+    (All-weaker HasSmallDeed (λ (d : Dealing). raised_by_deed d.deed ≤ 10000000000000) raised_small (dealings l g k) (small_in l g k all l all)) in
+    let b = fewer_in l g k l in
+    let c : length (dealings l g k) ≤ 1000000 = omega (arith, b, few) in
+    let d : length (dealings l g k) * 10000000000000 ≤ 1000000 * 10000000000000 = mul-le-mul_right 10000000000000 c in
+    omega (arith, a, d)
+
+pub used_most : (l : List Record) (g k : List ℕ) → AllWithinLimits l → length l ≤ 1000000 → used_under (dealings l g k) ≤ 10000000000000
+used_most l g k all few =
+    let a = sum_by-le (λ (d : Dealing). used_by_deed d.deed) 10000000 (dealings l g k)
+    (All-weaker HasSmallDeed (λ (d : Dealing). used_by_deed d.deed ≤ 10000000) used_small (dealings l g k) (small_in l g k all l all)) in
+    let b = fewer_in l g k l in
+    let c : length (dealings l g k) ≤ 1000000 = omega (arith, b, few) in
+    let d : length (dealings l g k) * 10000000 ≤ 1000000 * 10000000 = mul-le-mul_right 10000000 c in
+    omega (arith, a, d)
+
+made_first : (f : Deed) (rest : Option Agreement) (a : Agreement) → IsSmallDeed f → (rest ≡ Some a → a.rate ≤ highest_rate) → option_or (made_by_deed f) rest ≡ Some a → a.rate ≤ highest_rate
+made_first (Makes b) rest a small later e = subst (λ (b : Agreement). b.rate ≤ highest_rate) (same_Some b a e) small.rate_fits
+made_first (Raises lots) rest a small later e = later e
+made_first (Uses lots) rest a small later e = later e
+
+made_small : (ds : List Dealing) → All HasSmallDeed ds → (a : Agreement) → made_in ds ≡ Some a → a.rate ≤ highest_rate
+made_small [] all a e = absurd (cc)
+made_small (d ∷ ds) all a e = made_first d.deed (made_in ds) a (All-head HasSmallDeed d ds all) (made_small ds (All-tail HasSmallDeed d ds all) a) e
+
+-- terms that an Agree of the list made have a rate in range
+pub made_rate : (t : House) (l : List Record) (g k : List ℕ) → AllWithinLimits l → agreement t g k ≡ None → (a : Agreement) → terms_of t l g k ≡ Some a → a.rate ≤ highest_rate
+made_rate t l g k all absent a e =
+    made_small (dealings l g k) (small_in l g k all l all) a (ap (λ f. terms_under f (dealings l g k)) (sym absent) ∙ e)

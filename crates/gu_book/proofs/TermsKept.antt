@@ -1,0 +1,289 @@
+-- How the terms that a book keeps follow its changes, and what an Agree or a Raise leaves of all else.
+use Rattle.std.proofs.Common.{◌≡◌, ℕ, ◌+◌, ◌≤◌, ◌<◌, ◌^◌, Bool, true, false, ◌||◌, List, [], ◌∷◌, ◌++◌, length, refl, sym, ◌∙◌, ap, subst, arith, cond, Option, IsSomeAnd, append-nil}
+use Rattle.std.specs.Prelude.{Some, None, sum_by, option_and_then}
+use Rattle.std.proofs.lemmas.List.Elements.{All-contains}
+use Rattle.gu_base.specs.House.{House}
+use Rattle.gu_base.specs.Numbers.{EntryPart}
+use Rattle.gu_base.specs.Nodes.{node_of, is_given}
+use Rattle.gu_base.specs.Fees.{charge_of}
+use Rattle.gu_base.specs.Standing.{without}
+use Rattle.gu_base.specs.Terms.{use_of_node, deed_of, dealings, raised_under, used_under}
+use Rattle.gu_base.specs.declared.house.Deed.{Deed}
+use Rattle.gu_base.specs.declared.house.Deed.TheVariants.{Makes, Raises, Uses}
+use Rattle.gu_base.specs.declared.house.Dealing.{Dealing}
+use Rattle.gu_base.specs.declared.house.Pair.{Pair}
+use Rattle.gu_base.specs.declared.command.Side.{Side}
+use Rattle.gu_base.specs.declared.command.Command.{Command}
+use Rattle.gu_base.specs.declared.command.Command.TheVariants.{Trade, Split, Claim, Refuse, Cancel, Agree, Raise, Initiate, Decline, Reverse}
+use Rattle.gu_base.specs.declared.entry.Record.{Record}
+use Rattle.gu_base.specs.declared.node.Kind.{Kind}
+use Rattle.gu_base.specs.declared.node.Kind.TheVariants.{Root, Own, Given}
+use Rattle.gu_base.specs.declared.node.Node.{Node}
+use Rattle.gu_base.proofs.LegalLaws.{replay_push}
+use Rattle.gu_depend.specs.Terms.{AreTermsOf, pair_of, pair_of_kind}
+use Rattle.gu_depend.specs.Under.{names}
+use Rattle.gu_depend.proofs.Deals.{both_same}
+use Rattle.gu_depend.proofs.LastMoves.{IsBefore, is_before}
+use Rattle.gu_depend.proofs.Replay.{NumbersOnce, number_once}
+use Rattle.gu_depend.proofs.Settled.{Settled, SettledClaim, SettledAs, facts}
+use Rattle.gu_depend.proofs.StandsUnder.{rises_distinct}
+use Rattle.gu_depend.proofs.TermsFollow.{apart_follows, put_follows}
+use Rattle.gu_depend.proofs.TermsLess.{taken_follows, nobody_follows}
+use Rattle.gu_fees.specs.Pairs.{PairView, HasRoomFor}
+use Rattle.gu_fees.specs.Rows.{FeeRows}
+use Rattle.gu_fees.specs.Sums.{AreSumsOf}
+use Rattle.gu_fees.specs.Terms.{TermsView, row_of, last_entry, CanPut, IsPut, IsReady, IsTakenOut}
+use Rattle.gu_positions.specs.Rows.{PositionRows}
+use Rattle.gu_tree.specs.Grove.{Grove, place_of}
+use Rattle.gu_tree.specs.ShownAll.{named_place}
+use Rattle.gu_book.specs.Charging.{AreFeesOf}
+use Rattle.gu_book.specs.Dealing.{HasRoomForClaim, CanClaim, IsClaimed, IsSmallDeed}
+use Rattle.gu_book.specs.Filed.{IsFiled, IsNext, IsFree}
+use Rattle.gu_book.specs.Holdings.{ArePositionsOf, added_by, counted_at, taken_by}
+use Rattle.gu_book.specs.Kinds.{is_agree, is_claim, is_raise, is_return}
+use Rattle.gu_book.specs.Limits.{AllWithinLimits}
+use Rattle.gu_book.specs.TreeRows.{is_trade}
+use Rattle.gu_book.specs.Visits.{is_of_trees}
+use Rattle.gu_book.proofs.Charging.{fees_stay}
+use Rattle.gu_book.proofs.Dealing.{raised_most, used_most}
+use Rattle.gu_book.proofs.FiledChanges.{left_alone}
+use Rattle.gu_book.proofs.Standings.{positions_moved}
+use Rattle.gu_book.proofs.FiledLess as less
+use Rattle.gu_book.proofs.Undoing.{fees_without, positions_without}
+
+-- ---- which changes deal
+
+abbrev pub IsOfTerms : Command → Type 0
+IsOfTerms c = (is_agree c || is_raise c) ≡ true
+
+-- a change of trees that is no Claim deals for nobody
+pub trees_apart : (l : List Record) (by : List ℕ) (c : Command) → is_of_trees c ≡ true → is_claim c ≡ false → pair_of l by c ≡ None
+trees_apart l by (Trade _ _ _ _ _) of other = refl
+trees_apart l by (Split _ _) of other = refl
+trees_apart l by (Claim _ _) of other = absurd (cc)
+trees_apart l by (Refuse _) of other = refl
+trees_apart l by (Cancel _) of other = refl
+trees_apart l by (Agree _ _ _ _) of other = absurd (cc)
+trees_apart l by (Raise _ _) of other = absurd (cc)
+trees_apart l by (Initiate _) of other = absurd (cc)
+trees_apart l by (Decline _) of other = absurd (cc)
+trees_apart l by (Reverse _) of other = absurd (cc)
+
+-- an Agree and a Raise deal for two firms
+pub terms_paired : (l : List Record) (by : List ℕ) (c : Command) → IsOfTerms c → (p : Pair) × (pair_of l by c ≡ Some p)
+terms_paired l by (Agree giver taker _ _) is = (record { giver = giver; taker = taker }, refl)
+terms_paired l by (Raise giver _) is = (record { giver = giver; taker = by }, refl)
+terms_paired l by (Trade _ _ _ _ _) is = absurd (cc)
+terms_paired l by (Split _ _) is = absurd (cc)
+terms_paired l by (Claim _ _) is = absurd (cc)
+terms_paired l by (Refuse _) is = absurd (cc)
+terms_paired l by (Cancel _) is = absurd (cc)
+terms_paired l by (Initiate _) is = absurd (cc)
+terms_paired l by (Decline _) is = absurd (cc)
+terms_paired l by (Reverse _) is = absurd (cc)
+
+-- and do nothing to trees, positions and fees
+pub record IsApart (t : House) (l : List Record) (k : ℕ) (by : List ℕ) (c : Command) : Type 0 where
+  pub costs : None ≡ charge_of t l c
+  pub takes : None ≡ taken_by l c
+  pub adds : added_by by c None ≡ []
+  pub trades : is_trade c ≡ false
+  pub named : (n : EntryPart) → names n c ≡ false
+  pub place : named_place k c ≡ None
+
+pub terms_apart : (t : House) (l : List Record) (k : ℕ) (by : List ℕ) (c : Command) → IsOfTerms c → IsApart t l k by c
+terms_apart t l k by (Agree giver taker _ _) is = record { costs = refl; takes = refl; adds = refl; trades = refl; named = λ n. refl; place = refl }
+terms_apart t l k by (Raise giver _) is = record { costs = refl; takes = refl; adds = refl; trades = refl; named = λ n. refl; place = refl }
+terms_apart t l k by (Trade _ _ _ _ _) is = absurd (cc)
+terms_apart t l k by (Split _ _) is = absurd (cc)
+terms_apart t l k by (Claim _ _) is = absurd (cc)
+terms_apart t l k by (Refuse _) is = absurd (cc)
+terms_apart t l k by (Cancel _) is = absurd (cc)
+terms_apart t l k by (Initiate _) is = absurd (cc)
+terms_apart t l k by (Decline _) is = absurd (cc)
+terms_apart t l k by (Reverse _) is = absurd (cc)
+
+-- ---- room
+
+has_room : (d : Deed) → IsSmallDeed d → (ds : List Dealing) → raised_under ds ≤ 10000000000000000000 → used_under ds ≤ 10000000000000 → HasRoomFor ds d
+has_room (Makes a) small ds raised used = small.limit_fits
+has_room (Raises lots) small ds raised used = let few : lots ≤ 10000000000000 = small in omega (arith, few, raised)
+has_room (Uses lots) small ds raised used = let few : lots ≤ 10000000 = small in omega (arith, few, used)
+
+module _ {t : House} {l : List Record} {v : TermsView} (few : length l ≤ 1000000) (all : AllWithinLimits l) (are : AreTermsOf t l v) (g k : List ℕ) (d : Deed) (small : IsSmallDeed d) where
+  room_by : (o : Option PairView) → row_of v g k ≡ o → IsSomeAnd o (λ r. 1 ≤ r.room) → IsSomeAnd o (λ r. (1 ≤ r.room) × HasRoomFor r.dealings d)
+  room_by None e h = absurd h
+  room_by (Some q) e h =
+      let told = (are.rows g k q e).1 in
+      let raised = raised_most l g k all few in
+      let used = used_most l g k all few in
+      (h, has_room d small q.dealings (omega (arith, ap raised_under told, raised)) (omega (arith, ap used_under told, used)))
+
+  -- a small deed may be put where there is room for an entry
+  pub can_put : (n : ℕ) → last_entry v < n → IsReady v g k → CanPut v g k (record { number = n; deed = d })
+  can_put n above ready = record { room = ready.room; above = above; pair = room_by (row_of v g k) refl ready.pair }
+
+-- ---- one change more
+
+module _ {t : House} {l : List Record} {r : Record} {ts : Grove} (next : IsNext t l r ts) where
+  once : NumbersOnce (l ++ r ∷ [])
+  once = number_once (l ++ r ∷ []) (rises_distinct 1 (l ++ r ∷ []) next.rises)
+
+  before : IsBefore t l r
+  before = is_before t l r once (replay_push t [] l r next.replayed next.lawful)
+
+  -- that deals for nobody
+  pub dealt_apart : (v : TermsView) → AreTermsOf t l v → pair_of l r.firm r.command ≡ None → AreTermsOf t (l ++ r ∷ []) v
+  dealt_apart v are none = apart_follows t l r before v are none
+
+  -- that was put to the terms of a giver and a taker
+  pub dealt_put : (v w : TermsView) (g k : List ℕ) (d : Deed) → AreTermsOf t l v → deed_of l g k r.firm r.command ≡ Some d → IsPut v w g k (record { number = r.number; deed = d }) → AreTermsOf t (l ++ r ∷ []) w
+  dealt_put v w g k d are deals put = put_follows t l r before v w g k d are deals put
+
+  pub agreed : (v w : TermsView) (g k : List ℕ) (rate limit : ℕ) → r.command ≡ Agree g k rate limit → AreTermsOf t l v
+      → IsPut v w g k (record { number = r.number; deed = Makes (record { rate = rate; limit = limit }) }) → AreTermsOf t (l ++ r ∷ []) w
+  agreed v w g k rate limit is are put =
+      dealt_put v w g k (Makes (record { rate = rate; limit = limit })) are
+      (ap (deed_of l g k r.firm) is ∙ ap (λ b. cond b (Some (Makes (record { rate = rate; limit = limit }))) None) (both_same g k)) put
+
+  pub raised : (v w : TermsView) (g : List ℕ) (lots : ℕ) → r.command ≡ Raise g lots → AreTermsOf t l v
+      → IsPut v w g r.firm (record { number = r.number; deed = Raises lots }) → AreTermsOf t (l ++ r ∷ []) w
+  raised v w g lots is are put =
+      dealt_put v w g r.firm (Raises lots) are (ap (deed_of l g r.firm r.firm) is ∙ ap (λ b. cond b (Some (Raises lots)) None) (both_same g r.firm)) put
+
+  module _ (n : EntryPart) (account : List ℕ) (claims : r.command ≡ Claim n account) (x : Node) (there : node_of l n ≡ Some x) where
+    claimed_by : (kind : Kind) → x.kind ≡ kind → (v w : TermsView) → AreTermsOf t l v → IsClaimed v w r.number x.lots kind → AreTermsOf t (l ++ r ∷ []) w
+    claimed_by (Root p) is v w are same =
+        subst (AreTermsOf t (l ++ r ∷ [])) (sym same)
+        (dealt_apart v are (ap (pair_of l r.firm) claims ∙ (ap (option_and_then (λ (x : Node). pair_of_kind x.kind)) there ∙ ap pair_of_kind is)))
+    claimed_by (Own m g a) is v w are same =
+        subst (AreTermsOf t (l ++ r ∷ [])) (sym same)
+        (dealt_apart v are (ap (pair_of l r.firm) claims ∙ (ap (option_and_then (λ (x : Node). pair_of_kind x.kind)) there ∙ ap pair_of_kind is)))
+    claimed_by (Given m g k) is v w are put =
+        dealt_put v w g k (Uses x.lots) are
+        (ap (deed_of l g k r.firm) claims
+        ∙ (ap (option_and_then (use_of_node g k)) there
+        ∙ (ap (λ (kind : Kind). use_of_node g k (record { name = x.name; lots = x.lots; kind = kind })) is ∙ ap (λ b. cond b (Some (Uses x.lots)) None) (both_same g k)))) put
+
+    pub claim_dealt : (v w : TermsView) → AreTermsOf t l v → IsClaimed v w r.number x.lots x.kind → AreTermsOf t (l ++ r ∷ []) w
+    claim_dealt v w are put = claimed_by x.kind refl v w are put
+
+  -- an Agree and a Raise change nothing else
+  module _ (of_terms : IsOfTerms r.command) where
+    other : (c : Command) → (is_agree c || is_raise c) ≡ false → r.command ≡ c → ⊥
+    other c unlike is = let z : true ≡ false = sym of_terms ∙ (ap (λ c. is_agree c || is_raise c) is ∙ unlike) in cc
+
+    pub terms_filed : IsFiled (l ++ r ∷ []) ts
+    terms_filed =
+        left_alone next (λ firm account instrument side lots. other (Trade firm account instrument side lots) refl) (λ n ps. other (Split n ps) refl)
+        (λ n account. other (Claim n account) refl) (λ n. other (Refuse n) refl) (λ n. other (Cancel n) refl)
+
+    apart : IsApart t l r.number r.firm r.command
+    apart = terms_apart t l r.number r.firm r.command of_terms
+
+    pub terms_free : (fees : FeeRows) → AreFeesOf t l fees → AreFeesOf t (l ++ r ∷ []) fees
+    terms_free fees are = fees_stay next fees are apart.costs
+
+    pub terms_stand : (rows : PositionRows) → ArePositionsOf l rows → ArePositionsOf (l ++ r ∷ []) rows
+    terms_stand rows are = positions_moved next rows rows are None apart.takes (λ at side. let a = ap (sum_by (counted_at at side)) apart.adds in omega (arith, a))
+
+-- ---- a claim of a node of some kind
+
+pub can_claim : {t : House} {l : List Record} {v : TermsView} → length l ≤ 1000000 → AllWithinLimits l → AreTermsOf t l v → (n lots : ℕ) → lots ≤ 10000000 → last_entry v < n
+    → (kind : Kind) → HasRoomForClaim v kind → CanClaim v n lots kind
+can_claim few all are n lots small above (Root _) ready = tt
+can_claim few all are n lots small above (Own _ _ _) ready = tt
+can_claim few all are n lots small above (Given m g k) ready = can_put few all are g k (Uses lots) small n above ready
+
+pub claimed_last : (v w : TermsView) (n lots : ℕ) (kind : Kind) → last_entry v < n → IsClaimed v w n lots kind → last_entry w ≤ n
+claimed_last v w n lots (Root _) above same = let e = ap last_entry same in omega (arith, above, e)
+claimed_last v w n lots (Own _ _ _) above same = let e = ap last_entry same in omega (arith, above, e)
+claimed_last v w n lots (Given m g k) above put = let e = put.last in omega (arith, e)
+
+-- ---- one change less
+
+given_pair : (kind : Kind) → is_given kind ≡ true → (p : Pair) × (pair_of_kind kind ≡ Some p)
+given_pair (Root _) h = absurd (cc)
+given_pair (Own _ _ _) h = absurd (cc)
+given_pair (Given m g k) h = (record { giver = g; taker = k }, refl)
+
+module _ {t : House} {l : List Record} {r : Record} {ts : Grove} (u : IsFree t l r ts) where
+  numbers : NumbersOnce l
+  numbers = number_once l (rises_distinct 1 l u.rises)
+
+  claim_paired : (c : Command) → is_claim c ≡ true → SettledAs t l r.firm c → (p : Pair) × (pair_of l r.firm c ≡ Some p)
+  claim_paired (Claim n account) is s =
+      let p = given_pair s.node.kind s.holds.given in
+      (p.0, ap (option_and_then (λ (x : Node). pair_of_kind x.kind)) s.there ∙ p.1)
+  claim_paired (Trade _ _ _ _ _) is s = absurd (cc)
+  claim_paired (Split _ _) is s = absurd (cc)
+  claim_paired (Refuse _) is s = absurd (cc)
+  claim_paired (Cancel _) is s = absurd (cc)
+  claim_paired (Agree _ _ _ _) is s = absurd (cc)
+  claim_paired (Raise _ _) is s = absurd (cc)
+  claim_paired (Initiate _) is s = absurd (cc)
+  claim_paired (Decline _) is s = absurd (cc)
+  claim_paired (Reverse _) is s = absurd (cc)
+
+  -- taken out of the terms of its giver and taker
+  dealt_taken : (v w : TermsView) (p : Pair) → AreTermsOf t l v → pair_of l r.firm r.command ≡ Some p → IsTakenOut v w r.number → AreTermsOf t (without l r.number) w
+  dealt_taken v w p are of taken = taken_follows t l r numbers u.replayed u.among u.free v w p are of taken
+
+  by_claim : (v w : TermsView) → AreTermsOf t l v → is_of_trees r.command ≡ true → (is_claim r.command ≡ true → IsTakenOut v w r.number) → (is_claim r.command ≡ false → w ≡ v)
+      → (b : Bool) → is_claim r.command ≡ b → AreTermsOf t (without l r.number) w
+  by_claim v w are of taken same true is =
+      let settled : Settled t l r = All-contains (Settled t l) l r (facts t l u.replayed).settled u.among in
+      let p = claim_paired r.command is settled.stands in
+      dealt_taken v w p.0 are p.1 (taken is)
+  by_claim v w are of taken same false is =
+      subst (AreTermsOf t (without l r.number)) (sym (same is)) (nobody_follows t l r numbers u.replayed u.among u.free v are (trees_apart l r.firm r.command of is))
+
+  -- a change of trees
+  pub trees_undealt : (v w : TermsView) → AreTermsOf t l v → is_of_trees r.command ≡ true → (is_claim r.command ≡ true → IsTakenOut v w r.number) → (is_claim r.command ≡ false → w ≡ v)
+      → AreTermsOf t (without l r.number) w
+  trees_undealt v w are of taken same = by_claim v w are of taken same (is_claim r.command) refl
+
+  last_by : (v w : TermsView) → (is_claim r.command ≡ true → IsTakenOut v w r.number) → (is_claim r.command ≡ false → w ≡ v) → (b : Bool) → is_claim r.command ≡ b → last_entry w ≡ last_entry v
+  last_by v w taken same true is = (taken is).last
+  last_by v w taken same false is = ap last_entry (same is)
+
+  pub trees_last : (v w : TermsView) → (is_claim r.command ≡ true → IsTakenOut v w r.number) → (is_claim r.command ≡ false → w ≡ v) → last_entry w ≡ last_entry v
+  trees_last v w taken same = last_by v w taken same (is_claim r.command) refl
+
+  -- an Agree or a Raise
+  pub terms_undealt : (v w : TermsView) → AreTermsOf t l v → IsOfTerms r.command → IsTakenOut v w r.number → AreTermsOf t (without l r.number) w
+  terms_undealt v w are of taken = let p = terms_paired l r.firm r.command of in dealt_taken v w p.0 are p.1 taken
+
+  -- an Agree or a Raise that goes leaves trees, fees and positions as they are
+  module _ (of : IsOfTerms r.command) where
+    abbrev others : List Record
+    others = without l r.number
+
+    gone : IsApart t others r.number r.firm r.command
+    gone = terms_apart t others r.number r.firm r.command of
+
+    pub undealt_filed : place_of ts r.number ≡ None → IsFiled others ts
+    undealt_filed placeless = less.left_alone t l r u.replayed u.rises u.among u.free ts u.filed gone.trades gone.named placeless
+
+    pub undealt_fees : (fees : FeeRows) → AreFeesOf t l fees → AreFeesOf t others fees
+    undealt_fees fees are =
+        fees_without t l r u.replayed u.rises u.among u.free fees fees are None gone.costs (λ cs sums. subst (AreSumsOf fees) (append-nil cs) sums)
+
+    pub undealt_stands : (rows : PositionRows) → ArePositionsOf l rows → ArePositionsOf others rows
+    undealt_stands rows are =
+        positions_without t l r u.replayed u.rises u.among u.free rows rows rows are (λ at side. refl) None gone.takes
+        (λ at side. let a = ap (sum_by (counted_at at side)) gone.adds in omega (arith, a))
+
+-- ---- what deals for nobody
+
+pub returns_apart : (l : List Record) (by : List ℕ) (c : Command) → is_return c ≡ true → pair_of l by c ≡ None
+returns_apart l by (Refuse _) is = refl
+returns_apart l by (Cancel _) is = refl
+returns_apart l by (Trade _ _ _ _ _) is = absurd (cc)
+returns_apart l by (Split _ _) is = absurd (cc)
+returns_apart l by (Claim _ _) is = absurd (cc)
+returns_apart l by (Agree _ _ _ _) is = absurd (cc)
+returns_apart l by (Raise _ _) is = absurd (cc)
+returns_apart l by (Initiate _) is = absurd (cc)
+returns_apart l by (Decline _) is = absurd (cc)
+returns_apart l by (Reverse _) is = absurd (cc)

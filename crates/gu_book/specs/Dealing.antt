@@ -1,0 +1,30 @@
+-- The terms that a book keeps, and what is dealt under them.
+use Rattle.std.specs.Prelude.{◌≡◌, ℕ, ◌≤◌}
+use Rattle.gu_base.specs.Limits.{most_lots, highest_limit}
+use Rattle.gu_base.specs.declared.house.Deed.{Deed}
+use Rattle.gu_base.specs.declared.house.Deed.TheVariants.{Makes, Raises, Uses}
+use Rattle.gu_base.specs.declared.node.Kind.{Kind}
+use Rattle.gu_base.specs.declared.node.Kind.TheVariants.{Given}
+use Rattle.gu_fees.specs.Terms.{TermsView, CanPut, IsPut, IsReady}
+use Rattle.gu_book.specs.Limits.{TermsWithinLimits}
+
+-- there is room for an entry of the giver and the taker of a node, if it is given
+abbrev pub HasRoomForClaim : TermsView → Kind → Type 0
+HasRoomForClaim v (Given _ giver taker) = IsReady v giver taker
+HasRoomForClaim v _ = Unit {0}
+
+-- the claim of this number of so many lots may be put to their terms
+abbrev pub CanClaim : TermsView → ℕ → ℕ → Kind → Type 0
+CanClaim v number lots (Given _ giver taker) = CanPut v giver taker (record { number = number; deed = Uses lots })
+CanClaim v number lots _ = Unit {0}
+
+-- and was put there
+abbrev pub IsClaimed : TermsView → TermsView → ℕ → ℕ → Kind → Type 0
+IsClaimed old new number lots (Given _ giver taker) = IsPut old new giver taker (record { number = number; deed = Uses lots })
+IsClaimed old new number lots _ = new ≡ old
+
+-- terms within their limits, a raise of at most 10,000,000,000,000 lots, a claim of at most 10,000,000
+abbrev pub IsSmallDeed : Deed → Type 0
+IsSmallDeed (Makes terms) = TermsWithinLimits terms.rate terms.limit
+IsSmallDeed (Raises lots) = lots ≤ highest_limit
+IsSmallDeed (Uses lots) = lots ≤ most_lots

@@ -1,0 +1,312 @@
+-- What changes deal under the terms of a giver and a taker.
+use Rattle.std.proofs.Common.{◌≡◌, ℕ, ◌+◌, Bool, true, false, not, ◌&&◌, List, [], ◌∷◌, ◌++◌, refl, sym, ◌∙◌, ap, subst, cond, Option, All}
+use Rattle.std.specs.Prelude.{Some, None, filter_map, option_map, option_and_then, bytes_eq, ◌==◌, is_none}
+use Rattle.std.specs.List.{cons_option}
+use Rattle.std.proofs.lemmas.Bool.{and_parts}
+use Rattle.std.proofs.lemmas.List.Elements.{All-head, All-tail, All-weaker, filter_map-append}
+use Rattle.std.proofs.lemmas.Option.{same_Some}
+use Rattle.std.proofs.lemmas.Slice.Eq.{bytes_eq-Decides}
+use Rattle.gu_base.specs.Numbers.{EntryPart}
+use Rattle.gu_base.specs.House.{House, agreement}
+use Rattle.gu_base.specs.Nodes.{node_of, is_given}
+use Rattle.gu_base.specs.Terms.{use_of_kind, use_of_node, deed_of, dealing_of, dealings_in, dealings, terms_under, terms_of, limit_of, used_of}
+use Rattle.gu_base.specs.Dealt.{leave_out, first_over, first_over_without, first_under_terms, first_under_deed}
+use Rattle.gu_base.specs.Refusals.{row, claim_row, raised_row, limit_row, limit_by, used_by}
+use Rattle.gu_base.specs.Standing.{without}
+use Rattle.gu_base.specs.SamePartsLaws.{bytes_same}
+use Rattle.gu_base.specs.declared.house.Agreement.{Agreement}
+use Rattle.gu_base.specs.declared.house.Deed.{Deed}
+use Rattle.gu_base.specs.declared.house.Deed.TheVariants.{Makes, Raises, Uses}
+use Rattle.gu_base.specs.declared.house.Dealing.{Dealing}
+use Rattle.gu_base.specs.declared.command.Command.{Command}
+use Rattle.gu_base.specs.declared.command.Command.TheVariants.{Trade, Split, Claim, Refuse, Cancel, Agree, Raise, Initiate, Decline, Reverse}
+use Rattle.gu_base.specs.declared.entry.Record.{Record}
+use Rattle.gu_base.specs.declared.node.Kind.{Kind}
+use Rattle.gu_base.specs.declared.node.Kind.TheVariants.{Root, Own, Given}
+use Rattle.gu_base.specs.declared.node.Node.{Node}
+use Rattle.gu_base.proofs.Accepted.{unless_none}
+use Rattle.gu_base.proofs.Dealt.{may_raise, may_use, fits, AllFit, first_unfit, unfit_none, fit_without_use, unfit_without_raise, unfit_without_terms}
+use Rattle.gu_base.proofs.NodeNames.{name_same}
+use Rattle.gu_base.proofs.Passing.{at_node_none, claim_passes, agree_passes, raise_passes, none_unless}
+use Rattle.gu_depend.specs.Under.{names, deals_under}
+use Rattle.gu_depend.proofs.Grown.{Within, NamesThere, Grown}
+
+-- ---- pairs
+
+pub both_same : (g k : List ℕ) → (bytes_eq g g && bytes_eq k k) ≡ true
+both_same g k = ap (λ b. b && bytes_eq k k) (bytes_same g) ∙ bytes_same k
+
+-- what is given where both are the giver and the taker is given for them alone
+pub of_pair : (g k x y : List ℕ) (e d : Deed) (b : Bool) → (bytes_eq x g && bytes_eq y k) ≡ b → cond b (Some e) None ≡ Some d → (x ≡ g) × ((y ≡ k) × (e ≡ d))
+of_pair g k x y e d true is h = let p = and_parts (bytes_eq x g) (bytes_eq y k) is in ((bytes_eq-Decides x g).0 p.0, ((bytes_eq-Decides y k).0 p.1, same_Some e d h))
+of_pair g k x y e d false is h = absurd (cc)
+
+-- ---- the deed of a change, in lists of which one has some of the changes of the other
+
+abbrev numbered : Record → Deed → Dealing
+numbered r d = record { number = r.number; deed = d }
+
+-- a change whose node is there deals the same in both lists
+pub deed_grown : (l b : List Record) (g k by : List ℕ) (c : Command) → Within l b → ((n : EntryPart) → names n c ≡ true → (x : Node) × (node_of b n ≡ Some x)) → deed_of b g k by c ≡ deed_of l g k by c
+deed_grown l b g k by (Claim n account) w there = let x = there n (name_same n) in ap (option_and_then (use_of_node g k)) (x.1 ∙ sym (w.nodes n x.0 x.1))
+deed_grown l b g k by (Trade _ _ _ _ _) w there = refl
+deed_grown l b g k by (Split _ _) w there = refl
+deed_grown l b g k by (Refuse _) w there = refl
+deed_grown l b g k by (Cancel _) w there = refl
+deed_grown l b g k by (Agree _ _ _ _) w there = refl
+deed_grown l b g k by (Raise _ _) w there = refl
+deed_grown l b g k by (Initiate _) w there = refl
+deed_grown l b g k by (Decline _) w there = refl
+deed_grown l b g k by (Reverse _) w there = refl
+
+pub gives_alike : {X Y : Type 0} (f h : X → Option Y) (xs : List X) → All (λ x. f x ≡ h x) xs → filter_map f xs ≡ filter_map h xs
+gives_alike f h [] all = refl
+gives_alike f h (x ∷ xs) all =
+    ap (λ o. cons_option o (filter_map f xs)) (All-head (λ x. f x ≡ h x) x xs all)
+    ∙ ap (cons_option (h x)) (gives_alike f h xs (All-tail (λ x. f x ≡ h x) x xs all))
+
+pub dealings_grown : (l b : List Record) (g k : List ℕ) → Grown l b → dealings b g k ≡ dealings_in l b g k
+dealings_grown l b g k grown =
+    gives_alike (dealing_of b g k) (dealing_of l g k) b
+    (All-weaker (NamesThere b) (λ (r : Record). dealing_of b g k r ≡ dealing_of l g k r)
+    (λ r there. ap (option_map (numbered r)) (deed_grown l b g k r.firm r.command grown.within there)) b grown.named)
+
+pub dealings_append : (l xs ys : List Record) (g k : List ℕ) → dealings_in l (xs ++ ys) g k ≡ dealings_in l xs g k ++ dealings_in l ys g k
+dealings_append l xs ys g k = filter_map-append (dealing_of l g k) xs ys
+
+-- ---- what is accepted fits
+
+raised_may : (lots : ℕ) (o : Option ℕ) → raised_row lots o ≡ None → may_raise lots o ≡ true
+raised_may lots None h = absurd (cc)
+raised_may lots (Some limit) h = unless_none _ _ h
+
+pub may_raised : (lots : ℕ) (o : Option ℕ) → may_raise lots o ≡ true → raised_row lots o ≡ None
+may_raised lots None h = absurd (cc)
+may_raised lots (Some limit) h = none_unless _ _ h
+
+used_may : (lots : ℕ) (o : Option ℕ) → limit_row lots o ≡ None → may_use lots o ≡ true
+used_may lots None h = absurd (cc)
+used_may lots (Some limit) h = unless_none _ _ h
+
+may_used : (lots : ℕ) (o : Option ℕ) → may_use lots o ≡ true → limit_row lots o ≡ None
+may_used lots None h = absurd (cc)
+may_used lots (Some limit) h = none_unless _ _ h
+
+use_fits : (t : House) (b : List Record) (g k : List ℕ) (lots : ℕ) (kind : Kind) (d : Deed) → use_of_kind g k lots kind ≡ Some d → limit_row (used_by b kind + lots) (limit_by t b kind) ≡ None
+    → fits (agreement t g k) (dealings b g k) d ≡ true
+use_fits t b g k lots (Root _) d deals h = absurd (cc)
+use_fits t b g k lots (Own _ _ _) d deals h = absurd (cc)
+use_fits t b g k lots (Given m x y) d deals h =
+    let p = of_pair g k x y (Uses lots) d (bytes_eq x g && bytes_eq y k) refl deals in
+    let may = used_may (used_of b x y + lots) (limit_of t b x y) h in
+    subst (λ e. fits (agreement t g k) (dealings b g k) e ≡ true) p.1.1
+    (subst (λ z. may_use (used_of b g z + lots) (limit_of t b g z) ≡ true) p.1.0 (subst (λ z. may_use (used_of b z y + lots) (limit_of t b z y) ≡ true) p.0 may))
+
+pub row_fits : (t : House) (b : List Record) (g k by : List ℕ) (c : Command) (d : Deed) → row t b by c ≡ None → deed_of b g k by c ≡ Some d → fits (agreement t g k) (dealings b g k) d ≡ true
+row_fits t b g k by (Claim n account) d h deals =
+    let there = at_node_none (claim_row t b by account) (node_of b n) h in
+    let passes = claim_passes t b by account there.0 there.1.1 in
+    use_fits t b g k there.0.lots there.0.kind d (sym (ap (option_and_then (use_of_node g k)) there.1.0) ∙ deals) passes.2
+row_fits t b g k by (Agree x y rate limit) d h deals =
+    let p = of_pair g k x y (Makes (record { rate = rate; limit = limit })) d (bytes_eq x g && bytes_eq y k) refl deals in
+    let passes = agree_passes t b by x y rate limit h in
+    subst (λ e. fits (agreement t g k) (dealings b g k) e ≡ true) p.1.1
+    (subst (λ z. is_none (terms_of t b g z) ≡ true) p.1.0 (subst (λ z. is_none (terms_of t b z y) ≡ true) p.0 passes.1))
+row_fits t b g k by (Raise x lots) d h deals =
+    let p = of_pair g k x by (Raises lots) d (bytes_eq x g && bytes_eq by k) refl deals in
+    let may = raised_may lots (limit_of t b x by) (raise_passes t b by x lots h).1 in
+    subst (λ e. fits (agreement t g k) (dealings b g k) e ≡ true) p.1.1
+    (subst (λ z. may_raise lots (limit_of t b g z) ≡ true) p.1.0 (subst (λ z. may_raise lots (limit_of t b z by) ≡ true) p.0 may))
+row_fits t b g k by (Trade _ _ _ _ _) d h deals = absurd (cc)
+row_fits t b g k by (Split _ _) d h deals = absurd (cc)
+row_fits t b g k by (Refuse _) d h deals = absurd (cc)
+row_fits t b g k by (Cancel _) d h deals = absurd (cc)
+row_fits t b g k by (Initiate _) d h deals = absurd (cc)
+row_fits t b g k by (Decline _) d h deals = absurd (cc)
+row_fits t b g k by (Reverse _) d h deals = absurd (cc)
+
+-- and what fits is within the limit
+pub claim_within : (t : House) (l b : List Record) (n : EntryPart) (by account : List ℕ) (x : Node) → node_of l n ≡ Some x
+    → ((g k : List ℕ) (d : Deed) → deed_of l g k by (Claim n account) ≡ Some d → fits (agreement t g k) (dealings b g k) d ≡ true)
+    → (kind : Kind) → x.kind ≡ kind → is_given kind ≡ true → limit_row (used_by b kind + x.lots) (limit_by t b kind) ≡ None
+claim_within t l b n by account x found fit (Root _) is given = absurd (cc)
+claim_within t l b n by account x found fit (Own _ _ _) is given = absurd (cc)
+claim_within t l b n by account x found fit (Given m g k) is given =
+    may_used (used_of b g k + x.lots) (limit_of t b g k)
+    (fit g k (Uses x.lots) (ap (option_and_then (use_of_node g k)) found ∙ (ap (use_of_kind g k x.lots) is ∙ ap (λ b. cond b (Some (Uses x.lots)) None) (both_same g k))))
+
+-- ---- whom a change deals with
+
+-- what an Agree, a Raise or a Claim stands under, by its deed
+pub deal_is : (t : House) (l : List Record) (g k : List ℕ) (n : ℕ) (by : List ℕ) (c : Command) (d : Deed) → deed_of l g k by c ≡ Some d
+    → deals_under t l n by c ≡ first_under_deed (agreement t g k) (dealings l g k) n d
+deal_is t l g k n by (Agree x y rate limit) d deals =
+    let p = of_pair g k x y (Makes (record { rate = rate; limit = limit })) d (bytes_eq x g && bytes_eq y k) refl deals in
+    ap (λ z. first_under_terms (dealings l z y)) p.0 ∙ (ap (λ z. first_under_terms (dealings l g z)) p.1.0 ∙ ap (first_under_deed (agreement t g k) (dealings l g k) n) p.1.1)
+deal_is t l g k n by (Raise x lots) d deals =
+    let p = of_pair g k x by (Raises lots) d (bytes_eq x g && bytes_eq by k) refl deals in
+    ap (λ z. first_over_without (agreement t z by) (dealings l z by) n) p.0
+    ∙ (ap (λ z. first_over_without (agreement t g z) (dealings l g z) n) p.1.0 ∙ ap (first_under_deed (agreement t g k) (dealings l g k) n) p.1.1)
+deal_is t l g k n by (Claim m account) d deals = used_under_none (node_of l m) deals
+  where
+    kind_none : (lots : ℕ) (kind : Kind) → use_of_kind g k lots kind ≡ Some d → None ≡ first_under_deed (agreement t g k) (dealings l g k) n d
+    kind_none lots (Root _) h = absurd (cc)
+    kind_none lots (Own _ _ _) h = absurd (cc)
+    kind_none lots (Given m x y) h =
+        let p = of_pair g k x y (Uses lots) d (bytes_eq x g && bytes_eq y k) refl h in
+        ap (first_under_deed (agreement t g k) (dealings l g k) n) p.1.1
+
+    used_under_none : (o : Option Node) → option_and_then (use_of_node g k) o ≡ Some d → None ≡ first_under_deed (agreement t g k) (dealings l g k) n d
+    used_under_none None h = absurd (cc)
+    used_under_none (Some x) h = kind_none x.lots x.kind h
+deal_is t l g k n by (Trade _ _ _ _ _) d deals = absurd (cc)
+deal_is t l g k n by (Split _ _) d deals = absurd (cc)
+deal_is t l g k n by (Refuse _) d deals = absurd (cc)
+deal_is t l g k n by (Cancel _) d deals = absurd (cc)
+deal_is t l g k n by (Initiate _) d deals = absurd (cc)
+deal_is t l g k n by (Decline _) d deals = absurd (cc)
+deal_is t l g k n by (Reverse _) d deals = absurd (cc)
+
+-- a giver and a taker for whom a change deals
+pub record DealsFor (l : List Record) (by : List ℕ) (c : Command) : Type 0 where
+  pub giver : List ℕ
+  pub taker : List ℕ
+  pub deed : Deed
+  pub deals : deed_of l giver taker by c ≡ Some deed
+
+-- what stands under terms deals
+pub deals_some : (t : House) (l : List Record) (n : ℕ) (by : List ℕ) (c : Command) (m : ℕ) → deals_under t l n by c ≡ Some m → DealsFor l by c
+deals_some t l n by (Agree x y rate limit) m h =
+    record { giver = x; taker = y; deed = Makes (record { rate = rate; limit = limit }); deals = ap (λ b. cond b (Some (Makes (record { rate = rate; limit = limit }))) None) (both_same x y) }
+deals_some t l n by (Raise x lots) m h = record { giver = x; taker = by; deed = Raises lots; deals = ap (λ b. cond b (Some (Raises lots)) None) (both_same x by) }
+deals_some t l n by (Claim _ _) m h = absurd (cc)
+deals_some t l n by (Trade _ _ _ _ _) m h = absurd (cc)
+deals_some t l n by (Split _ _) m h = absurd (cc)
+deals_some t l n by (Refuse _) m h = absurd (cc)
+deals_some t l n by (Cancel _) m h = absurd (cc)
+deals_some t l n by (Initiate _) m h = absurd (cc)
+deals_some t l n by (Decline _) m h = absurd (cc)
+deals_some t l n by (Reverse _) m h = absurd (cc)
+
+-- a change deals for one giver and one taker
+one_pair : (g k x y u v : List ℕ) (e d f : Deed) → cond (bytes_eq u g && bytes_eq v k) (Some e) None ≡ Some d → cond (bytes_eq u x && bytes_eq v y) (Some e) None ≡ Some f → (g ≡ x) × (k ≡ y)
+one_pair g k x y u v e d f a b =
+    let p = of_pair g k u v e d (bytes_eq u g && bytes_eq v k) refl a in
+    let q = of_pair x y u v e f (bytes_eq u x && bytes_eq v y) refl b in
+    (sym p.0 ∙ q.0, sym p.1.0 ∙ q.1.0)
+
+pub same_pair : (l : List Record) (g k x y by : List ℕ) (c : Command) (d f : Deed) → deed_of l g k by c ≡ Some d → deed_of l x y by c ≡ Some f → (g ≡ x) × (k ≡ y)
+same_pair l g k x y by (Agree u v rate limit) d f a b = one_pair g k x y u v (Makes (record { rate = rate; limit = limit })) d f a b
+same_pair l g k x y by (Raise u lots) d f a b = one_pair g k x y u by (Raises lots) d f a b
+same_pair l g k x y by (Claim n account) d f a b = by_node (node_of l n) a b
+  where
+    by_kind : (lots : ℕ) (kind : Kind) → use_of_kind g k lots kind ≡ Some d → use_of_kind x y lots kind ≡ Some f → (g ≡ x) × (k ≡ y)
+    by_kind lots (Root _) a b = absurd (cc)
+    by_kind lots (Own _ _ _) a b = absurd (cc)
+    by_kind lots (Given m u v) a b = one_pair g k x y u v (Uses lots) d f a b
+
+    by_node : (o : Option Node) → option_and_then (use_of_node g k) o ≡ Some d → option_and_then (use_of_node x y) o ≡ Some f → (g ≡ x) × (k ≡ y)
+    by_node None a b = absurd (cc)
+    by_node (Some z) a b = by_kind z.lots z.kind a b
+same_pair l g k x y by (Trade _ _ _ _ _) d f a b = absurd (cc)
+same_pair l g k x y by (Split _ _) d f a b = absurd (cc)
+same_pair l g k x y by (Refuse _) d f a b = absurd (cc)
+same_pair l g k x y by (Cancel _) d f a b = absurd (cc)
+same_pair l g k x y by (Initiate _) d f a b = absurd (cc)
+same_pair l g k x y by (Decline _) d f a b = absurd (cc)
+same_pair l g k x y by (Reverse _) d f a b = absurd (cc)
+
+-- ---- one left out
+
+unfit_by : (file : Option Agreement) (xs : List Dealing) (k : Dealing) (ys : List Dealing) → AllFit file [] (xs ++ k ∷ ys) → leave_out k.number (xs ++ k ∷ ys) ≡ xs ++ ys
+    → (e : Deed) → k.deed ≡ e → first_unfit file [] (xs ++ ys) ≡ first_under_deed file (xs ++ k ∷ ys) k.number e
+unfit_by file xs k ys all left (Makes a) is = unfit_without_terms file xs k ys a is all
+unfit_by file xs k ys all left (Raises lots) is =
+    unfit_without_raise file xs k ys lots is all
+    ∙ sym (ap (λ z. option_and_then (λ (a : Agreement). first_over a.limit 0 z) (terms_under file (xs ++ k ∷ ys))) left)
+unfit_by file xs k ys all left (Uses lots) is = unfit_none file [] (xs ++ ys) (fit_without_use file xs k ys lots is all)
+
+-- without one of them, the first that doesn't fit is the first that stands on it
+pub unfit_without : (file : Option Agreement) (xs : List Dealing) (k : Dealing) (ys : List Dealing) → AllFit file [] (xs ++ k ∷ ys) → leave_out k.number (xs ++ k ∷ ys) ≡ xs ++ ys
+    → first_unfit file [] (xs ++ ys) ≡ first_under_deed file (xs ++ k ∷ ys) k.number k.deed
+unfit_without file xs k ys all left = unfit_by file xs k ys all left k.deed refl
+
+left_step : (l : List Record) (g k : List ℕ) (n : ℕ) (r : Record) (b : List Record) → leave_out n (dealings_in l b g k) ≡ dealings_in l (without b n) g k
+    → (o : Option Deed) → deed_of l g k r.firm r.command ≡ o → (test : Bool) → (r.number == n) ≡ test
+    → leave_out n (cons_option (option_map (numbered r) o) (dealings_in l b g k)) ≡ dealings_in l (cond (not test) (r ∷ without b n) (without b n)) g k
+left_step l g k n r b rest None e true is = rest
+left_step l g k n r b rest None e false is = rest ∙ sym (ap (λ o. cons_option (option_map (numbered r) o) (dealings_in l (without b n) g k)) e)
+left_step l g k n r b rest (Some d) e true is =
+    ap (λ b0. cond (not b0) (numbered r d ∷ leave_out n (dealings_in l b g k)) (leave_out n (dealings_in l b g k))) is ∙ rest
+left_step l g k n r b rest (Some d) e false is =
+    ap (λ b0. cond (not b0) (numbered r d ∷ leave_out n (dealings_in l b g k)) (leave_out n (dealings_in l b g k))) is
+    ∙ (ap (λ z. numbered r d ∷ z) rest ∙ sym (ap (λ o. cons_option (option_map (numbered r) o) (dealings_in l (without b n) g k)) e))
+
+left_or : (l : List Record) (g k : List ℕ) (n : ℕ) (r : Record) (b : List Record) → leave_out n (dealings_in l b g k) ≡ dealings_in l (without b n) g k
+    → leave_out n (dealings_in l (r ∷ b) g k) ≡ dealings_in l (without (r ∷ b) n) g k
+left_or l g k n r b rest = left_step l g k n r b rest (deed_of l g k r.firm r.command) refl (r.number == n) refl
+
+-- the dealings but the one of a number are those of the changes without it
+pub left_out : (l : List Record) (g k : List ℕ) (n : ℕ) (b : List Record) → leave_out n (dealings_in l b g k) ≡ dealings_in l (without b n) g k
+left_out l g k n [] = refl
+left_out l g k n (r ∷ b) = left_or l g k n r b (left_out l g k n b)
+
+-- ---- the change behind a dealing
+
+pub record DealCut (l among : List Record) (g k : List ℕ) (before : List Dealing) (d : Dealing) : Type 0 where
+  pub front : List Record
+  pub change : Record
+  pub behind : List Record
+  pub is : among ≡ front ++ change ∷ behind
+  pub deals : dealings_in l front g k ≡ before
+  pub deed_is : deed_of l g k change.firm change.command ≡ Some d.deed
+  pub number : change.number ≡ d.number
+
+pub not_empty : (before : List Dealing) (d : Dealing) (behind : List Dealing) → [] ≡ before ++ d ∷ behind → ⊥
+not_empty [] d behind e = cc
+not_empty (x ∷ before) d behind e = cc
+
+cut_step : (l : List Record) (g k : List ℕ) (r : Record) (rest : List Record) (d : Dealing) (behind : List Dealing)
+    → ((before : List Dealing) → dealings_in l rest g k ≡ before ++ d ∷ behind → DealCut l rest g k before d)
+    → (o : Option Deed) → deed_of l g k r.firm r.command ≡ o → (before : List Dealing) → cons_option (option_map (numbered r) o) (dealings_in l rest g k) ≡ before ++ d ∷ behind
+    → DealCut l (r ∷ rest) g k before d
+cut_step l g k r rest d behind later None e before h =
+    let c = later before h in
+    record {
+      front = r ∷ c.front;
+      change = c.change;
+      behind = c.behind;
+      is = ap (λ z. r ∷ z) c.is;
+      deals = ap (λ o. cons_option (option_map (numbered r) o) (dealings_in l c.front g k)) e ∙ c.deals;
+      deed_is = c.deed_is;
+      number = c.number;
+    }
+cut_step l g k r rest d behind later (Some f) e [] h =
+    let one : numbered r f ≡ d = cc in
+    record {
+      front = [];
+      change = r;
+      behind = rest;
+      is = refl;
+      deals = refl;
+      deed_is = e ∙ ap (λ (z : Dealing). Some z.deed) one;
+      number = ap (λ (z : Dealing). z.number) one;
+    }
+cut_step l g k r rest d behind later (Some f) e (x ∷ before) h =
+    let one : numbered r f ≡ x = cc in
+    let tail : dealings_in l rest g k ≡ before ++ d ∷ behind = cc in
+    let c = later before tail in
+    record {
+      front = r ∷ c.front;
+      change = c.change;
+      behind = c.behind;
+      is = ap (λ z. r ∷ z) c.is;
+      deals = ap (λ o. cons_option (option_map (numbered r) o) (dealings_in l c.front g k)) e ∙ (ap (λ z. z ∷ dealings_in l c.front g k) one ∙ ap (λ z. x ∷ z) c.deals);
+      deed_is = c.deed_is;
+      number = c.number;
+    }
+
+pub deal_cut : (l among : List Record) (g k : List ℕ) (before : List Dealing) (d : Dealing) (behind : List Dealing) → dealings_in l among g k ≡ before ++ d ∷ behind → DealCut l among g k before d
+deal_cut l [] g k before d behind h = absurd (not_empty before d behind h)
+deal_cut l (r ∷ rest) g k before d behind h =
+    cut_step l g k r rest d behind (λ before h. deal_cut l rest g k before d behind h) (deed_of l g k r.firm r.command) refl before h

@@ -1,0 +1,234 @@
+//! The terms of one giver and one taker, and what they deal under them.
+ghost use Rattle.std.specs.Prelude.{◌≡◌, ◌+◌, ◌≤◌, ◌<◌, ◌^◌, ◌++◌, ◌∷◌, [], OnOk, IfSome, IsTrue, ◌↔◌};
+ghost use Rattle.gu_base.specs.Limits.{highest_limit};
+ghost use Rattle.gu_base.specs.Terms.{made_in, terms_under, raised_by_deed, raised_under, limit_under, used_by_deed, used_under};
+ghost use Rattle.gu_base.specs.Dealt.{leave_out, first_over, first_under_terms};
+ghost use Rattle.gu_fees.specs.Pairs.{HasRoomOn, HasRoomFor, dealings_kept, standing_under};
+
+use crate::filing::{Filed, append, clear, kept_at, last_of, sweep};
+use gu_base::{Agreement, Deed, Memory, Number};
+use std::alloc::Global;
+use std::marker::Model;
+
+/// The terms of the house table for a giver and a taker, and their live Agree, Raises and Claims in the order of their numbers.
+#[derive(Drop)]
+pub struct PairTerms {
+    file: Option<Agreement>,
+    deeds: Vec<Filed<Deed>>,
+    /// How many of the numbers in `deeds` are of entries that were taken out.
+    gone: usize,
+    /// The lots of the Raises.
+    raised: u64,
+    /// The lots of the Claims.
+    used: u64,
+}
+
+impl Model for PairTerms {
+    ghost use Rattle.std.specs.Prelude.{◌-◌, vec_len, vec_capacity};
+    ghost use Rattle.gu_fees.specs.Filing.{last_of};
+    ghost use Rattle.gu_fees.specs.Pairs.{PairView, IsKept, dealings_kept};
+
+    ghost Value = { PairView };
+
+    ghost view = { λ p. record { file = p.file; dealings = dealings_kept p.deeds.items; room = vec_capacity p.deeds - vec_len p.deeds; last = last_of p.deeds.items } };
+
+    ghost invariant = { λ p. IsKept p.file p.deeds.items p.raised p.used };
+}
+
+impl PairTerms {
+    /// The terms of the house table alone. What is dealt under them will grow by this allocator.
+    pub fn new(alloc: Global, file: Option<Agreement>) -> PairTerms
+        requires { IfSome file (λ a. a.limit ≤ highest_limit) }
+        ensures file { result.file ≡ file }
+        ensures dealings { result.dealings ≡ [] }
+        ensures last { result.last ≡ 0 }
+    {
+        PairTerms {
+            file,
+            deeds: Vec::new(alloc),
+            gone: 0,
+            raised: 0,
+            used: 0,
+        }
+    }
+
+    /// Makes room for one more entry. Nothing that is seen changes.
+    ///
+    /// # Errors
+    ///
+    /// `Memory` where a growth was refused.
+    pub fn ready(&mut self) -> Result<(), Memory>
+        ensures file { self.new.file ≡ self.old.file }
+        ensures dealings { self.new.dealings ≡ self.old.dealings }
+        ensures last { self.new.last ≡ self.old.last }
+        ensures room { OnOk result (1 ≤ self.new.room) }
+    {
+        self.deeds.reserve(1)?;
+        Ok(())
+    }
+
+    /// Whether `put` may be called.
+    pub fn can_put(&self, entry: Number, deed: Deed) -> bool
+        ensures { IsTrue result ↔ ((1 ≤ self.now.room) × (self.now.last < entry) × HasRoomFor self.now.dealings deed) }
+    {
+        let room = self.deeds.len() < self.deeds.capacity();
+        let above = last_of(self.deeds.as_slice()) < entry.get();
+        room && above && has_room(self.raised, self.used, deed)
+    }
+
+    /// Puts an entry behind the others: there is room for it, its number is above theirs, and the sums stay numbers of 64 bits. Takes no memory.
+    pub fn put(&mut self, entry: Number, deed: Deed)
+        requires room { 1 ≤ self.old.room }
+        requires above { self.old.last < entry }
+        requires fits { HasRoomFor self.old.dealings deed }
+        ensures file { self.new.file ≡ self.old.file }
+        ensures dealings { self.new.dealings ≡ self.old.dealings ++ record { number = entry; deed = deed } ∷ [] }
+        ensures last { self.new.last ≡ entry }
+    {
+        self.raised += raised_by(deed);
+        self.used += used_by(deed);
+        append(&mut self.deeds, entry, deed);
+    }
+
+    /// Takes the entry of this number out, if it is there. Takes no memory.
+    ///
+    /// Its number stays until there are more such numbers than entries.
+    pub fn take_out(&mut self, entry: Number)
+        ensures file { self.new.file ≡ self.old.file }
+        ensures dealings { self.new.dealings ≡ leave_out entry self.old.dealings }
+        ensures last { self.new.last ≤ self.old.last }
+    {
+        let Some(deed) = clear(&mut self.deeds, entry) else {
+            return;
+        };
+        self.raised -= raised_by(deed);
+        self.used -= used_by(deed);
+        self.gone = self.gone.saturating_add(1);
+        if self.gone > self.deeds.len() / 2 {
+            sweep(&mut self.deeds);
+            self.gone = 0;
+        }
+    }
+
+    /// The terms: those of the house table, or else those of the Agree.
+    pub fn terms(&self) -> Option<Agreement>
+        ensures { result ≡ terms_under self.now.file self.now.dealings }
+    {
+        match self.file {
+            Some(terms) => Some(terms),
+            None => made(self.deeds.as_slice()),
+        }
+    }
+
+    /// The lots that may be claimed, `None` where there are no terms.
+    pub fn limit(&self) -> Option<u64>
+        ensures { result ≡ limit_under self.now.file self.now.dealings }
+    {
+        match self.terms() {
+            Some(terms) => Some(terms.limit + self.raised),
+            None => None,
+        }
+    }
+
+    /// The lots that were claimed.
+    pub fn used(&self) -> u64
+        ensures { result ≡ used_under self.now.dealings }
+    {
+        self.used
+    }
+
+    /// The first entry that stands on the one of this number: an Agree stands under the first Raise or Claim, a Raise under the first Claim that
+    /// passes the limit without it.
+    pub fn first_standing(&self, entry: Number) -> Option<Number>
+        ensures { result ≡ standing_under self.now.file self.now.dealings entry }
+    {
+        match kept_at(self.deeds.as_slice(), entry) {
+            Some(Deed::Makes(_)) => first_under_terms(self.deeds.as_slice()),
+            Some(Deed::Raises(_)) => match self.terms() {
+                Some(terms) => first_over(terms.limit, self.deeds.as_slice(), entry),
+                None => None,
+            },
+            Some(Deed::Uses(_)) => None,
+            None => None,
+        }
+    }
+}
+
+/// Whether sums of so much raised and so much used have room for this deed.
+fn has_room(raised: u64, used: u64, deed: Deed) -> bool
+    requires { highest_limit + raised < 2 ^ 64 }
+    ensures { IsTrue result ↔ HasRoomOn raised used deed }
+{
+    match deed {
+        Deed::Makes(terms) => terms.limit <= Agreement::MAX_LIMIT,
+        Deed::Raises(lots) => (Agreement::MAX_LIMIT + raised).checked_add(lots).is_some(),
+        Deed::Uses(lots) => used.checked_add(lots).is_some(),
+    }
+}
+
+/// The lots by which a limit is raised.
+fn raised_by(deed: Deed) -> u64
+    ensures { result ≡ raised_by_deed deed }
+{
+    match deed {
+        Deed::Raises(lots) => lots,
+        _ => 0,
+    }
+}
+
+/// The lots that are claimed.
+fn used_by(deed: Deed) -> u64
+    ensures { result ≡ used_by_deed deed }
+{
+    match deed {
+        Deed::Uses(lots) => lots,
+        _ => 0,
+    }
+}
+
+/// The terms that the first Agree made.
+fn made(deeds: &[Filed<Deed>]) -> Option<Agreement>
+    ensures { result ≡ made_in (dealings_kept deeds.now) }
+{
+    for filed in deeds {
+        if let Some(Deed::Makes(terms)) = &filed.kept {
+            return Some(*terms);
+        }
+    }
+    None
+}
+
+/// The first Raise or Claim.
+fn first_under_terms(deeds: &[Filed<Deed>]) -> Option<Number>
+    ensures { result ≡ first_under_terms (dealings_kept deeds.now) }
+{
+    for filed in deeds {
+        match &filed.kept {
+            None | Some(Deed::Makes(_)) => {}
+            _ => return Some(filed.entry),
+        }
+    }
+    None
+}
+
+/// The first Claim that passes the limit without the entry of this number; `limit` is that of the terms alone.
+fn first_over(limit: u64, deeds: &[Filed<Deed>], entry: Number) -> Option<Number>
+    requires limit { limit + raised_under (dealings_kept deeds.now) < 2 ^ 64 }
+    requires used { used_under (dealings_kept deeds.now) < 2 ^ 64 }
+    ensures { result ≡ first_over limit 0 (leave_out entry (dealings_kept deeds.now)) }
+{
+    let mut limit = limit;
+    let mut used: u64 = 0;
+    for filed in deeds {
+        if let Some(deed) = filed.kept
+            && filed.entry != entry
+        {
+            limit += raised_by(deed);
+            used += used_by(deed);
+            if limit < used {
+                return Some(filed.entry);
+            }
+        }
+    }
+    None
+}

@@ -1,0 +1,267 @@
+//! The terms of all givers and takers.
+ghost use Rattle.std.specs.Prelude.{◌≡◌, ◌≤◌, ◌<◌, ◌&&◌, ◌++◌, ◌∷◌, ℕ, List, Some, None, false, [], option_map, option_and_then, bytes_eq, OnOk, OnErr, IfSome, IsSomeAnd, IsTrue, ◌↔◌, unwrap_or, option_copied, slice_get, length, ◌==◌};
+ghost use Rattle.std.specs.Map.{lookup};
+ghost use Rattle.gu_base.specs.Limits.{highest_limit};
+ghost use Rattle.gu_base.specs.Terms.{terms_under, limit_under, used_under};
+ghost use Rattle.gu_base.specs.Dealt.{leave_out};
+ghost use Rattle.gu_fees.specs.Rows.{is_pair};
+ghost use Rattle.gu_fees.specs.Pairs.{HasRoomFor};
+ghost use Rattle.gu_fees.specs.Terms.{row_of, pair_at, last_entry, standing_in, CanPut, IsPut, IsTakenOut, IsReadied, IsReady, IsSameRow};
+
+use crate::filing::{Filed, append, clear, kept_at, last_of};
+use crate::pair::PairTerms;
+use gu_base::{Agreement, Deed, FirmId, Memory, Number, Pair};
+use std::alloc::Global;
+use std::collections::HashMap;
+use std::marker::Model;
+
+/// The terms of each giver and taker that were made ready, and what they deal under them.
+#[derive(Drop)]
+pub struct Terms {
+    alloc: Global,
+    places: HashMap<Pair, usize>,
+    pairs: Vec<PairTerms>,
+    /// Under the number of each entry where its pair stands.
+    entries: Vec<Filed<usize>>,
+}
+
+impl Model for Terms {
+    ghost use Rattle.std.specs.Prelude.{◌-◌, vec_len, vec_capacity};
+    ghost use Rattle.gu_fees.specs.Terms.{TermsView, AreApart, AreFiled};
+
+    ghost Value = { TermsView };
+
+    ghost view = { λ t. record { places = t.places.entries; pairs = t.pairs.items; entries = t.entries.items; room = vec_capacity t.entries - vec_len t.entries } };
+
+    ghost invariant = { λ t. record { apart : AreApart t.places.entries t.pairs.items; filed : AreFiled t.pairs.items t.entries.items } };
+}
+
+impl Terms {
+    /// No terms. All rows will grow by this allocator.
+    pub fn new(alloc: Global) -> Terms
+        ensures rows { (g k : List ℕ) → row_of result g k ≡ None }
+        ensures entries { (e : ℕ) → pair_at result e ≡ None }
+        ensures last { last_entry result ≡ 0 }
+    {
+        Terms {
+            alloc,
+            places: HashMap::new(alloc),
+            pairs: Vec::new(alloc),
+            entries: Vec::new(alloc),
+        }
+    }
+
+    /// Where the pair stands among the pairs.
+    fn place(&self, giver: &FirmId, taker: &FirmId) -> Option<usize>
+        ensures { result ≡ lookup (is_pair giver.now taker.now) self.now.places }
+    {
+        let pair = Pair {
+            giver: *giver,
+            taker: *taker,
+        };
+        self.places.get(&pair).copied()
+    }
+
+    /// The row of the pair.
+    fn row(&self, giver: &FirmId, taker: &FirmId) -> Option<&PairTerms>
+        ensures { option_copied result ≡ row_of self.now giver.now taker.now }
+    {
+        match self.place(giver, taker) {
+            Some(i) => Some(&self.pairs[i]),
+            None => None,
+        }
+    }
+
+    /// The terms of the pair, `None` where it has none or was never made ready.
+    pub fn terms(&self, giver: &FirmId, taker: &FirmId) -> Option<Agreement>
+        ensures { result ≡ option_and_then (λ r. terms_under r.file r.dealings) (row_of self.now giver.now taker.now) }
+    {
+        match self.row(giver, taker) {
+            Some(row) => row.terms(),
+            None => None,
+        }
+    }
+
+    /// What a claimed lot costs the taker, `None` where the pair has no terms or was never made ready.
+    pub fn rate(&self, giver: &FirmId, taker: &FirmId) -> Option<u64>
+        ensures { result ≡ option_and_then (λ r. option_map (λ a. a.rate) (terms_under r.file r.dealings)) (row_of self.now giver.now taker.now) }
+    {
+        match self.terms(giver, taker) {
+            Some(terms) => Some(terms.rate),
+            None => None,
+        }
+    }
+
+    /// The lots that the pair may use, `None` where it has no terms or was never made ready.
+    pub fn limit(&self, giver: &FirmId, taker: &FirmId) -> Option<u64>
+        ensures { result ≡ option_and_then (λ r. limit_under r.file r.dealings) (row_of self.now giver.now taker.now) }
+    {
+        match self.row(giver, taker) {
+            Some(row) => row.limit(),
+            None => None,
+        }
+    }
+
+    /// The lots that the pair has used, 0 where it was never made ready.
+    pub fn used(&self, giver: &FirmId, taker: &FirmId) -> u64
+        ensures { result ≡ unwrap_or (option_map (λ r. used_under r.dealings) (row_of self.now giver.now taker.now)) 0 }
+    {
+        match self.row(giver, taker) {
+            Some(row) => row.used(),
+            None => 0,
+        }
+    }
+
+    /// Makes room for one more entry of the pair, and its row with these terms of the house table, unless it has one. No terms change, and
+    /// nothing that is dealt.
+    ///
+    /// # Errors
+    ///
+    /// `Memory` where a growth was refused.
+    pub fn ready(
+        &mut self,
+        giver: &FirmId,
+        taker: &FirmId,
+        file: Option<Agreement>,
+    ) -> Result<(), Memory>
+        requires { IfSome file (λ a. a.limit ≤ highest_limit) }
+        ensures readied { IsReadied self.old self.new giver.now taker.now file }
+        ensures ready { OnOk result (IsReady self.new giver.now taker.now) }
+        ensures err { OnErr result (IsSameRow (row_of self.old giver.now taker.now) (row_of self.new giver.now taker.now)) }
+    {
+        self.entries.reserve(1)?;
+        match self.place(giver, taker) {
+            Some(i) => self.pairs[i].ready(),
+            None => self.add_pair(giver, taker, file),
+        }
+    }
+
+    /// Makes the row of a pair that has none, with room for an entry.
+    fn add_pair(
+        &mut self,
+        giver: &FirmId,
+        taker: &FirmId,
+        file: Option<Agreement>,
+    ) -> Result<(), Memory>
+        requires low { IfSome file (λ a. a.limit ≤ highest_limit) }
+        requires new { lookup (is_pair giver.now taker.now) self.old.places ≡ None }
+        ensures own { OnOk result (IsSomeAnd (row_of self.new giver.now taker.now) (λ r. (r.file ≡ file) × (r.dealings ≡ []) × (1 ≤ r.room))) }
+        ensures err { OnErr result (row_of self.new giver.now taker.now ≡ None) }
+        ensures others { (g k : List ℕ) → (bytes_eq giver.now g && bytes_eq taker.now k) ≡ false → row_of self.new g k ≡ row_of self.old g k }
+        ensures places { (g k : List ℕ) (i : ℕ) → lookup (is_pair g k) self.old.places ≡ Some i → lookup (is_pair g k) self.new.places ≡ Some i }
+        ensures entries { self.new.entries ≡ self.old.entries }
+        ensures room { self.new.room ≡ self.old.room }
+    {
+        let mut row = PairTerms::new(self.alloc, file);
+        row.ready()?;
+        self.pairs.reserve(1)?;
+        let pair = Pair {
+            giver: *giver,
+            taker: *taker,
+        };
+        let i = self.pairs.len();
+        self.places.insert(pair, i)?;
+        self.pairs.push_reserved(row);
+        Ok(())
+    }
+
+    /// Whether `agree`, `raise` or `claim` may be called: the pair is ready, the number is above all that were put in, and the sums of the pair
+    /// stay numbers of 64 bits.
+    pub fn can_put(&self, giver: &FirmId, taker: &FirmId, entry: Number, deed: Deed) -> bool
+        ensures { IsTrue result ↔ CanPut self.now giver.now taker.now (record { number = entry; deed = deed }) }
+    {
+        let room = self.entries.len() < self.entries.capacity();
+        let above = last_of(self.entries.as_slice()) < entry.get();
+        match self.row(giver, taker) {
+            Some(row) => room && above && row.can_put(entry, deed),
+            None => false,
+        }
+    }
+
+    /// Puts an entry of the pair in, which is ready. Takes no memory.
+    fn put(&mut self, giver: &FirmId, taker: &FirmId, entry: Number, deed: Deed)
+        requires { CanPut self.old giver.now taker.now (record { number = entry; deed = deed }) }
+        ensures { IsPut self.old self.new giver.now taker.now (record { number = entry; deed = deed }) }
+    {
+        if let Some(i) = self.place(giver, taker) {
+            put_into(&mut self.pairs, i, entry, deed);
+            append(&mut self.entries, entry, i);
+        }
+    }
+
+    /// Puts the Agree of this number in: the pair has these terms. Takes no memory.
+    pub fn agree(&mut self, giver: &FirmId, taker: &FirmId, entry: Number, terms: Agreement)
+        requires { CanPut self.old giver.now taker.now (record { number = entry; deed = Deed.Makes terms }) }
+        ensures { IsPut self.old self.new giver.now taker.now (record { number = entry; deed = Deed.Makes terms }) }
+    {
+        self.put(giver, taker, entry, Deed::Makes(terms));
+    }
+
+    /// Puts the Raise of this number in: the limit of the pair is so much higher. Takes no memory.
+    pub fn raise(&mut self, giver: &FirmId, taker: &FirmId, entry: Number, lots: u64)
+        requires { CanPut self.old giver.now taker.now (record { number = entry; deed = Deed.Raises lots }) }
+        ensures { IsPut self.old self.new giver.now taker.now (record { number = entry; deed = Deed.Raises lots }) }
+    {
+        self.put(giver, taker, entry, Deed::Raises(lots));
+    }
+
+    /// Puts the Claim of this number in: the pair has used so much more. Takes no memory.
+    pub fn claim(&mut self, giver: &FirmId, taker: &FirmId, entry: Number, lots: u64)
+        requires { CanPut self.old giver.now taker.now (record { number = entry; deed = Deed.Uses lots }) }
+        ensures { IsPut self.old self.new giver.now taker.now (record { number = entry; deed = Deed.Uses lots }) }
+    {
+        self.put(giver, taker, entry, Deed::Uses(lots));
+    }
+
+    /// Takes the entry of this number out, if it was put in. Takes no memory.
+    pub fn take_out(&mut self, entry: Number)
+        ensures { IsTakenOut self.old self.new entry }
+    {
+        if let Some(i) = clear(&mut self.entries, entry) {
+            take_from(&mut self.pairs, i, entry);
+        }
+    }
+
+    /// The first entry that stands on the one of this number, of those of its giver and taker; `None` where no entry of this number was put in.
+    pub fn first_standing(&self, entry: Number) -> Option<Number>
+        ensures { result ≡ option_and_then (λ i. standing_in self.now.pairs i entry) (pair_at self.now entry) }
+    {
+        match kept_at(self.entries.as_slice(), entry) {
+            Some(i) => standing_in(self.pairs.as_slice(), i, entry),
+            None => None,
+        }
+    }
+}
+
+/// What stands on an entry of the pair at this place.
+fn standing_in(pairs: &[PairTerms], i: usize, entry: Number) -> Option<Number>
+    ensures { result ≡ standing_in pairs.now i entry }
+{
+    match pairs.get(i) {
+        Some(row) => row.first_standing(entry),
+        None => None,
+    }
+}
+
+/// Puts the entry into the pair at this place, which is ready.
+fn put_into(pairs: &mut Vec<PairTerms>, i: usize, entry: Number, deed: Deed)
+    requires { IsSomeAnd (slice_get pairs.old.items i) (λ r. (1 ≤ r.room) × (r.last < entry) × HasRoomFor r.dealings deed) }
+    ensures len { length pairs.new.items ≡ length pairs.old.items }
+    ensures own { IsSomeAnd (slice_get pairs.old.items i) (λ r. IsSomeAnd (slice_get pairs.new.items i) (λ q. (q.file ≡ r.file) × (q.dealings ≡ r.dealings ++ record { number = entry; deed = deed } ∷ []))) }
+    ensures last { IfSome (slice_get pairs.new.items i) (λ q. q.last ≡ entry) }
+    ensures others { (j : ℕ) → (j == i) ≡ false → slice_get pairs.new.items j ≡ slice_get pairs.old.items j }
+{
+    pairs[i].put(entry, deed);
+}
+
+/// Takes the entry out of the pair at this place, if there is one.
+fn take_from(pairs: &mut Vec<PairTerms>, i: usize, entry: Number)
+    ensures len { length pairs.new.items ≡ length pairs.old.items }
+    ensures own { IfSome (slice_get pairs.old.items i) (λ r. IsSomeAnd (slice_get pairs.new.items i) (λ q. (q.file ≡ r.file) × (q.dealings ≡ leave_out entry r.dealings))) }
+    ensures last { IfSome (slice_get pairs.old.items i) (λ r. IfSome (slice_get pairs.new.items i) (λ q. q.last ≤ r.last)) }
+    ensures others { (j : ℕ) → (j == i) ≡ false → slice_get pairs.new.items j ≡ slice_get pairs.old.items j }
+{
+    if i < pairs.len() {
+        pairs[i].take_out(entry);
+    }
+}
