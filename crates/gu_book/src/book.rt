@@ -6,7 +6,7 @@ ghost use Rattle.gu_base.specs.Consents.{is_consenting};
 ghost use Rattle.gu_base.specs.History.{is_change, live};
 ghost use Rattle.gu_base.specs.Positions.{position_of};
 ghost use Rattle.gu_base.specs.Fees.{paid_by, received_by};
-ghost use Rattle.gu_base.specs.Terms.{limit_of, used_of};
+ghost use Rattle.gu_base.specs.Terms.{limit_of, terms_of, used_of};
 ghost use Rattle.gu_base.specs.Nodes.{is_split};
 ghost use Rattle.gu_base.specs.Standing.{IsLegal};
 ghost use Rattle.gu_base.specs.Answers.{Call, answer_to, after, is_accepted};
@@ -671,6 +671,14 @@ impl Book {
         ensures { result ≡ limit_of self.now.house (live self.now.history) giver.now taker.now }
     {
         terms::limit_of(&self.house, &self.terms, giver, taker)
+    }
+
+    /// The terms of a giver and a taker, `None` where they have none: those of the house table, or else those of their live Agree. The limit is
+    /// that of the agreement alone; `limit` adds the Raises.
+    pub fn terms(&self, giver: &FirmId, taker: &FirmId) -> Option<Agreement>
+        ensures { result ≡ terms_of self.now.house (live self.now.history) giver.now taker.now }
+    {
+        terms::terms_of(&self.house, &self.terms, giver, taker)
     }
 }
 

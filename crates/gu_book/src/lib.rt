@@ -9,8 +9,8 @@
 //! - `Memory` comes only where the rules accept the call. All growths come before anything changes, but for the lots that a change adds;
 //!   they are taken out again. So it leaves everything too.
 //! - `live` gives the numbers of the live changes, `tree_rows` the rows of a live trade's tree. `position` is a running
-//!   row of what stands in an account; `paid`, `received` and `used` are running sums of what the live claims cost; `limit` is what the
-//!   agreement of two firms and their Raises allow. All fit.
+//!   row of what stands in an account; `paid`, `received` and `used` are running sums of what the live claims cost; `terms` are the
+//!   agreement of two firms, `limit` is what it and their Raises allow. All fit.
 //! - The type keeps that its history is one that calls made of the empty book, that no firm and id stand in it twice, that none of
 //!   its live changes would be refused after those before it, that the trees show the live changes, and that the consents are those
 //!   that the history left.
