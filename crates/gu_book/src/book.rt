@@ -100,8 +100,9 @@ impl Book {
         ensures opened { IfOk result (λ b. stored b ≡ record { house = house; history = opening_history house }) }
         ensures given_back { IfErr result (λ e. e.0 ≡ house) }
     {
+        let count = house.opening_count();
         let mut book = Book::new(alloc, house);
-        for place in 0..book.house.opening_count() {
+        for place in 0..count {
             if let Err(e) = book.make_opening_call(alloc, place) {
                 return Err((book.into_house(), e));
             }
@@ -118,7 +119,7 @@ impl Book {
 
     /// Makes the opening call at this place.
     fn make_opening_call(&mut self, alloc: Global, place: usize) -> Result<(), Memory>
-        requires { place < length (opening_calls self.old.house) }
+        requires { place < length self.old.house.opening }
         ensures made { OnOk result (IsSomeAnd (slice_get (opening_calls self.old.house) place) (λ c. stored self.new ≡ record { house = self.old.house; history = after self.old.house self.old.history c })) }
         ensures unchanged { OnErr result (stored self.new ≡ stored self.old) }
     {
