@@ -200,8 +200,9 @@ impl Book {
         }
     }
 
-    /// How many nodes of the trees the last `apply` visited, each counted once: those on the ways to the nodes that it looked at, the parts
-    /// that it made, took away or asked after, and the entries of a giver and a taker that it looked at. A call that is refused, repeated or finds no memory changes this number too.
+    /// How many nodes of the trees the last `apply` visited, each counted once: those on the ways to the nodes that it looked at, and the parts
+    /// that it made, took away or asked after. Of a Reverse of an Agree or a Raise it is how many entries their giver and taker have: their Agree,
+    /// Raises and Claims. A call that is refused, repeated or finds no memory changes this number too.
     pub fn visits(&self) -> u64
         ensures { result ≡ self.now.visits }
     {
@@ -390,8 +391,8 @@ impl Book {
         Ok(())
     }
 
-    /// Puts an accepted Claim at the end of the history, charges it, puts it to the terms, and moves its node with its lots. What it puts is taken out again where a
-    /// later growth is refused; all else changes behind the last growth.
+    /// Puts an accepted Claim at the end of the history, charges it, puts it to the terms, and moves its node with its lots. What it puts is
+    /// taken out again where a later growth is refused; all else changes behind the last growth.
     #[inline(never)]
     fn keep_claim(&mut self, made: &Change<'_>, hash: IdHash, sought: &Sought) -> Result<(), Memory>
         requires claim { is_claim made.now.command.now ≡ true }
