@@ -13,7 +13,7 @@ use Rattle.gu_base.specs.Places.{line_within, root_along, root_of}
 use Rattle.gu_base.specs.Answers.{entry_of}
 use Rattle.gu_base.specs.Runs.{IsRunFrom}
 use Rattle.gu_base.specs.declared.command.Command.{Command}
-use Rattle.gu_base.specs.declared.command.Command.TheVariants.{Trade, Split, Claim, Refuse, Cancel, Initiate, Decline, Reverse}
+use Rattle.gu_base.specs.declared.command.Command.TheVariants.{Trade, Split, Claim, Refuse, Cancel, Agree, Raise, Initiate, Decline, Reverse}
 use Rattle.gu_base.specs.declared.entry.Entry.{Entry}
 use Rattle.gu_base.specs.declared.entry.Record.{Record}
 use Rattle.gu_base.specs.declared.node.Kind.TheVariants.{Root}
@@ -73,7 +73,8 @@ entry_more h k n r found =
     ∙ (find-append (λ q. q.number == n) (records h) (numbered_from (1 + length h) k)
     ∙ ap (λ o. option_or o (find (λ q. q.number == n) (numbered_from (1 + length h) k))) found)
 
-node_later : (h k : List Entry) (n : EntryPart) (x : Node) → node_of (records h) n ≡ Some x → node_of (records (h ++ k)) n ≡ Some x
+-- the same of a node
+pub node_later : (h k : List Entry) (n : EntryPart) (x : Node) → node_of (records h) n ≡ Some x → node_of (records (h ++ k)) n ≡ Some x
 node_later h k n x found = ap (λ l. node_of l n) (numbered_append 1 h k) ∙ node_more (records h) (numbered_from (1 + length h) k) n x found
 
 -- ---- nodes of some changes among all of them
@@ -114,6 +115,8 @@ naming_changes (Claim _ _) n h = refl
 naming_changes (Refuse _) n h = refl
 naming_changes (Cancel _) n h = refl
 naming_changes (Trade _ _ _ _ _) n h = refl
+naming_changes (Agree _ _ _ _) n h = refl
+naming_changes (Raise _ _) n h = refl
 naming_changes (Initiate _) n h = absurd (cc)
 naming_changes (Decline _) n h = absurd (cc)
 naming_changes (Reverse _) n h = absurd (cc)
@@ -200,6 +203,8 @@ by_command t h s n x r (Split m ps) run found low there is made up =
 by_command t h s n x r (Claim _ _) run found low there is made up = absurd (cc)
 by_command t h s n x r (Refuse _) run found low there is made up = absurd (cc)
 by_command t h s n x r (Cancel _) run found low there is made up = absurd (cc)
+by_command t h s n x r (Agree _ _ _ _) run found low there is made up = absurd (cc)
+by_command t h s n x r (Raise _ _) run found low there is made up = absurd (cc)
 by_command t h s n x r (Initiate _) run found low there is made up = absurd (cc)
 by_command t h s n x r (Decline _) run found low there is made up = absurd (cc)
 by_command t h s n x r (Reverse _) run found low there is made up = absurd (cc)
