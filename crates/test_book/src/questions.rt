@@ -47,6 +47,17 @@ fn show_used(rt: &impl Print, book: &Book, words: &[u8]) -> io::Result<()> {
     }
 }
 
+fn show_limit(rt: &impl Print, book: &Book, words: &[u8]) -> io::Result<()> {
+    let (giver, taker) = first_word(words);
+    let (Some(giver), Some(taker)) = (FirmId::new(giver), FirmId::new(taker)) else {
+        return println!(rt; "what?");
+    };
+    match book.limit(&giver, &taker) {
+        Some(limit) => println!(rt; "limit {limit}"),
+        None => println!(rt; "no terms"),
+    }
+}
+
 /// `DEPTH NAME LOTS FIRM/ACCOUNT STATE`, and then ` taker FIRM` and ` by NUMBER` where there are any
 fn show_row(rt: &impl Print, row: &Row) -> io::Result<()> {
     let head = &row.head;
@@ -159,6 +170,9 @@ pub(crate) fn answer(
     }
     if what == b"used".as_slice() {
         return show_used(rt, book, rest);
+    }
+    if what == b"limit".as_slice() {
+        return show_limit(rt, book, rest);
     }
     if what == b"visits".as_slice() {
         let visits = book.visits();

@@ -84,6 +84,31 @@ pub(crate) fn parts(alloc: Global, by: FirmId, words: &[u8]) -> Result<Parts, Me
     Ok(Parts::from_vec(items))
 }
 
+/// `GIVER TAKER RATE LIMIT`
+fn agreement(words: &[u8]) -> Option<Command> {
+    let (giver, rest) = first_word(words);
+    let (taker, rest) = first_word(rest);
+    let (rate, limit) = first_word(rest);
+    let giver = FirmId::new(giver)?;
+    let taker = FirmId::new(taker)?;
+    let rate = count_of(rate)?;
+    let limit = count_of(limit)?;
+    Some(Command::Agree {
+        giver,
+        taker,
+        rate,
+        limit,
+    })
+}
+
+/// `GIVER LOTS`
+fn raised_limit(words: &[u8]) -> Option<Command> {
+    let (giver, lots) = first_word(words);
+    let giver = FirmId::new(giver)?;
+    let lots = count_of(lots)?;
+    Some(Command::Raise { giver, lots })
+}
+
 /// The command of this verb that names an entry.
 fn of_entry(verb: &[u8], word: &[u8]) -> Option<Command> {
     let entry = number_of(word)?;
@@ -103,6 +128,12 @@ fn of_entry(verb: &[u8], word: &[u8]) -> Option<Command> {
 pub(crate) fn command(verb: &[u8], words: &[u8], parts: Parts) -> Option<Command> {
     if verb == b"trade".as_slice() {
         return trade(words);
+    }
+    if verb == b"agree".as_slice() {
+        return agreement(words);
+    }
+    if verb == b"raise".as_slice() {
+        return raised_limit(words);
     }
     let (name, rest) = first_word(words);
     if let Some(command) = of_entry(verb, name) {

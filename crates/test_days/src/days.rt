@@ -19,10 +19,21 @@ pub trait Player<R: Print + Eprint> {
     fn make(&self, rt: &R, alloc: Global, book: &mut Book, call: &Call) -> io::Result<()>;
 }
 
-/// An empty book of the house of this text.
+/// The book of a house after its opening calls. Where no memory is found it is opened once more, with the house that came back.
+fn opened(rt: &impl Eprint, alloc: Global, house: House) -> Option<Book> {
+    match Book::open(alloc, house) {
+        Ok(book) => Some(book),
+        Err((house, _)) => {
+            tell_refused(rt);
+            Book::open(alloc, house).ok()
+        }
+    }
+}
+
+/// The book after the opening calls of the house of this text.
 fn new_book(rt: &impl Eprint, alloc: Global, text: &str) -> Option<Book> {
     let house = twice(rt, || House::parse(alloc, text.as_bytes()));
-    Some(Book::new(alloc, house.ok()?))
+    opened(rt, alloc, house.ok()?)
 }
 
 /// Has the player make the call of a line, which begins with this firm.
@@ -79,7 +90,7 @@ fn tell_at<R: Print + Eprint, P: Player<R>>(
     }
 }
 
-/// Begins a day, at an empty book.
+/// Begins a day, at a book of its own.
 fn begin_day(rt: &impl Eprint, alloc: Global, house: &str, book: &mut Option<Book>) {
     drop(mem::replace(book, new_book(rt, alloc, house)));
 }
@@ -103,6 +114,22 @@ fn tell_days<R: Print + Eprint, P: Player<R>>(
     Ok(())
 }
 
+/// Plays the days of a house.
+fn play_house<R: Print + Eprint, P: Player<R>>(
+    rt: &R,
+    alloc: Global,
+    player: &P,
+    text: &str,
+) -> io::Result<()> {
+    let Some((house, days)) = text.split_once("\n--\n") else {
+        return println!(rt; "no house");
+    };
+    let mut book = new_book(rt, alloc, house);
+    let told = tell_days(rt, alloc, player, house, days, &mut book);
+    drop(book);
+    told
+}
+
 /// Plays the days of an input, and writes what each line gives.
 ///
 /// # Errors
@@ -114,13 +141,10 @@ pub fn play<R: Print + Eprint, P: Player<R>>(
     player: &P,
     input: &[u8],
 ) -> io::Result<()> {
-    let Some((house, days)) = shown(input).split_once("\n--\n") else {
-        return println!(rt; "no house");
-    };
-    let mut book = new_book(rt, alloc, house);
-    let told = tell_days(rt, alloc, player, house, days, &mut book);
-    drop(book);
-    told
+    for text in shown(input).split("\n==\n") {
+        play_house(rt, alloc, player, text)?;
+    }
+    Ok(())
 }
 
 /// All of standard input.

@@ -16,13 +16,15 @@ pub(crate) enum Way {
     InterruptedReader,
     InterruptedWriter,
     EndlessReader,
+    Totals,
 }
 
-/// A case: its name, its way and its input.
+/// A case: its name, its way, whether its house's agreements are opening calls, and its input.
 #[derive(Drop)]
 pub(crate) struct Case {
     pub(crate) name: String,
     pub(crate) way: Way,
+    pub(crate) opens: bool,
     pub(crate) input: Vec<u8>,
 }
 
@@ -39,6 +41,7 @@ fn way_of(text: &str) -> Option<Way> {
         "interrupted reader" => Some(Way::InterruptedReader),
         "interrupted writer" => Some(Way::InterruptedWriter),
         "endless reader" => Some(Way::EndlessReader),
+        "totals" => Some(Way::Totals),
         _ => None,
     }
 }
@@ -83,10 +86,19 @@ pub(crate) fn read_case(alloc: Global, line: &str) -> Result<Option<Case>, Alloc
     let Some((way, input)) = rest.split_once(';') else {
         return Ok(None);
     };
+    let (way, opens) = match way.split_once(", ") {
+        Some((way, house)) => (way, house == "opening calls"),
+        None => (way, false),
+    };
     let Some(way) = way_of(way) else {
         return Ok(None);
     };
     let name = String::from_str(alloc, name)?;
     let input = bytes_of(alloc, input)?;
-    Ok(Some(Case { name, way, input }))
+    Ok(Some(Case {
+        name,
+        way,
+        opens,
+        input,
+    }))
 }

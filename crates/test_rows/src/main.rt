@@ -9,7 +9,10 @@
 //! - `failing writer` takes one byte a call and fails after each number of bytes; `quiet writer` takes no byte more; `wide writer` takes up to 50
 //!   bytes a call, and then fails;
 //! - `interrupted` has each read and each write interrupted once before it is made; `interrupted reader` and `interrupted writer` have it each time;
-//! - `endless reader` gives the input a byte a call, over and over.
+//! - `endless reader` gives the input a byte a call, over and over;
+//! - `totals` prints the totals after the input in place of the answers.
+//!
+//! Behind the way may stand `, opening calls`: the house's agreements are then opening calls, by version 2 of its file.
 //!
 //! Expected outputs were computed from the written rules by a script outside this repository, never from a run.
 #![tactic(auto)]
