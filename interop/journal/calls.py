@@ -23,7 +23,7 @@ SENT = re.compile(
 )
 Call = namedtuple("Call", "number id ticket frame")
 # Whole messages that the server sent: their bytes; the last entry that they show; whether the book refused a call; and of the calls that
-# they accept each entry, the call and its answer.
+# they accept each entry, the call and its answer. Entries are counted behind those with which the book begins.
 Sent = namedtuple("Sent", "data entry refused accepted")
 
 
@@ -32,10 +32,11 @@ class Astray(Exception):
 
 
 class Calls:
-    """The calls of one connection that have no answer yet. `tickets` numbers the calls of all connections as they come."""
+    """The calls of one connection that have no answer yet. `tickets` numbers the calls of all connections as they come. A book begins with
+    `opening` entries, the agreements of a house file of version 2."""
 
-    def __init__(self, house, tickets):
-        self.house, self.tickets = house, tickets
+    def __init__(self, house, tickets, opening=0):
+        self.house, self.tickets, self.opening = house, tickets, opening
         self.firm, self.want, self.closed = None, 1, False
         self.came, self.sent, self.waiting = b"", b"", deque()
 
@@ -114,13 +115,12 @@ class Calls:
                 shown = entry_of(kind, second, third)
                 refused = refused or not shown
                 call = None if again else self.call(first)
-                if call and shown:
-                    accepted.append((shown, call, data[at:end]))
+                if call and shown > self.opening:
+                    accepted.append((shown - self.opening, call, data[at:end]))
             elif third in REJECTED and self.waiting and self.waiting[0].number == int(first[3:]):
                 # a SequenceReset that is rejected may have the number of a call behind it: so the type has to be a call's
                 self.waiting.popleft()
-            if shown > entry:
-                entry = shown
+            entry = max(entry, shown - self.opening)
             at = end
         self.sent = data[at:]
         return Sent(data[:at], entry, refused, accepted)

@@ -84,7 +84,7 @@ class Connection:
     def __init__(self, proxy, client, server, number):
         self.proxy, self.number = proxy, number
         self.client, self.server = Half(proxy, client, self.from_client), Half(proxy, server, self.from_server)
-        self.calls = Calls(proxy.house, proxy.tickets)
+        self.calls = Calls(proxy.house, proxy.tickets, proxy.opening)
         self.queue, self.answered = deque(), 0
         self.reading, self.served, self.ended = True, True, 0.0
 
@@ -181,8 +181,8 @@ class Order:
 
 
 class Proxy:
-    def __init__(self, house, log, door, server, workers):
-        self.house, self.log, self.door, self.server, self.workers = house, log, door, server, workers
+    def __init__(self, house, opening, log, door, server, workers):
+        self.house, self.opening, self.log, self.door, self.server, self.workers = house, opening, log, door, server, workers
         self.poll, self.tickets = selectors.DefaultSelector(), itertools.count(1)
         self.order, self.connections, self.numbers = Order(log, self.tickets), [], itertools.count(1)
         self.listening, self.stopping, self.moved, self.looked = False, False, time.monotonic(), 0.0

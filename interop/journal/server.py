@@ -37,10 +37,10 @@ def started(program, house, workers):
 class Session:
     """A firm's session with the server, for the replay."""
 
-    def __init__(self, port, house, firm):
+    def __init__(self, port, house, opening, firm):
         self.stream, self.house, self.firm, self.number = socket.create_connection(("127.0.0.1", port)), house, firm, 1
         self.stream.setsockopt(socket.IPPROTO_TCP, socket.TCP_NODELAY, 1)
-        self.calls = Calls(house, iter(int, 1))
+        self.calls = Calls(house, iter(int, 1), opening)
         self.send(framed(b"35=A\x0149=%b\x0156=%b\x0134=1\x0152=19700101-00:00:00\x0198=0\x01108=0\x011137=9\x01" % (firm, house)))
 
     def send(self, *frames):
@@ -77,14 +77,14 @@ def runs(frames):
             number += len(run[at : at + RUN])
 
 
-def replay(port, house, frames, workers):
-    """Gives the server all entries again; each has to get its number."""
+def replay(port, house, opening, frames, workers):
+    """Gives the server all entries again; each has to get its number, counted behind those with which the book begins."""
     sessions = OrderedDict()
     try:
         for first, firm, run in runs(frames):
             if firm not in sessions and len(sessions) == workers:
                 sessions.popitem(last=False)[1].close()
-            session = sessions.pop(firm, None) or Session(port, house, firm)
+            session = sessions.pop(firm, None) or Session(port, house, opening, firm)
             sessions[firm] = session
             for number, entry in enumerate(session.ask(run), first):
                 if entry != number:
