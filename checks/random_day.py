@@ -46,7 +46,7 @@ def split(id, node, parts):
 
 def house_text(rng):
     """A house file of strangers' names: each pair of firms has an agreement or none, some of them tight."""
-    lines = ["GIVEUP 1", "HOUSE <HSE>&co"] + [f"FIRM {firm}" for firm in FIRMS]
+    lines = [rng.choice(["GIVEUP 1", "GIVEUP 2"]), "HOUSE <HSE>&co"] + [f"FIRM {firm}" for firm in FIRMS]
     lines += [f"ACCOUNT {firm} {account}" for firm in FIRMS + ["<HSE>&co"] for account in ACCOUNTS]
     lines += [f"INSTRUMENT {name}" for name in INSTRUMENTS]
     pairs = [(giver, taker) for giver in FIRMS for taker in FIRMS if giver != taker and rng.random() < 0.8]
@@ -98,7 +98,7 @@ class Day:
         self.send(message(kind, firm, self.book.house.name, len(self.sent) + 1, rest))
 
     def act(self):
-        acts = [self.trade] * 2 + [self.split] * 4 + [self.decide] * 5 + [self.reversal] * 4 + [self.noise]
+        acts = [self.trade] * 2 + [self.split] * 4 + [self.decide] * 5 + [self.agree, self.lift] + [self.reversal] * 4 + [self.noise]
         self.rng.choice(acts)()
 
     def trade(self):
@@ -129,6 +129,17 @@ class Day:
         codes = {"claim": ["71=0", "626=18"], "refuse": ["71=0", "626=19"], "cancel": ["71=2", "626=23"]}[how]
         account = ["79=before", "78=1", f"79={self.rng.choice(ACCOUNTS)}"] if how == "claim" else []
         self.ask("J", firm, [f"70={self.id()}", *codes, f"72={node.name}", *account])
+
+    def agree(self):
+        by = self.book.house.name if self.rng.random() < 0.9 else self.rng.choice(FIRMS)
+        giver, taker = (self.rng.choice(FIRMS + ["NOBODY"]) for _ in range(2))
+        terms = [f"5003={self.rng.choice([0, 40, 100_001])}", f"5004={self.rng.choice([0, 1000, 10**12])}"]
+        self.ask("J", by, [f"70={self.id()}", "71=0", "626=90", f"5001={giver}", f"5002={taker}", *terms])
+
+    def lift(self):
+        """A raise of a limit, or one that is refused."""
+        giver, taker = self.rng.choice([*self.book.terms, ("NOBODY", self.rng.choice(FIRMS))])
+        self.ask("J", taker, [f"70={self.id()}", "71=0", "626=91", f"5001={giver}", f"5004={self.rng.choice([0, 5, 500, 10**13])}"])
 
     def reversal(self):
         """A consent to the undo of a change, a decline, or the undo; of those with a consent most often."""
