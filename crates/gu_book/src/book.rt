@@ -127,8 +127,10 @@ impl Book {
             unreachable!()
         };
         let by = self.house.house();
-        self.apply(alloc, &by, &id, &command)?;
-        Ok(())
+        match self.apply(alloc, &by, &id, &command) {
+            Ok(_) => Ok(()),
+            Err(e) => Err(e),
+        }
     }
 
     /// The house table.
