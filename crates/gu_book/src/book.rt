@@ -35,8 +35,8 @@ use crate::plain::standing::Standing;
 use crate::plain::{charges, holdings, terms};
 use crate::{grove, visits};
 use gu_base::{
-    AccountId, Agreement, AllocId, Answer, Command, Entry, FirmId, InstrumentId, Memory, Number, Place,
-    Refusal, State,
+    AccountId, Agreement, AllocId, Answer, Command, Entry, FirmId, InstrumentId, Memory, Number,
+    Place, Refusal, State,
 };
 use gu_consent::Consents;
 use gu_fees::{Fees, Terms};

@@ -1,4 +1,4 @@
-use Rattle.std.proofs.Common.{◌≤◌, ◌∙◌, ap, subst}
+use Rattle.std.proofs.Common.{◌∙◌, ap, arith}
 use Rattle.gu_book.specs.Seen.{BookView, stored}
 use Rattle.gu_book.proofs.Opening.{opened_all, opened_next}
 use Rattle.gu_book.proofs.book.Book.open.Goals as goal
@@ -11,4 +11,6 @@ loop-place-preserved c =
 pub returns-clause-opened : goal.returns-clause-opened
 returns-clause-opened c =
     let same = c.loop-place.invariant.house ∙ ap (λ (b : BookView). b.house) c.new-book.ensures in
-    opened_all c.args.house (stored c.loop-place.book) c.loop-place.place same c.loop-place.invariant.so_far (subst (λ n. n ≤ c.loop-place.place) c.opening_count-count.ensures.count c.loop-place-test.false)
+    let count = c.opening_count-count.ensures.count in
+    let past = c.loop-place-test.false in
+    opened_all c.args.house (stored c.loop-place.book) c.loop-place.place same c.loop-place.invariant.so_far (omega (arith, count, past))
