@@ -1,4 +1,4 @@
-use Rattle.std.proofs.Common.{◌≡◌, ◌++◌, sym, ◌∙◌, ap, append-nil}
+use Rattle.std.proofs.Common.{◌≡◌, ◌++◌, ℕ, List, sym, ◌∙◌, ap, append-nil}
 use Rattle.std.specs.Prelude.{Some, None, string_bytes, map, flat_map}
 use Rattle.gu_base.specs.History.{live, numbered_as}
 use Rattle.gu_trace.specs.Totals.{made_line}
@@ -16,11 +16,11 @@ loop-number-preserved c =
       | in-Some+in_ok-append_made_by-in-Some w ↦
           let found = rw c.history.ensures.value at w.in-Some.ensures in
           let line = ap (made_line_of book.house (live book.history)) found in
-          written f c.loop-number.numbers.items c.loop-number.number-index _ t _ _ c.number-item.is
+          written f c.loop-number.number-items c.loop-number.number-index _ t _ _ c.number-item.is
           (ap string_bytes w.text-is ∙ (w.in_ok-append_made_by-in-Some.ensures ∙ ap (λ (x : List ℕ). t ++ x) line)) c.loop-number.invariant
       | in-None w ↦
           let found = rw c.history.ensures.value at w.in-None.ensures in
           let line = ap (made_line_of book.house (live book.history)) found in
-          written f c.loop-number.numbers.items c.loop-number.number-index _ t _ _ c.number-item.is
+          written f c.loop-number.number-items c.loop-number.number-index _ t _ _ c.number-item.is
           (ap string_bytes w.text-is ∙ (sym (append-nil t) ∙ ap (λ (x : List ℕ). t ++ x) line)) c.loop-number.invariant
     ]
