@@ -10,10 +10,11 @@ use Rattle.gu_base.specs.House.{House, knows_firm}
 use Rattle.gu_base.specs.History.{numbered_as, numbered_from, records}
 use Rattle.gu_base.specs.Nodes.{node_of}
 use Rattle.gu_base.specs.Refusals.{unless, first}
-use Rattle.gu_base.specs.Answers.{entry_of, on_change, initiate_rest, decline_rest, reverse_rest, command_refusal}
-use Rattle.gu_base.specs.Runs.{IsRunFrom}
+use Rattle.gu_base.specs.Answers.{entry_of, answer_to, on_change, initiate_rest, decline_rest, reverse_rest, command_refusal}
+use Rattle.gu_base.specs.Runs.{IsRunFrom, call_of}
 use Rattle.gu_base.specs.declared.command.Command.{Command}
 use Rattle.gu_base.specs.declared.command.Command.TheVariants.{Trade, Split, Claim, Refuse, Cancel, Agree, Raise, Initiate, Decline, Reverse}
+use Rattle.gu_base.specs.declared.entry.Answer.TheVariants.{Accepted}
 use Rattle.gu_base.specs.declared.entry.Entry.{Entry}
 use Rattle.gu_base.specs.declared.entry.Record.{Record}
 use Rattle.gu_base.specs.declared.refusal.Refusal.{Refusal}
@@ -92,8 +93,8 @@ first_true true c h = refl
 first_true false c h = absurd (cc)
 
 false_or : (c : Bool) → (c ≡ true → ⊥) → c ≡ false
-false_or true no = absurd (no refl)
-false_or false no = refl
+false_or true never = absurd (never refl)
+false_or false never = refl
 
 -- behind the last that a reading tells of nothing concerns the firm, where the reading isn't full
 none_behind : (house : List ℕ) (h : List Entry) (f : List ℕ) (after : ℕ) → length (entries_for house h f after) < most_reports
@@ -253,7 +254,7 @@ taken_top p k d n (x ∷ h) low =
 as_many : (t : House) (h : List Entry) (f : List ℕ) (after : ℕ) → IsRunFrom t [] h → length (reports_for t.house h f after) ≡ length (entries_for t.house h f after)
 as_many t h f after run =
     let e = ap (λ (ns : List ℕ). length ns) (each_told t h f after run) in
-    omega (arith, e, length-map (λ (p : Report). p.number) (reports_for t.house h f after), length-map (λ (q : Record). q.number) (entries_for t.house h f after))
+    omega (arith, e, length-map (reports_for t.house h f after) (λ (p : Report). p.number), length-map (entries_for t.house h f after) (λ (q : Record). q.number))
 
 looked_by : (t : House) (h : List Entry) (f : List ℕ) (after : ℕ) (b : Bool) → IsRunFrom t [] h → nat_lt (length (reports_for t.house h f after)) most_reports ≡ b
     → NoneBetween t.house h f (last_told after (reports_for t.house h f after)) (cond b (length h) (last_told after (reports_for t.house h f after)))
@@ -261,7 +262,7 @@ looked_by t h f after true run few =
     let short : length (reports_for t.house h f after) < most_reports = (Decides-ltb (length (reports_for t.house h f after)) most_reports).0 few in
     let many = as_many t h f after run in
     subst (λ (n : ℕ). NoneBetween t.house h f n (length h)) (sym (ap (last_number after) (each_told t h f after run))) (none_behind t.house h f after (omega (arith, short, many)))
-looked_by t h f after false run full before behind e cut low high = absurd (omega (arith, low, high))
+looked_by t h f after false run full = λ before behind e cut low high. absurd (omega (arith, low, high))
 
 -- what a reading has looked at, and told nothing of, doesn't concern the firm
 none_passed : (t : House) (h : List Entry) (f : List ℕ) (after : ℕ) → IsRunFrom t [] h
@@ -318,15 +319,31 @@ reads_the_same house h f sent looked was = sym (same_reading house h f sent look
 
 -- ---- all readings of a connection
 
-same_from : (t : House) (h : List Entry) (f : List ℕ) (sent looked : ℕ) (hs : List (List Entry)) → HasLooked t.house h f sent looked → Grow t h hs
+run_on_by : (t : House) (h g : List Entry) → IsRunFrom t [] h → IsRunFrom t h g → (before behind : List Entry) (e : Entry) → g ≡ before ++ e ∷ behind
+    → (b : Bool) → nat_lt (length before) (length h) ≡ b → answer_to t before (call_of e) ≡ Accepted (length before + 1) e.status
+run_on_by t h g first on before behind e cut true place =
+    let c = cut_within h on.begins.0 before behind e (sym on.begins.1 ∙ cut) ((Decides-ltb (length before) (length h)).0 place) in
+    first.accepted before c.behind e c.is (omega arith)
+run_on_by t h g first on before behind e cut false place = on.accepted before behind e cut (ltb-false (length before) (length h) place)
+
+-- what goes on from a history of a run is one
+run_on : (t : House) (h g : List Entry) → IsRunFrom t [] h → IsRunFrom t h g → IsRunFrom t [] g
+run_on t h g first on = record {
+  begins = (g, refl);
+  accepted = λ before behind e cut low. run_on_by t h g first on before behind e cut (nat_lt (length before) (length h)) refl;
+}
+
+same_from : (t : House) (h : List Entry) (f : List ℕ) (sent looked : ℕ) (hs : List (List Entry)) → IsRunFrom t [] h → HasLooked t.house h f sent looked → Grow t h hs
     → told_above_looked t.house f looked hs ≡ told_above_sent t.house f sent hs
-same_from t h f sent looked [] was grow = refl
-same_from t h f sent looked (g ∷ gs) was grow =
+same_from t h f sent looked [] run was grow = refl
+same_from t h f sent looked (g ∷ gs) run was grow =
+    let on = run_on t h g run grow.0 in
+    let k = grow.0.begins in
     let begins : HasLooked t.house g f sent looked =
-    subst (λ (l : List Entry). HasLooked t.house l f sent looked) (sym grow.1.0.1) (has_looked_later t h grow.1.0.0 f sent looked (subst (λ (l : List Entry). IsRunFrom t [] l) grow.1.0.1 grow.0) was) in
+    subst (λ (l : List Entry). HasLooked t.house l f sent looked) (sym k.1) (has_looked_later t h k.0 f sent looked (subst (λ (l : List Entry). IsRunFrom t [] l) k.1 on) was) in
     let told = reads_the_same t.house g f sent looked begins in
-    ap (λ rs. reports_for t.house g f looked ∷ rs) (same_from t g f (last_told sent (reports_for t.house g f looked)) (looked_to looked (length g) (reports_for t.house g f looked)) gs
-    (has_read t g f sent looked grow.0 begins) grow.1.1)
+    ap (λ rs. reports_for t.house g f looked ∷ rs) (same_from t g f (last_told sent (reports_for t.house g f looked)) (looked_to looked (length g) (reports_for t.house g f looked)) gs on
+    (has_read t g f sent looked on begins) grow.1)
     ∙ ap (λ (rs : List Report). rs ∷ told_above_sent t.house f (last_told sent rs) gs) told
 
 -- a connection before its first reading
@@ -334,5 +351,5 @@ none_yet : (house : List ℕ) (h : List Entry) (f : List ℕ) → HasLooked hous
 none_yet house h f = record { above = omega arith; within = omega arith; none = λ before behind e cut low high. absurd (omega (arith, high)) }
 
 -- all its readings tell the same by the one way and the other
-pub all_the_same : (t : House) (h : List Entry) (f : List ℕ) (hs : List (List Entry)) → Grow t h hs → told_above_looked t.house f 0 hs ≡ told_above_sent t.house f 0 hs
-all_the_same t h f hs grow = same_from t h f 0 0 hs (none_yet t.house h f) grow
+pub all_the_same : (t : House) (h : List Entry) (f : List ℕ) (hs : List (List Entry)) → IsRunFrom t [] h → Grow t h hs → told_above_looked t.house f 0 hs ≡ told_above_sent t.house f 0 hs
+all_the_same t h f hs run grow = same_from t h f 0 0 hs run (none_yet t.house h f) grow

@@ -30,10 +30,10 @@ pub record HasLooked (house : List ℕ) (h : List Entry) (f : List ℕ) (sent lo
   pub within : looked ≤ length h
   pub none : NoneBetween house h f sent looked
 
--- each history is one of a run, and begins with the one before
+-- each history goes on from the one before, by accepted calls
 abbrev pub Grow : House → List Entry → List (List Entry) → Type 0
 Grow t h [] = Unit {0}
-Grow t h (g ∷ gs) = IsRunFrom t [] g × ((k : List Entry) × (g ≡ h ++ k)) × Grow t g gs
+Grow t h (g ∷ gs) = IsRunFrom t h g × Grow t g gs
 
 -- what the readings of a connection tell at these histories, where each asks above the last report that was sent
 abbrev pub told_above_sent : List ℕ → List ℕ → ℕ → List (List Entry) → List (List Report)

@@ -13,5 +13,5 @@ pub fn nothing_is_passed_over()
     ensures read { (t : House) (h : List Entry) (f : List ℕ) (sent looked : ℕ) → IsRunFrom t [] h → HasLooked t.house h f sent looked → HasLooked t.house h f (last_told sent (reports_for t.house h f looked)) (looked_to looked (length h) (reports_for t.house h f looked)) }
     ensures later { (t : House) (h k : List Entry) (f : List ℕ) (sent looked : ℕ) → IsRunFrom t [] (h ++ k) → HasLooked t.house h f sent looked → HasLooked t.house (h ++ k) f sent looked }
     ensures same { (t : House) (h : List Entry) (f : List ℕ) (sent looked : ℕ) → HasLooked t.house h f sent looked → reports_for t.house h f looked ≡ reports_for t.house h f sent }
-    ensures all { (t : House) (h : List Entry) (f : List ℕ) (hs : List (List Entry)) → Grow t h hs → told_above_looked t.house f 0 hs ≡ told_above_sent t.house f 0 hs }
+    ensures all { (t : House) (h : List Entry) (f : List ℕ) (hs : List (List Entry)) → IsRunFrom t [] h → Grow t h hs → told_above_looked t.house f 0 hs ≡ told_above_sent t.house f 0 hs }
 {}
