@@ -85,18 +85,21 @@ concerning : (t : House) (h : List Entry) (f : List ℕ) (n : ℕ) (o : Option R
 concerning t h f n None there concerned = absurd (cc)
 concerning t h f n (Some r) there concerned = record { change = r; found = there; concerned = concerned }
 
+by_change : (r : Record) (kind n : ℕ) (o : Option Report) (w : Report) → o ≡ Some w
+    → IsReport r (option_map (λ c. report_with r kind 6 (targets.Entry n) c.lots [] (record { instrument = c.instrument; side = c.side })) o)
+by_change r kind n o w is = record {
+  report = report_with r kind 6 (targets.Entry n) w.lots [] (record { instrument = w.instrument; side = w.side });
+  is = ap (option_map (λ c. report_with r kind 6 (targets.Entry n) c.lots [] (record { instrument = c.instrument; side = c.side }))) is;
+  number = refl;
+}
+
 reversal_told : (t : House) (h : List Entry) (f : List ℕ) (r : Record) (kind n : ℕ) → IsRunFrom t [] h → record_concerns t.house h f (entry_of h n) ≡ true → IsReport r (reversal_report h f r kind n)
 reversal_told t h f r kind n run concerned =
     let named = concerning t h f n (entry_of h n) refl concerned in
     let c = cut_at n h named.change named.found in
     let change = change_told t h c.before c.behind c.entry f n c.entry.command run c.cut refl (ap (λ (q : Record). change_concerns t.house h f q.firm q.command) c.is ∙ named.concerned) in
-    let is : option_and_then (λ q. change_report h f q q.command) (entry_of h n) ≡ Some change.report =
-    ap (option_and_then (λ q. change_report h f q q.command)) (named.found ∙ ap Some (sym c.is)) ∙ change.is in
-    record {
-      report = report_with r kind 6 (targets.Entry n) change.report.lots [] (record { instrument = change.report.instrument; side = change.report.side });
-      is = ap (option_map (λ w. report_with r kind 6 (targets.Entry n) w.lots [] (record { instrument = w.instrument; side = w.side }))) is;
-      number = refl;
-    }
+    by_change r kind n (option_and_then (λ q. change_report h f q q.command) (entry_of h n)) change.report
+    (ap (option_and_then (λ q. change_report h f q q.command)) (named.found ∙ ap Some (sym c.is)) ∙ change.is)
 
 -- each entry of a run that concerns a firm has a report
 entry_told : (t : House) (h before behind : List Entry) (e : Entry) (f : List ℕ) (k : ℕ) (c : Command) → IsRunFrom t [] h → h ≡ before ++ e ∷ behind → e.command ≡ c
