@@ -32,7 +32,7 @@ pub enum RunError {
     /// The writer failed, or took no byte.
     #[error("write failed")]
     Write,
-    /// Memory ran out.
+    /// Memory ran out, for the opening calls of the house or later.
     #[error("out of memory")]
     Memory,
     /// The number is that of no live trade. A trace alone ends so.
@@ -116,7 +116,7 @@ fn end_of(feed: &Feed, total: usize) -> Result<(), RunError>
     }
 }
 
-/// Answers the messages of a stream as they come, over a book in which nothing stands yet. Whatever was answered before a fault was written.
+/// Answers the messages of a stream as they come, over the opening book. Whatever was answered before a fault was written.
 fn answer_reads<R: Source, W: Sink>(
     alloc: Global,
     reader: &mut R,
@@ -153,7 +153,8 @@ fn answer_reads<R: Source, W: Sink>(
     Err(RunError::Read)
 }
 
-/// Answers the messages of a stream as they come, and gives the book behind them. Whatever was answered before a fault was written.
+/// Answers the messages of a stream as they come, over the opening book of this house, and gives the book behind them. Whatever was answered
+/// before a fault was written. A book that finds no memory for its opening calls is `Memory`: nothing was read then.
 pub(crate) fn answer_stream<R: Source, W: Sink>(
     alloc: Global,
     reader: &mut R,
@@ -175,7 +176,8 @@ pub(crate) fn answer_stream<R: Source, W: Sink>(
     }
 }
 
-/// Answers the messages of a stream as they come. Whatever was answered before a fault was written.
+/// Answers the messages of a stream as they come, over the book behind the opening calls of this house. Whatever was answered before a fault
+/// was written.
 ///
 /// Where the stream ended well its book is left as it is, and not taken apart node by node: a process that ran a batch ends behind it, and
 /// the system then takes all its memory back at once. So each call keeps the memory of its book.

@@ -1,7 +1,8 @@
 //! The batch and the trace, from bytes to bytes, over any reader and writer.
 //!
 //! - `run_batch` reads a stream to its end and writes the output of that stream, byte for byte: along its messages, the
-//!   texts of their answers, numbered from 1. It ends well only where the stream ends cleanly.
+//!   texts of their answers, numbered from 1. The book begins behind the opening calls of its house. A run ends well only
+//!   where the stream ends cleanly.
 //! - A fault of the stream is named with its offset, after the answers to all messages before it. Where the reader fails,
 //!   the output of what was read was written; where the writer fails, a part of it from the front; where memory runs out,
 //!   the answers to the first messages.

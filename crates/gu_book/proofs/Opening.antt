@@ -1,17 +1,19 @@
 -- The calls of an opening, made one after the other.
-use Rattle.std.proofs.Common.{◌≡◌, ℕ, suc, ◌+◌, List, [], ◌∷◌, length, drop, refl, ◌∙◌, ap, arith}
-use Rattle.std.specs.Prelude.{Some, slice_get}
+use Rattle.std.proofs.Common.{◌≡◌, ℕ, suc, ◌+◌, ◌≤◌, List, [], ◌∷◌, length, drop, refl, sym, ◌∙◌, ap, subst, arith, Option}
+use Rattle.std.specs.Prelude.{Some, None, slice_get, IsSomeAnd}
 use Rattle.std.proofs.Math.Seq.{drop-cons}
+use Rattle.std.proofs.lemmas.List.{drop_all}
 use Rattle.std.proofs.lemmas.Option.{slice_get_within, get_or_from_slice_get}
 use Rattle.gu_base.specs.House.{House}
 use Rattle.gu_base.specs.Answers.{Call, after}
-use Rattle.gu_base.specs.Runs.{after_all, opening_from}
+use Rattle.gu_base.specs.Runs.{after_all, opening_from, opening_calls, opening_history}
 use Rattle.gu_base.specs.declared.entry.Entry.{Entry}
 use Rattle.gu_base.specs.declared.house.Agreement.{Agreement}
 use Rattle.gu_base.specs.declared.house.Pair.{Pair}
+use Rattle.gu_book.specs.Seen.{HouseAndHistory}
 
 -- with one of the calls made, those behind it are left
-pub call_made : (t : House) (h : List Entry) (cs : List Call) (i : ℕ) (c : Call) → slice_get cs i ≡ Some c → after_all t h (drop i cs) ≡ after_all t (after t h c) (drop (i + 1) cs)
+call_made : (t : House) (h : List Entry) (cs : List Call) (i : ℕ) (c : Call) → slice_get cs i ≡ Some c → after_all t h (drop i cs) ≡ after_all t (after t h c) (drop (i + 1) cs)
 call_made t h cs i c e =
     let one : suc i ≡ i + 1 = omega arith in
     ap (after_all t h)
@@ -22,3 +24,31 @@ call_made t h cs i c e =
 pub call_count : (t : House) (i : ℕ) (es : List (Pair × Agreement)) → length (opening_from t i es) ≡ length es
 call_count t i [] = refl
 call_count t i (e ∷ es) = let rest = call_count t (i + 1) es in omega (arith, rest)
+
+-- the calls from this place on make the opening history of the entries that there are
+abbrev pub IsOpenedTo : HouseAndHistory → ℕ → Type 0
+IsOpenedTo b i = after_all b.house b.history (drop i (opening_calls b.house)) ≡ opening_history b.house
+
+pub opened_none : (t : House) → IsOpenedTo (record { house = t; history = [] }) 0
+opened_none t = refl
+
+next_of : (b d : HouseAndHistory) (i : ℕ) (o : Option Call) → slice_get (opening_calls b.house) i ≡ o
+    → IsSomeAnd o (λ c. d ≡ record { house = b.house; history = after b.house b.history c }) → IsOpenedTo b i → (d.house ≡ b.house) × IsOpenedTo d (i + 1)
+next_of b d i None e made so_far = absurd made
+next_of b d i (Some c) e made so_far =
+    (ap (λ (x : HouseAndHistory). x.house) made,
+    subst (λ (x : HouseAndHistory). IsOpenedTo x (i + 1)) (sym made) (sym (call_made b.house b.history (opening_calls b.house) i c e) ∙ so_far))
+
+-- with the call at this place made
+pub opened_next : (b d : HouseAndHistory) (i : ℕ) → IsSomeAnd (slice_get (opening_calls b.house) i) (λ c. d ≡ record { house = b.house; history = after b.house b.history c })
+    → IsOpenedTo b i → (d.house ≡ b.house) × IsOpenedTo d (i + 1)
+opened_next b d i = next_of b d i (slice_get (opening_calls b.house) i) refl
+
+-- with the last call made
+pub opened_all : (t : House) (b : HouseAndHistory) (i : ℕ) → b.house ≡ t → IsOpenedTo b i → length t.opening ≤ i → b ≡ record { house = t; history = opening_history t }
+opened_all t b i same so_far past =
+    let count = call_count b.house 1 b.house.opening in
+    let last : length b.house.opening ≤ i = subst (λ (x : House). length x.opening ≤ i) (sym same) past in
+    let none : drop i (opening_calls b.house) ≡ [] = drop_all i (opening_calls b.house) (omega (arith, count, last)) in
+    let done : b.history ≡ opening_history b.house = sym (ap (after_all b.house b.history) none) ∙ so_far in
+    ap (λ h. record { house = b.house; history = h }) done ∙ ap (λ x. record { house = x; history = opening_history x }) same

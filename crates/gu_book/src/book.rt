@@ -100,8 +100,9 @@ impl Book {
         ensures opened { IfOk result (λ b. stored b ≡ record { house = house; history = opening_history house }) }
         ensures given_back { IfErr result (λ e. e.0 ≡ house) }
     {
+        let count = house.opening_count();
         let mut book = Book::new(alloc, house);
-        for place in 0..book.house.opening_count() {
+        for place in 0..count {
             if let Err(e) = book.make_opening_call(alloc, place) {
                 return Err((book.into_house(), e));
             }
@@ -118,7 +119,7 @@ impl Book {
 
     /// Makes the opening call at this place.
     fn make_opening_call(&mut self, alloc: Global, place: usize) -> Result<(), Memory>
-        requires { place < length (opening_calls self.old.house) }
+        requires { place < length self.old.house.opening }
         ensures made { OnOk result (IsSomeAnd (slice_get (opening_calls self.old.house) place) (λ c. stored self.new ≡ record { house = self.old.house; history = after self.old.house self.old.history c })) }
         ensures unchanged { OnErr result (stored self.new ≡ stored self.old) }
     {
@@ -199,8 +200,9 @@ impl Book {
         }
     }
 
-    /// How many nodes of the trees the last `apply` visited, each counted once: those on the ways to the nodes that it looked at, the parts
-    /// that it made, took away or asked after, and the entries of a giver and a taker that it looked at. A call that is refused, repeated or finds no memory changes this number too.
+    /// How many nodes of the trees the last `apply` visited, each counted once: those on the ways to the nodes that it looked at, and the parts
+    /// that it made, took away or asked after. Of a Reverse of an Agree or a Raise it is how many entries their giver and taker have: their Agree,
+    /// Raises and Claims. A call that is refused, repeated or finds no memory changes this number too.
     pub fn visits(&self) -> u64
         ensures { result ≡ self.now.visits }
     {
@@ -389,8 +391,8 @@ impl Book {
         Ok(())
     }
 
-    /// Puts an accepted Claim at the end of the history, charges it, puts it to the terms, and moves its node with its lots. What it puts is taken out again where a
-    /// later growth is refused; all else changes behind the last growth.
+    /// Puts an accepted Claim at the end of the history, charges it, puts it to the terms, and moves its node with its lots. What it puts is
+    /// taken out again where a later growth is refused; all else changes behind the last growth.
     #[inline(never)]
     fn keep_claim(&mut self, made: &Change<'_>, hash: IdHash, sought: &Sought) -> Result<(), Memory>
         requires claim { is_claim made.now.command.now ≡ true }

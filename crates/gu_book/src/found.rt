@@ -11,7 +11,7 @@ ghost use Rattle.gu_base.specs.declared.entry.Record.{Record as RecordData};
 ghost use Rattle.gu_base.specs.declared.node.Node.{Node as NodeData};
 ghost use Rattle.gu_book.specs.Found.{AreTreesOf, IsFoundAs, IsFoundIn, IsNamedBy, IsNamedIn, IsNothing, IsStandingIn, IsUndoneBy, IsUndoneIn, LiesThere};
 ghost use Rattle.gu_book.specs.Visits.{AreSeen, depth_meant, parts_named};
-ghost use Rattle.gu_depend.specs.Terms.{AreTermsOf};
+ghost use Rattle.gu_depend.specs.Terms.{AreTermsOf, entries_dealt};
 ghost use Rattle.gu_tree.specs.Grove.{Grove, HasTree, IsPlace};
 ghost use Rattle.gu_tree.specs.Paths.{node_at};
 ghost use Rattle.gu_tree.specs.Shown.{named_node};
@@ -22,7 +22,7 @@ use crate::plain::holdings::traded_under;
 use crate::plain::nodes::node_of;
 use crate::visits;
 use gu_base::{Command, Deal, FirmId, Node, NodeName, Number, State};
-use gu_depend::{first_standing, first_standing_at};
+use gu_depend::{entries_beside, first_standing, first_standing_at};
 use gu_fees::Terms;
 use gu_tree::{Head, Path, Spot, Trees};
 use std::alloc::Global;
@@ -121,7 +121,8 @@ pub(crate) struct Sought {
     pub(crate) standing: Option<Number>,
     /// From the root of the trade in whose tree the node lies; of no use where there is no node.
     pub(crate) path: Path,
-    /// How many nodes were looked at: those on the way, and the parts of the Split that a Reverse names.
+    /// How many nodes were looked at: those on the way, and the parts of the Split that a Reverse names. Where it names an Agree or a Raise, how
+    /// many entries its giver and taker have.
     pub(crate) nodes: u64,
 }
 
@@ -177,13 +178,14 @@ fn seek_change(
     ensures named { sought.new.named ≡ None }
     ensures standing { (t : House) → IsLegal t changes.now → AreTermsOf t changes.now terms.now → sought.new.standing ≡ standing_on t changes.now number }
     ensures few { sought.new.nodes < 2 ^ 64 }
-    ensures most { sought.new.nodes ≤ depth_meant changes.now (Reverse number) + parts_named changes.now (Reverse number) + 1 }
+    ensures most { (t : House) → AreTermsOf t changes.now terms.now → sought.new.nodes ≤ depth_meant changes.now (Reverse number) + parts_named changes.now (Reverse number) + entries_dealt changes.now number + 1 }
     ensures least { IsSome (place_in changes.now number) → depth_meant changes.now (Reverse number) + parts_named changes.now (Reverse number) + 1 ≤ sought.new.nodes }
 {
     let Some(made) = changes.change(number) else {
         return;
     };
     let Some(spot) = trees.named(number, &mut sought.path) else {
+        sought.nodes = entries_beside(terms, number) as u64;
         sought.standing = first_standing(trees, terms, number);
         return;
     };
@@ -210,7 +212,7 @@ pub(crate) fn seek(
     ensures undone { IsUndoneIn changes.now command.now sought.new.undone sought.new.path.items }
     ensures there { LiesThere changes.now sought.new.named sought.new.path.items }
     ensures standing { (t : House) → IsLegal t changes.now → AreTermsOf t changes.now terms.now → IsStandingIn t changes.now command.now sought.new.standing }
-    ensures seen { (by : List ℕ) → AreSeen changes.now by command.now sought.new.nodes }
+    ensures seen { (t : House) (by : List ℕ) → AreTermsOf t changes.now terms.now → AreSeen changes.now by command.now sought.new.nodes }
 {
     match command {
         Command::Split { node, .. } => seek_node(changes, trees, *node, sought),

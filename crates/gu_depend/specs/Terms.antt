@@ -1,5 +1,5 @@
 -- Terms that are those of a list of changes.
-use Rattle.std.specs.Prelude.{◌≡◌, ℕ, List, Contains, Option, Some, None, option_and_then}
+use Rattle.std.specs.Prelude.{◌≡◌, ℕ, List, Contains, length, Option, Some, None, option_map, option_and_then, unwrap_or}
 use Rattle.std.specs.Map.{lookup}
 use Rattle.gu_base.specs.House.{House, agreement}
 use Rattle.gu_base.specs.Nodes.{node_of}
@@ -29,6 +29,10 @@ pair_of l by _ = None
 -- where a pair stands
 abbrev pub place_of_pair : TermsView → Pair → Option ℕ
 place_of_pair v p = lookup (is_pair p.giver p.taker) v.places
+
+-- how many entries the giver and the taker of a change have, their Agree, Raises and Claims; 0 where it deals for nobody
+abbrev pub entries_dealt : List Record → ℕ → ℕ
+entries_dealt l k = unwrap_or (option_map (λ p. length (dealings l p.giver p.taker)) (option_and_then (λ r. pair_of l r.firm r.command) (change_of l k))) 0
 
 -- each row has the terms of the house table and what is dealt; each change that deals is placed at its pair, which has a row, and nothing else
 -- is placed

@@ -1,5 +1,5 @@
 //! What a change touches, and what stands on it there.
-ghost use Rattle.std.specs.Prelude.{◌≡◌, ◌↔◌, ℕ, List, None, Some, IsSomeAnd, option_map};
+ghost use Rattle.std.specs.Prelude.{◌≡◌, ◌<◌, ◌^◌, ◌↔◌, ℕ, List, None, Some, IsSomeAnd, option_map};
 ghost use Rattle.gu_base.specs.History.{RisesFrom};
 ghost use Rattle.gu_base.specs.House.{House};
 ghost use Rattle.gu_base.specs.Standing.{IsLegal, standing_on, without};
@@ -9,7 +9,7 @@ ghost use Rattle.gu_tree.specs.Grove.{Grove, HasTree, IsPlace, place_of};
 ghost use Rattle.gu_tree.specs.Paths.{node_at};
 ghost use Rattle.gu_tree.specs.Rose.{split_of_node};
 ghost use Rattle.gu_depend.specs.Touch.{Touches, is_trade_or_decision};
-ghost use Rattle.gu_depend.specs.Terms.{AreTermsOf};
+ghost use Rattle.gu_depend.specs.Terms.{AreTermsOf, entries_dealt};
 
 use crate::touch::Touched;
 use gu_base::{Command, Number};
@@ -62,6 +62,15 @@ pub fn first_standing_at<A: Allocator>(spot: &Spot<'_, A>, k: Number) -> Option<
     } else {
         spot.node.first_on_parts()
     }
+}
+
+/// How many entries the giver and the taker of the change of this number have, their Agree, Raises and Claims; 0 where it deals for nobody.
+/// So many at most does `first_standing` look at. It walks over none.
+pub fn entries_beside(terms: &Terms, k: Number) -> usize
+    ensures value { (t : House) (l : List Record) → AreTermsOf t l terms.now → result ≡ entries_dealt l k }
+    ensures fits { result < 2 ^ 63 }
+{
+    terms.entries_beside(k)
 }
 
 /// Whether the change of this number is the trade itself, or the node's decision.

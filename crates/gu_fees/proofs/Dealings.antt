@@ -1,9 +1,10 @@
 -- What is dealt by what is filed for a pair.
-use Rattle.std.proofs.Common.{◌≡◌, ℕ, ◌+◌, ◌<◌, ◌≤◌, ◌^◌, Bool, true, false, not, cond, List, [], ◌∷◌, ◌++◌, Option, refl, sym, ◌∙◌, ap, subst, arith}
+use Rattle.std.proofs.Common.{◌≡◌, ℕ, ◌+◌, ◌<◌, ◌≤◌, ◌^◌, Bool, true, false, not, cond, suc, List, [], ◌∷◌, ◌++◌, length, Option, refl, sym, ◌∙◌, ap, subst, arith}
 use Rattle.std.specs.Prelude.{Some, None, IfSome, filter, find, sum_by, is_some, option_map, option_and_then, IsTrue, ◌↔◌, ◌==◌, if◌then◌else◌}
 use Rattle.std.specs.List.{All, cons_option}
 use Rattle.std.specs.Option.{option_or}
 use Rattle.std.proofs.lemmas.List.Elements.{All-head, All-tail, All-filter, All-push, filter_map-append}
+use Rattle.std.proofs.lemmas.List.{length-append}
 use Rattle.std.proofs.lemmas.List.Sums.{sum_by-cons, sum_by_push}
 use Rattle.std.proofs.lemmas.Option.{same_Some}
 use Rattle.gu_base.specs.Limits.{highest_limit}
@@ -173,6 +174,37 @@ small_with file ds e (Uses lots) small room =
       used = omega (arith, used, more);
     }
 
+-- ---- how many were taken out
+
+ones : (ds : List Dealing) → counted_by (λ (x : Deed). 1) ds ≡ length ds
+ones [] = refl
+ones (d ∷ ds) = let more = more_counted (λ (x : Deed). 1) d.number d.deed ds in let later = ones ds in omega (arith, more, later)
+
+length_by : (f : Filed Deed) (fs : List (Filed Deed)) (e : ℕ) → length (cleared fs e) ≡ length fs → (b : Bool) → length (if b then record { entry = f.entry; kept = None } ∷ fs else f ∷ cleared fs e) ≡ length (f ∷ fs)
+length_by f fs e later true = refl
+length_by f fs e later false = ap suc later
+
+length_cleared : (fs : List (Filed Deed)) (e : ℕ) → length (cleared fs e) ≡ length fs
+length_cleared [] e = refl
+length_cleared (f ∷ fs) e = length_by f fs e (length_cleared fs e) (f.entry == e)
+
+-- one less is kept
+fewer_kept : (fs : List (Filed Deed)) (e : ℕ) (d : Deed) → kept_at fs e ≡ Some d → length (dealings_kept (cleared fs e)) + 1 ≡ length (dealings_kept fs)
+fewer_kept fs e d is =
+    let counted = counted_cleared (λ (x : Deed). 1) fs e d is in
+    let less = ones (dealings_kept (cleared fs e)) in
+    let before = ones (dealings_kept fs) in
+    omega (arith, counted, less, before)
+
+swept_all_by : (n : ℕ) (o : Option Deed) (fs : List (Filed Deed)) → length (filter (λ f. is_some f.kept) fs) ≡ length (dealings_kept fs)
+    → length (cond (is_some o) (record { entry = n; kept = o } ∷ filter (λ f. is_some f.kept) fs) (filter (λ f. is_some f.kept) fs)) ≡ length (cons_option (numbered n o) (dealings_kept fs))
+swept_all_by n None fs later = later
+swept_all_by n (Some d) fs later = ap suc later
+
+swept_all : (fs : List (Filed Deed)) → length (filter (λ f. is_some f.kept) fs) ≡ length (dealings_kept fs)
+swept_all [] = refl
+swept_all (f ∷ fs) = swept_all_by f.entry f.kept fs (swept_all fs)
+
 -- ---- what is filed for a pair, with its sums
 
 pub room_raised : (raised used : ℕ) (d : Deed) → highest_limit + raised < 2 ^ 64 → HasRoomOn raised used d → raised + raised_by_deed d < 2 ^ 64
@@ -185,33 +217,41 @@ room_used raised used (Makes a) small room = omega (arith, small)
 room_used raised used (Raises lots) small room = omega (arith, small)
 room_used raised used (Uses lots) small room = omega (arith, room)
 
-module _ (file : Option Agreement) (fs : List (Filed Deed)) (raised used : ℕ) (kept : IsKept file fs raised used) (e : ℕ) (d : Deed) where
+module _ (file : Option Agreement) (fs : List (Filed Deed)) (raised used gone : ℕ) (kept : IsKept file fs raised used gone) (e : ℕ) (d : Deed) where
   -- with one more
-  pub kept_more : last_of fs < e → HasRoomFor (dealings_kept fs) d → IsKept file (fs ++ record { entry = e; kept = Some d } ∷ []) (raised + raised_by_deed d) (used + used_by_deed d)
+  pub kept_more : last_of fs < e → HasRoomFor (dealings_kept fs) d → IsKept file (fs ++ record { entry = e; kept = Some d } ∷ []) (raised + raised_by_deed d) (used + used_by_deed d) gone
   kept_more above room =
       let more_raised = sum_by_push (λ (x : Dealing). raised_by_deed x.deed) (dealings_kept fs) (record { number = e; deed = d }) in
       let more_used = sum_by_push (λ (x : Dealing). used_by_deed x.deed) (dealings_kept fs) (record { number = e; deed = d }) in
       let with = dealings_with fs e d in
       let old_raised = kept.raised_is in
       let old_used = kept.used_is in
+      let old_gone = kept.gone_is in
+      let longer = length-append fs (record { entry = e; kept = Some d } ∷ []) in
+      let more_dealings = ap length with ∙ length-append (dealings_kept fs) (record { number = e; deed = d } ∷ []) in
       record {
         rising = rises_with 0 fs e (Some d) kept.rising above;
         raised_is = ap (λ n. n + raised_by_deed d) old_raised ∙ (sym more_raised ∙ sym (ap raised_under with));
         used_is = ap (λ n. n + used_by_deed d) old_used ∙ (sym more_used ∙ sym (ap used_under with));
+        gone_is = omega (arith, old_gone, longer, more_dealings);
         small = subst (IsSmall file) (sym with) (small_with file (dealings_kept fs) e d kept.small room);
       }
 
   -- without one
-  pub kept_less : kept_at fs e ≡ Some d → (less_raised less_used : ℕ) → less_raised + raised_by_deed d ≡ raised → less_used + used_by_deed d ≡ used → IsKept file (cleared fs e) less_raised less_used
+  pub kept_less : kept_at fs e ≡ Some d → (less_raised less_used : ℕ) → less_raised + raised_by_deed d ≡ raised → less_used + used_by_deed d ≡ used → IsKept file (cleared fs e) less_raised less_used (gone + 1)
   kept_less is less_raised less_used r u =
       let sum_raised = counted_cleared raised_by_deed fs e d is in
       let sum_used = counted_cleared used_by_deed fs e d is in
       let old_raised = kept.raised_is in
       let old_used = kept.used_is in
+      let old_gone = kept.gone_is in
+      let fewer = fewer_kept fs e d is in
+      let as_long = length_cleared fs e in
       record {
         rising = rises_cleared 0 fs e kept.rising;
         raised_is = omega (arith, sum_raised, old_raised, r);
         used_is = omega (arith, sum_used, old_used, u);
+        gone_is = omega (arith, fewer, as_long, old_gone);
         small = small_cleared file fs e d kept.rising is kept.small;
       }
 
@@ -224,14 +264,25 @@ module _ (file : Option Agreement) (fs : List (Filed Deed)) (raised used : ℕ) 
       let old_used = kept.used_is in
       (omega (arith, sum_raised, old_raised), omega (arith, sum_used, old_used))
 
+  -- and so many more can have been taken out
+  pub gone_fits : kept_at fs e ≡ Some d → gone < length fs
+  gone_fits is =
+      let fewer = fewer_kept fs e d is in
+      let old_gone = kept.gone_is in
+      omega (arith, fewer, old_gone)
+
 -- without the numbers of what was taken out
-pub kept_swept : (file : Option Agreement) (fs : List (Filed Deed)) (raised used : ℕ) → IsKept file fs raised used → IsKept file (filter (λ f. is_some f.kept) fs) raised used
-kept_swept file fs raised used kept = record {
-  rising = rises_filtered (λ (f : Filed Deed). is_some f.kept) 0 fs kept.rising;
-  raised_is = kept.raised_is ∙ sym (ap raised_under (dealings_swept fs));
-  used_is = kept.used_is ∙ sym (ap used_under (dealings_swept fs));
-  small = subst (IsSmall file) (sym (dealings_swept fs)) kept.small;
-}
+pub kept_swept : (file : Option Agreement) (fs : List (Filed Deed)) (raised used gone : ℕ) → IsKept file fs raised used gone → IsKept file (filter (λ f. is_some f.kept) fs) raised used 0
+kept_swept file fs raised used gone kept =
+    let same = ap length (dealings_swept fs) in
+    let as_long = swept_all fs in
+    record {
+      rising = rises_filtered (λ (f : Filed Deed). is_some f.kept) 0 fs kept.rising;
+      raised_is = kept.raised_is ∙ sym (ap raised_under (dealings_swept fs));
+      used_is = kept.used_is ∙ sym (ap used_under (dealings_swept fs));
+      gone_is = omega (arith, same, as_long);
+      small = subst (IsSmall file) (sym (dealings_swept fs)) kept.small;
+    }
 
 none_by : (f : Filed Deed) (fs : List (Filed Deed)) (e : ℕ) → RisesAbove f.entry fs → (kept_at fs e ≡ None → leave_out e (dealings_kept fs) ≡ dealings_kept fs) → (b : Bool) → (f.entry == e) ≡ b
     → (if b then f.kept else kept_at fs e) ≡ None → leave_out e (cons_option (numbered f.entry f.kept) (dealings_kept fs)) ≡ cons_option (numbered f.entry f.kept) (dealings_kept fs)
@@ -246,13 +297,14 @@ none_left_out n [] e rises none = refl
 none_left_out n (f ∷ fs) e rises none = none_by f fs e rises.1 (none_left_out f.entry fs e rises.1) (f.entry == e) refl none
 
 -- and the sums stay where nothing is taken out
-pub kept_none : (file : Option Agreement) (fs : List (Filed Deed)) (raised used e : ℕ) → IsKept file fs raised used → kept_at fs e ≡ None → IsKept file (cleared fs e) raised used
-kept_none file fs raised used e kept none =
+pub kept_none : (file : Option Agreement) (fs : List (Filed Deed)) (raised used gone e : ℕ) → IsKept file fs raised used gone → kept_at fs e ≡ None → IsKept file (cleared fs e) raised used gone
+kept_none file fs raised used gone e kept none =
     let same = dealings_cleared 0 fs e kept.rising ∙ none_left_out 0 fs e kept.rising none in
     record {
       rising = rises_cleared 0 fs e kept.rising;
       raised_is = kept.raised_is ∙ sym (ap raised_under same);
       used_is = kept.used_is ∙ sym (ap used_under same);
+      gone_is = ap (λ n. gone + n) (ap length same) ∙ (kept.gone_is ∙ sym (length_cleared fs e));
       small = subst (IsSmall file) (sym same) kept.small;
     }
 

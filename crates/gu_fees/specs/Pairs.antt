@@ -1,5 +1,5 @@
 -- The terms of a giver and a taker, as they are kept.
-use Rattle.std.specs.Prelude.{◌≡◌, ℕ, ◌+◌, ◌<◌, ◌≤◌, ◌^◌, List, find, filter_map, Option, IfSome, option_map, option_and_then, ◌==◌}
+use Rattle.std.specs.Prelude.{◌≡◌, ℕ, ◌+◌, ◌<◌, ◌≤◌, ◌^◌, List, length, find, filter_map, Option, IfSome, option_map, option_and_then, ◌==◌}
 use Rattle.std.specs.List.{All}
 use Rattle.gu_base.specs.Limits.{highest_limit}
 use Rattle.gu_base.specs.Terms.{raised_under, used_under}
@@ -47,11 +47,12 @@ HasRoomOn raised used (Uses lots) = used + lots < 2 ^ 64
 abbrev pub HasRoomFor : List Dealing → Deed → Type 0
 HasRoomFor ds d = HasRoomOn (raised_under ds) (used_under ds) d
 
--- what is filed for a pair, with its sums
-pub record IsKept (file : Option Agreement) (fs : List (Filed Deed)) (raised used : ℕ) : Type 0 where
+-- what is filed for a pair, with its sums and how many were taken out
+pub record IsKept (file : Option Agreement) (fs : List (Filed Deed)) (raised used gone : ℕ) : Type 0 where
   pub rising : IsRising fs
   pub raised_is : raised ≡ raised_under (dealings_kept fs)
   pub used_is : used ≡ used_under (dealings_kept fs)
+  pub gone_is : gone + length (dealings_kept fs) ≡ length fs
   pub small : IsSmall file (dealings_kept fs)
 
 -- the deed of this number

@@ -1,5 +1,5 @@
 -- The terms of all givers and takers, as they are kept.
-use Rattle.std.specs.Prelude.{◌≡◌, ℕ, ◌≤◌, ◌<◌, ◌&&◌, true, false, if◌then◌else◌, List, [], ◌∷◌, ◌++◌, length, Option, Some, None, IfSome, IsSomeAnd, option_and_then, slice_get, ◌==◌, bytes_eq}
+use Rattle.std.specs.Prelude.{◌≡◌, ℕ, ◌≤◌, ◌<◌, ◌&&◌, true, false, if◌then◌else◌, List, [], ◌∷◌, ◌++◌, length, Option, Some, None, IfSome, IsSomeAnd, option_map, option_and_then, unwrap_or, slice_get, ◌==◌, bytes_eq}
 use Rattle.std.specs.Map.{lookup}
 use Rattle.gu_base.specs.Dealt.{leave_out}
 use Rattle.gu_base.specs.declared.house.Agreement.{Agreement}
@@ -29,6 +29,10 @@ pair_at v entry = kept_at v.entries entry
 -- the last number of an entry that was put in, 0 where there is none
 abbrev pub last_entry : TermsView → ℕ
 last_entry v = last_of v.entries
+
+-- how many entries the pair at this place has
+abbrev pub entries_in : List PairView → ℕ → ℕ
+entries_in pairs i = unwrap_or (option_map (λ r. length r.dealings) (slice_get pairs i)) 0
 
 -- what stands on an entry of the pair at this place
 abbrev pub standing_in : List PairView → ℕ → ℕ → Option ℕ

@@ -11,6 +11,7 @@
 //! - `agree`, `raise` and `claim` put an entry behind those of its pair, and `take_out` takes one out. They take no memory and can't fail.
 //! - `terms`, `rate`, `limit` and `used` are what the pair's entries come to, over the terms of the house table that its first `ready` was given
 //!   (`terms_under`, `limit_under`, `used_under`). They walk over no Raise and no Claim.
+//! - `entries_beside` is how many entries the pair of an entry has. It walks over none.
 //! - `first_standing` is the first entry of the pair that stands on another. It walks over the pair's entries once.
 //! - `ready` makes room for one more entry of a pair, and alone takes memory.
 //! - An entry is found by halves. What is taken out leaves a mark, so nothing behind it moves; a pair's marks go where they outnumber its entries.

@@ -1,5 +1,5 @@
 //! The terms of one giver and one taker, and what they deal under them.
-ghost use Rattle.std.specs.Prelude.{◌≡◌, ◌+◌, ◌≤◌, ◌<◌, ◌^◌, ◌++◌, ◌∷◌, [], OnOk, IfSome, IsTrue, ◌↔◌};
+ghost use Rattle.std.specs.Prelude.{◌≡◌, ◌+◌, ◌≤◌, ◌<◌, ◌^◌, ◌++◌, ◌∷◌, [], length, OnOk, IfSome, IsTrue, ◌↔◌};
 ghost use Rattle.gu_base.specs.Limits.{highest_limit};
 ghost use Rattle.gu_base.specs.Terms.{made_in, terms_under, raised_by_deed, raised_under, limit_under, used_by_deed, used_under};
 ghost use Rattle.gu_base.specs.Dealt.{leave_out, first_over, first_under_terms};
@@ -32,7 +32,7 @@ impl Model for PairTerms {
 
     ghost view = { λ p. record { file = p.file; dealings = dealings_kept p.deeds.items; room = vec_capacity p.deeds - vec_len p.deeds; last = last_of p.deeds.items } };
 
-    ghost invariant = { λ p. IsKept p.file p.deeds.items p.raised p.used };
+    ghost invariant = { λ p. IsKept p.file p.deeds.items p.raised p.used p.gone };
 }
 
 impl PairTerms {
@@ -103,7 +103,7 @@ impl PairTerms {
         };
         self.raised -= raised_by(deed);
         self.used -= used_by(deed);
-        self.gone = self.gone.saturating_add(1);
+        self.gone += 1;
         if self.gone > self.deeds.len() / 2 {
             sweep(&mut self.deeds);
             self.gone = 0;
@@ -135,6 +135,14 @@ impl PairTerms {
         ensures { result ≡ used_under self.now.dealings }
     {
         self.used
+    }
+
+    /// How many entries there are. It walks over none.
+    pub fn entry_count(&self) -> usize
+        ensures value { result ≡ length self.now.dealings }
+        ensures fits { result < 2 ^ 63 }
+    {
+        self.deeds.len() - self.gone
     }
 
     /// The first entry that stands on the one of this number: an Agree stands under the first Raise or Claim, a Raise under the first Claim that

@@ -1,12 +1,12 @@
 //! The terms of all givers and takers.
-ghost use Rattle.std.specs.Prelude.{◌≡◌, ◌≤◌, ◌<◌, ◌&&◌, ◌++◌, ◌∷◌, ℕ, List, Some, None, false, [], option_map, option_and_then, bytes_eq, OnOk, OnErr, IfSome, IsSomeAnd, IsTrue, ◌↔◌, unwrap_or, option_copied, slice_get, length, ◌==◌};
+ghost use Rattle.std.specs.Prelude.{◌≡◌, ◌≤◌, ◌<◌, ◌^◌, ◌&&◌, ◌++◌, ◌∷◌, ℕ, List, Some, None, false, [], option_map, option_and_then, bytes_eq, OnOk, OnErr, IfSome, IsSomeAnd, IsTrue, ◌↔◌, unwrap_or, option_copied, slice_get, length, ◌==◌};
 ghost use Rattle.std.specs.Map.{lookup};
 ghost use Rattle.gu_base.specs.Limits.{highest_limit};
 ghost use Rattle.gu_base.specs.Terms.{terms_under, limit_under, used_under};
 ghost use Rattle.gu_base.specs.Dealt.{leave_out};
 ghost use Rattle.gu_fees.specs.Rows.{is_pair};
 ghost use Rattle.gu_fees.specs.Pairs.{HasRoomFor};
-ghost use Rattle.gu_fees.specs.Terms.{row_of, pair_at, last_entry, standing_in, CanPut, IsPut, IsTakenOut, IsReadied, IsReady, IsSameRow};
+ghost use Rattle.gu_fees.specs.Terms.{row_of, pair_at, last_entry, entries_in, standing_in, CanPut, IsPut, IsTakenOut, IsReadied, IsReady, IsSameRow};
 
 use crate::filing::{Filed, append, clear, kept_at, last_of};
 use crate::pair::PairTerms;
@@ -222,6 +222,17 @@ impl Terms {
         }
     }
 
+    /// How many entries the giver and the taker of this one have, itself with them; 0 where no entry of this number was put in. It walks over none.
+    pub fn entries_beside(&self, entry: Number) -> usize
+        ensures value { result ≡ unwrap_or (option_map (λ i. entries_in self.now.pairs i) (pair_at self.now entry)) 0 }
+        ensures fits { result < 2 ^ 63 }
+    {
+        match kept_at(self.entries.as_slice(), entry) {
+            Some(i) => entries_in(self.pairs.as_slice(), i),
+            None => 0,
+        }
+    }
+
     /// The first entry that stands on the one of this number, of those of its giver and taker; `None` where no entry of this number was put in.
     pub fn first_standing(&self, entry: Number) -> Option<Number>
         ensures { result ≡ option_and_then (λ i. standing_in self.now.pairs i entry) (pair_at self.now entry) }
@@ -240,6 +251,17 @@ fn standing_in(pairs: &[PairTerms], i: usize, entry: Number) -> Option<Number>
     match pairs.get(i) {
         Some(row) => row.first_standing(entry),
         None => None,
+    }
+}
+
+/// How many entries the pair at this place has.
+fn entries_in(pairs: &[PairTerms], i: usize) -> usize
+    ensures value { result ≡ entries_in pairs.now i }
+    ensures fits { result < 2 ^ 63 }
+{
+    match pairs.get(i) {
+        Some(row) => row.entry_count(),
+        None => 0,
     }
 }
 

@@ -54,6 +54,10 @@ fn listen<R: Net<Stream = TcpStream, Listener = TcpListener>>(
 
 /// Serves so many connections (0: without end) on a port of 127.0.0.1, by 1 to 16 workers that share the opening book of this house, and
 /// gives the book when all have ended.
+///
+/// # Errors
+///
+/// `Listen`, and those of `serve`. A book that finds no memory for its opening calls is `Memory`: the port is let go, and nobody was served.
 pub(crate) fn serve_port<
     R: Threads + Wait + Clock + Net<Stream = TcpStream, Listener = TcpListener> + Sync,
 >(

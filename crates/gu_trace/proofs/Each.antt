@@ -2,30 +2,26 @@
 use Rattle.std.proofs.Common.{◌≡◌, ℕ, zero, suc, ◌+◌, Bool, true, false, ◌&&◌, List, [], ◌∷◌, ◌++◌, refl, sym, ◌∙◌, ap, subst, arith, Option, cond, length, take, append_assoc}
 use Rattle.std.specs.Prelude.{Some, None, map, filter, nat_lt, sum_by, option_map, option_and_then}
 use Rattle.std.specs.List.{All, filter_map, cons_option}
-use Rattle.std.proofs.lemmas.List.Elements.{All-nil, All-cons, All-head, All-tail, All-filter}
+use Rattle.std.proofs.lemmas.List.Elements.{All-nil, All-cons, All-head, All-tail}
 use Rattle.gu_base.specs.Numbers.{EntryPart}
-use Rattle.gu_base.specs.House.{House, knows_firm}
-use Rattle.gu_base.specs.History.{numbered_as, numbered_from, records, is_change}
+use Rattle.gu_base.specs.House.{House}
+use Rattle.gu_base.specs.History.{numbered_as, numbered_from, records}
 use Rattle.gu_base.specs.Nodes.{node_of}
-use Rattle.gu_base.specs.Refusals.{unless, first}
-use Rattle.gu_base.specs.Answers.{entry_of, gives_up, on_change, initiate_rest, decline_rest, reverse_rest, command_refusal}
+use Rattle.gu_base.specs.Answers.{entry_of, gives_up}
 use Rattle.gu_base.specs.Runs.{IsRunFrom}
 use Rattle.gu_base.specs.declared.command.Command.{Command}
-use Rattle.gu_base.specs.declared.command.Command.TheVariants.{Trade, Split, Claim, Refuse, Cancel, Initiate, Decline, Reverse}
+use Rattle.gu_base.specs.declared.command.Command.TheVariants.{Trade, Split, Claim, Refuse, Cancel, Agree, Raise, Initiate, Decline, Reverse}
 use Rattle.gu_base.specs.declared.entry.Entry.{Entry}
 use Rattle.gu_base.specs.declared.entry.Record.{Record}
 use Rattle.gu_base.specs.declared.node.Node.{Node}
-use Rattle.gu_base.specs.declared.refusal.Refusal.{Refusal}
-use Rattle.gu_base.specs.declared.refusal.Refusal.TheVariants.{UnknownFirm}
 use Rattle.gu_base.specs.declared.report.Report.{Report}
 use Rattle.gu_base.specs.declared.report.ReportPart.{ReportPart}
 use Rattle.gu_base.specs.declared.report.Target.{Target}
 use Rattle.gu_base.specs.declared.report.Target.TheVariants as targets
-use Rattle.gu_base.proofs.Accepted.{allowed, first_none, open_from_none}
 use Rattle.gu_tree.specs.Shown.{named_node}
 use Rattle.gu_base.specs.declared.node.Deal.{Deal}
 use Rattle.gu_trace.specs.Deals.{deal_of}
-use Rattle.gu_trace.specs.Concerns.{concerns}
+use Rattle.gu_trace.specs.Concerns.{change_concerns, record_concerns, concerns}
 use Rattle.gu_trace.specs.Reports.{report_with, parts_shown, claimed_part, no_part, decision_report, change_report, reversal_report, report_of, told, entries_for, reports_for}
 use Rattle.gu_trace.proofs.Found.{cut_at, entry_more, named_there, has_deal}
 use Rattle.gu_trace.proofs.Walk.{walk}
@@ -57,66 +53,64 @@ decided t h before behind e r kind trans n shown run cut names =
     let deal = has_deal t h n named.node run named.there in
     by_node h r kind trans n shown named.node deal.0 named.there deal.1
 
--- each change of a run has a report
-change_told : (t : House) (h before behind : List Entry) (e : Entry) (f : List ℕ) (k : ℕ) (c : Command) → IsRunFrom t [] h → h ≡ before ++ e ∷ behind → e.command ≡ c → is_change c ≡ true
-    → IsReport (numbered_as k e) (change_report h f (numbered_as k e) c)
-change_told t h before behind e f k (Trade firm account instrument side lots) run cut is change = record {
+-- each change of a run that concerns a firm has a report
+change_told : (t : House) (h before behind : List Entry) (e : Entry) (f : List ℕ) (k : ℕ) (c : Command) → IsRunFrom t [] h → h ≡ before ++ e ∷ behind → e.command ≡ c
+    → change_concerns t.house h f e.firm c ≡ true → IsReport (numbered_as k e) (change_report h f (numbered_as k e) c)
+change_told t h before behind e f k (Trade firm account instrument side lots) run cut is concerned = record {
   report = report_with (numbered_as k e) 9 0 (targets.Node (record { entry = k; part = 0 })) lots [] (record { instrument = instrument; side = side });
   is = refl;
   number = refl;
 }
-change_told t h before behind e f k (Split n parts) run cut is change =
+change_told t h before behind e f k (Split n parts) run cut is concerned =
     let named = named_there t h before behind e n run cut (ap named_node is) in
     let deal = has_deal t h n named.node run named.there in
     let shown = parts_shown f k e.firm parts in
     by_deal (numbered_as k e) (cond (gives_up e.firm parts) 15 9) 0 (targets.Node n) (sum_by (λ p. p.lots) shown) shown (deal_of h n) deal.0 deal.1
-change_told t h before behind e f k (Claim n account) run cut is change = decided t h before behind e (numbered_as k e) 16 0 n (claimed_part f account) run cut (ap named_node is)
-change_told t h before behind e f k (Refuse n) run cut is change = decided t h before behind e (numbered_as k e) 10 0 n no_part run cut (ap named_node is)
-change_told t h before behind e f k (Cancel n) run cut is change = decided t h before behind e (numbered_as k e) 10 2 n no_part run cut (ap named_node is)
-change_told t h before behind e f k (Initiate _) run cut is change = absurd (cc)
-change_told t h before behind e f k (Decline _) run cut is change = absurd (cc)
-change_told t h before behind e f k (Reverse _) run cut is change = absurd (cc)
+change_told t h before behind e f k (Claim n account) run cut is concerned = decided t h before behind e (numbered_as k e) 16 0 n (claimed_part f account) run cut (ap named_node is)
+change_told t h before behind e f k (Refuse n) run cut is concerned = decided t h before behind e (numbered_as k e) 10 0 n no_part run cut (ap named_node is)
+change_told t h before behind e f k (Cancel n) run cut is concerned = decided t h before behind e (numbered_as k e) 10 2 n no_part run cut (ap named_node is)
+change_told t h before behind e f k (Agree _ _ _ _) run cut is concerned = absurd (cc)
+change_told t h before behind e f k (Raise _ _) run cut is concerned = absurd (cc)
+change_told t h before behind e f k (Initiate _) run cut is concerned = absurd (cc)
+change_told t h before behind e f k (Decline _) run cut is concerned = absurd (cc)
+change_told t h before behind e f k (Reverse _) run cut is concerned = absurd (cc)
 
--- the change of this number, which an Initiate, Decline or Reverse names
-record IsOpened (h : List Entry) (n : ℕ) : Type 0 where
+-- the change of this number, which concerns the firm
+record IsConcerning (t : House) (h : List Entry) (f : List ℕ) (n : ℕ) : Type 0 where
   change : Record
   found : entry_of h n ≡ Some change
-  is : is_change change.command ≡ true
+  concerned : change_concerns t.house h f change.firm change.command ≡ true
 
-abbrev first_row : House → List Entry → List ℕ → (Record → Option Refusal) → ℕ → Option Refusal
-first_row t h by own n = first (unless (knows_firm t by) UnknownFirm ∷ on_change t h by own (entry_of h n) ∷ [])
+concerning : (t : House) (h : List Entry) (f : List ℕ) (n : ℕ) (o : Option Record) → entry_of h n ≡ o → record_concerns t.house h f o ≡ true → IsConcerning t h f n
+concerning t h f n None there concerned = absurd (cc)
+concerning t h f n (Some r) there concerned = record { change = r; found = there; concerned = concerned }
 
-opened : (t : House) (h before behind : List Entry) (e : Entry) (n : ℕ) (own : Record → Option Refusal) → h ≡ before ++ e ∷ behind
-    → first_row t before e.firm own n ≡ None → IsOpened h n
-opened t h before behind e n own cut free =
-    let a = first_none (unless (knows_firm t e.firm) UnknownFirm) (on_change t before e.firm own (entry_of before n) ∷ []) free in
-    let b = first_none (on_change t before e.firm own (entry_of before n)) [] a.1 in
-    let o = open_from_none t before e.firm own (entry_of before n) b.0 in
-    record { change = o.0; found = ap (λ (es : List Entry). entry_of es n) cut ∙ entry_more before (e ∷ behind) n o.0 o.1.found; is = o.1.is }
-
-reversal_told : (t : House) (h : List Entry) (f : List ℕ) (r : Record) (kind n : ℕ) → IsRunFrom t [] h → IsOpened h n → IsReport r (reversal_report h f r kind n)
-reversal_told t h f r kind n run opening =
-    let c = cut_at n h opening.change opening.found in
-    let change = change_told t h c.before c.behind c.entry f n c.entry.command run c.cut refl (ap (λ (q : Record). is_change q.command) c.is ∙ opening.is) in
-    let named : option_and_then (λ q. change_report h f q q.command) (entry_of h n) ≡ Some change.report =
-    ap (option_and_then (λ q. change_report h f q q.command)) (opening.found ∙ ap Some (sym c.is)) ∙ change.is in
+reversal_told : (t : House) (h : List Entry) (f : List ℕ) (r : Record) (kind n : ℕ) → IsRunFrom t [] h → record_concerns t.house h f (entry_of h n) ≡ true → IsReport r (reversal_report h f r kind n)
+reversal_told t h f r kind n run concerned =
+    let named = concerning t h f n (entry_of h n) refl concerned in
+    let c = cut_at n h named.change named.found in
+    let change = change_told t h c.before c.behind c.entry f n c.entry.command run c.cut refl (ap (λ (q : Record). change_concerns t.house h f q.firm q.command) c.is ∙ named.concerned) in
+    let is : option_and_then (λ q. change_report h f q q.command) (entry_of h n) ≡ Some change.report =
+    ap (option_and_then (λ q. change_report h f q q.command)) (named.found ∙ ap Some (sym c.is)) ∙ change.is in
     record {
       report = report_with r kind 6 (targets.Entry n) change.report.lots [] (record { instrument = change.report.instrument; side = change.report.side });
-      is = ap (option_map (λ w. report_with r kind 6 (targets.Entry n) w.lots [] (record { instrument = w.instrument; side = w.side }))) named;
+      is = ap (option_map (λ w. report_with r kind 6 (targets.Entry n) w.lots [] (record { instrument = w.instrument; side = w.side }))) is;
       number = refl;
     }
 
--- each entry of a run has a report
+-- each entry of a run that concerns a firm has a report
 entry_told : (t : House) (h before behind : List Entry) (e : Entry) (f : List ℕ) (k : ℕ) (c : Command) → IsRunFrom t [] h → h ≡ before ++ e ∷ behind → e.command ≡ c
-    → command_refusal t before e.firm c ≡ None → IsReport (numbered_as k e) (report_of h f (numbered_as k e) c)
-entry_told t h before behind e f k (Trade a b i s l) run cut is free = change_told t h before behind e f k (Trade a b i s l) run cut is refl
-entry_told t h before behind e f k (Split n ps) run cut is free = change_told t h before behind e f k (Split n ps) run cut is refl
-entry_told t h before behind e f k (Claim n a) run cut is free = change_told t h before behind e f k (Claim n a) run cut is refl
-entry_told t h before behind e f k (Refuse n) run cut is free = change_told t h before behind e f k (Refuse n) run cut is refl
-entry_told t h before behind e f k (Cancel n) run cut is free = change_told t h before behind e f k (Cancel n) run cut is refl
-entry_told t h before behind e f k (Initiate n) run cut is free = reversal_told t h f (numbered_as k e) 14 n run (opened t h before behind e n (initiate_rest before e.firm) cut free)
-entry_told t h before behind e f k (Decline n) run cut is free = reversal_told t h f (numbered_as k e) 10 n run (opened t h before behind e n (decline_rest before) cut free)
-entry_told t h before behind e f k (Reverse n) run cut is free = reversal_told t h f (numbered_as k e) 17 n run (opened t h before behind e n (reverse_rest t before) cut free)
+    → concerns t.house h f e.firm c ≡ true → IsReport (numbered_as k e) (report_of h f (numbered_as k e) c)
+entry_told t h before behind e f k (Trade a b i s l) run cut is concerned = change_told t h before behind e f k (Trade a b i s l) run cut is concerned
+entry_told t h before behind e f k (Split n ps) run cut is concerned = change_told t h before behind e f k (Split n ps) run cut is concerned
+entry_told t h before behind e f k (Claim n a) run cut is concerned = change_told t h before behind e f k (Claim n a) run cut is concerned
+entry_told t h before behind e f k (Refuse n) run cut is concerned = change_told t h before behind e f k (Refuse n) run cut is concerned
+entry_told t h before behind e f k (Cancel n) run cut is concerned = change_told t h before behind e f k (Cancel n) run cut is concerned
+entry_told t h before behind e f k (Agree _ _ _ _) run cut is concerned = absurd (cc)
+entry_told t h before behind e f k (Raise _ _) run cut is concerned = absurd (cc)
+entry_told t h before behind e f k (Initiate n) run cut is concerned = reversal_told t h f (numbered_as k e) 14 n run concerned
+entry_told t h before behind e f k (Decline n) run cut is concerned = reversal_told t h f (numbered_as k e) 10 n run concerned
+entry_told t h before behind e f k (Reverse n) run cut is concerned = reversal_told t h f (numbered_as k e) 17 n run concerned
 
 -- the report of a record
 abbrev report_in : List Entry → List ℕ → Record → Option Report
@@ -125,12 +119,28 @@ report_in h f r = report_of h f r r.command
 abbrev IsTold : List Entry → List ℕ → Record → Type 0
 IsTold h f r = IsReport r (report_in h f r)
 
-told_from : (t : House) (h before rest : List Entry) (f : List ℕ) (k : ℕ) → IsRunFrom t [] h → h ≡ before ++ rest → All (IsTold h f) (numbered_from k rest)
-told_from t h before [] f k run cut = All-nil (IsTold h f)
+-- the same, where it concerns the firm
+abbrev IsToldOf : List ℕ → List Entry → List ℕ → Record → Type 0
+IsToldOf house h f r = concerns house h f r.firm r.command ≡ true → IsTold h f r
+
+told_from : (t : House) (h before rest : List Entry) (f : List ℕ) (k : ℕ) → IsRunFrom t [] h → h ≡ before ++ rest → All (IsToldOf t.house h f) (numbered_from k rest)
+told_from t h before [] f k run cut = All-nil (IsToldOf t.house h f)
 told_from t h before (e ∷ rest) f k run cut =
-    let free = allowed t before e (length before + 1) (run.accepted before rest e cut (omega arith)) in
-    All-cons (IsTold h f) (numbered_as k e) (numbered_from (k + 1) rest) (entry_told t h before rest e f k e.command run cut refl free.lawful)
+    All-cons (IsToldOf t.house h f) (numbered_as k e) (numbered_from (k + 1) rest) (entry_told t h before rest e f k e.command run cut refl)
     (told_from t h (before ++ e ∷ []) rest f (k + 1) run (cut ∙ sym (append_assoc before (e ∷ []) rest)))
+
+one_kept : (h : List Entry) (f : List ℕ) (r : Record) (rs : List Record) (a c : Bool) → (c ≡ true → IsTold h f r) → All (IsTold h f) rs → All (IsTold h f) (cond (a && c) (r ∷ rs) rs)
+one_kept h f r rs true true told all = All-cons (IsTold h f) r rs (told refl) all
+one_kept h f r rs true false told all = all
+one_kept h f r rs false c told all = all
+
+-- of these records those above a number that concern the firm
+kept_told : (house : List ℕ) (h : List Entry) (f : List ℕ) (after : ℕ) (rs : List Record) → All (IsToldOf house h f) rs
+    → All (IsTold h f) (filter (λ r. nat_lt after r.number && concerns house h f r.firm r.command) rs)
+kept_told house h f after [] all = All-nil (IsTold h f)
+kept_told house h f after (r ∷ rs) all =
+    one_kept h f r (filter (λ q. nat_lt after q.number && concerns house h f q.firm q.command) rs) (nat_lt after r.number) (concerns house h f r.firm r.command)
+    (All-head (IsToldOf house h f) r rs all) (kept_told house h f after rs (All-tail (IsToldOf house h f) r rs all))
 
 -- ---- lists in which each record has a report
 
@@ -173,7 +183,7 @@ both_tests house h f after (r ∷ rs) =
     (filter (λ q. nat_lt after q.number) rs) (filter (λ q. nat_lt after q.number && concerns house h f q.firm q.command) rs) refl (both_tests house h f after rs)
 
 all_told : (t : House) (h : List Entry) (f : List ℕ) (after : ℕ) → IsRunFrom t [] h → All (IsTold h f) (filter (λ r. nat_lt after r.number && concerns t.house h f r.firm r.command) (records h))
-all_told t h f after run = All-filter (λ r. nat_lt after r.number && concerns t.house h f r.firm r.command) (IsTold h f) (records h) (told_from t h [] h f 1 run refl)
+all_told t h f after run = kept_told t.house h f after (records h) (told_from t h [] h f 1 run refl)
 
 -- the first 100 reports of a walk are those of the first 100 entries that concern the firm
 pub walk_reports : (t : House) (h : List Entry) (f : List ℕ) (after : ℕ) → IsRunFrom t [] h → walk t.house h f after ≡ reports_for t.house h f after

@@ -13,7 +13,7 @@ use Rattle.gu_base.specs.Places.{line_within, root_along, root_of}
 use Rattle.gu_base.specs.Answers.{entry_of}
 use Rattle.gu_base.specs.Runs.{IsRunFrom}
 use Rattle.gu_base.specs.declared.command.Command.{Command}
-use Rattle.gu_base.specs.declared.command.Command.TheVariants.{Trade, Split, Claim, Refuse, Cancel, Initiate, Decline, Reverse}
+use Rattle.gu_base.specs.declared.command.Command.TheVariants.{Trade, Split, Claim, Refuse, Cancel, Agree, Raise, Initiate, Decline, Reverse}
 use Rattle.gu_base.specs.declared.entry.Entry.{Entry}
 use Rattle.gu_base.specs.declared.entry.Record.{Record}
 use Rattle.gu_base.specs.declared.node.Kind.TheVariants.{Root}
@@ -114,6 +114,8 @@ naming_changes (Claim _ _) n h = refl
 naming_changes (Refuse _) n h = refl
 naming_changes (Cancel _) n h = refl
 naming_changes (Trade _ _ _ _ _) n h = refl
+naming_changes (Agree _ _ _ _) n h = refl
+naming_changes (Raise _ _) n h = refl
 naming_changes (Initiate _) n h = absurd (cc)
 naming_changes (Decline _) n h = absurd (cc)
 naming_changes (Reverse _) n h = absurd (cc)
@@ -200,6 +202,8 @@ by_command t h s n x r (Split m ps) run found low there is made up =
 by_command t h s n x r (Claim _ _) run found low there is made up = absurd (cc)
 by_command t h s n x r (Refuse _) run found low there is made up = absurd (cc)
 by_command t h s n x r (Cancel _) run found low there is made up = absurd (cc)
+by_command t h s n x r (Agree _ _ _ _) run found low there is made up = absurd (cc)
+by_command t h s n x r (Raise _ _) run found low there is made up = absurd (cc)
 by_command t h s n x r (Initiate _) run found low there is made up = absurd (cc)
 by_command t h s n x r (Decline _) run found low there is made up = absurd (cc)
 by_command t h s n x r (Reverse _) run found low there is made up = absurd (cc)

@@ -13,7 +13,7 @@ use Rattle.gu_base.specs.declared.entry.Entry.{Entry}
 use Rattle.gu_base.specs.declared.entry.Record.{Record}
 use Rattle.gu_base.specs.declared.node.Node.{Node}
 use Rattle.gu_base.specs.declared.command.Command.{Command}
-use Rattle.gu_base.specs.declared.command.Command.TheVariants.{Trade, Split, Claim, Refuse, Cancel, Initiate, Decline, Reverse}
+use Rattle.gu_base.specs.declared.command.Command.TheVariants.{Trade, Split, Claim, Refuse, Cancel, Agree, Raise, Initiate, Decline, Reverse}
 use Rattle.gu_base.specs.declared.report.Report.{Report}
 use Rattle.gu_base.specs.declared.report.ReportPart.{ReportPart}
 use Rattle.gu_base.specs.declared.report.Target.{Target}
@@ -57,6 +57,8 @@ change_short h f r (Split n parts) within = let few = shown_few f r.number r.fir
 change_short h f r (Claim n account) within = by_node h r 16 0 n _ (claimed_part f account) (node_of (records h) n) (claim_few f account)
 change_short h f r (Refuse n) within = by_node h r 10 0 n _ no_part (node_of (records h) n) (λ x. omega arith)
 change_short h f r (Cancel n) within = by_node h r 10 2 n _ no_part (node_of (records h) n) (λ x. omega arith)
+change_short h f r (Agree _ _ _ _) within = tt
+change_short h f r (Raise _ _) within = tt
 change_short h f r (Initiate _) within = tt
 change_short h f r (Decline _) within = tt
 change_short h f r (Reverse _) within = tt
@@ -67,6 +69,8 @@ report_short h f r (Split n parts) within = change_short h f r (Split n parts) w
 report_short h f r (Claim n account) within = change_short h f r (Claim n account) within
 report_short h f r (Refuse n) within = change_short h f r (Refuse n) within
 report_short h f r (Cancel n) within = change_short h f r (Cancel n) within
+report_short h f r (Agree g k x l) within = change_short h f r (Agree g k x l) within
+report_short h f r (Raise g n) within = change_short h f r (Raise g n) within
 report_short h f r (Initiate n) within = by_change r 14 6 _ (option_and_then (λ e. change_report h f e e.command) (entry_of h n))
 report_short h f r (Decline n) within = by_change r 10 6 _ (option_and_then (λ e. change_report h f e e.command) (entry_of h n))
 report_short h f r (Reverse n) within = by_change r 17 6 _ (option_and_then (λ e. change_report h f e e.command) (entry_of h n))

@@ -10,7 +10,7 @@ use Rattle.gu_base.specs.Runs.{IsRunFrom}
 use Rattle.gu_base.specs.declared.entry.Entry.{Entry}
 use Rattle.gu_base.specs.declared.entry.Record.{Record}
 use Rattle.gu_base.specs.declared.command.Command.{Command}
-use Rattle.gu_base.specs.declared.command.Command.TheVariants.{Trade, Split, Claim, Refuse, Cancel, Initiate, Decline, Reverse}
+use Rattle.gu_base.specs.declared.command.Command.TheVariants.{Trade, Split, Claim, Refuse, Cancel, Agree, Raise, Initiate, Decline, Reverse}
 use Rattle.gu_book.specs.Limits.{IsWithinLimits}
 use Rattle.gu_base.proofs.Accepted.{allowed}
 use Rattle.gu_book.proofs.Refused.{accepted_small}
@@ -22,6 +22,8 @@ small t h by (Split n ps) none = accepted_small t (live h) by (Split n ps) none
 small t h by (Claim _ _) none = tt
 small t h by (Refuse _) none = tt
 small t h by (Cancel _) none = tt
+small t h by (Agree g k r l) none = accepted_small t (live h) by (Agree g k r l) none
+small t h by (Raise g n) none = accepted_small t (live h) by (Raise g n) none
 small t h by (Initiate _) none = tt
 small t h by (Decline _) none = tt
 small t h by (Reverse _) none = tt

@@ -27,7 +27,7 @@ fn has_part_for(firm: &FirmId, parts: &[Part]) -> bool
     parts.iter().any(|p| p.firm == *firm)
 }
 
-/// Whether a change of the firm `by` concerns the firm.
+/// Whether a change of the firm `by` concerns the firm. An Agree or a Raise concerns nobody.
 fn change_concerns(
     house: &FirmId,
     entries: &[Entry],

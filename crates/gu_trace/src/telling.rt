@@ -356,9 +356,9 @@ fn told(
 /// The reports to a firm of the first 100 entries numbered above `after` that concern it, in their order.
 ///
 /// A Trade concerns the house and the firm that it is for; a Split its owner and each firm that it gives a part; a Claim, Refuse or
-/// Cancel giver and taker; an Initiate, Decline or Reverse those whom the change that it names concerns. An entry is reported whether
-/// it is reversed or not, with the status with which it was accepted. A Split shows its owner all parts and another firm those that
-/// are given to it, a Claim shows its taker its part; no other report shows parts.
+/// Cancel giver and taker; an Agree or a Raise nobody; an Initiate, Decline or Reverse those whom the change that it names concerns.
+/// An entry is reported whether it is reversed or not, with the status with which it was accepted. A Split shows its owner all parts
+/// and another firm those that are given to it, a Claim shows its taker its part; no other report shows parts.
 ///
 /// # Errors
 ///

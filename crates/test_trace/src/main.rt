@@ -1,4 +1,5 @@
-//! Days of a small house, and what is told of them. Input and output are data: the files `stdin` and `stdout` beside `src/`.
+//! Days of a small house, with agreements that are fixed and with those of an opening, and what is told of them. Input and output are data:
+//! the files `stdin` and `stdout` beside `src/`.
 //!
 //! The days are lines as `test_days` says. The questions are `? reports FIRM AFTER`, `? trace TRADE`, `? totals`, `? written`, the totals as a
 //! server writes them in the end, and `? frames FIRM AFTER`: the reports as a session sends them.

@@ -62,7 +62,7 @@ returns-in_default-clause-standing c = λ t legal dealt.
     ∙ nothing_placed c.args.trees.now t l (rises_later 0 1 l (omega arith) are.rises) legal (all_shown are.filed) c.args.number placeless)
 
 pub returns-clause-most : goal.returns-clause-most
-returns-clause-most c =
+returns-clause-most c = λ t dealt.
     let way = way_to c.requires.trees c.args.number c.in-Some-named.spot.trade c.named.new.path.items (rw c.in-Some-named.is at c.named.ensures.found) in
     let parts = parts_of_named c.args.changes.now c.args.number (record_of c.in-Some.made) (its_parts (goal.at.returns-clause-most c).After-found_at-found) in
     omega (arith, way, parts, c.found_at-found.ensures.deep, c.parts_in.ensures.value)
@@ -72,3 +72,9 @@ returns-clause-least c = λ _.
     let way = way_to c.requires.trees c.args.number c.in-Some-named.spot.trade c.named.new.path.items (rw c.in-Some-named.is at c.named.ensures.found) in
     let parts = parts_of_named c.args.changes.now c.args.number (record_of c.in-Some.made) (its_parts (goal.at.returns-clause-least c).After-found_at-found) in
     omega (arith, way, parts, c.found_at-found.ensures.deep, c.parts_in.ensures.value)
+
+-- the entries of its giver and taker
+pub returns-in_default-named-clause-most : goal.returns-in_default-named-clause-most
+returns-in_default-named-clause-most c = λ t dealt.
+    let beside = c.entries_beside.ensures.value t c.args.changes.now dealt in
+    omega (arith, beside)

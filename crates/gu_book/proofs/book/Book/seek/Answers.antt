@@ -15,4 +15,4 @@ returns-clause-standing c =
 pub returns-clause-seen : goal.returns-clause-seen
 returns-clause-seen c = λ by.
     let is = rw (c.of-changes.ensures, c.as_slice.ensures.value) at c.seek.ensures.seen in
-    rw (← c.self.view_is) (is by)
+    rw (← c.self.view_is) (is c.self.inside.house by c.self.invariant.dealt)

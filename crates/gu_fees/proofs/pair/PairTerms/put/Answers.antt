@@ -19,8 +19,8 @@ pub invariant_of-self : goal.invariant_of-self
 invariant_of-self c =
     let room : HasRoomFor (dealings_kept c.self.inside.deeds.items) c.args.deed = rw (← c.self.view_is) at c.requires.fits in
     let above : last_of c.self.inside.deeds.items < c.args.entry = rw (← c.self.view_is) at c.requires.above in
-    subst (λ fs. IsKept c.self.inside.file fs (c.self.inside.raised + c.raised_by.result) (c.self.inside.used + c.used_by.result)) (sym c.append.ensures)
-    (rw (c.raised_by.ensures, c.used_by.ensures) (kept_more c.self.inside.file c.self.inside.deeds.items c.self.inside.raised c.self.inside.used c.self.invariant c.args.entry c.args.deed above room))
+    subst (λ fs. IsKept c.self.inside.file fs (c.self.inside.raised + c.raised_by.result) (c.self.inside.used + c.used_by.result) c.self.inside.gone) (sym c.append.ensures)
+    (rw (c.raised_by.ensures, c.used_by.ensures) (kept_more c.self.inside.file c.self.inside.deeds.items c.self.inside.raised c.self.inside.used c.self.inside.gone c.self.invariant c.args.entry c.args.deed above room))
 
 pub returns-clause-dealings : goal.returns-clause-dealings
 returns-clause-dealings c = rw (← c.self.view_is) (ap dealings_kept c.append.ensures ∙ dealings_with c.self.inside.deeds.items c.args.entry c.args.deed)

@@ -12,8 +12,8 @@ use Rattle.gu_fees.proofs.pair.PairTerms.take_out.Goals as goal
 pub invariant_of-self : goal.invariant_of-self
 invariant_of-self c =
     let none : kept_at c.self.inside.deeds.items c.args.entry ≡ None = sym c.clear.ensures.value ∙ c.in_default.is in
-    subst (λ fs. IsKept c.self.inside.file fs c.self.inside.raised c.self.inside.used) (sym c.clear.ensures.items)
-    (kept_none c.self.inside.file c.self.inside.deeds.items c.self.inside.raised c.self.inside.used c.args.entry c.self.invariant none)
+    subst (λ fs. IsKept c.self.inside.file fs c.self.inside.raised c.self.inside.used c.self.inside.gone) (sym c.clear.ensures.items)
+    (kept_none c.self.inside.file c.self.inside.deeds.items c.self.inside.raised c.self.inside.used c.self.inside.gone c.args.entry c.self.invariant none)
 
 pub returns-in_default-clause-dealings : goal.returns-in_default-clause-dealings
 returns-in_default-clause-dealings c =
@@ -27,7 +27,7 @@ returns-in_default-clause-last c =
 pub overflow_sub-self : goal.overflow_sub-self
 overflow_sub-self c =
     let kept : kept_at c.self.inside.deeds.items c.args.entry ≡ Some c.in-Some.deed = sym c.clear.ensures.value ∙ c.in-Some.is in
-    let counts = kept_counts c.self.inside.file c.self.inside.deeds.items c.self.inside.raised c.self.inside.used c.self.invariant c.args.entry c.in-Some.deed kept in
+    let counts = kept_counts c.self.inside.file c.self.inside.deeds.items c.self.inside.raised c.self.inside.used c.self.inside.gone c.self.invariant c.args.entry c.in-Some.deed kept in
     let low = counts.0 in
     let by = c.raised_by.ensures in
     omega (arith, low, by)
@@ -35,7 +35,7 @@ overflow_sub-self c =
 pub overflow_sub-self-2 : goal.overflow_sub-self-2
 overflow_sub-self-2 c =
     let kept : kept_at c.self.inside.deeds.items c.args.entry ≡ Some c.in-Some.deed = sym c.clear.ensures.value ∙ c.in-Some.is in
-    let counts = kept_counts c.self.inside.file c.self.inside.deeds.items c.self.inside.raised c.self.inside.used c.self.invariant c.args.entry c.in-Some.deed kept in
+    let counts = kept_counts c.self.inside.file c.self.inside.deeds.items c.self.inside.raised c.self.inside.used c.self.inside.gone c.self.invariant c.args.entry c.in-Some.deed kept in
     let low = counts.1 in
     let by = c.used_by.ensures in
     omega (arith, low, by)
@@ -43,22 +43,22 @@ overflow_sub-self-2 c =
 pub invariant_of-self-then-self-len : goal.invariant_of-self-then-self-len
 invariant_of-self-then-self-len c =
     let kept : kept_at c.self.inside.deeds.items c.args.entry ≡ Some c.in-Some.deed = sym c.clear.ensures.value ∙ c.in-Some.is in
-    let counts = kept_counts c.self.inside.file c.self.inside.deeds.items c.self.inside.raised c.self.inside.used c.self.invariant c.args.entry c.in-Some.deed kept in
+    let counts = kept_counts c.self.inside.file c.self.inside.deeds.items c.self.inside.raised c.self.inside.used c.self.inside.gone c.self.invariant c.args.entry c.in-Some.deed kept in
     let raised : c.self.inside.raised - c.raised_by.result + raised_by_deed c.in-Some.deed ≡ c.self.inside.raised = let low = counts.0 in let by = c.raised_by.ensures in omega (arith, low, by) in
     let used : c.self.inside.used - c.used_by.result + used_by_deed c.in-Some.deed ≡ c.self.inside.used = let low = counts.1 in let by = c.used_by.ensures in omega (arith, low, by) in
-    let less = kept_less c.self.inside.file c.self.inside.deeds.items c.self.inside.raised c.self.inside.used c.self.invariant c.args.entry c.in-Some.deed kept (c.self.inside.raised - c.raised_by.result) (c.self.inside.used - c.used_by.result) raised used in
-    subst (λ fs. IsKept c.self.inside.file fs (c.self.inside.raised - c.raised_by.result) (c.self.inside.used - c.used_by.result)) (sym c.sweep.ensures)
-    (kept_swept c.self.inside.file c.clear.new.filed.items (c.self.inside.raised - c.raised_by.result) (c.self.inside.used - c.used_by.result)
-    (subst (λ fs. IsKept c.self.inside.file fs (c.self.inside.raised - c.raised_by.result) (c.self.inside.used - c.used_by.result)) (sym c.clear.ensures.items) less))
+    let less = kept_less c.self.inside.file c.self.inside.deeds.items c.self.inside.raised c.self.inside.used c.self.inside.gone c.self.invariant c.args.entry c.in-Some.deed kept (c.self.inside.raised - c.raised_by.result) (c.self.inside.used - c.used_by.result) raised used in
+    subst (λ fs. IsKept c.self.inside.file fs (c.self.inside.raised - c.raised_by.result) (c.self.inside.used - c.used_by.result) 0) (sym c.sweep.ensures)
+    (kept_swept c.self.inside.file c.clear.new.filed.items (c.self.inside.raised - c.raised_by.result) (c.self.inside.used - c.used_by.result) (c.self.inside.gone + 1)
+    (subst (λ fs. IsKept c.self.inside.file fs (c.self.inside.raised - c.raised_by.result) (c.self.inside.used - c.used_by.result) (c.self.inside.gone + 1)) (sym c.clear.ensures.items) less))
 
 pub invariant_of-self-else-self-len : goal.invariant_of-self-else-self-len
 invariant_of-self-else-self-len c =
     let kept : kept_at c.self.inside.deeds.items c.args.entry ≡ Some c.in-Some.deed = sym c.clear.ensures.value ∙ c.in-Some.is in
-    let counts = kept_counts c.self.inside.file c.self.inside.deeds.items c.self.inside.raised c.self.inside.used c.self.invariant c.args.entry c.in-Some.deed kept in
+    let counts = kept_counts c.self.inside.file c.self.inside.deeds.items c.self.inside.raised c.self.inside.used c.self.inside.gone c.self.invariant c.args.entry c.in-Some.deed kept in
     let raised : c.self.inside.raised - c.raised_by.result + raised_by_deed c.in-Some.deed ≡ c.self.inside.raised = let low = counts.0 in let by = c.raised_by.ensures in omega (arith, low, by) in
     let used : c.self.inside.used - c.used_by.result + used_by_deed c.in-Some.deed ≡ c.self.inside.used = let low = counts.1 in let by = c.used_by.ensures in omega (arith, low, by) in
-    let less = kept_less c.self.inside.file c.self.inside.deeds.items c.self.inside.raised c.self.inside.used c.self.invariant c.args.entry c.in-Some.deed kept (c.self.inside.raised - c.raised_by.result) (c.self.inside.used - c.used_by.result) raised used in
-    subst (λ fs. IsKept c.self.inside.file fs (c.self.inside.raised - c.raised_by.result) (c.self.inside.used - c.used_by.result)) (sym c.clear.ensures.items) less
+    let less = kept_less c.self.inside.file c.self.inside.deeds.items c.self.inside.raised c.self.inside.used c.self.inside.gone c.self.invariant c.args.entry c.in-Some.deed kept (c.self.inside.raised - c.raised_by.result) (c.self.inside.used - c.used_by.result) raised used in
+    subst (λ fs. IsKept c.self.inside.file fs (c.self.inside.raised - c.raised_by.result) (c.self.inside.used - c.used_by.result) (c.self.inside.gone + 1)) (sym c.clear.ensures.items) less
 
 pub returns-then-self-len-clause-dealings : goal.returns-then-self-len-clause-dealings
 returns-then-self-len-clause-dealings c =
