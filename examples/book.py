@@ -4,27 +4,28 @@ What the rules decided is taken as decided: nothing is refused here. What can't 
 """
 from dataclasses import dataclass, field
 
-from journal import NoJournal, commands, content, entry_of
+from journal import Entry, NoJournal, commands, content, entry_of
 
 DECISIONS = {"claim": "claimed", "refuse": "refused", "cancel": "cancelled"}
 
 
 @dataclass
 class House:
-    """A house file."""
+    """A house file. Its agreements are fixed terms by version 1, and by version 2 opening calls of the house."""
 
     name: str
     firms: list
     accounts: list
     instruments: list
     agreements: dict  # of giver and taker: rate and limit
+    opens: bool  # whether they are opening calls
 
     @classmethod
     def parse(cls, text):
         lines = [line.split(" ") for line in text.removesuffix("\n").split("\n")]
-        if len(lines) < 2 or lines[0] != ["GIVEUP", "1"] or lines[1][0] != "HOUSE":
+        if len(lines) < 2 or lines[0] not in (["GIVEUP", "1"], ["GIVEUP", "2"]) or lines[1][0] != "HOUSE":
             raise NoJournal("this is no house file")
-        house = cls(lines[1][1], [lines[1][1]], [], [], {})
+        house = cls(lines[1][1], [lines[1][1]], [], [], {}, lines[0][1] == "2")
         for kind, *words in lines[2:]:
             if kind == "FIRM":
                 house.firms.append(words[0])
@@ -79,12 +80,18 @@ class Book:
         self.accounts, self.instruments = set(house.accounts), set(house.instruments)
         self.entries, self.nodes, self.ids = [], {}, set()
         self.consents = {}  # of an entry: the firms whose consent to its reversal stands
+        self.terms = {}  # of giver and taker: rate, and limit with its raises; fixed ones first, then the agreements that stand by number
+        if house.opens:
+            for i, (pair, terms) in enumerate(house.agreements.items(), 1):
+                self.keep(Entry(i, "", house.name, f"OPEN-{i}", "agree", None, (*pair, *terms)))
+        else:
+            self.terms.update(house.agreements)
 
     @classmethod
     def read(cls, house, day, answers=None):
         """The book of these files."""
         book = cls(House.parse(content(house).decode("latin-1")))
-        for fields in commands(day, answers):
+        for fields in commands(day, answers, len(book.entries)):
             book.accept(fields)
         return book
 
@@ -94,12 +101,15 @@ class Book:
         try:
             entry = entry_of(number, fields)
             if (entry.firm, entry.id) not in self.ids:
-                getattr(self, "_" + entry.kind)(entry)
-                self.ids.add((entry.firm, entry.id))
-                self.entries.append(entry)
+                self.keep(entry)
         except (KeyError, IndexError, ValueError) as fault:
             told = f"entry {number} can't be ({fault}): a day's input is read with its --answers, a journal with its own house file"
             raise NoJournal(told) from fault
+
+    def keep(self, entry):
+        getattr(self, "_" + entry.kind)(entry)
+        self.ids.add((entry.firm, entry.id))
+        self.entries.append(entry)
 
     def entry(self, number):
         must(0 < number <= len(self.entries), f"there is no entry {number}")
@@ -121,8 +131,8 @@ class Book:
         return {(*account, i): sums[account, i] for account, i in places if (account, i) in sums}
 
     def hops(self):
-        """Of each agreement, in the order of the house file: live claims, their lots, their fees."""
-        sums = {pair: [0, 0, 0] for pair in self.house.agreements}
+        """Of each agreement, in the order of a trace's totals: live claims, their lots, their fees."""
+        sums = {pair: [0, 0, 0] for pair in self.terms}
         for node in self.nodes.values():
             if node.state == "claimed":
                 total = sums[node.firm, node.taker]
@@ -139,7 +149,7 @@ class Book:
 
     def fee(self, node):
         """The hundredths of a claimed node."""
-        return node.lots * self.house.agreements[node.firm, node.taker][0] if node.state == "claimed" else 0
+        return node.lots * self.terms[node.firm, node.taker][0] if node.state == "claimed" else 0
 
     def words(self, node):
         """The words of a trace for the state of a node."""
@@ -153,6 +163,10 @@ class Book:
             return list(dict.fromkeys([self.house.name, entry.detail[0]]))
         if entry.kind == "split":
             return [entry.firm]
+        if entry.kind == "agree":
+            return list(dict.fromkeys([entry.firm, *entry.detail[:2]]))
+        if entry.kind == "raise":
+            return [entry.firm, entry.detail[0]]
         node = self.nodes[entry.names]
         return [node.firm] if entry.kind == "cancel" else [node.taker, node.firm]
 
@@ -182,12 +196,25 @@ class Book:
         node = self.nodes[entry.names]
         must(node.state == "offered", f"{node.name} isn't offered")
         if entry.kind == "claim":
-            agreed = (node.firm, node.taker) in self.house.agreements
+            agreed = (node.firm, node.taker) in self.terms
             must(agreed, f"{node.firm} and {node.taker} have no agreement")
             self.has_account(node.taker, entry.detail)
         node.decision, entry.trade = entry, node.trade
 
     _refuse = _cancel = _claim
+
+    def _agree(self, entry):
+        giver, taker, rate, limit = entry.detail
+        must((giver, taker) not in self.terms, f"{giver} and {taker} have an agreement")
+        self.terms[giver, taker] = (rate, limit)
+
+    def _raise(self, entry):
+        self.add_to_limit(entry.detail[0], entry.firm, entry.detail[1])
+
+    def add_to_limit(self, giver, taker, lots):
+        must((giver, taker) in self.terms, f"{giver} and {taker} have no agreement")
+        rate, limit = self.terms[giver, taker]
+        self.terms[giver, taker] = (rate, limit + lots)
 
     def _initiate(self, entry):
         entry.trade = self.entry(entry.names).trade
@@ -202,6 +229,14 @@ class Book:
         consents = self.consents.pop(change.number, [])
         must(all(firm in consents for firm in self.parties(change)), f"{change.number} lacks a consent")
         entry.trade, change.undone_by = change.trade, entry.number
+        if change.kind == "agree":
+            giver, taker, _, limit = change.detail
+            must(self.terms[giver, taker][1] == limit and not self.hops()[giver, taker][0], f"a change stands on {change.number}")
+            del self.terms[giver, taker]
+            return
+        if change.kind == "raise":
+            self.add_to_limit(change.detail[0], change.firm, -change.detail[1])
+            return
         node = self.nodes[f"{change.number}.0" if change.kind == "trade" else change.names]
         if change.kind == "split":
             must(not any(part.decision or part.parts for part in node.parts), f"a change stands on {change.number}")

@@ -1,8 +1,8 @@
 """The accepted commands of a day, read from its journal: what examples/book.py stands on.
 
-A journal is a stream of FIX frames with accepted commands alone, in their order, so its n-th command is entry n. A day's
-input may hold refused commands too: it is read beside the answers that `allocd batch` gave to it, and what they accepted
-is its journal.
+A journal is a stream of FIX frames with accepted commands alone, in their order: its n-th command is the n-th entry behind
+those of the house's opening calls. A day's input may hold refused commands too: it is read beside the answers that `allocd
+batch` gave to it, and what they accepted is its journal.
 """
 import re
 import sys
@@ -15,7 +15,7 @@ TRAILER = re.compile(rb"10=(\d{3})\x01")
 BODY = re.compile(rb"35=[^\x01]+\x01(?:[1-9]\d{0,8}=[^\x01]+\x01)*")
 OF_SESSION = {"0", "1", "2", "3", "4", "5", "A"}
 KINDS = {"017": "split", "023": "split", "018": "claim", "019": "refuse", "217": "cancel", "223": "cancel",
-         "620": "initiate", "621": "reverse", "622": "decline"}
+         "620": "initiate", "621": "reverse", "622": "decline", "090": "agree", "091": "raise"}
 
 
 class NoJournal(Exception):
@@ -75,9 +75,9 @@ def number_of(answer):
     return 0
 
 
-def accepted(messages, answers):
-    """The messages of a day's input that its answers accepted. All but those of a session have an answer each."""
-    coming, count = iter(answers), 0
+def accepted(messages, answers, count):
+    """The messages of a day's input that its answers accepted, behind so many entries. All but those of a session have an answer each."""
+    coming = iter(answers)
     answer = next(coming, None)
     for fields in messages:
         if answer is None:
@@ -100,7 +100,8 @@ class Entry:
 
     It names a node, or an entry where it is a consent (initiate), a decline or a reversal. Its detail is of a trade the firm,
     the account, the instrument, the side and the lots; of a split the lots, the firm and the account of each part; of a claim
-    the account. Its trade is the entry of the trade that it concerns.
+    the account; of an agreement (agree) the giver, the taker, the rate and the limit; of a raise the giver and the lots. Its
+    trade is the entry of the trade that it concerns, 0 where it concerns none.
     """
 
     number: int
@@ -123,6 +124,11 @@ def entry_of(number, fields):
         detail = (party(fields, "453", "448", "452"), message["1"], message["55"], side, lots_of(message["32"]))
         return Entry(number, sent, firm, message["571"], "trade", None, detail)
     kind = KINDS[message["71"] + message["626"]]
+    if kind == "agree":
+        detail = (message["5001"], message["5002"], int(message["5003"]), int(message["5004"]))
+        return Entry(number, sent, firm, message["70"], kind, None, detail)
+    if kind == "raise":
+        return Entry(number, sent, firm, message["70"], kind, None, (message["5001"], int(message["5004"])))
     names = int(message["72"]) if message["71"] == "6" else message["72"]
     detail = None
     if kind == "split":
@@ -133,11 +139,12 @@ def entry_of(number, fields):
     return Entry(number, sent, firm, message["70"], kind, names, detail)
 
 
-def commands(day, answers=None):
-    """The commands of a journal, or those of a day's input that its answers accepted; `-` is standard input."""
+def commands(day, answers=None, behind=0):
+    """The commands of a journal, or those of a day's input that its answers accepted, behind so many entries of the house's opening; `-` is
+    standard input."""
     messages = frames(content(day))
     if answers:
-        messages = accepted(messages, map(firsts, frames(content(answers))))
+        messages = accepted(messages, map(firsts, frames(content(answers))), behind)
     return (fields for fields in messages if fields[0][1] in ("AE", "J"))
 
 

@@ -27,15 +27,27 @@ Call = namedtuple("Call", "number id ticket frame")
 Sent = namedtuple("Sent", "data entry refused accepted")
 
 
+# A clearing house, and how many opening calls its file makes.
+House = namedtuple("House", "name opening")
+
+
+def house_of(text):
+    """The clearing house of a house file, as its line 2 names it."""
+    lines = text.split(b"\n")
+    name = lines[1].removeprefix(b"HOUSE ") if len(lines) > 1 else b""
+    return House(name, sum(line.startswith(b"AGREEMENT ") for line in lines) if lines[0] == b"GIVEUP 2" else 0)
+
+
 class Astray(Exception):
     """The server answered what wasn't asked: the program, or these tables, are wrong."""
 
 
 class Calls:
-    """The calls of one connection that have no answer yet. `tickets` numbers the calls of all connections as they come."""
+    """The calls of one connection that have no answer yet. `tickets` numbers the calls of all connections as they come. The journal hasn't the
+    entries of the house's opening calls: what it calls entry 1 is the one behind them."""
 
     def __init__(self, house, tickets):
-        self.house, self.tickets = house, tickets
+        self.house, self.opening, self.tickets = house.name, house.opening, tickets
         self.firm, self.want, self.closed = None, 1, False
         self.came, self.sent, self.waiting = b"", b"", deque()
 
@@ -109,9 +121,9 @@ class Calls:
                 break
             shown = 0
             if kind == b"AS":
-                shown = int(first[4:])
+                shown = max(int(first[4:]) - self.opening, 0)
             elif kind == b"P" or kind == b"AR":
-                shown = entry_of(kind, second, third)
+                shown = max(entry_of(kind, second, third) - self.opening, 0)
                 refused = refused or not shown
                 call = None if again else self.call(first)
                 if call and shown:

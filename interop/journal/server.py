@@ -38,10 +38,10 @@ class Session:
     """A firm's session with the server, for the replay."""
 
     def __init__(self, port, house, firm):
-        self.stream, self.house, self.firm, self.number = socket.create_connection(("127.0.0.1", port)), house, firm, 1
+        self.stream, self.firm, self.number = socket.create_connection(("127.0.0.1", port)), firm, 1
         self.stream.setsockopt(socket.IPPROTO_TCP, socket.TCP_NODELAY, 1)
         self.calls = Calls(house, iter(int, 1))
-        self.send(framed(b"35=A\x0149=%b\x0156=%b\x0134=1\x0152=19700101-00:00:00\x0198=0\x01108=0\x011137=9\x01" % (firm, house)))
+        self.send(framed(b"35=A\x0149=%b\x0156=%b\x0134=1\x0152=19700101-00:00:00\x0198=0\x01108=0\x011137=9\x01" % (firm, house.name)))
 
     def send(self, *frames):
         data = b"".join(frames)
