@@ -1,5 +1,5 @@
 -- In a history of a run each entry that concerns a firm is told.
-use Rattle.std.proofs.Common.{◌≡◌, ℕ, zero, suc, ◌+◌, Bool, true, false, ◌&&◌, List, [], ◌∷◌, ◌++◌, refl, sym, ◌∙◌, ap, subst, arith, Option, cond, length, take, append_assoc}
+use Rattle.std.proofs.Common.{◌≡◌, ℕ, zero, suc, ◌+◌, Bool, true, false, ◌&&◌, List, [], ◌∷◌, ◌++◌, refl, sym, ◌∙◌, ap, subst, Option, cond, take, append_assoc}
 use Rattle.std.specs.Prelude.{Some, None, map, filter, nat_lt, sum_by, option_map, option_and_then}
 use Rattle.std.specs.List.{All, filter_map, cons_option}
 use Rattle.std.proofs.lemmas.List.Elements.{All-nil, All-cons, All-head, All-tail}
@@ -23,7 +23,7 @@ use Rattle.gu_base.specs.declared.node.Deal.{Deal}
 use Rattle.gu_trace.specs.Deals.{deal_of}
 use Rattle.gu_trace.specs.Concerns.{change_concerns, record_concerns, concerns}
 use Rattle.gu_trace.specs.Reports.{report_with, parts_shown, claimed_part, no_part, decision_report, change_report, reversal_report, report_of, told, entries_for, reports_for}
-use Rattle.gu_trace.proofs.Found.{cut_at, entry_more, named_there, has_deal}
+use Rattle.gu_trace.proofs.Found.{cut_at, named_there, has_deal}
 use Rattle.gu_trace.proofs.Walk.{walk}
 use Rattle.gu_trace.proofs.Within.{run_within}
 use Rattle.gu_trace.proofs.Short.{IsShort, reports_short}

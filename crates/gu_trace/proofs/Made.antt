@@ -2,7 +2,7 @@
 use Rattle.std.proofs.Common.{◌≡◌, ℕ, List, [], ◌∷◌, ◌++◌, refl, sym, ◌∙◌, ap, Option, append_assoc}
 use Rattle.std.specs.Prelude.{Some, None, not, ◌&&◌, map, flat_map}
 use Rattle.gu_base.specs.House.{House}
-use Rattle.gu_base.specs.History.{live, records, is_change, is_reversed}
+use Rattle.gu_base.specs.History.{live, is_change, is_reversed}
 use Rattle.gu_base.specs.Answers.{entry_of}
 use Rattle.gu_base.specs.declared.entry.Entry.{Entry}
 use Rattle.gu_base.specs.declared.entry.Record.{Record}

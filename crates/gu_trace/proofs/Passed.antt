@@ -1,5 +1,5 @@
 -- What a reading has passed over concerns its firm neither then nor later, so a reading that begins where it ended tells the same.
-use Rattle.std.proofs.Common.{◌≡◌, ℕ, zero, suc, ◌+◌, ◌<◌, ◌≤◌, Bool, true, false, ◌&&◌, List, [], ◌∷◌, ◌++◌, refl, sym, ◌∙◌, ap, subst, arith, Option, cond, ltb, length, take, append_assoc, append-nil}
+use Rattle.std.proofs.Common.{◌≡◌, ℕ, zero, suc, ◌+◌, ◌<◌, ◌≤◌, Bool, true, false, ◌&&◌, List, [], ◌∷◌, ◌++◌, refl, sym, ◌∙◌, ap, subst, arith, Option, cond, length, take, append_assoc}
 use Rattle.std.specs.Prelude.{Some, None, map, filter, nat_lt}
 use Rattle.std.specs.List.{filter_map}
 use Rattle.std.proofs.lemmas.Bool.Decides.{Decides-ltb}
@@ -106,11 +106,11 @@ none_behind house h f after few before behind e cut low high =
     let same : last_number after (numbers (entries_for house h f after)) ≡ last_number after (numbers (filter p (records h))) = ap (λ rs. last_number after (numbers rs)) all in
     let least : after ≤ last_number after (numbers (filter p (records h))) = grows p 1 after h above in
     false_or (concerns house h f e.firm e.command) (λ c.
-        let behind_it : after < 1 + length before = omega (arith, low, same, least) in
-        let kept = both_true (nat_lt after (1 + length before)) (concerns house h f e.firm e.command) ((Decides-ltb after (1 + length before)).1 behind_it) c in
-        let within = member p 1 after before behind e above kept in
-        let within' : 1 + length before ≤ last_number after (numbers (filter p (records h))) = subst (λ (l : List Entry). 1 + length before ≤ last_number after (numbers (filter p (records l)))) (sym cut) within in
-        omega (arith, within', low, same))
+    let behind_it : after < 1 + length before = omega (arith, low, same, least) in
+    let kept = both_true (nat_lt after (1 + length before)) (concerns house h f e.firm e.command) ((Decides-ltb after (1 + length before)).1 behind_it) c in
+    let within = member p 1 after before behind e above kept in
+    let within' : 1 + length before ≤ last_number after (numbers (filter p (records h))) = subst (λ (l : List Entry). 1 + length before ≤ last_number after (numbers (filter p (records l)))) (sym cut) within in
+    omega (arith, within', low, same))
 
 -- ---- a reading from the one number tells what one from the other tells
 
