@@ -45,8 +45,8 @@ def split(id, node, parts):
 
 
 def house_text(rng):
-    """A house file of strangers' names: each pair of firms has an agreement or none, some of them tight."""
-    lines = ["GIVEUP 1", "HOUSE <HSE>&co"] + [f"FIRM {firm}" for firm in FIRMS]
+    """A house file of strangers' names: each pair of firms has an agreement or none, some of them tight. Some files have them as opening calls."""
+    lines = [f"GIVEUP {rng.randint(1, 2)}", "HOUSE <HSE>&co"] + [f"FIRM {firm}" for firm in FIRMS]
     lines += [f"ACCOUNT {firm} {account}" for firm in FIRMS + ["<HSE>&co"] for account in ACCOUNTS]
     lines += [f"INSTRUMENT {name}" for name in INSTRUMENTS]
     pairs = [(giver, taker) for giver in FIRMS for taker in FIRMS if giver != taker and rng.random() < 0.8]
@@ -98,7 +98,7 @@ class Day:
         self.send(message(kind, firm, self.book.house.name, len(self.sent) + 1, rest))
 
     def act(self):
-        acts = [self.trade] * 2 + [self.split] * 4 + [self.decide] * 5 + [self.reversal] * 4 + [self.noise]
+        acts = [self.trade] * 2 + [self.split] * 4 + [self.decide] * 5 + [self.reversal] * 4 + [self.noise, self.agree, self.raised]
         self.rng.choice(acts)()
 
     def trade(self):
@@ -129,6 +129,25 @@ class Day:
         codes = {"claim": ["71=0", "626=18"], "refuse": ["71=0", "626=19"], "cancel": ["71=2", "626=23"]}[how]
         account = ["79=before", "78=1", f"79={self.rng.choice(ACCOUNTS)}"] if how == "claim" else []
         self.ask("J", firm, [f"70={self.id()}", *codes, f"72={node.name}", *account])
+
+    def agree(self):
+        """An agreement of the house, mostly one that there isn't yet."""
+        firms = FIRMS + [self.book.house.name]
+        pairs = [(giver, taker) for giver in firms for taker in firms if self.rng.random() < 0.03 or giver != taker and (giver, taker) not in self.book.terms]
+        if pairs:
+            giver, taker = self.rng.choice(pairs)
+            rate, limit = self.rng.choice(["0", "0040", "125", "100000", "100001"]), self.rng.choice(["0", "300", "5000", "10000000000000"])
+            rest = [f"70={self.id()}", "71=0", "626=90", f"5001={giver}", f"5002={taker}", f"5003={rate}", f"5004={limit}"]
+            self.ask("J", self.book.house.name, rest)
+
+    def raised(self):
+        """A raise by the taker of an agreement, now and then by its giver."""
+        if self.book.terms:
+            giver, taker = self.rng.choice(list(self.book.terms))
+            if self.rng.random() < 0.05:
+                giver, taker = taker, giver
+            lots = self.rng.choice(["0", "1", "007", "2500", "9999999999999"])
+            self.ask("J", taker, [f"70={self.id()}", "71=0", "626=91", "72=nothing", f"5001={giver}", f"5004={lots}"])
 
     def reversal(self):
         """A consent to the undo of a change, a decline, or the undo; of those with a consent most often."""
