@@ -19,13 +19,20 @@ fn tell_fault(rt: &impl Print, alloc: Global, what: &str, text: &str) -> io::Res
     }
 }
 
-/// Writes what is told of them. The two lines more are empty ones: bad lines, if they stood further up.
-pub(crate) fn tell(rt: &impl Print, alloc: Global) -> io::Result<()> {
-    let mut text = String::from_str(alloc, "GIVEUP 1\nHOUSE HSE\n")?;
+/// Writes what is told of files whose first line this is. The two lines more are empty ones: bad lines, if they stood further up.
+fn tell_version(rt: &impl Print, alloc: Global, version: &str) -> io::Result<()> {
+    let mut text = format!(in alloc; "{version}\nHOUSE HSE\n")?;
     append_firms(alloc, &mut text)?;
+    println!(rt; "{version}")?;
     tell_fault(rt, alloc, "100000 lines", text.as_str())?;
     text.push_str("\n\n")?;
     tell_fault(rt, alloc, "two more", text.as_str())?;
-    let headed = format!(in alloc; "GIVEUP 1\n{text}")?;
+    let headed = format!(in alloc; "{version}\n{text}")?;
     tell_fault(rt, alloc, "a first line twice", headed.as_str())
+}
+
+/// Writes what is told of them in each version.
+pub(crate) fn tell(rt: &impl Print, alloc: Global) -> io::Result<()> {
+    tell_version(rt, alloc, "GIVEUP 1")?;
+    tell_version(rt, alloc, "GIVEUP 2")
 }

@@ -14,6 +14,9 @@ fn tell_refusals(rt: &impl Print, firm: FirmId, last: Number) -> io::Result<()> 
         Refusal::StandsOn(last),
         Refusal::AlreadyReversed(last),
         Refusal::NothingPending,
+        Refusal::OwnAgreement,
+        Refusal::BadTerms,
+        Refusal::AgreementExists,
     ];
     for refusal in refusals {
         let text = refusal.text();

@@ -4,6 +4,28 @@ use gu_fees::Terms;
 use std::alloc::Global;
 use std::io;
 
+/// What is seen of a pair: its limit, its rate, and what it has used.
+fn seen(terms: &Terms, giver: &FirmId, taker: &FirmId) -> (Option<u64>, Option<u64>, u64) {
+    (
+        terms.limit(giver, taker),
+        terms.rate(giver, taker),
+        terms.used(giver, taker),
+    )
+}
+
+/// Makes a pair ready. Where memory lacks, nothing that is seen may have changed, and it is made ready once more.
+fn make_ready(terms: &mut Terms, giver: &FirmId, taker: &FirmId) -> Result<bool, Memory> {
+    let before = seen(terms, giver, taker);
+    match terms.ready(giver, taker, None) {
+        Ok(()) => Ok(true),
+        Err(_) => {
+            let same = seen(terms, giver, taker) == before;
+            terms.ready(giver, taker, None)?;
+            Ok(same)
+        }
+    }
+}
+
 /// Puts an entry in where it may be put, and says whether it was.
 fn put_entry(
     terms: &mut Terms,
@@ -15,8 +37,7 @@ fn put_entry(
     let Some(entry) = Number::new(entry) else {
         return Ok(false);
     };
-    terms.ready(giver, taker, None)?;
-    if !terms.can_put(giver, taker, entry, deed) {
+    if !make_ready(terms, giver, taker)? || !terms.can_put(giver, taker, entry, deed) {
         return Ok(false);
     }
     match deed {
@@ -38,13 +59,21 @@ fn standing(terms: &Terms, entry: u32) -> u32 {
     }
 }
 
+/// How many entries the pair of this one has.
+fn beside(terms: &Terms, entry: u32) -> usize {
+    match Number::new(entry) {
+        Some(number) => terms.entries_beside(number),
+        None => 0,
+    }
+}
+
 fn take_out(terms: &mut Terms, entry: u32) {
     if let Some(number) = Number::new(entry) {
         terms.take_out(number);
     }
 }
 
-/// Writes the limit of a pair, what it has used, and what stands on entries 1 and 4.
+/// Writes the limit of a pair, what it has used, what stands on entries 1 and 4, and how many entries stand beside 1 and 8.
 fn tell_pair(
     rt: &impl Print,
     terms: &Terms,
@@ -53,17 +82,24 @@ fn tell_pair(
     taker: &FirmId,
 ) -> io::Result<()> {
     println!(rt;
-        "{when}: limit {}, rate {}, used {}; on 1 stands {}, on 4 {}",
+        "{when}: limit {}, rate {}, used {}; on 1 stands {}, on 4 {}; beside 1 {}, beside 8 {}",
         terms.limit(giver, taker).unwrap_or(0),
         terms.rate(giver, taker).unwrap_or(0),
         terms.used(giver, taker),
         standing(terms, 1),
-        standing(terms, 4)
+        standing(terms, 4),
+        beside(terms, 1),
+        beside(terms, 8)
     )
 }
 
 /// Writes what becomes of terms that are made by 1, used by 3 and raised by 4, so that 5 and 6 can use more, and of which 5, 6 and 4 are taken out.
-pub fn tell_terms(rt: &impl Print, alloc: Global, giver: &FirmId, taker: &FirmId) -> io::Result<()> {
+pub fn tell_terms(
+    rt: &impl Print,
+    alloc: Global,
+    giver: &FirmId,
+    taker: &FirmId,
+) -> io::Result<()> {
     let mut terms = Terms::new(alloc);
     tell_pair(rt, &terms, "never made ready", giver, taker)?;
     let made = Agreement {
