@@ -4,7 +4,7 @@ use Rattle.std.specs.Io.KnownBytes.{Consumes, Appends, IsAtEnd}
 use Rattle.gu_codec.specs.Grammar.{IsFront}
 use Rattle.gu_codec.specs.Stream.{Stream}
 use Rattle.gu_base.specs.House.{House}
-use Rattle.gu_codec.specs.Messages.{End, Clean, Truncated, Broken}
+use Rattle.gu_codec.specs.Messages.{Clean, Truncated, Broken}
 use Rattle.gu_codec.specs.Readings.{messages_of, end_of}
 use Rattle.gu_batch.specs.Output.{Progress, start, texts, output_of, progress_of, Answers}
 use Rattle.gu_batch.specs.Held.{LeadsTo, HeldFails}
