@@ -1,6 +1,6 @@
 -- The terms that a book keeps: what they say of a giver and a taker, and how they follow the changes.
-use Rattle.std.proofs.Common.{◌≡◌, ℕ, ◌+◌, ◌*◌, ◌≤◌, ◌<◌, ◌^◌, Bool, true, false, ◌&&◌, List, [], ◌∷◌, ◌++◌, length, refl, sym, ◌∙◌, ap, subst, arith, cond, Option, All, Contains}
-use Rattle.std.specs.Prelude.{Some, None, IfSome, IsSomeAnd, filter, filter_map, sum_by, option_map, option_and_then, bytes_eq}
+use Rattle.std.proofs.Common.{◌≡◌, ℕ, ◌+◌, ◌*◌, ◌≤◌, Bool, true, false, ◌&&◌, List, [], ◌∷◌, length, refl, sym, ◌∙◌, ap, subst, arith, cond, Option, All, Contains}
+use Rattle.std.specs.Prelude.{Some, None, IfSome, filter, filter_map, sum_by, option_map, option_and_then, bytes_eq}
 use Rattle.std.specs.List.{cons_option}
 use Rattle.std.specs.Option.{option_or}
 use Rattle.std.proofs.Math.Nat.{mul-le-mul_right}
@@ -9,12 +9,10 @@ use Rattle.std.proofs.lemmas.List.Elements.{All-nil, All-cons, All-head, All-tai
 use Rattle.std.proofs.lemmas.List.Sums.{sum_by-le, sum_by-cons}
 use Rattle.gu_base.specs.Limits.{most_lots, highest_rate}
 use Rattle.gu_base.specs.House.{House, agreement}
-use Rattle.gu_base.specs.History.{RisesFrom}
 use Rattle.gu_base.specs.Nodes.{node_of}
 use Rattle.gu_base.specs.Fees.{charge_of, charge_of_kind, charges, counted}
-use Rattle.gu_base.specs.Refusals.{refusal_of}
 use Rattle.gu_base.specs.Standing.{first_refused}
-use Rattle.gu_base.specs.Terms.{use_of_kind, use_of_node, deed_of, dealing_of, dealings_in, dealings, made_by_deed, made_in, raised_by_deed, used_by_deed, terms_under, raised_under, limit_under, used_under, terms_of, limit_of, used_of}
+use Rattle.gu_base.specs.Terms.{use_of_kind, use_of_node, deed_of, dealings_in, dealings, made_by_deed, made_in, raised_by_deed, used_by_deed, terms_under, raised_under, limit_under, used_under, terms_of, limit_of, used_of}
 use Rattle.gu_base.specs.declared.house.Agreement.{Agreement}
 use Rattle.gu_base.specs.declared.house.Dealing.{Dealing}
 use Rattle.gu_base.specs.declared.house.Deed.{Deed}

@@ -8,7 +8,6 @@ use Rattle.std.proofs.lemmas.List.Elements.{All-nil, All-cons, All-head, All-tai
 use Rattle.std.proofs.lemmas.Option.{same_Some}
 use Rattle.gu_base.specs.Numbers.{EntryPart}
 use Rattle.gu_base.specs.House.{House}
-use Rattle.gu_base.specs.History.{is_change}
 use Rattle.gu_base.specs.Nodes.{node_of, nodes_of, same_name, split_of, decision_of, splits, decides, is_given, parent}
 use Rattle.gu_base.specs.Rows.{state_of, state_after}
 use Rattle.gu_base.specs.declared.command.Command.{Command}

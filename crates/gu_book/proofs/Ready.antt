@@ -14,7 +14,7 @@ use Rattle.gu_base.specs.Standing.{first_refused, standing_on}
 use Rattle.gu_base.specs.Consents.{parties_of, consents_of, is_among, missing}
 use Rattle.gu_base.specs.Answers.{Call, answer_to, answer_by, accepted_or, entry_of, reversal_of, on_change, initiate_rest, reverse_rest, command_refusal, is_same_id, is_same_call}
 use Rattle.gu_base.specs.Runs.{after_all}
-use Rattle.gu_base.specs.declared.command.Command.TheVariants.{Agree, Raise, Initiate, Reverse}
+use Rattle.gu_base.specs.declared.command.Command.TheVariants.{Initiate, Reverse}
 use Rattle.gu_base.specs.declared.entry.Answer.TheVariants.{Accepted, Refused}
 use Rattle.gu_base.specs.declared.entry.Entry.{Entry}
 use Rattle.gu_base.specs.declared.entry.Record.{Record}

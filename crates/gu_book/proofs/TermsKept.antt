@@ -1,5 +1,5 @@
 -- How the terms that a book keeps follow its changes, and what an Agree or a Raise leaves of all else.
-use Rattle.std.proofs.Common.{◌≡◌, ℕ, ◌+◌, ◌≤◌, ◌<◌, ◌^◌, Bool, true, false, ◌||◌, List, [], ◌∷◌, ◌++◌, length, refl, sym, ◌∙◌, ap, subst, arith, cond, Option, IsSomeAnd, append-nil}
+use Rattle.std.proofs.Common.{◌≡◌, ℕ, ◌≤◌, ◌<◌, Bool, true, false, ◌||◌, List, [], ◌∷◌, ◌++◌, length, refl, sym, ◌∙◌, ap, subst, arith, cond, Option, IsSomeAnd, append-nil}
 use Rattle.std.specs.Prelude.{Some, None, sum_by, option_and_then}
 use Rattle.std.proofs.lemmas.List.Elements.{All-contains}
 use Rattle.gu_base.specs.House.{House}
@@ -7,12 +7,11 @@ use Rattle.gu_base.specs.Numbers.{EntryPart}
 use Rattle.gu_base.specs.Nodes.{node_of, is_given}
 use Rattle.gu_base.specs.Fees.{charge_of}
 use Rattle.gu_base.specs.Standing.{without}
-use Rattle.gu_base.specs.Terms.{use_of_node, deed_of, dealings, raised_under, used_under}
+use Rattle.gu_base.specs.Terms.{use_of_node, deed_of, raised_under, used_under}
 use Rattle.gu_base.specs.declared.house.Deed.{Deed}
 use Rattle.gu_base.specs.declared.house.Deed.TheVariants.{Makes, Raises, Uses}
 use Rattle.gu_base.specs.declared.house.Dealing.{Dealing}
 use Rattle.gu_base.specs.declared.house.Pair.{Pair}
-use Rattle.gu_base.specs.declared.command.Side.{Side}
 use Rattle.gu_base.specs.declared.command.Command.{Command}
 use Rattle.gu_base.specs.declared.command.Command.TheVariants.{Trade, Split, Claim, Refuse, Cancel, Agree, Raise, Initiate, Decline, Reverse}
 use Rattle.gu_base.specs.declared.entry.Record.{Record}
@@ -25,7 +24,7 @@ use Rattle.gu_depend.specs.Under.{names}
 use Rattle.gu_depend.proofs.Deals.{both_same}
 use Rattle.gu_depend.proofs.LastMoves.{IsBefore, is_before}
 use Rattle.gu_depend.proofs.Replay.{NumbersOnce, number_once}
-use Rattle.gu_depend.proofs.Settled.{Settled, SettledClaim, SettledAs, facts}
+use Rattle.gu_depend.proofs.Settled.{Settled, SettledAs, facts}
 use Rattle.gu_depend.proofs.StandsUnder.{rises_distinct}
 use Rattle.gu_depend.proofs.TermsFollow.{apart_follows, put_follows}
 use Rattle.gu_depend.proofs.TermsLess.{taken_follows, nobody_follows}

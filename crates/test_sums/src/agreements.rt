@@ -94,7 +94,12 @@ fn tell_pair(
 }
 
 /// Writes what becomes of terms that are made by 1, used by 3 and raised by 4, so that 5 and 6 can use more, and of which 5, 6 and 4 are taken out.
-pub fn tell_terms(rt: &impl Print, alloc: Global, giver: &FirmId, taker: &FirmId) -> io::Result<()> {
+pub fn tell_terms(
+    rt: &impl Print,
+    alloc: Global,
+    giver: &FirmId,
+    taker: &FirmId,
+) -> io::Result<()> {
     let mut terms = Terms::new(alloc);
     tell_pair(rt, &terms, "never made ready", giver, taker)?;
     let made = Agreement {

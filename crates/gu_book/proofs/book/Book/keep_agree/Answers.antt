@@ -1,4 +1,4 @@
-use Rattle.std.proofs.Common.{◌≤◌, ◌||◌, List, length, refl, ap, subst, arith}
+use Rattle.std.proofs.Common.{◌||◌, List, refl, ap, subst, arith}
 use Rattle.gu_base.specs.History.{live, is_change}
 use Rattle.gu_base.specs.declared.entry.Record.{Record}
 use Rattle.gu_base.specs.declared.house.Deed.TheVariants.{Makes}

@@ -10,7 +10,7 @@ use Rattle.gu_book.specs.Charging.{AreFeesOf}
 use Rattle.gu_book.specs.Filed.{IsFiled, IsFree}
 use Rattle.gu_book.specs.Holdings.{ArePositionsOf}
 use Rattle.gu_book.specs.Live.{entry_of_change}
-use Rattle.gu_book.proofs.AllShown.{IsUndone, undone, undone_number, undone_may_go}
+use Rattle.gu_book.proofs.AllShown.{undone, undone_number, undone_may_go}
 use Rattle.gu_book.proofs.Indexed.{ids_few, ids_fewer, index_reverse}
 use Rattle.gu_book.proofs.Keeps.{kept_reverse, live_less, still_before}
 use Rattle.gu_book.proofs.TermsKept.{IsOfTerms, terms_undealt, undealt_filed, undealt_fees, undealt_stands}

@@ -1,4 +1,4 @@
-use Rattle.std.proofs.Common.{◌≤◌, List, Option, ap, subst}
+use Rattle.std.proofs.Common.{◌≤◌, Option, ap, subst}
 use Rattle.std.specs.Prelude.{None, Some, IfSome}
 use Rattle.gu_base.specs.Limits.{highest_limit, highest_rate}
 use Rattle.gu_base.specs.declared.house.Agreement.{Agreement}
