@@ -1,8 +1,9 @@
-//! What a change touches, and the place of a trade in the trees of a book.
+//! What a change touches, the place of a trade in the trees of a book, and what stands on an agreement.
 
 use crate::words::place_of;
-use gu_base::{Command, InstrumentId, NodeName, Number, Parts, Place, Side};
+use gu_base::{Agreement, Command, FirmId, InstrumentId, NodeName, Number, Parts, Place, Side};
 use gu_depend::{Touched, first_standing, touched};
+use gu_fees::Terms;
 use gu_tree::{Tree, Trees};
 use std::alloc::Global;
 use std::io;
@@ -48,14 +49,25 @@ fn tell_entries(rt: &impl Print, entry: Number) -> io::Result<()> {
     tell_touched(rt, "reverse", &Command::Reverse { entry })
 }
 
-/// Writes the place of entry 1, and what stands on it first.
-fn show(rt: &impl Print, trees: &Trees<Global>) -> io::Result<()> {
-    let entry = Number::at_place(0);
+/// Writes what the commands that change what two firms agreed on make or decide.
+fn tell_terms(rt: &impl Print, giver: FirmId, taker: FirmId) -> io::Result<()> {
+    let agree = Command::Agree {
+        giver,
+        taker,
+        rate: 50,
+        limit: 100,
+    };
+    tell_touched(rt, "agree", &agree)?;
+    tell_touched(rt, "raise", &Command::Raise { giver, lots: 10 })
+}
+
+/// Writes the place of an entry, and what stands on it first.
+fn show(rt: &impl Print, trees: &Trees<Global>, terms: &Terms, entry: Number) -> io::Result<()> {
     match trees.place(entry) {
-        Some((trade, path)) => print!(rt; "entry 1: {} deep in {trade}", path.len())?,
-        None => print!(rt; "entry 1: no place")?,
+        Some((trade, path)) => print!(rt; "entry {entry}: {} deep in {trade}", path.len())?,
+        None => print!(rt; "entry {entry}: no place")?,
     }
-    match first_standing(trees, entry) {
+    match first_standing(trees, terms, entry) {
         Some(first) => println!(rt; "; {first} stands on it"),
         None => println!(rt; "; nothing stands on it"),
     }
@@ -64,23 +76,48 @@ fn show(rt: &impl Print, trees: &Trees<Global>) -> io::Result<()> {
 /// Writes the place of a trade before it is planted and behind it.
 fn tell_places(rt: &impl Print, alloc: Global, into: &Place) -> io::Result<()> {
     let mut trees = Trees::new(alloc, alloc);
-    show(rt, &trees)?;
+    let terms = Terms::new(alloc);
+    let entry = Number::at_place(0);
+    show(rt, &trees, &terms, entry)?;
     trees.ready()?;
-    trees.plant(Tree::new(alloc, Number::at_place(0), *into, 100));
-    show(rt, &trees)
+    trees.plant(Tree::new(alloc, entry, *into, 100));
+    show(rt, &trees, &terms, entry)
 }
 
-/// Writes what each kind of command touches, and then the place of a trade.
+/// Writes what stands on an agreement of no lots, on a raise by 10, and on a claim of 5 that needs the raise: entries 1 to 3.
+fn tell_standing(rt: &impl Print, alloc: Global, giver: FirmId, taker: FirmId) -> io::Result<()> {
+    let trees = Trees::new(alloc, alloc);
+    let mut terms = Terms::new(alloc);
+    let numbers = [0, 1, 2].map(Number::at_place);
+    let made = Agreement { rate: 50, limit: 0 };
+    terms.ready(&giver, &taker, None)?;
+    terms.agree(&giver, &taker, numbers[0], made);
+    terms.ready(&giver, &taker, None)?;
+    terms.raise(&giver, &taker, numbers[1], 10);
+    terms.ready(&giver, &taker, None)?;
+    terms.claim(&giver, &taker, numbers[2], 5);
+    for entry in numbers {
+        show(rt, &trees, &terms, entry)?;
+    }
+    terms.take_out(numbers[2]);
+    show(rt, &trees, &terms, numbers[0])?;
+    show(rt, &trees, &terms, numbers[1])
+}
+
+/// Writes what each kind of command touches, then the place of a trade, and what stands on an agreement.
 pub(crate) fn tell(rt: &impl Print, alloc: Global) -> io::Result<()> {
-    let (Some(into), Some(node), Some(instrument)) = (
+    let (Some(into), Some(node), Some(instrument), Some(taker)) = (
         place_of("AAA/A1"),
         NodeName::new(2, 1),
         InstrumentId::new(b"ESZ6"),
+        FirmId::new(b"BBB"),
     ) else {
         return Err(io::Error::from(ErrorKind::InvalidData));
     };
     tell_trade(rt, &instrument, &into)?;
     tell_named(rt, alloc, node, &into)?;
     tell_entries(rt, Number::at_place(1))?;
-    tell_places(rt, alloc, &into)
+    tell_terms(rt, into.firm, taker)?;
+    tell_places(rt, alloc, &into)?;
+    tell_standing(rt, alloc, into.firm, taker)
 }
