@@ -1,7 +1,9 @@
 //! What a change touches, the place of a trade in the trees of a book, and what stands on an agreement.
 
 use crate::words::place_of;
-use gu_base::{Agreement, Command, FirmId, InstrumentId, NodeName, Number, Parts, Place, Side};
+use gu_base::{
+    Agreement, Command, Deed, FirmId, InstrumentId, NodeName, Number, Parts, Place, Side,
+};
 use gu_depend::{Touched, first_standing, touched};
 use gu_fees::Terms;
 use gu_tree::{Tree, Trees};
@@ -84,24 +86,41 @@ fn tell_places(rt: &impl Print, alloc: Global, into: &Place) -> io::Result<()> {
     show(rt, &trees, &terms, entry)
 }
 
+/// Puts an entry of a giver and a taker in.
+fn put(
+    terms: &mut Terms,
+    giver: &FirmId,
+    taker: &FirmId,
+    entry: Number,
+    deed: Deed,
+) -> io::Result<()> {
+    terms.ready(giver, taker, None)?;
+    if !terms.can_put(giver, taker, entry, deed) {
+        return Err(io::Error::from(ErrorKind::InvalidData));
+    }
+    match deed {
+        Deed::Makes(made) => terms.agree(giver, taker, entry, made),
+        Deed::Raises(lots) => terms.raise(giver, taker, entry, lots),
+        Deed::Uses(lots) => terms.claim(giver, taker, entry, lots),
+    }
+    Ok(())
+}
+
 /// Writes what stands on an agreement of no lots, on a raise by 10, and on a claim of 5 that needs the raise: entries 1 to 3.
 fn tell_standing(rt: &impl Print, alloc: Global, giver: FirmId, taker: FirmId) -> io::Result<()> {
     let trees = Trees::new(alloc, alloc);
     let mut terms = Terms::new(alloc);
-    let numbers = [0, 1, 2].map(Number::at_place);
+    let [first, second, third] = [0, 1, 2].map(Number::at_place);
     let made = Agreement { rate: 50, limit: 0 };
-    terms.ready(&giver, &taker, None)?;
-    terms.agree(&giver, &taker, numbers[0], made);
-    terms.ready(&giver, &taker, None)?;
-    terms.raise(&giver, &taker, numbers[1], 10);
-    terms.ready(&giver, &taker, None)?;
-    terms.claim(&giver, &taker, numbers[2], 5);
-    for entry in numbers {
+    put(&mut terms, &giver, &taker, first, Deed::Makes(made))?;
+    put(&mut terms, &giver, &taker, second, Deed::Raises(10))?;
+    put(&mut terms, &giver, &taker, third, Deed::Uses(5))?;
+    for entry in [first, second, third] {
         show(rt, &trees, &terms, entry)?;
     }
-    terms.take_out(numbers[2]);
-    show(rt, &trees, &terms, numbers[0])?;
-    show(rt, &trees, &terms, numbers[1])
+    terms.take_out(third);
+    show(rt, &trees, &terms, first)?;
+    show(rt, &trees, &terms, second)
 }
 
 /// Writes what each kind of command touches, then the place of a trade, and what stands on an agreement.
