@@ -5,13 +5,13 @@ ghost use Rattle.gu_desk.specs.Views.{is_worker_count};
 ghost use Rattle.gu_desk.specs.Begins.{BeginsWith};
 ghost use Rattle.gu_desk.specs.Runs.{IsRunOf};
 
+use crate::accepting::accept_all;
 use crate::worker::Worker;
-use crossbeam_channel::{Receiver, Sender};
+use crossbeam_channel::Receiver;
 use gu_book::Book;
 use gu_desk::{Desk, Gate, Ground, Job, Seat};
 use gu_parties::House;
 use std::alloc::Global;
-use std::io::ErrorKind;
 use std::marker::Brand;
 use std::net::{TcpListener, TcpStream};
 use std::sync::Wait;
@@ -49,47 +49,6 @@ fn work<J: Job, R: Wait + Clock, G: Gate>(
         seat = worker.attend(seat, stream);
     }
     seat
-}
-
-/// Accepts the next connection, and hands it to the workers, for whom it may wait. One that its peer broke off before is passed over.
-fn accept<R: Wait>(
-    rt: &R,
-    listener: &TcpListener,
-    to: &Sender<TcpStream>,
-) -> Result<(), ServeError> {
-    for _ in rt.forever() {
-        match listener.accept() {
-            Ok((stream, _peer)) => {
-                return match to.send(rt, stream) {
-                    Ok(()) => Ok(()),
-                    Err(_) => Err(ServeError::Memory),
-                };
-            }
-            Err(error) => match error.kind() {
-                ErrorKind::ConnectionAborted => {}
-                _ => return Err(ServeError::Accept),
-            },
-        }
-    }
-    unreachable!()
-}
-
-/// Accepts so many connections, or with 0 without end.
-fn accept_all<R: Wait>(
-    rt: &R,
-    listener: &TcpListener,
-    to: &Sender<TcpStream>,
-    connections: u32,
-) -> Result<(), ServeError> {
-    if connections == 0 {
-        for _ in rt.forever() {
-            accept(rt, listener, to)?;
-        }
-    }
-    for _ in 0..connections {
-        accept(rt, listener, to)?;
-    }
-    Ok(())
 }
 
 /// Joins the workers, and gives their seats back.
