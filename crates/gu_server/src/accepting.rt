@@ -1,6 +1,5 @@
 //! How connections are accepted, and which faults of that a server outlives.
 ghost use Rattle.std.specs.Prelude.{◌≡◌};
-ghost use Rattle.std_io.specs.IoError.{raw_os_error};
 ghost use Rattle.gu_server.specs.Accepting.{numbered, outcome_of};
 
 use crate::server::ServeError;

@@ -38,6 +38,20 @@ pub enum ServeError {
 /// keeps open is bounded by its workers.
 const WAITING: usize = 1;
 
+/// How long a connection may be without an accepted Logon, in seconds.
+const LOGON_WAIT: u64 = 30;
+
+/// How much a server does.
+#[derive(Clone, Copy, Debug)]
+pub struct ServeLimits {
+    /// How many workers share the book, 1 to 16.
+    pub workers: u32,
+    /// How many connections are served; with 0 there is no end.
+    pub connections: u32,
+    /// How long a connection may be without an accepted Logon, in seconds.
+    pub logon_wait: u64,
+}
+
 /// Serves connections until the channel is closed, and gives the seat back.
 fn work<J: Job, R: Wait + Clock, G: Gate>(
     worker: Worker<'_, J, R, G>,
@@ -106,7 +120,7 @@ fn run_desk<J: Job + Send + Sync, R: Threads + Wait + Clock + Sync, G: Gate + Sy
     listener: &TcpListener,
     house: &House,
     ground: Ground,
-    connections: u32,
+    limits: ServeLimits,
     gate: &G,
 ) -> Result<Book, ServeError>
     requires name { ground.name ≡ J.name }
@@ -128,9 +142,10 @@ fn run_desk<J: Job + Send + Sync, R: Threads + Wait + Clock + Sync, G: Gate + Sy
         desk: &desk,
         house,
         gate,
+        logon_wait: limits.logon_wait,
         number: 0,
     };
-    let seats = match run_workers(first, listener, seats, connections) {
+    let seats = match run_workers(first, listener, seats, limits.connections) {
         Ok(seats) => seats,
         Err(error) => {
             drop(desk);
@@ -168,12 +183,34 @@ fn prepare(alloc: Global, book: Book, workers: u32) -> Result<(House, Ground), S
     }
 }
 
-/// Serves so many connections, or with 0 connections without end, by 1 to 16 workers that share the book. Gives the book back when
-/// all have ended.
+/// Serves within these limits, by workers that share the book. Gives the book back when all connections have ended. One that has no accepted
+/// Logon in time is ended, and nothing is sent to it.
 ///
 /// # Errors
 ///
 /// `Accept`, `NoThread` and `Memory`, when the workers have ended; the book is dropped.
+pub fn serve_within<R: Threads + Wait + Clock + Sync, G: Gate + Sync>(
+    rt: &R,
+    alloc: Global,
+    listener: &TcpListener,
+    book: Book,
+    limits: ServeLimits,
+    gate: &G,
+) -> Result<Book, ServeError>
+    requires { IsTrue (is_worker_count limits.workers) }
+    ensures run { IfOk result (λ b. IsRunOf (stored book) (stored b)) }
+    ensures begins { IfOk result (λ b. BeginsWith b.history book.history) }
+{
+    let (house, ground) = prepare(alloc, book, limits.workers)?;
+    run_desk::<Brand, R, G>(rt, alloc, listener, &house, ground, limits, gate)
+}
+
+/// Serves so many connections, or with 0 connections without end, by 1 to 16 workers that share the book. Gives the book back when
+/// all have ended. A connection has 30 seconds for its Logon.
+///
+/// # Errors
+///
+/// As `serve_within`.
 pub fn serve<R: Threads + Wait + Clock + Sync, G: Gate + Sync>(
     rt: &R,
     alloc: Global,
@@ -187,6 +224,10 @@ pub fn serve<R: Threads + Wait + Clock + Sync, G: Gate + Sync>(
     ensures run { IfOk result (λ b. IsRunOf (stored book) (stored b)) }
     ensures begins { IfOk result (λ b. BeginsWith b.history book.history) }
 {
-    let (house, ground) = prepare(alloc, book, workers)?;
-    run_desk::<Brand, R, G>(rt, alloc, listener, &house, ground, connections, gate)
+    let limits = ServeLimits {
+        workers,
+        connections,
+        logon_wait: LOGON_WAIT,
+    };
+    serve_within(rt, alloc, listener, book, limits, gate)
 }

@@ -2,6 +2,8 @@
 //!
 //! A turn reads at most 4,096 bytes, waiting one second for them, takes the messages that have come whole through the session, and sends
 //! all that comes of them in one write. Only the book is asked under the desk's lock: reading, decoding and writing are done without it.
+//! A connection that has no accepted Logon in time is ended.
+ghost use Rattle.std.specs.Prelude.{◌≡◌, true, is_some, OnOk, OnErr};
 
 use crate::connection::{Came, Closed, Connection};
 use gu_base::{AllocId, Answer, Command, FirmId};
@@ -14,7 +16,7 @@ use std::io;
 use std::io::{ErrorKind, Read};
 use std::net::TcpStream;
 use std::sync::Wait;
-use std::time::{Clock, Duration};
+use std::time::{Clock, Duration, Instant};
 
 /// The longest read of a turn, in bytes.
 const LONGEST_READ: usize = 4096;
@@ -40,6 +42,8 @@ pub(crate) struct Worker<'a, J: Job, R, G> {
     pub(crate) desk: &'a Desk<J>,
     pub(crate) house: &'a House,
     pub(crate) gate: &'a G,
+    /// How long a connection may be without an accepted Logon, in seconds.
+    pub(crate) logon_wait: u64,
     pub(crate) number: u32,
 }
 
@@ -52,6 +56,7 @@ impl<'a, J: Job, R, G> Worker<'a, J, R, G> {
             desk: self.desk,
             house: self.house,
             gate: self.gate,
+            logon_wait: self.logon_wait,
             number,
         }
     }
@@ -183,6 +188,20 @@ impl<'a, J: Job, R: Wait + Clock, G: Gate> Worker<'a, J, R, G> {
         }
     }
 
+    /// Ends a connection that was taken then and has waited for its Logon as long as it may.
+    fn expire(&self, connection: &mut Connection<'_>, taken: Instant) -> Result<(), Closed>
+        ensures ok { OnOk result (connection.new ≡ connection.old) }
+        ensures open { is_some connection.old.session.link.firm ≡ true → OnErr result ⊥ }
+    {
+        if connection.firm().is_some() {
+            return Ok(());
+        }
+        match taken.elapsed(self.rt) {
+            Ok(waited) if waited.as_secs() < self.logon_wait => Ok(()),
+            _ => connection.end(self.rt),
+        }
+    }
+
     /// Serves a connection to its end, and gives the seat back.
     pub(crate) fn attend(&self, seat: Seat<J>, stream: TcpStream) -> Seat<J> {
         if set_up(&stream).is_err() {
@@ -191,11 +210,17 @@ impl<'a, J: Job, R: Wait + Clock, G: Gate> Worker<'a, J, R, G> {
         let Ok(mut connection) = Connection::new(self.alloc, self.house) else {
             return seat;
         };
+        let Ok(taken) = Instant::now(self.rt) else {
+            return seat;
+        };
         let mut seat = seat;
         for _ in self.rt.forever() {
-            let (back, taken) = self.turn(seat, &mut connection, &stream);
+            let (back, turned) = self.turn(seat, &mut connection, &stream);
             seat = back;
-            if connection.write(&stream).is_err() || taken.is_err() {
+            if connection.write(&stream).is_err()
+                || turned.is_err()
+                || self.expire(&mut connection, taken).is_err()
+            {
                 break;
             }
         }
