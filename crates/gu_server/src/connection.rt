@@ -1,11 +1,12 @@
 //! One connection: its session, the bytes that came of it, and what it is to be sent. Nothing here asks the book.
-ghost use Rattle.std.specs.Prelude.{◌≡◌, ◌≤◌, ◌+◌, ◌++◌, [], false, length, None, IfOk, OnOk, OnErr, IsErr};
+ghost use Rattle.std.specs.Prelude.{◌≡◌, ◌≤◌, ◌+◌, ◌++◌, [], false, length, nat_le, None, IfOk, OnOk, OnErr, IsErr};
 ghost use Rattle.std.specs.List.{All};
 ghost use Rattle.gu_base.specs.Limits.{most_parts};
 ghost use Rattle.gu_codec.specs.Limits.{longest_frame};
 ghost use Rattle.gu_session.specs.Steps.{opening};
 ghost use Rattle.gu_session.specs.Text.{ShowFewParts};
 ghost use Rattle.gu_session.specs.declared.event.Event.TheVariants.{Reply};
+ghost use Rattle.gu_trace.specs.Reports.{most_reports};
 ghost use Rattle.gu_server.specs.Turns.{StepsNow, Speaks, Brings, last_told};
 
 use gu_base::{Answer, FirmId, Report};
@@ -17,6 +18,9 @@ use std::alloc::Global;
 use std::io::Write;
 use std::net::TcpStream;
 use std::time::Clock;
+
+/// How many reports a reading has at most.
+const MOST_REPORTS: usize = 100;
 
 /// The connection is to be closed.
 #[derive(Clone, Copy, Debug, PartialEq, Eq)]
@@ -55,6 +59,8 @@ pub(crate) struct Connection<'a> {
     feed: Feed,
     /// The number of the last report that was sent, 0 at first.
     told: u32,
+    /// Whether the last reading had as many reports as one may have, so that more may be there.
+    behind: bool,
     /// What the turn sends, in one write at its end.
     out: Vec<u8>,
 }
@@ -65,6 +71,7 @@ impl<'a> Connection<'a> {
         ensures session { IfOk result (λ c. c.session ≡ opening house.now c.session.link.came) }
         ensures feed { IfOk result (λ c. (c.feed.held ≡ []) × (c.feed.passed ≡ 0) × (c.feed.broken ≡ None)) }
         ensures told { IfOk result (λ c. c.told ≡ 0) }
+        ensures behind { IfOk result (λ c. c.behind ≡ false) }
         ensures out { IfOk result (λ c. c.out.items ≡ []) }
     {
         match Feed::new(alloc) {
@@ -72,6 +79,7 @@ impl<'a> Connection<'a> {
                 session: Session::new(alloc, house),
                 feed,
                 told: 0,
+                behind: false,
                 out: Vec::new(alloc),
             }),
             Err(_) => Err(Closed),
@@ -92,6 +100,13 @@ impl<'a> Connection<'a> {
         self.told
     }
 
+    /// Whether more reports may be there than the last reading had, so that the firm isn't to wait for the next one.
+    pub(crate) fn behind(&self) -> bool
+        ensures { result ≡ self.now.behind }
+    {
+        self.behind
+    }
+
     /// How many bytes the next read may bring.
     pub(crate) fn room(&self) -> usize
         ensures { result + length self.now.feed.held ≡ longest_frame }
@@ -104,6 +119,7 @@ impl<'a> Connection<'a> {
         ensures ok { OnOk result (self.new.feed ≡ record self.old.feed { held = self.old.feed.held ++ piece.now }) }
         ensures session { self.new.session ≡ self.old.session }
         ensures told { self.new.told ≡ self.old.told }
+        ensures behind { self.new.behind ≡ self.old.behind }
         ensures out { self.new.out.items ≡ self.old.out.items }
     {
         match self.feed.push(piece) {
@@ -118,6 +134,7 @@ impl<'a> Connection<'a> {
         ensures open { OnOk result (actions.now.close ≡ false) }
         ensures session { self.new.session ≡ self.old.session }
         ensures told { self.new.told ≡ self.old.told }
+        ensures behind { self.new.behind ≡ self.old.behind }
     {
         if self.out.extend_from_slice(actions.send.as_slice()).is_err() || actions.close {
             return Err(Closed);
@@ -130,6 +147,7 @@ impl<'a> Connection<'a> {
         requires { ShowFewParts event }
         ensures ok { OnOk result (Speaks event.entry self.old.session self.new.session self.old.out.items self.new.out.items) }
         ensures told { self.new.told ≡ self.old.told }
+        ensures behind { self.new.behind ≡ self.old.behind }
     {
         match step(rt, &mut self.session, event) {
             Ok(actions) => self.send(&actions),
@@ -149,6 +167,7 @@ impl<'a> Connection<'a> {
     pub(crate) fn next<R: Clock>(&mut self, rt: &R) -> Result<Came, Closed>
         ensures brings { IfOk result (Brings self.old.feed self.old.session self.new.session self.new.feed) }
         ensures told { self.new.told ≡ self.old.told }
+        ensures behind { self.new.behind ≡ self.old.behind }
         ensures out { self.new.out.items ≡ self.old.out.items }
     {
         match self.feed.next() {
@@ -168,7 +187,7 @@ impl<'a> Connection<'a> {
         }
     }
 
-    /// Sends the answer to the call that waits, if one does, and the reports, and notes the last that was sent.
+    /// Sends the answer to the call that waits, if one does, and the reports, and notes the last that was sent and whether the firm is behind.
     pub(crate) fn send_reply<R: Clock>(
         &mut self,
         rt: &R,
@@ -178,7 +197,9 @@ impl<'a> Connection<'a> {
         requires { All (λ r. length r.parts ≤ most_parts) reports.items }
         ensures ok { OnOk result (Speaks (Reply answer reports) self.old.session self.new.session self.old.out.items self.new.out.items) }
         ensures told { OnOk result (self.new.told ≡ last_told self.old.told reports.items) }
+        ensures behind { OnOk result (self.new.behind ≡ nat_le most_reports (length reports.items)) }
     {
+        let behind = reports.len() >= MOST_REPORTS;
         let last = match reports.as_slice().last() {
             Some(report) => report.number.get(),
             None => self.told,
@@ -186,6 +207,7 @@ impl<'a> Connection<'a> {
         match self.quiet(rt, Event::Reply(answer, reports)) {
             Ok(()) => {
                 self.told = last;
+                self.behind = behind;
                 Ok(())
             }
             Err(e) => Err(e),
@@ -197,6 +219,7 @@ impl<'a> Connection<'a> {
         ensures out { self.new.out.items ≡ [] }
         ensures session { self.new.session ≡ self.old.session }
         ensures told { self.new.told ≡ self.old.told }
+        ensures behind { self.new.behind ≡ self.old.behind }
     {
         let whole = self.out.len();
         if whole == 0 {

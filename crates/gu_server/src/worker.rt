@@ -1,7 +1,8 @@
 //! A worker, and the turns of the connection that it serves.
 //!
-//! A turn reads at most 4,096 bytes, waiting one second for them, takes the messages that have come whole through the session, and sends
-//! all that comes of them in one write. Only the book is asked under the desk's lock: reading, decoding and writing are done without it.
+//! A turn reads at most 4,096 bytes, waiting one second for them, or a millisecond where the firm is behind with its reports. It takes the
+//! messages that have come whole through the session, and sends all that comes of them in one write. Only the book is asked under the desk's
+//! lock: reading, decoding and writing are done without it.
 //! A connection that has no accepted Logon in time is ended.
 ghost use Rattle.std.specs.Prelude.{◌≡◌, true, is_some, OnOk, OnErr};
 
@@ -24,6 +25,9 @@ const LONGEST_READ: usize = 4096;
 /// How long a read waits, in seconds.
 const READ_WAIT: u64 = 1;
 
+/// How long a read waits where the firm is behind with its reports, in milliseconds.
+const BEHIND_WAIT: u64 = 1;
+
 /// How long a write waits, in seconds. A peer that doesn't read holds a worker no longer.
 const WRITE_WAIT: u64 = 30;
 
@@ -32,6 +36,22 @@ fn set_up(stream: &TcpStream) -> io::Result<()> {
     stream.set_nodelay(true)?;
     stream.set_read_timeout(Some(Duration::from_secs(READ_WAIT)))?;
     stream.set_write_timeout(Some(Duration::from_secs(WRITE_WAIT)))
+}
+
+/// Sets how long the next reads wait, where the last waited otherwise: a firm that is behind has its next reports at once.
+fn keep_pace(stream: &TcpStream, hurried: &mut bool, behind: bool) -> io::Result<()>
+    ensures { OnOk result (hurried.new ≡ behind) }
+{
+    if *hurried == behind {
+        return Ok(());
+    }
+    *hurried = behind;
+    let wait = if behind {
+        Duration::from_millis(BEHIND_WAIT)
+    } else {
+        Duration::from_secs(READ_WAIT)
+    };
+    stream.set_read_timeout(Some(wait))
 }
 
 /// A worker: what it has for all its connections. Its seat goes from hand to hand.
@@ -214,12 +234,14 @@ impl<'a, J: Job, R: Wait + Clock, G: Gate> Worker<'a, J, R, G> {
             return seat;
         };
         let mut seat = seat;
+        let mut hurried = false;
         for _ in self.rt.forever() {
             let (back, turned) = self.turn(seat, &mut connection, &stream);
             seat = back;
             if connection.write(&stream).is_err()
                 || turned.is_err()
                 || self.expire(&mut connection, taken).is_err()
+                || keep_pace(&stream, &mut hurried, connection.behind()).is_err()
             {
                 break;
             }
