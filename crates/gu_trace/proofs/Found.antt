@@ -73,7 +73,8 @@ entry_more h k n r found =
     ∙ (find-append (λ q. q.number == n) (records h) (numbered_from (1 + length h) k)
     ∙ ap (λ o. option_or o (find (λ q. q.number == n) (numbered_from (1 + length h) k))) found)
 
-node_later : (h k : List Entry) (n : EntryPart) (x : Node) → node_of (records h) n ≡ Some x → node_of (records (h ++ k)) n ≡ Some x
+-- the same of a node
+pub node_later : (h k : List Entry) (n : EntryPart) (x : Node) → node_of (records h) n ≡ Some x → node_of (records (h ++ k)) n ≡ Some x
 node_later h k n x found = ap (λ l. node_of l n) (numbered_append 1 h k) ∙ node_more (records h) (numbered_from (1 + length h) k) n x found
 
 -- ---- nodes of some changes among all of them

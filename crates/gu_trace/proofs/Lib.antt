@@ -8,3 +8,4 @@ pub mod Found
 pub mod Each
 pub mod Concerned
 pub mod Made
+pub mod Passed

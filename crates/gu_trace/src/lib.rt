@@ -6,16 +6,19 @@
 //!   used agreements in the order of the house file.
 //! - Each is a function of the book's house table and history, which the definitions in `specs/` give; an error leaves `out` as it was.
 //! - The book is only read.
+//! - The law `nothing_is_passed_over`: what a reading has looked at and told nothing of concerns its firm neither then nor later.
 //! - Its cases are data of the program `test_trace`.
 #![tactic(auto)]
 
 mod chain;
 mod concern;
+mod laws;
 mod lookup;
 mod sums;
 mod telling;
 
 pub use chain::{TraceError, trace};
 pub use gu_base::{Report, ReportPart, ReportParts, Target};
+pub use laws::nothing_is_passed_over;
 pub use sums::totals;
 pub use telling::reports;

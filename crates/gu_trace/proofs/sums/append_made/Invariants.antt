@@ -5,5 +5,5 @@ use Rattle.gu_trace.proofs.sums.append_made.Given as goal
 
 abbrev pub invariant-loop-number : goal.invariant-loop-number
 invariant-loop-number l =
-    string_bytes l.text ++ flat_map (made_at l.book.house l.book.history) (drop l.number-index l.numbers.items)
-    ≡ string_bytes l.initial.text ++ flat_map (made_at l.book.house l.book.history) l.numbers.items
+    string_bytes l.text ++ flat_map (made_at l.book.house l.book.history) (drop l.number-index l.number-items)
+    ≡ string_bytes l.initial.text ++ flat_map (made_at l.book.house l.book.history) l.number-items
