@@ -1,12 +1,10 @@
 -- What a turn of a connection does to its session, and what it sends.
-use Rattle.std.specs.Prelude.{◌≡◌, ◌≤ℤ◌, ℕ, ◌-◌, pos, List, ◌++◌, length, slice_get, false, Some, None}
-use Rattle.std.specs.Option.{option_map_or}
+use Rattle.std.specs.Prelude.{◌≡◌, ◌≤ℤ◌, ℕ, pos, List, ◌++◌, false, Some, None}
 use Rattle.jiff.specs.Types.{Timestamp}
 use Rattle.gu_codec.specs.declared.fields.Fields.{Fields}
 use Rattle.gu_codec.specs.declared.frame.Frame.TheVariants.{Whole, Garbled}
 use Rattle.gu_codec.specs.Next.{NextAnswers, after}
 use Rattle.gu_codec.specs.Stream.{Stream}
-use Rattle.gu_base.specs.declared.report.Report.{Report}
 use Rattle.gu_session.specs.declared.event.Event.{Event}
 use Rattle.gu_session.specs.declared.event.Event.TheVariants as event
 use Rattle.gu_session.specs.declared.event.Actions.{Actions}
@@ -22,10 +20,6 @@ StepsNow e before after a = (now : Timestamp) × (pos 0 ≤ℤ now.nanosecond) �
 -- the session took the event and stays open, and what it sends was put behind what the turn sends
 abbrev pub Speaks : Event → Seen → Seen → List ℕ → List ℕ → Type 0
 Speaks e before after out out_after = (a : Actions) × StepsNow e before after a × (out_after ≡ out ++ a.send.items) × (a.close ≡ false)
-
--- the number of the last report that was sent: that of the last of these, or the one before where there are none
-abbrev pub last_told : ℕ → List Report → ℕ
-last_told before reports = option_map_or (λ r. r.number) (slice_get reports (length reports - 1)) before
 
 -- what the bytes held bring, and what they leave of them: no frame yet, a garbled one, of which the session learns nothing, or a message and the session's step over it
 abbrev pub Brings : Stream → Seen → Seen → Stream → Came → Type 0

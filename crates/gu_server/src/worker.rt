@@ -83,7 +83,7 @@ impl<'a, J: Job, R, G> Worker<'a, J, R, G> {
 }
 
 impl<'a, J: Job, R: Wait + Clock, G: Gate> Worker<'a, J, R, G> {
-    /// Reads the firm's reports above the last that was sent, and sends the answer, if there is one, and them.
+    /// Reads the firm's reports above the entry up to which was looked, and sends the answer, if there is one, and them.
     fn reply(
         &self,
         seat: Seat<J>,
@@ -93,9 +93,13 @@ impl<'a, J: Job, R: Wait + Clock, G: Gate> Worker<'a, J, R, G> {
     ) -> (Seat<J>, Result<(), Closed>) {
         let (seat, reports) = self
             .desk
-            .read_reports(self.rt, self.alloc, seat, firm, connection.told());
+            .read_reports(self.rt, self.alloc, seat, firm, connection.looked());
         match reports {
-            Ok(reports) => (seat, connection.send_reply(self.rt, answer, reports)),
+            Ok(reports) => {
+                let entries = seat.seen();
+                let sent = connection.send_reply(self.rt, entries, answer, reports);
+                (seat, sent)
+            }
             Err(_) => (seat, Err(Closed)),
         }
     }
