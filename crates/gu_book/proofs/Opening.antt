@@ -1,5 +1,5 @@
 -- The calls of an opening, made one after the other.
-use Rattle.std.proofs.Common.{◌≡◌, ℕ, suc, ◌+◌, ◌≤◌, List, [], ◌∷◌, length, drop, refl, sym, ◌∙◌, ap, subst, arith, Option}
+use Rattle.std.proofs.Common.{◌≡◌, ℕ, suc, ◌+◌, ◌≤◌, ◌<◌, zero, List, [], ◌∷◌, length, drop, refl, sym, ◌∙◌, ap, subst, arith, Option}
 use Rattle.std.specs.Prelude.{Some, None, slice_get, IsSomeAnd}
 use Rattle.std.proofs.Math.Seq.{drop-cons}
 use Rattle.std.proofs.lemmas.List.{drop_all}
@@ -21,9 +21,17 @@ call_made t h cs i c e =
     ∙ (ap (λ x. x ∷ drop (suc i) cs) (get_or_from_slice_get cs i c c e) ∙ ap (λ n. c ∷ drop n cs) one))
 
 -- there is one for each agreement
-pub call_count : (t : House) (i : ℕ) (es : List (Pair × Agreement)) → length (opening_from t i es) ≡ length es
+call_count : (t : House) (i : ℕ) (es : List (Pair × Agreement)) → length (opening_from t i es) ≡ length es
 call_count t i [] = refl
 call_count t i (e ∷ es) = let rest = call_count t (i + 1) es in omega (arith, rest)
+
+before_end : {A : Type 0} (xs : List A) (i : ℕ) → i < length xs → slice_get xs i ≡ None → ⊥
+before_end [] i within absent = omega arith
+before_end (x ∷ xs) zero within absent = cc
+before_end (x ∷ xs) (suc i) within absent = before_end xs i (omega arith) absent
+
+pub call_there : (t : House) (i : ℕ) → i < length t.opening → slice_get (opening_calls t) i ≡ None → ⊥
+call_there t i within = let count = call_count t 1 t.opening in before_end (opening_calls t) i (omega (arith, count, within))
 
 -- the calls from this place on make the opening history of the entries that there are
 abbrev pub IsOpenedTo : HouseAndHistory → ℕ → Type 0
@@ -35,14 +43,18 @@ opened_none t = refl
 next_of : (b d : HouseAndHistory) (i : ℕ) (o : Option Call) → slice_get (opening_calls b.house) i ≡ o
     → IsSomeAnd o (λ c. d ≡ record { house = b.house; history = after b.house b.history c }) → IsOpenedTo b i → (d.house ≡ b.house) × IsOpenedTo d (i + 1)
 next_of b d i None e made so_far = absurd made
-next_of b d i (Some c) e made so_far =
-    (ap (λ (x : HouseAndHistory). x.house) made,
-    subst (λ (x : HouseAndHistory). IsOpenedTo x (i + 1)) (sym made) (sym (call_made b.house b.history (opening_calls b.house) i c e) ∙ so_far))
+next_of b d i (Some c) e made so_far = (
+  ap (λ (x : HouseAndHistory). x.house) made,
+  subst (λ (x : HouseAndHistory). IsOpenedTo x (i + 1)) (sym made) (sym (call_made b.house b.history (opening_calls b.house) i c e) ∙ so_far),
+)
 
 -- with the call at this place made
 pub opened_next : (b d : HouseAndHistory) (i : ℕ) → IsSomeAnd (slice_get (opening_calls b.house) i) (λ c. d ≡ record { house = b.house; history = after b.house b.history c })
     → IsOpenedTo b i → (d.house ≡ b.house) × IsOpenedTo d (i + 1)
 opened_next b d i = next_of b d i (slice_get (opening_calls b.house) i) refl
+
+abbrev holding : House → List Entry → HouseAndHistory
+holding t h = record { house = t; history = h }
 
 -- with the last call made
 pub opened_all : (t : House) (b : HouseAndHistory) (i : ℕ) → b.house ≡ t → IsOpenedTo b i → length t.opening ≤ i → b ≡ record { house = t; history = opening_history t }
@@ -51,4 +63,4 @@ opened_all t b i same so_far past =
     let last : length b.house.opening ≤ i = subst (λ (x : House). length x.opening ≤ i) (sym same) past in
     let none : drop i (opening_calls b.house) ≡ [] = drop_all i (opening_calls b.house) (omega (arith, count, last)) in
     let done : b.history ≡ opening_history b.house = sym (ap (after_all b.house b.history) none) ∙ so_far in
-    ap (λ h. record { house = b.house; history = h }) done ∙ ap (λ x. record { house = x; history = opening_history x }) same
+    ap (holding b.house) done ∙ ap (λ (x : House). holding x (opening_history x)) same

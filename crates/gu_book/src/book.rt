@@ -35,8 +35,8 @@ use crate::plain::standing::Standing;
 use crate::plain::{charges, holdings, terms};
 use crate::{grove, visits};
 use gu_base::{
-    AccountId, Agreement, AllocId, Answer, Command, Entry, FirmId, InstrumentId, Memory, Number, Place,
-    Refusal, State,
+    AccountId, Agreement, AllocId, Answer, Command, Entry, FirmId, InstrumentId, Memory, Number,
+    Place, Refusal, State,
 };
 use gu_consent::Consents;
 use gu_fees::{Fees, Terms};
@@ -127,8 +127,10 @@ impl Book {
             unreachable!()
         };
         let by = self.house.house();
-        self.apply(alloc, &by, &id, &command)?;
-        Ok(())
+        match self.apply(alloc, &by, &id, &command) {
+            Ok(_) => Ok(()),
+            Err(e) => Err(e),
+        }
     }
 
     /// The house table.

@@ -1,6 +1,7 @@
 -- Text that is written piece by piece along a list.
-use Rattle.std.proofs.Common.{◌≡◌, ℕ, zero, suc, ◌+◌, ◌-◌, ◌<◌, List, [], ◌∷◌, ◌++◌, refl, sym, ◌∙◌, ap, arith, length, drop, append_assoc}
+use Rattle.std.proofs.Common.{◌≡◌, ℕ, zero, suc, ◌+◌, ◌-◌, ◌<◌, ◌≤◌, List, [], ◌∷◌, ◌++◌, refl, sym, ◌∙◌, ap, arith, length, drop, append_assoc, append-nil}
 use Rattle.std.specs.Prelude.{codes, flat_map, map, Option, Some, None, slice_get, Result, Ok, Err, OnOk, Bool, true, false, cond}
+use Rattle.std.proofs.lemmas.List.{drop_all}
 use Rattle.gu_base.specs.House.{House}
 use Rattle.gu_base.specs.History.{live}
 use Rattle.gu_base.specs.Rows.{Row, rows_of}
@@ -18,12 +19,6 @@ step f (y ∷ xs) (suc i) x found = step f xs i x found ∙ ap (λ m. f x ++ fla
     more : (i : ℕ) → suc (i + 1) ≡ suc i + 1
     more i = omega arith
 
-nothing : {A : Type 0} (xs : List A) (i : ℕ) → slice_get xs i ≡ None → drop i xs ≡ []
-nothing [] zero past = refl
-nothing [] (suc i) past = refl
-nothing (x ∷ xs) zero past = absurd (cc)
-nothing (x ∷ xs) (suc i) past = nothing xs i past
-
 -- what was written, with what the elements from a place on still give, is the whole
 pub written : {A : Type 0} (f : A → List ℕ) (xs : List A) (i : ℕ) (x : A) (before after whole : List ℕ)
     → slice_get xs i ≡ Some x → after ≡ before ++ f x → before ++ flat_map f (drop i xs) ≡ whole → after ++ flat_map f (drop (i + 1) xs) ≡ whole
@@ -31,6 +26,10 @@ written f xs i x before after whole found more so_far =
     ap (λ t. t ++ flat_map f (drop (i + 1) xs)) more
     ∙ (append_assoc before (f x) (flat_map f (drop (i + 1) xs))
     ∙ (ap (λ t. before ++ t) (sym (step f xs i x found)) ∙ so_far))
+
+-- from the end on nothing is left to be written
+pub all_written : {A : Type 0} (f : A → List ℕ) (xs : List A) (i : ℕ) (before whole : List ℕ) → length xs ≤ i → before ++ flat_map f (drop i xs) ≡ whole → before ≡ whole
+all_written f xs i before whole past so_far = sym (append-nil before) ∙ (ap (λ ys. before ++ flat_map f ys) (sym (drop_all i xs past)) ∙ so_far)
 
 -- before the end an element stands
 pub is_there : {A : Type 0} (xs : List A) (i : ℕ) → i < length xs → slice_get xs i ≡ None → ⊥

@@ -1,4 +1,5 @@
--- The text of all positions, fees and agreements, in the order of the house file; agreements that were made by number behind those that are fixed.
+-- The text of all positions, fees and agreements, in the order of the house file; behind the agreements that are fixed those that changes
+-- made, by their numbers.
 use Rattle.std.specs.Prelude.{ℕ, ◌&&◌, ◌==◌, if◌then◌else◌, List, [], ◌∷◌, ◌++◌, codes, decimal, flat_map, unwrap_or}
 use Rattle.gu_base.specs.House.{House}
 use Rattle.gu_base.specs.History.{live}

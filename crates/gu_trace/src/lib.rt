@@ -3,10 +3,11 @@
 //! - `reports` gives a firm what is told of the first 100 entries above a number that concern it, each with the fields of an
 //!   AllocationReport. It begins at that number and looks nodes up by their entry, so it doesn't walk over the whole history.
 //! - `trace` writes the tree of a live trade, a line for each node with the fee of each claim; `totals` writes positions, fees and
-//!   used agreements in the order of the house file.
+//!   used agreements in the order of the house file, with the agreements that calls made behind those that are fixed, by their numbers.
 //! - Each is a function of the book's house table and history, which the definitions in `specs/` give; an error leaves `out` as it was.
 //! - The book is only read.
-//! - The law `nothing_is_passed_over`: what a reading has looked at and told nothing of concerns its firm neither then nor later.
+//! - The law `nothing_is_passed_over`: what a connection's readings have looked at and told nothing of concerns its firm neither then nor
+//!   later, so the next may begin behind it.
 //! - Its cases are data of the program `test_trace`.
 #![tactic(auto)]
 

@@ -165,7 +165,8 @@ fn append_made(text: &mut String, alloc: Global, book: &Book) -> Result<(), Memo
 
 /// Appends the totals, in the order of the house file: a line for each account and instrument in which lots stand, with those of buy
 /// trades and those of sell trades; a line for each firm that pays or receives something for live claims, in hundredths, the
-/// house first; and a line for each agreement of which lots are used, the fixed ones first, then those that were made, by their numbers.
+/// house first; and a line for each agreement of which lots are used, with its limit and what was raised: those that are fixed, and then
+/// those that live changes made, by their numbers.
 ///
 /// # Errors
 ///

@@ -30,12 +30,7 @@ pub(crate) fn terms_of(
 }
 
 /// The lots that a giver allows a taker, `None` without terms.
-pub(crate) fn limit_of(
-    house: &House,
-    terms: &Terms,
-    giver: &FirmId,
-    taker: &FirmId,
-) -> Option<u64>
+pub(crate) fn limit_of(house: &House, terms: &Terms, giver: &FirmId, taker: &FirmId) -> Option<u64>
     ensures { (l : List RecordData) → AreTermsOf house.now l terms.now → result ≡ limit_of house.now l giver.now taker.now }
 {
     if let Some(limit) = terms.limit(giver, taker) {
