@@ -12,8 +12,8 @@ returns-in-Ok-clause-same g c =
     λ t h f run entries has read. (
       read ∙ c.nothing_is_passed_over.ensures.same t h f c.args.self.now.told c.args.self.now.looked has,
       noted t.house h f c.args.self.now.told c.args.self.now.looked c.args.entries c.last_number-told.result c.if-behind.looked
-      (reports_for t.house h f c.args.self.now.looked) c.args.reports.items entries read told looked
-      (c.nothing_is_passed_over.ensures.read t h f c.args.self.now.told c.args.self.now.looked run has),
+          (reports_for t.house h f c.args.self.now.looked) c.args.reports.items entries read told looked
+          (c.nothing_is_passed_over.ensures.read t h f c.args.self.now.told c.args.self.now.looked run has),
     )
 
 pub returns-in-Err-clause-same : goal.returns-in-Err-clause-same
