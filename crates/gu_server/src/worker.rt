@@ -59,6 +59,25 @@ fn keep_pace(stream: &TcpStream, hurried: &mut bool, behind: bool) -> io::Result
     stream.set_read_timeout(Some(wait))
 }
 
+/// Ends a connection that was taken then and has waited for its Logon as long as it may, in seconds.
+fn expire<R: Clock>(
+    rt: &R,
+    connection: &mut Connection<'_>,
+    taken: Instant,
+    most: u64,
+) -> Result<(), Closed>
+    ensures ok { OnOk result (connection.new ≡ connection.old) }
+    ensures open { is_some connection.old.session.link.firm ≡ true → OnErr result ⊥ }
+{
+    if connection.firm().is_some() {
+        return Ok(());
+    }
+    match taken.elapsed(rt) {
+        Ok(waited) if waited.as_secs() < most => Ok(()),
+        _ => connection.end(rt),
+    }
+}
+
 /// A worker: what it has for all its connections. Its seat goes from hand to hand.
 #[derive(Drop)]
 pub(crate) struct Worker<'a, J: Job, R, G> {
@@ -222,20 +241,6 @@ impl<'a, J: Job, R: Wait + Clock, G: Gate> Worker<'a, J, R, G> {
         }
     }
 
-    /// Ends a connection that was taken then and has waited for its Logon as long as it may.
-    fn expire(&self, connection: &mut Connection<'_>, taken: Instant) -> Result<(), Closed>
-        ensures ok { OnOk result (connection.new ≡ connection.old) }
-        ensures open { is_some connection.old.session.link.firm ≡ true → OnErr result ⊥ }
-    {
-        if connection.firm().is_some() {
-            return Ok(());
-        }
-        match taken.elapsed(self.rt) {
-            Ok(waited) if waited.as_secs() < self.logon_wait => Ok(()),
-            _ => connection.end(self.rt),
-        }
-    }
-
     /// Serves a connection to its end, and gives the seat back.
     pub(crate) fn attend(&self, seat: Seat<J>, stream: TcpStream) -> Seat<J> {
         if set_up(&stream).is_err() {
@@ -254,7 +259,7 @@ impl<'a, J: Job, R: Wait + Clock, G: Gate> Worker<'a, J, R, G> {
             seat = back;
             if connection.write(&stream).is_err()
                 || turned.is_err()
-                || self.expire(&mut connection, taken).is_err()
+                || expire(self.rt, &mut connection, taken, self.logon_wait).is_err()
                 || keep_pace(&stream, &mut hurried, connection.behind()).is_err()
             {
                 break;
