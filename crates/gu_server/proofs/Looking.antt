@@ -8,11 +8,11 @@ use Rattle.gu_base.specs.declared.entry.Answer.{Answer}
 use Rattle.gu_base.specs.declared.entry.Entry.{Entry}
 use Rattle.gu_base.specs.declared.report.Report.{Report}
 use Rattle.gu_desk.specs.Begins.{BeginsWith}
-use Rattle.gu_session.specs.declared.event.Event.TheVariants.{Reply}
+use Rattle.gu_session.specs.declared.event.Event.{Event}
 use Rattle.gu_trace.specs.Between.{last_told, looked_to, HasLooked}
 use Rattle.gu_trace.specs.Reports.{reports_for}
 use Rattle.gu_server.specs.declared.connection.Connection.{Connection}
-use Rattle.gu_server.specs.Turns.{Speaks, Replies}
+use Rattle.gu_server.specs.Turns.{Speaks, IsReply, Replies}
 
 -- the number of the last of some reports is that of the last in the list
 last_at : (x : Report) (l : List Report) (before : ℕ) → option_map_or (λ (r : Report). r.number) (slice_get (x ∷ l) (length l)) before ≡ last_told x.number l
@@ -40,8 +40,8 @@ still_looked t seen now f sent looked later begins run has =
     (later seen begins.rest (subst (λ (l : List Entry). IsRunFrom t [] l) begins.is run) has)
 
 -- the connection took the reply
-pub replied : {A E : Type 0} (r : Result A E) (t : House) (h : List Entry) (f : List ℕ) (answer : Option Answer) (told : List Report) (before after : Connection)
-    → told ≡ reports_for t.house h f before.told → OnOk r (Speaks (Reply answer told) before.session after.session before.out.items after.out.items)
+pub replied : {A E : Type 0} (r : Result A E) (t : House) (h : List Entry) (f : List ℕ) (answer : Option Answer) (taken : Event) (before after : Connection)
+    → IsReply answer (reports_for t.house h f before.told) taken → OnOk r (Speaks taken before.session after.session before.out.items after.out.items)
     → OnOk r (HasLooked t.house h f after.told after.looked) → OnOk r (Replies t h f answer before after)
-replied (Ok x) t h f answer told before after is speaks looked = record { told = told; is = is; speaks = speaks; looked = looked }
-replied (Err e) t h f answer told before after is speaks looked = tt
+replied (Ok x) t h f answer taken before after reply speaks looked = record { taken = taken; reply = reply; speaks = speaks; looked = looked }
+replied (Err e) t h f answer taken before after reply speaks looked = tt

@@ -28,12 +28,17 @@ StepsNow e before after a = (now : Timestamp) × (pos 0 ≤ℤ now.nanosecond) �
 abbrev pub Speaks : Event → Seen → Seen → List ℕ → List ℕ → Type 0
 Speaks e before after out out_after = (a : Actions) × StepsNow e before after a × (out_after ≡ out ++ a.send.items) × (a.close ≡ false)
 
+-- the event is the reply with this answer, if there is one, and these reports
+abbrev pub IsReply : Option Answer → List Report → Event → Type 0
+IsReply answer told (event.Reply a reports) = (a ≡ answer) × (reports.items ≡ told)
+IsReply answer told _ = ⊥
+
 -- what a reply at this history does to the connection of a firm: its session took the answer and the reports above the last that was sent before, and no entry between
 -- the last that was sent then and the one up to which was looked concerns the firm
 pub record Replies (t : House) (h : List Entry) (f : List ℕ) (answer : Option Answer) (before after : Connection) : Type 0 where
-  pub told : List Report
-  pub is : told ≡ reports_for t.house h f before.told
-  pub speaks : Speaks (event.Reply answer told) before.session after.session before.out.items after.out.items
+  pub taken : Event
+  pub reply : IsReply answer (reports_for t.house h f before.told) taken
+  pub speaks : Speaks taken before.session after.session before.out.items after.out.items
   pub looked : HasLooked t.house h f after.told after.looked
 
 -- what the bytes held bring, and what they leave of them: no frame yet, a garbled one, of which the session learns nothing, or a message and the session's step over it

@@ -1,4 +1,5 @@
-use Rattle.std.proofs.Common.{rules, ◌≡◌, length, sym}
+use Rattle.std.proofs.Common.{rules, ◌≡◌, length, refl}
+use Rattle.gu_session.specs.declared.event.Event.TheVariants.{Reply}
 use Rattle.gu_server.proofs.Looking.{still_looked, replied}
 use Rattle.gu_server.proofs.worker.Worker.reply.Goals as goal
 
@@ -14,4 +15,4 @@ returns-in-Ok-clause-replies g c =
     λ run has.
     let there = still_looked t c.args.seat.seen now firm sent looked (λ h k. c.nothing_is_passed_over.ensures.later t h k firm sent looked) c.read_reports.ensures.seen.1 run has in
     let same = c.send_reply.ensures.same t now firm run entries there c.in-Ok.ensures.told.0 in
-    replied c.send_reply.result t now firm c.args.answer c.in-Ok.reports.items c.args.connection.now c.send_reply.new.self same.0 c.send_reply.ensures.ok same.1
+    replied c.send_reply.result t now firm c.args.answer (Reply c.args.answer c.in-Ok.reports) c.args.connection.now c.send_reply.new.self (refl, same.0) c.send_reply.ensures.ok same.1
