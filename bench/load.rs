@@ -1,13 +1,24 @@
 //! A load for `allocd serve`: connections of the house, each of which enters trades for the firm AAA and checks every answer.
 //!
-//! load PORT CONNECTIONS CALLS WINDOW: each connection makes CALLS calls, with at most WINDOW of them unanswered (1: one at a time). Of ten calls
+//! load PORT calls CONNECTIONS CALLS WINDOW: each connection makes CALLS calls, with at most WINDOW of them unanswered (1: one at a time). Of ten calls
 //! seven are new trades, two are repeats of the newest trade of the connection, and one is a trade for an account that AAA hasn't. So each
 //! answer is known but for the numbers of the entries, which have to rise along a connection, and to be 1, 2, 3, .. over all of them, each
 //! once. It prints the round trips a second and their percentiles, and the accepted calls.
+//!
+//! load PORT turns AT_ONCE CONNECTIONS CALLS: so many connections in turn, so many of them at once, each with its calls one at a time.
+//!
+//! load PORT behind ENTRIES: the house fills a book with trades for AAA; then AAA logs on and says nothing, and while its reports come the house
+//! makes calls that are refused, one at a time. It prints how long the reports took, and the house's round trips alone and beside them.
+//!
+//! load PORT beside ENTRIES: the house fills a book with trades for AAA, of which AAA has had its reports. It prints the round trips of a call that
+//! is refused: of CCC in the empty book, its first in the full one and the later ones, and those of AAA alone and beside CCC's. CCC's first
+//! reading goes over the whole book under the lock, and nothing else is as long there: so the longest round trip of AAA beside it tells for how
+//! long the lock was held, and so does that of CCC's first call.
 
 use std::collections::VecDeque;
 use std::io::{Read, Write};
 use std::net::TcpStream;
+use std::sync::atomic::{AtomicBool, AtomicUsize, Ordering};
 use std::sync::{Arc, Barrier, Condvar, Mutex};
 use std::time::{Duration, Instant};
 use std::{env, process, thread};
@@ -267,55 +278,261 @@ fn connection(
     Ok(told)
 }
 
-fn main() {
-    let words: Vec<usize> = env::args()
-        .skip(1)
-        .map(|w| w.parse().expect("a number"))
-        .collect();
-    let [port, connections, calls, window] = words[..] else {
-        eprintln!("load PORT CONNECTIONS CALLS WINDOW");
-        process::exit(2);
+/// The round trips, sorted: how many, their percentiles, and the longest.
+fn percentiles(trips: &mut [Duration]) -> String {
+    trips.sort_unstable();
+    let at = |share: f64| {
+        trips.get(((trips.len().max(1) - 1) as f64 * share) as usize).map_or(0.0, |t| t.as_nanos() as f64 / 1000.0)
     };
+    format!(
+        "{} calls; microseconds: p50 {:.1} p90 {:.1} p99 {:.1} p99.9 {:.1} most {:.1}",
+        trips.len(), at(0.5), at(0.9), at(0.99), at(0.999), at(1.0)
+    )
+}
+
+/// What all connections tell together: the entries have to be 1, 2, 3, .. each once.
+fn tell_all(told: Vec<Told>, took: Duration) -> Result<(), String> {
+    let mut entries = Vec::new();
+    let mut trips = Vec::new();
+    let mut reports = 0;
+    for one in told {
+        entries.extend(one.entries);
+        trips.extend(one.trips);
+        reports += one.reports;
+    }
+    entries.sort_unstable();
+    if !entries.iter().enumerate().all(|(i, n)| *n as usize == i + 1) {
+        return Err("the entries aren't 1, 2, 3, .. each once".to_owned());
+    }
+    println!(
+        "{} accepted, {} reports, {:.0} calls a second: {}",
+        entries.len(), reports, trips.len() as f64 / took.as_secs_f64(), percentiles(&mut trips)
+    );
+    Ok(())
+}
+
+/// Connections that all begin at once.
+fn calls(port: u16, connections: usize, calls: usize, window: usize) -> Result<(), String> {
     let start = Arc::new(Barrier::new(connections + 1));
     let running: Vec<_> = (0..connections)
         .map(|c| {
             let start = start.clone();
-            thread::spawn(move || connection(port as u16, c, calls, window, &start))
+            thread::spawn(move || connection(port, c, calls, window, &start))
         })
         .collect();
     start.wait();
     let began = Instant::now();
-    let mut entries = Vec::new();
-    let mut trips = Vec::new();
-    let mut reports = 0;
-    for (c, one) in running.into_iter().enumerate() {
-        match one.join().unwrap_or_else(|_| Err("panicked".to_owned())) {
-            Ok(told) => {
-                entries.extend(told.entries);
-                trips.extend(told.trips);
-                reports += told.reports;
-            }
-            Err(e) => {
-                eprintln!("connection {c}: {e}");
-                process::exit(1);
-            }
+    let mut told = Vec::new();
+    for one in running {
+        told.push(one.join().map_err(|_| "panicked")??);
+    }
+    tell_all(told, began.elapsed())
+}
+
+/// Connections in turn, so many at once.
+fn turns(port: u16, at_once: usize, connections: usize, calls: usize) -> Result<(), String> {
+    let next = Arc::new(AtomicUsize::new(0));
+    let began = Instant::now();
+    let running: Vec<_> = (0..at_once)
+        .map(|_| {
+            let next = next.clone();
+            thread::spawn(move || {
+                let mut told = Vec::new();
+                loop {
+                    let c = next.fetch_add(1, Ordering::SeqCst);
+                    if c >= connections {
+                        return Ok::<_, String>(told);
+                    }
+                    told.push(connection(port, c, calls, 1, &Barrier::new(1))?);
+                }
+            })
+        })
+        .collect();
+    let mut told = Vec::new();
+    for one in running {
+        told.extend(one.join().map_err(|_| "panicked")??);
+    }
+    tell_all(told, began.elapsed())
+}
+
+/// A session that sends and reads by turns.
+struct Session {
+    frames: Frames,
+    firm: &'static str,
+    number: usize,
+    reports: usize,
+}
+
+impl Session {
+    fn logged_on(port: u16, firm: &'static str) -> Result<Session, String> {
+        let stream = TcpStream::connect(("127.0.0.1", port)).map_err(|e| e.to_string())?;
+        stream.set_nodelay(true).map_err(|e| e.to_string())?;
+        let frames = Frames { stream, held: Vec::new(), at: 0 };
+        let mut session = Session { frames, firm, number: 0, reports: 0 };
+        session.send(&[("A", "98=0|108=0|1137=9|".to_owned())])?;
+        match value(&session.answer()?, 35) {
+            "A" => Ok(session),
+            _ => Err("no Logon came back".to_owned()),
         }
     }
-    let took = began.elapsed();
-    entries.sort_unstable();
-    if !entries
-        .iter()
-        .enumerate()
-        .all(|(i, n)| *n as usize == i + 1)
-    {
-        eprintln!("the entries aren't 1, 2, 3, .. each once");
+
+    /// Sends messages in one write, each a type and a body.
+    fn send(&mut self, messages: &[(&str, String)]) -> Result<(), String> {
+        let mut out = Vec::new();
+        for (kind, body) in messages {
+            self.number += 1;
+            let header = format!("35={kind}|49={}|56=HSE|34={}|52=20260302-09:00:00|", self.firm, self.number);
+            frame(&(header + body), &mut out);
+        }
+        self.frames.stream.write_all(&out).map_err(|e| e.to_string())
+    }
+
+    /// The next message that is no report.
+    fn answer(&mut self) -> Result<Fields, String> {
+        loop {
+            let message = self.frames.next()?;
+            if value(&message, 35) != "AS" {
+                return Ok(message);
+            }
+            self.reports += 1;
+        }
+    }
+
+    /// Reads until so many reports have come in all.
+    fn await_reports(&mut self, all: usize) -> Result<(), String> {
+        while self.reports < all {
+            match value(&self.frames.next()?, 35) {
+                "AS" => self.reports += 1,
+                kind => return Err(format!("{kind} where a report was due")),
+            }
+        }
+        Ok(())
+    }
+
+    /// The time of a split of a trade that is refused, since it isn't the firm's or the parts don't sum.
+    fn refused(&mut self) -> Result<Duration, String> {
+        let body = format!("70=R{}|71=0|626=23|72=1.0|78=1|79=C1|80=1|", self.number);
+        let began = Instant::now();
+        self.send(&[("J", body)])?;
+        let answer = self.answer()?;
+        match value(&answer, 87) {
+            "1" => Ok(began.elapsed()),
+            _ => Err(format!("not refused: {answer:?}")),
+        }
+    }
+
+    /// Enters trades of a lot for AAA, 64 in a write.
+    fn fill(&mut self, entries: usize) -> Result<(), String> {
+        let mut entered = 0;
+        while entered < entries {
+            let some = (entries - entered).min(64);
+            let trade = |i: usize| format!("571=F{i}|55=ESZ6|32=1|552=1|54=1|453=1|448=AAA|447=D|452=4|1=A1|");
+            let messages: Vec<_> = (entered..entered + some).map(|i| ("AE", trade(i))).collect();
+            self.send(&messages)?;
+            for _ in 0..some {
+                let answer = self.answer()?;
+                if value(&answer, 939) != "0" {
+                    return Err(format!("not accepted: {answer:?}"));
+                }
+            }
+            entered += some;
+        }
+        Ok(())
+    }
+
+    fn log_out(mut self) -> Result<(), String> {
+        self.send(&[("5", String::new())])?;
+        while value(&self.answer()?, 35) != "5" {}
+        Ok(())
+    }
+}
+
+/// The round trips of refused calls, one at a time, until it is time to stop, and of so many at least.
+fn refused_until(session: &mut Session, least: usize, stop: impl Fn() -> bool) -> Result<Vec<Duration>, String> {
+    let mut trips = Vec::new();
+    while trips.len() < least || !stop() {
+        trips.push(session.refused()?);
+    }
+    Ok(trips)
+}
+
+/// A firm that catches up on so many reports, and the house's calls beside it.
+fn behind(port: u16, entries: usize) -> Result<(), String> {
+    let mut house = Session::logged_on(port, "HSE")?;
+    house.fill(entries)?;
+    let mut alone = refused_until(&mut house, 10_000, || true)?;
+    println!("the house alone: {}", percentiles(&mut alone));
+    let done = Arc::new(AtomicBool::new(false));
+    let firm = thread::spawn({
+        let done = done.clone();
+        move || {
+            let began = Instant::now();
+            let told = Session::logged_on(port, "AAA").and_then(|mut aaa| {
+                aaa.await_reports(entries)?;
+                let took = began.elapsed();
+                aaa.log_out().map(|()| took)
+            });
+            done.store(true, Ordering::SeqCst);
+            told
+        }
+    });
+    let mut beside = refused_until(&mut house, 1, || done.load(Ordering::SeqCst))?;
+    let took = firm.join().map_err(|_| "panicked")??;
+    println!("AAA: {entries} reports in {:.2} s", took.as_secs_f64());
+    println!("the house meanwhile: {}", percentiles(&mut beside));
+    house.log_out()
+}
+
+/// A firm that nothing concerns, in an empty and in a full book, and AAA's calls beside it.
+fn beside(port: u16, entries: usize) -> Result<(), String> {
+    const CALLS: usize = 10_000;
+    let mut ccc = Session::logged_on(port, "CCC")?;
+    let mut empty = refused_until(&mut ccc, CALLS, || true)?;
+    println!("CCC, empty book: {}", percentiles(&mut empty));
+    ccc.log_out()?;
+    let mut house = Session::logged_on(port, "HSE")?;
+    house.fill(entries)?;
+    house.log_out()?;
+    let mut aaa = Session::logged_on(port, "AAA")?;
+    aaa.await_reports(entries)?;
+    let began = Instant::now();
+    let mut alone = refused_until(&mut aaa, CALLS, || began.elapsed() > Duration::from_secs(2))?;
+    println!("AAA alone: {}", percentiles(&mut alone));
+    let done = Arc::new(AtomicBool::new(false));
+    let firm = thread::spawn({
+        let done = done.clone();
+        move || {
+            let told = Session::logged_on(port, "CCC").and_then(|mut ccc| {
+                let first = ccc.refused()?;
+                let began = Instant::now();
+                let trips = refused_until(&mut ccc, CALLS, || began.elapsed() > Duration::from_secs(2))?;
+                ccc.log_out().map(|()| (first, trips))
+            });
+            done.store(true, Ordering::SeqCst);
+            told
+        }
+    });
+    let mut meanwhile = refused_until(&mut aaa, 1, || done.load(Ordering::SeqCst))?;
+    let (first, mut later) = firm.join().map_err(|_| "panicked")??;
+    println!("CCC, {entries} entries, its first call: {:.1} microseconds", first.as_nanos() as f64 / 1000.0);
+    println!("CCC, its later calls: {}", percentiles(&mut later));
+    println!("AAA meanwhile: {}", percentiles(&mut meanwhile));
+    aaa.log_out()
+}
+
+fn main() {
+    let words: Vec<String> = env::args().skip(1).collect();
+    let number = |i: usize| words.get(i).and_then(|w| w.parse::<usize>().ok()).unwrap_or(0);
+    let port = number(0) as u16;
+    let done = match (words.get(1).map(String::as_str), words.len()) {
+        (Some("calls"), 5) => calls(port, number(2), number(3), number(4)),
+        (Some("turns"), 5) => turns(port, number(2), number(3), number(4)),
+        (Some("behind"), 3) => behind(port, number(2)),
+        (Some("beside"), 3) => beside(port, number(2)),
+        _ => Err("load PORT calls CONNECTIONS CALLS WINDOW, and so on: see its head".to_owned()),
+    };
+    if let Err(why) = done {
+        eprintln!("load: {why}");
         process::exit(1);
     }
-    trips.sort_unstable();
-    let at =
-        |share: f64| trips[((trips.len() - 1) as f64 * share) as usize].as_nanos() as f64 / 1000.0;
-    println!(
-        "{} calls, {} accepted, {} reports, {:.0} calls a second; microseconds: p50 {:.1} p90 {:.1} p99 {:.1} p99.9 {:.1} most {:.1}",
-        trips.len(), entries.len(), reports, trips.len() as f64 / took.as_secs_f64(), at(0.5), at(0.9), at(0.99), at(0.999), at(1.0)
-    );
 }

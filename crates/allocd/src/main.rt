@@ -5,15 +5,16 @@
 //! how it is run.
 #![tactic(auto)]
 
-use gu_server::{Counted, Fault, RunError, SystemFiles, run};
+use gu_server::{Counted, Fault, SystemFiles, run, unread_words};
 use std::process::ExitCode;
 use std::{env, io};
 
 /// The words after the program's name.
 fn words(rt: &HostRuntime) -> Result<Vec<String>, Fault> {
     let mut words = Vec::new(rt.alloc());
-    let Ok(args) = env::args(rt) else {
-        return Err(Fault::Run(RunError::Memory));
+    let args = match env::args(rt) {
+        Ok(args) => args,
+        Err(error) => return Err(unread_words(rt.alloc(), &error)),
     };
     for word in args.skip(1) {
         words.push(word)?;

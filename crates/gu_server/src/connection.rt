@@ -1,22 +1,31 @@
 //! One connection: its session, the bytes that came of it, and what it is to be sent. Nothing here asks the book.
-ghost use Rattle.std.specs.Prelude.{◌≡◌, ◌≤◌, ◌+◌, ◌++◌, [], false, length, None, IfOk, OnOk, OnErr, IsErr};
+ghost use Rattle.std.specs.Prelude.{◌≡◌, ◌≤◌, ◌+◌, ◌++◌, ℕ, List, [], false, length, nat_le, None, IfOk, OnOk, OnErr, IsErr};
 ghost use Rattle.std.specs.List.{All};
 ghost use Rattle.gu_base.specs.Limits.{most_parts};
 ghost use Rattle.gu_codec.specs.Limits.{longest_frame};
 ghost use Rattle.gu_session.specs.Steps.{opening};
 ghost use Rattle.gu_session.specs.Text.{ShowFewParts};
 ghost use Rattle.gu_session.specs.declared.event.Event.TheVariants.{Reply};
-ghost use Rattle.gu_server.specs.Turns.{StepsNow, Speaks, Brings, last_told};
+ghost use Rattle.gu_base.specs.House.{House as HouseTable};
+ghost use Rattle.gu_base.specs.Runs.{IsRunFrom};
+ghost use Rattle.gu_base.specs.declared.entry.Entry.{Entry};
+ghost use Rattle.gu_trace.specs.Between.{last_told, looked_to, HasLooked};
+ghost use Rattle.gu_trace.specs.Reports.{most_reports, reports_for};
+ghost use Rattle.gu_server.specs.Turns.{StepsNow, Speaks, Brings};
 
 use gu_base::{Answer, FirmId, Report};
 use gu_codec::{Feed, Frame};
 use gu_parties::House;
 use gu_session::{Actions, Event, Session};
+use gu_trace::nothing_is_passed_over;
 use jiff::Timestamp;
 use std::alloc::Global;
 use std::io::Write;
 use std::net::TcpStream;
 use std::time::Clock;
+
+/// How many reports a reading has at most.
+const MOST_REPORTS: usize = 100;
 
 /// The connection is to be closed.
 #[derive(Clone, Copy, Debug, PartialEq, Eq)]
@@ -48,6 +57,16 @@ fn step<R: Clock>(rt: &R, session: &mut Session<'_>, event: Event<'_>) -> Result
     }
 }
 
+/// The number of the last of these reports, or the one before where there are none.
+fn last_number(reports: &[Report], before: u32) -> u32
+    ensures { result ≡ last_told before reports.now }
+{
+    match reports.last() {
+        Some(report) => report.number.get(),
+        None => before,
+    }
+}
+
 /// What is kept of a connection between its turns.
 #[derive(Drop)]
 pub(crate) struct Connection<'a> {
@@ -55,6 +74,10 @@ pub(crate) struct Connection<'a> {
     feed: Feed,
     /// The number of the last report that was sent, 0 at first.
     told: u32,
+    /// The entry up to which its readings have looked, 0 at first. No entry above the last report that was sent, up to it, concerns the firm.
+    looked: u32,
+    /// Whether the last reading had as many reports as one may have, so that more may be there.
+    behind: bool,
     /// What the turn sends, in one write at its end.
     out: Vec<u8>,
 }
@@ -65,6 +88,8 @@ impl<'a> Connection<'a> {
         ensures session { IfOk result (λ c. c.session ≡ opening house.now c.session.link.came) }
         ensures feed { IfOk result (λ c. (c.feed.held ≡ []) × (c.feed.passed ≡ 0) × (c.feed.broken ≡ None)) }
         ensures told { IfOk result (λ c. c.told ≡ 0) }
+        ensures looked { IfOk result (λ c. c.looked ≡ 0) }
+        ensures behind { IfOk result (λ c. c.behind ≡ false) }
         ensures out { IfOk result (λ c. c.out.items ≡ []) }
     {
         match Feed::new(alloc) {
@@ -72,6 +97,8 @@ impl<'a> Connection<'a> {
                 session: Session::new(alloc, house),
                 feed,
                 told: 0,
+                looked: 0,
+                behind: false,
                 out: Vec::new(alloc),
             }),
             Err(_) => Err(Closed),
@@ -85,11 +112,18 @@ impl<'a> Connection<'a> {
         self.session.firm()
     }
 
-    /// The number of the last report that was sent, 0 at first.
-    pub(crate) fn told(&self) -> u32
-        ensures { result ≡ self.now.told }
+    /// The entry up to which its readings have looked, 0 at first.
+    pub(crate) fn looked(&self) -> u32
+        ensures { result ≡ self.now.looked }
     {
-        self.told
+        self.looked
+    }
+
+    /// Whether more reports may be there than the last reading had, so that the firm isn't to wait for the next one.
+    pub(crate) fn behind(&self) -> bool
+        ensures { result ≡ self.now.behind }
+    {
+        self.behind
     }
 
     /// How many bytes the next read may bring.
@@ -104,6 +138,8 @@ impl<'a> Connection<'a> {
         ensures ok { OnOk result (self.new.feed ≡ record self.old.feed { held = self.old.feed.held ++ piece.now }) }
         ensures session { self.new.session ≡ self.old.session }
         ensures told { self.new.told ≡ self.old.told }
+        ensures looked { self.new.looked ≡ self.old.looked }
+        ensures behind { self.new.behind ≡ self.old.behind }
         ensures out { self.new.out.items ≡ self.old.out.items }
     {
         match self.feed.push(piece) {
@@ -118,6 +154,8 @@ impl<'a> Connection<'a> {
         ensures open { OnOk result (actions.now.close ≡ false) }
         ensures session { self.new.session ≡ self.old.session }
         ensures told { self.new.told ≡ self.old.told }
+        ensures looked { self.new.looked ≡ self.old.looked }
+        ensures behind { self.new.behind ≡ self.old.behind }
     {
         if self.out.extend_from_slice(actions.send.as_slice()).is_err() || actions.close {
             return Err(Closed);
@@ -130,6 +168,8 @@ impl<'a> Connection<'a> {
         requires { ShowFewParts event }
         ensures ok { OnOk result (Speaks event.entry self.old.session self.new.session self.old.out.items self.new.out.items) }
         ensures told { self.new.told ≡ self.old.told }
+        ensures looked { self.new.looked ≡ self.old.looked }
+        ensures behind { self.new.behind ≡ self.old.behind }
     {
         match step(rt, &mut self.session, event) {
             Ok(actions) => self.send(&actions),
@@ -149,6 +189,8 @@ impl<'a> Connection<'a> {
     pub(crate) fn next<R: Clock>(&mut self, rt: &R) -> Result<Came, Closed>
         ensures brings { IfOk result (Brings self.old.feed self.old.session self.new.session self.new.feed) }
         ensures told { self.new.told ≡ self.old.told }
+        ensures looked { self.new.looked ≡ self.old.looked }
+        ensures behind { self.new.behind ≡ self.old.behind }
         ensures out { self.new.out.items ≡ self.old.out.items }
     {
         match self.feed.next() {
@@ -168,24 +210,38 @@ impl<'a> Connection<'a> {
         }
     }
 
-    /// Sends the answer to the call that waits, if one does, and the reports, and notes the last that was sent.
+    /// Sends the answer to the call that waits, if one does, and the reports above the entry up to which was looked, which are those above the
+    /// last that was sent. Notes the last of them, whether the firm is behind, and up to which entry was looked: all that there were, or where
+    /// more may be there, the last of them.
     pub(crate) fn send_reply<R: Clock>(
         &mut self,
         rt: &R,
+        entries: u32,
         answer: Option<Answer>,
         reports: Vec<Report>,
     ) -> Result<(), Closed>
         requires { All (λ r. length r.parts ≤ most_parts) reports.items }
         ensures ok { OnOk result (Speaks (Reply answer reports) self.old.session self.new.session self.old.out.items self.new.out.items) }
         ensures told { OnOk result (self.new.told ≡ last_told self.old.told reports.items) }
+        ensures looked { OnOk result (self.new.looked ≡ looked_to self.old.looked entries reports.items) }
+        ensures behind { OnOk result (self.new.behind ≡ nat_le most_reports (length reports.items)) }
+        ensures same { (t : HouseTable) (h : List Entry) (f : List ℕ) → IsRunFrom t [] h → length h ≡ entries → HasLooked t.house h f self.old.told self.old.looked
+            → reports.items ≡ reports_for t.house h f self.old.looked
+            → (reports.items ≡ reports_for t.house h f self.old.told) × OnOk result (HasLooked t.house h f self.new.told self.new.looked) }
     {
-        let last = match reports.as_slice().last() {
-            Some(report) => report.number.get(),
-            None => self.told,
+        nothing_is_passed_over();
+        let told = last_number(reports.as_slice(), self.told);
+        let behind = reports.len() >= MOST_REPORTS;
+        let looked = if behind {
+            last_number(reports.as_slice(), self.looked)
+        } else {
+            entries
         };
         match self.quiet(rt, Event::Reply(answer, reports)) {
             Ok(()) => {
-                self.told = last;
+                self.told = told;
+                self.looked = looked;
+                self.behind = behind;
                 Ok(())
             }
             Err(e) => Err(e),
@@ -197,6 +253,8 @@ impl<'a> Connection<'a> {
         ensures out { self.new.out.items ≡ [] }
         ensures session { self.new.session ≡ self.old.session }
         ensures told { self.new.told ≡ self.old.told }
+        ensures looked { self.new.looked ≡ self.old.looked }
+        ensures behind { self.new.behind ≡ self.old.behind }
     {
         let whole = self.out.len();
         if whole == 0 {

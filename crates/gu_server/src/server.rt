@@ -5,13 +5,13 @@ ghost use Rattle.gu_desk.specs.Views.{is_worker_count};
 ghost use Rattle.gu_desk.specs.Begins.{BeginsWith};
 ghost use Rattle.gu_desk.specs.Runs.{IsRunOf};
 
+use crate::accepting::accept_all;
 use crate::worker::Worker;
-use crossbeam_channel::{Receiver, Sender};
+use crossbeam_channel::Receiver;
 use gu_book::Book;
 use gu_desk::{Desk, Gate, Ground, Job, Seat};
 use gu_parties::House;
 use std::alloc::Global;
-use std::io::ErrorKind;
 use std::marker::Brand;
 use std::net::{TcpListener, TcpStream};
 use std::sync::Wait;
@@ -38,6 +38,20 @@ pub enum ServeError {
 /// keeps open is bounded by its workers.
 const WAITING: usize = 1;
 
+/// How long a connection may be without an accepted Logon, in seconds.
+const LOGON_WAIT: u64 = 30;
+
+/// How much a server does.
+#[derive(Clone, Copy, Debug)]
+pub struct ServeLimits {
+    /// How many workers share the book, 1 to 16.
+    pub workers: u32,
+    /// How many connections are served; with 0 there is no end.
+    pub connections: u32,
+    /// How long a connection may be without an accepted Logon, in seconds.
+    pub logon_wait: u64,
+}
+
 /// Serves connections until the channel is closed, and gives the seat back.
 fn work<J: Job, R: Wait + Clock, G: Gate>(
     worker: Worker<'_, J, R, G>,
@@ -49,47 +63,6 @@ fn work<J: Job, R: Wait + Clock, G: Gate>(
         seat = worker.attend(seat, stream);
     }
     seat
-}
-
-/// Accepts the next connection, and hands it to the workers, for whom it may wait. One that its peer broke off before is passed over.
-fn accept<R: Wait>(
-    rt: &R,
-    listener: &TcpListener,
-    to: &Sender<TcpStream>,
-) -> Result<(), ServeError> {
-    for _ in rt.forever() {
-        match listener.accept() {
-            Ok((stream, _peer)) => {
-                return match to.send(rt, stream) {
-                    Ok(()) => Ok(()),
-                    Err(_) => Err(ServeError::Memory),
-                };
-            }
-            Err(error) => match error.kind() {
-                ErrorKind::ConnectionAborted => {}
-                _ => return Err(ServeError::Accept),
-            },
-        }
-    }
-    unreachable!()
-}
-
-/// Accepts so many connections, or with 0 without end.
-fn accept_all<R: Wait>(
-    rt: &R,
-    listener: &TcpListener,
-    to: &Sender<TcpStream>,
-    connections: u32,
-) -> Result<(), ServeError> {
-    if connections == 0 {
-        for _ in rt.forever() {
-            accept(rt, listener, to)?;
-        }
-    }
-    for _ in 0..connections {
-        accept(rt, listener, to)?;
-    }
-    Ok(())
 }
 
 /// Joins the workers, and gives their seats back.
@@ -147,7 +120,7 @@ fn run_desk<J: Job + Send + Sync, R: Threads + Wait + Clock + Sync, G: Gate + Sy
     listener: &TcpListener,
     house: &House,
     ground: Ground,
-    connections: u32,
+    limits: ServeLimits,
     gate: &G,
 ) -> Result<Book, ServeError>
     requires name { ground.name ≡ J.name }
@@ -169,9 +142,10 @@ fn run_desk<J: Job + Send + Sync, R: Threads + Wait + Clock + Sync, G: Gate + Sy
         desk: &desk,
         house,
         gate,
+        logon_wait: limits.logon_wait,
         number: 0,
     };
-    let seats = match run_workers(first, listener, seats, connections) {
+    let seats = match run_workers(first, listener, seats, limits.connections) {
         Ok(seats) => seats,
         Err(error) => {
             drop(desk);
@@ -209,12 +183,34 @@ fn prepare(alloc: Global, book: Book, workers: u32) -> Result<(House, Ground), S
     }
 }
 
-/// Serves so many connections, or with 0 connections without end, by 1 to 16 workers that share the book. Gives the book back when
-/// all have ended.
+/// Serves within these limits, by workers that share the book. Gives the book back when all connections have ended. One that has no accepted
+/// Logon in time is ended, and nothing is sent to it.
 ///
 /// # Errors
 ///
 /// `Accept`, `NoThread` and `Memory`, when the workers have ended; the book is dropped.
+pub fn serve_within<R: Threads + Wait + Clock + Sync, G: Gate + Sync>(
+    rt: &R,
+    alloc: Global,
+    listener: &TcpListener,
+    book: Book,
+    limits: ServeLimits,
+    gate: &G,
+) -> Result<Book, ServeError>
+    requires { IsTrue (is_worker_count limits.workers) }
+    ensures run { IfOk result (λ b. IsRunOf (stored book) (stored b)) }
+    ensures begins { IfOk result (λ b. BeginsWith b.history book.history) }
+{
+    let (house, ground) = prepare(alloc, book, limits.workers)?;
+    run_desk::<Brand, R, G>(rt, alloc, listener, &house, ground, limits, gate)
+}
+
+/// Serves so many connections, or with 0 connections without end, by 1 to 16 workers that share the book. Gives the book back when
+/// all have ended. A connection has 30 seconds for its Logon.
+///
+/// # Errors
+///
+/// As `serve_within`.
 pub fn serve<R: Threads + Wait + Clock + Sync, G: Gate + Sync>(
     rt: &R,
     alloc: Global,
@@ -228,6 +224,10 @@ pub fn serve<R: Threads + Wait + Clock + Sync, G: Gate + Sync>(
     ensures run { IfOk result (λ b. IsRunOf (stored book) (stored b)) }
     ensures begins { IfOk result (λ b. BeginsWith b.history book.history) }
 {
-    let (house, ground) = prepare(alloc, book, workers)?;
-    run_desk::<Brand, R, G>(rt, alloc, listener, &house, ground, connections, gate)
+    let limits = ServeLimits {
+        workers,
+        connections,
+        logon_wait: LOGON_WAIT,
+    };
+    serve_within(rt, alloc, listener, book, limits, gate)
 }

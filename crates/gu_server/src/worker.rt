@@ -1,7 +1,14 @@
 //! A worker, and the turns of the connection that it serves.
 //!
-//! A turn reads at most 4,096 bytes, waiting one second for them, takes the messages that have come whole through the session, and sends
-//! all that comes of them in one write. Only the book is asked under the desk's lock: reading, decoding and writing are done without it.
+//! A turn reads at most 4,096 bytes, waiting one second for them, or a millisecond where the firm is behind with its reports. It takes the
+//! messages that have come whole through the session, and sends all that comes of them in one write. Only the book is asked under the desk's
+//! lock: reading, decoding and writing are done without it.
+//! A connection that has no accepted Logon in time is ended.
+ghost use Rattle.std.specs.Prelude.{◌≡◌, [], true, is_some, OnOk, OnErr};
+ghost use Rattle.gu_base.specs.Runs.{IsRunFrom};
+ghost use Rattle.gu_desk.specs.Runs.{HasSeen};
+ghost use Rattle.gu_trace.specs.Between.{HasLooked};
+ghost use Rattle.gu_server.specs.Turns.{Replies};
 
 use crate::connection::{Came, Closed, Connection};
 use gu_base::{AllocId, Answer, Command, FirmId};
@@ -9,18 +16,22 @@ use gu_codec::MAX_FRAME_LEN;
 use gu_desk::{Desk, Gate, Job, Seat};
 use gu_parties::House;
 use gu_session::{Actions, Event};
+use gu_trace::nothing_is_passed_over;
 use std::alloc::Global;
 use std::io;
 use std::io::{ErrorKind, Read};
 use std::net::TcpStream;
 use std::sync::Wait;
-use std::time::{Clock, Duration};
+use std::time::{Clock, Duration, Instant};
 
 /// The longest read of a turn, in bytes.
 const LONGEST_READ: usize = 4096;
 
 /// How long a read waits, in seconds.
 const READ_WAIT: u64 = 1;
+
+/// How long a read waits where the firm is behind with its reports, in milliseconds.
+const BEHIND_WAIT: u64 = 1;
 
 /// How long a write waits, in seconds. A peer that doesn't read holds a worker no longer.
 const WRITE_WAIT: u64 = 30;
@@ -32,6 +43,41 @@ fn set_up(stream: &TcpStream) -> io::Result<()> {
     stream.set_write_timeout(Some(Duration::from_secs(WRITE_WAIT)))
 }
 
+/// Sets how long the next reads wait, where the last waited otherwise: a firm that is behind has its next reports at once.
+fn keep_pace(stream: &TcpStream, hurried: &mut bool, behind: bool) -> io::Result<()>
+    ensures { OnOk result (hurried.new ≡ behind) }
+{
+    if *hurried == behind {
+        return Ok(());
+    }
+    *hurried = behind;
+    let wait = if behind {
+        Duration::from_millis(BEHIND_WAIT)
+    } else {
+        Duration::from_secs(READ_WAIT)
+    };
+    stream.set_read_timeout(Some(wait))
+}
+
+/// Ends a connection that was taken then and has waited for its Logon as long as it may, in seconds.
+fn expire<R: Clock>(
+    rt: &R,
+    connection: &mut Connection<'_>,
+    taken: Instant,
+    most: u64,
+) -> Result<(), Closed>
+    ensures ok { OnOk result (connection.new ≡ connection.old) }
+    ensures open { is_some connection.old.session.link.firm ≡ true → OnErr result ⊥ }
+{
+    if connection.firm().is_some() {
+        return Ok(());
+    }
+    match taken.elapsed(rt) {
+        Ok(waited) if waited.as_secs() < most => Ok(()),
+        _ => connection.end(rt),
+    }
+}
+
 /// A worker: what it has for all its connections. Its seat goes from hand to hand.
 #[derive(Drop)]
 pub(crate) struct Worker<'a, J: Job, R, G> {
@@ -40,6 +86,8 @@ pub(crate) struct Worker<'a, J: Job, R, G> {
     pub(crate) desk: &'a Desk<J>,
     pub(crate) house: &'a House,
     pub(crate) gate: &'a G,
+    /// How long a connection may be without an accepted Logon, in seconds.
+    pub(crate) logon_wait: u64,
     pub(crate) number: u32,
 }
 
@@ -52,25 +100,35 @@ impl<'a, J: Job, R, G> Worker<'a, J, R, G> {
             desk: self.desk,
             house: self.house,
             gate: self.gate,
+            logon_wait: self.logon_wait,
             number,
         }
     }
 }
 
 impl<'a, J: Job, R: Wait + Clock, G: Gate> Worker<'a, J, R, G> {
-    /// Reads the firm's reports above the last that was sent, and sends the answer, if there is one, and them.
+    /// Reads the firm's reports above the entry up to which was looked, and sends the answer, if there is one, and them.
     fn reply(
         &self,
         seat: Seat<J>,
         connection: &mut Connection<'_>,
         firm: &FirmId,
         answer: Option<Answer>,
-    ) -> (Seat<J>, Result<(), Closed>) {
+    ) -> (Seat<J>, Result<(), Closed>)
+        ensures seen { HasSeen J.opening seat.seen result.0.seen }
+        ensures replies { IsRunFrom J.opening.house [] result.0.seen → HasLooked J.opening.house.house seat.seen firm.now connection.old.told connection.old.looked
+            → OnOk result.1 (Replies J.opening.house result.0.seen firm.now answer connection.old connection.new) }
+    {
+        nothing_is_passed_over();
         let (seat, reports) = self
             .desk
-            .read_reports(self.rt, self.alloc, seat, firm, connection.told());
+            .read_reports(self.rt, self.alloc, seat, firm, connection.looked());
         match reports {
-            Ok(reports) => (seat, connection.send_reply(self.rt, answer, reports)),
+            Ok(reports) => {
+                let entries = seat.seen();
+                let sent = connection.send_reply(self.rt, entries, answer, reports);
+                (seat, sent)
+            }
             Err(_) => (seat, Err(Closed)),
         }
     }
@@ -191,11 +249,19 @@ impl<'a, J: Job, R: Wait + Clock, G: Gate> Worker<'a, J, R, G> {
         let Ok(mut connection) = Connection::new(self.alloc, self.house) else {
             return seat;
         };
+        let Ok(taken) = Instant::now(self.rt) else {
+            return seat;
+        };
         let mut seat = seat;
+        let mut hurried = false;
         for _ in self.rt.forever() {
-            let (back, taken) = self.turn(seat, &mut connection, &stream);
+            let (back, turned) = self.turn(seat, &mut connection, &stream);
             seat = back;
-            if connection.write(&stream).is_err() || taken.is_err() {
+            if connection.write(&stream).is_err()
+                || turned.is_err()
+                || expire(self.rt, &mut connection, taken, self.logon_wait).is_err()
+                || keep_pace(&stream, &mut hurried, connection.behind()).is_err()
+            {
                 break;
             }
         }

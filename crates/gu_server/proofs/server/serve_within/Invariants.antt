@@ -1,5 +1,5 @@
 use Rattle.std.proofs.Common.{◌+◌}
-use Rattle.gu_server.proofs.server.serve.Given as goal
+use Rattle.gu_server.proofs.server.serve_within.Given as goal
 
 -- the ground's own name, table and book
 abbrev pub ghosts-run_desk-J-Job : goal.ghosts-run_desk-J-Job

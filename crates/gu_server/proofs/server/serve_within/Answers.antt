@@ -3,7 +3,7 @@ use Rattle.std.specs.Prelude.{IfOk}
 use Rattle.gu_book.specs.Seen.{HouseAndHistory, BookView, stored}
 use Rattle.gu_desk.specs.Runs.{IsRunOf}
 use Rattle.gu_server.proofs.Begun.{begun}
-use Rattle.gu_server.proofs.server.serve.Goals as goal
+use Rattle.gu_server.proofs.server.serve_within.Goals as goal
 
 pub returns : goal.returns
 returns g c =
