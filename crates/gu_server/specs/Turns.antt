@@ -1,22 +1,15 @@
 -- What a turn of a connection does to its session, and what it sends.
-use Rattle.std.specs.Prelude.{◌≡◌, ◌≤ℤ◌, ℕ, pos, List, ◌++◌, false, Option, Some, None}
+use Rattle.std.specs.Prelude.{◌≡◌, ◌≤ℤ◌, ℕ, pos, List, ◌++◌, false, Some, None}
 use Rattle.jiff.specs.Types.{Timestamp}
 use Rattle.gu_codec.specs.declared.fields.Fields.{Fields}
 use Rattle.gu_codec.specs.declared.frame.Frame.TheVariants.{Whole, Garbled}
 use Rattle.gu_codec.specs.Next.{NextAnswers, after}
 use Rattle.gu_codec.specs.Stream.{Stream}
-use Rattle.gu_base.specs.House.{House}
-use Rattle.gu_base.specs.declared.entry.Answer.{Answer}
-use Rattle.gu_base.specs.declared.entry.Entry.{Entry}
-use Rattle.gu_base.specs.declared.report.Report.{Report}
 use Rattle.gu_session.specs.declared.event.Event.{Event}
 use Rattle.gu_session.specs.declared.event.Event.TheVariants as event
 use Rattle.gu_session.specs.declared.event.Actions.{Actions}
 use Rattle.gu_session.specs.Steps.{Seen}
 use Rattle.gu_session.specs.Text.{Steps}
-use Rattle.gu_trace.specs.Between.{HasLooked}
-use Rattle.gu_trace.specs.Reports.{reports_for}
-use Rattle.gu_server.specs.declared.connection.Connection.{Connection}
 use Rattle.gu_server.specs.declared.connection.Came.{Came}
 use Rattle.gu_server.specs.declared.connection.Came.TheVariants as came
 
@@ -27,19 +20,6 @@ StepsNow e before after a = (now : Timestamp) × (pos 0 ≤ℤ now.nanosecond) �
 -- the session took the event and stays open, and what it sends was put behind what the turn sends
 abbrev pub Speaks : Event → Seen → Seen → List ℕ → List ℕ → Type 0
 Speaks e before after out out_after = (a : Actions) × StepsNow e before after a × (out_after ≡ out ++ a.send.items) × (a.close ≡ false)
-
--- the event is the reply with this answer, if there is one, and these reports
-abbrev pub IsReply : Option Answer → List Report → Event → Type 0
-IsReply answer told (event.Reply a reports) = (a ≡ answer) × (reports.items ≡ told)
-IsReply answer told _ = ⊥
-
--- what a reply at this history does to the connection of a firm: its session took the answer and the reports above the last that was sent before, and no entry between
--- the last that was sent then and the one up to which was looked concerns the firm
-pub record Replies (t : House) (h : List Entry) (f : List ℕ) (answer : Option Answer) (before after : Connection) : Type 0 where
-  pub taken : Event
-  pub reply : IsReply answer (reports_for t.house h f before.told) taken
-  pub speaks : Speaks taken before.session after.session before.out.items after.out.items
-  pub looked : HasLooked t.house h f after.told after.looked
 
 -- what the bytes held bring, and what they leave of them: no frame yet, a garbled one, of which the session learns nothing, or a message and the session's step over it
 abbrev pub Brings : Stream → Seen → Seen → Stream → Came → Type 0

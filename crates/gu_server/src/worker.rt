@@ -4,11 +4,7 @@
 //! messages that have come whole through the session, and sends all that comes of them in one write. Only the book is asked under the desk's
 //! lock: reading, decoding and writing are done without it.
 //! A connection that has no accepted Logon in time is ended.
-ghost use Rattle.std.specs.Prelude.{◌≡◌, [], true, is_some, OnOk, OnErr};
-ghost use Rattle.gu_base.specs.Runs.{IsRunFrom};
-ghost use Rattle.gu_desk.specs.Runs.{HasSeen};
-ghost use Rattle.gu_trace.specs.Between.{HasLooked};
-ghost use Rattle.gu_server.specs.Turns.{Replies};
+ghost use Rattle.std.specs.Prelude.{◌≡◌, true, is_some, OnOk, OnErr};
 
 use crate::connection::{Came, Closed, Connection};
 use gu_base::{AllocId, Answer, Command, FirmId};
@@ -16,7 +12,6 @@ use gu_codec::MAX_FRAME_LEN;
 use gu_desk::{Desk, Gate, Job, Seat};
 use gu_parties::House;
 use gu_session::{Actions, Event};
-use gu_trace::nothing_is_passed_over;
 use std::alloc::Global;
 use std::io;
 use std::io::{ErrorKind, Read};
@@ -114,12 +109,7 @@ impl<'a, J: Job, R: Wait + Clock, G: Gate> Worker<'a, J, R, G> {
         connection: &mut Connection<'_>,
         firm: &FirmId,
         answer: Option<Answer>,
-    ) -> (Seat<J>, Result<(), Closed>)
-        ensures seen { HasSeen J.opening seat.seen result.0.seen }
-        ensures replies { IsRunFrom J.opening.house [] result.0.seen → HasLooked J.opening.house.house seat.seen firm.now connection.old.told connection.old.looked
-            → OnOk result.1 (Replies J.opening.house result.0.seen firm.now answer connection.old connection.new) }
-    {
-        nothing_is_passed_over();
+    ) -> (Seat<J>, Result<(), Closed>) {
         let (seat, reports) = self
             .desk
             .read_reports(self.rt, self.alloc, seat, firm, connection.looked());
