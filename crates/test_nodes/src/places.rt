@@ -110,7 +110,9 @@ fn put(
 fn tell_standing(rt: &impl Print, alloc: Global, giver: FirmId, taker: FirmId) -> io::Result<()> {
     let trees = Trees::new(alloc, alloc);
     let mut terms = Terms::new(alloc);
-    let [first, second, third] = [0, 1, 2].map(Number::at_place);
+    let first = Number::at_place(0);
+    let second = Number::at_place(1);
+    let third = Number::at_place(2);
     let made = Agreement { rate: 50, limit: 0 };
     put(&mut terms, &giver, &taker, first, Deed::Makes(made))?;
     put(&mut terms, &giver, &taker, second, Deed::Raises(10))?;
