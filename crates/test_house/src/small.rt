@@ -61,10 +61,10 @@ fn tell_agreement(rt: &impl Print, house: &House, giver: &str, taker: &str) -> i
 }
 
 fn tell_opening(rt: &impl Print, house: &House) -> io::Result<()> {
-    match house.opening_at(0) {
-        Some((id, _)) => println!(rt; "opening: {} from {id} on", house.opening_count()),
-        None => println!(rt; "opening: none"),
-    }
+    let Some(call) = house.opening_at(0) else {
+        return println!(rt; "opening: none");
+    };
+    println!(rt; "opening: {} from {} on", house.opening_count(), call.0)
 }
 
 fn tell_instrument(rt: &impl Print, house: &House, name: &str) -> io::Result<()> {
