@@ -6,6 +6,9 @@ use crate::refusal::Refusal;
 use crate::state::State;
 
 /// An accepted command as the history keeps it. Its number is its place in the history, counted from 1.
+///
+/// Fields lie in the order of the source. The names lie at any address, so the status takes a byte of what is left before
+/// the next multiple of eight, where the command begins; behind the command it would take eight more.
 #[derive(Debug, Drop)]
 pub struct Entry {
     pub firm: FirmId,
