@@ -30,6 +30,9 @@ enum Packed {
 }
 
 /// An entry with its slot, in a dozen bytes.
+///
+/// They lie in the order of their entries. An entry that names no node has none. One that was emptied stays, since its
+/// entry's number is never used again; so a change that is taken back writes one slot and moves nothing.
 #[derive(Drop)]
 pub(crate) struct Filed {
     entry: Number,
@@ -90,6 +93,8 @@ fn search(slots: &[Filed], entry: Number) -> Result<usize, usize>
 }
 
 /// Where the entry is filed, and how far above its number that is, `None` where it isn't. It is first looked for as far above as `shift` says.
+///
+/// Most entries have a slot, so that look mostly finds it. What lies there is known by its number, so `shift` may be any.
 fn find(slots: &[Filed], shift: usize, entry: Number) -> Option<(usize, usize)>
     requires { IsRising slots.now }
     ensures found { IfSome result (λ r. IsFiledAt slots.now entry r.0) }

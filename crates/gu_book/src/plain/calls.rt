@@ -97,7 +97,7 @@ fn front_refusal(at: &Standing<'_>, by: &FirmId, command: &Command) -> Option<Re
 {
     match command {
         Command::Initiate { entry } | Command::Decline { entry } | Command::Reverse { entry } => {
-            // Asked first, so that the entry is fetched while the bucket of the id still is.
+            // Asked first, though an unknown firm is told first: so the entry is fetched while the bucket of the id still is.
             let refusal = naming_refusal(at, by, command, *entry);
             if !at.house.firm(by) {
                 return Some(Refusal::UnknownFirm);
