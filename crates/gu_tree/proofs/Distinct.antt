@@ -102,15 +102,7 @@ parts-in l k i u maker (p ∷ ps) at =
 
 split-in : (l : List Record) (m : EntryPart) (k : ℕ) (by : List ℕ) (c : Command) → splits m c ≡ true → ((n : EntryPart) → n.entry ≡ k → node_of l n ≡ among n (nodes_of k by c)) → AreIn l m (nodes_of k by c)
 split-in l m k by (Split u ps) e at = subst (λ w. AreIn l w (nodes_of_parts k 1 u by ps)) (name_is u m e) (parts-in l k 1 u by ps (λ n q later. at n q))
-split-in l m k by (Trade _ _ _ _ _) e at = absurd (cc)
-split-in l m k by (Claim _ _) e at = absurd (cc)
-split-in l m k by (Refuse _) e at = absurd (cc)
-split-in l m k by (Cancel _) e at = absurd (cc)
-split-in l m k by (Agree _ _ _ _) e at = absurd (cc)
-split-in l m k by (Raise _ _) e at = absurd (cc)
-split-in l m k by (Initiate _) e at = absurd (cc)
-split-in l m k by (Decline _) e at = absurd (cc)
-split-in l m k by (Reverse _) e at = absurd (cc)
+split-in l m k by _ e at = absurd (cc)
 
 -- the nodes of a Split are of the list, and parts of the node that it names
 pub its-parts : (l : List Record) → HasDistinctNumbers l → (x : Node) (r : Record) → split_of l x.name ≡ Some r → AreIn l x.name (nodes_of r.number r.firm r.command)

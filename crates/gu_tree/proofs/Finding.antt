@@ -8,21 +8,7 @@ use Rattle.gu_tree.specs.Filing.{name_in, Leads, turned}
 use Rattle.gu_tree.specs.Grove.{Grove, tree_of, place_of, HasTree, IsGrove, IsPlace}
 use Rattle.gu_tree.proofs.Edits.{height_of-at}
 use Rattle.gu_tree.proofs.Groves.{leads-one, turned-turned}
-use Rattle.gu_tree.proofs.Parts.{at_there, some_and}
-
--- ---- one step further
-
-through-part : (p : List ℕ) (i : ℕ) (u : Rose) → ((t : Rose) → node_at p t ≡ Some u → node_at (p ++ i ∷ []) t ≡ node_at (i ∷ []) u)
-    → (o : Option Rose) → option_and_then (node_at p) o ≡ Some u → option_and_then (node_at (p ++ i ∷ [])) o ≡ node_at (i ∷ []) u
-through-part p i u ih None e = absurd (cc)
-through-part p i u ih (Some t) e = ih t e
-
-pub node_at-step : (p : List ℕ) (i : ℕ) (t u : Rose) → node_at p t ≡ Some u → node_at (p ++ i ∷ []) t ≡ node_at (i ∷ []) u
-node_at-step [] i t u e = let s : t ≡ u = cc in ap (node_at (i ∷ [])) s
-node_at-step (j ∷ p) i (leaf h) u e = absurd (cc)
-node_at-step (j ∷ p) i (parted h n ts) u e = through-part p i u (λ t d. node_at-step p i t u d) (part_at j ts) e
-
--- ---- in a grove
+use Rattle.gu_tree.proofs.Parts.{at_there, some_and, node_at-further}
 
 place-leads : (g : Grove) (n : EntryPart) (trade : ℕ) (p : List ℕ) → IsGrove g → IsPlace g n trade p → Leads g.slots n trade (turned p)
 place-leads g n trade p is place =
@@ -101,7 +87,7 @@ module _ (g : Grove) (n : EntryPart) (other : ℕ) (above : List ℕ) (u : Rose)
   pub next-there : (w : Rose) → node_at ((n.part - 1) ∷ []) u ≡ Some w → (head_of w).name ≡ n → IsNext g n other above w
   next-there w step called =
       let t = its-tree in
-      let led : node_at (above ++ (n.part - 1) ∷ []) t.0 ≡ Some w = node_at-step above (n.part - 1) t.0 u t.2 ∙ step in
+      let led : node_at (above ++ (n.part - 1) ∷ []) t.0 ≡ Some w = node_at-further above ((n.part - 1) ∷ []) t.0 u t.2 ∙ step in
       record {
         place = record { tree = t.0; found = t.1; there = at_there (λ v. (head_of v).name ≡ n) _ w led called };
         node = at_there (λ x. node_at (above ++ (n.part - 1) ∷ []) x ≡ Some w) _ t.0 t.1 led;
@@ -113,7 +99,7 @@ module _ (g : Grove) (n : EntryPart) (other : ℕ) (above : List ℕ) (u : Rose)
       let t = its-tree in
       below-place g n other above t.0 is part found t.1 (λ i step led.
       let same : i ≡ n.part - 1 = omega (arith, step) in
-      none (subst (λ o. IsSomeAnd o (λ v. (head_of v).name ≡ n)) (node_at-step above (n.part - 1) t.0 u t.2) (subst (λ k. LeadsTo (above ++ k ∷ []) t.0 n) same led)))
+      none (subst (λ o. IsSomeAnd o (λ v. (head_of v).name ≡ n)) (node_at-further above ((n.part - 1) ∷ []) t.0 u t.2) (subst (λ k. LeadsTo (above ++ k ∷ []) t.0 n) same led)))
 
 -- a node with a part has a height
 pub next-height : (i : ℕ) (u w : Rose) → node_at (i ∷ []) u ≡ Some w → 1 ≤ height_of u

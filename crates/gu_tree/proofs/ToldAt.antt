@@ -32,15 +32,7 @@ parts-counted k i up by (p ∷ ps) low = (low, parts-counted k (i + 1) up by ps 
 
 split-counted : (n : EntryPart) (k : ℕ) (by : List ℕ) (c : Command) → splits n c ≡ true → AreCounted (nodes_of k by c)
 split-counted n k by (Split up ps) e = parts-counted k 1 up by ps (omega arith)
-split-counted n k by (Trade _ _ _ _ _) e = absurd (cc)
-split-counted n k by (Claim _ _) e = absurd (cc)
-split-counted n k by (Refuse _) e = absurd (cc)
-split-counted n k by (Cancel _) e = absurd (cc)
-split-counted n k by (Agree _ _ _ _) e = absurd (cc)
-split-counted n k by (Raise _ _) e = absurd (cc)
-split-counted n k by (Initiate _) e = absurd (cc)
-split-counted n k by (Decline _) e = absurd (cc)
-split-counted n k by (Reverse _) e = absurd (cc)
+split-counted n k by _ e = absurd (cc)
 
 module _ (l : List Record) where
   made-counted : (n : EntryPart) (r : Record) → split_of l n ≡ Some r → AreCounted (nodes_of r.number r.firm r.command)
