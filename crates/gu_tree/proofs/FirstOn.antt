@@ -1,7 +1,8 @@
 -- The least number that stands on the parts of a node, and which it is in a list that the tree shows.
-use Rattle.std.proofs.Common.{◌≡◌, Bool, true, false, ◌&&◌, ℕ, zero, suc, ◌+◌, ◌<◌, min, Option, Some, None, IsSomeAnd, List, [], ◌∷◌, ◌++◌, length, get_or, take, refl, ap, sym, ◌∙◌, subst, arith, append_assoc, append-nil}
+use Rattle.std.proofs.Common.{◌≡◌, true, ℕ, zero, suc, ◌+◌, ◌<◌, min, Option, Some, None, IsSomeAnd, List, [], ◌∷◌, ◌++◌, length, get_or, take, refl, ap, sym, ◌∙◌, subst, arith, append_assoc, append-nil}
 use Rattle.std.specs.Prelude.{flat_map, is_none, option_map, option_and_then}
 use Rattle.std.specs.Option.{option_to_list}
+use Rattle.std.proofs.lemmas.Bool.{and_parts}
 use Rattle.std.proofs.lemmas.List.{take_more}
 use Rattle.gu_base.specs.Nodes.{nodes_of, decision_of}
 use Rattle.gu_base.specs.Rows.{made_by, parts_of}
@@ -53,14 +54,10 @@ undecided-numbers (leaf h) is = none h.decision is
     none (Some n) e = absurd (cc)
 undecided-numbers (parted h n ts) is = absurd (cc)
 
-both : (a b : Bool) → (a && b) ≡ true → (a ≡ true) × (b ≡ true)
-both true b e = (refl, e)
-both false b e = absurd (cc)
-
 undecided-each : (ts : Roses) → are_undecided_leaves ts ≡ true → numbers_at_each ts ≡ []
 undecided-each no_parts is = refl
 undecided-each (part_then t ts) is =
-    let b = both (is_undecided_leaf t) (are_undecided_leaves ts) is in
+    let b = and_parts (is_undecided_leaf t) (are_undecided_leaves ts) is in
     rw (undecided-numbers t b.0, undecided-each ts b.1) refl
 
 pub first-of_none : (t : Rose) (h : Head) (n : ℕ) (xs : List Rose) → parted h n (from_list xs) ≡ t → are_undecided_leaves (from_list xs) ≡ true → None ≡ least (numbers_on_parts t)

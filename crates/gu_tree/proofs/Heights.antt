@@ -8,7 +8,7 @@ use Rattle.gu_base.specs.declared.entry.Record.{Record}
 use Rattle.gu_base.specs.declared.node.Place.{Place}
 use Rattle.gu_base.specs.declared.node.Node.{Node}
 use Rattle.gu_base.specs.declared.command.Command.{Command}
-use Rattle.gu_base.specs.declared.command.Command.TheVariants.{Trade, Split, Claim, Refuse, Cancel, Agree, Raise, Initiate, Decline, Reverse}
+use Rattle.gu_base.specs.declared.command.Command.TheVariants.{Split}
 use Rattle.gu_base.proofs.NodeNames.{name_is, part_parent}
 use Rattle.gu_tree.specs.Rose.{Rose, Roses, leaf, parted, no_parts, part_then, height_of, heights_of}
 use Rattle.gu_tree.specs.Shown.{IsNodeOf, ArePartsOf, IsTreeOf}

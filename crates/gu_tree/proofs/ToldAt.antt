@@ -9,7 +9,7 @@ use Rattle.gu_base.specs.declared.node.Place.{Place}
 use Rattle.gu_base.specs.declared.node.Node.{Node}
 use Rattle.gu_base.specs.declared.command.Part.{Part}
 use Rattle.gu_base.specs.declared.command.Command.{Command}
-use Rattle.gu_base.specs.declared.command.Command.TheVariants.{Trade, Split, Claim, Refuse, Cancel, Agree, Raise, Initiate, Decline, Reverse}
+use Rattle.gu_base.specs.declared.command.Command.TheVariants.{Split}
 use Rattle.gu_base.proofs.NodeNames.{node_called}
 use Rattle.gu_base.proofs.Searches.{find_passes}
 use Rattle.gu_tree.specs.Rose.{Rose, Roses, leaf, parted, no_parts, part_then, head_of, split_of_node}

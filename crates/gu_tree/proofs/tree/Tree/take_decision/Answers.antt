@@ -1,4 +1,4 @@
-use Rattle.std.proofs.Common.{◌≡◌, ◌∙◌, refl}
+use Rattle.std.proofs.Common.{◌≡◌, refl}
 use Rattle.gu_tree.specs.Rose.{head_of}
 use Rattle.gu_tree.specs.Paths.{node_at, edit_at}
 use Rattle.gu_tree.specs.Changes.{offer_node, stand_path, IsLeaf}
@@ -11,18 +11,18 @@ pub at-requires : goal.at-requires
 at-requires g c =
     let v = some_and _ _ c.requires.decided in
     let u = stand-there c.args.stand c.args.path.now.items c.args.self.now v.0 v.1 in
-    rw (c.path.ensures, c.as_slice.ensures.value, c.self.view_is, u.1) refl
+    rw (c.path.ensures, c.as_slice-steps.ensures.value, c.self.view_is, u.1) refl
 
 pub offer_at-requires : goal.offer_at-requires
 offer_at-requires g c =
     let v = some_and _ _ c.requires.decided in
-    rw (c.as_slice.ensures.value, c.self.view_is) (at_there IsLeaf _ v.0 v.1 (decided-leaf c.args.stand v.0 v.2))
+    rw (c.as_slice-steps.ensures.value, c.self.view_is) (at_there IsLeaf _ v.0 v.1 (decided-leaf c.args.stand v.0 v.2))
 
 pub returns-clause-node : goal.returns-clause-node
 returns-clause-node g c =
     at_there (λ u. c.offer_at.new.self ≡ edit_at (offer_node (head_of u).place) c.args.path.now.items c.args.self.now) _ c.at.result.now
-    (rw (c.path.ensures, c.as_slice.ensures.value, c.self.view_is) at c.at.ensures)
-    (rw (c.as_slice.ensures.value, c.self.view_is, c.head.ensures.head) at c.offer_at.ensures.node)
+    (rw (c.path.ensures, c.as_slice-steps.ensures.value, c.self.view_is) at c.at.ensures)
+    (rw (c.as_slice-steps.ensures.value, c.self.view_is, c.head.ensures.head) at c.offer_at.ensures.node)
 
 pub invariant_of-self : goal.invariant_of-self
 invariant_of-self g c =
