@@ -1,11 +1,11 @@
 -- Entries filed in the order of their numbers, and what is found among them.
-use Rattle.std.proofs.Common.{◌≡◌, ◌≢◌, ℕ, zero, suc, ◌<◌, ◌≤◌, Bool, true, false, List, [], ◌∷◌, ◌++◌, length, get_or, set, Result, Ok, Err, IfOk, OnErr, refl, ap, sym, ◌∙◌, subst, arith}
+use Rattle.std.proofs.Common.{◌≡◌, ◌≢◌, ℕ, zero, suc, ◌<◌, ◌≤◌, true, false, List, [], ◌∷◌, ◌++◌, length, get_or, set, Result, Ok, Err, IfOk, OnErr, refl, ap, sym, ◌∙◌, subst, arith}
 use Rattle.std.specs.Prelude.{◌==◌, if◌then◌else◌, max}
 use Rattle.std.specs.List.Sorted.{IsSearchInRange, IsBinarySearchResult, IsNonDecreasingBy}
 use Rattle.std.specs.Ordering.{nat_cmp, ordering_index}
 use Rattle.std.proofs.lemmas.Cmp.{ranked}
 use Rattle.std.proofs.lemmas.List.Sorted.{IsNonDecreasingBy-from_default}
-use Rattle.std.proofs.lemmas.Bool.{eq-eqb, ne_eqb, eqb-true}
+use Rattle.std.proofs.lemmas.Bool.{cond_both, eq-eqb, ne_eqb, eqb-true}
 use Rattle.std.proofs.lemmas.Bool.Decides.{nat_tests}
 use Rattle.std.proofs.lemmas.List.{get_or_read}
 use Rattle.gu_tree.specs.Filing.{Filing, slot_of, last_of, RisesAbove, IsRising, no_filing, IsFiledAt, IsNotFiled, without_slot}
@@ -52,50 +52,38 @@ rising-with_slot s e x rises h = rises-with_slot 0 s e x rises (omega (arith, h)
 
 -- ---- what has a slot isn't above all
 
-low-by : (y : Filing) (s : List Filing) (k : ℕ) (x : Slot) → x ≢ Empty → (slot_of s k ≡ x → k ≤ last_of s) → (b : Bool) → (y.entry == k) ≡ b → (if b then y.slot else slot_of s k) ≡ x → k ≤ last_of (y ∷ s)
-low-by y s k x some ih true q e = omega (arith, eqb-true y.entry k q)
-low-by y s k x some ih false q e = omega (arith, ih e)
-
 pub slot-low : (s : List Filing) (k : ℕ) (x : Slot) → slot_of s k ≡ x → x ≢ Empty → k ≤ last_of s
 slot-low [] k x e some = absurd (some (sym e))
-slot-low (y ∷ s) k x e some = low-by y s k x some (λ q. slot-low s k x q some) (y.entry == k) refl e
+slot-low (y ∷ s) k x e some =
+    cond_both (y.entry == k) y.slot (slot_of s k) (λ z. z ≡ x → k ≤ last_of (y ∷ s)) (λ q at. omega (arith, eqb-true y.entry k q)) (λ q at. omega (arith, slot-low s k x at some)) e
 
 -- ---- an entry that has named nothing
 
 abbrev gone : ℕ → Filing
 gone e = record { entry = e; slot = Empty }
 
-gone-by : (y : Filing) (s : List Filing) (e : ℕ) → slot_of (without_slot s e) e ≡ Empty → (b : Bool) → (y.entry == e) ≡ b → slot_of (if b then gone e ∷ s else y ∷ without_slot s e) e ≡ Empty
-gone-by y s e ih true q = rw (same-eqb e) refl
-gone-by y s e ih false q = rw q ih
-
 pub slot_of-gone : (s : List Filing) (e : ℕ) → slot_of (without_slot s e) e ≡ Empty
 slot_of-gone [] e = refl
-slot_of-gone (y ∷ s) e = gone-by y s e (slot_of-gone s e) (y.entry == e) refl
-
-kept-by : (y : Filing) (s : List Filing) (e k : ℕ) → k ≢ e → slot_of (without_slot s e) k ≡ slot_of s k → (b : Bool) → (y.entry == e) ≡ b → slot_of (if b then gone e ∷ s else y ∷ without_slot s e) k ≡ slot_of (y ∷ s) k
-kept-by y s e k other ih true q = rw (ne_eqb e k (λ p. other (sym p)), ne_eqb y.entry k (λ p. other (sym p ∙ eqb-true y.entry e q))) refl
-kept-by y s e k other ih false q = ap (λ o. if y.entry == k then y.slot else o) ih
+slot_of-gone (y ∷ s) e = cond_both (y.entry == e) (gone e ∷ s) (y ∷ without_slot s e) (λ z. slot_of z e ≡ Empty) (λ q. rw (same-eqb e) refl) (λ q. rw q (slot_of-gone s e))
 
 pub slot_of-kept : (s : List Filing) (e k : ℕ) → k ≢ e → slot_of (without_slot s e) k ≡ slot_of s k
 slot_of-kept [] e k other = refl
-slot_of-kept (y ∷ s) e k other = kept-by y s e k other (slot_of-kept s e k other) (y.entry == e) refl
-
-last-by : (y : Filing) (s : List Filing) (e : ℕ) → last_of (without_slot s e) ≡ last_of s → (b : Bool) → (y.entry == e) ≡ b → last_of (if b then gone e ∷ s else y ∷ without_slot s e) ≡ last_of (y ∷ s)
-last-by y s e ih true q = ap (λ n. max n (last_of s)) (sym (eqb-true y.entry e q))
-last-by y s e ih false q = ap (max y.entry) ih
+slot_of-kept (y ∷ s) e k other =
+    cond_both (y.entry == e) (gone e ∷ s) (y ∷ without_slot s e) (λ z. slot_of z k ≡ slot_of (y ∷ s) k)
+    (λ q. rw (ne_eqb e k (λ p. other (sym p)), ne_eqb y.entry k (λ p. other (sym p ∙ eqb-true y.entry e q))) refl)
+    (λ q. ap (λ o. if y.entry == k then y.slot else o) (slot_of-kept s e k other))
 
 pub last-without_slot : (s : List Filing) (e : ℕ) → last_of (without_slot s e) ≡ last_of s
 last-without_slot [] e = refl
-last-without_slot (y ∷ s) e = last-by y s e (last-without_slot s e) (y.entry == e) refl
-
-rises-by : (n : ℕ) (y : Filing) (s : List Filing) (e : ℕ) → RisesAbove n (y ∷ s) → RisesAbove y.entry (without_slot s e) → (b : Bool) → (y.entry == e) ≡ b → RisesAbove n (if b then gone e ∷ s else y ∷ without_slot s e)
-rises-by n y s e rises ih true q = subst (λ k. (n < k) × RisesAbove k s) (eqb-true y.entry e q) rises
-rises-by n y s e rises ih false q = (rises.0, ih)
+last-without_slot (y ∷ s) e =
+    cond_both (y.entry == e) (gone e ∷ s) (y ∷ without_slot s e) (λ z. last_of z ≡ last_of (y ∷ s))
+    (λ q. ap (λ n. max n (last_of s)) (sym (eqb-true y.entry e q))) (λ q. ap (max y.entry) (last-without_slot s e))
 
 rises-without_slot : (n : ℕ) (s : List Filing) (e : ℕ) → RisesAbove n s → RisesAbove n (without_slot s e)
 rises-without_slot n [] e rises = tt
-rises-without_slot n (y ∷ s) e rises = rises-by n y s e rises (rises-without_slot y.entry s e rises.1) (y.entry == e) refl
+rises-without_slot n (y ∷ s) e rises =
+    cond_both (y.entry == e) (gone e ∷ s) (y ∷ without_slot s e) (RisesAbove n)
+    (λ q. subst (λ k. (n < k) × RisesAbove k s) (eqb-true y.entry e q) rises) (λ q. (rises.0, rises-without_slot y.entry s e rises.1))
 
 pub rising-without_slot : (s : List Filing) (e : ℕ) → IsRising s → IsRising (without_slot s e)
 rising-without_slot s e rises = rises-without_slot 0 s e rises
