@@ -3,7 +3,7 @@ use Rattle.std.proofs.Common.{◌≡◌, ◌≢◌, ℕ, ◌+◌, ◌≤◌, con
 use Rattle.std.specs.Prelude.{find, bytes_eq, ◌==◌}
 use Rattle.std.specs.Option.{option_or}
 use Rattle.std.specs.List.{AllByRecursion}
-use Rattle.std.proofs.lemmas.Bool.Decides.{Decides-eqb}
+use Rattle.std.proofs.lemmas.Bool.{eqb-false}
 use Rattle.std.proofs.lemmas.List.Folds.{find-append}
 use Rattle.std.proofs.lemmas.Map.Keys.{IsDistinct-head, IsDistinct-tail}
 use Rattle.gu_base.specs.Numbers.{EntryPart}
@@ -12,7 +12,7 @@ use Rattle.gu_base.specs.declared.entry.Record.{Record}
 use Rattle.gu_base.specs.declared.node.Node.{Node}
 use Rattle.gu_base.specs.declared.command.Part.{Part}
 use Rattle.gu_base.specs.declared.command.Command.{Command}
-use Rattle.gu_base.specs.declared.command.Command.TheVariants.{Trade, Split, Claim, Refuse, Cancel, Agree, Raise, Initiate, Decline, Reverse}
+use Rattle.gu_base.specs.declared.command.Command.TheVariants.{Split}
 use Rattle.gu_base.proofs.Basics.{or_none}
 use Rattle.gu_base.proofs.NodeNames.{name_same, name_is, made_entry, parent_by}
 use Rattle.gu_tree.specs.Shown.{HasDistinctNumbers}
@@ -48,13 +48,10 @@ node_of-later s l n other = node_of-first s l n ∙ ap (λ o. option_or o (node_
 abbrev IsFree : ℕ → List Record → Type 0
 IsFree k l = AllByRecursion (λ n. (k == n) ≡ false) (map (λ r. r.number) l)
 
-free-apart : (k n : ℕ) → (k == n) ≡ false → k ≢ n
-free-apart k n apart e = let same : (k == n) ≡ true = (Decides-eqb k n).1 e in absurd (cc)
-
 -- no node has a number that no change has
 nodes-free : (k : ℕ) (l : List Record) → IsFree k l → (n : EntryPart) → n.entry ≡ k → node_of l n ≡ None
 nodes-free k [] free n e = refl
-nodes-free k (s ∷ l) free n e = node_of-later s l n (λ q. free-apart k s.number free.0 (sym e ∙ q)) ∙ nodes-free k l free.1 n e
+nodes-free k (s ∷ l) free n e = node_of-later s l n (λ q. eqb-false k s.number free.0 (sym e ∙ q)) ∙ nodes-free k l free.1 n e
 
 -- ---- the Split that names a node
 
@@ -79,7 +76,7 @@ found-split (s ∷ l) distinct m r e =
           record {
             splits_it = rest.splits_it;
             taken = λ k free. rest.taken k free.1;
-            its_nodes = λ n q. node_of-later s l n (λ t. free-apart s.number r.number (rest.taken s.number free) (sym t ∙ q)) ∙ rest.its_nodes n q;
+            its_nodes = λ n q. node_of-later s l n (λ t. eqb-false s.number r.number (rest.taken s.number free) (sym t ∙ q)) ∙ rest.its_nodes n q;
           })
     ]
 
@@ -102,15 +99,7 @@ parts-in l k i u maker (p ∷ ps) at =
 
 split-in : (l : List Record) (m : EntryPart) (k : ℕ) (by : List ℕ) (c : Command) → splits m c ≡ true → ((n : EntryPart) → n.entry ≡ k → node_of l n ≡ among n (nodes_of k by c)) → AreIn l m (nodes_of k by c)
 split-in l m k by (Split u ps) e at = subst (λ w. AreIn l w (nodes_of_parts k 1 u by ps)) (name_is u m e) (parts-in l k 1 u by ps (λ n q later. at n q))
-split-in l m k by (Trade _ _ _ _ _) e at = absurd (cc)
-split-in l m k by (Claim _ _) e at = absurd (cc)
-split-in l m k by (Refuse _) e at = absurd (cc)
-split-in l m k by (Cancel _) e at = absurd (cc)
-split-in l m k by (Agree _ _ _ _) e at = absurd (cc)
-split-in l m k by (Raise _ _) e at = absurd (cc)
-split-in l m k by (Initiate _) e at = absurd (cc)
-split-in l m k by (Decline _) e at = absurd (cc)
-split-in l m k by (Reverse _) e at = absurd (cc)
+split-in l m k by _ e at = absurd (cc)
 
 -- the nodes of a Split are of the list, and parts of the node that it names
 pub its-parts : (l : List Record) → HasDistinctNumbers l → (x : Node) (r : Record) → split_of l x.name ≡ Some r → AreIn l x.name (nodes_of r.number r.firm r.command)

@@ -1,28 +1,14 @@
 -- Where the node of a name lies.
 use Rattle.std.proofs.Common.{◌≡◌, ◌≢◌, ℕ, ◌+◌, ◌-◌, ◌≤◌, Option, Some, None, IsSome, IsSomeAnd, List, [], ◌∷◌, ◌++◌, refl, ap, sym, ◌∙◌, subst, arith}
-use Rattle.std.specs.Prelude.{option_and_then}
+use Rattle.std.proofs.lemmas.Option.{same_Some}
 use Rattle.gu_base.specs.Numbers.{EntryPart}
-use Rattle.gu_tree.specs.Rose.{Rose, leaf, parted, head_of, height_of}
-use Rattle.gu_tree.specs.Paths.{part_at, node_at, LeadsTo, HasPath}
+use Rattle.gu_tree.specs.Rose.{Rose, head_of, height_of}
+use Rattle.gu_tree.specs.Paths.{node_at, LeadsTo, HasPath}
 use Rattle.gu_tree.specs.Filing.{name_in, Leads, turned}
 use Rattle.gu_tree.specs.Grove.{Grove, tree_of, place_of, HasTree, IsGrove, IsPlace}
 use Rattle.gu_tree.proofs.Edits.{height_of-at}
 use Rattle.gu_tree.proofs.Groves.{leads-one, turned-turned}
-use Rattle.gu_tree.proofs.Parts.{at_there, some_and}
-
--- ---- one step further
-
-through-part : (p : List ℕ) (i : ℕ) (u : Rose) → ((t : Rose) → node_at p t ≡ Some u → node_at (p ++ i ∷ []) t ≡ node_at (i ∷ []) u)
-    → (o : Option Rose) → option_and_then (node_at p) o ≡ Some u → option_and_then (node_at (p ++ i ∷ [])) o ≡ node_at (i ∷ []) u
-through-part p i u ih None e = absurd (cc)
-through-part p i u ih (Some t) e = ih t e
-
-pub node_at-step : (p : List ℕ) (i : ℕ) (t u : Rose) → node_at p t ≡ Some u → node_at (p ++ i ∷ []) t ≡ node_at (i ∷ []) u
-node_at-step [] i t u e = let s : t ≡ u = cc in ap (node_at (i ∷ [])) s
-node_at-step (j ∷ p) i (leaf h) u e = absurd (cc)
-node_at-step (j ∷ p) i (parted h n ts) u e = through-part p i u (λ t d. node_at-step p i t u d) (part_at j ts) e
-
--- ---- in a grove
+use Rattle.gu_tree.proofs.Parts.{at_there, some_and, node_at-further}
 
 place-leads : (g : Grove) (n : EntryPart) (trade : ℕ) (p : List ℕ) → IsGrove g → IsPlace g n trade p → Leads g.slots n trade (turned p)
 place-leads g n trade p is place =
@@ -55,14 +41,11 @@ record IsStep (g : Grove) (n : EntryPart) (trade other : ℕ) (p above : List �
   same : trade ≡ other
   path : p ≡ above ++ i ∷ []
 
-some_same : (a b : EntryPart) → Some a ≡ Some b → a ≡ b
-some_same a b e = cc
-
 step-up : (g : Grove) (n m : EntryPart) (trade other : ℕ) (p above up : List ℕ) → n.part ≢ 0 → place_of g n.entry ≡ Some m → Leads g.slots m other (turned above) → turned p ≡ up → Leads g.slots n trade up
     → IsStep g n trade other p above
 step-up g n m trade other p above [] part at leads e is = absurd (part is.0)
 step-up g n m trade other p above (i ∷ up) part at leads e is =
-    let same : is.1.0 ≡ m = some_same is.1.0 m (sym (ap (name_in n.entry) is.1.1) ∙ at) in
+    let same : is.1.0 ≡ m = same_Some is.1.0 m (sym (ap (name_in n.entry) is.1.1) ∙ at) in
     let one = leads-one g.slots m trade other up (turned above) (subst (λ (k : EntryPart). Leads g.slots k trade up) same is.1.2) leads in
     record {
       i = i;
@@ -71,16 +54,13 @@ step-up g n m trade other p above (i ∷ up) part at leads e is =
       path = sym (turned-turned p) ∙ (ap turned e ∙ (ap (λ q. turned q ++ i ∷ []) one.1 ∙ ap (λ q. q ++ i ∷ []) (turned-turned above)));
     }
 
-same_tree : (a b : Rose) → Some a ≡ Some b → a ≡ b
-same_tree a b e = cc
-
 -- a node of the name lies one step below the place of its entry
 pub below-place : (g : Grove) (n : EntryPart) (other : ℕ) (above : List ℕ) (tree : Rose) → IsGrove g → n.part ≢ 0 → IsSomeAnd (place_of g n.entry) (λ m. IsPlace g m other above) → tree_of g other ≡ Some tree
     → ((i : ℕ) → n.part ≡ i + 1 → LeadsTo (above ++ i ∷ []) tree n → ⊥) → (trade : ℕ) (p : List ℕ) → IsPlace g n trade p → ⊥
 below-place g n other above tree is part at found never trade p place =
     let m = place_and (place_of g n.entry) at in
     let s = step-up g n m.0 trade other p above (turned p) part m.1 (place-leads g m.0 other above is m.2) refl (place-leads g n trade p is place) in
-    let same : place.tree ≡ tree = same_tree place.tree tree (sym place.found ∙ (ap (tree_of g) s.same ∙ found)) in
+    let same : place.tree ≡ tree = same_Some place.tree tree (sym place.found ∙ (ap (tree_of g) s.same ∙ found)) in
     never s.i s.part (subst (λ q. LeadsTo q tree n) s.path (subst (λ t. LeadsTo p t n) same place.there))
   where
     place_and : (o : Option EntryPart) → IsSomeAnd o (λ m. IsPlace g m other above) → (m : EntryPart) × (o ≡ Some m) × IsPlace g m other above
@@ -101,7 +81,7 @@ module _ (g : Grove) (n : EntryPart) (other : ℕ) (above : List ℕ) (u : Rose)
   pub next-there : (w : Rose) → node_at ((n.part - 1) ∷ []) u ≡ Some w → (head_of w).name ≡ n → IsNext g n other above w
   next-there w step called =
       let t = its-tree in
-      let led : node_at (above ++ (n.part - 1) ∷ []) t.0 ≡ Some w = node_at-step above (n.part - 1) t.0 u t.2 ∙ step in
+      let led : node_at (above ++ (n.part - 1) ∷ []) t.0 ≡ Some w = node_at-further above ((n.part - 1) ∷ []) t.0 u t.2 ∙ step in
       record {
         place = record { tree = t.0; found = t.1; there = at_there (λ v. (head_of v).name ≡ n) _ w led called };
         node = at_there (λ x. node_at (above ++ (n.part - 1) ∷ []) x ≡ Some w) _ t.0 t.1 led;
@@ -113,7 +93,7 @@ module _ (g : Grove) (n : EntryPart) (other : ℕ) (above : List ℕ) (u : Rose)
       let t = its-tree in
       below-place g n other above t.0 is part found t.1 (λ i step led.
       let same : i ≡ n.part - 1 = omega (arith, step) in
-      none (subst (λ o. IsSomeAnd o (λ v. (head_of v).name ≡ n)) (node_at-step above (n.part - 1) t.0 u t.2) (subst (λ k. LeadsTo (above ++ k ∷ []) t.0 n) same led)))
+      none (subst (λ o. IsSomeAnd o (λ v. (head_of v).name ≡ n)) (node_at-further above ((n.part - 1) ∷ []) t.0 u t.2) (subst (λ k. LeadsTo (above ++ k ∷ []) t.0 n) same led)))
 
 -- a node with a part has a height
 pub next-height : (i : ℕ) (u w : Rose) → node_at (i ∷ []) u ≡ Some w → 1 ≤ height_of u
@@ -123,7 +103,7 @@ next-height i u w e = omega (arith, height_of-at (i ∷ []) u w e)
 pub has-place : (g : Grove) (trade : ℕ) (p : List ℕ) (t : Rose) (o : Option EntryPart) → IsSomeAnd o (λ n. IsPlace g n trade p) → tree_of g trade ≡ Some t → HasPath p t
 has-place g trade p t None h found = absurd h
 has-place g trade p t (Some n) place found =
-    let same : place.tree ≡ t = same_tree place.tree t (sym place.found ∙ found) in
+    let same : place.tree ≡ t = same_Some place.tree t (sym place.found ∙ found) in
     let v = some_and (λ v. (head_of v).name ≡ n) (node_at p t) (subst (λ x. LeadsTo p x n) same place.there) in
     subst IsSome (sym v.1) refl
 

@@ -1,7 +1,8 @@
 -- The least number that stands on the parts of a node, and which it is in a list that the tree shows.
-use Rattle.std.proofs.Common.{◌≡◌, Bool, true, false, ◌&&◌, ℕ, zero, suc, ◌+◌, ◌<◌, min, Option, Some, None, IsSomeAnd, List, [], ◌∷◌, ◌++◌, length, get_or, take, refl, ap, sym, ◌∙◌, subst, arith, append_assoc, append-nil}
-use Rattle.std.specs.Prelude.{flat_map, is_none, option_map, option_and_then}
+use Rattle.std.proofs.Common.{◌≡◌, true, ℕ, ◌+◌, ◌<◌, ◌≤◌, min, Option, Some, None, IsSomeAnd, List, [], ◌∷◌, ◌++◌, length, get_or, take, refl, ap, sym, ◌∙◌, subst, arith, append_assoc, append-nil}
+use Rattle.std.specs.Prelude.{flat_map, is_none, option_map}
 use Rattle.std.specs.Option.{option_to_list}
+use Rattle.std.proofs.lemmas.Bool.{and_parts}
 use Rattle.std.proofs.lemmas.List.{take_more}
 use Rattle.gu_base.specs.Nodes.{nodes_of, decision_of}
 use Rattle.gu_base.specs.Rows.{made_by, parts_of}
@@ -10,11 +11,18 @@ use Rattle.gu_base.specs.declared.node.Place.{Place}
 use Rattle.gu_base.specs.declared.node.Node.{Node}
 use Rattle.gu_tree.specs.Rose.{Rose, Roses, leaf, parted, no_parts, part_then, from_list, head_of}
 use Rattle.gu_tree.specs.Changes.{is_undecided_leaf, are_undecided_leaves}
-use Rattle.gu_tree.specs.Paths.{part_at, node_at, HasAt}
+use Rattle.gu_tree.specs.Paths.{node_at, HasAt}
 use Rattle.gu_tree.specs.declared.head.Head.{Head}
 use Rattle.gu_tree.specs.Shown.{IsNodeOf, ArePartsOf, IsTreeOf}
 use Rattle.gu_tree.specs.NumbersOn.{number_in, numbers_on, least_with, least, lesser, numbers_at, numbers_at_each, numbers_on_parts}
-use Rattle.gu_tree.proofs.Along.{its-head}
+use Rattle.gu_base.specs.Numbers.{EntryPart}
+use Rattle.gu_base.specs.Nodes.{nodes_of_parts, splits}
+use Rattle.gu_base.specs.declared.command.Part.{Part}
+use Rattle.gu_base.specs.declared.command.Command.{Command}
+use Rattle.gu_base.specs.declared.command.Command.TheVariants.{Split}
+use Rattle.gu_base.proofs.Searches.{find_passes}
+use Rattle.gu_tree.specs.Rose.{height_of}
+use Rattle.gu_tree.proofs.Along.{Each, IsReached, reach, its-head}
 
 -- ---- the least of two lists of numbers
 
@@ -53,18 +61,28 @@ undecided-numbers (leaf h) is = none h.decision is
     none (Some n) e = absurd (cc)
 undecided-numbers (parted h n ts) is = absurd (cc)
 
-both : (a b : Bool) → (a && b) ≡ true → (a ≡ true) × (b ≡ true)
-both true b e = (refl, e)
-both false b e = absurd (cc)
-
 undecided-each : (ts : Roses) → are_undecided_leaves ts ≡ true → numbers_at_each ts ≡ []
 undecided-each no_parts is = refl
 undecided-each (part_then t ts) is =
-    let b = both (is_undecided_leaf t) (are_undecided_leaves ts) is in
+    let b = and_parts (is_undecided_leaf t) (are_undecided_leaves ts) is in
     rw (undecided-numbers t b.0, undecided-each ts b.1) refl
 
 pub first-of_none : (t : Rose) (h : Head) (n : ℕ) (xs : List Rose) → parted h n (from_list xs) ≡ t → are_undecided_leaves (from_list xs) ≡ true → None ≡ least (numbers_on_parts t)
 first-of_none t h n xs o is = rw (← o, undecided-each (from_list xs) is) refl
+
+-- ---- parts are counted from 1
+
+-- below the root no node is of part 0
+abbrev pub IsCounted : ℕ → Option Place → Node → Type 0
+IsCounted d above x = 1 ≤ d → 1 ≤ x.name.part
+
+parts-counted : (d : ℕ) (above : Option Place) (k i : ℕ) (up : EntryPart) (by : List ℕ) (ps : List Part) → 1 ≤ i → Each (IsCounted d above) (nodes_of_parts k i up by ps)
+parts-counted d above k i up by [] low = tt
+parts-counted d above k i up by (p ∷ ps) low = (λ _. low, parts-counted d above k (i + 1) up by ps (omega arith))
+
+split-counted : (d : ℕ) (above : Option Place) (n : EntryPart) (k : ℕ) (by : List ℕ) (c : Command) → splits n c ≡ true → Each (IsCounted d above) (nodes_of k by c)
+split-counted d above n k by (Split up ps) e = parts-counted d above k 1 up by ps (omega arith)
+split-counted d above n k by _ e = absurd (cc)
 
 -- ---- in a list that the tree shows
 
@@ -100,30 +118,17 @@ module _ (l : List Record) where
       ∙ ap (λ o. flat_map (λ x. numbers_on l x.name) (made_by o)) (sym is.1.1)
 
   -- what the tree shows at the end of a path
-  pub record IsShownAt (v : Rose) : Type 0 where
-    pub above : Option Place
-    pub node : Node
-    pub shown : IsNodeOf l above node v
-
-  shown-part : (p : List ℕ) (v : Rose) → ((above : Option Place) (x : Node) (t : Rose) → IsNodeOf l above x t → node_at p t ≡ Some v → IsShownAt v)
-      → (above : Option Place) (i : ℕ) (xs : List Node) (ts : Roses) → ArePartsOf l above xs ts → option_and_then (node_at p) (part_at i ts) ≡ Some v → IsShownAt v
-  shown-part p v ih above i [] no_parts is e = absurd (cc)
-  shown-part p v ih above i [] (part_then t ts) is e = absurd is
-  shown-part p v ih above i (x ∷ xs) no_parts is e = absurd is
-  shown-part p v ih above zero (x ∷ xs) (part_then t ts) is e = ih above x t is.0 e
-  shown-part p v ih above (suc i) (x ∷ xs) (part_then t ts) is e = shown-part p v ih above i xs ts is.1 e
-
-  pub shown-at : (p : List ℕ) (v : Rose) (above : Option Place) (x : Node) (t : Rose) → IsNodeOf l above x t → node_at p t ≡ Some v → IsShownAt v
-  shown-at [] v above x t is e = let s : t ≡ v = cc in record { above = above; node = x; shown = subst (IsNodeOf l above x) s is }
-  shown-at (i ∷ p) v above x (leaf h) is e = absurd (cc)
-  shown-at (i ∷ p) v above x (parted h n ts) is e =
-      shown-part p v (λ a y u s d. shown-at p v a y u s d) (Some h.place) i (nodes_of is.1.0.number is.1.0.firm is.1.0.command) ts is.1.3 e
+  pub shown-at : (p : List ℕ) (v : Rose) (root : Node) (t : Rose) → IsNodeOf l None root t → node_at p t ≡ Some v → IsReached l IsCounted (length p) v
+  shown-at p v root t is e =
+      reach l (1 + height_of t) IsCounted
+      (λ d above x h r within here its split. split-counted (d + 1) (Some h.place) x.name r.number r.firm r.command (find_passes (λ r. splits x.name r.command) l r split))
+      0 p v (length p) (omega arith) None root t (omega arith) (λ below. absurd (omega (arith, below))) is e
 
 -- the least on the parts of the node at the path, by the list alone
 pub first-shown : (o : Option ℕ) (p : List ℕ) (t v : Rose) → node_at p t ≡ Some v → o ≡ least (numbers_on_parts v)
     → (l : List Record) (trade : ℕ) → IsTreeOf l trade t → HasAt p (λ w. o ≡ least (flat_map (λ x. numbers_on l x.name) (parts_of l (head_of w).name))) t
 first-shown o p t v led is_least l trade is =
-    let s = shown-at l p v None is.root t is.tree led in
+    let s = shown-at l p v is.root t is.tree led in
     let named : (head_of v).name ≡ s.node.name = (its-head l s.above s.node v s.shown).name in
     let found : o ≡ least (flat_map (λ x. numbers_on l x.name) (parts_of l (head_of v).name)) =
     is_least ∙ (ap least (parts-numbers l s.above s.node v s.shown) ∙ ap (λ n. least (flat_map (λ x. numbers_on l x.name) (parts_of l n))) (sym named)) in

@@ -8,7 +8,7 @@ use Rattle.gu_base.specs.declared.entry.Record.{Record}
 use Rattle.gu_base.specs.declared.node.Place.{Place}
 use Rattle.gu_base.specs.declared.node.Node.{Node}
 use Rattle.gu_base.specs.declared.command.Command.{Command}
-use Rattle.gu_base.specs.declared.command.Command.TheVariants.{Trade, Split, Claim, Refuse, Cancel, Agree, Raise, Initiate, Decline, Reverse}
+use Rattle.gu_base.specs.declared.command.Command.TheVariants.{Split}
 use Rattle.gu_base.proofs.NodeNames.{name_is, part_parent}
 use Rattle.gu_tree.specs.Rose.{Rose, Roses, leaf, parted, no_parts, part_then, height_of, heights_of}
 use Rattle.gu_tree.specs.Shown.{IsNodeOf, ArePartsOf, IsTreeOf}
@@ -62,40 +62,16 @@ count_low f h (r ∷ rs) = low f h r.command + count_low f h rs
 
 low-one : (f : EntryPart → ℕ) (h : ℕ) (c : Command) → low f h c ≤ 1
 low-one f h (Split m ps) = omega arith
-low-one f h (Trade _ _ _ _ _) = omega arith
-low-one f h (Claim _ _) = omega arith
-low-one f h (Refuse _) = omega arith
-low-one f h (Cancel _) = omega arith
-low-one f h (Agree _ _ _ _) = omega arith
-low-one f h (Raise _ _) = omega arith
-low-one f h (Initiate _) = omega arith
-low-one f h (Decline _) = omega arith
-low-one f h (Reverse _) = omega arith
+low-one f h _ = omega arith
 
 low-more : (f : EntryPart → ℕ) (h k : ℕ) (c : Command) → h ≤ k → low f h c ≤ low f k c
 low-more f h k (Split m ps) less = omega (arith, less)
-low-more f h k (Trade _ _ _ _ _) less = omega arith
-low-more f h k (Claim _ _) less = omega arith
-low-more f h k (Refuse _) less = omega arith
-low-more f h k (Cancel _) less = omega arith
-low-more f h k (Agree _ _ _ _) less = omega arith
-low-more f h k (Raise _ _) less = omega arith
-low-more f h k (Initiate _) less = omega arith
-low-more f h k (Decline _) less = omega arith
-low-more f h k (Reverse _) less = omega arith
+low-more f h k _ less = omega arith
 
 -- the Split of a node with one level more counts one more
 low-next : (f : EntryPart → ℕ) (h : ℕ) (n : EntryPart) (c : Command) → splits n c ≡ true → f n ≡ 1 + h → low f h c + 1 ≤ low f (1 + h) c
 low-next f h n (Split m ps) e is = let here : f m ≡ 1 + h = ap f (name_is m n e) ∙ is in omega (arith, here)
-low-next f h n (Trade _ _ _ _ _) e is = absurd (cc)
-low-next f h n (Claim _ _) e is = absurd (cc)
-low-next f h n (Refuse _) e is = absurd (cc)
-low-next f h n (Cancel _) e is = absurd (cc)
-low-next f h n (Agree _ _ _ _) e is = absurd (cc)
-low-next f h n (Raise _ _) e is = absurd (cc)
-low-next f h n (Initiate _) e is = absurd (cc)
-low-next f h n (Decline _) e is = absurd (cc)
-low-next f h n (Reverse _) e is = absurd (cc)
+low-next f h n _ e is = absurd (cc)
 
 count_low-length : (f : EntryPart → ℕ) (h : ℕ) (l : List Record) → count_low f h l ≤ length l
 count_low-length f h [] = omega arith
@@ -137,15 +113,7 @@ mutual
 -- what makes a root is no Split
 low-root : (f : EntryPart → ℕ) (h : ℕ) (n : EntryPart) (k : ℕ) (by : List ℕ) (c : Command) (x : Node) → among n (nodes_of k by c) ≡ Some x → parent x.kind ≡ None → low f h c ≡ 0
 low-root f h n k by (Split m ps) x e top = let up = part_parent n m k 1 by ps x e in absurd (cc)
-low-root f h n k by (Trade _ _ _ _ _) x e top = refl
-low-root f h n k by (Claim _ _) x e top = refl
-low-root f h n k by (Refuse _) x e top = refl
-low-root f h n k by (Cancel _) x e top = refl
-low-root f h n k by (Agree _ _ _ _) x e top = refl
-low-root f h n k by (Raise _ _) x e top = refl
-low-root f h n k by (Initiate _) x e top = refl
-low-root f h n k by (Decline _) x e top = refl
-low-root f h n k by (Reverse _) x e top = refl
+low-root f h n k by _ x e top = refl
 
 root_by : (f : EntryPart → ℕ) (h : ℕ) (s : Record) (l : List Record) (n : EntryPart) (x : Node) → node_of (s ∷ l) n ≡ Some x → parent x.kind ≡ None
     → (node_of l n ≡ Some x → count_low f h l < length l) → (o : Option Node) → among n (nodes_of s.number s.firm s.command) ≡ o → count_low f h (s ∷ l) < length (s ∷ l)

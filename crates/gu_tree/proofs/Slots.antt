@@ -1,11 +1,13 @@
 -- Entries filed in the order of their numbers, and what is found among them.
-use Rattle.std.proofs.Common.{◌≡◌, ◌≢◌, ℕ, zero, suc, ◌<◌, ◌≤◌, Bool, true, false, List, [], ◌∷◌, ◌++◌, length, get_or, set, Result, Ok, Err, IfOk, OnErr, refl, ap, sym, ◌∙◌, subst, arith}
+use Rattle.std.proofs.Common.{◌≡◌, ◌≢◌, ℕ, zero, suc, ◌<◌, ◌≤◌, true, false, List, [], ◌∷◌, ◌++◌, length, get_or, set, Result, Ok, Err, IfOk, OnErr, refl, ap, sym, ◌∙◌, subst, arith}
 use Rattle.std.specs.Prelude.{◌==◌, if◌then◌else◌, max}
 use Rattle.std.specs.List.Sorted.{IsSearchInRange, IsBinarySearchResult, IsNonDecreasingBy}
 use Rattle.std.specs.Ordering.{nat_cmp, ordering_index}
 use Rattle.std.proofs.lemmas.Cmp.{ranked}
 use Rattle.std.proofs.lemmas.List.Sorted.{IsNonDecreasingBy-from_default}
-use Rattle.std.proofs.lemmas.Bool.Decides.{Decides-eqb, nat_tests}
+use Rattle.std.proofs.lemmas.Bool.{cond_both, eq-eqb, ne_eqb, eqb-true}
+use Rattle.std.proofs.lemmas.Bool.Decides.{nat_tests}
+use Rattle.std.proofs.lemmas.List.{get_or_read}
 use Rattle.gu_tree.specs.Filing.{Filing, slot_of, last_of, RisesAbove, IsRising, no_filing, IsFiledAt, IsNotFiled, without_slot}
 use Rattle.gu_tree.specs.declared.slot.Slot.{Slot}
 use Rattle.gu_tree.specs.declared.slot.Slot.TheVariants.{Empty}
@@ -13,19 +15,10 @@ use Rattle.gu_tree.specs.declared.slot.Slot.TheVariants.{Empty}
 -- ---- numbers that differ, and that don't
 
 pub same-eqb : (a : ℕ) → (a == a) ≡ true
-same-eqb a = (Decides-eqb a a).1 refl
-
-pub other-eqb : (a b : ℕ) → a ≢ b → (a == b) ≡ false
-other-eqb a b other = elim (a == b) as (λ c. (a == b) ≡ c → c ≡ false) [
-  | true ↦ (λ q. absurd (other ((Decides-eqb a b).0 q)))
-  | false ↦ (λ q. refl)
-] refl
+same-eqb a = eq-eqb a a refl
 
 pub lower-eqb : (a b : ℕ) → a < b → (a == b) ≡ false
-lower-eqb a b low = other-eqb a b (λ q. absurd (omega (arith, low, q)))
-
-told : (a b : ℕ) → (a == b) ≡ true → a ≡ b
-told a b q = (Decides-eqb a b).0 q
+lower-eqb a b low = ne_eqb a b (λ q. absurd (omega (arith, low, q)))
 
 -- ---- one more entry, above all that are filed
 
@@ -43,7 +36,7 @@ slot_of-here [] e x h = rw (same-eqb e) refl
 slot_of-here (y ∷ s) e x h = rw (lower-eqb y.entry e (omega (arith, h))) (slot_of-here s e x (omega (arith, h)))
 
 pub slot_of-other : (s : List Filing) (e : ℕ) (x : Slot) (k : ℕ) → k ≢ e → slot_of (with_slot s e x) k ≡ slot_of s k
-slot_of-other [] e x k other = rw (other-eqb e k (λ q. other (sym q))) refl
+slot_of-other [] e x k other = rw (ne_eqb e k (λ q. other (sym q))) refl
 slot_of-other (y ∷ s) e x k other = ap (λ o. if y.entry == k then y.slot else o) (slot_of-other s e x k other)
 
 pub last-with_slot : (s : List Filing) (e : ℕ) (x : Slot) → last_of s < e → last_of (with_slot s e x) ≡ e
@@ -59,50 +52,38 @@ rising-with_slot s e x rises h = rises-with_slot 0 s e x rises (omega (arith, h)
 
 -- ---- what has a slot isn't above all
 
-low-by : (y : Filing) (s : List Filing) (k : ℕ) (x : Slot) → x ≢ Empty → (slot_of s k ≡ x → k ≤ last_of s) → (b : Bool) → (y.entry == k) ≡ b → (if b then y.slot else slot_of s k) ≡ x → k ≤ last_of (y ∷ s)
-low-by y s k x some ih true q e = omega (arith, told y.entry k q)
-low-by y s k x some ih false q e = omega (arith, ih e)
-
 pub slot-low : (s : List Filing) (k : ℕ) (x : Slot) → slot_of s k ≡ x → x ≢ Empty → k ≤ last_of s
 slot-low [] k x e some = absurd (some (sym e))
-slot-low (y ∷ s) k x e some = low-by y s k x some (λ q. slot-low s k x q some) (y.entry == k) refl e
+slot-low (y ∷ s) k x e some =
+    cond_both (y.entry == k) y.slot (slot_of s k) (λ z. z ≡ x → k ≤ last_of (y ∷ s)) (λ q at. omega (arith, eqb-true y.entry k q)) (λ q at. omega (arith, slot-low s k x at some)) e
 
 -- ---- an entry that has named nothing
 
 abbrev gone : ℕ → Filing
 gone e = record { entry = e; slot = Empty }
 
-gone-by : (y : Filing) (s : List Filing) (e : ℕ) → slot_of (without_slot s e) e ≡ Empty → (b : Bool) → (y.entry == e) ≡ b → slot_of (if b then gone e ∷ s else y ∷ without_slot s e) e ≡ Empty
-gone-by y s e ih true q = rw (same-eqb e) refl
-gone-by y s e ih false q = rw q ih
-
 pub slot_of-gone : (s : List Filing) (e : ℕ) → slot_of (without_slot s e) e ≡ Empty
 slot_of-gone [] e = refl
-slot_of-gone (y ∷ s) e = gone-by y s e (slot_of-gone s e) (y.entry == e) refl
-
-kept-by : (y : Filing) (s : List Filing) (e k : ℕ) → k ≢ e → slot_of (without_slot s e) k ≡ slot_of s k → (b : Bool) → (y.entry == e) ≡ b → slot_of (if b then gone e ∷ s else y ∷ without_slot s e) k ≡ slot_of (y ∷ s) k
-kept-by y s e k other ih true q = rw (other-eqb e k (λ p. other (sym p)), other-eqb y.entry k (λ p. other (sym p ∙ told y.entry e q))) refl
-kept-by y s e k other ih false q = ap (λ o. if y.entry == k then y.slot else o) ih
+slot_of-gone (y ∷ s) e = cond_both (y.entry == e) (gone e ∷ s) (y ∷ without_slot s e) (λ z. slot_of z e ≡ Empty) (λ q. rw (same-eqb e) refl) (λ q. rw q (slot_of-gone s e))
 
 pub slot_of-kept : (s : List Filing) (e k : ℕ) → k ≢ e → slot_of (without_slot s e) k ≡ slot_of s k
 slot_of-kept [] e k other = refl
-slot_of-kept (y ∷ s) e k other = kept-by y s e k other (slot_of-kept s e k other) (y.entry == e) refl
-
-last-by : (y : Filing) (s : List Filing) (e : ℕ) → last_of (without_slot s e) ≡ last_of s → (b : Bool) → (y.entry == e) ≡ b → last_of (if b then gone e ∷ s else y ∷ without_slot s e) ≡ last_of (y ∷ s)
-last-by y s e ih true q = ap (λ n. max n (last_of s)) (sym (told y.entry e q))
-last-by y s e ih false q = ap (max y.entry) ih
+slot_of-kept (y ∷ s) e k other =
+    cond_both (y.entry == e) (gone e ∷ s) (y ∷ without_slot s e) (λ z. slot_of z k ≡ slot_of (y ∷ s) k)
+    (λ q. rw (ne_eqb e k (λ p. other (sym p)), ne_eqb y.entry k (λ p. other (sym p ∙ eqb-true y.entry e q))) refl)
+    (λ q. ap (λ o. if y.entry == k then y.slot else o) (slot_of-kept s e k other))
 
 pub last-without_slot : (s : List Filing) (e : ℕ) → last_of (without_slot s e) ≡ last_of s
 last-without_slot [] e = refl
-last-without_slot (y ∷ s) e = last-by y s e (last-without_slot s e) (y.entry == e) refl
-
-rises-by : (n : ℕ) (y : Filing) (s : List Filing) (e : ℕ) → RisesAbove n (y ∷ s) → RisesAbove y.entry (without_slot s e) → (b : Bool) → (y.entry == e) ≡ b → RisesAbove n (if b then gone e ∷ s else y ∷ without_slot s e)
-rises-by n y s e rises ih true q = subst (λ k. (n < k) × RisesAbove k s) (told y.entry e q) rises
-rises-by n y s e rises ih false q = (rises.0, ih)
+last-without_slot (y ∷ s) e =
+    cond_both (y.entry == e) (gone e ∷ s) (y ∷ without_slot s e) (λ z. last_of z ≡ last_of (y ∷ s))
+    (λ q. ap (λ n. max n (last_of s)) (sym (eqb-true y.entry e q))) (λ q. ap (max y.entry) (last-without_slot s e))
 
 rises-without_slot : (n : ℕ) (s : List Filing) (e : ℕ) → RisesAbove n s → RisesAbove n (without_slot s e)
 rises-without_slot n [] e rises = tt
-rises-without_slot n (y ∷ s) e rises = rises-by n y s e rises (rises-without_slot y.entry s e rises.1) (y.entry == e) refl
+rises-without_slot n (y ∷ s) e rises =
+    cond_both (y.entry == e) (gone e ∷ s) (y ∷ without_slot s e) (RisesAbove n)
+    (λ q. subst (λ k. (n < k) × RisesAbove k s) (eqb-true y.entry e q) rises) (λ q. (rises.0, rises-without_slot y.entry s e rises.1))
 
 pub rising-without_slot : (s : List Filing) (e : ℕ) → IsRising s → IsRising (without_slot s e)
 rising-without_slot s e rises = rises-without_slot 0 s e rises
@@ -143,29 +124,24 @@ module _ (s : List Filing) (rising : IsRising s) (e : ℕ) where
 
 -- ---- what is found, and what is written there
 
-at_default : (s : List Filing) (i : ℕ) (u : Filing) → i < length s → u ≡ get_or s i u → get_or s i no_filing ≡ u
-at_default [] i u h e = absurd (omega (arith, h))
-at_default (x ∷ s) zero u h e = sym e
-at_default (x ∷ s) (suc i) u h e = at_default s i u (omega (arith, h)) e
-
 slot-at : (n : ℕ) (s : List Filing) (e i : ℕ) → RisesAbove n s → i < length s → entry_at s i ≡ e → slot_of s e ≡ (get_or s i no_filing).slot
 slot-at n [] e i rises h is = absurd (omega (arith, h))
 slot-at n (x ∷ s) e zero rises h is = rw (ap (λ k. k == e) is ∙ same-eqb e) refl
 slot-at n (x ∷ s) e (suc i) rises h is = rw (lower-eqb x.entry e (omega (arith, is, rises-at x.entry s i rises.1 (omega (arith, h))))) (slot-at x.entry s e i rises.1 (omega (arith, h)) is)
 
 pub slot_of-found : (s : List Filing) (e i : ℕ) (u : Filing) → IsRising s → IsFiledAt s e i → u ≡ get_or s i u → u.slot ≡ slot_of s e
-slot_of-found s e i u rising is here = sym (slot-at 0 s e i rising is.in_range is.entry ∙ ap (λ (f : Filing). f.slot) (at_default s i u is.in_range here))
+slot_of-found s e i u rising is here = ap (λ (f : Filing). f.slot) (get_or_read s i u is.in_range here no_filing) ∙ sym (slot-at 0 s e i rising is.in_range is.entry)
 
 absent-rest : (x : Filing) (s : List Filing) (e : ℕ) → IsNotFiled (x ∷ s) e → IsNotFiled s e
 absent-rest x s e none i h is = none (suc i) (omega (arith, h)) is
 
 pub slot_of-absent : (s : List Filing) (e : ℕ) → IsNotFiled s e → slot_of s e ≡ Empty
 slot_of-absent [] e none = refl
-slot_of-absent (x ∷ s) e none = rw (other-eqb x.entry e (none zero (omega arith))) (slot_of-absent s e (absent-rest x s e none))
+slot_of-absent (x ∷ s) e none = rw (ne_eqb x.entry e (none zero (omega arith))) (slot_of-absent s e (absent-rest x s e none))
 
 pub without_slot-absent : (s : List Filing) (e : ℕ) → IsNotFiled s e → without_slot s e ≡ s
 without_slot-absent [] e none = refl
-without_slot-absent (x ∷ s) e none = rw (other-eqb x.entry e (none zero (omega arith))) (ap (λ r. x ∷ r) (without_slot-absent s e (absent-rest x s e none)))
+without_slot-absent (x ∷ s) e none = rw (ne_eqb x.entry e (none zero (omega arith))) (ap (λ r. x ∷ r) (without_slot-absent s e (absent-rest x s e none)))
 
 set-at : (n : ℕ) (s : List Filing) (e i : ℕ) → RisesAbove n s → i < length s → entry_at s i ≡ e → set s i (gone e) ≡ without_slot s e
 set-at n [] e i rises h is = absurd (omega (arith, h))
