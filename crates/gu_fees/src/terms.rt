@@ -197,15 +197,25 @@ impl Terms {
         Ok(())
     }
 
-    /// Whether `agree`, `raise` or `claim` may be called: the pair is ready, the number is above all that were put in, and the sums of the pair
-    /// stay numbers of 64 bits.
-    pub fn can_put(&self, giver: &FirmId, taker: &FirmId, entry: Number, deed: Deed) -> bool
-        ensures { IsTrue result ↔ CanPut self.now giver.now taker.now (record { number = entry; deed = deed }) }
+    /// Whether `put_at` may be called: the pair at this place is ready, the number is above all that were put in, and the sums of the pair stay
+    /// numbers of 64 bits.
+    pub fn can_put_at(&self, place: usize, entry: Number, deed: Deed) -> bool
+        ensures { IsTrue result ↔ CanPutAt self.now place (record { number = entry; deed = deed }) }
     {
         let room = self.entries.len() < self.entries.capacity();
         let above = last_of(self.entries.as_slice()) < entry.get();
-        match self.row(giver, taker) {
+        match self.pairs.get(place) {
             Some(row) => room && above && row.can_put(entry, deed),
+            None => false,
+        }
+    }
+
+    /// The same for `agree`, `raise` or `claim`.
+    pub fn can_put(&self, giver: &FirmId, taker: &FirmId, entry: Number, deed: Deed) -> bool
+        ensures { IsTrue result ↔ CanPut self.now giver.now taker.now (record { number = entry; deed = deed }) }
+    {
+        match self.place(giver, taker) {
+            Some(i) => self.can_put_at(i, entry, deed),
             None => false,
         }
     }
