@@ -22,7 +22,7 @@ use Rattle.gu_tree.specs.Rose.{Rose, head_of, split_of_node}
 use Rattle.gu_tree.specs.Paths.{node_at, HasAt, LeadsTo}
 use Rattle.gu_tree.specs.Shown.{IsTreeOf}
 use Rattle.gu_tree.specs.Grove.{Grove, tree_of, place_of, IsPlace}
-use Rattle.gu_tree.specs.ShownAll.{change_of, named_place, IsTreeIn, ShowsAll}
+use Rattle.gu_tree.specs.ShownAll.{change_of, named_place, place_in, IsTreeIn, ShowsAll}
 use Rattle.gu_tree.specs.NumbersOn.{number_in, numbers_on, least, numbers_on_parts}
 use Rattle.gu_tree.specs.declared.head.Head.{Head}
 use Rattle.gu_tree.proofs.Parts.{some_and, at_fact}
@@ -182,7 +182,7 @@ nothing_out (r ∷ l) k none = out_at r l k (nothing_out l k) (r.number == k) no
     out_at r l k later true h = absurd (cc)
     out_at r l k later false h = ap (λ z. r ∷ z) (later h)
 
-module _ (g : Grove) (t : House) (l : List Record) (rises : RisesFrom 0 l) (legal : IsLegal t l) (shows : ShowsAll l g) where
+module _ (t : House) (l : List Record) (rises : RisesFrom 0 l) (legal : IsLegal t l) where
   abbrev numbered : NumbersOnce l
   numbered = number_once l (rises_distinct 0 l rises)
 
@@ -205,8 +205,15 @@ module _ (g : Grove) (t : House) (l : List Record) (rises : RisesFrom 0 l) (lega
       deals_alone (Decline _) h = refl
       deals_alone (Reverse _) h = refl
 
+  pub placeless : (k : ℕ) → place_in l k ≡ None → option_and_then (λ r. deals_under t l r.number r.firm r.command) (change_of l k) ≡ standing_on t l k
+  placeless k none = nothing_named k (change_of l k) refl none
+
+module _ (g : Grove) (t : House) (l : List Record) (rises : RisesFrom 0 l) (legal : IsLegal t l) (shows : ShowsAll l g) where
+  abbrev numbered : NumbersOnce l
+  numbered = number_once l (rises_distinct 0 l rises)
+
   pub nothing_placed : (k : ℕ) → place_of g k ≡ None → option_and_then (λ r. deals_under t l r.number r.firm r.command) (change_of l k) ≡ standing_on t l k
-  nothing_placed k none = nothing_named k (change_of l k) refl (sym (shows.places k) ∙ none)
+  nothing_placed k none = placeless t l rises legal k (sym (shows.places k) ∙ none)
 
   its_tree : (trade : ℕ) (tree : Rose) → tree_of g trade ≡ Some tree → IsTreeOf l trade tree
   its_tree trade tree found = subst (IsTreeIn l trade) found (shows.trees trade)
