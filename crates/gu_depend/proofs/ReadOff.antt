@@ -183,15 +183,15 @@ nothing_out (r ∷ l) k none = out_at r l k (nothing_out l k) (r.number == k) no
     out_at r l k later false h = ap (λ z. r ∷ z) (later h)
 
 module _ (t : House) (l : List Record) (rises : RisesFrom 0 l) (legal : IsLegal t l) where
-  abbrev numbered : NumbersOnce l
-  numbered = number_once l (rises_distinct 0 l rises)
+  abbrev distinct : NumbersOnce l
+  distinct = number_once l (rises_distinct 0 l rises)
 
   -- what stands on a change without a place, of those whose giver and taker it deals for
   nothing_named : (k : ℕ) (o : Option Record) → change_of l k ≡ o → option_and_then (λ r. named_place r.number r.command) o ≡ None → option_and_then (λ r. deals_under t l r.number r.firm r.command) o ≡ standing_on t l k
   nothing_named k None e none = sym (ap (first_refused t []) (nothing_out l k e) ∙ replay_from_legal t l legal)
   nothing_named k (Some r) e none =
-      let law = looked_up t l r rises (replay_from_legal t l legal) (among l numbered k r e) in
-      sym (ap (standing_on t l) (sym (number_is l numbered k r e)) ∙ (law ∙ deals_alone r.command none))
+      let law = looked_up t l r rises (replay_from_legal t l legal) (among l distinct k r e) in
+      sym (ap (standing_on t l) (sym (number_is l distinct k r e)) ∙ (law ∙ deals_alone r.command none))
     where
       deals_alone : (c : Command) → named_place r.number c ≡ None → least (numbers_under t l r.number r.firm c) ≡ deals_under t l r.number r.firm c
       deals_alone (Trade _ _ _ _ _) h = absurd (cc)

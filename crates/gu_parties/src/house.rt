@@ -101,6 +101,8 @@ impl House {
     pub fn terms_are_in_range(&self)
         ensures { (giver taker : List ℕ) → IfSome (agreement self.now giver taker) (λ a. (a.rate ≤ highest_rate) × (a.limit ≤ highest_limit)) }
     {
+        // Opens the table, whose invariant says so.
+        let _ = self.agreements.len();
     }
 
     /// How many lines `FIRM` the file has. The house is none of these firms.
