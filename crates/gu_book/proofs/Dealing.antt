@@ -7,7 +7,7 @@ use Rattle.std.proofs.Math.Nat.{mul-le-mul_right}
 use Rattle.std.proofs.lemmas.Option.{same_Some}
 use Rattle.std.proofs.lemmas.List.Elements.{All-nil, All-cons, All-head, All-tail, All-contains, All-contains_itself, All-weaker}
 use Rattle.std.proofs.lemmas.List.Sums.{sum_by-le, sum_by-cons}
-use Rattle.gu_base.specs.Limits.{most_lots, highest_rate}
+use Rattle.gu_base.specs.Limits.{most_lots, highest_limit, highest_rate}
 use Rattle.gu_base.specs.House.{House, agreement}
 use Rattle.gu_base.specs.Nodes.{node_of}
 use Rattle.gu_base.specs.Fees.{charge_of, charge_of_kind, charges, counted}
@@ -57,58 +57,33 @@ none_dealt l g k (r ∷ among) e =
 -- ---- what is kept of a giver and a taker
 
 module _ {t : House} {l : List Record} {v : TermsView} (are : AreTermsOf t l v) (g k : List ℕ) where
-  abbrev kept_terms : Option PairView → Option Agreement
-  kept_terms o = option_and_then (λ (r : PairView). terms_under r.file r.dealings) o
-
-  abbrev kept_limit : Option PairView → Option ℕ
-  kept_limit o = option_and_then (λ (r : PairView). limit_under r.file r.dealings) o
-
-  row_terms : (r : PairView) → row_of v g k ≡ Some r → terms_under r.file r.dealings ≡ terms_of t l g k
+  -- where there is a row, it says so
+  pub row_terms : (r : PairView) → row_of v g k ≡ Some r → terms_under r.file r.dealings ≡ terms_of t l g k
   row_terms r e = let p = are.rows g k r e in ap (λ f. terms_under f r.dealings) p.0 ∙ ap (terms_under (agreement t g k)) p.1
 
-  row_limit : (r : PairView) → row_of v g k ≡ Some r → limit_under r.file r.dealings ≡ limit_of t l g k
+  pub row_limit : (r : PairView) → row_of v g k ≡ Some r → limit_under r.file r.dealings ≡ limit_of t l g k
   row_limit r e = let p = are.rows g k r e in ap (λ f. limit_under f r.dealings) p.0 ∙ ap (limit_under (agreement t g k)) p.1
 
-  file_none : (o p : Option Agreement) → option_or o p ≡ None → o ≡ None
-  file_none None p e = refl
-  file_none (Some a) p e = absurd (cc)
+  pub row_used : (r : PairView) → row_of v g k ≡ Some r → used_under r.dealings ≡ used_of l g k
+  row_used r e = ap used_under (are.rows g k r e).1
 
-  -- the terms of the house table come first
-  pub terms_filed : (a : Agreement) → agreement t g k ≡ Some a → Some a ≡ terms_of t l g k
-  terms_filed a h = ap (λ f. terms_under f (dealings l g k)) (sym h)
-
-  terms_by : agreement t g k ≡ None → (o : Option PairView) → row_of v g k ≡ o → kept_terms o ≡ terms_of t l g k
-  terms_by absent None e = sym (ap (λ f. terms_under f (dealings l g k)) absent ∙ ap made_in (without_row t l v are g k e))
-  terms_by absent (Some r) e = row_terms r e
-
-  -- and where it has none, those that are kept
-  pub terms_kept : agreement t g k ≡ None → kept_terms (row_of v g k) ≡ terms_of t l g k
-  terms_kept absent = terms_by absent (row_of v g k) refl
-
-  limit_by_row : (n : ℕ) (o : Option PairView) → row_of v g k ≡ o → kept_limit o ≡ Some n → Some n ≡ limit_of t l g k
-  limit_by_row n None e h = absurd (cc)
-  limit_by_row n (Some r) e h = sym h ∙ row_limit r e
-
-  pub limit_kept : (n : ℕ) → kept_limit (row_of v g k) ≡ Some n → Some n ≡ limit_of t l g k
-  limit_kept n h = limit_by_row n (row_of v g k) refl h
-
-  no_limit : (o : Option Agreement) (n : ℕ) → option_map (λ (a : Agreement). a.limit + n) o ≡ None → o ≡ None
-  no_limit None n e = refl
-  no_limit (Some a) n e = absurd (cc)
+  only_file : (o : Option Agreement) → o ≡ option_or o None
+  only_file None = refl
+  only_file (Some a) = refl
 
   file_limit : (o : Option Agreement) → option_map (λ (a : Agreement). a.limit) o ≡ option_map (λ (a : Agreement). a.limit + 0) (option_or o None)
   file_limit None = refl
   file_limit (Some a) = ap (λ n. Some n) (omega arith)
 
-  limit_by_file : (o : Option PairView) → row_of v g k ≡ o → kept_limit o ≡ None → option_map (λ (a : Agreement). a.limit) (agreement t g k) ≡ limit_of t l g k
-  limit_by_file None e h = file_limit (agreement t g k) ∙ ap (limit_under (agreement t g k)) (sym (without_row t l v are g k e))
-  limit_by_file (Some r) e h =
-      let p = are.rows g k r e in
-      let none = no_limit (terms_under r.file r.dealings) (raised_under r.dealings) h in
-      ap (option_map (λ (a : Agreement). a.limit)) (sym p.0 ∙ file_none r.file (made_in r.dealings) none) ∙ (sym h ∙ row_limit r e)
+  -- and where there is none, the house table does
+  pub filed_terms : row_of v g k ≡ None → agreement t g k ≡ terms_of t l g k
+  filed_terms none = only_file (agreement t g k) ∙ ap (terms_under (agreement t g k)) (sym (without_row t l v are g k none))
 
-  pub limit_filed : kept_limit (row_of v g k) ≡ None → option_map (λ (a : Agreement). a.limit) (agreement t g k) ≡ limit_of t l g k
-  limit_filed h = limit_by_file (row_of v g k) refl h
+  pub filed_limit : row_of v g k ≡ None → option_map (λ (a : Agreement). a.limit) (agreement t g k) ≡ limit_of t l g k
+  filed_limit none = file_limit (agreement t g k) ∙ ap (limit_under (agreement t g k)) (sym (without_row t l v are g k none))
+
+  pub filed_used : row_of v g k ≡ None → 0 ≡ used_of l g k
+  filed_used none = ap used_under (sym (without_row t l v are g k none))
 
 -- ---- what the charges say of uses
 
@@ -291,6 +266,19 @@ made_small [] all a e = absurd (cc)
 made_small (d ∷ ds) all a e = made_first d.deed (made_in ds) a (All-head HasSmallDeed d ds all) (made_small ds (All-tail HasSmallDeed d ds all) a) e
 
 -- terms that an Agree of the list made have a rate in range
-pub made_rate : (t : House) (l : List Record) (g k : List ℕ) → AllWithinLimits l → agreement t g k ≡ None → (a : Agreement) → terms_of t l g k ≡ Some a → a.rate ≤ highest_rate
+made_rate : (t : House) (l : List Record) (g k : List ℕ) → AllWithinLimits l → agreement t g k ≡ None → (a : Agreement) → terms_of t l g k ≡ Some a → a.rate ≤ highest_rate
 made_rate t l g k all absent a e =
     made_small (dealings l g k) (small_in l g k all l all) a (ap (λ f. terms_under f (dealings l g k)) (sym absent) ∙ e)
+
+rate_by : (t : House) (l : List Record) (g k : List ℕ) → AllWithinLimits l → (p : Option Agreement) → agreement t g k ≡ p → IfSome p (λ a. (a.rate ≤ highest_rate) × (a.limit ≤ highest_limit))
+    → (o : Option Agreement) → o ≡ terms_of t l g k → IfSome o (λ a. a.rate ≤ highest_rate)
+rate_by t l g k all p is in_range None e = tt
+rate_by t l g k all None is in_range (Some a) e = made_rate t l g k all is a (sym e)
+rate_by t l g k all (Some b) is in_range (Some a) e =
+    let one : a ≡ b = same_Some a b (e ∙ ap (λ f. terms_under f (dealings l g k)) is) in
+    subst (λ (z : Agreement). z.rate ≤ highest_rate) (sym one) in_range.0
+
+-- the rate of terms is in range, where those of the house table are
+pub terms_rate : (t : House) (l : List Record) (g k : List ℕ) → AllWithinLimits l → IfSome (agreement t g k) (λ a. (a.rate ≤ highest_rate) × (a.limit ≤ highest_limit))
+    → (o : Option Agreement) → o ≡ terms_of t l g k → IfSome o (λ a. a.rate ≤ highest_rate)
+terms_rate t l g k all in_range o e = rate_by t l g k all (agreement t g k) refl in_range o e

@@ -42,7 +42,7 @@ change_met t h e n ok change m named =
     let x = names_there t (live h) e.firm e.command m (refusal_parts t (live h) e.firm e.command lawful).1 named in
     some_there (node_of (live h) m) x.0 x.1
 
-place_some : (k : ℕ) (c : Command) → is_of_trees c ≡ true → IsSome (named_place k c)
+pub place_some : (k : ℕ) (c : Command) → is_of_trees c ≡ true → IsSome (named_place k c)
 place_some k (Trade _ _ _ _ _) h = refl
 place_some k (Split _ _) h = refl
 place_some k (Claim _ _) h = refl
@@ -53,6 +53,19 @@ place_some k (Raise _ _) h = absurd (cc)
 place_some k (Initiate _) h = absurd (cc)
 place_some k (Decline _) h = absurd (cc)
 place_some k (Reverse _) h = absurd (cc)
+
+-- and what is none has none
+pub placeless : (k : ℕ) (c : Command) → is_of_trees c ≡ false → named_place k c ≡ None
+placeless k (Trade _ _ _ _ _) h = absurd (cc)
+placeless k (Split _ _) h = absurd (cc)
+placeless k (Claim _ _) h = absurd (cc)
+placeless k (Refuse _) h = absurd (cc)
+placeless k (Cancel _) h = absurd (cc)
+placeless k (Agree _ _ _ _) h = refl
+placeless k (Raise _ _) h = refl
+placeless k (Initiate _) h = refl
+placeless k (Decline _) h = refl
+placeless k (Reverse _) h = refl
 
 reverse_met : (t : House) (h : List Entry) (e : Entry) (n k : ℕ) → answer_to t h (call_of e) ≡ Accepted n e.status → e.command ≡ Reverse k → changes_trees (live h) (Reverse k) ≡ true → IsSome (place_in (live h) k)
 reverse_met t h e n k ok same changes =

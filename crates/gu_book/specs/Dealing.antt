@@ -1,12 +1,19 @@
 -- The terms that a book keeps, and what is dealt under them.
-use Rattle.std.specs.Prelude.{◌≡◌, ℕ, ◌≤◌}
+use Rattle.std.specs.Prelude.{◌≡◌, ℕ, ◌≤◌, Option, None}
+use Rattle.std.specs.Map.{lookup}
 use Rattle.gu_base.specs.Limits.{most_lots, highest_limit}
 use Rattle.gu_base.specs.declared.house.Deed.{Deed}
 use Rattle.gu_base.specs.declared.house.Deed.TheVariants.{Makes, Raises, Uses}
 use Rattle.gu_base.specs.declared.node.Kind.{Kind}
 use Rattle.gu_base.specs.declared.node.Kind.TheVariants.{Given}
+use Rattle.gu_fees.specs.Rows.{is_pair}
 use Rattle.gu_fees.specs.Terms.{TermsView, CanPut, IsPut, IsReady}
 use Rattle.gu_book.specs.Limits.{TermsWithinLimits}
+
+-- where the giver and the taker of a node stand, if it is given
+abbrev pub place_of_kind : TermsView → Kind → Option ℕ
+place_of_kind v (Given _ giver taker) = lookup (is_pair giver taker) v.places
+place_of_kind v _ = None
 
 -- there is room for an entry of the giver and the taker of a node, if it is given
 abbrev pub HasRoomForClaim : TermsView → Kind → Type 0

@@ -95,9 +95,10 @@ impl Book {
     ///
     /// # Errors
     ///
-    /// The house, and `Memory`, where a growth was refused.
+    /// The house, and `Memory`, where a growth was refused: never where there are no opening calls, since then there are no growths.
     pub fn open(alloc: Global, house: House) -> Result<Book, (House, Memory)>
         ensures opened { IfOk result (λ b. stored b ≡ record { house = house; history = opening_history house }) }
+        ensures memory { OnErr result (1 ≤ length house.opening) }
         ensures given_back { IfErr result (λ e. e.0 ≡ house) }
     {
         let count = house.opening_count();
@@ -250,7 +251,6 @@ impl Book {
             entries: &self.entries,
             changes: Live::of(self.entries.as_slice(), &self.index.reversals),
             named: &sought.named,
-            fees: &self.fees,
             terms: &self.terms,
             index: &self.index,
             consents: &self.consents,
@@ -415,9 +415,9 @@ impl Book {
         let Some(named) = &sought.named else {
             unreachable!()
         };
-        terms::ready_claim(&mut self.terms, &self.house, &named.node)?;
+        let place = terms::ready_claim(&mut self.terms, &self.house, &named.node)?;
         let whole = holdings::whole_of(&changes, named);
-        let charge = charges::node_charge(&self.house, &self.terms, &named.node);
+        let charge = charges::node_charge(&self.house, &self.terms, place, &named.node);
         let claimed = holdings::in_account(&whole, made.firm, account);
         holdings::put(&mut self.positions, &claimed)?;
         if let Err(e) = charges::put(&mut self.fees, &charge) {
@@ -426,7 +426,7 @@ impl Book {
         }
         grove::claim(&mut self.trees, made, sought, *account);
         holdings::take(&mut self.positions, &whole);
-        terms::claim(&mut self.terms, made.number, &named.node);
+        terms::claim(&mut self.terms, place, made.number, &named.node);
         self.index.ids.add(hash);
         let kept = Command::Claim {
             node: *node,

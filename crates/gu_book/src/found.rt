@@ -22,7 +22,7 @@ use crate::plain::holdings::traded_under;
 use crate::plain::nodes::node_of;
 use crate::visits;
 use gu_base::{Command, Deal, FirmId, Node, NodeName, Number, State};
-use gu_depend::{entries_beside, first_standing, first_standing_at};
+use gu_depend::{first_standing_at, standing_beside};
 use gu_fees::Terms;
 use gu_tree::{Head, Path, Spot, Trees};
 use std::alloc::Global;
@@ -184,10 +184,14 @@ fn seek_change(
     let Some(made) = changes.change(number) else {
         return;
     };
-    let Some(spot) = trees.named(number, &mut sought.path) else {
-        sought.nodes = entries_beside(terms, number) as u64;
-        sought.standing = first_standing(trees, terms, number);
+    if !visits::is_of_trees(made.command) {
+        let (standing, count) = standing_beside(terms, number);
+        sought.nodes = count as u64;
+        sought.standing = standing;
         return;
+    }
+    let Some(spot) = trees.named(number, &mut sought.path) else {
+        unreachable!()
     };
     let found = found_at(&spot, &sought.path);
     sought.nodes = found.depth as u64 + 1 + visits::parts_in(made.command);

@@ -1,6 +1,6 @@
 //! How many nodes of the trees a call visits.
 ghost use Rattle.std.specs.Prelude.{◌≡◌, ◌<◌, ◌^◌};
-ghost use Rattle.gu_book.specs.Visits.{parts_in, nodes_made};
+ghost use Rattle.gu_book.specs.Visits.{is_of_trees, parts_in, nodes_made};
 
 use gu_base::Command;
 
@@ -23,5 +23,19 @@ pub(crate) fn nodes_made(command: &Command) -> u64
     match command {
         Command::Trade { .. } => 1,
         _ => parts_in(command),
+    }
+}
+
+/// Whether a command is a change of trees.
+pub(crate) fn is_of_trees(command: &Command) -> bool
+    ensures { result ≡ is_of_trees command.now }
+{
+    match command {
+        Command::Trade { .. } => true,
+        Command::Split { .. } => true,
+        Command::Claim { .. } => true,
+        Command::Refuse { .. } => true,
+        Command::Cancel { .. } => true,
+        _ => false,
     }
 }

@@ -22,7 +22,7 @@ use Rattle.gu_tree.specs.Rose.{Rose, head_of, split_of_node}
 use Rattle.gu_tree.specs.Paths.{node_at, HasAt, LeadsTo}
 use Rattle.gu_tree.specs.Shown.{IsTreeOf}
 use Rattle.gu_tree.specs.Grove.{Grove, tree_of, place_of, IsPlace}
-use Rattle.gu_tree.specs.ShownAll.{change_of, named_place, IsTreeIn, ShowsAll}
+use Rattle.gu_tree.specs.ShownAll.{change_of, named_place, place_in, IsTreeIn, ShowsAll}
 use Rattle.gu_tree.specs.NumbersOn.{number_in, numbers_on, least, numbers_on_parts}
 use Rattle.gu_tree.specs.declared.head.Head.{Head}
 use Rattle.gu_tree.proofs.Parts.{some_and, at_fact}
@@ -182,16 +182,16 @@ nothing_out (r ∷ l) k none = out_at r l k (nothing_out l k) (r.number == k) no
     out_at r l k later true h = absurd (cc)
     out_at r l k later false h = ap (λ z. r ∷ z) (later h)
 
-module _ (g : Grove) (t : House) (l : List Record) (rises : RisesFrom 0 l) (legal : IsLegal t l) (shows : ShowsAll l g) where
-  abbrev numbered : NumbersOnce l
-  numbered = number_once l (rises_distinct 0 l rises)
+module _ (t : House) (l : List Record) (rises : RisesFrom 0 l) (legal : IsLegal t l) where
+  abbrev distinct : NumbersOnce l
+  distinct = number_once l (rises_distinct 0 l rises)
 
   -- what stands on a change without a place, of those whose giver and taker it deals for
   nothing_named : (k : ℕ) (o : Option Record) → change_of l k ≡ o → option_and_then (λ r. named_place r.number r.command) o ≡ None → option_and_then (λ r. deals_under t l r.number r.firm r.command) o ≡ standing_on t l k
   nothing_named k None e none = sym (ap (first_refused t []) (nothing_out l k e) ∙ replay_from_legal t l legal)
   nothing_named k (Some r) e none =
-      let law = looked_up t l r rises (replay_from_legal t l legal) (among l numbered k r e) in
-      sym (ap (standing_on t l) (sym (number_is l numbered k r e)) ∙ (law ∙ deals_alone r.command none))
+      let law = looked_up t l r rises (replay_from_legal t l legal) (among l distinct k r e) in
+      sym (ap (standing_on t l) (sym (number_is l distinct k r e)) ∙ (law ∙ deals_alone r.command none))
     where
       deals_alone : (c : Command) → named_place r.number c ≡ None → least (numbers_under t l r.number r.firm c) ≡ deals_under t l r.number r.firm c
       deals_alone (Trade _ _ _ _ _) h = absurd (cc)
@@ -205,8 +205,15 @@ module _ (g : Grove) (t : House) (l : List Record) (rises : RisesFrom 0 l) (lega
       deals_alone (Decline _) h = refl
       deals_alone (Reverse _) h = refl
 
+  pub placeless : (k : ℕ) → place_in l k ≡ None → option_and_then (λ r. deals_under t l r.number r.firm r.command) (change_of l k) ≡ standing_on t l k
+  placeless k none = nothing_named k (change_of l k) refl none
+
+module _ (g : Grove) (t : House) (l : List Record) (rises : RisesFrom 0 l) (legal : IsLegal t l) (shows : ShowsAll l g) where
+  abbrev numbered : NumbersOnce l
+  numbered = number_once l (rises_distinct 0 l rises)
+
   pub nothing_placed : (k : ℕ) → place_of g k ≡ None → option_and_then (λ r. deals_under t l r.number r.firm r.command) (change_of l k) ≡ standing_on t l k
-  nothing_placed k none = nothing_named k (change_of l k) refl (sym (shows.places k) ∙ none)
+  nothing_placed k none = placeless t l rises legal k (sym (shows.places k) ∙ none)
 
   its_tree : (trade : ℕ) (tree : Rose) → tree_of g trade ≡ Some tree → IsTreeOf l trade tree
   its_tree trade tree found = subst (IsTreeIn l trade) found (shows.trees trade)

@@ -2,7 +2,8 @@
 //!
 //! `first_standing` reads off the trees and the terms what stands on a change, and takes no memory: the first change that would be refused
 //! without it, for every legal list that they show; `first_standing_at` the same at a node that was looked up. `touched` says which node a change
-//! made or decided; an Agree and a Raise touch none. `entries_beside` is how many entries the giver and the taker of a change have.
+//! made or decided; an Agree and a Raise touch none. `entries_beside` is how many entries the giver and the taker of a change have, and
+//! `standing_beside` both of an Agree or a Raise, by one look-up.
 //!
 //! The laws here speak of lists of changes and of nothing else; calling one gives its clauses as facts. They hold for
 //! every legal list whose numbers are distinct, in whatever order it stands; only where "first" becomes "least" the
@@ -27,5 +28,5 @@ pub mod laws;
 mod standing;
 mod touch;
 
-pub use standing::{entries_beside, first_standing, first_standing_at, touched};
+pub use standing::{entries_beside, first_standing, first_standing_at, standing_beside, touched};
 pub use touch::Touched;

@@ -4,7 +4,7 @@ ghost use Rattle.gu_base.specs.History.{RisesFrom};
 ghost use Rattle.gu_base.specs.House.{House};
 ghost use Rattle.gu_base.specs.Standing.{IsLegal, standing_on, without};
 ghost use Rattle.gu_base.specs.declared.entry.Record.{Record};
-ghost use Rattle.gu_tree.specs.ShownAll.{ShowsAll};
+ghost use Rattle.gu_tree.specs.ShownAll.{ShowsAll, place_in};
 ghost use Rattle.gu_tree.specs.Grove.{Grove, HasTree, IsPlace, place_of};
 ghost use Rattle.gu_tree.specs.Paths.{node_at};
 ghost use Rattle.gu_tree.specs.Rose.{split_of_node};
@@ -61,6 +61,19 @@ pub fn first_standing_at<A: Allocator>(spot: &Spot<'_, A>, k: Number) -> Option<
         split_of(spot.node)
     } else {
         spot.node.first_on_parts()
+    }
+}
+
+/// What stands on a change that has no place in the trees, an Agree or a Raise, and how many entries its giver and taker have: `first_standing` and
+/// `entries_beside` by one look-up, and with none in the trees.
+pub fn standing_beside(terms: &Terms, k: Number) -> (Option<Number>, usize)
+    ensures first { (t : House) (l : List Record) → RisesFrom 0 l → IsLegal t l → AreTermsOf t l terms.now → place_in l k ≡ None → result.0 ≡ standing_on t l k }
+    ensures count { (t : House) (l : List Record) → AreTermsOf t l terms.now → result.1 ≡ entries_dealt l k }
+    ensures fits { result.1 < 2 ^ 63 }
+{
+    match terms.row_beside(k) {
+        Some(row) => (row.first_standing(k), row.entry_count()),
+        None => (None, 0),
     }
 }
 

@@ -104,6 +104,40 @@ pub deed_kept : (n : ℕ) (fs : List (Filed Deed)) (e : ℕ) → RisesAbove n fs
 deed_kept n [] e rises = refl
 deed_kept n (f ∷ fs) e rises = deed_by f.entry f.kept fs e rises.1 (deed_kept f.entry fs e rises.1) (f.entry == e) refl
 
+-- ---- the terms that were made
+
+or_none : (o : Option Agreement) → option_or o None ≡ o
+or_none None = refl
+or_none (Some a) = refl
+
+or_assoc : (o p q : Option Agreement) → option_or o (option_or p q) ≡ option_or (option_or o p) q
+or_assoc None p q = refl
+or_assoc (Some a) p q = refl
+
+-- by one deed more
+pub made_with : (ds : List Dealing) (n : ℕ) (d : Deed) → made_in (ds ++ record { number = n; deed = d } ∷ []) ≡ option_or (made_in ds) (made_by_deed d)
+made_with [] n d = or_none (made_by_deed d)
+made_with (x ∷ ds) n d = ap (option_or (made_by_deed x.deed)) (made_with ds n d) ∙ or_assoc (made_by_deed x.deed) (made_in ds) (made_by_deed d)
+
+made_own : (n : ℕ) (o : Option Deed) (d : Deed) (ds : List Dealing) → o ≡ Some d → made_by_deed d ≡ None → made_in (cons_option (numbered n o) ds) ≡ made_in ds
+made_own n None d ds is none = absurd (cc)
+made_own n (Some x) d ds is none = ap (λ p. option_or p (made_in ds)) (ap made_by_deed (same_Some x d is) ∙ none)
+
+made_other : (n : ℕ) (o : Option Deed) (less ds : List Dealing) → made_in ds ≡ made_in less → made_in (cons_option (numbered n o) ds) ≡ made_in (cons_option (numbered n o) less)
+made_other n None less ds same = same
+made_other n (Some x) less ds same = ap (option_or (made_by_deed x)) same
+
+made_at : (f : Filed Deed) (fs : List (Filed Deed)) (e : ℕ) (d : Deed) → made_by_deed d ≡ None → (kept_at fs e ≡ Some d → made_in (dealings_kept fs) ≡ made_in (dealings_kept (cleared fs e)))
+    → (b : Bool) → (if b then f.kept else kept_at fs e) ≡ Some d
+    → made_in (cons_option (numbered f.entry f.kept) (dealings_kept fs)) ≡ made_in (dealings_kept (if b then record { entry = f.entry; kept = None } ∷ fs else f ∷ cleared fs e))
+made_at f fs e d none later true is = made_own f.entry f.kept d (dealings_kept fs) is none
+made_at f fs e d none later false is = made_other f.entry f.kept (dealings_kept (cleared fs e)) (dealings_kept fs) (later is)
+
+-- and without one that made none
+pub made_cleared : (fs : List (Filed Deed)) (e : ℕ) (d : Deed) → kept_at fs e ≡ Some d → made_by_deed d ≡ None → made_in (dealings_kept fs) ≡ made_in (dealings_kept (cleared fs e))
+made_cleared [] e d is none = absurd (cc)
+made_cleared (f ∷ fs) e d is none = made_at f fs e d none (λ later. made_cleared fs e d later none) (f.entry == e) is
+
 -- ---- limits
 
 low_made_by : (d : Deed) (rest : Option Agreement) (a : Agreement) → HasLowLimit d → (rest ≡ Some a → a.limit ≤ highest_limit) → option_or (made_by_deed d) rest ≡ Some a → a.limit ≤ highest_limit

@@ -54,6 +54,12 @@ pub record CanPut (v : TermsView) (giver taker : List ℕ) (d : Dealing) : Type 
   pub above : last_entry v < d.number
   pub pair : IsSomeAnd (row_of v giver taker) (λ r. (1 ≤ r.room) × HasRoomFor r.dealings d.deed)
 
+-- the same of the pair at this place
+pub record CanPutAt (v : TermsView) (place : ℕ) (d : Dealing) : Type 0 where
+  pub room : 1 ≤ v.room
+  pub above : last_entry v < d.number
+  pub pair : IsSomeAnd (slice_get v.pairs place) (λ r. (1 ≤ r.room) × HasRoomFor r.dealings d.deed)
+
 -- the row has the terms and the dealings of the other, if there is one
 abbrev pub IsSameRow : Option PairView → Option PairView → Type 0
 IsSameRow None o = o ≡ None

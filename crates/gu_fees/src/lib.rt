@@ -13,10 +13,13 @@
 //!   (`terms_under`, `limit_under`, `used_under`). They walk over no Raise and no Claim.
 //! - `entries_beside` is how many entries the pair of an entry has. It walks over none.
 //! - `first_standing` is the first entry of the pair that stands on another. It walks over the pair's entries once.
-//! - `ready` makes room for one more entry of a pair, and alone takes memory.
+//! - `ready` makes room for one more entry of a pair. It and `ready_at` alone take memory.
+//! - `place` is where a pair stands, found by hash; `row_at`, `ready_at` and `put_at` go on from there without another look. `row_beside` is the
+//!   row of an entry's pair.
 //! - An entry is found by halves. What is taken out leaves a mark, so nothing behind it moves; a pair's marks go where they outnumber its entries.
 //!
-//! What a call asks of its caller, a test of this crate answers: `can_charge`, `can_uncharge`, `can_put`; for `Fees::put` the sums.
+//! What a call asks of its caller, a test of this crate answers: `can_charge`, `can_uncharge`, `can_put`, `can_put_at`; for
+//! `Fees::put` the sums, for `ready_at` whether `row_at` has a row.
 //! Its cases stand in the program `test_sums`.
 #![tactic(auto)]
 

@@ -1,7 +1,8 @@
 //! The terms of one giver and one taker, and what they deal under them.
-ghost use Rattle.std.specs.Prelude.{◌≡◌, ◌+◌, ◌≤◌, ◌<◌, ◌^◌, ◌++◌, ◌∷◌, [], length, OnOk, IfSome, IsTrue, ◌↔◌};
+ghost use Rattle.std.specs.Prelude.{◌≡◌, ◌+◌, ◌≤◌, ◌<◌, ◌^◌, ◌++◌, ◌∷◌, [], length, None, OnOk, IfSome, IsTrue, ◌↔◌};
+ghost use Rattle.std.specs.Option.{option_or};
 ghost use Rattle.gu_base.specs.Limits.{highest_limit};
-ghost use Rattle.gu_base.specs.Terms.{made_in, terms_under, raised_by_deed, raised_under, limit_under, used_by_deed, used_under};
+ghost use Rattle.gu_base.specs.Terms.{made_by_deed, made_in, terms_under, raised_by_deed, raised_under, limit_under, used_by_deed, used_under};
 ghost use Rattle.gu_base.specs.Dealt.{leave_out, first_over, first_under_terms};
 ghost use Rattle.gu_fees.specs.Pairs.{HasRoomOn, HasRoomFor, dealings_kept, standing_under};
 
@@ -14,6 +15,8 @@ use std::marker::Model;
 #[derive(Drop)]
 pub struct PairTerms {
     file: Option<Agreement>,
+    /// The terms that the first Agree made, so that nobody walks to it.
+    made: Option<Agreement>,
     deeds: Vec<Filed<Deed>>,
     /// How many of the numbers in `deeds` are of entries that were taken out.
     gone: usize,
@@ -24,7 +27,8 @@ pub struct PairTerms {
 }
 
 impl Model for PairTerms {
-    ghost use Rattle.std.specs.Prelude.{◌-◌, vec_len, vec_capacity};
+    ghost use Rattle.std.specs.Prelude.{◌≡◌, ◌-◌, vec_len, vec_capacity};
+    ghost use Rattle.gu_base.specs.Terms.{made_in};
     ghost use Rattle.gu_fees.specs.Filing.{last_of};
     ghost use Rattle.gu_fees.specs.Pairs.{PairView, IsKept, dealings_kept};
 
@@ -32,7 +36,7 @@ impl Model for PairTerms {
 
     ghost view = { λ p. record { file = p.file; dealings = dealings_kept p.deeds.items; room = vec_capacity p.deeds - vec_len p.deeds; last = last_of p.deeds.items } };
 
-    ghost invariant = { λ p. IsKept p.file p.deeds.items p.raised p.used p.gone };
+    ghost invariant = { λ p. record { kept : IsKept p.file p.deeds.items p.raised p.used p.gone; made : p.made ≡ made_in (dealings_kept p.deeds.items) } };
 }
 
 impl PairTerms {
@@ -45,6 +49,7 @@ impl PairTerms {
     {
         PairTerms {
             file,
+            made: None,
             deeds: Vec::new(alloc),
             gone: 0,
             raised: 0,
@@ -85,6 +90,7 @@ impl PairTerms {
         ensures dealings { self.new.dealings ≡ self.old.dealings ++ record { number = entry; deed = deed } ∷ [] }
         ensures last { self.new.last ≡ entry }
     {
+        self.made = made_with(self.made, deed);
         self.raised += raised_by(deed);
         self.used += used_by(deed);
         append(&mut self.deeds, entry, deed);
@@ -101,6 +107,7 @@ impl PairTerms {
         let Some(deed) = clear(&mut self.deeds, entry) else {
             return;
         };
+        self.made = made_without(self.made, deed, self.deeds.as_slice());
         self.raised -= raised_by(deed);
         self.used -= used_by(deed);
         self.gone += 1;
@@ -116,7 +123,7 @@ impl PairTerms {
     {
         match self.file {
             Some(terms) => Some(terms),
-            None => made(self.deeds.as_slice()),
+            None => self.made,
         }
     }
 
@@ -191,6 +198,31 @@ fn used_by(deed: Deed) -> u64
     match deed {
         Deed::Uses(lots) => lots,
         _ => 0,
+    }
+}
+
+/// The terms that the first Agree makes, with this deed behind those that make these.
+fn made_with(made: Option<Agreement>, deed: Deed) -> Option<Agreement>
+    ensures { result ≡ option_or made (made_by_deed deed) }
+{
+    match (made, deed) {
+        (None, Deed::Makes(terms)) => Some(terms),
+        _ => made,
+    }
+}
+
+/// The terms that the first Agree makes, where this deed was taken out of those that made these. It walks only where that was an Agree.
+fn made_without(
+    before: Option<Agreement>,
+    deed: Deed,
+    deeds: &[Filed<Deed>],
+) -> Option<Agreement>
+    requires { made_by_deed deed ≡ None → before ≡ made_in (dealings_kept deeds.now) }
+    ensures { result ≡ made_in (dealings_kept deeds.now) }
+{
+    match deed {
+        Deed::Makes(_) => made(deeds),
+        _ => before,
     }
 }
 

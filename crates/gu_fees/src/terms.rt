@@ -1,12 +1,13 @@
 //! The terms of all givers and takers.
-ghost use Rattle.std.specs.Prelude.{◌≡◌, ◌≤◌, ◌<◌, ◌^◌, ◌&&◌, ◌++◌, ◌∷◌, ℕ, List, Some, None, false, [], option_map, option_and_then, bytes_eq, OnOk, OnErr, IfSome, IsSomeAnd, IsTrue, ◌↔◌, unwrap_or, option_copied, slice_get, length, ◌==◌};
+ghost use Rattle.std.specs.Prelude.{◌≡◌, ◌≤◌, ◌<◌, ◌^◌, ◌&&◌, ◌++◌, ◌∷◌, ℕ, List, Option, Some, None, false, [], option_map, option_and_then, bytes_eq, OnOk, OnErr, IfSome, IsSomeAnd, IsTrue, ◌↔◌, unwrap_or, option_copied, slice_get, length, ◌==◌};
 ghost use Rattle.std.specs.Map.{lookup};
 ghost use Rattle.gu_base.specs.Limits.{highest_limit};
 ghost use Rattle.gu_base.specs.Terms.{terms_under, limit_under, used_under};
 ghost use Rattle.gu_base.specs.Dealt.{leave_out};
+ghost use Rattle.gu_base.specs.declared.house.Agreement.{Agreement as AgreementData};
 ghost use Rattle.gu_fees.specs.Rows.{is_pair};
 ghost use Rattle.gu_fees.specs.Pairs.{HasRoomFor};
-ghost use Rattle.gu_fees.specs.Terms.{row_of, pair_at, last_entry, entries_in, standing_in, CanPut, IsPut, IsTakenOut, IsReadied, IsReady, IsSameRow};
+ghost use Rattle.gu_fees.specs.Terms.{row_of, pair_at, last_entry, entries_in, standing_in, CanPut, CanPutAt, IsPut, IsTakenOut, IsReadied, IsReady, IsSameRow};
 
 use crate::filing::{Filed, append, clear, kept_at, last_of};
 use crate::pair::PairTerms;
@@ -51,9 +52,10 @@ impl Terms {
         }
     }
 
-    /// Where the pair stands among the pairs.
-    fn place(&self, giver: &FirmId, taker: &FirmId) -> Option<usize>
-        ensures { result ≡ lookup (is_pair giver.now taker.now) self.now.places }
+    /// Where the pair stands, `None` where it was never made ready. It stays there: nothing that is done to the terms moves it.
+    pub fn place(&self, giver: &FirmId, taker: &FirmId) -> Option<usize>
+        ensures value { result ≡ lookup (is_pair giver.now taker.now) self.now.places }
+        ensures there { IfSome result (λ i. i < length self.now.pairs) }
     {
         let pair = Pair {
             giver: *giver,
@@ -62,14 +64,28 @@ impl Terms {
         self.places.get(&pair).copied()
     }
 
-    /// The row of the pair.
-    fn row(&self, giver: &FirmId, taker: &FirmId) -> Option<&PairTerms>
-        ensures { option_copied result ≡ row_of self.now giver.now taker.now }
+    /// The row at this place, if one is given.
+    pub fn row_at(&self, place: Option<usize>) -> Option<&PairTerms>
+        ensures { option_copied result ≡ option_and_then (slice_get self.now.pairs) place }
     {
-        match self.place(giver, taker) {
-            Some(i) => Some(&self.pairs[i]),
+        match place {
+            Some(i) => self.pairs.get(i),
             None => None,
         }
+    }
+
+    /// The row of the pair, `None` where it was never made ready.
+    pub fn row(&self, giver: &FirmId, taker: &FirmId) -> Option<&PairTerms>
+        ensures { option_copied result ≡ row_of self.now giver.now taker.now }
+    {
+        self.row_at(self.place(giver, taker))
+    }
+
+    /// The row of the pair that this entry is of, `None` where no entry of this number was put in.
+    pub fn row_beside(&self, entry: Number) -> Option<&PairTerms>
+        ensures { option_copied result ≡ option_and_then (slice_get self.now.pairs) (pair_at self.now entry) }
+    {
+        self.row_at(kept_at(self.entries.as_slice(), entry))
     }
 
     /// The terms of the pair, `None` where it has none or was never made ready.
@@ -129,11 +145,27 @@ impl Terms {
         ensures ready { OnOk result (IsReady self.new giver.now taker.now) }
         ensures err { OnErr result (IsSameRow (row_of self.old giver.now taker.now) (row_of self.new giver.now taker.now)) }
     {
-        self.entries.reserve(1)?;
         match self.place(giver, taker) {
-            Some(i) => self.pairs[i].ready(),
-            None => self.add_pair(giver, taker, file),
+            Some(i) => self.ready_at(i),
+            None => {
+                self.entries.reserve(1)?;
+                self.add_pair(giver, taker, file)
+            }
         }
+    }
+
+    /// Makes room for one more entry of the pair at this place. No terms change, and nothing that is dealt.
+    ///
+    /// # Errors
+    ///
+    /// `Memory` where a growth was refused.
+    pub fn ready_at(&mut self, place: usize) -> Result<(), Memory>
+        requires { place < length self.old.pairs }
+        ensures readied { (g k : List ℕ) (file : Option AgreementData) → lookup (is_pair g k) self.old.places ≡ Some place → IsReadied self.old self.new g k file }
+        ensures ready { OnOk result ((g k : List ℕ) → lookup (is_pair g k) self.old.places ≡ Some place → IsReady self.new g k) }
+    {
+        self.entries.reserve(1)?;
+        self.pairs[place].ready()
     }
 
     /// Makes the row of a pair that has none, with room for an entry.
@@ -165,17 +197,36 @@ impl Terms {
         Ok(())
     }
 
-    /// Whether `agree`, `raise` or `claim` may be called: the pair is ready, the number is above all that were put in, and the sums of the pair
-    /// stay numbers of 64 bits.
-    pub fn can_put(&self, giver: &FirmId, taker: &FirmId, entry: Number, deed: Deed) -> bool
-        ensures { IsTrue result ↔ CanPut self.now giver.now taker.now (record { number = entry; deed = deed }) }
+    /// Whether `put_at` may be called: the pair at this place is ready, the number is above all that were put in, and the sums of the pair stay
+    /// numbers of 64 bits.
+    pub fn can_put_at(&self, place: usize, entry: Number, deed: Deed) -> bool
+        ensures { IsTrue result ↔ CanPutAt self.now place (record { number = entry; deed = deed }) }
     {
         let room = self.entries.len() < self.entries.capacity();
         let above = last_of(self.entries.as_slice()) < entry.get();
-        match self.row(giver, taker) {
+        match self.pairs.get(place) {
             Some(row) => room && above && row.can_put(entry, deed),
             None => false,
         }
+    }
+
+    /// The same for `agree`, `raise` or `claim`.
+    pub fn can_put(&self, giver: &FirmId, taker: &FirmId, entry: Number, deed: Deed) -> bool
+        ensures { IsTrue result ↔ CanPut self.now giver.now taker.now (record { number = entry; deed = deed }) }
+    {
+        match self.place(giver, taker) {
+            Some(i) => self.can_put_at(i, entry, deed),
+            None => false,
+        }
+    }
+
+    /// Puts an entry of the pair in that stands at this place and is ready. Takes no memory.
+    pub fn put_at(&mut self, place: usize, entry: Number, deed: Deed)
+        requires { CanPutAt self.old place (record { number = entry; deed = deed }) }
+        ensures { (g k : List ℕ) → lookup (is_pair g k) self.old.places ≡ Some place → IsPut self.old self.new g k (record { number = entry; deed = deed }) }
+    {
+        put_into(&mut self.pairs, place, entry, deed);
+        append(&mut self.entries, entry, place);
     }
 
     /// Puts an entry of the pair in, which is ready. Takes no memory.
@@ -184,8 +235,7 @@ impl Terms {
         ensures { IsPut self.old self.new giver.now taker.now (record { number = entry; deed = deed }) }
     {
         if let Some(i) = self.place(giver, taker) {
-            put_into(&mut self.pairs, i, entry, deed);
-            append(&mut self.entries, entry, i);
+            self.put_at(i, entry, deed);
         }
     }
 
@@ -227,8 +277,8 @@ impl Terms {
         ensures value { result ≡ unwrap_or (option_map (λ i. entries_in self.now.pairs i) (pair_at self.now entry)) 0 }
         ensures fits { result < 2 ^ 63 }
     {
-        match kept_at(self.entries.as_slice(), entry) {
-            Some(i) => entries_in(self.pairs.as_slice(), i),
+        match self.row_beside(entry) {
+            Some(row) => row.entry_count(),
             None => 0,
         }
     }
@@ -237,31 +287,10 @@ impl Terms {
     pub fn first_standing(&self, entry: Number) -> Option<Number>
         ensures { result ≡ option_and_then (λ i. standing_in self.now.pairs i entry) (pair_at self.now entry) }
     {
-        match kept_at(self.entries.as_slice(), entry) {
-            Some(i) => standing_in(self.pairs.as_slice(), i, entry),
+        match self.row_beside(entry) {
+            Some(row) => row.first_standing(entry),
             None => None,
         }
-    }
-}
-
-/// What stands on an entry of the pair at this place.
-fn standing_in(pairs: &[PairTerms], i: usize, entry: Number) -> Option<Number>
-    ensures { result ≡ standing_in pairs.now i entry }
-{
-    match pairs.get(i) {
-        Some(row) => row.first_standing(entry),
-        None => None,
-    }
-}
-
-/// How many entries the pair at this place has.
-fn entries_in(pairs: &[PairTerms], i: usize) -> usize
-    ensures value { result ≡ entries_in pairs.now i }
-    ensures fits { result < 2 ^ 63 }
-{
-    match pairs.get(i) {
-        Some(row) => row.entry_count(),
-        None => 0,
     }
 }
 

@@ -1,5 +1,5 @@
 //! The house table: who takes part, and on which terms.
-ghost use Rattle.std.specs.Prelude.{◌≡◌, ◌≤◌, [], IsTrue, IfSome, IfOk, length, slice_get};
+ghost use Rattle.std.specs.Prelude.{◌≡◌, ◌≤◌, ℕ, List, [], IsTrue, IfSome, IfOk, length, slice_get};
 ghost use Rattle.gu_base.specs.House.{knows_firm, knows_account, knows_instrument, agreement};
 ghost use Rattle.gu_base.specs.Limits.{highest_rate, highest_limit};
 ghost use Rattle.gu_parties.specs.Steps.{house_alone};
@@ -94,6 +94,15 @@ impl House {
             taker: *taker,
         };
         self.agreements.get(&key).copied()
+    }
+
+    /// The rate and the limit of each agreement are in their ranges. Calling this gives its clause as a fact.
+    #[inline(always)]
+    pub fn terms_are_in_range(&self)
+        ensures { (giver taker : List ℕ) → IfSome (agreement self.now giver taker) (λ a. (a.rate ≤ highest_rate) × (a.limit ≤ highest_limit)) }
+    {
+        // Opens the table, whose invariant says so.
+        let _ = self.agreements.len();
     }
 
     /// How many lines `FIRM` the file has. The house is none of these firms.

@@ -7,7 +7,6 @@ ghost use Rattle.gu_base.specs.Answers.{is_same_call, is_same_id, answer_by, sta
 ghost use Rattle.gu_base.specs.declared.entry.Answer.{Answer};
 ghost use Rattle.gu_base.specs.declared.entry.Answer.TheVariants.{Repeated, Refused};
 ghost use Rattle.gu_base.specs.declared.refusal.Refusal.TheVariants.{DuplicateId};
-ghost use Rattle.gu_book.specs.Charging.{AreUsesOf};
 ghost use Rattle.gu_book.specs.Found.{IsNamedIn};
 ghost use Rattle.gu_book.specs.Front.{front_answer, front_rules, front_refusal};
 ghost use Rattle.gu_book.specs.Ids.{NoIdTwice};
@@ -87,7 +86,6 @@ fn status_of(by: &FirmId, command: &Command) -> State
 /// Why a command is refused, but for what stands on a change.
 fn front_refusal(at: &Standing<'_>, by: &FirmId, command: &Command) -> Option<Refusal>
     requires indexed { IsIndexOf at.now.index.now at.now.entries.now }
-    requires used { AreUsesOf at.now.changes at.now.fees.now }
     requires dealt { AreTermsOf at.now.house.now at.now.changes at.now.terms.now }
     requires few { length at.now.entries.now ≤ most_entries }
     requires live { at.now.changes ≡ live at.now.entries.now }
@@ -111,7 +109,6 @@ fn front_refusal(at: &Standing<'_>, by: &FirmId, command: &Command) -> Option<Re
 /// The answer to a call whose id no entry has, if nothing stood on any change.
 fn new_answer(at: &Standing<'_>, by: &FirmId, command: &Command) -> Answer
     requires indexed { IsIndexOf at.now.index.now at.now.entries.now }
-    requires used { AreUsesOf at.now.changes at.now.fees.now }
     requires dealt { AreTermsOf at.now.house.now at.now.changes at.now.terms.now }
     requires few { length at.now.entries.now ≤ most_entries }
     requires live { at.now.changes ≡ live at.now.entries.now }
@@ -142,7 +139,6 @@ pub(crate) fn front_answer(
     requires hashed { IsHashOf hash by.now id.now }
     requires once { NoIdTwice at.now.entries.now }
     requires indexed { IsIndexOf at.now.index.now at.now.entries.now }
-    requires used { AreUsesOf at.now.changes at.now.fees.now }
     requires dealt { AreTermsOf at.now.house.now at.now.changes at.now.terms.now }
     requires few { length at.now.entries.now ≤ most_entries }
     requires live { at.now.changes ≡ live at.now.entries.now }

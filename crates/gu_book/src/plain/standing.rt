@@ -4,7 +4,7 @@ use crate::index::Index;
 use crate::live::Live;
 use gu_base::Entry;
 use gu_consent::Consents;
-use gu_fees::{Fees, Terms};
+use gu_fees::Terms;
 use gu_parties::House;
 
 /// The house table, the history, its live changes, the node that the command names, and what is kept beside them.
@@ -14,7 +14,6 @@ pub(crate) struct Standing<'a> {
     pub(crate) entries: &'a [Entry],
     pub(crate) changes: Live<'a>,
     pub(crate) named: &'a Option<Named>,
-    pub(crate) fees: &'a Fees,
     pub(crate) terms: &'a Terms,
     pub(crate) index: &'a Index,
     pub(crate) consents: &'a Consents,

@@ -1,4 +1,5 @@
-use Rattle.std.proofs.Common.{◌≡◌, ◌∙◌, ℕ, IsSomeAnd, sym, ap, subst, arith}
+use Rattle.std.proofs.Common.{rules, ◌≡◌, ◌∙◌, ℕ, IsSomeAnd, false, sym, ap, subst, arith}
+use Rattle.std.proofs.lemmas.Grind.{common_steps}
 use Rattle.std.specs.Prelude.{Some, None, option_map, option_and_then}
 use Rattle.gu_base.specs.declared.entry.Record.{Record}
 use Rattle.gu_depend.specs.Under.{deals_under}
@@ -6,13 +7,14 @@ use Rattle.gu_depend.proofs.ReadOff.{nothing_placed}
 use Rattle.gu_base.proofs.Numbered.{rises_later}
 use Rattle.gu_tree.specs.Grove.{HasTree, IsPlace, place_of}
 use Rattle.gu_tree.specs.Paths.{node_at}
-use Rattle.gu_tree.specs.ShownAll.{named_place, change_of}
+use Rattle.gu_tree.specs.ShownAll.{named_place, place_in, change_of}
 use Rattle.gu_book.specs.Holdings.{deal_of}
 use Rattle.gu_book.specs.Live.{record_of}
+use Rattle.gu_book.specs.Visits.{is_of_trees}
 use Rattle.gu_book.proofs.AllShown.{all_shown}
 use Rattle.gu_book.proofs.OnePlace.{one_place}
-use Rattle.gu_book.proofs.Visited.{some_place, way_to, parts_of_named}
-use Rattle.gu_book.proofs.found.seek_change.Goals.{After-found_at-found}
+use Rattle.gu_book.proofs.Visited.{placeless, some_place, way_to, parts_of_named}
+use Rattle.gu_book.proofs.found.seek_change.Goals.{After-found_at-found, Then-not-is_of_trees}
 use Rattle.gu_book.proofs.found.seek_change.Goals as goal
 
 -- the parts are those of the change
@@ -43,12 +45,19 @@ returns-clause-standing c = λ t legal dealt.
     let tree : HasTree c.args.trees.now c.in-Some-named.spot.trade (λ v. node_at c.named.new.path.items v ≡ Some c.in-Some-named.spot.node.now) = rw c.in-Some-named.is at c.named.ensures.node in
     c.first_standing_at-sought.ensures t l c.args.trees.now c.named.new.path.items (rises_later 0 1 l (omega arith) are.rises) legal (all_shown are.filed) at tree
 
--- a change without a place stands among those of its giver and taker
-pub returns-in_default-named-clause-standing : goal.returns-in_default-named-clause-standing
-returns-in_default-named-clause-standing c = λ t legal dealt.
+-- a change that isn't one of trees has no place in them
+without_place : (c : Then-not-is_of_trees) → place_in c.args.changes.now c.args.number ≡ None
+without_place c =
     let l = c.args.changes.now in
-    let are = c.requires.trees in
-    c.first_standing-sought.ensures.first t l (rises_later 0 1 l (omega arith) are.rises) legal (all_shown are.filed) dealt
+    let found : change_of l c.args.number ≡ Some (record_of c.in-Some.made) = sym (sym (ap (option_map record_of) c.in-Some.is) ∙ c.change.ensures) in
+    let other : is_of_trees c.in-Some.made.command.now ≡ false = first_of (cc, search rules, grind (arith, common_steps)) in
+    ap (option_and_then (λ (r : Record). named_place r.number r.command)) found ∙ placeless c.in-Some.made.number c.in-Some.made.command.now other
+
+-- it stands among those of its giver and taker
+pub returns-then-not-is_of_trees-clause-standing : goal.returns-then-not-is_of_trees-clause-standing
+returns-then-not-is_of_trees-clause-standing c = λ t legal dealt.
+    let l = c.args.changes.now in
+    c.standing_beside-count.ensures.first t l (rises_later 0 1 l (omega arith) c.requires.trees.rises) legal dealt (without_place (goal.at.returns-then-not-is_of_trees-clause-standing c).Then-not-is_of_trees)
 
 -- and nothing stands on what isn't there
 pub returns-in_default-clause-standing : goal.returns-in_default-clause-standing
@@ -72,9 +81,3 @@ returns-clause-least c = λ _.
     let way = way_to c.requires.trees c.args.number c.in-Some-named.spot.trade c.named.new.path.items (rw c.in-Some-named.is at c.named.ensures.found) in
     let parts = parts_of_named c.args.changes.now c.args.number (record_of c.in-Some.made) (its_parts (goal.at.returns-clause-least c).After-found_at-found) in
     omega (arith, way, parts, c.found_at-found.ensures.deep, c.parts_in.ensures.value)
-
--- the entries of its giver and taker
-pub returns-in_default-named-clause-most : goal.returns-in_default-named-clause-most
-returns-in_default-named-clause-most c = λ t dealt.
-    let beside = c.entries_beside.ensures.value t c.args.changes.now dealt in
-    omega (arith, beside)

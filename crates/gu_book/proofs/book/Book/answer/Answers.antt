@@ -1,10 +1,8 @@
 use Rattle.std.proofs.Common.{◌≡◌, sym, ◌∙◌, ap}
 use Rattle.std.specs.Prelude.{option_map}
-use Rattle.gu_base.specs.History.{live}
 use Rattle.gu_base.specs.Answers.{Call, accepted_or, answer_to}
 use Rattle.gu_base.specs.declared.refusal.Refusal.TheVariants.{StandsOn}
 use Rattle.gu_consent.specs.Given.{given}
-use Rattle.gu_book.proofs.Dealing.{uses_are}
 use Rattle.gu_book.proofs.Fronts.{stands_refusal, decided, settles, not_accepted}
 use Rattle.gu_book.proofs.Leaves.{live_rises}
 use Rattle.gu_book.proofs.Undone.{stands_found}
@@ -16,11 +14,6 @@ front_answer-answer-requires-clause-rises c = rw (c.of.ensures, c.as_slice.ensur
 
 pub front_answer-answer-requires-clause-named : goal.front_answer-answer-requires-clause-named
 front_answer-answer-requires-clause-named c = rw (c.of.ensures, c.as_slice.ensures.value) (rw (← c.self.view_is) at c.requires.named)
-
-pub front_answer-answer-requires-clause-used : goal.front_answer-answer-requires-clause-used
-front_answer-answer-requires-clause-used c =
-    rw (c.of.ensures, c.as_slice.ensures.value)
-    (uses_are c.self.inside.house (live c.self.inside.entries.items) c.self.invariant.kept.replayed c.self.inside.fees c.self.invariant.charged)
 
 pub front_answer-answer-requires-clause-dealt : goal.front_answer-answer-requires-clause-dealt
 front_answer-answer-requires-clause-dealt c = rw (c.of.ensures, c.as_slice.ensures.value) c.self.invariant.dealt

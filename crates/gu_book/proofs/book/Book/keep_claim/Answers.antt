@@ -49,32 +49,32 @@ whole_of-whole-requires-clause-there c =
     let lies = rw (c.in-Some.is) at there in
     rw are (holds_some c.self.invariant.kept.filed (live_rises c.self.inside.entries.items) found.2 (lies c.self.inside.trees c.self.invariant.kept.filed))
 
-pub node_charge-charge-requires : goal.node_charge-charge-requires
-node_charge-charge-requires c =
-    let w = (goal.at.node_charge-charge-requires c).After-whole_of-whole in
+pub node_charge-charge-requires-clause-few : goal.node_charge-charge-requires-clause-few
+node_charge-charge-requires-clause-few c =
+    let w = (goal.at.node_charge-charge-requires-clause-few c).After-whole_of-whole in
     subst (λ (o : Option Node). IfSome o (λ x. x.lots ≤ 10000000)) (named w).0 (node_within (live c.self.inside.entries.items) c.in-Claim.node c.self.invariant.kept.within)
 
 -- the number of the claim is above all that were put to terms
 above : (c : After-whole_of-whole) → last_entry c.ready_claim.new.terms < c.args.made.now.number
 above c =
     let low = c.self.invariant.dealt_before in
-    let same = c.in_ok-ready_claim.ensures.last in
+    let same = c.in_ok-place.ensures.last in
     above_all c.self.invariant.kept c.args.made.now.number (entry_of_change c.args.made.now) (rw (← c.self.view_is) at c.requires.accepted) (last_entry c.ready_claim.new.terms) (omega (arith, low, same))
 
-pub claim-requires-2 : goal.claim-requires-2
-claim-requires-2 c =
-    let w = (goal.at.claim-requires-2 c).After-whole_of-whole in
+pub claim-requires-2-clause-room : goal.claim-requires-2-clause-room
+claim-requires-2-clause-room c =
+    let w = (goal.at.claim-requires-2-clause-room c).After-whole_of-whole in
     let few = c.self.invariant.kept.few in
     let fewer = live_few c.self.inside.entries.items in
     let small = subst (λ (o : Option Node). IfSome o (λ x. x.lots ≤ 10000000)) (named w).0 (node_within (live c.self.inside.entries.items) c.in-Claim.node c.self.invariant.kept.within) in
-    can_claim (omega (arith, few, fewer)) c.self.invariant.kept.within (c.in_ok-ready_claim.ensures.same (live c.self.inside.entries.items) c.self.invariant.dealt) c.args.made.now.number c.in-Some.named.node.lots small (above w)
-    c.in-Some.named.node.kind c.in_ok-ready_claim.ensures.ready
+    can_claim (omega (arith, few, fewer)) c.self.invariant.kept.within (c.in_ok-place.ensures.same (live c.self.inside.entries.items) c.self.invariant.dealt) c.args.made.now.number c.in-Some.named.node.lots small (above w)
+    c.in-Some.named.node.kind c.in_ok-place.ensures.ready
 
-pub invariant_of-self-in_err-ready_claim : goal.invariant_of-self-in_err-ready_claim
-invariant_of-self-in_err-ready_claim c =
+pub invariant_of-self-in_err-place : goal.invariant_of-self-in_err-place
+invariant_of-self-in_err-place c =
     simp (c.make_room.ensures.items)
     (still_dealt c.self.invariant c.ready-2.new.self c.in_ok-ready-2.ensures.same c.ready.new.self (c.in_ok-ready.ensures.same c.self.inside.entries.items c.self.invariant.indexed.ids.chained) c.self.inside.positions (λ at side. refl)
-    c.ready_claim.new.terms (c.in_err-ready_claim.ensures.same (live c.self.inside.entries.items) c.self.invariant.dealt) c.in_err-ready_claim.ensures.last)
+    c.ready_claim.new.terms (c.in_err-place.ensures.same (live c.self.inside.entries.items) c.self.invariant.dealt) c.in_err-place.ensures.last)
 
 pub put-requires : goal.put-requires
 put-requires c =
@@ -90,7 +90,7 @@ put-requires-2 c =
     let few = c.self.invariant.kept.few in
     let fewer = live_few c.self.inside.entries.items in
     let within : length (live c.self.inside.entries.items) ≤ 1000000 = omega (arith, few, fewer) in
-    has_room c.self.inside.house (live c.self.inside.entries.items) c.self.inside.fees c.self.invariant.charged within c.node_charge-charge.result c.node_charge-charge.ensures.lots (c.node_charge-charge.ensures.rate (live c.self.inside.entries.items) (c.in_ok-ready_claim.ensures.same (live c.self.inside.entries.items) c.self.invariant.dealt) c.self.invariant.kept.within)
+    has_room c.self.inside.house (live c.self.inside.entries.items) c.self.inside.fees c.self.invariant.charged within c.node_charge-charge.result c.node_charge-charge.ensures.lots (c.node_charge-charge.ensures.rate (live c.self.inside.entries.items) (c.in_ok-place.ensures.same (live c.self.inside.entries.items) c.self.invariant.dealt) c.self.invariant.kept.within)
 
 pub take-requires : goal.take-requires
 take-requires c =
@@ -131,18 +131,18 @@ invariant_of-self-2 c =
     let e = entry_of_change c.args.made.now in
     let more = live_more c.self.invariant.kept c.args.made.now.number e ok change in
     let put = rw c.in_account-claimed.ensures at c.in_ok-put.ensures.put in
-    let costs = claim_costs (next w) c.in-Claim.node c.in-Claim.account c.in-Claim.is c.in-Some.named.node (named w).0 c.whole_of-whole.result (holds w) c.node_charge-charge.result (c.node_charge-charge.ensures.value (live h) (c.in_ok-ready_claim.ensures.same (live h) c.self.invariant.dealt)) in
+    let costs = claim_costs (next w) c.in-Claim.node c.in-Claim.account c.in-Claim.is c.in-Some.named.node (named w).0 c.whole_of-whole.result (holds w) c.node_charge-charge.result (c.node_charge-charge.ensures.value (live h) (c.in_ok-place.ensures.same (live h) c.self.invariant.dealt)) in
     simp (c.push.ensures, c.make_room.ensures.items)
     (record {
       kept = kept_change c.self.invariant.kept c.args.made.now.number e ok change c.claim.new.trees
           (follows_same (record_of c.args.made.now) c.self.inside.trees c.ready-2.new.self c.claim.new.trees c.in_ok-ready-2.ensures.same c.claim.ensures.follows c.self.inside.house (live h) (next w)) c.claim.ensures.last;
       indexed = index_added c.self.invariant.indexed c.self.inside.house e c.args.made.now.number ok c.add.new.self (c.add.ensures h e c.requires.hashed (c.in_ok-ready.ensures.same h c.self.invariant.indexed.ids.chained)) (λ m. change_is_no_reverse m c.args.made.now.command.now change);
       charged = subst (λ (l : List Record). AreFeesOf c.self.inside.house l c.put-2.new.fees) more
-          (fees_push (next w) c.self.inside.fees c.self.inside.fees c.put-2.new.fees c.self.invariant.charged (λ cs sums. sums) c.node_charge-charge.result costs c.node_charge-charge.ensures.lots (c.node_charge-charge.ensures.rate (live c.self.inside.entries.items) (c.in_ok-ready_claim.ensures.same (live c.self.inside.entries.items) c.self.invariant.dealt) c.self.invariant.kept.within) c.in_default-put.ensures.put);
+          (fees_push (next w) c.self.inside.fees c.self.inside.fees c.put-2.new.fees c.self.invariant.charged (λ cs sums. sums) c.node_charge-charge.result costs c.node_charge-charge.ensures.lots (c.node_charge-charge.ensures.rate (live c.self.inside.entries.items) (c.in_ok-place.ensures.same (live c.self.inside.entries.items) c.self.invariant.dealt) c.self.invariant.kept.within) c.in_default-put.ensures.put);
       stands = subst (λ (l : List Record). ArePositionsOf l c.take-2.new.positions) more
           (claim_stands (next w) c.in-Claim.node c.in-Claim.account c.in-Claim.is c.in-Some.named.node (named w).0 c.whole_of-whole.result (holds w) c.self.inside.positions c.put.new.positions c.self.invariant.stands put c.take-2.new.positions c.take-2.ensures);
       dealt = subst (λ (l : List Record). AreTermsOf c.self.inside.house l c.claim-2.new.terms) more
-          (claim_dealt (next w) c.in-Claim.node c.in-Claim.account c.in-Claim.is c.in-Some.named.node (named w).0 c.ready_claim.new.terms c.claim-2.new.terms (c.in_ok-ready_claim.ensures.same (live h) c.self.invariant.dealt) c.claim-2.ensures);
+          (claim_dealt (next w) c.in-Claim.node c.in-Claim.account c.in-Claim.is c.in-Some.named.node (named w).0 c.ready_claim.new.terms c.claim-2.new.terms (c.in_ok-place.ensures.same (live h) c.self.invariant.dealt) c.claim-2.ensures);
       dealt_before = none_above c.self.invariant.kept c.args.made.now.number e ok (last_entry c.claim-2.new.terms)
           (claimed_last c.ready_claim.new.terms c.claim-2.new.terms c.args.made.now.number c.in-Some.named.node.lots c.in-Some.named.node.kind (above w) c.claim-2.ensures);
     })
@@ -158,7 +158,7 @@ pub invariant_of-self-in_err-put : goal.invariant_of-self-in_err-put
 invariant_of-self-in_err-put c =
     simp (c.make_room.ensures.items)
     (still_dealt c.self.invariant c.ready-2.new.self c.in_ok-ready-2.ensures.same c.ready.new.self (c.in_ok-ready.ensures.same c.self.inside.entries.items c.self.invariant.indexed.ids.chained) c.put.new.positions c.in_err-put.ensures.same
-    c.ready_claim.new.terms (c.in_ok-ready_claim.ensures.same (live c.self.inside.entries.items) c.self.invariant.dealt) c.in_ok-ready_claim.ensures.last)
+    c.ready_claim.new.terms (c.in_ok-place.ensures.same (live c.self.inside.entries.items) c.self.invariant.dealt) c.in_ok-place.ensures.last)
 
 pub invariant_of-self-in-Err : goal.invariant_of-self-in-Err
 invariant_of-self-in-Err c =
@@ -171,6 +171,6 @@ invariant_of-self-in-Err c =
       indexed = index_same c.self.invariant.indexed c.ready.new.self (c.in_ok-ready.ensures.same c.self.inside.entries.items c.self.invariant.indexed.ids.chained);
       charged = record { sums = c.in-Err.ensures.same _ c.self.invariant.charged.sums; small = c.self.invariant.charged.small };
       stands = claim_undone (next w) c.in-Claim.node c.in-Claim.account c.in-Claim.is c.in-Some.named.node (named w).0 c.whole_of-whole.result (holds w) c.self.inside.positions c.put.new.positions c.self.invariant.stands put c.take.new.positions taken;
-      dealt = c.in_ok-ready_claim.ensures.same (live c.self.inside.entries.items) c.self.invariant.dealt;
-      dealt_before = (let low = c.self.invariant.dealt_before in let last = c.in_ok-ready_claim.ensures.last in omega (arith, low, last));
+      dealt = c.in_ok-place.ensures.same (live c.self.inside.entries.items) c.self.invariant.dealt;
+      dealt_before = (let low = c.self.invariant.dealt_before in let last = c.in_ok-place.ensures.last in omega (arith, low, last));
     })

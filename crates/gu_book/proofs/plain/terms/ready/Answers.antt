@@ -1,23 +1,37 @@
-use Rattle.std.proofs.Common.{◌≤◌, Option, ap, subst}
-use Rattle.std.specs.Prelude.{None, Some, IfSome}
-use Rattle.gu_base.specs.Limits.{highest_limit, highest_rate}
-use Rattle.gu_base.specs.declared.house.Agreement.{Agreement}
+use Rattle.std.proofs.Common.{◌≡◌, sym, ◌∙◌, ap}
+use Rattle.std.specs.Prelude.{Some}
+use Rattle.std.specs.Map.{lookup}
+use Rattle.gu_base.specs.House.{agreement}
 use Rattle.gu_depend.proofs.TermsReadied.{readied_follows}
 use Rattle.gu_fees.specs.Filing.{last_of}
+use Rattle.gu_fees.specs.Rows.{is_pair}
 use Rattle.gu_fees.specs.Terms.{IsReadied}
+use Rattle.gu_book.proofs.plain.terms.ready.Goals.{After-ready_at}
 use Rattle.gu_book.proofs.plain.terms.ready.Goals as goal
 
-low_limit : (o : Option Agreement) → IfSome o (λ a. (a.rate ≤ highest_rate) × (a.limit ≤ highest_limit)) → IfSome o (λ a. a.limit ≤ highest_limit)
-low_limit None h = tt
-low_limit (Some a) h = h.1
+-- where the two stand
+at : (c : After-ready_at) → lookup (is_pair c.args.giver.now c.args.taker.now) c.args.terms.now.places ≡ Some c.in-Some.place
+at c = sym c.place.ensures.value ∙ c.in-Some.is
 
-pub ready-requires : goal.ready-requires
-ready-requires c = low_limit c.agreement-file.result c.agreement-file.ensures.in_range
+readied : (c : After-ready_at) → IsReadied c.args.terms.now c.ready_at.new.self c.args.giver.now c.args.taker.now (agreement c.args.house.now c.args.giver.now c.args.taker.now)
+readied c = c.ready_at.ensures.readied c.args.giver.now c.args.taker.now (agreement c.args.house.now c.args.giver.now c.args.taker.now) (at c)
+
+pub returns-clause-ready : goal.returns-clause-ready
+returns-clause-ready c = c.in_ok-ready_at.ensures.ready c.args.giver.now c.args.taker.now (at (goal.at.returns-clause-ready c).After-ready_at)
+
+pub returns-clause-place : goal.returns-clause-place
+returns-clause-place c =
+    let w = (goal.at.returns-clause-place c).After-ready_at in
+    sym ((readied w).places c.args.giver.now c.args.taker.now c.in-Some.place (at w))
 
 pub returns-clause-same : goal.returns-clause-same
-returns-clause-same c = λ l are.
-    readied_follows c.args.house.now l c.args.terms.now are c.ready.new.self c.args.giver.now c.args.taker.now
-    (subst (λ (file : Option Agreement). IsReadied c.args.terms.now c.ready.new.self c.args.giver.now c.args.taker.now file) c.agreement-file.ensures.value c.ready.ensures.readied)
+returns-clause-same c = λ l are. readied_follows c.args.house.now l c.args.terms.now are c.ready_at.new.self c.args.giver.now c.args.taker.now (readied (goal.at.returns-clause-same c).After-ready_at)
+
+pub returns-in_err-ready_at-clause-same : goal.returns-in_err-ready_at-clause-same
+returns-in_err-ready_at-clause-same c = λ l are. readied_follows c.args.house.now l c.args.terms.now are c.ready_at.new.self c.args.giver.now c.args.taker.now (readied (goal.at.returns-in_err-ready_at-clause-same c).After-ready_at)
 
 pub returns-clause-last : goal.returns-clause-last
-returns-clause-last c = ap last_of c.ready.ensures.readied.entries
+returns-clause-last c = ap last_of (readied (goal.at.returns-clause-last c).After-ready_at).entries
+
+pub returns-in_err-ready_at-clause-last : goal.returns-in_err-ready_at-clause-last
+returns-in_err-ready_at-clause-last c = ap last_of (readied (goal.at.returns-in_err-ready_at-clause-last c).After-ready_at).entries

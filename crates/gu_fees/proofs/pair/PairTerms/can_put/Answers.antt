@@ -9,4 +9,4 @@ returns-then-above c =
     let room : 1 ≤ c.args.self.now.room = first_of (search rules, grind (arith, common_steps)) in
     let last : c.last_of.result ≡ last_of c.self.inside.deeds.items = c.last_of.ensures ∙ ap last_of c.as_slice.ensures.value in
     let above : last_of c.self.inside.deeds.items < c.args.entry = let a = c.if-above.true.1 in let b = c.get.ensures.value in omega (arith, a, b, last) in
-    rw (← c.self.view_is) (can_by _ _ _ _ _ _ _ _ c.self.invariant.raised_is c.self.invariant.used_is (rw (← c.self.view_is) at room) above c.has_room.ensures)
+    rw (← c.self.view_is) (can_by _ _ _ _ _ _ _ _ c.self.invariant.kept.raised_is c.self.invariant.kept.used_is (rw (← c.self.view_is) at room) above c.has_room.ensures)

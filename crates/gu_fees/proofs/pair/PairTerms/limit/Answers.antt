@@ -6,7 +6,7 @@ use Rattle.gu_fees.proofs.pair.PairTerms.limit.Goals as goal
 
 pub overflow_add-result : goal.overflow_add-result
 overflow_add-result c =
-    let low : c.in-Some.terms.limit ≤ highest_limit = low_terms c.self.inside.file (dealings_kept c.self.inside.deeds.items) c.in-Some.terms c.self.invariant.small (sym (rw (← c.self.view_is) at c.in-Some.ensures)) in
-    let raised = c.self.invariant.raised_is in
-    let small = c.self.invariant.small.raised in
+    let low : c.in-Some.terms.limit ≤ highest_limit = low_terms c.self.inside.file (dealings_kept c.self.inside.deeds.items) c.in-Some.terms c.self.invariant.kept.small (sym (rw (← c.self.view_is) at c.in-Some.ensures)) in
+    let raised = c.self.invariant.kept.raised_is in
+    let small = c.self.invariant.kept.small.raised in
     omega (arith, low, raised, small)

@@ -1,47 +1,18 @@
-use Rattle.std.proofs.Common.{arith, ◌≡◌, ◌≤◌, ◌<◌, ◌&&◌, ◌++◌, ◌∷◌, [], refl, sym, ◌∙◌, ap, subst}
-use Rattle.std.specs.Prelude.{Some, IsSomeAnd, option_and_then, slice_get, bytes_eq, ◌==◌, if◌then◌else◌}
+use Rattle.std.proofs.Common.{◌≡◌, ◌≤◌, sym, ◌∙◌, subst}
+use Rattle.std.specs.Prelude.{Some, IsSomeAnd, option_and_then, slice_get}
 use Rattle.std.specs.Map.{lookup}
 use Rattle.gu_fees.specs.Rows.{is_pair}
-use Rattle.gu_fees.specs.Filing.{kept_at, last_of, IsRising}
 use Rattle.gu_fees.specs.Pairs.{PairView, HasRoomFor}
-use Rattle.gu_fees.proofs.Filings.{both, last_with, rises_with, kept_with}
-use Rattle.gu_fees.proofs.Places.{own_place_row, other_place, apart_changed, below_changed, can_put_at, last_same}
 use Rattle.gu_fees.proofs.terms.Terms.put.Goals as goal
 
-pub put_into-requires : goal.put_into-requires
-put_into-requires c =
-    let at : lookup (is_pair c.args.giver.now c.args.taker.now) c.self.inside.places.entries ≡ Some c.in-Some.i = rw (← c.self.view_is) at (sym c.place.ensures ∙ c.in-Some.is) in
-    let above : last_of c.self.inside.entries.items < c.args.entry = rw (← c.self.view_is) at c.requires.above in
-    let pair : IsSomeAnd (option_and_then (slice_get c.self.inside.pairs.items) (lookup (is_pair c.args.giver.now c.args.taker.now) c.self.inside.places.entries)) (λ (r : PairView). (1 ≤ r.room) × HasRoomFor r.dealings c.args.deed) = rw (← c.self.view_is) at c.requires.pair in
-    can_put_at c.self.inside.pairs.items c.self.inside.entries.items c.in-Some.i c.args.entry c.args.deed c.self.invariant.filed above
-    (subst (λ o. IsSomeAnd (option_and_then (slice_get c.self.inside.pairs.items) o) (λ (r : PairView). (1 ≤ r.room) × HasRoomFor r.dealings c.args.deed)) at pair)
-
-pub invariant_of-self : goal.invariant_of-self
-invariant_of-self c =
-    let above : last_of c.self.inside.entries.items < c.args.entry = rw (← c.self.view_is) at c.requires.above in
-    let last : last_of c.append.new.filed.items ≡ c.args.entry = ap last_of c.append.ensures ∙ last_with 0 c.self.inside.entries.items c.args.entry (Some c.in-Some.i) in
+pub put_at-requires : goal.put_at-requires
+put_at-requires c =
+    let at : lookup (is_pair c.args.giver.now c.args.taker.now) c.args.self.now.places ≡ Some c.in-Some.i = sym c.place.ensures.value ∙ c.in-Some.is in
     record {
-      apart = apart_changed c.self.inside.places.entries c.self.inside.pairs.items c.put_into.new.pairs.items c.put_into.ensures.len c.self.invariant.apart;
-      filed = record {
-        rising = subst IsRising (sym c.append.ensures) (rises_with 0 c.self.inside.entries.items c.args.entry (Some c.in-Some.i) c.self.invariant.filed.rising above);
-        below = below_changed c.self.inside.pairs.items c.put_into.new.pairs.items c.in-Some.i c.put_into.ensures.others (last_of c.self.inside.entries.items) (last_of c.append.new.filed.items) (omega (arith, above, last))
-            c.self.invariant.filed.below (rw last (last_same (slice_get c.put_into.new.pairs.items c.in-Some.i) c.args.entry c.put_into.ensures.last));
-      };
+      room = c.requires.room;
+      above = c.requires.above;
+      pair = subst (λ o. IsSomeAnd (option_and_then (slice_get c.args.self.now.pairs) o) (λ (r : PairView). (1 ≤ r.room) × HasRoomFor r.dealings c.args.deed)) at c.requires.pair;
     }
 
 pub returns-in-Some : goal.returns-in-Some
-returns-in-Some c =
-    let at : lookup (is_pair c.args.giver.now c.args.taker.now) c.self.inside.places.entries ≡ Some c.in-Some.i = rw (← c.self.view_is) at (sym c.place.ensures ∙ c.in-Some.is) in
-    let above : last_of c.self.inside.entries.items < c.args.entry = rw (← c.self.view_is) at c.requires.above in
-    rw (← c.self.view_is)
-    (record {
-      own = own_place_row c.self.inside.pairs.items c.put_into.new.pairs.items (lookup (is_pair c.args.giver.now c.args.taker.now) c.self.inside.places.entries) c.in-Some.i
-          (λ r q. (q.file ≡ r.file) × (q.dealings ≡ r.dealings ++ record { number = c.args.entry; deed = c.args.deed } ∷ [])) at c.put_into.ensures.own;
-      others = λ g k differ. other_place c.self.inside.pairs.items c.put_into.new.pairs.items (lookup (is_pair g k) c.self.inside.places.entries) c.in-Some.i c.put_into.ensures.others
-          (λ same. both (bytes_eq c.args.giver.now g && bytes_eq c.args.taker.now k) (c.self.invariant.apart.apart c.args.giver.now c.args.taker.now g k c.in-Some.i at same) differ);
-      placed = λ n. ap (λ es. kept_at es n) c.append.ensures
-          ∙ (kept_with 0 c.self.inside.entries.items c.args.entry (Some c.in-Some.i) n c.self.invariant.filed.rising above
-          ∙ ap (λ o. if c.args.entry == n then o else kept_at c.self.inside.entries.items n) (sym at));
-      places = refl;
-      last = ap last_of c.append.ensures ∙ last_with 0 c.self.inside.entries.items c.args.entry (Some c.in-Some.i);
-    })
+returns-in-Some c = c.put_at.ensures c.args.giver.now c.args.taker.now (sym c.place.ensures.value ∙ c.in-Some.is)
