@@ -69,7 +69,7 @@ splits_names n r is = ap (λ b. b || decides n r.command) is
 
 -- ---- lines
 
-line_none : (f : ℕ) (l : List Record) → line_within f l None ≡ []
+pub line_none : (f : ℕ) (l : List Record) → line_within f l None ≡ []
 line_none zero l = refl
 line_none (suc f) l = refl
 

@@ -1,6 +1,6 @@
 -- What a change that stands behind others moves.
 use Rattle.std.proofs.Common.{◌≡◌, ℕ, zero, suc, ◌+◌, Bool, true, false, ◌&&◌, List, [], ◌∷◌, ◌++◌, length, refl, sym, ◌∙◌, ap, subst, arith, cond, Option, Contains, All}
-use Rattle.std.specs.Prelude.{Some, None, find, filter, filter_map, sum_by, is_some, is_none, option_and_then, option_map, unwrap_or, ◌==◌}
+use Rattle.std.specs.Prelude.{Some, None, find, filter, filter_map, sum_by, is_some, is_none, option_and_then, option_map, unwrap_or, ◌==◌, bytes_eq}
 use Rattle.std.specs.List.{cons_option}
 use Rattle.std.specs.Option.{option_or}
 use Rattle.std.proofs.lemmas.Bool.Decides.{Decides-eqb}
@@ -8,7 +8,7 @@ use Rattle.std.proofs.lemmas.List.Elements.{All-head, All-tail, All-weaker, All-
 use Rattle.std.proofs.lemmas.List.Folds.{find-append}
 use Rattle.std.proofs.lemmas.List.Sums.{sum_by-cons, sum_by-append}
 use Rattle.gu_base.specs.Numbers.{EntryPart}
-use Rattle.gu_base.specs.House.{House}
+use Rattle.gu_base.specs.House.{House, agreement}
 use Rattle.gu_base.specs.Nodes.{node_of, nodes, nodes_of, split_of, decision_of, same_name, splits, decides, parent}
 use Rattle.gu_base.specs.Places.{line_within, root_along, root_of, same_place}
 use Rattle.gu_base.specs.Positions.{is_trade_of, trades_in, stands_at, position_of}
@@ -32,16 +32,14 @@ use Rattle.gu_depend.proofs.Settled.{front_facts, facts, accepted_there}
 use Rattle.gu_depend.proofs.Deals.{of_pair, dealings_grown, dealings_append, row_fits, not_empty}
 use Rattle.gu_depend.proofs.Cuts.{cut_at}
 use Rattle.gu_base.proofs.Dealt.{fits, may_use, AllFit, all_sound, terms_stay}
-use Rattle.gu_base.specs.House.{agreement}
 use Rattle.gu_base.specs.Terms.{use_of_kind, use_of_node, deed_of, dealings_in, dealings, terms_under, raised_under, used_under, terms_of}
 use Rattle.gu_base.specs.declared.house.Agreement.{Agreement}
 use Rattle.gu_base.specs.declared.house.Deed.{Deed}
 use Rattle.gu_base.specs.declared.house.Deed.TheVariants.{Uses}
 use Rattle.gu_base.specs.declared.command.Command.{Command}
-use Rattle.gu_base.specs.declared.command.Command.TheVariants.{Trade, Split, Claim, Refuse, Cancel, Agree, Raise, Initiate, Decline, Reverse}
+use Rattle.gu_base.specs.declared.command.Command.TheVariants.{Claim}
 use Rattle.gu_base.specs.declared.node.Kind.{Kind}
-use Rattle.gu_base.specs.declared.node.Kind.TheVariants.{Root, Own, Given}
-use Rattle.std.specs.Prelude.{bytes_eq}
+use Rattle.gu_base.specs.declared.node.Kind.TheVariants.{Given}
 use Rattle.gu_depend.proofs.Replay.{NumbersOnce}
 use Rattle.gu_depend.proofs.StandsLast.{replay_rest, decision_cut}
 use Rattle.gu_depend.proofs.StandsUnder.{found_some}
@@ -194,28 +192,12 @@ module _ {t : House} {l : List Record} {r : Record} (b : IsBefore t l r) where
   -- a claim deals whoever asks
   deeds_alike : (g k by : List ℕ) (c : Command) (e : Deed) → is_claim c ≡ true → deed_of l g k [] c ≡ Some e → deed_of l g k by c ≡ Some e
   deeds_alike g k by (Claim _ _) e is h = h
-  deeds_alike g k by (Trade _ _ _ _ _) e is h = absurd (cc)
-  deeds_alike g k by (Split _ _) e is h = absurd (cc)
-  deeds_alike g k by (Refuse _) e is h = absurd (cc)
-  deeds_alike g k by (Cancel _) e is h = absurd (cc)
-  deeds_alike g k by (Agree _ _ _ _) e is h = absurd (cc)
-  deeds_alike g k by (Raise _ _) e is h = absurd (cc)
-  deeds_alike g k by (Initiate _) e is h = absurd (cc)
-  deeds_alike g k by (Decline _) e is h = absurd (cc)
-  deeds_alike g k by (Reverse _) e is h = absurd (cc)
+  deeds_alike g k by _ e is h = absurd (cc)
 
   -- what is no claim is charged nothing
   uncharged : (t : House) (x y : List Record) (c : Command) → is_claim c ≡ false → charge_of t x c ≡ charge_of t y c
   uncharged t x y (Claim _ _) is = absurd (cc)
-  uncharged t x y (Trade _ _ _ _ _) is = refl
-  uncharged t x y (Split _ _) is = refl
-  uncharged t x y (Refuse _) is = refl
-  uncharged t x y (Cancel _) is = refl
-  uncharged t x y (Agree _ _ _ _) is = refl
-  uncharged t x y (Raise _ _) is = refl
-  uncharged t x y (Initiate _) is = refl
-  uncharged t x y (Decline _) is = refl
-  uncharged t x y (Reverse _) is = refl
+  uncharged t x y _ is = refl
 
   charge_kept_by : (d : Record) → Contains l d → NamesThere l d → (test : Bool) → is_claim d.command ≡ test → charge_of t l d.command ≡ charge_of t (l ++ r ∷ []) d.command
   charge_kept_by d among there false is = uncharged t l (l ++ r ∷ []) d.command is
@@ -235,22 +217,13 @@ module _ {t : House} {l : List Record} {r : Record} (b : IsBefore t l r) where
       use_of_claim g k by (Claim n _) e is h = of_node (node_of l n) h
         where
           of_kind : (lots : ℕ) (kind : Kind) → use_of_kind g k lots kind ≡ Some e → (lots : ℕ) × (e ≡ Uses lots)
-          of_kind lots (Root _) h = absurd (cc)
-          of_kind lots (Own _ _ _) h = absurd (cc)
           of_kind lots (Given m x y) h = let p = of_pair g k x y (Uses lots) e (bytes_eq x g && bytes_eq y k) refl h in (lots, sym p.1.1)
+          of_kind lots _ h = absurd (cc)
 
           of_node : (o : Option Node) → option_and_then (use_of_node g k) o ≡ Some e → (lots : ℕ) × (e ≡ Uses lots)
           of_node None h = absurd (cc)
           of_node (Some x) h = of_kind x.lots x.kind h
-      use_of_claim g k by (Trade _ _ _ _ _) e is h = absurd (cc)
-      use_of_claim g k by (Split _ _) e is h = absurd (cc)
-      use_of_claim g k by (Refuse _) e is h = absurd (cc)
-      use_of_claim g k by (Cancel _) e is h = absurd (cc)
-      use_of_claim g k by (Agree _ _ _ _) e is h = absurd (cc)
-      use_of_claim g k by (Raise _ _) e is h = absurd (cc)
-      use_of_claim g k by (Initiate _) e is h = absurd (cc)
-      use_of_claim g k by (Decline _) e is h = absurd (cc)
-      use_of_claim g k by (Reverse _) e is h = absurd (cc)
+      use_of_claim g k by _ e is h = absurd (cc)
 
       some_kept : (g k : List ℕ) (a : Agreement) → terms_of t l g k ≡ Some a → terms_of t l g k ≡ terms_of t (l ++ r ∷ []) g k
       some_kept g k a e =

@@ -108,11 +108,7 @@ module _ (l : List Record) (once : NumbersOnce l) (k : ℕ) (r : Record) (there 
         told.split ∙ (ap (λ n. option_map (λ r. r.number) (split_of l n)) (sym (same_Some _ _ at)) ∙ sym (least_in (split_of l n)))
     by_split (Cancel n) is at which =
         told.split ∙ (ap (λ n. option_map (λ r. r.number) (split_of l n)) (sym (same_Some _ _ at)) ∙ sym (least_in (split_of l n)))
-    by_split (Agree _ _ _ _) is at which = absurd (cc)
-    by_split (Raise _ _) is at which = absurd (cc)
-    by_split (Initiate _) is at which = absurd (cc)
-    by_split (Decline _) is at which = absurd (cc)
-    by_split (Reverse _) is at which = absurd (cc)
+    by_split _ is at which = absurd (cc)
 
     -- a decision is the one of its node
     its_decision : (n : EntryPart) → decides n r.command ≡ true → Some n ≡ Some (head_of v).name → (head_of v).decision ≡ Some k
@@ -138,11 +134,7 @@ module _ (l : List Record) (once : NumbersOnce l) (k : ℕ) (r : Record) (there 
     by_parts (Claim n a) is at other undecided = absurd (undecided (its_decision n (ap (decides n) is ∙ name_same n) at))
     by_parts (Refuse n) is at other undecided = absurd (undecided (its_decision n (ap (decides n) is ∙ name_same n) at))
     by_parts (Cancel n) is at other undecided = absurd (undecided (its_decision n (ap (decides n) is ∙ name_same n) at))
-    by_parts (Agree _ _ _ _) is at other undecided = absurd (cc)
-    by_parts (Raise _ _) is at other undecided = absurd (cc)
-    by_parts (Initiate _) is at other undecided = absurd (cc)
-    by_parts (Decline _) is at other undecided = absurd (cc)
-    by_parts (Reverse _) is at other undecided = absurd (cc)
+    by_parts _ is at other undecided = absurd (cc)
 
 -- ---- the answers
 
@@ -194,16 +186,12 @@ module _ (g : Grove) (t : House) (l : List Record) (rises : RisesFrom 0 l) (lega
       sym (ap (standing_on t l) (sym (number_is l numbered k r e)) ∙ (law ∙ deals_alone r.command none))
     where
       deals_alone : (c : Command) → named_place r.number c ≡ None → least (numbers_under t l r.number r.firm c) ≡ deals_under t l r.number r.firm c
-      deals_alone (Trade _ _ _ _ _) h = absurd (cc)
-      deals_alone (Split _ _) h = absurd (cc)
-      deals_alone (Claim _ _) h = absurd (cc)
-      deals_alone (Refuse _) h = absurd (cc)
-      deals_alone (Cancel _) h = absurd (cc)
       deals_alone (Agree giver taker rate limit) h = least_one (deals_under t l r.number r.firm (Agree giver taker rate limit))
       deals_alone (Raise giver lots) h = least_one (deals_under t l r.number r.firm (Raise giver lots))
       deals_alone (Initiate _) h = refl
       deals_alone (Decline _) h = refl
       deals_alone (Reverse _) h = refl
+      deals_alone _ h = absurd (cc)
 
   pub nothing_placed : (k : ℕ) → place_of g k ≡ None → option_and_then (λ r. deals_under t l r.number r.firm r.command) (change_of l k) ≡ standing_on t l k
   nothing_placed k none = nothing_named k (change_of l k) refl (sym (shows.places k) ∙ none)

@@ -13,7 +13,7 @@ use Rattle.gu_base.specs.declared.house.Deed.{Deed}
 use Rattle.gu_base.specs.declared.house.Deed.TheVariants.{Makes, Raises}
 use Rattle.gu_base.specs.declared.house.Dealing.{Dealing}
 use Rattle.gu_base.specs.declared.command.Command.{Command}
-use Rattle.gu_base.specs.declared.command.Command.TheVariants.{Trade, Split, Claim, Refuse, Cancel, Agree, Raise, Initiate, Decline, Reverse}
+use Rattle.gu_base.specs.declared.command.Command.TheVariants.{Agree, Raise, Initiate, Decline, Reverse}
 use Rattle.gu_base.specs.declared.entry.Record.{Record}
 use Rattle.gu_base.proofs.Searches.{found_in, find_passes}
 use Rattle.gu_tree.specs.ShownAll.{change_of, named_place}
@@ -121,11 +121,6 @@ module _ (t : House) (l : List Record) (v : TermsView) (once : NumbersOnce l) (a
       raised =
           ap (λ m. option_and_then (λ i. standing_in v.pairs i m) (pair_at v m)) (sym number)
           ∙ (read_deal r g r.firm (Raises lots) (found_in (λ r. r.number == n) l r found) deals pair placed ∙ ap (deals_under t l r.number r.firm) is)
-  read_by n r found (Trade _ _ _ _ _) is none = absurd (cc)
-  read_by n r found (Split _ _) is none = absurd (cc)
-  read_by n r found (Claim _ _) is none = absurd (cc)
-  read_by n r found (Refuse _) is none = absurd (cc)
-  read_by n r found (Cancel _) is none = absurd (cc)
   read_by n r found (Initiate e) is none =
       ap (option_and_then (λ i. standing_in v.pairs i n))
       (are.placed n ∙ (ap (option_and_then (λ (r0 : Record). option_and_then (place_of_pair v) (pair_of l r0.firm r0.command))) found ∙ ap (λ c. option_and_then (place_of_pair v) (pair_of l r.firm c)) is))
@@ -135,6 +130,7 @@ module _ (t : House) (l : List Record) (v : TermsView) (once : NumbersOnce l) (a
   read_by n r found (Reverse e) is none =
       ap (option_and_then (λ i. standing_in v.pairs i n))
       (are.placed n ∙ (ap (option_and_then (λ (r0 : Record). option_and_then (place_of_pair v) (pair_of l r0.firm r0.command))) found ∙ ap (λ c. option_and_then (place_of_pair v) (pair_of l r.firm c)) is))
+  read_by n r found _ is none = absurd (cc)
 
   read_or : (n : ℕ) (o : Option Record) → change_of l n ≡ o → option_and_then (λ r. named_place r.number r.command) o ≡ None
       → option_and_then (λ i. standing_in v.pairs i n) (pair_at v n) ≡ option_and_then (λ r. deals_under t l r.number r.firm r.command) o

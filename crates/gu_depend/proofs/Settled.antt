@@ -1,15 +1,15 @@
 -- What holds of the changes of a legal list over the whole list, wherever each of them stands.
 use Rattle.std.proofs.Common.{◌≡◌, ℕ, ◌≤◌, Bool, true, false, not, ◌&&◌, List, [], ◌∷◌, ◌++◌, length, length-append, refl, sym, ◌∙◌, ap, subst, arith, Option, All, append-nil, append_assoc, inl, inr}
-use Rattle.std.specs.Prelude.{Some, None, is_none, nat_lt}
+use Rattle.std.specs.Prelude.{Some, None, is_none, nat_lt, option_map}
 use Rattle.std.proofs.lemmas.List.Elements.{All-nil, All-push}
 use Rattle.gu_base.specs.Numbers.{EntryPart}
-use Rattle.gu_base.specs.House.{House, knows_firm}
+use Rattle.gu_base.specs.House.{House, knows_firm, agreement}
 use Rattle.gu_base.specs.Nodes.{node_of, decision_of, is_offered, is_given, splits, decides}
 use Rattle.gu_base.specs.Refusals.{refusal_of, row, trade_row, split_row, claim_row, refuse_row, cancel_row, is_taker, is_giver}
 use Rattle.gu_base.specs.Standing.{first_refused}
 use Rattle.gu_base.specs.declared.command.Part.{Part}
 use Rattle.gu_base.specs.declared.command.Command.{Command}
-use Rattle.gu_base.specs.declared.command.Command.TheVariants.{Trade, Split, Claim, Refuse, Cancel, Agree, Raise, Initiate, Decline, Reverse}
+use Rattle.gu_base.specs.declared.command.Command.TheVariants.{Trade, Split, Claim, Refuse, Cancel, Agree, Raise}
 use Rattle.gu_base.specs.declared.entry.Record.{Record}
 use Rattle.gu_base.specs.declared.node.Kind.{Kind}
 use Rattle.gu_base.specs.declared.node.Node.{Node}
@@ -21,10 +21,8 @@ use Rattle.gu_depend.proofs.Names.{at_name}
 use Rattle.gu_depend.proofs.NamedOnce.{NamedOnce, named_once}
 use Rattle.gu_depend.proofs.Grown.{Within, Grown, grown_none, grown_push, owns_same, depth_same}
 use Rattle.gu_depend.proofs.Deals.{deed_grown, dealings_grown, dealings_append, row_fits}
-use Rattle.gu_base.specs.House.{agreement}
 use Rattle.gu_base.specs.Terms.{deed_of, dealings_in}
 use Rattle.std.specs.List.{cons_option}
-use Rattle.std.specs.Prelude.{option_map}
 use Rattle.gu_base.specs.declared.house.Deed.{Deed}
 use Rattle.gu_base.proofs.Dealt.{fits, AllFit, fit_append}
 use Rattle.std.proofs.lemmas.Option.{same_Some}
@@ -128,9 +126,7 @@ settles t l b by (Cancel n) s g h =
     record { node = there.0; there = g.within.nodes n there.0 there.1.0; given = passes.0; asked = passes.2 }
 settles t l b by (Agree giver taker rate limit) s g h = (agree_passes t b by giver taker rate limit h).0
 settles t l b by (Raise giver lots) s g h = (raise_passes t b by giver lots h).0
-settles t l b by (Initiate _) s g h = tt
-settles t l b by (Decline _) s g h = tt
-settles t l b by (Reverse _) s g h = tt
+settles t l b by _ s g h = tt
 
 -- a change that is accepted names a node that is there
 pub accepted_there : (t : House) (b : List Record) (by : List ℕ) (c : Command) → row t b by c ≡ None → (n : EntryPart) → names n c ≡ true → (x : Node) × (node_of b n ≡ Some x)

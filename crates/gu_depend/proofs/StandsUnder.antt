@@ -15,7 +15,7 @@ use Rattle.gu_base.specs.Standing.{first_refused, without, standing_on}
 use Rattle.gu_base.specs.declared.refusal.Refusal.{Refusal}
 use Rattle.gu_depend.specs.Same.{IsSameState}
 use Rattle.gu_base.specs.declared.command.Command.{Command}
-use Rattle.gu_base.specs.declared.command.Command.TheVariants.{Trade, Split, Claim, Refuse, Cancel, Agree, Raise, Initiate, Decline, Reverse}
+use Rattle.gu_base.specs.declared.command.Command.TheVariants.{Trade, Split, Claim, Refuse, Cancel, Agree, Raise}
 use Rattle.gu_base.specs.declared.entry.Record.{Record}
 use Rattle.gu_base.specs.declared.node.Kind.TheVariants.{Root}
 use Rattle.gu_base.specs.declared.node.Node.{Node}
@@ -76,23 +76,11 @@ under_is k by (Split m ps) c h =
 under_is k by (Claim m account) c h = decided m h (name_same m)
 under_is k by (Refuse m) c h = decided m h (name_same m)
 under_is k by (Cancel m) c h = decided m h (name_same m)
-under_is k by (Agree _ _ _ _) c h = absurd (cc)
-under_is k by (Raise _ _) c h = absurd (cc)
-under_is k by (Initiate _) c h = absurd (cc)
-under_is k by (Decline _) c h = absurd (cc)
-under_is k by (Reverse _) c h = absurd (cc)
+under_is k by _ c h = absurd (cc)
 
 no_split_decides : (n : EntryPart) (c : Command) → splits n c ≡ true → decides n c ≡ true → ⊥
 no_split_decides n (Split _ _) a b = absurd (cc)
-no_split_decides n (Trade _ _ _ _ _) a b = absurd (cc)
-no_split_decides n (Claim _ _) a b = absurd (cc)
-no_split_decides n (Refuse _) a b = absurd (cc)
-no_split_decides n (Cancel _) a b = absurd (cc)
-no_split_decides n (Agree _ _ _ _) a b = absurd (cc)
-no_split_decides n (Raise _ _) a b = absurd (cc)
-no_split_decides n (Initiate _) a b = absurd (cc)
-no_split_decides n (Decline _) a b = absurd (cc)
-no_split_decides n (Reverse _) a b = absurd (cc)
+no_split_decides n _ a b = absurd (cc)
 
 -- ---- a list in which what the change made and decided is missing
 
@@ -180,16 +168,9 @@ numbers_front xs ys once n = omega (arith, count_append (λ r. r.number == n) xs
 
 -- what stands under a node deals for nobody's terms
 deals_none : (t : House) (l : List Record) (k : ℕ) (by : List ℕ) (d c : Command) → is_under k by d c ≡ true → deals_under t l k by d ≡ None
-deals_none t l k by (Trade _ _ _ _ _) c h = refl
-deals_none t l k by (Split _ _) c h = refl
-deals_none t l k by (Claim _ _) c h = refl
-deals_none t l k by (Refuse _) c h = refl
-deals_none t l k by (Cancel _) c h = refl
 deals_none t l k by (Agree _ _ _ _) c h = absurd (cc)
 deals_none t l k by (Raise _ _) c h = absurd (cc)
-deals_none t l k by (Initiate _) c h = refl
-deals_none t l k by (Decline _) c h = refl
-deals_none t l k by (Reverse _) c h = refl
+deals_none t l k by _ c h = refl
 
 -- where nothing stands under it by a node, it is the first that stands under what it deals
 standing_deals : (t : House) (p : List Record) (k : Record) (s : List Record) → NumbersOnce (p ++ k ∷ s) → first_refused t [] (p ++ k ∷ s) ≡ None → All (λ e. stands_under k e ≡ false) s

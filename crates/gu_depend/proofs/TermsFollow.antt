@@ -18,12 +18,12 @@ use Rattle.gu_base.specs.declared.house.Deed.TheVariants.{Makes, Raises, Uses}
 use Rattle.gu_base.specs.declared.house.Dealing.{Dealing}
 use Rattle.gu_base.specs.declared.house.Pair.{Pair}
 use Rattle.gu_base.specs.declared.command.Command.{Command}
-use Rattle.gu_base.specs.declared.command.Command.TheVariants.{Trade, Split, Claim, Refuse, Cancel, Agree, Raise, Initiate, Decline, Reverse}
+use Rattle.gu_base.specs.declared.command.Command.TheVariants.{Claim, Agree, Raise}
 use Rattle.gu_base.specs.declared.entry.Record.{Record}
 use Rattle.gu_base.specs.declared.node.Kind.{Kind}
-use Rattle.gu_base.specs.declared.node.Kind.TheVariants.{Root, Own, Given}
+use Rattle.gu_base.specs.declared.node.Kind.TheVariants.{Given}
 use Rattle.gu_base.specs.declared.node.Node.{Node}
-use Rattle.gu_base.proofs.Basics.{none_is_some}
+use Rattle.gu_base.proofs.Basics.{none_is_some, or_none}
 use Rattle.gu_base.proofs.NodeNames.{name_same}
 use Rattle.gu_base.proofs.Searches.{found_in}
 use Rattle.gu_tree.specs.ShownAll.{change_of}
@@ -48,11 +48,10 @@ some_with P (Some x) h = (x, (refl, h))
 -- ---- the pair of a change
 
 pair_of_use : (g k : List ℕ) (lots : ℕ) (kind : Kind) (d : Deed) → use_of_kind g k lots kind ≡ Some d → pair_of_kind kind ≡ Some (record { giver = g; taker = k })
-pair_of_use g k lots (Root _) d h = absurd (cc)
-pair_of_use g k lots (Own _ _ _) d h = absurd (cc)
 pair_of_use g k lots (Given m x y) d h =
     let p = of_pair g k x y (Uses lots) d (bytes_eq x g && bytes_eq y k) refl h in
     λ i. Some (record { giver = p.0 i; taker = p.1.0 i })
+pair_of_use g k lots _ d h = absurd (cc)
 
 pair_of_use_at : (g k : List ℕ) (o : Option Node) (d : Deed) → option_and_then (use_of_node g k) o ≡ Some d → option_and_then (λ x. pair_of_kind x.kind) o ≡ Some (record { giver = g; taker = k })
 pair_of_use_at g k None d h = absurd (cc)
@@ -67,26 +66,12 @@ pair_of_deed l g k by (Raise x lots) d h =
     let p = of_pair g k x by (Raises lots) d (bytes_eq x g && bytes_eq by k) refl h in
     λ i. Some (record { giver = p.0 i; taker = p.1.0 i })
 pair_of_deed l g k by (Claim n account) d h = pair_of_use_at g k (node_of l n) d h
-pair_of_deed l g k by (Trade _ _ _ _ _) d h = absurd (cc)
-pair_of_deed l g k by (Split _ _) d h = absurd (cc)
-pair_of_deed l g k by (Refuse _) d h = absurd (cc)
-pair_of_deed l g k by (Cancel _) d h = absurd (cc)
-pair_of_deed l g k by (Initiate _) d h = absurd (cc)
-pair_of_deed l g k by (Decline _) d h = absurd (cc)
-pair_of_deed l g k by (Reverse _) d h = absurd (cc)
+pair_of_deed l g k by _ d h = absurd (cc)
 
 -- a change whose node is there is of the same pair in both lists
 pub pair_grown : (l b : List Record) (by : List ℕ) (c : Command) → Within l b → ((n : EntryPart) → names n c ≡ true → (x : Node) × (node_of b n ≡ Some x)) → pair_of b by c ≡ pair_of l by c
 pair_grown l b by (Claim n account) w there = let x = there n (name_same n) in ap (option_and_then (λ x. pair_of_kind x.kind)) (x.1 ∙ sym (w.nodes n x.0 x.1))
-pair_grown l b by (Trade _ _ _ _ _) w there = refl
-pair_grown l b by (Split _ _) w there = refl
-pair_grown l b by (Refuse _) w there = refl
-pair_grown l b by (Cancel _) w there = refl
-pair_grown l b by (Agree _ _ _ _) w there = refl
-pair_grown l b by (Raise _ _) w there = refl
-pair_grown l b by (Initiate _) w there = refl
-pair_grown l b by (Decline _) w there = refl
-pair_grown l b by (Reverse _) w there = refl
+pair_grown l b by _ w there = refl
 
 pair_told : (p q : Pair) → Some p ≡ Some q → (p.giver ≡ q.giver) × (p.taker ≡ q.taker)
 pair_told p q e = let one : p ≡ q = same_Some p q e in (ap (λ (z : Pair). z.giver) one, ap (λ (z : Pair). z.taker) one)
@@ -152,10 +137,6 @@ module _ (t : House) (l : List Record) (r : Record) (before : IsBefore t l r) wh
         ∙ (sym (ap (option_and_then (place_of_pair v)) (pair_more ∙ none))
         ∙ sym (ap (λ o. option_and_then (pair_place v more) (option_or o (Some r))) (new_number n is))))
     apart_placed n false is = are.placed n ∙ (sym (old_place v n (change_of l n) refl) ∙ sym (ap (option_and_then (pair_place v more)) (or_none (change_of l n))))
-      where
-        or_none : (o : Option Record) → option_or o None ≡ o
-        or_none None = refl
-        or_none (Some d) = refl
 
     -- the terms stay those of the list
     pub apart_follows : AreTermsOf t more v
@@ -226,11 +207,7 @@ module _ (t : House) (l : List Record) (r : Record) (before : IsBefore t l r) wh
         are.placed n
         ∙ (sym (old_place v n (change_of l n) refl)
         ∙ (sym (ap (λ (h : Record → Option ℕ). option_and_then h (change_of l n)) (λ i c. same_places more c i))
-        ∙ sym (ap (option_and_then (pair_place w more)) (or_kept (change_of l n)))))
-      where
-        or_kept : (o : Option Record) → option_or o None ≡ o
-        or_kept None = refl
-        or_kept (Some d) = refl
+        ∙ sym (ap (option_and_then (pair_place w more)) (or_none (change_of l n)))))
 
     -- the terms that it was put into are those of the longer list
     pub put_follows : AreTermsOf t more w

@@ -6,26 +6,19 @@ use Rattle.std.proofs.lemmas.Bool.Decides.{Decides-eqb}
 use Rattle.std.proofs.lemmas.List.Elements.{All-contains, All-contains_itself, All-filter}
 use Rattle.std.proofs.lemmas.Option.{same_Some}
 use Rattle.gu_base.specs.House.{House, agreement}
-use Rattle.gu_base.specs.Nodes.{node_of}
 use Rattle.gu_base.specs.Standing.{first_refused, standing_on, without}
-use Rattle.gu_base.specs.Terms.{use_of_kind, use_of_node, deed_of, dealings_in, dealings}
+use Rattle.gu_base.specs.Terms.{deed_of, dealings_in, dealings}
 use Rattle.gu_base.specs.Dealt.{leave_out}
 use Rattle.gu_base.specs.declared.house.Deed.{Deed}
-use Rattle.gu_base.specs.declared.house.Deed.TheVariants.{Makes, Raises, Uses}
 use Rattle.gu_base.specs.declared.house.Pair.{Pair}
-use Rattle.gu_base.specs.declared.command.Command.{Command}
-use Rattle.gu_base.specs.declared.command.Command.TheVariants.{Trade, Split, Claim, Refuse, Cancel, Agree, Raise, Initiate, Decline, Reverse}
 use Rattle.gu_base.specs.declared.entry.Record.{Record}
-use Rattle.gu_base.specs.declared.node.Kind.{Kind}
-use Rattle.gu_base.specs.declared.node.Kind.TheVariants.{Root, Own, Given}
-use Rattle.gu_base.specs.declared.node.Node.{Node}
 use Rattle.gu_base.proofs.Basics.{none_is_some, eqb_symm}
 use Rattle.gu_base.proofs.Searches.{found_in}
 use Rattle.gu_tree.specs.ShownAll.{change_of}
 use Rattle.gu_fees.specs.Rows.{is_pair}
 use Rattle.gu_fees.specs.Pairs.{PairView}
 use Rattle.gu_fees.specs.Terms.{TermsView, row_of, pair_at, IsTakenOut}
-use Rattle.gu_depend.specs.Terms.{pair_of_kind, pair_of, place_of_pair, AreTermsOf}
+use Rattle.gu_depend.specs.Terms.{pair_of, place_of_pair, AreTermsOf}
 use Rattle.gu_depend.proofs.Deals.{both_same, dealings_grown, left_out}
 use Rattle.gu_depend.proofs.Finds.{found_once}
 use Rattle.gu_depend.proofs.Grown.{NamesThere, Grown}
@@ -57,36 +50,6 @@ kept_at key k n x rest xs away same false c is at = ap (λ b. cond b (Some x) (f
 kept_by : {X : Type 0} (key : X → ℕ) (k n : ℕ) (xs : List X) → (n == k) ≡ false → find (λ x. key x == n) (filter (λ x. not (key x == k)) xs) ≡ find (λ x. key x == n) xs
 kept_by key k n [] away = refl
 kept_by key k n (x ∷ xs) away = kept_at key k n x (filter (λ x. not (key x == k)) xs) xs away (kept_by key k n xs away) (key x == k) (key x == n) refl refl
-
--- ---- whoever is of a pair deals for it
-
-deed_of_use : (lots : ℕ) (kind : Kind) (p : Pair) → pair_of_kind kind ≡ Some p → (d : Deed) × (use_of_kind p.giver p.taker lots kind ≡ Some d)
-deed_of_use lots (Root _) p h = absurd (cc)
-deed_of_use lots (Own _ _ _) p h = absurd (cc)
-deed_of_use lots (Given m x y) p h =
-    let one : record { giver = x; taker = y } ≡ p = same_Some (record { giver = x; taker = y }) p h in
-    (Uses lots, subst (λ (z : Pair). use_of_kind z.giver z.taker lots (Given m x y) ≡ Some (Uses lots)) one (ap (λ b. cond b (Some (Uses lots)) None) (both_same x y)))
-
-deed_at_node : (o : Option Node) (p : Pair) → option_and_then (λ x. pair_of_kind x.kind) o ≡ Some p → (d : Deed) × (option_and_then (use_of_node p.giver p.taker) o ≡ Some d)
-deed_at_node None p h = absurd (cc)
-deed_at_node (Some x) p h = deed_of_use x.lots x.kind p h
-
-pub deed_of_pair : (l : List Record) (by : List ℕ) (c : Command) (p : Pair) → pair_of l by c ≡ Some p → (d : Deed) × (deed_of l p.giver p.taker by c ≡ Some d)
-deed_of_pair l by (Agree x y rate limit) p h =
-    let made : Deed = Makes (record { rate = rate; limit = limit }) in
-    let one : record { giver = x; taker = y } ≡ p = same_Some (record { giver = x; taker = y }) p h in
-    (made, subst (λ (z : Pair). deed_of l z.giver z.taker by (Agree x y rate limit) ≡ Some made) one (ap (λ b. cond b (Some made) None) (both_same x y)))
-deed_of_pair l by (Raise x lots) p h =
-    let one : record { giver = x; taker = by } ≡ p = same_Some (record { giver = x; taker = by }) p h in
-    (Raises lots, subst (λ (z : Pair). deed_of l z.giver z.taker by (Raise x lots) ≡ Some (Raises lots)) one (ap (λ b. cond b (Some (Raises lots)) None) (both_same x by)))
-deed_of_pair l by (Claim n account) p h = deed_at_node (node_of l n) p h
-deed_of_pair l by (Trade _ _ _ _ _) p h = absurd (cc)
-deed_of_pair l by (Split _ _) p h = absurd (cc)
-deed_of_pair l by (Refuse _) p h = absurd (cc)
-deed_of_pair l by (Cancel _) p h = absurd (cc)
-deed_of_pair l by (Initiate _) p h = absurd (cc)
-deed_of_pair l by (Decline _) p h = absurd (cc)
-deed_of_pair l by (Reverse _) p h = absurd (cc)
 
 -- ---- what others deal
 
