@@ -2,21 +2,8 @@
 use Rattle.std.proofs.Common.{◌≡◌, ℕ, Bool, true, List, [], ◌∷◌, refl, sym, ◌∙◌, ap, arith, cond, Option}
 use Rattle.std.specs.Prelude.{Some, None, filter, filter_map, sum_by, option_map, option_and_then}
 use Rattle.std.proofs.lemmas.List.Sums.{sum_by-cons}
-use Rattle.gu_base.specs.Numbers.{EntryPart}
-use Rattle.gu_base.specs.House.{House}
-use Rattle.gu_base.specs.Nodes.{node_of}
-use Rattle.gu_base.specs.Terms.{use_of_node, use_of_kind, deed_of, terms_of}
-use Rattle.gu_base.specs.Fees.{charge_of_kind, charge_of_node, charge_of, counted}
-use Rattle.gu_base.specs.declared.house.Agreement.{Agreement}
-use Rattle.gu_base.specs.declared.house.Deed.{Deed}
-use Rattle.gu_base.specs.declared.house.Deed.TheVariants.{Uses}
-use Rattle.gu_base.specs.declared.command.Command.{Command}
-use Rattle.gu_base.specs.declared.command.Command.TheVariants.{Claim}
-use Rattle.gu_base.specs.declared.entry.Record.{Record}
-use Rattle.gu_base.specs.declared.node.Charge.{Charge}
-use Rattle.gu_base.specs.declared.node.Kind.{Kind}
-use Rattle.gu_base.specs.declared.node.Kind.TheVariants.{Given}
-use Rattle.gu_base.specs.declared.node.Node.{Node}
+use Rattle.gu_depend.proofs.Vocabulary.{EntryPart, House, node_of, use_of_node, use_of_kind, deed_of, terms_of, charge_of_kind, charge_of_node, charge_of, counted, Agreement, Deed, Uses, Command}
+use Rattle.gu_depend.proofs.Vocabulary.{Claim, Record, Charge, Kind, Given, Node}
 use Rattle.gu_base.proofs.NodeNames.{name_same}
 use Rattle.gu_base.proofs.Sums.{sum_option}
 use Rattle.gu_depend.specs.Under.{names}

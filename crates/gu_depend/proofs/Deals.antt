@@ -6,24 +6,9 @@ use Rattle.std.proofs.lemmas.Bool.{and_parts}
 use Rattle.std.proofs.lemmas.List.Elements.{All-head, All-tail, All-weaker, filter_map-append}
 use Rattle.std.proofs.lemmas.Option.{same_Some}
 use Rattle.std.proofs.lemmas.Slice.Eq.{bytes_eq-Decides}
-use Rattle.gu_base.specs.Numbers.{EntryPart}
-use Rattle.gu_base.specs.House.{House, agreement}
-use Rattle.gu_base.specs.Nodes.{node_of, is_given}
-use Rattle.gu_base.specs.Terms.{use_of_kind, use_of_node, deed_of, dealing_of, dealings_in, dealings, terms_under, terms_of, limit_of, used_of}
-use Rattle.gu_base.specs.Dealt.{leave_out, first_over, first_over_without, first_under_terms, first_under_deed}
-use Rattle.gu_base.specs.Refusals.{row, claim_row, raised_row, limit_row, limit_by, used_by}
-use Rattle.gu_base.specs.Standing.{without}
-use Rattle.gu_base.specs.SamePartsLaws.{bytes_same}
-use Rattle.gu_base.specs.declared.house.Agreement.{Agreement}
-use Rattle.gu_base.specs.declared.house.Deed.{Deed}
-use Rattle.gu_base.specs.declared.house.Deed.TheVariants.{Makes, Raises, Uses}
-use Rattle.gu_base.specs.declared.house.Dealing.{Dealing}
-use Rattle.gu_base.specs.declared.command.Command.{Command}
-use Rattle.gu_base.specs.declared.command.Command.TheVariants.{Claim, Agree, Raise}
-use Rattle.gu_base.specs.declared.entry.Record.{Record}
-use Rattle.gu_base.specs.declared.node.Kind.{Kind}
-use Rattle.gu_base.specs.declared.node.Kind.TheVariants.{Given}
-use Rattle.gu_base.specs.declared.node.Node.{Node}
+use Rattle.gu_depend.proofs.Vocabulary.{EntryPart, House, agreement, node_of, is_given, use_of_kind, use_of_node, deed_of, dealing_of, dealings_in, dealings, terms_under, terms_of, limit_of}
+use Rattle.gu_depend.proofs.Vocabulary.{used_of, leave_out, first_over, first_over_without, first_under_terms, first_under_deed, row, claim_row, raised_row, limit_row, limit_by, used_by, without}
+use Rattle.gu_depend.proofs.Vocabulary.{bytes_same, Agreement, Deed, Makes, Raises, Uses, Dealing, Command, Claim, Agree, Raise, Record, Kind, Given, Node}
 use Rattle.gu_base.proofs.Accepted.{unless_none}
 use Rattle.gu_base.proofs.Dealt.{may_raise, may_use, fits, AllFit, first_unfit, unfit_none, fit_without_use, unfit_without_raise, unfit_without_terms}
 use Rattle.gu_base.proofs.NodeNames.{name_same}
@@ -47,7 +32,8 @@ abbrev numbered : Record → Deed → Dealing
 numbered r d = record { number = r.number; deed = d }
 
 -- a change whose node is there deals the same in both lists
-pub deed_grown : (l b : List Record) (g k by : List ℕ) (c : Command) → Within l b → ((n : EntryPart) → names n c ≡ true → (x : Node) × (node_of b n ≡ Some x)) → deed_of b g k by c ≡ deed_of l g k by c
+pub deed_grown : (l b : List Record) (g k by : List ℕ) (c : Command) → Within l b → ((n : EntryPart) → names n c ≡ true → (x : Node) × (node_of b n ≡ Some x))
+    → deed_of b g k by c ≡ deed_of l g k by c
 deed_grown l b g k by (Claim n account) w there = let x = there n (name_same n) in ap (option_and_then (use_of_node g k)) (x.1 ∙ sym (w.nodes n x.0 x.1))
 deed_grown l b g k by _ w there = refl
 
@@ -84,7 +70,8 @@ may_used : (lots : ℕ) (o : Option ℕ) → may_use lots o ≡ true → limit_r
 may_used lots None h = absurd (cc)
 may_used lots (Some limit) h = none_unless _ _ h
 
-use_fits : (t : House) (b : List Record) (g k : List ℕ) (lots : ℕ) (kind : Kind) (d : Deed) → use_of_kind g k lots kind ≡ Some d → limit_row (used_by b kind + lots) (limit_by t b kind) ≡ None
+use_fits : (t : House) (b : List Record) (g k : List ℕ) (lots : ℕ) (kind : Kind) (d : Deed) → use_of_kind g k lots kind ≡ Some d
+    → limit_row (used_by b kind + lots) (limit_by t b kind) ≡ None
     → fits (agreement t g k) (dealings b g k) d ≡ true
 use_fits t b g k lots (Given m x y) d deals h =
     let p = of_pair g k x y (Uses lots) d (bytes_eq x g && bytes_eq y k) refl deals in
@@ -93,7 +80,8 @@ use_fits t b g k lots (Given m x y) d deals h =
     (subst (λ z. may_use (used_of b g z + lots) (limit_of t b g z) ≡ true) p.1.0 (subst (λ z. may_use (used_of b z y + lots) (limit_of t b z y) ≡ true) p.0 may))
 use_fits t b g k lots _ d deals h = absurd (cc)
 
-pub row_fits : (t : House) (b : List Record) (g k by : List ℕ) (c : Command) (d : Deed) → row t b by c ≡ None → deed_of b g k by c ≡ Some d → fits (agreement t g k) (dealings b g k) d ≡ true
+pub row_fits : (t : House) (b : List Record) (g k by : List ℕ) (c : Command) (d : Deed) → row t b by c ≡ None → deed_of b g k by c ≡ Some d
+    → fits (agreement t g k) (dealings b g k) d ≡ true
 row_fits t b g k by (Claim n account) d h deals =
     let there = at_node_none (claim_row t b by account) (node_of b n) h in
     let passes = claim_passes t b by account there.0 there.1.1 in
@@ -159,7 +147,8 @@ deals_some t l n by (Raise x lots) m h = record { giver = x; taker = by; deed = 
 deals_some t l n by _ m h = absurd (cc)
 
 -- a change deals for one giver and one taker
-one_pair : (g k x y u v : List ℕ) (e d f : Deed) → cond (bytes_eq u g && bytes_eq v k) (Some e) None ≡ Some d → cond (bytes_eq u x && bytes_eq v y) (Some e) None ≡ Some f → (g ≡ x) × (k ≡ y)
+one_pair : (g k x y u v : List ℕ) (e d f : Deed) → cond (bytes_eq u g && bytes_eq v k) (Some e) None ≡ Some d → cond (bytes_eq u x && bytes_eq v y) (Some e) None ≡ Some f
+    → (g ≡ x) × (k ≡ y)
 one_pair g k x y u v e d f a b =
     let p = of_pair g k u v e d (bytes_eq u g && bytes_eq v k) refl a in
     let q = of_pair x y u v e f (bytes_eq u x && bytes_eq v y) refl b in
@@ -269,7 +258,8 @@ cut_step l g k r rest d behind later (Some f) e (x ∷ before) h =
       number = c.number;
     }
 
-pub deal_cut : (l among : List Record) (g k : List ℕ) (before : List Dealing) (d : Dealing) (behind : List Dealing) → dealings_in l among g k ≡ before ++ d ∷ behind → DealCut l among g k before d
+pub deal_cut : (l among : List Record) (g k : List ℕ) (before : List Dealing) (d : Dealing) (behind : List Dealing) → dealings_in l among g k ≡ before ++ d ∷ behind
+    → DealCut l among g k before d
 deal_cut l [] g k before d behind h = absurd (not_empty before d behind h)
 deal_cut l (r ∷ rest) g k before d behind h =
     cut_step l g k r rest d behind (λ before h. deal_cut l rest g k before d behind h) (deed_of l g k r.firm r.command) refl before h

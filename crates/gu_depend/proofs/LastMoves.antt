@@ -1,5 +1,6 @@
 -- What a change that stands behind others moves.
-use Rattle.std.proofs.Common.{◌≡◌, ℕ, zero, suc, ◌+◌, Bool, true, false, ◌&&◌, List, [], ◌∷◌, ◌++◌, length, refl, sym, ◌∙◌, ap, subst, arith, cond, Option, Contains, All}
+use Rattle.std.proofs.Common.{◌≡◌, ℕ, zero, suc, ◌+◌, Bool, true, false, ◌&&◌, List, [], ◌∷◌, ◌++◌, length, refl, sym, ◌∙◌, ap, subst, arith, cond, Option, Contains}
+use Rattle.std.proofs.Common.{All}
 use Rattle.std.specs.Prelude.{Some, None, find, filter, filter_map, sum_by, is_some, is_none, option_and_then, option_map, unwrap_or, ◌==◌, bytes_eq}
 use Rattle.std.specs.List.{cons_option}
 use Rattle.std.specs.Option.{option_or}
@@ -7,19 +8,10 @@ use Rattle.std.proofs.lemmas.Bool.Decides.{Decides-eqb}
 use Rattle.std.proofs.lemmas.List.Elements.{All-head, All-tail, All-weaker, All-contains, All-contains_itself, filter_map-append}
 use Rattle.std.proofs.lemmas.List.Folds.{find-append}
 use Rattle.std.proofs.lemmas.List.Sums.{sum_by-cons, sum_by-append}
-use Rattle.gu_base.specs.Numbers.{EntryPart}
-use Rattle.gu_base.specs.House.{House, agreement}
-use Rattle.gu_base.specs.Nodes.{node_of, nodes, nodes_of, split_of, decision_of, same_name, splits, decides, parent}
-use Rattle.gu_base.specs.Places.{line_within, root_along, root_of, same_place}
-use Rattle.gu_base.specs.Positions.{is_trade_of, trades_in, stands_at, position_of}
-use Rattle.gu_base.specs.Fees.{charge_of, charges}
-use Rattle.gu_base.specs.Refusals.{refusal_of, row}
-use Rattle.gu_base.specs.Standing.{first_refused}
-use Rattle.gu_base.specs.declared.command.Side.{Side}
-use Rattle.gu_base.specs.declared.entry.Record.{Record}
-use Rattle.gu_base.specs.declared.node.Charge.{Charge}
-use Rattle.gu_base.specs.declared.node.Node.{Node}
-use Rattle.gu_base.specs.declared.node.Place.{Place}
+use Rattle.gu_depend.proofs.Vocabulary.{EntryPart, House, agreement, node_of, nodes, nodes_of, split_of, decision_of, same_name, splits, decides, parent, line_within, root_along, root_of}
+use Rattle.gu_depend.proofs.Vocabulary.{same_place, is_trade_of, trades_in, stands_at, position_of, charge_of, charges, refusal_of, row, first_refused, Side, Record, Charge, Node, Place}
+use Rattle.gu_depend.proofs.Vocabulary.{use_of_kind, use_of_node, deed_of, dealings_in, dealings, terms_under, raised_under, used_under, terms_of, Agreement, Deed, Uses, Command, Claim, Kind}
+use Rattle.gu_depend.proofs.Vocabulary.{Given}
 use Rattle.gu_base.proofs.Basics.{or_none, none_is_some}
 use Rattle.gu_base.proofs.LegalLaws.{none_refused, replay_front}
 use Rattle.gu_depend.specs.Under.{names}
@@ -32,14 +24,6 @@ use Rattle.gu_depend.proofs.Settled.{front_facts, facts, accepted_there}
 use Rattle.gu_depend.proofs.Deals.{of_pair, dealings_grown, dealings_append, row_fits, not_empty}
 use Rattle.gu_depend.proofs.Cuts.{cut_at}
 use Rattle.gu_base.proofs.Dealt.{fits, may_use, AllFit, all_sound, terms_stay}
-use Rattle.gu_base.specs.Terms.{use_of_kind, use_of_node, deed_of, dealings_in, dealings, terms_under, raised_under, used_under, terms_of}
-use Rattle.gu_base.specs.declared.house.Agreement.{Agreement}
-use Rattle.gu_base.specs.declared.house.Deed.{Deed}
-use Rattle.gu_base.specs.declared.house.Deed.TheVariants.{Uses}
-use Rattle.gu_base.specs.declared.command.Command.{Command}
-use Rattle.gu_base.specs.declared.command.Command.TheVariants.{Claim}
-use Rattle.gu_base.specs.declared.node.Kind.{Kind}
-use Rattle.gu_base.specs.declared.node.Kind.TheVariants.{Given}
 use Rattle.gu_depend.proofs.Replay.{NumbersOnce}
 use Rattle.gu_depend.proofs.StandsLast.{replay_rest, decision_cut}
 use Rattle.gu_depend.proofs.StandsUnder.{found_some}
@@ -76,11 +60,13 @@ charged_alike g h (d ∷ l) all =
 
 -- ---- roots
 
-root_at : (l : List Record) (x : Node) (p : EntryPart) → node_of l x.name ≡ Some x → (xs : List Node) → (root_along xs ≡ Some p → (y : Node) × (node_of l p ≡ Some y)) → root_along (x ∷ xs) ≡ Some p → (y : Node) × (node_of l p ≡ Some y)
+root_at : (l : List Record) (x : Node) (p : EntryPart) → node_of l x.name ≡ Some x → (xs : List Node) → (root_along xs ≡ Some p → (y : Node) × (node_of l p ≡ Some y))
+    → root_along (x ∷ xs) ≡ Some p → (y : Node) × (node_of l p ≡ Some y)
 root_at l x p found [] later h = (x, subst (λ (z : EntryPart). node_of l z ≡ Some x) (same_Some x.name p h) found)
 root_at l x p found (y ∷ ys) later h = later h
 
-root_by : (f : ℕ) (l : List Record) (p : EntryPart) → ((m : EntryPart) (y : Node) → node_of l m ≡ Some y → root_along (line_within f l (Some y)) ≡ Some p → (z : Node) × (node_of l p ≡ Some z))
+root_by : (f : ℕ) (l : List Record) (p : EntryPart)
+    → ((m : EntryPart) (y : Node) → node_of l m ≡ Some y → root_along (line_within f l (Some y)) ≡ Some p → (z : Node) × (node_of l p ≡ Some z))
     → (k : Option EntryPart) → (o : Option Node) → option_and_then (node_of l) k ≡ o → root_along (line_within f l o) ≡ Some p → (z : Node) × (node_of l p ≡ Some z)
 root_by f l p found k None e h = absurd (cc)
 root_by f l p found None (Some y) e h = absurd (cc)
@@ -137,14 +123,16 @@ module _ {t : House} {l : List Record} {r : Record} (b : IsBefore t l r) where
 
   stands_kept : (at : Place) (m : EntryPart) (x : Node) → node_of l m ≡ Some x → decides m r.command ≡ false → stands_at (l ++ r ∷ []) at m ≡ stands_at l at m
   stands_kept at m x found un =
-      let decision : decision_of (l ++ r ∷ []) m ≡ decision_of l m = decision_cut l (r ∷ []) m ∙ (ap (λ c. option_or (decision_of l m) (cond c (Some r) None)) un ∙ or_none (decision_of l m)) in
+      let decision : decision_of (l ++ r ∷ []) m ≡ decision_of l m = decision_cut l (r ∷ []) m
+      ∙ (ap (λ c. option_or (decision_of l m) (cond c (Some r) None)) un ∙ or_none (decision_of l m)) in
       ap (λ p. unwrap_or (option_map (same_place at) p) false) (sym (place_same (l ++ r ∷ []) l m x b.grown found (sym decision)))
 
   pub split_kept : (m : EntryPart) → splits m r.command ≡ false → split_of (l ++ r ∷ []) m ≡ split_of l m
   split_kept m un = find-append (λ d. splits m d.command) l (r ∷ []) ∙ (ap (λ c. option_or (split_of l m) (cond c (Some r) None)) un ∙ or_none (split_of l m))
 
   -- a node that the change doesn't name adds what it added
-  lots_kept : (at : Place) (instrument : List ℕ) (side : Side) (x y : Node) → node_of l x.name ≡ Some y → names x.name r.command ≡ false → lots_at (l ++ r ∷ []) at instrument side x ≡ lots_at l at instrument side x
+  lots_kept : (at : Place) (instrument : List ℕ) (side : Side) (x y : Node) → node_of l x.name ≡ Some y → names x.name r.command ≡ false
+      → lots_at (l ++ r ∷ []) at instrument side x ≡ lots_at l at instrument side x
   lots_kept at instrument side x y found un =
       let apart = or_parts (splits x.name r.command) (decides x.name r.command) un in
       ap (λ s. cond (is_none s) (cond (stands_at (l ++ r ∷ []) at x.name && trades_in (l ++ r ∷ []) instrument side x.name) x.lots 0) 0) (split_kept x.name apart.0)
@@ -186,7 +174,8 @@ module _ {t : House} {l : List Record} {r : Record} (b : IsBefore t l r) where
       let c = cut_at l d among in
       let cut : dealings_in l l g k ≡ dealings_in l c.before g k ++ (record { number = d.number; deed = e } ∷ dealings_in l c.behind g k) =
       ap (λ z. dealings_in l z g k) c.is
-      ∙ (dealings_append l c.before (d ∷ c.behind) g k ∙ ap (λ o. dealings_in l c.before g k ++ cons_option (option_map (λ f. record { number = d.number; deed = f }) o) (dealings_in l c.behind g k)) deals) in
+      ∙ (dealings_append l c.before (d ∷ c.behind) g k
+      ∙ ap (λ o. dealings_in l c.before g k ++ cons_option (option_map (λ f. record { number = d.number; deed = f }) o) (dealings_in l c.behind g k)) deals) in
       not_empty (dealings_in l c.before g k) (record { number = d.number; deed = e }) (dealings_in l c.behind g k) (sym empty ∙ cut)
 
   -- a claim deals whoever asks
@@ -231,9 +220,11 @@ module _ {t : House} {l : List Record} {r : Record} (b : IsBefore t l r) where
           dealings_append (l ++ r ∷ []) l (r ∷ []) g k ∙ ap (λ z. z ++ dealings_in (l ++ r ∷ []) (r ∷ []) g k) (sym (dealings_grown (l ++ r ∷ []) l g k b.grown)) in
           e ∙ sym (ap (terms_under (agreement t g k)) more ∙ terms_stay (agreement t g k) (dealings l g k) (dealings_in (l ++ r ∷ []) (r ∷ []) g k) a e)
 
-      own_by : (g k : List ℕ) → (lots : ℕ) × (e ≡ Uses lots) → (o : Option Agreement) → terms_of t l g k ≡ o → fits (agreement t g k) (dealings l g k) e ≡ true → terms_of t l g k ≡ terms_of t (l ++ r ∷ []) g k
+      own_by : (g k : List ℕ) → (lots : ℕ) × (e ≡ Uses lots) → (o : Option Agreement) → terms_of t l g k ≡ o → fits (agreement t g k) (dealings l g k) e ≡ true
+          → terms_of t l g k ≡ terms_of t (l ++ r ∷ []) g k
       own_by g k of None none fit =
-          let f : false ≡ true = sym (ap (λ o. may_use (used_under (dealings l g k) + of.0) (option_map (λ (a : Agreement). a.limit + raised_under (dealings l g k)) o)) none) ∙ (sym (ap (fits (agreement t g k) (dealings l g k)) of.1) ∙ fit) in
+          let f : false ≡ true = sym (ap (λ o. may_use (used_under (dealings l g k) + of.0) (option_map (λ (a : Agreement). a.limit + raised_under (dealings l g k)) o)) none)
+          ∙ (sym (ap (fits (agreement t g k) (dealings l g k)) of.1) ∙ fit) in
           absurd (cc)
       own_by g k of (Some a) e fit = some_kept g k a e
 

@@ -5,13 +5,7 @@ use Rattle.std.specs.Option.{option_or}
 use Rattle.std.proofs.lemmas.Bool.Decides.{Decides-eqb}
 use Rattle.std.proofs.lemmas.List.Folds.{find-append}
 use Rattle.std.proofs.lemmas.List.Sums.{sum_by-le-sum_by}
-use Rattle.gu_base.specs.Numbers.{EntryPart}
-use Rattle.gu_base.specs.Nodes.{node_of, nodes, nodes_of, same_name, parent, splits}
-use Rattle.gu_base.specs.declared.command.Command.{Command}
-use Rattle.gu_base.specs.declared.command.Command.TheVariants.{Trade, Split}
-use Rattle.gu_base.specs.declared.entry.Record.{Record}
-use Rattle.gu_base.specs.declared.node.Kind.TheVariants.{Root}
-use Rattle.gu_base.specs.declared.node.Node.{Node}
+use Rattle.gu_depend.proofs.Vocabulary.{EntryPart, node_of, nodes, nodes_of, same_name, parent, splits, Command, Trade, Split, Record, Root, Node}
 use Rattle.gu_base.proofs.Basics.{or_none, none_is_some}
 use Rattle.gu_depend.proofs.Finds.{find_permuted}
 use Rattle.std.proofs.lemmas.Option.{same_Some}

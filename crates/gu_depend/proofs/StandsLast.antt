@@ -1,22 +1,14 @@
 -- A change that stands under none of those behind it can stand behind them all.
-use Rattle.std.proofs.Common.{◌≡◌, ℕ, ◌+◌, Bool, true, false, ◌&&◌, ◌||◌, List, [], ◌∷◌, ◌++◌, refl, sym, ◌∙◌, ap, subst, cond, Option, Contains, All, append-nil, append_assoc, inl, inr}
+use Rattle.std.proofs.Common.{◌≡◌, ℕ, ◌+◌, Bool, true, false, ◌&&◌, ◌||◌, List, [], ◌∷◌, ◌++◌, refl, sym, ◌∙◌, ap, subst, cond, Option, Contains, All, append-nil}
+use Rattle.std.proofs.Common.{append_assoc, inl, inr}
 use Rattle.std.specs.Prelude.{Some, None, find, is_some, is_none, option_and_then, option_map, ◌==◌}
 use Rattle.std.specs.Option.{option_or}
 use Rattle.std.specs.List.{list_any, cons_option}
 use Rattle.std.proofs.lemmas.List.Elements.{All-head, All-tail}
 use Rattle.std.proofs.lemmas.List.Folds.{find-append, list_any_at}
-use Rattle.gu_base.specs.Numbers.{EntryPart}
-use Rattle.gu_base.specs.House.{House, agreement}
-use Rattle.gu_base.specs.Nodes.{node_of, nodes_of, decision_of, is_given, same_name, splits, decides}
-use Rattle.gu_base.specs.Refusals.{refusal_of, row}
-use Rattle.gu_base.specs.Standing.{first_refused, without}
-use Rattle.gu_base.specs.Orders.{is_ready, in_lawful_order}
-use Rattle.gu_base.specs.declared.command.Command.{Command}
-use Rattle.gu_base.specs.declared.command.Command.TheVariants.{Trade, Split, Claim, Refuse, Cancel}
-use Rattle.gu_base.specs.declared.entry.Record.{Record}
-use Rattle.gu_base.specs.declared.node.Kind.TheVariants.{Root}
-use Rattle.gu_base.specs.declared.node.Node.{Node}
-use Rattle.gu_base.specs.declared.refusal.Refusal.{Refusal}
+use Rattle.gu_depend.proofs.Vocabulary.{EntryPart, House, agreement, node_of, nodes_of, decision_of, is_given, same_name, splits, decides, refusal_of, row, first_refused, without, is_ready}
+use Rattle.gu_depend.proofs.Vocabulary.{in_lawful_order, Command, Trade, Split, Claim, Refuse, Cancel, Record, Root, Node, Refusal, deed_of, dealings_in, dealings, terms_under, raised_under}
+use Rattle.gu_depend.proofs.Vocabulary.{limit_under, used_under, terms_of, limit_of, used_of, leave_out, first_under_deed, Deed, Dealing, Agreement}
 use Rattle.gu_base.proofs.Basics.{or_none, no_some}
 use Rattle.std.proofs.lemmas.Bool.{and_parts, or_cases, false_from_ne_true}
 use Rattle.gu_base.proofs.LegalLaws.{none_refused}
@@ -27,16 +19,11 @@ use Rattle.gu_depend.proofs.NamedOnce.{NamedOnce, named_once}
 use Rattle.gu_depend.proofs.Grown.{Within}
 use Rattle.gu_depend.proofs.Settled.{free_decided, front_within, accepted_there, facts}
 use Rattle.gu_depend.proofs.Deals.{deed_grown, dealings_grown, dealings_append, row_fits, deal_is, same_pair, unfit_without, left_out, deal_cut}
-use Rattle.gu_base.specs.Terms.{deed_of, dealings_in, dealings, terms_under, raised_under, limit_under, used_under, terms_of, limit_of, used_of}
-use Rattle.gu_base.specs.Dealt.{leave_out, first_under_deed}
-use Rattle.gu_base.specs.declared.house.Deed.{Deed}
-use Rattle.gu_base.specs.declared.house.Dealing.{Dealing}
 use Rattle.gu_base.proofs.Dealt.{fits, AllFit, first_unfit, none_unfit, fit_front, unfit_cut, fit_last, terms_last, raised_last, used_last}
 use Rattle.std.proofs.lemmas.Bool.Decides.{Decides-eqb}
 use Rattle.gu_depend.proofs.Replay.{NumbersOnce, StandsReady, PairsFit, ready_replays, same_finds, dealings_found}
 use Rattle.gu_depend.proofs.State.{state_same}
 use Rattle.gu_depend.specs.Same.{IsSameState}
-use Rattle.gu_base.specs.declared.house.Agreement.{Agreement}
 use Rattle.gu_depend.proofs.Cuts.{moved_to_end, stands_between, filter_one}
 use Rattle.std.proofs.lemmas.Option.{same_Some}
 use Rattle.gu_base.proofs.Passing.{refusal_parts, splits_well, decides_well}
@@ -301,7 +288,8 @@ module _ (t : House) (p : List Record) (k : Record) (s : List Record) (once : Nu
   pub fit_others : (x y : List ℕ) → deed_of whole x y k.firm k.command ≡ None → AllFit (agreement t x y) [] (dealings_in whole (p ++ s) x y)
   fit_others x y e = subst (AllFit (agreement t x y) []) (deals_cut x y None e ∙ sym (deals_left x y)) (deals_whole x y)
 
-  fit_where_by : (x y : List ℕ) → deals_under t whole k.number k.firm k.command ≡ None → (o : Option Deed) → deed_of whole x y k.firm k.command ≡ o → AllFit (agreement t x y) [] (dealings_in whole (p ++ s) x y)
+  fit_where_by : (x y : List ℕ) → deals_under t whole k.number k.firm k.command ≡ None → (o : Option Deed) → deed_of whole x y k.firm k.command ≡ o
+      → AllFit (agreement t x y) [] (dealings_in whole (p ++ s) x y)
   fit_where_by x y under None e = fit_others x y e
   fit_where_by x y under (Some d) e = none_unfit (agreement t x y) [] (dealings_in whole (p ++ s) x y) (unfit_here x y d e ∙ under)
 
