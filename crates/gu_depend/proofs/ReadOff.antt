@@ -4,8 +4,17 @@ use Rattle.std.specs.Prelude.{Some, None, find, flat_map, option_map, option_and
 use Rattle.std.proofs.lemmas.Bool.{or_cases, or_parts}
 use Rattle.std.proofs.lemmas.Bool.Decides.{Decides-eqb}
 use Rattle.std.proofs.lemmas.Option.{same_Some}
-use Rattle.gu_depend.proofs.Vocabulary.{EntryPart, RisesFrom, House, node_of, nodes_of, split_of, decision_of, splits, decides, same_name, made_by, parts_of, IsLegal, first_refused, standing_on}
-use Rattle.gu_depend.proofs.Vocabulary.{without, Part, Command, Trade, Split, Claim, Refuse, Cancel, Agree, Raise, Initiate, Decline, Reverse, Record, Node}
+use Rattle.gu_base.specs.Numbers.{EntryPart}
+use Rattle.gu_base.specs.History.{RisesFrom}
+use Rattle.gu_base.specs.House.{House}
+use Rattle.gu_base.specs.Nodes.{node_of, nodes_of, split_of, decision_of, splits, decides, same_name}
+use Rattle.gu_base.specs.Rows.{made_by, parts_of}
+use Rattle.gu_base.specs.Standing.{IsLegal, first_refused, standing_on, without}
+use Rattle.gu_base.specs.declared.command.Part.{Part}
+use Rattle.gu_base.specs.declared.command.Command.{Command}
+use Rattle.gu_base.specs.declared.command.Command.TheVariants.{Trade, Split, Claim, Refuse, Cancel, Agree, Raise, Initiate, Decline, Reverse}
+use Rattle.gu_base.specs.declared.entry.Record.{Record}
+use Rattle.gu_base.specs.declared.node.Node.{Node}
 use Rattle.gu_base.proofs.LegalLaws.{legal_from_replay, replay_from_legal}
 use Rattle.gu_base.proofs.NodeNames.{name_same, made_of}
 use Rattle.gu_base.proofs.Searches.{found_in, find_passes}
@@ -66,8 +75,7 @@ module _ (l : List Record) (once : NumbersOnce l) (k : ℕ) (r : Record) (there 
   only_change d in_list is = same_Some d r (sym (found_once (λ r. r.number == k) l d in_list ((Decides-eqb d.number k).1 is) (once k)) ∙ there)
 
   -- a Split isn't a trade with a root
-  split_no_trade : (n : EntryPart) (ps : List Part) → r.command ≡ Split n ps → (trade : ℕ) (root : Node) → node_of l (record { entry = trade; part = 0 }) ≡ Some root → trade ≡ k
-      → ⊥
+  split_no_trade : (n : EntryPart) (ps : List Part) → r.command ≡ Split n ps → (trade : ℕ) (root : Node) → node_of l (record { entry = trade; part = 0 }) ≡ Some root → trade ≡ k → ⊥
   split_no_trade n ps is trade root found same =
       let m = maker l (record { entry = trade; part = 0 }) root found in
       let number : trade ≡ m.change.number = made_number m.change (record { entry = trade; part = 0 }) root m.makes_it in
@@ -162,8 +170,7 @@ nothing_out : (l : List Record) (k : ℕ) → change_of l k ≡ None → without
 nothing_out [] k none = refl
 nothing_out (r ∷ l) k none = out_at r l k (nothing_out l k) (r.number == k) none
   where
-    out_at : (r : Record) (l : List Record) (k : ℕ) → (change_of l k ≡ None → without l k ≡ l) → (b : Bool) → cond b (Some r) (change_of l k) ≡ None
-        → cond (not b) (r ∷ without l k) (without l k) ≡ r ∷ l
+    out_at : (r : Record) (l : List Record) (k : ℕ) → (change_of l k ≡ None → without l k ≡ l) → (b : Bool) → cond b (Some r) (change_of l k) ≡ None → cond (not b) (r ∷ without l k) (without l k) ≡ r ∷ l
     out_at r l k later true h = absurd (cc)
     out_at r l k later false h = ap (λ z. r ∷ z) (later h)
 
@@ -172,20 +179,23 @@ module _ (g : Grove) (t : House) (l : List Record) (rises : RisesFrom 0 l) (lega
   numbered = number_once l (rises_distinct 0 l rises)
 
   -- what stands on a change without a place, of those whose giver and taker it deals for
-  nothing_named : (k : ℕ) (o : Option Record) → change_of l k ≡ o → option_and_then (λ r. named_place r.number r.command) o ≡ None
-      → option_and_then (λ r. deals_under t l r.number r.firm r.command) o ≡ standing_on t l k
+  nothing_named : (k : ℕ) (o : Option Record) → change_of l k ≡ o → option_and_then (λ r. named_place r.number r.command) o ≡ None → option_and_then (λ r. deals_under t l r.number r.firm r.command) o ≡ standing_on t l k
   nothing_named k None e none = sym (ap (first_refused t []) (nothing_out l k e) ∙ replay_from_legal t l legal)
   nothing_named k (Some r) e none =
       let law = looked_up t l r rises (replay_from_legal t l legal) (among l numbered k r e) in
       sym (ap (standing_on t l) (sym (number_is l numbered k r e)) ∙ (law ∙ deals_alone r.command none))
     where
       deals_alone : (c : Command) → named_place r.number c ≡ None → least (numbers_under t l r.number r.firm c) ≡ deals_under t l r.number r.firm c
+      deals_alone (Trade _ _ _ _ _) h = absurd (cc)
+      deals_alone (Split _ _) h = absurd (cc)
+      deals_alone (Claim _ _) h = absurd (cc)
+      deals_alone (Refuse _) h = absurd (cc)
+      deals_alone (Cancel _) h = absurd (cc)
       deals_alone (Agree giver taker rate limit) h = least_one (deals_under t l r.number r.firm (Agree giver taker rate limit))
       deals_alone (Raise giver lots) h = least_one (deals_under t l r.number r.firm (Raise giver lots))
       deals_alone (Initiate _) h = refl
       deals_alone (Decline _) h = refl
       deals_alone (Reverse _) h = refl
-      deals_alone _ h = absurd (cc)
 
   pub nothing_placed : (k : ℕ) → place_of g k ≡ None → option_and_then (λ r. deals_under t l r.number r.firm r.command) (change_of l k) ≡ standing_on t l k
   nothing_placed k none = nothing_named k (change_of l k) refl (sym (shows.places k) ∙ none)
