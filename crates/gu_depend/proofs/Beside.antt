@@ -1,10 +1,7 @@
 -- How many entries stand beside a change, read off terms that are those of the list.
 use Rattle.std.proofs.Common.{◌≡◌, ℕ, List, refl, ◌∙◌, ap, Option, Contains}
 use Rattle.std.specs.Prelude.{Some, None, ◌==◌, length, option_map, option_and_then, unwrap_or, slice_get}
-use Rattle.gu_base.specs.House.{House}
-use Rattle.gu_base.specs.Terms.{dealings}
-use Rattle.gu_base.specs.declared.entry.Record.{Record}
-use Rattle.gu_base.specs.declared.house.Pair.{Pair}
+use Rattle.gu_depend.proofs.Vocabulary.{House, dealings, Record, Pair}
 use Rattle.gu_base.proofs.Searches.{found_in}
 use Rattle.gu_tree.specs.ShownAll.{change_of}
 use Rattle.gu_fees.specs.Pairs.{PairView}

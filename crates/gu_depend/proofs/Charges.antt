@@ -2,21 +2,8 @@
 use Rattle.std.proofs.Common.{◌≡◌, ℕ, Bool, true, List, [], ◌∷◌, refl, sym, ◌∙◌, ap, arith, cond, Option}
 use Rattle.std.specs.Prelude.{Some, None, filter, filter_map, sum_by, option_map, option_and_then}
 use Rattle.std.proofs.lemmas.List.Sums.{sum_by-cons}
-use Rattle.gu_base.specs.Numbers.{EntryPart}
-use Rattle.gu_base.specs.House.{House}
-use Rattle.gu_base.specs.Nodes.{node_of}
-use Rattle.gu_base.specs.Terms.{use_of_node, use_of_kind, deed_of, terms_of}
-use Rattle.gu_base.specs.Fees.{charge_of_kind, charge_of_node, charge_of, counted}
-use Rattle.gu_base.specs.declared.house.Agreement.{Agreement}
-use Rattle.gu_base.specs.declared.house.Deed.{Deed}
-use Rattle.gu_base.specs.declared.house.Deed.TheVariants.{Uses}
-use Rattle.gu_base.specs.declared.command.Command.{Command}
-use Rattle.gu_base.specs.declared.command.Command.TheVariants.{Trade, Split, Claim, Refuse, Cancel, Agree, Raise, Initiate, Decline, Reverse}
-use Rattle.gu_base.specs.declared.entry.Record.{Record}
-use Rattle.gu_base.specs.declared.node.Charge.{Charge}
-use Rattle.gu_base.specs.declared.node.Kind.{Kind}
-use Rattle.gu_base.specs.declared.node.Kind.TheVariants.{Root, Own, Given}
-use Rattle.gu_base.specs.declared.node.Node.{Node}
+use Rattle.gu_depend.proofs.Vocabulary.{EntryPart, House, node_of, use_of_node, use_of_kind, deed_of, terms_of, charge_of_kind, charge_of_node, charge_of, counted, Agreement, Deed, Uses, Command}
+use Rattle.gu_depend.proofs.Vocabulary.{Claim, Record, Charge, Kind, Given, Node}
 use Rattle.gu_base.proofs.NodeNames.{name_same}
 use Rattle.gu_base.proofs.Sums.{sum_option}
 use Rattle.gu_depend.specs.Under.{names}
@@ -39,10 +26,9 @@ SameTermsFor t l b c = (g k : List ℕ) (d : Deed) → deed_of b g k [] c ≡ So
 
 charge_of_given : (t : House) (l b : List Record) (lots : ℕ) (kind : Kind) → ((g k : List ℕ) (d : Deed) → use_of_kind g k lots kind ≡ Some d → terms_of t b g k ≡ terms_of t l g k)
     → charge_of_kind t b lots kind ≡ charge_of_kind t l lots kind
-charge_of_given t l b lots (Root _) same = refl
-charge_of_given t l b lots (Own _ _ _) same = refl
 charge_of_given t l b lots (Given m g k) same =
     ap (option_map (λ (a : Agreement). record { giver = g; taker = k; lots = lots; rate = a.rate })) (same g k (Uses lots) (ap (λ b. cond b (Some (Uses lots)) None) (both_same g k)))
+charge_of_given t l b lots _ same = refl
 
 -- a claim of a node that is there, under terms that are the same, is charged the same in both lists
 pub charge_same : (t : House) (l b : List Record) → Within l b → (c : Command) → ((n : EntryPart) → names n c ≡ true → (x : Node) × (node_of b n ≡ Some x)) → SameTermsFor t l b c
@@ -52,12 +38,4 @@ charge_same t l b w (Claim n account) there same =
     ap (option_and_then (charge_of_node t b)) x.1
     ∙ (charge_of_given t l b x.0.lots x.0.kind (λ g k d deals. same g k d (ap (option_and_then (use_of_node g k)) x.1 ∙ deals))
     ∙ sym (ap (option_and_then (charge_of_node t l)) (w.nodes n x.0 x.1)))
-charge_same t l b w (Trade _ _ _ _ _) there same = refl
-charge_same t l b w (Split _ _) there same = refl
-charge_same t l b w (Refuse _) there same = refl
-charge_same t l b w (Cancel _) there same = refl
-charge_same t l b w (Agree _ _ _ _) there same = refl
-charge_same t l b w (Raise _ _) there same = refl
-charge_same t l b w (Initiate _) there same = refl
-charge_same t l b w (Decline _) there same = refl
-charge_same t l b w (Reverse _) there same = refl
+charge_same t l b w _ there same = refl

@@ -1,5 +1,6 @@
 -- Lists cut at an element.
-use Rattle.std.proofs.Common.{◌≡◌, ℕ, zero, suc, ◌<◌, ◌≤◌, Bool, true, false, not, List, [], ◌∷◌, ◌++◌, length, get_or, refl, sym, ◌∙◌, ap, arith, cond, IsPermutation, Contains, All}
+use Rattle.std.proofs.Common.{◌≡◌, ℕ, zero, suc, ◌<◌, ◌≤◌, Bool, true, false, not, List, [], ◌∷◌, ◌++◌, length, get_or, refl, sym, ◌∙◌, ap, arith, cond}
+use Rattle.std.proofs.Common.{IsPermutation, Contains, All}
 use Rattle.std.specs.Prelude.{Some, None, find, filter, count_by}
 use Rattle.std.proofs.lemmas.List.Elements.{All-nil, All-cons, All-head, All-tail, filter-append, Contains-append_right}
 use Rattle.std.proofs.lemmas.List.Sorted.{IsPermutation-middle, IsPermutation-to_front, IsPermutation-sym, IsPermutation-trans}
@@ -33,7 +34,8 @@ pub record FirstCut {X : Type 0} (p : X → Bool) (xs : List X) (x : X) : Type 0
   pub none : All (λ y. p y ≡ false) before
   pub passes : p x ≡ true
 
-first_cut_at : {X : Type 0} (p : X → Bool) (y : X) (ys : List X) (x : X) → (find p ys ≡ Some x → FirstCut p ys x) → (b : Bool) → p y ≡ b → cond b (Some y) (find p ys) ≡ Some x → FirstCut p (y ∷ ys) x
+first_cut_at : {X : Type 0} (p : X → Bool) (y : X) (ys : List X) (x : X) → (find p ys ≡ Some x → FirstCut p ys x) → (b : Bool) → p y ≡ b → cond b (Some y) (find p ys) ≡ Some x
+    → FirstCut p (y ∷ ys) x
 first_cut_at p y ys x later true e h =
     let one : y ≡ x = same_Some y x h in
     record { before = []; behind = ys; is = ap (λ z. z ∷ ys) one; none = All-nil (λ z. p z ≡ false); passes = sym (ap p one) ∙ e }
@@ -45,7 +47,8 @@ pub first_cut : {X : Type 0} (p : X → Bool) (xs : List X) (x : X) → find p x
 first_cut p [] x h = absurd (cc)
 first_cut p (y ∷ ys) x h = first_cut_at p y ys x (first_cut p ys x) (p y) refl h
 
-none_past_at : {X : Type 0} (p : X → Bool) (y : X) (ys : List X) → (find p ys ≡ None → All (λ z. p z ≡ false) ys) → (b : Bool) → p y ≡ b → cond b (Some y) (find p ys) ≡ None → All (λ z. p z ≡ false) (y ∷ ys)
+none_past_at : {X : Type 0} (p : X → Bool) (y : X) (ys : List X) → (find p ys ≡ None → All (λ z. p z ≡ false) ys) → (b : Bool) → p y ≡ b → cond b (Some y) (find p ys) ≡ None
+    → All (λ z. p z ≡ false) (y ∷ ys)
 none_past_at p y ys later true e h = absurd (cc)
 none_past_at p y ys later false e h = All-cons (λ z. p z ≡ false) y ys e (later h)
 

@@ -6,24 +6,9 @@ use Rattle.std.proofs.lemmas.Bool.{and_parts}
 use Rattle.std.proofs.lemmas.List.Elements.{All-head, All-tail, All-weaker, filter_map-append}
 use Rattle.std.proofs.lemmas.Option.{same_Some}
 use Rattle.std.proofs.lemmas.Slice.Eq.{bytes_eq-Decides}
-use Rattle.gu_base.specs.Numbers.{EntryPart}
-use Rattle.gu_base.specs.House.{House, agreement}
-use Rattle.gu_base.specs.Nodes.{node_of, is_given}
-use Rattle.gu_base.specs.Terms.{use_of_kind, use_of_node, deed_of, dealing_of, dealings_in, dealings, terms_under, terms_of, limit_of, used_of}
-use Rattle.gu_base.specs.Dealt.{leave_out, first_over, first_over_without, first_under_terms, first_under_deed}
-use Rattle.gu_base.specs.Refusals.{row, claim_row, raised_row, limit_row, limit_by, used_by}
-use Rattle.gu_base.specs.Standing.{without}
-use Rattle.gu_base.specs.SamePartsLaws.{bytes_same}
-use Rattle.gu_base.specs.declared.house.Agreement.{Agreement}
-use Rattle.gu_base.specs.declared.house.Deed.{Deed}
-use Rattle.gu_base.specs.declared.house.Deed.TheVariants.{Makes, Raises, Uses}
-use Rattle.gu_base.specs.declared.house.Dealing.{Dealing}
-use Rattle.gu_base.specs.declared.command.Command.{Command}
-use Rattle.gu_base.specs.declared.command.Command.TheVariants.{Trade, Split, Claim, Refuse, Cancel, Agree, Raise, Initiate, Decline, Reverse}
-use Rattle.gu_base.specs.declared.entry.Record.{Record}
-use Rattle.gu_base.specs.declared.node.Kind.{Kind}
-use Rattle.gu_base.specs.declared.node.Kind.TheVariants.{Root, Own, Given}
-use Rattle.gu_base.specs.declared.node.Node.{Node}
+use Rattle.gu_depend.proofs.Vocabulary.{EntryPart, House, agreement, node_of, is_given, use_of_kind, use_of_node, deed_of, dealing_of, dealings_in, dealings, terms_under, terms_of, limit_of}
+use Rattle.gu_depend.proofs.Vocabulary.{used_of, leave_out, first_over, first_over_without, first_under_terms, first_under_deed, row, claim_row, raised_row, limit_row, limit_by, used_by, without}
+use Rattle.gu_depend.proofs.Vocabulary.{bytes_same, Agreement, Deed, Makes, Raises, Uses, Dealing, Command, Claim, Agree, Raise, Record, Kind, Given, Node}
 use Rattle.gu_base.proofs.Accepted.{unless_none}
 use Rattle.gu_base.proofs.Dealt.{may_raise, may_use, fits, AllFit, first_unfit, unfit_none, fit_without_use, unfit_without_raise, unfit_without_terms}
 use Rattle.gu_base.proofs.NodeNames.{name_same}
@@ -47,17 +32,10 @@ abbrev numbered : Record → Deed → Dealing
 numbered r d = record { number = r.number; deed = d }
 
 -- a change whose node is there deals the same in both lists
-pub deed_grown : (l b : List Record) (g k by : List ℕ) (c : Command) → Within l b → ((n : EntryPart) → names n c ≡ true → (x : Node) × (node_of b n ≡ Some x)) → deed_of b g k by c ≡ deed_of l g k by c
+pub deed_grown : (l b : List Record) (g k by : List ℕ) (c : Command) → Within l b → ((n : EntryPart) → names n c ≡ true → (x : Node) × (node_of b n ≡ Some x))
+    → deed_of b g k by c ≡ deed_of l g k by c
 deed_grown l b g k by (Claim n account) w there = let x = there n (name_same n) in ap (option_and_then (use_of_node g k)) (x.1 ∙ sym (w.nodes n x.0 x.1))
-deed_grown l b g k by (Trade _ _ _ _ _) w there = refl
-deed_grown l b g k by (Split _ _) w there = refl
-deed_grown l b g k by (Refuse _) w there = refl
-deed_grown l b g k by (Cancel _) w there = refl
-deed_grown l b g k by (Agree _ _ _ _) w there = refl
-deed_grown l b g k by (Raise _ _) w there = refl
-deed_grown l b g k by (Initiate _) w there = refl
-deed_grown l b g k by (Decline _) w there = refl
-deed_grown l b g k by (Reverse _) w there = refl
+deed_grown l b g k by _ w there = refl
 
 pub gives_alike : {X Y : Type 0} (f h : X → Option Y) (xs : List X) → All (λ x. f x ≡ h x) xs → filter_map f xs ≡ filter_map h xs
 gives_alike f h [] all = refl
@@ -92,17 +70,18 @@ may_used : (lots : ℕ) (o : Option ℕ) → may_use lots o ≡ true → limit_r
 may_used lots None h = absurd (cc)
 may_used lots (Some limit) h = none_unless _ _ h
 
-use_fits : (t : House) (b : List Record) (g k : List ℕ) (lots : ℕ) (kind : Kind) (d : Deed) → use_of_kind g k lots kind ≡ Some d → limit_row (used_by b kind + lots) (limit_by t b kind) ≡ None
+use_fits : (t : House) (b : List Record) (g k : List ℕ) (lots : ℕ) (kind : Kind) (d : Deed) → use_of_kind g k lots kind ≡ Some d
+    → limit_row (used_by b kind + lots) (limit_by t b kind) ≡ None
     → fits (agreement t g k) (dealings b g k) d ≡ true
-use_fits t b g k lots (Root _) d deals h = absurd (cc)
-use_fits t b g k lots (Own _ _ _) d deals h = absurd (cc)
 use_fits t b g k lots (Given m x y) d deals h =
     let p = of_pair g k x y (Uses lots) d (bytes_eq x g && bytes_eq y k) refl deals in
     let may = used_may (used_of b x y + lots) (limit_of t b x y) h in
     subst (λ e. fits (agreement t g k) (dealings b g k) e ≡ true) p.1.1
     (subst (λ z. may_use (used_of b g z + lots) (limit_of t b g z) ≡ true) p.1.0 (subst (λ z. may_use (used_of b z y + lots) (limit_of t b z y) ≡ true) p.0 may))
+use_fits t b g k lots _ d deals h = absurd (cc)
 
-pub row_fits : (t : House) (b : List Record) (g k by : List ℕ) (c : Command) (d : Deed) → row t b by c ≡ None → deed_of b g k by c ≡ Some d → fits (agreement t g k) (dealings b g k) d ≡ true
+pub row_fits : (t : House) (b : List Record) (g k by : List ℕ) (c : Command) (d : Deed) → row t b by c ≡ None → deed_of b g k by c ≡ Some d
+    → fits (agreement t g k) (dealings b g k) d ≡ true
 row_fits t b g k by (Claim n account) d h deals =
     let there = at_node_none (claim_row t b by account) (node_of b n) h in
     let passes = claim_passes t b by account there.0 there.1.1 in
@@ -117,23 +96,16 @@ row_fits t b g k by (Raise x lots) d h deals =
     let may = raised_may lots (limit_of t b x by) (raise_passes t b by x lots h).1 in
     subst (λ e. fits (agreement t g k) (dealings b g k) e ≡ true) p.1.1
     (subst (λ z. may_raise lots (limit_of t b g z) ≡ true) p.1.0 (subst (λ z. may_raise lots (limit_of t b z by) ≡ true) p.0 may))
-row_fits t b g k by (Trade _ _ _ _ _) d h deals = absurd (cc)
-row_fits t b g k by (Split _ _) d h deals = absurd (cc)
-row_fits t b g k by (Refuse _) d h deals = absurd (cc)
-row_fits t b g k by (Cancel _) d h deals = absurd (cc)
-row_fits t b g k by (Initiate _) d h deals = absurd (cc)
-row_fits t b g k by (Decline _) d h deals = absurd (cc)
-row_fits t b g k by (Reverse _) d h deals = absurd (cc)
+row_fits t b g k by _ d h deals = absurd (cc)
 
 -- and what fits is within the limit
 pub claim_within : (t : House) (l b : List Record) (n : EntryPart) (by account : List ℕ) (x : Node) → node_of l n ≡ Some x
     → ((g k : List ℕ) (d : Deed) → deed_of l g k by (Claim n account) ≡ Some d → fits (agreement t g k) (dealings b g k) d ≡ true)
     → (kind : Kind) → x.kind ≡ kind → is_given kind ≡ true → limit_row (used_by b kind + x.lots) (limit_by t b kind) ≡ None
-claim_within t l b n by account x found fit (Root _) is given = absurd (cc)
-claim_within t l b n by account x found fit (Own _ _ _) is given = absurd (cc)
 claim_within t l b n by account x found fit (Given m g k) is given =
     may_used (used_of b g k + x.lots) (limit_of t b g k)
     (fit g k (Uses x.lots) (ap (option_and_then (use_of_node g k)) found ∙ (ap (use_of_kind g k x.lots) is ∙ ap (λ b. cond b (Some (Uses x.lots)) None) (both_same g k))))
+claim_within t l b n by account x found fit _ is given = absurd (cc)
 
 -- ---- whom a change deals with
 
@@ -150,22 +122,15 @@ deal_is t l g k n by (Raise x lots) d deals =
 deal_is t l g k n by (Claim m account) d deals = used_under_none (node_of l m) deals
   where
     kind_none : (lots : ℕ) (kind : Kind) → use_of_kind g k lots kind ≡ Some d → None ≡ first_under_deed (agreement t g k) (dealings l g k) n d
-    kind_none lots (Root _) h = absurd (cc)
-    kind_none lots (Own _ _ _) h = absurd (cc)
     kind_none lots (Given m x y) h =
         let p = of_pair g k x y (Uses lots) d (bytes_eq x g && bytes_eq y k) refl h in
         ap (first_under_deed (agreement t g k) (dealings l g k) n) p.1.1
+    kind_none lots _ h = absurd (cc)
 
     used_under_none : (o : Option Node) → option_and_then (use_of_node g k) o ≡ Some d → None ≡ first_under_deed (agreement t g k) (dealings l g k) n d
     used_under_none None h = absurd (cc)
     used_under_none (Some x) h = kind_none x.lots x.kind h
-deal_is t l g k n by (Trade _ _ _ _ _) d deals = absurd (cc)
-deal_is t l g k n by (Split _ _) d deals = absurd (cc)
-deal_is t l g k n by (Refuse _) d deals = absurd (cc)
-deal_is t l g k n by (Cancel _) d deals = absurd (cc)
-deal_is t l g k n by (Initiate _) d deals = absurd (cc)
-deal_is t l g k n by (Decline _) d deals = absurd (cc)
-deal_is t l g k n by (Reverse _) d deals = absurd (cc)
+deal_is t l g k n by _ d deals = absurd (cc)
 
 -- a giver and a taker for whom a change deals
 pub record DealsFor (l : List Record) (by : List ℕ) (c : Command) : Type 0 where
@@ -179,17 +144,11 @@ pub deals_some : (t : House) (l : List Record) (n : ℕ) (by : List ℕ) (c : Co
 deals_some t l n by (Agree x y rate limit) m h =
     record { giver = x; taker = y; deed = Makes (record { rate = rate; limit = limit }); deals = ap (λ b. cond b (Some (Makes (record { rate = rate; limit = limit }))) None) (both_same x y) }
 deals_some t l n by (Raise x lots) m h = record { giver = x; taker = by; deed = Raises lots; deals = ap (λ b. cond b (Some (Raises lots)) None) (both_same x by) }
-deals_some t l n by (Claim _ _) m h = absurd (cc)
-deals_some t l n by (Trade _ _ _ _ _) m h = absurd (cc)
-deals_some t l n by (Split _ _) m h = absurd (cc)
-deals_some t l n by (Refuse _) m h = absurd (cc)
-deals_some t l n by (Cancel _) m h = absurd (cc)
-deals_some t l n by (Initiate _) m h = absurd (cc)
-deals_some t l n by (Decline _) m h = absurd (cc)
-deals_some t l n by (Reverse _) m h = absurd (cc)
+deals_some t l n by _ m h = absurd (cc)
 
 -- a change deals for one giver and one taker
-one_pair : (g k x y u v : List ℕ) (e d f : Deed) → cond (bytes_eq u g && bytes_eq v k) (Some e) None ≡ Some d → cond (bytes_eq u x && bytes_eq v y) (Some e) None ≡ Some f → (g ≡ x) × (k ≡ y)
+one_pair : (g k x y u v : List ℕ) (e d f : Deed) → cond (bytes_eq u g && bytes_eq v k) (Some e) None ≡ Some d → cond (bytes_eq u x && bytes_eq v y) (Some e) None ≡ Some f
+    → (g ≡ x) × (k ≡ y)
 one_pair g k x y u v e d f a b =
     let p = of_pair g k u v e d (bytes_eq u g && bytes_eq v k) refl a in
     let q = of_pair x y u v e f (bytes_eq u x && bytes_eq v y) refl b in
@@ -201,20 +160,13 @@ same_pair l g k x y by (Raise u lots) d f a b = one_pair g k x y u by (Raises lo
 same_pair l g k x y by (Claim n account) d f a b = by_node (node_of l n) a b
   where
     by_kind : (lots : ℕ) (kind : Kind) → use_of_kind g k lots kind ≡ Some d → use_of_kind x y lots kind ≡ Some f → (g ≡ x) × (k ≡ y)
-    by_kind lots (Root _) a b = absurd (cc)
-    by_kind lots (Own _ _ _) a b = absurd (cc)
     by_kind lots (Given m u v) a b = one_pair g k x y u v (Uses lots) d f a b
+    by_kind lots _ a b = absurd (cc)
 
     by_node : (o : Option Node) → option_and_then (use_of_node g k) o ≡ Some d → option_and_then (use_of_node x y) o ≡ Some f → (g ≡ x) × (k ≡ y)
     by_node None a b = absurd (cc)
     by_node (Some z) a b = by_kind z.lots z.kind a b
-same_pair l g k x y by (Trade _ _ _ _ _) d f a b = absurd (cc)
-same_pair l g k x y by (Split _ _) d f a b = absurd (cc)
-same_pair l g k x y by (Refuse _) d f a b = absurd (cc)
-same_pair l g k x y by (Cancel _) d f a b = absurd (cc)
-same_pair l g k x y by (Initiate _) d f a b = absurd (cc)
-same_pair l g k x y by (Decline _) d f a b = absurd (cc)
-same_pair l g k x y by (Reverse _) d f a b = absurd (cc)
+same_pair l g k x y by _ d f a b = absurd (cc)
 
 -- ---- one left out
 
@@ -306,7 +258,8 @@ cut_step l g k r rest d behind later (Some f) e (x ∷ before) h =
       number = c.number;
     }
 
-pub deal_cut : (l among : List Record) (g k : List ℕ) (before : List Dealing) (d : Dealing) (behind : List Dealing) → dealings_in l among g k ≡ before ++ d ∷ behind → DealCut l among g k before d
+pub deal_cut : (l among : List Record) (g k : List ℕ) (before : List Dealing) (d : Dealing) (behind : List Dealing) → dealings_in l among g k ≡ before ++ d ∷ behind
+    → DealCut l among g k before d
 deal_cut l [] g k before d behind h = absurd (not_empty before d behind h)
 deal_cut l (r ∷ rest) g k before d behind h =
     cut_step l g k r rest d behind (λ before h. deal_cut l rest g k before d behind h) (deed_of l g k r.firm r.command) refl before h

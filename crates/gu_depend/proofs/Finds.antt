@@ -1,5 +1,6 @@
 -- What is found in a list where at most one element passes, in whatever order the list stands.
-use Rattle.std.proofs.Common.{◌≡◌, ℕ, zero, suc, ◌+◌, ◌<◌, ◌≤◌, Bool, true, false, List, [], ◌∷◌, ◌++◌, length, get_or, refl, ◌∙◌, ap, arith, cond, Option, IsPermutation, Contains}
+use Rattle.std.proofs.Common.{◌≡◌, ℕ, zero, suc, ◌+◌, ◌<◌, ◌≤◌, Bool, true, false, List, [], ◌∷◌, ◌++◌, length, get_or, refl, ◌∙◌, ap, arith, cond, Option}
+use Rattle.std.proofs.Common.{IsPermutation, Contains}
 use Rattle.std.specs.Prelude.{Some, None, find, count_by}
 use Rattle.std.specs.Option.{option_or}
 use Rattle.std.proofs.lemmas.List.Folds.{find-append}
@@ -16,7 +17,8 @@ count_append p xs ys = sum_by-append (λ y. cond (p y) 1 0) xs ys
 pub count_permuted : {X : Type 0} (p : X → Bool) (xs ys : List X) → IsPermutation xs ys → count_by p ys ≡ count_by p xs
 count_permuted p xs ys same = sum_by-IsPermutation (λ y. cond (p y) 1 0) xs ys same
 
-find_none_at : {X : Type 0} (p : X → Bool) (x : X) (xs : List X) → (find p xs ≡ None → count_by p xs ≡ 0) → (b : Bool) → cond b (Some x) (find p xs) ≡ None → cond b 1 0 + count_by p xs ≡ 0
+find_none_at : {X : Type 0} (p : X → Bool) (x : X) (xs : List X) → (find p xs ≡ None → count_by p xs ≡ 0) → (b : Bool) → cond b (Some x) (find p xs) ≡ None
+    → cond b 1 0 + count_by p xs ≡ 0
 find_none_at p x xs later true h = absurd (cc)
 find_none_at p x xs later false h = omega (arith, later h)
 
@@ -28,7 +30,8 @@ none_counts p (x ∷ xs) h =
     let b = find_none_at p x xs (none_counts p xs) (p x) h in
     omega (arith, a, b)
 
-counts_none_at : {X : Type 0} (p : X → Bool) (x : X) (xs : List X) → (count_by p xs ≡ 0 → find p xs ≡ None) → (b : Bool) → cond b 1 0 + count_by p xs ≡ 0 → cond b (Some x) (find p xs) ≡ None
+counts_none_at : {X : Type 0} (p : X → Bool) (x : X) (xs : List X) → (count_by p xs ≡ 0 → find p xs ≡ None) → (b : Bool) → cond b 1 0 + count_by p xs ≡ 0
+    → cond b (Some x) (find p xs) ≡ None
 counts_none_at p x xs later true h = absurd (omega (arith, h))
 counts_none_at p x xs later false h = later (omega (arith, h))
 
@@ -45,7 +48,8 @@ counts_in p xs x among passes =
     let b : cond (p (get_or xs among.0 x)) 1 0 ≡ 1 = ap (λ y. cond {A = ℕ} (p y) 1 0) among.2 ∙ ap (λ b. cond {A = ℕ} b 1 0) passes in
     omega (arith, a, b)
 
-found_past : {X : Type 0} (p : X → Bool) (y : X) (ys : List X) (x : X) → 1 ≤ count_by p ys → (count_by p ys ≤ 1 → find p ys ≡ Some x) → (b : Bool) → cond b 1 0 + count_by p ys ≤ 1 → cond b (Some y) (find p ys) ≡ Some x
+found_past : {X : Type 0} (p : X → Bool) (y : X) (ys : List X) (x : X) → 1 ≤ count_by p ys → (count_by p ys ≤ 1 → find p ys ≡ Some x) → (b : Bool)
+    → cond b 1 0 + count_by p ys ≤ 1 → cond b (Some y) (find p ys) ≡ Some x
 found_past p y ys x some later true once = absurd (omega (arith, some, once))
 found_past p y ys x some later false once = later (omega (arith, once))
 

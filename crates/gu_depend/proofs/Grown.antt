@@ -1,15 +1,12 @@
 -- A list of changes that has some of the changes of another, each behind what it stands on: what it says of a node is what the
 -- other says.
-use Rattle.std.proofs.Common.{◌≡◌, ℕ, zero, suc, ◌+◌, ◌-◌, ◌≤◌, true, false, ◌||◌, List, [], ◌∷◌, ◌++◌, length, refl, sym, ◌∙◌, ap, subst, arith, Option, All, length-append}
+use Rattle.std.proofs.Common.{◌≡◌, ℕ, zero, suc, ◌+◌, ◌-◌, ◌≤◌, true, false, ◌||◌, List, [], ◌∷◌, ◌++◌, length, refl, sym, ◌∙◌, ap, subst, arith, Option}
+use Rattle.std.proofs.Common.{All, length-append}
 use Rattle.std.specs.Prelude.{Some, None, option_and_then, option_map, unwrap_or, bytes_eq}
 use Rattle.std.specs.Option.{option_or}
 use Rattle.std.proofs.lemmas.List.Elements.{All-nil, All-push, All-weaker, All-contains}
-use Rattle.gu_base.specs.Numbers.{EntryPart}
-use Rattle.gu_base.specs.Nodes.{node_of, decision_of, claim_of, claimed_account, parent, splits, decides}
-use Rattle.gu_base.specs.Places.{line_within, line_of, place_of_kind, place_along, place_of, depth_of}
-use Rattle.gu_base.specs.Refusals.{owns}
-use Rattle.gu_base.specs.declared.entry.Record.{Record}
-use Rattle.gu_base.specs.declared.node.Node.{Node}
+use Rattle.gu_depend.proofs.Vocabulary.{EntryPart, node_of, decision_of, claim_of, claimed_account, parent, splits, decides, line_within, line_of, place_of_kind, place_along, place_of, depth_of}
+use Rattle.gu_depend.proofs.Vocabulary.{owns, Record, Node}
 use Rattle.gu_base.proofs.Lines.{node_more}
 use Rattle.gu_depend.specs.Under.{names}
 use Rattle.gu_depend.proofs.Finds.{find_more}
@@ -50,7 +47,8 @@ grown_none l = record {
   ends = λ f n x e. absurd (cc);
 }
 
-decided_more_by : (l b : List Record) (r : Record) (n : EntryPart) → Within l (b ++ r ∷ []) → (o : Option Record) → decision_of b n ≡ o → o ≡ decision_of l n → decision_of (b ++ r ∷ []) n ≡ decision_of l n
+decided_more_by : (l b : List Record) (r : Record) (n : EntryPart) → Within l (b ++ r ∷ []) → (o : Option Record) → decision_of b n ≡ o → o ≡ decision_of l n
+    → decision_of (b ++ r ∷ []) n ≡ decision_of l n
 decided_more_by l b r n w None e same = no_some (decision_of (b ++ r ∷ []) n) (λ d h. none_is_some (decision_of l n) d (sym same) (w.decisions n d h)) ∙ same
 decided_more_by l b r n w (Some d) e same = find_more (λ r. decides n r.command) b (r ∷ []) d e ∙ same
 
@@ -69,7 +67,7 @@ splits_names n r is = ap (λ b. b || decides n r.command) is
 
 -- ---- lines
 
-line_none : (f : ℕ) (l : List Record) → line_within f l None ≡ []
+pub line_none : (f : ℕ) (l : List Record) → line_within f l None ≡ []
 line_none zero l = refl
 line_none (suc f) l = refl
 
@@ -100,7 +98,8 @@ old_ends b r named ends f n x found far = sym (line_led f (b ++ r ∷ []) b (nod
 
 -- and above a node that the last change makes, there are only such
 new_up : (b : List Record) (r : Record) → All (NamesThere b) b → LinesEnd b → NamesThere b r → (f : ℕ) (n : EntryPart) (x : Node) → made_of r n ≡ Some x → length b ≤ f
-    → (o : Option EntryPart) → parent x.kind ≡ o → line_within f (b ++ r ∷ []) (option_and_then (node_of (b ++ r ∷ [])) o) ≡ line_within (length b) (b ++ r ∷ []) (option_and_then (node_of (b ++ r ∷ [])) o)
+    → (o : Option EntryPart) → parent x.kind ≡ o → line_within f (b ++ r ∷ []) (option_and_then (node_of (b ++ r ∷ [])) o)
+    ≡ line_within (length b) (b ++ r ∷ []) (option_and_then (node_of (b ++ r ∷ [])) o)
 new_up b r named ends there f n x makes far None e = line_none f (b ++ r ∷ []) ∙ sym (line_none (length b) (b ++ r ∷ []))
 new_up b r named ends there f n x makes far (Some m) e =
     let y = there m (splits_names m r (made_by_split r n m x makes e)) in
@@ -110,7 +109,8 @@ new_up b r named ends there f n x makes far (Some m) e =
     ∙ (sym (old_ends b r named ends (length b) m y.0 y.1 (omega arith))
     ∙ sym (ap (line_within (length b) (b ++ r ∷ [])) more)))
 
-new_ends : (b : List Record) (r : Record) → All (NamesThere b) b → LinesEnd b → NamesThere b r → (f k : ℕ) (n : EntryPart) (x : Node) → made_of r n ≡ Some x → k ≡ suc (length b) → k ≤ f
+new_ends : (b : List Record) (r : Record) → All (NamesThere b) b → LinesEnd b → NamesThere b r → (f k : ℕ) (n : EntryPart) (x : Node) → made_of r n ≡ Some x → k ≡ suc (length b)
+    → k ≤ f
     → line_within f (b ++ r ∷ []) (Some x) ≡ line_within k (b ++ r ∷ []) (Some x)
 new_ends b r named ends there zero k n x makes e far = absurd (omega (arith, e, far))
 new_ends b r named ends there (suc f) zero n x makes e far = absurd (omega (arith, e))
@@ -119,8 +119,10 @@ new_ends b r named ends there (suc f) (suc k) n x makes e far =
     ap (λ xs. x ∷ xs) (new_up b r named ends there f n x makes (omega (arith, e, far)) (parent x.kind) refl
     ∙ ap (λ j. line_within j (b ++ r ∷ []) (option_and_then (node_of (b ++ r ∷ [])) (parent x.kind))) (sym long))
 
-ends_or : (b : List Record) (r : Record) → All (NamesThere b) b → LinesEnd b → NamesThere b r → (f : ℕ) (n : EntryPart) (x : Node) → length b + 1 ≤ f → length (b ++ r ∷ []) ≡ length b + 1
-    → (o : Option Node) → node_of b n ≡ o → option_or o (node_of (r ∷ []) n) ≡ Some x → line_within f (b ++ r ∷ []) (Some x) ≡ line_within (length (b ++ r ∷ [])) (b ++ r ∷ []) (Some x)
+ends_or : (b : List Record) (r : Record) → All (NamesThere b) b → LinesEnd b → NamesThere b r → (f : ℕ) (n : EntryPart) (x : Node) → length b + 1 ≤ f
+    → length (b ++ r ∷ []) ≡ length b + 1
+    → (o : Option Node) → node_of b n ≡ o → option_or o (node_of (r ∷ []) n) ≡ Some x
+    → line_within f (b ++ r ∷ []) (Some x) ≡ line_within (length (b ++ r ∷ [])) (b ++ r ∷ []) (Some x)
 ends_or b r named ends there f n x far long None e h =
     new_ends b r named ends there f (length (b ++ r ∷ [])) n x (made_alone r n ∙ h) (omega (arith, long)) (omega (arith, long, far))
 ends_or b r named ends there f n x far long (Some y) e h =
@@ -132,7 +134,8 @@ ends_push b r named ends there f n x found far =
     let long : length (b ++ r ∷ []) ≡ length b + 1 = length-append b (r ∷ []) in
     ends_or b r named ends there f n x (omega (arith, long, far)) long (node_of b n) refl (sym (node_cut b (r ∷ []) n) ∙ found)
 
-pub grown_push : (l b : List Record) (r : Record) → Grown l b → Within l (b ++ r ∷ []) → length (b ++ r ∷ []) ≤ length l → NamesThere b r → SplitsDecided l b r → Grown l (b ++ r ∷ [])
+pub grown_push : (l b : List Record) (r : Record) → Grown l b → Within l (b ++ r ∷ []) → length (b ++ r ∷ []) ≤ length l → NamesThere b r → SplitsDecided l b r
+    → Grown l (b ++ r ∷ [])
 grown_push l b r g w short there decided = record {
   within = w;
   named = All-push (NamesThere (b ++ r ∷ [])) b r (All-weaker (NamesThere b) (NamesThere (b ++ r ∷ [])) (there_more b r) b g.named) (there_more b r r there);

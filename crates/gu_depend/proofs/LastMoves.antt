@@ -1,25 +1,17 @@
 -- What a change that stands behind others moves.
-use Rattle.std.proofs.Common.{◌≡◌, ℕ, zero, suc, ◌+◌, Bool, true, false, ◌&&◌, List, [], ◌∷◌, ◌++◌, length, refl, sym, ◌∙◌, ap, subst, arith, cond, Option, Contains, All}
-use Rattle.std.specs.Prelude.{Some, None, find, filter, filter_map, sum_by, is_some, is_none, option_and_then, option_map, unwrap_or, ◌==◌}
+use Rattle.std.proofs.Common.{◌≡◌, ℕ, zero, suc, ◌+◌, Bool, true, false, ◌&&◌, List, [], ◌∷◌, ◌++◌, length, refl, sym, ◌∙◌, ap, subst, arith, cond, Option, Contains}
+use Rattle.std.proofs.Common.{All}
+use Rattle.std.specs.Prelude.{Some, None, find, filter, filter_map, sum_by, is_some, is_none, option_and_then, option_map, unwrap_or, ◌==◌, bytes_eq}
 use Rattle.std.specs.List.{cons_option}
 use Rattle.std.specs.Option.{option_or}
 use Rattle.std.proofs.lemmas.Bool.Decides.{Decides-eqb}
 use Rattle.std.proofs.lemmas.List.Elements.{All-head, All-tail, All-weaker, All-contains, All-contains_itself, filter_map-append}
 use Rattle.std.proofs.lemmas.List.Folds.{find-append}
 use Rattle.std.proofs.lemmas.List.Sums.{sum_by-cons, sum_by-append}
-use Rattle.gu_base.specs.Numbers.{EntryPart}
-use Rattle.gu_base.specs.House.{House}
-use Rattle.gu_base.specs.Nodes.{node_of, nodes, nodes_of, split_of, decision_of, same_name, splits, decides, parent}
-use Rattle.gu_base.specs.Places.{line_within, root_along, root_of, same_place}
-use Rattle.gu_base.specs.Positions.{is_trade_of, trades_in, stands_at, position_of}
-use Rattle.gu_base.specs.Fees.{charge_of, charges}
-use Rattle.gu_base.specs.Refusals.{refusal_of, row}
-use Rattle.gu_base.specs.Standing.{first_refused}
-use Rattle.gu_base.specs.declared.command.Side.{Side}
-use Rattle.gu_base.specs.declared.entry.Record.{Record}
-use Rattle.gu_base.specs.declared.node.Charge.{Charge}
-use Rattle.gu_base.specs.declared.node.Node.{Node}
-use Rattle.gu_base.specs.declared.node.Place.{Place}
+use Rattle.gu_depend.proofs.Vocabulary.{EntryPart, House, agreement, node_of, nodes, nodes_of, split_of, decision_of, same_name, splits, decides, parent, line_within, root_along, root_of}
+use Rattle.gu_depend.proofs.Vocabulary.{same_place, is_trade_of, trades_in, stands_at, position_of, charge_of, charges, refusal_of, row, first_refused, Side, Record, Charge, Node, Place}
+use Rattle.gu_depend.proofs.Vocabulary.{use_of_kind, use_of_node, deed_of, dealings_in, dealings, terms_under, raised_under, used_under, terms_of, Agreement, Deed, Uses, Command, Claim, Kind}
+use Rattle.gu_depend.proofs.Vocabulary.{Given}
 use Rattle.gu_base.proofs.Basics.{or_none, none_is_some}
 use Rattle.gu_base.proofs.LegalLaws.{none_refused, replay_front}
 use Rattle.gu_depend.specs.Under.{names}
@@ -32,16 +24,6 @@ use Rattle.gu_depend.proofs.Settled.{front_facts, facts, accepted_there}
 use Rattle.gu_depend.proofs.Deals.{of_pair, dealings_grown, dealings_append, row_fits, not_empty}
 use Rattle.gu_depend.proofs.Cuts.{cut_at}
 use Rattle.gu_base.proofs.Dealt.{fits, may_use, AllFit, all_sound, terms_stay}
-use Rattle.gu_base.specs.House.{agreement}
-use Rattle.gu_base.specs.Terms.{use_of_kind, use_of_node, deed_of, dealings_in, dealings, terms_under, raised_under, used_under, terms_of}
-use Rattle.gu_base.specs.declared.house.Agreement.{Agreement}
-use Rattle.gu_base.specs.declared.house.Deed.{Deed}
-use Rattle.gu_base.specs.declared.house.Deed.TheVariants.{Uses}
-use Rattle.gu_base.specs.declared.command.Command.{Command}
-use Rattle.gu_base.specs.declared.command.Command.TheVariants.{Trade, Split, Claim, Refuse, Cancel, Agree, Raise, Initiate, Decline, Reverse}
-use Rattle.gu_base.specs.declared.node.Kind.{Kind}
-use Rattle.gu_base.specs.declared.node.Kind.TheVariants.{Root, Own, Given}
-use Rattle.std.specs.Prelude.{bytes_eq}
 use Rattle.gu_depend.proofs.Replay.{NumbersOnce}
 use Rattle.gu_depend.proofs.StandsLast.{replay_rest, decision_cut}
 use Rattle.gu_depend.proofs.StandsUnder.{found_some}
@@ -78,11 +60,13 @@ charged_alike g h (d ∷ l) all =
 
 -- ---- roots
 
-root_at : (l : List Record) (x : Node) (p : EntryPart) → node_of l x.name ≡ Some x → (xs : List Node) → (root_along xs ≡ Some p → (y : Node) × (node_of l p ≡ Some y)) → root_along (x ∷ xs) ≡ Some p → (y : Node) × (node_of l p ≡ Some y)
+root_at : (l : List Record) (x : Node) (p : EntryPart) → node_of l x.name ≡ Some x → (xs : List Node) → (root_along xs ≡ Some p → (y : Node) × (node_of l p ≡ Some y))
+    → root_along (x ∷ xs) ≡ Some p → (y : Node) × (node_of l p ≡ Some y)
 root_at l x p found [] later h = (x, subst (λ (z : EntryPart). node_of l z ≡ Some x) (same_Some x.name p h) found)
 root_at l x p found (y ∷ ys) later h = later h
 
-root_by : (f : ℕ) (l : List Record) (p : EntryPart) → ((m : EntryPart) (y : Node) → node_of l m ≡ Some y → root_along (line_within f l (Some y)) ≡ Some p → (z : Node) × (node_of l p ≡ Some z))
+root_by : (f : ℕ) (l : List Record) (p : EntryPart)
+    → ((m : EntryPart) (y : Node) → node_of l m ≡ Some y → root_along (line_within f l (Some y)) ≡ Some p → (z : Node) × (node_of l p ≡ Some z))
     → (k : Option EntryPart) → (o : Option Node) → option_and_then (node_of l) k ≡ o → root_along (line_within f l o) ≡ Some p → (z : Node) × (node_of l p ≡ Some z)
 root_by f l p found k None e h = absurd (cc)
 root_by f l p found None (Some y) e h = absurd (cc)
@@ -139,14 +123,16 @@ module _ {t : House} {l : List Record} {r : Record} (b : IsBefore t l r) where
 
   stands_kept : (at : Place) (m : EntryPart) (x : Node) → node_of l m ≡ Some x → decides m r.command ≡ false → stands_at (l ++ r ∷ []) at m ≡ stands_at l at m
   stands_kept at m x found un =
-      let decision : decision_of (l ++ r ∷ []) m ≡ decision_of l m = decision_cut l (r ∷ []) m ∙ (ap (λ c. option_or (decision_of l m) (cond c (Some r) None)) un ∙ or_none (decision_of l m)) in
+      let decision : decision_of (l ++ r ∷ []) m ≡ decision_of l m = decision_cut l (r ∷ []) m
+      ∙ (ap (λ c. option_or (decision_of l m) (cond c (Some r) None)) un ∙ or_none (decision_of l m)) in
       ap (λ p. unwrap_or (option_map (same_place at) p) false) (sym (place_same (l ++ r ∷ []) l m x b.grown found (sym decision)))
 
   pub split_kept : (m : EntryPart) → splits m r.command ≡ false → split_of (l ++ r ∷ []) m ≡ split_of l m
   split_kept m un = find-append (λ d. splits m d.command) l (r ∷ []) ∙ (ap (λ c. option_or (split_of l m) (cond c (Some r) None)) un ∙ or_none (split_of l m))
 
   -- a node that the change doesn't name adds what it added
-  lots_kept : (at : Place) (instrument : List ℕ) (side : Side) (x y : Node) → node_of l x.name ≡ Some y → names x.name r.command ≡ false → lots_at (l ++ r ∷ []) at instrument side x ≡ lots_at l at instrument side x
+  lots_kept : (at : Place) (instrument : List ℕ) (side : Side) (x y : Node) → node_of l x.name ≡ Some y → names x.name r.command ≡ false
+      → lots_at (l ++ r ∷ []) at instrument side x ≡ lots_at l at instrument side x
   lots_kept at instrument side x y found un =
       let apart = or_parts (splits x.name r.command) (decides x.name r.command) un in
       ap (λ s. cond (is_none s) (cond (stands_at (l ++ r ∷ []) at x.name && trades_in (l ++ r ∷ []) instrument side x.name) x.lots 0) 0) (split_kept x.name apart.0)
@@ -188,34 +174,19 @@ module _ {t : House} {l : List Record} {r : Record} (b : IsBefore t l r) where
       let c = cut_at l d among in
       let cut : dealings_in l l g k ≡ dealings_in l c.before g k ++ (record { number = d.number; deed = e } ∷ dealings_in l c.behind g k) =
       ap (λ z. dealings_in l z g k) c.is
-      ∙ (dealings_append l c.before (d ∷ c.behind) g k ∙ ap (λ o. dealings_in l c.before g k ++ cons_option (option_map (λ f. record { number = d.number; deed = f }) o) (dealings_in l c.behind g k)) deals) in
+      ∙ (dealings_append l c.before (d ∷ c.behind) g k
+      ∙ ap (λ o. dealings_in l c.before g k ++ cons_option (option_map (λ f. record { number = d.number; deed = f }) o) (dealings_in l c.behind g k)) deals) in
       not_empty (dealings_in l c.before g k) (record { number = d.number; deed = e }) (dealings_in l c.behind g k) (sym empty ∙ cut)
 
   -- a claim deals whoever asks
   deeds_alike : (g k by : List ℕ) (c : Command) (e : Deed) → is_claim c ≡ true → deed_of l g k [] c ≡ Some e → deed_of l g k by c ≡ Some e
   deeds_alike g k by (Claim _ _) e is h = h
-  deeds_alike g k by (Trade _ _ _ _ _) e is h = absurd (cc)
-  deeds_alike g k by (Split _ _) e is h = absurd (cc)
-  deeds_alike g k by (Refuse _) e is h = absurd (cc)
-  deeds_alike g k by (Cancel _) e is h = absurd (cc)
-  deeds_alike g k by (Agree _ _ _ _) e is h = absurd (cc)
-  deeds_alike g k by (Raise _ _) e is h = absurd (cc)
-  deeds_alike g k by (Initiate _) e is h = absurd (cc)
-  deeds_alike g k by (Decline _) e is h = absurd (cc)
-  deeds_alike g k by (Reverse _) e is h = absurd (cc)
+  deeds_alike g k by _ e is h = absurd (cc)
 
   -- what is no claim is charged nothing
   uncharged : (t : House) (x y : List Record) (c : Command) → is_claim c ≡ false → charge_of t x c ≡ charge_of t y c
   uncharged t x y (Claim _ _) is = absurd (cc)
-  uncharged t x y (Trade _ _ _ _ _) is = refl
-  uncharged t x y (Split _ _) is = refl
-  uncharged t x y (Refuse _) is = refl
-  uncharged t x y (Cancel _) is = refl
-  uncharged t x y (Agree _ _ _ _) is = refl
-  uncharged t x y (Raise _ _) is = refl
-  uncharged t x y (Initiate _) is = refl
-  uncharged t x y (Decline _) is = refl
-  uncharged t x y (Reverse _) is = refl
+  uncharged t x y _ is = refl
 
   charge_kept_by : (d : Record) → Contains l d → NamesThere l d → (test : Bool) → is_claim d.command ≡ test → charge_of t l d.command ≡ charge_of t (l ++ r ∷ []) d.command
   charge_kept_by d among there false is = uncharged t l (l ++ r ∷ []) d.command is
@@ -235,22 +206,13 @@ module _ {t : House} {l : List Record} {r : Record} (b : IsBefore t l r) where
       use_of_claim g k by (Claim n _) e is h = of_node (node_of l n) h
         where
           of_kind : (lots : ℕ) (kind : Kind) → use_of_kind g k lots kind ≡ Some e → (lots : ℕ) × (e ≡ Uses lots)
-          of_kind lots (Root _) h = absurd (cc)
-          of_kind lots (Own _ _ _) h = absurd (cc)
           of_kind lots (Given m x y) h = let p = of_pair g k x y (Uses lots) e (bytes_eq x g && bytes_eq y k) refl h in (lots, sym p.1.1)
+          of_kind lots _ h = absurd (cc)
 
           of_node : (o : Option Node) → option_and_then (use_of_node g k) o ≡ Some e → (lots : ℕ) × (e ≡ Uses lots)
           of_node None h = absurd (cc)
           of_node (Some x) h = of_kind x.lots x.kind h
-      use_of_claim g k by (Trade _ _ _ _ _) e is h = absurd (cc)
-      use_of_claim g k by (Split _ _) e is h = absurd (cc)
-      use_of_claim g k by (Refuse _) e is h = absurd (cc)
-      use_of_claim g k by (Cancel _) e is h = absurd (cc)
-      use_of_claim g k by (Agree _ _ _ _) e is h = absurd (cc)
-      use_of_claim g k by (Raise _ _) e is h = absurd (cc)
-      use_of_claim g k by (Initiate _) e is h = absurd (cc)
-      use_of_claim g k by (Decline _) e is h = absurd (cc)
-      use_of_claim g k by (Reverse _) e is h = absurd (cc)
+      use_of_claim g k by _ e is h = absurd (cc)
 
       some_kept : (g k : List ℕ) (a : Agreement) → terms_of t l g k ≡ Some a → terms_of t l g k ≡ terms_of t (l ++ r ∷ []) g k
       some_kept g k a e =
@@ -258,9 +220,11 @@ module _ {t : House} {l : List Record} {r : Record} (b : IsBefore t l r) where
           dealings_append (l ++ r ∷ []) l (r ∷ []) g k ∙ ap (λ z. z ++ dealings_in (l ++ r ∷ []) (r ∷ []) g k) (sym (dealings_grown (l ++ r ∷ []) l g k b.grown)) in
           e ∙ sym (ap (terms_under (agreement t g k)) more ∙ terms_stay (agreement t g k) (dealings l g k) (dealings_in (l ++ r ∷ []) (r ∷ []) g k) a e)
 
-      own_by : (g k : List ℕ) → (lots : ℕ) × (e ≡ Uses lots) → (o : Option Agreement) → terms_of t l g k ≡ o → fits (agreement t g k) (dealings l g k) e ≡ true → terms_of t l g k ≡ terms_of t (l ++ r ∷ []) g k
+      own_by : (g k : List ℕ) → (lots : ℕ) × (e ≡ Uses lots) → (o : Option Agreement) → terms_of t l g k ≡ o → fits (agreement t g k) (dealings l g k) e ≡ true
+          → terms_of t l g k ≡ terms_of t (l ++ r ∷ []) g k
       own_by g k of None none fit =
-          let f : false ≡ true = sym (ap (λ o. may_use (used_under (dealings l g k) + of.0) (option_map (λ (a : Agreement). a.limit + raised_under (dealings l g k)) o)) none) ∙ (sym (ap (fits (agreement t g k) (dealings l g k)) of.1) ∙ fit) in
+          let f : false ≡ true = sym (ap (λ o. may_use (used_under (dealings l g k) + of.0) (option_map (λ (a : Agreement). a.limit + raised_under (dealings l g k)) o)) none)
+          ∙ (sym (ap (fits (agreement t g k) (dealings l g k)) of.1) ∙ fit) in
           absurd (cc)
       own_by g k of (Some a) e fit = some_kept g k a e
 

@@ -1,13 +1,7 @@
 -- What holds of every list of changes, none of which is refused after those before it.
 use Rattle.std.proofs.Common.{◌≡◌, ◌≤◌, true, List, [], ◌∷◌, ◌++◌, sym, subst, arith, append-nil, append_assoc}
 use Rattle.std.specs.Prelude.{Some, None, count_by}
-use Rattle.gu_base.specs.Numbers.{EntryPart}
-use Rattle.gu_base.specs.House.{House}
-use Rattle.gu_base.specs.Nodes.{node_of, decision_of, is_given, splits, decides}
-use Rattle.gu_base.specs.Refusals.{refusal_of, row}
-use Rattle.gu_base.specs.Standing.{first_refused}
-use Rattle.gu_base.specs.declared.entry.Record.{Record}
-use Rattle.gu_base.specs.declared.node.Node.{Node}
+use Rattle.gu_depend.proofs.Vocabulary.{EntryPart, House, node_of, decision_of, is_given, splits, decides, refusal_of, row, first_refused, Record, Node}
 use Rattle.gu_base.proofs.Lines.{node_more}
 use Rattle.gu_base.proofs.LegalLaws.{none_refused}
 use Rattle.gu_depend.proofs.Finds.{once_push}

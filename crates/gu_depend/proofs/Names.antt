@@ -5,13 +5,7 @@ use Rattle.std.specs.Option.{option_or}
 use Rattle.std.proofs.lemmas.Bool.Decides.{Decides-eqb}
 use Rattle.std.proofs.lemmas.List.Folds.{find-append}
 use Rattle.std.proofs.lemmas.List.Sums.{sum_by-le-sum_by}
-use Rattle.gu_base.specs.Numbers.{EntryPart}
-use Rattle.gu_base.specs.Nodes.{node_of, nodes, nodes_of, same_name, parent, splits}
-use Rattle.gu_base.specs.declared.command.Command.{Command}
-use Rattle.gu_base.specs.declared.command.Command.TheVariants.{Trade, Split, Claim, Refuse, Cancel, Agree, Raise, Initiate, Decline, Reverse}
-use Rattle.gu_base.specs.declared.entry.Record.{Record}
-use Rattle.gu_base.specs.declared.node.Kind.TheVariants.{Root}
-use Rattle.gu_base.specs.declared.node.Node.{Node}
+use Rattle.gu_depend.proofs.Vocabulary.{EntryPart, node_of, nodes, nodes_of, same_name, parent, splits, Command, Trade, Split, Record, Root, Node}
 use Rattle.gu_base.proofs.Basics.{or_none, none_is_some}
 use Rattle.gu_depend.proofs.Finds.{find_permuted}
 use Rattle.std.proofs.lemmas.Option.{same_Some}
@@ -66,14 +60,7 @@ parent_made n m k by (Trade firm account instrument side lots) x h up =
     first_or n name (record { name = name; lots = lots; kind = Root (record { firm = firm; account = account }) }) x None (false ≡ true)
     (λ _ e. absurd (none_is_some (parent x.kind) m (sym (ap (λ (z : Node). parent z.kind) e)) up)) (λ none. absurd (cc)) (same_name name n) refl h
 parent_made n m k by (Split o ps) x h up = same_splits o m (sym (part_parent n o k 1 by ps x h) ∙ up)
-parent_made n m k by (Claim _ _) x h up = absurd (cc)
-parent_made n m k by (Refuse _) x h up = absurd (cc)
-parent_made n m k by (Cancel _) x h up = absurd (cc)
-parent_made n m k by (Agree _ _ _ _) x h up = absurd (cc)
-parent_made n m k by (Raise _ _) x h up = absurd (cc)
-parent_made n m k by (Initiate _) x h up = absurd (cc)
-parent_made n m k by (Decline _) x h up = absurd (cc)
-parent_made n m k by (Reverse _) x h up = absurd (cc)
+parent_made n m k by _ x h up = absurd (cc)
 
 -- a node that has a parent is made by a Split of it
 pub made_by_split : (r : Record) (n m : EntryPart) (x : Node) → made_of r n ≡ Some x → parent x.kind ≡ Some m → splits m r.command ≡ true

@@ -108,11 +108,7 @@ module _ (l : List Record) (once : NumbersOnce l) (k : ℕ) (r : Record) (there 
         told.split ∙ (ap (λ n. option_map (λ r. r.number) (split_of l n)) (sym (same_Some _ _ at)) ∙ sym (least_in (split_of l n)))
     by_split (Cancel n) is at which =
         told.split ∙ (ap (λ n. option_map (λ r. r.number) (split_of l n)) (sym (same_Some _ _ at)) ∙ sym (least_in (split_of l n)))
-    by_split (Agree _ _ _ _) is at which = absurd (cc)
-    by_split (Raise _ _) is at which = absurd (cc)
-    by_split (Initiate _) is at which = absurd (cc)
-    by_split (Decline _) is at which = absurd (cc)
-    by_split (Reverse _) is at which = absurd (cc)
+    by_split _ is at which = absurd (cc)
 
     -- a decision is the one of its node
     its_decision : (n : EntryPart) → decides n r.command ≡ true → Some n ≡ Some (head_of v).name → (head_of v).decision ≡ Some k
@@ -138,11 +134,7 @@ module _ (l : List Record) (once : NumbersOnce l) (k : ℕ) (r : Record) (there 
     by_parts (Claim n a) is at other undecided = absurd (undecided (its_decision n (ap (decides n) is ∙ name_same n) at))
     by_parts (Refuse n) is at other undecided = absurd (undecided (its_decision n (ap (decides n) is ∙ name_same n) at))
     by_parts (Cancel n) is at other undecided = absurd (undecided (its_decision n (ap (decides n) is ∙ name_same n) at))
-    by_parts (Agree _ _ _ _) is at other undecided = absurd (cc)
-    by_parts (Raise _ _) is at other undecided = absurd (cc)
-    by_parts (Initiate _) is at other undecided = absurd (cc)
-    by_parts (Decline _) is at other undecided = absurd (cc)
-    by_parts (Reverse _) is at other undecided = absurd (cc)
+    by_parts _ is at other undecided = absurd (cc)
 
 -- ---- the answers
 

@@ -6,15 +6,7 @@ use Rattle.std.specs.List.{cons_option}
 use Rattle.std.specs.Option.{option_or}
 use Rattle.std.proofs.lemmas.Bool.Decides.{Decides-eqb}
 use Rattle.std.proofs.lemmas.List.Folds.{find-append}
-use Rattle.gu_base.specs.House.{House, agreement}
-use Rattle.gu_base.specs.Terms.{deed_of, dealings_in, dealings}
-use Rattle.gu_base.specs.Dealt.{first_under_deed}
-use Rattle.gu_base.specs.declared.house.Deed.{Deed}
-use Rattle.gu_base.specs.declared.house.Deed.TheVariants.{Makes, Raises}
-use Rattle.gu_base.specs.declared.house.Dealing.{Dealing}
-use Rattle.gu_base.specs.declared.command.Command.{Command}
-use Rattle.gu_base.specs.declared.command.Command.TheVariants.{Trade, Split, Claim, Refuse, Cancel, Agree, Raise, Initiate, Decline, Reverse}
-use Rattle.gu_base.specs.declared.entry.Record.{Record}
+use Rattle.gu_depend.proofs.Vocabulary.{House, agreement, deed_of, dealings_in, dealings, first_under_deed, Deed, Makes, Raises, Dealing, Command, Agree, Raise, Initiate, Decline, Reverse, Record}
 use Rattle.gu_base.proofs.Searches.{found_in, find_passes}
 use Rattle.gu_tree.specs.ShownAll.{change_of, named_place}
 use Rattle.gu_fees.specs.Rows.{is_pair}
@@ -49,7 +41,8 @@ none_numbered l g k n (r ∷ b) h =
     none_step l g k n r b (none_numbered l g k n b (rest_none r (find (λ r. r.number == n) b) (r.number == n) h)) (deed_of l g k r.firm r.command) (r.number == n) refl h
 
 -- the deed of a change is found under its number
-pub deed_found : (l : List Record) (once : NumbersOnce l) (r : Record) (g k : List ℕ) (d : Deed) → Contains l r → deed_of l g k r.firm r.command ≡ Some d → deed_at (dealings l g k) r.number ≡ Some d
+pub deed_found : (l : List Record) (once : NumbersOnce l) (r : Record) (g k : List ℕ) (d : Deed) → Contains l r → deed_of l g k r.firm r.command ≡ Some d
+    → deed_at (dealings l g k) r.number ≡ Some d
 deed_found l once r g k d among deals =
     let c = cut_at l r among in
     let same : (r.number == r.number) ≡ true = (Decides-eqb r.number r.number).1 refl in
@@ -65,7 +58,8 @@ deed_found l once r g k d among deals =
 
 -- ---- read off the terms
 
-through : (v : TermsView) (g k : List ℕ) (n : ℕ) (o : Option ℕ) → option_and_then (λ i. standing_in v.pairs i n) o ≡ option_and_then (λ (r : PairView). standing_under r.file r.dealings n) (option_and_then (slice_get v.pairs) o)
+through : (v : TermsView) (g k : List ℕ) (n : ℕ) (o : Option ℕ) → option_and_then (λ i. standing_in v.pairs i n) o
+    ≡ option_and_then (λ (r : PairView). standing_under r.file r.dealings n) (option_and_then (slice_get v.pairs) o)
 through v g k n None = refl
 through v g k n (Some i) = refl
 
@@ -84,7 +78,8 @@ module _ (t : House) (l : List Record) (v : TermsView) (once : NumbersOnce l) (a
       ∙ (ap (option_and_then (first_under_deed (agreement t g k) (dealings l g k) r.number)) (deed_found l once r g k d among deals)
       ∙ sym (deal_is t l g k r.number r.firm r.command d deals))))))
 
-  read_by : (n : ℕ) (r : Record) → change_of l n ≡ Some r → (c : Command) → r.command ≡ c → named_place r.number c ≡ None → option_and_then (λ i. standing_in v.pairs i n) (pair_at v n) ≡ deals_under t l r.number r.firm c
+  read_by : (n : ℕ) (r : Record) → change_of l n ≡ Some r → (c : Command) → r.command ≡ c → named_place r.number c ≡ None
+      → option_and_then (λ i. standing_in v.pairs i n) (pair_at v n) ≡ deals_under t l r.number r.firm c
   read_by n r found (Agree g k rate limit) is none = agreed
     where
       number : r.number ≡ n
@@ -97,7 +92,8 @@ module _ (t : House) (l : List Record) (v : TermsView) (once : NumbersOnce l) (a
       pair = ap (pair_of l r.firm) is
 
       placed : pair_at v r.number ≡ lookup (is_pair g k) v.places
-      placed = ap (pair_at v) number ∙ (are.placed n ∙ (ap (option_and_then (λ (r0 : Record). option_and_then (place_of_pair v) (pair_of l r0.firm r0.command))) found ∙ ap (option_and_then (place_of_pair v)) pair))
+      placed = ap (pair_at v) number ∙ (are.placed n
+          ∙ (ap (option_and_then (λ (r0 : Record). option_and_then (place_of_pair v) (pair_of l r0.firm r0.command))) found ∙ ap (option_and_then (place_of_pair v)) pair))
 
       agreed : option_and_then (λ i. standing_in v.pairs i n) (pair_at v n) ≡ deals_under t l r.number r.firm (Agree g k rate limit)
       agreed =
@@ -115,26 +111,26 @@ module _ (t : House) (l : List Record) (v : TermsView) (once : NumbersOnce l) (a
       pair = ap (pair_of l r.firm) is
 
       placed : pair_at v r.number ≡ lookup (is_pair g r.firm) v.places
-      placed = ap (pair_at v) number ∙ (are.placed n ∙ (ap (option_and_then (λ (r0 : Record). option_and_then (place_of_pair v) (pair_of l r0.firm r0.command))) found ∙ ap (option_and_then (place_of_pair v)) pair))
+      placed = ap (pair_at v) number ∙ (are.placed n
+          ∙ (ap (option_and_then (λ (r0 : Record). option_and_then (place_of_pair v) (pair_of l r0.firm r0.command))) found ∙ ap (option_and_then (place_of_pair v)) pair))
 
       raised : option_and_then (λ i. standing_in v.pairs i n) (pair_at v n) ≡ deals_under t l r.number r.firm (Raise g lots)
       raised =
           ap (λ m. option_and_then (λ i. standing_in v.pairs i m) (pair_at v m)) (sym number)
           ∙ (read_deal r g r.firm (Raises lots) (found_in (λ r. r.number == n) l r found) deals pair placed ∙ ap (deals_under t l r.number r.firm) is)
-  read_by n r found (Trade _ _ _ _ _) is none = absurd (cc)
-  read_by n r found (Split _ _) is none = absurd (cc)
-  read_by n r found (Claim _ _) is none = absurd (cc)
-  read_by n r found (Refuse _) is none = absurd (cc)
-  read_by n r found (Cancel _) is none = absurd (cc)
   read_by n r found (Initiate e) is none =
       ap (option_and_then (λ i. standing_in v.pairs i n))
-      (are.placed n ∙ (ap (option_and_then (λ (r0 : Record). option_and_then (place_of_pair v) (pair_of l r0.firm r0.command))) found ∙ ap (λ c. option_and_then (place_of_pair v) (pair_of l r.firm c)) is))
+      (are.placed n ∙ (ap (option_and_then (λ (r0 : Record). option_and_then (place_of_pair v) (pair_of l r0.firm r0.command))) found
+      ∙ ap (λ c. option_and_then (place_of_pair v) (pair_of l r.firm c)) is))
   read_by n r found (Decline e) is none =
       ap (option_and_then (λ i. standing_in v.pairs i n))
-      (are.placed n ∙ (ap (option_and_then (λ (r0 : Record). option_and_then (place_of_pair v) (pair_of l r0.firm r0.command))) found ∙ ap (λ c. option_and_then (place_of_pair v) (pair_of l r.firm c)) is))
+      (are.placed n ∙ (ap (option_and_then (λ (r0 : Record). option_and_then (place_of_pair v) (pair_of l r0.firm r0.command))) found
+      ∙ ap (λ c. option_and_then (place_of_pair v) (pair_of l r.firm c)) is))
   read_by n r found (Reverse e) is none =
       ap (option_and_then (λ i. standing_in v.pairs i n))
-      (are.placed n ∙ (ap (option_and_then (λ (r0 : Record). option_and_then (place_of_pair v) (pair_of l r0.firm r0.command))) found ∙ ap (λ c. option_and_then (place_of_pair v) (pair_of l r.firm c)) is))
+      (are.placed n ∙ (ap (option_and_then (λ (r0 : Record). option_and_then (place_of_pair v) (pair_of l r0.firm r0.command))) found
+      ∙ ap (λ c. option_and_then (place_of_pair v) (pair_of l r.firm c)) is))
+  read_by n r found _ is none = absurd (cc)
 
   read_or : (n : ℕ) (o : Option Record) → change_of l n ≡ o → option_and_then (λ r. named_place r.number r.command) o ≡ None
       → option_and_then (λ i. standing_in v.pairs i n) (pair_at v n) ≡ option_and_then (λ r. deals_under t l r.number r.firm r.command) o

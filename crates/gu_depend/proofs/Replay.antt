@@ -1,31 +1,16 @@
 -- A lawful order of a legal list is legal.
-use Rattle.std.proofs.Common.{◌≡◌, ℕ, ◌+◌, ◌≤◌, Bool, true, false, not, ◌&&◌, ◌||◌, List, [], ◌∷◌, ◌++◌, length, refl, sym, ◌∙◌, ap, subst, arith, cond, Option, All, append_assoc, append-nil, IsPermutation, map}
-use Rattle.std.specs.Prelude.{Some, None, count_by, is_none, is_some, nat_lt, ◌==◌}
-use Rattle.std.specs.List.{AllByRecursion}
+use Rattle.std.proofs.Common.{◌≡◌, ℕ, ◌+◌, ◌≤◌, Bool, true, false, not, ◌&&◌, ◌||◌, List, [], ◌∷◌, ◌++◌, length, refl, sym, ◌∙◌, ap, subst, arith, cond}
+use Rattle.std.proofs.Common.{Option, All, append_assoc, append-nil, IsPermutation, map}
+use Rattle.std.specs.Prelude.{Some, None, count_by, is_none, is_some, nat_lt, ◌==◌, filter_map, option_map, option_and_then}
+use Rattle.std.specs.List.{AllByRecursion, cons_option}
 use Rattle.std.proofs.lemmas.Bool.Decides.{Decides-eqb}
 use Rattle.std.proofs.lemmas.List.Elements.{All-head, All-tail, All-nil, All-cons}
 use Rattle.std.proofs.lemmas.List.Sorted.{All-permutation, length_permutation}
 use Rattle.std.proofs.lemmas.Map.Keys.{IsDistinct-head, IsDistinct-tail}
-use Rattle.gu_base.specs.Numbers.{EntryPart}
-use Rattle.gu_base.specs.House.{House}
-use Rattle.gu_base.specs.Nodes.{node_of, split_of, decision_of, is_given, splits, decides, same_name}
-use Rattle.gu_base.specs.House.{agreement}
-use Rattle.gu_base.specs.Terms.{use_of_node, deed_of, dealings_in, dealings, limit_of}
-use Rattle.std.specs.Prelude.{filter_map, option_map, option_and_then}
-use Rattle.std.specs.List.{cons_option}
-use Rattle.gu_base.specs.Refusals.{refusal_of, row, split_row, claim_row, refuse_row, cancel_row, is_taker, is_giver}
-use Rattle.gu_base.specs.Standing.{first_refused, IsLegal}
-use Rattle.gu_base.specs.Orders.{is_ready, in_lawful_order, IsLawfulOrder}
-use Rattle.gu_base.specs.declared.house.Deed.{Deed}
-use Rattle.gu_base.specs.declared.house.Deed.TheVariants.{Makes, Raises}
-use Rattle.gu_base.specs.declared.house.Dealing.{Dealing}
+use Rattle.gu_depend.proofs.Vocabulary.{EntryPart, House, agreement, node_of, split_of, decision_of, is_given, splits, decides, same_name, use_of_node, deed_of, dealings_in, dealings, limit_of}
+use Rattle.gu_depend.proofs.Vocabulary.{refusal_of, row, split_row, claim_row, refuse_row, cancel_row, is_taker, is_giver, first_refused, IsLegal, is_ready, in_lawful_order, IsLawfulOrder, Deed}
+use Rattle.gu_depend.proofs.Vocabulary.{Makes, Raises, Dealing, Part, Command, Trade, Split, Claim, Refuse, Cancel, Agree, Raise, Record, Node, Refusal}
 use Rattle.gu_base.proofs.Dealt.{fits, AllFit}
-use Rattle.gu_base.specs.declared.command.Part.{Part}
-use Rattle.gu_base.specs.declared.command.Command.{Command}
-use Rattle.gu_base.specs.declared.command.Command.TheVariants.{Trade, Split, Claim, Refuse, Cancel, Agree, Raise, Initiate, Decline, Reverse}
-use Rattle.gu_base.specs.declared.entry.Record.{Record}
-use Rattle.gu_base.specs.declared.node.Node.{Node}
-use Rattle.gu_base.specs.declared.refusal.Refusal.{Refusal}
 use Rattle.gu_base.proofs.LegalLaws.{legal_from_replay, replay_from_legal}
 use Rattle.std.proofs.lemmas.Bool.{and_parts}
 use Rattle.gu_tree.specs.Shown.{HasDistinctNumbers}
@@ -123,12 +108,7 @@ ready_there l b (Split m ps) h n is = moved b m n (or_false (same_name m n) is) 
 ready_there l b (Claim m _) h n is = moved b m n is h
 ready_there l b (Refuse m) h n is = moved b m n is h
 ready_there l b (Cancel m) h n is = moved b m n is h
-ready_there l b (Trade _ _ _ _ _) h n is = absurd (cc)
-ready_there l b (Agree _ _ _ _) h n is = absurd (cc)
-ready_there l b (Raise _ _) h n is = absurd (cc)
-ready_there l b (Initiate _) h n is = absurd (cc)
-ready_there l b (Decline _) h n is = absurd (cc)
-ready_there l b (Reverse _) h n is = absurd (cc)
+ready_there l b _ h n is = absurd (cc)
 
 decided_either : (o p : Option Record) → (is_none p || is_some o) ≡ true → ((d : Record) → o ≡ Some d → p ≡ Some d) → o ≡ p
 decided_either None None h w = refl
@@ -139,15 +119,7 @@ pub ready_decided : (l b : List Record) (c : Command) → Within l b → is_read
 ready_decided l b (Split m ps) w h n is =
     subst (λ (z : EntryPart). decision_of b z ≡ decision_of l z) (name_is m n is)
     (decided_either (decision_of b m) (decision_of l m) (and_parts (is_some (node_of b m)) (is_none (decision_of l m) || is_some (decision_of b m)) h).1 (λ d e. w.decisions m d e))
-ready_decided l b (Claim _ _) w h n is = absurd (cc)
-ready_decided l b (Refuse _) w h n is = absurd (cc)
-ready_decided l b (Cancel _) w h n is = absurd (cc)
-ready_decided l b (Trade _ _ _ _ _) w h n is = absurd (cc)
-ready_decided l b (Agree _ _ _ _) w h n is = absurd (cc)
-ready_decided l b (Raise _ _) w h n is = absurd (cc)
-ready_decided l b (Initiate _) w h n is = absurd (cc)
-ready_decided l b (Decline _) w h n is = absurd (cc)
-ready_decided l b (Reverse _) w h n is = absurd (cc)
+ready_decided l b _ w h n is = absurd (cc)
 
 -- what a change finds before it
 record IsDue (t : House) (l b : List Record) (by : List ℕ) (c : Command) : Type 0 where
@@ -204,9 +176,7 @@ accepts t l b by (Agree giver taker rate limit) s due =
     agree_accepted t b by giver taker rate limit s (due.afforded giver taker made (ap (λ b. cond b (Some made) None) (both_same giver taker)))
 accepts t l b by (Raise giver lots) s due =
     raise_accepted t b by giver lots s (may_raised lots (limit_of t b giver by) (due.afforded giver by (Raises lots) (ap (λ b. cond b (Some (Raises lots)) None) (both_same giver by))))
-accepts t l b by (Initiate _) s due = refl
-accepts t l b by (Decline _) s due = refl
-accepts t l b by (Reverse _) s due = refl
+accepts t l b by _ s due = refl
 
 -- ---- along the order
 
@@ -227,7 +197,8 @@ fit_tail_by : (t : House) (l b : List Record) (r : Record) (rest : List Record) 
     → AllFit (agreement t g k) (dealings_in l b g k) (dealings_in l (r ∷ rest) g k) → AllFit (agreement t g k) (dealings_in l (b ++ r ∷ []) g k) (dealings_in l rest g k)
 fit_tail_by t l b r rest g k None e all =
     subst (λ z. AllFit (agreement t g k) z (dealings_in l rest g k))
-    (sym (dealings_append l b (r ∷ []) g k ∙ (ap (λ o. dealings_in l b g k ++ cons_option (option_map (λ d. record { number = r.number; deed = d }) o) []) e ∙ append-nil (dealings_in l b g k))))
+    (sym (dealings_append l b (r ∷ []) g k
+    ∙ (ap (λ o. dealings_in l b g k ++ cons_option (option_map (λ d. record { number = r.number; deed = d }) o) []) e ∙ append-nil (dealings_in l b g k))))
     (subst (λ o. AllFit (agreement t g k) (dealings_in l b g k) (cons_option (option_map (λ d. record { number = r.number; deed = d }) o) (dealings_in l rest g k))) e all)
 fit_tail_by t l b r rest g k (Some d) e all =
     let whole : AllFit (agreement t g k) (dealings_in l b g k) (record { number = r.number; deed = d } ∷ dealings_in l rest g k) =
@@ -263,7 +234,8 @@ pub record Runs (t : House) (l b rest : List Record) : Type 0 where
   pub replayed : first_refused t b rest ≡ None
   pub grown : Grown l (b ++ rest)
 
-pub lawful_from : (t : House) (l o b rest tail : List Record) → OrderFacts t l o → o ≡ b ++ (rest ++ tail) → Grown l b → All (Settled t l) rest → in_lawful_order l b rest ≡ true → PairsFit t l b rest
+pub lawful_from : (t : House) (l o b rest tail : List Record) → OrderFacts t l o → o ≡ b ++ (rest ++ tail) → Grown l b → All (Settled t l) rest → in_lawful_order l b rest ≡ true
+    → PairsFit t l b rest
     → Runs t l b rest
 lawful_from t l o b [] tail f e g all lawful fit = record { replayed = refl; grown = subst (Grown l) (sym (append-nil b)) g }
 lawful_from t l o b (r ∷ rest) tail f e g all lawful fit =
@@ -295,7 +267,8 @@ pub record StandsReady (l o : List Record) : Type 0 where
   pub same : IsPermutation l o
   pub after_its_node : in_lawful_order l [] o ≡ true
 
-pub ready_replays : (t : House) (l o front tail : List Record) → NumbersOnce l → first_refused t [] l ≡ None → StandsReady l o → o ≡ front ++ tail → in_lawful_order l [] front ≡ true → PairsFit t l [] front
+pub ready_replays : (t : House) (l o front tail : List Record) → NumbersOnce l → first_refused t [] l ≡ None → StandsReady l o → o ≡ front ++ tail → in_lawful_order l [] front ≡ true
+    → PairsFit t l [] front
     → Runs t l [] front
 ready_replays t l o front tail once none lawful e ready fit =
     let f = facts t l none in
@@ -305,15 +278,7 @@ ready_replays t l o front tail once none lawful e ready fit =
 
 deed_found : (l o : List Record) → SameFinds l o → (g k by : List ℕ) (c : Command) → deed_of o g k by c ≡ deed_of l g k by c
 deed_found l o f g k by (Claim n account) = ap (option_and_then (use_of_node g k)) (f.nodes n)
-deed_found l o f g k by (Trade _ _ _ _ _) = refl
-deed_found l o f g k by (Split _ _) = refl
-deed_found l o f g k by (Refuse _) = refl
-deed_found l o f g k by (Cancel _) = refl
-deed_found l o f g k by (Agree _ _ _ _) = refl
-deed_found l o f g k by (Raise _ _) = refl
-deed_found l o f g k by (Initiate _) = refl
-deed_found l o f g k by (Decline _) = refl
-deed_found l o f g k by (Reverse _) = refl
+deed_found l o f g k by _ = refl
 
 -- lists that find the same deal the same
 pub dealings_found : (l o : List Record) → SameFinds l o → (g k : List ℕ) → dealings o g k ≡ dealings_in l o g k

@@ -1,18 +1,11 @@
 -- What holds of the changes of a legal list over the whole list, wherever each of them stands.
-use Rattle.std.proofs.Common.{◌≡◌, ℕ, ◌≤◌, Bool, true, false, not, ◌&&◌, List, [], ◌∷◌, ◌++◌, length, length-append, refl, sym, ◌∙◌, ap, subst, arith, Option, All, append-nil, append_assoc, inl, inr}
-use Rattle.std.specs.Prelude.{Some, None, is_none, nat_lt}
+use Rattle.std.proofs.Common.{◌≡◌, ℕ, ◌≤◌, Bool, true, false, not, ◌&&◌, List, [], ◌∷◌, ◌++◌, length, length-append, refl, sym, ◌∙◌, ap, subst, arith, Option, All}
+use Rattle.std.proofs.Common.{append-nil, append_assoc, inl, inr}
+use Rattle.std.specs.Prelude.{Some, None, is_none, nat_lt, option_map}
 use Rattle.std.proofs.lemmas.List.Elements.{All-nil, All-push}
-use Rattle.gu_base.specs.Numbers.{EntryPart}
-use Rattle.gu_base.specs.House.{House, knows_firm}
-use Rattle.gu_base.specs.Nodes.{node_of, decision_of, is_offered, is_given, splits, decides}
-use Rattle.gu_base.specs.Refusals.{refusal_of, row, trade_row, split_row, claim_row, refuse_row, cancel_row, is_taker, is_giver}
-use Rattle.gu_base.specs.Standing.{first_refused}
-use Rattle.gu_base.specs.declared.command.Part.{Part}
-use Rattle.gu_base.specs.declared.command.Command.{Command}
-use Rattle.gu_base.specs.declared.command.Command.TheVariants.{Trade, Split, Claim, Refuse, Cancel, Agree, Raise, Initiate, Decline, Reverse}
-use Rattle.gu_base.specs.declared.entry.Record.{Record}
-use Rattle.gu_base.specs.declared.node.Kind.{Kind}
-use Rattle.gu_base.specs.declared.node.Node.{Node}
+use Rattle.gu_depend.proofs.Vocabulary.{EntryPart, House, knows_firm, agreement, node_of, decision_of, is_offered, is_given, splits, decides, refusal_of, row, trade_row, split_row, claim_row}
+use Rattle.gu_depend.proofs.Vocabulary.{refuse_row, cancel_row, is_taker, is_giver, first_refused, Part, Command, Trade, Split, Claim, Refuse, Cancel, Agree, Raise, Record, Kind, Node, deed_of}
+use Rattle.gu_depend.proofs.Vocabulary.{dealings_in, Deed}
 use Rattle.gu_base.proofs.Lines.{node_more}
 use Rattle.gu_base.proofs.LegalLaws.{none_refused}
 use Rattle.gu_depend.specs.Under.{names}
@@ -21,11 +14,7 @@ use Rattle.gu_depend.proofs.Names.{at_name}
 use Rattle.gu_depend.proofs.NamedOnce.{NamedOnce, named_once}
 use Rattle.gu_depend.proofs.Grown.{Within, Grown, grown_none, grown_push, owns_same, depth_same}
 use Rattle.gu_depend.proofs.Deals.{deed_grown, dealings_grown, dealings_append, row_fits}
-use Rattle.gu_base.specs.House.{agreement}
-use Rattle.gu_base.specs.Terms.{deed_of, dealings_in}
 use Rattle.std.specs.List.{cons_option}
-use Rattle.std.specs.Prelude.{option_map}
-use Rattle.gu_base.specs.declared.house.Deed.{Deed}
 use Rattle.gu_base.proofs.Dealt.{fits, AllFit, fit_append}
 use Rattle.std.proofs.lemmas.Option.{same_Some}
 use Rattle.gu_base.proofs.Passing.{at_node_none, split_passes, SplitHolds, claim_passes, ClaimHolds, agree_passes, AgreeHolds, raise_passes, decision_passes, refusal_parts, splits_well, decides_well}
@@ -72,7 +61,8 @@ undecided_given false h = refl
 never_given : (k : Kind) → is_given k ≡ false → is_given k ≡ true → ⊥
 never_given k a b = cc
 
-free_decided_by : (l b : List Record) (n : EntryPart) (x : Node) → NamedOnce l → Within l b → node_of b n ≡ Some x → (o : Option Record) → decision_of b n ≡ o → not (is_given x.kind && is_none o) ≡ true → o ≡ decision_of l n
+free_decided_by : (l b : List Record) (n : EntryPart) (x : Node) → NamedOnce l → Within l b → node_of b n ≡ Some x → (o : Option Record) → decision_of b n ≡ o
+    → not (is_given x.kind && is_none o) ≡ true → o ≡ decision_of l n
 free_decided_by l b n x s w found (Some d) e free = sym (w.decisions n d e)
 free_decided_by l b n x s w found None e free =
     let other = undecided_given (is_given x.kind) free in
@@ -88,7 +78,8 @@ free_decided l b n x s w found free =
 
 -- ---- what is accepted behind some changes is settled over all
 
-split_settles : (t : House) (l b : List Record) (by : List ℕ) (ps : List Part) (x : Node) → NamedOnce l → Grown l b → node_of b x.name ≡ Some x → SplitHolds t b by ps x → SplitHolds t l by ps x
+split_settles : (t : House) (l b : List Record) (by : List ℕ) (ps : List Part) (x : Node) → NamedOnce l → Grown l b → node_of b x.name ≡ Some x → SplitHolds t b by ps x
+    → SplitHolds t l by ps x
 split_settles t l b by ps x s g found h =
     let same = free_decided l b x.name x s g.within found h.free in
     record {
@@ -128,9 +119,7 @@ settles t l b by (Cancel n) s g h =
     record { node = there.0; there = g.within.nodes n there.0 there.1.0; given = passes.0; asked = passes.2 }
 settles t l b by (Agree giver taker rate limit) s g h = (agree_passes t b by giver taker rate limit h).0
 settles t l b by (Raise giver lots) s g h = (raise_passes t b by giver lots h).0
-settles t l b by (Initiate _) s g h = tt
-settles t l b by (Decline _) s g h = tt
-settles t l b by (Reverse _) s g h = tt
+settles t l b by _ s g h = tt
 
 -- a change that is accepted names a node that is there
 pub accepted_there : (t : House) (b : List Record) (by : List ℕ) (c : Command) → row t b by c ≡ None → (n : EntryPart) → names n c ≡ true → (x : Node) × (node_of b n ≡ Some x)
@@ -161,15 +150,19 @@ pub record Facts (t : House) (l b : List Record) : Type 0 where
 deals_push : (t : House) (l b : List Record) (r : Record) → Facts t l b → (g k : List ℕ) → row t b r.firm r.command ≡ None → (o : Option Deed) → deed_of l g k r.firm r.command ≡ o
     → AllFit (agreement t g k) [] (dealings_in l (b ++ r ∷ []) g k)
 deals_push t l b r f g k h None e =
-    subst (AllFit (agreement t g k) []) (sym (dealings_append l b (r ∷ []) g k ∙ (ap (λ o. dealings_in l b g k ++ cons_option (option_map (λ d. record { number = r.number; deed = d }) o) []) e ∙ append-nil (dealings_in l b g k))))
+    subst (AllFit (agreement t g k) []) (sym
+    (dealings_append l b (r ∷ []) g k
+    ∙ (ap (λ o. dealings_in l b g k ++ cons_option (option_map (λ d. record { number = r.number; deed = d }) o) []) e ∙ append-nil (dealings_in l b g k))))
     (f.deals g k)
 deals_push t l b r f g k h (Some d) e =
     let same : deed_of b g k r.firm r.command ≡ Some d = deed_grown l b g k r.firm r.command f.grown.within (accepted_there t b r.firm r.command h) ∙ e in
-    let fit : fits (agreement t g k) (dealings_in l b g k) d ≡ true = subst (λ z. fits (agreement t g k) z d ≡ true) (dealings_grown l b g k f.grown) (row_fits t b g k r.firm r.command d h same) in
+    let fit : fits (agreement t g k) (dealings_in l b g k) d ≡ true = subst (λ z. fits (agreement t g k) z d ≡ true) (dealings_grown l b g k f.grown)
+    (row_fits t b g k r.firm r.command d h same) in
     subst (AllFit (agreement t g k) []) (sym (dealings_append l b (r ∷ []) g k ∙ ap (λ o. dealings_in l b g k ++ cons_option (option_map (λ d. record { number = r.number; deed = d }) o) []) e))
     (fit_append (agreement t g k) [] (dealings_in l b g k) (record { number = r.number; deed = d } ∷ []) (f.deals g k) (fit, tt))
 
-facts_push : (t : House) (l b : List Record) (r : Record) → NamedOnce l → Within l (b ++ r ∷ []) → length (b ++ r ∷ []) ≤ length l → Facts t l b → refusal_of t b r.firm r.command ≡ None → Facts t l (b ++ r ∷ [])
+facts_push : (t : House) (l b : List Record) (r : Record) → NamedOnce l → Within l (b ++ r ∷ []) → length (b ++ r ∷ []) ≤ length l → Facts t l b
+    → refusal_of t b r.firm r.command ≡ None → Facts t l (b ++ r ∷ [])
 facts_push t l b r s w short f h =
     let p = refusal_parts t b r.firm r.command h in
     record {

@@ -1,22 +1,14 @@
 -- A change that stands under none of those behind it can stand behind them all.
-use Rattle.std.proofs.Common.{◌≡◌, ℕ, ◌+◌, Bool, true, false, ◌&&◌, ◌||◌, List, [], ◌∷◌, ◌++◌, refl, sym, ◌∙◌, ap, subst, cond, Option, Contains, All, append-nil, append_assoc, inl, inr}
-use Rattle.std.specs.Prelude.{Some, None, find, is_some, is_none, option_and_then}
+use Rattle.std.proofs.Common.{◌≡◌, ℕ, ◌+◌, Bool, true, false, ◌&&◌, ◌||◌, List, [], ◌∷◌, ◌++◌, refl, sym, ◌∙◌, ap, subst, cond, Option, Contains, All, append-nil}
+use Rattle.std.proofs.Common.{append_assoc, inl, inr}
+use Rattle.std.specs.Prelude.{Some, None, find, is_some, is_none, option_and_then, option_map, ◌==◌}
 use Rattle.std.specs.Option.{option_or}
-use Rattle.std.specs.List.{list_any}
+use Rattle.std.specs.List.{list_any, cons_option}
 use Rattle.std.proofs.lemmas.List.Elements.{All-head, All-tail}
 use Rattle.std.proofs.lemmas.List.Folds.{find-append, list_any_at}
-use Rattle.gu_base.specs.Numbers.{EntryPart}
-use Rattle.gu_base.specs.House.{House}
-use Rattle.gu_base.specs.Nodes.{node_of, nodes_of, decision_of, is_given, same_name, splits, decides}
-use Rattle.gu_base.specs.Refusals.{refusal_of, row}
-use Rattle.gu_base.specs.Standing.{first_refused}
-use Rattle.gu_base.specs.Orders.{is_ready, in_lawful_order}
-use Rattle.gu_base.specs.declared.command.Command.{Command}
-use Rattle.gu_base.specs.declared.command.Command.TheVariants.{Trade, Split, Claim, Refuse, Cancel, Agree, Raise, Initiate, Decline, Reverse}
-use Rattle.gu_base.specs.declared.entry.Record.{Record}
-use Rattle.gu_base.specs.declared.node.Kind.TheVariants.{Root}
-use Rattle.gu_base.specs.declared.node.Node.{Node}
-use Rattle.gu_base.specs.declared.refusal.Refusal.{Refusal}
+use Rattle.gu_depend.proofs.Vocabulary.{EntryPart, House, agreement, node_of, nodes_of, decision_of, is_given, same_name, splits, decides, refusal_of, row, first_refused, without, is_ready}
+use Rattle.gu_depend.proofs.Vocabulary.{in_lawful_order, Command, Trade, Split, Claim, Refuse, Cancel, Record, Root, Node, Refusal, deed_of, dealings_in, dealings, terms_under, raised_under}
+use Rattle.gu_depend.proofs.Vocabulary.{limit_under, used_under, terms_of, limit_of, used_of, leave_out, first_under_deed, Deed, Dealing, Agreement}
 use Rattle.gu_base.proofs.Basics.{or_none, no_some}
 use Rattle.std.proofs.lemmas.Bool.{and_parts, or_cases, false_from_ne_true}
 use Rattle.gu_base.proofs.LegalLaws.{none_refused}
@@ -27,22 +19,11 @@ use Rattle.gu_depend.proofs.NamedOnce.{NamedOnce, named_once}
 use Rattle.gu_depend.proofs.Grown.{Within}
 use Rattle.gu_depend.proofs.Settled.{free_decided, front_within, accepted_there, facts}
 use Rattle.gu_depend.proofs.Deals.{deed_grown, dealings_grown, dealings_append, row_fits, deal_is, same_pair, unfit_without, left_out, deal_cut}
-use Rattle.gu_base.specs.House.{agreement}
-use Rattle.gu_base.specs.Terms.{deed_of, dealings_in, dealings}
-use Rattle.gu_base.specs.Dealt.{leave_out, first_under_deed}
-use Rattle.gu_base.specs.Standing.{without}
-use Rattle.gu_base.specs.declared.house.Deed.{Deed}
-use Rattle.gu_base.specs.declared.house.Dealing.{Dealing}
-use Rattle.gu_base.proofs.Dealt.{fits, AllFit, first_unfit, none_unfit, fit_front, unfit_cut}
-use Rattle.std.specs.List.{cons_option}
-use Rattle.std.specs.Prelude.{option_map, ◌==◌}
+use Rattle.gu_base.proofs.Dealt.{fits, AllFit, first_unfit, none_unfit, fit_front, unfit_cut, fit_last, terms_last, raised_last, used_last}
 use Rattle.std.proofs.lemmas.Bool.Decides.{Decides-eqb}
 use Rattle.gu_depend.proofs.Replay.{NumbersOnce, StandsReady, PairsFit, ready_replays, same_finds, dealings_found}
 use Rattle.gu_depend.proofs.State.{state_same}
 use Rattle.gu_depend.specs.Same.{IsSameState}
-use Rattle.gu_base.proofs.Dealt.{fit_last, terms_last, raised_last, used_last}
-use Rattle.gu_base.specs.Terms.{terms_under, raised_under, limit_under, used_under, terms_of, limit_of, used_of}
-use Rattle.gu_base.specs.declared.house.Agreement.{Agreement}
 use Rattle.gu_depend.proofs.Cuts.{moved_to_end, stands_between, filter_one}
 use Rattle.std.proofs.lemmas.Option.{same_Some}
 use Rattle.gu_base.proofs.Passing.{refusal_parts, splits_well, decides_well}
@@ -89,13 +70,7 @@ undecided_by : (k : ℕ) (by : List ℕ) (d c : Command) (n : EntryPart) → is_
 undecided_by k by (Claim m account) c n un is = other_name m n c un is
 undecided_by k by (Refuse m) c n un is = other_name m n c un is
 undecided_by k by (Cancel m) c n un is = other_name m n c un is
-undecided_by k by (Trade _ _ _ _ _) c n un is = refl
-undecided_by k by (Split _ _) c n un is = refl
-undecided_by k by (Agree _ _ _ _) c n un is = refl
-undecided_by k by (Raise _ _) c n un is = refl
-undecided_by k by (Initiate _) c n un is = refl
-undecided_by k by (Decline _) c n un is = refl
-undecided_by k by (Reverse _) c n un is = refl
+undecided_by k by _ c n un is = refl
 
 -- a root is neither split by the command nor decided
 no_root : (p : EntryPart) (c : Command) (n : EntryPart) (root : Node) → splits p c ≡ false → names n c ≡ true → (b : Bool) → same_name p n ≡ b
@@ -122,14 +97,7 @@ unmade_by k by (Split m ps) c n un is given =
     let called = name_is x.name n (find_passes (λ x. same_name x.name n) (nodes_of k by (Split m ps)) x found) in
     not_both (list_any (λ x. names x.name c) (nodes_of k by (Split m ps)))
     (any_in (λ x. names x.name c) (nodes_of k by (Split m ps)) x (found_in (λ x. same_name x.name n) (nodes_of k by (Split m ps)) x found) (ap (λ z. names z c) called ∙ is)) un)
-unmade_by k by (Claim _ _) c n un is given = refl
-unmade_by k by (Refuse _) c n un is given = refl
-unmade_by k by (Cancel _) c n un is given = refl
-unmade_by k by (Agree _ _ _ _) c n un is given = refl
-unmade_by k by (Raise _ _) c n un is given = refl
-unmade_by k by (Initiate _) c n un is given = refl
-unmade_by k by (Decline _) c n un is given = refl
-unmade_by k by (Reverse _) c n un is given = refl
+unmade_by k by _ c n un is given = refl
 
 -- the node that a change makes is that of its name
 pub node_of_maker : (l : List Record) (k : Record) (n : EntryPart) (x : Node) → NumbersOnce l → Contains l k → made_of k n ≡ Some x → node_of l n ≡ Some x
@@ -165,12 +133,7 @@ accepted_ready t l b by (Split n ps) s w h =
 accepted_ready t l b by (Claim n account) s w h = ap is_some (decides_well t b by (Claim n account) n h (name_same n)).there
 accepted_ready t l b by (Refuse n) s w h = ap is_some (decides_well t b by (Refuse n) n h (name_same n)).there
 accepted_ready t l b by (Cancel n) s w h = ap is_some (decides_well t b by (Cancel n) n h (name_same n)).there
-accepted_ready t l b by (Trade _ _ _ _ _) s w h = refl
-accepted_ready t l b by (Agree _ _ _ _) s w h = refl
-accepted_ready t l b by (Raise _ _) s w h = refl
-accepted_ready t l b by (Initiate _) s w h = refl
-accepted_ready t l b by (Decline _) s w h = refl
-accepted_ready t l b by (Reverse _) s w h = refl
+accepted_ready t l b by _ s w h = refl
 
 -- the second list is the first without a change
 pub record HasOneLess (k : Record) (x y : List Record) : Type 0 where
@@ -201,12 +164,7 @@ ready_with_one_less l x y k (Split n ps) s a h =
 ready_with_one_less l x y k (Claim n account) s a h = ap is_some (sym (s.nodes_same n (a.unmade n (name_same n)))) ∙ h
 ready_with_one_less l x y k (Refuse n) s a h = ap is_some (sym (s.nodes_same n (a.unmade n (name_same n)))) ∙ h
 ready_with_one_less l x y k (Cancel n) s a h = ap is_some (sym (s.nodes_same n (a.unmade n (name_same n)))) ∙ h
-ready_with_one_less l x y k (Trade _ _ _ _ _) s a h = refl
-ready_with_one_less l x y k (Agree _ _ _ _) s a h = refl
-ready_with_one_less l x y k (Raise _ _) s a h = refl
-ready_with_one_less l x y k (Initiate _) s a h = refl
-ready_with_one_less l x y k (Decline _) s a h = refl
-ready_with_one_less l x y k (Reverse _) s a h = refl
+ready_with_one_less l x y k _ s a h = refl
 
 some_more : {A : Type 0} (o p : Option A) → is_some o ≡ true → is_some (option_or o p) ≡ true
 some_more None p h = absurd (cc)
@@ -231,12 +189,7 @@ ready_more l b z (Split n ps) h =
 ready_more l b z (Claim n account) h = node_more_is b z n h
 ready_more l b z (Refuse n) h = node_more_is b z n h
 ready_more l b z (Cancel n) h = node_more_is b z n h
-ready_more l b z (Trade _ _ _ _ _) h = refl
-ready_more l b z (Agree _ _ _ _) h = refl
-ready_more l b z (Raise _ _) h = refl
-ready_more l b z (Initiate _) h = refl
-ready_more l b z (Decline _) h = refl
-ready_more l b z (Reverse _) h = refl
+ready_more l b z _ h = refl
 
 -- ---- the order in which the change stands last
 
@@ -335,7 +288,8 @@ module _ (t : House) (p : List Record) (k : Record) (s : List Record) (once : Nu
   pub fit_others : (x y : List ℕ) → deed_of whole x y k.firm k.command ≡ None → AllFit (agreement t x y) [] (dealings_in whole (p ++ s) x y)
   fit_others x y e = subst (AllFit (agreement t x y) []) (deals_cut x y None e ∙ sym (deals_left x y)) (deals_whole x y)
 
-  fit_where_by : (x y : List ℕ) → deals_under t whole k.number k.firm k.command ≡ None → (o : Option Deed) → deed_of whole x y k.firm k.command ≡ o → AllFit (agreement t x y) [] (dealings_in whole (p ++ s) x y)
+  fit_where_by : (x y : List ℕ) → deals_under t whole k.number k.firm k.command ≡ None → (o : Option Deed) → deed_of whole x y k.firm k.command ≡ o
+      → AllFit (agreement t x y) [] (dealings_in whole (p ++ s) x y)
   fit_where_by x y under None e = fit_others x y e
   fit_where_by x y under (Some d) e = none_unfit (agreement t x y) [] (dealings_in whole (p ++ s) x y) (unfit_here x y d e ∙ under)
 

@@ -1,5 +1,6 @@
 -- The first change that would be refused without another is the first that the other stands under.
-use Rattle.std.proofs.Common.{◌≡◌, ℕ, zero, suc, ◌+◌, ◌<◌, ◌≤◌, Bool, true, false, not, ◌&&◌, ◌||◌, List, [], ◌∷◌, ◌++◌, length, get_or, refl, sym, ◌∙◌, ap, subst, arith, cond, Option, Contains, All, append_assoc, map, inl, inr}
+use Rattle.std.proofs.Common.{◌≡◌, ℕ, zero, suc, ◌+◌, ◌<◌, ◌≤◌, Bool, true, false, not, ◌&&◌, ◌||◌, List, [], ◌∷◌, ◌++◌, length, get_or, refl, sym, ◌∙◌}
+use Rattle.std.proofs.Common.{ap, subst, arith, cond, Option, Contains, All, append_assoc, map, inl, inr}
 use Rattle.std.specs.Prelude.{Some, None, find, count_by, is_some, is_none, option_and_then, option_map, ◌==◌}
 use Rattle.std.specs.Option.{option_or}
 use Rattle.std.specs.List.{list_any, AllByRecursion, IsDistinct}
@@ -7,18 +8,9 @@ use Rattle.std.proofs.lemmas.Bool.Decides.{Decides-eqb}
 use Rattle.std.proofs.lemmas.List.Elements.{All-contains, All-contains_itself, All-filter, Contains-append_right}
 use Rattle.std.proofs.lemmas.List.Folds.{find-append}
 use Rattle.std.proofs.lemmas.Map.Keys.{IsDistinct-cons}
-use Rattle.gu_base.specs.Numbers.{EntryPart}
-use Rattle.gu_base.specs.House.{House}
-use Rattle.gu_base.specs.Nodes.{node_of, nodes_of, decision_of, is_given, same_name, splits, decides}
-use Rattle.gu_base.specs.Refusals.{refusal_of}
-use Rattle.gu_base.specs.Standing.{first_refused, without, standing_on}
-use Rattle.gu_base.specs.declared.refusal.Refusal.{Refusal}
+use Rattle.gu_depend.proofs.Vocabulary.{EntryPart, House, node_of, nodes_of, decision_of, is_given, same_name, splits, decides, refusal_of, first_refused, without, standing_on, Refusal, Command}
+use Rattle.gu_depend.proofs.Vocabulary.{Trade, Split, Claim, Refuse, Cancel, Agree, Raise, Record, Root, Node, RisesFrom}
 use Rattle.gu_depend.specs.Same.{IsSameState}
-use Rattle.gu_base.specs.declared.command.Command.{Command}
-use Rattle.gu_base.specs.declared.command.Command.TheVariants.{Trade, Split, Claim, Refuse, Cancel, Agree, Raise, Initiate, Decline, Reverse}
-use Rattle.gu_base.specs.declared.entry.Record.{Record}
-use Rattle.gu_base.specs.declared.node.Kind.TheVariants.{Root}
-use Rattle.gu_base.specs.declared.node.Node.{Node}
 use Rattle.gu_base.proofs.LegalLaws.{none_refused, replay_front}
 use Rattle.gu_tree.specs.Shown.{HasDistinctNumbers}
 use Rattle.gu_depend.specs.Under.{names, is_under, stands_under, deals_under, first_under, IsLeastUnder}
@@ -33,7 +25,6 @@ use Rattle.gu_depend.proofs.Deals.{deals_some}
 use Rattle.gu_depend.proofs.StandsLast.{replay_rest, replay_stops, not_both, gone, unfit_here, fit_without, moves_behind, replays_without, stops_at, stands_last}
 use Rattle.std.proofs.lemmas.Option.{same_Some}
 use Rattle.gu_base.proofs.Passing.{refusal_parts, splits_well}
-use Rattle.gu_base.specs.History.{RisesFrom}
 use Rattle.gu_base.proofs.NodeNames.{name_same, node_called, made_of}
 use Rattle.gu_base.proofs.Basics.{none_is_some, no_some}
 use Rattle.gu_base.proofs.Searches.{found_in, find_passes}
@@ -55,7 +46,8 @@ found_some p xs x among passes None e =
 found_some p xs x among passes (Some y) e = (y, e)
 
 -- one passes where some pass
-any_found_at : {X : Type 0} (p : X → Bool) (y : X) (ys : List X) → (list_any p ys ≡ true → (x : X) × (find p ys ≡ Some x)) → (b : Bool) → (b || list_any p ys) ≡ true → (x : X) × (cond b (Some y) (find p ys) ≡ Some x)
+any_found_at : {X : Type 0} (p : X → Bool) (y : X) (ys : List X) → (list_any p ys ≡ true → (x : X) × (find p ys ≡ Some x)) → (b : Bool) → (b || list_any p ys) ≡ true
+    → (x : X) × (cond b (Some y) (find p ys) ≡ Some x)
 any_found_at p y ys later true h = (y, refl)
 any_found_at p y ys later false h = later h
 
@@ -76,23 +68,11 @@ under_is k by (Split m ps) c h =
 under_is k by (Claim m account) c h = decided m h (name_same m)
 under_is k by (Refuse m) c h = decided m h (name_same m)
 under_is k by (Cancel m) c h = decided m h (name_same m)
-under_is k by (Agree _ _ _ _) c h = absurd (cc)
-under_is k by (Raise _ _) c h = absurd (cc)
-under_is k by (Initiate _) c h = absurd (cc)
-under_is k by (Decline _) c h = absurd (cc)
-under_is k by (Reverse _) c h = absurd (cc)
+under_is k by _ c h = absurd (cc)
 
 no_split_decides : (n : EntryPart) (c : Command) → splits n c ≡ true → decides n c ≡ true → ⊥
 no_split_decides n (Split _ _) a b = absurd (cc)
-no_split_decides n (Trade _ _ _ _ _) a b = absurd (cc)
-no_split_decides n (Claim _ _) a b = absurd (cc)
-no_split_decides n (Refuse _) a b = absurd (cc)
-no_split_decides n (Cancel _) a b = absurd (cc)
-no_split_decides n (Agree _ _ _ _) a b = absurd (cc)
-no_split_decides n (Raise _ _) a b = absurd (cc)
-no_split_decides n (Initiate _) a b = absurd (cc)
-no_split_decides n (Decline _) a b = absurd (cc)
-no_split_decides n (Reverse _) a b = absurd (cc)
+no_split_decides n _ a b = absurd (cc)
 
 -- ---- a list in which what the change made and decided is missing
 
@@ -100,7 +80,8 @@ record Missing (k : Record) (y : List Record) : Type 0 where
   nodes_gone : (n : EntryPart) (x : Node) → made_of k n ≡ Some x → node_of y n ≡ None
   decisions_gone : (n : EntryPart) → decides n k.command ≡ true → decision_of y n ≡ None
 
-missing_before : (y : List Record) (k : Record) (rest : List Record) → NumbersOnce (y ++ k ∷ rest) → ((n : EntryPart) → count_by (λ r. decides n r.command) (y ++ k ∷ rest) ≤ 1) → Missing k y
+missing_before : (y : List Record) (k : Record) (rest : List Record) → NumbersOnce (y ++ k ∷ rest) → ((n : EntryPart) → count_by (λ r. decides n r.command) (y ++ k ∷ rest) ≤ 1)
+    → Missing k y
 missing_before y k rest once alone = record {
   nodes_gone = λ n x h. node_by_maker y n ∙ ap (option_and_then (λ r. made_of r n)) (none_before (makes n) y k rest (makers_once (y ++ k ∷ rest) n (once n.entry)) (ap is_some h));
   decisions_gone = λ n h. none_before (λ r. decides n r.command) y k rest (alone n) h;
@@ -138,7 +119,8 @@ not_under k e absent = false_from_ne_true (stands_under k e) (λ h. absent (unde
 found_behind : (t : House) (p : List Record) (k : Record) (s : List Record) → NumbersOnce (p ++ k ∷ s) → first_refused t [] (p ++ k ∷ s) ≡ None
     → find (stands_under k) (p ++ k ∷ s) ≡ find (stands_under k) s
 found_behind t p k s once none =
-    let before = no_some (find (stands_under k) p) (λ e h. above_none t p k s once none e (found_in (stands_under k) p e h) (under_is k.number k.firm k.command e.command (find_passes (stands_under k) p e h))) in
+    let before = no_some (find (stands_under k) p)
+    (λ e h. above_none t p k s once none e (found_in (stands_under k) p e h) (under_is k.number k.firm k.command e.command (find_passes (stands_under k) p e h))) in
     let itself = not_under k k (itself_none t p k s once none) in
     find-append (stands_under k) p (k ∷ s)
     ∙ (ap (λ o. option_or o (find (stands_under k) (k ∷ s))) before
@@ -180,16 +162,9 @@ numbers_front xs ys once n = omega (arith, count_append (λ r. r.number == n) xs
 
 -- what stands under a node deals for nobody's terms
 deals_none : (t : House) (l : List Record) (k : ℕ) (by : List ℕ) (d c : Command) → is_under k by d c ≡ true → deals_under t l k by d ≡ None
-deals_none t l k by (Trade _ _ _ _ _) c h = refl
-deals_none t l k by (Split _ _) c h = refl
-deals_none t l k by (Claim _ _) c h = refl
-deals_none t l k by (Refuse _) c h = refl
-deals_none t l k by (Cancel _) c h = refl
 deals_none t l k by (Agree _ _ _ _) c h = absurd (cc)
 deals_none t l k by (Raise _ _) c h = absurd (cc)
-deals_none t l k by (Initiate _) c h = refl
-deals_none t l k by (Decline _) c h = refl
-deals_none t l k by (Reverse _) c h = refl
+deals_none t l k by _ c h = refl
 
 -- where nothing stands under it by a node, it is the first that stands under what it deals
 standing_deals : (t : House) (p : List Record) (k : Record) (s : List Record) → NumbersOnce (p ++ k ∷ s) → first_refused t [] (p ++ k ∷ s) ≡ None → All (λ e. stands_under k e ≡ false) s
@@ -240,7 +215,8 @@ rises_above n (r ∷ l) rises (suc i) d within =
 
 least_at : (p : Record → Bool) (r : Record) (l : List Record) (n : ℕ) → RisesFrom n (r ∷ l) → (e : Record)
     → ((i : ℕ) (d : Record) → find p l ≡ Some e → i < length l → p (get_or l i d) ≡ true → e.number ≤ (get_or l i d).number)
-    → (i : ℕ) (d : Record) → i < length (r ∷ l) → p (get_or (r ∷ l) i d) ≡ true → (b : Bool) → p r ≡ b → cond b (Some r) (find p l) ≡ Some e → e.number ≤ (get_or (r ∷ l) i d).number
+    → (i : ℕ) (d : Record) → i < length (r ∷ l) → p (get_or (r ∷ l) i d) ≡ true → (b : Bool) → p r ≡ b → cond b (Some r) (find p l) ≡ Some e
+    → e.number ≤ (get_or (r ∷ l) i d).number
 least_at p r l n rises e later zero d within passes true is h = let one : r.number ≡ e.number = ap (λ (z : Record). z.number) (same_Some r e h) in omega (arith, one)
 least_at p r l n rises e later zero d within passes false is h = absurd (not_both (p r) passes is)
 least_at p r l n rises e later (suc i) d within passes true is h =
@@ -250,15 +226,19 @@ least_at p r l n rises e later (suc i) d within passes true is h =
 least_at p r l n rises e later (suc i) d within passes false is h = later i d h (omega arith) passes
 
 -- the first that passes has the least number
-least : (p : Record → Bool) (n : ℕ) (l : List Record) → RisesFrom n l → (e : Record) (i : ℕ) (d : Record) → find p l ≡ Some e → i < length l → p (get_or l i d) ≡ true → e.number ≤ (get_or l i d).number
+least : (p : Record → Bool) (n : ℕ) (l : List Record) → RisesFrom n l → (e : Record) (i : ℕ) (d : Record) → find p l ≡ Some e → i < length l → p (get_or l i d) ≡ true
+    → e.number ≤ (get_or l i d).number
 least p n [] rises e i d h within passes = absurd (omega arith)
 least p n (r ∷ l) rises e i d h within passes = least_at p r l n rises e (λ i d h within passes. least p (r.number + 1) l rises.1 e i d h within passes) i d within passes (p r) refl h
 
 rises_apart : (k n : ℕ) (l : List Record) → k < n → RisesFrom n l → AllByRecursion (λ y. (k == y) ≡ false) (map (λ r. r.number) l)
 rises_apart k n [] less rises = tt
 rises_apart k n (r ∷ l) less rises =
-    let here : n ≤ r.number = rises.0 in
-    (false_from_ne_true (k == r.number) (λ h. let e : k ≡ r.number = (Decides-eqb k r.number).0 h in absurd (omega (arith, e, here, less))), rises_apart k (r.number + 1) l (omega (arith, here, less)) rises.1)
+    let here : n ≤ r.number = rises.0 in (
+      false_from_ne_true (k == r.number) (λ h. let e : k ≡ r.number = (Decides-eqb k r.number).0 h in absurd (omega (arith, e, here, less))),
+      rises_apart k (r.number + 1) l
+          (omega (arith, here, less)) rises.1,
+    )
 
 no_numbers : IsDistinct (λ a b. a == b) []
 unfolding IsDistinct
@@ -329,7 +309,8 @@ free_by None q h = (refl, h)
 free_by (Some e) q h = absurd (cc)
 
 last_cut : (t : House) (p : List Record) (k : Record) (s : List Record) → NumbersOnce (p ++ k ∷ s) → first_refused t [] (p ++ k ∷ s) ≡ None
-    → standing_on t (p ++ k ∷ s) k.number ≡ None → (first_refused t [] (without (p ++ k ∷ s) k.number ++ k ∷ []) ≡ None) × IsSameState t (p ++ k ∷ s) (without (p ++ k ∷ s) k.number ++ k ∷ [])
+    → standing_on t (p ++ k ∷ s) k.number ≡ None → (first_refused t [] (without (p ++ k ∷ s) k.number ++ k ∷ []) ≡ None)
+    × IsSameState t (p ++ k ∷ s) (without (p ++ k ∷ s) k.number ++ k ∷ [])
 last_cut t p k s once none free =
     let under = free_by (find (stands_under k) (p ++ k ∷ s)) (deals_under t (p ++ k ∷ s) k.number k.firm k.command) (sym (standing_cut t p k s once none) ∙ free) in
     let behind = none_passes (stands_under k) s (sym (found_behind t p k s once none) ∙ under.0) in

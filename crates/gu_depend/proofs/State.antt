@@ -1,28 +1,14 @@
 -- Lists that find the same, and have the same changes, leave the same trees, positions and fees.
-use Rattle.std.proofs.Common.{◌≡◌, ℕ, zero, suc, ◌+◌, ◌*◌, ◌≤◌, Bool, true, false, ◌&&◌, List, [], ◌∷◌, length, refl, sym, ◌∙◌, ap, arith, cond, Option, IsPermutation}
+use Rattle.std.proofs.Common.{◌≡◌, ℕ, zero, suc, ◌+◌, ◌*◌, ◌≤◌, Bool, true, false, ◌&&◌, List, [], ◌∷◌, length, refl, sym, ◌∙◌, ap, arith, cond, Option}
+use Rattle.std.proofs.Common.{IsPermutation}
 use Rattle.std.specs.Prelude.{Some, None, find, flat_map, filter, sum_by, count_by, option_and_then, option_map, unwrap_or, is_some, is_none, bytes_eq, ◌==◌}
 use Rattle.std.proofs.lemmas.List.Elements.{filter-append}
 use Rattle.std.proofs.lemmas.List.Sums.{sum_by-cons, sum_by-append, sum_by-le-sum_by}
 use Rattle.std.proofs.lemmas.List.Sorted.{sum_by-IsPermutation}
-use Rattle.gu_base.specs.Numbers.{EntryPart}
-use Rattle.gu_base.specs.House.{House}
-use Rattle.gu_base.specs.Nodes.{node_of, nodes, split_of, claim_of, claimed_account, parent}
-use Rattle.gu_base.specs.Places.{line_within, line_of, place_of_kind, place_along, place_of, root_along, root_of, same_place}
-use Rattle.gu_base.specs.Positions.{is_trade_of, trades_in, stands_at, position_of}
-use Rattle.gu_base.specs.House.{agreement}
-use Rattle.gu_base.specs.Terms.{dealings, terms_under, limit_under, used_under, terms_of, limit_of, used_of}
-use Rattle.gu_base.specs.Fees.{charge_of_kind, charge_of_node, charge_of, charges, counted}
-use Rattle.gu_base.specs.declared.house.Agreement.{Agreement}
-use Rattle.gu_base.specs.declared.node.Kind.{Kind}
-use Rattle.gu_base.specs.declared.node.Kind.TheVariants.{Root, Own, Given}
-use Rattle.gu_base.specs.Rows.{Row, row_of, state_of, taker_of, made_by, parts_of, rows_within, rows_from, rows_of}
-use Rattle.gu_base.specs.declared.command.Side.{Side}
-use Rattle.gu_base.specs.declared.command.Command.{Command}
-use Rattle.gu_base.specs.declared.command.Command.TheVariants.{Trade, Split, Claim, Refuse, Cancel, Agree, Raise, Initiate, Decline, Reverse}
-use Rattle.gu_base.specs.declared.entry.Record.{Record}
-use Rattle.gu_base.specs.declared.node.Charge.{Charge}
-use Rattle.gu_base.specs.declared.node.Node.{Node}
-use Rattle.gu_base.specs.declared.node.Place.{Place}
+use Rattle.gu_depend.proofs.Vocabulary.{EntryPart, House, agreement, node_of, nodes, split_of, claim_of, claimed_account, parent, line_within, line_of, place_of_kind, place_along, place_of}
+use Rattle.gu_depend.proofs.Vocabulary.{root_along, root_of, same_place, is_trade_of, trades_in, stands_at, position_of, dealings, terms_under, limit_under, used_under, terms_of, limit_of}
+use Rattle.gu_depend.proofs.Vocabulary.{used_of, charge_of_kind, charge_of_node, charge_of, charges, counted, Agreement, Kind, Given, Row, row_of, state_of, taker_of, made_by, parts_of}
+use Rattle.gu_depend.proofs.Vocabulary.{rows_within, rows_from, rows_of, Side, Command, Claim, Record, Charge, Node, Place}
 use Rattle.gu_depend.specs.Same.{IsSameState}
 use Rattle.gu_depend.proofs.Finds.{find_permuted}
 use Rattle.gu_depend.proofs.NamedOnce.{NamedOnce}
@@ -116,7 +102,8 @@ one_of_both false b = omega arith
 trade_once : (l : List Record) (instrument : List ℕ) (side : Side) (k : ℕ) → count_by (λ r. r.number == k) l ≤ 1
     → count_by (λ r. (r.number == k) && is_trade_of instrument side r.command) l ≤ 1
 trade_once l instrument side k once =
-    let a = sum_by-le-sum_by (λ (r : Record). cond ((r.number == k) && is_trade_of instrument side r.command) 1 0) (λ (r : Record). cond (r.number == k) 1 0) l (λ r. one_of_both (r.number == k) (is_trade_of instrument side r.command)) in
+    let a = sum_by-le-sum_by (λ (r : Record). cond ((r.number == k) && is_trade_of instrument side r.command) 1 0) (λ (r : Record). cond (r.number == k) 1 0) l
+    (λ r. one_of_both (r.number == k) (is_trade_of instrument side r.command)) in
     omega (arith, a, once)
 
 module _ {l o : List Record} (same : IsPermutation l o) (once : NumbersOnce l) (f : SameFinds l o) where
@@ -155,24 +142,15 @@ same_deals t l o same = record {
 }
 
 kind_same : (t : House) (l o : List Record) → SameDeals t l o → (lots : ℕ) (kind : Kind) → charge_of_kind t o lots kind ≡ charge_of_kind t l lots kind
-kind_same t l o deals lots (Root _) = refl
-kind_same t l o deals lots (Own _ _ _) = refl
 kind_same t l o deals lots (Given m g k) = ap (option_map (λ (a : Agreement). record { giver = g; taker = k; lots = lots; rate = a.rate })) (deals.terms g k)
+kind_same t l o deals lots _ = refl
 
 -- and what a change costs
 pub charge_same : (t : House) (l o : List Record) → SameFinds l o → SameDeals t l o → (c : Command) → charge_of t o c ≡ charge_of t l c
 charge_same t l o f deals (Claim n account) =
     ap (option_and_then (charge_of_node t o)) (f.nodes n)
     ∙ ap (λ (h : Node → Option Charge). option_and_then h (node_of l n)) (λ i x. kind_same t l o deals x.lots x.kind i)
-charge_same t l o f deals (Trade _ _ _ _ _) = refl
-charge_same t l o f deals (Split _ _) = refl
-charge_same t l o f deals (Refuse _) = refl
-charge_same t l o f deals (Cancel _) = refl
-charge_same t l o f deals (Agree _ _ _ _) = refl
-charge_same t l o f deals (Raise _ _) = refl
-charge_same t l o f deals (Initiate _) = refl
-charge_same t l o f deals (Decline _) = refl
-charge_same t l o f deals (Reverse _) = refl
+charge_same t l o f deals _ = refl
 
 charges_same : (t : House) (takes : Charge → Bool) (counts : Charge → ℕ) (l o : List Record) → IsPermutation l o → SameFinds l o → SameDeals t l o
     → sum_by counts (filter takes (charges t o)) ≡ sum_by counts (filter takes (charges t l))

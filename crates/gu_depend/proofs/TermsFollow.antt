@@ -9,21 +9,9 @@ use Rattle.std.proofs.lemmas.Slice.Eq.{bytes_eq-Decides}
 use Rattle.std.proofs.lemmas.List.Elements.{All-weaker, All-push, All-contains, All-contains_itself}
 use Rattle.std.proofs.lemmas.List.Folds.{find-append}
 use Rattle.std.proofs.lemmas.Option.{same_Some}
-use Rattle.gu_base.specs.Numbers.{EntryPart}
-use Rattle.gu_base.specs.House.{House, agreement}
-use Rattle.gu_base.specs.Nodes.{node_of}
-use Rattle.gu_base.specs.Terms.{use_of_kind, use_of_node, deed_of, dealings_in, dealings}
-use Rattle.gu_base.specs.declared.house.Deed.{Deed}
-use Rattle.gu_base.specs.declared.house.Deed.TheVariants.{Makes, Raises, Uses}
-use Rattle.gu_base.specs.declared.house.Dealing.{Dealing}
-use Rattle.gu_base.specs.declared.house.Pair.{Pair}
-use Rattle.gu_base.specs.declared.command.Command.{Command}
-use Rattle.gu_base.specs.declared.command.Command.TheVariants.{Trade, Split, Claim, Refuse, Cancel, Agree, Raise, Initiate, Decline, Reverse}
-use Rattle.gu_base.specs.declared.entry.Record.{Record}
-use Rattle.gu_base.specs.declared.node.Kind.{Kind}
-use Rattle.gu_base.specs.declared.node.Kind.TheVariants.{Root, Own, Given}
-use Rattle.gu_base.specs.declared.node.Node.{Node}
-use Rattle.gu_base.proofs.Basics.{none_is_some}
+use Rattle.gu_depend.proofs.Vocabulary.{EntryPart, House, agreement, node_of, use_of_kind, use_of_node, deed_of, dealings_in, dealings, Deed, Makes, Raises, Uses, Dealing, Pair, Command, Claim}
+use Rattle.gu_depend.proofs.Vocabulary.{Agree, Raise, Record, Kind, Given, Node}
+use Rattle.gu_base.proofs.Basics.{none_is_some, or_none}
 use Rattle.gu_base.proofs.NodeNames.{name_same}
 use Rattle.gu_base.proofs.Searches.{found_in}
 use Rattle.gu_tree.specs.ShownAll.{change_of}
@@ -48,13 +36,13 @@ some_with P (Some x) h = (x, (refl, h))
 -- ---- the pair of a change
 
 pair_of_use : (g k : List ℕ) (lots : ℕ) (kind : Kind) (d : Deed) → use_of_kind g k lots kind ≡ Some d → pair_of_kind kind ≡ Some (record { giver = g; taker = k })
-pair_of_use g k lots (Root _) d h = absurd (cc)
-pair_of_use g k lots (Own _ _ _) d h = absurd (cc)
 pair_of_use g k lots (Given m x y) d h =
     let p = of_pair g k x y (Uses lots) d (bytes_eq x g && bytes_eq y k) refl h in
     λ i. Some (record { giver = p.0 i; taker = p.1.0 i })
+pair_of_use g k lots _ d h = absurd (cc)
 
-pair_of_use_at : (g k : List ℕ) (o : Option Node) (d : Deed) → option_and_then (use_of_node g k) o ≡ Some d → option_and_then (λ x. pair_of_kind x.kind) o ≡ Some (record { giver = g; taker = k })
+pair_of_use_at : (g k : List ℕ) (o : Option Node) (d : Deed) → option_and_then (use_of_node g k) o ≡ Some d
+    → option_and_then (λ x. pair_of_kind x.kind) o ≡ Some (record { giver = g; taker = k })
 pair_of_use_at g k None d h = absurd (cc)
 pair_of_use_at g k (Some x) d h = pair_of_use g k x.lots x.kind d h
 
@@ -67,26 +55,13 @@ pair_of_deed l g k by (Raise x lots) d h =
     let p = of_pair g k x by (Raises lots) d (bytes_eq x g && bytes_eq by k) refl h in
     λ i. Some (record { giver = p.0 i; taker = p.1.0 i })
 pair_of_deed l g k by (Claim n account) d h = pair_of_use_at g k (node_of l n) d h
-pair_of_deed l g k by (Trade _ _ _ _ _) d h = absurd (cc)
-pair_of_deed l g k by (Split _ _) d h = absurd (cc)
-pair_of_deed l g k by (Refuse _) d h = absurd (cc)
-pair_of_deed l g k by (Cancel _) d h = absurd (cc)
-pair_of_deed l g k by (Initiate _) d h = absurd (cc)
-pair_of_deed l g k by (Decline _) d h = absurd (cc)
-pair_of_deed l g k by (Reverse _) d h = absurd (cc)
+pair_of_deed l g k by _ d h = absurd (cc)
 
 -- a change whose node is there is of the same pair in both lists
-pub pair_grown : (l b : List Record) (by : List ℕ) (c : Command) → Within l b → ((n : EntryPart) → names n c ≡ true → (x : Node) × (node_of b n ≡ Some x)) → pair_of b by c ≡ pair_of l by c
+pub pair_grown : (l b : List Record) (by : List ℕ) (c : Command) → Within l b → ((n : EntryPart) → names n c ≡ true → (x : Node) × (node_of b n ≡ Some x))
+    → pair_of b by c ≡ pair_of l by c
 pair_grown l b by (Claim n account) w there = let x = there n (name_same n) in ap (option_and_then (λ x. pair_of_kind x.kind)) (x.1 ∙ sym (w.nodes n x.0 x.1))
-pair_grown l b by (Trade _ _ _ _ _) w there = refl
-pair_grown l b by (Split _ _) w there = refl
-pair_grown l b by (Refuse _) w there = refl
-pair_grown l b by (Cancel _) w there = refl
-pair_grown l b by (Agree _ _ _ _) w there = refl
-pair_grown l b by (Raise _ _) w there = refl
-pair_grown l b by (Initiate _) w there = refl
-pair_grown l b by (Decline _) w there = refl
-pair_grown l b by (Reverse _) w there = refl
+pair_grown l b by _ w there = refl
 
 pair_told : (p q : Pair) → Some p ≡ Some q → (p.giver ≡ q.giver) × (p.taker ≡ q.taker)
 pair_told p q e = let one : p ≡ q = same_Some p q e in (ap (λ (z : Pair). z.giver) one, ap (λ (z : Pair). z.taker) one)
@@ -152,10 +127,6 @@ module _ (t : House) (l : List Record) (r : Record) (before : IsBefore t l r) wh
         ∙ (sym (ap (option_and_then (place_of_pair v)) (pair_more ∙ none))
         ∙ sym (ap (λ o. option_and_then (pair_place v more) (option_or o (Some r))) (new_number n is))))
     apart_placed n false is = are.placed n ∙ (sym (old_place v n (change_of l n) refl) ∙ sym (ap (option_and_then (pair_place v more)) (or_none (change_of l n))))
-      where
-        or_none : (o : Option Record) → option_or o None ≡ o
-        or_none None = refl
-        or_none (Some d) = refl
 
     -- the terms stay those of the list
     pub apart_follows : AreTermsOf t more v
@@ -171,7 +142,8 @@ module _ (t : House) (l : List Record) (r : Record) (before : IsBefore t l r) wh
 
   -- ---- that deals for a pair
 
-  module _ (v w : TermsView) (g k : List ℕ) (d : Deed) (are : AreTermsOf t l v) (deals : deed_of l g k r.firm r.command ≡ Some d) (put : IsPut v w g k (record { number = r.number; deed = d })) where
+  module _ (v w : TermsView) (g k : List ℕ) (d : Deed) (are : AreTermsOf t l v) (deals : deed_of l g k r.firm r.command ≡ Some d)
+      (put : IsPut v w g k (record { number = r.number; deed = d })) where
     own : (q : PairView) × ((row_of v g k ≡ Some q) × IsSomeAnd (row_of w g k) (λ p. (p.file ≡ q.file) × (p.dealings ≡ q.dealings ++ numbered r d ∷ [])))
     own = some_with (λ q. IsSomeAnd (row_of w g k) (λ p. (p.file ≡ q.file) × (p.dealings ≡ q.dealings ++ numbered r d ∷ []))) (row_of v g k) put.own
 
@@ -218,7 +190,8 @@ module _ (t : House) (l : List Record) (r : Record) (before : IsBefore t l r) wh
     same_places : (among : List Record) (c : Record) → pair_place w among c ≡ pair_place v among c
     same_places among c = ap (λ ps. option_and_then (λ (p : Pair). lookup (is_pair p.giver p.taker) ps) (pair_of among c.firm c.command)) put.places
 
-    placed_by : (n : ℕ) (b : Bool) → (r.number == n) ≡ b → (if b then lookup (is_pair g k) v.places else pair_at v n) ≡ option_and_then (pair_place w more) (option_or (change_of l n) (cond b (Some r) None))
+    placed_by : (n : ℕ) (b : Bool) → (r.number == n) ≡ b → (if b then lookup (is_pair g k) v.places else pair_at v n)
+        ≡ option_and_then (pair_place w more) (option_or (change_of l n) (cond b (Some r) None))
     placed_by n true is =
         sym (same_places more r ∙ ap (option_and_then (place_of_pair v)) (pair_more ∙ pair_of_deed l g k r.firm r.command d deals))
         ∙ sym (ap (λ o. option_and_then (pair_place w more) (option_or o (Some r))) (new_number n is))
@@ -226,11 +199,7 @@ module _ (t : House) (l : List Record) (r : Record) (before : IsBefore t l r) wh
         are.placed n
         ∙ (sym (old_place v n (change_of l n) refl)
         ∙ (sym (ap (λ (h : Record → Option ℕ). option_and_then h (change_of l n)) (λ i c. same_places more c i))
-        ∙ sym (ap (option_and_then (pair_place w more)) (or_kept (change_of l n)))))
-      where
-        or_kept : (o : Option Record) → option_or o None ≡ o
-        or_kept None = refl
-        or_kept (Some d) = refl
+        ∙ sym (ap (option_and_then (pair_place w more)) (or_none (change_of l n)))))
 
     -- the terms that it was put into are those of the longer list
     pub put_follows : AreTermsOf t more w
@@ -241,6 +210,7 @@ module _ (t : House) (l : List Record) (r : Record) (before : IsBefore t l r) wh
           (All-weaker (Contains l) (λ (z : Record). (p : Pair) → pair_of more z.firm z.command ≡ Some p → (q : PairView) × (row_of w p.giver p.taker ≡ Some q))
           (λ z in_l p e. let q = are.ready z p in_l (sym (pair_old z in_l) ∙ e) in row_kept p.giver p.taker q.0 q.1 (bytes_eq g p.giver && bytes_eq k p.taker) refl) l (All-contains_itself l))
           (λ p e. let same = pair_told (record { giver = g; taker = k }) p (sym (pair_more ∙ pair_of_deed l g k r.firm r.command d deals) ∙ e) in
-          row_kept p.giver p.taker own.0 (ap (λ z. row_of v z p.taker) (sym same.0) ∙ (ap (λ z. row_of v g z) (sym same.1) ∙ own.1.0)) (bytes_eq g p.giver && bytes_eq k p.taker) refl)) among p e;
+          row_kept p.giver p.taker own.0 (ap (λ z. row_of v z p.taker) (sym same.0) ∙ (ap (λ z. row_of v g z) (sym same.1) ∙ own.1.0))
+          (bytes_eq g p.giver && bytes_eq k p.taker) refl)) among p e;
       placed = λ n. put.placed n ∙ (placed_by n (r.number == n) refl ∙ sym (ap (option_and_then (pair_place w more)) (change_more n)));
     }

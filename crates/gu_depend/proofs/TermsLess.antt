@@ -5,27 +5,14 @@ use Rattle.std.specs.Map.{lookup}
 use Rattle.std.proofs.lemmas.Bool.Decides.{Decides-eqb}
 use Rattle.std.proofs.lemmas.List.Elements.{All-contains, All-contains_itself, All-filter}
 use Rattle.std.proofs.lemmas.Option.{same_Some}
-use Rattle.gu_base.specs.House.{House, agreement}
-use Rattle.gu_base.specs.Nodes.{node_of}
-use Rattle.gu_base.specs.Standing.{first_refused, standing_on, without}
-use Rattle.gu_base.specs.Terms.{use_of_kind, use_of_node, deed_of, dealings_in, dealings}
-use Rattle.gu_base.specs.Dealt.{leave_out}
-use Rattle.gu_base.specs.declared.house.Deed.{Deed}
-use Rattle.gu_base.specs.declared.house.Deed.TheVariants.{Makes, Raises, Uses}
-use Rattle.gu_base.specs.declared.house.Pair.{Pair}
-use Rattle.gu_base.specs.declared.command.Command.{Command}
-use Rattle.gu_base.specs.declared.command.Command.TheVariants.{Trade, Split, Claim, Refuse, Cancel, Agree, Raise, Initiate, Decline, Reverse}
-use Rattle.gu_base.specs.declared.entry.Record.{Record}
-use Rattle.gu_base.specs.declared.node.Kind.{Kind}
-use Rattle.gu_base.specs.declared.node.Kind.TheVariants.{Root, Own, Given}
-use Rattle.gu_base.specs.declared.node.Node.{Node}
+use Rattle.gu_depend.proofs.Vocabulary.{House, agreement, first_refused, standing_on, without, deed_of, dealings_in, dealings, leave_out, Deed, Pair, Record}
 use Rattle.gu_base.proofs.Basics.{none_is_some, eqb_symm}
 use Rattle.gu_base.proofs.Searches.{found_in}
 use Rattle.gu_tree.specs.ShownAll.{change_of}
 use Rattle.gu_fees.specs.Rows.{is_pair}
 use Rattle.gu_fees.specs.Pairs.{PairView}
 use Rattle.gu_fees.specs.Terms.{TermsView, row_of, pair_at, IsTakenOut}
-use Rattle.gu_depend.specs.Terms.{pair_of_kind, pair_of, place_of_pair, AreTermsOf}
+use Rattle.gu_depend.specs.Terms.{pair_of, place_of_pair, AreTermsOf}
 use Rattle.gu_depend.proofs.Deals.{both_same, dealings_grown, left_out}
 use Rattle.gu_depend.proofs.Finds.{found_once}
 use Rattle.gu_depend.proofs.Grown.{NamesThere, Grown}
@@ -37,7 +24,8 @@ use Rattle.gu_depend.proofs.TermsFollow.{some_with, pair_of_deed, pair_grown, pa
 
 -- ---- a search by a number, where a number is left out
 
-gone_at : {X : Type 0} (key : X → ℕ) (k : ℕ) (x : X) (rest : List X) → find (λ y. key y == k) rest ≡ None → (b : Bool) → (key x == k) ≡ b → find (λ y. key y == k) (cond (not b) (x ∷ rest) rest) ≡ None
+gone_at : {X : Type 0} (key : X → ℕ) (k : ℕ) (x : X) (rest : List X) → find (λ y. key y == k) rest ≡ None → (b : Bool) → (key x == k) ≡ b
+    → find (λ y. key y == k) (cond (not b) (x ∷ rest) rest) ≡ None
 gone_at key k x rest none true is = none
 gone_at key k x rest none false is = ap (λ b. cond b (Some x) (find (λ y. key y == k) rest)) is ∙ none
 
@@ -45,7 +33,8 @@ gone_by : {X : Type 0} (key : X → ℕ) (k : ℕ) (xs : List X) → find (λ x.
 gone_by key k [] = refl
 gone_by key k (x ∷ xs) = gone_at key k x (filter (λ x. not (key x == k)) xs) (gone_by key k xs) (key x == k) refl
 
-kept_at : {X : Type 0} (key : X → ℕ) (k n : ℕ) (x : X) (rest xs : List X) → (n == k) ≡ false → find (λ y. key y == n) rest ≡ find (λ y. key y == n) xs → (b c : Bool) → (key x == k) ≡ b → (key x == n) ≡ c
+kept_at : {X : Type 0} (key : X → ℕ) (k n : ℕ) (x : X) (rest xs : List X) → (n == k) ≡ false → find (λ y. key y == n) rest ≡ find (λ y. key y == n) xs → (b c : Bool)
+    → (key x == k) ≡ b → (key x == n) ≡ c
     → find (λ y. key y == n) (cond (not b) (x ∷ rest) rest) ≡ cond c (Some x) (find (λ y. key y == n) xs)
 kept_at key k n x rest xs away same true true is at =
     let one : n ≡ k = sym ((Decides-eqb (key x) n).0 at) ∙ (Decides-eqb (key x) k).0 is in
@@ -57,36 +46,6 @@ kept_at key k n x rest xs away same false c is at = ap (λ b. cond b (Some x) (f
 kept_by : {X : Type 0} (key : X → ℕ) (k n : ℕ) (xs : List X) → (n == k) ≡ false → find (λ x. key x == n) (filter (λ x. not (key x == k)) xs) ≡ find (λ x. key x == n) xs
 kept_by key k n [] away = refl
 kept_by key k n (x ∷ xs) away = kept_at key k n x (filter (λ x. not (key x == k)) xs) xs away (kept_by key k n xs away) (key x == k) (key x == n) refl refl
-
--- ---- whoever is of a pair deals for it
-
-deed_of_use : (lots : ℕ) (kind : Kind) (p : Pair) → pair_of_kind kind ≡ Some p → (d : Deed) × (use_of_kind p.giver p.taker lots kind ≡ Some d)
-deed_of_use lots (Root _) p h = absurd (cc)
-deed_of_use lots (Own _ _ _) p h = absurd (cc)
-deed_of_use lots (Given m x y) p h =
-    let one : record { giver = x; taker = y } ≡ p = same_Some (record { giver = x; taker = y }) p h in
-    (Uses lots, subst (λ (z : Pair). use_of_kind z.giver z.taker lots (Given m x y) ≡ Some (Uses lots)) one (ap (λ b. cond b (Some (Uses lots)) None) (both_same x y)))
-
-deed_at_node : (o : Option Node) (p : Pair) → option_and_then (λ x. pair_of_kind x.kind) o ≡ Some p → (d : Deed) × (option_and_then (use_of_node p.giver p.taker) o ≡ Some d)
-deed_at_node None p h = absurd (cc)
-deed_at_node (Some x) p h = deed_of_use x.lots x.kind p h
-
-pub deed_of_pair : (l : List Record) (by : List ℕ) (c : Command) (p : Pair) → pair_of l by c ≡ Some p → (d : Deed) × (deed_of l p.giver p.taker by c ≡ Some d)
-deed_of_pair l by (Agree x y rate limit) p h =
-    let made : Deed = Makes (record { rate = rate; limit = limit }) in
-    let one : record { giver = x; taker = y } ≡ p = same_Some (record { giver = x; taker = y }) p h in
-    (made, subst (λ (z : Pair). deed_of l z.giver z.taker by (Agree x y rate limit) ≡ Some made) one (ap (λ b. cond b (Some made) None) (both_same x y)))
-deed_of_pair l by (Raise x lots) p h =
-    let one : record { giver = x; taker = by } ≡ p = same_Some (record { giver = x; taker = by }) p h in
-    (Raises lots, subst (λ (z : Pair). deed_of l z.giver z.taker by (Raise x lots) ≡ Some (Raises lots)) one (ap (λ b. cond b (Some (Raises lots)) None) (both_same x by)))
-deed_of_pair l by (Claim n account) p h = deed_at_node (node_of l n) p h
-deed_of_pair l by (Trade _ _ _ _ _) p h = absurd (cc)
-deed_of_pair l by (Split _ _) p h = absurd (cc)
-deed_of_pair l by (Refuse _) p h = absurd (cc)
-deed_of_pair l by (Cancel _) p h = absurd (cc)
-deed_of_pair l by (Initiate _) p h = absurd (cc)
-deed_of_pair l by (Decline _) p h = absurd (cc)
-deed_of_pair l by (Reverse _) p h = absurd (cc)
 
 -- ---- what others deal
 
@@ -139,7 +98,8 @@ module _ (t : House) (l : List Record) (k : Record) (once : NumbersOnce l) (none
     place = place_by row_p.0 (place_of_pair v p) refl row_p.1
 
     own : (q : PairView) × ((row_of v p.giver p.taker ≡ Some q) × IsSomeAnd (row_of w p.giver p.taker) (λ z. (z.file ≡ q.file) × (z.dealings ≡ leave_out k.number q.dealings)))
-    own = some_with (λ q. IsSomeAnd (row_of w p.giver p.taker) (λ z. (z.file ≡ q.file) × (z.dealings ≡ leave_out k.number q.dealings))) (row_of v p.giver p.taker) (taken.own p.giver p.taker place.0 (at_k ∙ place.1) place.1)
+    own = some_with (λ q. IsSomeAnd (row_of w p.giver p.taker) (λ z. (z.file ≡ q.file) × (z.dealings ≡ leave_out k.number q.dealings))) (row_of v p.giver p.taker)
+        (taken.own p.giver p.taker place.0 (at_k ∙ place.1) place.1)
 
     new_row : (z : PairView) × ((row_of w p.giver p.taker ≡ Some z) × ((z.file ≡ own.0.file) × (z.dealings ≡ leave_out k.number own.0.dealings)))
     new_row = some_with (λ z. (z.file ≡ own.0.file) × (z.dealings ≡ leave_out k.number own.0.dealings)) (row_of w p.giver p.taker) own.1.1
@@ -165,14 +125,16 @@ module _ (t : House) (l : List Record) (k : Record) (once : NumbersOnce l) (none
     other_dealings : (x y : List ℕ) → (bytes_eq p.giver x && bytes_eq p.taker y) ≡ false → dealings less x y ≡ dealings l x y
     other_dealings x y differ = dealings_grown l less x y grown ∙ less_none t l k once none among x y (none_of x y differ (deed_of l x y k.firm k.command) refl)
 
-    rows_by : (x y : List ℕ) (q : PairView) → row_of w x y ≡ Some q → (b : Bool) → (bytes_eq p.giver x && bytes_eq p.taker y) ≡ b → (q.file ≡ agreement t x y) × (q.dealings ≡ dealings less x y)
+    rows_by : (x y : List ℕ) (q : PairView) → row_of w x y ≡ Some q → (b : Bool) → (bytes_eq p.giver x && bytes_eq p.taker y) ≡ b
+        → (q.file ≡ agreement t x y) × (q.dealings ≡ dealings less x y)
     rows_by x y q e true is =
         let same = pair_same p.giver p.taker x y is in
         let here : row_of w p.giver p.taker ≡ Some q = ap (λ z. row_of w z p.taker) same.0 ∙ (ap (λ z. row_of w x z) same.1 ∙ e) in
         let one : new_row.0 ≡ q = same_Some new_row.0 q (sym new_row.1.0 ∙ here) in
         let told : (q.file ≡ agreement t p.giver p.taker) × (q.dealings ≡ dealings less p.giver p.taker) =
         subst (λ (z : PairView). (z.file ≡ agreement t p.giver p.taker) × (z.dealings ≡ dealings less p.giver p.taker)) one told_own in
-        subst (λ z. (q.file ≡ agreement t x z) × (q.dealings ≡ dealings less x z)) same.1 (subst (λ z. (q.file ≡ agreement t z p.taker) × (q.dealings ≡ dealings less z p.taker)) same.0 told)
+        subst (λ z. (q.file ≡ agreement t x z) × (q.dealings ≡ dealings less x z)) same.1
+        (subst (λ z. (q.file ≡ agreement t z p.taker) × (q.dealings ≡ dealings less z p.taker)) same.0 told)
     rows_by x y q e false is =
         let old = are.rows x y q (sym (other_row x y is) ∙ e) in
         (old.0, old.1 ∙ sym (other_dealings x y is))

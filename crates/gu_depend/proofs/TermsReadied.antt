@@ -3,12 +3,7 @@ use Rattle.std.proofs.Common.{◌≡◌, ℕ, Bool, true, false, ◌&&◌, List,
 use Rattle.std.specs.Prelude.{Some, None, IfSome, IsSomeAnd, option_map, option_and_then, slice_get, bytes_eq, ◌==◌}
 use Rattle.std.specs.List.{cons_option}
 use Rattle.std.proofs.lemmas.List.Elements.{All-nil, All-head, All-tail, All-contains, All-contains_itself, All-weaker}
-use Rattle.gu_base.specs.House.{House, agreement}
-use Rattle.gu_base.specs.Terms.{deed_of, dealings_in, dealings}
-use Rattle.gu_base.specs.declared.house.Deed.{Deed}
-use Rattle.gu_base.specs.declared.house.Dealing.{Dealing}
-use Rattle.gu_base.specs.declared.house.Pair.{Pair}
-use Rattle.gu_base.specs.declared.entry.Record.{Record}
+use Rattle.gu_depend.proofs.Vocabulary.{House, agreement, deed_of, dealings_in, dealings, Deed, Dealing, Pair, Record}
 use Rattle.gu_base.proofs.Basics.{none_is_some}
 use Rattle.gu_base.proofs.Searches.{found_in}
 use Rattle.gu_tree.specs.ShownAll.{change_of}
@@ -26,7 +21,8 @@ none_follow t v rows entries = record {
   placed = λ n. entries n;
 }
 
-nobody_by : (n : ℕ) (rest : List Dealing) (o : Option Deed) → ((d : Deed) → o ≡ Some d → ⊥) → rest ≡ [] → cons_option (option_map (λ d. record { number = n; deed = d }) o) rest ≡ []
+nobody_by : (n : ℕ) (rest : List Dealing) (o : Option Deed) → ((d : Deed) → o ≡ Some d → ⊥) → rest ≡ []
+    → cons_option (option_map (λ d. record { number = n; deed = d }) o) rest ≡ []
 nobody_by n rest None idle later = later
 nobody_by n rest (Some d) idle later = absurd (idle d refl)
 
@@ -45,7 +41,8 @@ module _ (t : House) (l : List Record) (v : TermsView) (are : AreTermsOf t l v) 
       l (All-contains_itself l))
 
   module _ (w : TermsView) (g k : List ℕ) (readied : IsReadied v w g k (agreement t g k)) where
-    own_row : (o n : Option PairView) → row_of v g k ≡ o → IsRowAfter o (agreement t g k) n → (q : PairView) → n ≡ Some q → (q.file ≡ agreement t g k) × (q.dealings ≡ dealings l g k)
+    own_row : (o n : Option PairView) → row_of v g k ≡ o → IsRowAfter o (agreement t g k) n → (q : PairView) → n ≡ Some q
+        → (q.file ≡ agreement t g k) × (q.dealings ≡ dealings l g k)
     own_row None n old after q e =
         let told = subst (λ z. IfSome z (λ (q : PairView). (q.file ≡ agreement t g k) × (q.dealings ≡ []))) e after in
         (told.0, told.1 ∙ sym (without_row g k old))
@@ -54,7 +51,8 @@ module _ (t : House) (l : List Record) (v : TermsView) (are : AreTermsOf t l v) 
         let were = are.rows g k r old in
         (told.0 ∙ were.0, told.1 ∙ were.1)
 
-    other_row : (x y : List ℕ) (o n : Option PairView) → row_of v x y ≡ o → IsSameRow o n → (q : PairView) → n ≡ Some q → (q.file ≡ agreement t x y) × (q.dealings ≡ dealings l x y)
+    other_row : (x y : List ℕ) (o n : Option PairView) → row_of v x y ≡ o → IsSameRow o n → (q : PairView) → n ≡ Some q
+        → (q.file ≡ agreement t x y) × (q.dealings ≡ dealings l x y)
     other_row x y None n old same q e = absurd (none_is_some n q same e)
     other_row x y (Some r) None old same q e = absurd same
     other_row x y (Some r) (Some p) old same q e =
@@ -97,7 +95,8 @@ module _ (t : House) (l : List Record) (v : TermsView) (are : AreTermsOf t l v) 
     placed_pair r among (Some p) e = let q = are.ready r p among e in sym (place_kept p q.0 q.1 (place_of_pair v p) refl)
 
     placed_by : (n : ℕ) (o : Option Record) → change_of l n ≡ o
-        → option_and_then (λ (r : Record). option_and_then (place_of_pair v) (pair_of l r.firm r.command)) o ≡ option_and_then (λ (r : Record). option_and_then (place_of_pair w) (pair_of l r.firm r.command)) o
+        → option_and_then (λ (r : Record). option_and_then (place_of_pair v) (pair_of l r.firm r.command)) o
+        ≡ option_and_then (λ (r : Record). option_and_then (place_of_pair w) (pair_of l r.firm r.command)) o
     placed_by n None e = refl
     placed_by n (Some r) e = placed_pair r (found_in (λ d. d.number == n) l r e) (pair_of l r.firm r.command) refl
 

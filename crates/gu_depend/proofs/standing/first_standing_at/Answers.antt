@@ -16,7 +16,8 @@ returns-then-is_trade_or_decision A c = λ t l g p rises legal shows place has.
     let found = found_at g c.args.k c.args.spot.now.trade tree.0 p c.head.result.now place tree.1 (at_there (λ v. head_of v ≡ c.head.result.now) _ _ tree.2 (sym c.head.ensures.head)) in
     let told : is_trade_or_decision c.args.k c.args.spot.now.trade c.head.result.now.decision ≡ true = first_of (search rules, cc, grind (arith, common_steps)) in
     split_found g t l rises legal shows c.args.k c.args.spot.now.trade p tree.0 c.head.result.now found
-    (one_of_both c.args.k c.args.spot.now.trade c.head.result.now.decision told) c.split_of.result (at_there (λ v. c.split_of.result ≡ option_map (λ s. s.0) (split_of_node v)) _ _ tree.2 c.split_of.ensures)
+    (one_of_both c.args.k c.args.spot.now.trade c.head.result.now.decision told) c.split_of.result
+    (at_there (λ v. c.split_of.result ≡ option_map (λ s. s.0) (split_of_node v)) _ _ tree.2 c.split_of.ensures)
 
 pub returns-else-is_trade_or_decision : goal.returns-else-is_trade_or_decision
 returns-else-is_trade_or_decision A c = λ t l g p rises legal shows place has.

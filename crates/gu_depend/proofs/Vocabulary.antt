@@ -1,0 +1,50 @@
+-- The words of the definitions, passed on together: what lists of changes, nodes, places, terms and refusals are.
+pub use Rattle.gu_base.specs.Answers.{Call, accepted_or, after, after_by, answer_by, answer_to, command_refusal, decline_rest, entry_of, initiate_rest, is_accepted, is_empty, is_same_call}
+pub use Rattle.gu_base.specs.Answers.{is_same_id, on_change, reversal_of, reverse_rest, status_of}
+pub use Rattle.gu_base.specs.Consents.{consents_left, consents_of, giver_alone, is_among, is_consenting, missing, of_node, parties_of, taker_and_giver}
+pub use Rattle.gu_base.specs.Dealt.{first_over, first_over_without, first_under_deed, first_under_terms, leave_out}
+pub use Rattle.gu_base.specs.Fees.{charge_of, charge_of_kind, charge_of_node, charges, counted}
+pub use Rattle.gu_base.specs.FirmsNamed.{NamesOnly}
+pub use Rattle.gu_base.specs.History.{RisesFrom, is_change, is_reverse_of, is_reversed, live, numbered_as, numbered_from, records}
+pub use Rattle.gu_base.specs.House.{House, agreement, knows_account, knows_firm}
+pub use Rattle.gu_base.specs.Limits.{highest_rate, most_entries, most_lots}
+pub use Rattle.gu_base.specs.Nodes.{claim_of, claimed_account, deal_in, decides, decision_of, is_given, is_offered, kind_of_part, node_of, nodes, nodes_of, nodes_of_parts, parent, same_name}
+pub use Rattle.gu_base.specs.Nodes.{split_of, splits}
+pub use Rattle.gu_base.specs.Numbers.{EntryPart, are_terms, is_lots}
+pub use Rattle.gu_base.specs.Orders.{IsLawfulOrder, in_lawful_order, is_ready}
+pub use Rattle.gu_base.specs.Places.{depth_of, line_of, line_within, place_along, place_of, place_of_kind, root_along, root_of, same_place}
+pub use Rattle.gu_base.specs.Positions.{is_trade_of, leaves, position_of, same_side, stands_at, trades_in}
+pub use Rattle.gu_base.specs.Refusals.{cancel_row, claim_row, first, is_giver, is_taker, knows_own_account, limit_by, limit_row, owns, raised_row, refusal_of, refusal_of_part, refuse_row, row}
+pub use Rattle.gu_base.specs.Refusals.{split_row, trade_row, unless, used_by}
+pub use Rattle.gu_base.specs.Rows.{Row, made_by, parts_of, row_of, rows_from, rows_of, rows_within, state_after, state_of, taker_of}
+pub use Rattle.gu_base.specs.Runs.{IsRunFrom, after_all, call_of, opening_calls, opening_from, opening_history}
+pub use Rattle.gu_base.specs.Same.{same_command}
+pub use Rattle.gu_base.specs.SameLaws.{same_name-Decides}
+pub use Rattle.gu_base.specs.SamePartsLaws.{bytes_same, number_same}
+pub use Rattle.gu_base.specs.Standing.{IsLegal, first_refused, standing_on, without}
+pub use Rattle.gu_base.specs.Terms.{dealing_of, dealings, dealings_in, deed_of, limit_of, limit_under, raised_under, terms_of, terms_under, use_of_kind, use_of_node, used_of, used_under}
+pub use Rattle.gu_base.specs.declared.command.Command.{Command}
+pub use Rattle.gu_base.specs.declared.command.Command.TheVariants.{Agree, Cancel, Claim, Decline, Initiate, Raise, Refuse, Reverse, Split, Trade}
+pub use Rattle.gu_base.specs.declared.command.Part.{Part}
+pub use Rattle.gu_base.specs.declared.command.Side.{Side}
+pub use Rattle.gu_base.specs.declared.command.Side.TheVariants.{Buy, Sell}
+pub use Rattle.gu_base.specs.declared.entry.Answer.{Answer}
+pub use Rattle.gu_base.specs.declared.entry.Answer.TheVariants.{Accepted, Repeated}
+pub use Rattle.gu_base.specs.declared.entry.Entry.{Entry}
+pub use Rattle.gu_base.specs.declared.entry.Record.{Record}
+pub use Rattle.gu_base.specs.declared.house.Agreement.{Agreement}
+pub use Rattle.gu_base.specs.declared.house.Dealing.{Dealing}
+pub use Rattle.gu_base.specs.declared.house.Deed.{Deed}
+pub use Rattle.gu_base.specs.declared.house.Deed.TheVariants.{Makes, Raises, Uses}
+pub use Rattle.gu_base.specs.declared.house.Pair.{Pair}
+pub use Rattle.gu_base.specs.declared.node.Charge.{Charge}
+pub use Rattle.gu_base.specs.declared.node.Deal.{Deal}
+pub use Rattle.gu_base.specs.declared.node.Kind.{Kind}
+pub use Rattle.gu_base.specs.declared.node.Kind.TheVariants.{Given, Own, Root}
+pub use Rattle.gu_base.specs.declared.node.Node.{Node}
+pub use Rattle.gu_base.specs.declared.node.Place.{Place}
+pub use Rattle.gu_base.specs.declared.refusal.Refusal.{Refusal}
+pub use Rattle.gu_base.specs.declared.refusal.Refusal.TheVariants.{AlreadyConsented, AlreadyReversed, BadTerms, BookFull, DuplicateId, NeedsConsent, NotAChange, NotAParty, NotOffered, NotYours}
+pub use Rattle.gu_base.specs.declared.refusal.Refusal.TheVariants.{NothingPending, StandsOn, UnknownAccount, UnknownEntry, UnknownFirm}
+pub use Rattle.gu_base.specs.declared.state.State.{State}
+pub use Rattle.gu_base.specs.declared.state.State.TheVariants.{Cancelled, Claimed, Held, Offered, ReversalPending, Reversed}
