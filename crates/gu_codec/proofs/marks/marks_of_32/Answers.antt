@@ -1,0 +1,6 @@
+use Rattle.std.proofs.Common.{refl, arith}
+use Rattle.gu_codec.proofs.Marking.{loaded}
+use Rattle.gu_codec.proofs.marks.marks_of_32.Goals as goal
+
+pub returns : goal.returns
+returns c = loaded c.args.bytes.now c.args.at 32 _ c.requires (omega arith) refl
