@@ -1,8 +1,8 @@
 -- An own part as most are sent.
-use Rattle.std.proofs.Common.{◌≡◌, ◌≢◌, ◌≤◌, ◌<◌, ◌+◌, ◌-◌, ◌*◌, ◌∙◌, inl, inr, ℕ, zero, suc, Bool, true, false, cond, eqb, ltb, List, [], ◌∷◌, ◌++◌, length, take, drop, Option, Some, None, Ok, refl, sym, ap, arith}
+use Rattle.std.proofs.Common.{◌≡◌, ◌≢◌, ◌<◌, ◌+◌, ◌-◌, ◌*◌, ◌∙◌, inl, inr, ℕ, Bool, true, false, cond, eqb, ltb, List, [], ◌∷◌, ◌++◌, length, take, drop, Option, Some, None, Ok, refl, sym, ap, arith}
 use Rattle.std.specs.List.{position_or_len}
 use Rattle.std.specs.Option.{is_some}
-use Rattle.std.proofs.lemmas.Bool.{cases_Bool, lt-ltb, le-ltb, ne_eqb, and_parts}
+use Rattle.std.proofs.lemmas.Bool.{cases_Bool, lt-ltb, le-ltb, ne_eqb}
 use Rattle.std.proofs.lemmas.Bool.Decides.{nat_tests}
 use Rattle.std.proofs.lemmas.List.{drop-drop, drop_all, take_all, length-drop, length-take}
 use Rattle.gu_base.specs.Names.{is_digit}
@@ -90,7 +90,7 @@ plain bytes at name end lots first name_is named name_in second end_is end_in di
     let some = some_digit quantity lots digits in
     let a = field_79 (drop at bytes) (drop (at + 3) bytes) account (drop (name + 1) bytes) first (value_to bytes (at + 3) name name_is (omega arith) name_in) in
     let q = field_80 (drop (name + 1) bytes) (drop (name + 4) bytes) quantity (drop (end + 1) bytes) second
-        (value_to bytes (name + 4) end end_is (omega (arith, length-take (end - (name + 4)) (drop (name + 4) bytes))) end_in) in
+    (value_to bytes (name + 4) end end_is (omega (arith, length-take (end - (name + 4)) (drop (name + 4) bytes))) end_in) in
     record {
       quantity = quantity;
       fields = fields_some (drop at bytes) (79, account) (drop (name + 1) bytes) a ∙ ap (λ (fs : List (ℕ × List ℕ)). (79, account) ∷ fs) (fields_some (drop (name + 1) bytes) (80, quantity) (drop (end + 1) bytes) q);
@@ -133,7 +133,7 @@ one_plain by bytes at end lots account name front after count left p ends is_nam
     let fs : List (ℕ × List ℕ) = (80, p.quantity) ∷ rest in
     let part : Part = record { lots = lots; firm = by; account = Some account } in
     let read : part_of by (account, fields_before 79 fs) ≡ Ok part =
-        ap (λ (t : List (ℕ × List ℕ)). part_of by (account, (80, p.quantity) ∷ t)) ends ∙ plain_part by account p.quantity lots p.is_lots (sym is_name ∙ is_some) in
+    ap (λ (t : List (ℕ × List ℕ)). part_of by (account, (80, p.quantity) ∷ t)) ends ∙ plain_part by account p.quantity lots p.is_lots (sym is_name ∙ is_some) in
     let keeps : after ≡ front ++ (part ∷ []) = kept ∙ ap (λ (n : Option (List ℕ)). front ++ (record { lots = lots; firm = by; account = n } ∷ [])) is_some in
     one_more by account fs (entries 79 rest) front after (Ok part) count left one refl read keeps
     ∙ ap (λ (t : List (ℕ × List ℕ)). with_front front (counted_of by count (entries 79 t))) (sym p.fields)
