@@ -212,11 +212,7 @@ fn made_with(made: Option<Agreement>, deed: Deed) -> Option<Agreement>
 }
 
 /// The terms that the first Agree makes, where this deed was taken out of those that made these. It walks only where that was an Agree.
-fn made_without(
-    before: Option<Agreement>,
-    deed: Deed,
-    deeds: &[Filed<Deed>],
-) -> Option<Agreement>
+fn made_without(before: Option<Agreement>, deed: Deed, deeds: &[Filed<Deed>]) -> Option<Agreement>
     requires { made_by_deed deed ≡ None → before ≡ made_in (dealings_kept deeds.now) }
     ensures { result ≡ made_in (dealings_kept deeds.now) }
 {

@@ -1,4 +1,4 @@
-use Rattle.std.proofs.Common.{rules, ◌≡◌, ◌<◌, Option, List, ℕ, length, sym, ◌∙◌}
+use Rattle.std.proofs.Common.{rules, ◌≡◌, ◌<◌, Option, List, ℕ, length, sym}
 use Rattle.std.specs.Prelude.{None, Some, IfSome}
 use Rattle.std.specs.Map.{lookup}
 use Rattle.gu_base.specs.declared.house.Pair.{Pair}

@@ -1,5 +1,5 @@
 use Rattle.std.proofs.Common.{arith, ◌≡◌, ◌≤◌, ◌<◌, ◌&&◌, ◌++◌, ◌∷◌, [], refl, sym, ◌∙◌, ap, subst}
-use Rattle.std.specs.Prelude.{Some, IsSomeAnd, option_and_then, slice_get, bytes_eq, ◌==◌, if◌then◌else◌}
+use Rattle.std.specs.Prelude.{Some, IsSomeAnd, slice_get, bytes_eq, ◌==◌, if◌then◌else◌}
 use Rattle.std.specs.Map.{lookup}
 use Rattle.gu_fees.specs.Rows.{is_pair}
 use Rattle.gu_fees.specs.Filing.{kept_at, last_of, IsRising}

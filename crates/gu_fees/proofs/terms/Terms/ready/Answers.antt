@@ -1,4 +1,4 @@
-use Rattle.std.proofs.Common.{◌≡◌, ◌<◌, Option, ℕ, List, length, sym, ◌∙◌, subst}
+use Rattle.std.proofs.Common.{◌≡◌, ◌<◌, Option, length, sym, ◌∙◌, subst}
 use Rattle.std.specs.Prelude.{None, Some, IfSome, IsSomeAnd, option_and_then, slice_get}
 use Rattle.std.specs.Map.{lookup}
 use Rattle.gu_base.specs.declared.house.Agreement.{Agreement}
