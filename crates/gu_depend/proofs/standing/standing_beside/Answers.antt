@@ -1,4 +1,4 @@
-use Rattle.std.proofs.Common.{◌≡◌, ℕ, Option, refl, sym, ◌∙◌, ap}
+use Rattle.std.proofs.Common.{◌≡◌, ℕ, Option, ◌∙◌, ap}
 use Rattle.std.specs.Prelude.{Some, None, length, option_map, option_and_then, unwrap_or, slice_get}
 use Rattle.gu_fees.specs.Pairs.{PairView, standing_under}
 use Rattle.gu_fees.specs.Terms.{TermsView, entries_in, pair_at, standing_in}
