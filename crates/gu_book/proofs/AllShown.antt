@@ -1,54 +1,46 @@
 -- The filed trees show all live changes, so what stands on a change is read off them.
-use Rattle.std.proofs.Common.{◌+◌, Bool, length, get_or, not, cond, Contains, ◌-◌, ◌<◌, ◌≡◌, ℕ, ◌≤◌, true, false, ◌&&◌, List, [], ◌∷◌, refl, sym, ◌∙◌, ap, subst, arith, Option}
-use Rattle.std.specs.Prelude.{filter, Some, None, find, ◌==◌, is_some, option_map, IfSome}
+use Rattle.std.proofs.Common.{◌+◌, Bool, length, get_or, not, cond, Contains, ◌-◌, ◌<◌, ◌≡◌, ℕ, ◌≤◌, true, false, ◌&&◌, List, [], ◌∷◌, refl, sym, ◌∙◌, ap}
+use Rattle.std.proofs.Common.{subst, arith, Option, ◌||◌}
+use Rattle.std.specs.Prelude.{filter, Some, None, find, ◌==◌, is_some, option_map, IfSome, map, IsSome, option_and_then, IsSomeAnd, unwrap_or}
 use Rattle.std.proofs.lemmas.Bool.Decides.{Decides-eqb}
 use Rattle.std.proofs.lemmas.Option.{same_Some}
-use Rattle.gu_base.specs.House.{House, knows_firm}
-use Rattle.gu_base.specs.History.{numbered_as, records, is_change, is_reversed, live}
-use Rattle.gu_base.specs.Nodes.{node_of, nodes_of, same_name}
-use Rattle.gu_base.specs.Refusals.{unless}
-use Rattle.gu_base.specs.Standing.{standing_on}
-use Rattle.gu_base.specs.Consents.{missing, parties_of, consents_of}
-use Rattle.gu_base.specs.Answers.{answer_to, entry_of, on_change, reverse_rest, command_refusal}
-use Rattle.gu_base.specs.Runs.{call_of}
-use Rattle.gu_base.specs.declared.command.Command.{Command}
-use Rattle.gu_base.specs.declared.command.Command.TheVariants.{Trade, Split, Claim, Refuse, Cancel, Agree, Raise, Initiate, Decline, Reverse}
-use Rattle.gu_base.specs.declared.entry.Answer.TheVariants.{Accepted}
-use Rattle.gu_base.specs.declared.entry.Entry.{Entry}
-use Rattle.gu_base.specs.declared.entry.Record.{Record}
-use Rattle.gu_base.specs.declared.node.Node.{Node}
-use Rattle.gu_base.specs.declared.refusal.Refusal.TheVariants.{UnknownFirm, NeedsConsent, StandsOn}
-use Rattle.gu_base.proofs.Accepted.{first_none, allowed, open_from_none}
+use Rattle.gu_depend.proofs.Vocabulary.{House, knows_firm, numbered_as, records, is_change, is_reversed, live, node_of, nodes_of, same_name, unless, refusal_of, standing_on, missing, parties_of}
+use Rattle.gu_depend.proofs.Vocabulary.{consents_of, answer_to, entry_of, on_change, reverse_rest, command_refusal, call_of, Command, Trade, Split, Claim, Refuse, Cancel, Agree, Raise, Initiate}
+use Rattle.gu_depend.proofs.Vocabulary.{Decline, Reverse, Accepted, Entry, Record, Node, UnknownFirm, NeedsConsent, StandsOn, Row, rows_of, EntryPart, depth_of}
+use Rattle.gu_base.proofs.Accepted.{first_none, allowed, open_from_none, change_refused}
 use Rattle.gu_base.proofs.Basics.{no_some, mapped_none}
 use Rattle.gu_base.proofs.Numbered.{found_at, known_entry}
 use Rattle.gu_base.proofs.Consenting.{not_reversed}
 use Rattle.gu_base.proofs.Searches.{found_in, find_passes}
-use Rattle.gu_tree.specs.Rose.{Rose}
-use Rattle.gu_tree.specs.Grove.{Grove, tree_of}
-use Rattle.gu_tree.specs.Shown.{IsTreeOf}
-use Rattle.gu_tree.specs.ShownAll.{IsTreeIn, ShowsAll}
+use Rattle.gu_tree.specs.Rose.{Rose, rows}
+use Rattle.gu_tree.specs.Grove.{Grove, tree_of, IsPlace, place_of}
+use Rattle.gu_tree.specs.Shown.{IsTreeOf, shown, named_node}
+use Rattle.gu_tree.specs.ShownAll.{IsTreeIn, ShowsAll, named_place, place_in, change_of}
 use Rattle.gu_tree.proofs.ShowsLess.{no-root-part}
 use Rattle.gu_depend.proofs.Names.{maker, made_number}
 use Rattle.gu_depend.proofs.StandsLast.{any_in}
 use Rattle.gu_consent.specs.declared.Consents.{Consents}
 use Rattle.gu_book.specs.Filed.{IsFiled, IsFree}
 use Rattle.gu_book.specs.Kept.{IsKept}
-use Rattle.gu_book.specs.TreeRows.{is_trade, is_live_trade}
+use Rattle.gu_book.specs.TreeRows.{is_trade, is_live_trade, tree_rows}
 use Rattle.gu_book.proofs.Leaves.{live_rises}
+use Rattle.gu_tree.specs.declared.head.Row.{Row as TreeRow}
+use Rattle.gu_tree.proofs.ShowsRows.{rows-shown}
+use Rattle.gu_book.proofs.Filed.{tree_shown, place_named, spot}
+use Rattle.gu_book.proofs.Orders.{InOrder, in_order, names_there}
+use Rattle.gu_book.specs.Found.{IsFoundIn, IsUndoneAs, IsUndoneBy, IsStandingIn, IsUndoneThere, AreTreesOf}
+use Rattle.gu_book.specs.Kinds.{is_agree, is_raise}
+use Rattle.gu_book.specs.Visits.{is_of_trees, AreVisits, IsMet, depth_meant, parts_in, parts_named, entries_met, changes_trees, nodes_made}
+use Rattle.gu_book.specs.declared.found.Undone.{Undone}
+use Rattle.gu_book.proofs.Fronts.{stands_refusal}
+use Rattle.gu_base.proofs.Passing.{refusal_parts}
 
 -- ---- a root is made by a Trade
 
 makes_root : (k n : ℕ) (by : List ℕ) (c : Command) (x : Node) → find (λ x. same_name x.name (record { entry = k; part = 0 })) (nodes_of n by c) ≡ Some x → is_trade c ≡ true
 makes_root k n by (Trade _ _ _ _ _) x h = refl
 makes_root k n by (Split m ps) x h = let z : None ≡ Some x = sym (no-root-part k n 1 m by ps (omega arith)) ∙ h in absurd (cc)
-makes_root k n by (Claim _ _) x h = absurd (cc)
-makes_root k n by (Refuse _) x h = absurd (cc)
-makes_root k n by (Cancel _) x h = absurd (cc)
-makes_root k n by (Agree _ _ _ _) x h = absurd (cc)
-makes_root k n by (Raise _ _) x h = absurd (cc)
-makes_root k n by (Initiate _) x h = absurd (cc)
-makes_root k n by (Decline _) x h = absurd (cc)
-makes_root k n by (Reverse _) x h = absurd (cc)
+makes_root k n by _ x h = absurd (cc)
 
 live_root : (l : List Record) (k : ℕ) (x : Node) → node_of l (record { entry = k; part = 0 }) ≡ Some x → is_live_trade l k ≡ true
 live_root l k x found =
@@ -123,17 +115,13 @@ undone_entry {h = h} {k = k} {r = r} u d is =
     let within = u.within in
     same_Some r (numbered_as k d) (sym u.entry ∙ known_entry h k d from (omega (arith, from, within)) is)
 
-module _ {t : House} {h : List Entry} {g : Grove} {cs : Consents} (kept : IsKept t h g cs) (e : Entry) (n k : ℕ) (ok : answer_to t h (call_of e) ≡ Accepted n e.status) (same : e.command ≡ Reverse k) where
+module _ {t : House} {h : List Entry} {g : Grove} {cs : Consents} (kept : IsKept t h g cs) (e : Entry) (n k : ℕ) (ok : answer_to t h (call_of e) ≡ Accepted n e.status)
+    (same : e.command ≡ Reverse k) where
   pub undone_free : standing_on t (live h) k ≡ None
   undone_free = (undone t h e n k ok same).1.free
 
   pub undone_among : (d : Entry) → d ≡ get_or h (k - 1) d → Contains (live h) (numbered_as k d)
   undone_among d is = let u = undone t h e n k ok same in subst (λ (r : Record). Contains (live h) r) (undone_entry u.1 d is) u.1.among
-
-  pub undone_change : (d : Entry) → d ≡ get_or h (k - 1) d → is_change d.command ≡ true
-  undone_change d is =
-      let u = undone t h e n k ok same in
-      sym (ap (λ (r : Record). is_change r.command) (undone_entry u.1 d is)) ∙ u.1.change
 
   -- so it may go from the trees
   pub undone_goes : (d : Entry) → d ≡ get_or h (k - 1) d → IsFree t (live h) (numbered_as k d) g
@@ -147,3 +135,79 @@ module _ {t : House} {h : List Entry} {g : Grove} {cs : Consents} (kept : IsKept
   undone_may_go =
       let u = undone t h e n k ok same in
       record { filed = kept.filed; replayed = kept.replayed; rises = live_rises h; among = u.1.among; free = subst (λ m. standing_on t (live h) m ≡ None) (sym undone_number) u.1.free }
+
+-- ---- what a book answers by its trees is what its live changes say
+
+-- the rows of the tree of a number are those of the live trade, and no tree bears another number
+rows_filed : (l : List Record) (g : Grove) → InOrder l → IsFiled l g → (k : ℕ) (o : Option Rose) → tree_of g k ≡ o → option_map (λ t. map shown (rows t)) o ≡ tree_rows l k
+rows_filed l g order filed k None e = ap (λ b. cond b (Some (rows_of l k)) None) (sym (ap is_some e) ∙ filed.live k)
+rows_filed l g order filed k (Some t) e =
+    ap (λ (rs : List Row). Some rs) (rows-shown l order.distinct k t (tree_shown filed k t e))
+    ∙ ap (λ b. cond b (Some (rows_of l k)) None) (sym (ap is_some e) ∙ filed.live k)
+
+module _ {t : House} {h : List Entry} {g : Grove} {cs : Consents} (kept : IsKept t h g cs) where
+  order_kept : InOrder (live h)
+  order_kept = in_order t (live h) kept.replayed (live_rises h)
+
+  mapped : {A B C : Type 0} (f : A → B) (g : B → C) (o : Option A) → option_map (λ a. g (f a)) o ≡ option_map g (option_map f o)
+  mapped f g None = refl
+  mapped f g (Some a) = refl
+
+  pub rows_shown : {V : Type 0} (items : V → List TreeRow) (o : Option V) (k : ℕ) → option_map items o ≡ option_map rows (tree_of g k)
+      → option_map (λ v. map shown (items v)) o ≡ tree_rows (live h) k
+  rows_shown items o k e =
+      mapped items (map shown) o
+      ∙ (ap (option_map (map shown)) e
+      ∙ (sym (mapped rows (map shown) (tree_of g k)) ∙ rows_filed (live h) g order_kept kept.filed k (tree_of g k) refl))
+
+  -- a tree that bears a number is that of a live trade
+  pub live_if_shown : (k : ℕ) → IsSome (tree_of g k) → is_live_trade (live h) k ≡ true
+  live_if_shown k some = sym (kept.filed.live k) ∙ some
+
+-- ---- what was found of the change that a Reverse names
+
+-- what stands on the change is what was found to stand there
+pub stands_found : (t : House) (h : List Entry) (c : Command) (o : Option ℕ) → IsStandingIn t (live h) c o → stands_refusal t h c ≡ option_map (λ k. StandsOn k) o
+stands_found t h (Reverse k) o is = sym (ap (option_map (λ k. StandsOn k)) is)
+stands_found t h _ o is = sym (ap (option_map (λ k. StandsOn k)) is)
+
+module _ {t : House} {h : List Entry} {g : Grove} {cs : Consents} (kept : IsKept t h g cs) where
+  -- a change that was found lies where its path leads
+  pub undone_there : (k : ℕ) (o : Option Undone) (p : List ℕ) → IsUndoneBy (live h) k o p → IsSome o → IsUndoneThere g k o p
+  undone_there k None p is found = absurd (cc)
+  undone_there k (Some u) p is found =
+      subst (λ (o : Option EntryPart). IsSomeAnd o (λ n. IsPlace g n u.found.trade p)) (sym (kept.filed.placed k ∙ is.place)) (is.there g kept.filed)
+
+-- the node that was found is the one that the change names
+pub found_named : {t : House} {h : List Entry} {k : ℕ} {r : Record} {u : Undone} {p : List ℕ} → IsUndone t h k r → IsUndoneAs (live h) k u p → (d : Entry) → r ≡ numbered_as k d
+    → (n : EntryPart) → named_node d.command ≡ Some n → IsFoundIn (live h) n (Some u.found)
+found_named {h = h} {k = k} {r = r} {u = u} change is d same n named =
+    let there : place_in (live h) k ≡ Some n =
+    ap (option_and_then (λ (r : Record). named_place r.number r.command)) (change.found ∙ ap (λ (r : Record). Some r) same) ∙ place_named k d.command n named in
+    subst (λ (m : EntryPart). IsFoundIn (live h) m (Some u.found)) (same_Some is.name n (sym is.place ∙ there)) is.found
+
+-- a command that has a place in the trees is a change of trees
+of_trees : (k : ℕ) (c : Command) (n : EntryPart) → named_place k c ≡ Some n → is_of_trees c ≡ true
+of_trees k (Agree _ _ _ _) n e = absurd (cc)
+of_trees k (Raise _ _) n e = absurd (cc)
+of_trees k (Initiate _) n e = absurd (cc)
+of_trees k (Decline _) n e = absurd (cc)
+of_trees k (Reverse _) n e = absurd (cc)
+of_trees k _ n e = refl
+
+-- so is one that was found there
+pub undone_of_trees : {t : House} {h : List Entry} {k : ℕ} {r : Record} → IsUndone t h k r → (o : Option Undone) (p : List ℕ) → IsUndoneBy (live h) k o p → IsSome o
+    → is_of_trees r.command ≡ true
+undone_of_trees change None p is some = absurd (cc)
+undone_of_trees {r = r} change (Some u) p is some =
+    of_trees r.number r.command is.name (sym (ap (option_and_then (λ (r : Record). named_place r.number r.command)) change.found) ∙ is.place)
+
+-- and one that has no place there is an Agree or a Raise
+is_of_terms : (k : ℕ) (c : Command) → is_change c ≡ true → named_place k c ≡ None → (is_agree c || is_raise c) ≡ true
+is_of_terms k (Agree _ _ _ _) change e = refl
+is_of_terms k (Raise _ _) change e = refl
+is_of_terms k _ change e = absurd (cc)
+
+pub undone_of_terms : {t : House} {h : List Entry} {k : ℕ} {r : Record} → IsUndone t h k r → place_in (live h) k ≡ None → (is_agree r.command || is_raise r.command) ≡ true
+undone_of_terms {r = r} change none =
+    is_of_terms r.number r.command change.change (sym (ap (option_and_then (λ (r : Record). named_place r.number r.command)) change.found) ∙ none)

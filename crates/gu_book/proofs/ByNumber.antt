@@ -1,5 +1,6 @@
 -- Live changes are found by their numbers, and gone through in the order of their numbers.
-use Rattle.std.proofs.Common.{◌≡◌, ◌≢◌, ℕ, ◌+◌, ◌<◌, ◌≤◌, Bool, true, false, not, ◌&&◌, ◌||◌, List, [], ◌∷◌, ◌++◌, length, refl, ap, sym, ◌∙◌, subst, arith, cond, inl, inr, Option, append-nil}
+use Rattle.std.proofs.Common.{◌≡◌, ◌≢◌, ℕ, ◌+◌, ◌<◌, ◌≤◌, Bool, true, false, not, ◌&&◌, ◌||◌, List, [], ◌∷◌, ◌++◌, length, refl, ap, sym, ◌∙◌}
+use Rattle.std.proofs.Common.{subst, arith, cond, inl, inr, Option, append-nil}
 use Rattle.std.specs.Prelude.{Some, None, find, filter, nat_le, ◌==◌, map, option_map}
 use Rattle.std.specs.Option.{option_or}
 use Rattle.std.specs.List.{All, cons_option}
@@ -8,12 +9,8 @@ use Rattle.std.proofs.lemmas.Bool.Decides.{Decides-eqb}
 use Rattle.std.proofs.lemmas.List.Elements.{All-head, All-tail}
 use Rattle.std.proofs.lemmas.List.Folds.{find-append}
 use Rattle.std.proofs.lemmas.Option.{same_Some}
-use Rattle.gu_base.specs.Numbers.{EntryPart}
-use Rattle.gu_base.specs.History.{numbered_as, numbered_from, records, is_change, is_reverse_of, is_reversed, live, RisesFrom}
-use Rattle.gu_base.specs.Nodes.{node_of, nodes, nodes_of, same_name}
-use Rattle.gu_base.specs.Answers.{entry_of, reversal_of}
-use Rattle.gu_base.specs.declared.entry.Entry.{Entry}
-use Rattle.gu_base.specs.declared.entry.Record.{Record}
+use Rattle.gu_depend.proofs.Vocabulary.{EntryPart, numbered_as, numbered_from, records, is_change, is_reverse_of, is_reversed, live, RisesFrom, node_of, nodes, nodes_of, same_name, entry_of}
+use Rattle.gu_depend.proofs.Vocabulary.{reversal_of, Entry, Record}
 use Rattle.gu_base.proofs.Basics.{or_none, no_some, none_or_some, nothing_here}
 use Rattle.gu_base.proofs.LiveLaws.{is_live, live_below}
 use Rattle.gu_base.proofs.NodeNames.{made_of, made_entry}

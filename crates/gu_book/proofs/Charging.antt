@@ -6,14 +6,7 @@ use Rattle.std.proofs.Math.Nat.{mul-le-mul, mul-le-mul_right}
 use Rattle.std.proofs.lemmas.List.Elements.{All-nil, All-cons, All-append, All-filter, All-weaker, filter-append}
 use Rattle.std.proofs.lemmas.List.Sums.{sum_by-le, sum_by-append, sum_by-cons, length-filter, count_by-le-length}
 use Rattle.std.proofs.lemmas.Slice.Eq.{bytes_eq-Decides}
-use Rattle.gu_base.specs.House.{House}
-use Rattle.gu_base.specs.Limits.{most_lots, highest_rate}
-use Rattle.gu_base.specs.Fees.{charges, charge_of}
-use Rattle.gu_base.specs.History.{RisesFrom}
-use Rattle.gu_base.specs.Refusals.{refusal_of}
-use Rattle.gu_base.specs.Standing.{first_refused}
-use Rattle.gu_base.specs.declared.entry.Record.{Record}
-use Rattle.gu_base.specs.declared.node.Charge.{Charge}
+use Rattle.gu_depend.proofs.Vocabulary.{House, most_lots, highest_rate, charges, charge_of, RisesFrom, refusal_of, first_refused, Record, Charge}
 use Rattle.gu_base.proofs.LegalLaws.{replay_push}
 use Rattle.gu_depend.proofs.LastMoves.{moves_its_own}
 use Rattle.gu_depend.proofs.Replay.{number_once}
@@ -23,15 +16,6 @@ use Rattle.gu_fees.specs.Sums.{AreSumsOf, cost}
 use Rattle.gu_tree.specs.Grove.{Grove}
 use Rattle.gu_book.specs.Filed.{IsNext}
 use Rattle.gu_book.specs.Charging.{IsSmallCharge, AreFeesOf, HasRoomFor, IsCharged}
-
--- the same sums
-pub sums_same : (old new : FeeRows) → ((firm : List ℕ) → paid_in new firm ≡ paid_in old firm) → ((firm : List ℕ) → received_in new firm ≡ received_in old firm)
-    → ((g k : List ℕ) → used_in new g k ≡ used_in old g k) → (cs : List Charge) → AreSumsOf old cs → AreSumsOf new cs
-sums_same old new paid received used cs are = record {
-  paid = λ firm. paid firm ∙ are.paid firm;
-  received = λ firm. received firm ∙ are.received firm;
-  used = λ g k. used g k ∙ are.used g k;
-}
 
 -- ---- one change more
 
@@ -50,14 +34,16 @@ pub fees_push : {t : House} {l : List Record} {r : Record} {ts : Grove} → IsNe
     → IfSome o (λ c. c.lots ≤ most_lots) → IfSome o (λ c. c.rate ≤ highest_rate)
     → ((cs : List Charge) → AreSumsOf now cs → AreSumsOf new (cs ++ cons_option o [])) → AreFeesOf t (l ++ r ∷ []) new
 fees_push {t} {l} {r} next fees now new are same o is lots rate more =
-    let all : charges t l ++ cons_option o [] ≡ charges t (l ++ r ∷ []) = ap (λ (o : Option Charge). charges t l ++ cons_option o []) is ∙ sym (charges_push t l r next.replayed next.lawful next.rises) in
+    let all : charges t l ++ cons_option o [] ≡ charges t (l ++ r ∷ []) = ap (λ (o : Option Charge). charges t l ++ cons_option o []) is
+    ∙ sym (charges_push t l r next.replayed next.lawful next.rises) in
     record {
       sums = subst (λ (cs : List Charge). AreSumsOf new cs) all (more (charges t l) (same (charges t l) are.sums));
       small = subst (λ (cs : List Charge). All IsSmallCharge cs) all (All-append IsSmallCharge (charges t l) (cons_option o []) are.small (small_option o lots rate));
     }
 
 -- a change that costs nothing
-pub fees_stay : {t : House} {l : List Record} {r : Record} {ts : Grove} → IsNext t l r ts → (fees : FeeRows) → AreFeesOf t l fees → None ≡ charge_of t l r.command → AreFeesOf t (l ++ r ∷ []) fees
+pub fees_stay : {t : House} {l : List Record} {r : Record} {ts : Grove} → IsNext t l r ts → (fees : FeeRows) → AreFeesOf t l fees → None ≡ charge_of t l r.command
+    → AreFeesOf t (l ++ r ∷ []) fees
 fees_stay next fees are free = fees_push next fees fees fees are (λ cs sums. sums) None free tt tt (λ cs sums. subst (AreSumsOf fees) (sym (append-nil cs)) sums)
 
 pub no_fees : (t : House) (fees : FeeRows) → AreSumsOf fees [] → AreFeesOf t [] fees
@@ -91,7 +77,8 @@ bounded t l w takes most few all =
     let f : length cs * most ≤ 1000000 * most = mul-le-mul_right most e in
     omega (arith, a, f)
 
-pub has_room : (t : House) (l : List Record) (fees : FeeRows) → AreFeesOf t l fees → length l ≤ 1000000 → (o : Option Charge) → IfSome o (λ c. c.lots ≤ most_lots) → IfSome o (λ c. c.rate ≤ highest_rate) → HasRoomFor fees o
+pub has_room : (t : House) (l : List Record) (fees : FeeRows) → AreFeesOf t l fees → length l ≤ 1000000 → (o : Option Charge) → IfSome o (λ c. c.lots ≤ most_lots)
+    → IfSome o (λ c. c.rate ≤ highest_rate) → HasRoomFor fees o
 has_room t l fees are few None lots rate = tt
 has_room t l fees are few (Some c) lots rate =
     let sums = are.sums in
@@ -121,7 +108,8 @@ own_part w takes cs c own =
     omega (arith, a, b, d, e)
 
 -- a charge that the sums have can be taken out
-pub is_charged : (fees : FeeRows) (cs : List Charge) (o : Option Charge) → AreSumsOf fees (cs ++ cons_option o []) → IfSome o (λ c. c.lots ≤ most_lots) → IfSome o (λ c. c.rate ≤ highest_rate) → IsCharged fees o
+pub is_charged : (fees : FeeRows) (cs : List Charge) (o : Option Charge) → AreSumsOf fees (cs ++ cons_option o []) → IfSome o (λ c. c.lots ≤ most_lots)
+    → IfSome o (λ c. c.rate ≤ highest_rate) → IsCharged fees o
 is_charged fees cs None sums lots rate = tt
 is_charged fees cs (Some c) sums lots rate =
     let small = small_cost c lots rate in

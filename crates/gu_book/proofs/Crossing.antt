@@ -30,4 +30,5 @@ trees_send : IsSend (Trees.the_row heap.the_row ghosts)
 trees_send = search (tree_send, filed.the_send, crosses, sendable) depth 12
 
 pub book_send : IsSend Book.the_row
-book_send = search (house.the_send, entry.the_send, made.the_send, trees_send, consents.the_field_send, index.the_field_send, fees.the_send, positions.the_send, terms.the_send, crosses, sendable) depth 20
+book_send = search (house.the_send, entry.the_send, made.the_send, trees_send, consents.the_field_send, index.the_field_send, fees.the_send, positions.the_send, terms.the_send, crosses, sendable)
+    depth 20

@@ -1,23 +1,18 @@
 -- A change that may follow leaves the trees and places filed for the longer list.
-use Rattle.std.proofs.Common.{◌≡◌, ◌≢◌, ℕ, zero, suc, ◌+◌, ◌<◌, ◌≤◌, Bool, true, false, ◌&&◌, ◌||◌, inl, inr, List, [], ◌∷◌, ◌++◌, refl, sym, ◌∙◌, ap, subst, arith, cond, Option}
-use Rattle.std.specs.Prelude.{Some, None, find, ◌==◌, is_some, option_and_then, IsSomeAnd, IfSome}
+use Rattle.std.proofs.Common.{◌≡◌, ◌≢◌, ℕ, zero, suc, ◌+◌, ◌<◌, ◌≤◌, Bool, true, false, ◌&&◌, ◌||◌, inl, inr, List, [], ◌∷◌, ◌++◌, refl, sym, ◌∙◌}
+use Rattle.std.proofs.Common.{ap, subst, arith, cond, Option}
+use Rattle.std.specs.Prelude.{Some, None, find, ◌==◌, is_some, option_and_then, IsSomeAnd, IfSome, sum_by}
 use Rattle.std.specs.List.{All}
 use Rattle.std.specs.Option.{option_or}
 use Rattle.std.proofs.lemmas.Bool.Decides.{Decides-eqb}
 use Rattle.std.proofs.lemmas.List.Elements.{All-head, All-tail}
 use Rattle.std.proofs.lemmas.List.Folds.{find-append, list_any-append}
 use Rattle.std.proofs.lemmas.Option.{same_Some}
-use Rattle.gu_base.specs.Numbers.{EntryPart}
-use Rattle.gu_base.specs.House.{House}
-use Rattle.gu_base.specs.Nodes.{node_of}
-use Rattle.gu_base.specs.Places.{root_of}
-use Rattle.gu_base.specs.declared.command.Command.{Command}
-use Rattle.gu_base.specs.declared.command.Command.TheVariants.{Trade, Split, Claim, Refuse, Cancel, Agree, Raise, Initiate, Decline, Reverse}
-use Rattle.gu_base.specs.declared.entry.Record.{Record}
-use Rattle.gu_base.specs.declared.node.Node.{Node}
+use Rattle.gu_depend.proofs.Vocabulary.{EntryPart, House, node_of, nodes_of_parts, same_name, kind_of_part, root_of, Command, Trade, Split, Claim, Refuse, Cancel, Agree, Raise, Initiate, Decline}
+use Rattle.gu_depend.proofs.Vocabulary.{Reverse, Record, Node, Part}
 use Rattle.gu_base.proofs.Basics.{or_none, or_false}
 use Rattle.gu_base.proofs.NodeNames.{made, made_of}
-use Rattle.gu_tree.specs.Rose.{Rose, head_of, named}
+use Rattle.gu_tree.specs.Rose.{Rose, head_of, named, from_list, named_below}
 use Rattle.gu_tree.specs.Paths.{node_at}
 use Rattle.gu_tree.specs.Grove.{Grove, tree_of, tree_in, place_of, last_place, IsPlace, ChangesTree, Places, IsSameGrove}
 use Rattle.gu_tree.specs.Filing.{slot_of, name_in, last_of}
@@ -30,9 +25,47 @@ use Rattle.gu_tree.proofs.Shows.{tree-kept}
 use Rattle.gu_book.specs.Filed.{IsIn, IsFiled, IsNext, IsDue, Follows}
 use Rattle.gu_book.specs.TreeRows.{is_trade, is_live_trade}
 use Rattle.gu_book.proofs.Leaves.{other_number, sound_first}
-use Rattle.gu_book.proofs.Named.{count_of, found_counts}
 use Rattle.gu_book.proofs.Orders.{InOrder, in_order, sound_before, earlier}
 use Rattle.gu_book.proofs.Sound.{Sound, From, before, here, node_from}
+use Rattle.std.proofs.lemmas.List.Sums.{sum_by-cons}
+use Rattle.gu_tree.specs.Changes.{part_leaves}
+use Rattle.gu_tree.specs.declared.head.Head.{Head}
+use Rattle.gu_tree.proofs.Splits.{part_head-name}
+
+-- ---- how often a name stands among nodes, and among the parts of a tree
+
+-- how many of the nodes have the name
+abbrev pub count_of : EntryPart → List Node → ℕ
+count_of n xs = sum_by (λ x. cond (same_name x.name n) 1 0) xs
+
+abbrev one_for : EntryPart → Node → ℕ
+one_for n x = cond (same_name x.name n) 1 0
+
+pub count_cons : (n : EntryPart) (x : Node) (xs : List Node) → count_of n (x ∷ xs) ≡ cond (same_name x.name n) 1 0 + count_of n xs
+count_cons n x xs = sum_by-cons (one_for n) x xs
+
+found_at : (n : EntryPart) (y : Node) (xs : List Node) (x : Node) → (find (λ x. same_name x.name n) xs ≡ Some x → 1 ≤ count_of n xs)
+    → (b : Bool) → cond b (Some y) (find (λ x. same_name x.name n) xs) ≡ Some x → 1 ≤ cond b 1 0 + count_of n xs
+found_at n y xs x later true h = omega arith
+found_at n y xs x later false h = omega (arith, later h)
+
+-- a name that is found counts
+pub found_counts : (n : EntryPart) (xs : List Node) (x : Node) → find (λ x. same_name x.name n) xs ≡ Some x → 1 ≤ count_of n xs
+found_counts n [] x h = absurd (cc)
+found_counts n (y ∷ xs) x h =
+    let a = found_at n y xs x (found_counts n xs x) (same_name y.name n) h in
+    let b = count_cons n y xs in
+    omega (arith, a, b)
+
+-- the parts of a split have the names of its nodes
+pub parts_named : (n : EntryPart) (e i : ℕ) (h : Head) (m : EntryPart) (by : List ℕ) (ps : List Part)
+    → named_below n (from_list (part_leaves e h i ps)) ≡ count_of n (nodes_of_parts e i m by ps)
+parts_named n e i h m by [] = refl
+parts_named n e i h m by (p ∷ ps) =
+    let a = count_cons n (record { name = record { entry = e; part = i }; lots = p.lots; kind = kind_of_part m by p }) (nodes_of_parts e (i + 1) m by ps) in
+    let b = parts_named n e (i + 1) h m by ps in
+    let c = ap (λ (k : EntryPart). cond {A = ℕ} (same_name k n) 1 0) (part_head-name e i p h) in
+    omega (arith, a, b, c)
 
 -- ---- of two groves
 
@@ -138,7 +171,7 @@ live_more : (l : List Record) (r : Record) (k : ℕ) → is_live_trade (l ++ r �
 live_more l r k =
     list_any-append (λ (r : Record). (r.number == k) && is_trade r.command) l (r ∷ []) ∙ ap (λ b. is_live_trade l k || b) (or_false ((r.number == k) && is_trade r.command))
 
-and_no : (a b : Bool) → b ≡ false → (a && b) ≡ false
+pub and_no : (a b : Bool) → b ≡ false → (a && b) ≡ false
 and_no true b e = e
 and_no false b e = refl
 
@@ -173,27 +206,14 @@ place_there l r k other =
 -- what names a node is no Trade, and has the node as its place
 pub not_trade : (c : Command) (n : EntryPart) → named_node c ≡ Some n → is_trade c ≡ false
 not_trade (Trade _ _ _ _ _) n e = absurd (cc)
-not_trade (Split _ _) n e = refl
-not_trade (Claim _ _) n e = refl
-not_trade (Refuse _) n e = refl
-not_trade (Cancel _) n e = refl
-not_trade (Agree _ _ _ _) n e = refl
-not_trade (Raise _ _) n e = refl
-not_trade (Initiate _) n e = refl
-not_trade (Decline _) n e = refl
-not_trade (Reverse _) n e = refl
+not_trade _ n e = refl
 
 pub place_named : (k : ℕ) (c : Command) (n : EntryPart) → named_node c ≡ Some n → named_place k c ≡ Some n
-place_named k (Trade _ _ _ _ _) n e = absurd (cc)
 place_named k (Split _ _) n e = e
 place_named k (Claim _ _) n e = e
 place_named k (Refuse _) n e = e
 place_named k (Cancel _) n e = e
-place_named k (Agree _ _ _ _) n e = absurd (cc)
-place_named k (Raise _ _) n e = absurd (cc)
-place_named k (Initiate _) n e = absurd (cc)
-place_named k (Decline _) n e = absurd (cc)
-place_named k (Reverse _) n e = absurd (cc)
+place_named k _ n e = absurd (cc)
 
 no_name : (m : EntryPart) → None ≡ Some m → ⊥
 no_name m e = cc
@@ -360,7 +380,8 @@ module _ {t : House} {l : List Record} {r : Record} {g : Grove} (next : IsNext t
       whole = λ m x e. stays_whole m x (node_from l r m x e);
       placed = λ k. elim (by-cases k r.number) [
         | inl same ↦ next.filed.placed k
-            ∙ (ap (place_in l) same ∙ (ap (option_and_then (λ (d : Record). named_place d.number d.command)) (none_numbered r.number l low) ∙ (sym own ∙ (sym (place_here l r low) ∙ ap (place_in (l ++ r ∷ [])) (sym same)))))
+            ∙ (ap (place_in l) same ∙ (ap (option_and_then (λ (d : Record). named_place d.number d.command)) (none_numbered r.number l low)
+            ∙ (sym own ∙ (sym (place_here l r low) ∙ ap (place_in (l ++ r ∷ [])) (sym same)))))
         | inr other ↦ next.filed.placed k ∙ sym (place_there l r k (λ e. other (sym e)))
       ];
     }

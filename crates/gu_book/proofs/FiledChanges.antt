@@ -1,27 +1,15 @@
 -- What each change makes of the trees and of the places.
-use Rattle.std.proofs.Common.{◌≡◌, ◌≢◌, ℕ, ◌+◌, ◌<◌, ◌≤◌, Bool, true, false, not, ◌&&◌, ◌||◌, List, [], ◌∷◌, ◌++◌, length, refl, sym, ◌∙◌, ap, subst, arith, Option, IsTrue}
+use Rattle.std.proofs.Common.{◌≡◌, ◌≢◌, ℕ, ◌+◌, ◌<◌, ◌≤◌, Bool, true, false, not, ◌&&◌, ◌||◌, List, [], ◌∷◌, ◌++◌, length, refl, sym, ◌∙◌, ap}
+use Rattle.std.proofs.Common.{subst, arith, Option, IsTrue}
 use Rattle.std.specs.Prelude.{Some, None, map, sum_by, nat_le, nat_lt, is_some, is_none, IsSomeAnd, option_map, unwrap_or, bytes_eq}
 use Rattle.std.proofs.lemmas.Bool.Decides.{Decides-eqb}
 use Rattle.std.proofs.lemmas.Option.{same_Some}
 use Rattle.std.proofs.lemmas.Slice.Eq.{bytes_eq-Decides}
-use Rattle.gu_base.specs.Numbers.{EntryPart}
-use Rattle.gu_base.specs.House.{House, knows_account}
-use Rattle.gu_base.specs.Nodes.{node_of, nodes_of, decision_of, split_of, is_given, is_offered}
-use Rattle.gu_base.specs.Places.{place_of, depth_of}
-use Rattle.gu_base.specs.Refusals.{row, split_row, claim_row, refuse_row, cancel_row, first, unless, is_taker, is_giver, limit_row, limit_by, used_by, refusal_of_part}
-use Rattle.gu_base.specs.Rows.{state_of, taker_of}
-use Rattle.gu_base.specs.declared.command.Part.{Part}
-use Rattle.gu_base.specs.declared.command.Side.{Side}
-use Rattle.gu_base.specs.declared.command.Command.{Command}
-use Rattle.gu_base.specs.declared.command.Command.TheVariants.{Trade, Split, Claim, Refuse, Cancel, Agree, Raise, Initiate, Decline, Reverse}
-use Rattle.gu_base.specs.declared.entry.Record.{Record}
-use Rattle.gu_base.specs.declared.node.Kind.{Kind}
-use Rattle.gu_base.specs.declared.node.Kind.TheVariants.{Root, Own, Given}
-use Rattle.gu_base.specs.declared.node.Node.{Node}
-use Rattle.gu_base.specs.declared.node.Place.{Place}
-use Rattle.gu_base.specs.declared.refusal.Refusal.TheVariants.{NotOffered, NotYours, UnknownAccount}
-use Rattle.gu_base.specs.declared.state.State.{State}
-use Rattle.gu_base.specs.declared.state.State.TheVariants.{Held, Offered, Claimed, Refused, Cancelled, ReversalPending, Reversed}
+use Rattle.gu_depend.proofs.Vocabulary.{EntryPart, House, knows_account, node_of, nodes_of, decision_of, split_of, is_given, is_offered, place_of, depth_of, row, split_row, claim_row, refuse_row}
+use Rattle.gu_depend.proofs.Vocabulary.{cancel_row, first, unless, is_taker, is_giver, limit_row, limit_by, used_by, refusal_of_part, state_of, taker_of, Part, Side, Command, Trade, Split, Claim}
+use Rattle.gu_depend.proofs.Vocabulary.{Refuse, Cancel, Agree, Raise, Initiate, Decline, Reverse, Record, Kind, Root, Own, Given, Node, Place, NotOffered, NotYours, UnknownAccount, State, Held}
+use Rattle.gu_depend.proofs.Vocabulary.{Offered, Claimed, Cancelled, ReversalPending, Reversed}
+use Rattle.gu_base.specs.declared.state.State.TheVariants.{Refused}
 use Rattle.gu_base.proofs.Accepted.{first_none, unless_none}
 use Rattle.gu_base.proofs.Basics.{no_some, none_is_some}
 use Rattle.gu_base.proofs.NodeNames.{made}
@@ -40,28 +28,24 @@ use Rattle.gu_tree.proofs.ShowsChanges.{decided_state}
 use Rattle.gu_tree.proofs.Splits.{named-split_node}
 use Rattle.gu_book.specs.Filed.{IsFiled, IsNext}
 use Rattle.gu_book.specs.TreeRows.{is_trade}
-use Rattle.gu_book.proofs.Filed.{Spot, order, low, lower, changed, planted, stays}
-use Rattle.gu_book.proofs.Named.{count_of, parts_named}
+use Rattle.gu_book.proofs.Filed.{Spot, order, low, lower, changed, planted, stays, count_of, parts_named}
 use Rattle.gu_book.proofs.Orders.{unnamed}
 
 -- ---- of kinds and states
 
 offered_state : (k : Kind) (d : Option Record) → (is_given k && is_none d) ≡ true → state_of k d ≡ Offered
-offered_state (Root _) d h = absurd (cc)
-offered_state (Own _ _ _) d h = absurd (cc)
 offered_state (Given _ _ _) None h = refl
 offered_state (Given _ _ _) (Some r) h = absurd (cc)
+offered_state _ d h = absurd (cc)
 
 free_state : (k : Kind) (d : Option Record) → not (is_given k && is_none d) ≡ true → state_of k d ≢ Offered
-free_state (Root _) d h = λ e. cc
-free_state (Own _ _ _) d h = λ e. cc
 free_state (Given _ _ _) None h = absurd (cc)
 free_state (Given _ _ _) (Some r) h = decided_state r.command
+free_state _ d h = λ e. cc
 
 taker_named : (by : List ℕ) (k : Kind) → is_taker by k ≡ true → taker_of k ≡ Some by
-taker_named by (Root _) h = absurd (cc)
-taker_named by (Own _ _ _) h = absurd (cc)
 taker_named by (Given _ giver taker) h = ap (λ (f : List ℕ). Some f) ((bytes_eq-Decides taker by).0 h)
+taker_named by _ h = absurd (cc)
 
 -- ---- the node that the change names
 
@@ -148,7 +132,8 @@ module _ {t : House} {l : List Record} {r : Record} {g : Grove} (next : IsNext t
     may_claim account e = let x = claim_lines n account e in is_at s IsOffered (offered_head s x.0 x.1 x.2)
 
     pub claimed : (account : List ℕ) → r.command ≡ Claim n account → (h : Grove) → IsDone g trade p r h (claim_node r.number (record { firm = r.firm; account = account }))
-        → HasTree g trade (λ u. ShowsMore (λ k q. HasAt p (λ v. IsClaimOf (head_of v) r.number (record { firm = r.firm; account = account }) q) u) u (edit_at (claim_node r.number (record { firm = r.firm; account = account })) p u))
+        → HasTree g trade (λ u. ShowsMore (λ k q. HasAt p (λ v. IsClaimOf (head_of v) r.number (record { firm = r.firm; account = account }) q) u) u
+        (edit_at (claim_node r.number (record { firm = r.firm; account = account })) p u))
         → IsFiled (l ++ r ∷ []) h
     claimed account e h done shows =
         let x = claim_lines n account e in
@@ -165,20 +150,12 @@ module _ {t : House} {l : List Record} {r : Record} {g : Grove} (next : IsNext t
   pub back_names : (n : EntryPart) (state : State) (c : Command) → GivesBack n state c → named_node c ≡ Some n
   back_names n Refused c e = ap named_node e
   back_names n Cancelled c e = ap named_node e
-  back_names n Held c e = absurd e
-  back_names n Offered c e = absurd e
-  back_names n Claimed c e = absurd e
-  back_names n ReversalPending c e = absurd e
-  back_names n Reversed c e = absurd e
+  back_names n _ c e = absurd e
 
   back_makes : (n : EntryPart) (state : State) (c : Command) → GivesBack n state c → nodes_of r.number r.firm c ≡ []
   back_makes n Refused c e = ap (nodes_of r.number r.firm) e
   back_makes n Cancelled c e = ap (nodes_of r.number r.firm) e
-  back_makes n Held c e = absurd e
-  back_makes n Offered c e = absurd e
-  back_makes n Claimed c e = absurd e
-  back_makes n ReversalPending c e = absurd e
-  back_makes n Reversed c e = absurd e
+  back_makes n _ c e = absurd e
 
   back_offered : (n : EntryPart) (state : State) → GivesBack n state r.command → (x : Node) × (node_of l n ≡ Some x) × (is_offered l x ≡ true)
   back_offered n Refused e =
@@ -189,11 +166,7 @@ module _ {t : House} {l : List Record} {r : Record} {g : Grove} (next : IsNext t
       let there = at_node_none (cancel_row l r.firm) (node_of l n) (row_passes next (Cancel n) e) in
       let a = first_none (unless (is_offered l there.0) NotOffered) (unless (is_giver r.firm there.0.kind) NotYours ∷ []) there.1.1 in
       (there.0, there.1.0, unless_none (is_offered l there.0) NotOffered a.0)
-  back_offered n Held e = absurd e
-  back_offered n Offered e = absurd e
-  back_offered n Claimed e = absurd e
-  back_offered n ReversalPending e = absurd e
-  back_offered n Reversed e = absurd e
+  back_offered n _ e = absurd e
 
   module _ {trade : ℕ} {p : List ℕ} {n : EntryPart} (s : Spot l g trade p n) where
     pub may_give_back : (state : State) → GivesBack n state r.command → HasTree g trade (HasAt p IsOffered)
@@ -218,7 +191,8 @@ can_split : (l : List Record) (above : Option Place) (x : Node) (v : Rose) (ps :
 can_split l above x (leaf h) ps shown none sum free = (sum, free)
 can_split l above x (parted h n ts) ps shown none sum free = absurd (none_is_some (split_of l x.name) shown.1.0 none shown.1.1)
 
-owner_is : (o : Option Place) (place : Place) (by : List ℕ) → o ≡ Some place → unwrap_or (option_map (λ owner. bytes_eq owner by) (option_map (λ p. p.firm) o)) false ≡ true → place.firm ≡ by
+owner_is : (o : Option Place) (place : Place) (by : List ℕ) → o ≡ Some place → unwrap_or (option_map (λ owner. bytes_eq owner by) (option_map (λ p. p.firm) o)) false ≡ true
+    → place.firm ≡ by
 owner_is None place by e h = absurd (cc)
 owner_is (Some q) place by e h = ap (λ (z : Place). z.firm) (sym (same_place e)) ∙ (bytes_eq-Decides q.firm by).0 h
   where
@@ -311,7 +285,8 @@ module _ {t : House} {l : List Record} {r : Record} {g : Grove} (next : IsNext t
 
   -- what the new tree shows is asked of it for this list
   pub trade_filed : (h : Grove) (new : Rose) → new ≡ leaf (root_head r.number place lots)
-      → ((k : List Record) (q : Record) → IsTradeOf r.number place lots q → IsUnnamed k r.number → node_of k (record { entry = r.number; part = 0 }) ≡ None → IsTreeOf (k ++ q ∷ []) r.number new)
+      → ((k : List Record) (q : Record) → IsTradeOf r.number place lots q → IsUnnamed k r.number → node_of k (record { entry = r.number; part = 0 }) ≡ None
+      → IsTreeOf (k ++ q ∷ []) r.number new)
       → ChangesTree g h r.number new → Places g h r.number (record { entry = r.number; part = 0 }) → IsFiled (l ++ r ∷ []) h
   trade_filed h new same shows changes places =
       planted next h new (ap is_trade is.command) (ap named_node is.command) (ap (named_place r.number) is.command) changes places
@@ -337,11 +312,7 @@ plain_command k by (Split n ps) trade split claim refuse cancel = absurd (split 
 plain_command k by (Claim n a) trade split claim refuse cancel = absurd (claim n a refl)
 plain_command k by (Refuse n) trade split claim refuse cancel = absurd (refuse n refl)
 plain_command k by (Cancel n) trade split claim refuse cancel = absurd (cancel n refl)
-plain_command k by (Agree _ _ _ _) trade split claim refuse cancel = record { names = refl; trades = refl; own = refl; makes = refl }
-plain_command k by (Raise _ _) trade split claim refuse cancel = record { names = refl; trades = refl; own = refl; makes = refl }
-plain_command k by (Initiate _) trade split claim refuse cancel = record { names = refl; trades = refl; own = refl; makes = refl }
-plain_command k by (Decline _) trade split claim refuse cancel = record { names = refl; trades = refl; own = refl; makes = refl }
-plain_command k by (Reverse _) trade split claim refuse cancel = record { names = refl; trades = refl; own = refl; makes = refl }
+plain_command k by _ trade split claim refuse cancel = record { names = refl; trades = refl; own = refl; makes = refl }
 
 -- it leaves the trees and the places as they are
 pub left_alone : {t : House} {l : List Record} {r : Record} {g : Grove} → IsNext t l r g

@@ -1,23 +1,14 @@
 -- What the trees say of a change on which nothing stands: it can be taken back at its node.
-use Rattle.std.proofs.Common.{◌≡◌, ◌≢◌, ℕ, ◌<◌, ◌≤◌, Bool, true, false, ◌&&◌, ◌||◌, List, [], ◌∷◌, length, refl, sym, ◌∙◌, ap, subst, arith, cond, Option, All, Contains, IsTrue, ◌⊎◌, inl, inr}
+use Rattle.std.proofs.Common.{◌≡◌, ◌≢◌, ℕ, ◌<◌, ◌≤◌, Bool, true, false, ◌&&◌, ◌||◌, List, [], ◌∷◌, length, refl, sym, ◌∙◌, ap, subst, arith, cond, Option}
+use Rattle.std.proofs.Common.{All, Contains, IsTrue, ◌⊎◌, inl, inr}
 use Rattle.std.specs.Prelude.{is_none, Some, None, find, ◌==◌, is_some, option_and_then, option_map, IsSomeAnd}
 use Rattle.std.specs.List.{list_any}
 use Rattle.std.proofs.lemmas.Bool.{or_parts, or_cases, false_from_ne_true}
 use Rattle.std.proofs.lemmas.Bool.Decides.{Decides-eqb}
 use Rattle.std.proofs.lemmas.List.Elements.{All-nil, All-cons, All-head, All-tail, All-contains}
 use Rattle.std.proofs.lemmas.Option.{same_Some}
-use Rattle.gu_base.specs.Numbers.{EntryPart}
-use Rattle.gu_base.specs.House.{House}
-use Rattle.gu_base.specs.Nodes.{node_of, nodes_of, same_name, split_of, decision_of, splits, decides, is_given, parent}
-use Rattle.gu_base.specs.Rows.{state_of, state_after}
-use Rattle.gu_base.specs.declared.command.Command.{Command}
-use Rattle.gu_base.specs.declared.command.Command.TheVariants.{Trade, Split, Claim, Refuse, Cancel, Agree, Raise, Initiate, Decline, Reverse}
-use Rattle.gu_base.specs.declared.entry.Record.{Record}
-use Rattle.gu_base.specs.declared.node.Kind.{Kind}
-use Rattle.gu_base.specs.declared.node.Kind.TheVariants.{Root, Own, Given}
-use Rattle.gu_base.specs.declared.node.Node.{Node}
-use Rattle.gu_base.specs.declared.node.Place.{Place}
-use Rattle.gu_base.specs.declared.state.State.TheVariants.{Claimed}
+use Rattle.gu_depend.proofs.Vocabulary.{EntryPart, House, node_of, nodes_of, same_name, split_of, decision_of, splits, decides, is_given, parent, state_of, state_after, Command, Trade, Split}
+use Rattle.gu_depend.proofs.Vocabulary.{Claim, Refuse, Cancel, Agree, Raise, Initiate, Decline, Reverse, Record, Kind, Root, Own, Given, Node, Place, Claimed}
 use Rattle.gu_base.proofs.Basics.{no_some, none_is_some, nothing_here}
 use Rattle.gu_base.proofs.NodeNames.{name_is, name_same, node_called}
 use Rattle.gu_base.proofs.Numbered.{rises_later}
@@ -40,9 +31,8 @@ use Rattle.gu_tree.proofs.Along.{its-head}
 use Rattle.gu_tree.proofs.ShowsLess.{no-root-part}
 use Rattle.gu_book.specs.Filed.{IsFree}
 use Rattle.gu_book.specs.TreeRows.{is_trade}
-use Rattle.gu_book.proofs.Filed.{Spot, spot, tree_shown, place_named}
+use Rattle.gu_book.proofs.Filed.{Spot, spot, tree_shown, place_named, count_of, count_cons}
 use Rattle.gu_book.proofs.FiledChanges.{its_head}
-use Rattle.gu_book.proofs.Named.{count_of, count_cons}
 use Rattle.gu_book.proofs.Orders.{InOrder, in_order, NamesLower, orderly_lower}
 
 -- ---- what a command names
@@ -53,38 +43,17 @@ names_it n (Split m _) e = ap (λ b. b || false) (ap (λ k. same_name k n) (same
 names_it n (Claim m _) e = ap (λ k. same_name k n) (same_Some m n e) ∙ name_same n
 names_it n (Refuse m) e = ap (λ k. same_name k n) (same_Some m n e) ∙ name_same n
 names_it n (Cancel m) e = ap (λ k. same_name k n) (same_Some m n e) ∙ name_same n
-names_it n (Trade _ _ _ _ _) e = absurd (cc)
-names_it n (Agree _ _ _ _) e = absurd (cc)
-names_it n (Raise _ _) e = absurd (cc)
-names_it n (Initiate _) e = absurd (cc)
-names_it n (Decline _) e = absurd (cc)
-names_it n (Reverse _) e = absurd (cc)
+names_it n _ e = absurd (cc)
 
 -- a Split, as the book says it
 pub split_names : (n : EntryPart) (c : Command) → SplitsNode n c → (named_node c ≡ Some n) × (splits n c ≡ true)
 split_names n (Split m _) e = (ap (λ k. Some k) e, ap (λ k. same_name k n) e ∙ name_same n)
-split_names n (Trade _ _ _ _ _) e = absurd e
-split_names n (Claim _ _) e = absurd e
-split_names n (Refuse _) e = absurd e
-split_names n (Cancel _) e = absurd e
-split_names n (Agree _ _ _ _) e = absurd e
-split_names n (Raise _ _) e = absurd e
-split_names n (Initiate _) e = absurd e
-split_names n (Decline _) e = absurd e
-split_names n (Reverse _) e = absurd e
+split_names n _ e = absurd e
 
 -- its parts stand under what names them
 under_split : (n : EntryPart) (k : ℕ) (by : List ℕ) (c e : Command) → SplitsNode n c → is_under k by c e ≡ list_any (λ x. names x.name e) (nodes_of k by c)
 under_split n k by (Split m ps) e is = refl
-under_split n k by (Trade _ _ _ _ _) e is = absurd is
-under_split n k by (Claim _ _) e is = absurd is
-under_split n k by (Refuse _) e is = absurd is
-under_split n k by (Cancel _) e is = absurd is
-under_split n k by (Agree _ _ _ _) e is = absurd is
-under_split n k by (Raise _ _) e is = absurd is
-under_split n k by (Initiate _) e is = absurd is
-under_split n k by (Decline _) e is = absurd is
-under_split n k by (Reverse _) e is = absurd is
+under_split n k by _ e is = absurd is
 
 -- the command claims this node
 abbrev pub Claims : EntryPart → Command → Type 0
@@ -100,15 +69,7 @@ TurnsDown n _ = ⊥
 -- a claim, and what turns an offer down
 pub claim_names : (n : EntryPart) (c : Command) → Claims n c → (named_node c ≡ Some n) × (decides n c ≡ true) × (state_after c ≡ Claimed)
 claim_names n (Claim m _) e = (ap (λ k. Some k) e, ap (λ k. same_name k n) e ∙ name_same n, refl)
-claim_names n (Split _ _) e = absurd e
-claim_names n (Trade _ _ _ _ _) e = absurd e
-claim_names n (Refuse _) e = absurd e
-claim_names n (Cancel _) e = absurd e
-claim_names n (Agree _ _ _ _) e = absurd e
-claim_names n (Raise _ _) e = absurd e
-claim_names n (Initiate _) e = absurd e
-claim_names n (Decline _) e = absurd e
-claim_names n (Reverse _) e = absurd e
+claim_names n _ e = absurd e
 
 -- a Refuse or a Cancel turns down the part that it names
 pub turned_down : {c : Command} → ((n : EntryPart) × c ≡ Refuse n) ⊎ ((n : EntryPart) × c ≡ Cancel n) → (n : EntryPart) × TurnsDown n c
@@ -118,53 +79,26 @@ turned_down (inr r) = (r.0, subst (TurnsDown r.0) (sym r.1) refl)
 pub turned_names : (n : EntryPart) (c : Command) → TurnsDown n c → (named_node c ≡ Some n) × (decides n c ≡ true) × (is_given_back (state_after c) ≡ true)
 turned_names n (Refuse m) e = (ap (λ k. Some k) e, ap (λ k. same_name k n) e ∙ name_same n, refl)
 turned_names n (Cancel m) e = (ap (λ k. Some k) e, ap (λ k. same_name k n) e ∙ name_same n, refl)
-turned_names n (Claim _ _) e = absurd e
-turned_names n (Split _ _) e = absurd e
-turned_names n (Trade _ _ _ _ _) e = absurd e
-turned_names n (Agree _ _ _ _) e = absurd e
-turned_names n (Raise _ _) e = absurd e
-turned_names n (Initiate _) e = absurd e
-turned_names n (Decline _) e = absurd e
-turned_names n (Reverse _) e = absurd e
+turned_names n _ e = absurd e
 
 -- one of the two says which node is decided
 pub decides_node : (n : EntryPart) (c : Command) → decides n c ≡ true → DecidesNode n c
 decides_node n (Claim m _) e = name_is m n e
 decides_node n (Refuse m) e = name_is m n e
 decides_node n (Cancel m) e = name_is m n e
-decides_node n (Split _ _) e = absurd (cc)
-decides_node n (Trade _ _ _ _ _) e = absurd (cc)
-decides_node n (Agree _ _ _ _) e = absurd (cc)
-decides_node n (Raise _ _) e = absurd (cc)
-decides_node n (Initiate _) e = absurd (cc)
-decides_node n (Decline _) e = absurd (cc)
-decides_node n (Reverse _) e = absurd (cc)
+decides_node n _ e = absurd (cc)
 
 -- under a decision stands what splits its node
 under_decision : (n : EntryPart) (k : ℕ) (by : List ℕ) (c e : Command) → decides n c ≡ true → is_under k by c e ≡ splits n e
 under_decision n k by (Claim m _) e is = ap (λ a. splits a e) (name_is m n is)
 under_decision n k by (Refuse m) e is = ap (λ a. splits a e) (name_is m n is)
 under_decision n k by (Cancel m) e is = ap (λ a. splits a e) (name_is m n is)
-under_decision n k by (Split _ _) e is = absurd (cc)
-under_decision n k by (Trade _ _ _ _ _) e is = absurd (cc)
-under_decision n k by (Agree _ _ _ _) e is = absurd (cc)
-under_decision n k by (Raise _ _) e is = absurd (cc)
-under_decision n k by (Initiate _) e is = absurd (cc)
-under_decision n k by (Decline _) e is = absurd (cc)
-under_decision n k by (Reverse _) e is = absurd (cc)
+under_decision n k by _ e is = absurd (cc)
 
 -- under a Trade what splits its root
 under_trade : (k : ℕ) (by : List ℕ) (c e : Command) → is_trade c ≡ true → is_under k by c e ≡ splits (record { entry = k; part = 0 }) e
 under_trade k by (Trade _ _ _ _ _) e is = refl
-under_trade k by (Split _ _) e is = absurd (cc)
-under_trade k by (Claim _ _) e is = absurd (cc)
-under_trade k by (Refuse _) e is = absurd (cc)
-under_trade k by (Cancel _) e is = absurd (cc)
-under_trade k by (Agree _ _ _ _) e is = absurd (cc)
-under_trade k by (Raise _ _) e is = absurd (cc)
-under_trade k by (Initiate _) e is = absurd (cc)
-under_trade k by (Decline _) e is = absurd (cc)
-under_trade k by (Reverse _) e is = absurd (cc)
+under_trade k by _ e is = absurd (cc)
 
 -- a name that isn't found doesn't count
 none_counts_of : (m : EntryPart) (xs : List Node) → find (λ x. same_name x.name m) xs ≡ None → count_of m xs ≡ 0
@@ -179,28 +113,12 @@ none_counts_of m (x ∷ xs) h =
 -- a root is no part of a Split
 no_root : (n : EntryPart) (k trade : ℕ) (by : List ℕ) (c : Command) → SplitsNode n c → find (λ (x : Node). same_name x.name (record { entry = trade; part = 0 })) (nodes_of k by c) ≡ None
 no_root n k trade by (Split m ps) is = no-root-part trade k 1 m by ps (omega arith)
-no_root n k trade by (Trade _ _ _ _ _) is = absurd is
-no_root n k trade by (Claim _ _) is = absurd is
-no_root n k trade by (Refuse _) is = absurd is
-no_root n k trade by (Cancel _) is = absurd is
-no_root n k trade by (Agree _ _ _ _) is = absurd is
-no_root n k trade by (Raise _ _) is = absurd is
-no_root n k trade by (Initiate _) is = absurd is
-no_root n k trade by (Decline _) is = absurd is
-no_root n k trade by (Reverse _) is = absurd is
+no_root n k trade by _ is = absurd is
 
 -- a Trade has its own root as its place, each other change what it names
 placed_by : (k : ℕ) (c : Command) (m : EntryPart) → named_place k c ≡ Some m → (m ≡ record { entry = k; part = 0 }) ⊎ (names m c ≡ true)
 placed_by k (Trade _ _ _ _ _) m e = inl (sym (same_Some (record { entry = k; part = 0 }) m e))
-placed_by k (Split a ps) m e = inr (names_it m (Split a ps) e)
-placed_by k (Claim a account) m e = inr (names_it m (Claim a account) e)
-placed_by k (Refuse a) m e = inr (names_it m (Refuse a) e)
-placed_by k (Cancel a) m e = inr (names_it m (Cancel a) e)
-placed_by k (Agree _ _ _ _) m e = absurd (cc)
-placed_by k (Raise _ _) m e = absurd (cc)
-placed_by k (Initiate _) m e = absurd (cc)
-placed_by k (Decline _) m e = absurd (cc)
-placed_by k (Reverse _) m e = absurd (cc)
+placed_by k c m e = inr (names_it m c e)
 
 -- a change of the list with its place
 record IsPlacedBy (l : List Record) (k : ℕ) (m : EntryPart) : Type 0 where
@@ -227,12 +145,14 @@ abbrev IsBare : List Record → Node → Type 0
 IsBare l x = (split_of l x.name ≡ None) × (decision_of l x.name ≡ None)
 
 -- they are leaves that nobody has decided, and have the names of the nodes
-bare_node : (l : List Record) (above : Option Place) (x : Node) (t : Rose) (m : EntryPart) → IsNodeOf l above x t → IsBare l x → (is_undecided_leaf t ≡ true) × (named m t ≡ cond {A = ℕ} (same_name x.name m) 1 0)
+bare_node : (l : List Record) (above : Option Place) (x : Node) (t : Rose) (m : EntryPart) → IsNodeOf l above x t → IsBare l x
+    → (is_undecided_leaf t ≡ true) × (named m t ≡ cond {A = ℕ} (same_name x.name m) 1 0)
 bare_node l above x (leaf h) m is bare =
     (ap is_none (is.0.decision ∙ ap (option_map (λ r. r.number)) bare.1), ap (λ n. cond {A = ℕ} (same_name n m) 1 0) is.0.name)
 bare_node l above x (parted h n ts) m is bare = absurd (none_is_some (split_of l x.name) is.1.0 bare.0 is.1.1)
 
-bare_parts : (l : List Record) (above : Option Place) (xs : List Node) (ts : Roses) (m : EntryPart) → ArePartsOf l above xs ts → All (IsBare l) xs → (are_undecided_leaves ts ≡ true) × (named_below m ts ≡ count_of m xs)
+bare_parts : (l : List Record) (above : Option Place) (xs : List Node) (ts : Roses) (m : EntryPart) → ArePartsOf l above xs ts → All (IsBare l) xs
+    → (are_undecided_leaves ts ≡ true) × (named_below m ts ≡ count_of m xs)
 bare_parts l above [] no_parts m is bare = (refl, refl)
 bare_parts l above [] (part_then t ts) m is bare = absurd is
 bare_parts l above (x ∷ xs) no_parts m is bare = absurd is
@@ -272,8 +192,7 @@ whole_by l above x (parted h n ts) is none = absurd (none_is_some (split_of l x.
 -- only what has a parent is given
 given_below : (k : Kind) → is_given k ≡ true → parent k ≡ None → ⊥
 given_below (Root _) g none = cc
-given_below (Own _ _ _) g none = cc
-given_below (Given _ _ _) g none = cc
+given_below _ g none = cc
 
 module _ {t : House} {l : List Record} {r : Record} {g : Grove} (u : IsFree t l r g) where
   pub order : InOrder l
@@ -295,7 +214,8 @@ module _ {t : House} {l : List Record} {r : Record} {g : Grove} (u : IsFree t l 
   own_place : place_of g r.number ≡ named_place r.number r.command
   own_place =
       u.filed.placed r.number
-      ∙ ap (option_and_then (λ (d : Record). named_place d.number d.command)) (found_once (λ (d : Record). d.number == r.number) l r u.among ((Decides-eqb r.number r.number).1 refl) (numbers r.number))
+      ∙ ap (option_and_then (λ (d : Record). named_place d.number d.command))
+      (found_once (λ (d : Record). d.number == r.number) l r u.among ((Decides-eqb r.number r.number).1 refl) (numbers r.number))
 
   pub its_spot : (trade : ℕ) (p : List ℕ) (n : EntryPart) → named_node r.command ≡ Some n → IsSomeAnd (place_of g r.number) (λ m. IsPlace g m trade p) → Spot l g trade p n
   its_spot trade p n is at =
@@ -410,9 +330,8 @@ module _ {t : House} {l : List Record} {r : Record} {g : Grove} (u : IsFree t l 
         (its_head s).state ∙ (ap (state_of s.said.node.kind) its_decision ∙ given_state s.said.node.kind is_given_there)
       where
         given_state : (k : Kind) → is_given k ≡ true → state_of k (Some r) ≡ state_after r.command
-        given_state (Root _) h = absurd (cc)
-        given_state (Own _ _ _) h = absurd (cc)
         given_state (Given _ _ _) h = refl
+        given_state _ h = absurd (cc)
 
     pub its_leaf : (P : Rose → Type 0) → ((h : Head) → h ≡ head_of s.node → P (leaf h)) → P s.node
     its_leaf P has = subst P (sym whole.is) (has whole.head (sym (ap head_of whole.is)))

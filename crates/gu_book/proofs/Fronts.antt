@@ -1,21 +1,12 @@
 -- The answer, from the answer but for what stands on a change.
 use Rattle.std.proofs.Common.{◌≡◌, ℕ, ◌+◌, false, not, List, [], ◌∷◌, length, refl, sym, ◌∙◌, ap, Option}
 use Rattle.std.specs.Prelude.{Some, None, find, option_map, nat_lt}
-use Rattle.gu_base.specs.House.{House, knows_firm}
-use Rattle.gu_base.specs.History.{records, live, is_change}
-use Rattle.gu_base.specs.Refusals.{refusal_of, first, unless}
-use Rattle.gu_base.specs.Standing.{standing_on}
-use Rattle.gu_base.specs.Consents.{parties_of, consents_of, is_among, missing, consents_left}
-use Rattle.gu_base.specs.Answers.{Call, answer_to, answer_by, accepted_or, entry_of, reversal_of, on_change, initiate_rest, decline_rest, reverse_rest, command_refusal, after, after_by, is_empty, is_same_id, is_same_call, status_of, is_accepted}
-use Rattle.gu_base.specs.declared.command.Command.{Command}
-use Rattle.gu_base.specs.declared.command.Command.TheVariants.{Trade, Split, Claim, Refuse, Cancel, Agree, Raise, Initiate, Decline, Reverse}
-use Rattle.gu_base.specs.declared.entry.Answer.{Answer}
-use Rattle.gu_base.specs.declared.entry.Answer.TheVariants.{Accepted, Repeated, Refused}
-use Rattle.gu_base.specs.declared.entry.Entry.{Entry}
-use Rattle.gu_base.specs.declared.entry.Record.{Record}
-use Rattle.gu_base.specs.declared.refusal.Refusal.{Refusal}
-use Rattle.gu_base.specs.declared.refusal.Refusal.TheVariants.{UnknownFirm, NotAChange, AlreadyReversed, NotAParty, NeedsConsent, StandsOn, BookFull, AlreadyConsented, NothingPending}
-use Rattle.gu_base.specs.declared.state.State.{State}
+use Rattle.gu_depend.proofs.Vocabulary.{House, knows_firm, records, live, is_change, refusal_of, first, unless, standing_on, parties_of, consents_of, is_among, missing, consents_left, Call}
+use Rattle.gu_depend.proofs.Vocabulary.{answer_to, answer_by, accepted_or, entry_of, reversal_of, on_change, initiate_rest, decline_rest, reverse_rest, command_refusal, after, after_by, is_empty}
+use Rattle.gu_depend.proofs.Vocabulary.{is_same_id, is_same_call, status_of, is_accepted, Command, Trade, Split, Claim, Refuse, Cancel, Agree, Raise, Initiate, Decline, Reverse, Answer, Accepted}
+use Rattle.gu_depend.proofs.Vocabulary.{Repeated, Entry, Record, Refusal, UnknownFirm, NotAChange, AlreadyReversed, NotAParty, NeedsConsent, StandsOn, BookFull, AlreadyConsented, NothingPending}
+use Rattle.gu_depend.proofs.Vocabulary.{State}
+use Rattle.gu_base.specs.declared.entry.Answer.TheVariants.{Refused}
 use Rattle.gu_book.specs.Front.{own_of, front_refusal, front_answer}
 use Rattle.gu_base.proofs.Numbered.{found_at}
 use Rattle.gu_base.proofs.Consenting.{not_reversed, left_open}
@@ -38,7 +29,8 @@ same_row None (Some v) p x y same = refl
 same_row None None p x y same = ap (λ z. first (p ∷ z ∷ [])) (same refl)
 
 reverse_row : (a : Option Refusal) (reversal : Option Record) (p lack stands : Option Refusal)
-    → first (a ∷ option_map (λ v. AlreadyReversed v.number) reversal ∷ p ∷ first (lack ∷ stands ∷ []) ∷ []) ≡ first (first (a ∷ option_map (λ v. AlreadyReversed v.number) reversal ∷ p ∷ lack ∷ []) ∷ stands ∷ [])
+    → first (a ∷ option_map (λ v. AlreadyReversed v.number) reversal ∷ p ∷ first (lack ∷ stands ∷ []) ∷ [])
+    ≡ first (first (a ∷ option_map (λ v. AlreadyReversed v.number) reversal ∷ p ∷ lack ∷ []) ∷ stands ∷ [])
 reverse_row (Some r) reversal p lack stands = refl
 reverse_row None (Some v) p lack stands = refl
 reverse_row None None (Some r) lack stands = refl
@@ -96,13 +88,6 @@ module _ (t : House) (h : List Entry) (given : ℕ → List (List ℕ)) (left : 
       ∙ reverse_row (unless (is_change r.command) NotAChange) (reversal_of h r.number) (unless (is_among by parties) NotAParty) (own_of t h given by (Reverse k) r) (stands_refusal t h (Reverse k))
 
   refusal_split : (by : List ℕ) (c : Command) → command_refusal t h by c ≡ first (front_refusal t h given by c ∷ stands_refusal t h c ∷ [])
-  refusal_split by (Trade a b c d e) = first_self (refusal_of t (live h) by (Trade a b c d e))
-  refusal_split by (Split n ps) = first_self (refusal_of t (live h) by (Split n ps))
-  refusal_split by (Claim n a) = first_self (refusal_of t (live h) by (Claim n a))
-  refusal_split by (Refuse n) = first_self (refusal_of t (live h) by (Refuse n))
-  refusal_split by (Cancel n) = first_self (refusal_of t (live h) by (Cancel n))
-  refusal_split by (Agree g k rate limit) = first_self (refusal_of t (live h) by (Agree g k rate limit))
-  refusal_split by (Raise g lots) = first_self (refusal_of t (live h) by (Raise g lots))
   refusal_split by (Initiate k) =
       ap (λ o. first (unless (knows_firm t by) UnknownFirm ∷ o ∷ []))
       (change_same by (initiate_rest h by) (own_of t h given by (Initiate k)) (λ r unnamed. ap (λ cs. unless (not (is_among by cs)) AlreadyConsented) (given_open r.number unnamed)) (entry_of h k))
@@ -112,44 +97,49 @@ module _ (t : House) (h : List Entry) (given : ℕ → List (List ℕ)) (left : 
       (change_same by (decline_rest h) (own_of t h given by (Decline k)) (λ r unnamed. ap (λ cs. unless (not (is_empty cs)) NothingPending) (given_open r.number unnamed)) (entry_of h k))
       ∙ first_self (front_refusal t h given by (Decline k))
   refusal_split by (Reverse k) =
-      behind_first (unless (knows_firm t by) UnknownFirm) (on_change t h by (reverse_rest t h) (entry_of h k)) (on_change t h by (own_of t h given by (Reverse k)) (entry_of h k)) (stands_refusal t h (Reverse k))
+      behind_first (unless (knows_firm t by) UnknownFirm) (on_change t h by (reverse_rest t h) (entry_of h k)) (on_change t h by (own_of t h given by (Reverse k)) (entry_of h k))
+      (stands_refusal t h (Reverse k))
       (change_stands by k (entry_of h k) refl)
+  refusal_split by c = first_self (refusal_of t (live h) by c)
 
   split_answer : (c : Call) → answer_to t h c
       ≡ answer_by (find (is_same_call c) (records h)) (find (is_same_id c) (records h))
-      (accepted_or (length h + 1) (status_of c.firm c.command) (first (unless (nat_lt (length h) 1000000) BookFull ∷ first (front_refusal t h given c.firm c.command ∷ stands_refusal t h c.command ∷ []) ∷ [])))
+      (accepted_or (length h + 1) (status_of c.firm c.command)
+      (first (unless (nat_lt (length h) 1000000) BookFull ∷ first (front_refusal t h given c.firm c.command ∷ stands_refusal t h c.command ∷ []) ∷ [])))
   split_answer c =
-      ap (λ o. answer_by (find (is_same_call c) (records h)) (find (is_same_id c) (records h)) (accepted_or (length h + 1) (status_of c.firm c.command) (first (unless (nat_lt (length h) 1000000) BookFull ∷ o ∷ []))))
+      ap (λ o. answer_by (find (is_same_call c) (records h)) (find (is_same_id c) (records h))
+      (accepted_or (length h + 1) (status_of c.firm c.command) (first (unless (nat_lt (length h) 1000000) BookFull ∷ o ∷ []))))
       (refusal_split c.firm c.command)
 
   -- where the front accepts, only what stands on the change may still refuse
   pub decided : (c : Call) (n : ℕ) (s : State) → front_answer t h given c ≡ Accepted n s → (n ≡ length h + 1) × (answer_to t h c ≡ accepted_or n s (stands_refusal t h c.command))
   decided c n s e =
-      let a = front_taken (find (is_same_call c) (records h)) (find (is_same_id c) (records h)) (length h + 1) (status_of c.firm c.command) (unless (nat_lt (length h) 1000000) BookFull) (front_refusal t h given c.firm c.command) (stands_refusal t h c.command) n s e in
+      let a = front_taken (find (is_same_call c) (records h)) (find (is_same_id c) (records h)) (length h + 1) (status_of c.firm c.command) (unless (nat_lt (length h) 1000000) BookFull)
+      (front_refusal t h given c.firm c.command) (stands_refusal t h c.command) n s e in
       (a.0, split_answer c ∙ a.2)
 
   -- where it doesn't, its answer is the answer
   pub settled : (c : Call) → is_accepted (front_answer t h given c) ≡ false → answer_to t h c ≡ front_answer t h given c
   settled c plain =
       split_answer c
-      ∙ front_left (find (is_same_call c) (records h)) (find (is_same_id c) (records h)) (length h + 1) (status_of c.firm c.command) (unless (nat_lt (length h) 1000000) BookFull) (front_refusal t h given c.firm c.command) (stands_refusal t h c.command) plain
+      ∙ front_left (find (is_same_call c) (records h)) (find (is_same_id c) (records h)) (length h + 1) (status_of c.firm c.command) (unless (nat_lt (length h) 1000000) BookFull)
+      (front_refusal t h given c.firm c.command) (stands_refusal t h c.command) plain
 
 -- an answer that isn't accepted adds nothing
 not_added : (h : List Entry) (c : Call) (a : Answer) → is_accepted a ≡ false → h ≡ after_by h c a
 not_added h c (Accepted n s) e = absurd (cc)
-not_added h c (Repeated n s) e = refl
-not_added h c (Refused r) e = refl
+not_added h c _ e = refl
 
 pub not_accepted : (a : Answer) → ((n : ℕ) (s : State) → a ≡ Accepted n s → ⊥) → is_accepted a ≡ false
 not_accepted (Accepted n s) other = absurd (other n s refl)
-not_accepted (Repeated n s) other = refl
-not_accepted (Refused r) other = refl
+not_accepted _ other = refl
 
 pub record IsSettled (t : House) (h : List Entry) (c : Call) (a : Answer) : Type 0 where
   pub answered : a ≡ answer_to t h c
   pub kept : h ≡ after t h c
 
-pub settles : (t : House) (h : List Entry) (given : ℕ → List (List ℕ)) → ((n : ℕ) → given n ≡ consents_left h n) → (c : Call) (a : Answer) → a ≡ front_answer t h given c → is_accepted a ≡ false
+pub settles : (t : House) (h : List Entry) (given : ℕ → List (List ℕ)) → ((n : ℕ) → given n ≡ consents_left h n) → (c : Call) (a : Answer) → a ≡ front_answer t h given c
+    → is_accepted a ≡ false
     → IsSettled t h c a
 settles t h given left c a e out =
     let same = settled t h given left c (ap is_accepted (sym e) ∙ out) in

@@ -1,14 +1,7 @@
 -- What is left when a change on which nothing stands is taken back at its node.
 use Rattle.std.proofs.Common.{◌≡◌, ℕ, ◌≤◌, true, false, refl, sym, ◌∙◌, ap, subst, arith, Option, List, length, IsTrue}
 use Rattle.std.specs.Prelude.{Some, IsSomeAnd}
-use Rattle.gu_base.specs.Numbers.{EntryPart}
-use Rattle.gu_base.specs.House.{House}
-use Rattle.gu_base.specs.Nodes.{decides}
-use Rattle.gu_base.specs.Standing.{without}
-use Rattle.gu_base.specs.declared.command.Command.{Command}
-use Rattle.gu_base.specs.declared.command.Command.TheVariants.{Trade, Split, Claim, Refuse, Cancel, Agree, Raise, Initiate, Decline, Reverse}
-use Rattle.gu_base.specs.declared.entry.Record.{Record}
-use Rattle.gu_base.specs.declared.node.Place.{Place}
+use Rattle.gu_depend.proofs.Vocabulary.{EntryPart, House, decides, without, Command, Trade, Split, Claim, Refuse, Cancel, Agree, Raise, Initiate, Decline, Reverse, Record, Place}
 use Rattle.gu_depend.specs.Under.{names}
 use Rattle.gu_tree.specs.Rose.{Rose, leaf, head_of, named, split_of_node}
 use Rattle.gu_tree.specs.Paths.{node_at, edit_at, HasAt, above}
@@ -24,21 +17,14 @@ use Rattle.gu_book.specs.TreeRows.{is_trade}
 use Rattle.gu_book.proofs.Filed.{Spot}
 use Rattle.gu_book.proofs.FiledChanges.{from_tree, has_at, is_at, said_at}
 use Rattle.gu_book.proofs.FiledLess.{taken_back, uprooted}
-use Rattle.gu_book.proofs.FreeNodes.{Claims, TurnsDown, split_names, claim_names, turned_names, decides_node, splits_bare, splits_in, splits_free, its_number, others_above, decided_state, its_leaf, is_part, its_decided, decided_in, root_leaf}
+use Rattle.gu_book.proofs.FreeNodes.{Claims, TurnsDown, split_names, claim_names, turned_names, decides_node, splits_bare, splits_in, splits_free, its_number, others_above, decided_state, its_leaf}
+use Rattle.gu_book.proofs.FreeNodes.{is_part, its_decided, decided_in, root_leaf}
 use Rattle.gu_book.proofs.Undoing.{only_split, only_decision}
 
 -- a Trade names no node
 unnamed_trade : (c : Command) → is_trade c ≡ true → (n : EntryPart) → names n c ≡ false
 unnamed_trade (Trade _ _ _ _ _) is n = refl
-unnamed_trade (Split _ _) is n = absurd (cc)
-unnamed_trade (Claim _ _) is n = absurd (cc)
-unnamed_trade (Refuse _) is n = absurd (cc)
-unnamed_trade (Cancel _) is n = absurd (cc)
-unnamed_trade (Agree _ _ _ _) is n = absurd (cc)
-unnamed_trade (Raise _ _) is n = absurd (cc)
-unnamed_trade (Initiate _) is n = absurd (cc)
-unnamed_trade (Decline _) is n = absurd (cc)
-unnamed_trade (Reverse _) is n = absurd (cc)
+unnamed_trade _ is n = absurd (cc)
 
 module _ {t : House} {l : List Record} {r : Record} {g : Grove} (u : IsFree t l r g) where
   -- ---- a Split
@@ -56,8 +42,8 @@ module _ {t : House} {l : List Record} {r : Record} {g : Grove} (u : IsFree t l 
     pub unsplit_gone : (h : Grove) → HasTree g trade (λ v. ChangesTree g h trade (edit_at unsplit_node p v)) → HasTree g trade (HasAt p (λ w. IsSomeAnd (split_of_node w) (λ q. Takes g h q.0)))
         → HasTree g trade (λ v. ShowsLess (λ l k. HasAt p (λ w. IsOnlySplit l k (head_of w).name) v) v (edit_at unsplit_node p v)) → IsFiled (without l r.number) h
     unsplit_gone h tree place shows =
-        let only : IsOnlySplit l r.number n = only_split t l r u.replayed u.rises u.among u.free n is (split_names n r.command is).1 in
-        taken_back t l r u.replayed u.rises u.among u.free g u.filed s (split_names n r.command is).0 h (edit_at unsplit_node p s.tree)
+        let only : IsOnlySplit l r.number n = only_split u n is (split_names n r.command is).1 in
+        taken_back u s (split_names n r.command is).0 h (edit_at unsplit_node p s.tree)
         (from_tree s (λ v. ChangesTree g h trade (edit_at unsplit_node p v)) tree)
         (its_number u s is (Takes g h) (said_at s (λ w. IsSomeAnd (split_of_node w) (λ q. Takes g h q.0)) place))
         (from_tree s (λ v. ShowsLess (λ l k. HasAt p (λ w. IsOnlySplit l k (head_of w).name) v) v (edit_at unsplit_node p v)) shows
@@ -80,8 +66,8 @@ module _ {t : House} {l : List Record} {r : Record} {g : Grove} (u : IsFree t l 
     pub offered_gone : (h : Grove) (to : Place) → ChangesTree g h trade (edit_at (offer_node to) p s.tree) → HasTree g trade (HasAt p (λ w. IsSomeAnd (head_of w).decision (Takes g h)))
         → ShowsLess (λ l k. HasAt p (λ w. IsOnlyDecision l k (head_of w).name) s.tree) s.tree (edit_at (offer_node to) p s.tree) → IsFiled (without l r.number) h
     offered_gone h to tree place shows =
-        let only : IsOnlyDecision l r.number n = only_decision t l r u.replayed u.rises u.among u.free n (decides_node n r.command is) is in
-        taken_back t l r u.replayed u.rises u.among u.free g u.filed s names_n h (edit_at (offer_node to) p s.tree) tree
+        let only : IsOnlyDecision l r.number n = only_decision u n (decides_node n r.command is) is in
+        taken_back u s names_n h (edit_at (offer_node to) p s.tree) tree
         (subst (λ (o : Option ℕ). IsSomeAnd o (Takes g h)) (its_decided u s is names_n) (said_at s (λ w. IsSomeAnd (head_of w).decision (Takes g h)) place))
         (shows l trade r.number (has_at s (λ w. IsOnlyDecision l r.number (head_of w).name) (subst (IsOnlyDecision l r.number) (sym s.called) only)) s.shown)
         (λ m other.
@@ -140,7 +126,8 @@ module _ {t : House} {l : List Record} {r : Record} {g : Grove} (u : IsFree t l 
     pub turned_gone : (h : Grove) → HasTree g trade (λ v. ChangesTree g h trade (edit_at offer_again_node p v)) → HasTree g trade (HasAt p (λ w. IsSomeAnd (head_of w).decision (Takes g h)))
         → HasTree g trade (λ v. ShowsLess (λ l k. HasAt p (λ w. IsOnlyDecision l k (head_of w).name) v) v (edit_at offer_again_node p v)) → IsFiled (without l r.number) h
     turned_gone h tree place shows =
-        let same : edit_at offer_again_node p s.tree ≡ edit_at (offer_node (head_of s.node).place) p s.tree = edit_at-same offer_again_node (offer_node (head_of s.node).place) p s.tree s.node s.at refl in
+        let same : edit_at offer_again_node p s.tree ≡ edit_at (offer_node (head_of s.node).place) p s.tree =
+        edit_at-same offer_again_node (offer_node (head_of s.node).place) p s.tree s.node s.at refl in
         offered_gone s is_turned named_turned h (head_of s.node).place
         (subst (ChangesTree g h trade) same (from_tree s (λ v. ChangesTree g h trade (edit_at offer_again_node p v)) tree)) place
         (subst (ShowsLess (λ l k. HasAt p (λ w. IsOnlyDecision l k (head_of w).name) s.tree) s.tree) same
@@ -157,4 +144,4 @@ module _ {t : House} {l : List Record} {r : Record} {g : Grove} (u : IsFree t l 
     pub root_gone : (h : Grove) → TakesTree g h r.number → Takes g h r.number → IsFiled (without l r.number) h
     root_gone h tree place =
         let root = root_leaf u trades in
-        uprooted t l r u.replayed u.rises u.among u.free g u.filed root.0 root.1 h tree place (unnamed_trade r.command trades)
+        uprooted u root.0 root.1 h tree place (unnamed_trade r.command trades)

@@ -1,19 +1,22 @@
 -- Running rows of positions, into and out of which holdings go one by one.
-use Rattle.std.proofs.Common.{refl, ◌≡◌, ℕ, ◌+◌, ◌<◌, ◌≤◌, Bool, true, false, ◌&&◌, List, [], ◌∷◌, ◌++◌, length, take, drop, get_or, sym, ◌∙◌, ap, arith, Option, cond, append-nil}
+use Rattle.std.proofs.Common.{refl, ◌≡◌, ℕ, ◌+◌, ◌<◌, ◌≤◌, Bool, true, false, ◌&&◌, List, [], ◌∷◌, ◌++◌, length, take, drop, get_or, sym, ◌∙◌, ap, arith}
+use Rattle.std.proofs.Common.{Option, cond, append-nil, drop-cons, add-one}
 use Rattle.std.specs.Prelude.{Some, None, filter_map, bytes_eq, Result, Ok, Err, is_err, OnOk}
-use Rattle.gu_base.specs.declared.command.Side.TheVariants.{Buy, Sell}
-use Rattle.std.proofs.lemmas.Slice.Eq.{bytes_eq-Decides}
+use Rattle.gu_depend.proofs.Vocabulary.{Buy, Sell, bytes_same, same_side, Side}
 use Rattle.std.specs.List.{cons_option}
 use Rattle.std.proofs.lemmas.List.{take_more}
 use Rattle.std.proofs.lemmas.List.Elements.{filter_map-append}
 use Rattle.std.proofs.lemmas.List.Sums.{sum_by-cons, sum_by-append}
-use Rattle.gu_base.specs.Positions.{same_side}
-use Rattle.gu_base.specs.declared.command.Side.{Side}
 use Rattle.gu_positions.specs.Rows.{PositionRows, lots_in, is_key}
 use Rattle.gu_positions.specs.declared.positions.Key.{Key}
 use Rattle.gu_book.specs.Holdings.{counted_at, HaveRoom, SameLots, HaveMoved, HaveThere}
 use Rattle.gu_book.specs.declared.plain.holdings.Holding.{Holding}
-use Rattle.gu_book.proofs.Steps.{drop_here}
+
+-- ---- what a search or a sum over the records does at one record
+
+-- what is left from place i on begins with the element there
+pub drop_here : {A : Type 0} (xs : List A) (i : ℕ) (x : A) → i < length xs → x ≡ get_or xs i x → drop i xs ≡ x ∷ drop (i + 1) xs
+drop_here xs i x within here = let e = drop-cons xs i x within in rw (← here, ← add-one i) at e
 
 -- what one element more gives
 pub given_more : {X Y : Type 0} (f : X → Option Y) (xs : List X) (i : ℕ) (x : X) → i < length xs → x ≡ get_or xs i x
@@ -27,16 +30,20 @@ pub given_here : {X Y : Type 0} (f : X → Option Y) (xs : List X) (i : ℕ) (x 
     → filter_map f (drop i xs) ≡ cons_option (f x) (filter_map f (drop (i + 1) xs))
 given_here f xs i x within here = ap (filter_map f) (drop_here xs i x within here)
 
-pub some_here : {X Y : Type 0} (f : X → Option Y) (xs : List X) (i : ℕ) (x : X) (y : Y) → i < length xs → x ≡ get_or xs i x → Some y ≡ f x → filter_map f (drop i xs) ≡ y ∷ filter_map f (drop (i + 1) xs)
+pub some_here : {X Y : Type 0} (f : X → Option Y) (xs : List X) (i : ℕ) (x : X) (y : Y) → i < length xs → x ≡ get_or xs i x → Some y ≡ f x
+    → filter_map f (drop i xs) ≡ y ∷ filter_map f (drop (i + 1) xs)
 some_here f xs i x y within here is = given_here f xs i x within here ∙ ap (λ o. cons_option o (filter_map f (drop (i + 1) xs))) (sym is)
 
-pub none_here : {X Y : Type 0} (f : X → Option Y) (xs : List X) (i : ℕ) (x : X) → i < length xs → x ≡ get_or xs i x → None ≡ f x → filter_map f (drop i xs) ≡ filter_map f (drop (i + 1) xs)
+pub none_here : {X Y : Type 0} (f : X → Option Y) (xs : List X) (i : ℕ) (x : X) → i < length xs → x ≡ get_or xs i x → None ≡ f x
+    → filter_map f (drop i xs) ≡ filter_map f (drop (i + 1) xs)
 none_here f xs i x within here is = given_here f xs i x within here ∙ ap (λ o. cons_option o (filter_map f (drop (i + 1) xs))) (sym is)
 
-pub some_more : {X Y : Type 0} (f : X → Option Y) (xs : List X) (i : ℕ) (x : X) (y : Y) → i < length xs → x ≡ get_or xs i x → Some y ≡ f x → filter_map f (take (i + 1) xs) ≡ filter_map f (take i xs) ++ y ∷ []
+pub some_more : {X Y : Type 0} (f : X → Option Y) (xs : List X) (i : ℕ) (x : X) (y : Y) → i < length xs → x ≡ get_or xs i x → Some y ≡ f x
+    → filter_map f (take (i + 1) xs) ≡ filter_map f (take i xs) ++ y ∷ []
 some_more f xs i x y within here is = given_more f xs i x within here ∙ ap (λ o. filter_map f (take i xs) ++ cons_option o []) (sym is)
 
-pub none_more : {X Y : Type 0} (f : X → Option Y) (xs : List X) (i : ℕ) (x : X) → i < length xs → x ≡ get_or xs i x → None ≡ f x → filter_map f (take (i + 1) xs) ≡ filter_map f (take i xs)
+pub none_more : {X Y : Type 0} (f : X → Option Y) (xs : List X) (i : ℕ) (x : X) → i < length xs → x ≡ get_or xs i x → None ≡ f x
+    → filter_map f (take (i + 1) xs) ≡ filter_map f (take i xs)
 none_more f xs i x within here is = given_more f xs i x within here ∙ (ap (λ o. filter_map f (take i xs) ++ cons_option o []) (sym is) ∙ append-nil (filter_map f (take i xs)))
 
 -- ---- holdings that go one by one
@@ -44,13 +51,10 @@ none_more f xs i x within here is = given_more f xs i x within here ∙ (ap (λ 
 pub is_own_key : (k : Key) (s : Side) → (is_key k k && same_side s s) ≡ true
 is_own_key k s = ap (λ b. b && same_side s s) keys ∙ sides s
   where
-    bytes : (b : List ℕ) → bytes_eq b b ≡ true
-    bytes b = (bytes_eq-Decides b b).1 refl
-
     keys : is_key k k ≡ true
     keys =
-        ap (λ b. b && (bytes_eq k.account k.account && bytes_eq k.instrument k.instrument)) (bytes k.firm)
-        ∙ (ap (λ b. b && bytes_eq k.instrument k.instrument) (bytes k.account) ∙ bytes k.instrument)
+        ap (λ b. b && (bytes_eq k.account k.account && bytes_eq k.instrument k.instrument)) (bytes_same k.firm)
+        ∙ (ap (λ b. b && bytes_eq k.instrument k.instrument) (bytes_same k.account) ∙ bytes_same k.instrument)
 
     sides : (s : Side) → same_side s s ≡ true
     sides Buy = refl
@@ -78,14 +82,16 @@ rest_there old new h hs there gone = λ at side.
     omega (arith, a, b, c, d)
 
 -- what one call took is the one holding
-pub one_taken : (old new : PositionRows) (h : Holding) → ((at : Key) (s : Side) → lots_in new at s + cond (is_key h.key at && same_side h.side s) h.lots 0 ≡ lots_in old at s) → HaveMoved new old None (h ∷ [])
+pub one_taken : (old new : PositionRows) (h : Holding) → ((at : Key) (s : Side) → lots_in new at s + cond (is_key h.key at && same_side h.side s) h.lots 0 ≡ lots_in old at s)
+    → HaveMoved new old None (h ∷ [])
 one_taken old new h taken = λ at side.
     let a = taken at side in
     let b = sum_by-cons (counted_at at side) h [] in
     omega (arith, a, b)
 
 -- and what one call put
-pub one_put : (old new : PositionRows) (h : Holding) (k : Key) → k ≡ h.key → ((at : Key) (s : Side) → lots_in new at s ≡ lots_in old at s + cond (is_key k at && same_side h.side s) h.lots 0) → HaveMoved old new None (h ∷ [])
+pub one_put : (old new : PositionRows) (h : Holding) (k : Key) → k ≡ h.key
+    → ((at : Key) (s : Side) → lots_in new at s ≡ lots_in old at s + cond (is_key k at && same_side h.side s) h.lots 0) → HaveMoved old new None (h ∷ [])
 one_put old new h k is put = λ at side.
     let a = put at side in
     let b = sum_by-cons (counted_at at side) h [] in
@@ -119,15 +125,6 @@ put_and_taken first old new hs put taken = λ at side.
     let a = put at side in
     let b = taken at side in
     omega (arith, a, b)
-
--- where all have room, the first has, if there is one
-pub room_first : (rows : PositionRows) (o : Option Holding) (hs : List Holding) → HaveRoom rows (cons_option o hs) → HaveRoom rows (cons_option o [])
-room_first rows None hs room = λ at side. let a = room at side in omega (arith, a)
-room_first rows (Some h) hs room = λ at side.
-    let a = room at side in
-    let b = sum_by-cons (λ (h : Holding). h.lots) h hs in
-    let c = sum_by-cons (λ (h : Holding). h.lots) h [] in
-    omega (arith, a, b, c)
 
 -- and once it is put the others have room still
 pub room_still : (old new : PositionRows) (o : Option Holding) (hs : List Holding) → HaveRoom old (cons_option o hs) → HaveMoved old new None (cons_option o []) → HaveRoom new hs

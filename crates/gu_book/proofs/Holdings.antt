@@ -1,5 +1,6 @@
 -- What a change moves from one account to another.
-use Rattle.std.proofs.Common.{◌≡◌, ℕ, zero, suc, ◌+◌, ◌≤◌, Bool, true, false, not, ◌&&◌, ◌||◌, List, [], ◌∷◌, ◌++◌, length, length-append, refl, sym, ◌∙◌, ap, subst, arith, Option, cond, All, Contains}
+use Rattle.std.proofs.Common.{◌≡◌, ℕ, zero, suc, ◌+◌, ◌≤◌, Bool, true, false, not, ◌&&◌, ◌||◌, List, [], ◌∷◌, ◌++◌, length, length-append, refl, sym, ◌∙◌}
+use Rattle.std.proofs.Common.{ap, subst, arith, Option, cond, All, Contains}
 use Rattle.std.specs.Prelude.{Some, None, find, filter, filter_map, map, sum_by, count_by, is_some, is_none, ◌==◌, option_and_then, option_map, unwrap_or, bytes_eq}
 use Rattle.std.specs.Option.{option_or}
 use Rattle.std.specs.List.{cons_option}
@@ -10,24 +11,10 @@ use Rattle.std.proofs.lemmas.List.Folds.{find-append}
 use Rattle.std.proofs.lemmas.List.Sums.{sum_by-cons}
 use Rattle.std.proofs.lemmas.Option.{same_Some}
 use Rattle.std.proofs.lemmas.Slice.Eq.{bytes_eq-Decides}
-use Rattle.gu_base.specs.Numbers.{EntryPart}
-use Rattle.gu_base.specs.House.{House}
-use Rattle.gu_base.specs.Nodes.{deal_in, node_of, nodes, nodes_of_parts, same_name, kind_of_part, parent, split_of, splits, decision_of, decides, claimed_account, claim_of, is_given, is_offered}
-use Rattle.gu_base.specs.Places.{line_within, line_of, place_along, place_of, place_of_kind, root_along, root_of, same_place}
-use Rattle.gu_base.specs.Positions.{is_trade_of, trades_in, stands_at, same_side}
-use Rattle.gu_base.specs.Refusals.{split_row, claim_row, refuse_row, cancel_row, is_taker, is_giver}
-use Rattle.gu_base.specs.SameLaws.{same_name-Decides}
-use Rattle.gu_base.specs.SamePartsLaws.{number_same}
-use Rattle.gu_base.specs.declared.command.Part.{Part}
-use Rattle.gu_base.specs.declared.command.Side.{Side}
-use Rattle.gu_base.specs.declared.command.Command.{Command}
-use Rattle.gu_base.specs.declared.command.Command.TheVariants.{Trade, Split, Claim, Refuse, Cancel, Agree, Raise, Initiate, Decline, Reverse}
-use Rattle.gu_base.specs.declared.entry.Record.{Record}
-use Rattle.gu_base.specs.declared.node.Kind.{Kind}
-use Rattle.gu_base.specs.declared.node.Kind.TheVariants.{Root, Own, Given}
-use Rattle.gu_base.specs.declared.node.Node.{Node}
-use Rattle.gu_base.specs.declared.node.Place.{Place}
-use Rattle.gu_base.specs.declared.state.State.{State}
+use Rattle.gu_depend.proofs.Vocabulary.{EntryPart, House, deal_in, node_of, nodes, nodes_of_parts, same_name, kind_of_part, parent, split_of, splits, decision_of, decides, claimed_account}
+use Rattle.gu_depend.proofs.Vocabulary.{claim_of, is_given, is_offered, line_within, line_of, place_along, place_of, place_of_kind, root_along, root_of, same_place, is_trade_of, trades_in}
+use Rattle.gu_depend.proofs.Vocabulary.{stands_at, same_side, split_row, claim_row, refuse_row, cancel_row, is_taker, is_giver, same_name-Decides, number_same, Part, Side, Command, Trade, Split}
+use Rattle.gu_depend.proofs.Vocabulary.{Claim, Refuse, Cancel, Agree, Raise, Initiate, Decline, Reverse, Record, Kind, Root, Own, Given, Node, Place, State, Deal}
 use Rattle.gu_base.proofs.Basics.{or_false, or_none, none_is_some, no_some, nothing_here, bytes_symm}
 use Rattle.gu_base.proofs.Lines.{line_more, node_more}
 use Rattle.gu_base.proofs.NodeNames.{name_is, name_same, node_called, made, made_of, part_parent}
@@ -37,17 +24,15 @@ use Rattle.gu_base.proofs.Sums.{sum_agree_on}
 use Rattle.gu_depend.specs.Moves.{lots_at, named_by}
 use Rattle.gu_depend.specs.Under.{names}
 use Rattle.gu_depend.proofs.Finds.{counts_none, count_cons, count_append, found_once}
-use Rattle.gu_depend.proofs.Grown.{NamesThere, place_same, line_of_grown, above}
+use Rattle.gu_depend.proofs.Grown.{NamesThere, line_none, place_same, line_of_grown, above}
 use Rattle.gu_depend.proofs.LastMoves.{IsBefore, trades_kept, split_kept, sum_filter}
 use Rattle.gu_depend.proofs.Replay.{NumbersOnce}
 use Rattle.gu_depend.proofs.Settled.{Settled, SettledAs}
 use Rattle.gu_positions.specs.declared.positions.Key.{Key}
 use Rattle.gu_book.specs.Holdings.{traded_at, held_at, holding_of, taken_by, part_holding, added_by, counted_at, taken_at}
 use Rattle.gu_book.specs.declared.plain.holdings.Holding.{Holding}
-use Rattle.gu_base.specs.declared.node.Deal.{Deal}
-use Rattle.gu_book.proofs.Leaves.{sum_of_names, found_member}
+use Rattle.gu_book.proofs.Leaves.{sum_of_names, found_member, sum_agree, sum_zero, one_takes}
 use Rattle.gu_book.proofs.Sound.{Sound, IsSoundNext, split_push, node_push}
-use Rattle.gu_book.proofs.Sums.{sum_agree, sum_zero, one_takes}
 
 -- ---- what was traded
 
@@ -70,7 +55,8 @@ kept_alone : {X : Type 0} (b : Bool) (x : X) (o : Option X) → o ≡ None → i
 kept_alone true x o e = refl
 kept_alone false x o e = ap is_some e
 
-one_found_at : {X : Type 0} (p q : X → Bool) (x : X) (xs : List X) → (count_by p xs ≤ 1 → is_some (find (λ x. p x && q x) xs) ≡ asked q (find p xs)) → (b : Bool) → cond b 1 0 + count_by p xs ≤ 1
+one_found_at : {X : Type 0} (p q : X → Bool) (x : X) (xs : List X) → (count_by p xs ≤ 1 → is_some (find (λ x. p x && q x) xs) ≡ asked q (find p xs)) → (b : Bool)
+    → cond b 1 0 + count_by p xs ≤ 1
     → is_some (cond (b && q x) (Some x) (find (λ x. p x && q x) xs)) ≡ asked q (cond b (Some x) (find p xs))
 one_found_at p q x xs rest true once = kept_alone (q x) x (find (λ x. p x && q x) xs) (none_of_both p q xs (counts_none p xs (omega (arith, once))))
 one_found_at p q x xs rest false once = rest (omega (arith, once))
@@ -82,15 +68,7 @@ one_found p q (x ∷ xs) once = let a = count_cons p x xs in one_found_at p q x 
 
 told_by : (instrument : List ℕ) (side : Side) (c : Command) → is_trade_of instrument side c ≡ told instrument side (deal_in c)
 told_by instrument side (Trade _ _ _ _ _) = refl
-told_by instrument side (Split _ _) = refl
-told_by instrument side (Claim _ _) = refl
-told_by instrument side (Refuse _) = refl
-told_by instrument side (Cancel _) = refl
-told_by instrument side (Agree _ _ _ _) = refl
-told_by instrument side (Raise _ _) = refl
-told_by instrument side (Initiate _) = refl
-told_by instrument side (Decline _) = refl
-told_by instrument side (Reverse _) = refl
+told_by instrument side _ = refl
 
 told_found : (instrument : List ℕ) (side : Side) (o : Option Record) → asked (λ r. is_trade_of instrument side r.command) o ≡ told instrument side (option_and_then (λ r. deal_in r.command) o)
 told_found instrument side None = refl
@@ -117,7 +95,7 @@ four true true c d = refl
 four true false c d = refl
 four false b c d = refl
 
-places_alike : (a b : Place) → same_place a b ≡ same_place b a
+pub places_alike : (a b : Place) → same_place a b ≡ same_place b a
 places_alike a b =
     ap (λ c. c && bytes_eq a.account b.account) (bytes_symm a.firm b.firm) ∙ ap (λ c. bytes_eq b.firm a.firm && c) (bytes_symm a.account b.account)
 
@@ -154,16 +132,18 @@ none_kept : {X : Type 0} (f : X → ℕ) (xs : List X) → sum_by f (filter (λ 
 none_kept f [] = refl
 none_kept f (x ∷ xs) = none_kept f xs
 
-counts_or : (at : Key) (side : Side) (o : Option Holding) (hs : List Holding) → sum_by (counted_at at side) (cons_option o hs) ≡ taken_at at side o + sum_by (counted_at at side) hs
+pub counts_or : (at : Key) (side : Side) (o : Option Holding) (hs : List Holding) → sum_by (counted_at at side) (cons_option o hs) ≡ taken_at at side o + sum_by (counted_at at side) hs
 counts_or at side None hs = omega arith
 counts_or at side (Some h) hs = sum_by-cons (counted_at at side) h hs
 
-same_lots : (l : List Record) (f : Node → ℕ) (n : EntryPart) (x y : Node) → node_of l n ≡ Some y → node_of l x.name ≡ Some x → (b : Bool) → same_name n x.name ≡ b → cond b (f x) 0 ≡ cond b (f y) 0
+same_lots : (l : List Record) (f : Node → ℕ) (n : EntryPart) (x y : Node) → node_of l n ≡ Some y → node_of l x.name ≡ Some x → (b : Bool) → same_name n x.name ≡ b
+    → cond b (f x) 0 ≡ cond b (f y) 0
 same_lots l f n x y found e true is = ap f (same_Some x y (sym e ∙ (sym (ap (node_of l) (name_is n x.name is)) ∙ found)))
 same_lots l f n x y found e false is = refl
 
 -- one node has the name
-sum_named : (l : List Record) (bound : ℕ) → Sound l bound → (n : EntryPart) (x : Node) → node_of l n ≡ Some x → (f : Node → ℕ) → sum_by f (filter (λ x. same_name n x.name) (nodes l)) ≡ f x
+sum_named : (l : List Record) (bound : ℕ) → Sound l bound → (n : EntryPart) (x : Node) → node_of l n ≡ Some x → (f : Node → ℕ)
+    → sum_by f (filter (λ x. same_name n x.name) (nodes l)) ≡ f x
 sum_named l bound s n y found f =
     sum_filter f (λ (x : Node). same_name n x.name) (nodes l)
     ∙ (sum_agree_on (λ (x : Node). cond (same_name n x.name) (f x) 0) (λ (x : Node). cond (same_name n x.name) (f y) 0) (nodes l)
@@ -173,7 +153,8 @@ sum_named l bound s n y found f =
     ∙ one_takes same_name same_name-Decides n (map (λ x. x.name) (nodes l)) (f y) s.once (found_member n (nodes l) y found)))
 
 -- a Split names it as a Claim does
-sum_split : (l : List Record) (bound : ℕ) → Sound l bound → (n : EntryPart) (ps : List Part) (x : Node) → node_of l n ≡ Some x → (f : Node → ℕ) → sum_by f (filter (λ x. names x.name (Split n ps)) (nodes l)) ≡ f x
+sum_split : (l : List Record) (bound : ℕ) → Sound l bound → (n : EntryPart) (ps : List Part) (x : Node) → node_of l n ≡ Some x → (f : Node → ℕ)
+    → sum_by f (filter (λ x. names x.name (Split n ps)) (nodes l)) ≡ f x
 sum_split l bound s n ps x found f =
     ap (sum_by f) (names_split n ps (nodes l)) ∙ sum_named l bound s n x found f
   where
@@ -185,18 +166,11 @@ sum_split l bound s n ps x found f =
 
 -- ---- a node that is offered has no Split
 
-free_as : (t : House) (l : List Record) (by : List ℕ) (c : Command) (n : EntryPart) (x : Node) → SettledAs t l by c → splits n c ≡ true → node_of l n ≡ Some x → not (is_offered l x) ≡ true
+free_as : (t : House) (l : List Record) (by : List ℕ) (c : Command) (n : EntryPart) (x : Node) → SettledAs t l by c → splits n c ≡ true → node_of l n ≡ Some x
+    → not (is_offered l x) ≡ true
 free_as t l by (Split m ps) n x s is found =
     subst (λ (z : Node). not (is_offered l z) ≡ true) (same_Some s.node x (sym s.there ∙ (ap (node_of l) (name_is m n is) ∙ found))) s.holds.free
-free_as t l by (Trade _ _ _ _ _) n x s is found = absurd (cc)
-free_as t l by (Claim _ _) n x s is found = absurd (cc)
-free_as t l by (Refuse _) n x s is found = absurd (cc)
-free_as t l by (Cancel _) n x s is found = absurd (cc)
-free_as t l by (Agree _ _ _ _) n x s is found = absurd (cc)
-free_as t l by (Raise _ _) n x s is found = absurd (cc)
-free_as t l by (Initiate _) n x s is found = absurd (cc)
-free_as t l by (Decline _) n x s is found = absurd (cc)
-free_as t l by (Reverse _) n x s is found = absurd (cc)
+free_as t l by _ n x s is found = absurd (cc)
 
 not_both : (b : Bool) → not b ≡ true → b ≡ true → ⊥
 not_both true a b = cc
@@ -209,9 +183,8 @@ offered_whole t l n x settled found offered =
     not_both (is_offered l x) (free_as t l d.firm d.command n x s.stands (find_passes (λ r. splits n r.command) l d e) found) offered)
 
 pub given_parent : (k : Kind) → is_given k ≡ true → (m : EntryPart) × (parent k ≡ Some m)
-given_parent (Root _) h = absurd (cc)
-given_parent (Own _ _ _) h = absurd (cc)
 given_parent (Given m _ _) h = (m, refl)
+given_parent _ h = absurd (cc)
 
 -- ---- what each change counts
 
@@ -250,7 +223,8 @@ module _ {t : House} {l : List Record} {r : Record} (c : IsCounted t l r) where
       split_push l r n ∙ (ap (λ o. option_or o (cond (splits n r.command) (Some r) None)) (c.unsplit n own) ∙ ap (λ b. cond b (Some r) None) unnamed)
 
   -- the line of a node above which stands a node of the list
-  line_up : (x y : Node) (m : EntryPart) → node_of (l ++ r ∷ []) x.name ≡ Some x → parent x.kind ≡ Some m → node_of l m ≡ Some y → line_of (l ++ r ∷ []) x.name ≡ x ∷ line_of (l ++ r ∷ []) m
+  line_up : (x y : Node) (m : EntryPart) → node_of (l ++ r ∷ []) x.name ≡ Some x → parent x.kind ≡ Some m → node_of l m ≡ Some y
+      → line_of (l ++ r ∷ []) x.name ≡ x ∷ line_of (l ++ r ∷ []) m
   line_up x y m found up there =
       let k = l ++ r ∷ [] in
       let there_now = node_more l (r ∷ []) m y there in
@@ -264,7 +238,8 @@ module _ {t : House} {l : List Record} {r : Record} (c : IsCounted t l r) where
       ∙ line_of_grown k l c.last.grown m y there)))))
 
   -- where it stands then
-  place_up : (x y : Node) (m : EntryPart) (o : Option (List ℕ)) → node_of (l ++ r ∷ []) x.name ≡ Some x → parent x.kind ≡ Some m → node_of l m ≡ Some y → claim_of (l ++ r ∷ []) x.name ≡ o
+  place_up : (x y : Node) (m : EntryPart) (o : Option (List ℕ)) → node_of (l ++ r ∷ []) x.name ≡ Some x → parent x.kind ≡ Some m → node_of l m ≡ Some y
+      → claim_of (l ++ r ∷ []) x.name ≡ o
       → place_of (l ++ r ∷ []) x.name ≡ place_of_kind x.kind o (place_of (l ++ r ∷ []) m)
   place_up x y m o found up there claims =
       ap (place_along (l ++ r ∷ [])) (line_up x y m found up there) ∙ ap (λ a. place_of_kind x.kind a (place_of (l ++ r ∷ []) m)) claims
@@ -278,7 +253,8 @@ module _ {t : House} {l : List Record} {r : Record} (c : IsCounted t l r) where
       )
 
   -- it is in the tree of the node above
-  root_up : (x y : Node) (m : EntryPart) → node_of (l ++ r ∷ []) x.name ≡ Some x → parent x.kind ≡ Some m → node_of l m ≡ Some y → root_of (l ++ r ∷ []) x.name ≡ root_of (l ++ r ∷ []) m
+  root_up : (x y : Node) (m : EntryPart) → node_of (l ++ r ∷ []) x.name ≡ Some x → parent x.kind ≡ Some m → node_of l m ≡ Some y
+      → root_of (l ++ r ∷ []) x.name ≡ root_of (l ++ r ∷ []) m
   root_up x y m found up there =
       let b = line_begins m y there in
       ap root_along (line_up x y m found up there) ∙ (ap (λ xs. root_along (x ∷ xs)) b.1 ∙ sym (ap root_along b.1))
@@ -311,11 +287,7 @@ pub record Balances (at : Place) (instrument : List ℕ) (side : Side) (l : List
 -- ---- a Trade
 
 root_line : (f : ℕ) (l : List Record) (x : Node) → parent x.kind ≡ None → line_within (suc f) l (Some x) ≡ x ∷ []
-root_line f l x up = ap (λ o. x ∷ line_within f l (option_and_then (node_of l) o)) up ∙ ap (λ xs. x ∷ xs) (no_line f l)
-  where
-    no_line : (f : ℕ) (l : List Record) → line_within f l None ≡ []
-    no_line zero l = refl
-    no_line (suc f) l = refl
+root_line f l x up = ap (λ o. x ∷ line_within f l (option_and_then (node_of l) o)) up ∙ ap (λ xs. x ∷ xs) (line_none f l)
 
 trade_balances : (t : House) (l : List Record) (k : ℕ) (by id firm account instrument : List ℕ) (side : Side) (lots : ℕ) (status : State)
     → IsCounted t l (record { number = k; firm = by; id = id; command = Trade firm account instrument side lots; status = status })
@@ -335,7 +307,8 @@ trade_balances t l k by id firm account instrument side lots status c at i s =
     ∙ ap (option_and_then (λ (r : Record). deal_in r.command)) own in
     let h : Holding = record { key = record { firm = firm; account = account; instrument = instrument }; side = side; lots = lots } in
     let count : lots_at (l ++ r ∷ []) at i s x ≡ counted_at (key_at at i) s h =
-    lots_of_leaf (l ++ r ∷ []) c.last.once at i s x whole ∙ ap (taken_at (key_at at i) s) (ap (λ o. held_at o (traded_at (l ++ r ∷ []) n) lots) stands ∙ ap (λ o. held_at (Some (record { firm = firm; account = account })) o lots) traded) in
+    lots_of_leaf (l ++ r ∷ []) c.last.once at i s x whole ∙ ap (taken_at (key_at at i) s)
+        (ap (λ o. held_at o (traded_at (l ++ r ∷ []) n) lots) stands ∙ ap (λ o. held_at (Some (record { firm = firm; account = account })) o lots) traded) in
     let a = none_kept (lots_at l at i s) (nodes l) in
     let b = none_kept (lots_at (l ++ r ∷ []) at i s) (nodes l) in
     let d = sum_by-cons (lots_at (l ++ r ∷ []) at i s) x [] in
@@ -427,9 +400,8 @@ split_balances t l k by id m ps status x c there whole at i s =
 -- ---- a Claim
 
 taken_place : (by account : List ℕ) (k : Kind) (o : Option Place) → is_taker by k ≡ true → place_of_kind k (Some account) o ≡ Some (record { firm = by; account = account })
-taken_place by account (Root _) o h = absurd (cc)
-taken_place by account (Own _ _ _) o h = absurd (cc)
 taken_place by account (Given _ _ taker) o h = ap (λ (f : List ℕ). Some (let p : Place = record { firm = f; account = account } in p)) ((bytes_eq-Decides taker by).0 h)
+taken_place by account _ o h = absurd (cc)
 
 -- what is claimed counts in its new account what the Claim adds
 claim_added : (at : Key) (s : Side) (p : Place) (w : Option Deal) (m : EntryPart) (by account : List ℕ) (lots : ℕ)
@@ -440,7 +412,8 @@ claim_added at s p (Some w) m by account lots =
     omega (arith, e)
 
 claim_balances : (t : House) (l : List Record) (k : ℕ) (by id : List ℕ) (m : EntryPart) (account : List ℕ) (status : State) (x : Node)
-    → IsCounted t l (record { number = k; firm = by; id = id; command = Claim m account; status = status }) → node_of l m ≡ Some x → is_given x.kind ≡ true → is_taker by x.kind ≡ true → decision_of l x.name ≡ None
+    → IsCounted t l (record { number = k; firm = by; id = id; command = Claim m account; status = status }) → node_of l m ≡ Some x → is_given x.kind ≡ true → is_taker by x.kind ≡ true
+    → decision_of l x.name ≡ None
     → (at : Place) (i : List ℕ) (s : Side) → Balances at i s l (record { number = k; firm = by; id = id; command = Claim m account; status = status })
 claim_balances t l k by id m account status x c there given taker undecided at i s =
     let r : Record = record { number = k; firm = by; id = id; command = Claim m account; status = status } in
@@ -473,7 +446,8 @@ claim_balances t l k by id m account status x c there given taker undecided at i
 -- ---- a Refuse or a Cancel: the node stays where it stands
 
 module _ {t : House} {l : List Record} {r : Record} (c : IsCounted t l r) where
-  back_same : (m : EntryPart) (x : Node) → node_of l m ≡ Some x → is_given x.kind ≡ true → decision_of l x.name ≡ None → decides m r.command ≡ true → splits x.name r.command ≡ false → claimed_account r.command ≡ None
+  back_same : (m : EntryPart) (x : Node) → node_of l m ≡ Some x → is_given x.kind ≡ true → decision_of l x.name ≡ None → decides m r.command ≡ true
+      → splits x.name r.command ≡ false → claimed_account r.command ≡ None
       → (at : Place) (i : List ℕ) (s : Side) → lots_at (l ++ r ∷ []) at i s x ≡ lots_at l at i s x
   back_same m x there given undecided decides_it unsplits no_claim at i s =
       let k = l ++ r ∷ [] in
@@ -534,13 +508,12 @@ balances t l k by id (Claim m account) status c at i s =
 balances t l k by id (Refuse m) status c at i s =
     let there = at_node_none (refuse_row l by) (node_of l m) c.last.accepted in
     let passes = decision_passes l there.0 (is_taker by there.0.kind) there.1.1 in
-    stays_balanced at i s l (record { number = k; firm = by; id = id; command = Refuse m; status = status }) refl refl refl (back_balances c m there.0 there.1.0 at i s (back_same c m there.0 there.1.0 passes.0 passes.1 (name_same m) refl refl at i s))
+    stays_balanced at i s l (record { number = k; firm = by; id = id; command = Refuse m; status = status }) refl refl refl
+        (back_balances c m there.0 there.1.0 at i s (back_same c m there.0 there.1.0 passes.0 passes.1 (name_same m) refl refl at i s))
 balances t l k by id (Cancel m) status c at i s =
     let there = at_node_none (cancel_row l by) (node_of l m) c.last.accepted in
     let passes = decision_passes l there.0 (is_giver by there.0.kind) there.1.1 in
-    stays_balanced at i s l (record { number = k; firm = by; id = id; command = Cancel m; status = status }) refl refl refl (back_balances c m there.0 there.1.0 at i s (back_same c m there.0 there.1.0 passes.0 passes.1 (name_same m) refl refl at i s))
-balances t l k by id (Agree giver taker rate limit) status c at i s = nothing_balances at i s l (record { number = k; firm = by; id = id; command = Agree giver taker rate limit; status = status }) refl refl refl (λ f. none_kept f (nodes l))
-balances t l k by id (Raise giver lots) status c at i s = nothing_balances at i s l (record { number = k; firm = by; id = id; command = Raise giver lots; status = status }) refl refl refl (λ f. none_kept f (nodes l))
-balances t l k by id (Initiate e) status c at i s = nothing_balances at i s l (record { number = k; firm = by; id = id; command = Initiate e; status = status }) refl refl refl (λ f. none_kept f (nodes l))
-balances t l k by id (Decline e) status c at i s = nothing_balances at i s l (record { number = k; firm = by; id = id; command = Decline e; status = status }) refl refl refl (λ f. none_kept f (nodes l))
-balances t l k by id (Reverse e) status c at i s = nothing_balances at i s l (record { number = k; firm = by; id = id; command = Reverse e; status = status }) refl refl refl (λ f. none_kept f (nodes l))
+    stays_balanced at i s l (record { number = k; firm = by; id = id; command = Cancel m; status = status }) refl refl refl
+        (back_balances c m there.0 there.1.0 at i s (back_same c m there.0 there.1.0 passes.0 passes.1 (name_same m) refl refl at i s))
+balances t l k by id d status c at i s =
+    nothing_balances at i s l (record { number = k; firm = by; id = id; command = d; status = status }) refl refl refl (λ f. none_kept f (nodes l))

@@ -1,5 +1,6 @@
 -- What is found of a history without going over it is what a search of it finds, also with one more entry.
-use Rattle.std.proofs.Common.{◌≡◌, ℕ, suc, ◌+◌, ◌-◌, ◌<◌, ◌≤◌, Bool, true, false, ◌&&◌, List, [], ◌∷◌, ◌++◌, length, get_or, refl, sym, ◌∙◌, ap, subst, arith, Option, cond}
+use Rattle.std.proofs.Common.{◌≡◌, ℕ, suc, ◌+◌, ◌-◌, ◌<◌, ◌≤◌, Bool, true, false, ◌&&◌, List, [], ◌∷◌, ◌++◌, length, get_or, refl, sym, ◌∙◌, ap, subst}
+use Rattle.std.proofs.Common.{arith, Option, cond}
 use Rattle.std.specs.Prelude.{Some, None, find, bytes_eq, option_map, ◌==◌}
 use Rattle.std.specs.Option.{option_or}
 use Rattle.std.specs.List.{AllByRecursion}
@@ -7,19 +8,10 @@ use Rattle.std.proofs.lemmas.Bool.{and_parts, eqb-true}
 use Rattle.std.proofs.lemmas.List.Folds.{find-append}
 use Rattle.std.proofs.lemmas.Map.Keys.{IsDistinct-head, IsDistinct-tail}
 use Rattle.std.proofs.lemmas.Slice.Eq.{bytes_eq-Decides}
-use Rattle.gu_base.specs.House.{House, knows_firm}
-use Rattle.gu_base.specs.Same.{same_command}
-use Rattle.gu_base.specs.History.{numbered_as, numbered_from, records, is_reverse_of}
-use Rattle.gu_base.specs.Refusals.{unless}
-use Rattle.gu_base.specs.Answers.{Call, answer_to, answer_by, is_same_id, is_same_call, entry_of, reversal_of, on_change, reverse_rest, command_refusal}
-use Rattle.gu_base.specs.Runs.{call_of}
-use Rattle.gu_base.specs.declared.command.Command.{Command}
-use Rattle.gu_base.specs.declared.command.Command.TheVariants.{Reverse}
-use Rattle.gu_base.specs.declared.entry.Answer.{Answer}
-use Rattle.gu_base.specs.declared.entry.Answer.TheVariants.{Accepted, Repeated, Refused}
-use Rattle.gu_base.specs.declared.entry.Entry.{Entry}
-use Rattle.gu_base.specs.declared.entry.Record.{Record}
-use Rattle.gu_base.specs.declared.refusal.Refusal.TheVariants.{UnknownFirm, DuplicateId}
+use Rattle.gu_depend.proofs.Vocabulary.{House, knows_firm, same_command, numbered_as, numbered_from, records, is_reverse_of, unless, Call, answer_to, answer_by, is_same_id, is_same_call, entry_of}
+use Rattle.gu_depend.proofs.Vocabulary.{reversal_of, on_change, reverse_rest, command_refusal, call_of, Command, Reverse, Answer, Accepted, Repeated, Entry, Record, UnknownFirm, DuplicateId}
+use Rattle.gu_depend.proofs.Vocabulary.{most_entries}
+use Rattle.gu_base.specs.declared.entry.Answer.TheVariants.{Refused}
 use Rattle.gu_base.proofs.Accepted.{first_none, allowed, open_from_none}
 use Rattle.gu_base.proofs.Basics.{bytes_symm, nothing_here}
 use Rattle.gu_base.proofs.LiveLaws.{numbered_push}
@@ -30,7 +22,6 @@ use Rattle.gu_ids.specs.Chains.{count, AreIdsOf as AreChainsOf}
 use Rattle.gu_ids.specs.Newest.{newest_of}
 use Rattle.gu_ids.proofs.NewestLaws.{newest_push}
 use Rattle.gu_ids.proofs.Walk.{count_is}
-use Rattle.gu_base.specs.Limits.{most_entries}
 use Rattle.gu_book.specs.Index.{reversal_in, number_of, AreIdsOf, AreReversalsOf, IsIndexOf}
 use Rattle.gu_book.specs.declared.index.Index.{Index}
 use Rattle.gu_book.specs.declared.index.Reversals.{Reversals}
@@ -59,7 +50,8 @@ number_push p h e n number none =
 -- ---- ids
 
 -- an id that no entry has is not found, under whatever name
-new_id : (h : List Entry) (e : Entry) → find (is_same_id (call_of e)) (records h) ≡ None → (c : Call) → (bytes_eq e.firm c.firm && bytes_eq e.id c.id) ≡ true → find (is_same_id c) (records h) ≡ None
+new_id : (h : List Entry) (e : Entry) → find (is_same_id (call_of e)) (records h) ≡ None → (c : Call) → (bytes_eq e.firm c.firm && bytes_eq e.id c.id) ≡ true
+    → find (is_same_id c) (records h) ≡ None
 new_id h e none c same =
     let p = and_parts (bytes_eq e.firm c.firm) (bytes_eq e.id c.id) same in
     let firm : c.firm ≡ e.firm = sym ((bytes_eq-Decides e.firm c.firm).0 p.0) in
@@ -100,7 +92,8 @@ stands_by c m n d h true test later e =
       place = 0;
       number = omega (arith, number);
       within = omega arith;
-      same = λ x is. ap (λ b. cond b (Some (numbered_as m d)) (find (is_same_id c) (numbered_from (m + 1) h))) test ∙ (ap (λ y. Some (numbered_as m y)) (sym is) ∙ ap (λ q. Some (numbered_as q x)) number);
+      same = λ x is. ap (λ b. cond b (Some (numbered_as m d)) (find (is_same_id c) (numbered_from (m + 1) h))) test
+          ∙ (ap (λ y. Some (numbered_as m y)) (sym is) ∙ ap (λ q. Some (numbered_as q x)) number);
     }
 stands_by c m n d h false test later e =
     let s = later e in
@@ -142,7 +135,8 @@ no_call c m (d ∷ h) e =
     ap (λ b. cond (b && same_command d.command c.command) (Some (numbered_as m d)) (find (is_same_call c) (numbered_from (m + 1) h))) p.0 ∙ no_call c (m + 1) h p.1
 
 -- no later entry has the id
-no_later : (c : Call) (m : ℕ) (d : Entry) (h : List Entry) → AllByRecursion (λ y. same_id d y ≡ false) h → d.firm ≡ c.firm → d.id ≡ c.id → find (is_same_id c) (numbered_from m h) ≡ None
+no_later : (c : Call) (m : ℕ) (d : Entry) (h : List Entry) → AllByRecursion (λ y. same_id d y ≡ false) h → d.firm ≡ c.firm → d.id ≡ c.id
+    → find (is_same_id c) (numbered_from m h) ≡ None
 no_later c m d [] apart firm id = refl
 no_later c m d (e ∷ h) apart firm id =
     let other : (bytes_eq e.firm c.firm && bytes_eq e.id c.id) ≡ false =

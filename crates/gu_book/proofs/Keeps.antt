@@ -1,5 +1,6 @@
 -- One more accepted change leaves true what a book keeps.
-use Rattle.std.proofs.Common.{◌≡◌, ℕ, ◌+◌, ◌<◌, ◌≤◌, true, false, ◌&&◌, ◌||◌, List, [], ◌∷◌, ◌++◌, length, refl, sym, ◌∙◌, ap, subst, arith, cond, append-nil, append_assoc, length-append}
+use Rattle.std.proofs.Common.{◌≡◌, ℕ, ◌+◌, ◌<◌, ◌≤◌, true, false, ◌&&◌, ◌||◌, List, [], ◌∷◌, ◌++◌, length, refl, sym, ◌∙◌, ap, subst, arith, cond}
+use Rattle.std.proofs.Common.{append-nil, append_assoc, length-append}
 use Rattle.std.specs.Prelude.{None, find, bytes_eq, ◌==◌}
 use Rattle.std.specs.List.{list_any, IsDistinct}
 use Rattle.std.specs.Cmp.{IsEquivalence}
@@ -7,19 +8,9 @@ use Rattle.std.proofs.lemmas.List.Elements.{All-nil, All-push}
 use Rattle.std.proofs.lemmas.List.Sums.{length-filter, count_by-le-length}
 use Rattle.std.proofs.lemmas.Map.Keys.{IsDistinct-push}
 use Rattle.std.proofs.lemmas.Slice.Eq.{bytes_eq-Decides}
-use Rattle.gu_base.specs.House.{House, knows_firm}
-use Rattle.gu_base.specs.History.{numbered_as, numbered_from, records, is_change, is_reversed, live, RisesFrom}
-use Rattle.gu_base.specs.Refusals.{refusal_of, unless}
-use Rattle.gu_base.specs.Standing.{without}
-use Rattle.gu_base.specs.Answers.{answer_to, command_refusal, entry_of, reversal_of, on_change, initiate_rest, is_same_id}
-use Rattle.gu_base.specs.Runs.{call_of, IsRunFrom}
-use Rattle.gu_base.specs.declared.command.Command.{Command}
-use Rattle.gu_base.specs.declared.command.Command.TheVariants.{Initiate, Decline, Reverse}
-use Rattle.gu_base.specs.declared.entry.Answer.TheVariants.{Accepted}
-use Rattle.gu_base.specs.declared.entry.Entry.{Entry}
-use Rattle.gu_base.specs.declared.entry.Record.{Record}
-use Rattle.gu_base.specs.declared.refusal.Refusal.TheVariants.{UnknownFirm}
-use Rattle.gu_base.specs.SamePartsLaws.{bytes_same}
+use Rattle.gu_depend.proofs.Vocabulary.{House, knows_firm, numbered_as, numbered_from, records, is_change, is_reversed, live, RisesFrom, refusal_of, unless, without, answer_to, command_refusal}
+use Rattle.gu_depend.proofs.Vocabulary.{entry_of, reversal_of, on_change, initiate_rest, is_same_id, call_of, IsRunFrom, Command, Initiate, Decline, Reverse, Accepted, Entry, Record, UnknownFirm}
+use Rattle.gu_depend.proofs.Vocabulary.{bytes_same, consents_left, is_consenting}
 use Rattle.gu_base.proofs.LiveLaws.{live_push_change, live_push_reverse, is_live, live_push_consent}
 use Rattle.gu_base.proofs.Basics.{bytes_symm, nothing_here}
 use Rattle.gu_tree.specs.Filing.{last_of}
@@ -28,7 +19,6 @@ use Rattle.gu_book.specs.Filed.{IsFiled, IsNext}
 use Rattle.gu_book.specs.Found.{AreTreesOf}
 use Rattle.gu_book.specs.Ids.{same_id, NoIdTwice}
 use Rattle.gu_book.specs.Kept.{AcceptedFrom, IsKept}
-use Rattle.gu_base.specs.Consents.{consents_left, is_consenting}
 use Rattle.std.proofs.lemmas.Bool.{and_parts}
 use Rattle.gu_base.proofs.Accepted.{first_none, change_refused, IsAllowed, allowed, open_from_none}
 use Rattle.gu_base.proofs.RunLaws.{IsRun, run_push}
@@ -37,10 +27,9 @@ use Rattle.gu_book.specs.Limits.{IsWithinLimits, AllWithinLimits}
 use Rattle.gu_consent.specs.Given.{given}
 use Rattle.gu_consent.specs.declared.Consents.{Consents}
 use Rattle.gu_book.proofs.Filed.{filed_none, same_filed}
-use Rattle.gu_book.proofs.Leaves.{live_rises}
+use Rattle.gu_book.proofs.Leaves.{live_rises, without_small}
 use Rattle.gu_base.proofs.Consenting.{left_change, left_initiate, left_decline, left_reverse, not_reversed}
 use Rattle.gu_book.proofs.Refused.{accepted_small}
-use Rattle.gu_book.proofs.Without.{without_small}
 
 ids_congr : (x y z : Entry) → same_id x y ≡ true → same_id x z ≡ same_id y z
 ids_congr x y z h =
@@ -219,7 +208,8 @@ nothing_twice : NoIdTwice []
 unfolding IsDistinct
 nothing_twice = tt
 
-pub kept_none : (t : House) (cs : Consents) → ((n : ℕ) → given cs n ≡ []) → (g : Grove) → ((k : ℕ) → tree_of g k ≡ None) → ((k : ℕ) → place_of g k ≡ None) → last_place g ≡ 0 → IsKept t [] g cs
+pub kept_none : (t : House) (cs : Consents) → ((n : ℕ) → given cs n ≡ []) → (g : Grove) → ((k : ℕ) → tree_of g k ≡ None) → ((k : ℕ) → place_of g k ≡ None)
+    → last_place g ≡ 0 → IsKept t [] g cs
 kept_none t cs none g trees places last = record {
   few = omega arith;
   behind = λ n high. refl;

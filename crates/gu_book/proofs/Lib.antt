@@ -1,6 +1,4 @@
 pub mod ByNumber
-pub mod Steps
-pub mod Made
 pub mod Within
 pub mod Refused
 pub mod Keeps
@@ -12,12 +10,8 @@ pub mod HoldingRows
 pub mod Holdings
 pub mod Standings
 pub mod Indexed
-pub mod Sums
 pub mod Parties
-pub mod Known
-pub mod Balance
 pub mod Sound
-pub mod SoundNext
 pub mod Leaves
 pub mod Placed
 pub mod Positions
@@ -25,13 +19,9 @@ pub mod Orders
 pub mod Restored
 pub mod Ready
 pub mod PartyNames
-pub mod Without
 pub mod Fronts
-pub mod Named
-pub mod Shown
 pub mod Filed
 pub mod FiledChanges
-pub mod FoundAs
 pub mod AllShown
 mod Visited
 mod OnePlace
@@ -42,6 +32,4 @@ pub mod Gone
 pub mod Crossing
 mod PartsAway
 mod Still
-mod MovesBack
-mod Undone
 mod TradesKept

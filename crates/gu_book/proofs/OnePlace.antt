@@ -1,26 +1,26 @@
 -- In whatever trees a list of changes has, a node lies at one place.
-use Rattle.std.proofs.Common.{◌≡◌, ℕ, zero, suc, true, Option, Some, None, IsSome, IsSomeAnd, List, [], ◌∷◌, refl, sym, ◌∙◌, ap, subst}
-use Rattle.std.specs.Prelude.{is_some, option_and_then}
+use Rattle.std.proofs.Common.{◌≡◌, ℕ, zero, suc, true, Option, IsSome, IsSomeAnd, List, [], ◌∷◌, refl, sym, ◌∙◌, ap, subst, ◌==◌, false, length, find}
+use Rattle.std.specs.Prelude.{is_some, option_and_then, Some, None, option_map, unwrap_or, bytes_eq}
 use Rattle.std.proofs.lemmas.Option.{same_Some}
-use Rattle.gu_base.specs.Numbers.{EntryPart}
-use Rattle.gu_base.specs.Nodes.{node_of, nodes_of}
-use Rattle.gu_base.specs.House.{House}
-use Rattle.gu_base.specs.declared.entry.Record.{Record}
-use Rattle.gu_base.specs.declared.node.Place.{Place}
-use Rattle.gu_base.specs.declared.node.Node.{Node}
-use Rattle.gu_tree.specs.Rose.{Rose, Roses, leaf, parted, no_parts, part_then, head_of}
-use Rattle.gu_tree.specs.Paths.{part_at, node_at, LeadsTo, HasPath}
+use Rattle.gu_depend.proofs.Vocabulary.{EntryPart, node_of, nodes_of, deal_in, split_of, parent, House, Record, Place, Node, place_of, depth_of, root_of, owns, Deal}
+use Rattle.gu_tree.specs.Rose.{Rose, Roses, leaf, parted, no_parts, part_then, head_of, split_of_node}
+use Rattle.gu_tree.specs.Paths.{part_at, node_at, LeadsTo, HasPath, HasAt}
 use Rattle.gu_tree.specs.Grove.{Grove, tree_of, tree_in, IsPlace, IsSameGrove, HasTree}
 use Rattle.gu_tree.specs.Filing.{slot_of}
-use Rattle.gu_tree.specs.Shown.{IsNodeOf, ArePartsOf, IsTreeOf, named_node}
+use Rattle.gu_tree.specs.Shown.{IsNodeOf, ArePartsOf, IsTreeOf, named_node, IsHeadOf}
 use Rattle.gu_tree.proofs.Along.{its-head}
-use Rattle.gu_tree.proofs.Parts.{some_and}
+use Rattle.gu_tree.proofs.Parts.{some_and, at_fact, at_there}
 use Rattle.gu_book.specs.Filed.{IsFiled, IsNext}
-use Rattle.gu_book.specs.Found.{IsNamedIn, LiesThere, IsFoundThere}
+use Rattle.gu_book.specs.Found.{IsNamedIn, LiesThere, IsFoundThere, AreTreesOf, IsFoundAs, IsFoundIn}
 use Rattle.gu_book.specs.declared.found.Named.{Named}
 use Rattle.gu_base.proofs.Passing.{refusal_parts}
-use Rattle.gu_book.proofs.Filed.{Spot, tree_shown, spot, order}
-use Rattle.gu_book.proofs.Orders.{names_there}
+use Rattle.gu_book.proofs.Filed.{Spot, tree_shown, spot, order, placed_in}
+use Rattle.gu_book.proofs.Orders.{names_there, in_order}
+use Rattle.gu_base.proofs.Basics.{no_some}
+use Rattle.gu_tree.specs.declared.head.Head.{Head}
+use Rattle.gu_book.specs.Holdings.{traded_at, held_at, holding_of, held_above}
+use Rattle.gu_book.specs.declared.found.Found.{Found}
+use Rattle.gu_book.proofs.FiledChanges.{its_head}
 
 -- the path leads to a node of this name
 abbrev Leads : List ℕ → EntryPart → Option Rose → Type 0
@@ -28,7 +28,8 @@ Leads p name o = IsSomeAnd (option_and_then (node_at p) o) (λ w. (head_of w).na
 
 mutual
   -- two trees that show one node have nodes of one name at each path
-  pub alike : (l : List Record) (a b : Option Place) (x : Node) (t u : Rose) → IsNodeOf l a x t → IsNodeOf l b x u → (p : List ℕ) (v : Rose) → node_at p t ≡ Some v → LeadsTo p u (head_of v).name
+  pub alike : (l : List Record) (a b : Option Place) (x : Node) (t u : Rose) → IsNodeOf l a x t → IsNodeOf l b x u → (p : List ℕ) (v : Rose) → node_at p t ≡ Some v
+      → LeadsTo p u (head_of v).name
   alike l a b x t u is other [] v e =
       let same : t ≡ v = same_Some t v e in
       (its-head l b x u other).name ∙ (sym (its-head l a x t is).name ∙ ap (λ (w : Rose). (head_of w).name) same)
@@ -70,16 +71,11 @@ one_place {l} {g} filed n trade p place h others =
     }
 
 -- what was found at a place lies there
-pub lies_there : {l : List Record} {g : Grove} → IsFiled l g → (n : EntryPart) (m : Named) (trade : ℕ) (p : List ℕ) → m.node.name ≡ n → m.found.trade ≡ trade → IsPlace g n trade p → LiesThere l (Some m) p
+pub lies_there : {l : List Record} {g : Grove} → IsFiled l g → (n : EntryPart) (m : Named) (trade : ℕ) (p : List ℕ) → m.node.name ≡ n → m.found.trade ≡ trade → IsPlace g n trade p
+    → LiesThere l (Some m) p
 lies_there {l} {g} filed n m trade p called same place h others =
     one_place filed m.node.name m.found.trade p
     (subst (λ (k : EntryPart). IsPlace g k m.found.trade p) (sym called) (subst (λ (k : ℕ). IsPlace g n k p) (sym same) place)) h others
-
--- a place is on a path of the trade's tree
-pub has_path : {g : Grove} {n : EntryPart} {trade : ℕ} {p : List ℕ} → IsPlace g n trade p → HasTree g trade (HasPath p)
-has_path {g} {n} {trade} {p} place =
-    let v = some_and (λ w. (head_of w).name ≡ n) (node_at p place.tree) place.there in
-    subst (λ (o : Option Rose). IsSomeAnd o (HasPath p)) (sym place.found) (subst IsSome (sym v.1) refl)
 
 -- what a command names was found there, where the changes make it
 pub found_there : (l : List Record) (g : Grove) (k : Option EntryPart) (o : Option Named) (p : List ℕ) → IsFiled l g → IsNamedIn l k o → LiesThere l o p
@@ -99,7 +95,8 @@ there_alike old new (Some n) (Some m) p same is = record {
 }
 
 -- it is a place of the node that a command names
-pub its_place : {g : Grove} (k : Option EntryPart) (o : Option Named) (p : List ℕ) → IsFoundThere g k o p → (n : EntryPart) → k ≡ Some n → (m : Named) → o ≡ Some m → IsPlace g n m.found.trade p
+pub its_place : {g : Grove} (k : Option EntryPart) (o : Option Named) (p : List ℕ) → IsFoundThere g k o p → (n : EntryPart) → k ≡ Some n → (m : Named) → o ≡ Some m
+    → IsPlace g n m.found.trade p
 its_place {g} k o p is n named m e = rw (named, e) at is
 
 -- so that is where the node lies that the next change names
@@ -112,9 +109,75 @@ pub never_none : (g : Grove) (k : Option EntryPart) (o : Option Named) (p : List
 never_none g k o p is n named e = rw (named, e) at is
 
 -- what the next change names was found there, in trees that look alike too
-pub next_there : {t : House} {l : List Record} {r : Record} {g : Grove} → IsNext t l r g → (new : Grove) → IsSameGrove g new → (o : Option Named) (p : List ℕ) → IsNamedIn l (named_node r.command) o → LiesThere l o p
+pub next_there : {t : House} {l : List Record} {r : Record} {g : Grove} → IsNext t l r g → (new : Grove) → IsSameGrove g new → (o : Option Named) (p : List ℕ)
+    → IsNamedIn l (named_node r.command) o → LiesThere l o p
     → IsFoundThere new (named_node r.command) o p
 next_there {t} {l} {r} {g} next new same o p named lies =
     there_alike g new (named_node r.command) o p same
     (found_there l g (named_node r.command) o p next.filed named lies
     (λ n names. names_there t l r.firm r.command n (refusal_parts t l r.firm r.command next.lawful).1 names))
+
+-- ---- what the trees say of a node is what the changes say of it
+
+-- no tree has a node that no change makes
+pub found_none : {l : List Record} {g : Grove} → AreTreesOf l g → (n : EntryPart) → ((trade : ℕ) (p : List ℕ) → IsPlace g n trade p → ⊥) → node_of l n ≡ None
+found_none {l = l} are n never = no_some (node_of l n) (λ x e. let q = placed_in n (are.filed.whole n x e) in never q.0 q.1 q.2)
+
+split_told : (l : List Record) (above : Option Place) (x : Node) (v : Rose) → IsNodeOf l above x v
+    → option_map (λ (p : ℕ × ℕ). p.0) (split_of_node v) ≡ option_map (λ (r : Record). r.number) (split_of l x.name)
+split_told l above x (leaf h) is = sym (ap (option_map (λ (r : Record). r.number)) is.1)
+split_told l above x (parted h n ts) is = sym (ap (option_map (λ (r : Record). r.number)) is.1.1 ∙ ap (λ (k : ℕ). Some k) is.1.2)
+
+-- the node at a place is found as the changes say
+pub found_as : {l : List Record} {g : Grove} → AreTreesOf l g → (n : EntryPart) (trade : ℕ) (p : List ℕ) (tree : Rose) (f : Found) (o : Option (ℕ × ℕ)) → IsPlace g n trade p
+    → tree_of g trade ≡ Some tree
+    → HasAt p (λ u. head_of u ≡ f.head) tree → length p ≡ f.depth → f.trade ≡ trade → HasAt p (λ u. o ≡ split_of_node u) tree
+    → f.split ≡ option_map (λ (q : ℕ × ℕ). q.0) o → IsFoundIn l n (Some f)
+found_as {l} {g} are n trade p tree f o place found at deep its part split =
+    let s = spot are.filed (in_order are.house l are.replayed are.rises) trade p n place in
+    let same : s.tree ≡ tree = same_Some s.tree tree (sym s.found ∙ found) in
+    let here : node_at p tree ≡ Some s.node = ap (node_at p) (sym same) ∙ s.at in
+    let head : head_of s.node ≡ f.head = at_fact (λ u. head_of u ≡ f.head) (node_at p tree) s.node here at in
+    let parts : o ≡ split_of_node s.node = at_fact (λ u. o ≡ split_of_node u) (node_at p tree) s.node here part in
+    let is : IsHeadOf l s.said.above s.said.node f.head = subst (λ (h : Head). IsHeadOf l s.said.above s.said.node h) head (its_head s) in (
+      s.said.node,
+      s.said.named ∙ s.called,
+      record {
+        node = ap (node_of l) s.said.named ∙ s.said.found;
+        lots = is.lots;
+        place = ap (place_of l) s.said.named ∙ (s.said.placed ∙ ap (λ (h : Head). Some h.place) head);
+        state = is.state;
+        deep = ap (depth_of l) s.said.named ∙ (s.said.deep ∙ deep);
+        rooted = ap (root_of l) s.said.named ∙ (s.said.rooted ∙ ap (λ (k : ℕ). let m : EntryPart = record { entry = k; part = 0 } in Some m) (sym its));
+        split = split ∙ (ap (option_map (λ (q : ℕ × ℕ). q.0)) parts ∙ split_told l s.said.above s.said.node s.node s.said.shown);
+      },
+    )
+
+-- and so is one that was looked up in the trees
+pub found_spot : {l : List Record} {g : Grove} → AreTreesOf l g → (n : EntryPart) (trade : ℕ) (p : List ℕ) (u : Rose) (f : Found) (o : Option (ℕ × ℕ)) → IsPlace g n trade p
+    → HasTree g trade (λ t. node_at p t ≡ Some u)
+    → f.head ≡ head_of u → length p ≡ f.depth → f.trade ≡ trade → o ≡ split_of_node u → f.split ≡ option_map (λ (q : ℕ × ℕ). q.0) o → IsFoundIn l n (Some f)
+found_spot {l} {g} are n trade p u f o place at head deep its parts split =
+    let t = some_and (λ t. node_at p t ≡ Some u) (tree_of g trade) at in
+    found_as are n trade p t.0 f o place t.1 (at_there (λ w. head_of w ≡ f.head) (node_at p t.0) u t.2 (sym head)) deep its
+    (at_there (λ w. o ≡ split_of_node w) (node_at p t.0) u t.2 parts) split
+
+-- ---- what is asked of what was found
+
+module _ {l : List Record} {x : Node} {f : Found} (is : IsFoundAs l x f) where
+  pub owned_as : (by : List ℕ) → owns l by x.name ≡ bytes_eq f.head.place.firm by
+  owned_as by = ap (λ o. unwrap_or (option_map (λ owner. bytes_eq owner by) (option_map (λ (p : Place). p.firm) o)) false) is.place
+
+  -- and where the node above it stands
+  pub above_as : (y : Node) (b : Found) (m : EntryPart) → IsFoundAs l y b → y.name ≡ m → parent x.kind ≡ Some m → (w : Option Deal)
+      → w ≡ option_and_then (λ (r : Record). deal_in r.command) (find (λ (r : Record). r.number == f.trade) l) → held_at (Some b.head.place) w f.head.lots ≡ held_above l x
+  above_as y b m over called up w e =
+      let of_root : EntryPart → Option Deal = λ root. option_and_then (λ (r : Record). deal_in r.command) (find (λ (r : Record). r.number == root.entry) l) in
+      let place : option_and_then (place_of l) (parent x.kind) ≡ Some b.head.place = ap (option_and_then (place_of l)) up ∙ (ap (place_of l) (sym called) ∙ over.place) in
+      ap (λ w. held_at (Some b.head.place) w f.head.lots) (e ∙ ap (option_and_then of_root) (sym is.rooted))
+      ∙ (ap (λ o. held_at o (traded_at l x.name) f.head.lots) (sym place)
+      ∙ ap (held_at (option_and_then (place_of l) (parent x.kind)) (traded_at l x.name)) is.lots)
+
+-- the node that was found is the one that the changes make
+pub found_node : {l : List Record} {n : EntryPart} {f : Found} → (q : IsFoundIn l n (Some f)) → node_of l n ≡ Some q.0
+found_node {l} q = ap (node_of l) (sym q.1) ∙ q.2.node

@@ -4,12 +4,7 @@ use Rattle.std.specs.Prelude.{Some, None, slice_get, IsSomeAnd}
 use Rattle.std.proofs.Math.Seq.{drop-cons}
 use Rattle.std.proofs.lemmas.List.{drop_all}
 use Rattle.std.proofs.lemmas.Option.{slice_get_within, get_or_from_slice_get}
-use Rattle.gu_base.specs.House.{House}
-use Rattle.gu_base.specs.Answers.{Call, after}
-use Rattle.gu_base.specs.Runs.{after_all, opening_from, opening_calls, opening_history}
-use Rattle.gu_base.specs.declared.entry.Entry.{Entry}
-use Rattle.gu_base.specs.declared.house.Agreement.{Agreement}
-use Rattle.gu_base.specs.declared.house.Pair.{Pair}
+use Rattle.gu_depend.proofs.Vocabulary.{House, Call, after, after_all, opening_from, opening_calls, opening_history, Entry, Agreement, Pair}
 use Rattle.gu_book.specs.Seen.{HouseAndHistory}
 
 -- with one of the calls made, those behind it are left
@@ -36,9 +31,6 @@ call_there t i within = let count = call_count t 1 t.opening in before_end (open
 -- the calls from this place on make the opening history of the entries that there are
 abbrev pub IsOpenedTo : HouseAndHistory → ℕ → Type 0
 IsOpenedTo b i = after_all b.house b.history (drop i (opening_calls b.house)) ≡ opening_history b.house
-
-pub opened_none : (t : House) → IsOpenedTo (record { house = t; history = [] }) 0
-opened_none t = refl
 
 next_of : (b d : HouseAndHistory) (i : ℕ) (o : Option Call) → slice_get (opening_calls b.house) i ≡ o
     → IsSomeAnd o (λ c. d ≡ record { house = b.house; history = after b.house b.history c }) → IsOpenedTo b i → (d.house ≡ b.house) × IsOpenedTo d (i + 1)

@@ -6,21 +6,8 @@ use Rattle.std.proofs.lemmas.Bool.{eqb-true}
 use Rattle.std.proofs.lemmas.List.Sums.{sum_by-cons}
 use Rattle.std.proofs.lemmas.Option.{same_Some}
 use Rattle.std.proofs.lemmas.Slice.Eq.{bytes_eq-Decides}
-use Rattle.gu_base.specs.House.{House, knows_account}
-use Rattle.gu_base.specs.History.{RisesFrom}
-use Rattle.gu_base.specs.Numbers.{EntryPart}
-use Rattle.gu_base.specs.Nodes.{deal_in, node_of}
-use Rattle.gu_base.specs.Places.{place_of}
-use Rattle.gu_base.specs.Refusals.{first, owns, refusal_of, refusal_of_part, split_row, knows_own_account}
-use Rattle.gu_base.specs.declared.command.Part.{Part}
-use Rattle.gu_base.specs.declared.command.Side.{Side}
-use Rattle.gu_base.specs.declared.command.Command.{Command}
-use Rattle.gu_base.specs.declared.command.Command.TheVariants.{Trade, Split, Claim, Refuse, Cancel, Agree, Raise, Initiate, Decline, Reverse}
-use Rattle.gu_base.specs.declared.entry.Record.{Record}
-use Rattle.gu_base.specs.declared.node.Deal.{Deal}
-use Rattle.gu_base.specs.declared.node.Node.{Node}
-use Rattle.gu_base.specs.declared.node.Place.{Place}
-use Rattle.gu_base.specs.Positions.{same_side}
+use Rattle.gu_depend.proofs.Vocabulary.{House, knows_account, RisesFrom, EntryPart, deal_in, node_of, place_of, first, owns, refusal_of, refusal_of_part, split_row, knows_own_account, Part, Side}
+use Rattle.gu_depend.proofs.Vocabulary.{Command, Trade, Split, Claim, Refuse, Cancel, Agree, Raise, Initiate, Decline, Reverse, Record, Deal, Node, Place, same_side}
 use Rattle.gu_base.proofs.Accepted.{first_none}
 use Rattle.gu_base.proofs.Passing.{at_node_none, split_passes, part_passes, refusal_parts}
 use Rattle.gu_depend.proofs.Replay.{number_once}
@@ -34,13 +21,9 @@ use Rattle.gu_book.specs.Holdings.{traded_at, held_at, holding_of, part_holding,
 use Rattle.gu_book.specs.TreeRows.{is_trade, is_live_trade}
 use Rattle.gu_book.specs.declared.found.Found.{Found}
 use Rattle.gu_book.specs.declared.plain.holdings.Holding.{Holding}
-use Rattle.gu_book.proofs.Holdings.{asked, one_found}
+use Rattle.gu_book.proofs.Holdings.{asked, one_found, counts_or}
 
 -- ---- sums
-
-sum_or : (at : Key) (side : Side) (o : Option Holding) (hs : List Holding) → sum_by (counted_at at side) (cons_option o hs) ≡ taken_at at side o + sum_by (counted_at at side) hs
-sum_or at side None hs = omega arith
-sum_or at side (Some h) hs = sum_by-cons (counted_at at side) h hs
 
 pub lots_or : (o : Option Holding) (hs : List Holding) → sum_by (λ (h : Holding). h.lots) (cons_option o hs) ≡ lots_told o + sum_by (λ (h : Holding). h.lots) hs
 lots_or None hs = omega arith
@@ -64,7 +47,8 @@ abbrev away_told : (whole : Holding) (by a : List ℕ) (n : ℕ) → Bool → Op
 away_told whole by a n b = cond b None (Some (holding_away whole by a n))
 
 own_moves : (whole : Holding) (by a : List ℕ) (n : ℕ) → whole.key.firm ≡ by → (at : Key) (side : Side) (b : Bool) → bytes_eq a whole.key.account ≡ b
-    → counted_at at side (holding_away whole by a n) + counted_at at side (at_whole whole (lots_told (away_told whole by a n b))) ≡ taken_at at side (away_told whole by a n b) + counted_at at side (at_whole whole n)
+    → counted_at at side (holding_away whole by a n) + counted_at at side (at_whole whole (lots_told (away_told whole by a n b))) ≡ taken_at at side (away_told whole by a n b)
+    + counted_at at side (at_whole whole n)
 own_moves whole by a n home at side false e = refl
 own_moves whole by a n home at side true e =
     let here : a ≡ whole.key.account = (bytes_eq-Decides a whole.key.account).0 e in
@@ -92,7 +76,8 @@ moves_told t whole by None n home at side true known = absurd (cc)
 moves_told t whole by (Some a) n home at side true known = own_moves whole by a n home at side (bytes_eq a whole.key.account) refl
 
 part_moves : (t : House) (whole : Holding) (by : List ℕ) (p : Part) → whole.key.firm ≡ by → knows_own_account t by p ≡ true → (at : Key) (side : Side)
-    → taken_at at side (part_holding whole by p) + counted_at at side (at_whole whole (lots_told (part_away whole by p))) ≡ taken_at at side (part_away whole by p) + counted_at at side (at_whole whole p.lots)
+    → taken_at at side (part_holding whole by p) + counted_at at side (at_whole whole (lots_told (part_away whole by p))) ≡ taken_at at side (part_away whole by p)
+    + counted_at at side (at_whole whole p.lots)
 part_moves t whole by p home known at side = moves_told t whole by p.account p.lots home at side (bytes_eq p.firm by) known
 
 few_away : (whole : Holding) (by a : List ℕ) (n : ℕ) (b : Bool) → lots_told (away_told whole by a n b) ≤ n
@@ -130,8 +115,8 @@ parts_move t whole by (p ∷ ps) home fine at side =
     let one = part_moves t whole by p home (part_passes t by p f.0).1 at side in
     let rest = parts_move t whole by ps home f.1 at side in
     let w = is_key whole.key at && same_side whole.side side in
-    let a = sum_or at side (part_holding whole by p) (filter_map (part_holding whole by) ps) in
-    let b = sum_or at side (part_away whole by p) (filter_map (part_away whole by) ps) in
+    let a = counts_or at side (part_holding whole by p) (filter_map (part_holding whole by) ps) in
+    let b = counts_or at side (part_away whole by p) (filter_map (part_away whole by) ps) in
     let c = ap (λ n. cond w n 0) (lots_or (part_away whole by p) (filter_map (part_away whole by) ps)) in
     let d = both_counted w (lots_told (part_away whole by p)) (moved whole by ps) in
     let e = ap (λ n. cond w n 0) (sum_by-cons (λ (p : Part). p.lots) p ps) in
@@ -150,29 +135,23 @@ any_found p (x ∷ xs) = any_here p x xs (any_found p xs) (p x)
 
 deal_of : (c : Command) → is_trade c ≡ true → (d : Deal) × (deal_in c ≡ Some d)
 deal_of (Trade _ _ instrument side _) is = (record { instrument = instrument; side = side }, refl)
-deal_of (Split _ _) is = absurd (cc)
-deal_of (Claim _ _) is = absurd (cc)
-deal_of (Refuse _) is = absurd (cc)
-deal_of (Cancel _) is = absurd (cc)
-deal_of (Agree _ _ _ _) is = absurd (cc)
-deal_of (Raise _ _) is = absurd (cc)
-deal_of (Initiate _) is = absurd (cc)
-deal_of (Decline _) is = absurd (cc)
-deal_of (Reverse _) is = absurd (cc)
+deal_of _ is = absurd (cc)
 
 deal_asked : (o : Option Record) → asked (λ (r : Record). is_trade r.command) o ≡ true → (d : Deal) × (option_and_then (λ (r : Record). deal_in r.command) o ≡ Some d)
 deal_asked None is = absurd (cc)
 deal_asked (Some r) is = deal_of r.command is
 
 -- a live trade trades something
-deal_there : (l : List Record) (k : ℕ) → RisesFrom 1 l → is_live_trade l k ≡ true → (d : Deal) × (option_and_then (λ (r : Record). deal_in r.command) (find (λ (r : Record). r.number == k) l) ≡ Some d)
+deal_there : (l : List Record) (k : ℕ) → RisesFrom 1 l → is_live_trade l k ≡ true
+    → (d : Deal) × (option_and_then (λ (r : Record). deal_in r.command) (find (λ (r : Record). r.number == k) l) ≡ Some d)
 deal_there l k rises live =
     let once = number_once l (rises_distinct 1 l rises) k in
     deal_asked (find (λ (r : Record). r.number == k) l)
     (sym (one_found (λ (r : Record). r.number == k) (λ (r : Record). is_trade r.command) l once) ∙ (sym (any_found (λ (r : Record). (r.number == k) && is_trade r.command) l) ∙ live))
 
 -- so each node that was found holds something
-pub holds_some : {l : List Record} {g : Grove} → IsFiled l g → RisesFrom 1 l → {x : Node} {f : Found} {p : List ℕ} → IsFoundAs l x f → IsPlace g x.name f.trade p → IsSome (holding_of l x)
+pub holds_some : {l : List Record} {g : Grove} → IsFiled l g → RisesFrom 1 l → {x : Node} {f : Found} {p : List ℕ} → IsFoundAs l x f → IsPlace g x.name f.trade p
+    → IsSome (holding_of l x)
 holds_some {l} {g} filed rises {x} {f} is place =
     let d = deal_there l f.trade rises (sym (filed.live f.trade) ∙ ap is_some place.found) in
     let of_root : EntryPart → Option Deal = λ root. option_and_then (λ (r : Record). deal_in r.command) (find (λ (r : Record). r.number == root.entry) l) in
@@ -202,7 +181,8 @@ split_well t l by n ps lawful =
     }
 
 -- what is held somewhere is held by the firm that stands there
-held_where : (o : Option Place) (w : Option Deal) (n : ℕ) (h : Holding) → Some h ≡ held_at o w n → (by : List ℕ) → unwrap_or (option_map (λ owner. bytes_eq owner by) (option_map (λ (p : Place). p.firm) o)) false ≡ true
+held_where : (o : Option Place) (w : Option Deal) (n : ℕ) (h : Holding) → Some h ≡ held_at o w n → (by : List ℕ)
+    → unwrap_or (option_map (λ owner. bytes_eq owner by) (option_map (λ (p : Place). p.firm) o)) false ≡ true
     → (h.key.firm ≡ by) × (h.lots ≡ n)
 held_where None w n h is by owned = absurd (cc)
 held_where (Some p) None n h is by owned = absurd (cc)
@@ -211,13 +191,15 @@ held_where (Some p) (Some d) n h is by owned =
     (ap (λ (h : Holding). h.key.firm) same ∙ (bytes_eq-Decides p.firm by).0 owned, ap (λ (h : Holding). h.lots) same)
 
 -- the whole stands in an account of the firm that splits it, and has the lots of its parts
-pub whole_well : {t : House} {l : List Record} {by : List ℕ} {n : EntryPart} {ps : List Part} → (w : SplitWell t l by n ps) → (h : Holding) → Some h ≡ holding_of l w.node → (h.key.firm ≡ by) × (h.lots ≡ sum_by (λ (p : Part). p.lots) ps)
+pub whole_well : {t : House} {l : List Record} {by : List ℕ} {n : EntryPart} {ps : List Part} → (w : SplitWell t l by n ps) → (h : Holding) → Some h ≡ holding_of l w.node
+    → (h.key.firm ≡ by) × (h.lots ≡ sum_by (λ (p : Part). p.lots) ps)
 whole_well {t} {l} {by} w h is =
     let held = held_where (place_of l w.node.name) (traded_at l w.node.name) w.node.lots h is by w.owned in
     (held.0, held.1 ∙ sym w.sums)
 
 -- what goes elsewhere was put there, and so many lots were taken from where the whole stands: then the rows have moved as the split says
-pub split_moved : (t : House) (whole : Holding) (by : List ℕ) (ps : List Part) → whole.key.firm ≡ by → whole.lots ≡ sum_by (λ (p : Part). p.lots) ps → first (map (refusal_of_part t by) ps) ≡ None
+pub split_moved : (t : House) (whole : Holding) (by : List ℕ) (ps : List Part) → whole.key.firm ≡ by → whole.lots ≡ sum_by (λ (p : Part). p.lots) ps
+    → first (map (refusal_of_part t by) ps) ≡ None
     → (rows mid new : PositionRows) → HaveMoved rows mid None (filter_map (part_away whole by) ps) → HaveMoved mid new (Some (at_whole whole (moved whole by ps))) []
     → HaveMoved rows new (Some whole) (filter_map (part_holding whole by) ps)
 split_moved t whole by ps home lots fine rows mid new put taken at side =

@@ -1,34 +1,23 @@
 -- A reversal for which all is ready is accepted, and what a refused one names.
-use Rattle.std.proofs.Common.{◌≡◌, ℕ, ◌+◌, Bool, true, false, not, ◌&&◌, ◌||◌, List, [], ◌∷◌, ◌++◌, length, refl, sym, ◌∙◌, ap, subst, Option, cond, inl, inr, ◌⊎◌}
+use Rattle.std.proofs.Common.{◌≡◌, ℕ, ◌+◌, Bool, true, false, not, ◌&&◌, ◌||◌, List, [], ◌∷◌, ◌++◌, length, refl, sym, ◌∙◌, ap, subst, Option, cond, inl, inr}
+use Rattle.std.proofs.Common.{◌⊎◌}
 use Rattle.std.specs.Prelude.{Some, None, find, nat_lt, option_map, bytes_eq}
 use Rattle.std.specs.List.{list_any}
 use Rattle.std.proofs.lemmas.Bool.{lt-ltb, not-true, and_parts, or_cases, or_parts}
 use Rattle.std.proofs.lemmas.List.Elements.{All-head, All-tail}
 use Rattle.std.proofs.lemmas.Slice.Eq.{bytes_eq-Decides}
-use Rattle.gu_base.specs.House.{House, knows_firm}
-use Rattle.gu_base.specs.History.{numbered_as, numbered_from, records, is_change, is_reverse_of, is_reversed, live}
-use Rattle.gu_base.specs.Refusals.{refusal_of, first, unless}
-use Rattle.gu_base.specs.Same.{same_command}
-use Rattle.gu_base.specs.SamePartsLaws.{bytes_same}
-use Rattle.gu_base.specs.Standing.{first_refused, standing_on}
-use Rattle.gu_base.specs.Consents.{parties_of, consents_of, is_among, missing}
-use Rattle.gu_base.specs.Answers.{Call, answer_to, answer_by, accepted_or, entry_of, reversal_of, on_change, initiate_rest, reverse_rest, command_refusal, is_same_id, is_same_call}
-use Rattle.gu_base.specs.Runs.{after_all}
-use Rattle.gu_base.specs.declared.command.Command.TheVariants.{Initiate, Reverse}
-use Rattle.gu_base.specs.declared.entry.Answer.TheVariants.{Accepted, Refused}
-use Rattle.gu_base.specs.declared.entry.Entry.{Entry}
-use Rattle.gu_base.specs.declared.entry.Record.{Record}
-use Rattle.gu_base.specs.declared.refusal.Refusal.{Refusal}
-use Rattle.gu_base.specs.declared.refusal.Refusal.TheVariants.{UnknownFirm, UnknownEntry, NotAChange, AlreadyReversed, NotAParty, NeedsConsent, StandsOn, DuplicateId, BookFull, AlreadyConsented}
-use Rattle.gu_base.specs.declared.state.State.{State}
-use Rattle.gu_base.specs.declared.state.State.TheVariants.{ReversalPending, Reversed}
+use Rattle.gu_depend.proofs.Vocabulary.{House, knows_firm, numbered_as, numbered_from, records, is_change, is_reverse_of, is_reversed, live, refusal_of, first, unless, same_command, bytes_same}
+use Rattle.gu_depend.proofs.Vocabulary.{first_refused, standing_on, parties_of, consents_of, is_among, missing, Call, answer_to, answer_by, accepted_or, entry_of, reversal_of, on_change}
+use Rattle.gu_depend.proofs.Vocabulary.{initiate_rest, reverse_rest, command_refusal, is_same_id, is_same_call, after_all, Initiate, Reverse, Accepted, Entry, Record, Refusal, UnknownFirm}
+use Rattle.gu_depend.proofs.Vocabulary.{UnknownEntry, NotAChange, AlreadyReversed, NotAParty, NeedsConsent, StandsOn, DuplicateId, BookFull, AlreadyConsented, State, ReversalPending, Reversed}
+use Rattle.gu_base.specs.declared.entry.Answer.TheVariants.{Refused}
 use Rattle.gu_base.proofs.LiveLaws.{is_live}
 use Rattle.gu_base.proofs.LegalLaws.{first_refused-cut}
 use Rattle.gu_book.specs.Headline.{IsAcceptedWhereReady, IsConsentAccepted, IsNewestUndone, NamedBy, IsNamed}
 use Rattle.gu_base.proofs.RunLaws.{run_all}
 use Rattle.gu_base.proofs.Numbered.{listed, found_at}
 use Rattle.gu_base.proofs.Basics.{nothing_here}
-use Rattle.gu_book.proofs.Known.{change_known, firms_known}
+use Rattle.gu_book.proofs.Placed.{change_known, firms_known}
 use Rattle.gu_book.proofs.Parties.{AllPass, parties_pass}
 use Rattle.gu_book.proofs.Restored.{newest_is_free}
 
@@ -37,7 +26,8 @@ use Rattle.gu_book.proofs.Restored.{newest_is_free}
 house_known : (t : House) → knows_firm t t.house ≡ true
 house_known t = ap (λ b. b || list_any (bytes_eq t.house) t.firms) (bytes_same t.house)
 
-parties_known : (t : House) (l before : List Record) (r : Record) → first_refused t [] l ≡ None → refusal_of t before r.firm r.command ≡ None → AllPass (knows_firm t) (parties_of t l r.firm r.command)
+parties_known : (t : House) (l before : List Record) (r : Record) → first_refused t [] l ≡ None → refusal_of t before r.firm r.command ≡ None
+    → AllPass (knows_firm t) (parties_of t l r.firm r.command)
 parties_known t l before r none accepted =
     let known = change_known t before r accepted in
     parties_pass (knows_firm t) t l r.firm r.command (house_known t) known.by known.named (firms_known t l none)
@@ -92,7 +82,8 @@ accepted_where_ready t calls before after r by id same ready fresh room =
     let known = party_known t calls before after r by same ready.party in
     let clear : command_refusal t h by (Reverse r.number) ≡ None =
     ap (λ o. first (unless (knows_firm t by) UnknownFirm ∷ on_change t h by (reverse_rest t h) o ∷ [])) at.found
-    ∙ all_clear (knows_firm t by) (is_change r.command) (is_among by (parties_of t (live h) r.firm r.command)) (reversal_of h r.number) (missing (parties_of t (live h) r.firm r.command) (consents_of h r.number)) (standing_on t (live h) r.number)
+    ∙ all_clear (knows_firm t by) (is_change r.command) (is_among by (parties_of t (live h) r.firm r.command)) (reversal_of h r.number)
+    (missing (parties_of t (live h) r.firm r.command) (consents_of h r.number)) (standing_on t (live h) r.number)
     known passes.0 ready.party (none_reverses r.number 1 h (not-true (is_reversed h r.number) passes.1)) ready.agreed ready.free in
     answered (find (is_same_call call) (records h)) (find (is_same_id call) (records h)) (length h + 1) Reversed (nat_lt (length h) 1000000) (command_refusal t h by (Reverse r.number))
     (no_call call (records h) fresh) fresh (lt-ltb (length h) 1000000 room) clear
@@ -194,7 +185,8 @@ module _ (t : House) (h : List Entry) (by : List ℕ) (k : ℕ) (x : Refusal) wh
   pub named_at : (id : List ℕ) → answer_to t h (record { firm = by; id = id; command = Reverse k }) ≡ Refused x → NamedBy t h k x
   named_at id e =
       let call : Call = record { firm = by; id = id; command = Reverse k } in
-      elim (refused_by (find (is_same_call call) (records h)) (find (is_same_id call) (records h)) (length h + 1) Reversed (first (unless (nat_lt (length h) 1000000) BookFull ∷ command_refusal t h by (Reverse k) ∷ [])) x e) [
+      elim (refused_by (find (is_same_call call) (records h)) (find (is_same_id call) (records h)) (length h + 1) Reversed
+      (first (unless (nat_lt (length h) 1000000) BookFull ∷ command_refusal t h by (Reverse k) ∷ [])) x e) [
         | inl dup ↦ subst (NamedBy t h k) dup.1 tt
         | inr why ↦ named_first why
       ]

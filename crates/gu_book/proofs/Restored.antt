@@ -1,24 +1,16 @@
 -- What a reversal does over any list of calls.
-use Rattle.std.proofs.Common.{◌≡◌, ℕ, ◌+◌, ◌<◌, ◌≤◌, Bool, true, false, not, List, [], ◌∷◌, ◌++◌, length, refl, sym, ◌∙◌, ap, subst, arith, Option, cond, append-nil, append_assoc, inl, inr, ◌⊎◌}
+use Rattle.std.proofs.Common.{◌≡◌, ℕ, ◌+◌, ◌<◌, ◌≤◌, Bool, true, false, not, List, [], ◌∷◌, ◌++◌, length, refl, sym, ◌∙◌, ap, subst, arith, Option, cond}
+use Rattle.std.proofs.Common.{append-nil, append_assoc, inl, inr, ◌⊎◌}
 use Rattle.std.specs.Prelude.{Some, None, map, ◌==◌, is_some}
 use Rattle.std.specs.List.{All, list_all}
 use Rattle.std.proofs.lemmas.Bool.{ne_eqb, eq-eqb, and_parts}
 use Rattle.std.proofs.lemmas.List.Elements.{All-nil, All-cons, All-head, All-tail, filter-append}
-use Rattle.gu_base.specs.House.{House}
-use Rattle.gu_base.specs.History.{numbered_as, is_change, live, RisesFrom}
-use Rattle.gu_base.specs.Refusals.{refusal_of}
-use Rattle.gu_base.specs.Standing.{first_refused, standing_on, without}
-use Rattle.gu_base.specs.Answers.{Call, answer_to, after, after_by, is_accepted}
-use Rattle.gu_base.specs.Runs.{after_all, call_of, IsRunFrom}
-use Rattle.gu_base.specs.declared.command.Command.TheVariants.{Reverse}
-use Rattle.gu_base.specs.declared.entry.Answer.{Answer}
-use Rattle.gu_base.specs.declared.entry.Answer.TheVariants.{Accepted, Repeated, Refused}
-use Rattle.gu_base.specs.declared.entry.Entry.{Entry}
-use Rattle.gu_base.specs.declared.entry.Record.{Record}
+use Rattle.gu_depend.proofs.Vocabulary.{House, numbered_as, is_change, live, RisesFrom, refusal_of, first_refused, standing_on, without, Call, answer_to, after, after_by, is_accepted, after_all}
+use Rattle.gu_depend.proofs.Vocabulary.{call_of, IsRunFrom, Reverse, Answer, Accepted, Repeated, Entry, Record, is_consenting}
+use Rattle.gu_base.specs.declared.entry.Answer.TheVariants.{Refused}
 use Rattle.gu_base.proofs.LiveLaws.{live_push_change, live_push_reverse, live_push_consent, live_below, without_none, without_last}
 use Rattle.gu_base.proofs.LegalLaws.{legal_from_replay, none_refused, replay_front}
 use Rattle.gu_book.specs.Headline.{IsLawful, Restores, TakesOut, StandsLater}
-use Rattle.gu_base.specs.Consents.{is_consenting}
 use Rattle.gu_base.proofs.RunLaws.{run_all}
 use Rattle.gu_book.proofs.Leaves.{live_rises}
 use Rattle.gu_book.proofs.Orders.{earlier}
@@ -47,8 +39,7 @@ pub record IsAdded (t : House) (h : List Entry) (c : Call) (e : Entry) : Type 0 
 
 added_by : (t : House) (h : List Entry) (c : Call) (a : Answer) → answer_to t h c ≡ a → is_accepted a ≡ true → (e : Entry) × IsAdded t h c e
 added_by t h c (Accepted n s) same ok = (record { firm = c.firm; id = c.id; command = c.command; status = s }, record { command = refl; longer = ap (after_by h c) same })
-added_by t h c (Repeated n s) same ok = absurd (cc)
-added_by t h c (Refused r) same ok = absurd (cc)
+added_by t h c _ same ok = absurd (cc)
 
 added : (t : House) (h : List Entry) (c : Call) → is_accepted (answer_to t h c) ≡ true → (e : Entry) × IsAdded t h c e
 added t h c ok = added_by t h c (answer_to t h c) refl ok
@@ -64,8 +55,7 @@ takes_out t calls reversal k same ok = ap live (after_more t [] calls (reversal 
 -- Initiates and Declines leave the live changes
 consent_step : (t : House) (h : List Entry) (c : Call) (a : Answer) → answer_to t h c ≡ a → is_consenting c.command ≡ true → live (after_by h c a) ≡ live h
 consent_step t h c (Accepted n s) same consent = live_push_consent h (record { firm = c.firm; id = c.id; command = c.command; status = s }) consent
-consent_step t h c (Repeated n s) same consent = refl
-consent_step t h c (Refused r) same consent = refl
+consent_step t h c _ same consent = refl
 
 consents_keep : (t : House) (h : List Entry) (cs : List Call) → list_all (λ c. is_consenting c.command) cs ≡ true → live (after_all t h cs) ≡ live h
 consents_keep t h [] all = refl
@@ -109,7 +99,8 @@ all_above n k (d ∷ l) above rises =
     All-cons (λ (d : Record). k < d.number) d l (omega arith) (all_above (d.number + 1) k l (omega arith) rises.1)
 
 -- the numbers before and behind a record
-around : (n : ℕ) (before after : List Record) (r : Record) → RisesFrom n (before ++ r ∷ after) → (n ≤ r.number) × All (λ d. d.number < r.number) before × All (λ d. r.number < d.number) after
+around : (n : ℕ) (before after : List Record) (r : Record) → RisesFrom n (before ++ r ∷ after)
+    → (n ≤ r.number) × All (λ d. d.number < r.number) before × All (λ d. r.number < d.number) after
 around n [] after r rises = (rises.0, All-nil (λ (d : Record). d.number < r.number), all_above (r.number + 1) r.number after (omega arith) rises.1)
 around n (b ∷ before) after r rises =
     let rest = around (b.number + 1) before after r rises.1 in
@@ -127,7 +118,8 @@ same_number : (k : ℕ) (r : Record) (l : List Record) → r.number ≡ k → wi
 same_number k r l same = ap (λ b. cond (not b) (r ∷ without l k) (without l k)) (eq-eqb r.number k same)
 
 -- the list without one of its changes
-pub without_cut : (before after : List Record) (r : Record) → All (λ d. d.number < r.number) before → All (λ d. r.number < d.number) after → without (before ++ r ∷ after) r.number ≡ before ++ after
+pub without_cut : (before after : List Record) (r : Record) → All (λ d. d.number < r.number) before → All (λ d. r.number < d.number) after
+    → without (before ++ r ∷ after) r.number ≡ before ++ after
 without_cut before after r low high =
     filter-append (λ (d : Record). not (d.number == r.number)) before (r ∷ after)
     ∙ (ap (λ l. l ++ without (r ∷ after) r.number) (without_none r.number before low)

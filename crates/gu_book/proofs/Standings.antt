@@ -6,19 +6,8 @@ use Rattle.std.proofs.Math.Nat.{mul-le-mul_right}
 use Rattle.std.proofs.lemmas.List.Elements.{All-head, All-tail}
 use Rattle.std.proofs.lemmas.List.Filters.{sum_by-filter_both}
 use Rattle.std.proofs.lemmas.List.Sums.{sum_by-le, sum_by-cons, sum_by-append, sum_by-le-sum_by}
-use Rattle.gu_base.specs.House.{House}
-use Rattle.gu_base.specs.Standing.{first_refused}
-use Rattle.gu_base.specs.Numbers.{EntryPart}
-use Rattle.gu_base.specs.Nodes.{nodes, nodes_of, nodes_of_parts, kind_of_part, split_of}
-use Rattle.gu_base.specs.Positions.{position_of, stands_at, trades_in}
-use Rattle.gu_base.specs.declared.command.Part.{Part}
-use Rattle.gu_base.specs.declared.command.Side.{Side}
-use Rattle.gu_base.specs.declared.command.Command.{Command}
-use Rattle.gu_base.specs.declared.command.Command.TheVariants.{Trade, Split, Claim, Refuse, Cancel, Agree, Raise, Initiate, Decline, Reverse}
-use Rattle.gu_base.specs.declared.entry.Record.{Record}
-use Rattle.gu_base.specs.declared.node.Kind.TheVariants.{Root}
-use Rattle.gu_base.specs.declared.node.Node.{Node}
-use Rattle.gu_base.specs.declared.node.Place.{Place}
+use Rattle.gu_depend.proofs.Vocabulary.{House, first_refused, EntryPart, nodes, nodes_of, nodes_of_parts, kind_of_part, split_of, position_of, stands_at, trades_in, Part, Side, Command, Trade}
+use Rattle.gu_depend.proofs.Vocabulary.{Split, Claim, Refuse, Cancel, Agree, Raise, Initiate, Decline, Reverse, Record, Root, Node, Place}
 use Rattle.gu_base.proofs.LegalLaws.{replay_push}
 use Rattle.gu_base.proofs.NodeNames.{made}
 use Rattle.gu_depend.specs.Moves.{lots_at}
@@ -38,11 +27,10 @@ use Rattle.gu_book.specs.declared.plain.holdings.Holding.{Holding}
 use Rattle.gu_book.proofs.HoldingRows.{is_own_key}
 use Rattle.gu_book.proofs.Holdings.{IsCounted, balances, key_at}
 use Rattle.gu_book.proofs.Orders.{sound_before}
-use Rattle.gu_book.proofs.Sound.{none_yet}
+use Rattle.gu_book.proofs.Sound.{none_yet, next_from_accepted}
 use Rattle.gu_book.proofs.Leaves.{sound_first}
 use Rattle.gu_book.proofs.Placed.{node_stands}
 use Rattle.gu_book.proofs.Refused.{accepted_small}
-use Rattle.gu_book.proofs.SoundNext.{next_from_accepted}
 
 -- ---- a change behind others
 
@@ -83,26 +71,23 @@ module _ {t : House} {l : List Record} {r : Record} {ts : Grove} (next : IsNext 
         stand = λ x e. let p = node_stands t l s.0 s.3 next.replayed x e in (p.place, p.is);
       }
 
-  position_moved : (at : Place) (instrument : List ℕ) (side : Side)
-      → position_of (l ++ r ∷ []) at.firm at.account instrument side + taken_at (key_at at instrument) side (taken_by l r.command)
-      ≡ position_of l at.firm at.account instrument side + sum_by (counted_at (key_at at instrument) side) (added_by r.firm r.command (taken_by l r.command))
-  position_moved = moved_by counted (replay_push t [] l r next.replayed next.lawful)
-
   -- rows that have moved as the change says
-  pub positions_moved : (rows new : PositionRows) → ArePositionsOf l rows → (o : Option Holding) → o ≡ taken_by l r.command → HaveMoved rows new o (added_by r.firm r.command o) → ArePositionsOf (l ++ r ∷ []) new
+  pub positions_moved : (rows new : PositionRows) → ArePositionsOf l rows → (o : Option Holding) → o ≡ taken_by l r.command → HaveMoved rows new o (added_by r.firm r.command o)
+      → ArePositionsOf (l ++ r ∷ []) new
   positions_moved rows new are o is moved = record {
     lots = λ at side.
         let place : Place = record { firm = at.firm; account = at.account } in
         let a = are.lots at side in
         let b = moved at side in
-        let d = position_moved place at.instrument side in
+        let d = moved_by counted (replay_push t [] l r next.replayed next.lawful) place at.instrument side in
         let e = ap (taken_at at side) is in
         let f = ap (λ o. sum_by (counted_at at side) (added_by r.firm r.command o)) is in
         omega (arith, a, b, d, e, f);
   }
 
   -- what was added and then taken
-  pub positions_push : (rows now new : PositionRows) → ArePositionsOf l rows → (o : Option Holding) → o ≡ taken_by l r.command → HaveMoved rows now None (added_by r.firm r.command o) → HaveMoved now new o []
+  pub positions_push : (rows now new : PositionRows) → ArePositionsOf l rows → (o : Option Holding) → o ≡ taken_by l r.command → HaveMoved rows now None (added_by r.firm r.command o)
+      → HaveMoved now new o []
       → ArePositionsOf (l ++ r ∷ []) new
   positions_push rows now new are o is put taken =
       positions_moved rows new are o is (λ at side. let b = put at side in let c = taken at side in omega (arith, b, c))
@@ -113,16 +98,12 @@ no_positions rows are = record { lots = λ at side. are.lots at side }
 -- ---- what is there, and what has room
 
 module _ {t : House} {l : List Record} {r : Record} {ts : Grove} (next : IsNext t l r ts) where
-  taken_there : (at : Place) (instrument : List ℕ) (side : Side)
-      → taken_at (key_at at instrument) side (taken_by l r.command) ≤ position_of l at.firm at.account instrument side
-  taken_there = taken_part (counted next) (replay_push t [] l r next.replayed next.lawful)
-
   pub has_taken : (rows now : PositionRows) → ArePositionsOf l rows → (hs : List Holding) → HaveMoved rows now None hs → (o : Option Holding) → o ≡ taken_by l r.command → HasTaken now o
   has_taken rows now are hs put None is = tt
   has_taken rows now are hs put (Some h) is =
       let a = are.lots h.key h.side in
       let b = put h.key h.side in
-      let c = taken_there (record { firm = h.key.firm; account = h.key.account }) h.key.instrument h.side in
+      let c = taken_part (counted next) (replay_push t [] l r next.replayed next.lawful) (record { firm = h.key.firm; account = h.key.account }) h.key.instrument h.side in
       let d = ap (taken_at h.key h.side) is in
       let e = ap (λ b. cond b h.lots 0) (is_own_key h.key h.side) in
       omega (arith, a, b, c, d, e)
@@ -152,14 +133,7 @@ made_lots k by (Trade firm account instrument side lots) h =
     let a = sum_by-cons (λ (x : Node). x.lots) (record { name = record { entry = k; part = 0 }; lots = lots; kind = Root (record { firm = firm; account = account }) }) [] in
     omega (arith, a, h)
 made_lots k by (Split m ps) h = let a = parts_lots k 1 m by ps in let b = few_lots ps h in omega (arith, a, b)
-made_lots k by (Claim _ _) h = omega arith
-made_lots k by (Refuse _) h = omega arith
-made_lots k by (Cancel _) h = omega arith
-made_lots k by (Agree _ _ _ _) h = omega arith
-made_lots k by (Raise _ _) h = omega arith
-made_lots k by (Initiate _) h = omega arith
-made_lots k by (Decline _) h = omega arith
-made_lots k by (Reverse _) h = omega arith
+made_lots k by _ h = omega arith
 
 all_lots : (l : List Record) → AllWithinLimits l → sum_by (λ (x : Node). x.lots) (nodes l) ≤ length l * 1000000000
 all_lots [] all = omega arith
@@ -181,7 +155,8 @@ or_lots : (o : Option Holding) (n : ℕ) (hs : List Holding) → IfSome o (λ h.
 or_lots None n hs most = omega arith
 or_lots (Some h) n hs most = let a = sum_by-cons (λ (h : Holding). h.lots) h hs in omega (arith, a, most)
 
-part_lots : (b : Bool) (key own : Key) (o : Option (List ℕ)) (f : List ℕ → Holding) (whole : Holding) (n : ℕ) → ((a : List ℕ) → (f a).lots ≡ n) → whole.lots ≡ n → IfSome (cond b (option_map f o) (Some whole)) (λ h. h.lots ≤ n)
+part_lots : (b : Bool) (key own : Key) (o : Option (List ℕ)) (f : List ℕ → Holding) (whole : Holding) (n : ℕ) → ((a : List ℕ) → (f a).lots ≡ n) → whole.lots ≡ n
+    → IfSome (cond b (option_map f o) (Some whole)) (λ h. h.lots ≤ n)
 part_lots true key own None f whole n all is = tt
 part_lots true key own (Some a) f whole n all is = let e = all a in omega (arith, e)
 part_lots false key own o f whole n all is = omega (arith, is)
@@ -190,7 +165,8 @@ added_parts : (whole : Holding) (by : List ℕ) (ps : List Part) → sum_by (λ 
 added_parts whole by [] = omega arith
 added_parts whole by (p ∷ ps) =
     let a = or_lots (part_holding whole by p) p.lots (filter_map (part_holding whole by) ps)
-    (part_lots (bytes_eq p.firm by) whole.key whole.key p.account (λ account. record { key = record { firm = by; account = account; instrument = whole.key.instrument }; side = whole.side; lots = p.lots })
+    (part_lots (bytes_eq p.firm by) whole.key whole.key p.account
+    (λ account. record { key = record { firm = by; account = account; instrument = whole.key.instrument }; side = whole.side; lots = p.lots })
     (record { key = whole.key; side = whole.side; lots = p.lots }) p.lots (λ a. refl) refl) in
     let b = added_parts whole by ps in
     let c = sum_by-cons (λ (p : Part). p.lots) p ps in
@@ -206,13 +182,7 @@ added_lots by (Claim m account) (Some whole) h small =
     let a = sum_by-cons (λ (h : Holding). h.lots) (record { key = record { firm = by; account = account; instrument = whole.key.instrument }; side = whole.side; lots = whole.lots }) [] in
     omega (arith, a, small)
 added_lots by (Claim m account) None h small = omega arith
-added_lots by (Refuse _) o h small = omega arith
-added_lots by (Cancel _) o h small = omega arith
-added_lots by (Agree _ _ _ _) o h small = omega arith
-added_lots by (Raise _ _) o h small = omega arith
-added_lots by (Initiate _) o h small = omega arith
-added_lots by (Decline _) o h small = omega arith
-added_lots by (Reverse _) o h small = omega arith
+added_lots by _ o h small = omega arith
 
 pub have_room : {t : House} {l : List Record} {r : Record} {ts : Grove} → IsNext t l r ts → length l ≤ 1000000 → AllWithinLimits l → (rows : PositionRows) → ArePositionsOf l rows
     → (o : Option Holding) → IfSome o (λ h. h.lots ≤ 10000000) → HaveRoom rows (added_by r.firm r.command o)

@@ -1,8 +1,6 @@
 -- A book whose trees and ids have got room, and whose accounts have the same lots, keeps all that it kept.
 use Rattle.std.proofs.Common.{◌≡◌, ◌∙◌, List, refl, arith}
-use Rattle.gu_base.specs.House.{House}
-use Rattle.gu_base.specs.declared.entry.Entry.{Entry}
-use Rattle.gu_base.specs.History.{live}
+use Rattle.gu_depend.proofs.Vocabulary.{House, Entry, live}
 use Rattle.gu_consent.specs.declared.Consents.{Consents}
 use Rattle.gu_depend.specs.Terms.{AreTermsOf}
 use Rattle.gu_fees.specs.Rows.{FeeRows}
@@ -19,7 +17,8 @@ use Rattle.gu_book.proofs.Keeps.{kept_alike}
 
 -- with terms that say the same
 pub still_dealt : {t : House} {h : List Entry} {g : Grove} {cs : Consents} {index : Index} {fees : FeeRows} {rows : PositionRows} {terms : TermsView} → IsBook t h g cs index fees rows terms
-    → (trees : Grove) → IsSameGrove g trees → (ids : Ids) → AreChainsOf ids h → (now : PositionRows) → SameLots rows now → (dealt : TermsView) → AreTermsOf t (live h) dealt → last_entry dealt ≡ last_entry terms
+    → (trees : Grove) → IsSameGrove g trees → (ids : Ids) → AreChainsOf ids h → (now : PositionRows) → SameLots rows now → (dealt : TermsView) → AreTermsOf t (live h) dealt
+    → last_entry dealt ≡ last_entry terms
     → IsBook t h trees cs (record { ids = ids; reversals = index.reversals }) fees now dealt
 still_dealt book trees same ids chained now lots dealt are last = record {
   kept = kept_alike book.kept trees same;
@@ -30,6 +29,7 @@ still_dealt book trees same ids chained now lots dealt are last = record {
   dealt_before = let before = book.dealt_before in omega (arith, last, before);
 }
 
-pub still : {t : House} {h : List Entry} {g : Grove} {cs : Consents} {index : Index} {fees : FeeRows} {rows : PositionRows} {terms : TermsView} → IsBook t h g cs index fees rows terms → (trees : Grove) → IsSameGrove g trees
+pub still : {t : House} {h : List Entry} {g : Grove} {cs : Consents} {index : Index} {fees : FeeRows} {rows : PositionRows} {terms : TermsView} → IsBook t h g cs index fees rows terms
+    → (trees : Grove) → IsSameGrove g trees
     → (ids : Ids) → AreChainsOf ids h → (now : PositionRows) → SameLots rows now → IsBook t h trees cs (record { ids = ids; reversals = index.reversals }) fees now terms
 still {terms = terms} book trees same ids chained now lots = still_dealt book trees same ids chained now lots terms book.dealt refl

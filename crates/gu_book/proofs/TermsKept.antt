@@ -1,23 +1,10 @@
 -- How the terms that a book keeps follow its changes, and what an Agree or a Raise leaves of all else.
-use Rattle.std.proofs.Common.{◌≡◌, ℕ, ◌≤◌, ◌<◌, Bool, true, false, ◌||◌, List, [], ◌∷◌, ◌++◌, length, refl, sym, ◌∙◌, ap, subst, arith, cond, Option, IsSomeAnd, append-nil}
+use Rattle.std.proofs.Common.{◌≡◌, ℕ, ◌≤◌, ◌<◌, Bool, true, false, ◌||◌, List, [], ◌∷◌, ◌++◌, length, refl, sym, ◌∙◌, ap, subst, arith, cond, Option, IsSomeAnd}
+use Rattle.std.proofs.Common.{append-nil}
 use Rattle.std.specs.Prelude.{Some, None, sum_by, option_and_then}
 use Rattle.std.proofs.lemmas.List.Elements.{All-contains}
-use Rattle.gu_base.specs.House.{House}
-use Rattle.gu_base.specs.Numbers.{EntryPart}
-use Rattle.gu_base.specs.Nodes.{node_of, is_given}
-use Rattle.gu_base.specs.Fees.{charge_of}
-use Rattle.gu_base.specs.Standing.{without}
-use Rattle.gu_base.specs.Terms.{use_of_node, deed_of, raised_under, used_under}
-use Rattle.gu_base.specs.declared.house.Deed.{Deed}
-use Rattle.gu_base.specs.declared.house.Deed.TheVariants.{Makes, Raises, Uses}
-use Rattle.gu_base.specs.declared.house.Dealing.{Dealing}
-use Rattle.gu_base.specs.declared.house.Pair.{Pair}
-use Rattle.gu_base.specs.declared.command.Command.{Command}
-use Rattle.gu_base.specs.declared.command.Command.TheVariants.{Trade, Split, Claim, Refuse, Cancel, Agree, Raise, Initiate, Decline, Reverse}
-use Rattle.gu_base.specs.declared.entry.Record.{Record}
-use Rattle.gu_base.specs.declared.node.Kind.{Kind}
-use Rattle.gu_base.specs.declared.node.Kind.TheVariants.{Root, Own, Given}
-use Rattle.gu_base.specs.declared.node.Node.{Node}
+use Rattle.gu_depend.proofs.Vocabulary.{House, EntryPart, node_of, is_given, charge_of, without, use_of_node, deed_of, raised_under, used_under, Deed, Makes, Raises, Uses, Dealing, Pair, Command}
+use Rattle.gu_depend.proofs.Vocabulary.{Trade, Split, Claim, Refuse, Cancel, Agree, Raise, Initiate, Decline, Reverse, Record, Kind, Root, Own, Given, Node}
 use Rattle.gu_base.proofs.LegalLaws.{replay_push}
 use Rattle.gu_depend.specs.Terms.{AreTermsOf, pair_of, pair_of_kind}
 use Rattle.gu_depend.specs.Under.{names}
@@ -59,27 +46,15 @@ IsOfTerms c = (is_agree c || is_raise c) ≡ true
 pub trees_apart : (l : List Record) (by : List ℕ) (c : Command) → is_of_trees c ≡ true → is_claim c ≡ false → pair_of l by c ≡ None
 trees_apart l by (Trade _ _ _ _ _) of other = refl
 trees_apart l by (Split _ _) of other = refl
-trees_apart l by (Claim _ _) of other = absurd (cc)
 trees_apart l by (Refuse _) of other = refl
 trees_apart l by (Cancel _) of other = refl
-trees_apart l by (Agree _ _ _ _) of other = absurd (cc)
-trees_apart l by (Raise _ _) of other = absurd (cc)
-trees_apart l by (Initiate _) of other = absurd (cc)
-trees_apart l by (Decline _) of other = absurd (cc)
-trees_apart l by (Reverse _) of other = absurd (cc)
+trees_apart l by _ of other = absurd (cc)
 
 -- an Agree and a Raise deal for two firms
 pub terms_paired : (l : List Record) (by : List ℕ) (c : Command) → IsOfTerms c → (p : Pair) × (pair_of l by c ≡ Some p)
 terms_paired l by (Agree giver taker _ _) is = (record { giver = giver; taker = taker }, refl)
 terms_paired l by (Raise giver _) is = (record { giver = giver; taker = by }, refl)
-terms_paired l by (Trade _ _ _ _ _) is = absurd (cc)
-terms_paired l by (Split _ _) is = absurd (cc)
-terms_paired l by (Claim _ _) is = absurd (cc)
-terms_paired l by (Refuse _) is = absurd (cc)
-terms_paired l by (Cancel _) is = absurd (cc)
-terms_paired l by (Initiate _) is = absurd (cc)
-terms_paired l by (Decline _) is = absurd (cc)
-terms_paired l by (Reverse _) is = absurd (cc)
+terms_paired l by _ is = absurd (cc)
 
 -- and do nothing to trees, positions and fees
 pub record IsApart (t : House) (l : List Record) (k : ℕ) (by : List ℕ) (c : Command) : Type 0 where
@@ -93,14 +68,7 @@ pub record IsApart (t : House) (l : List Record) (k : ℕ) (by : List ℕ) (c : 
 pub terms_apart : (t : House) (l : List Record) (k : ℕ) (by : List ℕ) (c : Command) → IsOfTerms c → IsApart t l k by c
 terms_apart t l k by (Agree giver taker _ _) is = record { costs = refl; takes = refl; adds = refl; trades = refl; named = λ n. refl; place = refl }
 terms_apart t l k by (Raise giver _) is = record { costs = refl; takes = refl; adds = refl; trades = refl; named = λ n. refl; place = refl }
-terms_apart t l k by (Trade _ _ _ _ _) is = absurd (cc)
-terms_apart t l k by (Split _ _) is = absurd (cc)
-terms_apart t l k by (Claim _ _) is = absurd (cc)
-terms_apart t l k by (Refuse _) is = absurd (cc)
-terms_apart t l k by (Cancel _) is = absurd (cc)
-terms_apart t l k by (Initiate _) is = absurd (cc)
-terms_apart t l k by (Decline _) is = absurd (cc)
-terms_apart t l k by (Reverse _) is = absurd (cc)
+terms_apart t l k by _ is = absurd (cc)
 
 -- ---- room
 
@@ -136,7 +104,8 @@ module _ {t : House} {l : List Record} {r : Record} {ts : Grove} (next : IsNext 
   dealt_apart v are none = apart_follows t l r before v are none
 
   -- that was put to the terms of a giver and a taker
-  pub dealt_put : (v w : TermsView) (g k : List ℕ) (d : Deed) → AreTermsOf t l v → deed_of l g k r.firm r.command ≡ Some d → IsPut v w g k (record { number = r.number; deed = d }) → AreTermsOf t (l ++ r ∷ []) w
+  pub dealt_put : (v w : TermsView) (g k : List ℕ) (d : Deed) → AreTermsOf t l v → deed_of l g k r.firm r.command ≡ Some d → IsPut v w g k (record { number = r.number; deed = d })
+      → AreTermsOf t (l ++ r ∷ []) w
   dealt_put v w g k d are deals put = put_follows t l r before v w g k d are deals put
 
   pub agreed : (v w : TermsView) (g k : List ℕ) (rate limit : ℕ) → r.command ≡ Agree g k rate limit → AreTermsOf t l v
@@ -152,17 +121,14 @@ module _ {t : House} {l : List Record} {r : Record} {ts : Grove} (next : IsNext 
 
   module _ (n : EntryPart) (account : List ℕ) (claims : r.command ≡ Claim n account) (x : Node) (there : node_of l n ≡ Some x) where
     claimed_by : (kind : Kind) → x.kind ≡ kind → (v w : TermsView) → AreTermsOf t l v → IsClaimed v w r.number x.lots kind → AreTermsOf t (l ++ r ∷ []) w
-    claimed_by (Root p) is v w are same =
-        subst (AreTermsOf t (l ++ r ∷ [])) (sym same)
-        (dealt_apart v are (ap (pair_of l r.firm) claims ∙ (ap (option_and_then (λ (x : Node). pair_of_kind x.kind)) there ∙ ap pair_of_kind is)))
-    claimed_by (Own m g a) is v w are same =
-        subst (AreTermsOf t (l ++ r ∷ [])) (sym same)
-        (dealt_apart v are (ap (pair_of l r.firm) claims ∙ (ap (option_and_then (λ (x : Node). pair_of_kind x.kind)) there ∙ ap pair_of_kind is)))
     claimed_by (Given m g k) is v w are put =
         dealt_put v w g k (Uses x.lots) are
         (ap (deed_of l g k r.firm) claims
         ∙ (ap (option_and_then (use_of_node g k)) there
         ∙ (ap (λ (kind : Kind). use_of_node g k (record { name = x.name; lots = x.lots; kind = kind })) is ∙ ap (λ b. cond b (Some (Uses x.lots)) None) (both_same g k)))) put
+    claimed_by _ is v w are same =
+        subst (AreTermsOf t (l ++ r ∷ [])) (sym same)
+        (dealt_apart v are (ap (pair_of l r.firm) claims ∙ (ap (option_and_then (λ (x : Node). pair_of_kind x.kind)) there ∙ ap pair_of_kind is)))
 
     pub claim_dealt : (v w : TermsView) → AreTermsOf t l v → IsClaimed v w r.number x.lots x.kind → AreTermsOf t (l ++ r ∷ []) w
     claim_dealt v w are put = claimed_by x.kind refl v w are put
@@ -190,21 +156,18 @@ module _ {t : House} {l : List Record} {r : Record} {ts : Grove} (next : IsNext 
 
 pub can_claim : {t : House} {l : List Record} {v : TermsView} → length l ≤ 1000000 → AllWithinLimits l → AreTermsOf t l v → (n lots : ℕ) → lots ≤ 10000000 → last_entry v < n
     → (kind : Kind) → HasRoomForClaim v kind → CanClaim v n lots kind
-can_claim few all are n lots small above (Root _) ready = tt
-can_claim few all are n lots small above (Own _ _ _) ready = tt
 can_claim few all are n lots small above (Given m g k) ready = can_put few all are g k (Uses lots) small n above ready
+can_claim few all are n lots small above _ ready = tt
 
 pub claimed_last : (v w : TermsView) (n lots : ℕ) (kind : Kind) → last_entry v < n → IsClaimed v w n lots kind → last_entry w ≤ n
-claimed_last v w n lots (Root _) above same = let e = ap last_entry same in omega (arith, above, e)
-claimed_last v w n lots (Own _ _ _) above same = let e = ap last_entry same in omega (arith, above, e)
 claimed_last v w n lots (Given m g k) above put = let e = put.last in omega (arith, e)
+claimed_last v w n lots _ above same = let e = ap last_entry same in omega (arith, above, e)
 
 -- ---- one change less
 
 given_pair : (kind : Kind) → is_given kind ≡ true → (p : Pair) × (pair_of_kind kind ≡ Some p)
-given_pair (Root _) h = absurd (cc)
-given_pair (Own _ _ _) h = absurd (cc)
 given_pair (Given m g k) h = (record { giver = g; taker = k }, refl)
+given_pair _ h = absurd (cc)
 
 module _ {t : House} {l : List Record} {r : Record} {ts : Grove} (u : IsFree t l r ts) where
   numbers : NumbersOnce l
@@ -214,15 +177,7 @@ module _ {t : House} {l : List Record} {r : Record} {ts : Grove} (u : IsFree t l
   claim_paired (Claim n account) is s =
       let p = given_pair s.node.kind s.holds.given in
       (p.0, ap (option_and_then (λ (x : Node). pair_of_kind x.kind)) s.there ∙ p.1)
-  claim_paired (Trade _ _ _ _ _) is s = absurd (cc)
-  claim_paired (Split _ _) is s = absurd (cc)
-  claim_paired (Refuse _) is s = absurd (cc)
-  claim_paired (Cancel _) is s = absurd (cc)
-  claim_paired (Agree _ _ _ _) is s = absurd (cc)
-  claim_paired (Raise _ _) is s = absurd (cc)
-  claim_paired (Initiate _) is s = absurd (cc)
-  claim_paired (Decline _) is s = absurd (cc)
-  claim_paired (Reverse _) is s = absurd (cc)
+  claim_paired _ is s = absurd (cc)
 
   -- taken out of the terms of its giver and taker
   dealt_taken : (v w : TermsView) (p : Pair) → AreTermsOf t l v → pair_of l r.firm r.command ≡ Some p → IsTakenOut v w r.number → AreTermsOf t (without l r.number) w
@@ -238,11 +193,13 @@ module _ {t : House} {l : List Record} {r : Record} {ts : Grove} (u : IsFree t l
       subst (AreTermsOf t (without l r.number)) (sym (same is)) (nobody_follows t l r numbers u.replayed u.among u.free v are (trees_apart l r.firm r.command of is))
 
   -- a change of trees
-  pub trees_undealt : (v w : TermsView) → AreTermsOf t l v → is_of_trees r.command ≡ true → (is_claim r.command ≡ true → IsTakenOut v w r.number) → (is_claim r.command ≡ false → w ≡ v)
+  pub trees_undealt : (v w : TermsView) → AreTermsOf t l v → is_of_trees r.command ≡ true → (is_claim r.command ≡ true → IsTakenOut v w r.number)
+      → (is_claim r.command ≡ false → w ≡ v)
       → AreTermsOf t (without l r.number) w
   trees_undealt v w are of taken same = by_claim v w are of taken same (is_claim r.command) refl
 
-  last_by : (v w : TermsView) → (is_claim r.command ≡ true → IsTakenOut v w r.number) → (is_claim r.command ≡ false → w ≡ v) → (b : Bool) → is_claim r.command ≡ b → last_entry w ≡ last_entry v
+  last_by : (v w : TermsView) → (is_claim r.command ≡ true → IsTakenOut v w r.number) → (is_claim r.command ≡ false → w ≡ v) → (b : Bool) → is_claim r.command ≡ b
+      → last_entry w ≡ last_entry v
   last_by v w taken same true is = (taken is).last
   last_by v w taken same false is = ap last_entry (same is)
 
@@ -262,15 +219,15 @@ module _ {t : House} {l : List Record} {r : Record} {ts : Grove} (u : IsFree t l
     gone = terms_apart t others r.number r.firm r.command of
 
     pub undealt_filed : place_of ts r.number ≡ None → IsFiled others ts
-    undealt_filed placeless = less.left_alone t l r u.replayed u.rises u.among u.free ts u.filed gone.trades gone.named placeless
+    undealt_filed placeless = less.left_alone u gone.trades gone.named placeless
 
     pub undealt_fees : (fees : FeeRows) → AreFeesOf t l fees → AreFeesOf t others fees
     undealt_fees fees are =
-        fees_without t l r u.replayed u.rises u.among u.free fees fees are None gone.costs (λ cs sums. subst (AreSumsOf fees) (append-nil cs) sums)
+        fees_without u fees fees are None gone.costs (λ cs sums. subst (AreSumsOf fees) (append-nil cs) sums)
 
     pub undealt_stands : (rows : PositionRows) → ArePositionsOf l rows → ArePositionsOf others rows
     undealt_stands rows are =
-        positions_without t l r u.replayed u.rises u.among u.free rows rows rows are (λ at side. refl) None gone.takes
+        positions_without u rows rows rows are (λ at side. refl) None gone.takes
         (λ at side. let a = ap (sum_by (counted_at at side)) gone.adds in omega (arith, a))
 
 -- ---- what deals for nobody
@@ -278,11 +235,4 @@ module _ {t : House} {l : List Record} {r : Record} {ts : Grove} (u : IsFree t l
 pub returns_apart : (l : List Record) (by : List ℕ) (c : Command) → is_return c ≡ true → pair_of l by c ≡ None
 returns_apart l by (Refuse _) is = refl
 returns_apart l by (Cancel _) is = refl
-returns_apart l by (Trade _ _ _ _ _) is = absurd (cc)
-returns_apart l by (Split _ _) is = absurd (cc)
-returns_apart l by (Claim _ _) is = absurd (cc)
-returns_apart l by (Agree _ _ _ _) is = absurd (cc)
-returns_apart l by (Raise _ _) is = absurd (cc)
-returns_apart l by (Initiate _) is = absurd (cc)
-returns_apart l by (Decline _) is = absurd (cc)
-returns_apart l by (Reverse _) is = absurd (cc)
+returns_apart l by _ is = absurd (cc)

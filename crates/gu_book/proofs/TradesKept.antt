@@ -1,27 +1,13 @@
 -- What each kind of change leaves of the fees and the positions: a Claim alone costs something; the lots of a Trade go into one row, those of a
 -- Claim from one into another, and of a Split only what goes to other accounts is moved.
-use Rattle.std.proofs.Common.{◌≡◌, ℕ, ◌+◌, ◌<◌, ◌≤◌, ◌^◌, true, ◌&&◌, List, [], ◌∷◌, ◌++◌, length, refl, sym, ◌∙◌, ap, subst, arith, cond, ◌*◌, Option}
+use Rattle.std.proofs.Common.{◌≡◌, ℕ, ◌+◌, ◌<◌, ◌≤◌, ◌^◌, true, ◌&&◌, List, [], ◌∷◌, ◌++◌, length, refl, sym, ◌∙◌, ap, subst, arith, cond, ◌*◌}
+use Rattle.std.proofs.Common.{Option}
 use Rattle.std.specs.Prelude.{Some, None, sum_by, filter_map, option_and_then, IfSome}
 use Rattle.std.proofs.lemmas.List.Sums.{sum_by-cons}
-use Rattle.gu_base.specs.House.{House}
-use Rattle.gu_base.specs.Fees.{charge_of, charge_of_node}
-use Rattle.gu_base.specs.History.{is_change}
-use Rattle.gu_base.specs.Places.{place_of}
-use Rattle.gu_base.specs.declared.node.Charge.{Charge}
-use Rattle.gu_base.specs.declared.node.Deal.{Deal}
-use Rattle.gu_base.specs.declared.node.Place.{Place}
-use Rattle.gu_base.specs.Nodes.{node_of}
-use Rattle.gu_base.specs.Refusals.{refusal_of}
-use Rattle.gu_base.specs.declared.node.Node.{Node}
+use Rattle.gu_depend.proofs.Vocabulary.{House, charge_of, charge_of_node, is_change, place_of, Charge, Deal, Place, node_of, refusal_of, Node, same_side, Part, Side, Command, Trade, Split, Claim}
+use Rattle.gu_depend.proofs.Vocabulary.{Refuse, Cancel, Agree, Raise, Initiate, Decline, Reverse, Record, EntryPart}
 use Rattle.std.proofs.Math.Nat.{mul-le-mul_right}
 use Rattle.std.proofs.lemmas.Option.{same_Some}
-use Rattle.gu_base.specs.Positions.{same_side}
-use Rattle.gu_base.specs.declared.command.Part.{Part}
-use Rattle.gu_base.specs.declared.command.Side.{Side}
-use Rattle.gu_base.specs.declared.command.Command.{Command}
-use Rattle.gu_base.specs.declared.command.Command.TheVariants.{Trade, Split, Claim, Refuse, Cancel, Agree, Raise, Initiate, Decline, Reverse}
-use Rattle.gu_base.specs.declared.entry.Record.{Record}
-use Rattle.gu_base.specs.Numbers.{EntryPart}
 use Rattle.gu_positions.specs.Rows.{PositionRows, lots_in, is_key}
 use Rattle.gu_positions.specs.declared.positions.Key.{Key}
 use Rattle.gu_tree.specs.Grove.{Grove}
@@ -48,51 +34,23 @@ held_lots (Some p) (Some d) n h is =
 costs_none : (t : House) (l : List Record) (c : Command) → is_return c ≡ true → None ≡ charge_of t l c
 costs_none t l (Refuse _) is = refl
 costs_none t l (Cancel _) is = refl
-costs_none t l (Trade _ _ _ _ _) is = absurd (cc)
-costs_none t l (Split _ _) is = absurd (cc)
-costs_none t l (Claim _ _) is = absurd (cc)
-costs_none t l (Agree _ _ _ _) is = absurd (cc)
-costs_none t l (Raise _ _) is = absurd (cc)
-costs_none t l (Initiate _) is = absurd (cc)
-costs_none t l (Decline _) is = absurd (cc)
-costs_none t l (Reverse _) is = absurd (cc)
+costs_none t l _ is = absurd (cc)
 
 takes_none : (l : List Record) (c : Command) → is_return c ≡ true → None ≡ taken_by l c
 takes_none l (Refuse _) is = refl
 takes_none l (Cancel _) is = refl
-takes_none l (Trade _ _ _ _ _) is = absurd (cc)
-takes_none l (Split _ _) is = absurd (cc)
-takes_none l (Claim _ _) is = absurd (cc)
-takes_none l (Agree _ _ _ _) is = absurd (cc)
-takes_none l (Raise _ _) is = absurd (cc)
-takes_none l (Initiate _) is = absurd (cc)
-takes_none l (Decline _) is = absurd (cc)
-takes_none l (Reverse _) is = absurd (cc)
+takes_none l _ is = absurd (cc)
 
 adds_none : (by : List ℕ) (c : Command) → is_return c ≡ true → added_by by c None ≡ []
 adds_none by (Refuse _) is = refl
 adds_none by (Cancel _) is = refl
-adds_none by (Trade _ _ _ _ _) is = absurd (cc)
-adds_none by (Split _ _) is = absurd (cc)
-adds_none by (Claim _ _) is = absurd (cc)
-adds_none by (Agree _ _ _ _) is = absurd (cc)
-adds_none by (Raise _ _) is = absurd (cc)
-adds_none by (Initiate _) is = absurd (cc)
-adds_none by (Decline _) is = absurd (cc)
-adds_none by (Reverse _) is = absurd (cc)
+adds_none by _ is = absurd (cc)
 
 -- each is a change
 pub return_changes : (c : Command) → is_return c ≡ true → is_change c ≡ true
 return_changes (Refuse _) is = refl
 return_changes (Cancel _) is = refl
-return_changes (Trade _ _ _ _ _) is = refl
-return_changes (Split _ _) is = refl
-return_changes (Claim _ _) is = refl
-return_changes (Agree _ _ _ _) is = refl
-return_changes (Raise _ _) is = refl
-return_changes (Initiate _) is = absurd (cc)
-return_changes (Decline _) is = absurd (cc)
-return_changes (Reverse _) is = absurd (cc)
+return_changes _ is = absurd (cc)
 
 module _ {t : House} {l : List Record} {r : Record} {ts : Grove} (next : IsNext t l r ts) where
   -- ---- a Trade
@@ -116,7 +74,8 @@ module _ {t : House} {l : List Record} {r : Record} {ts : Grove} (next : IsNext 
         omega (arith, room, sum, one)
 
     -- and has the lots
-    pub trade_stands : (rows new : PositionRows) → ArePositionsOf l rows → ((at : Key) (s : Side) → lots_in new at s ≡ lots_in rows at s + cond (is_key key at && same_side side s) lots 0) → ArePositionsOf (l ++ r ∷ []) new
+    pub trade_stands : (rows new : PositionRows) → ArePositionsOf l rows → ((at : Key) (s : Side) → lots_in new at s ≡ lots_in rows at s + cond (is_key key at && same_side side s) lots 0)
+        → ArePositionsOf (l ++ r ∷ []) new
     trade_stands rows new are added =
         positions_moved next rows new are None (sym (ap (taken_by l) trades))
         (λ at s.
@@ -157,14 +116,16 @@ module _ {t : House} {l : List Record} {r : Record} {ts : Grove} (next : IsNext 
           omega (arith, a, b, c, d, e, f)
 
       -- so many lots stand where the whole does
-      pub split_takes : (rows mid : PositionRows) → ArePositionsOf l rows → HaveMoved rows mid None (filter_map (part_away whole r.firm) ps) → moved whole r.firm ps ≤ lots_in mid whole.key whole.side
+      pub split_takes : (rows mid : PositionRows) → ArePositionsOf l rows → HaveMoved rows mid None (filter_map (part_away whole r.firm) ps)
+          → moved whole r.firm ps ≤ lots_in mid whole.key whole.side
       split_takes rows mid are put =
           let a = has_taken next rows mid are (filter_map (part_away whole r.firm) ps) put (Some whole) takes in
           let b = moved_few whole r.firm ps in
           let c = its_whole.1 in
           omega (arith, a, b, c)
 
-      pub split_stands : (rows mid new : PositionRows) → ArePositionsOf l rows → HaveMoved rows mid None (filter_map (part_away whole r.firm) ps) → HaveMoved mid new (Some (at_whole whole (moved whole r.firm ps))) []
+      pub split_stands : (rows mid new : PositionRows) → ArePositionsOf l rows → HaveMoved rows mid None (filter_map (part_away whole r.firm) ps)
+          → HaveMoved mid new (Some (at_whole whole (moved whole r.firm ps))) []
           → ArePositionsOf (l ++ r ∷ []) new
       split_stands rows mid new are put taken =
           positions_moved next rows new are (Some whole) takes

@@ -1,30 +1,17 @@
 -- A live change on which nothing stands can as well stand last: so the fees and positions without it are those with it, less what it moved.
-use Rattle.std.proofs.Common.{◌≡◌, ◌≢◌, ℕ, suc, ◌+◌, ◌*◌, ◌≤◌, true, not, ◌&&◌, ◌||◌, List, [], ◌∷◌, ◌++◌, length, refl, sym, ◌∙◌, ap, subst, arith, Option, All, Contains, IsPermutation, cond, false, Bool}
-use Rattle.std.specs.Prelude.{Some, None, find, filter, filter_map, sum_by, option_and_then, bytes_eq, ◌==◌, IfSome}
+use Rattle.std.proofs.Common.{◌≡◌, ◌≢◌, ℕ, suc, ◌+◌, ◌*◌, ◌≤◌, true, not, ◌&&◌, ◌||◌, List, [], ◌∷◌, ◌++◌, length, refl, sym, ◌∙◌, ap, subst}
+use Rattle.std.proofs.Common.{arith, Option, All, Contains, IsPermutation, cond, false, Bool, ◌<◌, ◌^◌}
+use Rattle.std.specs.Prelude.{Some, None, find, filter, filter_map, sum_by, option_and_then, bytes_eq, ◌==◌, IfSome, map}
 use Rattle.std.specs.List.{cons_option}
 use Rattle.std.proofs.Math.Nat.{mul-le-mul_right}
 use Rattle.std.proofs.lemmas.Bool.Decides.{Decides-eqb}
 use Rattle.std.proofs.lemmas.List.Elements.{All-nil, All-cons, All-head, All-tail, All-filter, All-contains, filter_passes, All-weaker, All-contains_itself}
-use Rattle.gu_base.specs.Numbers.{EntryPart}
-use Rattle.gu_base.specs.House.{House}
-use Rattle.gu_base.specs.Limits.{most_lots, highest_rate}
-use Rattle.gu_base.specs.Fees.{charges, charge_of}
-use Rattle.gu_base.specs.History.{RisesFrom}
-use Rattle.gu_base.specs.Nodes.{deal_in, node_of, split_of, splits, decides, decision_of, claimed_account, is_given, parent}
-use Rattle.gu_base.specs.Positions.{position_of}
-use Rattle.gu_base.specs.Places.{line_within, line_of, place_along, place_of_kind, place_of, root_along, root_of}
-use Rattle.gu_base.specs.Refusals.{refusal_of, row, split_row, claim_row}
-use Rattle.gu_base.specs.Standing.{first_refused, standing_on, without}
-use Rattle.gu_base.specs.declared.command.Command.{Command}
-use Rattle.gu_base.specs.declared.command.Command.TheVariants.{Trade, Split, Claim, Refuse, Cancel, Agree, Raise, Initiate, Decline, Reverse}
-use Rattle.gu_base.specs.declared.command.Part.{Part}
-use Rattle.gu_base.specs.declared.command.Side.{Side}
-use Rattle.gu_base.specs.declared.entry.Record.{Record}
-use Rattle.gu_base.specs.declared.node.Charge.{Charge}
-use Rattle.gu_base.specs.declared.node.Kind.{Kind}
-use Rattle.gu_base.specs.declared.node.Kind.TheVariants.{Root, Own, Given}
-use Rattle.gu_base.specs.declared.node.Node.{Node}
-use Rattle.gu_base.specs.declared.node.Place.{Place}
+use Rattle.gu_depend.proofs.Vocabulary.{EntryPart, House, most_lots, highest_rate, charges, charge_of, RisesFrom, deal_in, node_of, split_of, splits, decides, decision_of, claimed_account}
+use Rattle.gu_depend.proofs.Vocabulary.{is_given, parent, position_of, same_side, line_within, line_of, place_along, place_of_kind, place_of, root_along, root_of, refusal_of, row, split_row}
+use Rattle.gu_depend.proofs.Vocabulary.{claim_row, first, refusal_of_part, first_refused, standing_on, without, Command, Trade, Split, Claim, Refuse, Cancel, Agree, Raise, Initiate, Decline}
+use Rattle.gu_depend.proofs.Vocabulary.{Reverse, Part, Side, Record, Charge, Kind, Root, Own, Given, Node, Place, Deal}
+use Rattle.gu_tree.specs.Grove.{Grove}
+use Rattle.gu_book.specs.Filed.{IsFree}
 use Rattle.gu_base.proofs.Basics.{no_some, none_is_some, or_none}
 use Rattle.gu_base.proofs.LegalLaws.{none_refused}
 use Rattle.gu_base.proofs.Searches.{found_in, find_passes}
@@ -44,31 +31,32 @@ use Rattle.gu_depend.proofs.StandsUnder.{rises_distinct, can_stand_last}
 use Rattle.gu_depend.proofs.State.{SameDeals, charge_same}
 use Rattle.gu_fees.specs.Rows.{FeeRows}
 use Rattle.gu_fees.specs.Sums.{AreSumsOf}
-use Rattle.gu_positions.specs.Rows.{PositionRows}
+use Rattle.gu_positions.specs.Rows.{PositionRows, lots_in, is_key}
 use Rattle.gu_tree.specs.Rose.{Rose, named}
 use Rattle.gu_tree.specs.Shown.{IsTreeOf, SplitsNode, DecidesNode, IsOnlySplit, IsOnlyDecision}
 use Rattle.gu_tree.proofs.Alike.{IsAlike, node-alike}
 use Rattle.std.proofs.lemmas.Bool.{or_parts, false_from_ne_true}
 use Rattle.std.proofs.lemmas.Option.{same_Some}
 use Rattle.std.specs.Option.{option_or}
-use Rattle.gu_book.proofs.Sound.{node_push}
+use Rattle.gu_book.proofs.Sound.{node_push, next_from_accepted}
 use Rattle.gu_base.proofs.NodeNames.{made_of, node_called}
 use Rattle.gu_base.proofs.Passing.{at_node_none, claim_passes}
 use Rattle.gu_book.specs.Charging.{IsSmallCharge, AreFeesOf, IsCharged}
 use Rattle.gu_book.specs.Holdings.{traded_at, held_at, holding_of, held_above, taken_before, taken_by, added_by, counted_at, taken_at, SameLots, HaveMoved, HaveThere, HasRoomBack, ArePositionsOf}
+use Rattle.gu_book.specs.Holdings.{part_holding, part_away, goes_back, comes_from, HasFewLots}
 use Rattle.gu_book.specs.Limits.{AllWithinLimits}
 use Rattle.gu_book.specs.declared.plain.holdings.Holding.{Holding}
-use Rattle.gu_base.specs.declared.node.Deal.{Deal}
 use Rattle.gu_book.proofs.Holdings.{IsCounted, key_at, decision_kept, given_parent}
 use Rattle.gu_book.proofs.Charging.{is_charged}
 use Rattle.gu_book.proofs.Dealing.{uses_charged}
 use Rattle.gu_book.proofs.HoldingRows.{is_own_key}
 use Rattle.gu_book.proofs.Orders.{InOrder, in_order}
 use Rattle.gu_book.proofs.Placed.{node_stands}
-use Rattle.gu_book.proofs.Without.{rises_without, without_small, without_within, change_left}
+use Rattle.gu_book.proofs.Leaves.{at_least, rises_without, without_small, without_within, change_left}
 use Rattle.gu_book.proofs.Restored.{replay_on}
-use Rattle.gu_book.proofs.SoundNext.{next_from_accepted}
 use Rattle.gu_book.proofs.Standings.{moved_by, taken_part, position_within}
+use Rattle.gu_book.proofs.PartsAway.{at_whole, moved, moved_few, parts_move, split_well, whole_well}
+use Rattle.gu_book.proofs.Within.{node_within}
 
 -- ---- small charges
 
@@ -99,24 +87,12 @@ all_small h (d ∷ l) each =
     all_first (h d) (filter_map h l) (All-head (λ d. (c : Charge) → h d ≡ Some c → IsSmallCharge c) d l each)
     (all_small h l (All-tail (λ d. (c : Charge) → h d ≡ Some c → IsSmallCharge c) d l each))
 
-rises_all : (n : ℕ) (l : List Record) → RisesFrom n l → All (λ d. n ≤ d.number) l
-rises_all n [] rises = All-nil (λ d. n ≤ d.number)
-rises_all n (d ∷ l) rises =
-    let first : n ≤ d.number = rises.0 in
-    All-cons (λ (d : Record). n ≤ d.number) d l first (weaker n (d.number + 1) l (omega arith) (rises_all (d.number + 1) l rises.1))
-  where
-    weaker : (n m : ℕ) (l : List Record) → n ≤ m → All (λ d. m ≤ d.number) l → All (λ d. n ≤ d.number) l
-    weaker n m [] less all = All-nil (λ (d : Record). n ≤ d.number)
-    weaker n m (d ∷ l) less all =
-        let a : m ≤ d.number = All-head (λ (d : Record). m ≤ d.number) d l all in
-        All-cons (λ (d : Record). n ≤ d.number) d l (omega arith) (weaker n m l less (All-tail (λ (d : Record). m ≤ d.number) d l all))
-
 not_same : (n k : ℕ) → not (n == k) ≡ true → n ≢ k
 not_same n k other e = let yes : (n == k) ≡ true = (Decides-eqb n k).1 e in let z : not true ≡ true = ap not (sym yes) ∙ other in absurd (cc)
 
 -- ---- the change last
 
-module _ (t : House) (l : List Record) (r : Record) (replayed : first_refused t [] l ≡ None) (rises : RisesFrom 1 l) (among : Contains l r) (free : standing_on t l r.number ≡ None) where
+module _ {t : House} {l : List Record} {r : Record} {g : Grove} (u : IsFree t l r g) where
   abbrev others : List Record
   others = without l r.number
 
@@ -124,27 +100,27 @@ module _ (t : House) (l : List Record) (r : Record) (replayed : first_refused t 
   last = others ++ r ∷ []
 
   once : NumbersOnce l
-  once = number_once l (rises_distinct 1 l rises)
+  once = number_once l (rises_distinct 1 l u.rises)
 
   -- the same changes, in another order
   same : IsPermutation l last
   same =
-      let c = cut_at l r among in
-      let gone_is = gone t c.before r c.behind (subst NumbersOnce c.is once) (subst (λ (z : List Record). first_refused t [] z ≡ None) c.is replayed) in
+      let c = cut_at l r u.among in
+      let gone_is = gone t c.before r c.behind (subst NumbersOnce c.is once) (subst (λ (z : List Record). first_refused t [] z ≡ None) c.is u.replayed) in
       subst (λ (z : List Record). IsPermutation z (without z r.number ++ r ∷ [])) (sym c.is)
       (subst (λ (z : List Record). IsPermutation (c.before ++ r ∷ c.behind) (z ++ r ∷ [])) (sym gone_is) (moved_to_end c.before r c.behind))
 
   legal : first_refused t [] last ≡ None
-  legal = (can_stand_last t l r once replayed among free).0
+  legal = (can_stand_last t l r once u.replayed u.among u.free).0
 
   last_once : NumbersOnce last
   last_once n = let a = count_permuted (λ (d : Record). d.number == n) l last same in let b = once n in omega (arith, a, b)
 
   state : IsSameState t l last
-  state = (can_stand_last t l r once replayed among free).1
+  state = (can_stand_last t l r once u.replayed u.among u.free).1
 
   finds : SameFinds l last
-  finds = same_finds l last same once (named_once t l replayed)
+  finds = same_finds l last same once (named_once t l u.replayed)
 
   deals : SameDeals t l last
   deals = record { terms = state.terms; limits = state.limits; used = state.used }
@@ -172,20 +148,20 @@ module _ (t : House) (l : List Record) (r : Record) (replayed : first_refused t 
 
   -- the others don't refuse it
   pub lawful : refusal_of t others r.firm r.command ≡ None
-  lawful = (none_refused (refusal_of t others r.firm r.command) r.number None (sym (replay_on t [] others (r ∷ []) free) ∙ legal)).0
+  lawful = (none_refused (refusal_of t others r.firm r.command) r.number None (sym (replay_on t [] others (r ∷ []) u.free) ∙ legal)).0
 
   counted : IsCounted t others r
   counted =
-      let w : InOrder others = in_order t others free (rises_without 1 r.number l rises) in
+      let w : InOrder others = in_order t others u.free (rises_without 1 r.number l u.rises) in
       record {
         last = before;
         bound = w.bound;
         sound = w.sound;
         unmade = unmade;
         unsplit = unsplit;
-        next = next_from_accepted t others r (All-contains (λ (d : Record). 1 ≤ d.number) l r (rises_all 1 l rises) among) lawful;
-        settled = (facts t others free).settled;
-        stand = λ x e. let p = node_stands t others w.bound w.sound free x e in (p.place, p.is);
+        next = next_from_accepted t others r (All-contains (λ (d : Record). 1 ≤ d.number) l r (at_least 1 l u.rises) u.among) lawful;
+        settled = (facts t others u.free).settled;
+        stand = λ x e. let p = node_stands t others w.bound w.sound u.free x e in (p.place, p.is);
       }
 
   -- ---- fees
@@ -211,8 +187,9 @@ module _ (t : House) (l : List Record) (r : Record) (replayed : first_refused t 
 
   -- a change among the others uses what it used
   same_uses : (giver taker : List ℕ)
-      → sum_by (λ c. c.lots) (filter (λ c. bytes_eq c.giver giver && bytes_eq c.taker taker) (charges t l)) ≡ sum_by (λ c. c.lots) (filter (λ c. bytes_eq c.giver giver && bytes_eq c.taker taker) (charges t last))
-  same_uses giver taker = uses_charged t l replayed giver taker ∙ (sym (state.used giver taker) ∙ sym (uses_charged t last legal giver taker))
+      → sum_by (λ c. c.lots) (filter (λ c. bytes_eq c.giver giver && bytes_eq c.taker taker) (charges t l))
+      ≡ sum_by (λ c. c.lots) (filter (λ c. bytes_eq c.giver giver && bytes_eq c.taker taker) (charges t last))
+  same_uses giver taker = uses_charged t l u.replayed giver taker ∙ (sym (state.used giver taker) ∙ sym (uses_charged t last legal giver taker))
 
   -- the sums are those of the other changes' charges and its own
   charges_with : (fees : FeeRows) → AreFeesOf t l fees → AreSumsOf fees (charges t others ++ cons_option (charge_of t others r.command) [])
@@ -253,7 +230,8 @@ module _ (t : House) (l : List Record) (r : Record) (replayed : first_refused t 
   of_root m root = option_and_then (λ (d : Record). deal_in d.command) (find (λ (d : Record). d.number == root.entry) m)
 
   -- a node's trade is what it was
-  traded_by_root : (n : EntryPart) (x : Node) → node_of others n ≡ Some x → (o : Option EntryPart) → root_of others n ≡ o → option_and_then (of_root l) o ≡ option_and_then (of_root others) o
+  traded_by_root : (n : EntryPart) (x : Node) → node_of others n ≡ Some x → (o : Option EntryPart) → root_of others n ≡ o
+      → option_and_then (of_root l) o ≡ option_and_then (of_root others) o
   traded_by_root n x found None e = refl
   traded_by_root n x found (Some p) e =
       let y = root_found (length others) others p n x found (sym (ap (λ o. root_along (line_within (length others) others o)) found) ∙ e) in
@@ -270,15 +248,15 @@ module _ (t : House) (l : List Record) (r : Record) (replayed : first_refused t 
       ap (line_within (length others) others) found
       ∙ (sym (grown.ends (suc (length others)) n x found (omega arith)) ∙ ap (λ o. x ∷ line_within (length others) others (option_and_then (node_of others) o)) up)
 
-  stands_above : (n m : EntryPart) (x : Node) → node_of others n ≡ Some x → parent x.kind ≡ Some m → is_given x.kind ≡ true → decision_of others x.name ≡ None → place_of others n ≡ place_of others m
+  stands_above : (n m : EntryPart) (x : Node) → node_of others n ≡ Some x → parent x.kind ≡ Some m → is_given x.kind ≡ true → decision_of others x.name ≡ None
+      → place_of others n ≡ place_of others m
   stands_above n m x found up given undecided =
       ap (place_along others) (line_step n m x found up)
       ∙ (ap (λ o. place_of_kind x.kind (option_and_then (λ (d : Record). claimed_account d.command) o) (place_of others m)) undecided ∙ given_place x.kind (place_of others m) given)
     where
       given_place : (k : Kind) (o : Option Place) → is_given k ≡ true → place_of_kind k None o ≡ o
-      given_place (Root _) o h = absurd (cc)
-      given_place (Own _ _ _) o h = absurd (cc)
       given_place (Given _ _ _) o h = refl
+      given_place _ o h = absurd (cc)
 
   split_took : (n : EntryPart) (ps : List Part) → r.command ≡ Split n ps → option_and_then (holding_of l) (node_of l n) ≡ option_and_then (holding_of others) (node_of others n)
   split_took n ps e =
@@ -315,16 +293,9 @@ module _ (t : House) (l : List Record) (r : Record) (replayed : first_refused t 
   taken_same = by_command r.command refl
     where
       by_command : (c : Command) → r.command ≡ c → taken_before l c ≡ taken_by others c
-      by_command (Trade _ _ _ _ _) e = refl
       by_command (Split n ps) e = split_took n ps e
       by_command (Claim n account) e = claim_took n account e
-      by_command (Refuse _) e = refl
-      by_command (Cancel _) e = refl
-      by_command (Agree _ _ _ _) e = refl
-      by_command (Raise _ _) e = refl
-      by_command (Initiate _) e = refl
-      by_command (Decline _) e = refl
-      by_command (Reverse _) e = refl
+      by_command _ e = refl
 
   -- ---- positions
 
@@ -337,7 +308,8 @@ module _ (t : House) (l : List Record) (r : Record) (replayed : first_refused t 
       omega (arith, a, b)
 
   -- what it added is there, and what it took is part of what stands there without it
-  pub added_there : (rows now : PositionRows) → ArePositionsOf l rows → SameLots rows now → (o : Option Holding) → o ≡ taken_by others r.command → HaveThere now (added_by r.firm r.command o)
+  pub added_there : (rows now : PositionRows) → ArePositionsOf l rows → SameLots rows now → (o : Option Holding) → o ≡ taken_by others r.command
+      → HaveThere now (added_by r.firm r.command o)
   added_there rows now are same o is at side =
       let place : Place = record { firm = at.firm; account = at.account } in
       let a = are.lots at side in
@@ -364,7 +336,8 @@ module _ (t : House) (l : List Record) (r : Record) (replayed : first_refused t 
       let i : length others * 1000000000 ≤ 1000000 * 1000000000 = mul-le-mul_right 1000000000 fewer in
       omega (arith, a, b, c, d, e, f, g, i)
 
-  pub positions_without : (rows now new : PositionRows) → ArePositionsOf l rows → SameLots rows now → (o : Option Holding) → o ≡ taken_by others r.command → HaveMoved new now o (added_by r.firm r.command o)
+  pub positions_without : (rows now new : PositionRows) → ArePositionsOf l rows → SameLots rows now → (o : Option Holding) → o ≡ taken_by others r.command
+      → HaveMoved new now o (added_by r.firm r.command o)
       → ArePositionsOf others new
   positions_without rows now new are same o is moved = record {
     lots = λ at side.
@@ -408,7 +381,7 @@ module _ (t : House) (l : List Record) (r : Record) (replayed : first_refused t 
   pub its_number : (d : Record) → Contains l d → d.number ≡ r.number → d ≡ r
   its_number d there is =
       let test : Record → Bool = λ q. q.number == r.number in
-      same_Some d r (sym (found_once test l d there ((Decides-eqb d.number r.number).1 is) (once r.number)) ∙ found_once test l r among ((Decides-eqb r.number r.number).1 refl) (once r.number))
+      same_Some d r (sym (found_once test l d there ((Decides-eqb d.number r.number).1 is) (once r.number)) ∙ found_once test l r u.among ((Decides-eqb r.number r.number).1 refl) (once r.number))
 
   pub each_number : (P : Record → Type 0) → P r → All (λ d. d.number ≡ r.number → P d) l
   each_number P is =
@@ -426,3 +399,84 @@ module _ (t : House) (l : List Record) (r : Record) (replayed : first_refused t 
 
   pub only_decision : (n : EntryPart) → DecidesNode n r.command → decides n r.command ≡ true → IsOnlyDecision l r.number n
   only_decision n is named = record { each = each_number (λ (d : Record). DecidesNode n d.command) is; alone = alone_decision n named }
+
+-- ---- of the lots that a Split moved only those that went to other accounts go back. Then the rows are as if all had been moved back
+
+-- where the lots of a change could be moved back, those that go back can, and when they have, all have
+pub record GoesBack (by : List ℕ) (c : Command) (o : Option Holding) : Type 0 where
+  pub there : (rows : PositionRows) → HaveThere rows (added_by by c o) → HaveThere rows (comes_from by c (goes_back by c o))
+  pub room : (rows : PositionRows) → HasRoomBack rows o (added_by by c o) → HasRoomBack rows (goes_back by c o) (comes_from by c (goes_back by c o))
+  pub moved : (old new : PositionRows) → HaveMoved new old (goes_back by c o) (comes_from by c (goes_back by c o)) → HaveMoved new old o (added_by by c o)
+
+-- ---- a Split
+
+counted_less : (w : Bool) (a b : ℕ) → a ≤ b → cond w a 0 ≤ cond w b 0
+counted_less true a b less = less
+counted_less false a b less = omega arith
+
+module _ (t : House) (whole : Holding) (by : List ℕ) (n : EntryPart) (ps : List Part) (home : whole.key.firm ≡ by) (lots : whole.lots ≡ sum_by (λ (p : Part). p.lots) ps)
+    (fine : first (map (refusal_of_part t by) ps) ≡ None) where
+  split_there : (rows : PositionRows) → HaveThere rows (filter_map (part_holding whole by) ps) → HaveThere rows (filter_map (part_away whole by) ps)
+  split_there rows there at side =
+      let a = there at side in
+      let b = parts_move t whole by ps home fine at side in
+      let c = counted_less (is_key whole.key at && same_side whole.side side) (moved whole by ps) (sum_by (λ (p : Part). p.lots) ps) (moved_few whole by ps) in
+      omega (arith, a, b, c)
+
+  split_room : (rows : PositionRows) → lots_in rows whole.key whole.side + whole.lots < 2 ^ 64 + sum_by (counted_at whole.key whole.side) (filter_map (part_holding whole by) ps)
+      → lots_in rows whole.key whole.side + moved whole by ps < 2 ^ 64 + sum_by (counted_at whole.key whole.side) (filter_map (part_away whole by) ps)
+  split_room rows room =
+      let b = parts_move t whole by ps home fine whole.key whole.side in
+      let c = ap (λ w. cond w (moved whole by ps) 0) (is_own_key whole.key whole.side) in
+      let d = ap (λ w. cond w (sum_by (λ (p : Part). p.lots) ps) 0) (is_own_key whole.key whole.side) in
+      omega (arith, room, lots, b, c, d)
+
+  split_moved : (old new : PositionRows) → HaveMoved new old (Some (at_whole whole (moved whole by ps))) (filter_map (part_away whole by) ps)
+      → HaveMoved new old (Some whole) (filter_map (part_holding whole by) ps)
+  split_moved old new back at side =
+      let a = back at side in
+      let b = parts_move t whole by ps home fine at side in
+      let c = ap (λ n. cond (is_key whole.key at && same_side whole.side side) n 0) lots in
+      omega (arith, a, b, c)
+
+  split_back : GoesBack by (Split n ps) (Some whole)
+  split_back = record { there = split_there; room = split_room; moved = split_moved }
+
+-- ---- the change that is undone
+
+-- all lots of another go back
+all_back : (by : List ℕ) (c : Command) (o : Option Holding) → goes_back by c o ≡ o → comes_from by c o ≡ added_by by c o → GoesBack by c o
+all_back by c o same from =
+    let both : comes_from by c (goes_back by c o) ≡ added_by by c o = ap (comes_from by c) same ∙ from in
+    record {
+      there = λ rows is. subst (λ (hs : List Holding). HaveThere rows hs) (sym both) is;
+      room = λ rows is. subst (λ (b : Option Holding). HasRoomBack rows b (comes_from by c (goes_back by c o))) (sym same) (subst (λ (hs : List Holding). HasRoomBack rows o hs) (sym both) is);
+      moved = λ old new is. subst (λ (b : Option Holding). HaveMoved new old b (added_by by c o)) same (subst (λ (hs : List Holding). HaveMoved new old (goes_back by c o) hs) both is);
+    }
+
+module _ {t : House} {l : List Record} {r : Record} {g : Grove} (u : IsFree t l r g) where
+  lawful_as : (c : Command) → r.command ≡ c → refusal_of t (others u) r.firm c ≡ None
+  lawful_as c e = subst (λ (c : Command). refusal_of t (others u) r.firm c ≡ None) e (lawful u)
+
+  back_as : (c : Command) → r.command ≡ c → (o : Option Holding) → o ≡ taken_by (others u) c → GoesBack r.firm c o
+  back_as (Split n ps) e None is = all_back r.firm (Split n ps) None refl refl
+  back_as (Split n ps) e (Some whole) is =
+      let w = split_well t (others u) r.firm n ps (lawful_as (Split n ps) e) in
+      let well = whole_well w whole (is ∙ ap (option_and_then (holding_of (others u))) w.there) in
+      split_back t whole r.firm n ps well.0 well.1 w.parts
+  back_as c e o is = all_back r.firm c o refl refl
+
+  pub moves_back : (o : Option Holding) → o ≡ taken_by (others u) r.command → GoesBack r.firm r.command o
+  moves_back = back_as r.command refl
+
+  few_as : AllWithinLimits l → (c : Command) → r.command ≡ c → HasFewLots c
+  few_as all (Split n ps) e =
+      let w = split_well t (others u) r.firm n ps (lawful_as (Split n ps) e) in
+      let small : w.node.lots ≤ 10000000 = subst (λ (o : Option Node). IfSome o (λ x. x.lots ≤ 10000000)) w.there (node_within (others u) n (without_small r.number l all)) in
+      let sums = w.sums in
+      omega (arith, small, sums)
+  few_as all _ e = tt
+
+  -- the lots of its parts can be counted
+  pub few_lots : AllWithinLimits l → HasFewLots r.command
+  few_lots all = few_as all r.command refl

@@ -1,4 +1,4 @@
-use Rattle.gu_book.proofs.FoundAs.{found_none}
+use Rattle.gu_book.proofs.OnePlace.{found_none}
 use Rattle.gu_book.proofs.found.find.Goals as goal
 
 pub returns-in_default : goal.returns-in_default

@@ -6,8 +6,7 @@ use Rattle.gu_base.specs.Nodes.{node_of}
 use Rattle.gu_base.specs.declared.node.Node.{Node}
 use Rattle.gu_base.proofs.Basics.{none_is_some}
 use Rattle.gu_book.specs.Found.{IsFoundAs, IsNamedBy}
-use Rattle.gu_book.proofs.FoundAs.{found_none, found_node}
-use Rattle.gu_book.proofs.OnePlace.{lies_there}
+use Rattle.gu_book.proofs.OnePlace.{found_none, found_node, lies_there}
 use Rattle.gu_book.proofs.found.seek_node.Goals.{After-found_at-found}
 use Rattle.gu_book.proofs.found.seek_node.Goals as goal
 

@@ -5,7 +5,8 @@ use Rattle.gu_book.proofs.OnePlace.{named_spot, never_none}
 use Rattle.gu_book.proofs.grove.claim.Goals as goal
 
 pub unreachable-requires : goal.unreachable-requires
-unreachable-requires c = never_none c.args.trees.now (named_node c.args.made.now.command.now) c.args.sought.now.named c.args.sought.now.path.items c.requires.there c.requires.claim.0 (ap named_node c.requires.claim.1) c.in_default.is
+unreachable-requires c = never_none c.args.trees.now (named_node c.args.made.now.command.now) c.args.sought.now.named c.args.sought.now.path.items c.requires.there c.requires.claim.0
+    (ap named_node c.requires.claim.1) c.in_default.is
 
 pub claim-requires-clause-offered : goal.claim-requires-clause-offered
 claim-requires-clause-offered c =

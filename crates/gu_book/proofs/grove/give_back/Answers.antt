@@ -4,7 +4,8 @@ use Rattle.gu_book.proofs.OnePlace.{named_spot, never_none}
 use Rattle.gu_book.proofs.grove.give_back.Goals as goal
 
 pub unreachable-requires : goal.unreachable-requires
-unreachable-requires c = never_none c.args.trees.now (named_node c.args.made.now.command.now) c.args.sought.now.named c.args.sought.now.path.items c.requires.there c.requires.back.0 (back_names c.requires.due.2 c.requires.back.0 c.args.state c.args.made.now.command.now c.requires.back.1) c.in_default.is
+unreachable-requires c = never_none c.args.trees.now (named_node c.args.made.now.command.now) c.args.sought.now.named c.args.sought.now.path.items c.requires.there c.requires.back.0
+    (back_names c.requires.due.2 c.requires.back.0 c.args.state c.args.made.now.command.now c.requires.back.1) c.in_default.is
 
 pub give_back-requires-clause-offered : goal.give_back-requires-clause-offered
 give_back-requires-clause-offered c =

@@ -8,7 +8,8 @@ use Rattle.gu_tree.specs.Shown.{SplitsNode, named_node}
 use Rattle.gu_book.proofs.Filed.{Spot}
 use Rattle.gu_book.specs.TreeRows.{is_trade}
 use Rattle.gu_book.proofs.FreeNodes.{Claims, TurnsDown, turned_down, turned_names, its_spot, root_alone}
-use Rattle.gu_book.proofs.Gone.{may_unsplit, split_in, free_parts, unsplit_gone, claimed_there, claim_part, claim_in, claim_gone, turned_there, turned_part, turned_in, turned_gone, sapling_there, root_gone}
+use Rattle.gu_book.proofs.Gone.{may_unsplit, split_in, free_parts, unsplit_gone, claimed_there, claim_part, claim_in, claim_gone, turned_there, turned_part, turned_in, turned_gone, sapling_there}
+use Rattle.gu_book.proofs.Gone.{root_gone}
 use Rattle.gu_book.proofs.grove.undo.Goals.{In-Split, In-Claim, In-Refuse}
 use Rattle.gu_book.proofs.grove.undo.Goals as goal
 
@@ -56,7 +57,8 @@ pub unsplit-requires-clause-free : goal.unsplit-requires-clause-free
 unsplit-requires-clause-free c = let u = c.requires.may_go.2 in let s = split_at (goal.at.unsplit-requires-clause-free c).In-Split u in free_parts u s.0 s.1
 
 pub returns-in-Split-clause-gone : goal.returns-in-Split-clause-gone
-returns-in-Split-clause-gone c = λ t l u. let s = split_at (goal.at.returns-in-Split-clause-gone c).In-Split u in unsplit_gone u s.0 s.1 c.unsplit.new.self c.unsplit.ensures.tree c.unsplit.ensures.place c.unsplit.ensures.shows
+returns-in-Split-clause-gone c = λ t l u. let s = split_at (goal.at.returns-in-Split-clause-gone c).In-Split u in
+    unsplit_gone u s.0 s.1 c.unsplit.new.self c.unsplit.ensures.tree c.unsplit.ensures.place c.unsplit.ensures.shows
 
 pub unclaim-requires-clause-part : goal.unclaim-requires-clause-part
 unclaim-requires-clause-part c = let u = c.requires.may_go.2 in let s = claim_at (goal.at.unclaim-requires-clause-part c).In-Claim u in claim_part u s.0 s.1
@@ -68,7 +70,8 @@ pub unclaim-requires-clause-decided : goal.unclaim-requires-clause-decided
 unclaim-requires-clause-decided c = let u = c.requires.may_go.2 in let s = claim_at (goal.at.unclaim-requires-clause-decided c).In-Claim u in claim_in u s.0 s.1
 
 pub returns-in-Claim-clause-gone : goal.returns-in-Claim-clause-gone
-returns-in-Claim-clause-gone c = λ t l u. let s = claim_at (goal.at.returns-in-Claim-clause-gone c).In-Claim u in claim_gone u s.0 s.1 c.unclaim.new.self c.unclaim.ensures.tree c.unclaim.ensures.place c.unclaim.ensures.shows
+returns-in-Claim-clause-gone c = λ t l u. let s = claim_at (goal.at.returns-in-Claim-clause-gone c).In-Claim u in
+    claim_gone u s.0 s.1 c.unclaim.new.self c.unclaim.ensures.tree c.unclaim.ensures.place c.unclaim.ensures.shows
 
 pub offer_again-requires-clause-part : goal.offer_again-requires-clause-part
 offer_again-requires-clause-part c = let u = c.requires.may_go.2 in let s = turned_at (goal.at.offer_again-requires-clause-part c).In-Refuse u in turned_part u s.1 s.2
@@ -80,4 +83,5 @@ pub offer_again-requires-clause-decided : goal.offer_again-requires-clause-decid
 offer_again-requires-clause-decided c = let u = c.requires.may_go.2 in let s = turned_at (goal.at.offer_again-requires-clause-decided c).In-Refuse u in turned_in u s.1 s.2
 
 pub returns-in-Refuse-clause-gone : goal.returns-in-Refuse-clause-gone
-returns-in-Refuse-clause-gone c = λ t l u. let s = turned_at (goal.at.returns-in-Refuse-clause-gone c).In-Refuse u in turned_gone u s.1 s.2 c.offer_again.new.self c.offer_again.ensures.tree c.offer_again.ensures.place c.offer_again.ensures.shows
+returns-in-Refuse-clause-gone c = λ t l u. let s = turned_at (goal.at.returns-in-Refuse-clause-gone c).In-Refuse u in
+    turned_gone u s.1 s.2 c.offer_again.new.self c.offer_again.ensures.tree c.offer_again.ensures.place c.offer_again.ensures.shows

@@ -1,8 +1,7 @@
 use Rattle.gu_base.specs.History.{live}
 use Rattle.gu_base.proofs.LegalLaws.{replay_from_legal}
-use Rattle.gu_book.proofs.Balance as balance
+use Rattle.gu_book.proofs.Positions as balance
 use Rattle.gu_book.proofs.Leaves as sums
-use Rattle.gu_book.proofs.Positions as stands
 use Rattle.gu_book.proofs.laws.lots_and_fees_are_conserved.Goals as goal
 
 pub returns-clause-leaves : goal.returns-clause-leaves
@@ -13,7 +12,7 @@ returns-clause-leaves c =
 pub returns-clause-positions : goal.returns-clause-positions
 returns-clause-positions c =
     let book = c.args.book.now in
-    stands.positions_sum book.house (live book.history) (replay_from_legal book.house (live book.history) c.history.ensures.legal) (sums.live_rises book.history)
+    balance.positions_sum book.house (live book.history) (replay_from_legal book.house (live book.history) c.history.ensures.legal) (sums.live_rises book.history)
 
 pub returns-clause-fees : goal.returns-clause-fees
 returns-clause-fees c =

@@ -5,7 +5,7 @@ use Rattle.gu_base.specs.declared.refusal.Refusal.TheVariants.{StandsOn}
 use Rattle.gu_consent.specs.Given.{given}
 use Rattle.gu_book.proofs.Fronts.{stands_refusal, decided, settles, not_accepted}
 use Rattle.gu_book.proofs.Leaves.{live_rises}
-use Rattle.gu_book.proofs.Undone.{stands_found}
+use Rattle.gu_book.proofs.AllShown.{stands_found}
 use Rattle.gu_book.proofs.book.Book.answer.Goals.{In-Accepted}
 use Rattle.gu_book.proofs.book.Book.answer.Goals as goal
 

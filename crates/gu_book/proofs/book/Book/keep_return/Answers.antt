@@ -23,17 +23,20 @@ pub give_back-requires-clause-due : goal.give_back-requires-clause-due
 give_back-requires-clause-due c =
     let ok = rw (← c.self.view_is) at c.requires.accepted in
     due_same (record_of c.args.made.now) c.self.inside.trees c.ready-2.new.self c.in_ok-ready-2.ensures.same
-    (c.self.inside.house, live c.self.inside.entries.items, next_kept c.self.invariant.kept c.args.made.now.number (entry_of_change c.args.made.now) ok (return_changes c.args.made.now.command.now c.requires.back))
+    (c.self.inside.house, live c.self.inside.entries.items, next_kept c.self.invariant.kept c.args.made.now.number (entry_of_change c.args.made.now) ok
+    (return_changes c.args.made.now.command.now c.requires.back))
 
 pub give_back-requires-clause-there : goal.give_back-requires-clause-there
 give_back-requires-clause-there c =
     let ok = rw (← c.self.view_is) at c.requires.accepted in
     let next = next_kept c.self.invariant.kept c.args.made.now.number (entry_of_change c.args.made.now) ok (return_changes c.args.made.now.command.now c.requires.back) in
-    next_there next c.ready-2.new.self c.in_ok-ready-2.ensures.same c.args.sought.now.named c.args.sought.now.path.items (rw (← c.self.view_is) at c.requires.named) (rw (← c.self.view_is) at c.requires.there)
+    next_there next c.ready-2.new.self c.in_ok-ready-2.ensures.same c.args.sought.now.named c.args.sought.now.path.items (rw (← c.self.view_is) at c.requires.named)
+    (rw (← c.self.view_is) at c.requires.there)
 
 pub add-requires-clause-few : goal.add-requires-clause-few
 add-requires-clause-few c =
-    ids_fewer c.self.inside.entries.items c.ready.new.self (c.in_ok-ready.ensures.same c.self.inside.entries.items c.self.invariant.indexed.ids.chained) c.self.inside.house (entry_of_change c.args.made.now) c.args.made.now.number (rw (← c.self.view_is) at c.requires.accepted)
+    ids_fewer c.self.inside.entries.items c.ready.new.self (c.in_ok-ready.ensures.same c.self.inside.entries.items c.self.invariant.indexed.ids.chained) c.self.inside.house
+    (entry_of_change c.args.made.now) c.args.made.now.number (rw (← c.self.view_is) at c.requires.accepted)
 
 pub invariant_of-self-2 : goal.invariant_of-self-2
 invariant_of-self-2 c =
@@ -46,8 +49,10 @@ invariant_of-self-2 c =
     simp (c.push.ensures, c.make_room.ensures.items)
     (record {
       kept = kept_change c.self.invariant.kept c.args.made.now.number e ok change c.give_back.new.trees
-          (follows_same (record_of c.args.made.now) c.self.inside.trees c.ready-2.new.self c.give_back.new.trees c.in_ok-ready-2.ensures.same c.give_back.ensures.follows c.self.inside.house (live h) next) c.give_back.ensures.last;
-      indexed = index_added c.self.invariant.indexed c.self.inside.house e c.args.made.now.number ok c.add.new.self (c.add.ensures h e c.requires.hashed (c.in_ok-ready.ensures.same h c.self.invariant.indexed.ids.chained)) (λ m. change_is_no_reverse m c.args.made.now.command.now change);
+          (follows_same (record_of c.args.made.now) c.self.inside.trees c.ready-2.new.self c.give_back.new.trees c.in_ok-ready-2.ensures.same c.give_back.ensures.follows c.self.inside.house
+          (live h) next) c.give_back.ensures.last;
+      indexed = index_added c.self.invariant.indexed c.self.inside.house e c.args.made.now.number ok c.add.new.self
+          (c.add.ensures h e c.requires.hashed (c.in_ok-ready.ensures.same h c.self.invariant.indexed.ids.chained)) (λ m. change_is_no_reverse m c.args.made.now.command.now change);
       charged = subst (λ (l : List Record). AreFeesOf c.self.inside.house l c.self.inside.fees) more (return_free next c.requires.back c.self.inside.fees c.self.invariant.charged);
       stands = subst (λ (l : List Record). ArePositionsOf l c.self.inside.positions) more (return_stands next c.requires.back c.self.inside.positions c.self.invariant.stands);
       dealt = subst (λ (l : List Record). AreTermsOf c.self.inside.house l c.self.inside.terms) more
@@ -58,4 +63,5 @@ invariant_of-self-2 c =
 pub invariant_of-self-in_err-ready-2 : goal.invariant_of-self-in_err-ready-2
 invariant_of-self-in_err-ready-2 c =
     simp (c.make_room.ensures.items)
-    (still c.self.invariant c.ready-2.new.self c.in_err-ready-2.ensures.same c.ready.new.self (c.in_ok-ready.ensures.same c.self.inside.entries.items c.self.invariant.indexed.ids.chained) c.self.inside.positions (λ at side. refl))
+    (still c.self.invariant c.ready-2.new.self c.in_err-ready-2.ensures.same c.ready.new.self
+    (c.in_ok-ready.ensures.same c.self.inside.entries.items c.self.invariant.indexed.ids.chained) c.self.inside.positions (λ at side. refl))

@@ -59,7 +59,8 @@ put_all_away-requires-clause-room c =
     let fewer = live_few c.self.inside.entries.items in
     let within : length (live c.self.inside.entries.items) ≤ 1000000 = omega (arith, few, fewer) in
     rw c.as_slice-2.ensures
-    (split_fits (next w) c.in-Split.node c.in-Split.parts c.in-Split.is c.in-Some.named.node (named w).0 c.whole_of-whole.result (holds w) within c.self.invariant.kept.within c.self.inside.positions c.self.invariant.stands)
+    (split_fits (next w) c.in-Split.node c.in-Split.parts c.in-Split.is c.in-Some.named.node (named w).0 c.whole_of-whole.result
+    (holds w) within c.self.invariant.kept.within c.self.inside.positions c.self.invariant.stands)
 
 pub split-requires-clause-due : goal.split-requires-clause-due
 split-requires-clause-due c =
@@ -76,14 +77,16 @@ take_moved-requires c =
     let w = (goal.at.take_moved-requires c).After-whole_of-whole in
     let put = rw c.as_slice-2.ensures at c.in_ok-moved.ensures.put in
     let is = rw c.as_slice-2.ensures at c.in_ok-moved.ensures.moved in
-    rw is (split_takes (next w) c.in-Split.node c.in-Split.parts c.in-Split.is c.in-Some.named.node (named w).0 c.whole_of-whole.result (holds w) c.self.inside.positions c.put_all_away.new.positions c.self.invariant.stands put)
+    rw is (split_takes (next w) c.in-Split.node c.in-Split.parts c.in-Split.is c.in-Some.named.node (named w).0 c.whole_of-whole.result
+    (holds w) c.self.inside.positions c.put_all_away.new.positions c.self.invariant.stands put)
 
 pub ready-requires : goal.ready-requires
 ready-requires c = ids_few c.self.invariant.indexed c.self.invariant.kept.few
 
 pub add-requires-clause-few : goal.add-requires-clause-few
 add-requires-clause-few c =
-    ids_fewer c.self.inside.entries.items c.ready.new.self (c.in_ok-ready.ensures.same c.self.inside.entries.items c.self.invariant.indexed.ids.chained) c.self.inside.house (entry_of_change c.args.made.now) c.args.made.now.number (rw (← c.self.view_is) at c.requires.accepted)
+    ids_fewer c.self.inside.entries.items c.ready.new.self (c.in_ok-ready.ensures.same c.self.inside.entries.items c.self.invariant.indexed.ids.chained) c.self.inside.house
+    (entry_of_change c.args.made.now) c.args.made.now.number (rw (← c.self.view_is) at c.requires.accepted)
 
 pub invariant_of-self-2 : goal.invariant_of-self-2
 invariant_of-self-2 c =
@@ -99,11 +102,15 @@ invariant_of-self-2 c =
     simp (c.push.ensures, c.make_room.ensures.items)
     (record {
       kept = kept_change c.self.invariant.kept c.args.made.now.number e ok change c.split.new.trees
-          (follows_same (record_of c.args.made.now) c.self.inside.trees c.ready-2.new.self c.split.new.trees c.in_ok-ready-2.ensures.same c.in_default-split.ensures.follows c.self.inside.house (live h) (next w)) c.in_default-split.ensures.last;
-      indexed = index_added c.self.invariant.indexed c.self.inside.house e c.args.made.now.number ok c.add.new.self (c.add.ensures h e c.requires.hashed (c.in_ok-ready.ensures.same h c.self.invariant.indexed.ids.chained)) (λ m. change_is_no_reverse m c.args.made.now.command.now change);
-      charged = subst (λ (l : List Record). AreFeesOf c.self.inside.house l c.self.inside.fees) more (split_free (next w) c.in-Split.node c.in-Split.parts c.in-Split.is c.self.inside.fees c.self.invariant.charged);
+          (follows_same (record_of c.args.made.now) c.self.inside.trees c.ready-2.new.self c.split.new.trees c.in_ok-ready-2.ensures.same c.in_default-split.ensures.follows c.self.inside.house
+          (live h) (next w)) c.in_default-split.ensures.last;
+      indexed = index_added c.self.invariant.indexed c.self.inside.house e c.args.made.now.number ok c.add.new.self
+          (c.add.ensures h e c.requires.hashed (c.in_ok-ready.ensures.same h c.self.invariant.indexed.ids.chained)) (λ m. change_is_no_reverse m c.args.made.now.command.now change);
+      charged = subst (λ (l : List Record). AreFeesOf c.self.inside.house l c.self.inside.fees) more
+          (split_free (next w) c.in-Split.node c.in-Split.parts c.in-Split.is c.self.inside.fees c.self.invariant.charged);
       stands = subst (λ (l : List Record). ArePositionsOf l c.take_moved.new.positions) more
-          (split_stands (next w) c.in-Split.node c.in-Split.parts c.in-Split.is c.in-Some.named.node (named w).0 c.whole_of-whole.result (holds w) c.self.inside.positions c.put_all_away.new.positions c.take_moved.new.positions c.self.invariant.stands put taken);
+          (split_stands (next w) c.in-Split.node c.in-Split.parts c.in-Split.is c.in-Some.named.node (named w).0 c.whole_of-whole.result
+          (holds w) c.self.inside.positions c.put_all_away.new.positions c.take_moved.new.positions c.self.invariant.stands put taken);
       dealt = subst (λ (l : List Record). AreTermsOf c.self.inside.house l c.self.inside.terms) more
           (dealt_apart (next w) c.self.inside.terms c.self.invariant.dealt (ap (pair_of (live h) c.args.made.now.firm.now) c.in-Split.is));
       dealt_before = still_before c.self.invariant.kept c.args.made.now.number e ok (last_entry c.self.inside.terms) c.self.invariant.dealt_before;
@@ -114,22 +121,26 @@ invariant_of-self-2 c =
 pub invariant_of-self-in_err-ready-2 : goal.invariant_of-self-in_err-ready-2
 invariant_of-self-in_err-ready-2 c =
     simp (c.make_room.ensures.items)
-    (still c.self.invariant c.ready-2.new.self c.in_err-ready-2.ensures.same c.ready.new.self (c.in_ok-ready.ensures.same c.self.inside.entries.items c.self.invariant.indexed.ids.chained) c.self.inside.positions (λ at side. refl))
+    (still c.self.invariant c.ready-2.new.self c.in_err-ready-2.ensures.same c.ready.new.self
+    (c.in_ok-ready.ensures.same c.self.inside.entries.items c.self.invariant.indexed.ids.chained) c.self.inside.positions (λ at side. refl))
 
 pub invariant_of-self-in_err-kept : goal.invariant_of-self-in_err-kept
 invariant_of-self-in_err-kept c =
     simp (c.make_room.ensures.items)
-    (still c.self.invariant c.ready-2.new.self c.in_ok-ready-2.ensures.same c.ready.new.self (c.in_ok-ready.ensures.same c.self.inside.entries.items c.self.invariant.indexed.ids.chained) c.self.inside.positions (λ at side. refl))
+    (still c.self.invariant c.ready-2.new.self c.in_ok-ready-2.ensures.same c.ready.new.self
+    (c.in_ok-ready.ensures.same c.self.inside.entries.items c.self.invariant.indexed.ids.chained) c.self.inside.positions (λ at side. refl))
 
 pub invariant_of-self-in_err-moved : goal.invariant_of-self-in_err-moved
 invariant_of-self-in_err-moved c =
     simp (c.make_room.ensures.items)
-    (still c.self.invariant c.ready-2.new.self c.in_ok-ready-2.ensures.same c.ready.new.self (c.in_ok-ready.ensures.same c.self.inside.entries.items c.self.invariant.indexed.ids.chained) c.put_all_away.new.positions c.in_err-moved.ensures.same)
+    (still c.self.invariant c.ready-2.new.self c.in_ok-ready-2.ensures.same c.ready.new.self
+    (c.in_ok-ready.ensures.same c.self.inside.entries.items c.self.invariant.indexed.ids.chained) c.put_all_away.new.positions c.in_err-moved.ensures.same)
 
 pub invariant_of-self-in-Err : goal.invariant_of-self-in-Err
 invariant_of-self-in-Err c =
     let put = rw c.as_slice-2.ensures at c.in_ok-moved.ensures.put in
     let gone = rw c.as_slice-in-Err.ensures at c.take_away.ensures.gone in
     simp (c.make_room.ensures.items)
-    (still c.self.invariant c.split.new.trees (same_both c.self.inside.trees c.ready-2.new.self c.split.new.trees c.in_ok-ready-2.ensures.same c.in-Err.ensures.unchanged) c.ready.new.self (c.in_ok-ready.ensures.same c.self.inside.entries.items c.self.invariant.indexed.ids.chained) c.take_away.new.positions
+    (still c.self.invariant c.split.new.trees (same_both c.self.inside.trees c.ready-2.new.self c.split.new.trees c.in_ok-ready-2.ensures.same c.in-Err.ensures.unchanged) c.ready.new.self
+    (c.in_ok-ready.ensures.same c.self.inside.entries.items c.self.invariant.indexed.ids.chained) c.take_away.new.positions
     (put_and_taken c.self.inside.positions c.put_all_away.new.positions c.take_away.new.positions (filter_map (part_away c.whole_of-whole.result c.args.made.now.firm.now) c.in-Split.parts) put gone))

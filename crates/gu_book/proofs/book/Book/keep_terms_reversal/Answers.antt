@@ -10,11 +10,10 @@ use Rattle.gu_book.specs.Charging.{AreFeesOf}
 use Rattle.gu_book.specs.Filed.{IsFiled, IsFree}
 use Rattle.gu_book.specs.Holdings.{ArePositionsOf}
 use Rattle.gu_book.specs.Live.{entry_of_change}
-use Rattle.gu_book.proofs.AllShown.{undone, undone_number, undone_may_go}
+use Rattle.gu_book.proofs.AllShown.{undone, undone_number, undone_may_go, undone_of_terms}
 use Rattle.gu_book.proofs.Indexed.{ids_few, ids_fewer, index_reverse}
 use Rattle.gu_book.proofs.Keeps.{kept_reverse, live_less, still_before}
 use Rattle.gu_book.proofs.TermsKept.{IsOfTerms, terms_undealt, undealt_filed, undealt_fees, undealt_stands}
-use Rattle.gu_book.proofs.Undone.{undone_of_terms}
 use Rattle.gu_book.proofs.book.Book.keep_terms_reversal.Goals as goal
 
 pub ready-requires : goal.ready-requires
@@ -22,7 +21,8 @@ ready-requires c = ids_few c.self.invariant.indexed c.self.invariant.kept.few
 
 pub add-requires-clause-few : goal.add-requires-clause-few
 add-requires-clause-few c =
-    ids_fewer c.self.inside.entries.items c.ready.new.self (c.in_ok-ready.ensures.same c.self.inside.entries.items c.self.invariant.indexed.ids.chained) c.self.inside.house (entry_of_change c.args.made.now) c.args.made.now.number (rw (← c.self.view_is) at c.requires.accepted)
+    ids_fewer c.self.inside.entries.items c.ready.new.self (c.in_ok-ready.ensures.same c.self.inside.entries.items c.self.invariant.indexed.ids.chained) c.self.inside.house
+    (entry_of_change c.args.made.now) c.args.made.now.number (rw (← c.self.view_is) at c.requires.accepted)
 
 pub invariant_of-self-2 : goal.invariant_of-self-2
 invariant_of-self-2 c =
@@ -44,9 +44,11 @@ invariant_of-self-2 c =
     simp (c.push.ensures, c.make_room.ensures.items)
     (record {
       kept = kept_reverse c.self.invariant.kept n e ok k c.requires.names c.self.inside.trees filed refl c.clear.new.self c.clear.ensures;
-      indexed = index_reverse c.self.invariant.indexed c.self.inside.house e n ok c.add.new.self (c.add.ensures h e c.requires.hashed (c.in_ok-ready.ensures.same h c.self.invariant.indexed.ids.chained)) k c.requires.names c.put.new.self c.in_ok-put.ensures.put;
+      indexed = index_reverse c.self.invariant.indexed c.self.inside.house e n ok c.add.new.self
+          (c.add.ensures h e c.requires.hashed (c.in_ok-ready.ensures.same h c.self.invariant.indexed.ids.chained)) k c.requires.names c.put.new.self c.in_ok-put.ensures.put;
       charged = subst (λ (l : List Record). AreFeesOf c.self.inside.house l c.self.inside.fees) rest (undealt_fees go of c.self.inside.fees c.self.invariant.charged);
       stands = subst (λ (l : List Record). ArePositionsOf l c.self.inside.positions) rest (undealt_stands go of c.self.inside.positions c.self.invariant.stands);
       dealt = subst (λ (l : List Record). AreTermsOf c.self.inside.house l c.take_out.new.self) rest (terms_undealt go c.self.inside.terms c.take_out.new.self c.self.invariant.dealt of taken);
-      dealt_before = still_before c.self.invariant.kept n e ok (last_entry c.take_out.new.self) (let low = c.self.invariant.dealt_before in let same = c.take_out.ensures.last in omega (arith, low, same));
+      dealt_before = still_before c.self.invariant.kept n e ok (last_entry c.take_out.new.self)
+          (let low = c.self.invariant.dealt_before in let same = c.take_out.ensures.last in omega (arith, low, same));
     })

@@ -21,30 +21,35 @@ put-requires c =
     let few = c.self.invariant.kept.few in
     let fewer = live_few c.self.inside.entries.items in
     let within : length (live c.self.inside.entries.items) ≤ 1000000 = omega (arith, few, fewer) in
-    trade_fits (next_kept c.self.invariant.kept c.args.made.now.number (entry_of_change c.args.made.now) (rw (← c.self.view_is) at c.requires.accepted) (ap is_change c.in-Trade.is)) (record { firm = c.in-Trade.firm; account = c.in-Trade.account; instrument = c.in-Trade.instrument }) c.in-Trade.side c.in-Trade.lots c.in-Trade.is
+    trade_fits (next_kept c.self.invariant.kept c.args.made.now.number (entry_of_change c.args.made.now) (rw (← c.self.view_is) at c.requires.accepted) (ap is_change c.in-Trade.is))
+        (record { firm = c.in-Trade.firm; account = c.in-Trade.account; instrument = c.in-Trade.instrument }) c.in-Trade.side c.in-Trade.lots c.in-Trade.is
     within c.self.invariant.kept.within c.self.inside.positions c.self.invariant.stands
 
 pub plant-requires-clause-due : goal.plant-requires-clause-due
 plant-requires-clause-due c =
     due_same (record_of c.args.made.now) c.self.inside.trees c.ready-2.new.self c.in_ok-ready-2.ensures.same
-    (c.self.inside.house, live c.self.inside.entries.items, next_kept c.self.invariant.kept c.args.made.now.number (entry_of_change c.args.made.now) (rw (← c.self.view_is) at c.requires.accepted) (ap is_change c.in-Trade.is))
+    (c.self.inside.house, live c.self.inside.entries.items, next_kept c.self.invariant.kept c.args.made.now.number (entry_of_change c.args.made.now) (rw (← c.self.view_is) at c.requires.accepted)
+    (ap is_change c.in-Trade.is))
 
 pub ready-requires : goal.ready-requires
 ready-requires c = ids_few c.self.invariant.indexed c.self.invariant.kept.few
 
 pub add-requires-clause-few : goal.add-requires-clause-few
 add-requires-clause-few c =
-    ids_fewer c.self.inside.entries.items c.ready.new.self (c.in_ok-ready.ensures.same c.self.inside.entries.items c.self.invariant.indexed.ids.chained) c.self.inside.house (entry_of_change c.args.made.now) c.args.made.now.number (rw (← c.self.view_is) at c.requires.accepted)
+    ids_fewer c.self.inside.entries.items c.ready.new.self (c.in_ok-ready.ensures.same c.self.inside.entries.items c.self.invariant.indexed.ids.chained) c.self.inside.house
+    (entry_of_change c.args.made.now) c.args.made.now.number (rw (← c.self.view_is) at c.requires.accepted)
 
 pub invariant_of-self-in_err-ready-2 : goal.invariant_of-self-in_err-ready-2
 invariant_of-self-in_err-ready-2 c =
     simp (c.make_room.ensures.items)
-    (still c.self.invariant c.ready-2.new.self c.in_err-ready-2.ensures.same c.ready.new.self (c.in_ok-ready.ensures.same c.self.inside.entries.items c.self.invariant.indexed.ids.chained) c.self.inside.positions (λ at side. refl))
+    (still c.self.invariant c.ready-2.new.self c.in_err-ready-2.ensures.same c.ready.new.self
+    (c.in_ok-ready.ensures.same c.self.inside.entries.items c.self.invariant.indexed.ids.chained) c.self.inside.positions (λ at side. refl))
 
 pub invariant_of-self-in_err-put : goal.invariant_of-self-in_err-put
 invariant_of-self-in_err-put c =
     simp (c.make_room.ensures.items)
-    (still c.self.invariant c.ready-2.new.self c.in_ok-ready-2.ensures.same c.ready.new.self (c.in_ok-ready.ensures.same c.self.inside.entries.items c.self.invariant.indexed.ids.chained) c.put.new.self c.in_err-put.ensures.same)
+    (still c.self.invariant c.ready-2.new.self c.in_ok-ready-2.ensures.same c.ready.new.self
+    (c.in_ok-ready.ensures.same c.self.inside.entries.items c.self.invariant.indexed.ids.chained) c.put.new.self c.in_err-put.ensures.same)
 
 pub invariant_of-self-2 : goal.invariant_of-self-2
 invariant_of-self-2 c =
@@ -58,9 +63,12 @@ invariant_of-self-2 c =
     simp (c.push.ensures, c.make_room.ensures.items)
     (record {
       kept = kept_change c.self.invariant.kept c.args.made.now.number e ok change c.plant.new.trees
-          (follows_same (record_of c.args.made.now) c.self.inside.trees c.ready-2.new.self c.plant.new.trees c.in_ok-ready-2.ensures.same c.plant.ensures.follows c.self.inside.house (live h) follows) c.plant.ensures.last;
-      indexed = index_added c.self.invariant.indexed c.self.inside.house e c.args.made.now.number ok c.add.new.self (c.add.ensures h e c.requires.hashed (c.in_ok-ready.ensures.same h c.self.invariant.indexed.ids.chained)) (λ m. change_is_no_reverse m c.args.made.now.command.now change);
-      charged = subst (λ (l : List Record). AreFeesOf c.self.inside.house l c.self.inside.fees) more (trade_free follows key c.in-Trade.side c.in-Trade.lots c.in-Trade.is c.self.inside.fees c.self.invariant.charged);
+          (follows_same (record_of c.args.made.now) c.self.inside.trees c.ready-2.new.self c.plant.new.trees c.in_ok-ready-2.ensures.same c.plant.ensures.follows c.self.inside.house
+          (live h) follows) c.plant.ensures.last;
+      indexed = index_added c.self.invariant.indexed c.self.inside.house e c.args.made.now.number ok c.add.new.self
+          (c.add.ensures h e c.requires.hashed (c.in_ok-ready.ensures.same h c.self.invariant.indexed.ids.chained)) (λ m. change_is_no_reverse m c.args.made.now.command.now change);
+      charged = subst (λ (l : List Record). AreFeesOf c.self.inside.house l c.self.inside.fees) more
+          (trade_free follows key c.in-Trade.side c.in-Trade.lots c.in-Trade.is c.self.inside.fees c.self.invariant.charged);
       stands = subst (λ (l : List Record). ArePositionsOf l c.put.new.self) more
           (trade_stands follows key c.in-Trade.side c.in-Trade.lots c.in-Trade.is c.self.inside.positions c.put.new.self c.self.invariant.stands c.in_ok-put.ensures.added);
       dealt = subst (λ (l : List Record). AreTermsOf c.self.inside.house l c.self.inside.terms) more

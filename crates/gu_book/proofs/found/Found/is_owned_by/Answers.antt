@@ -1,5 +1,5 @@
 use Rattle.std.proofs.Common.{◌∙◌, sym}
-use Rattle.gu_book.proofs.FoundAs.{owned_as}
+use Rattle.gu_book.proofs.OnePlace.{owned_as}
 use Rattle.gu_book.proofs.found.Found.is_owned_by.Goals as goal
 
 pub returns : goal.returns

@@ -39,7 +39,8 @@ returns-in-None c =
     let within : c.args.number - 1 < length c.self.inside.entries.now = rw c.get.ensures.value at c.if-place-self.false in
     let there = known_entry c.self.inside.entries.now c.args.number c.index-self-place.result one within (rw c.get.ensures.value at c.index-self-place.is) in
     let is = ap (λ (e : Entry). is_change e.command) c.index-self-place.is ∙ sym c.if-not-is_change.ensures in
-    let unnamed = mapped_none (λ (r : Record). r.number) (reversal_of c.self.inside.entries.now c.args.number) (sym (c.self.invariant.reversals.numbers c.args.number) ∙ (sym c.number.ensures ∙ c.in-None.is)) in
+    let unnamed = mapped_none (λ (r : Record). r.number) (reversal_of c.self.inside.entries.now c.args.number)
+    (sym (c.self.invariant.reversals.numbers c.args.number) ∙ (sym c.number.ensures ∙ c.in-None.is)) in
     rw (← c.self.view_is)
     (ap (λ (e : Entry). Some (numbered_as c.args.number e)) (sym c.index-self-place.is)
     ∙ found_there c.self.inside.entries.now c.args.number c.index-self-place.result there is (not_reversed c.args.number 1 c.self.inside.entries.now unnamed))

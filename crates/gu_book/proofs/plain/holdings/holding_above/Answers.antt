@@ -3,7 +3,7 @@ use Rattle.std.specs.Prelude.{Some, option_and_then}
 use Rattle.gu_base.specs.Nodes.{parent}
 use Rattle.gu_base.specs.declared.node.Node.{Node}
 use Rattle.gu_book.specs.Holdings.{held_above}
-use Rattle.gu_book.proofs.FoundAs.{found_node, above_as}
+use Rattle.gu_book.proofs.OnePlace.{found_node, above_as}
 use Rattle.gu_book.proofs.plain.holdings.holding_above.Goals as goal
 
 pub returns-in-Some-find : goal.returns-in-Some-find

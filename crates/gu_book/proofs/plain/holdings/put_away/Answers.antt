@@ -52,7 +52,8 @@ loop-part-preserved c =
             firm = at.firm;
             instrument = at.instrument;
             room = room_still c.loop-part.positions w.put.new.self (Some h) rest (subst (λ (hs : List Holding). HaveRoom c.loop-part.positions hs) here at.room) one;
-            put = subst (λ (hs : List Holding). HaveMoved c.args.positions.now w.put.new.self None hs) (sym more) (more_put c.args.positions.now c.loop-part.positions w.put.new.self done (h ∷ []) at.put one);
+            put = subst (λ (hs : List Holding). HaveMoved c.args.positions.now w.put.new.self None hs) (sym more)
+                (more_put c.args.positions.now c.loop-part.positions w.put.new.self done (h ∷ []) at.put one);
             moved = omega (arith, moved, longer, two, last);
             fits = omega (arith, fits, first, here_sum);
           })

@@ -10,8 +10,10 @@ use Rattle.gu_book.proofs.plain.holdings.take_away.Goals.{in-Some, in_default}
 pub take-requires : goal.take-requires
 take-requires c =
     let f = part_away c.args.whole.now c.args.by.now in
-    let here = some_here f c.args.parts.now c.loop-part.part-index c.part-item.result (holding_away c.args.whole.now c.args.by.now c.in-Some.account.now c.part-item.result.lots) c.loop-part-test.true c.part-item.is c.in-Some.ensures in
-    first_there c.loop-part.positions (holding_away c.args.whole.now c.args.by.now c.in-Some.account.now c.part-item.result.lots) (filter_map f (drop (c.loop-part.part-index + 1) c.args.parts.now)) (subst (λ (hs : List Holding). HaveThere c.loop-part.positions hs) here c.loop-part.invariant.there)
+    let here = some_here f c.args.parts.now c.loop-part.part-index c.part-item.result
+    (holding_away c.args.whole.now c.args.by.now c.in-Some.account.now c.part-item.result.lots) c.loop-part-test.true c.part-item.is c.in-Some.ensures in
+    first_there c.loop-part.positions (holding_away c.args.whole.now c.args.by.now c.in-Some.account.now c.part-item.result.lots) (filter_map f (drop (c.loop-part.part-index + 1) c.args.parts.now))
+        (subst (λ (hs : List Holding). HaveThere c.loop-part.positions hs) here c.loop-part.invariant.there)
 
 pub loop-part-init : goal.loop-part-init
 loop-part-init c = record { there = c.requires; gone = none_gone c.args.positions.now; stays = λ at is. is }
@@ -23,12 +25,18 @@ loop-part-preserved c =
     let rest = filter_map f (drop (c.loop-part.part-index + 1) c.args.parts.now) in
     elim c.match-account_away.branch [
       | in-Some w ↦ (
-          let here = some_here f c.args.parts.now c.loop-part.part-index c.part-item.result (holding_away c.args.whole.now c.args.by.now w.in-Some.account.now c.part-item.result.lots) c.loop-part-test.true c.part-item.is w.in-Some.ensures in
-          let more = some_more f c.args.parts.now c.loop-part.part-index c.part-item.result (holding_away c.args.whole.now c.args.by.now w.in-Some.account.now c.part-item.result.lots) c.loop-part-test.true c.part-item.is w.in-Some.ensures in
-          let one : HaveMoved w.take.new.self c.loop-part.positions None ((holding_away c.args.whole.now c.args.by.now w.in-Some.account.now c.part-item.result.lots) ∷ []) = one_taken c.loop-part.positions w.take.new.self (holding_away c.args.whole.now c.args.by.now w.in-Some.account.now c.part-item.result.lots) w.take.ensures.taken in
+          let here = some_here f c.args.parts.now c.loop-part.part-index c.part-item.result
+          (holding_away c.args.whole.now c.args.by.now w.in-Some.account.now c.part-item.result.lots) c.loop-part-test.true c.part-item.is w.in-Some.ensures in
+          let more = some_more f c.args.parts.now c.loop-part.part-index c.part-item.result
+          (holding_away c.args.whole.now c.args.by.now w.in-Some.account.now c.part-item.result.lots) c.loop-part-test.true c.part-item.is w.in-Some.ensures in
+          let one : HaveMoved w.take.new.self c.loop-part.positions None ((holding_away c.args.whole.now c.args.by.now w.in-Some.account.now c.part-item.result.lots) ∷ []) =
+          one_taken c.loop-part.positions w.take.new.self (holding_away c.args.whole.now c.args.by.now w.in-Some.account.now c.part-item.result.lots) w.take.ensures.taken in
           rw w.positions-is (record {
-            there = rest_there c.loop-part.positions w.take.new.self (holding_away c.args.whole.now c.args.by.now w.in-Some.account.now c.part-item.result.lots) rest (subst (λ (hs : List Holding). HaveThere c.loop-part.positions hs) here c.loop-part.invariant.there) one;
-            gone = subst (λ (hs : List Holding). HaveMoved w.take.new.self c.args.positions.now None hs) (sym more) (more_taken c.args.positions.now c.loop-part.positions w.take.new.self done ((holding_away c.args.whole.now c.args.by.now w.in-Some.account.now c.part-item.result.lots) ∷ []) c.loop-part.invariant.gone one);
+            there = rest_there c.loop-part.positions w.take.new.self (holding_away c.args.whole.now c.args.by.now w.in-Some.account.now c.part-item.result.lots) rest
+                (subst (λ (hs : List Holding). HaveThere c.loop-part.positions hs) here c.loop-part.invariant.there) one;
+            gone = subst (λ (hs : List Holding). HaveMoved w.take.new.self c.args.positions.now None hs) (sym more)
+                (more_taken c.args.positions.now c.loop-part.positions w.take.new.self done
+                ((holding_away c.args.whole.now c.args.by.now w.in-Some.account.now c.part-item.result.lots) ∷ []) c.loop-part.invariant.gone one);
             stays = λ at is. w.take.ensures.stays_ready at (c.loop-part.invariant.stays at is);
           })
           )
@@ -45,4 +53,5 @@ loop-part-preserved c =
 
 pub returns-clause-gone : goal.returns-clause-gone
 returns-clause-gone c =
-    subst (λ (ps : List Part). HaveMoved c.loop-part.positions c.args.positions.now None (filter_map (part_away c.args.whole.now c.args.by.now) ps)) (take_all c.loop-part.part-index c.args.parts.now c.loop-part-test.false) c.loop-part.invariant.gone
+    subst (λ (ps : List Part). HaveMoved c.loop-part.positions c.args.positions.now None (filter_map (part_away c.args.whole.now c.args.by.now) ps))
+        (take_all c.loop-part.part-index c.args.parts.now c.loop-part-test.false) c.loop-part.invariant.gone

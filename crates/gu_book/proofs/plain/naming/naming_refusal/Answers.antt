@@ -12,7 +12,8 @@ pub returns-then-place-at : goal.returns-then-place-at
 returns-then-place-at c =
     let one = positive c.args.number (rw c.get.ensures.value at c.get.ensures.in_range) in
     let past : length c.args.at.now.entries.now ≤ c.args.number - 1 = rw c.get.ensures.value at c.if-place-at.true in
-    ap (on_change c.args.at.now.house.now c.args.at.now.entries.now c.args.by.now (own_of c.args.at.now.house.now c.args.at.now.entries.now (given c.args.at.now.consents.now) c.args.by.now c.args.command.now))
+    ap (on_change c.args.at.now.house.now c.args.at.now.entries.now c.args.by.now
+    (own_of c.args.at.now.house.now c.args.at.now.entries.now (given c.args.at.now.consents.now) c.args.by.now c.args.command.now))
     (sym (unknown_entry c.args.at.now.entries.now c.args.number one past))
 
 pub returns : goal.returns
@@ -20,7 +21,9 @@ returns c =
     let one = positive c.args.number (rw c.get.ensures.value at c.get.ensures.in_range) in
     let within : c.args.number - 1 < length c.args.at.now.entries.now = rw c.get.ensures.value at c.if-place-at.false in
     c.entry_refusal.ensures
-    ∙ (ap (λ (e : Entry). on_change c.args.at.now.house.now c.args.at.now.entries.now c.args.by.now (own_of c.args.at.now.house.now c.args.at.now.entries.now (given c.args.at.now.consents.now) c.args.by.now c.args.command.now) (Some (numbered_as c.args.number e)))
+    ∙ (ap (λ (e : Entry). on_change c.args.at.now.house.now c.args.at.now.entries.now c.args.by.now
+    (own_of c.args.at.now.house.now c.args.at.now.entries.now (given c.args.at.now.consents.now) c.args.by.now c.args.command.now) (Some (numbered_as c.args.number e)))
     (sym c.index-at-place.is)
-    ∙ ap (on_change c.args.at.now.house.now c.args.at.now.entries.now c.args.by.now (own_of c.args.at.now.house.now c.args.at.now.entries.now (given c.args.at.now.consents.now) c.args.by.now c.args.command.now))
+    ∙ ap (on_change c.args.at.now.house.now c.args.at.now.entries.now c.args.by.now
+    (own_of c.args.at.now.house.now c.args.at.now.entries.now (given c.args.at.now.consents.now) c.args.by.now c.args.command.now))
     (sym (known_entry c.args.at.now.entries.now c.args.number c.index-at-place.result one within (rw c.get.ensures.value at c.index-at-place.is))))
