@@ -1,21 +1,21 @@
 -- The filed trees show all live changes, so what stands on a change is read off them.
 use Rattle.std.proofs.Common.{◌+◌, Bool, length, get_or, not, cond, Contains, ◌-◌, ◌<◌, ◌≡◌, ℕ, ◌≤◌, true, false, ◌&&◌, List, [], ◌∷◌, refl, sym, ◌∙◌, ap}
 use Rattle.std.proofs.Common.{subst, arith, Option, ◌||◌}
-use Rattle.std.specs.Prelude.{filter, Some, None, find, ◌==◌, is_some, option_map, IfSome, map, IsSome, option_and_then, IsSomeAnd, unwrap_or}
+use Rattle.std.specs.Prelude.{filter, Some, None, find, ◌==◌, is_some, option_map, IfSome, map, IsSome, option_and_then, IsSomeAnd}
 use Rattle.std.proofs.lemmas.Bool.Decides.{Decides-eqb}
 use Rattle.std.proofs.lemmas.Option.{same_Some}
-use Rattle.gu_depend.proofs.Vocabulary.{House, knows_firm, numbered_as, records, is_change, is_reversed, live, node_of, nodes_of, same_name, unless, refusal_of, standing_on, missing, parties_of}
-use Rattle.gu_depend.proofs.Vocabulary.{consents_of, answer_to, entry_of, on_change, reverse_rest, command_refusal, call_of, Command, Trade, Split, Claim, Refuse, Cancel, Agree, Raise, Initiate}
-use Rattle.gu_depend.proofs.Vocabulary.{Decline, Reverse, Accepted, Entry, Record, Node, UnknownFirm, NeedsConsent, StandsOn, Row, rows_of, EntryPart, depth_of}
-use Rattle.gu_base.proofs.Accepted.{first_none, allowed, open_from_none, change_refused}
+use Rattle.gu_depend.proofs.Vocabulary.{House, knows_firm, numbered_as, records, is_change, is_reversed, live, node_of, nodes_of, same_name, unless, standing_on, missing, parties_of}
+use Rattle.gu_depend.proofs.Vocabulary.{consents_of, answer_to, entry_of, on_change, reverse_rest, command_refusal, call_of, Command, Trade, Split, Agree, Raise, Initiate}
+use Rattle.gu_depend.proofs.Vocabulary.{Decline, Reverse, Accepted, Entry, Record, Node, UnknownFirm, NeedsConsent, StandsOn, Row, rows_of, EntryPart}
+use Rattle.gu_base.proofs.Accepted.{first_none, allowed, open_from_none}
 use Rattle.gu_base.proofs.Basics.{no_some, mapped_none}
 use Rattle.gu_base.proofs.Numbered.{found_at, known_entry}
 use Rattle.gu_base.proofs.Consenting.{not_reversed}
 use Rattle.gu_base.proofs.Searches.{found_in, find_passes}
 use Rattle.gu_tree.specs.Rose.{Rose, rows}
-use Rattle.gu_tree.specs.Grove.{Grove, tree_of, IsPlace, place_of}
+use Rattle.gu_tree.specs.Grove.{Grove, tree_of, IsPlace}
 use Rattle.gu_tree.specs.Shown.{IsTreeOf, shown, named_node}
-use Rattle.gu_tree.specs.ShownAll.{IsTreeIn, ShowsAll, named_place, place_in, change_of}
+use Rattle.gu_tree.specs.ShownAll.{IsTreeIn, ShowsAll, named_place, place_in}
 use Rattle.gu_tree.proofs.ShowsLess.{no-root-part}
 use Rattle.gu_depend.proofs.Names.{maker, made_number}
 use Rattle.gu_depend.proofs.StandsLast.{any_in}
@@ -26,14 +26,13 @@ use Rattle.gu_book.specs.TreeRows.{is_trade, is_live_trade, tree_rows}
 use Rattle.gu_book.proofs.Leaves.{live_rises}
 use Rattle.gu_tree.specs.declared.head.Row.{Row as TreeRow}
 use Rattle.gu_tree.proofs.ShowsRows.{rows-shown}
-use Rattle.gu_book.proofs.Filed.{tree_shown, place_named, spot}
-use Rattle.gu_book.proofs.Orders.{InOrder, in_order, names_there}
-use Rattle.gu_book.specs.Found.{IsFoundIn, IsUndoneAs, IsUndoneBy, IsStandingIn, IsUndoneThere, AreTreesOf}
+use Rattle.gu_book.proofs.Filed.{tree_shown, place_named}
+use Rattle.gu_book.proofs.Orders.{InOrder, in_order}
+use Rattle.gu_book.specs.Found.{IsFoundIn, IsUndoneAs, IsUndoneBy, IsStandingIn, IsUndoneThere}
 use Rattle.gu_book.specs.Kinds.{is_agree, is_raise}
-use Rattle.gu_book.specs.Visits.{is_of_trees, AreVisits, IsMet, depth_meant, parts_in, parts_named, entries_met, changes_trees, nodes_made}
+use Rattle.gu_book.specs.Visits.{is_of_trees}
 use Rattle.gu_book.specs.declared.found.Undone.{Undone}
 use Rattle.gu_book.proofs.Fronts.{stands_refusal}
-use Rattle.gu_base.proofs.Passing.{refusal_parts}
 
 -- ---- a root is made by a Trade
 

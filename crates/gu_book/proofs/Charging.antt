@@ -11,7 +11,7 @@ use Rattle.gu_base.proofs.LegalLaws.{replay_push}
 use Rattle.gu_depend.proofs.LastMoves.{moves_its_own}
 use Rattle.gu_depend.proofs.Replay.{number_once}
 use Rattle.gu_depend.proofs.StandsUnder.{rises_distinct}
-use Rattle.gu_fees.specs.Rows.{FeeRows, paid_in, received_in, used_in}
+use Rattle.gu_fees.specs.Rows.{FeeRows}
 use Rattle.gu_fees.specs.Sums.{AreSumsOf, cost}
 use Rattle.gu_tree.specs.Grove.{Grove}
 use Rattle.gu_book.specs.Filed.{IsNext}

@@ -8,8 +8,8 @@ use Rattle.std.proofs.lemmas.Bool.Decides.{Decides-eqb}
 use Rattle.std.proofs.lemmas.List.Elements.{All-head, All-tail}
 use Rattle.std.proofs.lemmas.List.Folds.{find-append, list_any-append}
 use Rattle.std.proofs.lemmas.Option.{same_Some}
-use Rattle.gu_depend.proofs.Vocabulary.{EntryPart, House, node_of, nodes_of_parts, same_name, kind_of_part, root_of, Command, Trade, Split, Claim, Refuse, Cancel, Agree, Raise, Initiate, Decline}
-use Rattle.gu_depend.proofs.Vocabulary.{Reverse, Record, Node, Part}
+use Rattle.gu_depend.proofs.Vocabulary.{EntryPart, House, node_of, nodes_of_parts, same_name, kind_of_part, root_of, Command, Trade, Split, Claim, Refuse, Cancel}
+use Rattle.gu_depend.proofs.Vocabulary.{Record, Node, Part}
 use Rattle.gu_base.proofs.Basics.{or_none, or_false}
 use Rattle.gu_base.proofs.NodeNames.{made, made_of}
 use Rattle.gu_tree.specs.Rose.{Rose, head_of, named, from_list, named_below}

@@ -7,8 +7,8 @@ use Rattle.std.proofs.lemmas.Option.{same_Some}
 use Rattle.std.proofs.lemmas.Slice.Eq.{bytes_eq-Decides}
 use Rattle.gu_depend.proofs.Vocabulary.{EntryPart, House, knows_account, node_of, nodes_of, decision_of, split_of, is_given, is_offered, place_of, depth_of, row, split_row, claim_row, refuse_row}
 use Rattle.gu_depend.proofs.Vocabulary.{cancel_row, first, unless, is_taker, is_giver, limit_row, limit_by, used_by, refusal_of_part, state_of, taker_of, Part, Side, Command, Trade, Split, Claim}
-use Rattle.gu_depend.proofs.Vocabulary.{Refuse, Cancel, Agree, Raise, Initiate, Decline, Reverse, Record, Kind, Root, Own, Given, Node, Place, NotOffered, NotYours, UnknownAccount, State, Held}
-use Rattle.gu_depend.proofs.Vocabulary.{Offered, Claimed, Cancelled, ReversalPending, Reversed}
+use Rattle.gu_depend.proofs.Vocabulary.{Refuse, Cancel, Record, Kind, Given, Node, Place, NotOffered, NotYours, UnknownAccount, State}
+use Rattle.gu_depend.proofs.Vocabulary.{Offered, Cancelled}
 use Rattle.gu_base.specs.declared.state.State.TheVariants.{Refused}
 use Rattle.gu_base.proofs.Accepted.{first_none, unless_none}
 use Rattle.gu_base.proofs.Basics.{no_some, none_is_some}

@@ -1,14 +1,14 @@
 -- A change on which nothing stands leaves the trees and places filed for the list without it, once its node is what it was before it.
 use Rattle.std.proofs.Common.{◌≡◌, ◌≢◌, ℕ, ◌≤◌, Bool, true, false, not, ◌&&◌, ◌||◌, List, [], ◌∷◌, refl, sym, ◌∙◌, ap, subst, arith, cond, Option, All}
-use Rattle.std.proofs.Common.{Contains, inl, inr}
+use Rattle.std.proofs.Common.{inl, inr}
 use Rattle.std.specs.Prelude.{Some, None, ◌==◌, is_some, option_and_then, IsSomeAnd, IfSome}
 use Rattle.std.specs.List.{list_any}
 use Rattle.std.proofs.lemmas.Bool.Decides.{Decides-eqb}
 use Rattle.std.proofs.lemmas.List.Elements.{All-head, All-tail, All-weaker, filter_passes}
 use Rattle.std.proofs.lemmas.List.Folds.{list_any_none}
 use Rattle.std.proofs.lemmas.Option.{same_Some}
-use Rattle.gu_depend.proofs.Vocabulary.{EntryPart, House, RisesFrom, node_of, same_name, first_refused, standing_on, without, Command, Trade, Split, Claim, Refuse, Cancel, Agree, Raise, Initiate}
-use Rattle.gu_depend.proofs.Vocabulary.{Decline, Reverse, Record}
+use Rattle.gu_depend.proofs.Vocabulary.{EntryPart, House, node_of, same_name, without, Command, Split, Claim, Refuse, Cancel}
+use Rattle.gu_depend.proofs.Vocabulary.{Record}
 use Rattle.gu_base.proofs.Basics.{or_false, none_is_some}
 use Rattle.gu_base.proofs.NodeNames.{name_is, node_called}
 use Rattle.gu_depend.specs.Under.{names}

@@ -8,7 +8,7 @@ use Rattle.std.proofs.lemmas.Bool.Decides.{Decides-eqb}
 use Rattle.std.proofs.lemmas.List.Elements.{All-nil, All-cons, All-head, All-tail, All-contains}
 use Rattle.std.proofs.lemmas.Option.{same_Some}
 use Rattle.gu_depend.proofs.Vocabulary.{EntryPart, House, node_of, nodes_of, same_name, split_of, decision_of, splits, decides, is_given, parent, state_of, state_after, Command, Trade, Split}
-use Rattle.gu_depend.proofs.Vocabulary.{Claim, Refuse, Cancel, Agree, Raise, Initiate, Decline, Reverse, Record, Kind, Root, Own, Given, Node, Place, Claimed}
+use Rattle.gu_depend.proofs.Vocabulary.{Claim, Refuse, Cancel, Record, Kind, Root, Given, Node, Place, Claimed}
 use Rattle.gu_base.proofs.Basics.{no_some, none_is_some, nothing_here}
 use Rattle.gu_base.proofs.NodeNames.{name_is, name_same, node_called}
 use Rattle.gu_base.proofs.Numbered.{rises_later}

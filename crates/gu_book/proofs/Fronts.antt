@@ -3,10 +3,9 @@ use Rattle.std.proofs.Common.{◌≡◌, ℕ, ◌+◌, false, not, List, [], ◌
 use Rattle.std.specs.Prelude.{Some, None, find, option_map, nat_lt}
 use Rattle.gu_depend.proofs.Vocabulary.{House, knows_firm, records, live, is_change, refusal_of, first, unless, standing_on, parties_of, consents_of, is_among, missing, consents_left, Call}
 use Rattle.gu_depend.proofs.Vocabulary.{answer_to, answer_by, accepted_or, entry_of, reversal_of, on_change, initiate_rest, decline_rest, reverse_rest, command_refusal, after, after_by, is_empty}
-use Rattle.gu_depend.proofs.Vocabulary.{is_same_id, is_same_call, status_of, is_accepted, Command, Trade, Split, Claim, Refuse, Cancel, Agree, Raise, Initiate, Decline, Reverse, Answer, Accepted}
-use Rattle.gu_depend.proofs.Vocabulary.{Repeated, Entry, Record, Refusal, UnknownFirm, NotAChange, AlreadyReversed, NotAParty, NeedsConsent, StandsOn, BookFull, AlreadyConsented, NothingPending}
+use Rattle.gu_depend.proofs.Vocabulary.{is_same_id, is_same_call, status_of, is_accepted, Command, Initiate, Decline, Reverse, Answer, Accepted}
+use Rattle.gu_depend.proofs.Vocabulary.{Entry, Record, Refusal, UnknownFirm, NotAChange, AlreadyReversed, NotAParty, NeedsConsent, StandsOn, BookFull, AlreadyConsented, NothingPending}
 use Rattle.gu_depend.proofs.Vocabulary.{State}
-use Rattle.gu_base.specs.declared.entry.Answer.TheVariants.{Refused}
 use Rattle.gu_book.specs.Front.{own_of, front_refusal, front_answer}
 use Rattle.gu_base.proofs.Numbered.{found_at}
 use Rattle.gu_base.proofs.Consenting.{not_reversed, left_open}

@@ -1,7 +1,7 @@
 -- What is left when a change on which nothing stands is taken back at its node.
 use Rattle.std.proofs.Common.{◌≡◌, ℕ, ◌≤◌, true, false, refl, sym, ◌∙◌, ap, subst, arith, Option, List, length, IsTrue}
 use Rattle.std.specs.Prelude.{Some, IsSomeAnd}
-use Rattle.gu_depend.proofs.Vocabulary.{EntryPart, House, decides, without, Command, Trade, Split, Claim, Refuse, Cancel, Agree, Raise, Initiate, Decline, Reverse, Record, Place}
+use Rattle.gu_depend.proofs.Vocabulary.{EntryPart, House, decides, without, Command, Trade, Record, Place}
 use Rattle.gu_depend.specs.Under.{names}
 use Rattle.gu_tree.specs.Rose.{Rose, leaf, head_of, named, split_of_node}
 use Rattle.gu_tree.specs.Paths.{node_at, edit_at, HasAt, above}

@@ -14,7 +14,7 @@ use Rattle.std.proofs.lemmas.Slice.Eq.{bytes_eq-Decides}
 use Rattle.gu_depend.proofs.Vocabulary.{EntryPart, House, deal_in, node_of, nodes, nodes_of_parts, same_name, kind_of_part, parent, split_of, splits, decision_of, decides, claimed_account}
 use Rattle.gu_depend.proofs.Vocabulary.{claim_of, is_given, is_offered, line_within, line_of, place_along, place_of, place_of_kind, root_along, root_of, same_place, is_trade_of, trades_in}
 use Rattle.gu_depend.proofs.Vocabulary.{stands_at, same_side, split_row, claim_row, refuse_row, cancel_row, is_taker, is_giver, same_name-Decides, number_same, Part, Side, Command, Trade, Split}
-use Rattle.gu_depend.proofs.Vocabulary.{Claim, Refuse, Cancel, Agree, Raise, Initiate, Decline, Reverse, Record, Kind, Root, Own, Given, Node, Place, State, Deal}
+use Rattle.gu_depend.proofs.Vocabulary.{Claim, Refuse, Cancel, Record, Kind, Root, Own, Given, Node, Place, State, Deal}
 use Rattle.gu_base.proofs.Basics.{or_false, or_none, none_is_some, no_some, nothing_here, bytes_symm}
 use Rattle.gu_base.proofs.Lines.{line_more, node_more}
 use Rattle.gu_base.proofs.NodeNames.{name_is, name_same, node_called, made, made_of, part_parent}

@@ -4,7 +4,7 @@ use Rattle.std.specs.Prelude.{Some, None, IfSome, bytes_eq}
 use Rattle.std.specs.List.{All}
 use Rattle.std.proofs.lemmas.List.Elements.{All-nil, All-cons, All-weaker}
 use Rattle.gu_depend.proofs.Vocabulary.{EntryPart, House, node_of, nodes_of, parties_of, of_node, taker_and_giver, giver_alone, Part, Command, Trade, Split, Claim, Refuse, Cancel, Agree, Raise}
-use Rattle.gu_depend.proofs.Vocabulary.{Initiate, Decline, Reverse, Record, Kind, Root, Own, Given, Node, NamesOnly}
+use Rattle.gu_depend.proofs.Vocabulary.{Record, Kind, Root, Own, Given, Node, NamesOnly}
 use Rattle.gu_base.proofs.NodeNames.{made}
 use Rattle.gu_book.proofs.Within.{node_has, parts_have}
 

@@ -7,7 +7,7 @@ use Rattle.std.proofs.lemmas.List.Sums.{sum_by-cons}
 use Rattle.std.proofs.lemmas.Option.{same_Some}
 use Rattle.std.proofs.lemmas.Slice.Eq.{bytes_eq-Decides}
 use Rattle.gu_depend.proofs.Vocabulary.{House, knows_account, RisesFrom, EntryPart, deal_in, node_of, place_of, first, owns, refusal_of, refusal_of_part, split_row, knows_own_account, Part, Side}
-use Rattle.gu_depend.proofs.Vocabulary.{Command, Trade, Split, Claim, Refuse, Cancel, Agree, Raise, Initiate, Decline, Reverse, Record, Deal, Node, Place, same_side}
+use Rattle.gu_depend.proofs.Vocabulary.{Command, Trade, Split, Record, Deal, Node, Place, same_side}
 use Rattle.gu_base.proofs.Accepted.{first_none}
 use Rattle.gu_base.proofs.Passing.{at_node_none, split_passes, part_passes, refusal_parts}
 use Rattle.gu_depend.proofs.Replay.{number_once}

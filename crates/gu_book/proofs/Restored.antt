@@ -6,8 +6,7 @@ use Rattle.std.specs.List.{All, list_all}
 use Rattle.std.proofs.lemmas.Bool.{ne_eqb, eq-eqb, and_parts}
 use Rattle.std.proofs.lemmas.List.Elements.{All-nil, All-cons, All-head, All-tail, filter-append}
 use Rattle.gu_depend.proofs.Vocabulary.{House, numbered_as, is_change, live, RisesFrom, refusal_of, first_refused, standing_on, without, Call, answer_to, after, after_by, is_accepted, after_all}
-use Rattle.gu_depend.proofs.Vocabulary.{call_of, IsRunFrom, Reverse, Answer, Accepted, Repeated, Entry, Record, is_consenting}
-use Rattle.gu_base.specs.declared.entry.Answer.TheVariants.{Refused}
+use Rattle.gu_depend.proofs.Vocabulary.{call_of, IsRunFrom, Reverse, Answer, Accepted, Entry, Record, is_consenting}
 use Rattle.gu_base.proofs.LiveLaws.{live_push_change, live_push_reverse, live_push_consent, live_below, without_none, without_last}
 use Rattle.gu_base.proofs.LegalLaws.{legal_from_replay, none_refused, replay_front}
 use Rattle.gu_book.specs.Headline.{IsLawful, Restores, TakesOut, StandsLater}

@@ -7,7 +7,7 @@ use Rattle.std.proofs.lemmas.List.Elements.{All-head, All-tail}
 use Rattle.std.proofs.lemmas.List.Filters.{sum_by-filter_both}
 use Rattle.std.proofs.lemmas.List.Sums.{sum_by-le, sum_by-cons, sum_by-append, sum_by-le-sum_by}
 use Rattle.gu_depend.proofs.Vocabulary.{House, first_refused, EntryPart, nodes, nodes_of, nodes_of_parts, kind_of_part, split_of, position_of, stands_at, trades_in, Part, Side, Command, Trade}
-use Rattle.gu_depend.proofs.Vocabulary.{Split, Claim, Refuse, Cancel, Agree, Raise, Initiate, Decline, Reverse, Record, Root, Node, Place}
+use Rattle.gu_depend.proofs.Vocabulary.{Split, Claim, Record, Root, Node, Place}
 use Rattle.gu_base.proofs.LegalLaws.{replay_push}
 use Rattle.gu_base.proofs.NodeNames.{made}
 use Rattle.gu_depend.specs.Moves.{lots_at}

@@ -4,7 +4,7 @@ use Rattle.std.proofs.Common.{append-nil}
 use Rattle.std.specs.Prelude.{Some, None, sum_by, option_and_then}
 use Rattle.std.proofs.lemmas.List.Elements.{All-contains}
 use Rattle.gu_depend.proofs.Vocabulary.{House, EntryPart, node_of, is_given, charge_of, without, use_of_node, deed_of, raised_under, used_under, Deed, Makes, Raises, Uses, Dealing, Pair, Command}
-use Rattle.gu_depend.proofs.Vocabulary.{Trade, Split, Claim, Refuse, Cancel, Agree, Raise, Initiate, Decline, Reverse, Record, Kind, Root, Own, Given, Node}
+use Rattle.gu_depend.proofs.Vocabulary.{Trade, Split, Claim, Refuse, Cancel, Agree, Raise, Record, Kind, Given, Node}
 use Rattle.gu_base.proofs.LegalLaws.{replay_push}
 use Rattle.gu_depend.specs.Terms.{AreTermsOf, pair_of, pair_of_kind}
 use Rattle.gu_depend.specs.Under.{names}

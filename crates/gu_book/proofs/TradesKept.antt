@@ -5,7 +5,7 @@ use Rattle.std.proofs.Common.{Option}
 use Rattle.std.specs.Prelude.{Some, None, sum_by, filter_map, option_and_then, IfSome}
 use Rattle.std.proofs.lemmas.List.Sums.{sum_by-cons}
 use Rattle.gu_depend.proofs.Vocabulary.{House, charge_of, charge_of_node, is_change, place_of, Charge, Deal, Place, node_of, refusal_of, Node, same_side, Part, Side, Command, Trade, Split, Claim}
-use Rattle.gu_depend.proofs.Vocabulary.{Refuse, Cancel, Agree, Raise, Initiate, Decline, Reverse, Record, EntryPart}
+use Rattle.gu_depend.proofs.Vocabulary.{Refuse, Cancel, Record, EntryPart}
 use Rattle.std.proofs.Math.Nat.{mul-le-mul_right}
 use Rattle.std.proofs.lemmas.Option.{same_Some}
 use Rattle.gu_positions.specs.Rows.{PositionRows, lots_in, is_key}

@@ -6,10 +6,10 @@ use Rattle.std.specs.List.{cons_option}
 use Rattle.std.proofs.Math.Nat.{mul-le-mul_right}
 use Rattle.std.proofs.lemmas.Bool.Decides.{Decides-eqb}
 use Rattle.std.proofs.lemmas.List.Elements.{All-nil, All-cons, All-head, All-tail, All-filter, All-contains, filter_passes, All-weaker, All-contains_itself}
-use Rattle.gu_depend.proofs.Vocabulary.{EntryPart, House, most_lots, highest_rate, charges, charge_of, RisesFrom, deal_in, node_of, split_of, splits, decides, decision_of, claimed_account}
+use Rattle.gu_depend.proofs.Vocabulary.{EntryPart, House, most_lots, highest_rate, charges, charge_of, deal_in, node_of, split_of, splits, decides, decision_of, claimed_account}
 use Rattle.gu_depend.proofs.Vocabulary.{is_given, parent, position_of, same_side, line_within, line_of, place_along, place_of_kind, place_of, root_along, root_of, refusal_of, row, split_row}
-use Rattle.gu_depend.proofs.Vocabulary.{claim_row, first, refusal_of_part, first_refused, standing_on, without, Command, Trade, Split, Claim, Refuse, Cancel, Agree, Raise, Initiate, Decline}
-use Rattle.gu_depend.proofs.Vocabulary.{Reverse, Part, Side, Record, Charge, Kind, Root, Own, Given, Node, Place, Deal}
+use Rattle.gu_depend.proofs.Vocabulary.{claim_row, first, refusal_of_part, first_refused, without, Command, Split, Claim}
+use Rattle.gu_depend.proofs.Vocabulary.{Part, Side, Record, Charge, Kind, Given, Node, Place, Deal}
 use Rattle.gu_tree.specs.Grove.{Grove}
 use Rattle.gu_book.specs.Filed.{IsFree}
 use Rattle.gu_base.proofs.Basics.{no_some, none_is_some, or_none}
