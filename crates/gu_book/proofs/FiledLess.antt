@@ -39,7 +39,7 @@ any_left : (q : Record → Bool) (k : ℕ) (l : List Record) → All (λ d. d.nu
 any_left q k [] all = refl
 any_left q k (d ∷ l) all =
     any_step q k d l (without l k) (any_left q k l (All-tail (λ (d : Record). d.number ≡ k → q d ≡ false) d l all)) (All-head (λ (d : Record). d.number ≡ k → q d ≡ false) d l all)
-        (d.number == k) refl
+    (d.number == k) refl
 
 change_gone : (k : ℕ) (l : List Record) → change_of (without l k) k ≡ None
 change_gone k l =

@@ -308,7 +308,7 @@ trade_balances t l k by id firm account instrument side lots status c at i s =
     let h : Holding = record { key = record { firm = firm; account = account; instrument = instrument }; side = side; lots = lots } in
     let count : lots_at (l ++ r ∷ []) at i s x ≡ counted_at (key_at at i) s h =
     lots_of_leaf (l ++ r ∷ []) c.last.once at i s x whole ∙ ap (taken_at (key_at at i) s)
-        (ap (λ o. held_at o (traded_at (l ++ r ∷ []) n) lots) stands ∙ ap (λ o. held_at (Some (record { firm = firm; account = account })) o lots) traded) in
+    (ap (λ o. held_at o (traded_at (l ++ r ∷ []) n) lots) stands ∙ ap (λ o. held_at (Some (record { firm = firm; account = account })) o lots) traded) in
     let a = none_kept (lots_at l at i s) (nodes l) in
     let b = none_kept (lots_at (l ++ r ∷ []) at i s) (nodes l) in
     let d = sum_by-cons (lots_at (l ++ r ∷ []) at i s) x [] in
@@ -509,11 +509,11 @@ balances t l k by id (Refuse m) status c at i s =
     let there = at_node_none (refuse_row l by) (node_of l m) c.last.accepted in
     let passes = decision_passes l there.0 (is_taker by there.0.kind) there.1.1 in
     stays_balanced at i s l (record { number = k; firm = by; id = id; command = Refuse m; status = status }) refl refl refl
-        (back_balances c m there.0 there.1.0 at i s (back_same c m there.0 there.1.0 passes.0 passes.1 (name_same m) refl refl at i s))
+    (back_balances c m there.0 there.1.0 at i s (back_same c m there.0 there.1.0 passes.0 passes.1 (name_same m) refl refl at i s))
 balances t l k by id (Cancel m) status c at i s =
     let there = at_node_none (cancel_row l by) (node_of l m) c.last.accepted in
     let passes = decision_passes l there.0 (is_giver by there.0.kind) there.1.1 in
     stays_balanced at i s l (record { number = k; firm = by; id = id; command = Cancel m; status = status }) refl refl refl
-        (back_balances c m there.0 there.1.0 at i s (back_same c m there.0 there.1.0 passes.0 passes.1 (name_same m) refl refl at i s))
+    (back_balances c m there.0 there.1.0 at i s (back_same c m there.0 there.1.0 passes.0 passes.1 (name_same m) refl refl at i s))
 balances t l k by id d status c at i s =
     nothing_balances at i s l (record { number = k; firm = by; id = id; command = d; status = status }) refl refl refl (λ f. none_kept f (nodes l))

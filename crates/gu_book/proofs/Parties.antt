@@ -28,7 +28,7 @@ name_kind p false m by q h k = (h, k)
 name_made : (p : List ℕ → Bool) (k : ℕ) (by : List ℕ) (c : Command) → p by ≡ true → NamesOnly p c → All (λ x. KindNames p x.kind) (nodes_of k by c)
 name_made p k by (Trade firm account instrument side lots) h named =
     All-cons (λ (x : Node). KindNames p x.kind) (record { name = record { entry = k; part = 0 }; lots = lots; kind = Root (record { firm = firm; account = account }) }) [] tt
-        (All-nil (λ (x : Node). KindNames p x.kind))
+    (All-nil (λ (x : Node). KindNames p x.kind))
 name_made p k by (Split m ps) h named =
     parts_have (λ (x : Node). KindNames p x.kind) (λ (q : Part). p q.firm ≡ true) k m by (λ i q passes. name_kind p (bytes_eq q.firm by) m by q h passes) 1 ps named
 name_made p k by _ h named = All-nil (λ (x : Node). KindNames p x.kind)

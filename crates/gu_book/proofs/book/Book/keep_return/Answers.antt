@@ -22,9 +22,12 @@ ready-requires c = ids_few c.self.invariant.indexed c.self.invariant.kept.few
 pub give_back-requires-clause-due : goal.give_back-requires-clause-due
 give_back-requires-clause-due c =
     let ok = rw (← c.self.view_is) at c.requires.accepted in
-    due_same (record_of c.args.made.now) c.self.inside.trees c.ready-2.new.self c.in_ok-ready-2.ensures.same
-    (c.self.inside.house, live c.self.inside.entries.items, next_kept c.self.invariant.kept c.args.made.now.number (entry_of_change c.args.made.now) ok
-    (return_changes c.args.made.now.command.now c.requires.back))
+    due_same (record_of c.args.made.now) c.self.inside.trees c.ready-2.new.self c.in_ok-ready-2.ensures.same (
+      c.self.inside.house,
+      live c.self.inside.entries.items,
+      next_kept c.self.invariant.kept c.args.made.now.number (entry_of_change c.args.made.now) ok
+          (return_changes c.args.made.now.command.now c.requires.back),
+    )
 
 pub give_back-requires-clause-there : goal.give_back-requires-clause-there
 give_back-requires-clause-there c =

@@ -22,14 +22,17 @@ put-requires c =
     let fewer = live_few c.self.inside.entries.items in
     let within : length (live c.self.inside.entries.items) ≤ 1000000 = omega (arith, few, fewer) in
     trade_fits (next_kept c.self.invariant.kept c.args.made.now.number (entry_of_change c.args.made.now) (rw (← c.self.view_is) at c.requires.accepted) (ap is_change c.in-Trade.is))
-        (record { firm = c.in-Trade.firm; account = c.in-Trade.account; instrument = c.in-Trade.instrument }) c.in-Trade.side c.in-Trade.lots c.in-Trade.is
+    (record { firm = c.in-Trade.firm; account = c.in-Trade.account; instrument = c.in-Trade.instrument }) c.in-Trade.side c.in-Trade.lots c.in-Trade.is
     within c.self.invariant.kept.within c.self.inside.positions c.self.invariant.stands
 
 pub plant-requires-clause-due : goal.plant-requires-clause-due
 plant-requires-clause-due c =
-    due_same (record_of c.args.made.now) c.self.inside.trees c.ready-2.new.self c.in_ok-ready-2.ensures.same
-    (c.self.inside.house, live c.self.inside.entries.items, next_kept c.self.invariant.kept c.args.made.now.number (entry_of_change c.args.made.now) (rw (← c.self.view_is) at c.requires.accepted)
-    (ap is_change c.in-Trade.is))
+    due_same (record_of c.args.made.now) c.self.inside.trees c.ready-2.new.self c.in_ok-ready-2.ensures.same (
+      c.self.inside.house,
+      live c.self.inside.entries.items,
+      next_kept c.self.invariant.kept c.args.made.now.number (entry_of_change c.args.made.now) (rw (← c.self.view_is) at c.requires.accepted)
+          (ap is_change c.in-Trade.is),
+    )
 
 pub ready-requires : goal.ready-requires
 ready-requires c = ids_few c.self.invariant.indexed c.self.invariant.kept.few

@@ -13,7 +13,7 @@ take-requires c =
     let here = some_here f c.args.parts.now c.loop-part.part-index c.part-item.result
     (holding_away c.args.whole.now c.args.by.now c.in-Some.account.now c.part-item.result.lots) c.loop-part-test.true c.part-item.is c.in-Some.ensures in
     first_there c.loop-part.positions (holding_away c.args.whole.now c.args.by.now c.in-Some.account.now c.part-item.result.lots) (filter_map f (drop (c.loop-part.part-index + 1) c.args.parts.now))
-        (subst (λ (hs : List Holding). HaveThere c.loop-part.positions hs) here c.loop-part.invariant.there)
+    (subst (λ (hs : List Holding). HaveThere c.loop-part.positions hs) here c.loop-part.invariant.there)
 
 pub loop-part-init : goal.loop-part-init
 loop-part-init c = record { there = c.requires; gone = none_gone c.args.positions.now; stays = λ at is. is }
@@ -54,4 +54,4 @@ loop-part-preserved c =
 pub returns-clause-gone : goal.returns-clause-gone
 returns-clause-gone c =
     subst (λ (ps : List Part). HaveMoved c.loop-part.positions c.args.positions.now None (filter_map (part_away c.args.whole.now c.args.by.now) ps))
-        (take_all c.loop-part.part-index c.args.parts.now c.loop-part-test.false) c.loop-part.invariant.gone
+    (take_all c.loop-part.part-index c.args.parts.now c.loop-part-test.false) c.loop-part.invariant.gone
