@@ -8,13 +8,32 @@
 
 mod written;
 
-use gu_codec::{Feed, FeedError, Fields, Frame, read_frame, tags};
+use gu_codec::{Feed, FeedError, Fields, Frame, Marked, read_frame, tags};
 use std::alloc::{AllocError, Global};
 use std::io::Read;
 use std::{io, str};
 
+/// Whether a walk by the marks of SOH meets the same fields.
+fn is_marked_alike(fields: Fields<'_>) -> bool {
+    let mut marked = Marked::of(fields);
+    for field in fields {
+        match marked.step() {
+            Some((tag, value)) => {
+                if tag != field.0 || value != field.1 {
+                    return false;
+                }
+            }
+            None => return false,
+        }
+    }
+    marked.is_at_end()
+}
+
 /// Writes the fields of a message, and ends the line.
 fn show_fields(rt: &impl Print, fields: Fields<'_>) -> io::Result<()> {
+    if !is_marked_alike(fields) {
+        print!(rt; " (unlike by marks)")?;
+    }
     for (tag, value) in fields {
         print!(rt; " {tag}={}", str::from_utf8(value).unwrap_or("?"))?;
     }
