@@ -48,6 +48,29 @@ fn put_entry(
     Ok(true)
 }
 
+/// The same for a Claim of a pair that stands somewhere, by its place: one look for both steps.
+fn put_claim_there(
+    terms: &mut Terms,
+    giver: &FirmId,
+    taker: &FirmId,
+    entry: u32,
+    lots: u64,
+) -> Result<bool, Memory> {
+    let Some(entry) = Number::new(entry) else {
+        return Ok(false);
+    };
+    let Some(place) = terms.place(giver, taker) else {
+        return Ok(false);
+    };
+    terms.ready_at(place)?;
+    let deed = Deed::Uses(lots);
+    if !terms.can_put_at(place, entry, deed) {
+        return Ok(false);
+    }
+    terms.put_at(place, entry, deed);
+    Ok(true)
+}
+
 /// The number of the first entry that stands on this one, 0 where there is none.
 fn standing(terms: &Terms, entry: u32) -> u32 {
     match Number::new(entry) {
@@ -110,7 +133,7 @@ pub fn tell_terms(
     put_entry(&mut terms, giver, taker, 3, Deed::Uses(450))?;
     put_entry(&mut terms, giver, taker, 4, Deed::Raises(100))?;
     put_entry(&mut terms, giver, taker, 5, Deed::Uses(60))?;
-    put_entry(&mut terms, giver, taker, 6, Deed::Uses(60))?;
+    put_claim_there(&mut terms, giver, taker, 6, 60)?;
     tell_pair(rt, &terms, "raised and used", giver, taker)?;
     println!(rt;
         "a number once more: {}, and too many lots: {}",
