@@ -1,13 +1,22 @@
 //! What the clients of each server do.
+ghost use Rattle.std.specs.Prelude.{IsTrue};
+ghost use Rattle.gu_desk.specs.Views.{is_worker_count};
 
 use crate::holding::{Holds, Turns};
 use crate::peers::{LOGON, add_message, connect, received, send, show, wrong};
+use gu_server::ServeLimits;
 use std::alloc::Global;
 use std::io;
 use std::io::{ErrorKind, Read};
 use std::net::{Net, Shutdown, SocketAddr, TcpStream};
 use std::sync::{Mutex, Wait};
 use std::time::{Clock, Instant};
+
+/// How long a connection may be without an accepted Logon, in seconds, where nobody is to be ended for it.
+const LOGON_WAIT: u64 = 30;
+
+/// How long a firm that is behind may wait for its thousand reports, in seconds. A server that waits a second for each hundred takes ten.
+const REPORTS_WAIT: u64 = 2;
 
 /// The connections to a server, in the order in which it accepts them.
 #[derive(Drop)]
@@ -38,16 +47,6 @@ pub(crate) enum Scene {
     Behind {
         aaa: TcpStream,
     },
-}
-
-/// How a server serves a scene.
-#[derive(Clone, Copy)]
-pub(crate) struct Serving {
-    /// Two workers, else one.
-    pub(crate) by_two: bool,
-    pub(crate) connections: u32,
-    /// How long a connection may be without an accepted Logon, in seconds.
-    pub(crate) logon_wait: u64,
 }
 
 impl Scene {
@@ -82,10 +81,17 @@ impl Scene {
         Ok(Scene::Retry { first, second })
     }
 
-    /// The two connections of a silent peer and a firm.
-    pub(crate) fn silent<R: Net<Stream = TcpStream>>(rt: &R, at: SocketAddr) -> io::Result<Scene> {
+    /// The two connections of a silent peer and a firm. The firm's Logon waits with its connection, so that it is read in the first turn.
+    pub(crate) fn silent<R: Net<Stream = TcpStream>>(
+        rt: &R,
+        alloc: Global,
+        at: SocketAddr,
+    ) -> io::Result<Scene> {
         let silent = connect(rt, at)?;
         let ccc = connect(rt, at)?;
+        let mut logon = Vec::new(alloc);
+        add_message(&mut logon, b"CCC", b"A", 1, LOGON)?;
+        send(&ccc, logon.as_slice())?;
         Ok(Scene::Silent { silent, ccc })
     }
 
@@ -95,33 +101,21 @@ impl Scene {
         Ok(Scene::Behind { aaa })
     }
 
-    pub(crate) fn serving(&self) -> Serving {
-        match self {
-            Scene::Gate { .. } => Serving {
-                by_two: true,
-                connections: 2,
-                logon_wait: 30,
-            },
-            Scene::Strangers { .. } => Serving {
-                by_two: false,
-                connections: 4,
-                logon_wait: 30,
-            },
-            Scene::Retry { .. } => Serving {
-                by_two: false,
-                connections: 2,
-                logon_wait: 30,
-            },
-            Scene::Silent { .. } => Serving {
-                by_two: true,
-                connections: 2,
-                logon_wait: 1,
-            },
-            Scene::Behind { .. } => Serving {
-                by_two: false,
-                connections: 1,
-                logon_wait: 30,
-            },
+    /// Within which limits the scene's server serves it.
+    pub(crate) fn limits(&self) -> ServeLimits
+        ensures { IsTrue (is_worker_count result.workers) }
+    {
+        let (workers, connections, logon_wait) = match self {
+            Scene::Gate { .. } => (2, 2, LOGON_WAIT),
+            Scene::Strangers { .. } => (1, 4, LOGON_WAIT),
+            Scene::Retry { .. } => (1, 2, LOGON_WAIT),
+            Scene::Silent { .. } => (2, 2, 1),
+            Scene::Behind { .. } => (1, 1, LOGON_WAIT),
+        };
+        ServeLimits {
+            workers,
+            connections,
+            logon_wait,
         }
     }
 }
@@ -232,18 +226,15 @@ fn play_session(alloc: Global, aaa: &TcpStream, out: &mut Vec<u8>) -> io::Result
     tell(alloc, out, b"AAA, behind them", aaa)
 }
 
-/// CCC, which nothing in the book concerns, logs on. A peer that says nothing is ended, and then CCC's TestRequest is answered.
+/// CCC, which nothing in the book concerns, has logged on. A peer that says nothing is ended, and then CCC's TestRequest is answered.
 fn play_silent(
     alloc: Global,
     silent: &TcpStream,
     ccc: &TcpStream,
     out: &mut Vec<u8>,
 ) -> io::Result<()> {
-    let mut session = Vec::new(alloc);
-    add_message(&mut session, b"CCC", b"A", 1, LOGON)?;
-    send(ccc, session.as_slice())?;
     tell_stranger(out, b"silent", silent)?;
-    session.clear();
+    let mut session = Vec::new(alloc);
     add_message(&mut session, b"CCC", b"1", 2, b"112=HERE\x01")?;
     add_message(&mut session, b"CCC", b"5", 3, b"")?;
     send(ccc, session.as_slice())?;
@@ -252,47 +243,82 @@ fn play_silent(
 
 /// How many reports begin in what has come, from this byte on.
 fn reports_from(held: &[u8], at: usize) -> usize {
-    let (_, behind) = held.split_at(at);
+    let behind = &held[at.min(held.len())..];
     behind
         .windows(7)
         .filter(|w| *w == b"\x0135=AS\x01".as_slice())
         .count()
 }
 
-/// AAA logs on and says nothing more. It has its thousand reports within eight seconds.
+/// How many reports come, until it is so many, or the time for them is over.
+fn reports_in_time<R: Wait + Clock>(
+    rt: &R,
+    alloc: Global,
+    stream: &TcpStream,
+    most: usize,
+) -> io::Result<usize> {
+    let began = Instant::now(rt)?;
+    let mut held = Vec::new(alloc);
+    let mut piece = [0u8; 4096];
+    let mut reports = 0usize;
+    for _ in 0..100_000 {
+        let mut from: &TcpStream = stream;
+        let count = from.read(&mut piece)?;
+        if count == 0 || began.elapsed(rt)?.as_secs() >= REPORTS_WAIT {
+            break;
+        }
+        let seen = held.len().saturating_sub(6);
+        held.extend_from_slice(&piece[..count])?;
+        reports = reports.saturating_add(reports_from(held.as_slice(), seen));
+        if reports >= most {
+            break;
+        }
+    }
+    Ok(reports)
+}
+
+/// AAA logs on and says nothing more. It has its thousand reports within two seconds.
 fn play_behind<R: Wait + Clock>(
     rt: &R,
     alloc: Global,
     aaa: &TcpStream,
     out: &mut Vec<u8>,
 ) -> io::Result<()> {
-    let began = Instant::now(rt)?;
     let mut logon = Vec::new(alloc);
     add_message(&mut logon, b"AAA", b"A", 1, LOGON)?;
     send(aaa, logon.as_slice())?;
-    let mut held = Vec::new(alloc);
-    let mut piece = [0u8; 4096];
-    let mut reports = 0usize;
-    for _ in 0..100_000 {
-        let mut from: &TcpStream = aaa;
-        let count = from.read(&mut piece)?;
-        if count == 0 {
-            break;
-        }
-        let seen = held.len().saturating_sub(6);
-        held.extend_from_slice(&piece[..count])?;
-        reports = reports.saturating_add(reports_from(held.as_slice(), seen));
-        if reports >= 1000 || began.elapsed(rt)?.as_secs() >= 8 {
-            break;
-        }
-    }
-    let what: &[u8] = if reports == 1000 && began.elapsed(rt)?.as_secs() < 8 {
-        b"AAA, which was behind: a thousand reports within eight seconds\n"
+    let what: &[u8] = if reports_in_time(rt, alloc, aaa, 1000)? == 1000 {
+        b"AAA, which was behind: a thousand reports within two seconds\n"
     } else {
         b"AAA, which was behind: too late\n"
     };
     out.extend_from_slice(what)?;
     Ok(())
+}
+
+/// What the clients of a scene do, to its end.
+fn play_whole<R: Wait + Clock>(
+    rt: &R,
+    alloc: Global,
+    scene: Scene,
+    holds: &Holds<'_, R>,
+    out: &mut Vec<u8>,
+) -> io::Result<()> {
+    match scene {
+        Scene::Gate { aaa, ccc } => play_gate(alloc, holds, &aaa, &ccc, out),
+        Scene::Strangers {
+            other,
+            unknown,
+            gone,
+            aaa,
+        } => {
+            play_strangers(alloc, &other, &unknown, &gone, out)?;
+            play_session(alloc, &aaa, out)
+        }
+        Scene::Retry { first, second } => play_retry(alloc, holds, first, &second, out),
+        Scene::Silent { silent, ccc } => play_silent(alloc, &silent, &ccc, out),
+        Scene::Behind { aaa } => play_behind(rt, alloc, &aaa, out),
+    }
 }
 
 /// Plays a scene, and gives what was told of it. All connections are closed then, and no call is held, so that the server ends.
@@ -301,27 +327,13 @@ pub(crate) fn play<R: Wait + Clock>(
     alloc: Global,
     scene: Scene,
     turns: &Mutex<Turns>,
-) -> io::Result<Vec<u8>> {
+) -> Vec<u8> {
     let holds = Holds::new(rt, turns);
     let mut out = Vec::new(alloc);
-    let played = match scene {
-        Scene::Gate { aaa, ccc } => play_gate(alloc, &holds, &aaa, &ccc, &mut out),
-        Scene::Strangers {
-            other,
-            unknown,
-            gone,
-            aaa,
-        } => match play_strangers(alloc, &other, &unknown, &gone, &mut out) {
-            Ok(()) => play_session(alloc, &aaa, &mut out),
-            Err(e) => Err(e),
-        },
-        Scene::Retry { first, second } => play_retry(alloc, &holds, first, &second, &mut out),
-        Scene::Silent { silent, ccc } => play_silent(alloc, &silent, &ccc, &mut out),
-        Scene::Behind { aaa } => play_behind(rt, alloc, &aaa, &mut out),
-    };
+    let played = play_whole(rt, alloc, scene, &holds, &mut out);
     holds.release();
     if played.is_err() {
-        out.extend_from_slice(b"a client failed\n")?;
+        let _ = out.extend_from_slice(b"a client failed\n");
     }
-    Ok(out)
+    out
 }

@@ -1,4 +1,5 @@
-//! A gate that holds the first call until it is released.
+//! A gate that holds the first call until it is released. `test_desk` has one of its own: a program gives no module to another, and their library
+//! `test_days` stands below the desk.
 
 use gu_desk::Gate;
 use std::sync::{Mutex, Wait};

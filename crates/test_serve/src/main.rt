@@ -1,0 +1,40 @@
+//! Servers and their clients over loopback sockets. The house file is standard input; the file `stdout` beside `src/` has what must be printed,
+//! written by hand from the rules.
+//!
+//! - Two workers, two connections, and a book with two trades of the house, 100 lots for AAA and 10 for CCC. AAA's call is held at the gate; while
+//!   it is, CCC logs on, splits its trade and gets entry 3. Then the gate lets AAA's call pass, and its answer is entry 4. A server of one thread for
+//!   all, or one that decodes under the lock, answers otherwise: the gate holds no longer than 10,000 turns of a millisecond.
+//! - One worker, four connections, and the book that came back. Peers that are no sessions of a firm are sent nothing and closed, one after the other;
+//!   then a firm's session is served.
+//! - One worker, two connections, and a book with the trade for AAA alone. AAA's split is held until its connection is closed. AAA logs on again and sends
+//!   the split again in the same write, and is told its entry.
+//! - Two workers, two connections, a second to log on in, and that book. While a session of CCC goes on, a peer that says nothing is ended, and sent
+//!   nothing.
+//! - One worker, one connection, and a book with a thousand trades for AAA. AAA logs on and says nothing more, and has its reports within two seconds. A
+//!   server that waits a second for each hundred takes ten.
+//!
+//! A message is written as its fields but the times and the checksum, which hangs on these.
+#![tactic(auto)]
+
+mod books;
+mod holding;
+mod peers;
+mod scenes;
+mod serving;
+mod telling;
+
+use std::io;
+use std::io::Read;
+use std::net::TcpListener;
+use telling::{tell_behind, tell_one, tell_two};
+
+fn main(rt: HostRuntime) -> io::Result<()> {
+    let alloc = rt.alloc();
+    let mut house = Vec::new(alloc);
+    rt.reader().read_to_end(&mut house)?;
+    let listener = TcpListener::bind(&rt, "127.0.0.1:0")?;
+    let at = listener.local_addr()?;
+    tell_two(&rt, alloc, &listener, at, house.as_slice())?;
+    tell_one(&rt, alloc, &listener, at, house.as_slice())?;
+    tell_behind(&rt, alloc, &listener, at, house.as_slice())
+}
