@@ -4,11 +4,11 @@ use Rattle.gu_base.specs.House.{House}
 use Rattle.gu_parties.specs.Steps.{add_firm, add_account, add_instrument, add_agreement}
 use Rattle.gu_parties.specs.declared.fault.Cause.{Cause}
 use Rattle.gu_parties.specs.declared.fault.Cause.TheVariants.{BadLine}
-use Rattle.gu_parties.specs.declared.line.Line.{Line}
-use Rattle.gu_parties.specs.declared.line.Line.TheVariants.{Firm, Account, Instrument, Agreement, Other}
+use Rattle.gu_parties.specs.declared.line.HouseLine.{HouseLine}
+use Rattle.gu_parties.specs.declared.line.HouseLine.TheVariants.{Firm, Account, Instrument, Agreement, Other}
 
 -- a line by its first word and its number of words
-abbrev pub says : Line → House → Result House Cause
+abbrev pub says : HouseLine → House → Result House Cause
 says (Firm firm) t = add_firm t firm.now
 says (Account firm name) t = add_account t firm.now name.now
 says (Instrument name) t = add_instrument t name.now

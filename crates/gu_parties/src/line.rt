@@ -11,7 +11,7 @@ use crate::words::first_word;
 
 /// A line by its first word and its number of words.
 #[derive(Clone, Copy)]
-pub(crate) enum Line<'a> {
+pub(crate) enum HouseLine<'a> {
     Firm(&'a [u8]),
     Account(&'a [u8], &'a [u8]),
     Instrument(&'a [u8]),
@@ -21,42 +21,42 @@ pub(crate) enum Line<'a> {
 
 /// The line of these words.
 #[tactic(auto, using(crate::proofs::LongLine::long_lines))]
-pub(crate) fn line_of(text: &[u8]) -> Line<'_>
+pub(crate) fn line_of(text: &[u8]) -> HouseLine<'_>
     ensures { (t : Table) → add_line t (words text.now) ≡ says result t }
 {
     let (word, rest) = first_word(text);
     let Some(rest) = rest else {
-        return Line::Other;
+        return HouseLine::Other;
     };
     let (first, rest) = first_word(rest);
     let Some(rest) = rest else {
         if word == b"FIRM".as_slice() {
-            return Line::Firm(first);
+            return HouseLine::Firm(first);
         }
         if word == b"INSTRUMENT".as_slice() {
-            return Line::Instrument(first);
+            return HouseLine::Instrument(first);
         }
-        return Line::Other;
+        return HouseLine::Other;
     };
     let (second, rest) = first_word(rest);
     let Some(rest) = rest else {
         if word == b"ACCOUNT".as_slice() {
-            return Line::Account(first, second);
+            return HouseLine::Account(first, second);
         }
-        return Line::Other;
+        return HouseLine::Other;
     };
     let (third, rest) = first_word(rest);
     let Some(rest) = rest else {
-        return Line::Other;
+        return HouseLine::Other;
     };
     let (fourth, rest) = first_word(rest);
     if rest.is_some() {
-        return Line::Other;
+        return HouseLine::Other;
     }
     if word == b"AGREEMENT".as_slice() {
-        return Line::Agreement(first, second, third, fourth);
+        return HouseLine::Agreement(first, second, third, fourth);
     }
-    Line::Other
+    HouseLine::Other
 }
 
 impl House {
@@ -67,13 +67,13 @@ impl House {
         ensures refused { OnErr result (self.new ≡ self.old) }
     {
         match line_of(text) {
-            Line::Firm(firm) => self.add_firm(firm),
-            Line::Account(firm, name) => self.add_account(firm, name),
-            Line::Instrument(name) => self.add_instrument(name),
-            Line::Agreement(giver, taker, rate, limit) => {
+            HouseLine::Firm(firm) => self.add_firm(firm),
+            HouseLine::Account(firm, name) => self.add_account(firm, name),
+            HouseLine::Instrument(name) => self.add_instrument(name),
+            HouseLine::Agreement(giver, taker, rate, limit) => {
                 self.add_agreement(giver, taker, rate, limit)
             }
-            Line::Other => Err(Cause::BadLine),
+            HouseLine::Other => Err(Cause::BadLine),
         }
     }
 }
