@@ -5,7 +5,7 @@ ghost use Rattle.gu_base.specs.declared.command.Side.{Side};
 ghost use Rattle.gu_base.specs.declared.command.Side.TheVariants.{Buy, Sell};
 ghost use Rattle.gu_positions.specs.declared.positions.Key.{Key};
 ghost use Rattle.gu_positions.specs.Rows.{lots_on, row_at, lots_in, is_key, IsReady, CanAdd};
-ghost use Rattle.gu_positions.specs.Sums.{Standing, AreSumsOf};
+ghost use Rattle.gu_positions.specs.Sums.{Stake, AreSumsOf};
 
 use gu_base::{AccountId, FirmId, InstrumentId, Memory, Side};
 use std::alloc::Global;
@@ -123,7 +123,7 @@ impl Positions {
         requires { CanAdd self.old key.now side lots }
         ensures added { (at : Key) (s : Side) → lots_in self.new at s ≡ lots_in self.old at s + cond (is_key key.now at && same_side side s) lots 0 }
         ensures stays_ready { (at : Key) → IsReady self.old at → IsReady self.new at }
-        ensures sums { (before after : List Standing) → AreSumsOf self.old (before ++ after) → AreSumsOf self.new (before ++ record { key = key.now; side = side; lots = lots } ∷ after) }
+        ensures sums { (before after : List Stake) → AreSumsOf self.old (before ++ after) → AreSumsOf self.new (before ++ record { key = key.now; side = side; lots = lots } ∷ after) }
     {
         if let Some(row) = self.rows.get_mut(key) {
             *row = row.with(side, lots);
@@ -143,7 +143,7 @@ impl Positions {
         ensures added { OnOk result ((at : Key) (s : Side) → lots_in self.new at s ≡ lots_in self.old at s + cond (is_key key.now at && same_side side s) lots 0) }
         ensures same { OnErr result ((at : Key) (s : Side) → lots_in self.new at s ≡ lots_in self.old at s) }
         ensures stays_ready { (at : Key) → IsReady self.old at → IsReady self.new at }
-        ensures sums { OnOk result ((before after : List Standing) → AreSumsOf self.old (before ++ after) → AreSumsOf self.new (before ++ record { key = key.now; side = side; lots = lots } ∷ after)) }
+        ensures sums { OnOk result ((before after : List Stake) → AreSumsOf self.old (before ++ after) → AreSumsOf self.new (before ++ record { key = key.now; side = side; lots = lots } ∷ after)) }
     {
         if let Some(row) = self.rows.get_mut(key) {
             *row = row.with(side, lots);
@@ -161,7 +161,7 @@ impl Positions {
         requires { lots ≤ lots_in self.old key.now side }
         ensures taken { (at : Key) (s : Side) → lots_in self.new at s + cond (is_key key.now at && same_side side s) lots 0 ≡ lots_in self.old at s }
         ensures stays_ready { (at : Key) → IsReady self.old at → IsReady self.new at }
-        ensures sums { (before after : List Standing) → AreSumsOf self.old (before ++ record { key = key.now; side = side; lots = lots } ∷ after) → AreSumsOf self.new (before ++ after) }
+        ensures sums { (before after : List Stake) → AreSumsOf self.old (before ++ record { key = key.now; side = side; lots = lots } ∷ after) → AreSumsOf self.new (before ++ after) }
     {
         if let Some(row) = self.rows.get_mut(key) {
             *row = row.without(side, lots);

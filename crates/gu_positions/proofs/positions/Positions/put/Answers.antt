@@ -2,7 +2,7 @@ use Rattle.std.proofs.Common.{◌&&◌, rules}
 use Rattle.gu_base.specs.Positions.{same_side}
 use Rattle.gu_sums.proofs.OneMore.{more_sum}
 use Rattle.gu_positions.specs.Rows.{is_key}
-use Rattle.gu_positions.specs.Sums.{Standing}
+use Rattle.gu_positions.specs.Sums.{Stake}
 use Rattle.gu_positions.proofs.Sides.{IsPut, room_there, more_at, ready_still}
 use Rattle.gu_positions.proofs.positions.Positions.put.Goals as goal
 
@@ -22,5 +22,5 @@ returns-in-Some-clause-stays_ready c =
 
 pub returns-in-Some-clause-sums : goal.returns-in-Some-clause-sums
 returns-in-Some-clause-sums c = λ before after are.
-    let x : Standing = record { key = c.args.key.now; side = c.args.side; lots = c.args.lots } in
+    let x : Stake = record { key = c.args.key.now; side = c.args.side; lots = c.args.lots } in
     record { lots = λ at s. more_sum (λ y. y.lots) (λ y. is_key y.key at && same_side y.side s) before x after _ _ (returns-in-Some-clause-added c at s) (are.lots at s) }

@@ -2,7 +2,7 @@ use Rattle.std.proofs.Common.{◌&&◌, ap, sym, subst, rules}
 use Rattle.gu_base.specs.Positions.{same_side}
 use Rattle.gu_sums.proofs.OneMore.{less_sum}
 use Rattle.gu_positions.specs.Rows.{PositionRows, is_key, IsReady}
-use Rattle.gu_positions.specs.Sums.{Standing}
+use Rattle.gu_positions.specs.Sums.{Stake}
 use Rattle.gu_positions.proofs.Sides.{IsPut, lots_few, less_at, ready_still, none_taken}
 use Rattle.gu_positions.proofs.positions.Positions.take.Goals as goal
 use Rattle.gu_positions.proofs.positions.Positions.take.Goals.{in-Some, in_default}
@@ -33,5 +33,5 @@ returns-clause-stays_ready c =
 
 pub returns-clause-sums : goal.returns-clause-sums
 returns-clause-sums c = λ before after are.
-    let x : Standing = record { key = c.args.key.now; side = c.args.side; lots = c.args.lots } in
+    let x : Stake = record { key = c.args.key.now; side = c.args.side; lots = c.args.lots } in
     record { lots = λ at s. less_sum (λ y. y.lots) (λ y. is_key y.key at && same_side y.side s) before x after _ _ (returns-clause-taken c at s) (are.lots at s) }
