@@ -8,8 +8,9 @@ use Rattle.std.proofs.lemmas.List.Elements.{All-head, All-tail, All-nil, All-con
 use Rattle.std.proofs.lemmas.List.Sorted.{All-permutation, length_permutation}
 use Rattle.std.proofs.lemmas.Map.Keys.{IsDistinct-head, IsDistinct-tail}
 use Rattle.gu_depend.proofs.Vocabulary.{EntryPart, House, agreement, node_of, split_of, decision_of, is_given, splits, decides, same_name, use_of_node, deed_of, dealings_in, dealings, limit_of}
-use Rattle.gu_depend.proofs.Vocabulary.{refusal_of, row, split_row, claim_row, refuse_row, cancel_row, is_taker, is_giver, first_refused, IsLegal, is_ready, in_lawful_order, IsLawfulOrder, Deed}
-use Rattle.gu_depend.proofs.Vocabulary.{Makes, Raises, Dealing, Part, Command, Trade, Split, Claim, Refuse, Cancel, Agree, Raise, Record, Node, Refusal}
+use Rattle.gu_depend.proofs.Vocabulary.{refusal_of, row, split_row, claim_row, is_taker, is_giver, first_refused, IsLegal, is_ready, in_lawful_order, IsLawfulOrder, Deed}
+use Rattle.gu_depend.proofs.Vocabulary.{Makes, Raises, Dealing, Part, Command, Trade, Split, Claim, Refuse, Cancel, Agree, Raise, Record, Kind, Node, Refusal}
+use Rattle.gu_base.specs.Refusals.{at_node}
 use Rattle.gu_base.proofs.Dealt.{fits, AllFit}
 use Rattle.gu_base.proofs.LegalLaws.{legal_from_replay, replay_from_legal}
 use Rattle.std.proofs.lemmas.Bool.{and_parts}
@@ -19,31 +20,25 @@ use Rattle.gu_depend.proofs.Finds.{count_cons, count_permuted, find_permuted, no
 use Rattle.gu_depend.proofs.Names.{at_name, node_permuted}
 use Rattle.gu_depend.proofs.NamedOnce.{NamedOnce, named_once}
 use Rattle.gu_depend.proofs.Grown.{Within, Grown, grown_none, grown_push, owns_same, depth_same}
-use Rattle.gu_depend.proofs.Deals.{both_same, dealings_grown, dealings_append, may_raised, claim_within}
-use Rattle.gu_depend.proofs.Settled.{SettledAs, Settled, facts, front_within, front_short}
+use Rattle.gu_depend.proofs.Deals.{numbered, dealt, both_same, dealings_grown, dealings_cut, dealings_idle, may_raised, claim_within}
+use Rattle.gu_base.proofs.Basics.{or_false, eqb_symm}
+use Rattle.gu_depend.proofs.Settled.{SettledAs, SettledDecision, decision_row, Settled, facts, front_within, front_short}
 use Rattle.gu_base.proofs.Passing.{none_at_node, SplitHolds, split_accepted, claim_accepted, agree_accepted, raise_accepted, decision_accepted, refusal_none}
 use Rattle.gu_base.proofs.NodeNames.{name_is, name_same, node_called}
 
 -- ---- numbers that stand once
 
-apart_counts : (b : Bool) → (b ≡ true → ⊥) → cond {A = ℕ} b 1 0 ≡ 0
-apart_counts true absent = absurd (absent refl)
-apart_counts false absent = refl
-
-none_equal : (n k : ℕ) (l : List Record) → k ≡ n → AllByRecursion (λ y. (k == y) ≡ false) (map (λ r. r.number) l) → count_by (λ r. r.number == n) l ≡ 0
-none_equal n k [] e none = refl
-none_equal n k (r ∷ l) e none =
+none_equal : (n : ℕ) (l : List Record) → AllByRecursion (λ y. (n == y) ≡ false) (map (λ r. r.number) l) → count_by (λ r. r.number == n) l ≡ 0
+none_equal n [] none = refl
+none_equal n (r ∷ l) none =
     let a = count_cons (λ r. r.number == n) r l in
-    let b = none_equal n k l e none.1 in
-    let c = apart_counts (r.number == n) (λ is.
-    let q : k ≡ r.number = e ∙ sym ((Decides-eqb r.number n).0 is) in
-    let y : (k == r.number) ≡ true = (Decides-eqb k r.number).1 q in
-    let z : (k == r.number) ≡ false = none.0 in absurd (cc)) in
+    let b = none_equal n l none.1 in
+    let c : cond {A = ℕ} (r.number == n) 1 0 ≡ 0 = ap (λ b. cond {A = ℕ} b 1 0) (eqb_symm r.number n ∙ none.0) in
     omega (arith, a, b, c)
 
 once_at : (n : ℕ) (r : Record) (l : List Record) → AllByRecursion (λ y. (r.number == y) ≡ false) (map (λ r. r.number) l) → count_by (λ r. r.number == n) l ≤ 1
     → (b : Bool) → (r.number == n) ≡ b → cond b 1 0 + count_by (λ r. r.number == n) l ≤ 1
-once_at n r l none least true is = let a = none_equal n r.number l ((Decides-eqb r.number n).0 is) none in omega (arith, a)
+once_at n r l none least true is = let a = subst (λ m. count_by (λ r. r.number == m) l ≡ 0) ((Decides-eqb r.number n).0 is) (none_equal r.number l none) in omega (arith, a)
 once_at n r l none least false is = omega (arith, least)
 
 -- each number stands once at most
@@ -57,6 +52,14 @@ number_once (r ∷ l) distinct n =
     let b = once_at n r l (IsDistinct-head (λ a b. a == b) r.number (map (λ r. r.number) l) distinct)
     (number_once l (IsDistinct-tail (λ a b. a == b) r.number (map (λ r. r.number) l) distinct) n) (r.number == n) refl in
     omega (arith, a, b)
+
+-- no number stands twice, and none of the changes is refused after those before it
+pub record Legal (t : House) (l : List Record) : Type 0 where
+  pub once : NumbersOnce l
+  pub replayed : first_refused t [] l ≡ None
+
+pub legal_list : (t : House) (l : List Record) → HasDistinctNumbers l → IsLegal t l → Legal t l
+legal_list t l distinct legal = record { once = number_once l distinct; replayed = replay_from_legal t l legal }
 
 -- ---- two lists that find the same
 
@@ -88,13 +91,8 @@ order_short l o b rest same e = omega (arith, front_short o b rest e, same.long)
 
 -- ---- a change that is ready and settled is accepted
 
-or_true : (b : Bool) → b ≡ true → (b || false) ≡ true
-or_true true e = refl
-or_true false e = absurd (cc)
-
-or_false : (b : Bool) → (b || false) ≡ true → b ≡ true
-or_false true e = refl
-or_false false e = absurd (cc)
+pub both_true : (a b : Bool) → a ≡ true → b ≡ true → (a && b) ≡ true
+both_true a b e f = ap (λ z. z && b) e ∙ f
 
 some_there : (o : Option Node) → is_some o ≡ true → (x : Node) × (o ≡ Some x)
 some_there None h = absurd (cc)
@@ -104,7 +102,7 @@ moved : (b : List Record) (m n : EntryPart) → same_name m n ≡ true → is_so
 moved b m n is h = subst (λ (z : EntryPart). (x : Node) × (node_of b z ≡ Some x)) (name_is m n is) (some_there (node_of b m) h)
 
 pub ready_there : (l b : List Record) (c : Command) → is_ready l b c ≡ true → (n : EntryPart) → names n c ≡ true → (x : Node) × (node_of b n ≡ Some x)
-ready_there l b (Split m ps) h n is = moved b m n (or_false (same_name m n) is) (and_parts (is_some (node_of b m)) (is_none (decision_of l m) || is_some (decision_of b m)) h).0
+ready_there l b (Split m ps) h n is = moved b m n (sym (or_false (same_name m n)) ∙ is) (and_parts (is_some (node_of b m)) (is_none (decision_of l m) || is_some (decision_of b m)) h).0
 ready_there l b (Claim m _) h n is = moved b m n is h
 ready_there l b (Refuse m) h n is = moved b m n is h
 ready_there l b (Cancel m) h n is = moved b m n is h
@@ -115,11 +113,26 @@ decided_either None None h w = refl
 decided_either None (Some d) h w = absurd (cc)
 decided_either (Some d) p h w = sym (w d refl)
 
-pub ready_decided : (l b : List Record) (c : Command) → Within l b → is_ready l b c ≡ true → (n : EntryPart) → splits n c ≡ true → decision_of b n ≡ decision_of l n
-ready_decided l b (Split m ps) w h n is =
-    subst (λ (z : EntryPart). decision_of b z ≡ decision_of l z) (name_is m n is)
-    (decided_either (decision_of b m) (decision_of l m) (and_parts (is_some (node_of b m)) (is_none (decision_of l m) || is_some (decision_of b m)) h).1 (λ d e. w.decisions m d e))
-ready_decided l b _ w h n is = absurd (cc)
+-- and what it splits is decided, if it ever is
+abbrev pub Decided : List Record → List Record → EntryPart → Type 0
+Decided l b n = (is_none (decision_of l n) || is_some (decision_of b n)) ≡ true
+
+pub ready_split : (l b : List Record) (c : Command) → is_ready l b c ≡ true → (n : EntryPart) → splits n c ≡ true → Decided l b n
+ready_split l b (Split m ps) h n is = subst (Decided l b) (name_is m n is) (and_parts (is_some (node_of b m)) (is_none (decision_of l m) || is_some (decision_of b m)) h).1
+ready_split l b _ h n is = absurd (cc)
+
+ready_decided : (l b : List Record) (c : Command) → Within l b → is_ready l b c ≡ true → (n : EntryPart) → splits n c ≡ true → decision_of b n ≡ decision_of l n
+ready_decided l b c w h n is = decided_either (decision_of b n) (decision_of l n) (ready_split l b c h n is) (λ d e. w.decisions n d e)
+
+-- so much makes it ready
+pub ready_from : (l b : List Record) (c : Command) → ((n : EntryPart) → names n c ≡ true → (x : Node) × (node_of b n ≡ Some x)) → ((n : EntryPart) → splits n c ≡ true → Decided l b n)
+    → is_ready l b c ≡ true
+ready_from l b (Split n ps) there decided = both_true (is_some (node_of b n)) (is_none (decision_of l n) || is_some (decision_of b n))
+    (ap is_some (there n (or_false (same_name n n) ∙ name_same n)).1) (decided n (name_same n))
+ready_from l b (Claim n account) there decided = ap is_some (there n (name_same n)).1
+ready_from l b (Refuse n) there decided = ap is_some (there n (name_same n)).1
+ready_from l b (Cancel n) there decided = ap is_some (there n (name_same n)).1
+ready_from l b _ there decided = refl
 
 -- what a change finds before it
 record IsDue (t : House) (l b : List Record) (by : List ℕ) (c : Command) : Type 0 where
@@ -148,10 +161,16 @@ split_holds t l b by ps x g found same h = record {
 undecided_named : (b : List Record) (n : EntryPart) (x : Node) → node_of b n ≡ Some x → decision_of b n ≡ None → decision_of b x.name ≡ None
 undecided_named b n x found none = subst (λ (z : EntryPart). decision_of b z ≡ None) (sym (node_called b n x found)) none
 
+decision_accepts : (l b : List Record) (n : EntryPart) (yours : Kind → Bool) → SettledDecision l n yours → Within l b → (x : Node) × (node_of b n ≡ Some x) → decision_of b n ≡ None
+    → at_node (decision_row b yours) (node_of b n) ≡ None
+decision_accepts l b n yours s w there undecided =
+    let found = there_both l b n s.node w s.there there in
+    none_at_node (decision_row b yours) (node_of b n) s.node found (decision_accepted b s.node (yours s.node.kind) s.given (undecided_named b n s.node found undecided) s.asked)
+
 accepts : (t : House) (l b : List Record) (by : List ℕ) (c : Command) → SettledAs t l by c → IsDue t l b by c → row t b by c ≡ None
 accepts t l b by (Trade firm account instrument side lots) s due = s
 accepts t l b by (Split n ps) s due =
-    let is : names n (Split n ps) ≡ true = or_true (same_name n n) (name_same n) in
+    let is : names n (Split n ps) ≡ true = or_false (same_name n n) ∙ name_same n in
     let found = there_both l b n s.node due.grown.within s.there (due.there n is) in
     let called = node_called b n s.node found in
     let same = subst (λ (z : EntryPart). decision_of b z ≡ decision_of l z) (sym called) (due.decided n (name_same n)) in
@@ -163,22 +182,14 @@ accepts t l b by (Claim n account) s due =
     none_at_node (claim_row t b by account) (node_of b n) s.node found
     (claim_accepted t b by account s.node s.holds (undecided_named b n s.node found (due.undecided n (name_same n)))
     (claim_within t l b n by account s.node s.there due.afforded s.node.kind refl s.holds.given))
-accepts t l b by (Refuse n) s due =
-    let found = there_both l b n s.node due.grown.within s.there (due.there n (name_same n)) in
-    none_at_node (refuse_row b by) (node_of b n) s.node found
-    (decision_accepted b s.node (is_taker by s.node.kind) s.given (undecided_named b n s.node found (due.undecided n (name_same n))) s.asked)
-accepts t l b by (Cancel n) s due =
-    let found = there_both l b n s.node due.grown.within s.there (due.there n (name_same n)) in
-    none_at_node (cancel_row b by) (node_of b n) s.node found
-    (decision_accepted b s.node (is_giver by s.node.kind) s.given (undecided_named b n s.node found (due.undecided n (name_same n))) s.asked)
+accepts t l b by (Refuse n) s due = decision_accepts l b n (is_taker by) s due.grown.within (due.there n (name_same n)) (due.undecided n (name_same n))
+accepts t l b by (Cancel n) s due = decision_accepts l b n (is_giver by) s due.grown.within (due.there n (name_same n)) (due.undecided n (name_same n))
 accepts t l b by (Agree giver taker rate limit) s due =
     let made : Deed = Makes (record { rate = rate; limit = limit }) in
     agree_accepted t b by giver taker rate limit s (due.afforded giver taker made (ap (λ b. cond b (Some made) None) (both_same giver taker)))
 accepts t l b by (Raise giver lots) s due =
     raise_accepted t b by giver lots s (may_raised lots (limit_of t b giver by) (due.afforded giver by (Raises lots) (ap (λ b. cond b (Some (Raises lots)) None) (both_same giver by))))
 accepts t l b by _ s due = refl
-
--- ---- along the order
 
 -- ---- what deals fits
 
@@ -188,24 +199,16 @@ PairsFit t l b rest = (g k : List ℕ) → AllFit (agreement t g k) (dealings_in
 
 fit_head_by : (t : House) (l b : List Record) (r : Record) (rest : List Record) (g k : List ℕ) (d : Deed) → deed_of l g k r.firm r.command ≡ Some d
     → AllFit (agreement t g k) (dealings_in l b g k) (dealings_in l (r ∷ rest) g k) → fits (agreement t g k) (dealings_in l b g k) d ≡ true
-fit_head_by t l b r rest g k d e all =
-    let whole : AllFit (agreement t g k) (dealings_in l b g k) (record { number = r.number; deed = d } ∷ dealings_in l rest g k) =
-    subst (λ o. AllFit (agreement t g k) (dealings_in l b g k) (cons_option (option_map (λ d. record { number = r.number; deed = d }) o) (dealings_in l rest g k))) e all in
-    whole.0
+fit_head_by t l b r rest g k d e all = (subst (λ o. AllFit (agreement t g k) (dealings_in l b g k) (dealt r o (dealings_in l rest g k))) e all).0
 
 fit_tail_by : (t : House) (l b : List Record) (r : Record) (rest : List Record) (g k : List ℕ) (o : Option Deed) → deed_of l g k r.firm r.command ≡ o
     → AllFit (agreement t g k) (dealings_in l b g k) (dealings_in l (r ∷ rest) g k) → AllFit (agreement t g k) (dealings_in l (b ++ r ∷ []) g k) (dealings_in l rest g k)
 fit_tail_by t l b r rest g k None e all =
-    subst (λ z. AllFit (agreement t g k) z (dealings_in l rest g k))
-    (sym (dealings_append l b (r ∷ []) g k
-    ∙ (ap (λ o. dealings_in l b g k ++ cons_option (option_map (λ d. record { number = r.number; deed = d }) o) []) e ∙ append-nil (dealings_in l b g k))))
-    (subst (λ o. AllFit (agreement t g k) (dealings_in l b g k) (cons_option (option_map (λ d. record { number = r.number; deed = d }) o) (dealings_in l rest g k))) e all)
+    subst (λ z. AllFit (agreement t g k) z (dealings_in l rest g k)) (sym (dealings_idle l b r g k e))
+    (subst (λ o. AllFit (agreement t g k) (dealings_in l b g k) (dealt r o (dealings_in l rest g k))) e all)
 fit_tail_by t l b r rest g k (Some d) e all =
-    let whole : AllFit (agreement t g k) (dealings_in l b g k) (record { number = r.number; deed = d } ∷ dealings_in l rest g k) =
-    subst (λ o. AllFit (agreement t g k) (dealings_in l b g k) (cons_option (option_map (λ d. record { number = r.number; deed = d }) o) (dealings_in l rest g k))) e all in
-    subst (λ z. AllFit (agreement t g k) z (dealings_in l rest g k))
-    (sym (dealings_append l b (r ∷ []) g k ∙ ap (λ o. dealings_in l b g k ++ cons_option (option_map (λ d. record { number = r.number; deed = d }) o) []) e))
-    whole.1
+    subst (λ z. AllFit (agreement t g k) z (dealings_in l rest g k)) (sym (dealings_cut l b r [] g k (Some d) e))
+    (subst (λ o. AllFit (agreement t g k) (dealings_in l b g k) (dealt r o (dealings_in l rest g k))) e all).1
 
 -- ---- along the order
 
@@ -267,13 +270,11 @@ pub record StandsReady (l o : List Record) : Type 0 where
   pub same : IsPermutation l o
   pub after_its_node : in_lawful_order l [] o ≡ true
 
-pub ready_replays : (t : House) (l o front tail : List Record) → NumbersOnce l → first_refused t [] l ≡ None → StandsReady l o → o ≡ front ++ tail → in_lawful_order l [] front ≡ true
-    → PairsFit t l [] front
+pub ready_replays : (t : House) (l o front tail : List Record) → Legal t l → StandsReady l o → o ≡ front ++ tail → in_lawful_order l [] front ≡ true → PairsFit t l [] front
     → Runs t l [] front
-ready_replays t l o front tail once none lawful e ready fit =
-    let f = facts t l none in
-    let all = All-permutation (Settled t l) l o lawful.same f.settled in
-    lawful_from t l o [] front tail (order_facts t l o lawful.same once (named_once t l none)) e (grown_none l)
+ready_replays t l o front tail legal lawful e ready fit =
+    let all = All-permutation (Settled t l) l o lawful.same (facts t l legal.replayed).settled in
+    lawful_from t l o [] front tail (order_facts t l o lawful.same legal.once (named_once t l legal.replayed)) e (grown_none l)
     (all_front (Settled t l) front tail (subst (All (Settled t l)) e all)) ready fit
 
 deed_found : (l o : List Record) → SameFinds l o → (g k by : List ℕ) (c : Command) → deed_of o g k by c ≡ deed_of l g k by c
@@ -283,14 +284,11 @@ deed_found l o f g k by _ = refl
 -- lists that find the same deal the same
 pub dealings_found : (l o : List Record) → SameFinds l o → (g k : List ℕ) → dealings o g k ≡ dealings_in l o g k
 dealings_found l o f g k =
-    ap (λ (h : Record → Option Dealing). filter_map h o) (λ i r. option_map (λ d. record { number = r.number; deed = d }) (deed_found l o f g k r.firm r.command i))
+    ap (λ (h : Record → Option Dealing). filter_map h o) (λ i r. option_map (numbered r) (deed_found l o f g k r.firm r.command i))
 
-pub order_replays : (t : House) (l o : List Record) → NumbersOnce l → first_refused t [] l ≡ None → IsLawfulOrder l o → first_refused t [] o ≡ None
-order_replays t l o once none lawful =
-    let f = facts t l none in
-    let finds = same_finds l o lawful.same once (named_once t l none) in
-    (ready_replays t l o o [] once none (record { same = lawful.same; after_its_node = lawful.after_its_node }) (sym (append-nil o)) lawful.after_its_node
+pub order_is_legal : (t : House) (l o : List Record) → Legal t l → IsLawfulOrder l o → IsLegal t o
+order_is_legal t l o legal lawful =
+    let f = facts t l legal.replayed in
+    let finds = same_finds l o lawful.same legal.once (named_once t l legal.replayed) in
+    legal_from_replay t o (ready_replays t l o o [] legal (record { same = lawful.same; after_its_node = lawful.after_its_node }) (sym (append-nil o)) lawful.after_its_node
     (λ g k. subst (AllFit (agreement t g k) []) (sym (lawful.pairs_stand g k) ∙ dealings_found l o finds g k) (f.deals g k))).replayed
-
-pub order_is_legal : (t : House) (l o : List Record) → HasDistinctNumbers l → IsLegal t l → IsLawfulOrder l o → IsLegal t o
-order_is_legal t l o distinct legal lawful = legal_from_replay t o (order_replays t l o (number_once l distinct) (replay_from_legal t l legal) lawful)

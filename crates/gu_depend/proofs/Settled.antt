@@ -4,8 +4,9 @@ use Rattle.std.proofs.Common.{append-nil, append_assoc, inl, inr}
 use Rattle.std.specs.Prelude.{Some, None, is_none, nat_lt, option_map}
 use Rattle.std.proofs.lemmas.List.Elements.{All-nil, All-push}
 use Rattle.gu_depend.proofs.Vocabulary.{EntryPart, House, knows_firm, agreement, node_of, decision_of, is_offered, is_given, splits, decides, refusal_of, row, trade_row, split_row, claim_row}
-use Rattle.gu_depend.proofs.Vocabulary.{refuse_row, cancel_row, is_taker, is_giver, first_refused, Part, Command, Trade, Split, Claim, Refuse, Cancel, Agree, Raise, Record, Kind, Node, deed_of}
+use Rattle.gu_depend.proofs.Vocabulary.{Refusal, NotOffered, NotYours, first, unless, is_taker, is_giver, first_refused, Part, Command, Trade, Split, Claim, Refuse, Cancel, Agree, Raise, Record, Kind, Node, deed_of}
 use Rattle.gu_depend.proofs.Vocabulary.{dealings_in, Deed}
+use Rattle.gu_base.specs.Refusals.{at_node}
 use Rattle.gu_base.proofs.Lines.{node_more}
 use Rattle.gu_base.proofs.LegalLaws.{none_refused}
 use Rattle.gu_depend.specs.Under.{names}
@@ -13,8 +14,7 @@ use Rattle.gu_depend.proofs.Finds.{find_more}
 use Rattle.gu_depend.proofs.Names.{at_name}
 use Rattle.gu_depend.proofs.NamedOnce.{NamedOnce, named_once}
 use Rattle.gu_depend.proofs.Grown.{Within, Grown, grown_none, grown_push, owns_same, depth_same}
-use Rattle.gu_depend.proofs.Deals.{deed_grown, dealings_grown, dealings_append, row_fits}
-use Rattle.std.specs.List.{cons_option}
+use Rattle.gu_depend.proofs.Deals.{numbered, deed_grown, dealings_grown, dealings_cut, dealings_idle, row_fits}
 use Rattle.gu_base.proofs.Dealt.{fits, AllFit, fit_append}
 use Rattle.std.proofs.lemmas.Option.{same_Some}
 use Rattle.gu_base.proofs.Passing.{at_node_none, split_passes, SplitHolds, claim_passes, ClaimHolds, agree_passes, AgreeHolds, raise_passes, decision_passes, refusal_parts, splits_well, decides_well}
@@ -91,32 +91,27 @@ split_settles t l b by ps x s g found h =
       sums = h.sums;
     }
 
+-- the row of a Refuse or a Cancel, by who may ask for it
+abbrev pub decision_row : List Record → (Kind → Bool) → Node → Option Refusal
+decision_row b yours x = first (unless (is_offered b x) NotOffered ∷ unless (yours x.kind) NotYours ∷ [])
+
+decision_settles : (l b : List Record) (n : EntryPart) (yours : Kind → Bool) → Grown l b → at_node (decision_row b yours) (node_of b n) ≡ None → SettledDecision l n yours
+decision_settles l b n yours g h =
+    let there = at_node_none (decision_row b yours) (node_of b n) h in
+    let passes = decision_passes b there.0 (yours there.0.kind) there.1.1 in
+    record { node = there.0; there = g.within.nodes n there.0 there.1.0; given = passes.0; asked = passes.2 }
+
 settles : (t : House) (l b : List Record) (by : List ℕ) (c : Command) → NamedOnce l → Grown l b → row t b by c ≡ None → SettledAs t l by c
 settles t l b by (Trade firm account instrument side lots) s g h = h
 settles t l b by (Split n ps) s g h =
     let there = at_node_none (split_row t b by ps) (node_of b n) h in
-    let passes = split_passes t b by ps there.0 there.1.1 in
-    record {
-      node = there.0;
-      there = g.within.nodes n there.0 there.1.0;
-      holds = split_settles t l b by ps there.0 s g (at_name b n there.0 there.1.0) passes.0;
-    }
+    let holds = split_settles t l b by ps there.0 s g (at_name b n there.0 there.1.0) (split_passes t b by ps there.0 there.1.1).0 in
+    record { node = there.0; there = g.within.nodes n there.0 there.1.0; holds = holds }
 settles t l b by (Claim n account) s g h =
     let there = at_node_none (claim_row t b by account) (node_of b n) h in
-    let passes = claim_passes t b by account there.0 there.1.1 in
-    record {
-      node = there.0;
-      there = g.within.nodes n there.0 there.1.0;
-      holds = passes.0;
-    }
-settles t l b by (Refuse n) s g h =
-    let there = at_node_none (refuse_row b by) (node_of b n) h in
-    let passes = decision_passes b there.0 (is_taker by there.0.kind) there.1.1 in
-    record { node = there.0; there = g.within.nodes n there.0 there.1.0; given = passes.0; asked = passes.2 }
-settles t l b by (Cancel n) s g h =
-    let there = at_node_none (cancel_row b by) (node_of b n) h in
-    let passes = decision_passes b there.0 (is_giver by there.0.kind) there.1.1 in
-    record { node = there.0; there = g.within.nodes n there.0 there.1.0; given = passes.0; asked = passes.2 }
+    record { node = there.0; there = g.within.nodes n there.0 there.1.0; holds = (claim_passes t b by account there.0 there.1.1).0 }
+settles t l b by (Refuse n) s g h = decision_settles l b n (is_taker by) g h
+settles t l b by (Cancel n) s g h = decision_settles l b n (is_giver by) g h
 settles t l b by (Agree giver taker rate limit) s g h = (agree_passes t b by giver taker rate limit h).0
 settles t l b by (Raise giver lots) s g h = (raise_passes t b by giver lots h).0
 settles t l b by _ s g h = tt
@@ -149,17 +144,13 @@ pub record Facts (t : House) (l b : List Record) : Type 0 where
 -- one more change that is accepted fits
 deals_push : (t : House) (l b : List Record) (r : Record) → Facts t l b → (g k : List ℕ) → row t b r.firm r.command ≡ None → (o : Option Deed) → deed_of l g k r.firm r.command ≡ o
     → AllFit (agreement t g k) [] (dealings_in l (b ++ r ∷ []) g k)
-deals_push t l b r f g k h None e =
-    subst (AllFit (agreement t g k) []) (sym
-    (dealings_append l b (r ∷ []) g k
-    ∙ (ap (λ o. dealings_in l b g k ++ cons_option (option_map (λ d. record { number = r.number; deed = d }) o) []) e ∙ append-nil (dealings_in l b g k))))
-    (f.deals g k)
+deals_push t l b r f g k h None e = subst (AllFit (agreement t g k) []) (sym (dealings_idle l b r g k e)) (f.deals g k)
 deals_push t l b r f g k h (Some d) e =
     let same : deed_of b g k r.firm r.command ≡ Some d = deed_grown l b g k r.firm r.command f.grown.within (accepted_there t b r.firm r.command h) ∙ e in
     let fit : fits (agreement t g k) (dealings_in l b g k) d ≡ true = subst (λ z. fits (agreement t g k) z d ≡ true) (dealings_grown l b g k f.grown)
     (row_fits t b g k r.firm r.command d h same) in
-    subst (AllFit (agreement t g k) []) (sym (dealings_append l b (r ∷ []) g k ∙ ap (λ o. dealings_in l b g k ++ cons_option (option_map (λ d. record { number = r.number; deed = d }) o) []) e))
-    (fit_append (agreement t g k) [] (dealings_in l b g k) (record { number = r.number; deed = d } ∷ []) (f.deals g k) (fit, tt))
+    subst (AllFit (agreement t g k) []) (sym (dealings_cut l b r [] g k (Some d) e))
+    (fit_append (agreement t g k) [] (dealings_in l b g k) (numbered r d ∷ []) (f.deals g k) (fit, tt))
 
 facts_push : (t : House) (l b : List Record) (r : Record) → NamedOnce l → Within l (b ++ r ∷ []) → length (b ++ r ∷ []) ≤ length l → Facts t l b
     → refusal_of t b r.firm r.command ≡ None → Facts t l (b ++ r ∷ [])

@@ -2,11 +2,9 @@ use Rattle.std.proofs.Common.{◌≡◌, ℕ, Option, ◌∙◌, ap}
 use Rattle.std.specs.Prelude.{Some, None, length, option_map, option_and_then, unwrap_or, slice_get}
 use Rattle.gu_fees.specs.Pairs.{PairView, standing_under}
 use Rattle.gu_fees.specs.Terms.{TermsView, entries_in, pair_at, standing_in}
-use Rattle.gu_depend.proofs.Beside.{counted}
 use Rattle.gu_depend.proofs.ReadOff.{placeless}
-use Rattle.gu_depend.proofs.ReadTerms.{read_off}
-use Rattle.gu_depend.proofs.Replay.{number_once}
-use Rattle.gu_depend.proofs.StandsUnder.{rises_distinct}
+use Rattle.gu_depend.proofs.ReadTerms.{counted, read_off}
+use Rattle.gu_depend.proofs.StandsUnder.{legal_rising}
 use Rattle.gu_depend.proofs.standing.standing_beside.Goals as goal
 
 -- what stands in the row, where there is one
@@ -25,12 +23,12 @@ pub returns-in-Some-clause-first : goal.returns-in-Some-clause-first
 returns-in-Some-clause-first c = λ t l rises legal are none.
     c.first_standing.ensures
     ∙ (stands_in c.args.terms.now c.args.k (pair_at c.args.terms.now c.args.k) (Some c.in-Some.row.now) (rw c.in-Some.is at c.row_beside.ensures)
-    ∙ (read_off t l c.args.terms.now (number_once l (rises_distinct 0 l rises)) are c.args.k none ∙ placeless t l rises legal c.args.k none))
+    ∙ (read_off t l c.args.terms.now are (legal_rising t l rises legal).once c.args.k none ∙ placeless t l rises legal c.args.k none))
 
 pub returns-in-None-clause-first : goal.returns-in-None-clause-first
 returns-in-None-clause-first c = λ t l rises legal are none.
     stands_in c.args.terms.now c.args.k (pair_at c.args.terms.now c.args.k) None (rw c.in-None.is at c.row_beside.ensures)
-    ∙ (read_off t l c.args.terms.now (number_once l (rises_distinct 0 l rises)) are c.args.k none ∙ placeless t l rises legal c.args.k none)
+    ∙ (read_off t l c.args.terms.now are (legal_rising t l rises legal).once c.args.k none ∙ placeless t l rises legal c.args.k none)
 
 pub returns-in-Some-clause-count : goal.returns-in-Some-clause-count
 returns-in-Some-clause-count c = λ t l are.
