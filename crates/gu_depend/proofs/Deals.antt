@@ -1,6 +1,6 @@
 -- What changes deal under the terms of a giver and a taker.
 use Rattle.std.proofs.Common.{◌≡◌, ℕ, ◌+◌, Bool, true, false, not, ◌&&◌, List, [], ◌∷◌, ◌++◌, refl, sym, ◌∙◌, ap, subst, cond, Option, All, append-nil}
-use Rattle.std.specs.Prelude.{Some, None, filter_map, option_map, option_and_then, bytes_eq, ◌==◌, is_none}
+use Rattle.std.specs.Prelude.{Some, None, filter_map, option_map, option_and_then, bytes_eq, ◌==◌, ◌↔◌}
 use Rattle.std.specs.List.{cons_option}
 use Rattle.std.proofs.lemmas.Bool.{and_parts}
 use Rattle.std.proofs.lemmas.List.Elements.{All-head, All-tail, All-weaker, filter_map-append}
@@ -75,21 +75,13 @@ dealings_idle l p r g k e = dealings_cut l p r [] g k None e ∙ append-nil (dea
 
 -- ---- what is accepted fits
 
-raised_may : (lots : ℕ) (o : Option ℕ) → raised_row lots o ≡ None → may_raise lots o ≡ true
-raised_may lots None h = absurd (cc)
-raised_may lots (Some limit) h = unless_none _ _ h
+pub raised_may : (lots : ℕ) (o : Option ℕ) → (raised_row lots o ≡ None) ↔ (may_raise lots o ≡ true)
+raised_may lots None = (λ h. absurd (cc), λ h. absurd (cc))
+raised_may lots (Some limit) = (λ h. unless_none _ _ h, λ h. none_unless _ _ h)
 
-pub may_raised : (lots : ℕ) (o : Option ℕ) → may_raise lots o ≡ true → raised_row lots o ≡ None
-may_raised lots None h = absurd (cc)
-may_raised lots (Some limit) h = none_unless _ _ h
-
-used_may : (lots : ℕ) (o : Option ℕ) → limit_row lots o ≡ None → may_use lots o ≡ true
-used_may lots None h = absurd (cc)
-used_may lots (Some limit) h = unless_none _ _ h
-
-may_used : (lots : ℕ) (o : Option ℕ) → may_use lots o ≡ true → limit_row lots o ≡ None
-may_used lots None h = absurd (cc)
-may_used lots (Some limit) h = none_unless _ _ h
+used_may : (lots : ℕ) (o : Option ℕ) → (limit_row lots o ≡ None) ↔ (may_use lots o ≡ true)
+used_may lots None = (λ h. absurd (cc), λ h. absurd (cc))
+used_may lots (Some limit) = (λ h. unless_none _ _ h, λ h. none_unless _ _ h)
 
 abbrev Fits : House → List Record → List ℕ → List ℕ → Deed → Type 0
 Fits t b g k d = fits (agreement t g k) (dealings b g k) d ≡ true
@@ -97,7 +89,7 @@ Fits t b g k d = fits (agreement t g k) (dealings b g k) d ≡ true
 use_fits : (t : House) (b : List Record) (g k : List ℕ) (lots : ℕ) (kind : Kind) (d : Deed) → use_of_kind g k lots kind ≡ Some d
     → limit_row (used_by b kind + lots) (limit_by t b kind) ≡ None
     → fits (agreement t g k) (dealings b g k) d ≡ true
-use_fits t b g k lots (Given m x y) d deals h = given_for (Fits t b) g k x y (Uses lots) d deals (used_may (used_of b x y + lots) (limit_of t b x y) h)
+use_fits t b g k lots (Given m x y) d deals h = given_for (Fits t b) g k x y (Uses lots) d deals ((used_may (used_of b x y + lots) (limit_of t b x y)).0 h)
 use_fits t b g k lots _ d deals h = absurd (cc)
 
 pub row_fits : (t : House) (b : List Record) (g k by : List ℕ) (c : Command) (d : Deed) → row t b by c ≡ None → deed_of b g k by c ≡ Some d
@@ -109,7 +101,7 @@ row_fits t b g k by (Claim n account) d h deals =
 row_fits t b g k by (Agree x y rate limit) d h deals =
     given_for (Fits t b) g k x y (Makes (record { rate = rate; limit = limit })) d deals (agree_passes t b by x y rate limit h).1
 row_fits t b g k by (Raise x lots) d h deals =
-    given_for (Fits t b) g k x by (Raises lots) d deals (raised_may lots (limit_of t b x by) (raise_passes t b by x lots h).1)
+    given_for (Fits t b) g k x by (Raises lots) d deals ((raised_may lots (limit_of t b x by)).0 (raise_passes t b by x lots h).1)
 row_fits t b g k by _ d h deals = absurd (cc)
 
 -- and what fits is within the limit
@@ -117,7 +109,7 @@ pub claim_within : (t : House) (l b : List Record) (n : EntryPart) (by account :
     → ((g k : List ℕ) (d : Deed) → deed_of l g k by (Claim n account) ≡ Some d → fits (agreement t g k) (dealings b g k) d ≡ true)
     → (kind : Kind) → x.kind ≡ kind → is_given kind ≡ true → limit_row (used_by b kind + x.lots) (limit_by t b kind) ≡ None
 claim_within t l b n by account x found fit (Given m g k) is given =
-    may_used (used_of b g k + x.lots) (limit_of t b g k)
+    (used_may (used_of b g k + x.lots) (limit_of t b g k)).1
     (fit g k (Uses x.lots) (ap (option_and_then (use_of_node g k)) found ∙ (ap (use_of_kind g k x.lots) is ∙ ap (λ b. cond b (Some (Uses x.lots)) None) (both_same g k))))
 claim_within t l b n by account x found fit _ is given = absurd (cc)
 

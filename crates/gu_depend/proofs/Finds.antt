@@ -1,13 +1,17 @@
 -- What is found in a list where at most one element passes, in whatever order the list stands.
 use Rattle.std.proofs.Common.{◌≡◌, ℕ, zero, suc, ◌+◌, ◌<◌, ◌≤◌, Bool, true, false, List, [], ◌∷◌, ◌++◌, length, get_or, refl, ◌∙◌, ap, arith, cond, Option}
 use Rattle.std.proofs.Common.{IsPermutation, Contains}
-use Rattle.std.specs.Prelude.{Some, None, find, count_by}
+use Rattle.std.specs.Prelude.{Some, None, find, count_by, option_and_then}
 use Rattle.std.specs.Option.{option_or}
 use Rattle.std.proofs.lemmas.List.Folds.{find-append}
 use Rattle.std.proofs.lemmas.List.Sums.{sum_by-cons, sum_by-append, sum_by_push, get_or-le-sum_by}
 use Rattle.std.proofs.lemmas.List.Sorted.{Contains-permutation, sum_by-IsPermutation}
 use Rattle.gu_base.proofs.Basics.{no_some, nothing_here}
 use Rattle.gu_base.proofs.Searches.{found_in, find_passes}
+
+pub and_then_told : {X Y : Type 0} (f : X → Option Y) (o : Option X) (y : Y) → option_and_then f o ≡ Some y → (x : X) × ((o ≡ Some x) × (f x ≡ Some y))
+and_then_told f None y h = absurd (cc)
+and_then_told f (Some x) y h = (x, (refl, h))
 
 pub count_cons : {X : Type 0} (p : X → Bool) (x : X) (xs : List X) → count_by p (x ∷ xs) ≡ cond (p x) 1 0 + count_by p xs
 count_cons p x xs = sum_by-cons (λ y. cond (p y) 1 0) x xs

@@ -7,7 +7,7 @@ use Rattle.std.proofs.lemmas.List.Folds.{find-append}
 use Rattle.std.proofs.lemmas.List.Sums.{sum_by-le-sum_by}
 use Rattle.gu_depend.proofs.Vocabulary.{EntryPart, node_of, nodes, nodes_of, same_name, parent, splits, Command, Trade, Split, Record, Root, Node}
 use Rattle.gu_base.proofs.Basics.{or_none, none_is_some}
-use Rattle.gu_depend.proofs.Finds.{find_permuted}
+use Rattle.gu_depend.proofs.Finds.{and_then_told, find_permuted}
 use Rattle.std.proofs.lemmas.Option.{same_Some}
 use Rattle.gu_base.proofs.NodeNames.{made_entry, name_same, node_called, made, made_of, first_or, part_parent}
 use Rattle.gu_base.proofs.Searches.{found_in}
@@ -40,12 +40,10 @@ pub record Maker (l : List Record) (n : EntryPart) (x : Node) : Type 0 where
   pub among : Contains l change
   pub makes_it : made_of change n ≡ Some x
 
-maker_of : (l : List Record) (n : EntryPart) (x : Node) (o : Option Record) → find (makes n) l ≡ o → option_and_then (λ r. made_of r n) o ≡ Some x → Maker l n x
-maker_of l n x None e h = absurd (cc)
-maker_of l n x (Some r) e h = record { change = r; among = found_in (makes n) l r e; makes_it = h }
-
 pub maker : (l : List Record) (n : EntryPart) (x : Node) → node_of l n ≡ Some x → Maker l n x
-maker l n x h = maker_of l n x (find (makes n) l) refl (sym (node_by_maker l n) ∙ h)
+maker l n x h =
+    let m = and_then_told (λ r. made_of r n) (find (makes n) l) x (sym (node_by_maker l n) ∙ h) in
+    record { change = m.0; among = found_in (makes n) l m.0 m.1.0; makes_it = m.1.1 }
 
 -- it has the number of the change that makes it
 pub made_number : (r : Record) (n : EntryPart) (x : Node) → made_of r n ≡ Some x → n.entry ≡ r.number

@@ -22,7 +22,7 @@ use Rattle.gu_tree.proofs.ShowsLess.{no-root-part}
 use Rattle.gu_tree.proofs.ToldAt.{IsToldAt, told-at}
 use Rattle.gu_depend.specs.Touch.{is_trade_or_decision}
 use Rattle.gu_depend.specs.Under.{numbers_under, deals_under}
-use Rattle.gu_depend.proofs.Finds.{found_once}
+use Rattle.gu_depend.proofs.Finds.{and_then_told, found_once}
 use Rattle.gu_depend.proofs.NamedOnce.{named_once}
 use Rattle.gu_depend.proofs.Names.{maker, made_number}
 use Rattle.gu_depend.proofs.Replay.{Legal}
@@ -160,10 +160,6 @@ found_by g k trade tree p h found has (Some n) e place =
 pub found_at : (g : Grove) (k trade : ℕ) (tree : Rose) (p : List ℕ) (h : Head) → IsSomeAnd (place_of g k) (λ n. IsPlace g n trade p) → tree_of g trade ≡ Some tree
     → HasAt p (λ t. head_of t ≡ h) tree → IsFound g k trade p tree h
 found_at g k trade tree p h place found has = found_by g k trade tree p h found has (place_of g k) refl place
-
-and_then_told : {X Y : Type 0} (f : X → Option Y) (o : Option X) (y : Y) → option_and_then f o ≡ Some y → (x : X) × ((o ≡ Some x) × (f x ≡ Some y))
-and_then_told f None y h = absurd (cc)
-and_then_told f (Some x) y h = (x, (refl, h))
 
 module _ (t : House) (l : List Record) (rises : RisesFrom 0 l) (legal : IsLegal t l) where
   abbrev list : Legal t l

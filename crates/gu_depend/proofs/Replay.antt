@@ -20,9 +20,9 @@ use Rattle.gu_depend.proofs.Finds.{count_cons, count_permuted, find_permuted, no
 use Rattle.gu_depend.proofs.Names.{at_name, node_permuted}
 use Rattle.gu_depend.proofs.NamedOnce.{NamedOnce, named_once}
 use Rattle.gu_depend.proofs.Grown.{Within, Grown, grown_none, grown_push, owns_same, depth_same}
-use Rattle.gu_depend.proofs.Deals.{numbered, dealt, both_same, dealings_grown, dealings_cut, dealings_idle, may_raised, claim_within}
+use Rattle.gu_depend.proofs.Deals.{numbered, dealt, both_same, dealings_grown, dealings_cut, dealings_idle, raised_may, claim_within}
 use Rattle.gu_base.proofs.Basics.{or_false, eqb_symm}
-use Rattle.gu_depend.proofs.Settled.{SettledAs, SettledDecision, decision_row, Settled, facts, front_within, front_short}
+use Rattle.gu_depend.proofs.Settled.{SettledAs, SettledAt, IsYours, decision_row, split_moved, Settled, facts, front_within, front_short}
 use Rattle.gu_base.proofs.Passing.{none_at_node, SplitHolds, split_accepted, claim_accepted, agree_accepted, raise_accepted, decision_accepted, refusal_none}
 use Rattle.gu_base.proofs.NodeNames.{name_is, name_same, node_called}
 
@@ -147,25 +147,14 @@ record IsDue (t : House) (l b : List Record) (by : List ℕ) (c : Command) : Typ
 there_both : (l b : List Record) (n : EntryPart) (x : Node) → Within l b → node_of l n ≡ Some x → (y : Node) × (node_of b n ≡ Some y) → node_of b n ≡ Some x
 there_both l b n x w found y = y.1 ∙ (sym (w.nodes n y.0 y.1) ∙ found)
 
-split_holds : (t : House) (l b : List Record) (by : List ℕ) (ps : List Part) (x : Node) → Grown l b → node_of b x.name ≡ Some x → decision_of b x.name ≡ decision_of l x.name
-    → SplitHolds t l by ps x → SplitHolds t b by ps x
-split_holds t l b by ps x g found same h = record {
-  owned = owns_same l b by x.name x g found same ∙ h.owned;
-  free = ap (λ o. not (is_given x.kind && is_none o)) same ∙ h.free;
-  count = h.count;
-  shallow = ap (λ d. nat_lt d 64) (depth_same l b x.name x g found) ∙ h.shallow;
-  parts = h.parts;
-  sums = h.sums;
-}
-
 undecided_named : (b : List Record) (n : EntryPart) (x : Node) → node_of b n ≡ Some x → decision_of b n ≡ None → decision_of b x.name ≡ None
 undecided_named b n x found none = subst (λ (z : EntryPart). decision_of b z ≡ None) (sym (node_called b n x found)) none
 
-decision_accepts : (l b : List Record) (n : EntryPart) (yours : Kind → Bool) → SettledDecision l n yours → Within l b → (x : Node) × (node_of b n ≡ Some x) → decision_of b n ≡ None
+decision_accepts : (l b : List Record) (n : EntryPart) (yours : Kind → Bool) → SettledAt l n (IsYours yours) → Within l b → (x : Node) × (node_of b n ≡ Some x) → decision_of b n ≡ None
     → at_node (decision_row b yours) (node_of b n) ≡ None
 decision_accepts l b n yours s w there undecided =
     let found = there_both l b n s.node w s.there there in
-    none_at_node (decision_row b yours) (node_of b n) s.node found (decision_accepted b s.node (yours s.node.kind) s.given (undecided_named b n s.node found undecided) s.asked)
+    none_at_node (decision_row b yours) (node_of b n) s.node found (decision_accepted b s.node (yours s.node.kind) s.holds.0 (undecided_named b n s.node found undecided) s.holds.1)
 
 accepts : (t : House) (l b : List Record) (by : List ℕ) (c : Command) → SettledAs t l by c → IsDue t l b by c → row t b by c ≡ None
 accepts t l b by (Trade firm account instrument side lots) s due = s
@@ -173,9 +162,11 @@ accepts t l b by (Split n ps) s due =
     let is : names n (Split n ps) ≡ true = or_false (same_name n n) ∙ name_same n in
     let found = there_both l b n s.node due.grown.within s.there (due.there n is) in
     let called = node_called b n s.node found in
+    let named = at_name b n s.node found in
     let same = subst (λ (z : EntryPart). decision_of b z ≡ decision_of l z) (sym called) (due.decided n (name_same n)) in
     none_at_node (split_row t b by ps) (node_of b n) s.node found
-    (split_accepted t b by ps s.node (split_holds t l b by ps s.node due.grown (at_name b n s.node found) same s.holds)
+    (split_accepted t b by ps s.node
+    (split_moved t l b by ps s.node (owns_same l b by s.node.name s.node due.grown named same) same (depth_same l b s.node.name s.node due.grown named) s.holds)
     (subst (λ (z : EntryPart). split_of b z ≡ None) (sym called) (due.whole n (name_same n))))
 accepts t l b by (Claim n account) s due =
     let found = there_both l b n s.node due.grown.within s.there (due.there n (name_same n)) in
@@ -188,7 +179,7 @@ accepts t l b by (Agree giver taker rate limit) s due =
     let made : Deed = Makes (record { rate = rate; limit = limit }) in
     agree_accepted t b by giver taker rate limit s (due.afforded giver taker made (ap (λ b. cond b (Some made) None) (both_same giver taker)))
 accepts t l b by (Raise giver lots) s due =
-    raise_accepted t b by giver lots s (may_raised lots (limit_of t b giver by) (due.afforded giver by (Raises lots) (ap (λ b. cond b (Some (Raises lots)) None) (both_same giver by))))
+    raise_accepted t b by giver lots s ((raised_may lots (limit_of t b giver by)).1 (due.afforded giver by (Raises lots) (ap (λ b. cond b (Some (Raises lots)) None) (both_same giver by))))
 accepts t l b by _ s due = refl
 
 -- ---- what deals fits

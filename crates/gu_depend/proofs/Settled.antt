@@ -3,12 +3,12 @@ use Rattle.std.proofs.Common.{◌≡◌, ℕ, ◌≤◌, Bool, true, false, not,
 use Rattle.std.proofs.Common.{append-nil, append_assoc, inl, inr}
 use Rattle.std.specs.Prelude.{Some, None, is_none, nat_lt, option_map}
 use Rattle.std.proofs.lemmas.List.Elements.{All-nil, All-push}
-use Rattle.gu_depend.proofs.Vocabulary.{EntryPart, House, knows_firm, agreement, node_of, decision_of, is_offered, is_given, splits, decides, refusal_of, row, trade_row, split_row, claim_row}
-use Rattle.gu_depend.proofs.Vocabulary.{Refusal, NotOffered, NotYours, first, unless, is_taker, is_giver, first_refused, Part, Command, Trade, Split, Claim, Refuse, Cancel, Agree, Raise, Record, Kind, Node, deed_of}
+use Rattle.gu_depend.proofs.Vocabulary.{EntryPart, House, knows_firm, agreement, node_of, owns, depth_of, decision_of, is_offered, is_given, splits, decides, refusal_of, row, trade_row, split_row, claim_row}
+use Rattle.gu_depend.proofs.Vocabulary.{Refusal, NotOffered, NotYours, first, unless, is_taker, is_giver, first_refused, IsLegal, Part, Command, Trade, Split, Claim, Refuse, Cancel, Agree, Raise, Record, Kind, Node, deed_of}
 use Rattle.gu_depend.proofs.Vocabulary.{dealings_in, Deed}
 use Rattle.gu_base.specs.Refusals.{at_node}
 use Rattle.gu_base.proofs.Lines.{node_more}
-use Rattle.gu_base.proofs.LegalLaws.{none_refused}
+use Rattle.gu_base.proofs.LegalLaws.{legal_from_replay}
 use Rattle.gu_depend.specs.Under.{names}
 use Rattle.gu_depend.proofs.Finds.{find_more}
 use Rattle.gu_depend.proofs.Names.{at_name}
@@ -22,28 +22,22 @@ use Rattle.gu_base.proofs.NodeNames.{node_called}
 use Rattle.gu_base.proofs.Basics.{no_some}
 use Rattle.std.proofs.lemmas.Bool.{or_cases}
 
-pub record SettledSplit (t : House) (l : List Record) (by : List ℕ) (n : EntryPart) (ps : List Part) : Type 0 where
+-- a node of the list, of which this holds
+pub record SettledAt (l : List Record) (n : EntryPart) (P : Node → Type 0) : Type 0 where
   pub node : Node
   pub there : node_of l n ≡ Some node
-  pub holds : SplitHolds t l by ps node
+  pub holds : P node
 
-pub record SettledClaim (t : House) (l : List Record) (by : List ℕ) (n : EntryPart) (account : List ℕ) : Type 0 where
-  pub node : Node
-  pub there : node_of l n ≡ Some node
-  pub holds : ClaimHolds t by account node
-
-pub record SettledDecision (l : List Record) (n : EntryPart) (yours : Kind → Bool) : Type 0 where
-  pub node : Node
-  pub there : node_of l n ≡ Some node
-  pub given : is_given node.kind ≡ true
-  pub asked : yours node.kind ≡ true
+-- what a Refuse or a Cancel asks of its node
+abbrev pub IsYours : (Kind → Bool) → Node → Type 0
+IsYours yours x = (is_given x.kind ≡ true) × (yours x.kind ≡ true)
 
 abbrev pub SettledAs : House → List Record → List ℕ → Command → Type 0
 SettledAs t l by (Trade firm account instrument side lots) = trade_row t by firm account instrument lots ≡ None
-SettledAs t l by (Split n ps) = SettledSplit t l by n ps
-SettledAs t l by (Claim n account) = SettledClaim t l by n account
-SettledAs t l by (Refuse n) = SettledDecision l n (is_taker by)
-SettledAs t l by (Cancel n) = SettledDecision l n (is_giver by)
+SettledAs t l by (Split n ps) = SettledAt l n (SplitHolds t l by ps)
+SettledAs t l by (Claim n account) = SettledAt l n (ClaimHolds t by account)
+SettledAs t l by (Refuse n) = SettledAt l n (IsYours (is_taker by))
+SettledAs t l by (Cancel n) = SettledAt l n (IsYours (is_giver by))
 SettledAs t l by (Agree giver taker rate limit) = AgreeHolds t by giver taker rate limit
 SettledAs t l by (Raise giver lots) = knows_firm t giver ≡ true
 SettledAs t l by _ = Unit {0}
@@ -78,38 +72,44 @@ free_decided l b n x s w found free =
 
 -- ---- what is accepted behind some changes is settled over all
 
+-- a Split that holds in the one list holds in the other, where its node is the same in both
+pub split_moved : (t : House) (l b : List Record) (by : List ℕ) (ps : List Part) (x : Node) → owns b by x.name ≡ owns l by x.name → decision_of b x.name ≡ decision_of l x.name
+    → depth_of b x.name ≡ depth_of l x.name → SplitHolds t l by ps x → SplitHolds t b by ps x
+split_moved t l b by ps x owned same deep h = record {
+  owned = owned ∙ h.owned;
+  free = ap (λ o. not (is_given x.kind && is_none o)) same ∙ h.free;
+  count = h.count;
+  shallow = ap (λ d. nat_lt d 64) deep ∙ h.shallow;
+  parts = h.parts;
+  sums = h.sums;
+}
+
 split_settles : (t : House) (l b : List Record) (by : List ℕ) (ps : List Part) (x : Node) → NamedOnce l → Grown l b → node_of b x.name ≡ Some x → SplitHolds t b by ps x
     → SplitHolds t l by ps x
 split_settles t l b by ps x s g found h =
     let same = free_decided l b x.name x s g.within found h.free in
-    record {
-      owned = sym (owns_same l b by x.name x g found same) ∙ h.owned;
-      free = sym (ap (λ o. not (is_given x.kind && is_none o)) same) ∙ h.free;
-      count = h.count;
-      shallow = sym (ap (λ d. nat_lt d 64) (depth_same l b x.name x g found)) ∙ h.shallow;
-      parts = h.parts;
-      sums = h.sums;
-    }
+    split_moved t b l by ps x (sym (owns_same l b by x.name x g found same)) (sym same) (sym (depth_same l b x.name x g found)) h
 
 -- the row of a Refuse or a Cancel, by who may ask for it
 abbrev pub decision_row : List Record → (Kind → Bool) → Node → Option Refusal
 decision_row b yours x = first (unless (is_offered b x) NotOffered ∷ unless (yours x.kind) NotYours ∷ [])
 
-decision_settles : (l b : List Record) (n : EntryPart) (yours : Kind → Bool) → Grown l b → at_node (decision_row b yours) (node_of b n) ≡ None → SettledDecision l n yours
+settles_at : (l b : List Record) (n : EntryPart) (line : Node → Option Refusal) (P : Node → Type 0) → Grown l b → at_node line (node_of b n) ≡ None
+    → ((x : Node) → node_of b n ≡ Some x → line x ≡ None → P x) → SettledAt l n P
+settles_at l b n line P g h holds =
+    let x = at_node_none line (node_of b n) h in
+    record { node = x.0; there = g.within.nodes n x.0 x.1.0; holds = holds x.0 x.1.0 x.1.1 }
+
+decision_settles : (l b : List Record) (n : EntryPart) (yours : Kind → Bool) → Grown l b → at_node (decision_row b yours) (node_of b n) ≡ None → SettledAt l n (IsYours yours)
 decision_settles l b n yours g h =
-    let there = at_node_none (decision_row b yours) (node_of b n) h in
-    let passes = decision_passes b there.0 (yours there.0.kind) there.1.1 in
-    record { node = there.0; there = g.within.nodes n there.0 there.1.0; given = passes.0; asked = passes.2 }
+    settles_at l b n (decision_row b yours) (IsYours yours) g h (λ x found passes. let p = decision_passes b x (yours x.kind) passes in (p.0, p.2))
 
 settles : (t : House) (l b : List Record) (by : List ℕ) (c : Command) → NamedOnce l → Grown l b → row t b by c ≡ None → SettledAs t l by c
 settles t l b by (Trade firm account instrument side lots) s g h = h
-settles t l b by (Split n ps) s g h =
-    let there = at_node_none (split_row t b by ps) (node_of b n) h in
-    let holds = split_settles t l b by ps there.0 s g (at_name b n there.0 there.1.0) (split_passes t b by ps there.0 there.1.1).0 in
-    record { node = there.0; there = g.within.nodes n there.0 there.1.0; holds = holds }
+settles t l b by (Split n ps) s g h = settles_at l b n (split_row t b by ps) (SplitHolds t l by ps) g h
+    (λ x found passes. split_settles t l b by ps x s g (at_name b n x found) (split_passes t b by ps x passes).0)
 settles t l b by (Claim n account) s g h =
-    let there = at_node_none (claim_row t b by account) (node_of b n) h in
-    record { node = there.0; there = g.within.nodes n there.0 there.1.0; holds = (claim_passes t b by account there.0 there.1.1).0 }
+    settles_at l b n (claim_row t b by account) (ClaimHolds t by account) g h (λ x found passes. (claim_passes t b by account x passes).0)
 settles t l b by (Refuse n) s g h = decision_settles l b n (is_taker by) g h
 settles t l b by (Cancel n) s g h = decision_settles l b n (is_giver by) g h
 settles t l b by (Agree giver taker rate limit) s g h = (agree_passes t b by giver taker rate limit h).0
@@ -164,20 +164,19 @@ facts_push t l b r s w short f h =
     }
 
 -- along the list, up to a front of it
-facts_to : (t : House) (l b front rest : List Record) → NamedOnce l → l ≡ b ++ (front ++ rest) → Facts t l b → first_refused t b (front ++ rest) ≡ None → Facts t l (b ++ front)
-facts_to t l b [] rest s e f none = subst (λ (z : List Record). Facts t l z) (sym (append-nil b)) f
-facts_to t l b (r ∷ front) rest s e f none =
-    let p = none_refused (refusal_of t b r.firm r.command) r.number (first_refused t (b ++ r ∷ []) (front ++ rest)) none in
+facts_to : (t : House) (l b front rest : List Record) → NamedOnce l → IsLegal t l → l ≡ b ++ (front ++ rest) → Facts t l b → Facts t l (b ++ front)
+facts_to t l b [] rest s legal e f = subst (Facts t l) (sym (append-nil b)) f
+facts_to t l b (r ∷ front) rest s legal e f =
     let cut : l ≡ (b ++ r ∷ []) ++ (front ++ rest) = e ∙ sym (append_assoc b (r ∷ []) (front ++ rest)) in
-    subst (λ (z : List Record). Facts t l z) (append_assoc b (r ∷ []) front)
-    (facts_to t l (b ++ r ∷ []) front rest s cut (facts_push t l b r s (front_within l (b ++ r ∷ []) (front ++ rest) cut) (front_short l (b ++ r ∷ []) (front ++ rest) cut) f p.0) p.1)
+    let more = facts_push t l b r s (front_within l (b ++ r ∷ []) (front ++ rest) cut) (front_short l (b ++ r ∷ []) (front ++ rest) cut) f (legal.accepted b (front ++ rest) r e) in
+    subst (Facts t l) (append_assoc b (r ∷ []) front) (facts_to t l (b ++ r ∷ []) front rest s legal cut more)
 
 facts_none : (t : House) (l : List Record) → Facts t l []
 facts_none t l = record { grown = grown_none l; settled = All-nil (Settled t l); deals = λ giver taker. tt }
 
 -- what holds of a front of a legal list, over the whole list
 pub front_facts : (t : House) (l front rest : List Record) → l ≡ front ++ rest → first_refused t [] l ≡ None → Facts t l front
-front_facts t l front rest e none = facts_to t l [] front rest (named_once t l none) e (facts_none t l) (subst (λ (z : List Record). first_refused t [] z ≡ None) e none)
+front_facts t l front rest e none = facts_to t l [] front rest (named_once t l none) (legal_from_replay t l none) e (facts_none t l)
 
 pub facts : (t : House) (l : List Record) → first_refused t [] l ≡ None → Facts t l l
 facts t l none = front_facts t l l [] (sym (append-nil l)) none

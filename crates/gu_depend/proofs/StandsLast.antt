@@ -28,7 +28,7 @@ use Rattle.gu_depend.specs.Same.{IsSameState}
 use Rattle.gu_depend.proofs.Cuts.{moved_to_end, stands_between, filter_one}
 use Rattle.std.proofs.lemmas.Option.{same_Some}
 use Rattle.gu_base.proofs.Passing.{refusal_parts, splits_well, decides_well}
-use Rattle.gu_base.proofs.NodeNames.{name_is, name_same, made_of, node_cut}
+use Rattle.gu_base.proofs.NodeNames.{name_is, name_same, made_of, node_cut, first_or}
 use Rattle.gu_base.proofs.Searches.{found_in, find_passes}
 
 -- ---- a replay that stops
@@ -67,15 +67,6 @@ undecided_by k by (Refuse m) c n un is = other_name m n c un is
 undecided_by k by (Cancel m) c n un is = other_name m n c un is
 undecided_by k by _ c n un is = refl
 
--- a root is neither split by the command nor decided
-no_root : (p : EntryPart) (c : Command) (n : EntryPart) (root : Node) → splits p c ≡ false → names n c ≡ true → (b : Bool) → same_name p n ≡ b
-    → (b ≡ true → decides n c ≡ true → false ≡ true) → cond b (Some root) None ≡ None
-no_root p c n root un is true same given = elim (or_cases (splits n c) (decides n c) is) [
-  | inl split ↦ absurd (not_both (splits p c) (subst (λ (z : EntryPart). splits z c ≡ true) (sym (name_is p n same)) split) un)
-  | inr decided ↦ (let wrong : false ≡ true = given refl decided in absurd (cc))
-]
-no_root p c n root un is false same given = refl
-
 -- an element that passes is one of them
 pub any_in : {X : Type 0} (p : X → Bool) (xs : List X) (x : X) → Contains xs x → p x ≡ true → list_any p xs ≡ true
 any_in p xs x among passes = list_any_at p xs among.0 x among.1 (ap p among.2 ∙ passes)
@@ -86,7 +77,10 @@ unmade_by : (k : ℕ) (by : List ℕ) (d c : Command) (n : EntryPart) → is_und
 unmade_by k by (Trade firm account instrument side lots) c n un is given =
     let p : EntryPart = record { entry = k; part = 0 } in
     let root : Node = record { name = p; lots = lots; kind = Root (record { firm = firm; account = account }) } in
-    no_root p c n root un is (same_name p n) refl (λ here decided. given root (ap (λ b. cond b (Some root) None) here) decided)
+    no_some (find (λ x. same_name x.name n) (root ∷ [])) (λ x found. first_or n p root x None ⊥ (λ same one. elim (or_cases (splits n c) (decides n c) is) [
+      | inl split ↦ not_both (splits p c) (subst (λ (z : EntryPart). splits z c ≡ true) (sym (name_is p n same)) split) un
+      | inr decided ↦ (let wrong : false ≡ true = ap (λ (z : Node). is_given z.kind) one ∙ given x found decided in cc)
+    ]) (λ none. cc) (same_name p n) refl found)
 unmade_by k by (Split m ps) c n un is given =
     no_some (find (λ x. same_name x.name n) (nodes_of k by (Split m ps))) (λ x found.
     let called = name_is x.name n (find_passes (λ x. same_name x.name n) (nodes_of k by (Split m ps)) x found) in

@@ -1,11 +1,11 @@
 -- The first change that would be refused without another is the first that the other stands under.
 use Rattle.std.proofs.Common.{◌≡◌, ℕ, zero, suc, ◌+◌, ◌<◌, ◌≤◌, Bool, true, false, not, ◌&&◌, ◌||◌, List, [], ◌∷◌, ◌++◌, length, get_or, refl, sym, ◌∙◌}
-use Rattle.std.proofs.Common.{ap, subst, arith, cond, Option, Contains, IsPermutation, append_assoc, map, inl, inr}
+use Rattle.std.proofs.Common.{ap, subst, arith, cond, Option, Contains, All, IsPermutation, append_assoc, map, inl, inr}
 use Rattle.std.specs.Prelude.{Some, None, find, count_by, is_some, is_none, option_and_then, option_map, ◌==◌}
 use Rattle.std.specs.Option.{option_or}
 use Rattle.std.specs.List.{list_any, AllByRecursion, IsDistinct}
 use Rattle.std.proofs.lemmas.Bool.Decides.{Decides-eqb}
-use Rattle.std.proofs.lemmas.List.Elements.{All-contains, All-contains_itself, All-filter, Contains-append_right}
+use Rattle.std.proofs.lemmas.List.Elements.{All-nil, All-cons, All-weaker, All-contains, All-contains_itself, All-filter, Contains-append_right}
 use Rattle.std.proofs.lemmas.List.Folds.{find-append}
 use Rattle.std.proofs.lemmas.Map.Keys.{IsDistinct-cons}
 use Rattle.gu_depend.proofs.Vocabulary.{EntryPart, House, node_of, nodes_of, decision_of, is_given, same_name, splits, decides, refusal_of, first_refused, IsLegal, without, standing_on, Refusal, Command}
@@ -215,40 +215,35 @@ can_go t l k legal among free =
 
 -- ---- in the order of the numbers
 
-rises_above : (n : ℕ) (l : List Record) → RisesFrom n l → (i : ℕ) (d : Record) → i < length l → n ≤ (get_or l i d).number
-rises_above n [] rises i d within = absurd (omega arith)
-rises_above n (r ∷ l) rises zero d within = rises.0
-rises_above n (r ∷ l) rises (suc i) d within =
+rises_above : (n : ℕ) (l : List Record) → RisesFrom n l → All (λ d. n ≤ d.number) l
+rises_above n [] rises = All-nil (λ (d : Record). n ≤ d.number)
+rises_above n (r ∷ l) rises =
     let here : n ≤ r.number = rises.0 in
-    let later : r.number + 1 ≤ (get_or l i d).number = rises_above (r.number + 1) l rises.1 i d (omega arith) in
-    omega (arith, here, later)
+    All-cons (λ (d : Record). n ≤ d.number) r l here
+    (All-weaker (λ (d : Record). r.number + 1 ≤ d.number) (λ (d : Record). n ≤ d.number) (λ d h. omega (arith, here, h)) l (rises_above (r.number + 1) l rises.1))
 
-least_at : (p : Record → Bool) (r : Record) (l : List Record) (n : ℕ) → RisesFrom n (r ∷ l) → (e : Record)
-    → ((i : ℕ) (d : Record) → find p l ≡ Some e → i < length l → p (get_or l i d) ≡ true → e.number ≤ (get_or l i d).number)
-    → (i : ℕ) (d : Record) → i < length (r ∷ l) → p (get_or (r ∷ l) i d) ≡ true → (b : Bool) → p r ≡ b → cond b (Some r) (find p l) ≡ Some e
-    → e.number ≤ (get_or (r ∷ l) i d).number
-least_at p r l n rises e later zero d within passes true is h = let one : r.number ≡ e.number = ap (λ (z : Record). z.number) (same_Some r e h) in omega (arith, one)
-least_at p r l n rises e later zero d within passes false is h = absurd (not_both (p r) passes is)
-least_at p r l n rises e later (suc i) d within passes true is h =
-    let one : r.number ≡ e.number = ap (λ (z : Record). z.number) (same_Some r e h) in
-    let above : r.number + 1 ≤ (get_or l i d).number = rises_above (r.number + 1) l rises.1 i d (omega arith) in
-    omega (arith, one, above)
-least_at p r l n rises e later (suc i) d within passes false is h = later i d h (omega arith) passes
+-- each that passes has this number or a later one
+abbrev pub PassesFrom : (Record → Bool) → ℕ → Record → Type 0
+PassesFrom p n d = p d ≡ true → n ≤ d.number
+
+least_at : (p : Record → Bool) (r : Record) (l : List Record) (n : ℕ) → RisesFrom n (r ∷ l) → (e : Record) → (find p l ≡ Some e → All (PassesFrom p e.number) l)
+    → (b : Bool) → p r ≡ b → cond b (Some r) (find p l) ≡ Some e → All (PassesFrom p e.number) (r ∷ l)
+least_at p r l n rises e later true is h =
+    subst (λ (z : Record). All (PassesFrom p z.number) (r ∷ l)) (same_Some r e h) (All-cons (PassesFrom p r.number) r l (λ passes. omega arith)
+    (All-weaker (λ (d : Record). r.number + 1 ≤ d.number) (PassesFrom p r.number) (λ d h passes. omega (arith, h)) l (rises_above (r.number + 1) l rises.1)))
+least_at p r l n rises e later false is h = All-cons (PassesFrom p e.number) r l (λ passes. absurd (not_both (p r) passes is)) (later h)
 
 -- the first that passes has the least number
-least : (p : Record → Bool) (n : ℕ) (l : List Record) → RisesFrom n l → (e : Record) (i : ℕ) (d : Record) → find p l ≡ Some e → i < length l → p (get_or l i d) ≡ true
-    → e.number ≤ (get_or l i d).number
-least p n [] rises e i d h within passes = absurd (omega arith)
-least p n (r ∷ l) rises e i d h within passes = least_at p r l n rises e (λ i d h within passes. least p (r.number + 1) l rises.1 e i d h within passes) i d within passes (p r) refl h
+pub first_is_least : (p : Record → Bool) (n : ℕ) (l : List Record) → RisesFrom n l → (e : Record) → find p l ≡ Some e → All (PassesFrom p e.number) l
+first_is_least p n [] rises e h = absurd (cc)
+first_is_least p n (r ∷ l) rises e h = least_at p r l n rises e (first_is_least p (r.number + 1) l rises.1 e) (p r) refl h
 
 rises_apart : (k n : ℕ) (l : List Record) → k < n → RisesFrom n l → AllByRecursion (λ y. (k == y) ≡ false) (map (λ r. r.number) l)
 rises_apart k n [] less rises = tt
 rises_apart k n (r ∷ l) less rises =
-    let here : n ≤ r.number = rises.0 in (
-      false_from_ne_true (k == r.number) (λ h. let e : k ≡ r.number = (Decides-eqb k r.number).0 h in absurd (omega (arith, e, here, less))),
-      rises_apart k (r.number + 1) l
-          (omega (arith, here, less)) rises.1,
-    )
+    let here : n ≤ r.number = rises.0 in
+    let apart = false_from_ne_true (k == r.number) (λ h. let e : k ≡ r.number = (Decides-eqb k r.number).0 h in absurd (omega (arith, e, here, less))) in
+    (apart, rises_apart k (r.number + 1) l (omega (arith, here, less)) rises.1)
 
 no_numbers : IsDistinct (λ a b. a == b) []
 unfolding IsDistinct
@@ -302,10 +297,7 @@ module _ (t : House) (l : List Record) (k : Record) (rises : RisesFrom 0 l) wher
     inl (find_passes (stands_under k) l e found),
     refl,
     λ d among under. elim under [
-      | inl node ↦ (
-          let at : get_or l among.0 d ≡ d = among.2 in
-          let low = least (stands_under k) 0 l rises e among.0 d found among.1 (ap (stands_under k) at ∙ node) in
-          subst (λ (z : Record). e.number ≤ z.number) at low)
+      | inl node ↦ All-contains (PassesFrom (stands_under k) e.number) l d (first_is_least (stands_under k) 0 l rises e found) among node
       | inr deal ↦ absurd (none_is_some (deals_under t l k.number k.firm k.command) d.number (deals_none t l k.number k.firm k.command e.command (find_passes (stands_under k) l e found)) deal)
     ],
   )
