@@ -1,10 +1,7 @@
 -- What claims cost, as sums over changes.
-use Rattle.std.proofs.Common.{◌≡◌, ℕ, Bool, true, List, [], ◌∷◌, refl, sym, ◌∙◌, ap, arith, cond, Option}
-use Rattle.std.specs.Prelude.{Some, None, filter, filter_map, sum_by, option_map, option_and_then}
-use Rattle.std.proofs.lemmas.List.Sums.{sum_by-cons}
-use Rattle.gu_depend.proofs.Vocabulary.{EntryPart, House, node_of, use_of_node, use_of_kind, deed_of, terms_of, charge_of_kind, charge_of_node, charge_of, counted, Agreement, Uses, Command}
-use Rattle.gu_depend.proofs.Vocabulary.{Claim, Record, Charge, Kind, Given, Node}
-use Rattle.gu_base.proofs.NodeNames.{name_same}
+use Rattle.gu_depend.proofs.Vocabulary.{◌≡◌, ℕ, Bool, true, List, [], ◌∷◌, refl, sym, ◌∙◌, ap, arith, cond, Option, Some, None, filter, filter_map, sum_by, option_map}
+use Rattle.gu_depend.proofs.Vocabulary.{option_and_then, sum_by-cons, EntryPart, House, node_of, use_of_node, use_of_kind, deed_of, terms_of, charge_of_kind, charge_of_node, charge_of, counted}
+use Rattle.gu_depend.proofs.Vocabulary.{Agreement, Uses, Command, Claim, Record, Charge, Kind, Given, Node, name_same}
 use Rattle.gu_base.proofs.Sums.{sum_option}
 use Rattle.gu_depend.specs.Under.{names}
 use Rattle.gu_depend.proofs.Grown.{Within}

@@ -1,13 +1,10 @@
 -- Lists cut at an element.
-use Rattle.std.proofs.Common.{◌≡◌, ℕ, zero, suc, ◌<◌, ◌≤◌, Bool, true, false, not, List, [], ◌∷◌, ◌++◌, length, get_or, refl, sym, ◌∙◌, ap, arith, cond}
-use Rattle.std.proofs.Common.{IsPermutation, Contains, All, subst}
-use Rattle.std.specs.Prelude.{Some, None, find, filter, count_by}
-use Rattle.std.proofs.lemmas.List.Elements.{All-nil, All-cons, All-head, All-tail, All-weaker, filter-append, filter_passes, Contains-append_right}
-use Rattle.gu_base.proofs.Basics.{nothing_here}
+use Rattle.gu_depend.proofs.Vocabulary.{◌≡◌, ℕ, zero, suc, ◌<◌, ◌≤◌, Bool, true, false, not, List, [], ◌∷◌, ◌++◌, length, get_or, refl, sym, ◌∙◌, ap, arith, cond}
+use Rattle.gu_depend.proofs.Vocabulary.{IsPermutation, Contains, All, subst, Some, None, find, filter, count_by, All-nil, All-cons, All-head, All-tail, All-weaker, filter-append}
+use Rattle.gu_depend.proofs.Vocabulary.{Contains-append_right, nothing_here, false_from_ne_true, same_Some}
+use Rattle.std.proofs.lemmas.List.Elements.{filter_passes}
 use Rattle.std.proofs.lemmas.List.Sorted.{IsPermutation-middle, IsPermutation-to_front, IsPermutation-sym, IsPermutation-trans}
 use Rattle.gu_depend.proofs.Finds.{count_append, count_cons, counts_none}
-use Rattle.std.proofs.lemmas.Bool.{false_from_ne_true}
-use Rattle.std.proofs.lemmas.Option.{same_Some}
 
 -- an element, with what stands before and behind it
 pub record Cut {X : Type 0} (xs : List X) (x : X) : Type 0 where

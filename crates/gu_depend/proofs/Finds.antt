@@ -1,13 +1,9 @@
 -- What is found in a list where at most one element passes, in whatever order the list stands.
-use Rattle.std.proofs.Common.{◌≡◌, ℕ, zero, suc, ◌+◌, ◌<◌, ◌≤◌, Bool, true, false, List, [], ◌∷◌, ◌++◌, length, get_or, refl, ◌∙◌, ap, arith, cond, Option}
-use Rattle.std.proofs.Common.{IsPermutation, Contains}
-use Rattle.std.specs.Prelude.{Some, None, find, count_by, option_and_then}
-use Rattle.std.specs.Option.{option_or}
-use Rattle.std.proofs.lemmas.List.Folds.{find-append}
-use Rattle.std.proofs.lemmas.List.Sums.{sum_by-cons, sum_by-append, sum_by_push, get_or-le-sum_by}
-use Rattle.std.proofs.lemmas.List.Sorted.{Contains-permutation, sum_by-IsPermutation}
-use Rattle.gu_base.proofs.Basics.{no_some, nothing_here}
-use Rattle.gu_base.proofs.Searches.{found_in, find_passes}
+use Rattle.gu_depend.proofs.Vocabulary.{◌≡◌, ℕ, zero, suc, ◌+◌, ◌<◌, ◌≤◌, Bool, true, false, List, [], ◌∷◌, ◌++◌, length, get_or, refl, ◌∙◌, ap, arith, cond}
+use Rattle.gu_depend.proofs.Vocabulary.{Option, IsPermutation, Contains, Some, None, find, count_by, option_and_then, option_or, find-append, sum_by-cons, sum_by-append, sum_by-IsPermutation}
+use Rattle.gu_depend.proofs.Vocabulary.{no_some, nothing_here, found_in, find_passes}
+use Rattle.std.proofs.lemmas.List.Sums.{sum_by_push, get_or-le-sum_by}
+use Rattle.std.proofs.lemmas.List.Sorted.{Contains-permutation}
 
 pub and_then_told : {X Y : Type 0} (f : X → Option Y) (o : Option X) (y : Y) → option_and_then f o ≡ Some y → (x : X) × ((o ≡ Some x) × (f x ≡ Some y))
 and_then_told f None y h = absurd (cc)

@@ -1,18 +1,13 @@
 -- A list of changes that has some of the changes of another, each behind what it stands on: what it says of a node is what the
 -- other says.
-use Rattle.std.proofs.Common.{◌≡◌, ℕ, zero, suc, ◌+◌, ◌-◌, ◌≤◌, true, false, ◌||◌, List, [], ◌∷◌, ◌++◌, length, refl, sym, ◌∙◌, ap, subst, arith, Option}
-use Rattle.std.proofs.Common.{All, length-append}
-use Rattle.std.specs.Prelude.{Some, None, option_and_then, option_map, unwrap_or, bytes_eq}
-use Rattle.std.specs.Option.{option_or}
-use Rattle.std.proofs.lemmas.List.Elements.{All-nil, All-push, All-weaker, All-contains}
-use Rattle.gu_depend.proofs.Vocabulary.{EntryPart, node_of, decision_of, claim_of, claimed_account, parent, splits, decides, line_within, line_of, place_of_kind, place_along, place_of, depth_of}
-use Rattle.gu_depend.proofs.Vocabulary.{owns, Record, Node}
-use Rattle.gu_base.proofs.Lines.{node_more}
+use Rattle.gu_depend.proofs.Vocabulary.{◌≡◌, ℕ, zero, suc, ◌+◌, ◌≤◌, true, false, ◌||◌, List, [], ◌∷◌, ◌++◌, length, refl, sym, ◌∙◌, ap, subst, arith, Option}
+use Rattle.gu_depend.proofs.Vocabulary.{All, length-append, Some, None, option_and_then, option_map, unwrap_or, bytes_eq, option_or, All-nil, All-push, All-weaker, All-contains, EntryPart, node_of}
+use Rattle.gu_depend.proofs.Vocabulary.{decision_of, claim_of, claimed_account, parent, splits, decides, line_within, line_of, place_of_kind, place_along, place_of, depth_of, owns, Record, Node}
+use Rattle.gu_depend.proofs.Vocabulary.{node_more, node_called, made_of, node_cut, none_is_some, no_some}
+use Rattle.std.proofs.Common.{◌-◌}
 use Rattle.gu_depend.specs.Under.{names}
 use Rattle.gu_depend.proofs.Finds.{find_more}
 use Rattle.gu_depend.proofs.Names.{maker, made_by_split, made_alone}
-use Rattle.gu_base.proofs.NodeNames.{node_called, made_of, node_cut}
-use Rattle.gu_base.proofs.Basics.{none_is_some, no_some}
 
 -- what is found in the second list is found in the first
 pub record Within (l b : List Record) : Type 0 where

@@ -1,18 +1,11 @@
 -- What a change that stands behind others moves.
-use Rattle.std.proofs.Common.{◌≡◌, ℕ, zero, suc, ◌+◌, Bool, true, false, ◌&&◌, List, [], ◌∷◌, ◌++◌, length, refl, sym, ◌∙◌, ap, subst, arith, cond, Option, Contains}
-use Rattle.std.proofs.Common.{All}
-use Rattle.std.specs.Prelude.{Some, None, find, filter, filter_map, sum_by, is_some, is_none, option_and_then, option_map, unwrap_or, ◌==◌, bytes_eq}
-use Rattle.std.specs.List.{cons_option}
-use Rattle.std.specs.Option.{option_or}
-use Rattle.std.proofs.lemmas.Bool.Decides.{Decides-eqb}
-use Rattle.std.proofs.lemmas.List.Elements.{All-head, All-tail, All-weaker, All-contains, All-contains_itself, filter_map-append}
-use Rattle.std.proofs.lemmas.List.Folds.{find-append}
-use Rattle.std.proofs.lemmas.List.Sums.{sum_by-cons, sum_by-append}
+use Rattle.gu_depend.proofs.Vocabulary.{◌≡◌, ℕ, zero, suc, ◌+◌, Bool, true, false, ◌&&◌, List, [], ◌∷◌, ◌++◌, length, refl, sym, ◌∙◌, ap, subst, arith, cond, Option}
+use Rattle.gu_depend.proofs.Vocabulary.{Contains, All, Some, None, find, filter, filter_map, sum_by, is_some, is_none, option_and_then, option_map, unwrap_or, ◌==◌, bytes_eq, cons_option}
+use Rattle.gu_depend.proofs.Vocabulary.{option_or, Decides-eqb, All-head, All-tail, All-weaker, All-contains, All-contains_itself, filter_map-append, find-append, sum_by-cons, sum_by-append}
 use Rattle.gu_depend.proofs.Vocabulary.{EntryPart, House, agreement, node_of, nodes, nodes_of, split_of, decision_of, same_name, splits, decides, parent, line_within, root_along, root_of}
-use Rattle.gu_depend.proofs.Vocabulary.{same_place, is_trade_of, trades_in, stands_at, position_of, charge_of, charges, row, Side, Record, Charge, Node, Place}
-use Rattle.gu_depend.proofs.Vocabulary.{deed_of, dealings_in, dealings, terms_under, raised_under, used_under, terms_of, Agreement, Deed, Uses}
-use Rattle.gu_base.proofs.Basics.{or_none, none_is_some}
-use Rattle.gu_base.proofs.LegalLaws.{replay_front}
+use Rattle.gu_depend.proofs.Vocabulary.{same_place, is_trade_of, trades_in, stands_at, position_of, charge_of, charges, row, Side, Record, Charge, Node, Place, deed_of, dealings_in, dealings}
+use Rattle.gu_depend.proofs.Vocabulary.{terms_under, raised_under, used_under, terms_of, Agreement, Deed, Uses, or_none, none_is_some, replay_front, fits, may_use, AllFit, same_Some, name_same}
+use Rattle.gu_depend.proofs.Vocabulary.{made, or_parts, false_from_ne_true}
 use Rattle.gu_depend.specs.Under.{names}
 use Rattle.gu_depend.specs.Moves.{lots_at, named_by, MovesItsOwn}
 use Rattle.gu_depend.proofs.Finds.{none_before}
@@ -22,14 +15,12 @@ use Rattle.gu_depend.proofs.Charges.{charge_same}
 use Rattle.gu_depend.proofs.Settled.{front_facts, facts, accepted_there}
 use Rattle.gu_depend.proofs.Deals.{numbered, gives_alike, dealings_grown, dealings_append, dealings_cut, row_fits, not_empty}
 use Rattle.gu_depend.proofs.Cuts.{cut_at}
-use Rattle.gu_base.proofs.Dealt.{fits, may_use, AllFit, all_sound, terms_stay}
+use Rattle.gu_base.proofs.Dealt.{all_sound, terms_stay}
 use Rattle.gu_depend.proofs.Replay.{NumbersOnce, Legal}
 use Rattle.gu_depend.proofs.StandsLast.{accepted_at, decision_cut}
 use Rattle.gu_depend.proofs.StandsUnder.{found_some}
-use Rattle.std.proofs.lemmas.Option.{same_Some}
-use Rattle.gu_base.proofs.NodeNames.{name_same, made, nodes_push}
+use Rattle.gu_base.proofs.NodeNames.{nodes_push}
 use Rattle.gu_base.proofs.Sums.{sum_agree_on, sum_kept, sum_plus}
-use Rattle.std.proofs.lemmas.Bool.{or_parts, false_from_ne_true}
 
 -- ---- sums
 

@@ -1,16 +1,9 @@
 -- Names of nodes, and the changes that make them.
-use Rattle.std.proofs.Common.{◌≡◌, ℕ, ◌≤◌, Bool, true, false, List, [], ◌∷◌, refl, sym, ◌∙◌, ap, subst, arith, cond, Option, IsPermutation, Contains}
-use Rattle.std.specs.Prelude.{Some, None, find, count_by, ◌==◌, is_some, option_and_then}
-use Rattle.std.specs.Option.{option_or}
-use Rattle.std.proofs.lemmas.Bool.Decides.{Decides-eqb}
-use Rattle.std.proofs.lemmas.List.Folds.{find-append}
-use Rattle.std.proofs.lemmas.List.Sums.{sum_by-le-sum_by}
-use Rattle.gu_depend.proofs.Vocabulary.{EntryPart, node_of, nodes, nodes_of, same_name, parent, splits, Command, Trade, Split, Record, Root, Node}
-use Rattle.gu_base.proofs.Basics.{or_none, none_is_some}
+use Rattle.gu_depend.proofs.Vocabulary.{◌≡◌, ℕ, ◌≤◌, Bool, true, false, List, [], ◌∷◌, refl, sym, ◌∙◌, ap, subst, arith, cond, Option, IsPermutation, Contains, Some, None}
+use Rattle.gu_depend.proofs.Vocabulary.{find, count_by, ◌==◌, is_some, option_and_then, option_or, Decides-eqb, find-append, sum_by-le-sum_by, EntryPart, node_of, nodes, nodes_of, same_name}
+use Rattle.gu_depend.proofs.Vocabulary.{parent, splits, Command, Trade, Split, Record, Root, Node, or_none, none_is_some, same_Some, name_same, node_called, made, made_of, first_or, found_in}
 use Rattle.gu_depend.proofs.Finds.{and_then_told, find_permuted}
-use Rattle.std.proofs.lemmas.Option.{same_Some}
-use Rattle.gu_base.proofs.NodeNames.{made_entry, name_same, node_called, made, made_of, first_or, part_parent}
-use Rattle.gu_base.proofs.Searches.{found_in}
+use Rattle.gu_base.proofs.NodeNames.{made_entry, part_parent}
 
 pub at_name : (l : List Record) (n : EntryPart) (x : Node) → node_of l n ≡ Some x → node_of l x.name ≡ Some x
 at_name l n x h = subst (λ (z : EntryPart). node_of l z ≡ Some x) (sym (node_called l n x h)) h

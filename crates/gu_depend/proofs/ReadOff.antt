@@ -1,21 +1,16 @@
 -- What stands on a change, read off trees that show the list.
-use Rattle.std.proofs.Common.{◌≡◌, ◌≢◌, ℕ, Bool, true, false, List, [], ◌∷◌, refl, sym, ◌∙◌, ap, subst, arith, Option, Contains, IsSomeAnd, ◌⊎◌, inl, inr}
-use Rattle.std.specs.Prelude.{Some, None, find, flat_map, option_map, option_and_then, ◌==◌, ◌↔◌}
-use Rattle.std.proofs.lemmas.Bool.{or_cases, or_parts}
-use Rattle.std.proofs.lemmas.Bool.Decides.{Decides-eqb}
-use Rattle.std.proofs.lemmas.Option.{same_Some}
-use Rattle.gu_base.specs.Rows.{made_by, parts_of}
-use Rattle.gu_depend.proofs.Vocabulary.{EntryPart, RisesFrom, House, node_of, nodes_of, split_of, decision_of, splits, decides, same_name, IsLegal, first_refused, standing_on, without, Part}
-use Rattle.gu_depend.proofs.Vocabulary.{Command, Trade, Split, Claim, Refuse, Cancel, Agree, Raise, Record, Node}
-use Rattle.gu_base.proofs.LegalLaws.{legal_from_replay, replay_from_legal}
-use Rattle.gu_base.proofs.NodeNames.{name_same, made_of}
-use Rattle.gu_base.proofs.Searches.{found_in, find_passes}
+use Rattle.gu_depend.proofs.Vocabulary.{◌≡◌, ℕ, Bool, true, false, List, [], ◌∷◌, refl, sym, ◌∙◌, ap, subst, arith, Option, Contains, IsSomeAnd, inl, inr, Some, None, find}
+use Rattle.gu_depend.proofs.Vocabulary.{flat_map, option_map, option_and_then, ◌==◌, ◌↔◌, or_cases, or_parts, Decides-eqb, same_Some, made_by, parts_of, EntryPart, RisesFrom, House}
+use Rattle.gu_depend.proofs.Vocabulary.{node_of, nodes_of, split_of, decision_of, splits, decides, same_name, IsLegal, first_refused, standing_on, without, Part, Command, Trade, Split, Claim}
+use Rattle.gu_depend.proofs.Vocabulary.{Refuse, Cancel, Agree, Raise, Record, Node, legal_from_replay, replay_from_legal, name_same, made_of, found_in, find_passes, change_of, named_place}
+use Rattle.gu_depend.proofs.Vocabulary.{number_in, numbers_on, least}
+use Rattle.std.proofs.Common.{◌≢◌, ◌⊎◌}
 use Rattle.gu_tree.specs.Rose.{Rose, head_of, split_of_node}
 use Rattle.gu_tree.specs.Paths.{node_at, HasAt, LeadsTo}
 use Rattle.gu_tree.specs.Shown.{IsTreeOf}
 use Rattle.gu_tree.specs.Grove.{Grove, tree_of, place_of, IsPlace}
-use Rattle.gu_tree.specs.ShownAll.{change_of, named_place, place_in, IsTreeIn, ShowsAll}
-use Rattle.gu_tree.specs.NumbersOn.{number_in, numbers_on, least, numbers_on_parts}
+use Rattle.gu_tree.specs.ShownAll.{place_in, IsTreeIn, ShowsAll}
+use Rattle.gu_tree.specs.NumbersOn.{numbers_on_parts}
 use Rattle.gu_tree.specs.declared.head.Head.{Head}
 use Rattle.gu_tree.proofs.Parts.{some_and, at_fact}
 use Rattle.gu_tree.proofs.ShowsLess.{no-root-part}

@@ -1,17 +1,10 @@
 -- What stands on a change that deals, and how many entries stand beside it, read off terms that are those of the list.
-use Rattle.std.proofs.Common.{◌≡◌, ℕ, Bool, true, false, List, [], ◌∷◌, ◌++◌, refl, sym, ◌∙◌, ap, subst, cond, Option, Contains}
-use Rattle.std.specs.Prelude.{Some, None, find, ◌==◌, length, option_map, option_and_then, unwrap_or, slice_get}
-use Rattle.std.specs.Map.{lookup}
-use Rattle.gu_base.proofs.Basics.{nothing_here}
-use Rattle.std.specs.Option.{option_or}
-use Rattle.std.proofs.lemmas.Bool.Decides.{Decides-eqb}
-use Rattle.std.proofs.lemmas.List.Folds.{find-append}
-use Rattle.gu_depend.proofs.Vocabulary.{House, agreement, deed_of, dealings_in, dealings, first_under_deed, Deed, Makes, Raises, Dealing, Pair, Command, Claim, Agree, Raise, Record}
-use Rattle.gu_base.proofs.Searches.{found_in, find_passes}
-use Rattle.gu_tree.specs.ShownAll.{change_of, named_place}
-use Rattle.gu_fees.specs.Rows.{is_pair}
-use Rattle.gu_fees.specs.Pairs.{PairView, deed_at, standing_under}
-use Rattle.gu_fees.specs.Terms.{TermsView, pair_at, standing_in, entries_in}
+use Rattle.gu_depend.proofs.Vocabulary.{◌≡◌, ℕ, Bool, true, false, List, [], ◌∷◌, ◌++◌, refl, sym, ◌∙◌, ap, subst, cond, Option, Contains, Some, None, find, ◌==◌, length}
+use Rattle.gu_depend.proofs.Vocabulary.{option_map, option_and_then, unwrap_or, slice_get, lookup, nothing_here, option_or, Decides-eqb, find-append, House, agreement, deed_of, dealings_in}
+use Rattle.gu_depend.proofs.Vocabulary.{dealings, first_under_deed, Deed, Makes, Raises, Dealing, Pair, Command, Claim, Agree, Raise, Record, found_in, find_passes, change_of, named_place, is_pair}
+use Rattle.gu_depend.proofs.Vocabulary.{PairView, TermsView, pair_at}
+use Rattle.gu_fees.specs.Pairs.{deed_at, standing_under}
+use Rattle.gu_fees.specs.Terms.{standing_in, entries_in}
 use Rattle.gu_depend.specs.Terms.{pair_of, place_of_pair, entries_dealt, AreTermsOf}
 use Rattle.gu_depend.specs.Under.{deals_under}
 use Rattle.gu_depend.proofs.Cuts.{cut_at}

@@ -1,30 +1,22 @@
 -- A lawful order of a legal list is legal.
-use Rattle.std.proofs.Common.{◌≡◌, ℕ, ◌+◌, ◌≤◌, Bool, true, false, not, ◌&&◌, ◌||◌, List, [], ◌∷◌, ◌++◌, length, refl, sym, ◌∙◌, ap, subst, arith, cond}
-use Rattle.std.proofs.Common.{Option, All, append_assoc, append-nil, IsPermutation, map}
-use Rattle.std.specs.Prelude.{Some, None, count_by, is_none, is_some, nat_lt, ◌==◌, filter_map, option_map, option_and_then}
-use Rattle.std.specs.List.{AllByRecursion, cons_option}
-use Rattle.std.proofs.lemmas.Bool.Decides.{Decides-eqb}
-use Rattle.std.proofs.lemmas.List.Elements.{All-head, All-tail, All-nil, All-cons}
+use Rattle.gu_depend.proofs.Vocabulary.{◌≡◌, ℕ, ◌+◌, ◌≤◌, Bool, true, false, not, ◌&&◌, ◌||◌, List, [], ◌∷◌, ◌++◌, length, refl, sym, ◌∙◌, ap, subst, arith}
+use Rattle.gu_depend.proofs.Vocabulary.{cond, Option, All, append_assoc, append-nil, IsPermutation, map, Some, None, count_by, is_none, is_some, nat_lt, ◌==◌, filter_map, option_map}
+use Rattle.gu_depend.proofs.Vocabulary.{option_and_then, AllByRecursion, cons_option, Decides-eqb, All-head, All-tail, All-nil, All-cons, EntryPart, House, agreement, node_of, split_of, decision_of}
+use Rattle.gu_depend.proofs.Vocabulary.{is_given, splits, decides, same_name, use_of_node, deed_of, dealings_in, dealings, limit_of, refusal_of, row, split_row, claim_row, is_taker, is_giver}
+use Rattle.gu_depend.proofs.Vocabulary.{first_refused, IsLegal, is_ready, in_lawful_order, IsLawfulOrder, Deed, Makes, Raises, Dealing, Part, Command, Trade, Split, Claim, Refuse, Cancel, Agree}
+use Rattle.gu_depend.proofs.Vocabulary.{Raise, Record, Kind, Node, Refusal, at_node, fits, AllFit, legal_from_replay, replay_from_legal, and_parts, HasDistinctNumbers, eqb_symm, SplitHolds, name_is}
+use Rattle.gu_depend.proofs.Vocabulary.{name_same, node_called}
 use Rattle.std.proofs.lemmas.List.Sorted.{All-permutation, length_permutation}
 use Rattle.std.proofs.lemmas.Map.Keys.{IsDistinct-head, IsDistinct-tail}
-use Rattle.gu_depend.proofs.Vocabulary.{EntryPart, House, agreement, node_of, split_of, decision_of, is_given, splits, decides, same_name, use_of_node, deed_of, dealings_in, dealings, limit_of}
-use Rattle.gu_depend.proofs.Vocabulary.{refusal_of, row, split_row, claim_row, is_taker, is_giver, first_refused, IsLegal, is_ready, in_lawful_order, IsLawfulOrder, Deed}
-use Rattle.gu_depend.proofs.Vocabulary.{Makes, Raises, Dealing, Part, Command, Trade, Split, Claim, Refuse, Cancel, Agree, Raise, Record, Kind, Node, Refusal}
-use Rattle.gu_base.specs.Refusals.{at_node}
-use Rattle.gu_base.proofs.Dealt.{fits, AllFit}
-use Rattle.gu_base.proofs.LegalLaws.{legal_from_replay, replay_from_legal}
-use Rattle.std.proofs.lemmas.Bool.{and_parts}
-use Rattle.gu_tree.specs.Shown.{HasDistinctNumbers}
 use Rattle.gu_depend.specs.Under.{names}
 use Rattle.gu_depend.proofs.Finds.{count_cons, count_permuted, find_permuted, none_before}
 use Rattle.gu_depend.proofs.Names.{at_name, node_permuted}
 use Rattle.gu_depend.proofs.NamedOnce.{NamedOnce, named_once}
 use Rattle.gu_depend.proofs.Grown.{Within, Grown, grown_none, grown_push, owns_same, depth_same}
 use Rattle.gu_depend.proofs.Deals.{numbered, dealt, both_same, dealings_grown, dealings_cut, dealings_idle, raised_may, claim_within}
-use Rattle.gu_base.proofs.Basics.{or_false, eqb_symm}
+use Rattle.gu_base.proofs.Basics.{or_false}
 use Rattle.gu_depend.proofs.Settled.{SettledAs, SettledAt, IsYours, decision_row, split_moved, Settled, facts, front_within, front_short}
-use Rattle.gu_base.proofs.Passing.{none_at_node, SplitHolds, split_accepted, claim_accepted, agree_accepted, raise_accepted, decision_accepted, refusal_none}
-use Rattle.gu_base.proofs.NodeNames.{name_is, name_same, node_called}
+use Rattle.gu_base.proofs.Passing.{none_at_node, split_accepted, claim_accepted, agree_accepted, raise_accepted, decision_accepted, refusal_none}
 
 -- ---- numbers that stand once
 

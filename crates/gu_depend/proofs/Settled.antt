@@ -1,26 +1,18 @@
 -- What holds of the changes of a legal list over the whole list, wherever each of them stands.
-use Rattle.std.proofs.Common.{◌≡◌, ℕ, ◌≤◌, Bool, true, false, not, ◌&&◌, List, [], ◌∷◌, ◌++◌, length, length-append, refl, sym, ◌∙◌, ap, subst, arith, Option, All}
-use Rattle.std.proofs.Common.{append-nil, append_assoc, inl, inr}
-use Rattle.std.specs.Prelude.{Some, None, is_none, nat_lt, option_map}
-use Rattle.std.proofs.lemmas.List.Elements.{All-nil, All-push}
-use Rattle.gu_depend.proofs.Vocabulary.{EntryPart, House, knows_firm, agreement, node_of, owns, depth_of, decision_of, is_offered, is_given, splits, decides, refusal_of, row, trade_row, split_row, claim_row}
-use Rattle.gu_depend.proofs.Vocabulary.{Refusal, NotOffered, NotYours, first, unless, is_taker, is_giver, first_refused, IsLegal, Part, Command, Trade, Split, Claim, Refuse, Cancel, Agree, Raise, Record, Kind, Node, deed_of}
-use Rattle.gu_depend.proofs.Vocabulary.{dealings_in, Deed}
-use Rattle.gu_base.specs.Refusals.{at_node}
-use Rattle.gu_base.proofs.Lines.{node_more}
-use Rattle.gu_base.proofs.LegalLaws.{legal_from_replay}
+use Rattle.gu_depend.proofs.Vocabulary.{◌≡◌, ℕ, ◌≤◌, Bool, true, false, not, ◌&&◌, List, [], ◌∷◌, ◌++◌, length, length-append, refl, sym, ◌∙◌, ap, subst, arith}
+use Rattle.gu_depend.proofs.Vocabulary.{Option, All, append-nil, append_assoc, inl, inr, Some, None, is_none, nat_lt, option_map, All-nil, All-push, EntryPart, House, knows_firm, agreement, node_of}
+use Rattle.gu_depend.proofs.Vocabulary.{owns, depth_of, decision_of, is_offered, is_given, splits, decides, refusal_of, row, trade_row, split_row, claim_row, Refusal, NotOffered, NotYours, first}
+use Rattle.gu_depend.proofs.Vocabulary.{unless, is_taker, is_giver, first_refused, IsLegal, Part, Command, Trade, Split, Claim, Refuse, Cancel, Agree, Raise, Record, Kind, Node, deed_of}
+use Rattle.gu_depend.proofs.Vocabulary.{dealings_in, Deed, at_node, node_more, legal_from_replay, fits, AllFit, same_Some, at_node_none, SplitHolds, claim_passes, agree_passes, raise_passes}
+use Rattle.gu_depend.proofs.Vocabulary.{refusal_parts, splits_well, decides_well, node_called, no_some, or_cases}
 use Rattle.gu_depend.specs.Under.{names}
 use Rattle.gu_depend.proofs.Finds.{find_more}
 use Rattle.gu_depend.proofs.Names.{at_name}
 use Rattle.gu_depend.proofs.NamedOnce.{NamedOnce, named_once}
 use Rattle.gu_depend.proofs.Grown.{Within, Grown, grown_none, grown_push, owns_same, depth_same}
 use Rattle.gu_depend.proofs.Deals.{numbered, deed_grown, dealings_grown, dealings_cut, dealings_idle, row_fits}
-use Rattle.gu_base.proofs.Dealt.{fits, AllFit, fit_append}
-use Rattle.std.proofs.lemmas.Option.{same_Some}
-use Rattle.gu_base.proofs.Passing.{at_node_none, split_passes, SplitHolds, claim_passes, ClaimHolds, agree_passes, AgreeHolds, raise_passes, decision_passes, refusal_parts, splits_well, decides_well}
-use Rattle.gu_base.proofs.NodeNames.{node_called}
-use Rattle.gu_base.proofs.Basics.{no_some}
-use Rattle.std.proofs.lemmas.Bool.{or_cases}
+use Rattle.gu_base.proofs.Dealt.{fit_append}
+use Rattle.gu_base.proofs.Passing.{split_passes, ClaimHolds, AgreeHolds, decision_passes}
 
 -- a node of the list, of which this holds
 pub record SettledAt (l : List Record) (n : EntryPart) (P : Node → Type 0) : Type 0 where

@@ -1,19 +1,15 @@
 -- The first change that would be refused without another is the first that the other stands under.
-use Rattle.std.proofs.Common.{◌≡◌, ℕ, zero, suc, ◌+◌, ◌<◌, ◌≤◌, Bool, true, false, not, ◌&&◌, ◌||◌, List, [], ◌∷◌, ◌++◌, length, get_or, refl, sym, ◌∙◌}
-use Rattle.std.proofs.Common.{ap, subst, arith, cond, Option, Contains, All, IsPermutation, append_assoc, map, inl, inr}
-use Rattle.std.specs.Prelude.{Some, None, find, count_by, is_some, is_none, option_and_then, option_map, ◌==◌}
-use Rattle.std.specs.Option.{option_or}
-use Rattle.std.specs.List.{list_any, AllByRecursion, IsDistinct}
-use Rattle.std.proofs.lemmas.Bool.Decides.{Decides-eqb}
-use Rattle.std.proofs.lemmas.List.Elements.{All-nil, All-cons, All-weaker, All-contains, All-contains_itself, All-filter, Contains-append_right}
-use Rattle.std.proofs.lemmas.List.Folds.{find-append}
+use Rattle.gu_depend.proofs.Vocabulary.{◌≡◌, ℕ, zero, suc, ◌+◌, ◌<◌, ◌≤◌, Bool, true, false, not, ◌&&◌, ◌||◌, List, [], ◌∷◌, ◌++◌, length, get_or, refl, sym}
+use Rattle.gu_depend.proofs.Vocabulary.{◌∙◌, ap, subst, arith, cond, Option, Contains, All, IsPermutation, append_assoc, map, inl, inr, Some, None, find, count_by, is_some, is_none}
+use Rattle.gu_depend.proofs.Vocabulary.{option_and_then, option_map, ◌==◌, option_or, list_any, AllByRecursion, Decides-eqb, All-nil, All-cons, All-weaker, All-contains, All-contains_itself}
+use Rattle.gu_depend.proofs.Vocabulary.{Contains-append_right, find-append, EntryPart, House, node_of, nodes_of, decision_of, is_given, same_name, splits, decides, refusal_of, first_refused}
+use Rattle.gu_depend.proofs.Vocabulary.{IsLegal, without, standing_on, Refusal, Command, Trade, Split, Claim, Refuse, Cancel, Agree, Raise, Record, Root, Node, RisesFrom, replay_front}
+use Rattle.gu_depend.proofs.Vocabulary.{HasDistinctNumbers, same_Some, refusal_parts, splits_well, name_same, node_called, made_of, none_is_some, no_some, found_in, find_passes, false_from_ne_true}
+use Rattle.std.specs.List.{IsDistinct}
+use Rattle.std.proofs.lemmas.List.Elements.{All-filter}
 use Rattle.std.proofs.lemmas.Map.Keys.{IsDistinct-cons}
-use Rattle.gu_depend.proofs.Vocabulary.{EntryPart, House, node_of, nodes_of, decision_of, is_given, same_name, splits, decides, refusal_of, first_refused, IsLegal, without, standing_on, Refusal, Command}
-use Rattle.gu_depend.proofs.Vocabulary.{Trade, Split, Claim, Refuse, Cancel, Agree, Raise, Record, Root, Node, RisesFrom}
 use Rattle.gu_depend.specs.Same.{IsSameState}
-use Rattle.gu_base.proofs.LegalLaws.{replay_front}
 use Rattle.std.proofs.lemmas.List.Sorted.{IsPermutation-refl}
-use Rattle.gu_tree.specs.Shown.{HasDistinctNumbers}
 use Rattle.gu_depend.specs.Under.{names, is_under, stands_under, deals_under, first_under, IsLeastUnder}
 use Rattle.gu_depend.proofs.Finds.{none_counts, counts_in, found_once, none_before, count_append, count_permuted}
 use Rattle.gu_depend.proofs.Names.{makes, node_by_maker, makers_once}
@@ -24,12 +20,6 @@ use Rattle.gu_depend.proofs.Replay.{Legal, legal_list, same_finds, order_within}
 use Rattle.gu_depend.proofs.Cuts.{by_cut, stands_between, first_cut, none_passes, moved_to_end}
 use Rattle.gu_depend.proofs.Deals.{deals_some}
 use Rattle.gu_depend.proofs.StandsLast.{NoneUnder, replay_stops, not_both, accepted_at, gone, unfit_here, runs_without, stops_at, stands_last}
-use Rattle.std.proofs.lemmas.Option.{same_Some}
-use Rattle.gu_base.proofs.Passing.{refusal_parts, splits_well}
-use Rattle.gu_base.proofs.NodeNames.{name_same, node_called, made_of}
-use Rattle.gu_base.proofs.Basics.{none_is_some, no_some}
-use Rattle.gu_base.proofs.Searches.{found_in, find_passes}
-use Rattle.std.proofs.lemmas.Bool.{false_from_ne_true}
 
 -- ---- what a change stands under
 

@@ -1,21 +1,11 @@
 -- What keeps terms those of a list of changes.
-use Rattle.std.proofs.Common.{◌≡◌, ℕ, Bool, true, false, ◌&&◌, List, [], ◌∷◌, ◌++◌, refl, sym, ◌∙◌, ap, subst, cond, Option, Contains, append-nil, inl, inr}
-use Rattle.std.specs.Prelude.{Some, None, ◌==◌, option_and_then, bytes_eq, IsSomeAnd, if◌then◌else◌}
-use Rattle.std.specs.Map.{lookup}
-use Rattle.std.specs.Option.{option_or}
-use Rattle.std.proofs.lemmas.Bool.{and_parts}
-use Rattle.std.proofs.lemmas.Slice.Eq.{bytes_eq-Decides}
-use Rattle.std.proofs.lemmas.List.Elements.{All-contains, Contains-push_cases}
-use Rattle.std.proofs.lemmas.List.Folds.{find-append}
-use Rattle.std.proofs.lemmas.Option.{same_Some}
-use Rattle.gu_depend.proofs.Vocabulary.{EntryPart, House, agreement, node_of, deed_of, dealings, Deed, Pair, Command, Claim, Record, Node}
-use Rattle.gu_base.proofs.Basics.{none_is_some, or_none}
-use Rattle.gu_base.proofs.NodeNames.{name_same}
-use Rattle.gu_base.proofs.Searches.{found_in}
-use Rattle.gu_tree.specs.ShownAll.{change_of}
-use Rattle.gu_fees.specs.Rows.{is_pair}
-use Rattle.gu_fees.specs.Pairs.{PairView}
-use Rattle.gu_fees.specs.Terms.{TermsView, row_of, pair_at, IsPut}
+use Rattle.gu_depend.proofs.Vocabulary.{◌≡◌, ℕ, Bool, true, false, ◌&&◌, List, [], ◌∷◌, ◌++◌, refl, sym, ◌∙◌, ap, subst, cond, Option, Contains, append-nil, inl, inr}
+use Rattle.gu_depend.proofs.Vocabulary.{Some, None, ◌==◌, option_and_then, bytes_eq, IsSomeAnd, lookup, option_or, and_parts, bytes_eq-Decides, All-contains, find-append, same_Some, EntryPart}
+use Rattle.gu_depend.proofs.Vocabulary.{House, agreement, node_of, deed_of, dealings, Deed, Pair, Command, Claim, Record, Node, none_is_some, or_none, name_same, found_in, change_of, is_pair}
+use Rattle.gu_depend.proofs.Vocabulary.{PairView, TermsView, pair_at}
+use Rattle.std.specs.Prelude.{if◌then◌else◌}
+use Rattle.std.proofs.lemmas.List.Elements.{Contains-push_cases}
+use Rattle.gu_fees.specs.Terms.{row_of, IsPut}
 use Rattle.gu_depend.specs.Under.{names}
 use Rattle.gu_depend.specs.Terms.{pair_of_kind, pair_of, place_of_pair, AreTermsOf}
 use Rattle.gu_depend.proofs.Deals.{numbered, dealt, both_same, at_pair, pair, pair_of_deed, pair_told, undealt, deed_grown, dealings_grown, dealings_cut}

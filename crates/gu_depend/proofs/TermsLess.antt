@@ -1,16 +1,8 @@
 -- What keeps terms those of a list of changes, when one goes on which nothing stands.
-use Rattle.std.proofs.Common.{◌≡◌, ℕ, Bool, true, false, not, ◌&&◌, List, [], ◌∷◌, ◌++◌, refl, sym, ◌∙◌, ap, subst, cond, Option, Contains}
-use Rattle.std.specs.Prelude.{Some, None, ◌==◌, option_and_then, slice_get, bytes_eq, IsSomeAnd}
-use Rattle.std.specs.Map.{lookup}
-use Rattle.std.proofs.lemmas.Bool.Decides.{Decides-eqb}
-use Rattle.std.proofs.lemmas.List.Elements.{All-contains}
-use Rattle.gu_depend.proofs.Vocabulary.{House, standing_on, without, deed_of, dealings_in, dealings, leave_out, Pair, Record}
-use Rattle.gu_base.proofs.Basics.{none_is_some, eqb_symm}
-use Rattle.gu_base.proofs.Searches.{found_in}
-use Rattle.gu_tree.specs.ShownAll.{change_of}
-use Rattle.gu_fees.specs.Rows.{is_pair}
-use Rattle.gu_fees.specs.Pairs.{PairView}
-use Rattle.gu_fees.specs.Terms.{TermsView, row_of, pair_at, IsTakenOut}
+use Rattle.gu_depend.proofs.Vocabulary.{◌≡◌, ℕ, Bool, true, false, not, ◌&&◌, List, [], ◌∷◌, ◌++◌, refl, sym, ◌∙◌, ap, subst, cond, Option, Contains, Some, None}
+use Rattle.gu_depend.proofs.Vocabulary.{◌==◌, option_and_then, slice_get, bytes_eq, IsSomeAnd, lookup, Decides-eqb, All-contains, House, standing_on, without, deed_of, dealings_in, dealings}
+use Rattle.gu_depend.proofs.Vocabulary.{leave_out, Pair, Record, none_is_some, eqb_symm, found_in, change_of, is_pair, PairView, TermsView, pair_at}
+use Rattle.gu_fees.specs.Terms.{row_of, IsTakenOut}
 use Rattle.gu_depend.specs.Terms.{pair_of, place_of_pair, AreTermsOf}
 use Rattle.gu_depend.proofs.Deals.{pair, undealt, dealings_grown, left_out}
 use Rattle.gu_depend.proofs.Finds.{found_once}

@@ -1,14 +1,10 @@
 -- What keeps terms those of a list of changes, when a pair is made ready.
-use Rattle.std.proofs.Common.{◌≡◌, ℕ, Bool, true, false, ◌&&◌, List, [], ◌∷◌, refl, sym, ◌∙◌, ap, subst, Option, Contains, All}
-use Rattle.std.specs.Prelude.{Some, None, IfSome, IsSomeAnd, option_and_then, slice_get, bytes_eq, ◌==◌}
-use Rattle.std.proofs.lemmas.List.Elements.{All-nil, All-head, All-tail, All-contains, All-contains_itself, All-weaker}
-use Rattle.gu_depend.proofs.Vocabulary.{House, agreement, deed_of, dealings_in, dealings, Pair, Record}
-use Rattle.gu_base.proofs.Basics.{none_is_some}
-use Rattle.gu_base.proofs.Searches.{found_in}
-use Rattle.gu_tree.specs.ShownAll.{change_of}
+use Rattle.gu_depend.proofs.Vocabulary.{◌≡◌, ℕ, Bool, true, false, ◌&&◌, List, [], ◌∷◌, refl, sym, ◌∙◌, ap, subst, Option, Contains, All, Some, None, IsSomeAnd}
+use Rattle.gu_depend.proofs.Vocabulary.{option_and_then, slice_get, bytes_eq, ◌==◌, All-nil, All-head, All-tail, All-contains, All-contains_itself, All-weaker, House, agreement, deed_of}
+use Rattle.gu_depend.proofs.Vocabulary.{dealings_in, dealings, Pair, Record, none_is_some, found_in, change_of, PairView, TermsView, pair_at}
+use Rattle.std.specs.Prelude.{IfSome}
 use Rattle.gu_fees.specs.Filing.{kept_at}
-use Rattle.gu_fees.specs.Pairs.{PairView}
-use Rattle.gu_fees.specs.Terms.{TermsView, row_of, pair_at, IsSameRow, IsRowAfter, IsReadied}
+use Rattle.gu_fees.specs.Terms.{row_of, IsSameRow, IsRowAfter, IsReadied}
 use Rattle.gu_depend.specs.Terms.{pair_of, place_of_pair, AreTermsOf}
 use Rattle.gu_depend.proofs.Deals.{dealt, undealt}
 use Rattle.gu_depend.proofs.TermsFollow.{alike_at, pair_place, of_pairs, IsRowOf}
