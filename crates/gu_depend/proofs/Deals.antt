@@ -5,12 +5,12 @@ use Rattle.gu_depend.proofs.Vocabulary.{same_Some, bytes_eq-Decides, EntryPart, 
 use Rattle.gu_depend.proofs.Vocabulary.{terms_under, terms_of, limit_of, used_of, leave_out, first_over, first_over_without, first_under_terms, first_under_deed, row, claim_row, raised_row}
 use Rattle.gu_depend.proofs.Vocabulary.{limit_row, limit_by, used_by, without, bytes_same, Agreement, Deed, Makes, Raises, Uses, Dealing, Pair, Command, Claim, Agree, Raise, Record, Kind, Given}
 use Rattle.gu_depend.proofs.Vocabulary.{Node, no_some, may_use, fits, AllFit, first_unfit, name_same, at_node_none, claim_passes, agree_passes, raise_passes}
+use Rattle.gu_depend.proofs.Grown.{ThereFor, Within, NamesThere, Grown}
 use Rattle.gu_base.proofs.Accepted.{unless_none}
 use Rattle.gu_base.proofs.Dealt.{may_raise, unfit_none, fit_without_use, unfit_without_raise, unfit_without_terms}
 use Rattle.gu_base.proofs.Passing.{none_unless}
 use Rattle.gu_depend.specs.Terms.{pair_of_kind, pair_of}
 use Rattle.gu_depend.specs.Under.{names, deals_under}
-use Rattle.gu_depend.proofs.Grown.{Within, NamesThere, Grown}
 
 -- ---- pairs
 
@@ -38,8 +38,7 @@ abbrev pub dealt : Record → Option Deed → List Dealing → List Dealing
 dealt r o ds = cons_option (option_map (numbered r) o) ds
 
 -- a change whose node is there deals the same in both lists
-pub deed_grown : (l b : List Record) (g k by : List ℕ) (c : Command) → Within l b → ((n : EntryPart) → names n c ≡ true → (x : Node) × (node_of b n ≡ Some x))
-    → deed_of b g k by c ≡ deed_of l g k by c
+pub deed_grown : (l b : List Record) (g k by : List ℕ) (c : Command) → Within l b → ThereFor b c → deed_of b g k by c ≡ deed_of l g k by c
 deed_grown l b g k by (Claim n account) w there = let x = there n (name_same n) in ap (option_and_then (use_of_node g k)) (x.1 ∙ sym (w.nodes n x.0 x.1))
 deed_grown l b g k by _ w there = refl
 

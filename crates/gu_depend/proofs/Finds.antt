@@ -1,9 +1,13 @@
 -- What is found in a list where at most one element passes, in whatever order the list stands.
-use Rattle.gu_depend.proofs.Vocabulary.{◌≡◌, ℕ, zero, suc, ◌+◌, ◌<◌, ◌≤◌, Bool, true, false, List, [], ◌∷◌, ◌++◌, length, get_or, refl, ◌∙◌, ap, arith, cond}
-use Rattle.gu_depend.proofs.Vocabulary.{Option, IsPermutation, Contains, Some, None, find, count_by, option_and_then, option_or, find-append, sum_by-cons, sum_by-append, sum_by-IsPermutation}
-use Rattle.gu_depend.proofs.Vocabulary.{no_some, nothing_here, found_in, find_passes}
+use Rattle.gu_depend.proofs.Vocabulary.{IsSomeAnd, ◌≡◌, ℕ, zero, suc, ◌+◌, ◌<◌, ◌≤◌, Bool, true, false, List, [], ◌∷◌, ◌++◌, length, get_or, refl, ◌∙◌, ap}
+use Rattle.gu_depend.proofs.Vocabulary.{arith, cond, Option, IsPermutation, Contains, Some, None, find, count_by, option_and_then, option_or, find-append, sum_by-cons, sum_by-append}
+use Rattle.gu_depend.proofs.Vocabulary.{sum_by-IsPermutation, no_some, nothing_here, found_in, find_passes}
 use Rattle.std.proofs.lemmas.List.Sums.{sum_by_push, get_or-le-sum_by}
 use Rattle.std.proofs.lemmas.List.Sorted.{Contains-permutation}
+
+pub some_with : {X : Type 0} (P : X → Type 0) (o : Option X) → IsSomeAnd o P → (x : X) × ((o ≡ Some x) × P x)
+some_with P None h = absurd h
+some_with P (Some x) h = (x, (refl, h))
 
 pub and_then_told : {X Y : Type 0} (f : X → Option Y) (o : Option X) (y : Y) → option_and_then f o ≡ Some y → (x : X) × ((o ≡ Some x) × (f x ≡ Some y))
 and_then_told f None y h = absurd (cc)

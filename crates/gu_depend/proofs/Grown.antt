@@ -1,9 +1,9 @@
 -- A list of changes that has some of the changes of another, each behind what it stands on: what it says of a node is what the
 -- other says.
-use Rattle.gu_depend.proofs.Vocabulary.{◌≡◌, ℕ, zero, suc, ◌+◌, ◌≤◌, true, false, ◌||◌, List, [], ◌∷◌, ◌++◌, length, refl, sym, ◌∙◌, ap, subst, arith, Option}
-use Rattle.gu_depend.proofs.Vocabulary.{All, length-append, Some, None, option_and_then, option_map, unwrap_or, bytes_eq, option_or, All-nil, All-push, All-weaker, All-contains, EntryPart, node_of}
-use Rattle.gu_depend.proofs.Vocabulary.{decision_of, claim_of, claimed_account, parent, splits, decides, line_within, line_of, place_of_kind, place_along, place_of, depth_of, owns, Record, Node}
-use Rattle.gu_depend.proofs.Vocabulary.{node_more, node_called, made_of, node_cut, none_is_some, no_some}
+use Rattle.gu_depend.proofs.Vocabulary.{Command, ◌≡◌, ℕ, zero, suc, ◌+◌, ◌≤◌, true, false, ◌||◌, List, [], ◌∷◌, ◌++◌, length, refl, sym, ◌∙◌, ap, subst, arith}
+use Rattle.gu_depend.proofs.Vocabulary.{Option, All, length-append, Some, None, option_and_then, option_map, unwrap_or, bytes_eq, option_or, All-nil, All-push, All-weaker, All-contains, EntryPart}
+use Rattle.gu_depend.proofs.Vocabulary.{node_of, decision_of, claim_of, claimed_account, parent, splits, decides, line_within, line_of, place_of_kind, place_along, place_of, depth_of, owns, Record}
+use Rattle.gu_depend.proofs.Vocabulary.{Node, node_more, node_called, made_of, node_cut, none_is_some, no_some}
 use Rattle.std.proofs.Common.{◌-◌}
 use Rattle.gu_depend.specs.Under.{names}
 use Rattle.gu_depend.proofs.Finds.{find_more}
@@ -14,9 +14,12 @@ pub record Within (l b : List Record) : Type 0 where
   pub nodes : (n : EntryPart) (x : Node) → node_of b n ≡ Some x → node_of l n ≡ Some x
   pub decisions : (n : EntryPart) (r : Record) → decision_of b n ≡ Some r → decision_of l n ≡ Some r
 
--- the node that a change names is there
+-- the node that a command, or a change, names is there
+abbrev pub ThereFor : List Record → Command → Type 0
+ThereFor b c = (n : EntryPart) → names n c ≡ true → (x : Node) × (node_of b n ≡ Some x)
+
 abbrev pub NamesThere : List Record → Record → Type 0
-NamesThere b r = (n : EntryPart) → names n r.command ≡ true → (x : Node) × (node_of b n ≡ Some x)
+NamesThere b r = ThereFor b r.command
 
 -- a Split stands behind the decision of its node
 abbrev pub SplitsDecided : List Record → List Record → Record → Type 0

@@ -1,19 +1,18 @@
 -- What a change that stands behind others moves.
-use Rattle.gu_depend.proofs.Vocabulary.{◌≡◌, ℕ, zero, suc, ◌+◌, Bool, true, false, ◌&&◌, List, [], ◌∷◌, ◌++◌, length, refl, sym, ◌∙◌, ap, subst, arith, cond, Option}
-use Rattle.gu_depend.proofs.Vocabulary.{Contains, All, Some, None, find, filter, filter_map, sum_by, is_some, is_none, option_and_then, option_map, unwrap_or, ◌==◌, bytes_eq, cons_option}
-use Rattle.gu_depend.proofs.Vocabulary.{option_or, Decides-eqb, All-head, All-tail, All-weaker, All-contains, All-contains_itself, filter_map-append, find-append, sum_by-cons, sum_by-append}
-use Rattle.gu_depend.proofs.Vocabulary.{EntryPart, House, agreement, node_of, nodes, nodes_of, split_of, decision_of, same_name, splits, decides, parent, line_within, root_along, root_of}
-use Rattle.gu_depend.proofs.Vocabulary.{same_place, is_trade_of, trades_in, stands_at, position_of, charge_of, charges, row, Side, Record, Charge, Node, Place, deed_of, dealings_in, dealings}
-use Rattle.gu_depend.proofs.Vocabulary.{terms_under, raised_under, used_under, terms_of, Agreement, Deed, Uses, or_none, none_is_some, replay_front, fits, may_use, AllFit, same_Some, name_same}
-use Rattle.gu_depend.proofs.Vocabulary.{made, or_parts, false_from_ne_true}
+use Rattle.gu_depend.proofs.Vocabulary.{use_of_node, use_of_kind, charge_of_kind, charge_of_node, Command, Claim, Kind, Given, ◌≡◌, ℕ, zero, suc, ◌+◌, Bool, true, false, ◌&&◌, List}
+use Rattle.gu_depend.proofs.Vocabulary.{[], ◌∷◌, ◌++◌, length, refl, sym, ◌∙◌, ap, subst, arith, cond, Option, Contains, All, Some, None, find, filter, filter_map, sum_by, is_some}
+use Rattle.gu_depend.proofs.Vocabulary.{is_none, option_and_then, option_map, unwrap_or, ◌==◌, bytes_eq, cons_option, option_or, Decides-eqb, All-head, All-tail, All-weaker, All-contains}
+use Rattle.gu_depend.proofs.Vocabulary.{All-contains_itself, filter_map-append, find-append, sum_by-cons, sum_by-append, EntryPart, House, agreement, node_of, nodes, nodes_of, split_of, decision_of}
+use Rattle.gu_depend.proofs.Vocabulary.{same_name, splits, decides, parent, line_within, root_along, root_of, same_place, is_trade_of, trades_in, stands_at, position_of, charge_of, charges, row}
+use Rattle.gu_depend.proofs.Vocabulary.{Side, Record, Charge, Node, Place, deed_of, dealings_in, dealings, terms_under, raised_under, used_under, terms_of, Agreement, Deed, Uses, or_none}
+use Rattle.gu_depend.proofs.Vocabulary.{none_is_some, replay_front, fits, may_use, AllFit, same_Some, name_same, made, or_parts, false_from_ne_true}
+use Rattle.gu_depend.proofs.Grown.{Within, ThereFor, Grown, NamesThere, line_of_grown, place_same}
+use Rattle.gu_depend.proofs.Deals.{both_same, numbered, gives_alike, dealings_grown, dealings_append, dealings_cut, row_fits, not_empty}
 use Rattle.gu_depend.specs.Under.{names}
 use Rattle.gu_depend.specs.Moves.{lots_at, named_by, MovesItsOwn}
 use Rattle.gu_depend.proofs.Finds.{none_before}
 use Rattle.gu_depend.proofs.Names.{at_name, maker, made_number}
-use Rattle.gu_depend.proofs.Grown.{Grown, NamesThere, line_of_grown, place_same}
-use Rattle.gu_depend.proofs.Charges.{charge_same}
 use Rattle.gu_depend.proofs.Settled.{front_facts, facts, accepted_there}
-use Rattle.gu_depend.proofs.Deals.{numbered, gives_alike, dealings_grown, dealings_append, dealings_cut, row_fits, not_empty}
 use Rattle.gu_depend.proofs.Cuts.{cut_at}
 use Rattle.gu_base.proofs.Dealt.{all_sound, terms_stay}
 use Rattle.gu_depend.proofs.Replay.{NumbersOnce, Legal}
@@ -61,6 +60,27 @@ root_found zero l p m x found h = absurd (cc)
 root_found (suc f) l p m x found h =
     root_at l x p (at_name l m x found) (line_within f l (option_and_then (node_of l) (parent x.kind)))
     (root_by f l p (root_found f l p) (parent x.kind) (option_and_then (node_of l) (parent x.kind)) refl) h
+
+-- ---- what a claim costs
+
+-- the terms of those whose lots a change uses are the same in both lists
+abbrev pub SameTermsFor : House → List Record → List Record → List ℕ → Command → Type 0
+SameTermsFor t l b by c = (g k : List ℕ) (lots : ℕ) → deed_of b g k by c ≡ Some (Uses lots) → terms_of t b g k ≡ terms_of t l g k
+
+charge_of_given : (t : House) (l b : List Record) (lots : ℕ) (kind : Kind) → ((g k : List ℕ) → use_of_kind g k lots kind ≡ Some (Uses lots) → terms_of t b g k ≡ terms_of t l g k)
+    → charge_of_kind t b lots kind ≡ charge_of_kind t l lots kind
+charge_of_given t l b lots (Given m g k) same =
+    ap (option_map (λ (a : Agreement). record { giver = g; taker = k; lots = lots; rate = a.rate })) (same g k (ap (λ b. cond b (Some (Uses lots)) None) (both_same g k)))
+charge_of_given t l b lots _ same = refl
+
+-- a claim of a node that is there, under terms that are the same, is charged the same in both lists
+pub charge_same : (t : House) (l b : List Record) → Within l b → (by : List ℕ) (c : Command) → ThereFor b c → SameTermsFor t l b by c → charge_of t b c ≡ charge_of t l c
+charge_same t l b w by (Claim n account) there same =
+    let x = there n (name_same n) in
+    ap (option_and_then (charge_of_node t b)) x.1
+    ∙ (charge_of_given t l b x.0.lots x.0.kind (λ g k deals. same g k x.0.lots (ap (option_and_then (use_of_node g k)) x.1 ∙ deals))
+    ∙ sym (ap (option_and_then (charge_of_node t l)) (w.nodes n x.0 x.1)))
+charge_same t l b w by _ there same = refl
 
 -- ---- a change behind the others
 

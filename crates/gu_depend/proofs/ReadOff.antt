@@ -4,6 +4,7 @@ use Rattle.gu_depend.proofs.Vocabulary.{flat_map, option_map, option_and_then, �
 use Rattle.gu_depend.proofs.Vocabulary.{node_of, nodes_of, split_of, decision_of, splits, decides, same_name, IsLegal, first_refused, standing_on, without, Part, Command, Trade, Split, Claim}
 use Rattle.gu_depend.proofs.Vocabulary.{Refuse, Cancel, Agree, Raise, Record, Node, legal_from_replay, replay_from_legal, name_same, made_of, found_in, find_passes, change_of, named_place}
 use Rattle.gu_depend.proofs.Vocabulary.{number_in, numbers_on, least}
+use Rattle.gu_depend.proofs.Finds.{some_with, and_then_told, found_once}
 use Rattle.std.proofs.Common.{◌≢◌, ◌⊎◌}
 use Rattle.gu_tree.specs.Rose.{Rose, head_of, split_of_node}
 use Rattle.gu_tree.specs.Paths.{node_at, HasAt, LeadsTo}
@@ -17,7 +18,6 @@ use Rattle.gu_tree.proofs.ShowsLess.{no-root-part}
 use Rattle.gu_tree.proofs.ToldAt.{IsToldAt, told-at}
 use Rattle.gu_depend.specs.Touch.{is_trade_or_decision}
 use Rattle.gu_depend.specs.Under.{numbers_under, deals_under}
-use Rattle.gu_depend.proofs.Finds.{and_then_told, found_once}
 use Rattle.gu_depend.proofs.NamedOnce.{named_once}
 use Rattle.gu_depend.proofs.Names.{maker, made_number}
 use Rattle.gu_depend.proofs.Replay.{Legal}
@@ -129,32 +129,22 @@ module _ (t : House) (l : List Record) (list : Legal t l) (k : ℕ) (r : Record)
 
 -- ---- the answers
 
--- the place of the change, and the tree in which it lies
-pub record IsAt (g : Grove) (k trade : ℕ) (p : List ℕ) (tree v : Rose) : Type 0 where
-  pub placed : place_of g k ≡ Some (head_of v).name
-  pub found : tree_of g trade ≡ Some tree
-  pub led : node_at p tree ≡ Some v
-
 -- what the place of the change and the tree of its trade say
 pub record IsFound (g : Grove) (k trade : ℕ) (p : List ℕ) (tree : Rose) (h : Head) : Type 0 where
   pub node : Rose
-  pub at : IsAt g k trade p tree node
+  pub placed : place_of g k ≡ Some (head_of node).name
+  pub found : tree_of g trade ≡ Some tree
+  pub led : node_at p tree ≡ Some node
   pub head : head_of node ≡ h
-
-place_tree : (g : Grove) (trade : ℕ) (tree : Rose) (n : EntryPart) (p : List ℕ) → tree_of g trade ≡ Some tree → IsPlace g n trade p → LeadsTo p tree n
-place_tree g trade tree n p found place = subst (λ t. LeadsTo p t n) (same_Some place.tree tree (sym place.found ∙ found)) place.there
-
-found_by : (g : Grove) (k trade : ℕ) (tree : Rose) (p : List ℕ) (h : Head) → tree_of g trade ≡ Some tree → HasAt p (λ t. head_of t ≡ h) tree
-    → (o : Option EntryPart) → place_of g k ≡ o → IsSomeAnd o (λ n. IsPlace g n trade p) → IsFound g k trade p tree h
-found_by g k trade tree p h found has None e place = absurd place
-found_by g k trade tree p h found has (Some n) e place =
-    let v = some_and (λ t. head_of t ≡ h) (node_at p tree) has in
-    let named : (head_of v.0).name ≡ n = at_fact (λ u. (head_of u).name ≡ n) (node_at p tree) v.0 v.1 (place_tree g trade tree n p found place) in
-    record { node = v.0; at = record { placed = e ∙ ap (λ m. Some m) (sym named); found = found; led = v.1 }; head = v.2 }
 
 pub found_at : (g : Grove) (k trade : ℕ) (tree : Rose) (p : List ℕ) (h : Head) → IsSomeAnd (place_of g k) (λ n. IsPlace g n trade p) → tree_of g trade ≡ Some tree
     → HasAt p (λ t. head_of t ≡ h) tree → IsFound g k trade p tree h
-found_at g k trade tree p h place found has = found_by g k trade tree p h found has (place_of g k) refl place
+found_at g k trade tree p h place found has =
+    let n = some_with (λ n. IsPlace g n trade p) (place_of g k) place in
+    let v = some_and (λ t. head_of t ≡ h) (node_at p tree) has in
+    let leads = subst (λ t. LeadsTo p t n.0) (same_Some n.1.1.tree tree (sym n.1.1.found ∙ found)) n.1.1.there in
+    let named : (head_of v.0).name ≡ n.0 = at_fact (λ u. (head_of u).name ≡ n.0) (node_at p tree) v.0 v.1 leads in
+    record { node = v.0; placed = n.1.0 ∙ ap (λ m. Some m) (sym named); found = found; led = v.1; head = v.2 }
 
 module _ (t : House) (l : List Record) (rises : RisesFrom 0 l) (legal : IsLegal t l) where
   abbrev list : Legal t l
@@ -181,22 +171,22 @@ module _ (g : Grove) (t : House) (l : List Record) (rises : RisesFrom 0 l) (lega
   module _ (k trade : ℕ) (p : List ℕ) (tree : Rose) (h : Head) (f : IsFound g k trade p tree h) where
     -- the change, which the trees place where it was found
     placed : (r : Record) × ((change_of l k ≡ Some r) × (named_place r.number r.command ≡ Some (head_of f.node).name))
-    placed = and_then_told (λ r. named_place r.number r.command) (change_of l k) (head_of f.node).name (sym (shows.places k) ∙ f.at.placed)
+    placed = and_then_told (λ r. named_place r.number r.command) (change_of l k) (head_of f.node).name (sym (shows.places k) ∙ f.placed)
 
     told_here : IsToldAt l trade f.node
-    told_here = told-at l trade tree (subst (IsTreeIn l trade) f.at.found (shows.trees trade)) p f.node f.at.led
+    told_here = told-at l trade tree (subst (IsTreeIn l trade) f.found (shows.trees trade)) p f.node f.led
 
     -- the Split of the node that a trade made, or that a decision names
     pub split_found : (trade ≡ k) ⊎ (h.decision ≡ Some k) → (o : Option ℕ) → HasAt p (λ v. o ≡ option_map (λ s. s.0) (split_of_node v)) tree → o ≡ standing_on t l k
     split_found which o has =
-        at_fact (λ v. o ≡ option_map (λ s. s.0) (split_of_node v)) (node_at p tree) f.node f.at.led has
+        at_fact (λ v. o ≡ option_map (λ s. s.0) (split_of_node v)) (node_at p tree) f.node f.led has
         ∙ (by_split t l (list t l rises legal) k placed.0 placed.1.0 trade f.node told_here placed.0.command refl placed.1.1
         (subst (λ (z : Head). (trade ≡ k) ⊎ (z.decision ≡ Some k)) (sym f.head) which) ∙ looked_up_here t l (list t l rises legal) k placed.0 placed.1.0 rises)
 
     -- the first on the parts that a Split made
     pub parts_found : trade ≢ k → h.decision ≢ Some k → (o : Option ℕ) → HasAt p (λ v. o ≡ least (numbers_on_parts v)) tree → o ≡ standing_on t l k
     parts_found other undecided o has =
-        at_fact (λ v. o ≡ least (numbers_on_parts v)) (node_at p tree) f.node f.at.led has
+        at_fact (λ v. o ≡ least (numbers_on_parts v)) (node_at p tree) f.node f.led has
         ∙ (by_parts t l (list t l rises legal) k placed.0 placed.1.0 trade f.node told_here placed.0.command refl placed.1.1 other
         (subst (λ (z : Head). z.decision ≢ Some k) (sym f.head) undecided) ∙ looked_up_here t l (list t l rises legal) k placed.0 placed.1.0 rises)
 

@@ -6,13 +6,13 @@ use Rattle.gu_depend.proofs.Vocabulary.{is_given, splits, decides, same_name, us
 use Rattle.gu_depend.proofs.Vocabulary.{first_refused, IsLegal, is_ready, in_lawful_order, IsLawfulOrder, Deed, Makes, Raises, Dealing, Part, Command, Trade, Split, Claim, Refuse, Cancel, Agree}
 use Rattle.gu_depend.proofs.Vocabulary.{Raise, Record, Kind, Node, Refusal, at_node, fits, AllFit, legal_from_replay, replay_from_legal, and_parts, HasDistinctNumbers, eqb_symm, SplitHolds, name_is}
 use Rattle.gu_depend.proofs.Vocabulary.{name_same, node_called}
+use Rattle.gu_depend.proofs.Grown.{ThereFor, Within, Grown, grown_none, grown_push, owns_same, depth_same}
 use Rattle.std.proofs.lemmas.List.Sorted.{All-permutation, length_permutation}
 use Rattle.std.proofs.lemmas.Map.Keys.{IsDistinct-head, IsDistinct-tail}
 use Rattle.gu_depend.specs.Under.{names}
 use Rattle.gu_depend.proofs.Finds.{count_cons, count_permuted, find_permuted, none_before}
 use Rattle.gu_depend.proofs.Names.{at_name, node_permuted}
 use Rattle.gu_depend.proofs.NamedOnce.{NamedOnce, named_once}
-use Rattle.gu_depend.proofs.Grown.{Within, Grown, grown_none, grown_push, owns_same, depth_same}
 use Rattle.gu_depend.proofs.Deals.{numbered, dealt, both_same, dealings_grown, dealings_cut, dealings_idle, raised_may, claim_within}
 use Rattle.gu_base.proofs.Basics.{or_false}
 use Rattle.gu_depend.proofs.Settled.{SettledAs, SettledAt, IsYours, decision_row, split_moved, Settled, facts, front_within, front_short}
@@ -93,7 +93,7 @@ some_there (Some x) h = (x, refl)
 moved : (b : List Record) (m n : EntryPart) → same_name m n ≡ true → is_some (node_of b m) ≡ true → (x : Node) × (node_of b n ≡ Some x)
 moved b m n is h = subst (λ (z : EntryPart). (x : Node) × (node_of b z ≡ Some x)) (name_is m n is) (some_there (node_of b m) h)
 
-pub ready_there : (l b : List Record) (c : Command) → is_ready l b c ≡ true → (n : EntryPart) → names n c ≡ true → (x : Node) × (node_of b n ≡ Some x)
+pub ready_there : (l b : List Record) (c : Command) → is_ready l b c ≡ true → ThereFor b c
 ready_there l b (Split m ps) h n is = moved b m n (sym (or_false (same_name m n)) ∙ is) (and_parts (is_some (node_of b m)) (is_none (decision_of l m) || is_some (decision_of b m)) h).0
 ready_there l b (Claim m _) h n is = moved b m n is h
 ready_there l b (Refuse m) h n is = moved b m n is h
@@ -117,8 +117,7 @@ ready_decided : (l b : List Record) (c : Command) → Within l b → is_ready l 
 ready_decided l b c w h n is = decided_either (decision_of b n) (decision_of l n) (ready_split l b c h n is) (λ d e. w.decisions n d e)
 
 -- so much makes it ready
-pub ready_from : (l b : List Record) (c : Command) → ((n : EntryPart) → names n c ≡ true → (x : Node) × (node_of b n ≡ Some x)) → ((n : EntryPart) → splits n c ≡ true → Decided l b n)
-    → is_ready l b c ≡ true
+pub ready_from : (l b : List Record) (c : Command) → ThereFor b c → ((n : EntryPart) → splits n c ≡ true → Decided l b n) → is_ready l b c ≡ true
 ready_from l b (Split n ps) there decided = both_true (is_some (node_of b n)) (is_none (decision_of l n) || is_some (decision_of b n))
     (ap is_some (there n (or_false (same_name n n) ∙ name_same n)).1) (decided n (name_same n))
 ready_from l b (Claim n account) there decided = ap is_some (there n (name_same n)).1
@@ -129,7 +128,7 @@ ready_from l b _ there decided = refl
 -- what a change finds before it
 record IsDue (t : House) (l b : List Record) (by : List ℕ) (c : Command) : Type 0 where
   grown : Grown l b
-  there : (n : EntryPart) → names n c ≡ true → (x : Node) × (node_of b n ≡ Some x)
+  there : ThereFor b c
   decided : (n : EntryPart) → splits n c ≡ true → decision_of b n ≡ decision_of l n
   whole : (n : EntryPart) → splits n c ≡ true → split_of b n ≡ None
   undecided : (n : EntryPart) → decides n c ≡ true → decision_of b n ≡ None

@@ -5,11 +5,11 @@ use Rattle.gu_depend.proofs.Vocabulary.{owns, depth_of, decision_of, is_offered,
 use Rattle.gu_depend.proofs.Vocabulary.{unless, is_taker, is_giver, first_refused, IsLegal, Part, Command, Trade, Split, Claim, Refuse, Cancel, Agree, Raise, Record, Kind, Node, deed_of}
 use Rattle.gu_depend.proofs.Vocabulary.{dealings_in, Deed, at_node, node_more, legal_from_replay, fits, AllFit, same_Some, at_node_none, SplitHolds, claim_passes, agree_passes, raise_passes}
 use Rattle.gu_depend.proofs.Vocabulary.{refusal_parts, splits_well, decides_well, node_called, no_some, or_cases}
+use Rattle.gu_depend.proofs.Grown.{ThereFor, Within, Grown, grown_none, grown_push, owns_same, depth_same}
 use Rattle.gu_depend.specs.Under.{names}
 use Rattle.gu_depend.proofs.Finds.{find_more}
 use Rattle.gu_depend.proofs.Names.{at_name}
 use Rattle.gu_depend.proofs.NamedOnce.{NamedOnce, named_once}
-use Rattle.gu_depend.proofs.Grown.{Within, Grown, grown_none, grown_push, owns_same, depth_same}
 use Rattle.gu_depend.proofs.Deals.{numbered, deed_grown, dealings_grown, dealings_cut, dealings_idle, row_fits}
 use Rattle.gu_base.proofs.Dealt.{fit_append}
 use Rattle.gu_base.proofs.Passing.{split_passes, ClaimHolds, AgreeHolds, decision_passes}
@@ -40,22 +40,18 @@ pub record Settled (t : House) (l : List Record) (r : Record) : Type 0 where
 
 -- ---- a node that is no longer offered has its decision, if it ever has one
 
-undecided_given : (g : Bool) → not (g && true) ≡ true → g ≡ false
-undecided_given true h = absurd (cc)
-undecided_given false h = refl
-
-never_given : (k : Kind) → is_given k ≡ false → is_given k ≡ true → ⊥
-never_given k a b = cc
+-- what is given and not decided is offered
+pub offered_again : (g : Bool) → g ≡ true → not (g && true) ≡ true → ⊥
+offered_again g e h = cc
 
 free_decided_by : (l b : List Record) (n : EntryPart) (x : Node) → NamedOnce l → Within l b → node_of b n ≡ Some x → (o : Option Record) → decision_of b n ≡ o
     → not (is_given x.kind && is_none o) ≡ true → o ≡ decision_of l n
 free_decided_by l b n x s w found (Some d) e free = sym (w.decisions n d e)
 free_decided_by l b n x s w found None e free =
-    let other = undecided_given (is_given x.kind) free in
     sym (no_some (decision_of l n) (λ d h.
     let y = s.given n d h in
     let one : y.0 ≡ x = same_Some y.0 x (sym y.1.0 ∙ w.nodes n x found) in
-    never_given x.kind other (subst (λ (z : Node). is_given z.kind ≡ true) one y.1.1)))
+    offered_again (is_given x.kind) (subst (λ (z : Node). is_given z.kind ≡ true) one y.1.1) free))
 
 pub free_decided : (l b : List Record) (n : EntryPart) (x : Node) → NamedOnce l → Within l b → node_of b n ≡ Some x → not (is_offered b x) ≡ true → decision_of b n ≡ decision_of l n
 free_decided l b n x s w found free =
@@ -109,7 +105,7 @@ settles t l b by (Raise giver lots) s g h = (raise_passes t b by giver lots h).0
 settles t l b by _ s g h = tt
 
 -- a change that is accepted names a node that is there
-pub accepted_there : (t : House) (b : List Record) (by : List ℕ) (c : Command) → row t b by c ≡ None → (n : EntryPart) → names n c ≡ true → (x : Node) × (node_of b n ≡ Some x)
+pub accepted_there : (t : House) (b : List Record) (by : List ℕ) (c : Command) → row t b by c ≡ None → ThereFor b c
 accepted_there t b by c h n is = elim (or_cases (splits n c) (decides n c) is) [
   | inl split ↦ (let y = splits_well t b by c n h split in (y.node, y.there))
   | inr decided ↦ (let y = decides_well t b by c n h decided in (y.node, y.there))

@@ -214,31 +214,24 @@ module _ (t : House) (p : List Record) (k : Record) (s : List Record) (legal : L
   pub deals_whole : (x y : List ℕ) → AllFit (agreement t x y) [] (dealings whole x y)
   deals_whole x y = (facts t whole legal.replayed).deals x y
 
-  -- the dealings, cut at the change
-  pub deals_cut : (x y : List ℕ) (o : Option Deed) → deed_of whole x y k.firm k.command ≡ o → dealings whole x y ≡ dealings_in whole p x y ++ dealt k o (dealings_in whole s x y)
-  deals_cut x y o e = dealings_cut whole p k s x y o e
-
-  pub deals_left : (x y : List ℕ) → dealings_in whole (p ++ s) x y ≡ dealings_in whole p x y ++ dealings_in whole s x y
-  deals_left x y = dealings_append whole p s x y
-
   left_here : (x y : List ℕ) (d : Deed) → deed_of whole x y k.firm k.command ≡ Some d
       → leave_out k.number (dealings_in whole p x y ++ numbered k d ∷ dealings_in whole s x y) ≡ dealings_in whole p x y ++ dealings_in whole s x y
   left_here x y d e =
-      ap (leave_out k.number) (sym (deals_cut x y (Some d) e)) ∙ (left_out whole x y k.number whole ∙ (ap (λ z. dealings_in whole z x y) gone ∙ deals_left x y))
+      ap (leave_out k.number) (sym (dealings_cut whole p k s x y (Some d) e)) ∙ (left_out whole x y k.number whole ∙ (ap (λ z. dealings_in whole z x y) gone ∙ dealings_append whole p s x y))
 
   -- where the change deals for them, the first that doesn't fit without it is the first that stands on it
   pub unfit_here : (x y : List ℕ) (d : Deed) → deed_of whole x y k.firm k.command ≡ Some d
       → first_unfit (agreement t x y) [] (dealings_in whole (p ++ s) x y) ≡ deals_under t whole k.number k.firm k.command
   unfit_here x y d e =
-      let cut = deals_cut x y (Some d) e in
+      let cut = dealings_cut whole p k s x y (Some d) e in
       let all = subst (AllFit (agreement t x y) []) cut (deals_whole x y) in
-      ap (first_unfit (agreement t x y) []) (deals_left x y)
+      ap (first_unfit (agreement t x y) []) (dealings_append whole p s x y)
       ∙ (unfit_without (agreement t x y) (dealings_in whole p x y) (numbered k d) (dealings_in whole s x y) all (left_here x y d e)
       ∙ (ap (λ z. first_under_deed (agreement t x y) z k.number d) (sym cut) ∙ sym (deal_is t whole x y k.number k.firm k.command d e)))
 
   -- for all others, each fits
   fit_others : (x y : List ℕ) → deed_of whole x y k.firm k.command ≡ None → AllFit (agreement t x y) [] (dealings_in whole (p ++ s) x y)
-  fit_others x y e = subst (AllFit (agreement t x y) []) (deals_cut x y None e ∙ sym (deals_left x y)) (deals_whole x y)
+  fit_others x y e = subst (AllFit (agreement t x y) []) (dealings_cut whole p k s x y None e ∙ sym (dealings_append whole p s x y)) (deals_whole x y)
 
   fit_where_by : (x y : List ℕ) → deals_under t whole k.number k.firm k.command ≡ None → (o : Option Deed) → deed_of whole x y k.firm k.command ≡ o
       → AllFit (agreement t x y) [] (dealings_in whole (p ++ s) x y)
@@ -293,14 +286,14 @@ module _ (t : House) (p : List Record) (k : Record) (s : List Record) (legal : L
 
   deals_last : (x y : List ℕ) (d : Deed) → deed_of whole x y k.firm k.command ≡ Some d
       → dealings_in whole last x y ≡ (dealings_in whole p x y ++ dealings_in whole s x y) ++ numbered k d ∷ []
-  deals_last x y d e = dealings_cut whole (p ++ s) k [] x y (Some d) e ∙ ap (λ z. z ++ numbered k d ∷ []) (deals_left x y)
+  deals_last x y d e = dealings_cut whole (p ++ s) k [] x y (Some d) e ∙ ap (λ z. z ++ numbered k d ∷ []) (dealings_append whole p s x y)
 
   fit_last_by : PairsFit t whole [] (p ++ s) → (x y : List ℕ) (o : Option Deed) → deed_of whole x y k.firm k.command ≡ o → AllFit (agreement t x y) [] (dealings_in whole last x y)
   fit_last_by others x y None e = subst (AllFit (agreement t x y) []) (sym (dealings_idle whole (p ++ s) k x y e)) (others x y)
   fit_last_by others x y (Some d) e =
       subst (AllFit (agreement t x y) []) (sym (deals_last x y d e))
       (fit_last (agreement t x y) (dealings_in whole p x y) (numbered k d) (dealings_in whole s x y)
-      (subst (AllFit (agreement t x y) []) (deals_cut x y (Some d) e) (deals_whole x y)) (subst (AllFit (agreement t x y) []) (deals_left x y) (others x y)))
+      (subst (AllFit (agreement t x y) []) (dealings_cut whole p k s x y (Some d) e) (deals_whole x y)) (subst (AllFit (agreement t x y) []) (dealings_append whole p s x y) (others x y)))
 
   found_last : (x y : List ℕ) → dealings last x y ≡ dealings_in whole last x y
   found_last x y = dealings_found whole last (same_finds whole last (moved_to_end p k s) legal.once (named_once t whole legal.replayed)) x y
@@ -309,17 +302,17 @@ module _ (t : House) (p : List Record) (k : Record) (s : List Record) (legal : L
   same_by : PairsFit t whole [] (p ++ s) → (x y : List ℕ) (o : Option Deed) → deed_of whole x y k.firm k.command ≡ o
       → (terms_of t last x y ≡ terms_of t whole x y) × ((limit_of t last x y ≡ limit_of t whole x y) × (used_of last x y ≡ used_of whole x y))
   same_by others x y None e =
-      let same : dealings last x y ≡ dealings whole x y = found_last x y ∙ (dealings_idle whole (p ++ s) k x y e ∙ (deals_left x y ∙ sym (deals_cut x y None e))) in
+      let same : dealings last x y ≡ dealings whole x y = found_last x y ∙ (dealings_idle whole (p ++ s) k x y e ∙ (dealings_append whole p s x y ∙ sym (dealings_cut whole p k s x y None e))) in
       (ap (terms_under (agreement t x y)) same, (ap (limit_under (agreement t x y)) same, ap used_under same))
   same_by others x y (Some d) e =
       let xs = dealings_in whole p x y in
       let ys = dealings_in whole s x y in
       let kd : Dealing = numbered k d in
       let new : dealings last x y ≡ (xs ++ ys) ++ kd ∷ [] = found_last x y ∙ deals_last x y d e in
-      let old : dealings whole x y ≡ xs ++ kd ∷ ys = deals_cut x y (Some d) e in
+      let old : dealings whole x y ≡ xs ++ kd ∷ ys = dealings_cut whole p k s x y (Some d) e in
       let terms : terms_of t last x y ≡ terms_of t whole x y =
       ap (terms_under (agreement t x y)) new
-      ∙ (terms_last (agreement t x y) xs kd ys (subst (AllFit (agreement t x y) []) old (deals_whole x y)) (subst (AllFit (agreement t x y) []) (deals_left x y) (others x y))
+      ∙ (terms_last (agreement t x y) xs kd ys (subst (AllFit (agreement t x y) []) old (deals_whole x y)) (subst (AllFit (agreement t x y) []) (dealings_append whole p s x y) (others x y))
       ∙ sym (ap (terms_under (agreement t x y)) old)) in
       let raised : raised_under (dealings last x y) ≡ raised_under (dealings whole x y) = ap raised_under new ∙ (raised_last xs kd ys ∙ sym (ap raised_under old)) in
       let used : used_under (dealings last x y) ≡ used_under (dealings whole x y) = ap used_under new ∙ (used_last xs kd ys ∙ sym (ap used_under old)) in

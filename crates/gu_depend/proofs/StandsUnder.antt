@@ -15,7 +15,7 @@ use Rattle.gu_depend.proofs.Finds.{none_counts, counts_in, found_once, none_befo
 use Rattle.gu_depend.proofs.Names.{makes, node_by_maker, makers_once}
 use Rattle.gu_depend.proofs.NamedOnce.{NamedOnce, named_once}
 use Rattle.gu_depend.proofs.Grown.{NamesThere, SplitsDecided, Grown}
-use Rattle.gu_depend.proofs.Settled.{accepted_there, front_facts}
+use Rattle.gu_depend.proofs.Settled.{offered_again, accepted_there, front_facts}
 use Rattle.gu_depend.proofs.Replay.{Legal, legal_list, same_finds, order_within}
 use Rattle.gu_depend.proofs.Cuts.{by_cut, stands_between, first_cut, none_passes, moved_to_end}
 use Rattle.gu_depend.proofs.Deals.{deals_some}
@@ -83,17 +83,13 @@ missing t l y k rest legal same = record {
 not_under : (k e : Record) → (Under k.number k.firm k.command e.command → ⊥) → stands_under k e ≡ false
 not_under k e absent = false_from_ne_true (stands_under k e) (λ h. absent (under_is k.number k.firm k.command e.command h))
 
-offered_again : (g : Bool) → g ≡ true → not (g && true) ≡ true → ⊥
-offered_again g e h = cc
-
 legal_front : (t : House) (xs ys : List Record) → Legal t (xs ++ ys) → Legal t xs
 legal_front t xs ys legal = record { once = λ n. omega (arith, count_append (λ r. r.number == n) xs ys, legal.once n); replayed = replay_front t [] xs ys legal.replayed }
 
 -- what stands under a node deals for nobody's terms
 deals_none : (t : House) (l : List Record) (k : ℕ) (by : List ℕ) (d c : Command) → is_under k by d c ≡ true → deals_under t l k by d ≡ None
 deals_none t l k by (Agree _ _ _ _) c h = absurd (cc)
-deals_none t l k by (Raise _ _) c h = absurd (cc)
-deals_none t l k by _ c h = refl
+deals_none t l k by _ c h = cc
 
 -- where the first of two is none, so is the second
 free_by : (o : Option Record) (q : Option ℕ) → option_or (option_map (λ (e : Record). e.number) o) q ≡ None → (o ≡ None) × (q ≡ None)

@@ -1,17 +1,17 @@
 -- Lists that find the same, and have the same changes, leave the same trees, positions and fees.
-use Rattle.gu_depend.proofs.Vocabulary.{◌≡◌, ℕ, zero, suc, ◌+◌, ◌≤◌, Bool, true, false, ◌&&◌, List, [], ◌∷◌, length, refl, sym, ◌∙◌, ap, arith, cond, Option}
-use Rattle.gu_depend.proofs.Vocabulary.{IsPermutation, Some, None, find, flat_map, filter, sum_by, count_by, option_and_then, option_map, unwrap_or, is_some, is_none, bytes_eq, ◌==◌}
+use Rattle.gu_depend.proofs.Vocabulary.{filter_map, ◌≡◌, ℕ, zero, suc, ◌+◌, ◌≤◌, Bool, true, false, ◌&&◌, List, [], ◌∷◌, length, refl, sym, ◌∙◌, ap, arith, cond}
+use Rattle.gu_depend.proofs.Vocabulary.{Option, IsPermutation, Some, None, find, flat_map, filter, sum_by, count_by, option_and_then, option_map, unwrap_or, is_some, is_none, bytes_eq, ◌==◌}
 use Rattle.gu_depend.proofs.Vocabulary.{filter-append, sum_by-cons, sum_by-append, sum_by-le-sum_by, sum_by-IsPermutation, EntryPart, House, agreement, node_of, nodes, split_of, claim_of}
 use Rattle.gu_depend.proofs.Vocabulary.{claimed_account, parent, line_within, line_of, place_of_kind, place_along, place_of, root_along, root_of, same_place, is_trade_of, trades_in, stands_at}
 use Rattle.gu_depend.proofs.Vocabulary.{position_of, dealings, terms_under, limit_under, used_under, terms_of, limit_of, used_of, charge_of_kind, charge_of_node, charge_of, charges, counted}
 use Rattle.gu_depend.proofs.Vocabulary.{Agreement, Kind, Given, Row, row_of, state_of, taker_of, made_by, parts_of, rows_within, rows_from, rows_of, Side, Command, Claim, Record, Charge, Node}
 use Rattle.gu_depend.proofs.Vocabulary.{Place, made}
+use Rattle.gu_base.proofs.Sums.{sum_option}
 use Rattle.std.proofs.Common.{◌*◌}
 use Rattle.gu_depend.specs.Same.{IsSameState}
 use Rattle.gu_depend.proofs.Finds.{find_permuted}
 use Rattle.gu_depend.proofs.NamedOnce.{NamedOnce}
 use Rattle.gu_depend.proofs.Replay.{SameFinds, same_finds, NumbersOnce}
-use Rattle.gu_depend.proofs.Charges.{sum_charged}
 
 module _ {l o : List Record} (f : SameFinds l o) where
   line_above : (n : ℕ) → ((x : Option Node) → line_within n o x ≡ line_within n l x) → (k : Option EntryPart)
@@ -124,6 +124,16 @@ module _ {l o : List Record} (same : IsPermutation l o) (once : NumbersOnce l) (
       (λ x. ap is_none (f.splits_same x.name))
 
 -- ---- sums over the charges
+
+-- a sum over charges is one over the changes
+pub sum_charged : (takes : Charge → Bool) (counts : Charge → ℕ) (h : Record → Option Charge) (l : List Record)
+    → sum_by counts (filter takes (filter_map h l)) ≡ sum_by (λ r. counted takes counts (h r)) l
+sum_charged takes counts h [] = refl
+sum_charged takes counts h (r ∷ l) =
+    let a = sum_option takes counts (h r) (filter_map h l) in
+    let b = sum_charged takes counts h l in
+    let c = sum_by-cons (λ r. counted takes counts (h r)) r l in
+    omega (arith, a, b, c)
 
 -- the terms of each giver and taker are the same, and so are the limits, and what is used
 pub record SameDeals (t : House) (l o : List Record) : Type 0 where

@@ -1,8 +1,10 @@
 -- What keeps terms those of a list of changes.
-use Rattle.gu_depend.proofs.Vocabulary.{◌≡◌, ℕ, Bool, true, false, ◌&&◌, List, [], ◌∷◌, ◌++◌, refl, sym, ◌∙◌, ap, subst, cond, Option, Contains, append-nil, inl, inr}
-use Rattle.gu_depend.proofs.Vocabulary.{Some, None, ◌==◌, option_and_then, bytes_eq, IsSomeAnd, lookup, option_or, and_parts, bytes_eq-Decides, All-contains, find-append, same_Some, EntryPart}
-use Rattle.gu_depend.proofs.Vocabulary.{House, agreement, node_of, deed_of, dealings, Deed, Pair, Command, Claim, Record, Node, none_is_some, or_none, name_same, found_in, change_of, is_pair}
-use Rattle.gu_depend.proofs.Vocabulary.{PairView, TermsView, pair_at}
+use Rattle.gu_depend.proofs.Vocabulary.{Dealing, ◌≡◌, ℕ, Bool, true, false, ◌&&◌, List, [], ◌∷◌, ◌++◌, refl, sym, ◌∙◌, ap, subst, cond, Option, Contains, append-nil, inl}
+use Rattle.gu_depend.proofs.Vocabulary.{inr, Some, None, ◌==◌, option_and_then, bytes_eq, IsSomeAnd, lookup, option_or, and_parts, bytes_eq-Decides, All-contains, find-append, same_Some}
+use Rattle.gu_depend.proofs.Vocabulary.{EntryPart, House, agreement, node_of, deed_of, dealings, Deed, Pair, Command, Claim, Record, Node, none_is_some, or_none, name_same, found_in, change_of}
+use Rattle.gu_depend.proofs.Vocabulary.{is_pair, PairView, TermsView, pair_at}
+use Rattle.gu_depend.proofs.Finds.{some_with, none_before}
+use Rattle.gu_depend.proofs.Grown.{ThereFor, Within, NamesThere}
 use Rattle.std.specs.Prelude.{if◌then◌else◌}
 use Rattle.std.proofs.lemmas.List.Elements.{Contains-push_cases}
 use Rattle.gu_fees.specs.Terms.{row_of, IsPut}
@@ -10,14 +12,8 @@ use Rattle.gu_depend.specs.Under.{names}
 use Rattle.gu_depend.specs.Terms.{pair_of_kind, pair_of, place_of_pair, AreTermsOf}
 use Rattle.gu_depend.proofs.Deals.{numbered, dealt, both_same, at_pair, pair, pair_of_deed, pair_told, undealt, deed_grown, dealings_grown, dealings_cut}
 use Rattle.gu_depend.proofs.StandsLast.{not_both}
-use Rattle.gu_depend.proofs.Finds.{none_before}
-use Rattle.gu_depend.proofs.Grown.{Within, NamesThere}
 use Rattle.gu_depend.proofs.LastMoves.{IsBefore}
 use Rattle.gu_depend.proofs.Settled.{accepted_there}
-
-pub some_with : {X : Type 0} (P : X → Type 0) (o : Option X) → IsSomeAnd o P → (x : X) × ((o ≡ Some x) × P x)
-some_with P None h = absurd h
-some_with P (Some x) h = (x, (refl, h))
 
 pub alike_at : {X Y : Type 0} (f h : X → Option Y) (o : Option X) → ((x : X) → o ≡ Some x → f x ≡ h x) → option_and_then f o ≡ option_and_then h o
 alike_at f h None same = refl
@@ -30,8 +26,7 @@ abbrev pub pair_place : TermsView → List Record → Record → Option ℕ
 pair_place v l d = option_and_then (place_of_pair v) (pair_of l d.firm d.command)
 
 -- a change whose node is there is of the same pair in both lists
-pub pair_grown : (l b : List Record) (by : List ℕ) (c : Command) → Within l b → ((n : EntryPart) → names n c ≡ true → (x : Node) × (node_of b n ≡ Some x))
-    → pair_of b by c ≡ pair_of l by c
+pub pair_grown : (l b : List Record) (by : List ℕ) (c : Command) → Within l b → ThereFor b c → pair_of b by c ≡ pair_of l by c
 pair_grown l b by (Claim n account) w there = let x = there n (name_same n) in ap (option_and_then (λ x. pair_of_kind x.kind)) (x.1 ∙ sym (w.nodes n x.0 x.1))
 pair_grown l b by _ w there = refl
 
@@ -56,6 +51,16 @@ of_pairs P g k own others x y = pairs_by P g k own others x y (bytes_eq g x && b
 -- a row with the terms of the house table and what is dealt
 abbrev pub IsRowOf : House → List Record → List ℕ → List ℕ → PairView → Type 0
 IsRowOf t l g k q = (q.file ≡ agreement t g k) × (q.dealings ≡ dealings l g k)
+
+-- the row of a pair of which something more, or less, is dealt
+pub new_row : (t : House) (l m : List Record) (v w : TermsView) (g k : List ℕ) (after : List Dealing → List Dealing) → AreTermsOf t l v → dealings m g k ≡ after (dealings l g k)
+    → IsSomeAnd (row_of v g k) (λ q. IsSomeAnd (row_of w g k) (λ p. (p.file ≡ q.file) × (p.dealings ≡ after q.dealings)))
+    → (p : PairView) × ((row_of w g k ≡ Some p) × IsRowOf t m g k p)
+new_row t l m v w g k after are is told =
+    let own = some_with (λ q. IsSomeAnd (row_of w g k) (λ p. (p.file ≡ q.file) × (p.dealings ≡ after q.dealings))) (row_of v g k) told in
+    let new = some_with (λ p. (p.file ≡ own.0.file) × (p.dealings ≡ after own.0.dealings)) (row_of w g k) own.1.1 in
+    let old = are.rows g k own.0 own.1.0 in
+    (new.0, (new.1.0, (new.1.1.0 ∙ old.0, new.1.1.1 ∙ (ap after old.1 ∙ sym is))))
 
 -- where one pair has a new row, and the others have those that they had
 module _ (t : House) (l m : List Record) (v w : TermsView) (are : AreTermsOf t l v) (g k : List ℕ) (new : (p : PairView) × ((row_of w g k ≡ Some p) × IsRowOf t m g k p))
@@ -137,12 +142,8 @@ module _ (t : House) (l : List Record) (r : Record) (before : IsBefore t l r) wh
     of : pair_of l r.firm r.command ≡ pair g k
     of = pair_of_deed l g k r.firm r.command d deals
 
-    new_row : (p : PairView) × ((row_of w g k ≡ Some p) × IsRowOf t more g k p)
-    new_row =
-        let own = some_with (λ q. IsSomeAnd (row_of w g k) (λ p. (p.file ≡ q.file) × (p.dealings ≡ q.dealings ++ numbered r d ∷ []))) (row_of v g k) put.own in
-        let new = some_with (λ p. (p.file ≡ own.0.file) × (p.dealings ≡ own.0.dealings ++ numbered r d ∷ [])) (row_of w g k) own.1.1 in
-        let old = are.rows g k own.0 own.1.0 in
-        (new.0, (new.1.0, (new.1.1.0 ∙ old.0, new.1.1.1 ∙ (ap (λ z. z ++ numbered r d ∷ []) old.1 ∙ sym (dealings_more g k (Some d) deals)))))
+    own : (p : PairView) × ((row_of w g k ≡ Some p) × IsRowOf t more g k p)
+    own = new_row t l more v w g k (λ ds. ds ++ numbered r d ∷ []) are (dealings_more g k (Some d) deals) put.own
 
     others : (x y : List ℕ) → (bytes_eq g x && bytes_eq k y) ≡ false → (row_of w x y ≡ row_of v x y) × (dealings more x y ≡ dealings l x y)
     others x y is = (put.others x y is, dealings_same x y (other_pair (record { giver = g; taker = k }) (pair_of l r.firm r.command) x y of is))
@@ -157,8 +158,8 @@ module _ (t : House) (l : List Record) (r : Record) (before : IsBefore t l r) wh
     -- the terms that it was put into are those of the longer list
     pub put_follows : AreTermsOf t more w
     put_follows = record {
-      rows = rows_moved t l more v w are g k new_row others;
-      ready = ready_more w (λ c p among e. let q = are.ready c p among e in row_kept t l more v w are g k new_row others p.giver p.taker q.0 q.1)
-          (λ p e. at_pair (λ x y. (q : PairView) × (row_of w x y ≡ Some q)) g k p.giver p.taker (pair_told (record { giver = g; taker = k }) p (sym of ∙ e)) (new_row.0, new_row.1.0));
+      rows = rows_moved t l more v w are g k own others;
+      ready = ready_more w (λ c p among e. let q = are.ready c p among e in row_kept t l more v w are g k own others p.giver p.taker q.0 q.1)
+          (λ p e. at_pair (λ x y. (q : PairView) × (row_of w x y ≡ Some q)) g k p.giver p.taker (pair_told (record { giver = g; taker = k }) p (sym of ∙ e)) (own.0, own.1.0));
       placed = λ n. put.placed n ∙ (put_placed n (r.number == n) ∙ placed_more w n);
     }

@@ -4,14 +4,14 @@ use Rattle.gu_depend.proofs.Vocabulary.{◌==◌, option_and_then, slice_get, by
 use Rattle.gu_depend.proofs.Vocabulary.{leave_out, Pair, Record, none_is_some, eqb_symm, found_in, change_of, is_pair, PairView, TermsView, pair_at}
 use Rattle.gu_fees.specs.Terms.{row_of, IsTakenOut}
 use Rattle.gu_depend.specs.Terms.{pair_of, place_of_pair, AreTermsOf}
-use Rattle.gu_depend.proofs.Deals.{pair, undealt, dealings_grown, left_out}
+use Rattle.gu_depend.proofs.Deals.{dealings_append, dealings_cut, pair, undealt, dealings_grown, left_out}
 use Rattle.gu_depend.proofs.Finds.{found_once}
 use Rattle.gu_depend.proofs.Grown.{NamesThere, Grown}
 use Rattle.gu_depend.proofs.Replay.{Legal}
-use Rattle.gu_depend.proofs.StandsLast.{not_both, gone, deals_cut, deals_left}
+use Rattle.gu_depend.proofs.StandsLast.{not_both, gone}
 use Rattle.gu_depend.proofs.StandsUnder.{can_go, in_whole}
 use Rattle.gu_depend.proofs.Cuts.{by_cut, gone_from, find_kept}
-use Rattle.gu_depend.proofs.TermsFollow.{some_with, alike_at, pair_place, pair_grown, other_pair, IsRowOf, rows_moved, row_kept}
+use Rattle.gu_depend.proofs.TermsFollow.{new_row, alike_at, pair_place, pair_grown, other_pair, IsRowOf, rows_moved, row_kept}
 
 module _ (t : House) (l : List Record) (k : Record) (legal : Legal t l) (among : Contains l k) (free : standing_on t l k.number ≡ None) where
   abbrev less : List Record
@@ -28,7 +28,7 @@ module _ (t : House) (l : List Record) (k : Record) (legal : Legal t l) (among :
   dealings_same x y other =
       dealings_grown l less x y grown
       ∙ by_cut (λ l. Legal t l → deed_of l x y k.firm k.command ≡ None → dealings_in l (without l k.number) x y ≡ dealings l x y) l k among
-      (λ p s legal e. ap (λ z. dealings_in (p ++ k ∷ s) z x y) (gone t p k s legal) ∙ (deals_left t p k s legal x y ∙ sym (deals_cut t p k s legal x y None e)))
+      (λ p s legal e. ap (λ z. dealings_in (p ++ k ∷ s) z x y) (gone t p k s legal) ∙ (dealings_append (p ++ k ∷ s) p s x y ∙ sym (dealings_cut (p ++ k ∷ s) p k s x y None e)))
       legal (undealt l x y k.firm k.command other)
 
   pair_less : (d : Record) → Contains less d → pair_of less d.firm d.command ≡ pair_of l d.firm d.command
@@ -62,15 +62,11 @@ module _ (t : House) (l : List Record) (k : Record) (legal : Legal t l) (among :
     place_by q None e there = absurd (none_is_some (row_of v p.giver p.taker) q (ap (option_and_then (slice_get v.pairs)) e) there)
     place_by q (Some i) e there = (i, e)
 
-    new_row : (z : PairView) × ((row_of w p.giver p.taker ≡ Some z) × IsRowOf t less p.giver p.taker z)
-    new_row =
+    own : (z : PairView) × ((row_of w p.giver p.taker ≡ Some z) × IsRowOf t less p.giver p.taker z)
+    own =
         let there = are.ready k p among of in
         let place = place_by there.0 (place_of_pair v p) refl there.1 in
-        let own = some_with (λ q. IsSomeAnd (row_of w p.giver p.taker) (λ z. (z.file ≡ q.file) × (z.dealings ≡ leave_out k.number q.dealings))) (row_of v p.giver p.taker)
-        (taken.own p.giver p.taker place.0 (at_k ∙ place.1) place.1) in
-        let new = some_with (λ z. (z.file ≡ own.0.file) × (z.dealings ≡ leave_out k.number own.0.dealings)) (row_of w p.giver p.taker) own.1.1 in
-        let old = are.rows p.giver p.taker own.0 own.1.0 in
-        (new.0, (new.1.0, (new.1.1.0 ∙ old.0, new.1.1.1 ∙ (ap (leave_out k.number) old.1 ∙ sym (dealings_less p.giver p.taker)))))
+        new_row t l less v w p.giver p.taker (leave_out k.number) are (dealings_less p.giver p.taker) (taken.own p.giver p.taker place.0 (at_k ∙ place.1) place.1)
 
     -- a row that is another pair's is what it was
     others : (x y : List ℕ) → (bytes_eq p.giver x && bytes_eq p.taker y) ≡ false → (row_of w x y ≡ row_of v x y) × (dealings less x y ≡ dealings l x y)
@@ -85,10 +81,10 @@ module _ (t : House) (l : List Record) (k : Record) (legal : Legal t l) (among :
     -- the terms that it was taken out of are those of the others
     pub taken_follows : AreTermsOf t less w
     taken_follows = record {
-      rows = rows_moved t l less v w are p.giver p.taker new_row others;
+      rows = rows_moved t l less v w are p.giver p.taker own others;
       ready = λ d z in_less e.
           let q = are.ready d z (in_whole l k.number d in_less) (sym (pair_less d in_less) ∙ e) in
-          row_kept t l less v w are p.giver p.taker new_row others z.giver z.taker q.0 q.1;
+          row_kept t l less v w are p.giver p.taker own others z.giver z.taker q.0 q.1;
       placed = λ n.
           taken.placed n ∙ (ap (cond (k.number == n) None) (are.placed n)
           ∙ (placed_less v n (k.number == n) refl ∙ sym (ap (λ (h : Record → Option ℕ). option_and_then h (change_of less n)) (λ i d. same_places d i))));
