@@ -57,8 +57,7 @@ none_passes p (y ∷ ys) h = let q = nothing_here (p y) y (find p ys) h in All-c
 
 pub none_found : {X : Type 0} (p : X → Bool) (xs : List X) → All (λ z. p z ≡ false) xs → find p xs ≡ None
 none_found p [] all = refl
-none_found p (y ∷ ys) all =
-    ap (λ b. cond b (Some y) (find p ys)) (All-head (λ z. p z ≡ false) y ys all) ∙ none_found p ys (All-tail (λ z. p z ≡ false) y ys all)
+none_found p (y ∷ ys) all = ap (λ b. cond b (Some y) (find p ys)) (All-head (λ z. p z ≡ false) y ys all) ∙ none_found p ys (All-tail (λ z. p z ≡ false) y ys all)
 
 pub filter_all : {X : Type 0} (p : X → Bool) (xs : List X) → find p xs ≡ None → filter (λ x. not (p x)) xs ≡ xs
 filter_all p [] h = refl

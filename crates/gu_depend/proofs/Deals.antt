@@ -45,8 +45,7 @@ deed_grown l b g k by _ w there = refl
 pub gives_alike : {X Y : Type 0} (f h : X → Option Y) (xs : List X) → All (λ x. f x ≡ h x) xs → filter_map f xs ≡ filter_map h xs
 gives_alike f h [] all = refl
 gives_alike f h (x ∷ xs) all =
-    ap (λ o. cons_option o (filter_map f xs)) (All-head (λ x. f x ≡ h x) x xs all)
-    ∙ ap (cons_option (h x)) (gives_alike f h xs (All-tail (λ x. f x ≡ h x) x xs all))
+    ap (λ o. cons_option o (filter_map f xs)) (All-head (λ x. f x ≡ h x) x xs all) ∙ ap (cons_option (h x)) (gives_alike f h xs (All-tail (λ x. f x ≡ h x) x xs all))
 
 pub dealings_grown : (l b : List Record) (g k : List ℕ) → Grown l b → dealings b g k ≡ dealings_in l b g k
 dealings_grown l b g k grown =
@@ -91,10 +90,8 @@ row_fits t b g k by (Claim n account) d h deals =
     let there = at_node_none (claim_row t b by account) (node_of b n) h in
     let passes = claim_passes t b by account there.0 there.1.1 in
     use_fits t b g k there.0.lots there.0.kind d (sym (ap (option_and_then (use_of_node g k)) there.1.0) ∙ deals) passes.2
-row_fits t b g k by (Agree x y rate limit) d h deals =
-    given_for (Fits t b) g k x y (Makes (record { rate = rate; limit = limit })) d deals (agree_passes t b by x y rate limit h).1
-row_fits t b g k by (Raise x lots) d h deals =
-    given_for (Fits t b) g k x by (Raises lots) d deals ((raised_may lots (limit_of t b x by)).0 (raise_passes t b by x lots h).1)
+row_fits t b g k by (Agree x y rate limit) d h deals = given_for (Fits t b) g k x y (Makes (record { rate = rate; limit = limit })) d deals (agree_passes t b by x y rate limit h).1
+row_fits t b g k by (Raise x lots) d h deals = given_for (Fits t b) g k x by (Raises lots) d deals ((raised_may lots (limit_of t b x by)).0 (raise_passes t b by x lots h).1)
 row_fits t b g k by _ d h deals = absurd (cc)
 
 -- and what fits is within the limit
@@ -183,8 +180,7 @@ unfit_by : (file : Option Agreement) (xs : List Dealing) (k : Dealing) (ys : Lis
     → (e : Deed) → k.deed ≡ e → first_unfit file [] (xs ++ ys) ≡ first_under_deed file (xs ++ k ∷ ys) k.number e
 unfit_by file xs k ys all left (Makes a) is = unfit_without_terms file xs k ys a is all
 unfit_by file xs k ys all left (Raises lots) is =
-    unfit_without_raise file xs k ys lots is all
-    ∙ sym (ap (λ z. option_and_then (λ (a : Agreement). first_over a.limit 0 z) (terms_under file (xs ++ k ∷ ys))) left)
+    unfit_without_raise file xs k ys lots is all ∙ sym (ap (λ z. option_and_then (λ (a : Agreement). first_over a.limit 0 z) (terms_under file (xs ++ k ∷ ys))) left)
 unfit_by file xs k ys all left (Uses lots) is = unfit_none file [] (xs ++ ys) (fit_without_use file xs k ys lots is all)
 
 -- without one of them, the first that doesn't fit is the first that stands on it
@@ -197,8 +193,7 @@ left_step : (l : List Record) (g k : List ℕ) (n : ℕ) (r : Record) (b : List 
     → leave_out n (dealt r o (dealings_in l b g k)) ≡ dealings_in l (cond (not test) (r ∷ without b n) (without b n)) g k
 left_step l g k n r b rest None e true is = rest
 left_step l g k n r b rest None e false is = rest ∙ sym (ap (λ o. dealt r o (dealings_in l (without b n) g k)) e)
-left_step l g k n r b rest (Some d) e true is =
-    ap (λ b0. cond (not b0) (numbered r d ∷ leave_out n (dealings_in l b g k)) (leave_out n (dealings_in l b g k))) is ∙ rest
+left_step l g k n r b rest (Some d) e true is = ap (λ b0. cond (not b0) (numbered r d ∷ leave_out n (dealings_in l b g k)) (leave_out n (dealings_in l b g k))) is ∙ rest
 left_step l g k n r b rest (Some d) e false is =
     ap (λ b0. cond (not b0) (numbered r d ∷ leave_out n (dealings_in l b g k)) (leave_out n (dealings_in l b g k))) is
     ∙ (ap (λ z. numbered r d ∷ z) rest ∙ sym (ap (λ o. dealt r o (dealings_in l (without b n) g k)) e))
@@ -252,5 +247,4 @@ cut_step l g k r rest d behind later (Some f) e (x ∷ before) h =
 pub deal_cut : (l among : List Record) (g k : List ℕ) (before : List Dealing) (d : Dealing) (behind : List Dealing) → dealings_in l among g k ≡ before ++ d ∷ behind
     → DealCut l among g k before d
 deal_cut l [] g k before d behind h = absurd (not_empty before d behind h)
-deal_cut l (r ∷ rest) g k before d behind h =
-    cut_step l g k r rest d behind (λ before h. deal_cut l rest g k before d behind h) (deed_of l g k r.firm r.command) refl before h
+deal_cut l (r ∷ rest) g k before d behind h = cut_step l g k r rest d behind (λ before h. deal_cut l rest g k before d behind h) (deed_of l g k r.firm r.command) refl before h

@@ -105,8 +105,7 @@ module _ (b : List Record) (r : Record) (named : All (NamesThere b) b) (ends : L
   new_up f n x makes far (Some m) e =
       let y = there m (splits_names m r (made_by_split r n m x makes e)) in
       let found = node_more b (r ∷ []) m y.0 y.1 in
-      ap (line_within f more) found
-      ∙ (old_ends f m y.0 y.1 far ∙ (sym (old_ends (length b) m y.0 y.1 (omega arith)) ∙ sym (ap (line_within (length b) more) found)))
+      ap (line_within f more) found ∙ (old_ends f m y.0 y.1 far ∙ (sym (old_ends (length b) m y.0 y.1 (omega arith)) ∙ sym (ap (line_within (length b) more) found)))
 
   new_ends : (f k : ℕ) (n : EntryPart) (x : Node) → made_of r n ≡ Some x → k ≡ suc (length b) → k ≤ f → line_within f more (Some x) ≡ line_within k more (Some x)
   new_ends zero k n x makes e far = absurd (omega (arith, e, far))

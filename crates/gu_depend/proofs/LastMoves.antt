@@ -138,8 +138,7 @@ module _ {t : House} {l : List Record} {r : Record} (b : IsBefore t l r) where
       ∙ (ap (λ c. cond (is_none (split_of l x.name)) (cond (c && trades_in (l ++ r ∷ []) instrument side x.name) x.lots 0) 0) (stands_kept at x.name y found apart.1)
       ∙ ap (λ c. cond (is_none (split_of l x.name)) (cond (stands_at l at x.name && c) x.lots 0) 0) (trades_kept instrument side x.name y found))
 
-  positions_moved : (at : Place) (instrument : List ℕ) (side : Side)
-      → position_of (l ++ r ∷ []) at.firm at.account instrument side + sum_by (lots_at l at instrument side) (named_by l r)
+  positions_moved : (at : Place) (instrument : List ℕ) (side : Side) → position_of (l ++ r ∷ []) at.firm at.account instrument side + sum_by (lots_at l at instrument side) (named_by l r)
       ≡ position_of l at.firm at.account instrument side + sum_by (lots_at (l ++ r ∷ []) at instrument side) (named_by l r)
       + sum_by (lots_at (l ++ r ∷ []) at instrument side) (nodes_of r.number r.firm r.command)
   positions_moved at instrument side =

@@ -23,11 +23,7 @@ named_once_push t l r s h = record {
 }
 
 pub named_once_none : NamedOnce []
-named_once_none = record {
-  given = λ n r e. absurd (cc);
-  splits_once = λ n. omega arith;
-  decisions_once = λ n. omega arith;
-}
+named_once_none = record { given = λ n r e. absurd (cc); splits_once = λ n. omega arith; decisions_once = λ n. omega arith }
 
 pub named_once_from : (t : House) (done rest : List Record) → NamedOnce done → first_refused t done rest ≡ None → NamedOnce (done ++ rest)
 named_once_from t done [] s none = subst (λ (l : List Record). NamedOnce l) (sym (append-nil done)) s

@@ -72,5 +72,4 @@ makers_once l n once =
 
 -- where no number stands twice, a node is the same in whatever order the changes stand
 pub node_permuted : (l o : List Record) (n : EntryPart) → IsPermutation l o → count_by (λ r. r.number == n.entry) l ≤ 1 → node_of o n ≡ node_of l n
-node_permuted l o n same once =
-    node_by_maker o n ∙ (ap (option_and_then (λ r. made_of r n)) (find_permuted (makes n) l o same (makers_once l n once)) ∙ sym (node_by_maker l n))
+node_permuted l o n same once = node_by_maker o n ∙ (ap (option_and_then (λ r. made_of r n)) (find_permuted (makes n) l o same (makers_once l n once)) ∙ sym (node_by_maker l n))

@@ -67,7 +67,8 @@ module _ (t : House) (l : List Record) (list : Legal t l) (k : ℕ) (r : Record)
   looked_up_here rises = sym (looked_up t l rises list r among) ∙ ap (standing_on t l) number_is
 
   -- a Split isn't a trade with a root
-  split_no_trade : (n : EntryPart) (ps : List Part) → r.command ≡ Split n ps → (trade : ℕ) (root : Node) → node_of l (record { entry = trade; part = 0 }) ≡ Some root → trade ≡ k → ⊥
+  split_no_trade : (n : EntryPart) (ps : List Part) → r.command ≡ Split n ps → (trade : ℕ) (root : Node) → node_of l (record { entry = trade; part = 0 }) ≡ Some root
+      → trade ≡ k → ⊥
   split_no_trade n ps is trade root found same =
       let m = maker l (record { entry = trade; part = 0 }) root found in
       let number : trade ≡ m.change.number = made_number m.change (record { entry = trade; part = 0 }) root m.makes_it in
@@ -192,5 +193,4 @@ module _ (g : Grove) (t : House) (l : List Record) (rises : RisesFrom 0 l) (lega
 
 -- none is answered exactly where the others alone are legal
 pub none_where_legal : (t : House) (l : List Record) (k : ℕ) (o : Option ℕ) → o ≡ standing_on t l k → (o ≡ None) ↔ IsLegal t (without l k)
-none_where_legal t l k o is =
-    (λ none. legal_from_replay t (without l k) (sym is ∙ none), λ others. is ∙ replay_from_legal t (without l k) others)
+none_where_legal t l k o is = (λ none. legal_from_replay t (without l k) (sym is ∙ none), λ others. is ∙ replay_from_legal t (without l k) others)

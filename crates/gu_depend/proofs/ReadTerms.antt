@@ -30,8 +30,7 @@ pub deed_found : (l : List Record) (once : NumbersOnce l) (r : Record) (g k : Li
 deed_found l once r g k d among deals =
     let c = cut_at l r among in
     let same : (r.number == r.number) ≡ true = (Decides-eqb r.number r.number).1 refl in
-    let before = none_numbered l g k r.number c.before
-    (none_before (λ q. q.number == r.number) c.before r c.behind (subst (λ (z : List Record). NumbersOnce z) c.is once r.number) same) in
+    let before = none_numbered l g k r.number c.before (none_before (λ q. q.number == r.number) c.before r c.behind (subst (λ (z : List Record). NumbersOnce z) c.is once r.number) same) in
     ap (λ z. deed_at z r.number) (ap (λ z. dealings_in l z g k) c.is ∙ dealings_cut l c.before r c.behind g k (Some d) deals)
     ∙ (ap (option_map (λ (e : Dealing). e.deed)) (find-append (λ e. e.number == r.number) (dealings_in l c.before g k) (numbered r d ∷ dealings_in l c.behind g k)
     ∙ (ap (λ o. option_or o (find (λ e. e.number == r.number) (numbered r d ∷ dealings_in l c.behind g k))) before
@@ -44,6 +43,11 @@ through : (v : TermsView) (n : ℕ) (o : Option ℕ) → option_and_then (λ i. 
 through v n None = refl
 through v n (Some i) = refl
 
+-- what stands in the row of a place, where there is one
+pub stands_in : (v : TermsView) (n : ℕ) (i : Option ℕ) (o : Option PairView) → o ≡ option_and_then (slice_get v.pairs) i
+    → option_and_then (λ (r : PairView). standing_under r.file r.dealings n) o ≡ option_and_then (λ i. standing_in v.pairs i n) i
+stands_in v n i o is = ap (option_and_then (λ (r : PairView). standing_under r.file r.dealings n)) is ∙ sym (through v n i)
+
 abbrev standing_at : TermsView → ℕ → Option ℕ
 standing_at v n = option_and_then (λ i. standing_in v.pairs i n) (pair_at v n)
 
@@ -53,7 +57,8 @@ module _ (t : House) (l : List Record) (v : TermsView) (are : AreTermsOf t l v) 
 
   module _ (once : NumbersOnce l) where
     -- of a change that deals for these two
-    read_deal : (n : ℕ) (r : Record) → change_of l n ≡ Some r → (g k : List ℕ) (d : Deed) → deed_of l g k r.firm r.command ≡ Some d → standing_at v n ≡ deals_under t l r.number r.firm r.command
+    read_deal : (n : ℕ) (r : Record) → change_of l n ≡ Some r → (g k : List ℕ) (d : Deed) → deed_of l g k r.firm r.command ≡ Some d
+        → standing_at v n ≡ deals_under t l r.number r.firm r.command
     read_deal n r found g k d deals =
         let among = found_in (λ r. r.number == n) l r found in
         let own = pair_of_deed l g k r.firm r.command d deals in
@@ -76,8 +81,7 @@ module _ (t : House) (l : List Record) (v : TermsView) (are : AreTermsOf t l v) 
     read_by n r found (Raise g lots) is none =
         read_deal n r found g r.firm (Raises lots) (ap (deed_of l g r.firm r.firm) is ∙ ap (λ b. cond b (Some (Raises lots)) None) (both_same g r.firm)) ∙ ap (deals_under t l r.number r.firm) is
     read_by n r found (Claim m account) is none = absurd (cc)
-    read_by n r found _ is none =
-        ap (option_and_then (λ i. standing_in v.pairs i n)) (placed_at n (Some r) found ∙ ap (λ c. option_and_then (place_of_pair v) (pair_of l r.firm c)) is)
+    read_by n r found _ is none = ap (option_and_then (λ i. standing_in v.pairs i n)) (placed_at n (Some r) found ∙ ap (λ c. option_and_then (place_of_pair v) (pair_of l r.firm c)) is)
 
     read_or : (n : ℕ) (o : Option Record) → change_of l n ≡ o → option_and_then (λ r. named_place r.number r.command) o ≡ None
         → standing_at v n ≡ option_and_then (λ r. deals_under t l r.number r.firm r.command) o
@@ -102,13 +106,17 @@ counts_through : (v : TermsView) (o : Option ℕ) → count_at v o ≡ unwrap_or
 counts_through v None = refl
 counts_through v (Some i) = refl
 
+-- and how much
+pub counts_in : (v : TermsView) (i : Option ℕ) (o : Option PairView) → o ≡ option_and_then (slice_get v.pairs) i
+    → unwrap_or (option_map (λ (r : PairView). length r.dealings) o) 0 ≡ unwrap_or (option_map (λ i. entries_in v.pairs i) i) 0
+counts_in v i o is = ap (λ o. unwrap_or (option_map (λ (r : PairView). length r.dealings) o) 0) is ∙ sym (counts_through v i)
+
 module _ (t : House) (l : List Record) (v : TermsView) (are : AreTermsOf t l v) where
   of_pair : (r : Record) → Contains l r → (o : Option Pair) → pair_of l r.firm r.command ≡ o → count_at v (option_and_then (place_of_pair v) o) ≡ count_of l o
   of_pair r among None is = refl
   of_pair r among (Some p) is =
       let q = are.ready r p among is in
-      counts_through v (place_of_pair v p)
-      ∙ (ap (λ o. unwrap_or (option_map (λ (x : PairView). length x.dealings) o) 0) q.1 ∙ ap length (are.rows p.giver p.taker q.0 q.1).1)
+      counts_through v (place_of_pair v p) ∙ (ap (λ o. unwrap_or (option_map (λ (x : PairView). length x.dealings) o) 0) q.1 ∙ ap length (are.rows p.giver p.taker q.0 q.1).1)
 
   of_change : (n : ℕ) (o : Option Record) → change_of l n ≡ o → count_at v (pair_at v n) ≡ count_of l (option_and_then (λ (r : Record). pair_of l r.firm r.command) o)
   of_change n None found = ap (count_at v) (placed_at t l v are n None found)

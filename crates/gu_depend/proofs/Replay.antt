@@ -73,10 +73,7 @@ same_finds l o same once s = record {
 pub order_within : (l o b rest : List Record) → SameFinds l o → o ≡ b ++ rest → Within l b
 order_within l o b rest same e =
     let w = front_within o b rest e in
-    record {
-      nodes = λ n x found. sym (same.nodes n) ∙ w.nodes n x found;
-      decisions = λ n r found. sym (same.decisions n) ∙ w.decisions n r found;
-    }
+    record { nodes = λ n x found. sym (same.nodes n) ∙ w.nodes n x found; decisions = λ n r found. sym (same.decisions n) ∙ w.decisions n r found }
 
 order_short : (l o b rest : List Record) → SameFinds l o → o ≡ b ++ rest → length b ≤ length l
 order_short l o b rest same e = omega (arith, front_short o b rest e, same.long)
@@ -265,8 +262,7 @@ deed_found l o f g k by _ = refl
 
 -- lists that find the same deal the same
 pub dealings_found : (l o : List Record) → SameFinds l o → (g k : List ℕ) → dealings o g k ≡ dealings_in l o g k
-dealings_found l o f g k =
-    ap (λ (h : Record → Option Dealing). filter_map h o) (λ i r. option_map (numbered r) (deed_found l o f g k r.firm r.command i))
+dealings_found l o f g k = ap (λ (h : Record → Option Dealing). filter_map h o) (λ i r. option_map (numbered r) (deed_found l o f g k r.firm r.command i))
 
 pub order_is_legal : (t : House) (l o : List Record) → Legal t l → IsLawfulOrder l o → IsLegal t o
 order_is_legal t l o legal lawful =

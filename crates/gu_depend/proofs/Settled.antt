@@ -89,15 +89,13 @@ settles_at l b n line P g h holds =
     record { node = x.0; there = g.within.nodes n x.0 x.1.0; holds = holds x.0 x.1.0 x.1.1 }
 
 decision_settles : (l b : List Record) (n : EntryPart) (yours : Kind → Bool) → Grown l b → at_node (decision_row b yours) (node_of b n) ≡ None → SettledAt l n (IsYours yours)
-decision_settles l b n yours g h =
-    settles_at l b n (decision_row b yours) (IsYours yours) g h (λ x found passes. let p = decision_passes b x (yours x.kind) passes in (p.0, p.2))
+decision_settles l b n yours g h = settles_at l b n (decision_row b yours) (IsYours yours) g h (λ x found passes. let p = decision_passes b x (yours x.kind) passes in (p.0, p.2))
 
 settles : (t : House) (l b : List Record) (by : List ℕ) (c : Command) → NamedOnce l → Grown l b → row t b by c ≡ None → SettledAs t l by c
 settles t l b by (Trade firm account instrument side lots) s g h = h
 settles t l b by (Split n ps) s g h = settles_at l b n (split_row t b by ps) (SplitHolds t l by ps) g h
     (λ x found passes. split_settles t l b by ps x s g (at_name b n x found) (split_passes t b by ps x passes).0)
-settles t l b by (Claim n account) s g h =
-    settles_at l b n (claim_row t b by account) (ClaimHolds t by account) g h (λ x found passes. (claim_passes t b by account x passes).0)
+settles t l b by (Claim n account) s g h = settles_at l b n (claim_row t b by account) (ClaimHolds t by account) g h (λ x found passes. (claim_passes t b by account x passes).0)
 settles t l b by (Refuse n) s g h = decision_settles l b n (is_taker by) g h
 settles t l b by (Cancel n) s g h = decision_settles l b n (is_giver by) g h
 settles t l b by (Agree giver taker rate limit) s g h = (agree_passes t b by giver taker rate limit h).0
@@ -137,8 +135,7 @@ deals_push t l b r f g k h (Some d) e =
     let same : deed_of b g k r.firm r.command ≡ Some d = deed_grown l b g k r.firm r.command f.grown.within (accepted_there t b r.firm r.command h) ∙ e in
     let fit : fits (agreement t g k) (dealings_in l b g k) d ≡ true = subst (λ z. fits (agreement t g k) z d ≡ true) (dealings_grown l b g k f.grown)
     (row_fits t b g k r.firm r.command d h same) in
-    subst (AllFit (agreement t g k) []) (sym (dealings_cut l b r [] g k (Some d) e))
-    (fit_append (agreement t g k) [] (dealings_in l b g k) (numbered r d ∷ []) (f.deals g k) (fit, tt))
+    subst (AllFit (agreement t g k) []) (sym (dealings_cut l b r [] g k (Some d) e)) (fit_append (agreement t g k) [] (dealings_in l b g k) (numbered r d ∷ []) (f.deals g k) (fit, tt))
 
 facts_push : (t : House) (l b : List Record) (r : Record) → NamedOnce l → Within l (b ++ r ∷ []) → length (b ++ r ∷ []) ≤ length l → Facts t l b
     → refusal_of t b r.firm r.command ≡ None → Facts t l (b ++ r ∷ [])

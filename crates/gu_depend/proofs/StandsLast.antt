@@ -80,8 +80,7 @@ unmade_by k by _ c n un is given = refl
 
 -- the node that a change makes is that of its name
 pub node_of_maker : (l : List Record) (k : Record) (n : EntryPart) (x : Node) → NumbersOnce l → Contains l k → made_of k n ≡ Some x → node_of l n ≡ Some x
-node_of_maker l k n x once among h =
-    node_by_maker l n ∙ (ap (option_and_then (λ r. made_of r n)) (found_once (makes n) l k among (ap is_some h) (makers_once l n (once n.entry))) ∙ h)
+node_of_maker l k n x once among h = node_by_maker l n ∙ (ap (option_and_then (λ r. made_of r n)) (found_once (makes n) l k among (ap is_some h) (makers_once l n (once n.entry))) ∙ h)
 
 -- a change of a legal list is accepted behind those before it
 pub accepted_at : (t : House) (l b : List Record) (r : Record) (rest : List Record) → Legal t l → l ≡ b ++ r ∷ rest → row t b r.firm r.command ≡ None
@@ -239,13 +238,13 @@ module _ (t : House) (p : List Record) (k : Record) (s : List Record) (legal : L
   fit_where_by x y under (Some d) e = none_unfit (agreement t x y) [] (dealings_in whole (p ++ s) x y) (unfit_here x y d e ∙ under)
 
   -- a front of the order in which the change stands last, where what it deals fits
-  pub runs_to : NoneUnder k s → (front tail : List Record) → (p ++ s) ++ k ∷ [] ≡ front ++ tail → in_lawful_order whole [] front ≡ true → PairsFit t whole [] front → Runs t whole [] front
+  pub runs_to : NoneUnder k s → (front tail : List Record) → (p ++ s) ++ k ∷ [] ≡ front ++ tail → in_lawful_order whole [] front ≡ true → PairsFit t whole [] front
+      → Runs t whole [] front
   runs_to un front tail cut ready fit = ready_replays t whole ((p ++ s) ++ k ∷ []) front tail legal (moves_behind un).order cut ready fit
 
   -- where nothing stands on what it deals, all others fit, and so without it none is refused
   pub runs_without : NoneUnder k s → deals_under t whole k.number k.firm k.command ≡ None → Runs t whole [] (p ++ s)
-  runs_without un under =
-      runs_to un (p ++ s) (k ∷ []) refl (moves_behind un).others (λ x y. fit_where_by x y under (deed_of whole x y k.firm k.command) refl)
+  runs_without un under = runs_to un (p ++ s) (k ∷ []) refl (moves_behind un).others (λ x y. fit_where_by x y under (deed_of whole x y k.firm k.command) refl)
 
   -- ---- and where what deals is refused
 
@@ -302,7 +301,8 @@ module _ (t : House) (p : List Record) (k : Record) (s : List Record) (legal : L
   same_by : PairsFit t whole [] (p ++ s) → (x y : List ℕ) (o : Option Deed) → deed_of whole x y k.firm k.command ≡ o
       → (terms_of t last x y ≡ terms_of t whole x y) × ((limit_of t last x y ≡ limit_of t whole x y) × (used_of last x y ≡ used_of whole x y))
   same_by others x y None e =
-      let same : dealings last x y ≡ dealings whole x y = found_last x y ∙ (dealings_idle whole (p ++ s) k x y e ∙ (dealings_append whole p s x y ∙ sym (dealings_cut whole p k s x y None e))) in
+      let same : dealings last x y ≡ dealings whole x y =
+      found_last x y ∙ (dealings_idle whole (p ++ s) k x y e ∙ (dealings_append whole p s x y ∙ sym (dealings_cut whole p k s x y None e))) in
       (ap (terms_under (agreement t x y)) same, (ap (limit_under (agreement t x y)) same, ap used_under same))
   same_by others x y (Some d) e =
       let xs = dealings_in whole p x y in
@@ -310,8 +310,7 @@ module _ (t : House) (p : List Record) (k : Record) (s : List Record) (legal : L
       let kd : Dealing = numbered k d in
       let new : dealings last x y ≡ (xs ++ ys) ++ kd ∷ [] = found_last x y ∙ deals_last x y d e in
       let old : dealings whole x y ≡ xs ++ kd ∷ ys = dealings_cut whole p k s x y (Some d) e in
-      let terms : terms_of t last x y ≡ terms_of t whole x y =
-      ap (terms_under (agreement t x y)) new
+      let terms : terms_of t last x y ≡ terms_of t whole x y = ap (terms_under (agreement t x y)) new
       ∙ (terms_last (agreement t x y) xs kd ys (subst (AllFit (agreement t x y) []) old (deals_whole x y)) (subst (AllFit (agreement t x y) []) (dealings_append whole p s x y) (others x y))
       ∙ sym (ap (terms_under (agreement t x y)) old)) in
       let raised : raised_under (dealings last x y) ≡ raised_under (dealings whole x y) = ap raised_under new ∙ (raised_last xs kd ys ∙ sym (ap raised_under old)) in
@@ -324,6 +323,5 @@ module _ (t : House) (p : List Record) (k : Record) (s : List Record) (legal : L
       let others : PairsFit t whole [] (p ++ s) = λ x y. fit_where_by x y under (deed_of whole x y k.firm k.command) refl in
       let same = λ (x : List ℕ) (y : List ℕ). same_by others x y (deed_of whole x y k.firm k.command) refl in (
         (runs_to un last [] (sym (append-nil last)) order.after_its_node (λ x y. fit_last_by others x y (deed_of whole x y k.firm k.command) refl)).replayed,
-        state_same t whole last order.same legal.once (named_once t whole legal.replayed)
-            (record { terms = λ x y. (same x y).0; limits = λ x y. (same x y).1.0; used = λ x y. (same x y).1.1 }),
+        state_same t whole last order.same legal.once (named_once t whole legal.replayed) (record { terms = λ x y. (same x y).0; limits = λ x y. (same x y).1.0; used = λ x y. (same x y).1.1 }),
       )

@@ -125,8 +125,7 @@ module _ (t : House) (p : List Record) (k : Record) (s : List Record) (legal : L
   -- so the first that it stands under is behind it
   found_behind : find (stands_under k) l ≡ find (stands_under k) s
   found_behind =
-      let none = no_some (find (stands_under k) p)
-      (λ e h. above_none e (found_in (stands_under k) p e h) (under_is k.number k.firm k.command e.command (find_passes (stands_under k) p e h))) in
+      let none = no_some (find (stands_under k) p) (λ e h. above_none e (found_in (stands_under k) p e h) (under_is k.number k.firm k.command e.command (find_passes (stands_under k) p e h))) in
       find-append (stands_under k) p (k ∷ s)
       ∙ (ap (λ o. option_or o (find (stands_under k) (k ∷ s))) none ∙ ap (λ b. cond b (Some k) (find (stands_under k) s)) (not_under k k itself_none))
 
@@ -196,8 +195,7 @@ go_cut t p k s legal free =
     }
 
 pub can_go : (t : House) (l : List Record) (k : Record) → Legal t l → Contains l k → standing_on t l k.number ≡ None → CanGo t l k
-can_go t l k legal among free =
-    by_cut (λ l. Legal t l → standing_on t l k.number ≡ None → CanGo t l k) l k among (λ p s legal free. go_cut t p k s legal free) legal free
+can_go t l k legal among free = by_cut (λ l. Legal t l → standing_on t l k.number ≡ None → CanGo t l k) l k among (λ p s legal free. go_cut t p k s legal free) legal free
 
 -- ---- in the order of the numbers
 

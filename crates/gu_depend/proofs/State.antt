@@ -155,8 +155,7 @@ kind_same t l o deals lots _ = refl
 -- and what a change costs
 pub charge_same : (t : House) (l o : List Record) → SameFinds l o → SameDeals t l o → (c : Command) → charge_of t o c ≡ charge_of t l c
 charge_same t l o f deals (Claim n account) =
-    ap (option_and_then (charge_of_node t o)) (f.nodes n)
-    ∙ ap (λ (h : Node → Option Charge). option_and_then h (node_of l n)) (λ i x. kind_same t l o deals x.lots x.kind i)
+    ap (option_and_then (charge_of_node t o)) (f.nodes n) ∙ ap (λ (h : Node → Option Charge). option_and_then h (node_of l n)) (λ i x. kind_same t l o deals x.lots x.kind i)
 charge_same t l o f deals _ = refl
 
 charges_same : (t : House) (takes : Charge → Bool) (counts : Charge → ℕ) (l o : List Record) → IsPermutation l o → SameFinds l o → SameDeals t l o

@@ -34,8 +34,7 @@ pair_grown l b by _ w there = refl
 pub other_pair : (p : Pair) (o : Option Pair) (x y : List ℕ) → o ≡ Some p → (bytes_eq p.giver x && bytes_eq p.taker y) ≡ false → o ≡ pair x y → ⊥
 other_pair p o x y of differ e =
     let same = pair_told p (record { giver = x; taker = y }) (sym of ∙ e) in
-    not_both (bytes_eq p.giver x && bytes_eq p.taker y)
-    (at_pair (λ x y. (bytes_eq p.giver x && bytes_eq p.taker y) ≡ true) p.giver p.taker x y same (both_same p.giver p.taker)) differ
+    not_both (bytes_eq p.giver x && bytes_eq p.taker y) (at_pair (λ x y. (bytes_eq p.giver x && bytes_eq p.taker y) ≡ true) p.giver p.taker x y same (both_same p.giver p.taker)) differ
 
 pairs_by : (P : List ℕ → List ℕ → Type 0) (g k : List ℕ) → P g k → ((x y : List ℕ) → (bytes_eq g x && bytes_eq k y) ≡ false → P x y)
     → (x y : List ℕ) (b : Bool) → (bytes_eq g x && bytes_eq k y) ≡ b → P x y
@@ -100,8 +99,7 @@ module _ (t : House) (l : List Record) (r : Record) (before : IsBefore t l r) wh
 
   placed_by : (v : TermsView) (n : ℕ) (b : Bool) → (r.number == n) ≡ b
       → cond b (pair_place v l r) (option_and_then (pair_place v l) (change_of l n)) ≡ option_and_then (pair_place v more) (option_or (change_of l n) (cond b (Some r) None))
-  placed_by v n true is =
-      sym (ap (λ o. option_and_then (pair_place v more) (option_or o (Some r))) (new_number n is) ∙ ap (option_and_then (place_of_pair v)) pair_more)
+  placed_by v n true is = sym (ap (λ o. option_and_then (pair_place v more) (option_or o (Some r))) (new_number n is) ∙ ap (option_and_then (place_of_pair v)) pair_more)
   placed_by v n false is =
       sym (ap (option_and_then (pair_place v more)) (or_none (change_of l n)) ∙ alike_at (pair_place v more) (pair_place v l) (change_of l n)
       (λ d e. ap (option_and_then (place_of_pair v)) (pair_old d (found_in (λ d. d.number == n) l d e))))

@@ -31,8 +31,7 @@ module _ (t : House) (l : List Record) (v : TermsView) (are : AreTermsOf t l v) 
       (λ r among. undealt l g k r.firm r.command (λ e. let q = are.ready r (record { giver = g; taker = k }) among e in none_is_some (row_of v g k) q.0 none q.1)) l (All-contains_itself l))
 
   module _ (w : TermsView) (g k : List ℕ) (readied : IsReadied v w g k (agreement t g k)) where
-    own_row : (o n : Option PairView) → row_of v g k ≡ o → IsRowAfter o (agreement t g k) n → (q : PairView) → n ≡ Some q
-        → IsRowOf t l g k q
+    own_row : (o n : Option PairView) → row_of v g k ≡ o → IsRowAfter o (agreement t g k) n → (q : PairView) → n ≡ Some q → IsRowOf t l g k q
     own_row None n old after q e =
         let told = subst (λ z. IfSome z (λ (q : PairView). (q.file ≡ agreement t g k) × (q.dealings ≡ []))) e after in
         (told.0, told.1 ∙ sym (without_row g k old))
@@ -41,8 +40,7 @@ module _ (t : House) (l : List Record) (v : TermsView) (are : AreTermsOf t l v) 
         let were = are.rows g k r old in
         (told.0 ∙ were.0, told.1 ∙ were.1)
 
-    other_row : (x y : List ℕ) (o n : Option PairView) → row_of v x y ≡ o → IsSameRow o n → (q : PairView) → n ≡ Some q
-        → IsRowOf t l x y q
+    other_row : (x y : List ℕ) (o n : Option PairView) → row_of v x y ≡ o → IsSameRow o n → (q : PairView) → n ≡ Some q → IsRowOf t l x y q
     other_row x y None n old same q e = absurd (none_is_some n q same e)
     other_row x y (Some r) None old same q e = absurd same
     other_row x y (Some r) (Some p) old same q e =

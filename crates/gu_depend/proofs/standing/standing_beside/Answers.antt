@@ -1,23 +1,8 @@
-use Rattle.std.proofs.Common.{◌≡◌, ℕ, Option, ◌∙◌, ap}
-use Rattle.std.specs.Prelude.{Some, None, length, option_map, option_and_then, unwrap_or, slice_get}
-use Rattle.gu_fees.specs.Pairs.{PairView, standing_under}
-use Rattle.gu_fees.specs.Terms.{TermsView, entries_in, pair_at, standing_in}
+use Rattle.gu_depend.proofs.Vocabulary.{◌∙◌, Some, None, pair_at}
 use Rattle.gu_depend.proofs.ReadOff.{placeless}
-use Rattle.gu_depend.proofs.ReadTerms.{counted, read_off}
+use Rattle.gu_depend.proofs.ReadTerms.{stands_in, counts_in, counted, read_off}
 use Rattle.gu_depend.proofs.StandsUnder.{legal_rising}
 use Rattle.gu_depend.proofs.standing.standing_beside.Goals as goal
-
--- what stands in the row, where there is one
-stands_in : (v : TermsView) (k : ℕ) (i : Option ℕ) (o : Option PairView) → o ≡ option_and_then (slice_get v.pairs) i
-    → option_and_then (λ (r : PairView). standing_under r.file r.dealings k) o ≡ option_and_then (λ i. standing_in v.pairs i k) i
-stands_in v k None o is = ap (option_and_then (λ (r : PairView). standing_under r.file r.dealings k)) is
-stands_in v k (Some i) o is = ap (option_and_then (λ (r : PairView). standing_under r.file r.dealings k)) is
-
--- and how much
-counts_in : (v : TermsView) (i : Option ℕ) (o : Option PairView) → o ≡ option_and_then (slice_get v.pairs) i
-    → unwrap_or (option_map (λ (r : PairView). length r.dealings) o) 0 ≡ unwrap_or (option_map (λ i. entries_in v.pairs i) i) 0
-counts_in v None o is = ap (λ o. unwrap_or (option_map (λ (r : PairView). length r.dealings) o) 0) is
-counts_in v (Some i) o is = ap (λ o. unwrap_or (option_map (λ (r : PairView). length r.dealings) o) 0) is
 
 pub returns-in-Some-clause-first : goal.returns-in-Some-clause-first
 returns-in-Some-clause-first c = λ t l rises legal are none.
