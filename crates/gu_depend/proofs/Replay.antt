@@ -1,6 +1,6 @@
 -- A lawful order of a legal list is legal.
-use Rattle.gu_depend.proofs.Vocabulary.{◌≡◌, ℕ, ◌+◌, ◌≤◌, Bool, true, false, not, ◌&&◌, ◌||◌, List, [], ◌∷◌, ◌++◌, length, refl, sym, ◌∙◌, ap, subst, arith}
-use Rattle.gu_depend.proofs.Vocabulary.{cond, Option, All, append_assoc, append-nil, IsPermutation, map, Some, None, count_by, is_none, is_some, nat_lt, ◌==◌, filter_map, option_map}
+use Rattle.gu_depend.proofs.Vocabulary.{find, ◌≡◌, ℕ, ◌+◌, ◌≤◌, Bool, true, false, not, ◌&&◌, ◌||◌, List, [], ◌∷◌, ◌++◌, length, refl, sym, ◌∙◌, ap, subst}
+use Rattle.gu_depend.proofs.Vocabulary.{arith, cond, Option, All, append_assoc, append-nil, IsPermutation, map, Some, None, count_by, is_none, is_some, nat_lt, ◌==◌, filter_map, option_map}
 use Rattle.gu_depend.proofs.Vocabulary.{option_and_then, AllByRecursion, cons_option, Decides-eqb, All-head, All-tail, All-nil, All-cons, EntryPart, House, agreement, node_of, split_of, decision_of}
 use Rattle.gu_depend.proofs.Vocabulary.{is_given, splits, decides, same_name, use_of_node, deed_of, dealings_in, dealings, limit_of, refusal_of, row, split_row, claim_row, is_taker, is_giver}
 use Rattle.gu_depend.proofs.Vocabulary.{first_refused, IsLegal, is_ready, in_lawful_order, IsLawfulOrder, Deed, Makes, Raises, Dealing, Part, Command, Trade, Split, Claim, Refuse, Cancel, Agree}
@@ -191,70 +191,60 @@ fit_tail_by t l b r rest g k (Some d) e all =
 
 -- ---- along the order
 
--- what holds of an order as a whole
-pub record OrderFacts (t : House) (l o : List Record) : Type 0 where
-  pub finds : SameFinds l o
-  pub splits_once : (n : EntryPart) → count_by (λ r. splits n r.command) o ≤ 1
-  pub decisions_once : (n : EntryPart) → count_by (λ r. decides n r.command) o ≤ 1
-
 goes_on : (o : Option Refusal) (n : ℕ) (rest : Option ℕ) → o ≡ None → rest ≡ None → cond (is_some o) (Some n) rest ≡ None
 goes_on o n rest e h = ap (λ p. cond (is_some p) (Some n) rest) e ∙ h
-
-due_here : (t : House) (l o b : List Record) (r : Record) (rest : List Record) → OrderFacts t l o → o ≡ b ++ r ∷ rest → Grown l b → is_ready l b r.command ≡ true
-    → ((g k : List ℕ) (d : Deed) → deed_of l g k r.firm r.command ≡ Some d → fits (agreement t g k) (dealings_in l b g k) d ≡ true) → IsDue t l b r.firm r.command
-due_here t l o b r rest f e g ready fit = record {
-  grown = g;
-  there = ready_there l b r.command ready;
-  decided = ready_decided l b r.command g.within ready;
-  whole = λ n is. none_before (λ r. splits n r.command) b r rest (subst (λ (z : List Record). count_by (λ r. splits n r.command) z ≤ 1) e (f.splits_once n)) is;
-  undecided = λ n is. none_before (λ r. decides n r.command) b r rest (subst (λ (z : List Record). count_by (λ r. decides n r.command) z ≤ 1) e (f.decisions_once n)) is;
-  afforded = λ x y d deals. subst (λ z. fits (agreement t x y) z d ≡ true) (sym (dealings_grown l b x y g)) (fit x y d deals);
-}
 
 -- a front of an order, each change of which is ready and fits: none of it is refused
 pub record Runs (t : House) (l b rest : List Record) : Type 0 where
   pub replayed : first_refused t b rest ≡ None
   pub grown : Grown l (b ++ rest)
 
-pub lawful_from : (t : House) (l o b rest tail : List Record) → OrderFacts t l o → o ≡ b ++ (rest ++ tail) → Grown l b → All (Settled t l) rest → in_lawful_order l b rest ≡ true
-    → PairsFit t l b rest
-    → Runs t l b rest
-lawful_from t l o b [] tail f e g all lawful fit = record { replayed = refl; grown = subst (Grown l) (sym (append-nil b)) g }
-lawful_from t l o b (r ∷ rest) tail f e g all lawful fit =
-    let p = and_parts (is_ready l b r.command) (in_lawful_order l (b ++ r ∷ []) rest) lawful in
-    let s = All-head (Settled t l) r rest all in
-    let due = due_here t l o b r (rest ++ tail) f e g p.0 (λ x y d deals. fit_head_by t l b r rest x y d deals (fit x y)) in
-    let cut : o ≡ (b ++ r ∷ []) ++ (rest ++ tail) = e ∙ sym (append_assoc b (r ∷ []) (rest ++ tail)) in
-    let more = grown_push l b r g (order_within l o (b ++ r ∷ []) (rest ++ tail) f.finds cut) (order_short l o (b ++ r ∷ []) (rest ++ tail) f.finds cut) due.there due.decided in
-    let later = lawful_from t l o (b ++ r ∷ []) rest tail f cut more (All-tail (Settled t l) r rest all) p.1 (λ x y. fit_tail_by t l b r rest x y (deed_of l x y r.firm r.command) refl (fit x y)) in
-    record {
-      replayed = goes_on (refusal_of t b r.firm r.command) r.number (first_refused t (b ++ r ∷ []) rest)
-          (refusal_none t b r.firm r.command s.known (accepts t l b r.firm r.command s.stands due)) later.replayed;
-      grown = subst (Grown l) (append_assoc b (r ∷ []) rest) later.grown;
-    }
-
-pub order_facts : (t : House) (l o : List Record) → IsPermutation l o → NumbersOnce l → NamedOnce l → OrderFacts t l o
-order_facts t l o same once s = record {
-  finds = same_finds l o same once s;
-  splits_once = λ n. omega (arith, count_permuted (λ r. splits n r.command) l o same, s.splits_once n);
-  decisions_once = λ n. omega (arith, count_permuted (λ r. decides n r.command) l o same, s.decisions_once n);
-}
-
 all_front : {X : Type 0} (P : X → Type 0) (xs ys : List X) → All P (xs ++ ys) → All P xs
 all_front P [] ys all = All-nil P
 all_front P (x ∷ xs) ys all = All-cons P x xs (All-head P x (xs ++ ys) all) (all_front P xs ys (All-tail P x (xs ++ ys) all))
 
--- the same changes, each ready where it stands; what deals may stand elsewhere
-pub record StandsReady (l o : List Record) : Type 0 where
-  pub same : IsPermutation l o
-  pub after_its_node : in_lawful_order l [] o ≡ true
+module _ (t : House) (l o : List Record) (legal : Legal t l) (same : IsPermutation l o) where
+  abbrev sn : NamedOnce l
+  sn = named_once t l legal.replayed
 
-pub ready_replays : (t : House) (l o front tail : List Record) → Legal t l → StandsReady l o → o ≡ front ++ tail → in_lawful_order l [] front ≡ true → PairsFit t l [] front
-    → Runs t l [] front
-ready_replays t l o front tail legal lawful e ready fit =
-    let all = All-permutation (Settled t l) l o lawful.same (facts t l legal.replayed).settled in
-    lawful_from t l o [] front tail (order_facts t l o lawful.same legal.once (named_once t l legal.replayed)) e (grown_none l)
-    (all_front (Settled t l) front tail (subst (All (Settled t l)) e all)) ready fit
+  pub finds : SameFinds l o
+  finds = same_finds l o same legal.once sn
+
+  -- what one change does that stands in the order, none does before it
+  none_yet : (p : Record → Bool) → count_by p l ≤ 1 → (b : List Record) (r : Record) (rest : List Record) → o ≡ b ++ r ∷ rest → p r ≡ true → find p b ≡ None
+  none_yet p once b r rest e = let a = count_permuted p l o same in none_before p b r rest (subst (λ (z : List Record). count_by p z ≤ 1) e (omega (arith, a, once)))
+
+  due_here : (b : List Record) (r : Record) (rest : List Record) → o ≡ b ++ r ∷ rest → Grown l b → is_ready l b r.command ≡ true
+      → ((g k : List ℕ) (d : Deed) → deed_of l g k r.firm r.command ≡ Some d → fits (agreement t g k) (dealings_in l b g k) d ≡ true) → IsDue t l b r.firm r.command
+  due_here b r rest e g ready fit = record {
+    grown = g;
+    there = ready_there l b r.command ready;
+    decided = ready_decided l b r.command g.within ready;
+    whole = λ n is. none_yet (λ r. splits n r.command) (sn.splits_once n) b r rest e is;
+    undecided = λ n is. none_yet (λ r. decides n r.command) (sn.decisions_once n) b r rest e is;
+    afforded = λ x y d deals. subst (λ z. fits (agreement t x y) z d ≡ true) (sym (dealings_grown l b x y g)) (fit x y d deals);
+  }
+
+  lawful_from : (b rest tail : List Record) → o ≡ b ++ (rest ++ tail) → Grown l b → All (Settled t l) rest → in_lawful_order l b rest ≡ true → PairsFit t l b rest → Runs t l b rest
+  lawful_from b [] tail e g all lawful fit = record { replayed = refl; grown = subst (Grown l) (sym (append-nil b)) g }
+  lawful_from b (r ∷ rest) tail e g all lawful fit =
+      let p = and_parts (is_ready l b r.command) (in_lawful_order l (b ++ r ∷ []) rest) lawful in
+      let s = All-head (Settled t l) r rest all in
+      let due = due_here b r (rest ++ tail) e g p.0 (λ x y d deals. fit_head_by t l b r rest x y d deals (fit x y)) in
+      let cut : o ≡ (b ++ r ∷ []) ++ (rest ++ tail) = e ∙ sym (append_assoc b (r ∷ []) (rest ++ tail)) in
+      let more = grown_push l b r g (order_within l o (b ++ r ∷ []) (rest ++ tail) finds cut) (order_short l o (b ++ r ∷ []) (rest ++ tail) finds cut) due.there due.decided in
+      let later = lawful_from (b ++ r ∷ []) rest tail cut more (All-tail (Settled t l) r rest all) p.1 (λ x y. fit_tail_by t l b r rest x y (deed_of l x y r.firm r.command) refl (fit x y)) in
+      record {
+        replayed = goes_on (refusal_of t b r.firm r.command) r.number (first_refused t (b ++ r ∷ []) rest)
+            (refusal_none t b r.firm r.command s.known (accepts t l b r.firm r.command s.stands due)) later.replayed;
+        grown = subst (Grown l) (append_assoc b (r ∷ []) rest) later.grown;
+      }
+
+  -- what deals may stand elsewhere than in the list
+  pub ready_replays : (front tail : List Record) → o ≡ front ++ tail → in_lawful_order l [] front ≡ true → PairsFit t l [] front → Runs t l [] front
+  ready_replays front tail e ready fit =
+      let all = All-permutation (Settled t l) l o same (facts t l legal.replayed).settled in
+      lawful_from [] front tail e (grown_none l) (all_front (Settled t l) front tail (subst (All (Settled t l)) e all)) ready fit
 
 deed_found : (l o : List Record) → SameFinds l o → (g k by : List ℕ) (c : Command) → deed_of o g k by c ≡ deed_of l g k by c
 deed_found l o f g k by (Claim n account) = ap (option_and_then (use_of_node g k)) (f.nodes n)
@@ -266,7 +256,5 @@ dealings_found l o f g k = ap (λ (h : Record → Option Dealing). filter_map h 
 
 pub order_is_legal : (t : House) (l o : List Record) → Legal t l → IsLawfulOrder l o → IsLegal t o
 order_is_legal t l o legal lawful =
-    let f = facts t l legal.replayed in
-    let finds = same_finds l o lawful.same legal.once (named_once t l legal.replayed) in
-    legal_from_replay t o (ready_replays t l o o [] legal (record { same = lawful.same; after_its_node = lawful.after_its_node }) (sym (append-nil o)) lawful.after_its_node
-    (λ g k. subst (AllFit (agreement t g k) []) (sym (lawful.pairs_stand g k) ∙ dealings_found l o finds g k) (f.deals g k))).replayed
+    legal_from_replay t o (ready_replays t l o legal lawful.same o [] (sym (append-nil o)) lawful.after_its_node (λ g k.
+    subst (AllFit (agreement t g k) []) (sym (lawful.pairs_stand g k) ∙ dealings_found l o (finds t l o legal lawful.same) g k) ((facts t l legal.replayed).deals g k))).replayed

@@ -16,7 +16,7 @@ use Rattle.gu_depend.proofs.Settled.{free_decided, front_within, accepted_there,
 use Rattle.gu_depend.proofs.Deals.{numbered, dealt, deed_grown, dealings_grown, dealings_append, dealings_cut, dealings_idle, row_fits, deal_is, at_pair, same_pair, unfit_without, left_out}
 use Rattle.gu_depend.proofs.Deals.{deal_cut}
 use Rattle.gu_base.proofs.Dealt.{none_unfit, fit_front, unfit_cut, fit_last, terms_last, raised_last, used_last}
-use Rattle.gu_depend.proofs.Replay.{NumbersOnce, Legal, StandsReady, PairsFit, Runs, both_true, ready_there, ready_split, ready_from, ready_replays, same_finds, dealings_found}
+use Rattle.gu_depend.proofs.Replay.{NumbersOnce, Legal, PairsFit, Runs, both_true, ready_there, ready_split, ready_from, ready_replays, finds, dealings_found}
 use Rattle.gu_depend.proofs.State.{state_same}
 use Rattle.gu_depend.specs.Same.{IsSameState}
 use Rattle.gu_depend.proofs.Cuts.{moved_to_end, stands_between, filter_one}
@@ -179,11 +179,6 @@ order_beside t l x y (r ∷ s) tail k legal among beside e un last =
     (order_beside t l (x ++ r ∷ []) (y ++ r ∷ []) s tail k legal among (one_less_push k x y (r ∷ []) beside) (e ∙ sym (append_assoc x (r ∷ []) s))
     (All-tail (λ e. stands_under k e ≡ false) r s un) (subst (λ (z : List Record). in_lawful_order l z tail ≡ true) (sym (append_assoc y (r ∷ []) s)) last))
 
--- the change moved behind those that it doesn't stand under: each is ready where it stands
-pub record MovesBehind (p : List Record) (k : Record) (s : List Record) : Type 0 where
-  pub order : StandsReady (p ++ k ∷ s) ((p ++ s) ++ k ∷ [])
-  pub others : in_lawful_order (p ++ k ∷ s) [] (p ++ s) ≡ true
-
 ready_front : (l b front tail : List Record) → in_lawful_order l b (front ++ tail) ≡ true → in_lawful_order l b front ≡ true
 ready_front l b [] tail h = refl
 ready_front l b (r ∷ front) tail h =
@@ -196,14 +191,16 @@ module _ (t : House) (p : List Record) (k : Record) (s : List Record) (legal : L
   abbrev pub whole : List Record
   whole = p ++ k ∷ s
 
-  pub moves_behind : NoneUnder k s → MovesBehind p k s
+  -- moved behind those that it doesn't stand under, each is ready where it stands
+  moves_behind : NoneUnder k s → in_lawful_order whole [] ((p ++ s) ++ k ∷ []) ≡ true
   moves_behind un =
       let last : in_lawful_order whole (p ++ s) (k ∷ []) ≡ true =
       both_true (is_ready whole (p ++ s) k.command) true (ready_more whole p s k.command (accepted_ready t whole p k s legal refl)) refl in
       let behind = order_beside t whole (p ++ k ∷ []) p s (k ∷ []) k legal (stands_between p k s) (one_less_start k p) (sym (append_assoc p (k ∷ []) s)) un last in
-      let all = order_front t whole [] p (k ∷ s) (s ++ k ∷ []) legal refl behind in
-      let moved : in_lawful_order whole [] ((p ++ s) ++ k ∷ []) ≡ true = subst (λ (z : List Record). in_lawful_order whole [] z ≡ true) (sym (append_assoc p s (k ∷ []))) all in
-      record { order = record { same = moved_to_end p k s; after_its_node = moved }; others = ready_front whole [] (p ++ s) (k ∷ []) moved }
+      subst (λ (z : List Record). in_lawful_order whole [] z ≡ true) (sym (append_assoc p s (k ∷ []))) (order_front t whole [] p (k ∷ s) (s ++ k ∷ []) legal refl behind)
+
+  others_ready : NoneUnder k s → in_lawful_order whole [] (p ++ s) ≡ true
+  others_ready un = ready_front whole [] (p ++ s) (k ∷ []) (moves_behind un)
 
   pub gone : without whole k.number ≡ p ++ s
   gone = filter_one (λ r. r.number == k.number) p k s ((Decides-eqb k.number k.number).1 refl) (legal.once k.number)
@@ -238,13 +235,12 @@ module _ (t : House) (p : List Record) (k : Record) (s : List Record) (legal : L
   fit_where_by x y under (Some d) e = none_unfit (agreement t x y) [] (dealings_in whole (p ++ s) x y) (unfit_here x y d e ∙ under)
 
   -- a front of the order in which the change stands last, where what it deals fits
-  pub runs_to : NoneUnder k s → (front tail : List Record) → (p ++ s) ++ k ∷ [] ≡ front ++ tail → in_lawful_order whole [] front ≡ true → PairsFit t whole [] front
-      → Runs t whole [] front
-  runs_to un front tail cut ready fit = ready_replays t whole ((p ++ s) ++ k ∷ []) front tail legal (moves_behind un).order cut ready fit
+  runs_to : (front tail : List Record) → (p ++ s) ++ k ∷ [] ≡ front ++ tail → in_lawful_order whole [] front ≡ true → PairsFit t whole [] front → Runs t whole [] front
+  runs_to front tail cut ready fit = ready_replays t whole ((p ++ s) ++ k ∷ []) legal (moved_to_end p k s) front tail cut ready fit
 
   -- where nothing stands on what it deals, all others fit, and so without it none is refused
   pub runs_without : NoneUnder k s → deals_under t whole k.number k.firm k.command ≡ None → Runs t whole [] (p ++ s)
-  runs_without un under = runs_to un (p ++ s) (k ∷ []) refl (moves_behind un).others (λ x y. fit_where_by x y under (deed_of whole x y k.firm k.command) refl)
+  runs_without un under = runs_to (p ++ s) (k ∷ []) refl (others_ready un) (λ x y. fit_where_by x y under (deed_of whole x y k.firm k.command) refl)
 
   -- ---- and where what deals is refused
 
@@ -264,9 +260,9 @@ module _ (t : House) (p : List Record) (k : Record) (s : List Record) (legal : L
       let c = unfit_cut (agreement t x y) [] (dealings_in whole (p ++ s) x y) n unfit in
       let r = deal_cut whole (p ++ s) x y c.before c.deal c.behind c.is in
       let order : (p ++ s) ++ k ∷ [] ≡ r.front ++ ((r.change ∷ r.behind) ++ k ∷ []) = ap (λ z. z ++ k ∷ []) r.is ∙ append_assoc r.front (r.change ∷ r.behind) (k ∷ []) in
-      let ready = ready_front whole [] r.front (r.change ∷ r.behind) (subst (λ (z : List Record). in_lawful_order whole [] z ≡ true) r.is (moves_behind un).others) in
+      let ready = ready_front whole [] r.front (r.change ∷ r.behind) (subst (λ (z : List Record). in_lawful_order whole [] z ≡ true) r.is (others_ready un)) in
       let fit_here : AllFit (agreement t x y) [] (dealings_in whole r.front x y) = subst (AllFit (agreement t x y) []) (sym r.deals) c.fit in
-      let runs = runs_to un r.front ((r.change ∷ r.behind) ++ k ∷ []) order ready
+      let runs = runs_to r.front ((r.change ∷ r.behind) ++ k ∷ []) order ready
       (λ u v. front_fits_by x y r.front r.change r.behind r.is d deals fit_here u v (deed_of whole u v k.firm k.command) refl) in
       let refused : refusal_of t r.front r.change.firm r.change.command ≡ None → ⊥ = λ accepted.
       let row_none = (refusal_parts t r.front r.change.firm r.change.command accepted).1 in
@@ -295,7 +291,7 @@ module _ (t : House) (p : List Record) (k : Record) (s : List Record) (legal : L
       (subst (AllFit (agreement t x y) []) (dealings_cut whole p k s x y (Some d) e) (deals_whole x y)) (subst (AllFit (agreement t x y) []) (dealings_append whole p s x y) (others x y)))
 
   found_last : (x y : List ℕ) → dealings last x y ≡ dealings_in whole last x y
-  found_last x y = dealings_found whole last (same_finds whole last (moved_to_end p k s) legal.once (named_once t whole legal.replayed)) x y
+  found_last x y = dealings_found whole last (finds t whole last legal (moved_to_end p k s)) x y
 
   -- the terms, the limit and the use of a giver and a taker are the same
   same_by : PairsFit t whole [] (p ++ s) → (x y : List ℕ) (o : Option Deed) → deed_of whole x y k.firm k.command ≡ o
@@ -319,9 +315,8 @@ module _ (t : House) (p : List Record) (k : Record) (s : List Record) (legal : L
 
   pub stands_last : NoneUnder k s → deals_under t whole k.number k.firm k.command ≡ None → (first_refused t [] last ≡ None) × IsSameState t whole last
   stands_last un under =
-      let order = (moves_behind un).order in
       let others : PairsFit t whole [] (p ++ s) = λ x y. fit_where_by x y under (deed_of whole x y k.firm k.command) refl in
       let same = λ (x : List ℕ) (y : List ℕ). same_by others x y (deed_of whole x y k.firm k.command) refl in (
-        (runs_to un last [] (sym (append-nil last)) order.after_its_node (λ x y. fit_last_by others x y (deed_of whole x y k.firm k.command) refl)).replayed,
-        state_same t whole last order.same legal.once (named_once t whole legal.replayed) (record { terms = λ x y. (same x y).0; limits = λ x y. (same x y).1.0; used = λ x y. (same x y).1.1 }),
+        (runs_to last [] (sym (append-nil last)) (moves_behind un) (λ x y. fit_last_by others x y (deed_of whole x y k.firm k.command) refl)).replayed,
+        state_same t whole last (moved_to_end p k s) legal.once (named_once t whole legal.replayed) (record { terms = λ x y. (same x y).0; limits = λ x y. (same x y).1.0; used = λ x y. (same x y).1.1 }),
       )

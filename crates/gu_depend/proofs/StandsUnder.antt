@@ -16,7 +16,7 @@ use Rattle.gu_depend.proofs.Names.{makes, node_by_maker, makers_once}
 use Rattle.gu_depend.proofs.NamedOnce.{NamedOnce, named_once}
 use Rattle.gu_depend.proofs.Grown.{NamesThere, SplitsDecided, Grown}
 use Rattle.gu_depend.proofs.Settled.{offered_again, accepted_there, front_facts}
-use Rattle.gu_depend.proofs.Replay.{Legal, legal_list, same_finds, order_within}
+use Rattle.gu_depend.proofs.Replay.{Legal, legal_list, finds, order_within}
 use Rattle.gu_depend.proofs.Cuts.{by_cut, stands_between, first_cut, none_passes, moved_to_end}
 use Rattle.gu_depend.proofs.Deals.{deals_some}
 use Rattle.gu_depend.proofs.StandsLast.{NoneUnder, replay_stops, not_both, accepted_at, gone, unfit_here, runs_without, stops_at, stands_last}
@@ -136,7 +136,7 @@ module _ (t : House) (p : List Record) (k : Record) (s : List Record) (legal : L
       none_is_some (node_of (p ++ s) n) y.0 ((missing t l (p ++ s) k [] legal (moved_to_end p k s)).nodes_gone n x h) y.1
   refused_under by c (decided n split h) accepted =
       let same = moved_to_end p k s in
-      let w = order_within l ((p ++ s) ++ k ∷ []) (p ++ s) (k ∷ []) (same_finds l ((p ++ s) ++ k ∷ []) same legal.once sn) refl in
+      let w = order_within l ((p ++ s) ++ k ∷ []) (p ++ s) (k ∷ []) (finds t l ((p ++ s) ++ k ∷ []) legal same) refl in
       let y = splits_well t (p ++ s) by c n (refusal_parts t (p ++ s) by c accepted).1 split in
       let x = sn.given n k (found_once (λ r. decides n r.command) l k (stands_between p k s) h (sn.decisions_once n)) in
       let one : x.0 ≡ y.node = same_Some x.0 y.node (sym x.1.0 ∙ w.nodes n y.node y.there) in
