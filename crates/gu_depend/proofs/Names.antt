@@ -42,15 +42,12 @@ maker l n x h =
 pub made_number : (r : Record) (n : EntryPart) (x : Node) → made_of r n ≡ Some x → n.entry ≡ r.number
 made_number r n x h = made_entry n r.number r.firm r.command x h
 
-same_splits : (m o : EntryPart) → Some m ≡ Some o → same_name m o ≡ true
-same_splits m o e = subst (λ (z : EntryPart). same_name m z ≡ true) (same_Some m o e) (name_same m)
-
 parent_made : (n m : EntryPart) (k : ℕ) (by : List ℕ) (c : Command) (x : Node) → find (λ x. same_name x.name n) (nodes_of k by c) ≡ Some x → parent x.kind ≡ Some m → splits m c ≡ true
 parent_made n m k by (Trade firm account instrument side lots) x h up =
     let name : EntryPart = record { entry = k; part = 0 } in
     first_or n name (record { name = name; lots = lots; kind = Root (record { firm = firm; account = account }) }) x None (false ≡ true)
     (λ _ e. absurd (none_is_some (parent x.kind) m (sym (ap (λ (z : Node). parent z.kind) e)) up)) (λ none. absurd (cc)) (same_name name n) refl h
-parent_made n m k by (Split o ps) x h up = same_splits o m (sym (part_parent n o k 1 by ps x h) ∙ up)
+parent_made n m k by (Split o ps) x h up = subst (λ (z : EntryPart). same_name o z ≡ true) (same_Some o m (sym (part_parent n o k 1 by ps x h) ∙ up)) (name_same o)
 parent_made n m k by _ x h up = absurd (cc)
 
 -- a node that has a parent is made by a Split of it

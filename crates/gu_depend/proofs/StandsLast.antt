@@ -98,12 +98,9 @@ apart t l b k e rest legal among cut un = record {
 
 -- ---- readiness
 
-either : (o : Option Record) → (is_none o || is_some o) ≡ true
-either None = refl
-either (Some r) = refl
-
 either_same : (o p : Option Record) → o ≡ p → (is_none p || is_some o) ≡ true
-either_same o p e = ap (λ z. is_none z || is_some o) (sym e) ∙ either o
+either_same None p e = ap (λ z. is_none z || false) (sym e)
+either_same (Some r) p e = ap (λ z. is_none z || true) (sym e)
 
 accepted_ready : (t : House) (l b : List Record) (r : Record) (rest : List Record) → Legal t l → l ≡ b ++ r ∷ rest → is_ready l b r.command ≡ true
 accepted_ready t l b r rest legal e =
@@ -139,22 +136,17 @@ ready_with_one_less l x y k c s a h = ready_from l y c
     (λ n is. let z = ready_there l x c h n is in (z.0, sym (s.nodes_same n (a.unmade n is)) ∙ z.1))
     (λ n is. ap (λ d. is_none (decision_of l n) || is_some d) (sym (s.decisions_same n (a.undecided n is))) ∙ ready_split l x c h n is)
 
-some_more : {A : Type 0} (o p : Option A) → is_some o ≡ true → is_some (option_or o p) ≡ true
-some_more None p h = absurd (cc)
-some_more (Some a) p h = refl
-
-or_more : (a b c : Bool) → (b ≡ true → c ≡ true) → (a || b) ≡ true → (a || c) ≡ true
-or_more true b c more h = refl
-or_more false b c more h = more h
-
-decision_more_is : (b z : List Record) (n : EntryPart) → is_some (decision_of b n) ≡ true → is_some (decision_of (b ++ z) n) ≡ true
-decision_more_is b z n h = ap is_some (decision_cut b z n) ∙ some_more (decision_of b n) (decision_of z n) h
+more_decided : (p o q : Option Record) → (is_none p || is_some o) ≡ true → (is_none p || is_some (option_or o q)) ≡ true
+more_decided None o q h = refl
+more_decided (Some d) None q h = absurd (cc)
+more_decided (Some d) (Some e) q h = refl
 
 -- a change that is ready stays so behind more changes
 ready_more : (l b z : List Record) (c : Command) → is_ready l b c ≡ true → is_ready l (b ++ z) c ≡ true
 ready_more l b z c h = ready_from l (b ++ z) c
     (λ n is. let x = ready_there l b c h n is in (x.0, node_more b z n x.0 x.1))
-    (λ n is. or_more (is_none (decision_of l n)) (is_some (decision_of b n)) (is_some (decision_of (b ++ z) n)) (decision_more_is b z n) (ready_split l b c h n is))
+    (λ n is. ap (λ d. is_none (decision_of l n) || is_some d) (decision_cut b z n)
+    ∙ more_decided (decision_of l n) (decision_of b n) (decision_of z n) (ready_split l b c h n is))
 
 -- ---- the order in which the change stands last
 
@@ -318,5 +310,6 @@ module _ (t : House) (p : List Record) (k : Record) (s : List Record) (legal : L
       let others : PairsFit t whole [] (p ++ s) = λ x y. fit_where_by x y under (deed_of whole x y k.firm k.command) refl in
       let same = λ (x : List ℕ) (y : List ℕ). same_by others x y (deed_of whole x y k.firm k.command) refl in (
         (runs_to last [] (sym (append-nil last)) (moves_behind un) (λ x y. fit_last_by others x y (deed_of whole x y k.firm k.command) refl)).replayed,
-        state_same t whole last (moved_to_end p k s) legal.once (named_once t whole legal.replayed) (record { terms = λ x y. (same x y).0; limits = λ x y. (same x y).1.0; used = λ x y. (same x y).1.1 }),
+        state_same t whole last (moved_to_end p k s) legal.once (named_once t whole legal.replayed)
+            (record { terms = λ x y. (same x y).0; limits = λ x y. (same x y).1.0; used = λ x y. (same x y).1.1 }),
       )

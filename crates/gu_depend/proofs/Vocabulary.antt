@@ -23,30 +23,16 @@ pub use Rattle.gu_base.specs.SameLaws.{same_name-Decides}
 pub use Rattle.gu_base.specs.SamePartsLaws.{bytes_same, number_same}
 pub use Rattle.gu_base.specs.Standing.{IsLegal, first_refused, standing_on, without}
 pub use Rattle.gu_base.specs.Terms.{dealing_of, dealings, dealings_in, deed_of, limit_of, limit_under, raised_under, terms_of, terms_under, use_of_kind, use_of_node, used_of, used_under}
-pub use Rattle.gu_base.specs.declared.command.Command.{Command}
+pub use Rattle.gu_base.specs.declared.{command.Command.Command, command.Part.Part, command.Side.Side, entry.Answer.Answer, entry.Entry.Entry, entry.Record.Record, house.Agreement.Agreement}
+pub use Rattle.gu_base.specs.declared.{house.Dealing.Dealing, house.Deed.Deed, house.Pair.Pair, node.Charge.Charge, node.Deal.Deal, node.Kind.Kind, node.Node.Node, node.Place.Place}
+pub use Rattle.gu_base.specs.declared.{refusal.Refusal.Refusal, state.State.State}
 pub use Rattle.gu_base.specs.declared.command.Command.TheVariants.{Agree, Cancel, Claim, Decline, Initiate, Raise, Refuse, Reverse, Split, Trade}
-pub use Rattle.gu_base.specs.declared.command.Part.{Part}
-pub use Rattle.gu_base.specs.declared.command.Side.{Side}
 pub use Rattle.gu_base.specs.declared.command.Side.TheVariants.{Buy, Sell}
-pub use Rattle.gu_base.specs.declared.entry.Answer.{Answer}
 pub use Rattle.gu_base.specs.declared.entry.Answer.TheVariants.{Accepted, Repeated}
-pub use Rattle.gu_base.specs.declared.entry.Entry.{Entry}
-pub use Rattle.gu_base.specs.declared.entry.Record.{Record}
-pub use Rattle.gu_base.specs.declared.house.Agreement.{Agreement}
-pub use Rattle.gu_base.specs.declared.house.Dealing.{Dealing}
-pub use Rattle.gu_base.specs.declared.house.Deed.{Deed}
 pub use Rattle.gu_base.specs.declared.house.Deed.TheVariants.{Makes, Raises, Uses}
-pub use Rattle.gu_base.specs.declared.house.Pair.{Pair}
-pub use Rattle.gu_base.specs.declared.node.Charge.{Charge}
-pub use Rattle.gu_base.specs.declared.node.Deal.{Deal}
-pub use Rattle.gu_base.specs.declared.node.Kind.{Kind}
 pub use Rattle.gu_base.specs.declared.node.Kind.TheVariants.{Given, Own, Root}
-pub use Rattle.gu_base.specs.declared.node.Node.{Node}
-pub use Rattle.gu_base.specs.declared.node.Place.{Place}
-pub use Rattle.gu_base.specs.declared.refusal.Refusal.{Refusal}
 pub use Rattle.gu_base.specs.declared.refusal.Refusal.TheVariants.{AlreadyConsented, AlreadyReversed, BadTerms, BookFull, DuplicateId, NeedsConsent, NotAChange, NotAParty, NotOffered, NotYours}
 pub use Rattle.gu_base.specs.declared.refusal.Refusal.TheVariants.{NothingPending, StandsOn, UnknownAccount, UnknownEntry, UnknownFirm}
-pub use Rattle.gu_base.specs.declared.state.State.{State}
 pub use Rattle.gu_base.specs.declared.state.State.TheVariants.{Cancelled, Claimed, Held, Offered, ReversalPending, Reversed}
 pub use Rattle.gu_base.proofs.Basics.{nothing_here, no_some, none_is_some, or_none, eqb_symm}
 pub use Rattle.gu_base.proofs.Dealt.{may_use, fits, AllFit, first_unfit}
