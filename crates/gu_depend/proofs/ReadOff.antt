@@ -1,5 +1,5 @@
 -- What stands on a change, read off trees that show the list.
-use Rattle.gu_depend.proofs.Vocabulary.{◌≡◌, ℕ, Bool, true, false, List, [], ◌∷◌, refl, sym, ◌∙◌, ap, subst, arith, Option, Contains, IsSomeAnd, inl, inr, Some, None, find}
+use Rattle.gu_depend.proofs.Vocabulary.{◌≡◌, ℕ, true, false, List, [], refl, sym, ◌∙◌, ap, subst, arith, Option, Contains, IsSomeAnd, inl, inr, Some, None, find}
 use Rattle.gu_depend.proofs.Vocabulary.{flat_map, option_map, option_and_then, ◌==◌, ◌↔◌, or_cases, or_parts, Decides-eqb, same_Some, made_by, parts_of, EntryPart, RisesFrom, House}
 use Rattle.gu_depend.proofs.Vocabulary.{node_of, nodes_of, split_of, decision_of, splits, decides, same_name, IsLegal, first_refused, standing_on, without, Part, Command, Trade, Split, Claim}
 use Rattle.gu_depend.proofs.Vocabulary.{Refuse, Cancel, Agree, Raise, Record, Node, legal_from_replay, replay_from_legal, name_same, made_of, found_in, find_passes, change_of, named_place}
@@ -8,7 +8,6 @@ use Rattle.gu_depend.proofs.Finds.{some_with, and_then_told, found_once}
 use Rattle.std.proofs.Common.{◌≢◌, ◌⊎◌}
 use Rattle.gu_tree.specs.Rose.{Rose, head_of, split_of_node}
 use Rattle.gu_tree.specs.Paths.{node_at, HasAt, LeadsTo}
-use Rattle.gu_tree.specs.Shown.{IsTreeOf}
 use Rattle.gu_tree.specs.Grove.{Grove, tree_of, place_of, IsPlace}
 use Rattle.gu_tree.specs.ShownAll.{place_in, IsTreeIn, ShowsAll}
 use Rattle.gu_tree.specs.NumbersOn.{numbers_on_parts}

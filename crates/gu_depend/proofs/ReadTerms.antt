@@ -1,5 +1,5 @@
 -- What stands on a change that deals, and how many entries stand beside it, read off terms that are those of the list.
-use Rattle.gu_depend.proofs.Vocabulary.{◌≡◌, ℕ, Bool, true, false, List, [], ◌∷◌, ◌++◌, refl, sym, ◌∙◌, ap, subst, cond, Option, Contains, Some, None, find, ◌==◌, length}
+use Rattle.gu_depend.proofs.Vocabulary.{◌≡◌, ℕ, true, false, List, [], ◌∷◌, refl, sym, ◌∙◌, ap, subst, cond, Option, Contains, Some, None, find, ◌==◌, length}
 use Rattle.gu_depend.proofs.Vocabulary.{option_map, option_and_then, unwrap_or, slice_get, lookup, nothing_here, option_or, Decides-eqb, find-append, House, agreement, deed_of, dealings_in}
 use Rattle.gu_depend.proofs.Vocabulary.{dealings, first_under_deed, Deed, Makes, Raises, Dealing, Pair, Command, Claim, Agree, Raise, Record, found_in, find_passes, change_of, named_place, is_pair}
 use Rattle.gu_depend.proofs.Vocabulary.{PairView, TermsView, pair_at}

@@ -1,10 +1,10 @@
 -- A lawful order of a legal list is legal.
-use Rattle.gu_depend.proofs.Vocabulary.{find, ◌≡◌, ℕ, ◌+◌, ◌≤◌, Bool, true, false, not, ◌&&◌, ◌||◌, List, [], ◌∷◌, ◌++◌, length, refl, sym, ◌∙◌, ap, subst}
-use Rattle.gu_depend.proofs.Vocabulary.{arith, cond, Option, All, append_assoc, append-nil, IsPermutation, map, Some, None, count_by, is_none, is_some, nat_lt, ◌==◌, filter_map, option_map}
-use Rattle.gu_depend.proofs.Vocabulary.{option_and_then, AllByRecursion, cons_option, Decides-eqb, All-head, All-tail, All-nil, All-cons, EntryPart, House, agreement, node_of, split_of, decision_of}
-use Rattle.gu_depend.proofs.Vocabulary.{is_given, splits, decides, same_name, use_of_node, deed_of, dealings_in, dealings, limit_of, refusal_of, row, split_row, claim_row, is_taker, is_giver}
-use Rattle.gu_depend.proofs.Vocabulary.{first_refused, IsLegal, is_ready, in_lawful_order, IsLawfulOrder, Deed, Makes, Raises, Dealing, Part, Command, Trade, Split, Claim, Refuse, Cancel, Agree}
-use Rattle.gu_depend.proofs.Vocabulary.{Raise, Record, Kind, Node, Refusal, at_node, fits, AllFit, legal_from_replay, replay_from_legal, and_parts, HasDistinctNumbers, eqb_symm, SplitHolds, name_is}
+use Rattle.gu_depend.proofs.Vocabulary.{find, ◌≡◌, ℕ, ◌+◌, ◌≤◌, Bool, true, false, ◌&&◌, ◌||◌, List, [], ◌∷◌, ◌++◌, length, refl, sym, ◌∙◌, ap, subst}
+use Rattle.gu_depend.proofs.Vocabulary.{arith, cond, Option, All, append_assoc, append-nil, IsPermutation, map, Some, None, count_by, is_none, is_some, ◌==◌, filter_map, option_map}
+use Rattle.gu_depend.proofs.Vocabulary.{option_and_then, AllByRecursion, Decides-eqb, All-head, All-tail, All-nil, All-cons, EntryPart, House, agreement, node_of, split_of, decision_of}
+use Rattle.gu_depend.proofs.Vocabulary.{splits, decides, same_name, use_of_node, deed_of, dealings_in, dealings, limit_of, refusal_of, row, split_row, claim_row, is_taker, is_giver}
+use Rattle.gu_depend.proofs.Vocabulary.{first_refused, IsLegal, is_ready, in_lawful_order, IsLawfulOrder, Deed, Makes, Raises, Dealing, Command, Trade, Split, Claim, Refuse, Cancel, Agree}
+use Rattle.gu_depend.proofs.Vocabulary.{Raise, Record, Kind, Node, Refusal, at_node, fits, AllFit, legal_from_replay, replay_from_legal, and_parts, HasDistinctNumbers, eqb_symm, name_is}
 use Rattle.gu_depend.proofs.Vocabulary.{name_same, node_called}
 use Rattle.gu_depend.proofs.Grown.{ThereFor, Within, Grown, grown_none, grown_push, owns_same, depth_same}
 use Rattle.std.proofs.lemmas.List.Sorted.{All-permutation, length_permutation}

@@ -1,12 +1,11 @@
 -- What holds of the changes of a legal list over the whole list, wherever each of them stands.
-use Rattle.gu_depend.proofs.Vocabulary.{◌≡◌, ℕ, ◌≤◌, Bool, true, false, not, ◌&&◌, List, [], ◌∷◌, ◌++◌, length, length-append, refl, sym, ◌∙◌, ap, subst, arith}
-use Rattle.gu_depend.proofs.Vocabulary.{Option, All, append-nil, append_assoc, inl, inr, Some, None, is_none, nat_lt, option_map, All-nil, All-push, EntryPart, House, knows_firm, agreement, node_of}
+use Rattle.gu_depend.proofs.Vocabulary.{◌≡◌, ℕ, ◌≤◌, Bool, true, not, ◌&&◌, List, [], ◌∷◌, ◌++◌, length, length-append, refl, sym, ◌∙◌, ap, subst, arith}
+use Rattle.gu_depend.proofs.Vocabulary.{Option, All, append-nil, append_assoc, inl, inr, Some, None, is_none, nat_lt, All-nil, All-push, EntryPart, House, knows_firm, agreement, node_of}
 use Rattle.gu_depend.proofs.Vocabulary.{owns, depth_of, decision_of, is_offered, is_given, splits, decides, refusal_of, row, trade_row, split_row, claim_row, Refusal, NotOffered, NotYours, first}
 use Rattle.gu_depend.proofs.Vocabulary.{unless, is_taker, is_giver, first_refused, IsLegal, Part, Command, Trade, Split, Claim, Refuse, Cancel, Agree, Raise, Record, Kind, Node, deed_of}
 use Rattle.gu_depend.proofs.Vocabulary.{dealings_in, Deed, at_node, node_more, legal_from_replay, fits, AllFit, same_Some, at_node_none, SplitHolds, claim_passes, agree_passes, raise_passes}
 use Rattle.gu_depend.proofs.Vocabulary.{refusal_parts, splits_well, decides_well, node_called, no_some, or_cases}
 use Rattle.gu_depend.proofs.Grown.{ThereFor, Within, Grown, grown_none, grown_push, owns_same, depth_same}
-use Rattle.gu_depend.specs.Under.{names}
 use Rattle.gu_depend.proofs.Finds.{find_more}
 use Rattle.gu_depend.proofs.Names.{at_name}
 use Rattle.gu_depend.proofs.NamedOnce.{NamedOnce, named_once}

@@ -1,9 +1,9 @@
 -- The first change that would be refused without another is the first that the other stands under.
-use Rattle.gu_depend.proofs.Vocabulary.{◌≡◌, ℕ, zero, suc, ◌+◌, ◌<◌, ◌≤◌, Bool, true, false, not, ◌&&◌, ◌||◌, List, [], ◌∷◌, ◌++◌, length, get_or, refl, sym}
+use Rattle.gu_depend.proofs.Vocabulary.{◌≡◌, ℕ, zero, ◌+◌, ◌<◌, ◌≤◌, Bool, true, false, not, ◌&&◌, ◌||◌, List, [], ◌∷◌, ◌++◌, refl, sym}
 use Rattle.gu_depend.proofs.Vocabulary.{◌∙◌, ap, subst, arith, cond, Option, Contains, All, IsPermutation, append_assoc, map, inl, inr, Some, None, find, count_by, is_some, is_none}
 use Rattle.gu_depend.proofs.Vocabulary.{option_and_then, option_map, ◌==◌, option_or, list_any, AllByRecursion, Decides-eqb, All-nil, All-cons, All-weaker, All-contains, All-contains_itself}
 use Rattle.gu_depend.proofs.Vocabulary.{Contains-append_right, find-append, EntryPart, House, node_of, nodes_of, decision_of, is_given, same_name, splits, decides, refusal_of, first_refused}
-use Rattle.gu_depend.proofs.Vocabulary.{IsLegal, without, standing_on, Refusal, Command, Trade, Split, Claim, Refuse, Cancel, Agree, Raise, Record, Root, Node, RisesFrom, replay_front}
+use Rattle.gu_depend.proofs.Vocabulary.{IsLegal, without, standing_on, Refusal, Command, Trade, Split, Claim, Refuse, Cancel, Agree, Record, Root, Node, RisesFrom, replay_front}
 use Rattle.gu_depend.proofs.Vocabulary.{HasDistinctNumbers, same_Some, refusal_parts, splits_well, name_same, node_called, made_of, none_is_some, no_some, found_in, find_passes, false_from_ne_true}
 use Rattle.std.specs.List.{IsDistinct}
 use Rattle.std.proofs.lemmas.List.Elements.{All-filter}

@@ -1,14 +1,13 @@
 -- What keeps terms those of a list of changes.
 use Rattle.gu_depend.proofs.Vocabulary.{Dealing, ◌≡◌, ℕ, Bool, true, false, ◌&&◌, List, [], ◌∷◌, ◌++◌, refl, sym, ◌∙◌, ap, subst, cond, Option, Contains, append-nil, inl}
 use Rattle.gu_depend.proofs.Vocabulary.{inr, Some, None, ◌==◌, option_and_then, bytes_eq, IsSomeAnd, lookup, option_or, and_parts, bytes_eq-Decides, All-contains, find-append, same_Some}
-use Rattle.gu_depend.proofs.Vocabulary.{EntryPart, House, agreement, node_of, deed_of, dealings, Deed, Pair, Command, Claim, Record, Node, none_is_some, or_none, name_same, found_in, change_of}
+use Rattle.gu_depend.proofs.Vocabulary.{House, agreement, deed_of, dealings, Deed, Pair, Command, Claim, Record, none_is_some, or_none, name_same, found_in, change_of}
 use Rattle.gu_depend.proofs.Vocabulary.{is_pair, PairView, TermsView, pair_at}
 use Rattle.gu_depend.proofs.Finds.{some_with, none_before}
 use Rattle.gu_depend.proofs.Grown.{ThereFor, Within, NamesThere}
 use Rattle.std.specs.Prelude.{if◌then◌else◌}
 use Rattle.std.proofs.lemmas.List.Elements.{Contains-push_cases}
 use Rattle.gu_fees.specs.Terms.{row_of, IsPut}
-use Rattle.gu_depend.specs.Under.{names}
 use Rattle.gu_depend.specs.Terms.{pair_of_kind, pair_of, place_of_pair, AreTermsOf}
 use Rattle.gu_depend.proofs.Deals.{numbered, dealt, both_same, at_pair, pair, pair_of_deed, pair_told, undealt, deed_grown, dealings_grown, dealings_cut}
 use Rattle.gu_depend.proofs.StandsLast.{not_both}
