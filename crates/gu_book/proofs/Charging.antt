@@ -23,7 +23,7 @@ use Rattle.gu_book.specs.Charging.{IsSmallCharge, AreFeesOf, HasRoomFor, IsCharg
 charges_push : (t : House) (l : List Record) (r : Record) → first_refused t [] l ≡ None → refusal_of t l r.firm r.command ≡ None → RisesFrom 1 (l ++ r ∷ [])
     → charges t (l ++ r ∷ []) ≡ charges t l ++ cons_option (charge_of t l r.command) []
 charges_push t l r replayed lawful rises =
-    (moves_its_own t l r (number_once (l ++ r ∷ []) (rises_distinct 1 (l ++ r ∷ []) rises)) (replay_push t [] l r replayed lawful)).charged
+    (moves_its_own t l r (record { once = number_once (l ++ r ∷ []) (rises_distinct 1 (l ++ r ∷ []) rises); replayed = replay_push t [] l r replayed lawful })).charged
 
 small_option : (o : Option Charge) → IfSome o (λ c. c.lots ≤ most_lots) → IfSome o (λ c. c.rate ≤ highest_rate) → All IsSmallCharge (cons_option o [])
 small_option None lots rate = All-nil IsSmallCharge

@@ -207,7 +207,7 @@ module _ {t : House} {l : List Record} {r : Record} {g : Grove} (u : IsFree t l 
   -- nothing stands on it
   unnamed : (e : Record) → Contains l e → stands_under r e ≡ false
   unnamed e there =
-      let least = subst (IsLeastUnder t l r) u.free (standing_is_least t l r (rises_later 0 1 l (omega arith) u.rises) u.replayed u.among) in
+      let least = subst (IsLeastUnder t l r) u.free (standing_is_least t l r (rises_later 0 1 l (omega arith) u.rises) (record { once = numbers; replayed = u.replayed }) u.among) in
       false_from_ne_true (stands_under r e) (λ yes. least e there (inl yes))
 
   -- its place is the node that it made or named

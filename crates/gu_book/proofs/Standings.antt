@@ -40,7 +40,7 @@ module _ {t : House} {l : List Record} {r : Record} (c : IsCounted t l r) (legal
       → position_of (l ++ r ∷ []) at.firm at.account instrument side + taken_at (key_at at instrument) side (taken_by l r.command)
       ≡ position_of l at.firm at.account instrument side + sum_by (counted_at (key_at at instrument) side) (added_by r.firm r.command (taken_by l r.command))
   moved_by at instrument side =
-      let moved = (moves_its_own t l r c.last.once legal).positions at instrument side in
+      let moved = (moves_its_own t l r (record { once = c.last.once; replayed = legal })).positions at instrument side in
       let even = (balances t l r.number r.firm r.id r.command r.status c at instrument side).equal in
       omega (arith, moved, even)
 
@@ -61,7 +61,7 @@ module _ {t : House} {l : List Record} {r : Record} {ts : Grove} (next : IsNext 
       let s = sound_before t [] l r 1 (omega arith) sound_first next.replayed next.rises in
       let behind : s.0 ≤ r.number = s.2 in
       record {
-        last = is_before t l r (number_once (l ++ r ∷ []) (rises_distinct 1 (l ++ r ∷ []) next.rises)) (replay_push t [] l r next.replayed next.lawful);
+        last = is_before t l r (record { once = number_once (l ++ r ∷ []) (rises_distinct 1 (l ++ r ∷ []) next.rises); replayed = replay_push t [] l r next.replayed next.lawful });
         bound = s.0;
         sound = s.3;
         unmade = λ n own. none_yet l s.0 n s.3 (omega (arith, own, behind));

@@ -97,7 +97,7 @@ module _ {t : House} {l : List Record} {r : Record} {ts : Grove} (next : IsNext 
   once = number_once (l ++ r ∷ []) (rises_distinct 1 (l ++ r ∷ []) next.rises)
 
   before : IsBefore t l r
-  before = is_before t l r once (replay_push t [] l r next.replayed next.lawful)
+  before = is_before t l r (record { once = once; replayed = replay_push t [] l r next.replayed next.lawful })
 
   -- that deals for nobody
   pub dealt_apart : (v : TermsView) → AreTermsOf t l v → pair_of l r.firm r.command ≡ None → AreTermsOf t (l ++ r ∷ []) v
@@ -181,7 +181,7 @@ module _ {t : House} {l : List Record} {r : Record} {ts : Grove} (u : IsFree t l
 
   -- taken out of the terms of its giver and taker
   dealt_taken : (v w : TermsView) (p : Pair) → AreTermsOf t l v → pair_of l r.firm r.command ≡ Some p → IsTakenOut v w r.number → AreTermsOf t (without l r.number) w
-  dealt_taken v w p are of taken = taken_follows t l r numbers u.replayed u.among u.free v w p are of taken
+  dealt_taken v w p are of taken = taken_follows t l r (record { once = numbers; replayed = u.replayed }) u.among u.free v w p are of taken
 
   by_claim : (v w : TermsView) → AreTermsOf t l v → is_of_trees r.command ≡ true → (is_claim r.command ≡ true → IsTakenOut v w r.number) → (is_claim r.command ≡ false → w ≡ v)
       → (b : Bool) → is_claim r.command ≡ b → AreTermsOf t (without l r.number) w
@@ -190,7 +190,7 @@ module _ {t : House} {l : List Record} {r : Record} {ts : Grove} (u : IsFree t l
       let p = claim_paired r.command is settled.stands in
       dealt_taken v w p.0 are p.1 (taken is)
   by_claim v w are of taken same false is =
-      subst (AreTermsOf t (without l r.number)) (sym (same is)) (nobody_follows t l r numbers u.replayed u.among u.free v are (trees_apart l r.firm r.command of is))
+      subst (AreTermsOf t (without l r.number)) (sym (same is)) (nobody_follows t l r (record { once = numbers; replayed = u.replayed }) u.among u.free v are (trees_apart l r.firm r.command of is))
 
   -- a change of trees
   pub trees_undealt : (v w : TermsView) → AreTermsOf t l v → is_of_trees r.command ≡ true → (is_claim r.command ≡ true → IsTakenOut v w r.number)

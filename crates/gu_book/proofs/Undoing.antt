@@ -25,9 +25,9 @@ use Rattle.gu_depend.proofs.LastMoves as before_last
 use Rattle.gu_depend.proofs.StandsLast.{gone}
 use Rattle.gu_depend.proofs.NamedOnce.{named_once}
 use Rattle.gu_depend.proofs.Names.{maker, made_number}
-use Rattle.gu_depend.proofs.Replay.{NumbersOnce, number_once, SameFinds, same_finds}
+use Rattle.gu_depend.proofs.Replay.{NumbersOnce, number_once, Legal, SameFinds, same_finds}
 use Rattle.gu_depend.proofs.Settled.{facts}
-use Rattle.gu_depend.proofs.StandsUnder.{rises_distinct, can_stand_last}
+use Rattle.gu_depend.proofs.StandsUnder.{rises_distinct, can_go}
 use Rattle.gu_depend.proofs.State.{SameDeals, charge_same}
 use Rattle.gu_fees.specs.Rows.{FeeRows}
 use Rattle.gu_fees.specs.Sums.{AreSumsOf}
@@ -102,22 +102,25 @@ module _ {t : House} {l : List Record} {r : Record} {g : Grove} (u : IsFree t l 
   once : NumbersOnce l
   once = number_once l (rises_distinct 1 l u.rises)
 
+  list : Legal t l
+  list = record { once = once; replayed = u.replayed }
+
   -- the same changes, in another order
   same : IsPermutation l last
   same =
       let c = cut_at l r u.among in
-      let gone_is = gone t c.before r c.behind (subst NumbersOnce c.is once) (subst (λ (z : List Record). first_refused t [] z ≡ None) c.is u.replayed) in
+      let gone_is = gone t c.before r c.behind (subst (Legal t) c.is list) in
       subst (λ (z : List Record). IsPermutation z (without z r.number ++ r ∷ [])) (sym c.is)
       (subst (λ (z : List Record). IsPermutation (c.before ++ r ∷ c.behind) (z ++ r ∷ [])) (sym gone_is) (moved_to_end c.before r c.behind))
 
   legal : first_refused t [] last ≡ None
-  legal = (can_stand_last t l r once u.replayed u.among u.free).0
+  legal = (can_go t l r list u.among u.free).last
 
   last_once : NumbersOnce last
   last_once n = let a = count_permuted (λ (d : Record). d.number == n) l last same in let b = once n in omega (arith, a, b)
 
   state : IsSameState t l last
-  state = (can_stand_last t l r once u.replayed u.among u.free).1
+  state = (can_go t l r list u.among u.free).same
 
   finds : SameFinds l last
   finds = same_finds l last same once (named_once t l u.replayed)
@@ -126,7 +129,7 @@ module _ {t : House} {l : List Record} {r : Record} {g : Grove} (u : IsFree t l 
   deals = record { terms = state.terms; limits = state.limits; used = state.used }
 
   before : IsBefore t others r
-  before = is_before t others r last_once legal
+  before = is_before t others r (record { once = last_once; replayed = legal })
 
   -- no other change has its number
   not_among : (d : Record) → Contains others d → d.number ≢ r.number
@@ -194,7 +197,7 @@ module _ {t : House} {l : List Record} {r : Record} {g : Grove} (u : IsFree t l 
   -- the sums are those of the other changes' charges and its own
   charges_with : (fees : FeeRows) → AreFeesOf t l fees → AreSumsOf fees (charges t others ++ cons_option (charge_of t others r.command) [])
   charges_with fees are =
-      subst (λ cs. AreSumsOf fees cs) ((moves_its_own t others r last_once legal).charged)
+      subst (λ cs. AreSumsOf fees cs) ((moves_its_own t others r (record { once = last_once; replayed = legal })).charged)
       (record {
         paid = λ firm. are.sums.paid firm ∙ sym (state.paid firm);
         received = λ firm. are.sums.received firm ∙ sym (state.received firm);

@@ -1,11 +1,10 @@
 -- Lists cut at an element.
-use Rattle.std.proofs.Common.{◌≡◌, ℕ, zero, suc, ◌<◌, ◌≤◌, Bool, true, false, not, List, [], ◌∷◌, ◌++◌, length, get_or, refl, sym, ◌∙◌, ap, arith, cond}
-use Rattle.std.proofs.Common.{IsPermutation, Contains, All}
-use Rattle.std.specs.Prelude.{Some, None, find, filter, count_by}
-use Rattle.std.proofs.lemmas.List.Elements.{All-nil, All-cons, All-head, All-tail, filter-append, Contains-append_right}
+use Rattle.gu_depend.proofs.Vocabulary.{◌≡◌, ℕ, zero, suc, ◌<◌, ◌≤◌, Bool, true, false, not, List, [], ◌∷◌, ◌++◌, length, get_or, refl, sym, ◌∙◌, ap, arith, cond}
+use Rattle.gu_depend.proofs.Vocabulary.{IsPermutation, Contains, All, subst, Some, None, find, filter, count_by, All-nil, All-cons, All-head, All-tail, All-weaker, filter-append}
+use Rattle.gu_depend.proofs.Vocabulary.{Contains-append_right, nothing_here, false_from_ne_true, same_Some}
+use Rattle.std.proofs.lemmas.List.Elements.{filter_passes}
 use Rattle.std.proofs.lemmas.List.Sorted.{IsPermutation-middle, IsPermutation-to_front, IsPermutation-sym, IsPermutation-trans}
 use Rattle.gu_depend.proofs.Finds.{count_append, count_cons, counts_none}
-use Rattle.std.proofs.lemmas.Option.{same_Some}
 
 -- an element, with what stands before and behind it
 pub record Cut {X : Type 0} (xs : List X) (x : X) : Type 0 where
@@ -22,6 +21,10 @@ cut_place (y ∷ ys) x (suc k) within is =
 
 pub cut_at : {X : Type 0} (xs : List X) (x : X) → Contains xs x → Cut xs x
 cut_at xs x among = cut_place xs x among.0 among.1 among.2
+
+-- what holds of each list cut at an element holds of each that has it
+pub by_cut : {X : Type 0} (P : List X → Type 0) (xs : List X) (x : X) → Contains xs x → ((ys zs : List X) → P (ys ++ x ∷ zs)) → P xs
+by_cut P xs x among each = let c = cut_at xs x among in subst P (sym c.is) (each c.before c.behind)
 
 pub stands_between : {X : Type 0} (xs : List X) (x : X) (ys : List X) → Contains (xs ++ x ∷ ys) x
 stands_between xs x ys = Contains-append_right xs (x ∷ ys) x (zero, omega arith, refl)
@@ -47,29 +50,20 @@ pub first_cut : {X : Type 0} (p : X → Bool) (xs : List X) (x : X) → find p x
 first_cut p [] x h = absurd (cc)
 first_cut p (y ∷ ys) x h = first_cut_at p y ys x (first_cut p ys x) (p y) refl h
 
-none_past_at : {X : Type 0} (p : X → Bool) (y : X) (ys : List X) → (find p ys ≡ None → All (λ z. p z ≡ false) ys) → (b : Bool) → p y ≡ b → cond b (Some y) (find p ys) ≡ None
-    → All (λ z. p z ≡ false) (y ∷ ys)
-none_past_at p y ys later true e h = absurd (cc)
-none_past_at p y ys later false e h = All-cons (λ z. p z ≡ false) y ys e (later h)
-
 -- where none is found, none passes, and the other way round
 pub none_passes : {X : Type 0} (p : X → Bool) (xs : List X) → find p xs ≡ None → All (λ z. p z ≡ false) xs
 none_passes p [] h = All-nil (λ z. p z ≡ false)
-none_passes p (y ∷ ys) h = none_past_at p y ys (none_passes p ys) (p y) refl h
+none_passes p (y ∷ ys) h = let q = nothing_here (p y) y (find p ys) h in All-cons (λ z. p z ≡ false) y ys q.0 (none_passes p ys q.1)
 
 pub none_found : {X : Type 0} (p : X → Bool) (xs : List X) → All (λ z. p z ≡ false) xs → find p xs ≡ None
 none_found p [] all = refl
-none_found p (y ∷ ys) all =
-    ap (λ b. cond b (Some y) (find p ys)) (All-head (λ z. p z ≡ false) y ys all) ∙ none_found p ys (All-tail (λ z. p z ≡ false) y ys all)
-
-filter_at : {X : Type 0} (p : X → Bool) (y : X) (ys : List X) → (find p ys ≡ None → filter (λ x. not (p x)) ys ≡ ys) → (b : Bool) → cond b (Some y) (find p ys) ≡ None
-    → cond (not b) (y ∷ filter (λ x. not (p x)) ys) (filter (λ x. not (p x)) ys) ≡ y ∷ ys
-filter_at p y ys later true h = absurd (cc)
-filter_at p y ys later false h = ap (λ zs. y ∷ zs) (later h)
+none_found p (y ∷ ys) all = ap (λ b. cond b (Some y) (find p ys)) (All-head (λ z. p z ≡ false) y ys all) ∙ none_found p ys (All-tail (λ z. p z ≡ false) y ys all)
 
 pub filter_all : {X : Type 0} (p : X → Bool) (xs : List X) → find p xs ≡ None → filter (λ x. not (p x)) xs ≡ xs
 filter_all p [] h = refl
-filter_all p (y ∷ ys) h = filter_at p y ys (filter_all p ys) (p y) h
+filter_all p (y ∷ ys) h =
+    let q = nothing_here (p y) y (find p ys) h in
+    ap (λ b. cond (not b) (y ∷ filter (λ x. not (p x)) ys) (filter (λ x. not (p x)) ys)) q.0 ∙ ap (λ zs. y ∷ zs) (filter_all p ys q.1)
 
 -- the one that passes is left out
 pub filter_one : {X : Type 0} (p : X → Bool) (xs : List X) (x : X) (ys : List X) → p x ≡ true → count_by p (xs ++ x ∷ ys) ≤ 1 → filter (λ x. not (p x)) (xs ++ x ∷ ys) ≡ xs ++ ys
@@ -82,6 +76,26 @@ filter_one p xs x ys passes once =
     filter-append (λ x. not (p x)) xs (x ∷ ys)
     ∙ (ap (λ zs. zs ++ filter (λ x. not (p x)) (x ∷ ys)) before
     ∙ ap (λ zs. xs ++ zs) (ap (λ b. cond (not b) (x ∷ filter (λ x. not (p x)) ys) (filter (λ x. not (p x)) ys)) passes ∙ behind))
+
+was_false : (b : Bool) → not b ≡ true → b ≡ false
+was_false true h = sym h
+was_false false h = refl
+
+-- what is left out isn't found
+pub gone_from : {X : Type 0} (p : X → Bool) (xs : List X) → find p (filter (λ x. not (p x)) xs) ≡ None
+gone_from p xs =
+    let rest = filter (λ x. not (p x)) xs in
+    none_found p rest (All-weaker (λ x. not (p x) ≡ true) (λ x. p x ≡ false) (λ x h. was_false (p x) h) rest (filter_passes (λ x. not (p x)) xs))
+
+kept_at : {X : Type 0} (p : X → Bool) (x : X) (rest xs : List X) → find p rest ≡ find p xs → (b : Bool) → (p x ≡ true → b ≡ true)
+    → find p (cond b (x ∷ rest) rest) ≡ cond (p x) (Some x) (find p xs)
+kept_at p x rest xs same true kept = ap (cond (p x) (Some x)) same
+kept_at p x rest xs same false kept = same ∙ sym (ap (λ b. cond b (Some x) (find p xs)) (false_from_ne_true (p x) (λ h. let no : false ≡ true = kept h in cc)))
+
+-- and where all that pass are kept, what is found stays
+pub find_kept : {X : Type 0} (p q : X → Bool) (xs : List X) → ((x : X) → p x ≡ true → q x ≡ true) → find p (filter q xs) ≡ find p xs
+find_kept p q [] kept = refl
+find_kept p q (x ∷ xs) kept = kept_at p x (filter q xs) xs (find_kept p q xs kept) (q x) (kept x)
 
 -- the element moved to the end
 pub moved_to_end : {X : Type 0} (xs : List X) (x : X) (ys : List X) → IsPermutation (xs ++ x ∷ ys) ((xs ++ ys) ++ x ∷ [])

@@ -1,12 +1,17 @@
 -- What is found in a list where at most one element passes, in whatever order the list stands.
-use Rattle.std.proofs.Common.{◌≡◌, ℕ, zero, suc, ◌+◌, ◌<◌, ◌≤◌, Bool, true, false, List, [], ◌∷◌, ◌++◌, length, get_or, refl, ◌∙◌, ap, arith, cond, Option}
-use Rattle.std.proofs.Common.{IsPermutation, Contains}
-use Rattle.std.specs.Prelude.{Some, None, find, count_by}
-use Rattle.std.specs.Option.{option_or}
-use Rattle.std.proofs.lemmas.List.Folds.{find-append}
-use Rattle.std.proofs.lemmas.List.Sums.{sum_by-cons, sum_by-append, sum_by_push, get_or-le-sum_by}
-use Rattle.std.proofs.lemmas.List.Sorted.{Contains-permutation, sum_by-IsPermutation}
-use Rattle.gu_base.proofs.Searches.{found_in, find_passes}
+use Rattle.gu_depend.proofs.Vocabulary.{IsSomeAnd, ◌≡◌, ℕ, zero, suc, ◌+◌, ◌<◌, ◌≤◌, Bool, true, false, List, [], ◌∷◌, ◌++◌, length, get_or, refl, ◌∙◌, ap}
+use Rattle.gu_depend.proofs.Vocabulary.{arith, cond, Option, IsPermutation, Contains, Some, None, find, count_by, option_and_then, option_or, find-append, sum_by-cons, sum_by-append}
+use Rattle.gu_depend.proofs.Vocabulary.{sum_by-IsPermutation, no_some, nothing_here, found_in, find_passes}
+use Rattle.std.proofs.lemmas.List.Sums.{sum_by_push, get_or-le-sum_by}
+use Rattle.std.proofs.lemmas.List.Sorted.{Contains-permutation}
+
+pub some_with : {X : Type 0} (P : X → Type 0) (o : Option X) → IsSomeAnd o P → (x : X) × ((o ≡ Some x) × P x)
+some_with P None h = absurd h
+some_with P (Some x) h = (x, (refl, h))
+
+pub and_then_told : {X Y : Type 0} (f : X → Option Y) (o : Option X) (y : Y) → option_and_then f o ≡ Some y → (x : X) × ((o ≡ Some x) × (f x ≡ Some y))
+and_then_told f None y h = absurd (cc)
+and_then_told f (Some x) y h = (x, (refl, h))
 
 pub count_cons : {X : Type 0} (p : X → Bool) (x : X) (xs : List X) → count_by p (x ∷ xs) ≡ cond (p x) 1 0 + count_by p xs
 count_cons p x xs = sum_by-cons (λ y. cond (p y) 1 0) x xs
@@ -17,29 +22,15 @@ count_append p xs ys = sum_by-append (λ y. cond (p y) 1 0) xs ys
 pub count_permuted : {X : Type 0} (p : X → Bool) (xs ys : List X) → IsPermutation xs ys → count_by p ys ≡ count_by p xs
 count_permuted p xs ys same = sum_by-IsPermutation (λ y. cond (p y) 1 0) xs ys same
 
-find_none_at : {X : Type 0} (p : X → Bool) (x : X) (xs : List X) → (find p xs ≡ None → count_by p xs ≡ 0) → (b : Bool) → cond b (Some x) (find p xs) ≡ None
-    → cond b 1 0 + count_by p xs ≡ 0
-find_none_at p x xs later true h = absurd (cc)
-find_none_at p x xs later false h = omega (arith, later h)
-
 -- where none is found, none counts, and the other way round
 pub none_counts : {X : Type 0} (p : X → Bool) (xs : List X) → find p xs ≡ None → count_by p xs ≡ 0
 none_counts p [] h = refl
 none_counts p (x ∷ xs) h =
+    let q = nothing_here (p x) x (find p xs) h in
     let a = count_cons p x xs in
-    let b = find_none_at p x xs (none_counts p xs) (p x) h in
-    omega (arith, a, b)
-
-counts_none_at : {X : Type 0} (p : X → Bool) (x : X) (xs : List X) → (count_by p xs ≡ 0 → find p xs ≡ None) → (b : Bool) → cond b 1 0 + count_by p xs ≡ 0
-    → cond b (Some x) (find p xs) ≡ None
-counts_none_at p x xs later true h = absurd (omega (arith, h))
-counts_none_at p x xs later false h = later (omega (arith, h))
-
-pub counts_none : {X : Type 0} (p : X → Bool) (xs : List X) → count_by p xs ≡ 0 → find p xs ≡ None
-counts_none p [] h = refl
-counts_none p (x ∷ xs) h =
-    let a = count_cons p x xs in
-    counts_none_at p x xs (counts_none p xs) (p x) (omega (arith, a, h))
+    let b : cond {A = ℕ} (p x) 1 0 ≡ 0 = ap (λ b. cond {A = ℕ} b 1 0) q.0 in
+    let c = none_counts p xs q.1 in
+    omega (arith, a, b, c)
 
 -- an element that stands in the list and passes counts
 pub counts_in : {X : Type 0} (p : X → Bool) (xs : List X) (x : X) → Contains xs x → p x ≡ true → 1 ≤ count_by p xs
@@ -47,6 +38,9 @@ counts_in p xs x among passes =
     let a = get_or-le-sum_by (λ y. cond (p y) 1 0) xs among.0 x among.1 in
     let b : cond (p (get_or xs among.0 x)) 1 0 ≡ 1 = ap (λ y. cond {A = ℕ} (p y) 1 0) among.2 ∙ ap (λ b. cond {A = ℕ} b 1 0) passes in
     omega (arith, a, b)
+
+pub counts_none : {X : Type 0} (p : X → Bool) (xs : List X) → count_by p xs ≡ 0 → find p xs ≡ None
+counts_none p xs h = no_some (find p xs) (λ x e. let a = counts_in p xs x (found_in p xs x e) (find_passes p xs x e) in omega (arith, a, h))
 
 found_past : {X : Type 0} (p : X → Bool) (y : X) (ys : List X) (x : X) → 1 ≤ count_by p ys → (count_by p ys ≤ 1 → find p ys ≡ Some x) → (b : Bool)
     → cond b 1 0 + count_by p ys ≤ 1 → cond b (Some y) (find p ys) ≡ Some x

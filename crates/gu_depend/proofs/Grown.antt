@@ -1,27 +1,25 @@
 -- A list of changes that has some of the changes of another, each behind what it stands on: what it says of a node is what the
 -- other says.
-use Rattle.std.proofs.Common.{◌≡◌, ℕ, zero, suc, ◌+◌, ◌-◌, ◌≤◌, true, false, ◌||◌, List, [], ◌∷◌, ◌++◌, length, refl, sym, ◌∙◌, ap, subst, arith, Option}
-use Rattle.std.proofs.Common.{All, length-append}
-use Rattle.std.specs.Prelude.{Some, None, option_and_then, option_map, unwrap_or, bytes_eq}
-use Rattle.std.specs.Option.{option_or}
-use Rattle.std.proofs.lemmas.List.Elements.{All-nil, All-push, All-weaker, All-contains}
-use Rattle.gu_depend.proofs.Vocabulary.{EntryPart, node_of, decision_of, claim_of, claimed_account, parent, splits, decides, line_within, line_of, place_of_kind, place_along, place_of, depth_of}
-use Rattle.gu_depend.proofs.Vocabulary.{owns, Record, Node}
-use Rattle.gu_base.proofs.Lines.{node_more}
+use Rattle.gu_depend.proofs.Vocabulary.{Command, ◌≡◌, ℕ, zero, suc, ◌+◌, ◌≤◌, true, false, ◌||◌, List, [], ◌∷◌, ◌++◌, length, refl, sym, ◌∙◌, ap, subst, arith}
+use Rattle.gu_depend.proofs.Vocabulary.{Option, All, length-append, Some, None, option_and_then, option_map, unwrap_or, bytes_eq, option_or, All-nil, All-push, All-weaker, All-contains, EntryPart}
+use Rattle.gu_depend.proofs.Vocabulary.{node_of, decision_of, claim_of, claimed_account, parent, splits, decides, line_within, line_of, place_of_kind, place_along, place_of, depth_of, owns, Record}
+use Rattle.gu_depend.proofs.Vocabulary.{Node, node_more, node_called, made_of, node_cut, none_is_some, no_some}
+use Rattle.std.proofs.Common.{◌-◌}
 use Rattle.gu_depend.specs.Under.{names}
 use Rattle.gu_depend.proofs.Finds.{find_more}
 use Rattle.gu_depend.proofs.Names.{maker, made_by_split, made_alone}
-use Rattle.gu_base.proofs.NodeNames.{node_called, made_of, node_cut}
-use Rattle.gu_base.proofs.Basics.{none_is_some, no_some}
 
 -- what is found in the second list is found in the first
 pub record Within (l b : List Record) : Type 0 where
   pub nodes : (n : EntryPart) (x : Node) → node_of b n ≡ Some x → node_of l n ≡ Some x
   pub decisions : (n : EntryPart) (r : Record) → decision_of b n ≡ Some r → decision_of l n ≡ Some r
 
--- the node that a change names is there
+-- the node that a command, or a change, names is there
+abbrev pub ThereFor : List Record → Command → Type 0
+ThereFor b c = (n : EntryPart) → names n c ≡ true → (x : Node) × (node_of b n ≡ Some x)
+
 abbrev pub NamesThere : List Record → Record → Type 0
-NamesThere b r = (n : EntryPart) → names n r.command ≡ true → (x : Node) × (node_of b n ≡ Some x)
+NamesThere b r = ThereFor b r.command
 
 -- a Split stands behind the decision of its node
 abbrev pub SplitsDecided : List Record → List Record → Record → Type 0
@@ -76,63 +74,55 @@ parent_there b n m x named found up =
     let by = maker b n x found in
     All-contains (NamesThere b) b by.change named by.among m (splits_names m by.change (made_by_split by.change n m x by.makes_it up))
 
-line_up : (f : ℕ) (l b : List Record) → ((n : EntryPart) (x : Node) → node_of b n ≡ Some x → node_of l n ≡ Some x) → All (NamesThere b) b
-    → ((m : EntryPart) (y : Node) → node_of b m ≡ Some y → line_within f b (Some y) ≡ line_within f l (Some y))
-    → (n : EntryPart) (x : Node) → node_of b n ≡ Some x → (o : Option EntryPart) → parent x.kind ≡ o
-    → line_within f b (option_and_then (node_of b) o) ≡ line_within f l (option_and_then (node_of l) o)
-line_up f l b nodes named same n x found None e = line_none f b ∙ sym (line_none f l)
-line_up f l b nodes named same n x found (Some m) e =
-    let y = parent_there b n m x named found e in
-    ap (line_within f b) y.1 ∙ (same m y.0 y.1 ∙ sym (ap (line_within f l) (nodes m y.0 y.1)))
+-- where the nodes of the one list are those of the other, and what it names is there
+module _ (l b : List Record) (nodes : (n : EntryPart) (x : Node) → node_of b n ≡ Some x → node_of l n ≡ Some x) (named : All (NamesThere b) b) where
+  line_up : (f : ℕ) → ((m : EntryPart) (y : Node) → node_of b m ≡ Some y → line_within f b (Some y) ≡ line_within f l (Some y))
+      → (n : EntryPart) (x : Node) → node_of b n ≡ Some x → (o : Option EntryPart) → parent x.kind ≡ o
+      → line_within f b (option_and_then (node_of b) o) ≡ line_within f l (option_and_then (node_of l) o)
+  line_up f same n x found None e = line_none f b ∙ sym (line_none f l)
+  line_up f same n x found (Some m) e =
+      let y = parent_there b n m x named found e in
+      ap (line_within f b) y.1 ∙ (same m y.0 y.1 ∙ sym (ap (line_within f l) (nodes m y.0 y.1)))
 
--- where the nodes of the one list are those of the other, and what it names is there, a node has the same line in both
-line_led : (f : ℕ) (l b : List Record) → ((n : EntryPart) (x : Node) → node_of b n ≡ Some x → node_of l n ≡ Some x) → All (NamesThere b) b
-    → (n : EntryPart) (x : Node) → node_of b n ≡ Some x → line_within f b (Some x) ≡ line_within f l (Some x)
-line_led zero l b nodes named n x found = refl
-line_led (suc f) l b nodes named n x found = ap (λ xs. x ∷ xs) (line_up f l b nodes named (line_led f l b nodes named) n x found (parent x.kind) refl)
+  -- a node has the same line in both
+  line_led : (f : ℕ) (n : EntryPart) (x : Node) → node_of b n ≡ Some x → line_within f b (Some x) ≡ line_within f l (Some x)
+  line_led zero n x found = refl
+  line_led (suc f) n x found = ap (λ xs. x ∷ xs) (line_up f (line_led f) n x found (parent x.kind) refl)
 
--- the line of a node that was there before ends where it ended
-old_ends : (b : List Record) (r : Record) → All (NamesThere b) b → LinesEnd b → (f : ℕ) (n : EntryPart) (x : Node) → node_of b n ≡ Some x → length b ≤ f
-    → line_within f (b ++ r ∷ []) (Some x) ≡ line_within (length b) b (Some x)
-old_ends b r named ends f n x found far = sym (line_led f (b ++ r ∷ []) b (node_more b (r ∷ [])) named n x found) ∙ ends f n x found far
+-- one change more
+module _ (b : List Record) (r : Record) (named : All (NamesThere b) b) (ends : LinesEnd b) (there : NamesThere b r) where
+  abbrev more : List Record
+  more = b ++ r ∷ []
 
--- and above a node that the last change makes, there are only such
-new_up : (b : List Record) (r : Record) → All (NamesThere b) b → LinesEnd b → NamesThere b r → (f : ℕ) (n : EntryPart) (x : Node) → made_of r n ≡ Some x → length b ≤ f
-    → (o : Option EntryPart) → parent x.kind ≡ o → line_within f (b ++ r ∷ []) (option_and_then (node_of (b ++ r ∷ [])) o)
-    ≡ line_within (length b) (b ++ r ∷ []) (option_and_then (node_of (b ++ r ∷ [])) o)
-new_up b r named ends there f n x makes far None e = line_none f (b ++ r ∷ []) ∙ sym (line_none (length b) (b ++ r ∷ []))
-new_up b r named ends there f n x makes far (Some m) e =
-    let y = there m (splits_names m r (made_by_split r n m x makes e)) in
-    let more = node_more b (r ∷ []) m y.0 y.1 in
-    ap (line_within f (b ++ r ∷ [])) more
-    ∙ (old_ends b r named ends f m y.0 y.1 far
-    ∙ (sym (old_ends b r named ends (length b) m y.0 y.1 (omega arith))
-    ∙ sym (ap (line_within (length b) (b ++ r ∷ [])) more)))
+  -- the line of a node that was there before ends where it ended
+  old_ends : (f : ℕ) (n : EntryPart) (x : Node) → node_of b n ≡ Some x → length b ≤ f → line_within f more (Some x) ≡ line_within (length b) b (Some x)
+  old_ends f n x found far = sym (line_led more b (node_more b (r ∷ [])) named f n x found) ∙ ends f n x found far
 
-new_ends : (b : List Record) (r : Record) → All (NamesThere b) b → LinesEnd b → NamesThere b r → (f k : ℕ) (n : EntryPart) (x : Node) → made_of r n ≡ Some x → k ≡ suc (length b)
-    → k ≤ f
-    → line_within f (b ++ r ∷ []) (Some x) ≡ line_within k (b ++ r ∷ []) (Some x)
-new_ends b r named ends there zero k n x makes e far = absurd (omega (arith, e, far))
-new_ends b r named ends there (suc f) zero n x makes e far = absurd (omega (arith, e))
-new_ends b r named ends there (suc f) (suc k) n x makes e far =
-    let long : k ≡ length b = omega (arith, e) in
-    ap (λ xs. x ∷ xs) (new_up b r named ends there f n x makes (omega (arith, e, far)) (parent x.kind) refl
-    ∙ ap (λ j. line_within j (b ++ r ∷ []) (option_and_then (node_of (b ++ r ∷ [])) (parent x.kind))) (sym long))
+  -- and above a node that the change makes, there are only such
+  new_up : (f : ℕ) (n : EntryPart) (x : Node) → made_of r n ≡ Some x → length b ≤ f → (o : Option EntryPart) → parent x.kind ≡ o
+      → line_within f more (option_and_then (node_of more) o) ≡ line_within (length b) more (option_and_then (node_of more) o)
+  new_up f n x makes far None e = line_none f more ∙ sym (line_none (length b) more)
+  new_up f n x makes far (Some m) e =
+      let y = there m (splits_names m r (made_by_split r n m x makes e)) in
+      let found = node_more b (r ∷ []) m y.0 y.1 in
+      ap (line_within f more) found ∙ (old_ends f m y.0 y.1 far ∙ (sym (old_ends (length b) m y.0 y.1 (omega arith)) ∙ sym (ap (line_within (length b) more) found)))
 
-ends_or : (b : List Record) (r : Record) → All (NamesThere b) b → LinesEnd b → NamesThere b r → (f : ℕ) (n : EntryPart) (x : Node) → length b + 1 ≤ f
-    → length (b ++ r ∷ []) ≡ length b + 1
-    → (o : Option Node) → node_of b n ≡ o → option_or o (node_of (r ∷ []) n) ≡ Some x
-    → line_within f (b ++ r ∷ []) (Some x) ≡ line_within (length (b ++ r ∷ [])) (b ++ r ∷ []) (Some x)
-ends_or b r named ends there f n x far long None e h =
-    new_ends b r named ends there f (length (b ++ r ∷ [])) n x (made_alone r n ∙ h) (omega (arith, long)) (omega (arith, long, far))
-ends_or b r named ends there f n x far long (Some y) e h =
-    let found : node_of b n ≡ Some x = e ∙ h in
-    old_ends b r named ends f n x found (omega (arith, far)) ∙ sym (old_ends b r named ends (length (b ++ r ∷ [])) n x found (omega (arith, long)))
+  new_ends : (f k : ℕ) (n : EntryPart) (x : Node) → made_of r n ≡ Some x → k ≡ suc (length b) → k ≤ f → line_within f more (Some x) ≡ line_within k more (Some x)
+  new_ends zero k n x makes e far = absurd (omega (arith, e, far))
+  new_ends (suc f) zero n x makes e far = absurd (omega (arith, e))
+  new_ends (suc f) (suc k) n x makes e far =
+      let long : k ≡ length b = omega (arith, e) in
+      ap (λ xs. x ∷ xs) (new_up f n x makes (omega (arith, e, far)) (parent x.kind) refl ∙ ap (λ j. line_within j more (option_and_then (node_of more) (parent x.kind))) (sym long))
 
-ends_push : (b : List Record) (r : Record) → All (NamesThere b) b → LinesEnd b → NamesThere b r → LinesEnd (b ++ r ∷ [])
-ends_push b r named ends there f n x found far =
-    let long : length (b ++ r ∷ []) ≡ length b + 1 = length-append b (r ∷ []) in
-    ends_or b r named ends there f n x (omega (arith, long, far)) long (node_of b n) refl (sym (node_cut b (r ∷ []) n) ∙ found)
+  ends_or : (f : ℕ) (n : EntryPart) (x : Node) → length b + 1 ≤ f → length more ≡ length b + 1 → (o : Option Node) → node_of b n ≡ o → option_or o (node_of (r ∷ []) n) ≡ Some x
+      → line_within f more (Some x) ≡ line_within (length more) more (Some x)
+  ends_or f n x far long None e h = new_ends f (length more) n x (made_alone r n ∙ h) (omega (arith, long)) (omega (arith, long, far))
+  ends_or f n x far long (Some y) e h = old_ends f n x (e ∙ h) (omega (arith, far)) ∙ sym (old_ends (length more) n x (e ∙ h) (omega (arith, long)))
+
+  ends_push : LinesEnd more
+  ends_push f n x found far =
+      let long : length more ≡ length b + 1 = length-append b (r ∷ []) in
+      ends_or f n x (omega (arith, long, far)) long (node_of b n) refl (sym (node_cut b (r ∷ []) n) ∙ found)
 
 pub grown_push : (l b : List Record) (r : Record) → Grown l b → Within l (b ++ r ∷ []) → length (b ++ r ∷ []) ≤ length l → NamesThere b r → SplitsDecided l b r
     → Grown l (b ++ r ∷ [])
@@ -157,19 +147,12 @@ above l b n m x g found up =
     let y = All-contains (NamesThere b) b by.change g.named by.among m (splits_names m by.change split) in
     record { node = y.0; there = y.1; decided = All-contains (SplitsDecided l b) b by.change g.decided by.among m split }
 
--- the line above a node is the same in both
-line_grown : (f : ℕ) (l b : List Record) → Grown l b → (n : EntryPart) (x : Node) → node_of b n ≡ Some x → line_within f b (Some x) ≡ line_within f l (Some x)
-line_grown f l b g n x found = line_led f l b g.within.nodes g.named n x found
-
 pub line_of_grown : (l b : List Record) → Grown l b → (n : EntryPart) (x : Node) → node_of b n ≡ Some x → line_of b n ≡ line_of l n
 line_of_grown l b g n x found =
     ap (line_within (length b) b) found
     ∙ (sym (g.ends (length l) n x found g.short)
-    ∙ (line_grown (length l) l b g n x found
+    ∙ (line_led l b g.within.nodes g.named (length l) n x found
     ∙ sym (ap (line_within (length l) l) (g.within.nodes n x found))))
-
-claim_same : (l b : List Record) (n : EntryPart) → decision_of b n ≡ decision_of l n → claim_of b n ≡ claim_of l n
-claim_same l b n same = ap (option_and_then (λ r. claimed_account r.command)) same
 
 place_above : (f : ℕ) (l b : List Record) (g : Grown l b)
     → ((m : EntryPart) (y : Node) → node_of b m ≡ Some y → decision_of b m ≡ decision_of l m → place_along b (line_within f b (Some y)) ≡ place_along l (line_within f l (Some y)))
@@ -186,7 +169,7 @@ place_grown : (f : ℕ) (l b : List Record) → Grown l b → (n : EntryPart) (x
 place_grown zero l b g n x found decided = refl
 place_grown (suc f) l b g n x found decided =
     let called = node_called b n x found in
-    let claims = claim_same l b x.name (subst (λ (z : EntryPart). decision_of b z ≡ decision_of l z) (sym called) decided) in
+    let claims = ap (option_and_then (λ r. claimed_account r.command)) (subst (λ (z : EntryPart). decision_of b z ≡ decision_of l z) (sym called) decided) in
     ap (λ c. place_of_kind x.kind c (place_along b (line_within f b (option_and_then (node_of b) (parent x.kind))))) claims
     ∙ ap (place_of_kind x.kind (claim_of l x.name)) (place_above f l b g (place_grown f l b g) n x found (parent x.kind) refl)
 

@@ -1,37 +1,25 @@
 -- What a change that stands behind others moves.
-use Rattle.std.proofs.Common.{◌≡◌, ℕ, zero, suc, ◌+◌, Bool, true, false, ◌&&◌, List, [], ◌∷◌, ◌++◌, length, refl, sym, ◌∙◌, ap, subst, arith, cond, Option, Contains}
-use Rattle.std.proofs.Common.{All}
-use Rattle.std.specs.Prelude.{Some, None, find, filter, filter_map, sum_by, is_some, is_none, option_and_then, option_map, unwrap_or, ◌==◌, bytes_eq}
-use Rattle.std.specs.List.{cons_option}
-use Rattle.std.specs.Option.{option_or}
-use Rattle.std.proofs.lemmas.Bool.Decides.{Decides-eqb}
-use Rattle.std.proofs.lemmas.List.Elements.{All-head, All-tail, All-weaker, All-contains, All-contains_itself, filter_map-append}
-use Rattle.std.proofs.lemmas.List.Folds.{find-append}
-use Rattle.std.proofs.lemmas.List.Sums.{sum_by-cons, sum_by-append}
-use Rattle.gu_depend.proofs.Vocabulary.{EntryPart, House, agreement, node_of, nodes, nodes_of, split_of, decision_of, same_name, splits, decides, parent, line_within, root_along, root_of}
-use Rattle.gu_depend.proofs.Vocabulary.{same_place, is_trade_of, trades_in, stands_at, position_of, charge_of, charges, refusal_of, row, first_refused, Side, Record, Charge, Node, Place}
-use Rattle.gu_depend.proofs.Vocabulary.{use_of_kind, use_of_node, deed_of, dealings_in, dealings, terms_under, raised_under, used_under, terms_of, Agreement, Deed, Uses, Command, Claim, Kind}
-use Rattle.gu_depend.proofs.Vocabulary.{Given}
-use Rattle.gu_base.proofs.Basics.{or_none, none_is_some}
-use Rattle.gu_base.proofs.LegalLaws.{none_refused, replay_front}
+use Rattle.gu_depend.proofs.Vocabulary.{use_of_node, use_of_kind, charge_of_kind, charge_of_node, Command, Claim, Kind, Given, ◌≡◌, ℕ, zero, suc, ◌+◌, Bool, true, false, ◌&&◌, List}
+use Rattle.gu_depend.proofs.Vocabulary.{[], ◌∷◌, ◌++◌, length, refl, sym, ◌∙◌, ap, subst, arith, cond, Option, Contains, Some, None, find, filter, sum_by, is_some}
+use Rattle.gu_depend.proofs.Vocabulary.{is_none, option_and_then, option_map, unwrap_or, ◌==◌, cons_option, option_or, Decides-eqb, All-weaker, All-contains}
+use Rattle.gu_depend.proofs.Vocabulary.{All-contains_itself, filter_map-append, find-append, sum_by-cons, sum_by-append, EntryPart, House, agreement, node_of, nodes, nodes_of, split_of, decision_of}
+use Rattle.gu_depend.proofs.Vocabulary.{same_name, splits, decides, parent, line_within, root_along, root_of, same_place, is_trade_of, trades_in, stands_at, position_of, charge_of, charges, row}
+use Rattle.gu_depend.proofs.Vocabulary.{Side, Record, Charge, Node, Place, deed_of, dealings_in, dealings, terms_under, raised_under, used_under, terms_of, Agreement, Deed, Uses, or_none}
+use Rattle.gu_depend.proofs.Vocabulary.{none_is_some, replay_front, may_use, AllFit, same_Some, name_same, made, or_parts, false_from_ne_true}
+use Rattle.gu_depend.proofs.Grown.{Within, ThereFor, Grown, NamesThere, line_of_grown, place_same}
+use Rattle.gu_depend.proofs.Deals.{both_same, numbered, gives_alike, dealings_grown, dealings_append, dealings_cut, row_fits, not_empty}
 use Rattle.gu_depend.specs.Under.{names}
 use Rattle.gu_depend.specs.Moves.{lots_at, named_by, MovesItsOwn}
 use Rattle.gu_depend.proofs.Finds.{none_before}
 use Rattle.gu_depend.proofs.Names.{at_name, maker, made_number}
-use Rattle.gu_depend.proofs.Grown.{Grown, NamesThere, line_of_grown, place_same}
-use Rattle.gu_depend.proofs.Charges.{charge_same}
 use Rattle.gu_depend.proofs.Settled.{front_facts, facts, accepted_there}
-use Rattle.gu_depend.proofs.Deals.{of_pair, dealings_grown, dealings_append, row_fits, not_empty}
 use Rattle.gu_depend.proofs.Cuts.{cut_at}
-use Rattle.gu_base.proofs.Dealt.{fits, may_use, AllFit, all_sound, terms_stay}
-use Rattle.gu_depend.proofs.Replay.{NumbersOnce}
-use Rattle.gu_depend.proofs.StandsLast.{replay_rest, decision_cut}
+use Rattle.gu_base.proofs.Dealt.{all_sound, terms_stay}
+use Rattle.gu_depend.proofs.Replay.{NumbersOnce, Legal}
+use Rattle.gu_depend.proofs.StandsLast.{accepted_at, decision_cut}
 use Rattle.gu_depend.proofs.StandsUnder.{found_some}
-use Rattle.std.proofs.lemmas.Option.{same_Some}
-use Rattle.gu_base.proofs.Passing.{refusal_parts}
-use Rattle.gu_base.proofs.NodeNames.{name_same, made, nodes_push}
+use Rattle.gu_base.proofs.NodeNames.{nodes_push}
 use Rattle.gu_base.proofs.Sums.{sum_agree_on, sum_kept, sum_plus}
-use Rattle.std.proofs.lemmas.Bool.{or_parts, false_from_ne_true}
 
 -- ---- sums
 
@@ -51,12 +39,6 @@ position_is l at instrument side =
 swapped : (old new : ℕ) (b : Bool) → (b ≡ false → new ≡ old) → new + cond b old 0 ≡ old + cond b new 0
 swapped old new true same = omega arith
 swapped old new false same = omega (arith, same refl)
-
-charged_alike : (g h : Record → Option Charge) (l : List Record) → All (λ d. g d ≡ h d) l → filter_map g l ≡ filter_map h l
-charged_alike g h [] all = refl
-charged_alike g h (d ∷ l) all =
-    ap (λ o. cons_option o (filter_map g l)) (All-head (λ d. g d ≡ h d) d l all)
-    ∙ ap (cons_option (h d)) (charged_alike g h l (All-tail (λ d. g d ≡ h d) d l all))
 
 -- ---- roots
 
@@ -79,11 +61,28 @@ root_found (suc f) l p m x found h =
     root_at l x p (at_name l m x found) (line_within f l (option_and_then (node_of l) (parent x.kind)))
     (root_by f l p (root_found f l p) (parent x.kind) (option_and_then (node_of l) (parent x.kind)) refl) h
 
--- ---- a change behind the others
+-- ---- what a claim costs
 
-abbrev is_claim : Command → Bool
-is_claim (Claim _ _) = true
-is_claim _ = false
+-- the terms of those whose lots a change uses are the same in both lists
+abbrev pub SameTermsFor : House → List Record → List Record → List ℕ → Command → Type 0
+SameTermsFor t l b by c = (g k : List ℕ) (lots : ℕ) → deed_of b g k by c ≡ Some (Uses lots) → terms_of t b g k ≡ terms_of t l g k
+
+charge_of_given : (t : House) (l b : List Record) (lots : ℕ) (kind : Kind) → ((g k : List ℕ) → use_of_kind g k lots kind ≡ Some (Uses lots) → terms_of t b g k ≡ terms_of t l g k)
+    → charge_of_kind t b lots kind ≡ charge_of_kind t l lots kind
+charge_of_given t l b lots (Given m g k) same =
+    ap (option_map (λ (a : Agreement). record { giver = g; taker = k; lots = lots; rate = a.rate })) (same g k (ap (λ b. cond b (Some (Uses lots)) None) (both_same g k)))
+charge_of_given t l b lots _ same = refl
+
+-- a claim of a node that is there, under terms that are the same, is charged the same in both lists
+pub charge_same : (t : House) (l b : List Record) → Within l b → (by : List ℕ) (c : Command) → ThereFor b c → SameTermsFor t l b by c → charge_of t b c ≡ charge_of t l c
+charge_same t l b w by (Claim n account) there same =
+    let x = there n (name_same n) in
+    ap (option_and_then (charge_of_node t b)) x.1
+    ∙ (charge_of_given t l b x.0.lots x.0.kind (λ g k deals. same g k x.0.lots (ap (option_and_then (use_of_node g k)) x.1 ∙ deals))
+    ∙ sym (ap (option_and_then (charge_of_node t l)) (w.nodes n x.0 x.1)))
+charge_same t l b w by _ there same = refl
+
+-- ---- a change behind the others
 
 -- a front of a legal list, of which one change is left
 pub record IsBefore (t : House) (l : List Record) (r : Record) : Type 0 where
@@ -139,8 +138,7 @@ module _ {t : House} {l : List Record} {r : Record} (b : IsBefore t l r) where
       ∙ (ap (λ c. cond (is_none (split_of l x.name)) (cond (c && trades_in (l ++ r ∷ []) instrument side x.name) x.lots 0) 0) (stands_kept at x.name y found apart.1)
       ∙ ap (λ c. cond (is_none (split_of l x.name)) (cond (stands_at l at x.name && c) x.lots 0) 0) (trades_kept instrument side x.name y found))
 
-  positions_moved : (at : Place) (instrument : List ℕ) (side : Side)
-      → position_of (l ++ r ∷ []) at.firm at.account instrument side + sum_by (lots_at l at instrument side) (named_by l r)
+  positions_moved : (at : Place) (instrument : List ℕ) (side : Side) → position_of (l ++ r ∷ []) at.firm at.account instrument side + sum_by (lots_at l at instrument side) (named_by l r)
       ≡ position_of l at.firm at.account instrument side + sum_by (lots_at (l ++ r ∷ []) at instrument side) (named_by l r)
       + sum_by (lots_at (l ++ r ∷ []) at instrument side) (nodes_of r.number r.firm r.command)
   positions_moved at instrument side =
@@ -161,103 +159,52 @@ module _ {t : House} {l : List Record} {r : Record} (b : IsBefore t l r) where
       swapped (old x) (new x) (p x) (λ un. lots_kept at instrument side x y.0 y.1 un)) (nodes l) (All-contains_itself (nodes l))) in
       omega (arith, whole, before, cut, olds, news, left, right, each)
 
-  -- whoever deals has terms
-  terms_kept_by : (g k : List ℕ) → ((dealings l g k ≡ []) → ⊥) → (o : Option Agreement) → terms_of t l g k ≡ o → terms_of t l g k ≡ terms_of t (l ++ r ∷ []) g k
-  terms_kept_by g k some None e = absurd (some ((all_sound (agreement t g k) (dealings l g k) (b.deals g k)).none e))
-  terms_kept_by g k some (Some a) e =
-      let more : dealings (l ++ r ∷ []) g k ≡ dealings l g k ++ dealings_in (l ++ r ∷ []) (r ∷ []) g k =
-      dealings_append (l ++ r ∷ []) l (r ∷ []) g k ∙ ap (λ z. z ++ dealings_in (l ++ r ∷ []) (r ∷ []) g k) (sym (dealings_grown (l ++ r ∷ []) l g k b.grown)) in
-      e ∙ sym (ap (terms_under (agreement t g k)) more ∙ terms_stay (agreement t g k) (dealings l g k) (dealings_in (l ++ r ∷ []) (r ∷ []) g k) a e)
+  -- terms that are there stay
+  terms_kept : (g k : List ℕ) → ((terms_of t l g k ≡ None) → ⊥) → (o : Option Agreement) → terms_of t l g k ≡ o → terms_of t l g k ≡ terms_of t (l ++ r ∷ []) g k
+  terms_kept g k some None e = absurd (some e)
+  terms_kept g k some (Some a) e =
+      let ds = dealings_in (l ++ r ∷ []) (r ∷ []) g k in
+      let more : dealings (l ++ r ∷ []) g k ≡ dealings l g k ++ ds =
+      dealings_append (l ++ r ∷ []) l (r ∷ []) g k ∙ ap (λ z. z ++ ds) (sym (dealings_grown (l ++ r ∷ []) l g k b.grown)) in
+      e ∙ sym (ap (terms_under (agreement t g k)) more ∙ terms_stay (agreement t g k) (dealings l g k) ds a e)
 
   deals_there : (d : Record) → Contains l d → (g k : List ℕ) (e : Deed) → deed_of l g k d.firm d.command ≡ Some e → dealings l g k ≡ [] → ⊥
   deals_there d among g k e deals empty =
       let c = cut_at l d among in
-      let cut : dealings_in l l g k ≡ dealings_in l c.before g k ++ (record { number = d.number; deed = e } ∷ dealings_in l c.behind g k) =
-      ap (λ z. dealings_in l z g k) c.is
-      ∙ (dealings_append l c.before (d ∷ c.behind) g k
-      ∙ ap (λ o. dealings_in l c.before g k ++ cons_option (option_map (λ f. record { number = d.number; deed = f }) o) (dealings_in l c.behind g k)) deals) in
-      not_empty (dealings_in l c.before g k) (record { number = d.number; deed = e }) (dealings_in l c.behind g k) (sym empty ∙ cut)
+      not_empty (dealings_in l c.before g k) (numbered d e) (dealings_in l c.behind g k)
+      (sym empty ∙ (ap (λ z. dealings_in l z g k) c.is ∙ dealings_cut l c.before d c.behind g k (Some e) deals))
 
-  -- a claim deals whoever asks
-  deeds_alike : (g k by : List ℕ) (c : Command) (e : Deed) → is_claim c ≡ true → deed_of l g k [] c ≡ Some e → deed_of l g k by c ≡ Some e
-  deeds_alike g k by (Claim _ _) e is h = h
-  deeds_alike g k by _ e is h = absurd (cc)
-
-  -- what is no claim is charged nothing
-  uncharged : (t : House) (x y : List Record) (c : Command) → is_claim c ≡ false → charge_of t x c ≡ charge_of t y c
-  uncharged t x y (Claim _ _) is = absurd (cc)
-  uncharged t x y _ is = refl
-
-  charge_kept_by : (d : Record) → Contains l d → NamesThere l d → (test : Bool) → is_claim d.command ≡ test → charge_of t l d.command ≡ charge_of t (l ++ r ∷ []) d.command
-  charge_kept_by d among there false is = uncharged t l (l ++ r ∷ []) d.command is
-  charge_kept_by d among there true is =
-      charge_same t (l ++ r ∷ []) l b.grown.within d.command there
-      (λ g k e deals. terms_kept_by g k (deals_there d among g k e (deeds_alike g k d.firm d.command e is deals)) (terms_of t l g k) refl)
-
-  -- a change before it costs what it cost
+  -- a change before it costs what it cost, since whoever deals has terms
   pub charge_kept : (d : Record) → Contains l d → charge_of t l d.command ≡ charge_of t (l ++ r ∷ []) d.command
-  charge_kept d among = charge_kept_by d among (All-contains (NamesThere l) l d b.grown.named among) (is_claim d.command) refl
+  charge_kept d among =
+      charge_same t (l ++ r ∷ []) l b.grown.within d.firm d.command (All-contains (NamesThere l) l d b.grown.named among) (λ g k lots deals.
+      terms_kept g k (λ none. deals_there d among g k (Uses lots) deals ((all_sound (agreement t g k) (dealings l g k) (b.deals g k)).none none)) (terms_of t l g k) refl)
 
-  -- and so has whoever claims behind the others
-  own_terms : (g k : List ℕ) (e : Deed) → deed_of l g k r.firm r.command ≡ Some e → is_claim r.command ≡ true → terms_of t l g k ≡ terms_of t (l ++ r ∷ []) g k
-  own_terms g k e deals is = own_by g k (use_of_claim g k r.firm r.command e is deals) (terms_of t l g k) refl (row_fits t l g k r.firm r.command e b.accepted deals)
-    where
-      use_of_claim : (g k by : List ℕ) (c : Command) (e : Deed) → is_claim c ≡ true → deed_of l g k by c ≡ Some e → (lots : ℕ) × (e ≡ Uses lots)
-      use_of_claim g k by (Claim n _) e is h = of_node (node_of l n) h
-        where
-          of_kind : (lots : ℕ) (kind : Kind) → use_of_kind g k lots kind ≡ Some e → (lots : ℕ) × (e ≡ Uses lots)
-          of_kind lots (Given m x y) h = let p = of_pair g k x y (Uses lots) e (bytes_eq x g && bytes_eq y k) refl h in (lots, sym p.1.1)
-          of_kind lots _ h = absurd (cc)
-
-          of_node : (o : Option Node) → option_and_then (use_of_node g k) o ≡ Some e → (lots : ℕ) × (e ≡ Uses lots)
-          of_node None h = absurd (cc)
-          of_node (Some x) h = of_kind x.lots x.kind h
-      use_of_claim g k by _ e is h = absurd (cc)
-
-      some_kept : (g k : List ℕ) (a : Agreement) → terms_of t l g k ≡ Some a → terms_of t l g k ≡ terms_of t (l ++ r ∷ []) g k
-      some_kept g k a e =
-          let more : dealings (l ++ r ∷ []) g k ≡ dealings l g k ++ dealings_in (l ++ r ∷ []) (r ∷ []) g k =
-          dealings_append (l ++ r ∷ []) l (r ∷ []) g k ∙ ap (λ z. z ++ dealings_in (l ++ r ∷ []) (r ∷ []) g k) (sym (dealings_grown (l ++ r ∷ []) l g k b.grown)) in
-          e ∙ sym (ap (terms_under (agreement t g k)) more ∙ terms_stay (agreement t g k) (dealings l g k) (dealings_in (l ++ r ∷ []) (r ∷ []) g k) a e)
-
-      own_by : (g k : List ℕ) → (lots : ℕ) × (e ≡ Uses lots) → (o : Option Agreement) → terms_of t l g k ≡ o → fits (agreement t g k) (dealings l g k) e ≡ true
-          → terms_of t l g k ≡ terms_of t (l ++ r ∷ []) g k
-      own_by g k of None none fit =
-          let f : false ≡ true = sym (ap (λ o. may_use (used_under (dealings l g k) + of.0) (option_map (λ (a : Agreement). a.limit + raised_under (dealings l g k)) o)) none)
-          ∙ (sym (ap (fits (agreement t g k) (dealings l g k)) of.1) ∙ fit) in
-          absurd (cc)
-      own_by g k of (Some a) e fit = some_kept g k a e
-
-  own_charge_by : (test : Bool) → is_claim r.command ≡ test → charge_of t l r.command ≡ charge_of t (l ++ r ∷ []) r.command
-  own_charge_by false is = uncharged t l (l ++ r ∷ []) r.command is
-  own_charge_by true is =
-      charge_same t (l ++ r ∷ []) l b.grown.within r.command (accepted_there t l r.firm r.command b.accepted)
-      (λ g k e deals. own_terms g k e (deeds_alike g k r.firm r.command e is deals) is)
-
-  -- what it costs itself can be read off either list
+  -- what it costs itself can be read off either list, since what it uses fits
   pub own_charge : charge_of t l r.command ≡ charge_of t (l ++ r ∷ []) r.command
-  own_charge = own_charge_by (is_claim r.command) refl
+  own_charge =
+      charge_same t (l ++ r ∷ []) l b.grown.within r.firm r.command (accepted_there t l r.firm r.command b.accepted) (λ g k lots deals.
+      terms_kept g k (λ none.
+      let fit = row_fits t l g k r.firm r.command (Uses lots) b.accepted deals in
+      let f : false ≡ true = sym (ap (λ o. may_use (used_under (dealings l g k) + lots) (option_map (λ (a : Agreement). a.limit + raised_under (dealings l g k)) o)) none) ∙ fit in
+      absurd (cc)) (terms_of t l g k) refl)
 
   charges_moved : charges t (l ++ r ∷ []) ≡ charges t l ++ cons_option (charge_of t l r.command) []
   charges_moved =
       let h : Record → Option Charge = λ d. charge_of t (l ++ r ∷ []) d.command in
       let own : h r ≡ charge_of t l r.command = sym own_charge in
       filter_map-append h l (r ∷ [])
-      ∙ (ap (λ cs. cs ++ cons_option (h r) []) (sym (charged_alike (λ d. charge_of t l d.command) h l
+      ∙ (ap (λ cs. cs ++ cons_option (h r) []) (sym (gives_alike (λ d. charge_of t l d.command) h l
       (All-weaker (Contains l) (λ (d : Record). charge_of t l d.command ≡ charge_of t (l ++ r ∷ []) d.command) charge_kept l (All-contains_itself l))))
       ∙ ap (λ o. charges t l ++ cons_option o []) own)
 
-pub is_before : (t : House) (l : List Record) (r : Record) → NumbersOnce (l ++ r ∷ []) → first_refused t [] (l ++ r ∷ []) ≡ None → IsBefore t l r
-is_before t l r once none =
-    let here = none_refused (refusal_of t l r.firm r.command) r.number None (replay_rest t [] l (r ∷ []) none) in
-    record {
-      grown = (front_facts t (l ++ r ∷ []) l (r ∷ []) refl none).grown;
-      deals = (facts t l (replay_front t [] l (r ∷ []) none)).deals;
-      once = once;
-      accepted = (refusal_parts t l r.firm r.command here.0).1;
-    }
+pub is_before : (t : House) (l : List Record) (r : Record) → Legal t (l ++ r ∷ []) → IsBefore t l r
+is_before t l r legal = record {
+  grown = (front_facts t (l ++ r ∷ []) l (r ∷ []) refl legal.replayed).grown;
+  deals = (facts t l (replay_front t [] l (r ∷ []) legal.replayed)).deals;
+  once = legal.once;
+  accepted = accepted_at t (l ++ r ∷ []) l r [] legal refl;
+}
 
-pub moves_its_own : (t : House) (l : List Record) (r : Record) → NumbersOnce (l ++ r ∷ []) → first_refused t [] (l ++ r ∷ []) ≡ None → MovesItsOwn t l r
-moves_its_own t l r once none =
-    let b = is_before t l r once none in
-    record { positions = positions_moved b; charged = charges_moved b }
+pub moves_its_own : (t : House) (l : List Record) (r : Record) → Legal t (l ++ r ∷ []) → MovesItsOwn t l r
+moves_its_own t l r legal = let b = is_before t l r legal in record { positions = positions_moved b; charged = charges_moved b }

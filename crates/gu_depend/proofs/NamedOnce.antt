@@ -1,11 +1,7 @@
 -- What holds of every list of changes, none of which is refused after those before it.
-use Rattle.std.proofs.Common.{◌≡◌, ◌≤◌, true, List, [], ◌∷◌, ◌++◌, sym, subst, arith, append-nil, append_assoc}
-use Rattle.std.specs.Prelude.{Some, None, count_by}
-use Rattle.gu_depend.proofs.Vocabulary.{EntryPart, House, node_of, decision_of, is_given, splits, decides, refusal_of, row, first_refused, Record, Node}
-use Rattle.gu_base.proofs.Lines.{node_more}
-use Rattle.gu_base.proofs.LegalLaws.{none_refused}
+use Rattle.gu_depend.proofs.Vocabulary.{◌≡◌, ◌≤◌, true, List, [], ◌∷◌, ◌++◌, sym, subst, arith, append-nil, append_assoc, Some, None, count_by, EntryPart, House, node_of}
+use Rattle.gu_depend.proofs.Vocabulary.{decision_of, is_given, splits, decides, refusal_of, row, first_refused, Record, Node, node_more, none_refused, refusal_parts, splits_well, decides_well}
 use Rattle.gu_depend.proofs.Finds.{once_push}
-use Rattle.gu_base.proofs.Passing.{refusal_parts, splits_well, decides_well}
 use Rattle.gu_base.proofs.Decisions.{Which, before, here, which}
 
 -- a node is split once and decided once at most, and only given ones are decided
@@ -27,11 +23,7 @@ named_once_push t l r s h = record {
 }
 
 pub named_once_none : NamedOnce []
-named_once_none = record {
-  given = λ n r e. absurd (cc);
-  splits_once = λ n. omega arith;
-  decisions_once = λ n. omega arith;
-}
+named_once_none = record { given = λ n r e. absurd (cc); splits_once = λ n. omega arith; decisions_once = λ n. omega arith }
 
 pub named_once_from : (t : House) (done rest : List Record) → NamedOnce done → first_refused t done rest ≡ None → NamedOnce (done ++ rest)
 named_once_from t done [] s none = subst (λ (l : List Record). NamedOnce l) (sym (append-nil done)) s

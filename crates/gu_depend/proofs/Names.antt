@@ -1,16 +1,9 @@
 -- Names of nodes, and the changes that make them.
-use Rattle.std.proofs.Common.{◌≡◌, ℕ, ◌≤◌, Bool, true, false, List, [], ◌∷◌, refl, sym, ◌∙◌, ap, subst, arith, cond, Option, IsPermutation, Contains}
-use Rattle.std.specs.Prelude.{Some, None, find, count_by, ◌==◌, is_some, option_and_then}
-use Rattle.std.specs.Option.{option_or}
-use Rattle.std.proofs.lemmas.Bool.Decides.{Decides-eqb}
-use Rattle.std.proofs.lemmas.List.Folds.{find-append}
-use Rattle.std.proofs.lemmas.List.Sums.{sum_by-le-sum_by}
-use Rattle.gu_depend.proofs.Vocabulary.{EntryPart, node_of, nodes, nodes_of, same_name, parent, splits, Command, Trade, Split, Record, Root, Node}
-use Rattle.gu_base.proofs.Basics.{or_none, none_is_some}
-use Rattle.gu_depend.proofs.Finds.{find_permuted}
-use Rattle.std.proofs.lemmas.Option.{same_Some}
-use Rattle.gu_base.proofs.NodeNames.{made_entry, name_same, node_called, made, made_of, first_or, part_parent}
-use Rattle.gu_base.proofs.Searches.{found_in}
+use Rattle.gu_depend.proofs.Vocabulary.{◌≡◌, ℕ, ◌≤◌, Bool, true, false, List, [], ◌∷◌, refl, sym, ◌∙◌, ap, subst, arith, cond, Option, IsPermutation, Contains, Some, None}
+use Rattle.gu_depend.proofs.Vocabulary.{find, count_by, ◌==◌, is_some, option_and_then, option_or, Decides-eqb, find-append, sum_by-le-sum_by, EntryPart, node_of, nodes, nodes_of, same_name}
+use Rattle.gu_depend.proofs.Vocabulary.{parent, splits, Command, Trade, Split, Record, Root, Node, or_none, none_is_some, same_Some, name_same, node_called, made, made_of, first_or, found_in}
+use Rattle.gu_depend.proofs.Finds.{and_then_told, find_permuted}
+use Rattle.gu_base.proofs.NodeNames.{made_entry, part_parent}
 
 pub at_name : (l : List Record) (n : EntryPart) (x : Node) → node_of l n ≡ Some x → node_of l x.name ≡ Some x
 at_name l n x h = subst (λ (z : EntryPart). node_of l z ≡ Some x) (sym (node_called l n x h)) h
@@ -40,26 +33,21 @@ pub record Maker (l : List Record) (n : EntryPart) (x : Node) : Type 0 where
   pub among : Contains l change
   pub makes_it : made_of change n ≡ Some x
 
-maker_of : (l : List Record) (n : EntryPart) (x : Node) (o : Option Record) → find (makes n) l ≡ o → option_and_then (λ r. made_of r n) o ≡ Some x → Maker l n x
-maker_of l n x None e h = absurd (cc)
-maker_of l n x (Some r) e h = record { change = r; among = found_in (makes n) l r e; makes_it = h }
-
 pub maker : (l : List Record) (n : EntryPart) (x : Node) → node_of l n ≡ Some x → Maker l n x
-maker l n x h = maker_of l n x (find (makes n) l) refl (sym (node_by_maker l n) ∙ h)
+maker l n x h =
+    let m = and_then_told (λ r. made_of r n) (find (makes n) l) x (sym (node_by_maker l n) ∙ h) in
+    record { change = m.0; among = found_in (makes n) l m.0 m.1.0; makes_it = m.1.1 }
 
 -- it has the number of the change that makes it
 pub made_number : (r : Record) (n : EntryPart) (x : Node) → made_of r n ≡ Some x → n.entry ≡ r.number
 made_number r n x h = made_entry n r.number r.firm r.command x h
-
-same_splits : (m o : EntryPart) → Some m ≡ Some o → same_name m o ≡ true
-same_splits m o e = subst (λ (z : EntryPart). same_name m z ≡ true) (same_Some m o e) (name_same m)
 
 parent_made : (n m : EntryPart) (k : ℕ) (by : List ℕ) (c : Command) (x : Node) → find (λ x. same_name x.name n) (nodes_of k by c) ≡ Some x → parent x.kind ≡ Some m → splits m c ≡ true
 parent_made n m k by (Trade firm account instrument side lots) x h up =
     let name : EntryPart = record { entry = k; part = 0 } in
     first_or n name (record { name = name; lots = lots; kind = Root (record { firm = firm; account = account }) }) x None (false ≡ true)
     (λ _ e. absurd (none_is_some (parent x.kind) m (sym (ap (λ (z : Node). parent z.kind) e)) up)) (λ none. absurd (cc)) (same_name name n) refl h
-parent_made n m k by (Split o ps) x h up = same_splits o m (sym (part_parent n o k 1 by ps x h) ∙ up)
+parent_made n m k by (Split o ps) x h up = subst (λ (z : EntryPart). same_name o z ≡ true) (same_Some o m (sym (part_parent n o k 1 by ps x h) ∙ up)) (name_same o)
 parent_made n m k by _ x h up = absurd (cc)
 
 -- a node that has a parent is made by a Split of it
@@ -81,5 +69,4 @@ makers_once l n once =
 
 -- where no number stands twice, a node is the same in whatever order the changes stand
 pub node_permuted : (l o : List Record) (n : EntryPart) → IsPermutation l o → count_by (λ r. r.number == n.entry) l ≤ 1 → node_of o n ≡ node_of l n
-node_permuted l o n same once =
-    node_by_maker o n ∙ (ap (option_and_then (λ r. made_of r n)) (find_permuted (makes n) l o same (makers_once l n once)) ∙ sym (node_by_maker l n))
+node_permuted l o n same once = node_by_maker o n ∙ (ap (option_and_then (λ r. made_of r n)) (find_permuted (makes n) l o same (makers_once l n once)) ∙ sym (node_by_maker l n))

@@ -1,40 +1,27 @@
 -- What stands on a change, read off trees that show the list.
-use Rattle.std.proofs.Common.{◌≡◌, ◌≢◌, ℕ, Bool, true, false, not, List, [], ◌∷◌, refl, sym, ◌∙◌, ap, subst, arith, cond, Option, Contains, IsSomeAnd, ◌⊎◌, inl, inr}
-use Rattle.std.specs.Prelude.{Some, None, find, flat_map, option_map, option_and_then, ◌==◌, ◌↔◌}
-use Rattle.std.proofs.lemmas.Bool.{or_cases, or_parts}
-use Rattle.std.proofs.lemmas.Bool.Decides.{Decides-eqb}
-use Rattle.std.proofs.lemmas.Option.{same_Some}
-use Rattle.gu_base.specs.Numbers.{EntryPart}
-use Rattle.gu_base.specs.History.{RisesFrom}
-use Rattle.gu_base.specs.House.{House}
-use Rattle.gu_base.specs.Nodes.{node_of, nodes_of, split_of, decision_of, splits, decides, same_name}
-use Rattle.gu_base.specs.Rows.{made_by, parts_of}
-use Rattle.gu_base.specs.Standing.{IsLegal, first_refused, standing_on, without}
-use Rattle.gu_base.specs.declared.command.Part.{Part}
-use Rattle.gu_base.specs.declared.command.Command.{Command}
-use Rattle.gu_base.specs.declared.command.Command.TheVariants.{Trade, Split, Claim, Refuse, Cancel, Agree, Raise, Initiate, Decline, Reverse}
-use Rattle.gu_base.specs.declared.entry.Record.{Record}
-use Rattle.gu_base.specs.declared.node.Node.{Node}
-use Rattle.gu_base.proofs.LegalLaws.{legal_from_replay, replay_from_legal}
-use Rattle.gu_base.proofs.NodeNames.{name_same, made_of}
-use Rattle.gu_base.proofs.Searches.{found_in, find_passes}
+use Rattle.gu_depend.proofs.Vocabulary.{◌≡◌, ℕ, true, false, List, [], refl, sym, ◌∙◌, ap, subst, arith, Option, Contains, IsSomeAnd, inl, inr, Some, None, find}
+use Rattle.gu_depend.proofs.Vocabulary.{flat_map, option_map, option_and_then, ◌==◌, ◌↔◌, or_cases, or_parts, Decides-eqb, same_Some, made_by, parts_of, EntryPart, RisesFrom, House}
+use Rattle.gu_depend.proofs.Vocabulary.{node_of, nodes_of, split_of, decision_of, splits, decides, same_name, IsLegal, first_refused, standing_on, without, Part, Command, Trade, Split, Claim}
+use Rattle.gu_depend.proofs.Vocabulary.{Refuse, Cancel, Agree, Raise, Record, Node, legal_from_replay, replay_from_legal, name_same, made_of, found_in, find_passes, change_of, named_place}
+use Rattle.gu_depend.proofs.Vocabulary.{number_in, numbers_on, least}
+use Rattle.gu_depend.proofs.Finds.{some_with, and_then_told, found_once}
+use Rattle.std.proofs.Common.{◌≢◌, ◌⊎◌}
 use Rattle.gu_tree.specs.Rose.{Rose, head_of, split_of_node}
 use Rattle.gu_tree.specs.Paths.{node_at, HasAt, LeadsTo}
-use Rattle.gu_tree.specs.Shown.{IsTreeOf}
 use Rattle.gu_tree.specs.Grove.{Grove, tree_of, place_of, IsPlace}
-use Rattle.gu_tree.specs.ShownAll.{change_of, named_place, place_in, IsTreeIn, ShowsAll}
-use Rattle.gu_tree.specs.NumbersOn.{number_in, numbers_on, least, numbers_on_parts}
+use Rattle.gu_tree.specs.ShownAll.{place_in, IsTreeIn, ShowsAll}
+use Rattle.gu_tree.specs.NumbersOn.{numbers_on_parts}
 use Rattle.gu_tree.specs.declared.head.Head.{Head}
 use Rattle.gu_tree.proofs.Parts.{some_and, at_fact}
 use Rattle.gu_tree.proofs.ShowsLess.{no-root-part}
 use Rattle.gu_tree.proofs.ToldAt.{IsToldAt, told-at}
 use Rattle.gu_depend.specs.Touch.{is_trade_or_decision}
 use Rattle.gu_depend.specs.Under.{numbers_under, deals_under}
-use Rattle.gu_depend.proofs.Finds.{found_once}
-use Rattle.gu_depend.proofs.NamedOnce.{NamedOnce, named_once}
+use Rattle.gu_depend.proofs.NamedOnce.{named_once}
 use Rattle.gu_depend.proofs.Names.{maker, made_number}
-use Rattle.gu_depend.proofs.Replay.{NumbersOnce, number_once}
-use Rattle.gu_depend.proofs.StandsUnder.{rises_distinct}
+use Rattle.gu_depend.proofs.Replay.{Legal}
+use Rattle.gu_depend.proofs.Cuts.{filter_all}
+use Rattle.gu_depend.proofs.StandsUnder.{legal_rising}
 use Rattle.gu_depend.proofs.LookedUp.{looked_up, least_one}
 
 least_in : (o : Option Record) → least (number_in o) ≡ option_map (λ r. r.number) o
@@ -63,7 +50,7 @@ no_decision k trade (Some d) h = λ e. apart d k (or_parts (trade == k) (d == k)
 
 -- ---- one change of a number
 
-module _ (l : List Record) (once : NumbersOnce l) (k : ℕ) (r : Record) (there : change_of l k ≡ Some r) where
+module _ (t : House) (l : List Record) (list : Legal t l) (k : ℕ) (r : Record) (there : change_of l k ≡ Some r) where
   number_is : r.number ≡ k
   number_is = (Decides-eqb r.number k).0 (find_passes (λ r. r.number == k) l r there)
 
@@ -72,10 +59,15 @@ module _ (l : List Record) (once : NumbersOnce l) (k : ℕ) (r : Record) (there 
 
   -- what has its number is the change
   only_change : (d : Record) → Contains l d → d.number ≡ k → d ≡ r
-  only_change d in_list is = same_Some d r (sym (found_once (λ r. r.number == k) l d in_list ((Decides-eqb d.number k).1 is) (once k)) ∙ there)
+  only_change d in_list is = same_Some d r (sym (found_once (λ r. r.number == k) l d in_list ((Decides-eqb d.number k).1 is) (list.once k)) ∙ there)
+
+  -- what is looked up for it is what stands on the number
+  looked_up_here : RisesFrom 0 l → least (numbers_under t l r.number r.firm r.command) ≡ standing_on t l k
+  looked_up_here rises = sym (looked_up t l rises list r among) ∙ ap (standing_on t l) number_is
 
   -- a Split isn't a trade with a root
-  split_no_trade : (n : EntryPart) (ps : List Part) → r.command ≡ Split n ps → (trade : ℕ) (root : Node) → node_of l (record { entry = trade; part = 0 }) ≡ Some root → trade ≡ k → ⊥
+  split_no_trade : (n : EntryPart) (ps : List Part) → r.command ≡ Split n ps → (trade : ℕ) (root : Node) → node_of l (record { entry = trade; part = 0 }) ≡ Some root
+      → trade ≡ k → ⊥
   split_no_trade n ps is trade root found same =
       let m = maker l (record { entry = trade; part = 0 }) root found in
       let number : trade ≡ m.change.number = made_number m.change (record { entry = trade; part = 0 }) root m.makes_it in
@@ -93,21 +85,20 @@ module _ (l : List Record) (once : NumbersOnce l) (k : ℕ) (r : Record) (there 
       let decided : decides n (Split n ps) ≡ true = ap (decides n) (sym is) ∙ (ap (λ (z : Record). decides n z.command) (sym one) ∙ find_passes (λ r. decides n r.command) l d e) in
       absurd (cc)
 
-  module _ (t : House) (named : NamedOnce l) (trade : ℕ) (v : Rose) (told : IsToldAt l trade v) where
+  module _ (trade : ℕ) (v : Rose) (told : IsToldAt l trade v) where
+    split_at : (n : EntryPart) → Some n ≡ Some (head_of v).name → option_map (λ s. s.0) (split_of_node v) ≡ least (number_in (split_of l n))
+    split_at n at = told.split ∙ (ap (λ n. option_map (λ r. r.number) (split_of l n)) (sym (same_Some _ _ at)) ∙ sym (least_in (split_of l n)))
+
     -- where the change is the trade of the root, or decided the node, the node's Split stands on it
     by_split : (c : Command) → r.command ≡ c → named_place r.number c ≡ Some (head_of v).name → (trade ≡ k) ⊎ ((head_of v).decision ≡ Some k)
         → option_map (λ s. s.0) (split_of_node v) ≡ least (numbers_under t l r.number r.firm c)
-    by_split (Trade _ _ _ _ _) is at which =
-        told.split ∙ (ap (λ n. option_map (λ r. r.number) (split_of l n)) (sym (same_Some _ _ at)) ∙ sym (least_in (split_of l (record { entry = r.number; part = 0 }))))
+    by_split (Trade _ _ _ _ _) is at which = split_at (record { entry = r.number; part = 0 }) at
     by_split (Split n ps) is at (inl same) = absurd (split_no_trade n ps is trade told.root told.has_root same)
     by_split (Split n ps) is at (inr decided) =
         absurd (split_no_decision n ps is (decision_of l n) refl (ap (λ m. option_map (λ d. d.number) (decision_of l m)) (same_Some _ _ at) ∙ (sym told.decision ∙ decided)))
-    by_split (Claim n _) is at which =
-        told.split ∙ (ap (λ n. option_map (λ r. r.number) (split_of l n)) (sym (same_Some _ _ at)) ∙ sym (least_in (split_of l n)))
-    by_split (Refuse n) is at which =
-        told.split ∙ (ap (λ n. option_map (λ r. r.number) (split_of l n)) (sym (same_Some _ _ at)) ∙ sym (least_in (split_of l n)))
-    by_split (Cancel n) is at which =
-        told.split ∙ (ap (λ n. option_map (λ r. r.number) (split_of l n)) (sym (same_Some _ _ at)) ∙ sym (least_in (split_of l n)))
+    by_split (Claim n _) is at which = split_at n at
+    by_split (Refuse n) is at which = split_at n at
+    by_split (Cancel n) is at which = split_at n at
     by_split _ is at which = absurd (cc)
 
     -- a decision is the one of its node
@@ -115,7 +106,7 @@ module _ (l : List Record) (once : NumbersOnce l) (k : ℕ) (r : Record) (there 
     its_decision n passes at =
         told.decision
         ∙ (ap (λ m. option_map (λ d. d.number) (decision_of l m)) (sym (same_Some _ _ at))
-        ∙ (ap (option_map (λ d. d.number)) (found_once (λ r. decides n r.command) l r among passes (named.decisions_once n))
+        ∙ (ap (option_map (λ d. d.number)) (found_once (λ r. decides n r.command) l r among passes ((named_once t l list.replayed).decisions_once n))
         ∙ ap (λ m. Some m) number_is))
 
     -- else it split the node, and what names a part stands on it
@@ -126,7 +117,7 @@ module _ (l : List Record) (once : NumbersOnce l) (k : ℕ) (r : Record) (there 
         let root : (head_of v).name.entry ≡ trade = told.rooted (sym (ap (λ (m : EntryPart). m.part) name)) in
         absurd (other (sym root ∙ (sym (ap (λ (m : EntryPart). m.entry) name) ∙ number_is)))
     by_parts (Split n ps) is at other undecided =
-        let found : split_of l n ≡ Some r = found_once (λ r. splits n r.command) l r among (ap (splits n) is ∙ name_same n) (named.splits_once n) in
+        let found : split_of l n ≡ Some r = found_once (λ r. splits n r.command) l r among (ap (splits n) is ∙ name_same n) ((named_once t l list.replayed).splits_once n) in
         ap least (told.parts
         ∙ (ap (λ m. flat_map (λ x. numbers_on l x.name) (parts_of l m)) (sym (same_Some _ _ at))
         ∙ (ap (λ o. flat_map (λ x. numbers_on l x.name) (made_by o)) found
@@ -138,122 +129,67 @@ module _ (l : List Record) (once : NumbersOnce l) (k : ℕ) (r : Record) (there 
 
 -- ---- the answers
 
--- the place of the change, and the tree in which it lies
-pub record IsAt (g : Grove) (k trade : ℕ) (p : List ℕ) (tree v : Rose) : Type 0 where
-  pub placed : place_of g k ≡ Some (head_of v).name
-  pub found : tree_of g trade ≡ Some tree
-  pub led : node_at p tree ≡ Some v
-
 -- what the place of the change and the tree of its trade say
 pub record IsFound (g : Grove) (k trade : ℕ) (p : List ℕ) (tree : Rose) (h : Head) : Type 0 where
   pub node : Rose
-  pub at : IsAt g k trade p tree node
+  pub placed : place_of g k ≡ Some (head_of node).name
+  pub found : tree_of g trade ≡ Some tree
+  pub led : node_at p tree ≡ Some node
   pub head : head_of node ≡ h
-
-place_tree : (g : Grove) (trade : ℕ) (tree : Rose) (n : EntryPart) (p : List ℕ) → tree_of g trade ≡ Some tree → IsPlace g n trade p → LeadsTo p tree n
-place_tree g trade tree n p found place = subst (λ t. LeadsTo p t n) (same_Some place.tree tree (sym place.found ∙ found)) place.there
-
-found_by : (g : Grove) (k trade : ℕ) (tree : Rose) (p : List ℕ) (h : Head) → tree_of g trade ≡ Some tree → HasAt p (λ t. head_of t ≡ h) tree
-    → (o : Option EntryPart) → place_of g k ≡ o → IsSomeAnd o (λ n. IsPlace g n trade p) → IsFound g k trade p tree h
-found_by g k trade tree p h found has None e place = absurd place
-found_by g k trade tree p h found has (Some n) e place =
-    let v = some_and (λ t. head_of t ≡ h) (node_at p tree) has in
-    let named : (head_of v.0).name ≡ n = at_fact (λ u. (head_of u).name ≡ n) (node_at p tree) v.0 v.1 (place_tree g trade tree n p found place) in
-    record { node = v.0; at = record { placed = e ∙ ap (λ m. Some m) (sym named); found = found; led = v.1 }; head = v.2 }
 
 pub found_at : (g : Grove) (k trade : ℕ) (tree : Rose) (p : List ℕ) (h : Head) → IsSomeAnd (place_of g k) (λ n. IsPlace g n trade p) → tree_of g trade ≡ Some tree
     → HasAt p (λ t. head_of t ≡ h) tree → IsFound g k trade p tree h
-found_at g k trade tree p h place found has = found_by g k trade tree p h found has (place_of g k) refl place
-
--- a list that holds no such change
-nothing_out : (l : List Record) (k : ℕ) → change_of l k ≡ None → without l k ≡ l
-nothing_out [] k none = refl
-nothing_out (r ∷ l) k none = out_at r l k (nothing_out l k) (r.number == k) none
-  where
-    out_at : (r : Record) (l : List Record) (k : ℕ) → (change_of l k ≡ None → without l k ≡ l) → (b : Bool) → cond b (Some r) (change_of l k) ≡ None → cond (not b) (r ∷ without l k) (without l k) ≡ r ∷ l
-    out_at r l k later true h = absurd (cc)
-    out_at r l k later false h = ap (λ z. r ∷ z) (later h)
+found_at g k trade tree p h place found has =
+    let n = some_with (λ n. IsPlace g n trade p) (place_of g k) place in
+    let v = some_and (λ t. head_of t ≡ h) (node_at p tree) has in
+    let leads = subst (λ t. LeadsTo p t n.0) (same_Some n.1.1.tree tree (sym n.1.1.found ∙ found)) n.1.1.there in
+    let named : (head_of v.0).name ≡ n.0 = at_fact (λ u. (head_of u).name ≡ n.0) (node_at p tree) v.0 v.1 leads in
+    record { node = v.0; placed = n.1.0 ∙ ap (λ m. Some m) (sym named); found = found; led = v.1; head = v.2 }
 
 module _ (t : House) (l : List Record) (rises : RisesFrom 0 l) (legal : IsLegal t l) where
-  abbrev distinct : NumbersOnce l
-  distinct = number_once l (rises_distinct 0 l rises)
+  abbrev list : Legal t l
+  list = legal_rising t l rises legal
 
   -- what stands on a change without a place, of those whose giver and taker it deals for
-  nothing_named : (k : ℕ) (o : Option Record) → change_of l k ≡ o → option_and_then (λ r. named_place r.number r.command) o ≡ None → option_and_then (λ r. deals_under t l r.number r.firm r.command) o ≡ standing_on t l k
-  nothing_named k None e none = sym (ap (first_refused t []) (nothing_out l k e) ∙ replay_from_legal t l legal)
-  nothing_named k (Some r) e none =
-      let law = looked_up t l r rises (replay_from_legal t l legal) (among l distinct k r e) in
-      sym (ap (standing_on t l) (sym (number_is l distinct k r e)) ∙ (law ∙ deals_alone r.command none))
+  nothing_named : (k : ℕ) (o : Option Record) → change_of l k ≡ o → option_and_then (λ r. named_place r.number r.command) o ≡ None
+      → option_and_then (λ r. deals_under t l r.number r.firm r.command) o ≡ standing_on t l k
+  nothing_named k None e none = sym (ap (first_refused t []) (filter_all (λ r. r.number == k) l e) ∙ list.replayed)
+  nothing_named k (Some r) e none = deals_alone r.command none ∙ looked_up_here t l list k r e rises
     where
-      deals_alone : (c : Command) → named_place r.number c ≡ None → least (numbers_under t l r.number r.firm c) ≡ deals_under t l r.number r.firm c
-      deals_alone (Trade _ _ _ _ _) h = absurd (cc)
-      deals_alone (Split _ _) h = absurd (cc)
-      deals_alone (Claim _ _) h = absurd (cc)
-      deals_alone (Refuse _) h = absurd (cc)
-      deals_alone (Cancel _) h = absurd (cc)
-      deals_alone (Agree giver taker rate limit) h = least_one (deals_under t l r.number r.firm (Agree giver taker rate limit))
-      deals_alone (Raise giver lots) h = least_one (deals_under t l r.number r.firm (Raise giver lots))
-      deals_alone (Initiate _) h = refl
-      deals_alone (Decline _) h = refl
-      deals_alone (Reverse _) h = refl
+      deals_alone : (c : Command) → named_place r.number c ≡ None → deals_under t l r.number r.firm c ≡ least (numbers_under t l r.number r.firm c)
+      deals_alone (Agree giver taker rate limit) h = sym (least_one (deals_under t l r.number r.firm (Agree giver taker rate limit)))
+      deals_alone (Raise giver lots) h = sym (least_one (deals_under t l r.number r.firm (Raise giver lots)))
+      deals_alone _ h = cc
 
   pub placeless : (k : ℕ) → place_in l k ≡ None → option_and_then (λ r. deals_under t l r.number r.firm r.command) (change_of l k) ≡ standing_on t l k
   placeless k none = nothing_named k (change_of l k) refl none
 
 module _ (g : Grove) (t : House) (l : List Record) (rises : RisesFrom 0 l) (legal : IsLegal t l) (shows : ShowsAll l g) where
-  abbrev numbered : NumbersOnce l
-  numbered = number_once l (rises_distinct 0 l rises)
-
   pub nothing_placed : (k : ℕ) → place_of g k ≡ None → option_and_then (λ r. deals_under t l r.number r.firm r.command) (change_of l k) ≡ standing_on t l k
   nothing_placed k none = placeless t l rises legal k (sym (shows.places k) ∙ none)
 
-  its_tree : (trade : ℕ) (tree : Rose) → tree_of g trade ≡ Some tree → IsTreeOf l trade tree
-  its_tree trade tree found = subst (IsTreeIn l trade) found (shows.trees trade)
+  module _ (k trade : ℕ) (p : List ℕ) (tree : Rose) (h : Head) (f : IsFound g k trade p tree h) where
+    -- the change, which the trees place where it was found
+    placed : (r : Record) × ((change_of l k ≡ Some r) × (named_place r.number r.command ≡ Some (head_of f.node).name))
+    placed = and_then_told (λ r. named_place r.number r.command) (change_of l k) (head_of f.node).name (sym (shows.places k) ∙ f.placed)
 
-  from_split : (k trade : ℕ) (p : List ℕ) (tree v : Rose) → IsAt g k trade p tree v → (trade ≡ k) ⊎ ((head_of v).decision ≡ Some k)
-      → (o : Option Record) → change_of l k ≡ o → option_and_then (λ r. named_place r.number r.command) o ≡ Some (head_of v).name
-      → option_map (λ s. s.0) (split_of_node v) ≡ standing_on t l k
-  from_split k trade p tree v at which None e named = absurd (cc)
-  from_split k trade p tree v at which (Some r) e named =
-      let none = replay_from_legal t l legal in
-      let law = looked_up t l r rises none (among l numbered k r e) in
-      by_split l numbered k r e t (named_once t l none) trade v (told-at l trade tree (its_tree trade tree at.found) p v at.led) r.command refl named which
-      ∙ (sym law ∙ ap (standing_on t l) (number_is l numbered k r e))
+    told_here : IsToldAt l trade f.node
+    told_here = told-at l trade tree (subst (IsTreeIn l trade) f.found (shows.trees trade)) p f.node f.led
 
-  -- the Split of the node that a trade made, or that a decision names
-  pub split_stands : (k trade : ℕ) (p : List ℕ) (tree v : Rose) → IsAt g k trade p tree v → (trade ≡ k) ⊎ ((head_of v).decision ≡ Some k)
-      → option_map (λ s. s.0) (split_of_node v) ≡ standing_on t l k
-  split_stands k trade p tree v at which = from_split k trade p tree v at which (change_of l k) refl (sym (shows.places k) ∙ at.placed)
+    -- the Split of the node that a trade made, or that a decision names
+    pub split_found : (trade ≡ k) ⊎ (h.decision ≡ Some k) → (o : Option ℕ) → HasAt p (λ v. o ≡ option_map (λ s. s.0) (split_of_node v)) tree → o ≡ standing_on t l k
+    split_found which o has =
+        at_fact (λ v. o ≡ option_map (λ s. s.0) (split_of_node v)) (node_at p tree) f.node f.led has
+        ∙ (by_split t l (list t l rises legal) k placed.0 placed.1.0 trade f.node told_here placed.0.command refl placed.1.1
+        (subst (λ (z : Head). (trade ≡ k) ⊎ (z.decision ≡ Some k)) (sym f.head) which) ∙ looked_up_here t l (list t l rises legal) k placed.0 placed.1.0 rises)
 
-  from_parts : (k trade : ℕ) (p : List ℕ) (tree v : Rose) → IsAt g k trade p tree v → trade ≢ k → (head_of v).decision ≢ Some k
-      → (o : Option Record) → change_of l k ≡ o → option_and_then (λ r. named_place r.number r.command) o ≡ Some (head_of v).name
-      → least (numbers_on_parts v) ≡ standing_on t l k
-  from_parts k trade p tree v at other undecided None e named = absurd (cc)
-  from_parts k trade p tree v at other undecided (Some r) e named =
-      let none = replay_from_legal t l legal in
-      let law = looked_up t l r rises none (among l numbered k r e) in
-      by_parts l numbered k r e t (named_once t l none) trade v (told-at l trade tree (its_tree trade tree at.found) p v at.led) r.command refl named other undecided
-      ∙ (sym law ∙ ap (standing_on t l) (number_is l numbered k r e))
-
-  -- the first on the parts that a Split made
-  pub parts_stand : (k trade : ℕ) (p : List ℕ) (tree v : Rose) → IsAt g k trade p tree v → trade ≢ k → (head_of v).decision ≢ Some k
-      → least (numbers_on_parts v) ≡ standing_on t l k
-  parts_stand k trade p tree v at other undecided = from_parts k trade p tree v at other undecided (change_of l k) refl (sym (shows.places k) ∙ at.placed)
-
-  -- the same, of what the code has found
-  pub split_found : (k trade : ℕ) (p : List ℕ) (tree : Rose) (h : Head) → IsFound g k trade p tree h → (trade ≡ k) ⊎ (h.decision ≡ Some k)
-      → (o : Option ℕ) → HasAt p (λ v. o ≡ option_map (λ s. s.0) (split_of_node v)) tree → o ≡ standing_on t l k
-  split_found k trade p tree h f which o has =
-      at_fact (λ v. o ≡ option_map (λ s. s.0) (split_of_node v)) (node_at p tree) f.node f.at.led has
-      ∙ split_stands k trade p tree f.node f.at (subst (λ (z : Head). (trade ≡ k) ⊎ (z.decision ≡ Some k)) (sym f.head) which)
-
-  pub parts_found : (k trade : ℕ) (p : List ℕ) (tree : Rose) (h : Head) → IsFound g k trade p tree h → trade ≢ k → h.decision ≢ Some k
-      → (o : Option ℕ) → HasAt p (λ v. o ≡ least (numbers_on_parts v)) tree → o ≡ standing_on t l k
-  parts_found k trade p tree h f other undecided o has =
-      at_fact (λ v. o ≡ least (numbers_on_parts v)) (node_at p tree) f.node f.at.led has
-      ∙ parts_stand k trade p tree f.node f.at other (subst (λ (z : Head). z.decision ≢ Some k) (sym f.head) undecided)
+    -- the first on the parts that a Split made
+    pub parts_found : trade ≢ k → h.decision ≢ Some k → (o : Option ℕ) → HasAt p (λ v. o ≡ least (numbers_on_parts v)) tree → o ≡ standing_on t l k
+    parts_found other undecided o has =
+        at_fact (λ v. o ≡ least (numbers_on_parts v)) (node_at p tree) f.node f.led has
+        ∙ (by_parts t l (list t l rises legal) k placed.0 placed.1.0 trade f.node told_here placed.0.command refl placed.1.1 other
+        (subst (λ (z : Head). z.decision ≢ Some k) (sym f.head) undecided) ∙ looked_up_here t l (list t l rises legal) k placed.0 placed.1.0 rises)
 
 -- none is answered exactly where the others alone are legal
 pub none_where_legal : (t : House) (l : List Record) (k : ℕ) (o : Option ℕ) → o ≡ standing_on t l k → (o ≡ None) ↔ IsLegal t (without l k)
-none_where_legal t l k o is =
-    (λ none. legal_from_replay t (without l k) (sym is ∙ none), λ others. is ∙ replay_from_legal t (without l k) others)
+none_where_legal t l k o is = (λ none. legal_from_replay t (without l k) (sym is ∙ none), λ others. is ∙ replay_from_legal t (without l k) others)

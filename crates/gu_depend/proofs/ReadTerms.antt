@@ -1,44 +1,28 @@
--- What stands on a change that deals, read off terms that are those of the list.
-use Rattle.std.proofs.Common.{◌≡◌, ℕ, Bool, true, false, List, [], ◌∷◌, ◌++◌, refl, sym, ◌∙◌, ap, subst, cond, Option, Contains}
-use Rattle.std.specs.Prelude.{Some, None, find, ◌==◌, option_map, option_and_then, slice_get}
-use Rattle.std.specs.Map.{lookup}
-use Rattle.std.specs.List.{cons_option}
-use Rattle.std.specs.Option.{option_or}
-use Rattle.std.proofs.lemmas.Bool.Decides.{Decides-eqb}
-use Rattle.std.proofs.lemmas.List.Folds.{find-append}
-use Rattle.gu_depend.proofs.Vocabulary.{House, agreement, deed_of, dealings_in, dealings, first_under_deed, Deed, Makes, Raises, Dealing, Command, Agree, Raise, Initiate, Decline, Reverse, Record}
-use Rattle.gu_base.proofs.Searches.{found_in, find_passes}
-use Rattle.gu_tree.specs.ShownAll.{change_of, named_place}
-use Rattle.gu_fees.specs.Rows.{is_pair}
-use Rattle.gu_fees.specs.Pairs.{PairView, deed_at, standing_under}
-use Rattle.gu_fees.specs.Terms.{TermsView, pair_at, standing_in}
-use Rattle.gu_depend.specs.Terms.{pair_of, place_of_pair, AreTermsOf}
+-- What stands on a change that deals, and how many entries stand beside it, read off terms that are those of the list.
+use Rattle.gu_depend.proofs.Vocabulary.{◌≡◌, ℕ, true, false, List, [], ◌∷◌, refl, sym, ◌∙◌, ap, subst, cond, Option, Contains, Some, None, find, ◌==◌, length}
+use Rattle.gu_depend.proofs.Vocabulary.{option_map, option_and_then, unwrap_or, slice_get, lookup, nothing_here, option_or, Decides-eqb, find-append, House, agreement, deed_of, dealings_in}
+use Rattle.gu_depend.proofs.Vocabulary.{dealings, first_under_deed, Deed, Makes, Raises, Dealing, Pair, Command, Claim, Agree, Raise, Record, found_in, find_passes, change_of, named_place, is_pair}
+use Rattle.gu_depend.proofs.Vocabulary.{PairView, TermsView, pair_at}
+use Rattle.gu_fees.specs.Pairs.{deed_at, standing_under}
+use Rattle.gu_fees.specs.Terms.{standing_in, entries_in}
+use Rattle.gu_depend.specs.Terms.{pair_of, place_of_pair, entries_dealt, AreTermsOf}
 use Rattle.gu_depend.specs.Under.{deals_under}
 use Rattle.gu_depend.proofs.Cuts.{cut_at}
-use Rattle.gu_depend.proofs.Deals.{both_same, dealings_append, deal_is}
+use Rattle.gu_depend.proofs.Deals.{numbered, dealt, both_same, dealings_cut, deal_is, pair_of_deed}
 use Rattle.gu_depend.proofs.Finds.{none_before}
 use Rattle.gu_depend.proofs.Replay.{NumbersOnce}
 
-abbrev numbered : Record → Deed → Dealing
-numbered r d = record { number = r.number; deed = d }
-
 -- ---- the deed of a number
 
-none_step : (l : List Record) (g k : List ℕ) (n : ℕ) (r : Record) (b : List Record) → (find (λ d. d.number == n) (dealings_in l b g k) ≡ None)
-    → (o : Option Deed) → (test : Bool) → (r.number == n) ≡ test → cond test (Some r) (find (λ r. r.number == n) b) ≡ None
-    → find (λ d. d.number == n) (cons_option (option_map (numbered r) o) (dealings_in l b g k)) ≡ None
-none_step l g k n r b rest o true is h = absurd (cc)
-none_step l g k n r b rest None false is h = rest
-none_step l g k n r b rest (Some d) false is h = ap (λ c. cond c (Some (numbered r d)) (find (λ d. d.number == n) (dealings_in l b g k))) is ∙ rest
-
-rest_none : (r : Record) (o : Option Record) (test : Bool) → cond test (Some r) o ≡ None → o ≡ None
-rest_none r o true h = absurd (cc)
-rest_none r o false h = h
+none_step : (n : ℕ) (r : Record) (o : Option Deed) (ds : List Dealing) → (r.number == n) ≡ false → find (λ d. d.number == n) ds ≡ None → find (λ d. d.number == n) (dealt r o ds) ≡ None
+none_step n r None ds is rest = rest
+none_step n r (Some d) ds is rest = ap (λ c. cond c (Some (numbered r d)) (find (λ d. d.number == n) ds)) is ∙ rest
 
 none_numbered : (l : List Record) (g k : List ℕ) (n : ℕ) (b : List Record) → find (λ r. r.number == n) b ≡ None → find (λ d. d.number == n) (dealings_in l b g k) ≡ None
 none_numbered l g k n [] h = refl
 none_numbered l g k n (r ∷ b) h =
-    none_step l g k n r b (none_numbered l g k n b (rest_none r (find (λ r. r.number == n) b) (r.number == n) h)) (deed_of l g k r.firm r.command) (r.number == n) refl h
+    let q = nothing_here (r.number == n) r (find (λ r. r.number == n) b) h in
+    none_step n r (deed_of l g k r.firm r.command) (dealings_in l b g k) q.0 (none_numbered l g k n b q.1)
 
 -- the deed of a change is found under its number
 pub deed_found : (l : List Record) (once : NumbersOnce l) (r : Record) (g k : List ℕ) (d : Deed) → Contains l r → deed_of l g k r.firm r.command ≡ Some d
@@ -46,99 +30,97 @@ pub deed_found : (l : List Record) (once : NumbersOnce l) (r : Record) (g k : Li
 deed_found l once r g k d among deals =
     let c = cut_at l r among in
     let same : (r.number == r.number) ≡ true = (Decides-eqb r.number r.number).1 refl in
-    let before = none_numbered l g k r.number c.before
-    (none_before (λ q. q.number == r.number) c.before r c.behind (subst (λ (z : List Record). NumbersOnce z) c.is once r.number) same) in
-    let cut : dealings l g k ≡ dealings_in l c.before g k ++ numbered r d ∷ dealings_in l c.behind g k =
-    ap (λ z. dealings_in l z g k) c.is
-    ∙ (dealings_append l c.before (r ∷ c.behind) g k ∙ ap (λ o. dealings_in l c.before g k ++ cons_option (option_map (numbered r) o) (dealings_in l c.behind g k)) deals) in
-    ap (λ z. deed_at z r.number) cut
+    let before = none_numbered l g k r.number c.before (none_before (λ q. q.number == r.number) c.before r c.behind (subst (λ (z : List Record). NumbersOnce z) c.is once r.number) same) in
+    ap (λ z. deed_at z r.number) (ap (λ z. dealings_in l z g k) c.is ∙ dealings_cut l c.before r c.behind g k (Some d) deals)
     ∙ (ap (option_map (λ (e : Dealing). e.deed)) (find-append (λ e. e.number == r.number) (dealings_in l c.before g k) (numbered r d ∷ dealings_in l c.behind g k)
     ∙ (ap (λ o. option_or o (find (λ e. e.number == r.number) (numbered r d ∷ dealings_in l c.behind g k))) before
     ∙ ap (λ b. cond b (Some (numbered r d)) (find (λ e. e.number == r.number) (dealings_in l c.behind g k))) same)))
 
 -- ---- read off the terms
 
-through : (v : TermsView) (g k : List ℕ) (n : ℕ) (o : Option ℕ) → option_and_then (λ i. standing_in v.pairs i n) o
+through : (v : TermsView) (n : ℕ) (o : Option ℕ) → option_and_then (λ i. standing_in v.pairs i n) o
     ≡ option_and_then (λ (r : PairView). standing_under r.file r.dealings n) (option_and_then (slice_get v.pairs) o)
-through v g k n None = refl
-through v g k n (Some i) = refl
+through v n None = refl
+through v n (Some i) = refl
 
-module _ (t : House) (l : List Record) (v : TermsView) (once : NumbersOnce l) (are : AreTermsOf t l v) where
-  -- of a change that deals for these two
-  read_deal : (r : Record) (g k : List ℕ) (d : Deed) → Contains l r → deed_of l g k r.firm r.command ≡ Some d → pair_of l r.firm r.command ≡ Some (record { giver = g; taker = k })
-      → pair_at v r.number ≡ lookup (is_pair g k) v.places → option_and_then (λ i. standing_in v.pairs i r.number) (pair_at v r.number) ≡ deals_under t l r.number r.firm r.command
-  read_deal r g k d among deals pair placed =
-      let q = are.ready r (record { giver = g; taker = k }) among pair in
-      let row = are.rows g k q.0 q.1 in
-      ap (option_and_then (λ i. standing_in v.pairs i r.number)) placed
-      ∙ (through v g k r.number (lookup (is_pair g k) v.places)
-      ∙ (ap (option_and_then (λ (r0 : PairView). standing_under r0.file r0.dealings r.number)) q.1
-      ∙ (ap (λ f. standing_under f q.0.dealings r.number) row.0
-      ∙ (ap (λ ds. standing_under (agreement t g k) ds r.number) row.1
-      ∙ (ap (option_and_then (first_under_deed (agreement t g k) (dealings l g k) r.number)) (deed_found l once r g k d among deals)
-      ∙ sym (deal_is t l g k r.number r.firm r.command d deals))))))
+-- what stands in the row of a place, where there is one
+pub stands_in : (v : TermsView) (n : ℕ) (i : Option ℕ) (o : Option PairView) → o ≡ option_and_then (slice_get v.pairs) i
+    → option_and_then (λ (r : PairView). standing_under r.file r.dealings n) o ≡ option_and_then (λ i. standing_in v.pairs i n) i
+stands_in v n i o is = ap (option_and_then (λ (r : PairView). standing_under r.file r.dealings n)) is ∙ sym (through v n i)
 
-  read_by : (n : ℕ) (r : Record) → change_of l n ≡ Some r → (c : Command) → r.command ≡ c → named_place r.number c ≡ None
-      → option_and_then (λ i. standing_in v.pairs i n) (pair_at v n) ≡ deals_under t l r.number r.firm c
-  read_by n r found (Agree g k rate limit) is none = agreed
-    where
-      number : r.number ≡ n
-      number = (Decides-eqb r.number n).0 (find_passes (λ r. r.number == n) l r found)
+abbrev standing_at : TermsView → ℕ → Option ℕ
+standing_at v n = option_and_then (λ i. standing_in v.pairs i n) (pair_at v n)
 
-      deals : deed_of l g k r.firm r.command ≡ Some (Makes (record { rate = rate; limit = limit }))
-      deals = ap (deed_of l g k r.firm) is ∙ ap (λ b. cond b (Some (Makes (record { rate = rate; limit = limit }))) None) (both_same g k)
+module _ (t : House) (l : List Record) (v : TermsView) (are : AreTermsOf t l v) where
+  placed_at : (n : ℕ) (o : Option Record) → change_of l n ≡ o → pair_at v n ≡ option_and_then (λ r. option_and_then (place_of_pair v) (pair_of l r.firm r.command)) o
+  placed_at n o found = are.placed n ∙ ap (option_and_then (λ (r : Record). option_and_then (place_of_pair v) (pair_of l r.firm r.command))) found
 
-      pair : pair_of l r.firm r.command ≡ Some (record { giver = g; taker = k })
-      pair = ap (pair_of l r.firm) is
+  module _ (once : NumbersOnce l) where
+    -- of a change that deals for these two
+    read_deal : (n : ℕ) (r : Record) → change_of l n ≡ Some r → (g k : List ℕ) (d : Deed) → deed_of l g k r.firm r.command ≡ Some d
+        → standing_at v n ≡ deals_under t l r.number r.firm r.command
+    read_deal n r found g k d deals =
+        let among = found_in (λ r. r.number == n) l r found in
+        let own = pair_of_deed l g k r.firm r.command d deals in
+        let q = are.ready r (record { giver = g; taker = k }) among own in
+        let row = are.rows g k q.0 q.1 in
+        let number : r.number ≡ n = (Decides-eqb r.number n).0 (find_passes (λ r. r.number == n) l r found) in
+        ap (option_and_then (λ i. standing_in v.pairs i n)) (placed_at n (Some r) found ∙ ap (option_and_then (place_of_pair v)) own)
+        ∙ (through v n (lookup (is_pair g k) v.places)
+        ∙ (ap (option_and_then (λ (r0 : PairView). standing_under r0.file r0.dealings n)) q.1
+        ∙ (ap (λ f. standing_under f q.0.dealings n) row.0
+        ∙ (ap (λ ds. standing_under (agreement t g k) ds n) row.1
+        ∙ (ap (λ m. standing_under (agreement t g k) (dealings l g k) m) (sym number)
+        ∙ (ap (option_and_then (first_under_deed (agreement t g k) (dealings l g k) r.number)) (deed_found l once r g k d among deals)
+        ∙ sym (deal_is t l g k r.number r.firm r.command d deals)))))))
 
-      placed : pair_at v r.number ≡ lookup (is_pair g k) v.places
-      placed = ap (pair_at v) number ∙ (are.placed n
-          ∙ (ap (option_and_then (λ (r0 : Record). option_and_then (place_of_pair v) (pair_of l r0.firm r0.command))) found ∙ ap (option_and_then (place_of_pair v)) pair))
+    read_by : (n : ℕ) (r : Record) → change_of l n ≡ Some r → (c : Command) → r.command ≡ c → named_place r.number c ≡ None → standing_at v n ≡ deals_under t l r.number r.firm c
+    read_by n r found (Agree g k rate limit) is none =
+        let made = Makes (record { rate = rate; limit = limit }) in
+        read_deal n r found g k made (ap (deed_of l g k r.firm) is ∙ ap (λ b. cond b (Some made) None) (both_same g k)) ∙ ap (deals_under t l r.number r.firm) is
+    read_by n r found (Raise g lots) is none =
+        read_deal n r found g r.firm (Raises lots) (ap (deed_of l g r.firm r.firm) is ∙ ap (λ b. cond b (Some (Raises lots)) None) (both_same g r.firm)) ∙ ap (deals_under t l r.number r.firm) is
+    read_by n r found (Claim m account) is none = absurd (cc)
+    read_by n r found _ is none = ap (option_and_then (λ i. standing_in v.pairs i n)) (placed_at n (Some r) found ∙ ap (λ c. option_and_then (place_of_pair v) (pair_of l r.firm c)) is)
 
-      agreed : option_and_then (λ i. standing_in v.pairs i n) (pair_at v n) ≡ deals_under t l r.number r.firm (Agree g k rate limit)
-      agreed =
-          ap (λ m. option_and_then (λ i. standing_in v.pairs i m) (pair_at v m)) (sym number)
-          ∙ (read_deal r g k (Makes (record { rate = rate; limit = limit })) (found_in (λ r. r.number == n) l r found) deals pair placed ∙ ap (deals_under t l r.number r.firm) is)
-  read_by n r found (Raise g lots) is none = raised
-    where
-      number : r.number ≡ n
-      number = (Decides-eqb r.number n).0 (find_passes (λ r. r.number == n) l r found)
+    read_or : (n : ℕ) (o : Option Record) → change_of l n ≡ o → option_and_then (λ r. named_place r.number r.command) o ≡ None
+        → standing_at v n ≡ option_and_then (λ r. deals_under t l r.number r.firm r.command) o
+    read_or n None found none = ap (option_and_then (λ i. standing_in v.pairs i n)) (placed_at n None found)
+    read_or n (Some r) found none = read_by n r found r.command refl none
 
-      deals : deed_of l g r.firm r.firm r.command ≡ Some (Raises lots)
-      deals = ap (deed_of l g r.firm r.firm) is ∙ ap (λ b. cond b (Some (Raises lots)) None) (both_same g r.firm)
+    -- what the terms say stands on a number without a place in the trees is what the list says
+    pub read_off : (n : ℕ) → option_and_then (λ r. named_place r.number r.command) (change_of l n) ≡ None
+        → option_and_then (λ i. standing_in v.pairs i n) (pair_at v n) ≡ option_and_then (λ r. deals_under t l r.number r.firm r.command) (change_of l n)
+    read_off n none = read_or n (change_of l n) refl none
 
-      pair : pair_of l r.firm r.command ≡ Some (record { giver = g; taker = r.firm })
-      pair = ap (pair_of l r.firm) is
+-- ---- how many entries stand beside a change
 
-      placed : pair_at v r.number ≡ lookup (is_pair g r.firm) v.places
-      placed = ap (pair_at v) number ∙ (are.placed n
-          ∙ (ap (option_and_then (λ (r0 : Record). option_and_then (place_of_pair v) (pair_of l r0.firm r0.command))) found ∙ ap (option_and_then (place_of_pair v)) pair))
+abbrev count_at : TermsView → Option ℕ → ℕ
+count_at v o = unwrap_or (option_map (λ i. entries_in v.pairs i) o) 0
 
-      raised : option_and_then (λ i. standing_in v.pairs i n) (pair_at v n) ≡ deals_under t l r.number r.firm (Raise g lots)
-      raised =
-          ap (λ m. option_and_then (λ i. standing_in v.pairs i m) (pair_at v m)) (sym number)
-          ∙ (read_deal r g r.firm (Raises lots) (found_in (λ r. r.number == n) l r found) deals pair placed ∙ ap (deals_under t l r.number r.firm) is)
-  read_by n r found (Initiate e) is none =
-      ap (option_and_then (λ i. standing_in v.pairs i n))
-      (are.placed n ∙ (ap (option_and_then (λ (r0 : Record). option_and_then (place_of_pair v) (pair_of l r0.firm r0.command))) found
-      ∙ ap (λ c. option_and_then (place_of_pair v) (pair_of l r.firm c)) is))
-  read_by n r found (Decline e) is none =
-      ap (option_and_then (λ i. standing_in v.pairs i n))
-      (are.placed n ∙ (ap (option_and_then (λ (r0 : Record). option_and_then (place_of_pair v) (pair_of l r0.firm r0.command))) found
-      ∙ ap (λ c. option_and_then (place_of_pair v) (pair_of l r.firm c)) is))
-  read_by n r found (Reverse e) is none =
-      ap (option_and_then (λ i. standing_in v.pairs i n))
-      (are.placed n ∙ (ap (option_and_then (λ (r0 : Record). option_and_then (place_of_pair v) (pair_of l r0.firm r0.command))) found
-      ∙ ap (λ c. option_and_then (place_of_pair v) (pair_of l r.firm c)) is))
-  read_by n r found _ is none = absurd (cc)
+-- how many are dealt for a pair
+abbrev count_of : List Record → Option Pair → ℕ
+count_of l o = unwrap_or (option_map (λ (p : Pair). length (dealings l p.giver p.taker)) o) 0
 
-  read_or : (n : ℕ) (o : Option Record) → change_of l n ≡ o → option_and_then (λ r. named_place r.number r.command) o ≡ None
-      → option_and_then (λ i. standing_in v.pairs i n) (pair_at v n) ≡ option_and_then (λ r. deals_under t l r.number r.firm r.command) o
-  read_or n None found none =
-      ap (option_and_then (λ i. standing_in v.pairs i n)) (are.placed n ∙ ap (option_and_then (λ (r0 : Record). option_and_then (place_of_pair v) (pair_of l r0.firm r0.command))) found)
-  read_or n (Some r) found none = read_by n r found r.command refl none
+counts_through : (v : TermsView) (o : Option ℕ) → count_at v o ≡ unwrap_or (option_map (λ (r : PairView). length r.dealings) (option_and_then (slice_get v.pairs) o)) 0
+counts_through v None = refl
+counts_through v (Some i) = refl
 
-  -- what the terms say stands on a number without a place in the trees is what the list says
-  pub read_off : (n : ℕ) → option_and_then (λ r. named_place r.number r.command) (change_of l n) ≡ None
-      → option_and_then (λ i. standing_in v.pairs i n) (pair_at v n) ≡ option_and_then (λ r. deals_under t l r.number r.firm r.command) (change_of l n)
-  read_off n none = read_or n (change_of l n) refl none
+-- and how much
+pub counts_in : (v : TermsView) (i : Option ℕ) (o : Option PairView) → o ≡ option_and_then (slice_get v.pairs) i
+    → unwrap_or (option_map (λ (r : PairView). length r.dealings) o) 0 ≡ unwrap_or (option_map (λ i. entries_in v.pairs i) i) 0
+counts_in v i o is = ap (λ o. unwrap_or (option_map (λ (r : PairView). length r.dealings) o) 0) is ∙ sym (counts_through v i)
+
+module _ (t : House) (l : List Record) (v : TermsView) (are : AreTermsOf t l v) where
+  of_pair : (r : Record) → Contains l r → (o : Option Pair) → pair_of l r.firm r.command ≡ o → count_at v (option_and_then (place_of_pair v) o) ≡ count_of l o
+  of_pair r among None is = refl
+  of_pair r among (Some p) is =
+      let q = are.ready r p among is in
+      counts_through v (place_of_pair v p) ∙ (ap (λ o. unwrap_or (option_map (λ (x : PairView). length x.dealings) o) 0) q.1 ∙ ap length (are.rows p.giver p.taker q.0 q.1).1)
+
+  of_change : (n : ℕ) (o : Option Record) → change_of l n ≡ o → count_at v (pair_at v n) ≡ count_of l (option_and_then (λ (r : Record). pair_of l r.firm r.command) o)
+  of_change n None found = ap (count_at v) (placed_at t l v are n None found)
+  of_change n (Some r) found = ap (count_at v) (placed_at t l v are n (Some r) found) ∙ of_pair r (found_in (λ r. r.number == n) l r found) (pair_of l r.firm r.command) refl
+
+  pub counted : (n : ℕ) → count_at v (pair_at v n) ≡ entries_dealt l n
+  counted n = of_change n (change_of l n) refl

@@ -1,49 +1,34 @@
 -- What holds of the changes of a legal list over the whole list, wherever each of them stands.
-use Rattle.std.proofs.Common.{◌≡◌, ℕ, ◌≤◌, Bool, true, false, not, ◌&&◌, List, [], ◌∷◌, ◌++◌, length, length-append, refl, sym, ◌∙◌, ap, subst, arith, Option, All}
-use Rattle.std.proofs.Common.{append-nil, append_assoc, inl, inr}
-use Rattle.std.specs.Prelude.{Some, None, is_none, nat_lt, option_map}
-use Rattle.std.proofs.lemmas.List.Elements.{All-nil, All-push}
-use Rattle.gu_depend.proofs.Vocabulary.{EntryPart, House, knows_firm, agreement, node_of, decision_of, is_offered, is_given, splits, decides, refusal_of, row, trade_row, split_row, claim_row}
-use Rattle.gu_depend.proofs.Vocabulary.{refuse_row, cancel_row, is_taker, is_giver, first_refused, Part, Command, Trade, Split, Claim, Refuse, Cancel, Agree, Raise, Record, Kind, Node, deed_of}
-use Rattle.gu_depend.proofs.Vocabulary.{dealings_in, Deed}
-use Rattle.gu_base.proofs.Lines.{node_more}
-use Rattle.gu_base.proofs.LegalLaws.{none_refused}
-use Rattle.gu_depend.specs.Under.{names}
+use Rattle.gu_depend.proofs.Vocabulary.{◌≡◌, ℕ, ◌≤◌, Bool, true, not, ◌&&◌, List, [], ◌∷◌, ◌++◌, length, length-append, refl, sym, ◌∙◌, ap, subst, arith}
+use Rattle.gu_depend.proofs.Vocabulary.{Option, All, append-nil, append_assoc, inl, inr, Some, None, is_none, nat_lt, All-nil, All-push, EntryPart, House, knows_firm, agreement, node_of}
+use Rattle.gu_depend.proofs.Vocabulary.{owns, depth_of, decision_of, is_offered, is_given, splits, decides, refusal_of, row, trade_row, split_row, claim_row, Refusal, NotOffered, NotYours, first}
+use Rattle.gu_depend.proofs.Vocabulary.{unless, is_taker, is_giver, first_refused, IsLegal, Part, Command, Trade, Split, Claim, Refuse, Cancel, Agree, Raise, Record, Kind, Node, deed_of}
+use Rattle.gu_depend.proofs.Vocabulary.{dealings_in, Deed, at_node, node_more, legal_from_replay, fits, AllFit, same_Some, at_node_none, SplitHolds, claim_passes, agree_passes, raise_passes}
+use Rattle.gu_depend.proofs.Vocabulary.{refusal_parts, splits_well, decides_well, node_called, no_some, or_cases}
+use Rattle.gu_depend.proofs.Grown.{ThereFor, Within, Grown, grown_none, grown_push, owns_same, depth_same}
 use Rattle.gu_depend.proofs.Finds.{find_more}
 use Rattle.gu_depend.proofs.Names.{at_name}
 use Rattle.gu_depend.proofs.NamedOnce.{NamedOnce, named_once}
-use Rattle.gu_depend.proofs.Grown.{Within, Grown, grown_none, grown_push, owns_same, depth_same}
-use Rattle.gu_depend.proofs.Deals.{deed_grown, dealings_grown, dealings_append, row_fits}
-use Rattle.std.specs.List.{cons_option}
-use Rattle.gu_base.proofs.Dealt.{fits, AllFit, fit_append}
-use Rattle.std.proofs.lemmas.Option.{same_Some}
-use Rattle.gu_base.proofs.Passing.{at_node_none, split_passes, SplitHolds, claim_passes, ClaimHolds, agree_passes, AgreeHolds, raise_passes, decision_passes, refusal_parts, splits_well, decides_well}
-use Rattle.gu_base.proofs.NodeNames.{node_called}
-use Rattle.gu_base.proofs.Basics.{no_some}
-use Rattle.std.proofs.lemmas.Bool.{or_cases}
+use Rattle.gu_depend.proofs.Deals.{numbered, deed_grown, dealings_grown, dealings_cut, dealings_idle, row_fits}
+use Rattle.gu_base.proofs.Dealt.{fit_append}
+use Rattle.gu_base.proofs.Passing.{split_passes, ClaimHolds, AgreeHolds, decision_passes}
 
-pub record SettledSplit (t : House) (l : List Record) (by : List ℕ) (n : EntryPart) (ps : List Part) : Type 0 where
+-- a node of the list, of which this holds
+pub record SettledAt (l : List Record) (n : EntryPart) (P : Node → Type 0) : Type 0 where
   pub node : Node
   pub there : node_of l n ≡ Some node
-  pub holds : SplitHolds t l by ps node
+  pub holds : P node
 
-pub record SettledClaim (t : House) (l : List Record) (by : List ℕ) (n : EntryPart) (account : List ℕ) : Type 0 where
-  pub node : Node
-  pub there : node_of l n ≡ Some node
-  pub holds : ClaimHolds t by account node
-
-pub record SettledDecision (l : List Record) (n : EntryPart) (yours : Kind → Bool) : Type 0 where
-  pub node : Node
-  pub there : node_of l n ≡ Some node
-  pub given : is_given node.kind ≡ true
-  pub asked : yours node.kind ≡ true
+-- what a Refuse or a Cancel asks of its node
+abbrev pub IsYours : (Kind → Bool) → Node → Type 0
+IsYours yours x = (is_given x.kind ≡ true) × (yours x.kind ≡ true)
 
 abbrev pub SettledAs : House → List Record → List ℕ → Command → Type 0
 SettledAs t l by (Trade firm account instrument side lots) = trade_row t by firm account instrument lots ≡ None
-SettledAs t l by (Split n ps) = SettledSplit t l by n ps
-SettledAs t l by (Claim n account) = SettledClaim t l by n account
-SettledAs t l by (Refuse n) = SettledDecision l n (is_taker by)
-SettledAs t l by (Cancel n) = SettledDecision l n (is_giver by)
+SettledAs t l by (Split n ps) = SettledAt l n (SplitHolds t l by ps)
+SettledAs t l by (Claim n account) = SettledAt l n (ClaimHolds t by account)
+SettledAs t l by (Refuse n) = SettledAt l n (IsYours (is_taker by))
+SettledAs t l by (Cancel n) = SettledAt l n (IsYours (is_giver by))
 SettledAs t l by (Agree giver taker rate limit) = AgreeHolds t by giver taker rate limit
 SettledAs t l by (Raise giver lots) = knows_firm t giver ≡ true
 SettledAs t l by _ = Unit {0}
@@ -54,22 +39,18 @@ pub record Settled (t : House) (l : List Record) (r : Record) : Type 0 where
 
 -- ---- a node that is no longer offered has its decision, if it ever has one
 
-undecided_given : (g : Bool) → not (g && true) ≡ true → g ≡ false
-undecided_given true h = absurd (cc)
-undecided_given false h = refl
-
-never_given : (k : Kind) → is_given k ≡ false → is_given k ≡ true → ⊥
-never_given k a b = cc
+-- what is given and not decided is offered
+pub offered_again : (g : Bool) → g ≡ true → not (g && true) ≡ true → ⊥
+offered_again g e h = cc
 
 free_decided_by : (l b : List Record) (n : EntryPart) (x : Node) → NamedOnce l → Within l b → node_of b n ≡ Some x → (o : Option Record) → decision_of b n ≡ o
     → not (is_given x.kind && is_none o) ≡ true → o ≡ decision_of l n
 free_decided_by l b n x s w found (Some d) e free = sym (w.decisions n d e)
 free_decided_by l b n x s w found None e free =
-    let other = undecided_given (is_given x.kind) free in
     sym (no_some (decision_of l n) (λ d h.
     let y = s.given n d h in
     let one : y.0 ≡ x = same_Some y.0 x (sym y.1.0 ∙ w.nodes n x found) in
-    never_given x.kind other (subst (λ (z : Node). is_given z.kind ≡ true) one y.1.1)))
+    offered_again (is_given x.kind) (subst (λ (z : Node). is_given z.kind ≡ true) one y.1.1) free))
 
 pub free_decided : (l b : List Record) (n : EntryPart) (x : Node) → NamedOnce l → Within l b → node_of b n ≡ Some x → not (is_offered b x) ≡ true → decision_of b n ≡ decision_of l n
 free_decided l b n x s w found free =
@@ -78,51 +59,50 @@ free_decided l b n x s w found free =
 
 -- ---- what is accepted behind some changes is settled over all
 
+-- a Split that holds in the one list holds in the other, where its node is the same in both
+pub split_moved : (t : House) (l b : List Record) (by : List ℕ) (ps : List Part) (x : Node) → owns b by x.name ≡ owns l by x.name → decision_of b x.name ≡ decision_of l x.name
+    → depth_of b x.name ≡ depth_of l x.name → SplitHolds t l by ps x → SplitHolds t b by ps x
+split_moved t l b by ps x owned same deep h = record {
+  owned = owned ∙ h.owned;
+  free = ap (λ o. not (is_given x.kind && is_none o)) same ∙ h.free;
+  count = h.count;
+  shallow = ap (λ d. nat_lt d 64) deep ∙ h.shallow;
+  parts = h.parts;
+  sums = h.sums;
+}
+
 split_settles : (t : House) (l b : List Record) (by : List ℕ) (ps : List Part) (x : Node) → NamedOnce l → Grown l b → node_of b x.name ≡ Some x → SplitHolds t b by ps x
     → SplitHolds t l by ps x
 split_settles t l b by ps x s g found h =
     let same = free_decided l b x.name x s g.within found h.free in
-    record {
-      owned = sym (owns_same l b by x.name x g found same) ∙ h.owned;
-      free = sym (ap (λ o. not (is_given x.kind && is_none o)) same) ∙ h.free;
-      count = h.count;
-      shallow = sym (ap (λ d. nat_lt d 64) (depth_same l b x.name x g found)) ∙ h.shallow;
-      parts = h.parts;
-      sums = h.sums;
-    }
+    split_moved t b l by ps x (sym (owns_same l b by x.name x g found same)) (sym same) (sym (depth_same l b x.name x g found)) h
+
+-- the row of a Refuse or a Cancel, by who may ask for it
+abbrev pub decision_row : List Record → (Kind → Bool) → Node → Option Refusal
+decision_row b yours x = first (unless (is_offered b x) NotOffered ∷ unless (yours x.kind) NotYours ∷ [])
+
+settles_at : (l b : List Record) (n : EntryPart) (line : Node → Option Refusal) (P : Node → Type 0) → Grown l b → at_node line (node_of b n) ≡ None
+    → ((x : Node) → node_of b n ≡ Some x → line x ≡ None → P x) → SettledAt l n P
+settles_at l b n line P g h holds =
+    let x = at_node_none line (node_of b n) h in
+    record { node = x.0; there = g.within.nodes n x.0 x.1.0; holds = holds x.0 x.1.0 x.1.1 }
+
+decision_settles : (l b : List Record) (n : EntryPart) (yours : Kind → Bool) → Grown l b → at_node (decision_row b yours) (node_of b n) ≡ None → SettledAt l n (IsYours yours)
+decision_settles l b n yours g h = settles_at l b n (decision_row b yours) (IsYours yours) g h (λ x found passes. let p = decision_passes b x (yours x.kind) passes in (p.0, p.2))
 
 settles : (t : House) (l b : List Record) (by : List ℕ) (c : Command) → NamedOnce l → Grown l b → row t b by c ≡ None → SettledAs t l by c
 settles t l b by (Trade firm account instrument side lots) s g h = h
-settles t l b by (Split n ps) s g h =
-    let there = at_node_none (split_row t b by ps) (node_of b n) h in
-    let passes = split_passes t b by ps there.0 there.1.1 in
-    record {
-      node = there.0;
-      there = g.within.nodes n there.0 there.1.0;
-      holds = split_settles t l b by ps there.0 s g (at_name b n there.0 there.1.0) passes.0;
-    }
-settles t l b by (Claim n account) s g h =
-    let there = at_node_none (claim_row t b by account) (node_of b n) h in
-    let passes = claim_passes t b by account there.0 there.1.1 in
-    record {
-      node = there.0;
-      there = g.within.nodes n there.0 there.1.0;
-      holds = passes.0;
-    }
-settles t l b by (Refuse n) s g h =
-    let there = at_node_none (refuse_row b by) (node_of b n) h in
-    let passes = decision_passes b there.0 (is_taker by there.0.kind) there.1.1 in
-    record { node = there.0; there = g.within.nodes n there.0 there.1.0; given = passes.0; asked = passes.2 }
-settles t l b by (Cancel n) s g h =
-    let there = at_node_none (cancel_row b by) (node_of b n) h in
-    let passes = decision_passes b there.0 (is_giver by there.0.kind) there.1.1 in
-    record { node = there.0; there = g.within.nodes n there.0 there.1.0; given = passes.0; asked = passes.2 }
+settles t l b by (Split n ps) s g h = settles_at l b n (split_row t b by ps) (SplitHolds t l by ps) g h
+    (λ x found passes. split_settles t l b by ps x s g (at_name b n x found) (split_passes t b by ps x passes).0)
+settles t l b by (Claim n account) s g h = settles_at l b n (claim_row t b by account) (ClaimHolds t by account) g h (λ x found passes. (claim_passes t b by account x passes).0)
+settles t l b by (Refuse n) s g h = decision_settles l b n (is_taker by) g h
+settles t l b by (Cancel n) s g h = decision_settles l b n (is_giver by) g h
 settles t l b by (Agree giver taker rate limit) s g h = (agree_passes t b by giver taker rate limit h).0
 settles t l b by (Raise giver lots) s g h = (raise_passes t b by giver lots h).0
 settles t l b by _ s g h = tt
 
 -- a change that is accepted names a node that is there
-pub accepted_there : (t : House) (b : List Record) (by : List ℕ) (c : Command) → row t b by c ≡ None → (n : EntryPart) → names n c ≡ true → (x : Node) × (node_of b n ≡ Some x)
+pub accepted_there : (t : House) (b : List Record) (by : List ℕ) (c : Command) → row t b by c ≡ None → ThereFor b c
 accepted_there t b by c h n is = elim (or_cases (splits n c) (decides n c) is) [
   | inl split ↦ (let y = splits_well t b by c n h split in (y.node, y.there))
   | inr decided ↦ (let y = decides_well t b by c n h decided in (y.node, y.there))
@@ -149,17 +129,12 @@ pub record Facts (t : House) (l b : List Record) : Type 0 where
 -- one more change that is accepted fits
 deals_push : (t : House) (l b : List Record) (r : Record) → Facts t l b → (g k : List ℕ) → row t b r.firm r.command ≡ None → (o : Option Deed) → deed_of l g k r.firm r.command ≡ o
     → AllFit (agreement t g k) [] (dealings_in l (b ++ r ∷ []) g k)
-deals_push t l b r f g k h None e =
-    subst (AllFit (agreement t g k) []) (sym
-    (dealings_append l b (r ∷ []) g k
-    ∙ (ap (λ o. dealings_in l b g k ++ cons_option (option_map (λ d. record { number = r.number; deed = d }) o) []) e ∙ append-nil (dealings_in l b g k))))
-    (f.deals g k)
+deals_push t l b r f g k h None e = subst (AllFit (agreement t g k) []) (sym (dealings_idle l b r g k e)) (f.deals g k)
 deals_push t l b r f g k h (Some d) e =
     let same : deed_of b g k r.firm r.command ≡ Some d = deed_grown l b g k r.firm r.command f.grown.within (accepted_there t b r.firm r.command h) ∙ e in
     let fit : fits (agreement t g k) (dealings_in l b g k) d ≡ true = subst (λ z. fits (agreement t g k) z d ≡ true) (dealings_grown l b g k f.grown)
     (row_fits t b g k r.firm r.command d h same) in
-    subst (AllFit (agreement t g k) []) (sym (dealings_append l b (r ∷ []) g k ∙ ap (λ o. dealings_in l b g k ++ cons_option (option_map (λ d. record { number = r.number; deed = d }) o) []) e))
-    (fit_append (agreement t g k) [] (dealings_in l b g k) (record { number = r.number; deed = d } ∷ []) (f.deals g k) (fit, tt))
+    subst (AllFit (agreement t g k) []) (sym (dealings_cut l b r [] g k (Some d) e)) (fit_append (agreement t g k) [] (dealings_in l b g k) (numbered r d ∷ []) (f.deals g k) (fit, tt))
 
 facts_push : (t : House) (l b : List Record) (r : Record) → NamedOnce l → Within l (b ++ r ∷ []) → length (b ++ r ∷ []) ≤ length l → Facts t l b
     → refusal_of t b r.firm r.command ≡ None → Facts t l (b ++ r ∷ [])
@@ -173,20 +148,19 @@ facts_push t l b r s w short f h =
     }
 
 -- along the list, up to a front of it
-facts_to : (t : House) (l b front rest : List Record) → NamedOnce l → l ≡ b ++ (front ++ rest) → Facts t l b → first_refused t b (front ++ rest) ≡ None → Facts t l (b ++ front)
-facts_to t l b [] rest s e f none = subst (λ (z : List Record). Facts t l z) (sym (append-nil b)) f
-facts_to t l b (r ∷ front) rest s e f none =
-    let p = none_refused (refusal_of t b r.firm r.command) r.number (first_refused t (b ++ r ∷ []) (front ++ rest)) none in
+facts_to : (t : House) (l b front rest : List Record) → NamedOnce l → IsLegal t l → l ≡ b ++ (front ++ rest) → Facts t l b → Facts t l (b ++ front)
+facts_to t l b [] rest s legal e f = subst (Facts t l) (sym (append-nil b)) f
+facts_to t l b (r ∷ front) rest s legal e f =
     let cut : l ≡ (b ++ r ∷ []) ++ (front ++ rest) = e ∙ sym (append_assoc b (r ∷ []) (front ++ rest)) in
-    subst (λ (z : List Record). Facts t l z) (append_assoc b (r ∷ []) front)
-    (facts_to t l (b ++ r ∷ []) front rest s cut (facts_push t l b r s (front_within l (b ++ r ∷ []) (front ++ rest) cut) (front_short l (b ++ r ∷ []) (front ++ rest) cut) f p.0) p.1)
+    let more = facts_push t l b r s (front_within l (b ++ r ∷ []) (front ++ rest) cut) (front_short l (b ++ r ∷ []) (front ++ rest) cut) f (legal.accepted b (front ++ rest) r e) in
+    subst (Facts t l) (append_assoc b (r ∷ []) front) (facts_to t l (b ++ r ∷ []) front rest s legal cut more)
 
 facts_none : (t : House) (l : List Record) → Facts t l []
 facts_none t l = record { grown = grown_none l; settled = All-nil (Settled t l); deals = λ giver taker. tt }
 
 -- what holds of a front of a legal list, over the whole list
 pub front_facts : (t : House) (l front rest : List Record) → l ≡ front ++ rest → first_refused t [] l ≡ None → Facts t l front
-front_facts t l front rest e none = facts_to t l [] front rest (named_once t l none) e (facts_none t l) (subst (λ (z : List Record). first_refused t [] z ≡ None) e none)
+front_facts t l front rest e none = facts_to t l [] front rest (named_once t l none) (legal_from_replay t l none) e (facts_none t l)
 
 pub facts : (t : House) (l : List Record) → first_refused t [] l ≡ None → Facts t l l
 facts t l none = front_facts t l l [] (sym (append-nil l)) none

@@ -1,42 +1,26 @@
 -- A change that stands under none of those behind it can stand behind them all.
-use Rattle.std.proofs.Common.{◌≡◌, ℕ, ◌+◌, Bool, true, false, ◌&&◌, ◌||◌, List, [], ◌∷◌, ◌++◌, refl, sym, ◌∙◌, ap, subst, cond, Option, Contains, All, append-nil}
-use Rattle.std.proofs.Common.{append_assoc, inl, inr}
-use Rattle.std.specs.Prelude.{Some, None, find, is_some, is_none, option_and_then, option_map, ◌==◌}
-use Rattle.std.specs.Option.{option_or}
-use Rattle.std.specs.List.{list_any, cons_option}
-use Rattle.std.proofs.lemmas.List.Elements.{All-head, All-tail}
-use Rattle.std.proofs.lemmas.List.Folds.{find-append, list_any_at}
-use Rattle.gu_depend.proofs.Vocabulary.{EntryPart, House, agreement, node_of, nodes_of, decision_of, is_given, same_name, splits, decides, refusal_of, row, first_refused, without, is_ready}
-use Rattle.gu_depend.proofs.Vocabulary.{in_lawful_order, Command, Trade, Split, Claim, Refuse, Cancel, Record, Root, Node, Refusal, deed_of, dealings_in, dealings, terms_under, raised_under}
-use Rattle.gu_depend.proofs.Vocabulary.{limit_under, used_under, terms_of, limit_of, used_of, leave_out, first_under_deed, Deed, Dealing, Agreement}
-use Rattle.gu_base.proofs.Basics.{or_none, no_some}
-use Rattle.std.proofs.lemmas.Bool.{and_parts, or_cases, false_from_ne_true}
-use Rattle.gu_base.proofs.LegalLaws.{none_refused}
+use Rattle.gu_depend.proofs.Vocabulary.{◌≡◌, ℕ, ◌+◌, Bool, true, false, ◌||◌, List, [], ◌∷◌, ◌++◌, refl, sym, ◌∙◌, ap, subst, cond, Option, Contains, All}
+use Rattle.gu_depend.proofs.Vocabulary.{append-nil, append_assoc, inl, inr, Some, None, find, is_some, is_none, option_and_then, option_map, ◌==◌, option_or, list_any, All-head}
+use Rattle.gu_depend.proofs.Vocabulary.{All-tail, find-append, EntryPart, House, agreement, node_of, nodes_of, decision_of, is_given, same_name, splits, decides, refusal_of, row, first_refused}
+use Rattle.gu_depend.proofs.Vocabulary.{without, is_ready, in_lawful_order, Command, Trade, Split, Claim, Refuse, Cancel, Record, Root, Node, Refusal, deed_of, dealings_in, dealings, terms_under}
+use Rattle.gu_depend.proofs.Vocabulary.{raised_under, limit_under, used_under, terms_of, limit_of, used_of, leave_out, first_under_deed, Deed, Dealing, Agreement, or_none, no_some, and_parts}
+use Rattle.gu_depend.proofs.Vocabulary.{or_cases, false_from_ne_true, node_more, none_refused, legal_from_replay, fits, AllFit, first_unfit, Decides-eqb, same_Some, refusal_parts, splits_well}
+use Rattle.gu_depend.proofs.Vocabulary.{decides_well, name_is, made_of, node_cut, first_or, found_in, find_passes}
+use Rattle.std.proofs.lemmas.List.Folds.{list_any_at}
 use Rattle.gu_depend.specs.Under.{names, is_under, stands_under, deals_under}
 use Rattle.gu_depend.proofs.Finds.{found_once}
 use Rattle.gu_depend.proofs.Names.{makes, node_by_maker, makers_once, made_alone}
-use Rattle.gu_depend.proofs.NamedOnce.{NamedOnce, named_once}
-use Rattle.gu_depend.proofs.Grown.{Within}
+use Rattle.gu_depend.proofs.NamedOnce.{named_once}
 use Rattle.gu_depend.proofs.Settled.{free_decided, front_within, accepted_there, facts}
-use Rattle.gu_depend.proofs.Deals.{deed_grown, dealings_grown, dealings_append, row_fits, deal_is, same_pair, unfit_without, left_out, deal_cut}
-use Rattle.gu_base.proofs.Dealt.{fits, AllFit, first_unfit, none_unfit, fit_front, unfit_cut, fit_last, terms_last, raised_last, used_last}
-use Rattle.std.proofs.lemmas.Bool.Decides.{Decides-eqb}
-use Rattle.gu_depend.proofs.Replay.{NumbersOnce, StandsReady, PairsFit, ready_replays, same_finds, dealings_found}
+use Rattle.gu_depend.proofs.Deals.{numbered, deed_grown, dealings_grown, dealings_append, dealings_cut, dealings_idle, row_fits, deal_is, at_pair, same_pair, unfit_without, left_out}
+use Rattle.gu_depend.proofs.Deals.{deal_cut}
+use Rattle.gu_base.proofs.Dealt.{none_unfit, fit_front, unfit_cut, fit_last, terms_last, raised_last, used_last}
+use Rattle.gu_depend.proofs.Replay.{NumbersOnce, Legal, PairsFit, Runs, both_true, ready_there, ready_split, ready_from, ready_replays, finds, dealings_found}
 use Rattle.gu_depend.proofs.State.{state_same}
 use Rattle.gu_depend.specs.Same.{IsSameState}
 use Rattle.gu_depend.proofs.Cuts.{moved_to_end, stands_between, filter_one}
-use Rattle.std.proofs.lemmas.Option.{same_Some}
-use Rattle.gu_base.proofs.Passing.{refusal_parts, splits_well, decides_well}
-use Rattle.gu_base.proofs.NodeNames.{name_is, name_same, made_of, node_cut}
-use Rattle.gu_base.proofs.Searches.{found_in, find_passes}
 
--- ---- a replay cut in two
-
-pub replay_rest : (t : House) (b xs ys : List Record) → first_refused t b (xs ++ ys) ≡ None → first_refused t (b ++ xs) ys ≡ None
-replay_rest t b [] ys h = subst (λ (z : List Record). first_refused t z ys ≡ None) (sym (append-nil b)) h
-replay_rest t b (r ∷ xs) ys h =
-    let p = none_refused (refusal_of t b r.firm r.command) r.number (first_refused t (b ++ r ∷ []) (xs ++ ys)) h in
-    subst (λ (z : List Record). first_refused t z ys ≡ None) (append_assoc b (r ∷ []) xs) (replay_rest t (b ++ r ∷ []) xs ys p.1)
+-- ---- a replay that stops
 
 refused_here : (o : Option Refusal) (n : ℕ) (rest : Option ℕ) → (o ≡ None → ⊥) → cond (is_some o) (Some n) rest ≡ Some n
 refused_here None n rest refused = absurd (refused refl)
@@ -72,15 +56,6 @@ undecided_by k by (Refuse m) c n un is = other_name m n c un is
 undecided_by k by (Cancel m) c n un is = other_name m n c un is
 undecided_by k by _ c n un is = refl
 
--- a root is neither split by the command nor decided
-no_root : (p : EntryPart) (c : Command) (n : EntryPart) (root : Node) → splits p c ≡ false → names n c ≡ true → (b : Bool) → same_name p n ≡ b
-    → (b ≡ true → decides n c ≡ true → false ≡ true) → cond b (Some root) None ≡ None
-no_root p c n root un is true same given = elim (or_cases (splits n c) (decides n c) is) [
-  | inl split ↦ absurd (not_both (splits p c) (subst (λ (z : EntryPart). splits z c ≡ true) (sym (name_is p n same)) split) un)
-  | inr decided ↦ (let wrong : false ≡ true = given refl decided in absurd (cc))
-]
-no_root p c n root un is false same given = refl
-
 -- an element that passes is one of them
 pub any_in : {X : Type 0} (p : X → Bool) (xs : List X) (x : X) → Contains xs x → p x ≡ true → list_any p xs ≡ true
 any_in p xs x among passes = list_any_at p xs among.0 x among.1 (ap p among.2 ∙ passes)
@@ -91,7 +66,10 @@ unmade_by : (k : ℕ) (by : List ℕ) (d c : Command) (n : EntryPart) → is_und
 unmade_by k by (Trade firm account instrument side lots) c n un is given =
     let p : EntryPart = record { entry = k; part = 0 } in
     let root : Node = record { name = p; lots = lots; kind = Root (record { firm = firm; account = account }) } in
-    no_root p c n root un is (same_name p n) refl (λ here decided. given root (ap (λ b. cond b (Some root) None) here) decided)
+    no_some (find (λ x. same_name x.name n) (root ∷ [])) (λ x found. first_or n p root x None ⊥ (λ same one. elim (or_cases (splits n c) (decides n c) is) [
+      | inl split ↦ not_both (splits p c) (subst (λ (z : EntryPart). splits z c ≡ true) (sym (name_is p n same)) split) un
+      | inr decided ↦ (let wrong : false ≡ true = ap (λ (z : Node). is_given z.kind) one ∙ given x found decided in cc)
+    ]) (λ none. cc) (same_name p n) refl found)
 unmade_by k by (Split m ps) c n un is given =
     no_some (find (λ x. same_name x.name n) (nodes_of k by (Split m ps))) (λ x found.
     let called = name_is x.name n (find_passes (λ x. same_name x.name n) (nodes_of k by (Split m ps)) x found) in
@@ -101,39 +79,34 @@ unmade_by k by _ c n un is given = refl
 
 -- the node that a change makes is that of its name
 pub node_of_maker : (l : List Record) (k : Record) (n : EntryPart) (x : Node) → NumbersOnce l → Contains l k → made_of k n ≡ Some x → node_of l n ≡ Some x
-node_of_maker l k n x once among h =
-    node_by_maker l n ∙ (ap (option_and_then (λ r. made_of r n)) (found_once (makes n) l k among (ap is_some h) (makers_once l n (once n.entry))) ∙ h)
+node_of_maker l k n x once among h = node_by_maker l n ∙ (ap (option_and_then (λ r. made_of r n)) (found_once (makes n) l k among (ap is_some h) (makers_once l n (once n.entry))) ∙ h)
 
-apart : (t : House) (l b : List Record) (k e : Record) → NumbersOnce l → Contains l k → Within l b → row t b e.firm e.command ≡ None → stands_under k e ≡ false → Apart k e.command
-apart t l b k e once among w h un = record {
+-- a change of a legal list is accepted behind those before it
+pub accepted_at : (t : House) (l b : List Record) (r : Record) (rest : List Record) → Legal t l → l ≡ b ++ r ∷ rest → row t b r.firm r.command ≡ None
+accepted_at t l b r rest legal e = (refusal_parts t b r.firm r.command ((legal_from_replay t l legal.replayed).accepted b rest r e)).1
+
+apart : (t : House) (l b : List Record) (k e : Record) (rest : List Record) → Legal t l → Contains l k → l ≡ b ++ e ∷ rest → stands_under k e ≡ false → Apart k e.command
+apart t l b k e rest legal among cut un = record {
   unmade = λ n is. unmade_by k.number k.firm k.command e.command n un is (λ x found decided.
-      let d = decides_well t b e.firm e.command n h decided in
-      let one : d.node ≡ x = same_Some d.node x (sym (w.nodes n d.node d.there) ∙ node_of_maker l k n x once among found) in
+      let d = decides_well t b e.firm e.command n (accepted_at t l b e rest legal cut) decided in
+      let there = (front_within l b (e ∷ rest) cut).nodes n d.node d.there in
+      let one : d.node ≡ x = same_Some d.node x (sym there ∙ node_of_maker l k n x legal.once among found) in
       subst (λ (z : Node). is_given z.kind ≡ true) one d.given);
   undecided = λ n is. undecided_by k.number k.firm k.command e.command n un is;
 }
 
 -- ---- readiness
 
-either : (o : Option Record) → (is_none o || is_some o) ≡ true
-either None = refl
-either (Some r) = refl
-
 either_same : (o p : Option Record) → o ≡ p → (is_none p || is_some o) ≡ true
-either_same o p e = ap (λ z. is_none z || is_some o) (sym e) ∙ either o
+either_same None p e = ap (λ z. is_none z || false) (sym e)
+either_same (Some r) p e = ap (λ z. is_none z || true) (sym e)
 
-both_true : (a b : Bool) → a ≡ true → b ≡ true → (a && b) ≡ true
-both_true a b e f = ap (λ z. z && b) e ∙ f
-
-accepted_ready : (t : House) (l b : List Record) (by : List ℕ) (c : Command) → NamedOnce l → Within l b → row t b by c ≡ None → is_ready l b c ≡ true
-accepted_ready t l b by (Split n ps) s w h =
-    let y = splits_well t b by (Split n ps) n h (name_same n) in
-    both_true (is_some (node_of b n)) (is_none (decision_of l n) || is_some (decision_of b n)) (ap is_some y.there)
-    (either_same (decision_of b n) (decision_of l n) (free_decided l b n y.node s w y.there y.free))
-accepted_ready t l b by (Claim n account) s w h = ap is_some (decides_well t b by (Claim n account) n h (name_same n)).there
-accepted_ready t l b by (Refuse n) s w h = ap is_some (decides_well t b by (Refuse n) n h (name_same n)).there
-accepted_ready t l b by (Cancel n) s w h = ap is_some (decides_well t b by (Cancel n) n h (name_same n)).there
-accepted_ready t l b by _ s w h = refl
+accepted_ready : (t : House) (l b : List Record) (r : Record) (rest : List Record) → Legal t l → l ≡ b ++ r ∷ rest → is_ready l b r.command ≡ true
+accepted_ready t l b r rest legal e =
+    let h = accepted_at t l b r rest legal e in
+    ready_from l b r.command (accepted_there t b r.firm r.command h) (λ n is.
+    let y = splits_well t b r.firm r.command n h is in
+    either_same (decision_of b n) (decision_of l n) (free_decided l b n y.node (named_once t l legal.replayed) (front_within l b (r ∷ rest) e) y.there y.free))
 
 -- the second list is the first without a change
 pub record HasOneLess (k : Record) (x y : List Record) : Type 0 where
@@ -158,70 +131,44 @@ one_less_push k x y z s = record {
 }
 
 ready_with_one_less : (l x y : List Record) (k : Record) (c : Command) → HasOneLess k x y → Apart k c → is_ready l x c ≡ true → is_ready l y c ≡ true
-ready_with_one_less l x y k (Split n ps) s a h =
-    ap (λ o. is_some o && (is_none (decision_of l n) || is_some (decision_of y n))) (sym (s.nodes_same n (a.unmade n (ap (λ b. b || false) (name_same n)))))
-    ∙ (ap (λ d. is_some (node_of x n) && (is_none (decision_of l n) || is_some d)) (sym (s.decisions_same n (a.undecided n (name_same n)))) ∙ h)
-ready_with_one_less l x y k (Claim n account) s a h = ap is_some (sym (s.nodes_same n (a.unmade n (name_same n)))) ∙ h
-ready_with_one_less l x y k (Refuse n) s a h = ap is_some (sym (s.nodes_same n (a.unmade n (name_same n)))) ∙ h
-ready_with_one_less l x y k (Cancel n) s a h = ap is_some (sym (s.nodes_same n (a.unmade n (name_same n)))) ∙ h
-ready_with_one_less l x y k _ s a h = refl
+ready_with_one_less l x y k c s a h = ready_from l y c
+    (λ n is. let z = ready_there l x c h n is in (z.0, sym (s.nodes_same n (a.unmade n is)) ∙ z.1))
+    (λ n is. ap (λ d. is_none (decision_of l n) || is_some d) (sym (s.decisions_same n (a.undecided n is))) ∙ ready_split l x c h n is)
 
-some_more : {A : Type 0} (o p : Option A) → is_some o ≡ true → is_some (option_or o p) ≡ true
-some_more None p h = absurd (cc)
-some_more (Some a) p h = refl
-
-or_more : (a b c : Bool) → (b ≡ true → c ≡ true) → (a || b) ≡ true → (a || c) ≡ true
-or_more true b c more h = refl
-or_more false b c more h = more h
-
-node_more_is : (b z : List Record) (n : EntryPart) → is_some (node_of b n) ≡ true → is_some (node_of (b ++ z) n) ≡ true
-node_more_is b z n h = ap is_some (node_cut b z n) ∙ some_more (node_of b n) (node_of z n) h
-
-decision_more_is : (b z : List Record) (n : EntryPart) → is_some (decision_of b n) ≡ true → is_some (decision_of (b ++ z) n) ≡ true
-decision_more_is b z n h = ap is_some (decision_cut b z n) ∙ some_more (decision_of b n) (decision_of z n) h
+more_decided : (p o q : Option Record) → (is_none p || is_some o) ≡ true → (is_none p || is_some (option_or o q)) ≡ true
+more_decided None o q h = refl
+more_decided (Some d) None q h = absurd (cc)
+more_decided (Some d) (Some e) q h = refl
 
 -- a change that is ready stays so behind more changes
 ready_more : (l b z : List Record) (c : Command) → is_ready l b c ≡ true → is_ready l (b ++ z) c ≡ true
-ready_more l b z (Split n ps) h =
-    let p = and_parts (is_some (node_of b n)) (is_none (decision_of l n) || is_some (decision_of b n)) h in
-    both_true (is_some (node_of (b ++ z) n)) (is_none (decision_of l n) || is_some (decision_of (b ++ z) n)) (node_more_is b z n p.0)
-    (or_more (is_none (decision_of l n)) (is_some (decision_of b n)) (is_some (decision_of (b ++ z) n)) (decision_more_is b z n) p.1)
-ready_more l b z (Claim n account) h = node_more_is b z n h
-ready_more l b z (Refuse n) h = node_more_is b z n h
-ready_more l b z (Cancel n) h = node_more_is b z n h
-ready_more l b z _ h = refl
+ready_more l b z c h = ready_from l (b ++ z) c
+    (λ n is. let x = ready_there l b c h n is in (x.0, node_more b z n x.0 x.1))
+    (λ n is. ap (λ d. is_none (decision_of l n) || is_some d) (decision_cut b z n)
+    ∙ more_decided (decision_of l n) (decision_of b n) (decision_of z n) (ready_split l b c h n is))
 
 -- ---- the order in which the change stands last
 
-order_front : (t : House) (l b front rest tail : List Record) → NamedOnce l → l ≡ b ++ (front ++ rest) → first_refused t b (front ++ rest) ≡ None
-    → in_lawful_order l (b ++ front) tail ≡ true → in_lawful_order l b (front ++ tail) ≡ true
-order_front t l b [] rest tail s e none last = subst (λ (z : List Record). in_lawful_order l z tail ≡ true) (append-nil b) last
-order_front t l b (r ∷ front) rest tail s e none last =
-    let p = none_refused (refusal_of t b r.firm r.command) r.number (first_refused t (b ++ r ∷ []) (front ++ rest)) none in
-    let row_none = (refusal_parts t b r.firm r.command p.0).1 in
-    let cut : l ≡ (b ++ r ∷ []) ++ (front ++ rest) = e ∙ sym (append_assoc b (r ∷ []) (front ++ rest)) in
-    both_true (is_ready l b r.command) (in_lawful_order l (b ++ r ∷ []) (front ++ tail))
-    (accepted_ready t l b r.firm r.command s (front_within l b (r ∷ (front ++ rest)) e) row_none)
-    (order_front t l (b ++ r ∷ []) front rest tail s cut p.1 (subst (λ (z : List Record). in_lawful_order l z tail ≡ true) (sym (append_assoc b (r ∷ []) front)) last))
+order_front : (t : House) (l b front rest tail : List Record) → Legal t l → l ≡ b ++ (front ++ rest) → in_lawful_order l (b ++ front) tail ≡ true
+    → in_lawful_order l b (front ++ tail) ≡ true
+order_front t l b [] rest tail legal e last = subst (λ (z : List Record). in_lawful_order l z tail ≡ true) (append-nil b) last
+order_front t l b (r ∷ front) rest tail legal e last =
+    both_true (is_ready l b r.command) (in_lawful_order l (b ++ r ∷ []) (front ++ tail)) (accepted_ready t l b r (front ++ rest) legal e)
+    (order_front t l (b ++ r ∷ []) front rest tail legal (e ∙ sym (append_assoc b (r ∷ []) (front ++ rest)))
+    (subst (λ (z : List Record). in_lawful_order l z tail ≡ true) (sym (append_assoc b (r ∷ []) front)) last))
 
-order_beside : (t : House) (l x y s tail : List Record) (k : Record) → NumbersOnce l → Contains l k → NamedOnce l → HasOneLess k x y → l ≡ x ++ s → first_refused t x s ≡ None
-    → All (λ e. stands_under k e ≡ false) s → in_lawful_order l (y ++ s) tail ≡ true → in_lawful_order l y (s ++ tail) ≡ true
-order_beside t l x y [] tail k once among sn beside e none un last = subst (λ (z : List Record). in_lawful_order l z tail ≡ true) (append-nil y) last
-order_beside t l x y (r ∷ s) tail k once among sn beside e none un last =
-    let p = none_refused (refusal_of t x r.firm r.command) r.number (first_refused t (x ++ r ∷ []) s) none in
-    let row_none = (refusal_parts t x r.firm r.command p.0).1 in
-    let w = front_within l x (r ∷ s) e in
-    let cut : l ≡ (x ++ r ∷ []) ++ s = e ∙ sym (append_assoc x (r ∷ []) s) in
-    let away = apart t l x k r once among w row_none (All-head (λ e. stands_under k e ≡ false) r s un) in
-    both_true (is_ready l y r.command) (in_lawful_order l (y ++ r ∷ []) (s ++ tail))
-    (ready_with_one_less l x y k r.command beside away (accepted_ready t l x r.firm r.command sn w row_none))
-    (order_beside t l (x ++ r ∷ []) (y ++ r ∷ []) s tail k once among sn (one_less_push k x y (r ∷ []) beside) cut p.1 (All-tail (λ e. stands_under k e ≡ false) r s un)
-    (subst (λ (z : List Record). in_lawful_order l z tail ≡ true) (sym (append_assoc y (r ∷ []) s)) last))
+-- the change stands under none of these by a node
+abbrev pub NoneUnder : Record → List Record → Type 0
+NoneUnder k s = All (λ e. stands_under k e ≡ false) s
 
--- the change moved behind those that it doesn't stand under: each is ready where it stands
-pub record MovesBehind (p : List Record) (k : Record) (s : List Record) : Type 0 where
-  pub order : StandsReady (p ++ k ∷ s) ((p ++ s) ++ k ∷ [])
-  pub others : in_lawful_order (p ++ k ∷ s) [] (p ++ s) ≡ true
+order_beside : (t : House) (l x y s tail : List Record) (k : Record) → Legal t l → Contains l k → HasOneLess k x y → l ≡ x ++ s → NoneUnder k s → in_lawful_order l (y ++ s) tail ≡ true
+    → in_lawful_order l y (s ++ tail) ≡ true
+order_beside t l x y [] tail k legal among beside e un last = subst (λ (z : List Record). in_lawful_order l z tail ≡ true) (append-nil y) last
+order_beside t l x y (r ∷ s) tail k legal among beside e un last =
+    let away = apart t l x k r s legal among e (All-head (λ e. stands_under k e ≡ false) r s un) in
+    both_true (is_ready l y r.command) (in_lawful_order l (y ++ r ∷ []) (s ++ tail)) (ready_with_one_less l x y k r.command beside away (accepted_ready t l x r s legal e))
+    (order_beside t l (x ++ r ∷ []) (y ++ r ∷ []) s tail k legal among (one_less_push k x y (r ∷ []) beside) (e ∙ sym (append_assoc x (r ∷ []) s))
+    (All-tail (λ e. stands_under k e ≡ false) r s un) (subst (λ (z : List Record). in_lawful_order l z tail ≡ true) (sym (append_assoc y (r ∷ []) s)) last))
 
 ready_front : (l b front tail : List Record) → in_lawful_order l b (front ++ tail) ≡ true → in_lawful_order l b front ≡ true
 ready_front l b [] tail h = refl
@@ -229,79 +176,62 @@ ready_front l b (r ∷ front) tail h =
     let p = and_parts (is_ready l b r.command) (in_lawful_order l (b ++ r ∷ []) (front ++ tail)) h in
     both_true (is_ready l b r.command) (in_lawful_order l (b ++ r ∷ []) front) p.0 (ready_front l (b ++ r ∷ []) front tail p.1)
 
-pub moves_behind : (t : House) (p : List Record) (k : Record) (s : List Record) → NumbersOnce (p ++ k ∷ s) → first_refused t [] (p ++ k ∷ s) ≡ None
-    → All (λ e. stands_under k e ≡ false) s → MovesBehind p k s
-moves_behind t p k s once none un =
-    let l : List Record = p ++ k ∷ s in
-    let sn = named_once t l none in
-    let here = none_refused (refusal_of t p k.firm k.command) k.number (first_refused t (p ++ k ∷ []) s) (replay_rest t [] p (k ∷ s) none) in
-    let ready = accepted_ready t l p k.firm k.command sn (front_within l p (k ∷ s) refl) (refusal_parts t p k.firm k.command here.0).1 in
-    let last : in_lawful_order l (p ++ s) (k ∷ []) ≡ true = both_true (is_ready l (p ++ s) k.command) true (ready_more l p s k.command ready) refl in
-    let behind = order_beside t l (p ++ k ∷ []) p s (k ∷ []) k once (stands_between p k s) sn (one_less_start k p) (sym (append_assoc p (k ∷ []) s)) here.1 un last in
-    let all = order_front t l [] p (k ∷ s) (s ++ k ∷ []) sn refl none behind in
-    let whole : in_lawful_order l [] ((p ++ s) ++ k ∷ []) ≡ true = subst (λ (z : List Record). in_lawful_order l [] z ≡ true) (sym (append_assoc p s (k ∷ []))) all in
-    record {
-      order = record { same = moved_to_end p k s; after_its_node = whole };
-      others = ready_front l [] (p ++ s) (k ∷ []) whole;
-    }
+-- ---- a legal list without one change
 
--- ---- what deals, without one change
-
-module _ (t : House) (p : List Record) (k : Record) (s : List Record) (once : NumbersOnce (p ++ k ∷ s)) (none : first_refused t [] (p ++ k ∷ s) ≡ None) where
+module _ (t : House) (p : List Record) (k : Record) (s : List Record) (legal : Legal t (p ++ k ∷ s)) where
   abbrev pub whole : List Record
   whole = p ++ k ∷ s
 
-  pub deals_whole : (x y : List ℕ) → AllFit (agreement t x y) [] (dealings whole x y)
-  deals_whole x y = (facts t whole none).deals x y
+  -- moved behind those that it doesn't stand under, each is ready where it stands
+  moves_behind : NoneUnder k s → in_lawful_order whole [] ((p ++ s) ++ k ∷ []) ≡ true
+  moves_behind un =
+      let last : in_lawful_order whole (p ++ s) (k ∷ []) ≡ true =
+      both_true (is_ready whole (p ++ s) k.command) true (ready_more whole p s k.command (accepted_ready t whole p k s legal refl)) refl in
+      let behind = order_beside t whole (p ++ k ∷ []) p s (k ∷ []) k legal (stands_between p k s) (one_less_start k p) (sym (append_assoc p (k ∷ []) s)) un last in
+      subst (λ (z : List Record). in_lawful_order whole [] z ≡ true) (sym (append_assoc p s (k ∷ []))) (order_front t whole [] p (k ∷ s) (s ++ k ∷ []) legal refl behind)
+
+  others_ready : NoneUnder k s → in_lawful_order whole [] (p ++ s) ≡ true
+  others_ready un = ready_front whole [] (p ++ s) (k ∷ []) (moves_behind un)
 
   pub gone : without whole k.number ≡ p ++ s
-  gone = filter_one (λ r. r.number == k.number) p k s ((Decides-eqb k.number k.number).1 refl) (once k.number)
+  gone = filter_one (λ r. r.number == k.number) p k s ((Decides-eqb k.number k.number).1 refl) (legal.once k.number)
 
-  -- the dealings, cut at the change
-  pub deals_cut : (x y : List ℕ) (o : Option Deed) → deed_of whole x y k.firm k.command ≡ o
-      → dealings whole x y ≡ dealings_in whole p x y ++ cons_option (option_map (λ d. record { number = k.number; deed = d }) o) (dealings_in whole s x y)
-  deals_cut x y o e =
-      dealings_append whole p (k ∷ s) x y
-      ∙ ap (λ o. dealings_in whole p x y ++ cons_option (option_map (λ d. record { number = k.number; deed = d }) o) (dealings_in whole s x y)) e
+  -- ---- what deals
 
-  pub deals_left : (x y : List ℕ) → dealings_in whole (p ++ s) x y ≡ dealings_in whole p x y ++ dealings_in whole s x y
-  deals_left x y = dealings_append whole p s x y
+  pub deals_whole : (x y : List ℕ) → AllFit (agreement t x y) [] (dealings whole x y)
+  deals_whole x y = (facts t whole legal.replayed).deals x y
 
   left_here : (x y : List ℕ) (d : Deed) → deed_of whole x y k.firm k.command ≡ Some d
-      → leave_out k.number (dealings_in whole p x y ++ record { number = k.number; deed = d } ∷ dealings_in whole s x y) ≡ dealings_in whole p x y ++ dealings_in whole s x y
+      → leave_out k.number (dealings_in whole p x y ++ numbered k d ∷ dealings_in whole s x y) ≡ dealings_in whole p x y ++ dealings_in whole s x y
   left_here x y d e =
-      ap (leave_out k.number) (sym (deals_cut x y (Some d) e))
-      ∙ (left_out whole x y k.number whole ∙ (ap (λ z. dealings_in whole z x y) gone ∙ deals_left x y))
+      ap (leave_out k.number) (sym (dealings_cut whole p k s x y (Some d) e)) ∙ (left_out whole x y k.number whole ∙ (ap (λ z. dealings_in whole z x y) gone ∙ dealings_append whole p s x y))
 
   -- where the change deals for them, the first that doesn't fit without it is the first that stands on it
   pub unfit_here : (x y : List ℕ) (d : Deed) → deed_of whole x y k.firm k.command ≡ Some d
       → first_unfit (agreement t x y) [] (dealings_in whole (p ++ s) x y) ≡ deals_under t whole k.number k.firm k.command
   unfit_here x y d e =
-      let cut = deals_cut x y (Some d) e in
+      let cut = dealings_cut whole p k s x y (Some d) e in
       let all = subst (AllFit (agreement t x y) []) cut (deals_whole x y) in
-      ap (first_unfit (agreement t x y) []) (deals_left x y)
-      ∙ (unfit_without (agreement t x y) (dealings_in whole p x y) (record { number = k.number; deed = d }) (dealings_in whole s x y) all (left_here x y d e)
-      ∙ (ap (λ z. first_under_deed (agreement t x y) z k.number d) (sym cut)
-      ∙ sym (deal_is t whole x y k.number k.firm k.command d e)))
+      ap (first_unfit (agreement t x y) []) (dealings_append whole p s x y)
+      ∙ (unfit_without (agreement t x y) (dealings_in whole p x y) (numbered k d) (dealings_in whole s x y) all (left_here x y d e)
+      ∙ (ap (λ z. first_under_deed (agreement t x y) z k.number d) (sym cut) ∙ sym (deal_is t whole x y k.number k.firm k.command d e)))
 
   -- for all others, each fits
-  pub fit_others : (x y : List ℕ) → deed_of whole x y k.firm k.command ≡ None → AllFit (agreement t x y) [] (dealings_in whole (p ++ s) x y)
-  fit_others x y e = subst (AllFit (agreement t x y) []) (deals_cut x y None e ∙ sym (deals_left x y)) (deals_whole x y)
+  fit_others : (x y : List ℕ) → deed_of whole x y k.firm k.command ≡ None → AllFit (agreement t x y) [] (dealings_in whole (p ++ s) x y)
+  fit_others x y e = subst (AllFit (agreement t x y) []) (dealings_cut whole p k s x y None e ∙ sym (dealings_append whole p s x y)) (deals_whole x y)
 
   fit_where_by : (x y : List ℕ) → deals_under t whole k.number k.firm k.command ≡ None → (o : Option Deed) → deed_of whole x y k.firm k.command ≡ o
       → AllFit (agreement t x y) [] (dealings_in whole (p ++ s) x y)
   fit_where_by x y under None e = fit_others x y e
   fit_where_by x y under (Some d) e = none_unfit (agreement t x y) [] (dealings_in whole (p ++ s) x y) (unfit_here x y d e ∙ under)
 
-  -- where nothing stands on what it deals, all others fit
-  pub fit_without : deals_under t whole k.number k.firm k.command ≡ None → PairsFit t whole [] (p ++ s)
-  fit_without under x y = fit_where_by x y under (deed_of whole x y k.firm k.command) refl
+  -- a front of the order in which the change stands last, where what it deals fits
+  runs_to : (front tail : List Record) → (p ++ s) ++ k ∷ [] ≡ front ++ tail → in_lawful_order whole [] front ≡ true → PairsFit t whole [] front → Runs t whole [] front
+  runs_to front tail cut ready fit = ready_replays t whole ((p ++ s) ++ k ∷ []) legal (moved_to_end p k s) front tail cut ready fit
 
-  -- so without it none is refused
-  pub replays_without : All (λ e. stands_under k e ≡ false) s → deals_under t whole k.number k.firm k.command ≡ None → first_refused t [] (p ++ s) ≡ None
-  replays_without un under =
-      let m = moves_behind t p k s once none un in
-      (ready_replays t whole ((p ++ s) ++ k ∷ []) (p ++ s) (k ∷ []) once none m.order refl m.others (fit_without under)).replayed
+  -- where nothing stands on what it deals, all others fit, and so without it none is refused
+  pub runs_without : NoneUnder k s → deals_under t whole k.number k.firm k.command ≡ None → Runs t whole [] (p ++ s)
+  runs_without un under = runs_to (p ++ s) (k ∷ []) refl (others_ready un) (λ x y. fit_where_by x y under (deed_of whole x y k.firm k.command) refl)
 
   -- ---- and where what deals is refused
 
@@ -313,19 +243,17 @@ module _ (t : House) (p : List Record) (k : Record) (s : List Record) (once : Nu
       fit_front (agreement t u v) [] (dealings_in whole front u v) (dealings_in whole (change ∷ behind) u v)
       (subst (AllFit (agreement t u v) []) (ap (λ z. dealings_in whole z u v) cut ∙ dealings_append whole front (change ∷ behind) u v) (fit_others u v e))
   front_fits_by x y front change behind cut d deals fit u v (Some f) e =
-      let same = same_pair whole x y u v k.firm k.command d f deals e in
-      subst (λ z. AllFit (agreement t u z) [] (dealings_in whole front u z)) same.1 (subst (λ z. AllFit (agreement t z y) [] (dealings_in whole front z y)) same.0 fit)
+      at_pair (λ u v. AllFit (agreement t u v) [] (dealings_in whole front u v)) x y u v (same_pair whole x y u v k.firm k.command d f deals e) fit
 
-  pub stops_at : (x y : List ℕ) (d : Deed) → deed_of whole x y k.firm k.command ≡ Some d → All (λ e. stands_under k e ≡ false) s
+  pub stops_at : (x y : List ℕ) (d : Deed) → deed_of whole x y k.firm k.command ≡ Some d → NoneUnder k s
       → (n : ℕ) → first_unfit (agreement t x y) [] (dealings_in whole (p ++ s) x y) ≡ Some n → first_refused t [] (p ++ s) ≡ Some n
   stops_at x y d deals un n unfit =
       let c = unfit_cut (agreement t x y) [] (dealings_in whole (p ++ s) x y) n unfit in
       let r = deal_cut whole (p ++ s) x y c.before c.deal c.behind c.is in
-      let m = moves_behind t p k s once none un in
       let order : (p ++ s) ++ k ∷ [] ≡ r.front ++ ((r.change ∷ r.behind) ++ k ∷ []) = ap (λ z. z ++ k ∷ []) r.is ∙ append_assoc r.front (r.change ∷ r.behind) (k ∷ []) in
-      let ready = ready_front whole [] r.front (r.change ∷ r.behind) (subst (λ (z : List Record). in_lawful_order whole [] z ≡ true) r.is m.others) in
+      let ready = ready_front whole [] r.front (r.change ∷ r.behind) (subst (λ (z : List Record). in_lawful_order whole [] z ≡ true) r.is (others_ready un)) in
       let fit_here : AllFit (agreement t x y) [] (dealings_in whole r.front x y) = subst (AllFit (agreement t x y) []) (sym r.deals) c.fit in
-      let runs = ready_replays t whole ((p ++ s) ++ k ∷ []) r.front ((r.change ∷ r.behind) ++ k ∷ []) once none m.order order ready
+      let runs = runs_to r.front ((r.change ∷ r.behind) ++ k ∷ []) order ready
       (λ u v. front_fits_by x y r.front r.change r.behind r.is d deals fit_here u v (deed_of whole u v k.firm k.command) refl) in
       let refused : refusal_of t r.front r.change.firm r.change.command ≡ None → ⊥ = λ accepted.
       let row_none = (refusal_parts t r.front r.change.firm r.change.command accepted).1 in
@@ -335,62 +263,52 @@ module _ (t : House) (p : List Record) (k : Record) (s : List Record) (once : Nu
       let no : fits (agreement t x y) (dealings r.front x y) c.deal.deed ≡ false =
       ap (λ z. fits (agreement t x y) z c.deal.deed) (dealings_grown whole r.front x y runs.grown ∙ r.deals) ∙ c.unfit in
       not_both (fits (agreement t x y) (dealings r.front x y) c.deal.deed) fit no in
-      ap (first_refused t []) r.is
-      ∙ (replay_stops t [] r.front r.change r.behind runs.replayed refused ∙ ap (λ z. Some z) (r.number ∙ c.number))
+      ap (first_refused t []) r.is ∙ (replay_stops t [] r.front r.change r.behind runs.replayed refused ∙ ap (λ z. Some z) (r.number ∙ c.number))
 
   -- ---- the change last, where the others alone fit
 
   abbrev last : List Record
   last = (p ++ s) ++ k ∷ []
 
-  deals_last : (x y : List ℕ) (o : Option Deed) → deed_of whole x y k.firm k.command ≡ o
-      → dealings_in whole last x y ≡ (dealings_in whole p x y ++ dealings_in whole s x y) ++ cons_option (option_map (λ d. record { number = k.number; deed = d }) o) []
-  deals_last x y o e =
-      dealings_append whole (p ++ s) (k ∷ []) x y
-      ∙ (ap (λ z. z ++ dealings_in whole (k ∷ []) x y) (deals_left x y)
-      ∙ ap (λ o. (dealings_in whole p x y ++ dealings_in whole s x y) ++ cons_option (option_map (λ d. record { number = k.number; deed = d }) o) []) e)
+  deals_last : (x y : List ℕ) (d : Deed) → deed_of whole x y k.firm k.command ≡ Some d
+      → dealings_in whole last x y ≡ (dealings_in whole p x y ++ dealings_in whole s x y) ++ numbered k d ∷ []
+  deals_last x y d e = dealings_cut whole (p ++ s) k [] x y (Some d) e ∙ ap (λ z. z ++ numbered k d ∷ []) (dealings_append whole p s x y)
 
   fit_last_by : PairsFit t whole [] (p ++ s) → (x y : List ℕ) (o : Option Deed) → deed_of whole x y k.firm k.command ≡ o → AllFit (agreement t x y) [] (dealings_in whole last x y)
-  fit_last_by others x y None e =
-      subst (AllFit (agreement t x y) []) (sym (deals_last x y None e ∙ (append-nil (dealings_in whole p x y ++ dealings_in whole s x y) ∙ sym (deals_left x y)))) (others x y)
+  fit_last_by others x y None e = subst (AllFit (agreement t x y) []) (sym (dealings_idle whole (p ++ s) k x y e)) (others x y)
   fit_last_by others x y (Some d) e =
-      subst (AllFit (agreement t x y) []) (sym (deals_last x y (Some d) e))
-      (fit_last (agreement t x y) (dealings_in whole p x y) (record { number = k.number; deed = d }) (dealings_in whole s x y)
-      (subst (AllFit (agreement t x y) []) (deals_cut x y (Some d) e) (deals_whole x y)) (subst (AllFit (agreement t x y) []) (deals_left x y) (others x y)))
+      subst (AllFit (agreement t x y) []) (sym (deals_last x y d e))
+      (fit_last (agreement t x y) (dealings_in whole p x y) (numbered k d) (dealings_in whole s x y)
+      (subst (AllFit (agreement t x y) []) (dealings_cut whole p k s x y (Some d) e) (deals_whole x y)) (subst (AllFit (agreement t x y) []) (dealings_append whole p s x y) (others x y)))
 
-  found_last : All (λ e. stands_under k e ≡ false) s → (x y : List ℕ) → dealings last x y ≡ dealings_in whole last x y
-  found_last un x y = dealings_found whole last (same_finds whole last (moved_to_end p k s) once (named_once t whole none)) x y
+  found_last : (x y : List ℕ) → dealings last x y ≡ dealings_in whole last x y
+  found_last x y = dealings_found whole last (finds t whole last legal (moved_to_end p k s)) x y
 
   -- the terms, the limit and the use of a giver and a taker are the same
-  same_by : All (λ e. stands_under k e ≡ false) s → PairsFit t whole [] (p ++ s) → (x y : List ℕ) (o : Option Deed) → deed_of whole x y k.firm k.command ≡ o
+  same_by : PairsFit t whole [] (p ++ s) → (x y : List ℕ) (o : Option Deed) → deed_of whole x y k.firm k.command ≡ o
       → (terms_of t last x y ≡ terms_of t whole x y) × ((limit_of t last x y ≡ limit_of t whole x y) × (used_of last x y ≡ used_of whole x y))
-  same_by un others x y None e =
+  same_by others x y None e =
       let same : dealings last x y ≡ dealings whole x y =
-      found_last un x y ∙ (deals_last x y None e ∙ (append-nil (dealings_in whole p x y ++ dealings_in whole s x y) ∙ sym (deals_cut x y None e))) in
+      found_last x y ∙ (dealings_idle whole (p ++ s) k x y e ∙ (dealings_append whole p s x y ∙ sym (dealings_cut whole p k s x y None e))) in
       (ap (terms_under (agreement t x y)) same, (ap (limit_under (agreement t x y)) same, ap used_under same))
-  same_by un others x y (Some d) e =
+  same_by others x y (Some d) e =
       let xs = dealings_in whole p x y in
       let ys = dealings_in whole s x y in
-      let kd : Dealing = record { number = k.number; deed = d } in
-      let new : dealings last x y ≡ (xs ++ ys) ++ kd ∷ [] = found_last un x y ∙ deals_last x y (Some d) e in
-      let old : dealings whole x y ≡ xs ++ kd ∷ ys = deals_cut x y (Some d) e in
-      let terms : terms_of t last x y ≡ terms_of t whole x y =
-      ap (terms_under (agreement t x y)) new
-      ∙ (terms_last (agreement t x y) xs kd ys (subst (AllFit (agreement t x y) []) old (deals_whole x y)) (subst (AllFit (agreement t x y) []) (deals_left x y) (others x y))
+      let kd : Dealing = numbered k d in
+      let new : dealings last x y ≡ (xs ++ ys) ++ kd ∷ [] = found_last x y ∙ deals_last x y d e in
+      let old : dealings whole x y ≡ xs ++ kd ∷ ys = dealings_cut whole p k s x y (Some d) e in
+      let terms : terms_of t last x y ≡ terms_of t whole x y = ap (terms_under (agreement t x y)) new
+      ∙ (terms_last (agreement t x y) xs kd ys (subst (AllFit (agreement t x y) []) old (deals_whole x y)) (subst (AllFit (agreement t x y) []) (dealings_append whole p s x y) (others x y))
       ∙ sym (ap (terms_under (agreement t x y)) old)) in
       let raised : raised_under (dealings last x y) ≡ raised_under (dealings whole x y) = ap raised_under new ∙ (raised_last xs kd ys ∙ sym (ap raised_under old)) in
       let used : used_under (dealings last x y) ≡ used_under (dealings whole x y) = ap used_under new ∙ (used_last xs kd ys ∙ sym (ap used_under old)) in
       (terms, (ap (option_map (λ (a : Agreement). a.limit + raised_under (dealings last x y))) terms ∙ ap (λ r. option_map (λ (a : Agreement). a.limit + r) (terms_of t whole x y)) raised, used))
 
-  pub stands_last : All (λ e. stands_under k e ≡ false) s → deals_under t whole k.number k.firm k.command ≡ None → (first_refused t [] last ≡ None) × IsSameState t whole last
+  pub stands_last : NoneUnder k s → deals_under t whole k.number k.firm k.command ≡ None → (first_refused t [] last ≡ None) × IsSameState t whole last
   stands_last un under =
-      let m = moves_behind t p k s once none un in
-      let others = fit_without under in
-      let same = λ (x : List ℕ) (y : List ℕ). same_by un others x y (deed_of whole x y k.firm k.command) refl in (
-        (ready_replays t whole last last [] once none m.order (sym (append-nil last)) m.order.after_its_node (λ x y. fit_last_by others x y (deed_of whole x y k.firm k.command) refl)).replayed,
-        state_same t whole last m.order.same once (named_once t whole none) (record {
-          terms = λ x y. (same x y).0;
-          limits = λ x y. (same x y).1.0;
-          used = λ x y. (same x y).1.1;
-        }),
+      let others : PairsFit t whole [] (p ++ s) = λ x y. fit_where_by x y under (deed_of whole x y k.firm k.command) refl in
+      let same = λ (x : List ℕ) (y : List ℕ). same_by others x y (deed_of whole x y k.firm k.command) refl in (
+        (runs_to last [] (sym (append-nil last)) (moves_behind un) (λ x y. fit_last_by others x y (deed_of whole x y k.firm k.command) refl)).replayed,
+        state_same t whole last (moved_to_end p k s) legal.once (named_once t whole legal.replayed)
+            (record { terms = λ x y. (same x y).0; limits = λ x y. (same x y).1.0; used = λ x y. (same x y).1.1 }),
       )

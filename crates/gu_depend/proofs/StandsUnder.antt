@@ -1,34 +1,25 @@
 -- The first change that would be refused without another is the first that the other stands under.
-use Rattle.std.proofs.Common.{◌≡◌, ℕ, zero, suc, ◌+◌, ◌<◌, ◌≤◌, Bool, true, false, not, ◌&&◌, ◌||◌, List, [], ◌∷◌, ◌++◌, length, get_or, refl, sym, ◌∙◌}
-use Rattle.std.proofs.Common.{ap, subst, arith, cond, Option, Contains, All, append_assoc, map, inl, inr}
-use Rattle.std.specs.Prelude.{Some, None, find, count_by, is_some, is_none, option_and_then, option_map, ◌==◌}
-use Rattle.std.specs.Option.{option_or}
-use Rattle.std.specs.List.{list_any, AllByRecursion, IsDistinct}
-use Rattle.std.proofs.lemmas.Bool.Decides.{Decides-eqb}
-use Rattle.std.proofs.lemmas.List.Elements.{All-contains, All-contains_itself, All-filter, Contains-append_right}
-use Rattle.std.proofs.lemmas.List.Folds.{find-append}
+use Rattle.gu_depend.proofs.Vocabulary.{◌≡◌, ℕ, zero, ◌+◌, ◌<◌, ◌≤◌, Bool, true, false, not, ◌&&◌, ◌||◌, List, [], ◌∷◌, ◌++◌, refl, sym}
+use Rattle.gu_depend.proofs.Vocabulary.{◌∙◌, ap, subst, arith, cond, Option, Contains, All, IsPermutation, append_assoc, map, inl, inr, Some, None, find, count_by, is_some, is_none}
+use Rattle.gu_depend.proofs.Vocabulary.{option_and_then, option_map, ◌==◌, option_or, list_any, AllByRecursion, Decides-eqb, All-nil, All-cons, All-weaker, All-contains, All-contains_itself}
+use Rattle.gu_depend.proofs.Vocabulary.{Contains-append_right, find-append, EntryPart, House, node_of, nodes_of, decision_of, is_given, same_name, splits, decides, refusal_of, first_refused}
+use Rattle.gu_depend.proofs.Vocabulary.{IsLegal, without, standing_on, Refusal, Command, Trade, Split, Claim, Refuse, Cancel, Agree, Record, Root, Node, RisesFrom, replay_front}
+use Rattle.gu_depend.proofs.Vocabulary.{HasDistinctNumbers, same_Some, refusal_parts, splits_well, name_same, node_called, made_of, none_is_some, no_some, found_in, find_passes, false_from_ne_true}
+use Rattle.std.specs.List.{IsDistinct}
+use Rattle.std.proofs.lemmas.List.Elements.{All-filter}
 use Rattle.std.proofs.lemmas.Map.Keys.{IsDistinct-cons}
-use Rattle.gu_depend.proofs.Vocabulary.{EntryPart, House, node_of, nodes_of, decision_of, is_given, same_name, splits, decides, refusal_of, first_refused, without, standing_on, Refusal, Command}
-use Rattle.gu_depend.proofs.Vocabulary.{Trade, Split, Claim, Refuse, Cancel, Agree, Raise, Record, Root, Node, RisesFrom}
 use Rattle.gu_depend.specs.Same.{IsSameState}
-use Rattle.gu_base.proofs.LegalLaws.{none_refused, replay_front}
-use Rattle.gu_tree.specs.Shown.{HasDistinctNumbers}
+use Rattle.std.proofs.lemmas.List.Sorted.{IsPermutation-refl}
 use Rattle.gu_depend.specs.Under.{names, is_under, stands_under, deals_under, first_under, IsLeastUnder}
 use Rattle.gu_depend.proofs.Finds.{none_counts, counts_in, found_once, none_before, count_append, count_permuted}
 use Rattle.gu_depend.proofs.Names.{makes, node_by_maker, makers_once}
-use Rattle.gu_depend.proofs.NamedOnce.{named_once}
+use Rattle.gu_depend.proofs.NamedOnce.{NamedOnce, named_once}
 use Rattle.gu_depend.proofs.Grown.{NamesThere, SplitsDecided, Grown}
-use Rattle.gu_depend.proofs.Settled.{accepted_there, front_facts}
-use Rattle.gu_depend.proofs.Replay.{NumbersOnce, number_once, same_finds, order_within, ready_replays}
-use Rattle.gu_depend.proofs.Cuts.{cut_at, stands_between, first_cut, none_passes, moved_to_end}
+use Rattle.gu_depend.proofs.Settled.{offered_again, accepted_there, front_facts}
+use Rattle.gu_depend.proofs.Replay.{Legal, legal_list, finds, order_within}
+use Rattle.gu_depend.proofs.Cuts.{by_cut, stands_between, first_cut, none_passes, moved_to_end}
 use Rattle.gu_depend.proofs.Deals.{deals_some}
-use Rattle.gu_depend.proofs.StandsLast.{replay_rest, replay_stops, not_both, gone, unfit_here, fit_without, moves_behind, replays_without, stops_at, stands_last}
-use Rattle.std.proofs.lemmas.Option.{same_Some}
-use Rattle.gu_base.proofs.Passing.{refusal_parts, splits_well}
-use Rattle.gu_base.proofs.NodeNames.{name_same, node_called, made_of}
-use Rattle.gu_base.proofs.Basics.{none_is_some, no_some}
-use Rattle.gu_base.proofs.Searches.{found_in, find_passes}
-use Rattle.std.proofs.lemmas.Bool.{false_from_ne_true}
+use Rattle.gu_depend.proofs.StandsLast.{NoneUnder, replay_stops, not_both, accepted_at, gone, unfit_here, runs_without, stops_at, stands_last}
 
 -- ---- what a change stands under
 
@@ -80,165 +71,163 @@ record Missing (k : Record) (y : List Record) : Type 0 where
   nodes_gone : (n : EntryPart) (x : Node) → made_of k n ≡ Some x → node_of y n ≡ None
   decisions_gone : (n : EntryPart) → decides n k.command ≡ true → decision_of y n ≡ None
 
-missing_before : (y : List Record) (k : Record) (rest : List Record) → NumbersOnce (y ++ k ∷ rest) → ((n : EntryPart) → count_by (λ r. decides n r.command) (y ++ k ∷ rest) ≤ 1)
-    → Missing k y
-missing_before y k rest once alone = record {
-  nodes_gone = λ n x h. node_by_maker y n ∙ ap (option_and_then (λ r. made_of r n)) (none_before (makes n) y k rest (makers_once (y ++ k ∷ rest) n (once n.entry)) (ap is_some h));
-  decisions_gone = λ n h. none_before (λ r. decides n r.command) y k rest (alone n) h;
+missing : (t : House) (l y : List Record) (k : Record) (rest : List Record) → Legal t l → IsPermutation l (y ++ k ∷ rest) → Missing k y
+missing t l y k rest legal same = record {
+  nodes_gone = λ n x h. node_by_maker y n ∙ ap (option_and_then (λ r. made_of r n)) (absent (makes n) (makers_once l n (legal.once n.entry)) (ap is_some h));
+  decisions_gone = λ n h. absent (λ r. decides n r.command) ((named_once t l legal.replayed).decisions_once n) h;
 }
-
--- ---- no change stands under one before it, or under itself
-
-above_none : (t : House) (p : List Record) (k : Record) (s : List Record) → NumbersOnce (p ++ k ∷ s) → first_refused t [] (p ++ k ∷ s) ≡ None
-    → (e : Record) → Contains p e → Under k.number k.firm k.command e.command → ⊥
-above_none t p k s once none e among (part n x is h) =
-    let f = front_facts t (p ++ k ∷ s) p (k ∷ s) refl none in
-    let m = missing_before p k s once (named_once t (p ++ k ∷ s) none).decisions_once in
-    let y = All-contains (NamesThere p) p e f.grown.named among n is in
-    none_is_some (node_of p n) y.0 (m.nodes_gone n x h) y.1
-above_none t p k s once none e among (decided n split h) =
-    let f = front_facts t (p ++ k ∷ s) p (k ∷ s) refl none in
-    let sn = named_once t (p ++ k ∷ s) none in
-    let m = missing_before p k s once sn.decisions_once in
-    let same = All-contains (SplitsDecided (p ++ k ∷ s) p) p e f.grown.decided among n split in
-    none_is_some (decision_of p n) k (m.decisions_gone n h) (same ∙ found_once (λ r. decides n r.command) (p ++ k ∷ s) k (stands_between p k s) h (sn.decisions_once n))
-
-itself_none : (t : House) (p : List Record) (k : Record) (s : List Record) → NumbersOnce (p ++ k ∷ s) → first_refused t [] (p ++ k ∷ s) ≡ None
-    → Under k.number k.firm k.command k.command → ⊥
-itself_none t p k s once none (part n x is h) =
-    let m = missing_before p k s once (named_once t (p ++ k ∷ s) none).decisions_once in
-    let here = none_refused (refusal_of t p k.firm k.command) k.number (first_refused t (p ++ k ∷ []) s) (replay_rest t [] p (k ∷ s) none) in
-    let y = accepted_there t p k.firm k.command (refusal_parts t p k.firm k.command here.0).1 n is in
-    none_is_some (node_of p n) y.0 (m.nodes_gone n x h) y.1
-itself_none t p k s once none (decided n split h) = no_split_decides n k.command split h
+  where
+    absent : (p : Record → Bool) → count_by p l ≤ 1 → p k ≡ true → find p y ≡ None
+    absent p once passes = none_before p y k rest (omega (arith, count_permuted p l (y ++ k ∷ rest) same, once)) passes
 
 not_under : (k e : Record) → (Under k.number k.firm k.command e.command → ⊥) → stands_under k e ≡ false
 not_under k e absent = false_from_ne_true (stands_under k e) (λ h. absent (under_is k.number k.firm k.command e.command h))
 
--- so the first that it stands under is behind it
-found_behind : (t : House) (p : List Record) (k : Record) (s : List Record) → NumbersOnce (p ++ k ∷ s) → first_refused t [] (p ++ k ∷ s) ≡ None
-    → find (stands_under k) (p ++ k ∷ s) ≡ find (stands_under k) s
-found_behind t p k s once none =
-    let before = no_some (find (stands_under k) p)
-    (λ e h. above_none t p k s once none e (found_in (stands_under k) p e h) (under_is k.number k.firm k.command e.command (find_passes (stands_under k) p e h))) in
-    let itself = not_under k k (itself_none t p k s once none) in
-    find-append (stands_under k) p (k ∷ s)
-    ∙ (ap (λ o. option_or o (find (stands_under k) (k ∷ s))) before
-    ∙ ap (λ b. cond b (Some k) (find (stands_under k) s)) itself)
-
--- ---- a change that it stands under is refused without it
-
-offered_again : (g : Bool) → g ≡ true → not (g && true) ≡ true → ⊥
-offered_again g e h = cc
-
-refused_under : (t : House) (p : List Record) (k : Record) (s : List Record) → NumbersOnce (p ++ k ∷ s) → first_refused t [] (p ++ k ∷ s) ≡ None
-    → (by : List ℕ) (c : Command) → Under k.number k.firm k.command c → refusal_of t (p ++ s) by c ≡ None → ⊥
-refused_under t p k s once none by c (part n x is h) accepted =
-    let l : List Record = p ++ k ∷ s in
-    let same = moved_to_end p k s in
-    let sn = named_once t l none in
-    let m = missing_before (p ++ s) k [] (λ n. omega (arith, count_permuted (λ r. r.number == n) l ((p ++ s) ++ k ∷ []) same, once n))
-    (λ n. omega (arith, count_permuted (λ r. decides n r.command) l ((p ++ s) ++ k ∷ []) same, sn.decisions_once n)) in
-    let y = accepted_there t (p ++ s) by c (refusal_parts t (p ++ s) by c accepted).1 n is in
-    none_is_some (node_of (p ++ s) n) y.0 (m.nodes_gone n x h) y.1
-refused_under t p k s once none by c (decided n split h) accepted =
-    let l : List Record = p ++ k ∷ s in
-    let same = moved_to_end p k s in
-    let sn = named_once t l none in
-    let m = missing_before (p ++ s) k [] (λ n. omega (arith, count_permuted (λ r. r.number == n) l ((p ++ s) ++ k ∷ []) same, once n))
-    (λ n. omega (arith, count_permuted (λ r. decides n r.command) l ((p ++ s) ++ k ∷ []) same, sn.decisions_once n)) in
-    let w = order_within l ((p ++ s) ++ k ∷ []) (p ++ s) (k ∷ []) (same_finds l ((p ++ s) ++ k ∷ []) same once sn) refl in
-    let y = splits_well t (p ++ s) by c n (refusal_parts t (p ++ s) by c accepted).1 split in
-    let x = sn.given n k (found_once (λ r. decides n r.command) l k (stands_between p k s) h (sn.decisions_once n)) in
-    let one : x.0 ≡ y.node = same_Some x.0 y.node (sym x.1.0 ∙ w.nodes n y.node y.there) in
-    let given : is_given y.node.kind ≡ true = subst (λ (z : Node). is_given z.kind ≡ true) one x.1.1 in
-    let none_there : decision_of (p ++ s) y.node.name ≡ None = ap (decision_of (p ++ s)) (node_called (p ++ s) n y.node y.there) ∙ m.decisions_gone n h in
-    offered_again (is_given y.node.kind) given (sym (ap (λ o. not (is_given y.node.kind && is_none o)) none_there) ∙ y.free)
-
--- ---- the law
-
-numbers_front : (xs ys : List Record) → NumbersOnce (xs ++ ys) → NumbersOnce xs
-numbers_front xs ys once n = omega (arith, count_append (λ r. r.number == n) xs ys, once n)
+legal_front : (t : House) (xs ys : List Record) → Legal t (xs ++ ys) → Legal t xs
+legal_front t xs ys legal = record { once = λ n. omega (arith, count_append (λ r. r.number == n) xs ys, legal.once n); replayed = replay_front t [] xs ys legal.replayed }
 
 -- what stands under a node deals for nobody's terms
 deals_none : (t : House) (l : List Record) (k : ℕ) (by : List ℕ) (d c : Command) → is_under k by d c ≡ true → deals_under t l k by d ≡ None
 deals_none t l k by (Agree _ _ _ _) c h = absurd (cc)
-deals_none t l k by (Raise _ _) c h = absurd (cc)
-deals_none t l k by _ c h = refl
+deals_none t l k by _ c h = cc
 
--- where nothing stands under it by a node, it is the first that stands under what it deals
-standing_deals : (t : House) (p : List Record) (k : Record) (s : List Record) → NumbersOnce (p ++ k ∷ s) → first_refused t [] (p ++ k ∷ s) ≡ None → All (λ e. stands_under k e ≡ false) s
-    → (o : Option ℕ) → deals_under t (p ++ k ∷ s) k.number k.firm k.command ≡ o → first_refused t [] (p ++ s) ≡ o
-standing_deals t p k s once none un None e = replays_without t p k s once none un e
-standing_deals t p k s once none un (Some n) e =
-    let d = deals_some t (p ++ k ∷ s) k.number k.firm k.command n e in
-    stops_at t p k s once none d.giver d.taker d.deed d.deals un n (unfit_here t p k s once none d.giver d.taker d.deed d.deals ∙ e)
+-- where the first of two is none, so is the second
+free_by : (o : Option Record) (q : Option ℕ) → option_or (option_map (λ (e : Record). e.number) o) q ≡ None → (o ≡ None) × (q ≡ None)
+free_by None q h = (refl, h)
+free_by (Some e) q h = absurd (cc)
 
-standing_by : (t : House) (p : List Record) (k : Record) (s : List Record) → NumbersOnce (p ++ k ∷ s) → first_refused t [] (p ++ k ∷ s) ≡ None
-    → (o : Option Record) → find (stands_under k) s ≡ o
+module _ (t : House) (p : List Record) (k : Record) (s : List Record) (legal : Legal t (p ++ k ∷ s)) where
+  abbrev l : List Record
+  l = p ++ k ∷ s
+
+  abbrev sn : NamedOnce l
+  sn = named_once t l legal.replayed
+
+  before : Missing k p
+  before = missing t l p k s legal (IsPermutation-refl l)
+
+  -- no change stands under one before it
+  above_none : (e : Record) → Contains p e → Under k.number k.firm k.command e.command → ⊥
+  above_none e among (part n x is h) =
+      let y = All-contains (NamesThere p) p e (front_facts t l p (k ∷ s) refl legal.replayed).grown.named among n is in
+      none_is_some (node_of p n) y.0 (before.nodes_gone n x h) y.1
+  above_none e among (decided n split h) =
+      let same = All-contains (SplitsDecided l p) p e (front_facts t l p (k ∷ s) refl legal.replayed).grown.decided among n split in
+      none_is_some (decision_of p n) k (before.decisions_gone n h) (same ∙ found_once (λ r. decides n r.command) l k (stands_between p k s) h (sn.decisions_once n))
+
+  -- or under itself
+  itself_none : Under k.number k.firm k.command k.command → ⊥
+  itself_none (part n x is h) =
+      let y = accepted_there t p k.firm k.command (accepted_at t l p k s legal refl) n is in
+      none_is_some (node_of p n) y.0 (before.nodes_gone n x h) y.1
+  itself_none (decided n split h) = no_split_decides n k.command split h
+
+  -- so the first that it stands under is behind it
+  found_behind : find (stands_under k) l ≡ find (stands_under k) s
+  found_behind =
+      let none = no_some (find (stands_under k) p) (λ e h. above_none e (found_in (stands_under k) p e h) (under_is k.number k.firm k.command e.command (find_passes (stands_under k) p e h))) in
+      find-append (stands_under k) p (k ∷ s)
+      ∙ (ap (λ o. option_or o (find (stands_under k) (k ∷ s))) none ∙ ap (λ b. cond b (Some k) (find (stands_under k) s)) (not_under k k itself_none))
+
+  -- a change that it stands under is refused without it
+  refused_under : (by : List ℕ) (c : Command) → Under k.number k.firm k.command c → refusal_of t (p ++ s) by c ≡ None → ⊥
+  refused_under by c (part n x is h) accepted =
+      let y = accepted_there t (p ++ s) by c (refusal_parts t (p ++ s) by c accepted).1 n is in
+      none_is_some (node_of (p ++ s) n) y.0 ((missing t l (p ++ s) k [] legal (moved_to_end p k s)).nodes_gone n x h) y.1
+  refused_under by c (decided n split h) accepted =
+      let same = moved_to_end p k s in
+      let w = order_within l ((p ++ s) ++ k ∷ []) (p ++ s) (k ∷ []) (finds t l ((p ++ s) ++ k ∷ []) legal same) refl in
+      let y = splits_well t (p ++ s) by c n (refusal_parts t (p ++ s) by c accepted).1 split in
+      let x = sn.given n k (found_once (λ r. decides n r.command) l k (stands_between p k s) h (sn.decisions_once n)) in
+      let one : x.0 ≡ y.node = same_Some x.0 y.node (sym x.1.0 ∙ w.nodes n y.node y.there) in
+      let given : is_given y.node.kind ≡ true = subst (λ (z : Node). is_given z.kind ≡ true) one x.1.1 in
+      let none_there : decision_of (p ++ s) y.node.name ≡ None =
+      ap (decision_of (p ++ s)) (node_called (p ++ s) n y.node y.there) ∙ (missing t l (p ++ s) k [] legal same).decisions_gone n h in
+      offered_again (is_given y.node.kind) given (sym (ap (λ o. not (is_given y.node.kind && is_none o)) none_there) ∙ y.free)
+
+  -- where nothing stands under it by a node, it is the first that stands under what it deals
+  standing_deals : NoneUnder k s → (o : Option ℕ) → deals_under t l k.number k.firm k.command ≡ o → first_refused t [] (p ++ s) ≡ o
+  standing_deals un None e = (runs_without t p k s legal un e).replayed
+  standing_deals un (Some n) e =
+      let d = deals_some t l k.number k.firm k.command n e in
+      stops_at t p k s legal d.giver d.taker d.deed d.deals un n (unfit_here t p k s legal d.giver d.taker d.deed d.deals ∙ e)
+
+-- ---- the law
+
+standing_by : (t : House) (p : List Record) (k : Record) (s : List Record) → Legal t (p ++ k ∷ s) → (o : Option Record) → find (stands_under k) s ≡ o
     → first_refused t [] (p ++ s) ≡ option_or (option_map (λ e. e.number) o) (deals_under t (p ++ k ∷ s) k.number k.firm k.command)
-standing_by t p k s once none None found = standing_deals t p k s once none (none_passes (stands_under k) s found) (deals_under t (p ++ k ∷ s) k.number k.firm k.command) refl
-standing_by t p k s once none (Some e) found =
+standing_by t p k s legal None found = standing_deals t p k s legal (none_passes (stands_under k) s found) (deals_under t (p ++ k ∷ s) k.number k.firm k.command) refl
+standing_by t p k s legal (Some e) found =
     let c = first_cut (stands_under k) s e found in
-    let whole : p ++ k ∷ s ≡ (p ++ k ∷ c.before) ++ e ∷ c.behind = ap (λ z. p ++ k ∷ z) c.is ∙ sym (append_assoc p (k ∷ c.before) (e ∷ c.behind)) in
-    let once_front = numbers_front (p ++ k ∷ c.before) (e ∷ c.behind) (subst NumbersOnce whole once) in
-    let none_front = replay_front t [] (p ++ k ∷ c.before) (e ∷ c.behind) (subst (λ (z : List Record). first_refused t [] z ≡ None) whole none) in
-    let under = under_is k.number k.firm k.command e.command c.passes in
-    let stops = replay_stops t [] (p ++ c.before) e c.behind
-    (replays_without t p k c.before once_front none_front c.none (deals_none t (p ++ k ∷ c.before) k.number k.firm k.command e.command c.passes))
-    (refused_under t p k c.before once_front none_front e.firm e.command under) in
-    let cut : p ++ s ≡ (p ++ c.before) ++ e ∷ c.behind = ap (λ z. p ++ z) c.is ∙ sym (append_assoc p c.before (e ∷ c.behind)) in
-    ap (first_refused t []) cut ∙ stops
+    let cut : p ++ k ∷ s ≡ (p ++ k ∷ c.before) ++ e ∷ c.behind = ap (λ z. p ++ k ∷ z) c.is ∙ sym (append_assoc p (k ∷ c.before) (e ∷ c.behind)) in
+    let front = legal_front t (p ++ k ∷ c.before) (e ∷ c.behind) (subst (Legal t) cut legal) in
+    let runs = runs_without t p k c.before front c.none (deals_none t (p ++ k ∷ c.before) k.number k.firm k.command e.command c.passes) in
+    ap (first_refused t []) (ap (λ z. p ++ z) c.is ∙ sym (append_assoc p c.before (e ∷ c.behind)))
+    ∙ replay_stops t [] (p ++ c.before) e c.behind runs.replayed (refused_under t p k c.before front e.firm e.command (under_is k.number k.firm k.command e.command c.passes))
 
-standing_cut : (t : House) (p : List Record) (k : Record) (s : List Record) → NumbersOnce (p ++ k ∷ s) → first_refused t [] (p ++ k ∷ s) ≡ None
-    → standing_on t (p ++ k ∷ s) k.number ≡ first_under t (p ++ k ∷ s) k
-standing_cut t p k s once none =
-    ap (first_refused t []) (gone t p k s once none)
-    ∙ (standing_by t p k s once none (find (stands_under k) s) refl
-    ∙ sym (ap (λ o. option_or (option_map (λ (e : Record). e.number) o) (deals_under t (p ++ k ∷ s) k.number k.firm k.command)) (found_behind t p k s once none)))
+standing_cut : (t : House) (p : List Record) (k : Record) (s : List Record) → Legal t (p ++ k ∷ s) → standing_on t (p ++ k ∷ s) k.number ≡ first_under t (p ++ k ∷ s) k
+standing_cut t p k s legal =
+    ap (first_refused t []) (gone t p k s legal)
+    ∙ (standing_by t p k s legal (find (stands_under k) s) refl
+    ∙ sym (ap (λ o. option_or (option_map (λ (e : Record). e.number) o) (deals_under t (p ++ k ∷ s) k.number k.firm k.command)) (found_behind t p k s legal)))
 
-pub standing_is_first : (t : House) (l : List Record) (k : Record) → NumbersOnce l → first_refused t [] l ≡ None → Contains l k → standing_on t l k.number ≡ first_under t l k
-standing_is_first t l k once none among =
-    let c = cut_at l k among in
-    subst (λ (z : List Record). standing_on t z k.number ≡ first_under t z k) (sym c.is)
-    (standing_cut t c.before k c.behind (subst NumbersOnce c.is once) (subst (λ (z : List Record). first_refused t [] z ≡ None) c.is none))
+pub standing_is_first : (t : House) (l : List Record) (k : Record) → Legal t l → Contains l k → standing_on t l k.number ≡ first_under t l k
+standing_is_first t l k legal among = by_cut (λ l. Legal t l → standing_on t l k.number ≡ first_under t l k) l k among (λ p s legal. standing_cut t p k s legal) legal
+
+-- ---- where nothing stands on a change
+
+-- it can as well stand last, and the others say of their nodes what the whole says
+pub record CanGo (t : House) (l : List Record) (k : Record) : Type 0 where
+  pub last : first_refused t [] (without l k.number ++ k ∷ []) ≡ None
+  pub same : IsSameState t l (without l k.number ++ k ∷ [])
+  pub grown : Grown l (without l k.number)
+
+go_cut : (t : House) (p : List Record) (k : Record) (s : List Record) → Legal t (p ++ k ∷ s) → standing_on t (p ++ k ∷ s) k.number ≡ None → CanGo t (p ++ k ∷ s) k
+go_cut t p k s legal free =
+    let under = free_by (find (stands_under k) (p ++ k ∷ s)) (deals_under t (p ++ k ∷ s) k.number k.firm k.command) (sym (standing_cut t p k s legal) ∙ free) in
+    let behind = none_passes (stands_under k) s (sym (found_behind t p k s legal) ∙ under.0) in
+    let others = sym (gone t p k s legal) in
+    let last = stands_last t p k s legal behind under.1 in
+    record {
+      last = subst (λ (z : List Record). first_refused t [] (z ++ k ∷ []) ≡ None) others last.0;
+      same = subst (λ (z : List Record). IsSameState t (p ++ k ∷ s) (z ++ k ∷ [])) others last.1;
+      grown = subst (Grown (p ++ k ∷ s)) others (runs_without t p k s legal behind under.1).grown;
+    }
+
+pub can_go : (t : House) (l : List Record) (k : Record) → Legal t l → Contains l k → standing_on t l k.number ≡ None → CanGo t l k
+can_go t l k legal among free = by_cut (λ l. Legal t l → standing_on t l k.number ≡ None → CanGo t l k) l k among (λ p s legal free. go_cut t p k s legal free) legal free
 
 -- ---- in the order of the numbers
 
-rises_above : (n : ℕ) (l : List Record) → RisesFrom n l → (i : ℕ) (d : Record) → i < length l → n ≤ (get_or l i d).number
-rises_above n [] rises i d within = absurd (omega arith)
-rises_above n (r ∷ l) rises zero d within = rises.0
-rises_above n (r ∷ l) rises (suc i) d within =
+rises_above : (n : ℕ) (l : List Record) → RisesFrom n l → All (λ d. n ≤ d.number) l
+rises_above n [] rises = All-nil (λ (d : Record). n ≤ d.number)
+rises_above n (r ∷ l) rises =
     let here : n ≤ r.number = rises.0 in
-    let later : r.number + 1 ≤ (get_or l i d).number = rises_above (r.number + 1) l rises.1 i d (omega arith) in
-    omega (arith, here, later)
+    All-cons (λ (d : Record). n ≤ d.number) r l here
+    (All-weaker (λ (d : Record). r.number + 1 ≤ d.number) (λ (d : Record). n ≤ d.number) (λ d h. omega (arith, here, h)) l (rises_above (r.number + 1) l rises.1))
 
-least_at : (p : Record → Bool) (r : Record) (l : List Record) (n : ℕ) → RisesFrom n (r ∷ l) → (e : Record)
-    → ((i : ℕ) (d : Record) → find p l ≡ Some e → i < length l → p (get_or l i d) ≡ true → e.number ≤ (get_or l i d).number)
-    → (i : ℕ) (d : Record) → i < length (r ∷ l) → p (get_or (r ∷ l) i d) ≡ true → (b : Bool) → p r ≡ b → cond b (Some r) (find p l) ≡ Some e
-    → e.number ≤ (get_or (r ∷ l) i d).number
-least_at p r l n rises e later zero d within passes true is h = let one : r.number ≡ e.number = ap (λ (z : Record). z.number) (same_Some r e h) in omega (arith, one)
-least_at p r l n rises e later zero d within passes false is h = absurd (not_both (p r) passes is)
-least_at p r l n rises e later (suc i) d within passes true is h =
-    let one : r.number ≡ e.number = ap (λ (z : Record). z.number) (same_Some r e h) in
-    let above : r.number + 1 ≤ (get_or l i d).number = rises_above (r.number + 1) l rises.1 i d (omega arith) in
-    omega (arith, one, above)
-least_at p r l n rises e later (suc i) d within passes false is h = later i d h (omega arith) passes
+-- each that passes has this number or a later one
+abbrev pub PassesFrom : (Record → Bool) → ℕ → Record → Type 0
+PassesFrom p n d = p d ≡ true → n ≤ d.number
+
+least_at : (p : Record → Bool) (r : Record) (l : List Record) (n : ℕ) → RisesFrom n (r ∷ l) → (e : Record) → (find p l ≡ Some e → All (PassesFrom p e.number) l)
+    → (b : Bool) → p r ≡ b → cond b (Some r) (find p l) ≡ Some e → All (PassesFrom p e.number) (r ∷ l)
+least_at p r l n rises e later true is h =
+    subst (λ (z : Record). All (PassesFrom p z.number) (r ∷ l)) (same_Some r e h) (All-cons (PassesFrom p r.number) r l (λ passes. omega arith)
+    (All-weaker (λ (d : Record). r.number + 1 ≤ d.number) (PassesFrom p r.number) (λ d h passes. omega (arith, h)) l (rises_above (r.number + 1) l rises.1)))
+least_at p r l n rises e later false is h = All-cons (PassesFrom p e.number) r l (λ passes. absurd (not_both (p r) passes is)) (later h)
 
 -- the first that passes has the least number
-least : (p : Record → Bool) (n : ℕ) (l : List Record) → RisesFrom n l → (e : Record) (i : ℕ) (d : Record) → find p l ≡ Some e → i < length l → p (get_or l i d) ≡ true
-    → e.number ≤ (get_or l i d).number
-least p n [] rises e i d h within passes = absurd (omega arith)
-least p n (r ∷ l) rises e i d h within passes = least_at p r l n rises e (λ i d h within passes. least p (r.number + 1) l rises.1 e i d h within passes) i d within passes (p r) refl h
+pub first_is_least : (p : Record → Bool) (n : ℕ) (l : List Record) → RisesFrom n l → (e : Record) → find p l ≡ Some e → All (PassesFrom p e.number) l
+first_is_least p n [] rises e h = absurd (cc)
+first_is_least p n (r ∷ l) rises e h = least_at p r l n rises e (first_is_least p (r.number + 1) l rises.1 e) (p r) refl h
 
 rises_apart : (k n : ℕ) (l : List Record) → k < n → RisesFrom n l → AllByRecursion (λ y. (k == y) ≡ false) (map (λ r. r.number) l)
 rises_apart k n [] less rises = tt
 rises_apart k n (r ∷ l) less rises =
-    let here : n ≤ r.number = rises.0 in (
-      false_from_ne_true (k == r.number) (λ h. let e : k ≡ r.number = (Decides-eqb k r.number).0 h in absurd (omega (arith, e, here, less))),
-      rises_apart k (r.number + 1) l
-          (omega (arith, here, less)) rises.1,
-    )
+    let here : n ≤ r.number = rises.0 in
+    let apart = false_from_ne_true (k == r.number) (λ h. let e : k ≡ r.number = (Decides-eqb k r.number).0 h in absurd (omega (arith, e, here, less))) in
+    (apart, rises_apart k (r.number + 1) l (omega (arith, here, less)) rises.1)
 
 no_numbers : IsDistinct (λ a b. a == b) []
 unfolding IsDistinct
@@ -248,6 +237,9 @@ pub rises_distinct : (n : ℕ) (l : List Record) → RisesFrom n l → HasDistin
 rises_distinct n [] rises = no_numbers
 rises_distinct n (r ∷ l) rises =
     IsDistinct-cons (λ a b. a == b) r.number (map (λ r. r.number) l) (rises_apart r.number (r.number + 1) l (omega arith) rises.1) (rises_distinct (r.number + 1) l rises.1)
+
+pub legal_rising : (t : House) (l : List Record) → RisesFrom 0 l → IsLegal t l → Legal t l
+legal_rising t l rises legal = legal_list t l (rises_distinct 0 l rises) legal
 
 -- the change that is refused first is one of the list
 refused_at : (t : House) (b : List Record) (r : Record) (rest : List Record) (n : ℕ) → (first_refused t (b ++ r ∷ []) rest ≡ Some n → (e : Record) × (Contains rest e × (e.number ≡ n)))
@@ -259,7 +251,7 @@ refused_in : (t : House) (b rest : List Record) (n : ℕ) → first_refused t b 
 refused_in t b [] n h = absurd (cc)
 refused_in t b (r ∷ rest) n h = refused_at t b r rest n (refused_in t (b ++ r ∷ []) rest n) (refusal_of t b r.firm r.command) h
 
-in_whole : (l : List Record) (k : ℕ) (e : Record) → Contains (without l k) e → Contains l e
+pub in_whole : (l : List Record) (k : ℕ) (e : Record) → Contains (without l k) e → Contains l e
 in_whole l k e among = All-contains (Contains l) (without l k) e (All-filter (λ (r : Record). not (r.number == k)) (Contains l) l (All-contains_itself l)) among
 
 module _ (t : House) (l : List Record) (k : Record) (rises : RisesFrom 0 l) where
@@ -289,56 +281,12 @@ module _ (t : House) (l : List Record) (k : Record) (rises : RisesFrom 0 l) wher
     inl (find_passes (stands_under k) l e found),
     refl,
     λ d among under. elim under [
-      | inl node ↦ (
-          let at : get_or l among.0 d ≡ d = among.2 in
-          let low = least (stands_under k) 0 l rises e among.0 d found among.1 (ap (stands_under k) at ∙ node) in
-          subst (λ (z : Record). e.number ≤ z.number) at low)
+      | inl node ↦ All-contains (PassesFrom (stands_under k) e.number) l d (first_is_least (stands_under k) 0 l rises e found) among node
       | inr deal ↦ absurd (none_is_some (deals_under t l k.number k.firm k.command) d.number (deals_none t l k.number k.firm k.command e.command (find_passes (stands_under k) l e found)) deal)
     ],
   )
 
-pub standing_is_least : (t : House) (l : List Record) (k : Record) → RisesFrom 0 l → first_refused t [] l ≡ None → Contains l k → IsLeastUnder t l k (standing_on t l k.number)
-standing_is_least t l k rises none among =
-    let first = standing_is_first t l k (number_once l (rises_distinct 0 l rises)) none among in
+pub standing_is_least : (t : House) (l : List Record) (k : Record) → RisesFrom 0 l → Legal t l → Contains l k → IsLeastUnder t l k (standing_on t l k.number)
+standing_is_least t l k rises legal among =
+    let first = standing_is_first t l k legal among in
     subst (IsLeastUnder t l k) (sym first) (least_by t l k rises (find (stands_under k) l) refl first)
-
--- ---- where nothing stands on a change
-
-free_by : (o : Option Record) (q : Option ℕ) → option_or (option_map (λ (e : Record). e.number) o) q ≡ None → (o ≡ None) × (q ≡ None)
-free_by None q h = (refl, h)
-free_by (Some e) q h = absurd (cc)
-
-last_cut : (t : House) (p : List Record) (k : Record) (s : List Record) → NumbersOnce (p ++ k ∷ s) → first_refused t [] (p ++ k ∷ s) ≡ None
-    → standing_on t (p ++ k ∷ s) k.number ≡ None → (first_refused t [] (without (p ++ k ∷ s) k.number ++ k ∷ []) ≡ None)
-    × IsSameState t (p ++ k ∷ s) (without (p ++ k ∷ s) k.number ++ k ∷ [])
-last_cut t p k s once none free =
-    let under = free_by (find (stands_under k) (p ++ k ∷ s)) (deals_under t (p ++ k ∷ s) k.number k.firm k.command) (sym (standing_cut t p k s once none) ∙ free) in
-    let behind = none_passes (stands_under k) s (sym (found_behind t p k s once none) ∙ under.0) in
-    subst (λ (z : List Record). (first_refused t [] (z ++ k ∷ []) ≡ None) × IsSameState t (p ++ k ∷ s) (z ++ k ∷ [])) (sym (gone t p k s once none))
-    (stands_last t p k s once none behind under.1)
-
--- then it can as well stand last
-pub can_stand_last : (t : House) (l : List Record) (k : Record) → NumbersOnce l → first_refused t [] l ≡ None → Contains l k → standing_on t l k.number ≡ None
-    → (first_refused t [] (without l k.number ++ k ∷ []) ≡ None) × IsSameState t l (without l k.number ++ k ∷ [])
-can_stand_last t l k once none among free =
-    let c = cut_at l k among in
-    subst (λ (z : List Record). (first_refused t [] (without z k.number ++ k ∷ []) ≡ None) × IsSameState t z (without z k.number ++ k ∷ [])) (sym c.is)
-    (last_cut t c.before k c.behind (subst NumbersOnce c.is once) (subst (λ (z : List Record). first_refused t [] z ≡ None) c.is none)
-    (subst (λ (z : List Record). standing_on t z k.number ≡ None) c.is free))
-
-less_cut : (t : House) (p : List Record) (k : Record) (s : List Record) → NumbersOnce (p ++ k ∷ s) → first_refused t [] (p ++ k ∷ s) ≡ None
-    → standing_on t (p ++ k ∷ s) k.number ≡ None → Grown (p ++ k ∷ s) (without (p ++ k ∷ s) k.number)
-less_cut t p k s once none free =
-    let under = free_by (find (stands_under k) (p ++ k ∷ s)) (deals_under t (p ++ k ∷ s) k.number k.firm k.command) (sym (standing_cut t p k s once none) ∙ free) in
-    let behind = none_passes (stands_under k) s (sym (found_behind t p k s once none) ∙ under.0) in
-    let m = moves_behind t p k s once none behind in
-    subst (Grown (p ++ k ∷ s)) (sym (gone t p k s once none))
-    (ready_replays t (p ++ k ∷ s) ((p ++ s) ++ k ∷ []) (p ++ s) (k ∷ []) once none m.order refl m.others (fit_without t p k s once none under.1)).grown
-
--- and the others say of their nodes what the whole says
-pub grown_less : (t : House) (l : List Record) (k : Record) → NumbersOnce l → first_refused t [] l ≡ None → Contains l k → standing_on t l k.number ≡ None → Grown l (without l k.number)
-grown_less t l k once none among free =
-    let c = cut_at l k among in
-    subst (λ (z : List Record). Grown z (without z k.number)) (sym c.is)
-    (less_cut t c.before k c.behind (subst NumbersOnce c.is once) (subst (λ (z : List Record). first_refused t [] z ≡ None) c.is none)
-    (subst (λ (z : List Record). standing_on t z k.number ≡ None) c.is free))

@@ -1,20 +1,17 @@
 -- Lists that find the same, and have the same changes, leave the same trees, positions and fees.
-use Rattle.std.proofs.Common.{◌≡◌, ℕ, zero, suc, ◌+◌, ◌*◌, ◌≤◌, Bool, true, false, ◌&&◌, List, [], ◌∷◌, length, refl, sym, ◌∙◌, ap, arith, cond, Option}
-use Rattle.std.proofs.Common.{IsPermutation}
-use Rattle.std.specs.Prelude.{Some, None, find, flat_map, filter, sum_by, count_by, option_and_then, option_map, unwrap_or, is_some, is_none, bytes_eq, ◌==◌}
-use Rattle.std.proofs.lemmas.List.Elements.{filter-append}
-use Rattle.std.proofs.lemmas.List.Sums.{sum_by-cons, sum_by-append, sum_by-le-sum_by}
-use Rattle.std.proofs.lemmas.List.Sorted.{sum_by-IsPermutation}
-use Rattle.gu_depend.proofs.Vocabulary.{EntryPart, House, agreement, node_of, nodes, split_of, claim_of, claimed_account, parent, line_within, line_of, place_of_kind, place_along, place_of}
-use Rattle.gu_depend.proofs.Vocabulary.{root_along, root_of, same_place, is_trade_of, trades_in, stands_at, position_of, dealings, terms_under, limit_under, used_under, terms_of, limit_of}
-use Rattle.gu_depend.proofs.Vocabulary.{used_of, charge_of_kind, charge_of_node, charge_of, charges, counted, Agreement, Kind, Given, Row, row_of, state_of, taker_of, made_by, parts_of}
-use Rattle.gu_depend.proofs.Vocabulary.{rows_within, rows_from, rows_of, Side, Command, Claim, Record, Charge, Node, Place}
+use Rattle.gu_depend.proofs.Vocabulary.{filter_map, ◌≡◌, ℕ, zero, suc, ◌+◌, ◌≤◌, Bool, true, false, ◌&&◌, List, [], ◌∷◌, length, refl, sym, ◌∙◌, ap, arith, cond}
+use Rattle.gu_depend.proofs.Vocabulary.{Option, IsPermutation, Some, None, find, flat_map, filter, sum_by, count_by, option_and_then, option_map, unwrap_or, is_some, is_none, bytes_eq, ◌==◌}
+use Rattle.gu_depend.proofs.Vocabulary.{filter-append, sum_by-cons, sum_by-append, sum_by-le-sum_by, sum_by-IsPermutation, EntryPart, House, agreement, node_of, nodes, split_of, claim_of}
+use Rattle.gu_depend.proofs.Vocabulary.{claimed_account, parent, line_within, line_of, place_of_kind, place_along, place_of, root_along, root_of, same_place, is_trade_of, trades_in, stands_at}
+use Rattle.gu_depend.proofs.Vocabulary.{position_of, dealings, terms_under, limit_under, used_under, terms_of, limit_of, used_of, charge_of_kind, charge_of_node, charge_of, charges, counted}
+use Rattle.gu_depend.proofs.Vocabulary.{Agreement, Kind, Given, Row, row_of, state_of, taker_of, made_by, parts_of, rows_within, rows_from, rows_of, Side, Command, Claim, Record, Charge, Node}
+use Rattle.gu_depend.proofs.Vocabulary.{Place, made}
+use Rattle.gu_base.proofs.Sums.{sum_option}
+use Rattle.std.proofs.Common.{◌*◌}
 use Rattle.gu_depend.specs.Same.{IsSameState}
 use Rattle.gu_depend.proofs.Finds.{find_permuted}
 use Rattle.gu_depend.proofs.NamedOnce.{NamedOnce}
 use Rattle.gu_depend.proofs.Replay.{SameFinds, same_finds, NumbersOnce}
-use Rattle.gu_depend.proofs.Charges.{sum_charged}
-use Rattle.gu_base.proofs.NodeNames.{made}
 
 module _ {l o : List Record} (f : SameFinds l o) where
   line_above : (n : ℕ) → ((x : Option Node) → line_within n o x ≡ line_within n l x) → (k : Option EntryPart)
@@ -128,6 +125,16 @@ module _ {l o : List Record} (same : IsPermutation l o) (once : NumbersOnce l) (
 
 -- ---- sums over the charges
 
+-- a sum over charges is one over the changes
+pub sum_charged : (takes : Charge → Bool) (counts : Charge → ℕ) (h : Record → Option Charge) (l : List Record)
+    → sum_by counts (filter takes (filter_map h l)) ≡ sum_by (λ r. counted takes counts (h r)) l
+sum_charged takes counts h [] = refl
+sum_charged takes counts h (r ∷ l) =
+    let a = sum_option takes counts (h r) (filter_map h l) in
+    let b = sum_charged takes counts h l in
+    let c = sum_by-cons (λ r. counted takes counts (h r)) r l in
+    omega (arith, a, b, c)
+
 -- the terms of each giver and taker are the same, and so are the limits, and what is used
 pub record SameDeals (t : House) (l o : List Record) : Type 0 where
   pub terms : (g k : List ℕ) → terms_of t o g k ≡ terms_of t l g k
@@ -148,8 +155,7 @@ kind_same t l o deals lots _ = refl
 -- and what a change costs
 pub charge_same : (t : House) (l o : List Record) → SameFinds l o → SameDeals t l o → (c : Command) → charge_of t o c ≡ charge_of t l c
 charge_same t l o f deals (Claim n account) =
-    ap (option_and_then (charge_of_node t o)) (f.nodes n)
-    ∙ ap (λ (h : Node → Option Charge). option_and_then h (node_of l n)) (λ i x. kind_same t l o deals x.lots x.kind i)
+    ap (option_and_then (charge_of_node t o)) (f.nodes n) ∙ ap (λ (h : Node → Option Charge). option_and_then h (node_of l n)) (λ i x. kind_same t l o deals x.lots x.kind i)
 charge_same t l o f deals _ = refl
 
 charges_same : (t : House) (takes : Charge → Bool) (counts : Charge → ℕ) (l o : List Record) → IsPermutation l o → SameFinds l o → SameDeals t l o

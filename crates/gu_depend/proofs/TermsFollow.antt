@@ -1,76 +1,76 @@
 -- What keeps terms those of a list of changes.
-use Rattle.std.proofs.Common.{◌≡◌, ℕ, Bool, true, false, ◌&&◌, List, [], ◌∷◌, ◌++◌, refl, sym, ◌∙◌, ap, subst, cond, Option, Contains, append-nil}
-use Rattle.std.specs.Prelude.{Some, None, ◌==◌, option_map, option_and_then, bytes_eq, IsSomeAnd, if◌then◌else◌}
-use Rattle.std.specs.Map.{lookup}
-use Rattle.std.specs.List.{cons_option}
-use Rattle.std.specs.Option.{option_or}
-use Rattle.std.proofs.lemmas.Bool.{and_parts}
-use Rattle.std.proofs.lemmas.Slice.Eq.{bytes_eq-Decides}
-use Rattle.std.proofs.lemmas.List.Elements.{All-weaker, All-push, All-contains, All-contains_itself}
-use Rattle.std.proofs.lemmas.List.Folds.{find-append}
-use Rattle.std.proofs.lemmas.Option.{same_Some}
-use Rattle.gu_depend.proofs.Vocabulary.{EntryPart, House, agreement, node_of, use_of_kind, use_of_node, deed_of, dealings_in, dealings, Deed, Makes, Raises, Uses, Dealing, Pair, Command, Claim}
-use Rattle.gu_depend.proofs.Vocabulary.{Agree, Raise, Record, Kind, Given, Node}
-use Rattle.gu_base.proofs.Basics.{none_is_some, or_none}
-use Rattle.gu_base.proofs.NodeNames.{name_same}
-use Rattle.gu_base.proofs.Searches.{found_in}
-use Rattle.gu_tree.specs.ShownAll.{change_of}
-use Rattle.gu_fees.specs.Rows.{is_pair}
-use Rattle.gu_fees.specs.Pairs.{PairView}
-use Rattle.gu_fees.specs.Terms.{TermsView, row_of, pair_at, IsPut}
-use Rattle.gu_depend.specs.Under.{names}
+use Rattle.gu_depend.proofs.Vocabulary.{Dealing, ◌≡◌, ℕ, Bool, true, false, ◌&&◌, List, [], ◌∷◌, ◌++◌, refl, sym, ◌∙◌, ap, subst, cond, Option, Contains, append-nil, inl}
+use Rattle.gu_depend.proofs.Vocabulary.{inr, Some, None, ◌==◌, option_and_then, bytes_eq, IsSomeAnd, lookup, option_or, and_parts, bytes_eq-Decides, All-contains, find-append, same_Some}
+use Rattle.gu_depend.proofs.Vocabulary.{House, agreement, deed_of, dealings, Deed, Pair, Command, Claim, Record, none_is_some, or_none, name_same, found_in, change_of}
+use Rattle.gu_depend.proofs.Vocabulary.{is_pair, PairView, TermsView, pair_at}
+use Rattle.gu_depend.proofs.Finds.{some_with, none_before}
+use Rattle.gu_depend.proofs.Grown.{ThereFor, Within, NamesThere}
+use Rattle.std.specs.Prelude.{if◌then◌else◌}
+use Rattle.std.proofs.lemmas.List.Elements.{Contains-push_cases}
+use Rattle.gu_fees.specs.Terms.{row_of, IsPut}
 use Rattle.gu_depend.specs.Terms.{pair_of_kind, pair_of, place_of_pair, AreTermsOf}
-use Rattle.gu_depend.proofs.Deals.{both_same, of_pair, deed_grown, dealings_grown, dealings_append, same_pair}
-use Rattle.gu_depend.proofs.Finds.{none_before}
-use Rattle.gu_depend.proofs.Grown.{Within, NamesThere}
+use Rattle.gu_depend.proofs.Deals.{numbered, dealt, both_same, at_pair, pair, pair_of_deed, pair_told, undealt, deed_grown, dealings_grown, dealings_cut}
+use Rattle.gu_depend.proofs.StandsLast.{not_both}
 use Rattle.gu_depend.proofs.LastMoves.{IsBefore}
 use Rattle.gu_depend.proofs.Settled.{accepted_there}
 
-abbrev numbered : Record → Deed → Dealing
-numbered r d = record { number = r.number; deed = d }
+pub alike_at : {X Y : Type 0} (f h : X → Option Y) (o : Option X) → ((x : X) → o ≡ Some x → f x ≡ h x) → option_and_then f o ≡ option_and_then h o
+alike_at f h None same = refl
+alike_at f h (Some x) same = same x refl
 
-pub some_with : {X : Type 0} (P : X → Type 0) (o : Option X) → IsSomeAnd o P → (x : X) × ((o ≡ Some x) × P x)
-some_with P None h = absurd h
-some_with P (Some x) h = (x, (refl, h))
+-- ---- pairs
 
--- ---- the pair of a change
-
-pair_of_use : (g k : List ℕ) (lots : ℕ) (kind : Kind) (d : Deed) → use_of_kind g k lots kind ≡ Some d → pair_of_kind kind ≡ Some (record { giver = g; taker = k })
-pair_of_use g k lots (Given m x y) d h =
-    let p = of_pair g k x y (Uses lots) d (bytes_eq x g && bytes_eq y k) refl h in
-    λ i. Some (record { giver = p.0 i; taker = p.1.0 i })
-pair_of_use g k lots _ d h = absurd (cc)
-
-pair_of_use_at : (g k : List ℕ) (o : Option Node) (d : Deed) → option_and_then (use_of_node g k) o ≡ Some d
-    → option_and_then (λ x. pair_of_kind x.kind) o ≡ Some (record { giver = g; taker = k })
-pair_of_use_at g k None d h = absurd (cc)
-pair_of_use_at g k (Some x) d h = pair_of_use g k x.lots x.kind d h
-
--- whoever deals for a giver and a taker is of that pair
-pub pair_of_deed : (l : List Record) (g k by : List ℕ) (c : Command) (d : Deed) → deed_of l g k by c ≡ Some d → pair_of l by c ≡ Some (record { giver = g; taker = k })
-pair_of_deed l g k by (Agree x y rate limit) d h =
-    let p = of_pair g k x y (Makes (record { rate = rate; limit = limit })) d (bytes_eq x g && bytes_eq y k) refl h in
-    λ i. Some (record { giver = p.0 i; taker = p.1.0 i })
-pair_of_deed l g k by (Raise x lots) d h =
-    let p = of_pair g k x by (Raises lots) d (bytes_eq x g && bytes_eq by k) refl h in
-    λ i. Some (record { giver = p.0 i; taker = p.1.0 i })
-pair_of_deed l g k by (Claim n account) d h = pair_of_use_at g k (node_of l n) d h
-pair_of_deed l g k by _ d h = absurd (cc)
+-- where the pair of a change stands
+abbrev pub pair_place : TermsView → List Record → Record → Option ℕ
+pair_place v l d = option_and_then (place_of_pair v) (pair_of l d.firm d.command)
 
 -- a change whose node is there is of the same pair in both lists
-pub pair_grown : (l b : List Record) (by : List ℕ) (c : Command) → Within l b → ((n : EntryPart) → names n c ≡ true → (x : Node) × (node_of b n ≡ Some x))
-    → pair_of b by c ≡ pair_of l by c
+pub pair_grown : (l b : List Record) (by : List ℕ) (c : Command) → Within l b → ThereFor b c → pair_of b by c ≡ pair_of l by c
 pair_grown l b by (Claim n account) w there = let x = there n (name_same n) in ap (option_and_then (λ x. pair_of_kind x.kind)) (x.1 ∙ sym (w.nodes n x.0 x.1))
 pair_grown l b by _ w there = refl
 
-pair_told : (p q : Pair) → Some p ≡ Some q → (p.giver ≡ q.giver) × (p.taker ≡ q.taker)
-pair_told p q e = let one : p ≡ q = same_Some p q e in (ap (λ (z : Pair). z.giver) one, ap (λ (z : Pair). z.taker) one)
+-- no other pair is the pair
+pub other_pair : (p : Pair) (o : Option Pair) (x y : List ℕ) → o ≡ Some p → (bytes_eq p.giver x && bytes_eq p.taker y) ≡ false → o ≡ pair x y → ⊥
+other_pair p o x y of differ e =
+    let same = pair_told p (record { giver = x; taker = y }) (sym of ∙ e) in
+    not_both (bytes_eq p.giver x && bytes_eq p.taker y) (at_pair (λ x y. (bytes_eq p.giver x && bytes_eq p.taker y) ≡ true) p.giver p.taker x y same (both_same p.giver p.taker)) differ
 
-pub pair_same : (g k x y : List ℕ) → (bytes_eq g x && bytes_eq k y) ≡ true → (g ≡ x) × (k ≡ y)
-pair_same g k x y h = let p = and_parts (bytes_eq g x) (bytes_eq k y) h in ((bytes_eq-Decides g x).0 p.0, (bytes_eq-Decides k y).0 p.1)
+pairs_by : (P : List ℕ → List ℕ → Type 0) (g k : List ℕ) → P g k → ((x y : List ℕ) → (bytes_eq g x && bytes_eq k y) ≡ false → P x y)
+    → (x y : List ℕ) (b : Bool) → (bytes_eq g x && bytes_eq k y) ≡ b → P x y
+pairs_by P g k own others x y true is =
+    let p = and_parts (bytes_eq g x) (bytes_eq k y) is in
+    at_pair P g k x y ((bytes_eq-Decides g x).0 p.0, (bytes_eq-Decides k y).0 p.1) own
+pairs_by P g k own others x y false is = others x y is
 
-not_both : (b : Bool) → b ≡ true → b ≡ false → ⊥
-not_both b h e = cc
+-- what holds of one pair, and of each other, holds of all
+pub of_pairs : (P : List ℕ → List ℕ → Type 0) (g k : List ℕ) → P g k → ((x y : List ℕ) → (bytes_eq g x && bytes_eq k y) ≡ false → P x y) → (x y : List ℕ) → P x y
+of_pairs P g k own others x y = pairs_by P g k own others x y (bytes_eq g x && bytes_eq k y) refl
+
+-- a row with the terms of the house table and what is dealt
+abbrev pub IsRowOf : House → List Record → List ℕ → List ℕ → PairView → Type 0
+IsRowOf t l g k q = (q.file ≡ agreement t g k) × (q.dealings ≡ dealings l g k)
+
+-- the row of a pair of which something more, or less, is dealt
+pub new_row : (t : House) (l m : List Record) (v w : TermsView) (g k : List ℕ) (after : List Dealing → List Dealing) → AreTermsOf t l v → dealings m g k ≡ after (dealings l g k)
+    → IsSomeAnd (row_of v g k) (λ q. IsSomeAnd (row_of w g k) (λ p. (p.file ≡ q.file) × (p.dealings ≡ after q.dealings)))
+    → (p : PairView) × ((row_of w g k ≡ Some p) × IsRowOf t m g k p)
+new_row t l m v w g k after are is told =
+    let own = some_with (λ q. IsSomeAnd (row_of w g k) (λ p. (p.file ≡ q.file) × (p.dealings ≡ after q.dealings))) (row_of v g k) told in
+    let new = some_with (λ p. (p.file ≡ own.0.file) × (p.dealings ≡ after own.0.dealings)) (row_of w g k) own.1.1 in
+    let old = are.rows g k own.0 own.1.0 in
+    (new.0, (new.1.0, (new.1.1.0 ∙ old.0, new.1.1.1 ∙ (ap after old.1 ∙ sym is))))
+
+-- where one pair has a new row, and the others have those that they had
+module _ (t : House) (l m : List Record) (v w : TermsView) (are : AreTermsOf t l v) (g k : List ℕ) (new : (p : PairView) × ((row_of w g k ≡ Some p) × IsRowOf t m g k p))
+    (others : (x y : List ℕ) → (bytes_eq g x && bytes_eq k y) ≡ false → (row_of w x y ≡ row_of v x y) × (dealings m x y ≡ dealings l x y)) where
+  pub rows_moved : (x y : List ℕ) (q : PairView) → row_of w x y ≡ Some q → IsRowOf t m x y q
+  rows_moved = of_pairs (λ x y. (q : PairView) → row_of w x y ≡ Some q → IsRowOf t m x y q) g k
+      (λ q e. subst (IsRowOf t m g k) (same_Some new.0 q (sym new.1.0 ∙ e)) new.1.1)
+      (λ x y is q e. let o = others x y is in let old = are.rows x y q (sym o.0 ∙ e) in (old.0, old.1 ∙ sym o.1))
+
+  pub row_kept : (x y : List ℕ) (q : PairView) → row_of v x y ≡ Some q → (p : PairView) × (row_of w x y ≡ Some p)
+  row_kept = of_pairs (λ x y. (q : PairView) → row_of v x y ≡ Some q → (p : PairView) × (row_of w x y ≡ Some p)) g k
+      (λ q e. (new.0, new.1.0)) (λ x y is q e. (q, (others x y is).0 ∙ e))
 
 -- ---- one more change
 
@@ -78,139 +78,85 @@ module _ (t : House) (l : List Record) (r : Record) (before : IsBefore t l r) wh
   abbrev more : List Record
   more = l ++ r ∷ []
 
-  deed_more : (x y : List ℕ) → deed_of more x y r.firm r.command ≡ deed_of l x y r.firm r.command
-  deed_more x y = sym (deed_grown more l x y r.firm r.command before.grown.within (accepted_there t l r.firm r.command before.accepted))
-
   pair_more : pair_of more r.firm r.command ≡ pair_of l r.firm r.command
   pair_more = sym (pair_grown more l r.firm r.command before.grown.within (accepted_there t l r.firm r.command before.accepted))
 
   pair_old : (d : Record) → Contains l d → pair_of more d.firm d.command ≡ pair_of l d.firm d.command
   pair_old d among = sym (pair_grown more l d.firm d.command before.grown.within (All-contains (NamesThere l) l d before.grown.named among))
 
-  dealings_more : (x y : List ℕ) → dealings more x y ≡ dealings l x y ++ cons_option (option_map (numbered r) (deed_of l x y r.firm r.command)) []
-  dealings_more x y =
-      dealings_append more l (r ∷ []) x y
-      ∙ (ap (λ z. z ++ dealings_in more (r ∷ []) x y) (sym (dealings_grown more l x y before.grown))
-      ∙ ap (λ o. dealings l x y ++ cons_option (option_map (numbered r) o) []) (deed_more x y))
+  dealings_more : (x y : List ℕ) (o : Option Deed) → deed_of l x y r.firm r.command ≡ o → dealings more x y ≡ dealings l x y ++ dealt r o []
+  dealings_more x y o e =
+      let same = deed_grown more l x y r.firm r.command before.grown.within (accepted_there t l r.firm r.command before.accepted) in
+      dealings_cut more l r [] x y o (sym same ∙ e) ∙ ap (λ z. z ++ dealt r o []) (sym (dealings_grown more l x y before.grown))
+
+  dealings_same : (x y : List ℕ) → (pair_of l r.firm r.command ≡ pair x y → ⊥) → dealings more x y ≡ dealings l x y
+  dealings_same x y other = dealings_more x y None (undealt l x y r.firm r.command other) ∙ append-nil (dealings l x y)
 
   -- the number is new
   new_number : (n : ℕ) → (r.number == n) ≡ true → change_of l n ≡ None
   new_number n is = none_before (λ d. d.number == n) l r [] (before.once n) is
 
-  change_more : (n : ℕ) → change_of more n ≡ option_or (change_of l n) (cond (r.number == n) (Some r) None)
-  change_more n = find-append (λ d. d.number == n) l (r ∷ [])
+  placed_by : (v : TermsView) (n : ℕ) (b : Bool) → (r.number == n) ≡ b
+      → cond b (pair_place v l r) (option_and_then (pair_place v l) (change_of l n)) ≡ option_and_then (pair_place v more) (option_or (change_of l n) (cond b (Some r) None))
+  placed_by v n true is = sym (ap (λ o. option_and_then (pair_place v more) (option_or o (Some r))) (new_number n is) ∙ ap (option_and_then (place_of_pair v)) pair_more)
+  placed_by v n false is =
+      sym (ap (option_and_then (pair_place v more)) (or_none (change_of l n)) ∙ alike_at (pair_place v more) (pair_place v l) (change_of l n)
+      (λ d e. ap (option_and_then (place_of_pair v)) (pair_old d (found_in (λ d. d.number == n) l d e))))
 
-  -- where the pair of a change stands, in the longer list
-  abbrev pair_place : TermsView → List Record → Record → Option ℕ
-  pair_place v among d = option_and_then (place_of_pair v) (pair_of among d.firm d.command)
+  -- the place of the change, and of those before it
+  placed_more : (v : TermsView) (n : ℕ) → cond (r.number == n) (pair_place v l r) (option_and_then (pair_place v l) (change_of l n)) ≡ option_and_then (pair_place v more) (change_of more n)
+  placed_more v n = placed_by v n (r.number == n) refl ∙ sym (ap (option_and_then (pair_place v more)) (find-append (λ d. d.number == n) l (r ∷ [])))
 
-  old_place : (v : TermsView) (n : ℕ) (o : Option Record) → change_of l n ≡ o → option_and_then (pair_place v more) o ≡ option_and_then (pair_place v l) o
-  old_place v n None e = refl
-  old_place v n (Some d) e = ap (option_and_then (place_of_pair v)) (pair_old d (found_in (λ d. d.number == n) l d e))
+  -- what is ready of the changes before it and of its own is ready of all
+  ready_more : (w : TermsView) → ((d : Record) (p : Pair) → Contains l d → pair_of l d.firm d.command ≡ Some p → (q : PairView) × (row_of w p.giver p.taker ≡ Some q))
+      → ((p : Pair) → pair_of l r.firm r.command ≡ Some p → (q : PairView) × (row_of w p.giver p.taker ≡ Some q))
+      → (d : Record) (p : Pair) → Contains more d → pair_of more d.firm d.command ≡ Some p → (q : PairView) × (row_of w p.giver p.taker ≡ Some q)
+  ready_more w old own d p among e = elim (Contains-push_cases l r d among) [
+    | inl in_l ↦ old d p in_l (sym (pair_old d in_l) ∙ e)
+    | inr last ↦ own p (sym pair_more ∙ subst (λ (z : Record). pair_of more z.firm z.command ≡ Some p) (sym last) e)
+  ]
 
   -- ---- that deals for nobody
 
-  deed_none : pair_of l r.firm r.command ≡ None → (x y : List ℕ) (o : Option Deed) → deed_of l x y r.firm r.command ≡ o → o ≡ None
-  deed_none none x y None e = refl
-  deed_none none x y (Some d) e = absurd (none_is_some (pair_of l r.firm r.command) (record { giver = x; taker = y }) none (pair_of_deed l x y r.firm r.command d e))
-
   module _ (v : TermsView) (are : AreTermsOf t l v) (none : pair_of l r.firm r.command ≡ None) where
-    same_dealings : (x y : List ℕ) → dealings more x y ≡ dealings l x y
-    same_dealings x y =
-        dealings_more x y
-        ∙ (ap (λ o. dealings l x y ++ cons_option (option_map (numbered r) o) []) (deed_none none x y (deed_of l x y r.firm r.command) refl) ∙ append-nil (dealings l x y))
-
-    apart_placed : (n : ℕ) (b : Bool) → (r.number == n) ≡ b → pair_at v n ≡ option_and_then (pair_place v more) (option_or (change_of l n) (cond b (Some r) None))
-    apart_placed n true is =
-        are.placed n
-        ∙ (ap (option_and_then (pair_place v l)) (new_number n is)
-        ∙ (sym (ap (option_and_then (place_of_pair v)) (pair_more ∙ none))
-        ∙ sym (ap (λ o. option_and_then (pair_place v more) (option_or o (Some r))) (new_number n is))))
-    apart_placed n false is = are.placed n ∙ (sym (old_place v n (change_of l n) refl) ∙ sym (ap (option_and_then (pair_place v more)) (or_none (change_of l n))))
+    apart_placed : (n : ℕ) (b : Bool) → (r.number == n) ≡ b → pair_at v n ≡ cond b (pair_place v l r) (option_and_then (pair_place v l) (change_of l n))
+    apart_placed n true is = are.placed n ∙ (ap (option_and_then (pair_place v l)) (new_number n is) ∙ sym (ap (option_and_then (place_of_pair v)) none))
+    apart_placed n false is = are.placed n
 
     -- the terms stay those of the list
     pub apart_follows : AreTermsOf t more v
     apart_follows = record {
-      rows = λ x y q e. let p = are.rows x y q e in (p.0, p.1 ∙ sym (same_dealings x y));
-      ready = λ d p among e. All-contains (λ (z : Record). (p : Pair) → pair_of more z.firm z.command ≡ Some p → (q : PairView) × (row_of v p.giver p.taker ≡ Some q)) more d
-          (All-push (λ (z : Record). (p : Pair) → pair_of more z.firm z.command ≡ Some p → (q : PairView) × (row_of v p.giver p.taker ≡ Some q)) l r
-          (All-weaker (Contains l) (λ (z : Record). (p : Pair) → pair_of more z.firm z.command ≡ Some p → (q : PairView) × (row_of v p.giver p.taker ≡ Some q))
-          (λ z in_l p e. are.ready z p in_l (sym (pair_old z in_l) ∙ e)) l (All-contains_itself l))
-          (λ p e. absurd (none_is_some (pair_of l r.firm r.command) p none (sym pair_more ∙ e)))) among p e;
-      placed = λ n. apart_placed n (r.number == n) refl ∙ sym (ap (option_and_then (pair_place v more)) (change_more n));
+      rows = λ x y q e. let p = are.rows x y q e in
+          (p.0, p.1 ∙ sym (dealings_same x y (none_is_some (pair_of l r.firm r.command) (record { giver = x; taker = y }) none)));
+      ready = ready_more v are.ready (λ p e. absurd (none_is_some (pair_of l r.firm r.command) p none e));
+      placed = λ n. apart_placed n (r.number == n) refl ∙ placed_more v n;
     }
 
   -- ---- that deals for a pair
 
   module _ (v w : TermsView) (g k : List ℕ) (d : Deed) (are : AreTermsOf t l v) (deals : deed_of l g k r.firm r.command ≡ Some d)
       (put : IsPut v w g k (record { number = r.number; deed = d })) where
-    own : (q : PairView) × ((row_of v g k ≡ Some q) × IsSomeAnd (row_of w g k) (λ p. (p.file ≡ q.file) × (p.dealings ≡ q.dealings ++ numbered r d ∷ [])))
-    own = some_with (λ q. IsSomeAnd (row_of w g k) (λ p. (p.file ≡ q.file) × (p.dealings ≡ q.dealings ++ numbered r d ∷ []))) (row_of v g k) put.own
+    of : pair_of l r.firm r.command ≡ pair g k
+    of = pair_of_deed l g k r.firm r.command d deals
 
-    new_row : (p : PairView) × ((row_of w g k ≡ Some p) × ((p.file ≡ own.0.file) × (p.dealings ≡ own.0.dealings ++ numbered r d ∷ [])))
-    new_row = some_with (λ p. (p.file ≡ own.0.file) × (p.dealings ≡ own.0.dealings ++ numbered r d ∷ [])) (row_of w g k) own.1.1
+    own : (p : PairView) × ((row_of w g k ≡ Some p) × IsRowOf t more g k p)
+    own = new_row t l more v w g k (λ ds. ds ++ numbered r d ∷ []) are (dealings_more g k (Some d) deals) put.own
 
-    dealings_own : dealings more g k ≡ dealings l g k ++ numbered r d ∷ []
-    dealings_own = dealings_more g k ∙ ap (λ o. dealings l g k ++ cons_option (option_map (numbered r) o) []) deals
+    others : (x y : List ℕ) → (bytes_eq g x && bytes_eq k y) ≡ false → (row_of w x y ≡ row_of v x y) × (dealings more x y ≡ dealings l x y)
+    others x y is = (put.others x y is, dealings_same x y (other_pair (record { giver = g; taker = k }) (pair_of l r.firm r.command) x y of is))
 
-    told_own : (new_row.0.file ≡ agreement t g k) × (new_row.0.dealings ≡ dealings more g k)
-    told_own =
-        let old = are.rows g k own.0 own.1.0 in
-        (new_row.1.1.0 ∙ old.0, new_row.1.1.1 ∙ (ap (λ z. z ++ numbered r d ∷ []) old.1 ∙ sym dealings_own))
+    same_places : (c : Record) → pair_place w l c ≡ pair_place v l c
+    same_places c = ap (λ ps. option_and_then (λ (p : Pair). lookup (is_pair p.giver p.taker) ps) (pair_of l c.firm c.command)) put.places
 
-    other_none : (x y : List ℕ) → (bytes_eq g x && bytes_eq k y) ≡ false → (o : Option Deed) → deed_of l x y r.firm r.command ≡ o → o ≡ None
-    other_none x y away None e = refl
-    other_none x y away (Some f) e =
-        let same = same_pair l g k x y r.firm r.command d f deals e in
-        absurd (not_both (bytes_eq g x && bytes_eq k y) (ap (λ z. bytes_eq g z && bytes_eq k y) (sym same.0) ∙ (ap (λ z. bytes_eq g g && bytes_eq k z) (sym same.1) ∙ both_same g k)) away)
-
-    dealings_other : (x y : List ℕ) → (bytes_eq g x && bytes_eq k y) ≡ false → dealings more x y ≡ dealings l x y
-    dealings_other x y away =
-        dealings_more x y
-        ∙ (ap (λ o. dealings l x y ++ cons_option (option_map (numbered r) o) []) (other_none x y away (deed_of l x y r.firm r.command) refl) ∙ append-nil (dealings l x y))
-
-    rows_by : (x y : List ℕ) (q : PairView) → row_of w x y ≡ Some q → (b : Bool) → (bytes_eq g x && bytes_eq k y) ≡ b → (q.file ≡ agreement t x y) × (q.dealings ≡ dealings more x y)
-    rows_by x y q e true is =
-        let same = pair_same g k x y is in
-        let here : row_of w g k ≡ Some q = ap (λ z. row_of w z k) same.0 ∙ (ap (λ z. row_of w x z) same.1 ∙ e) in
-        let one : new_row.0 ≡ q = same_Some new_row.0 q (sym new_row.1.0 ∙ here) in
-        let told : (q.file ≡ agreement t g k) × (q.dealings ≡ dealings more g k) = subst (λ (z : PairView). (z.file ≡ agreement t g k) × (z.dealings ≡ dealings more g k)) one told_own in
-        subst (λ z. (q.file ≡ agreement t x z) × (q.dealings ≡ dealings more x z)) same.1 (subst (λ z. (q.file ≡ agreement t z k) × (q.dealings ≡ dealings more z k)) same.0 told)
-    rows_by x y q e false is =
-        let old = are.rows x y q (sym (put.others x y is) ∙ e) in
-        (old.0, old.1 ∙ sym (dealings_other x y is))
-
-    -- a row that was there is there
-    row_kept : (x y : List ℕ) (q : PairView) → row_of v x y ≡ Some q → (b : Bool) → (bytes_eq g x && bytes_eq k y) ≡ b → (p : PairView) × (row_of w x y ≡ Some p)
-    row_kept x y q e true is =
-        let same = pair_same g k x y is in
-        (new_row.0, ap (λ z. row_of w z y) (sym same.0) ∙ (ap (λ z. row_of w g z) (sym same.1) ∙ new_row.1.0))
-    row_kept x y q e false is = (q, put.others x y is ∙ e)
-
-    same_places : (among : List Record) (c : Record) → pair_place w among c ≡ pair_place v among c
-    same_places among c = ap (λ ps. option_and_then (λ (p : Pair). lookup (is_pair p.giver p.taker) ps) (pair_of among c.firm c.command)) put.places
-
-    placed_by : (n : ℕ) (b : Bool) → (r.number == n) ≡ b → (if b then lookup (is_pair g k) v.places else pair_at v n)
-        ≡ option_and_then (pair_place w more) (option_or (change_of l n) (cond b (Some r) None))
-    placed_by n true is =
-        sym (same_places more r ∙ ap (option_and_then (place_of_pair v)) (pair_more ∙ pair_of_deed l g k r.firm r.command d deals))
-        ∙ sym (ap (λ o. option_and_then (pair_place w more) (option_or o (Some r))) (new_number n is))
-    placed_by n false is =
-        are.placed n
-        ∙ (sym (old_place v n (change_of l n) refl)
-        ∙ (sym (ap (λ (h : Record → Option ℕ). option_and_then h (change_of l n)) (λ i c. same_places more c i))
-        ∙ sym (ap (option_and_then (pair_place w more)) (or_none (change_of l n)))))
+    put_placed : (n : ℕ) (b : Bool) → (if b then lookup (is_pair g k) v.places else pair_at v n) ≡ cond b (pair_place w l r) (option_and_then (pair_place w l) (change_of l n))
+    put_placed n true = sym (same_places r ∙ ap (option_and_then (place_of_pair v)) of)
+    put_placed n false = are.placed n ∙ sym (ap (λ (h : Record → Option ℕ). option_and_then h (change_of l n)) (λ i c. same_places c i))
 
     -- the terms that it was put into are those of the longer list
     pub put_follows : AreTermsOf t more w
     put_follows = record {
-      rows = λ x y q e. rows_by x y q e (bytes_eq g x && bytes_eq k y) refl;
-      ready = λ c p among e. All-contains (λ (z : Record). (p : Pair) → pair_of more z.firm z.command ≡ Some p → (q : PairView) × (row_of w p.giver p.taker ≡ Some q)) more c
-          (All-push (λ (z : Record). (p : Pair) → pair_of more z.firm z.command ≡ Some p → (q : PairView) × (row_of w p.giver p.taker ≡ Some q)) l r
-          (All-weaker (Contains l) (λ (z : Record). (p : Pair) → pair_of more z.firm z.command ≡ Some p → (q : PairView) × (row_of w p.giver p.taker ≡ Some q))
-          (λ z in_l p e. let q = are.ready z p in_l (sym (pair_old z in_l) ∙ e) in row_kept p.giver p.taker q.0 q.1 (bytes_eq g p.giver && bytes_eq k p.taker) refl) l (All-contains_itself l))
-          (λ p e. let same = pair_told (record { giver = g; taker = k }) p (sym (pair_more ∙ pair_of_deed l g k r.firm r.command d deals) ∙ e) in
-          row_kept p.giver p.taker own.0 (ap (λ z. row_of v z p.taker) (sym same.0) ∙ (ap (λ z. row_of v g z) (sym same.1) ∙ own.1.0))
-          (bytes_eq g p.giver && bytes_eq k p.taker) refl)) among p e;
-      placed = λ n. put.placed n ∙ (placed_by n (r.number == n) refl ∙ sym (ap (option_and_then (pair_place w more)) (change_more n)));
+      rows = rows_moved t l more v w are g k own others;
+      ready = ready_more w (λ c p among e. let q = are.ready c p among e in row_kept t l more v w are g k own others p.giver p.taker q.0 q.1)
+          (λ p e. at_pair (λ x y. (q : PairView) × (row_of w x y ≡ Some q)) g k p.giver p.taker (pair_told (record { giver = g; taker = k }) p (sym of ∙ e)) (own.0, own.1.0));
+      placed = λ n. put.placed n ∙ (put_placed n (r.number == n) ∙ placed_more w n);
     }

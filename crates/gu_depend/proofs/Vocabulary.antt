@@ -1,4 +1,4 @@
--- The words of the definitions, passed on together: what lists of changes, nodes, places, terms and refusals are.
+-- The words of the definitions, and what several files here use of std and of the crates below, passed on together.
 pub use Rattle.gu_base.specs.Answers.{Call, accepted_or, after, after_by, answer_by, answer_to, command_refusal, decline_rest, entry_of, initiate_rest, is_accepted, is_empty, is_same_call}
 pub use Rattle.gu_base.specs.Answers.{is_same_id, on_change, reversal_of, reverse_rest, status_of}
 pub use Rattle.gu_base.specs.Consents.{consents_left, consents_of, giver_alone, is_among, is_consenting, missing, of_node, parties_of, taker_and_giver}
@@ -23,28 +23,44 @@ pub use Rattle.gu_base.specs.SameLaws.{same_name-Decides}
 pub use Rattle.gu_base.specs.SamePartsLaws.{bytes_same, number_same}
 pub use Rattle.gu_base.specs.Standing.{IsLegal, first_refused, standing_on, without}
 pub use Rattle.gu_base.specs.Terms.{dealing_of, dealings, dealings_in, deed_of, limit_of, limit_under, raised_under, terms_of, terms_under, use_of_kind, use_of_node, used_of, used_under}
-pub use Rattle.gu_base.specs.declared.command.Command.{Command}
+pub use Rattle.gu_base.specs.declared.{command.Command.Command, command.Part.Part, command.Side.Side, entry.Answer.Answer, entry.Entry.Entry, entry.Record.Record, house.Agreement.Agreement}
+pub use Rattle.gu_base.specs.declared.{house.Dealing.Dealing, house.Deed.Deed, house.Pair.Pair, node.Charge.Charge, node.Deal.Deal, node.Kind.Kind, node.Node.Node, node.Place.Place}
+pub use Rattle.gu_base.specs.declared.{refusal.Refusal.Refusal, state.State.State}
 pub use Rattle.gu_base.specs.declared.command.Command.TheVariants.{Agree, Cancel, Claim, Decline, Initiate, Raise, Refuse, Reverse, Split, Trade}
-pub use Rattle.gu_base.specs.declared.command.Part.{Part}
-pub use Rattle.gu_base.specs.declared.command.Side.{Side}
 pub use Rattle.gu_base.specs.declared.command.Side.TheVariants.{Buy, Sell}
-pub use Rattle.gu_base.specs.declared.entry.Answer.{Answer}
 pub use Rattle.gu_base.specs.declared.entry.Answer.TheVariants.{Accepted, Repeated}
-pub use Rattle.gu_base.specs.declared.entry.Entry.{Entry}
-pub use Rattle.gu_base.specs.declared.entry.Record.{Record}
-pub use Rattle.gu_base.specs.declared.house.Agreement.{Agreement}
-pub use Rattle.gu_base.specs.declared.house.Dealing.{Dealing}
-pub use Rattle.gu_base.specs.declared.house.Deed.{Deed}
 pub use Rattle.gu_base.specs.declared.house.Deed.TheVariants.{Makes, Raises, Uses}
-pub use Rattle.gu_base.specs.declared.house.Pair.{Pair}
-pub use Rattle.gu_base.specs.declared.node.Charge.{Charge}
-pub use Rattle.gu_base.specs.declared.node.Deal.{Deal}
-pub use Rattle.gu_base.specs.declared.node.Kind.{Kind}
 pub use Rattle.gu_base.specs.declared.node.Kind.TheVariants.{Given, Own, Root}
-pub use Rattle.gu_base.specs.declared.node.Node.{Node}
-pub use Rattle.gu_base.specs.declared.node.Place.{Place}
-pub use Rattle.gu_base.specs.declared.refusal.Refusal.{Refusal}
 pub use Rattle.gu_base.specs.declared.refusal.Refusal.TheVariants.{AlreadyConsented, AlreadyReversed, BadTerms, BookFull, DuplicateId, NeedsConsent, NotAChange, NotAParty, NotOffered, NotYours}
 pub use Rattle.gu_base.specs.declared.refusal.Refusal.TheVariants.{NothingPending, StandsOn, UnknownAccount, UnknownEntry, UnknownFirm}
-pub use Rattle.gu_base.specs.declared.state.State.{State}
 pub use Rattle.gu_base.specs.declared.state.State.TheVariants.{Cancelled, Claimed, Held, Offered, ReversalPending, Reversed}
+pub use Rattle.gu_base.proofs.Basics.{nothing_here, no_some, none_is_some, or_none, eqb_symm}
+pub use Rattle.gu_base.proofs.Dealt.{may_use, fits, AllFit, first_unfit}
+pub use Rattle.gu_base.proofs.LegalLaws.{replay_front, none_refused, legal_from_replay, replay_from_legal}
+pub use Rattle.gu_base.proofs.Lines.{node_more}
+pub use Rattle.gu_base.proofs.NodeNames.{name_same, node_called, made_of, node_cut, made, first_or, name_is}
+pub use Rattle.gu_base.proofs.Passing.{at_node_none, claim_passes, agree_passes, raise_passes, refusal_parts, splits_well, decides_well, SplitHolds}
+pub use Rattle.gu_base.proofs.Searches.{found_in, find_passes}
+pub use Rattle.gu_base.specs.Refusals.{at_node}
+pub use Rattle.gu_fees.specs.Pairs.{PairView}
+pub use Rattle.gu_fees.specs.Rows.{is_pair}
+pub use Rattle.gu_fees.specs.Terms.{TermsView, pair_at}
+pub use Rattle.gu_tree.specs.NumbersOn.{number_in, numbers_on, least}
+pub use Rattle.gu_tree.specs.Shown.{HasDistinctNumbers}
+pub use Rattle.gu_tree.specs.ShownAll.{change_of, named_place}
+pub use Rattle.std.proofs.Common.{◌≡◌, ℕ, Bool, true, List, [], ◌∷◌, refl, sym, ◌∙◌, ap, arith, cond, Option, zero, suc, ◌<◌, ◌≤◌, false, not, ◌++◌, length, get_or}
+pub use Rattle.std.proofs.Common.{IsPermutation, Contains, All, subst, ◌+◌, ◌&&◌, append-nil, ◌||◌, length-append, inl, inr, append_assoc, IsSomeAnd, map}
+pub use Rattle.std.proofs.lemmas.Bool.{false_from_ne_true, and_parts, or_parts, or_cases}
+pub use Rattle.std.proofs.lemmas.Bool.Decides.{Decides-eqb}
+pub use Rattle.std.proofs.lemmas.List.Elements.{All-nil, All-cons, All-head, All-tail, All-weaker, filter-append, Contains-append_right, filter_map-append, All-push, All-contains}
+pub use Rattle.std.proofs.lemmas.List.Elements.{All-contains_itself}
+pub use Rattle.std.proofs.lemmas.List.Folds.{find-append}
+pub use Rattle.std.proofs.lemmas.List.Sorted.{sum_by-IsPermutation}
+pub use Rattle.std.proofs.lemmas.List.Sums.{sum_by-cons, sum_by-append, sum_by-le-sum_by}
+pub use Rattle.std.proofs.lemmas.Option.{same_Some}
+pub use Rattle.std.proofs.lemmas.Slice.Eq.{bytes_eq-Decides}
+pub use Rattle.std.specs.List.{cons_option, list_any, AllByRecursion}
+pub use Rattle.std.specs.Map.{lookup}
+pub use Rattle.std.specs.Option.{option_or}
+pub use Rattle.std.specs.Prelude.{Some, None, filter, filter_map, sum_by, option_map, option_and_then, find, count_by, bytes_eq, ◌==◌, ◌↔◌, unwrap_or, is_some, is_none, flat_map}
+pub use Rattle.std.specs.Prelude.{slice_get, nat_lt}

@@ -1,15 +1,14 @@
 use Rattle.std.proofs.Common.{sym, ◌∙◌}
 use Rattle.gu_depend.proofs.ReadOff.{nothing_placed, none_where_legal}
 use Rattle.gu_depend.proofs.ReadTerms.{read_off}
-use Rattle.gu_depend.proofs.Replay.{number_once}
-use Rattle.gu_depend.proofs.StandsUnder.{rises_distinct}
+use Rattle.gu_depend.proofs.StandsUnder.{legal_rising}
 use Rattle.gu_depend.proofs.standing.first_standing.Goals as goal
 
 pub returns-in-None-clause-first : goal.returns-in-None-clause-first
 returns-in-None-clause-first g c = λ t l rises legal shows are.
     let absent = rw c.in-None.is at c.named.ensures.absent in
     c.first_standing.ensures
-    ∙ (read_off t l c.args.terms.now (number_once l (rises_distinct 0 l rises)) are c.args.k (sym (shows.places c.args.k) ∙ absent)
+    ∙ (read_off t l c.args.terms.now are (legal_rising t l rises legal).once c.args.k (sym (shows.places c.args.k) ∙ absent)
     ∙ nothing_placed c.args.trees.now t l rises legal shows c.args.k absent)
 
 pub returns-in-None-clause-none : goal.returns-in-None-clause-none
