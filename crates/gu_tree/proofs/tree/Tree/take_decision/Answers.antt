@@ -4,7 +4,7 @@ use Rattle.gu_tree.specs.Paths.{node_at, edit_at}
 use Rattle.gu_tree.specs.Changes.{offer_node, stand_path, IsLeaf}
 use Rattle.gu_tree.proofs.Inverses.{cut-tree}
 use Rattle.gu_tree.proofs.Parts.{some_and, at_there}
-use Rattle.gu_tree.proofs.ShowsLess.{stand-there, decided-leaf, taken-shows}
+use Rattle.gu_tree.proofs.ShowsLess.{stand-there, decided-leaf, decided-moves, taken-shows}
 use Rattle.gu_tree.proofs.tree.Tree.take_decision.Goals as goal
 
 pub at-requires : goal.at-requires
@@ -28,7 +28,7 @@ pub invariant_of-self : goal.invariant_of-self
 invariant_of-self g c =
     let v = some_and _ _ c.requires.decided in
     let u = some_and (λ x. c.offer_at.new.self ≡ edit_at (offer_node (head_of x).place) c.args.path.now.items c.args.self.now) (node_at (stand_path c.args.stand c.args.path.now.items) c.args.self.now) (returns-clause-node g c) in
-    cut-tree (offer_node (head_of u.0).place) c.args.path.now.items c.args.self.now v.0 _ _ v.1 refl refl u.2 (rw c.self.view_is at c.self.invariant)
+    cut-tree (offer_node (head_of u.0).place) c.args.path.now.items c.args.self.now v.0 _ _ v.1 refl refl (λ held. absurd (decided-moves c.args.stand v.0 v.2 held)) u.2 (rw c.self.view_is at c.self.invariant)
 
 pub returns-clause-shows : goal.returns-clause-shows
 returns-clause-shows g c =
