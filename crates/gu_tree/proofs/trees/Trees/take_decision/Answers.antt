@@ -8,7 +8,7 @@ use Rattle.gu_tree.specs.Filing.{slot_of, last_of}
 use Rattle.gu_tree.proofs.Slots.{last-without_slot}
 use Rattle.gu_tree.proofs.GroveEdits.{root-slot, found, found-tree, to-tree}
 use Rattle.gu_tree.proofs.GroveCuts.{HasDecision, taking-back, taken-some, taken-grove, taken-tree, taken-place}
-use Rattle.gu_tree.proofs.ShowsLess.{decided-leaf, has_stand}
+use Rattle.gu_tree.proofs.ShowsLess.{decided-leaf}
 use Rattle.gu_tree.proofs.trees.Trees.take_decision.Goals as goal
 
 pub root_of-i-requires-clause-root : goal.root_of-i-requires-clause-root
@@ -37,9 +37,6 @@ pub returns-clause-shows : goal.returns-clause-shows
 returns-clause-shows g c =
     let u = some_and (λ x. c.take_decision-decision.new.self ≡ edit_at (offer_node (head_of x).place) c.args.path.now.items c.in-Some.tree) (node_at (stand_path c.args.stand c.args.path.now.items) c.in-Some.tree) c.take_decision-decision.ensures.node in
     rw (← c.self.view_is) (to-tree _ _ _ (found-tree c.self.invariant (found (HasDecision c.take_decision-decision.result) (ap (λ s. slot_of s c.args.trade) (sym c.as_slice.ensures.value) ∙ c.root_of-i.ensures) c.index_mut.ensures.value c.in-Some.is c.take_decision-decision.ensures.decision c.take_decision-decision.ensures.short)) (to-tree _ _ _ u.1 (rw u.2 at c.take_decision-decision.ensures.shows)))
-
-pub take_decision-decision-requires-clause-part : goal.take_decision-decision-requires-clause-part
-take_decision-decision-requires-clause-part g c = has_stand c.args.stand c.args.path.now.items c.requires.part
 
 pub unreachable-requires-in_default-decision : goal.unreachable-requires-in_default-decision
 unreachable-requires-in_default-decision g c = taken-some c.args.stand c.self.invariant (found (HasDecision c.take_decision-decision.result) (ap (λ s. slot_of s c.args.trade) (sym c.as_slice.ensures.value) ∙ c.root_of-i.ensures) c.index_mut.ensures.value c.in-Some.is c.take_decision-decision.ensures.decision c.take_decision-decision.ensures.short) (rw (← c.self.view_is) at c.requires.leaf) c.in_default-decision.is
