@@ -19,7 +19,7 @@ use Rattle.gu_tree.specs.Filing.{slot_of, name_in, last_of}
 use Rattle.gu_tree.specs.Shown.{IsTreeOf, named_node}
 use Rattle.gu_tree.specs.ShownAll.{named_place, place_in}
 use Rattle.gu_tree.proofs.Along.{IsAlong, along, path-of}
-use Rattle.gu_tree.proofs.GroveEdits.{by-cases}
+use Rattle.gu_tree.proofs.GroveSwaps.{by-cases}
 use Rattle.gu_tree.proofs.Parts.{some_and}
 use Rattle.gu_tree.proofs.Shows.{tree-kept}
 use Rattle.gu_book.specs.Filed.{IsIn, IsFiled, IsNext, IsDue, Follows}

@@ -17,7 +17,7 @@ use Rattle.gu_tree.specs.Rose.{Rose, leaf, named}
 use Rattle.gu_tree.specs.Grove.{Grove, tree_of, place_of, ChangesTree, Takes, TakesTree}
 use Rattle.gu_tree.specs.Shown.{IsTreeOf, named_node}
 use Rattle.gu_tree.specs.ShownAll.{change_of, named_place, place_in}
-use Rattle.gu_tree.proofs.GroveEdits.{by-cases}
+use Rattle.gu_tree.proofs.GroveSwaps.{by-cases}
 use Rattle.gu_tree.specs.declared.head.Head.{Head}
 use Rattle.gu_tree.proofs.Names.{is_named-other}
 use Rattle.gu_tree.proofs.Parts.{some_and}

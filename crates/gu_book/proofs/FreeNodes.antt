@@ -23,7 +23,7 @@ use Rattle.gu_depend.proofs.StandsUnder.{standing_is_least}
 use Rattle.gu_tree.specs.Rose.{Rose, Roses, leaf, parted, no_parts, part_then, head_of, named, named_below, split_of_node}
 use Rattle.gu_tree.specs.Paths.{node_at}
 use Rattle.gu_tree.specs.Changes.{is_undecided_leaf, are_undecided_leaves, can_unsplit, unsplit_node, is_given_back}
-use Rattle.gu_tree.specs.Grove.{Grove, tree_of, place_of, IsPlace, IsDecidedIn, IsSplitIn, HasFreeParts}
+use Rattle.gu_tree.specs.Grove.{Grove, tree_of, place_of, IsPlace}
 use Rattle.gu_tree.specs.Shown.{IsTreeOf, IsNodeOf, ArePartsOf, SplitsNode, DecidesNode, named_node}
 use Rattle.gu_tree.specs.ShownAll.{change_of, named_place, place_in}
 use Rattle.gu_tree.specs.declared.head.Head.{Head}
@@ -36,14 +36,6 @@ use Rattle.gu_book.proofs.FiledChanges.{its_head}
 use Rattle.gu_book.proofs.Orders.{InOrder, in_order, NamesLower, orderly_lower}
 
 -- ---- what a command names
-
--- what names a node splits or decides it
-pub names_it : (n : EntryPart) (c : Command) → named_node c ≡ Some n → names n c ≡ true
-names_it n (Split m _) e = ap (λ b. b || false) (ap (λ k. same_name k n) (same_Some m n e) ∙ name_same n)
-names_it n (Claim m _) e = ap (λ k. same_name k n) (same_Some m n e) ∙ name_same n
-names_it n (Refuse m) e = ap (λ k. same_name k n) (same_Some m n e) ∙ name_same n
-names_it n (Cancel m) e = ap (λ k. same_name k n) (same_Some m n e) ∙ name_same n
-names_it n _ e = absurd (cc)
 
 -- a Split, as the book says it
 pub split_names : (n : EntryPart) (c : Command) → SplitsNode n c → (named_node c ≡ Some n) × (splits n c ≡ true)
@@ -110,35 +102,6 @@ none_counts_of m (x ∷ xs) h =
     let c = none_counts_of m xs p.1 in
     omega (arith, a, b, c)
 
--- a root is no part of a Split
-no_root : (n : EntryPart) (k trade : ℕ) (by : List ℕ) (c : Command) → SplitsNode n c → find (λ (x : Node). same_name x.name (record { entry = trade; part = 0 })) (nodes_of k by c) ≡ None
-no_root n k trade by (Split m ps) is = no-root-part trade k 1 m by ps (omega arith)
-no_root n k trade by _ is = absurd is
-
--- a Trade has its own root as its place, each other change what it names
-placed_by : (k : ℕ) (c : Command) (m : EntryPart) → named_place k c ≡ Some m → (m ≡ record { entry = k; part = 0 }) ⊎ (names m c ≡ true)
-placed_by k (Trade _ _ _ _ _) m e = inl (sym (same_Some (record { entry = k; part = 0 }) m e))
-placed_by k c m e = inr (names_it m c e)
-
--- a change of the list with its place
-record IsPlacedBy (l : List Record) (k : ℕ) (m : EntryPart) : Type 0 where
-  change : Record
-  among : Contains l change
-  number : change.number ≡ k
-  place : named_place change.number change.command ≡ Some m
-
-placer : (l : List Record) (k : ℕ) (m : EntryPart) → place_in l k ≡ Some m → IsPlacedBy l k m
-placer l k m e = by_change (change_of l k) refl e
-  where
-    by_change : (o : Option Record) → change_of l k ≡ o → option_and_then (λ r. named_place r.number r.command) o ≡ Some m → IsPlacedBy l k m
-    by_change None found h = absurd (cc)
-    by_change (Some d) found h = record {
-      change = d;
-      among = found_in (λ (r : Record). r.number == k) l d found;
-      number = (Decides-eqb d.number k).0 (find_passes (λ (r : Record). r.number == k) l d found);
-      place = h;
-    }
-
 -- ---- parts on which nothing stands
 
 abbrev IsBare : List Record → Node → Type 0
@@ -188,11 +151,6 @@ record IsWhole (v : Rose) : Type 0 where
 whole_by : (l : List Record) (above : Option Place) (x : Node) (v : Rose) → IsNodeOf l above x v → split_of l x.name ≡ None → IsWhole v
 whole_by l above x (leaf h) is none = record { head = h; is = refl }
 whole_by l above x (parted h n ts) is none = absurd (none_is_some (split_of l x.name) is.1.0 none is.1.1)
-
--- only what has a parent is given
-given_below : (k : Kind) → is_given k ≡ true → parent k ≡ None → ⊥
-given_below (Root _) g none = cc
-given_below _ g none = cc
 
 module _ {t : House} {l : List Record} {r : Record} {g : Grove} (u : IsFree t l r g) where
   pub order : InOrder l
@@ -257,40 +215,6 @@ module _ {t : House} {l : List Record} {r : Record} {g : Grove} (u : IsFree t l 
     pub splits_bare : IsTrue (can_unsplit s.node)
     splits_bare = ap can_unsplit its_parts.is ∙ (bare n).0
 
-    -- the node that it splits has a lower number
-    other_number : n.entry ≢ r.number
-    other_number same =
-        let low : n.entry < r.number = (All-contains NamesLower l r (orderly_lower 0 l order.orderly) u.among) n (split_names n r.command is).0 in
-        absurd (omega (arith, low, same))
-
-    pub splits_in : IsSplitIn g s.node
-    splits_in =
-        subst (IsSplitIn g) (sym its_parts.is)
-        (own_place ∙ (place_named r.number r.command n (split_names n r.command is).0 ∙ ap (λ k. Some k) (sym called)), λ e. other_number (sym (e ∙ ap (λ (m : EntryPart). m.entry) called)))
-      where
-        called : its_parts.head.name ≡ n
-        called = sym (ap (λ v. (head_of v).name) its_parts.is) ∙ s.called
-
-    -- no other change has one of its parts as its place
-    none_among : (xs : List Node) (m : EntryPart) (d : Command) → list_any (λ (x : Node). names x.name d) xs ≡ false → names m d ≡ true → find (λ x. same_name x.name m) xs ≡ None
-    none_among xs m d none is_so =
-        no_some (find (λ x. same_name x.name m) xs) (λ x h.
-        let called : x.name ≡ m = name_is x.name m (find_passes (λ x. same_name x.name m) xs x h) in
-        let z : true ≡ false = sym (any_in (λ (x : Node). names x.name d) xs x (found_in (λ x. same_name x.name m) xs x h) (ap (λ k. names k d) called ∙ is_so)) ∙ none in
-        absurd (cc))
-
-    free_name : (e : ℕ) (m : EntryPart) → place_of g e ≡ Some m → count_of m made_parts ≡ 0
-    free_name e m at =
-        let d = placer l e m (sym (u.filed.placed e) ∙ at) in
-        none_counts_of m made_parts
-        (elim (placed_by d.change.number d.change.command m d.place) [
-          | inl root ↦ subst (λ (k : EntryPart). find (λ (x : Node). same_name x.name k) made_parts ≡ None) (sym root) (no_root n r.number d.change.number r.firm r.command is)
-          | inr names_m ↦ none_among made_parts m d.change.command (none_named d.change d.among) names_m
-        ])
-
-    pub splits_free : HasFreeParts g s.node
-    splits_free = subst (HasFreeParts g) (sym its_parts.is) (λ e m at. (bare m).1 ∙ free_name e m at)
-
     -- its number is that of the Split
     pub its_number : (P : ℕ → Type 0) → IsSomeAnd (split_of_node s.node) (λ q. P q.0) → P r.number
     its_number P has = subst (λ (o : Option (ℕ × ℕ)). IsSomeAnd o (λ q. P q.0)) (ap split_of_node its_parts.is) has
@@ -336,27 +260,8 @@ module _ {t : House} {l : List Record} {r : Record} {g : Grove} (u : IsFree t l 
     pub its_leaf : (P : Rose → Type 0) → ((h : Head) → h ≡ head_of s.node → P (leaf h)) → P s.node
     its_leaf P has = subst P (sym whole.is) (has whole.head (sym (ap head_of whole.is)))
 
-    -- it is no root
-    pub is_part : 1 ≤ length p
-    is_part = part_of p s.at
-      where
-        part_of : (q : List ℕ) → node_at q s.tree ≡ Some s.node → 1 ≤ length q
-        part_of (i ∷ q) at = omega arith
-        part_of [] at =
-            let same : s.tree ≡ s.node = same_Some s.tree s.node at in
-            let top = (its-head l None s.shown.root s.tree s.shown.tree).name in
-            let root : s.shown.root.name ≡ record { entry = trade; part = 0 } = node_called l (record { entry = trade; part = 0 }) s.shown.root s.shown.found in
-            let found : node_of l (head_of s.node).name ≡ Some s.shown.root = ap (node_of l) (ap (λ v. (head_of v).name) (sym same) ∙ (top ∙ root)) ∙ s.shown.found in
-            let one : s.said.node ≡ s.shown.root = same_Some s.said.node s.shown.root (sym s.said.found ∙ found) in
-            absurd (given_below s.said.node.kind is_given_there (ap (λ (x : Node). parent x.kind) one ∙ s.shown.top))
-
     pub its_decided : (head_of s.node).decision ≡ Some r.number
     its_decided = (its_head s).decision ∙ ap (option_map (λ (d : Record). d.number)) its_decision
-
-    pub decided_in : IsDecidedIn g s.node
-    decided_in =
-        subst (λ (o : Option ℕ). IsSomeAnd o (λ d. place_of g d ≡ Some (head_of s.node).name)) (sym its_decided)
-        (own_place ∙ (place_named r.number r.command n names_n ∙ ap (λ k. Some k) (sym s.called)))
 
   -- ---- a Trade
 
@@ -395,25 +300,3 @@ module _ {t : House} {l : List Record} {r : Record} {g : Grove} (u : IsFree t l 
       has_tree.1 ∙ ap (λ v. Some v) root_whole.is,
       sym (ap (λ v. (head_of v).name) root_whole.is) ∙ ((its-head l None root_shown.root has_tree.0 root_shown.tree).name ∙ root_called),
     )
-
-    -- nobody decides a root
-    root_undecided : (d : Record) → Contains l d → decides root_name d.command ≡ true → ⊥
-    root_undecided d among is =
-        let x = once.given root_name d (found_once (λ (e : Record). decides root_name e.command) l d among is (once.decisions_once root_name)) in
-        let same : x.0 ≡ root_shown.root = same_Some x.0 root_shown.root (sym x.1.0 ∙ root_shown.found) in
-        given_below x.0.kind x.1.1 (ap (λ (y : Node). parent y.kind) same ∙ root_shown.top)
-
-    root_unnamed : (d : Record) → Contains l d → names root_name d.command ≡ true → ⊥
-    root_unnamed d among is = elim (or_cases (splits root_name d.command) (decides root_name d.command) is) [
-      | inl split ↦ (let z : true ≡ false = sym split ∙ root_unsplit d among in cc)
-      | inr decided ↦ root_undecided d among decided
-    ]
-
-    -- so the trade alone has the root as its place
-    pub root_alone : (e : ℕ) → place_of g e ≡ Some root_name → e ≡ r.number
-    root_alone e at =
-        let d = placer l e root_name (sym (u.filed.placed e) ∙ at) in
-        elim (placed_by d.change.number d.change.command root_name d.place) [
-          | inl root ↦ sym d.number ∙ sym (ap (λ (m : EntryPart). m.entry) root)
-          | inr named_it ↦ absurd (root_unnamed d.change d.among named_it)
-        ]

@@ -6,7 +6,7 @@ use Rattle.gu_depend.specs.Under.{names}
 use Rattle.gu_tree.specs.Rose.{Rose, leaf, head_of, named, split_of_node}
 use Rattle.gu_tree.specs.Paths.{node_at, edit_at, HasAt, above}
 use Rattle.gu_tree.specs.Changes.{unsplit_node, offer_node, offer_again_node, IsClaimedLeaf, IsGivenBackLeaf, can_unsplit, is_given_back}
-use Rattle.gu_tree.specs.Grove.{Grove, HasTree, IsSapling, ChangesTree, Takes, TakesTree, IsDecidedIn, IsSplitIn, HasFreeParts}
+use Rattle.gu_tree.specs.Grove.{Grove, HasTree, IsSapling, ChangesTree, Takes, TakesTree}
 use Rattle.gu_tree.specs.Shown.{SplitsNode, named_node, ShowsLess, IsOnlySplit, IsOnlyDecision}
 use Rattle.gu_tree.specs.declared.head.Head.{Head}
 use Rattle.gu_tree.proofs.Edits.{edit_at-same}
@@ -17,8 +17,8 @@ use Rattle.gu_book.specs.TreeRows.{is_trade}
 use Rattle.gu_book.proofs.Filed.{Spot}
 use Rattle.gu_book.proofs.FiledChanges.{from_tree, has_at, is_at, said_at}
 use Rattle.gu_book.proofs.FiledLess.{taken_back, uprooted}
-use Rattle.gu_book.proofs.FreeNodes.{Claims, TurnsDown, split_names, claim_names, turned_names, decides_node, splits_bare, splits_in, splits_free, its_number, others_above, decided_state, its_leaf}
-use Rattle.gu_book.proofs.FreeNodes.{is_part, its_decided, decided_in, root_leaf}
+use Rattle.gu_book.proofs.FreeNodes.{Claims, TurnsDown, split_names, claim_names, turned_names, decides_node, splits_bare, its_number, others_above, decided_state, its_leaf}
+use Rattle.gu_book.proofs.FreeNodes.{its_decided, root_leaf}
 use Rattle.gu_book.proofs.Undoing.{only_split, only_decision}
 
 -- a Trade names no node
@@ -32,12 +32,6 @@ module _ {t : House} {l : List Record} {r : Record} {g : Grove} (u : IsFree t l 
   module _ {trade : ℕ} {p : List ℕ} {n : EntryPart} (s : Spot l g trade p n) (is : SplitsNode n r.command) where
     pub may_unsplit : HasTree g trade (HasAt p (λ v. IsTrue (can_unsplit v)))
     may_unsplit = is_at s (λ v. IsTrue (can_unsplit v)) (splits_bare u s is)
-
-    pub split_in : HasTree g trade (HasAt p (IsSplitIn g))
-    split_in = is_at s (IsSplitIn g) (splits_in u s is)
-
-    pub free_parts : HasTree g trade (HasAt p (HasFreeParts g))
-    free_parts = is_at s (HasFreeParts g) (splits_free u s is)
 
     pub unsplit_gone : (h : Grove) → HasTree g trade (λ v. ChangesTree g h trade (edit_at unsplit_node p v)) → HasTree g trade (HasAt p (λ w. IsSomeAnd (split_of_node w) (λ q. Takes g h q.0)))
         → HasTree g trade (λ v. ShowsLess (λ l k. HasAt p (λ w. IsOnlySplit l k (head_of w).name) v) v (edit_at unsplit_node p v)) → IsFiled (without l r.number) h
@@ -56,9 +50,6 @@ module _ {t : House} {l : List Record} {r : Record} {g : Grove} (u : IsFree t l 
   -- ---- a decision
 
   module _ {trade : ℕ} {p : List ℕ} {n : EntryPart} (s : Spot l g trade p n) (is : decides n r.command ≡ true) (names_n : named_node r.command ≡ Some n) where
-    pub decision_in : HasTree g trade (HasAt p (IsDecidedIn g))
-    decision_in = is_at s (IsDecidedIn g) (decided_in u s is names_n)
-
     pub is_leaf_in : (P : Rose → Type 0) → ((h : Head) → h.state ≡ (head_of s.node).state → P (leaf h)) → HasTree g trade (HasAt p P)
     is_leaf_in P has = is_at s P (its_leaf u s is names_n P (λ h e. has h (ap (λ (k : Head). k.state) e)))
 
@@ -87,12 +78,6 @@ module _ {t : House} {l : List Record} {r : Record} {g : Grove} (u : IsFree t l 
     pub claimed_there : HasTree g trade (HasAt p IsClaimedLeaf)
     claimed_there = is_leaf_in s is_claim named_claim IsClaimedLeaf (λ h e. e ∙ (decided_state u s is_claim named_claim ∙ (claim_names n r.command is).2))
 
-    pub claim_part : 1 ≤ length p
-    claim_part = is_part u s is_claim named_claim
-
-    pub claim_in : HasTree g trade (HasAt p (IsDecidedIn g))
-    claim_in = decision_in s is_claim named_claim
-
     pub claim_gone : (h : Grove) → HasTree g trade (λ v. HasAt (above p) (λ w. ChangesTree g h trade (edit_at (offer_node (head_of w).place) p v)) v)
         → HasTree g trade (HasAt p (λ w. IsSomeAnd (head_of w).decision (Takes g h)))
         → HasTree g trade (λ v. HasAt (above p) (λ w. ShowsLess (λ l k. HasAt p (λ x. IsOnlyDecision l k (head_of x).name) v) v (edit_at (offer_node (head_of w).place) p v)) v)
@@ -116,12 +101,6 @@ module _ {t : House} {l : List Record} {r : Record} {g : Grove} (u : IsFree t l 
     pub turned_there : HasTree g trade (HasAt p IsGivenBackLeaf)
     turned_there =
         is_leaf_in s is_turned named_turned IsGivenBackLeaf (λ h e. ap is_given_back (e ∙ decided_state u s is_turned named_turned) ∙ (turned_names n r.command is).2)
-
-    pub turned_part : 1 ≤ length p
-    turned_part = is_part u s is_turned named_turned
-
-    pub turned_in : HasTree g trade (HasAt p (IsDecidedIn g))
-    turned_in = decision_in s is_turned named_turned
 
     pub turned_gone : (h : Grove) → HasTree g trade (λ v. ChangesTree g h trade (edit_at offer_again_node p v)) → HasTree g trade (HasAt p (λ w. IsSomeAnd (head_of w).decision (Takes g h)))
         → HasTree g trade (λ v. ShowsLess (λ l k. HasAt p (λ w. IsOnlyDecision l k (head_of w).name) v) v (edit_at offer_again_node p v)) → IsFiled (without l r.number) h

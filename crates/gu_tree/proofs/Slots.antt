@@ -1,11 +1,11 @@
 -- Entries filed in the order of their numbers, and what is found among them.
-use Rattle.std.proofs.Common.{◌≡◌, ◌≢◌, ℕ, zero, suc, ◌<◌, ◌≤◌, true, false, List, [], ◌∷◌, ◌++◌, length, get_or, set, Result, Ok, Err, IfOk, OnErr, refl, ap, sym, ◌∙◌, subst, arith}
+use Rattle.std.proofs.Common.{◌≡◌, ◌≢◌, ℕ, zero, suc, ◌-◌, ◌<◌, ◌≤◌, true, false, List, [], ◌∷◌, ◌++◌, length, get_or, set, Result, Ok, Err, IfOk, OnErr, refl, ap, sym, ◌∙◌, subst, arith}
 use Rattle.std.specs.Prelude.{◌==◌, if◌then◌else◌, max}
 use Rattle.std.specs.List.Sorted.{IsSearchInRange, IsBinarySearchResult, IsNonDecreasingBy}
 use Rattle.std.specs.Ordering.{nat_cmp, ordering_index}
 use Rattle.std.proofs.lemmas.Cmp.{ranked}
 use Rattle.std.proofs.lemmas.List.Sorted.{IsNonDecreasingBy-from_default}
-use Rattle.std.proofs.lemmas.Bool.{cond_both, eq-eqb, ne_eqb, eqb-true}
+use Rattle.std.proofs.lemmas.Bool.{cond_both, eq-eqb, ne_eqb, eqb-true, eqb-false}
 use Rattle.std.proofs.lemmas.Bool.Decides.{nat_tests}
 use Rattle.std.proofs.lemmas.List.{get_or_read}
 use Rattle.gu_tree.specs.Filing.{Filing, slot_of, last_of, RisesAbove, IsRising, no_filing, IsFiledAt, IsNotFiled, without_slot}
@@ -121,6 +121,21 @@ module _ (s : List Filing) (rising : IsRising s) (e : ℕ) where
         let above : at ≤ i → e < entry_at s i = λ h. ranked _ e _ (sym ((parted comparisons_rise).1 i no_filing h lt)) in
         grind (arith, below, above);
   }
+
+-- the last that was filed has the highest number
+rising-last : (n : ℕ) (s : List Filing) → RisesAbove n s → 1 ≤ length s → last_of s ≡ entry_at s (length s - 1)
+rising-last n [] rises some = absurd (omega (arith, some))
+rising-last n (x ∷ []) rises some = omega arith
+rising-last n (x ∷ y ∷ s) rises some =
+    let k : length (x ∷ y ∷ s) - 1 ≡ suc (length (y ∷ s) - 1) = omega arith in
+    let rest = rising-last x.entry (y ∷ s) rises.1 (omega arith) in
+    let low = rises-at x.entry (y ∷ s) (length (y ∷ s) - 1) rises.1 (omega arith) in
+    omega (arith, rest, low, ap (entry_at (x ∷ y ∷ s)) k)
+
+pub last_of-found : (s : List Filing) (u : Filing) → IsRising s → (length s == 0) ≡ false → u ≡ get_or s (length s - 1) u → u.entry ≡ last_of s
+last_of-found s u rising some here =
+    let one : 1 ≤ length s = omega (arith, eqb-false (length s) 0 some) in
+    ap (λ (f : Filing). f.entry) (get_or_read s (length s - 1) u (omega (arith, one)) here no_filing) ∙ sym (rising-last 0 s rising one)
 
 -- ---- what is found, and what is written there
 

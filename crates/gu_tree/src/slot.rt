@@ -2,7 +2,7 @@
 ghost use Rattle.std.specs.Prelude.{◌≡◌, ◌<◌, ◌++◌, ◌∷◌, ℕ, IfOk, OnErr, IfSome, IfNone, [], vec_len, vec_capacity};
 ghost use Rattle.gu_base.specs.Limits.{most_parts};
 ghost use Rattle.gu_base.specs.Numbers.{EntryPart};
-ghost use Rattle.gu_tree.specs.Filing.{IsRising, IsFiledAt, IsNotFiled, IsRoot, slot_of, without_slot, name_in, Climbs, IsClimbed};
+ghost use Rattle.gu_tree.specs.Filing.{IsRising, IsFiledAt, IsNotFiled, IsRoot, slot_of, last_of, without_slot, name_in, Climbs, IsClimbed};
 
 use crate::path::{MAX_DEPTH, Path};
 use gu_base::{NodeName, Number};
@@ -117,6 +117,17 @@ fn shift_of(slots: &[Filed]) -> usize {
         return 0;
     };
     (slots.len() - 1).wrapping_sub(last.entry() as usize)
+}
+
+/// The highest number of an entry that was filed, 0 where there is none.
+pub(crate) fn last_number(slots: &[Filed]) -> u32
+    requires { IsRising slots.now }
+    ensures { result ≡ last_of slots.now }
+{
+    if slots.is_empty() {
+        return 0;
+    }
+    slots[slots.len() - 1].entry()
 }
 
 /// What the entry named, and how far above its number it is filed if it is; `shift` as for `find`.

@@ -7,8 +7,8 @@ use Rattle.gu_book.specs.Filed.{IsFree}
 use Rattle.gu_tree.specs.Shown.{SplitsNode, named_node}
 use Rattle.gu_book.proofs.Filed.{Spot}
 use Rattle.gu_book.specs.TreeRows.{is_trade}
-use Rattle.gu_book.proofs.FreeNodes.{Claims, TurnsDown, turned_down, turned_names, its_spot, root_alone}
-use Rattle.gu_book.proofs.Gone.{may_unsplit, split_in, free_parts, unsplit_gone, claimed_there, claim_part, claim_in, claim_gone, turned_there, turned_part, turned_in, turned_gone, sapling_there}
+use Rattle.gu_book.proofs.FreeNodes.{Claims, TurnsDown, turned_down, turned_names, its_spot}
+use Rattle.gu_book.proofs.Gone.{may_unsplit, unsplit_gone, claimed_there, claim_gone, turned_there, turned_gone, sapling_there}
 use Rattle.gu_book.proofs.Gone.{root_gone}
 use Rattle.gu_book.proofs.grove.undo.Goals.{In-Split, In-Claim, In-Refuse}
 use Rattle.gu_book.proofs.grove.undo.Goals as goal
@@ -34,53 +34,30 @@ turned_at c u =
     let n = turned_down c.in-Refuse.is in
     (n.0, its_spot u c.in-Some.undone.found.trade c.args.sought.now.path.items n.0 (turned_names n.0 c.args.entry.now.command n.1).0 (rw c.in-Some.is at c.requires.there), n.1)
 
-pub uproot-requires-clause-sapling : goal.uproot-requires-clause-sapling
-uproot-requires-clause-sapling c =
+pub uproot-requires : goal.uproot-requires
+uproot-requires c =
     let go = c.requires.may_go in
-    sapling_there go.2 (ap is_trade c.in-Trade.is)
-
-pub uproot-requires-clause-alone : goal.uproot-requires-clause-alone
-uproot-requires-clause-alone c =
-    let go = c.requires.may_go in
-    root_alone go.2 (ap is_trade c.in-Trade.is)
+    record { sapling = sapling_there go.2 (ap is_trade c.in-Trade.is) }
 
 pub returns-in-Trade-clause-gone : goal.returns-in-Trade-clause-gone
 returns-in-Trade-clause-gone c = λ t l u. root_gone u (ap is_trade c.in-Trade.is) c.uproot.new.self c.uproot.ensures.tree c.uproot.ensures.place
 
-pub unsplit-requires-clause-undecided : goal.unsplit-requires-clause-undecided
-unsplit-requires-clause-undecided c = let u = c.requires.may_go.2 in let s = split_at (goal.at.unsplit-requires-clause-undecided c).In-Split u in may_unsplit u s.0 s.1
-
-pub unsplit-requires-clause-split : goal.unsplit-requires-clause-split
-unsplit-requires-clause-split c = let u = c.requires.may_go.2 in let s = split_at (goal.at.unsplit-requires-clause-split c).In-Split u in split_in u s.0 s.1
-
-pub unsplit-requires-clause-free : goal.unsplit-requires-clause-free
-unsplit-requires-clause-free c = let u = c.requires.may_go.2 in let s = split_at (goal.at.unsplit-requires-clause-free c).In-Split u in free_parts u s.0 s.1
+pub unsplit-requires : goal.unsplit-requires
+unsplit-requires c = let u = c.requires.may_go.2 in let s = split_at (goal.at.unsplit-requires c).In-Split u in record { undecided = may_unsplit u s.0 s.1 }
 
 pub returns-in-Split-clause-gone : goal.returns-in-Split-clause-gone
 returns-in-Split-clause-gone c = λ t l u. let s = split_at (goal.at.returns-in-Split-clause-gone c).In-Split u in
     unsplit_gone u s.0 s.1 c.unsplit.new.self c.unsplit.ensures.tree c.unsplit.ensures.place c.unsplit.ensures.shows
 
-pub unclaim-requires-clause-part : goal.unclaim-requires-clause-part
-unclaim-requires-clause-part c = let u = c.requires.may_go.2 in let s = claim_at (goal.at.unclaim-requires-clause-part c).In-Claim u in claim_part u s.0 s.1
-
-pub unclaim-requires-clause-claimed : goal.unclaim-requires-clause-claimed
-unclaim-requires-clause-claimed c = let u = c.requires.may_go.2 in let s = claim_at (goal.at.unclaim-requires-clause-claimed c).In-Claim u in claimed_there u s.0 s.1
-
-pub unclaim-requires-clause-decided : goal.unclaim-requires-clause-decided
-unclaim-requires-clause-decided c = let u = c.requires.may_go.2 in let s = claim_at (goal.at.unclaim-requires-clause-decided c).In-Claim u in claim_in u s.0 s.1
+pub unclaim-requires : goal.unclaim-requires
+unclaim-requires c = let u = c.requires.may_go.2 in let s = claim_at (goal.at.unclaim-requires c).In-Claim u in record { claimed = claimed_there u s.0 s.1 }
 
 pub returns-in-Claim-clause-gone : goal.returns-in-Claim-clause-gone
 returns-in-Claim-clause-gone c = λ t l u. let s = claim_at (goal.at.returns-in-Claim-clause-gone c).In-Claim u in
     claim_gone u s.0 s.1 c.unclaim.new.self c.unclaim.ensures.tree c.unclaim.ensures.place c.unclaim.ensures.shows
 
-pub offer_again-requires-clause-part : goal.offer_again-requires-clause-part
-offer_again-requires-clause-part c = let u = c.requires.may_go.2 in let s = turned_at (goal.at.offer_again-requires-clause-part c).In-Refuse u in turned_part u s.1 s.2
-
-pub offer_again-requires-clause-given_back : goal.offer_again-requires-clause-given_back
-offer_again-requires-clause-given_back c = let u = c.requires.may_go.2 in let s = turned_at (goal.at.offer_again-requires-clause-given_back c).In-Refuse u in turned_there u s.1 s.2
-
-pub offer_again-requires-clause-decided : goal.offer_again-requires-clause-decided
-offer_again-requires-clause-decided c = let u = c.requires.may_go.2 in let s = turned_at (goal.at.offer_again-requires-clause-decided c).In-Refuse u in turned_in u s.1 s.2
+pub offer_again-requires : goal.offer_again-requires
+offer_again-requires c = let u = c.requires.may_go.2 in let s = turned_at (goal.at.offer_again-requires c).In-Refuse u in record { given_back = turned_there u s.1 s.2 }
 
 pub returns-in-Refuse-clause-gone : goal.returns-in-Refuse-clause-gone
 returns-in-Refuse-clause-gone c = λ t l u. let s = turned_at (goal.at.returns-in-Refuse-clause-gone c).In-Refuse u in

@@ -4,7 +4,7 @@ use Rattle.gu_tree.specs.Changes.{IsLeaf, with_head, decide_node, decided_head}
 use Rattle.gu_tree.proofs.Edits.{edit_at-same}
 use Rattle.gu_tree.proofs.Parts.{at_fact, some_and}
 use Rattle.gu_tree.proofs.ShowsChanges.{decision-shows}
-use Rattle.gu_tree.proofs.Splits.{head-tree}
+use Rattle.gu_tree.proofs.Splits.{head-tree, offered-moves}
 use Rattle.gu_tree.proofs.tree.Tree.decide.Goals as goal
 
 pub returns-clause-node : goal.returns-clause-node
@@ -15,7 +15,7 @@ invariant_of-self g c =
     let v = some_and _ _ c.requires in
     let n = c.args.number in
     let d = c.args.decision.now in
-    head-tree _ _ _ _ _ v.1 refl (returns-clause-node g c ∙ edit_at-same (decide_node n d) (with_head (decided_head n d (head_of v.0))) _ _ v.0 v.1 refl) (rw c.self.view_is at c.self.invariant)
+    head-tree _ _ _ _ _ v.1 refl (offered-moves v.0 v.2) (returns-clause-node g c ∙ edit_at-same (decide_node n d) (with_head (decided_head n d (head_of v.0))) _ _ v.0 v.1 refl) (rw c.self.view_is at c.self.invariant)
 
 pub returns-clause-shows : goal.returns-clause-shows
 returns-clause-shows g c =

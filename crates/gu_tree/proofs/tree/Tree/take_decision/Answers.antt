@@ -4,8 +4,13 @@ use Rattle.gu_tree.specs.Paths.{node_at, edit_at}
 use Rattle.gu_tree.specs.Changes.{offer_node, stand_path, IsLeaf}
 use Rattle.gu_tree.proofs.Inverses.{cut-tree}
 use Rattle.gu_tree.proofs.Parts.{some_and, at_there}
-use Rattle.gu_tree.proofs.ShowsLess.{stand-there, decided-leaf, taken-shows}
+use Rattle.gu_tree.proofs.ShowsLess.{stand-there, has_stand, decided-leaf, decided-moves, taken-shows}
 use Rattle.gu_tree.proofs.tree.Tree.take_decision.Goals as goal
+
+pub path-requires : goal.path-requires
+path-requires g c =
+    let v = some_and _ _ c.requires.decided in
+    rw c.as_slice-steps.ensures.value (has_stand c.args.stand c.args.path.now.items c.args.self.now v.0 v.1 v.2 (rw c.self.view_is at c.self.invariant).root)
 
 pub at-requires : goal.at-requires
 at-requires g c =
@@ -28,10 +33,10 @@ pub invariant_of-self : goal.invariant_of-self
 invariant_of-self g c =
     let v = some_and _ _ c.requires.decided in
     let u = some_and (λ x. c.offer_at.new.self ≡ edit_at (offer_node (head_of x).place) c.args.path.now.items c.args.self.now) (node_at (stand_path c.args.stand c.args.path.now.items) c.args.self.now) (returns-clause-node g c) in
-    cut-tree (offer_node (head_of u.0).place) c.args.path.now.items c.args.self.now v.0 _ _ v.1 refl refl u.2 (rw c.self.view_is at c.self.invariant)
+    cut-tree (offer_node (head_of u.0).place) c.args.path.now.items c.args.self.now v.0 _ _ v.1 refl refl (λ held. absurd (decided-moves c.args.stand v.0 v.2 held)) u.2 (rw c.self.view_is at c.self.invariant)
 
 pub returns-clause-shows : goal.returns-clause-shows
 returns-clause-shows g c =
     let v = some_and _ _ c.requires.decided in
     let u = some_and (λ x. c.offer_at.new.self ≡ edit_at (offer_node (head_of x).place) c.args.path.now.items c.args.self.now) (node_at (stand_path c.args.stand c.args.path.now.items) c.args.self.now) (returns-clause-node g c) in
-    taken-shows c.args.stand c.args.path.now.items c.args.self.now v.0 u.0 _ c.requires.part v.1 u.1 v.2 (rw c.self.view_is at c.self.invariant).once u.2
+    taken-shows c.args.stand c.args.path.now.items c.args.self.now v.0 u.0 _ (has_stand c.args.stand c.args.path.now.items c.args.self.now v.0 v.1 v.2 (rw c.self.view_is at c.self.invariant).root) v.1 u.1 v.2 (rw c.self.view_is at c.self.invariant).once u.2

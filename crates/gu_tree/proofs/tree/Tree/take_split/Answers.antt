@@ -11,7 +11,7 @@ returns-clause-node g c = rw (c.as_slice.ensures.value, c.self.view_is) at c.uns
 pub invariant_of-self : goal.invariant_of-self
 invariant_of-self g c =
     let v = some_and _ _ c.requires in
-    cut-tree unsplit_node c.args.path.now.items c.args.self.now v.0 _ _ v.1 refl refl (returns-clause-node g c) (rw c.self.view_is at c.self.invariant)
+    cut-tree unsplit_node c.args.path.now.items c.args.self.now v.0 _ _ v.1 refl refl (λ held. held) (returns-clause-node g c) (rw c.self.view_is at c.self.invariant)
 
 pub returns-clause-shows : goal.returns-clause-shows
 returns-clause-shows g c =

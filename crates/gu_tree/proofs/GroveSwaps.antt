@@ -1,0 +1,305 @@
+-- What it does to the trees to put another node of its name in the place of one.
+use Rattle.std.proofs.Common.{◌≡◌, ◌≢◌, ℕ, zero, suc, ◌+◌, ◌≤◌, ◌⊎◌, inl, inr, Option, Some, None, IsSomeAnd, List, [], ◌∷◌, ◌++◌, length, refl, ap, sym, ◌∙◌, subst, arith, append_assoc, append-nil, length-append}
+use Rattle.std.specs.Prelude.{true, is_none, option_and_then, option_map, ◌↔◌}
+use Rattle.std.proofs.lemmas.Bool.{cases_eq}
+use Rattle.std.proofs.lemmas.Option.{same_Some, option_and_then_some}
+use Rattle.gu_base.specs.Numbers.{EntryPart}
+use Rattle.gu_base.specs.declared.state.State.TheVariants.{Held}
+use Rattle.gu_tree.specs.Rose.{Rose, Roses, leaf, parted, no_parts, part_then, head_of}
+use Rattle.gu_tree.specs.Paths.{part_at, edit_part, node_at, edit_at, HasAt, LeadsTo}
+use Rattle.gu_tree.specs.Changes.{IsLeaf, is_open, is_undecided_leaf}
+use Rattle.gu_tree.specs.declared.head.Head.{Head}
+use Rattle.gu_tree.specs.Filing.{Filing, slot_of, Leads, turned}
+use Rattle.gu_tree.specs.Grove.{Grove, tree_of, place_of, IsLed, IsGrove, IsOn, IsFiledWith, IsSettled, IsNoted}
+use Rattle.gu_tree.specs.declared.slot.Slot.TheVariants.{Empty, Node}
+use Rattle.gu_tree.proofs.Parts.{some_and, at_there, node_at-further}
+use Rattle.gu_tree.proofs.Groves.{cons-same, led-kept, leads-one, length-turned, turned-more, turned-turned}
+
+pub by-cases : (a b : ℕ) → (a ≡ b) ⊎ (a ≢ b)
+by-cases a b = cases_eq a b
+
+-- ---- where paths lead in the edited tree
+
+abbrev pub IsNamed : EntryPart → Rose → Type 0
+IsNamed n u = (head_of u).name ≡ n
+
+pub leaf-ends : (v w : Rose) (j : ℕ) (q : List ℕ) → IsLeaf v → node_at (j ∷ q) v ≡ Some w → ⊥
+leaf-ends (leaf h) w j q is e = cc
+leaf-ends (parted h n ts) w j q is e = is
+
+-- q doesn't go on below p
+abbrev pub Outside : List ℕ → List ℕ → Type 0
+Outside p q = (k : ℕ) (r : List ℕ) → q ≡ p ++ k ∷ r → ⊥
+
+-- each node of a tree lies outside of what is below a leaf
+pub leaf-outside : (p q : List ℕ) (t v w : Rose) → IsLeaf v → node_at p t ≡ Some v → node_at q t ≡ Some w → Outside p q
+leaf-outside p q t v w ends led at = λ k r is. leaf-ends v w k r ends (sym (node_at-further p (k ∷ r) t v led) ∙ subst (λ z. node_at z t ≡ Some w) is at)
+
+part-edited : (g : Rose → Rose) (i : ℕ) (ts : Roses) → part_at i (edit_part g i ts) ≡ option_map g (part_at i ts)
+part-edited g i no_parts = refl
+part-edited g zero (part_then t ts) = refl
+part-edited g (suc i) (part_then t ts) = part-edited g i ts
+
+part-other : (g : Rose → Rose) (i j : ℕ) (ts : Roses) → j ≢ i → part_at j (edit_part g i ts) ≡ part_at j ts
+part-other g i j no_parts other = refl
+part-other g zero zero (part_then t ts) other = absurd (other refl)
+part-other g zero (suc j) (part_then t ts) other = refl
+part-other g (suc i) zero (part_then t ts) other = refl
+part-other g (suc i) (suc j) (part_then t ts) other = part-other g i j ts (λ s. other (ap suc s))
+
+-- the part through which a path goes
+through : (p : List ℕ) (i : ℕ) (ts : Roses) (v : Rose) → option_and_then (node_at p) (part_at i ts) ≡ Some v → (t : Rose) × (part_at i ts ≡ Some t) × (node_at p t ≡ Some v)
+through p i ts v e = option_and_then_some (node_at p) (part_at i ts) v e (λ t at led. (t, at, led))
+
+-- a step that goes through the edited part
+edited-step : (g : Rose → Rose) (q : List ℕ) (i j : ℕ) (ts : Roses) (t : Rose) → j ≡ i → part_at i ts ≡ Some t → option_and_then (node_at q) (part_at j (edit_part g i ts)) ≡ node_at q (g t)
+edited-step g q i j ts t same at =
+    ap (option_and_then (node_at q)) (ap (λ k. part_at k (edit_part g i ts)) same ∙ (part-edited g i ts ∙ ap (option_map g) at))
+
+-- what was put stands at the path
+edited-there : (f : Rose → Rose) (p : List ℕ) (t v : Rose) → node_at p t ≡ Some v → node_at p (edit_at f p t) ≡ Some (f v)
+edited-there f [] t v e = let s : t ≡ v = cc in ap (λ x. Some (f x)) s
+edited-there f (i ∷ p) (leaf h) v e = absurd (cc)
+edited-there f (i ∷ p) (parted h n ts) v e = let s = through p i ts v e in edited-step (edit_at f p) p i i ts s.0 refl s.1 ∙ edited-there f p s.0 v s.2
+
+-- nothing lies below a leaf that was put
+pub edited-outside : (f : Rose → Rose) (p q : List ℕ) (t v u : Rose) → node_at p t ≡ Some v → IsLeaf (f v) → node_at q (edit_at f p t) ≡ Some u → Outside p q
+edited-outside f p q t v u led ends at = leaf-outside p q (edit_at f p t) (f v) u ends (edited-there f p t v led) at
+
+-- the same node but for what is below its parts
+abbrev pub IsLike : Rose → Rose → Type 0
+IsLike (leaf h) (leaf k) = h ≡ k
+IsLike (parted h m ts) (parted k n us) = (h ≡ k) × (m ≡ n)
+IsLike _ _ = ⊥
+
+like-same : (u : Rose) → IsLike u u
+like-same (leaf h) = refl
+like-same (parted h n ts) = (refl, refl)
+
+like-head : (w u : Rose) → IsLike w u → head_of w ≡ head_of u
+like-head (leaf h) (leaf k) is = is
+like-head (parted h m ts) (parted k n us) is = is.0
+like-head (leaf h) (parted k n us) is = absurd is
+like-head (parted h m ts) (leaf k) is = absurd is
+
+-- a node of the edited tree was there, is what was put, or lies below it
+abbrev WasThere : List ℕ → List ℕ → Rose → Rose → Type 0
+WasThere p q t u = (w : Rose) × (node_at q t ≡ Some w) × IsLike w u × (q ≢ p)
+
+abbrev pub IsBelow : List ℕ → List ℕ → Rose → Rose → Type 0
+IsBelow p q fv u = (k : ℕ) × (r : List ℕ) × (q ≡ p ++ k ∷ r) × (node_at (k ∷ r) fv ≡ Some u)
+
+abbrev ComesFrom : List ℕ → List ℕ → Rose → Rose → Rose → Type 0
+ComesFrom p q t fv u = WasThere p q t u ⊎ (((q ≡ p) × (u ≡ fv)) ⊎ IsBelow p q fv u)
+
+tail-same : (i j : ℕ) (p q : List ℕ) → j ∷ q ≡ i ∷ p → (j ≡ i) × (q ≡ p)
+tail-same i j p q e = (cc, cc)
+
+from-edited : (f : Rose → Rose) (p q : List ℕ) (t v u : Rose) → node_at p t ≡ Some v → node_at q (edit_at f p t) ≡ Some u → ComesFrom p q t (f v) u
+from-edited f [] [] t v u e d =
+    let s : t ≡ v = cc in
+    let z : f t ≡ u = cc in
+    inr (inl (refl, sym z ∙ ap f s))
+from-edited f [] (j ∷ q) t v u e d = let s : t ≡ v = cc in inr (inr (j, q, refl, subst (λ x. node_at (j ∷ q) (f x) ≡ Some u) s d))
+from-edited f (i ∷ p) q (leaf h) v u e d = absurd (cc)
+from-edited f (i ∷ p) [] (parted h n ts) v u e d =
+    let z : parted h n (edit_part (edit_at f p) i ts) ≡ u = cc in inl (parted h n ts, refl, subst (IsLike (parted h n ts)) z (refl, refl), (λ s. cc))
+from-edited f (i ∷ p) (j ∷ q) (parted h n ts) v u e d = elim (by-cases j i) [
+  | inr other ↦ inl (u, ap (option_and_then (node_at q)) (sym (part-other (edit_at f p) i j ts other)) ∙ d, like-same u, (λ s. other (tail-same i j p q s).0))
+  | inl same ↦ (let s = through p i ts v e in
+      elim (from-edited f p q s.0 v u s.2 (sym (edited-step (edit_at f p) q i j ts s.0 same s.1) ∙ d)) [
+        | inl was ↦ inl (was.0, ap (option_and_then (node_at q)) (ap (λ k. part_at k ts) same ∙ s.1) ∙ was.1, was.2, (λ z. was.3 (tail-same i j p q z).1))
+        | inr put ↦ elim put [
+          | inl here ↦ inr (inl (cons-same j i q p same here.0, here.1))
+          | inr below ↦ inr (inr (below.0, below.1, cons-same j i q _ same below.2, below.3))
+        ]
+      ])
+]
+
+-- the names that don't lie below the node stand where they stood, where it gives way to a node of its name
+still-outside : (n : EntryPart) (f : Rose → Rose) (p q : List ℕ) (t v w : Rose) → Outside p q → node_at p t ≡ Some v → (head_of (f v)).name ≡ (head_of v).name → IsNamed n w → node_at q t ≡ Some w → HasAt q (IsNamed n) (edit_at f p t)
+still-outside n f [] [] t v w out e name named d =
+    let s : t ≡ v = cc in
+    let z : t ≡ w = cc in
+    rw s (name ∙ (ap (λ u. (head_of u).name) (sym s ∙ z) ∙ named))
+still-outside n f [] (j ∷ q) t v w out e name named d = absurd (out j q refl)
+still-outside n f (i ∷ p) q (leaf h) v w out e name named d = absurd (cc)
+still-outside n f (i ∷ p) [] (parted h m ts) v w out e name named d = let z : parted h m ts ≡ w = cc in ap (λ u. (head_of u).name) z ∙ named
+still-outside n f (i ∷ p) (j ∷ q) (parted h m ts) v w out e name named d = elim (by-cases j i) [
+  | inr other ↦ at_there (IsNamed n) _ w (ap (option_and_then (node_at q)) (part-other (edit_at f p) i j ts other) ∙ d) named
+  | inl same ↦ (let s = through p i ts v e in
+      let at : node_at q s.0 ≡ Some w = ap (option_and_then (node_at q)) (sym (ap (λ k. part_at k ts) same ∙ s.1)) ∙ d in
+      subst (λ o. IsSomeAnd o (IsNamed n)) (sym (edited-step (edit_at f p) q i j ts s.0 same s.1))
+      (still-outside n f p q s.0 v w (λ k r b. out k r (cons-same j i q (p ++ k ∷ r) same b)) s.2 name named at))
+]
+
+-- ---- steps that come from below a node
+
+turned-append : (xs ys : List ℕ) → turned (xs ++ ys) ≡ turned ys ++ turned xs
+turned-append [] ys = sym (append-nil (turned ys))
+turned-append (x ∷ xs) ys = ap (λ zs. zs ++ x ∷ []) (turned-append xs ys) ∙ append_assoc (turned ys) (turned xs) (x ∷ [])
+
+-- a list that ends is one that begins
+begins : (ys : List ℕ) (x : ℕ) → (k : ℕ) × (r : List ℕ) × (ys ++ x ∷ [] ≡ k ∷ r)
+begins [] x = (x, [], refl)
+begins (y ∷ ys) x = (y, ys ++ x ∷ [], refl)
+
+-- the steps come from below the node at p
+abbrev pub ComesUp : ℕ → List ℕ → ℕ → List ℕ → Type 0
+ComesUp trade p t up = (t ≡ trade) × ((x : ℕ) × (xs : List ℕ) × (up ≡ (x ∷ xs) ++ turned p))
+
+no-steps : (p up : List ℕ) (x : ℕ) (xs : List ℕ) → Outside p (turned up) → up ≡ (x ∷ xs) ++ turned p → ⊥
+no-steps p up x xs out is =
+    let b = begins (turned xs) x in
+    out b.0 b.1 (ap turned is ∙ (turned-append (x ∷ xs) (turned p) ∙ (ap (λ (z : List ℕ). z ++ turned (x ∷ xs)) (turned-turned p) ∙ ap (λ (z : List ℕ). p ++ z) b.2)))
+
+-- ---- what is filed with a node
+
+pub none_when : (o : Option ℕ) → is_none o ≡ true → o ≡ None
+none_when None is = refl
+none_when (Some d) is = cc
+
+-- nothing is on a leaf that no one has decided, and nothing has to be filed with it
+pub bare-on : (u : Rose) (e : ℕ) → is_undecided_leaf u ≡ true → IsOn e u → ⊥
+bare-on (leaf h) e bare on = let z = sym (none_when h.decision bare) ∙ on in cc
+bare-on (parted h n ts) e bare on = cc
+
+pub bare-noted : (s : List Filing) (u : Rose) → is_undecided_leaf u ≡ true → is_open (head_of u).state ≡ true → ((e : ℕ) → slot_of s e ≢ Node (head_of u).name) → ((head_of u).name.part ≡ 0 → (head_of u).state ≡ Held) → IsNoted s u
+bare-noted s (leaf h) bare fits free root =
+    record { filed = λ e. ((λ at. absurd (free e at)), (λ on. absurd (bare-on (leaf h) e bare on))); settled = record { root = λ z. (root z, none_when h.decision bare); decided = bare ∙ sym fits; apart = tt } }
+bare-noted s (parted h n ts) bare fits free root = absurd (cc)
+
+noted-like : (s : List Filing) (w u : Rose) → IsLike w u → IsNoted s w → IsNoted s u
+noted-like s (leaf h) (leaf k) e is = subst (λ x. IsNoted s (leaf x)) e is
+noted-like s (parted h m ts) (parted k n us) e is =
+    let same : IsNoted s (parted h m us) = record { filed = is.filed; settled = record { root = is.settled.root; decided = is.settled.decided; apart = is.settled.apart } } in
+    subst (λ x. IsNoted s (parted k x us)) e.1 (subst (λ x. IsNoted s (parted x m us)) e.0 same)
+noted-like s (leaf h) (parted k n us) e is = absurd e
+noted-like s (parted h m ts) (leaf k) e is = absurd e
+
+-- the same entries are filed with the node
+abbrev pub FilesAlike : List Filing → List Filing → EntryPart → Type 0
+FilesAlike s z n = (e : ℕ) → (slot_of z e ≡ Node n) ↔ (slot_of s e ≡ Node n)
+
+pub noted-kept : (s z : List Filing) (u : Rose) → FilesAlike s z (head_of u).name → IsNoted s u → IsNoted z u
+noted-kept s z u alike is = record { filed = λ e. ((λ at. (is.filed e).0 ((alike e).0 at)), (λ on. (alike e).1 ((is.filed e).1 on))); settled = is.settled }
+
+-- on w is what is on u, and this entry
+pub record HasMore (u w : Rose) (entry : ℕ) : Type 0 where
+  pub on : IsOn entry w
+  pub old : (e : ℕ) → e ≢ entry → IsOn e w → IsOn e u
+  pub kept : (e : ℕ) → IsOn e u → IsOn e w
+
+module _ (s z : List Filing) {u w : Rose} {entry : ℕ} (n : EntryPart) (more : HasMore u w entry) (same : (e : ℕ) → e ≢ entry → slot_of z e ≡ slot_of s e) where
+  pub filed-more : slot_of z entry ≡ Node n → IsFiledWith s n u → IsFiledWith z n w
+  filed-more here is = λ e. elim (by-cases e entry) [
+    | inl q ↦ ((λ at. subst (λ k. IsOn k w) (sym q) more.on), (λ on. ap (slot_of z) q ∙ here))
+    | inr q ↦ ((λ at. more.kept e ((is e).0 (sym (same e q) ∙ at))), (λ on. same e q ∙ (is e).1 (more.old e q on)))
+  ]
+
+module _ (s z : List Filing) {u w : Rose} {entry : ℕ} (n : EntryPart) (more : HasMore w u entry) (same : (e : ℕ) → e ≢ entry → slot_of z e ≡ slot_of s e) where
+  pub filed-less : slot_of z entry ≡ Empty → (IsOn entry w → ⊥) → IsFiledWith s n u → IsFiledWith z n w
+  filed-less gone none is = λ e. elim (by-cases e entry) [
+    | inl q ↦ ((λ at. let y : Empty ≡ Node n = sym gone ∙ (ap (slot_of z) (sym q) ∙ at) in absurd (cc)), (λ on. absurd (none (subst (λ k. IsOn k w) q on))))
+    | inr q ↦ ((λ at. more.old e q ((is e).0 (sym (same e q) ∙ at))), (λ on. same e q ∙ (is e).1 (more.kept e on)))
+  ]
+
+-- ---- a node gives way to a node of its name
+
+-- a node of this name lies there alone
+pub same-spot : {g : Grove} (u trade : ℕ) (tree t : Rose) (q p : List ℕ) (w v : Rose) → IsGrove g → tree_of g u ≡ Some tree → node_at q tree ≡ Some w → tree_of g trade ≡ Some t → node_at p t ≡ Some v
+    → (head_of w).name ≡ (head_of v).name → (u ≡ trade) × (q ≡ p)
+same-spot {g} u trade tree t q p w v is e at f led same =
+    let one = leads-one g.slots (head_of v).name u trade (turned q) (turned p) (subst (λ n. Leads g.slots n u (turned q)) same (is.made u tree q w e at)) (is.made trade t p v f led) in
+    (one.0, sym (turned-turned q) ∙ (ap turned one.1 ∙ turned-turned p))
+
+pub record IsSwap (g new : Grove) (trade : ℕ) (t v : Rose) (f : Rose → Rose) (p : List ℕ) : Type 0 where
+  pub tree : tree_of g trade ≡ Some t
+  pub led : node_at p t ≡ Some v
+  pub name : (head_of (f v)).name ≡ (head_of v).name
+  pub here : tree_of new trade ≡ Some (edit_at f p t)
+  pub there : (u : ℕ) → u ≢ trade → tree_of new u ≡ tree_of g u
+  pub leads : (m : EntryPart) (u : ℕ) (up : List ℕ) → Leads g.slots m u up → (ComesUp trade p u up → ⊥) → Leads new.slots m u up
+  pub free : (e : ℕ) (m : EntryPart) (q : List ℕ) (w : Rose) → place_of g e ≡ Some m → node_at q t ≡ Some w → IsNamed m w → Outside p q
+  pub stays : (q : List ℕ) (w u : Rose) → node_at q t ≡ Some w → node_at q (edit_at f p t) ≡ Some u → Outside p q
+  pub places : (k : ℕ) (n : EntryPart) → place_of new k ≡ Some n → (place_of g k ≡ Some n) ⊎ ((n ≡ (head_of v).name) × (length p ≤ 64))
+  pub alike : (m : EntryPart) → m ≢ (head_of v).name → FilesAlike g.slots new.slots m
+  pub node : IsNoted new.slots (f v)
+  pub below : (q : List ℕ) (u : Rose) → IsBelow p q (f v) u → Leads new.slots (head_of u).name trade (turned q) × IsNoted new.slots u
+
+module _ {g new : Grove} {trade : ℕ} {t v : Rose} {f : Rose → Rose} {p : List ℕ} (is : IsGrove g) (sw : IsSwap g new trade t v f p) where
+  leads-node : Leads new.slots (head_of v).name trade (turned p)
+  leads-node =
+      sw.leads (head_of v).name trade (turned p) (is.made trade t p v sw.tree sw.led)
+      (λ c. absurd (omega (arith, ap length c.1.2, length-append (c.1.0 ∷ c.1.1) (turned p))))
+
+  node-led : length p ≤ 64 → IsLed new (head_of v).name
+  node-led short = record {
+    trade = trade;
+    up = turned p;
+    tree = edit_at f p t;
+    leads = leads-node;
+    short = omega (arith, length-turned p, short);
+    found = sw.here;
+    there = subst (λ q. LeadsTo q (edit_at f p t) (head_of v).name) (sym (turned-turned p)) (at_there (IsNamed (head_of v).name) _ (f v) (edited-there f p t v sw.led) sw.name);
+  }
+
+  led-same : (k : ℕ) (n : EntryPart) → place_of g k ≡ Some n → (l : IsLed g n) → (l.trade ≡ trade) ⊎ (l.trade ≢ trade) → IsLed new n
+  led-same k n placed l (inr other) = led-kept n l (sw.leads n l.trade l.up l.leads (λ c. other c.0)) (sw.there l.trade other)
+  led-same k n placed l (inl here) =
+      let same : l.tree ≡ t = let z : Some l.tree ≡ Some t = sym l.found ∙ (ap (tree_of g) here ∙ sw.tree) in cc in
+      let w = some_and (IsNamed n) (node_at (turned l.up) l.tree) l.there in
+      let at = subst (λ u. node_at (turned l.up) u ≡ Some w.0) same w.1 in
+      let out = sw.free k n (turned l.up) w.0 placed at w.2 in
+      record {
+        trade = l.trade;
+        up = l.up;
+        tree = edit_at f p t;
+        leads = sw.leads n l.trade l.up l.leads (λ c. no-steps p l.up c.1.0 c.1.1 out c.1.2);
+        short = l.short;
+        found = ap (tree_of new) here ∙ sw.here;
+        there = still-outside n f p (turned l.up) t v w.0 out sw.led sw.name w.2 at;
+      }
+
+  pub swapped-led : (k : ℕ) (n : EntryPart) → place_of new k ≡ Some n → IsLed new n
+  swapped-led k n e = elim (sw.places k n e) [
+    | inl placed ↦ (let l = is.led k n placed in led-same k n placed l (by-cases l.trade trade))
+    | inr node ↦ subst (IsLed new) (sym node.0) (node-led node.1)
+  ]
+
+  was-there : (q : List ℕ) (u : Rose) → node_at q (edit_at f p t) ≡ Some u → WasThere p q t u → Leads new.slots (head_of u).name trade (turned q) × IsNoted new.slots u
+  was-there q u at (w, was, like, other) =
+      let out = sw.stays q w u was at in (
+        subst (λ (h : Head). Leads new.slots h.name trade (turned q)) (like-head w u like)
+            (sw.leads (head_of w).name trade (turned q) (is.made trade t q w sw.tree was)
+            (λ c. no-steps p (turned q) c.1.0 c.1.1 (subst (Outside p) (sym (turned-turned q)) out) c.1.2)),
+        noted-like new.slots w u like
+            (noted-kept g.slots new.slots w (sw.alike (head_of w).name (λ s. other (same-spot trade trade t t q p w v is sw.tree was sw.tree sw.led s).1))
+            (is.noted trade t q w sw.tree was)),
+      )
+
+  put-here : (q : List ℕ) (u : Rose) → q ≡ p → u ≡ f v → Leads new.slots (head_of u).name trade (turned q) × IsNoted new.slots u
+  put-here q u at same = (
+    subst (λ x. Leads new.slots (head_of u).name trade (turned x)) (sym at)
+        (subst (λ n. Leads new.slots n trade (turned p)) (sym (ap (λ x. (head_of x).name) same ∙ sw.name)) leads-node),
+    subst (IsNoted new.slots) (sym same) sw.node,
+  )
+
+  in-tree : (tree : Rose) (q : List ℕ) (u : Rose) → tree ≡ edit_at f p t → node_at q tree ≡ Some u → Leads new.slots (head_of u).name trade (turned q) × IsNoted new.slots u
+  in-tree tree q u same at =
+      let there = subst (λ x. node_at q x ≡ Some u) same at in
+      elim (from-edited f p q t v u sw.led there) [
+        | inl was ↦ was-there q u there was
+        | inr put ↦ elim put [ inl here ↦ put-here q u here.0 here.1 | inr below ↦ sw.below q u below ]
+      ]
+
+  pub swapped : (u : ℕ) (tree : Rose) (q : List ℕ) (w : Rose) → tree_of new u ≡ Some tree → node_at q tree ≡ Some w → Leads new.slots (head_of w).name u (turned q) × IsNoted new.slots w
+  swapped u tree q w e at = elim (by-cases u trade) [
+    | inl here ↦ (let z : Some tree ≡ Some (edit_at f p t) = sym e ∙ (ap (tree_of new) here ∙ sw.here) in
+        let same : tree ≡ edit_at f p t = cc in
+        subst (λ x. Leads new.slots (head_of w).name x (turned q) × IsNoted new.slots w) (sym here) (in-tree tree q w same at))
+    | inr other ↦ (let found = sym (sw.there u other) ∙ e in (
+        sw.leads (head_of w).name u (turned q) (is.made u tree q w found at) (λ c. other c.0),
+        noted-kept g.slots new.slots w (sw.alike (head_of w).name (λ s. other (same-spot u trade tree t q p w v is found at sw.tree sw.led s).0)) (is.noted u tree q w found at),
+      ))
+  ]
