@@ -299,7 +299,7 @@ module _ {g new : Grove} {trade : ℕ} {t v : Rose} {f : Rose → Rose} {p : Lis
         let same : tree ≡ edit_at f p t = cc in
         subst (λ x. Leads new.slots (head_of w).name x (turned q) × IsNoted new.slots w) (sym here) (in-tree tree q w same at))
     | inr other ↦ (let found = sym (sw.there u other) ∙ e in (
-        sw.leads (head_of w).name u (turned q) (is.made u tree q w found at) (λ c. other c.0),
-        noted-kept g.slots new.slots w (sw.alike (head_of w).name (λ s. other (same-spot u trade tree t q p w v is found at sw.tree sw.led s).0)) (is.noted u tree q w found at),
-      ))
+      sw.leads (head_of w).name u (turned q) (is.made u tree q w found at) (λ c. other c.0),
+      noted-kept g.slots new.slots w (sw.alike (head_of w).name (λ s. other (same-spot u trade tree t q p w v is found at sw.tree sw.led s).0)) (is.noted u tree q w found at),
+    ))
   ]
