@@ -123,7 +123,8 @@ impl Answering {
         Ok(())
     }
 
-    /// Appends the AllocationInstructionAck that answers a call, with the next number: its body is put where it goes out. An `Err` appends nothing.
+    /// Appends the AllocationInstructionAck that answers a call, with the next number: its body is put where it goes
+    /// out. An `Err` appends nothing.
     #[inline(always)]
     fn send_ack(
         &mut self,
@@ -153,7 +154,8 @@ impl Answering {
         Ok(())
     }
 
-    /// Appends the TradeCaptureReportAck that answers a call, with the next number: its body is put where it goes out. An `Err` appends nothing.
+    /// Appends the TradeCaptureReportAck that answers a call, with the next number: its body is put where it goes
+    /// out. An `Err` appends nothing.
     #[inline(always)]
     fn send_trade_ack(
         &mut self,
