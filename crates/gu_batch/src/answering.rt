@@ -207,7 +207,12 @@ impl Answering {
                 }
                 _ => Ok(()),
             },
-            Err(MeaningError::Reject(fault)) => self.answer_fault(fields, fault, &mut room.body, out),
+            Err(MeaningError::Reject(fault)) => self.answer_fault(
+                fields,
+                fault,
+                &mut room.body,
+                out,
+            ),
             Err(MeaningError::Memory) => Err(AllocError),
         }
     }
