@@ -8,7 +8,7 @@ ghost use Rattle.gu_codec.specs.Writing.{IsText, fields_text, message_text, stre
 ghost use Rattle.gu_base.specs.Answers.{answer_to, after};
 ghost use Rattle.gu_message.specs.AllocationAck.{ack_fields};
 ghost use Rattle.gu_message.specs.Meaning.{meaning_of};
-ghost use Rattle.gu_message.specs.Outcome.{Gives};
+ghost use Rattle.gu_message.specs.Outcome.{GivesBy, IsSplit};
 ghost use Rattle.gu_message.specs.Reply.{Reply, message_of, answer_reply, reject_reply};
 ghost use Rattle.gu_message.specs.TradeReportAck.{trade_ack_fields};
 
@@ -16,8 +16,8 @@ use gu_base::{AllocId, Answer, Command, FirmId, Memory, Part};
 use gu_book::Book;
 use gu_codec::{Fields, Header, close_frame, open_frame, write_frame};
 use gu_message::{
-    Inbound, Index, MeaningError, Reject, SLOTS, Slot, ack_len, give_back, meaning_in, msg_types,
-    put_ack, put_trade_ack, reject, reject_target, trade_ack_len, walk,
+    Inbound, Index, MeaningError, Reject, SLOTS, Slot, ack_len, give_back_parts, meaning_into,
+    msg_types, put_ack, put_trade_ack, reject, reject_target, trade_ack_len, walk,
 };
 use gu_parties::House;
 use std::alloc::{AllocError, Global};
@@ -42,6 +42,8 @@ pub(crate) struct Room {
     body: Vec<u8>,
     /// For the parts of a split.
     parts: Vec<Part>,
+    /// For what a message means.
+    meaning: Inbound,
 }
 
 impl Room {
@@ -50,6 +52,7 @@ impl Room {
         Room {
             body: Vec::new(alloc),
             parts: Vec::new(alloc),
+            meaning: Inbound::Heartbeat,
         }
     }
 }
@@ -224,41 +227,48 @@ impl Answering {
         self.send(out, &reject_target(fields), msg_types::REJECT, body)
     }
 
-    /// Appends the answer to a message that means this. An `Err` appends nothing.
+    /// Appends the answer to a message that was read into the room's meaning. An `Err` appends nothing.
     #[tactic(auto, unfolding(crate::specs::Output::answers_to, crate::specs::Output::progress_after))]
     fn answer_meaning(
         &mut self,
         alloc: Global,
         fields: Fields<'_>,
-        meaning: &Result<Inbound, MeaningError>,
-        body: &mut Vec<u8>,
+        read: Result<(), MeaningError>,
+        room: &mut Room,
         out: &mut Vec<u8>,
     ) -> Result<(), Memory>
         requires counted { self.old.written + 1 < 2 ^ 64 }
-        requires gives { Gives meaning.now (meaning_of self.old.house.house (pairs fields)) }
+        requires gives { GivesBy IsSplit (λ _. room.old.meaning) read (meaning_of self.old.house.house (pairs fields)) }
         ensures ok { OnOk result (out.new.items ≡ out.old.items ++ stream_text (answers_to self.old (pairs fields.entry))) }
         ensures after { OnOk result (self.new ≡ progress_after self.old (pairs fields.entry)) }
         ensures err { OnErr result (out.new.items ≡ out.old.items) }
     {
-        match meaning {
-            Ok(
+        match read {
+            Ok(()) => match &room.meaning {
                 Inbound::Call {
                     firm,
                     trade,
                     id,
                     command,
-                },
-            ) => {
-                let call = Call {
-                    firm,
-                    trade: *trade,
-                    id,
-                    command,
-                };
-                self.answer_call(alloc, &call, out)
-            }
-            Ok(_) => Ok(()),
-            Err(MeaningError::Reject(fault)) => self.answer_fault(fields, *fault, body, out),
+                } => {
+                    let call = Call {
+                        firm,
+                        trade: *trade,
+                        id,
+                        command,
+                    };
+                    let answered = self.answer_call(alloc, &call, out);
+                    give_back_parts(alloc, &mut room.meaning, &mut room.parts);
+                    answered
+                }
+                _ => Ok(()),
+            },
+            Err(MeaningError::Reject(fault)) => self.answer_fault(
+                fields,
+                fault,
+                &mut room.body,
+                out,
+            ),
             Err(MeaningError::Memory) => Err(AllocError),
         }
     }
@@ -284,9 +294,7 @@ impl Answering {
             return Ok(());
         }
         let message = Index::new(fields, &slots, walked);
-        let mut meaning = meaning_in(alloc, &message, &house, &mut room.parts);
-        let answered = self.answer_meaning(alloc, fields, &meaning, &mut room.body, out);
-        give_back(alloc, &mut meaning, &mut room.parts);
-        answered
+        let read = meaning_into(alloc, &message, &house, &mut room.parts, &mut room.meaning);
+        self.answer_meaning(alloc, fields, read, room, out)
     }
 }

@@ -1,5 +1,5 @@
 -- An own part as most are sent.
-use Rattle.std.proofs.Common.{◌≡◌, ◌≢◌, ◌<◌, ◌+◌, ◌-◌, ◌*◌, ◌∙◌, inl, inr, ℕ, Bool, true, false, cond, eqb, ltb, List, [], ◌∷◌, ◌++◌, length, take, drop, Option, Some, None, Ok, refl, sym, ap, arith}
+use Rattle.std.proofs.Common.{◌≡◌, ◌≢◌, ◌<◌, ◌+◌, ◌-◌, ◌*◌, ◌∙◌, inl, inr, ℕ, Bool, true, false, cond, eqb, ltb, List, [], ◌∷◌, ◌++◌, length, take, drop, Option, Some, None, Ok, refl, sym, ap, append-nil, arith}
 use Rattle.std.specs.List.{position_or_len}
 use Rattle.std.specs.Option.{is_some}
 use Rattle.std.proofs.lemmas.Bool.{cases_Bool, lt-ltb, le-ltb, ne_eqb}
@@ -14,7 +14,7 @@ use Rattle.gu_message.specs.Values.{is_dot, digits_after, digits_of, quantity_of
 use Rattle.gu_message.specs.Checks.{needed, name_of}
 use Rattle.gu_message.specs.Finding.{entries}
 use Rattle.gu_message.specs.SplitParts.{named_by, part_of, counted_of, with_front, IsPlain}
-use Rattle.gu_message.proofs.MoreParts.{one_more}
+use Rattle.gu_message.proofs.MoreParts.{with_none, one_more}
 
 -- ---- a quantity of digits
 
@@ -137,3 +137,21 @@ one_plain by bytes at end lots account name front after count left p ends is_nam
     let keeps : after ≡ front ++ (part ∷ []) = kept ∙ ap (λ (n : Option (List ℕ)). front ++ (record { lots = lots; firm = by; account = n } ∷ [])) is_some in
     one_more by account fs (entries 79 rest) front after (Ok part) count left one refl read keeps
     ∙ ap (λ (t : List (ℕ × List ℕ)). with_front front (counted_of by count (entries 79 t))) (sym p.fields)
+
+-- ---- a group that ends
+
+all_plain : (by bytes : List ℕ) (front : List Part) → with_front front (counted_of by 0 (entries 79 (fields_of (drop (length bytes) bytes)))) ≡ Ok front
+all_plain by bytes front =
+    let none : fields_of (drop (length bytes) bytes) ≡ [] = ap fields_of (drop_all (length bytes) bytes (omega arith)) ∙ fields_none [] field_nil in
+    ap (λ (fs : List (ℕ × List ℕ)). with_front front (counted_of by 0 (entries 79 fs))) none ∙ ap (λ (ps : List Part). Ok ps) (append-nil front)
+
+-- as many as were to come were read, up to the end
+pub all_read : (by bytes : List ℕ) (at left count : ℕ) (before after : List Part) → at ≡ length bytes → left ≡ 0 → before ≡ []
+    → with_front after (counted_of by left (entries 79 (fields_of (drop at bytes)))) ≡ with_front before (counted_of by count (entries 79 (fields_of bytes)))
+    → counted_of by count (entries 79 (fields_of bytes)) ≡ Ok after
+all_read by bytes at left count before after at_end no_more none e =
+    let r = counted_of by count (entries 79 (fields_of bytes)) in
+    sym (with_none r) ∙ ap (λ (ps : List Part). with_front ps r) (sym none) ∙ sym e
+    ∙ ap (λ (n : ℕ). with_front after (counted_of by left (entries 79 (fields_of (drop n bytes))))) at_end
+    ∙ ap (λ (n : ℕ). with_front after (counted_of by n (entries 79 (fields_of (drop (length bytes) bytes))))) no_more
+    ∙ all_plain by bytes after

@@ -19,5 +19,5 @@ returns-clause-ok c =
     let written : take c.open_frame.new.out.len (bytes ++ drop (length bytes) c.open_frame.new.out.items) ≡ bytes = take_at bytes _ _ (omega (arith, c.close_frame.ensures.len, c.put_ack-end.ensures.len, c.as_mut_slice-bytes.ensures.len)) in
     let front : take c.in_ok-at.at c.as_mut_slice-bytes.result.now ≡ old ++ front_text h c.ack_len.result = rw (c.as_mut_slice-bytes.ensures.value, ← same, ← number) c.in_ok-at.ensures.front in
     let put : take c.put_ack-end.result c.put_ack-end.new.bytes ≡ old ++ (front_text h (length (fields_text fs)) ++ fields_text fs) =
-        answer_put h fs old c.as_mut_slice-bytes.result.now c.put_ack-end.new.bytes c.in_ok-at.at c.put_ack-end.result c.ack_len.result front c.ack_len.ensures.exact c.put_ack-end.ensures.text in
+    answer_put h fs old c.as_mut_slice-bytes.result.now c.put_ack-end.new.bytes c.in_ok-at.at c.put_ack-end.result c.ack_len.result front c.ack_len.ensures.exact c.put_ack-end.ensures.text in
     sent_text h fs (fields_text fs) old _ refl (written ∙ c.close_frame.ensures.frame old h (fields_text fs) (c.len-start.ensures ∙ c.args.out.now.ok.0) put)
