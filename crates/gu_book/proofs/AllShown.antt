@@ -1,38 +1,34 @@
 -- The filed trees show all live changes, so what stands on a change is read off them.
-use Rattle.std.proofs.Common.{◌+◌, Bool, length, get_or, not, cond, Contains, ◌-◌, ◌<◌, ◌≡◌, ℕ, ◌≤◌, true, false, ◌&&◌, List, [], ◌∷◌, refl, sym, ◌∙◌, ap}
-use Rattle.std.proofs.Common.{subst, arith, Option, ◌||◌}
-use Rattle.std.specs.Prelude.{filter, Some, None, find, ◌==◌, is_some, option_map, IfSome, map, IsSome, option_and_then, IsSomeAnd}
+use Rattle.std.proofs.Common.{◌+◌, length, get_or, not, cond, Contains, ◌-◌, ◌<◌, ◌≡◌, ℕ, ◌≤◌, true, false, ◌&&◌, List, [], ◌∷◌, refl, sym, ◌∙◌, ap}
+use Rattle.std.proofs.Common.{subst, arith, Option, Some, None, find, ◌==◌, is_some, option_map, IfSome, map, IsSome, option_and_then, IsSomeAnd}
 use Rattle.std.proofs.lemmas.Bool.Decides.{Decides-eqb}
 use Rattle.std.proofs.lemmas.Option.{same_Some}
-use Rattle.gu_depend.proofs.Vocabulary.{House, knows_firm, numbered_as, records, is_change, is_reversed, live, node_of, nodes_of, same_name, unless, standing_on, missing, parties_of}
-use Rattle.gu_depend.proofs.Vocabulary.{consents_of, answer_to, entry_of, on_change, reverse_rest, command_refusal, call_of, Command, Trade, Split, Agree, Raise, Initiate}
-use Rattle.gu_depend.proofs.Vocabulary.{Decline, Reverse, Accepted, Entry, Record, Node, UnknownFirm, NeedsConsent, StandsOn, Row, rows_of, EntryPart}
+use Rattle.gu_depend.proofs.Vocabulary.{House, knows_firm, numbered_as, is_change, is_reversed, live, node_of, nodes_of, same_name, unless, standing_on, missing, parties_of, consents_of}
+use Rattle.gu_depend.proofs.Vocabulary.{answer_to, entry_of, on_change, reverse_rest, command_refusal, call_of, Command, Trade, Split, Agree, Raise, Reverse, Accepted, Entry, Record, Node}
+use Rattle.gu_depend.proofs.Vocabulary.{UnknownFirm, NeedsConsent, StandsOn, Row, rows_of, EntryPart}
 use Rattle.gu_base.proofs.Accepted.{first_none, allowed, open_from_none}
 use Rattle.gu_base.proofs.Basics.{no_some, mapped_none}
 use Rattle.gu_base.proofs.Numbered.{found_at, known_entry}
 use Rattle.gu_base.proofs.Consenting.{not_reversed}
 use Rattle.gu_base.proofs.Searches.{found_in, find_passes}
-use Rattle.gu_tree.specs.Rose.{Rose, rows}
-use Rattle.gu_tree.specs.Grove.{Grove, tree_of, IsPlace}
-use Rattle.gu_tree.specs.Shown.{IsTreeOf, shown, named_node}
-use Rattle.gu_tree.specs.ShownAll.{IsTreeIn, ShowsAll, named_place, place_in}
+use Rattle.gu_book.proofs.Vocabulary.{Rose, Grove, tree_of, IsPlace, IsTreeOf, named_node, named_place, place_in, Consents, IsFiled, IsFree, IsKept, is_trade, is_live_trade, IsFoundIn, IsUndoneBy}
+use Rattle.gu_book.proofs.Vocabulary.{IsUndoneThere, IsOfTerms, is_of_trees}
+use Rattle.gu_tree.specs.Rose.{rows}
+use Rattle.gu_tree.specs.Shown.{shown}
+use Rattle.gu_tree.specs.ShownAll.{IsTreeIn, ShowsAll}
 use Rattle.gu_tree.proofs.ShowsLess.{no-root-part}
 use Rattle.gu_depend.proofs.Names.{maker, made_number}
 use Rattle.gu_depend.proofs.StandsLast.{any_in}
-use Rattle.gu_consent.specs.declared.Consents.{Consents}
-use Rattle.gu_book.specs.Filed.{IsFiled, IsFree}
-use Rattle.gu_book.specs.Kept.{IsKept}
-use Rattle.gu_book.specs.TreeRows.{is_trade, is_live_trade, tree_rows}
+use Rattle.gu_book.specs.TreeRows.{tree_rows}
+use Rattle.gu_base.proofs.LiveLaws.{is_live}
+use Rattle.gu_book.proofs.ByNumber.{found_live, if_passes}
 use Rattle.gu_book.proofs.Leaves.{live_rises}
 use Rattle.gu_tree.specs.declared.head.Row.{Row as TreeRow}
 use Rattle.gu_tree.proofs.ShowsRows.{rows-shown}
 use Rattle.gu_book.proofs.Filed.{tree_shown, place_named}
 use Rattle.gu_book.proofs.Orders.{InOrder, in_order}
-use Rattle.gu_book.specs.Found.{IsFoundIn, IsUndoneAs, IsUndoneBy, IsStandingIn, IsUndoneThere}
-use Rattle.gu_book.specs.Kinds.{is_agree, is_raise}
-use Rattle.gu_book.specs.Visits.{is_of_trees}
+use Rattle.gu_book.specs.Found.{IsUndoneAs}
 use Rattle.gu_book.specs.declared.found.Undone.{Undone}
-use Rattle.gu_book.proofs.Fronts.{stands_refusal}
 
 -- ---- a root is made by a Trade
 
@@ -60,17 +56,6 @@ all_shown {l} {g} filed = record {
 
 -- ---- a change whose Reverse is accepted
 
-found_step : {X : Type 0} (p q : X → Bool) (y : X) (ys : List X) (x : X) → q x ≡ true → (find p ys ≡ Some x → find p (filter q ys) ≡ Some x)
-    → (b : Bool) → p y ≡ b → (d : Bool) → q y ≡ d → cond b (Some y) (find p ys) ≡ Some x → find p (cond d (y ∷ filter q ys) (filter q ys)) ≡ Some x
-found_step p q y ys x passes rest true is true keeps h = ap (λ b. cond b (Some y) (find p (filter q ys))) is ∙ h
-found_step p q y ys x passes rest true is false keeps h = let z : false ≡ true = sym keeps ∙ (ap q (same_Some y x h) ∙ passes) in absurd (cc)
-found_step p q y ys x passes rest false is true keeps h = ap (λ b. cond b (Some y) (find p (filter q ys))) is ∙ rest h
-found_step p q y ys x passes rest false is false keeps h = rest h
-
-found_kept : {X : Type 0} (p q : X → Bool) (xs : List X) (x : X) → find p xs ≡ Some x → q x ≡ true → find p (filter q xs) ≡ Some x
-found_kept p q [] x h passes = absurd (cc)
-found_kept p q (y ∷ ys) x h passes = found_step p q y ys x passes (λ e. found_kept p q ys x e passes) (p y) refl (q y) refl h
-
 -- it is live, and nothing stands on it
 pub record IsUndone (t : House) (h : List Entry) (k : ℕ) (r : Record) : Type 0 where
   pub entry : entry_of h k ≡ Some r
@@ -94,7 +79,7 @@ undone t h e n k ok same =
     let d = first_none stands [] c.1 in
     let unreversed : is_reversed h r.number ≡ false = not_reversed r.number 1 h o.1.unreversed in
     let passes : (is_change r.command && not (is_reversed h r.number)) ≡ true = ap (λ b. b && not (is_reversed h r.number)) o.1.is ∙ ap not unreversed in
-    let there = found_kept (λ (q : Record). q.number == k) (λ (q : Record). is_change q.command && not (is_reversed h q.number)) (records h) r o.1.found passes in (
+    let there = found_live h k ∙ (ap (if_passes (is_live h)) o.1.found ∙ ap (λ b. cond b (Some r) None) passes) in (
       r,
       record {
         entry = o.1.found;
@@ -165,11 +150,6 @@ module _ {t : House} {h : List Entry} {g : Grove} {cs : Consents} (kept : IsKept
 
 -- ---- what was found of the change that a Reverse names
 
--- what stands on the change is what was found to stand there
-pub stands_found : (t : House) (h : List Entry) (c : Command) (o : Option ℕ) → IsStandingIn t (live h) c o → stands_refusal t h c ≡ option_map (λ k. StandsOn k) o
-stands_found t h (Reverse k) o is = sym (ap (option_map (λ k. StandsOn k)) is)
-stands_found t h _ o is = sym (ap (option_map (λ k. StandsOn k)) is)
-
 module _ {t : House} {h : List Entry} {g : Grove} {cs : Consents} (kept : IsKept t h g cs) where
   -- a change that was found lies where its path leads
   pub undone_there : (k : ℕ) (o : Option Undone) (p : List ℕ) → IsUndoneBy (live h) k o p → IsSome o → IsUndoneThere g k o p
@@ -185,28 +165,24 @@ found_named {h = h} {k = k} {r = r} {u = u} change is d same n named =
     ap (option_and_then (λ (r : Record). named_place r.number r.command)) (change.found ∙ ap (λ (r : Record). Some r) same) ∙ place_named k d.command n named in
     subst (λ (m : EntryPart). IsFoundIn (live h) m (Some u.found)) (same_Some is.name n (sym is.place ∙ there)) is.found
 
--- a command that has a place in the trees is a change of trees
-of_trees : (k : ℕ) (c : Command) (n : EntryPart) → named_place k c ≡ Some n → is_of_trees c ≡ true
-of_trees k (Agree _ _ _ _) n e = absurd (cc)
-of_trees k (Raise _ _) n e = absurd (cc)
-of_trees k (Initiate _) n e = absurd (cc)
-of_trees k (Decline _) n e = absurd (cc)
-of_trees k (Reverse _) n e = absurd (cc)
-of_trees k _ n e = refl
+-- a command has a place in the trees where it is a change of trees
+pub has_place : (k : ℕ) (c : Command) → is_some (named_place k c) ≡ is_of_trees c
+has_place k (Trade _ _ _ _ _) = refl
+has_place k _ = refl
 
--- so is one that was found there
+-- one that was found there is a change of trees
 pub undone_of_trees : {t : House} {h : List Entry} {k : ℕ} {r : Record} → IsUndone t h k r → (o : Option Undone) (p : List ℕ) → IsUndoneBy (live h) k o p → IsSome o
     → is_of_trees r.command ≡ true
 undone_of_trees change None p is some = absurd (cc)
 undone_of_trees {r = r} change (Some u) p is some =
-    of_trees r.number r.command is.name (sym (ap (option_and_then (λ (r : Record). named_place r.number r.command)) change.found) ∙ is.place)
+    sym (has_place r.number r.command) ∙ ap is_some (sym (ap (option_and_then (λ (r : Record). named_place r.number r.command)) change.found) ∙ is.place)
 
 -- and one that has no place there is an Agree or a Raise
-is_of_terms : (k : ℕ) (c : Command) → is_change c ≡ true → named_place k c ≡ None → (is_agree c || is_raise c) ≡ true
+is_of_terms : (k : ℕ) (c : Command) → is_change c ≡ true → named_place k c ≡ None → IsOfTerms c
 is_of_terms k (Agree _ _ _ _) change e = refl
 is_of_terms k (Raise _ _) change e = refl
 is_of_terms k _ change e = absurd (cc)
 
-pub undone_of_terms : {t : House} {h : List Entry} {k : ℕ} {r : Record} → IsUndone t h k r → place_in (live h) k ≡ None → (is_agree r.command || is_raise r.command) ≡ true
+pub undone_of_terms : {t : House} {h : List Entry} {k : ℕ} {r : Record} → IsUndone t h k r → place_in (live h) k ≡ None → IsOfTerms r.command
 undone_of_terms {r = r} change none =
     is_of_terms r.number r.command change.change (sym (ap (option_and_then (λ (r : Record). named_place r.number r.command)) change.found) ∙ none)

@@ -1,9 +1,7 @@
 -- Live changes are found by their numbers, and gone through in the order of their numbers.
 use Rattle.std.proofs.Common.{◌≡◌, ◌≢◌, ℕ, ◌+◌, ◌<◌, ◌≤◌, Bool, true, false, not, ◌&&◌, ◌||◌, List, [], ◌∷◌, ◌++◌, length, refl, ap, sym, ◌∙◌}
-use Rattle.std.proofs.Common.{subst, arith, cond, inl, inr, Option, append-nil}
-use Rattle.std.specs.Prelude.{Some, None, find, filter, nat_le, ◌==◌, map, option_map}
-use Rattle.std.specs.Option.{option_or}
-use Rattle.std.specs.List.{All, cons_option}
+use Rattle.std.proofs.Common.{subst, arith, cond, inl, inr, Option, append-nil, Some, None, find, filter, nat_le, ◌==◌, map, option_map, All}
+use Rattle.gu_book.proofs.Vocabulary.{option_or, cons_option}
 use Rattle.std.proofs.lemmas.Bool.{eqb-true, ne_eqb, le-leb, lt-leb, leb-false, leb-true}
 use Rattle.std.proofs.lemmas.Bool.Decides.{Decides-eqb}
 use Rattle.std.proofs.lemmas.List.Elements.{All-head, All-tail}
@@ -59,7 +57,7 @@ node_found m (x ∷ l) n r rises e = node_by x r l n (x.number == n.entry) refl 
 
 -- ---- among those that pass a test
 
-abbrev if_passes : (Record → Bool) → Option Record → Option Record
+abbrev pub if_passes : (Record → Bool) → Option Record → Option Record
 if_passes p None = None
 if_passes p (Some r) = cond (p r) (Some r) None
 
@@ -89,7 +87,7 @@ numbers_rise m [] = tt
 numbers_rise m (e ∷ h) = (omega arith, numbers_rise (m + 1) h)
 
 module _ (h : List Entry) (n : ℕ) where
-  found_live : find (λ (d : Record). d.number == n) (live h) ≡ if_passes (is_live h) (entry_of h n)
+  pub found_live : find (λ (d : Record). d.number == n) (live h) ≡ if_passes (is_live h) (entry_of h n)
   found_live = passing (is_live h) 1 n (records h) (numbers_rise 1 h)
 
   -- no entry has the number

@@ -1,8 +1,7 @@
 -- The running sums of what the live claims cost, with one change more.
-use Rattle.std.proofs.Common.{◌≡◌, ℕ, ◌+◌, ◌*◌, ◌≤◌, Bool, true, cond, refl, List, [], ◌∷◌, ◌++◌, length, sym, ◌∙◌, ap, subst, arith, Option, append-nil}
-use Rattle.std.specs.Prelude.{Some, None, filter, filter_map, sum_by, bytes_eq, ◌&&◌, IfSome}
-use Rattle.std.specs.List.{All, cons_option}
-use Rattle.std.proofs.Math.Nat.{mul-le-mul, mul-le-mul_right}
+use Rattle.std.proofs.Common.{◌≡◌, ℕ, ◌+◌, ◌*◌, ◌≤◌, Bool, true, cond, refl, List, [], ◌∷◌, ◌++◌, length, sym, ◌∙◌, ap, subst, arith, Option, append-nil, Some}
+use Rattle.std.proofs.Common.{None, filter, filter_map, sum_by, bytes_eq, ◌&&◌, IfSome, All, mul-le-mul, mul-le-mul_right}
+use Rattle.gu_book.proofs.Vocabulary.{cons_option, FeeRows, Grove, IsNext, IsSmallCharge, AreFeesOf, IsCharged}
 use Rattle.std.proofs.lemmas.List.Elements.{All-nil, All-cons, All-append, All-filter, All-weaker, filter-append}
 use Rattle.std.proofs.lemmas.List.Sums.{sum_by-le, sum_by-append, sum_by-cons, length-filter, count_by-le-length}
 use Rattle.std.proofs.lemmas.Slice.Eq.{bytes_eq-Decides}
@@ -11,11 +10,8 @@ use Rattle.gu_base.proofs.LegalLaws.{replay_push}
 use Rattle.gu_depend.proofs.LastMoves.{moves_its_own}
 use Rattle.gu_depend.proofs.Replay.{number_once}
 use Rattle.gu_depend.proofs.StandsUnder.{rises_distinct}
-use Rattle.gu_fees.specs.Rows.{FeeRows}
 use Rattle.gu_fees.specs.Sums.{AreSumsOf, cost}
-use Rattle.gu_tree.specs.Grove.{Grove}
-use Rattle.gu_book.specs.Filed.{IsNext}
-use Rattle.gu_book.specs.Charging.{IsSmallCharge, AreFeesOf, HasRoomFor, IsCharged}
+use Rattle.gu_book.specs.Charging.{HasRoomFor}
 
 -- ---- one change more
 

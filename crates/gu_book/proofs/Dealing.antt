@@ -1,42 +1,23 @@
 -- The terms that a book keeps: what they say of a giver and a taker, and how they follow the changes.
-use Rattle.std.proofs.Common.{◌≡◌, ℕ, ◌+◌, ◌*◌, ◌≤◌, Bool, true, false, ◌&&◌, List, [], ◌∷◌, length, refl, sym, ◌∙◌, ap, subst, arith, cond, Option, All, Contains}
-use Rattle.std.specs.Prelude.{Some, None, IfSome, filter, filter_map, sum_by, option_map, option_and_then, bytes_eq}
-use Rattle.std.specs.List.{cons_option}
-use Rattle.std.specs.Option.{option_or}
-use Rattle.std.proofs.Math.Nat.{mul-le-mul_right}
+use Rattle.std.proofs.Common.{◌≡◌, ℕ, ◌+◌, ◌*◌, ◌≤◌, Bool, true, false, ◌&&◌, List, [], ◌∷◌, length, refl, sym, ◌∙◌, ap, subst, arith, cond, Option, All}
+use Rattle.std.proofs.Common.{Contains, Some, None, IfSome, filter, filter_map, sum_by, option_map, option_and_then, bytes_eq, mul-le-mul_right}
+use Rattle.gu_book.proofs.Vocabulary.{cons_option, option_or, AreTermsOf, PairView, FeeRows, TermsView, AreFeesOf, IsSmallDeed, IsWithinLimits, AllWithinLimits}
 use Rattle.std.proofs.lemmas.Option.{same_Some}
 use Rattle.std.proofs.lemmas.List.Elements.{All-nil, All-cons, All-head, All-tail, All-contains, All-contains_itself, All-weaker}
 use Rattle.std.proofs.lemmas.List.Sums.{sum_by-le, sum_by-cons}
-use Rattle.gu_base.specs.Limits.{most_lots, highest_limit, highest_rate}
-use Rattle.gu_base.specs.House.{House, agreement}
-use Rattle.gu_base.specs.Nodes.{node_of}
-use Rattle.gu_base.specs.Fees.{charge_of, charge_of_kind, charges, counted}
-use Rattle.gu_base.specs.Standing.{first_refused}
-use Rattle.gu_base.specs.Terms.{use_of_kind, use_of_node, deed_of, dealings_in, dealings, made_by_deed, made_in, raised_by_deed, used_by_deed, terms_under, raised_under, limit_under, used_under, terms_of, limit_of, used_of}
-use Rattle.gu_base.specs.declared.house.Agreement.{Agreement}
-use Rattle.gu_base.specs.declared.house.Dealing.{Dealing}
-use Rattle.gu_base.specs.declared.house.Deed.{Deed}
-use Rattle.gu_base.specs.declared.house.Deed.TheVariants.{Makes, Raises, Uses}
-use Rattle.gu_base.specs.declared.command.Command.{Command}
-use Rattle.gu_base.specs.declared.command.Command.TheVariants.{Trade, Split, Claim, Refuse, Cancel, Agree, Raise, Initiate, Decline, Reverse}
-use Rattle.gu_base.specs.declared.entry.Record.{Record}
-use Rattle.gu_base.specs.declared.node.Charge.{Charge}
-use Rattle.gu_base.specs.declared.node.Kind.{Kind}
-use Rattle.gu_base.specs.declared.node.Kind.TheVariants.{Root, Own, Given}
-use Rattle.gu_base.specs.declared.node.Node.{Node}
+use Rattle.gu_depend.proofs.Vocabulary.{most_lots, highest_rate, House, agreement, node_of, charge_of, charge_of_kind, charges, counted, first_refused, use_of_kind, use_of_node, deed_of}
+use Rattle.gu_depend.proofs.Vocabulary.{dealings_in, dealings, terms_under, raised_under, limit_under, used_under, terms_of, limit_of, used_of, Agreement, Dealing, Deed, Makes, Raises, Uses}
+use Rattle.gu_depend.proofs.Vocabulary.{Command, Claim, Agree, Raise, Record, Charge, Kind, Root, Own, Given, Node}
+use Rattle.gu_base.specs.Limits.{highest_limit}
+use Rattle.gu_base.specs.Terms.{made_by_deed, made_in, raised_by_deed, used_by_deed}
 use Rattle.gu_base.proofs.Basics.{none_is_some}
 use Rattle.gu_base.proofs.Dealt.{all_sound}
 use Rattle.gu_base.proofs.Sums.{sum_option}
-use Rattle.gu_depend.specs.Terms.{AreTermsOf}
 use Rattle.gu_depend.proofs.Deals.{both_same}
 use Rattle.gu_depend.proofs.Settled.{facts}
 use Rattle.gu_depend.proofs.TermsReadied.{without_row}
-use Rattle.gu_fees.specs.Pairs.{PairView}
-use Rattle.gu_fees.specs.Rows.{FeeRows}
-use Rattle.gu_fees.specs.Terms.{TermsView, row_of}
-use Rattle.gu_book.specs.Charging.{AreFeesOf, AreUsesOf}
-use Rattle.gu_book.specs.Dealing.{IsSmallDeed}
-use Rattle.gu_book.specs.Limits.{IsWithinLimits, AllWithinLimits}
+use Rattle.gu_fees.specs.Terms.{row_of}
+use Rattle.gu_book.specs.Charging.{AreUsesOf}
 use Rattle.gu_book.proofs.Within.{node_within}
 
 -- ---- dealings of changes
@@ -153,13 +134,7 @@ module _ (t : House) (l : List Record) (none : first_refused t [] l ≡ None) wh
       raised : (b : Bool) → 0 ≡ used_told (cond b (Some (Raises lots)) None)
       raised true = refl
       raised false = refl
-  change_charged g k by (Trade _ _ _ _ _) some = refl
-  change_charged g k by (Split _ _) some = refl
-  change_charged g k by (Refuse _) some = refl
-  change_charged g k by (Cancel _) some = refl
-  change_charged g k by (Initiate _) some = refl
-  change_charged g k by (Decline _) some = refl
-  change_charged g k by (Reverse _) some = refl
+  change_charged g k by _ some = refl
 
   -- the lots that are charged under an agreement are those that are used of it
   pub uses_charged : (g k : List ℕ) → sum_by (λ c. c.lots) (filter (λ c. bytes_eq c.giver g && bytes_eq c.taker k) (charges t l)) ≡ used_of l g k
@@ -189,13 +164,7 @@ pub deed_small : (l : List Record) (g k by : List ℕ) (c : Command) → AllWith
 deed_small l g k by (Agree x y rate limit) all within = small_if (bytes_eq x g && bytes_eq y k) (Makes (record { rate = rate; limit = limit })) within
 deed_small l g k by (Raise x lots) all within = small_if (bytes_eq x g && bytes_eq by k) (Raises lots) within
 deed_small l g k by (Claim n _) all within = small_node g k (node_of l n) (node_within l n all)
-deed_small l g k by (Trade _ _ _ _ _) all within = tt
-deed_small l g k by (Split _ _) all within = tt
-deed_small l g k by (Refuse _) all within = tt
-deed_small l g k by (Cancel _) all within = tt
-deed_small l g k by (Initiate _) all within = tt
-deed_small l g k by (Decline _) all within = tt
-deed_small l g k by (Reverse _) all within = tt
+deed_small l g k by _ all within = tt
 
 abbrev HasSmallDeed : Dealing → Type 0
 HasSmallDeed d = IsSmallDeed d.deed

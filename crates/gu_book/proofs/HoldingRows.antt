@@ -1,16 +1,11 @@
 -- Running rows of positions, into and out of which holdings go one by one.
 use Rattle.std.proofs.Common.{refl, ◌≡◌, ℕ, ◌+◌, ◌<◌, ◌≤◌, Bool, true, false, ◌&&◌, List, [], ◌∷◌, ◌++◌, length, take, drop, get_or, sym, ◌∙◌, ap, arith}
-use Rattle.std.proofs.Common.{Option, cond, append-nil, drop-cons, add-one}
-use Rattle.std.specs.Prelude.{Some, None, filter_map, bytes_eq, Result, Ok, Err, is_err, OnOk}
+use Rattle.std.proofs.Common.{Option, cond, append-nil, drop-cons, add-one, Some, None, filter_map, bytes_eq, Result, Ok, Err, is_err, OnOk}
 use Rattle.gu_depend.proofs.Vocabulary.{Buy, Sell, bytes_same, same_side, Side}
-use Rattle.std.specs.List.{cons_option}
+use Rattle.gu_book.proofs.Vocabulary.{cons_option, PositionRows, lots_in, is_key, Key, counted_at, HaveRoom, SameLots, HaveMoved, HaveThere, Holding}
 use Rattle.std.proofs.lemmas.List.{take_more}
 use Rattle.std.proofs.lemmas.List.Elements.{filter_map-append}
 use Rattle.std.proofs.lemmas.List.Sums.{sum_by-cons, sum_by-append}
-use Rattle.gu_positions.specs.Rows.{PositionRows, lots_in, is_key}
-use Rattle.gu_positions.specs.declared.positions.Key.{Key}
-use Rattle.gu_book.specs.Holdings.{counted_at, HaveRoom, SameLots, HaveMoved, HaveThere}
-use Rattle.gu_book.specs.declared.plain.holdings.Holding.{Holding}
 
 -- ---- what a search or a sum over the records does at one record
 

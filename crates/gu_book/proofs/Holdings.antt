@@ -1,9 +1,8 @@
 -- What a change moves from one account to another.
 use Rattle.std.proofs.Common.{◌≡◌, ℕ, zero, suc, ◌+◌, ◌≤◌, Bool, true, false, not, ◌&&◌, ◌||◌, List, [], ◌∷◌, ◌++◌, length, length-append, refl, sym, ◌∙◌}
-use Rattle.std.proofs.Common.{ap, subst, arith, Option, cond, All, Contains}
-use Rattle.std.specs.Prelude.{Some, None, find, filter, filter_map, map, sum_by, count_by, is_some, is_none, ◌==◌, option_and_then, option_map, unwrap_or, bytes_eq}
-use Rattle.std.specs.Option.{option_or}
-use Rattle.std.specs.List.{cons_option}
+use Rattle.std.proofs.Common.{ap, subst, arith, Option, cond, All, Contains, Some, None, find, filter, filter_map, map, sum_by, count_by, is_some, is_none, ◌==◌, option_and_then, option_map}
+use Rattle.std.proofs.Common.{unwrap_or, bytes_eq}
+use Rattle.gu_book.proofs.Vocabulary.{option_or, cons_option, lots_at, names, Key, traded_at, held_at, holding_of, taken_by, part_holding, added_by, counted_at, taken_at, Holding}
 use Rattle.std.proofs.Math.Bool.{and-false, or-true}
 use Rattle.std.proofs.lemmas.Bool.{false_from_ne_true}
 use Rattle.std.proofs.lemmas.List.Elements.{All-weaker, All-contains}
@@ -21,16 +20,12 @@ use Rattle.gu_base.proofs.NodeNames.{name_is, name_same, node_called, made, made
 use Rattle.gu_base.proofs.Passing.{at_node_none, split_passes, claim_passes, decision_passes, offered_of}
 use Rattle.gu_base.proofs.Searches.{found_in, find_passes}
 use Rattle.gu_base.proofs.Sums.{sum_agree_on}
-use Rattle.gu_depend.specs.Moves.{lots_at, named_by}
-use Rattle.gu_depend.specs.Under.{names}
+use Rattle.gu_depend.specs.Moves.{named_by}
 use Rattle.gu_depend.proofs.Finds.{counts_none, count_cons, count_append, found_once}
 use Rattle.gu_depend.proofs.Grown.{NamesThere, line_none, place_same, line_of_grown, above}
 use Rattle.gu_depend.proofs.LastMoves.{IsBefore, trades_kept, split_kept, sum_filter}
 use Rattle.gu_depend.proofs.Replay.{NumbersOnce}
 use Rattle.gu_depend.proofs.Settled.{Settled, SettledAs}
-use Rattle.gu_positions.specs.declared.positions.Key.{Key}
-use Rattle.gu_book.specs.Holdings.{traded_at, held_at, holding_of, taken_by, part_holding, added_by, counted_at, taken_at}
-use Rattle.gu_book.specs.declared.plain.holdings.Holding.{Holding}
 use Rattle.gu_book.proofs.Leaves.{sum_of_names, found_member, sum_agree, sum_zero, one_takes}
 use Rattle.gu_book.proofs.Sound.{Sound, IsSoundNext, split_push, node_push}
 

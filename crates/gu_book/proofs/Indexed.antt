@@ -1,9 +1,7 @@
 -- What is found of a history without going over it is what a search of it finds, also with one more entry.
 use Rattle.std.proofs.Common.{◌≡◌, ℕ, suc, ◌+◌, ◌-◌, ◌<◌, ◌≤◌, Bool, true, false, ◌&&◌, List, [], ◌∷◌, ◌++◌, length, get_or, refl, sym, ◌∙◌, ap, subst}
-use Rattle.std.proofs.Common.{arith, Option, cond}
-use Rattle.std.specs.Prelude.{Some, None, find, bytes_eq, option_map, ◌==◌}
-use Rattle.std.specs.Option.{option_or}
-use Rattle.std.specs.List.{AllByRecursion}
+use Rattle.std.proofs.Common.{arith, Option, cond, Some, None, find, bytes_eq, option_map, ◌==◌}
+use Rattle.gu_book.proofs.Vocabulary.{option_or, AllByRecursion, same_id, NoIdTwice, Ids, reversal_in, Reversals}
 use Rattle.std.proofs.lemmas.Bool.{and_parts, eqb-true}
 use Rattle.std.proofs.lemmas.List.Folds.{find-append}
 use Rattle.std.proofs.lemmas.Map.Keys.{IsDistinct-head, IsDistinct-tail}
@@ -16,15 +14,11 @@ use Rattle.gu_base.proofs.Accepted.{first_none, allowed, open_from_none}
 use Rattle.gu_base.proofs.Basics.{bytes_symm, nothing_here}
 use Rattle.gu_base.proofs.LiveLaws.{numbered_push}
 use Rattle.gu_base.proofs.Numbered.{found_at}
-use Rattle.gu_book.specs.Ids.{same_id, NoIdTwice}
-use Rattle.gu_ids.specs.declared.ids.Ids.{Ids}
 use Rattle.gu_ids.specs.Chains.{count, AreIdsOf as AreChainsOf}
 use Rattle.gu_ids.specs.Newest.{newest_of}
 use Rattle.gu_ids.proofs.NewestLaws.{newest_push}
 use Rattle.gu_ids.proofs.Walk.{count_is}
-use Rattle.gu_book.specs.Index.{reversal_in, number_of, AreIdsOf, AreReversalsOf, IsIndexOf}
-use Rattle.gu_book.specs.declared.index.Index.{Index}
-use Rattle.gu_book.specs.declared.index.Reversals.{Reversals}
+use Rattle.gu_book.specs.Index.{number_of, AreIdsOf, AreReversalsOf}
 
 -- ---- a search of a history with one more entry
 
@@ -59,11 +53,14 @@ new_id h e none c same =
     ap (λ f. find (λ (r : Record). bytes_eq r.firm f && bytes_eq r.id c.id) (records h)) firm
     ∙ (ap (λ i. find (λ (r : Record). bytes_eq r.firm e.firm && bytes_eq r.id i) (records h)) id ∙ none)
 
-module _ {h : List Entry} {ids : Ids} (are : AreIdsOf ids h) (t : House) (e : Entry) (n : ℕ) (ok : answer_to t h (call_of e) ≡ Accepted n e.status) (added : Ids)
-    (is_added : AreChainsOf added (h ++ e ∷ [])) where
-  -- the id of an accepted entry, added
-  pub ids_added : AreIdsOf added (h ++ e ∷ [])
-  ids_added =
+module _ {h : List Entry} {ids : Ids} (are : AreIdsOf ids h) (t : House) (e : Entry) (n : ℕ) (ok : answer_to t h (call_of e) ≡ Accepted n e.status) where
+  -- there is a number for an accepted entry
+  pub ids_fewer : count ids < most_entries
+  ids_fewer = let many = count_is ids h are.chained in let room = (allowed t h e n ok).room in omega (arith, many, room)
+
+  -- its id, added
+  pub ids_added : (added : Ids) → AreChainsOf added (h ++ e ∷ []) → AreIdsOf added (h ++ e ∷ [])
+  ids_added added is_added =
       let a = allowed t h e n ok in
       let number = a.number in
       let last : suc (length h) ≡ n = omega (arith, number) in
@@ -127,12 +124,12 @@ module _ (h : List Entry) (c : Call) (n : ℕ) (there : number_of h c ≡ Some n
       let place : n - 1 ≡ s.place = omega (arith, number) in
       s.same e (is ∙ ap (λ k. get_or h k e) place)
 
--- no entry has the id: none is of the call itself
-no_call : (c : Call) (m : ℕ) (h : List Entry) → find (is_same_id c) (numbered_from m h) ≡ None → find (is_same_call c) (numbered_from m h) ≡ None
-no_call c m [] e = refl
-no_call c m (d ∷ h) e =
-    let p = nothing_here (is_same_id c (numbered_as m d)) (numbered_as m d) (find (is_same_id c) (numbered_from (m + 1) h)) e in
-    ap (λ b. cond (b && same_command d.command c.command) (Some (numbered_as m d)) (find (is_same_call c) (numbered_from (m + 1) h))) p.0 ∙ no_call c (m + 1) h p.1
+-- no record has the id: none is of the call itself
+pub no_call : (c : Call) (rs : List Record) → find (is_same_id c) rs ≡ None → find (is_same_call c) rs ≡ None
+no_call c [] e = refl
+no_call c (r ∷ rs) e =
+    let p = nothing_here (is_same_id c r) r (find (is_same_id c) rs) e in
+    ap (λ b. cond (b && same_command r.command c.command) (Some r) (find (is_same_call c) rs)) p.0 ∙ no_call c rs p.1
 
 -- no later entry has the id
 no_later : (c : Call) (m : ℕ) (d : Entry) (h : List Entry) → AllByRecursion (λ y. same_id d y ≡ false) h → d.firm ≡ c.firm → d.id ≡ c.id
@@ -152,7 +149,7 @@ call_by : (c : Call) (m : ℕ) (d : Entry) (h : List Entry) (r : Record) (b : Bo
 call_by c m d h r true test once later e =
     let is : numbered_as m d ≡ r = cc in
     let p = and_parts (bytes_eq d.firm c.firm) (bytes_eq d.id c.id) test in
-    let none = no_call c (m + 1) h (no_later c (m + 1) d h (IsDistinct-head same_id d h once) ((bytes_eq-Decides d.firm c.firm).0 p.0) ((bytes_eq-Decides d.id c.id).0 p.1)) in
+    let none = no_call c (numbered_from (m + 1) h) (no_later c (m + 1) d h (IsDistinct-head same_id d h once) ((bytes_eq-Decides d.firm c.firm).0 p.0) ((bytes_eq-Decides d.id c.id).0 p.1)) in
     ap (λ o. cond (same_command d.command c.command) (Some (numbered_as m d)) o) none ∙ ap (λ (q : Record). cond (same_command q.command c.command) (Some q) None) is
 call_by c m d h r false test once later e = later e
 
@@ -170,7 +167,7 @@ no_number (Some r) e = absurd (cc)
 pub new_answer : (h : List Entry) (c : Call) → number_of h c ≡ None → (other : Answer) → other ≡ answer_by (find (is_same_call c) (records h)) (find (is_same_id c) (records h)) other
 new_answer h c none other =
     let n = no_number (find (is_same_id c) (records h)) none in
-    sym (ap (λ o. answer_by o (find (is_same_id c) (records h)) other) (no_call c 1 h n) ∙ ap (λ o. answer_by None o other) n)
+    sym (ap (λ o. answer_by o (find (is_same_id c) (records h)) other) (no_call c (records h) n) ∙ ap (λ o. answer_by None o other) n)
 
 answer_again : (r : Record) (b : Bool) (other : Answer) → cond b (Repeated r.number r.status) (Refused (DuplicateId r.number)) ≡ answer_by (cond b (Some r) None) (Some r) other
 answer_again r true other = refl
@@ -213,29 +210,6 @@ module _ {h : List Entry} {rs : Reversals} (are : AreReversalsOf rs h) where
             ∙ ap (λ b. cond b (Some n) (option_map (λ (r : Record). r.number) (reversal_of h m))) tested));
       }
 
--- ---- both
-
--- other chains of the same history
-pub index_same : {h : List Entry} {ix : Index} → IsIndexOf ix h → (ids : Ids) → AreChainsOf ids h → IsIndexOf (record { ids = ids; reversals = ix.reversals }) h
-index_same are ids same = record { ids = record { chained = same; numbers = are.ids.numbers }; reversals = are.reversals }
-
-module _ {h : List Entry} {ix : Index} (are : IsIndexOf ix h) (t : House) (e : Entry) (n : ℕ) (ok : answer_to t h (call_of e) ≡ Accepted n e.status)
-    (ids : Ids) (is_added : AreChainsOf ids (h ++ e ∷ [])) where
-  -- an accepted entry that reverses nothing
-  pub index_added : ((m : ℕ) → is_reverse_of m e.command ≡ false) → IsIndexOf (record { ids = ids; reversals = ix.reversals }) (h ++ e ∷ [])
-  index_added none = record { ids = ids_added are.ids t e n ok ids is_added; reversals = reversals_same are.reversals e none }
-
-  -- an accepted Reverse
-  pub index_reverse : (k : ℕ) → e.command ≡ Reverse k → (rs : Reversals) → ((m : ℕ) → reversal_in rs m ≡ cond (k == m) (Some n) (reversal_in ix.reversals m))
-      → IsIndexOf (record { ids = ids; reversals = rs }) (h ++ e ∷ [])
-  index_reverse k reverse rs is_reversal = record { ids = ids_added are.ids t e n ok ids is_added; reversals = reversals_put are.reversals t e n k ok reverse rs is_reversal }
-
 -- there is a number for one entry more
-pub ids_few : {h : List Entry} {ix : Index} → IsIndexOf ix h → length h ≤ most_entries → count ix.ids ≤ most_entries
-ids_few {h} {ix} are few = let many = count_is ix.ids h are.ids.chained in omega (arith, many, few)
-
-pub ids_fewer : (h : List Entry) (ids : Ids) → AreChainsOf ids h → (t : House) (e : Entry) (n : ℕ) → answer_to t h (call_of e) ≡ Accepted n e.status → count ids < most_entries
-ids_fewer h ids are t e n ok =
-    let many = count_is ids h are in
-    let room = (allowed t h e n ok).room in
-    omega (arith, many, room)
+pub ids_few : {h : List Entry} {ids : Ids} → AreIdsOf ids h → length h ≤ most_entries → count ids ≤ most_entries
+ids_few {h} {ids} are few = let many = count_is ids h are.chained in omega (arith, many, few)

@@ -1,8 +1,9 @@
 -- One more accepted change leaves true what a book keeps.
 use Rattle.std.proofs.Common.{◌≡◌, ℕ, ◌+◌, ◌<◌, ◌≤◌, true, false, ◌&&◌, ◌||◌, List, [], ◌∷◌, ◌++◌, length, refl, sym, ◌∙◌, ap, subst, arith, cond}
-use Rattle.std.proofs.Common.{append-nil, append_assoc, length-append}
-use Rattle.std.specs.Prelude.{None, find, bytes_eq, ◌==◌}
-use Rattle.std.specs.List.{list_any, IsDistinct}
+use Rattle.std.proofs.Common.{append-nil, append_assoc, length-append, None, find, bytes_eq, ◌==◌}
+use Rattle.std.specs.List.{IsDistinct}
+use Rattle.gu_book.proofs.Vocabulary.{list_any, Grove, tree_of, last_place, IsSameGrove, IsFiled, IsNext, AreTreesOf, same_id, NoIdTwice, IsKept, IsWithinLimits, AllWithinLimits, given}
+use Rattle.gu_book.proofs.Vocabulary.{Consents}
 use Rattle.std.specs.Cmp.{IsEquivalence}
 use Rattle.std.proofs.lemmas.List.Elements.{All-nil, All-push}
 use Rattle.std.proofs.lemmas.List.Sums.{length-filter, count_by-le-length}
@@ -14,18 +15,12 @@ use Rattle.gu_depend.proofs.Vocabulary.{bytes_same, consents_left, is_consenting
 use Rattle.gu_base.proofs.LiveLaws.{live_push_change, live_push_reverse, is_live, live_push_consent}
 use Rattle.gu_base.proofs.Basics.{bytes_symm, nothing_here}
 use Rattle.gu_tree.specs.Filing.{last_of}
-use Rattle.gu_tree.specs.Grove.{Grove, tree_of, place_of, last_place, IsSameGrove}
-use Rattle.gu_book.specs.Filed.{IsFiled, IsNext}
-use Rattle.gu_book.specs.Found.{AreTreesOf}
-use Rattle.gu_book.specs.Ids.{same_id, NoIdTwice}
-use Rattle.gu_book.specs.Kept.{AcceptedFrom, IsKept}
+use Rattle.gu_tree.specs.Grove.{place_of}
+use Rattle.gu_book.specs.Kept.{AcceptedFrom}
 use Rattle.std.proofs.lemmas.Bool.{and_parts}
 use Rattle.gu_base.proofs.Accepted.{first_none, change_refused, IsAllowed, allowed, open_from_none}
 use Rattle.gu_base.proofs.RunLaws.{IsRun, run_push}
 use Rattle.gu_base.proofs.Numbered.{found_at, length_numbered}
-use Rattle.gu_book.specs.Limits.{IsWithinLimits, AllWithinLimits}
-use Rattle.gu_consent.specs.Given.{given}
-use Rattle.gu_consent.specs.declared.Consents.{Consents}
 use Rattle.gu_book.proofs.Filed.{filed_none, same_filed}
 use Rattle.gu_book.proofs.Leaves.{live_rises, without_small}
 use Rattle.gu_base.proofs.Consenting.{left_change, left_initiate, left_decline, left_reverse, not_reversed}

@@ -1,3 +1,4 @@
+pub mod Vocabulary
 pub mod ByNumber
 pub mod Within
 pub mod Refused
@@ -19,7 +20,7 @@ pub mod Orders
 pub mod Restored
 pub mod Ready
 pub mod PartyNames
-pub mod Fronts
+pub mod LastRefusal
 pub mod Filed
 pub mod FiledChanges
 pub mod AllShown
@@ -31,5 +32,5 @@ pub mod FreeNodes
 pub mod Gone
 pub mod Crossing
 mod PartsAway
-mod Still
+mod Books
 mod TradesKept

@@ -1,25 +1,19 @@
 -- In whatever trees a list of changes has, a node lies at one place.
-use Rattle.std.proofs.Common.{◌≡◌, ℕ, zero, suc, true, Option, IsSomeAnd, List, [], ◌∷◌, refl, sym, ◌∙◌, ap, subst, ◌==◌, false, length, find}
-use Rattle.std.specs.Prelude.{is_some, option_and_then, Some, None, option_map, unwrap_or, bytes_eq}
+use Rattle.std.proofs.Common.{◌≡◌, ℕ, zero, suc, true, Option, IsSomeAnd, List, [], ◌∷◌, refl, sym, ◌∙◌, ap, subst, ◌==◌, false, length, find, is_some, option_and_then}
+use Rattle.std.proofs.Common.{Some, None, option_map, unwrap_or, bytes_eq}
 use Rattle.std.proofs.lemmas.Option.{same_Some}
 use Rattle.gu_depend.proofs.Vocabulary.{EntryPart, node_of, nodes_of, deal_in, split_of, parent, House, Record, Place, Node, place_of, depth_of, root_of, owns, Deal}
-use Rattle.gu_tree.specs.Rose.{Rose, Roses, leaf, parted, no_parts, part_then, head_of, split_of_node}
-use Rattle.gu_tree.specs.Paths.{part_at, node_at, LeadsTo, HasAt}
-use Rattle.gu_tree.specs.Grove.{Grove, tree_of, tree_in, IsPlace, IsSameGrove, HasTree}
-use Rattle.gu_tree.specs.Filing.{slot_of}
-use Rattle.gu_tree.specs.Shown.{IsNodeOf, ArePartsOf, IsTreeOf, named_node, IsHeadOf}
+use Rattle.gu_book.proofs.Vocabulary.{Rose, Roses, leaf, parted, no_parts, part_then, head_of, split_of_node, node_at, HasAt, Grove, tree_of, tree_in, IsPlace, IsSameGrove, HasTree, slot_of}
+use Rattle.gu_book.proofs.Vocabulary.{IsNodeOf, ArePartsOf, IsTreeOf, named_node, IsHeadOf, IsFiled, IsNext, AreTreesOf, IsFoundAs, IsFoundIn, Head, traded_at, held_at, held_above, Found}
+use Rattle.gu_tree.specs.Paths.{part_at, LeadsTo}
 use Rattle.gu_tree.proofs.Along.{its-head}
 use Rattle.gu_tree.proofs.Parts.{some_and, at_fact, at_there}
-use Rattle.gu_book.specs.Filed.{IsFiled, IsNext}
-use Rattle.gu_book.specs.Found.{IsNamedIn, LiesThere, IsFoundThere, AreTreesOf, IsFoundAs, IsFoundIn}
+use Rattle.gu_book.specs.Found.{IsNamedIn, LiesThere, IsFoundThere}
 use Rattle.gu_book.specs.declared.found.Named.{Named}
 use Rattle.gu_base.proofs.Passing.{refusal_parts}
 use Rattle.gu_book.proofs.Filed.{Spot, tree_shown, spot, order, placed_in}
 use Rattle.gu_book.proofs.Orders.{names_there, in_order}
 use Rattle.gu_base.proofs.Basics.{no_some}
-use Rattle.gu_tree.specs.declared.head.Head.{Head}
-use Rattle.gu_book.specs.Holdings.{traded_at, held_at, held_above}
-use Rattle.gu_book.specs.declared.found.Found.{Found}
 use Rattle.gu_book.proofs.FiledChanges.{its_head}
 
 -- the path leads to a node of this name

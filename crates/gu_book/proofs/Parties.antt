@@ -1,7 +1,5 @@
 -- What a test says of the firms that the records of a list name: of those of its nodes, and of the parties of its changes.
-use Rattle.std.proofs.Common.{◌≡◌, ℕ, Bool, true, false, List, [], ◌∷◌, Option, cond}
-use Rattle.std.specs.Prelude.{Some, None, IfSome, bytes_eq}
-use Rattle.std.specs.List.{All}
+use Rattle.std.proofs.Common.{◌≡◌, ℕ, Bool, true, false, List, [], ◌∷◌, Option, cond, Some, None, IfSome, bytes_eq, All}
 use Rattle.std.proofs.lemmas.List.Elements.{All-nil, All-cons, All-weaker}
 use Rattle.gu_depend.proofs.Vocabulary.{EntryPart, House, node_of, nodes_of, parties_of, of_node, taker_and_giver, giver_alone, Part, Command, Trade, Split, Claim, Refuse, Cancel, Agree, Raise}
 use Rattle.gu_depend.proofs.Vocabulary.{Record, Kind, Root, Own, Given, Node, NamesOnly}

@@ -1,7 +1,8 @@
 -- Of what a split moves, the lots of the parts that stay where the whole stood cancel: the others alone have to be moved.
-use Rattle.std.proofs.Common.{◌≡◌, ℕ, ◌+◌, ◌≤◌, Bool, true, false, not, ◌&&◌, ◌||◌, List, [], ◌∷◌, refl, sym, ◌∙◌, ap, subst, arith, Option, cond}
-use Rattle.std.specs.Prelude.{Some, None, IsSome, map, find, filter_map, sum_by, is_some, unwrap_or, option_map, option_and_then, bytes_eq, ◌==◌}
-use Rattle.std.specs.List.{cons_option, list_any}
+use Rattle.std.proofs.Common.{◌≡◌, ℕ, ◌+◌, ◌≤◌, Bool, true, false, not, ◌&&◌, ◌||◌, List, [], ◌∷◌, refl, sym, ◌∙◌, ap, subst, arith, Option, cond, Some, None}
+use Rattle.std.proofs.Common.{IsSome, map, find, filter_map, sum_by, is_some, unwrap_or, option_map, option_and_then, bytes_eq, ◌==◌}
+use Rattle.gu_book.proofs.Vocabulary.{cons_option, list_any, PositionRows, is_key, Key, Grove, IsPlace, IsFiled, IsFoundAs, traded_at, held_at, holding_of, part_holding, holding_away, part_away}
+use Rattle.gu_book.proofs.Vocabulary.{counted_at, taken_at, HaveMoved, is_trade, is_live_trade, Found, Holding}
 use Rattle.std.proofs.lemmas.Bool.{eqb-true}
 use Rattle.std.proofs.lemmas.List.Sums.{sum_by-cons}
 use Rattle.std.proofs.lemmas.Option.{same_Some}
@@ -12,15 +13,7 @@ use Rattle.gu_base.proofs.Accepted.{first_none}
 use Rattle.gu_base.proofs.Passing.{at_node_none, split_passes, part_passes, refusal_parts}
 use Rattle.gu_depend.proofs.Replay.{number_once}
 use Rattle.gu_depend.proofs.StandsUnder.{rises_distinct}
-use Rattle.gu_positions.specs.Rows.{PositionRows, is_key}
-use Rattle.gu_positions.specs.declared.positions.Key.{Key}
-use Rattle.gu_tree.specs.Grove.{Grove, IsPlace}
-use Rattle.gu_book.specs.Filed.{IsFiled}
-use Rattle.gu_book.specs.Found.{IsFoundAs}
-use Rattle.gu_book.specs.Holdings.{traded_at, held_at, holding_of, part_holding, holding_away, part_away, lots_told, counted_at, taken_at, HaveMoved}
-use Rattle.gu_book.specs.TreeRows.{is_trade, is_live_trade}
-use Rattle.gu_book.specs.declared.found.Found.{Found}
-use Rattle.gu_book.specs.declared.plain.holdings.Holding.{Holding}
+use Rattle.gu_book.specs.Holdings.{lots_told}
 use Rattle.gu_book.proofs.Holdings.{asked, one_found, counts_or}
 
 -- ---- sums

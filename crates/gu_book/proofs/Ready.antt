@@ -1,12 +1,11 @@
 -- A reversal for which all is ready is accepted, and what a refused one names.
-use Rattle.std.proofs.Common.{◌≡◌, ℕ, ◌+◌, Bool, true, false, not, ◌&&◌, ◌||◌, List, [], ◌∷◌, ◌++◌, length, refl, sym, ◌∙◌, ap, subst, Option, cond, inl, inr}
-use Rattle.std.proofs.Common.{◌⊎◌}
-use Rattle.std.specs.Prelude.{Some, None, find, nat_lt, option_map, bytes_eq}
-use Rattle.std.specs.List.{list_any}
+use Rattle.std.proofs.Common.{◌≡◌, ℕ, ◌+◌, Bool, true, false, not, ◌||◌, List, [], ◌∷◌, ◌++◌, length, refl, sym, ◌∙◌, ap, subst, Option, cond, inl, inr}
+use Rattle.std.proofs.Common.{◌⊎◌, Some, None, find, nat_lt, option_map, bytes_eq}
+use Rattle.gu_book.proofs.Vocabulary.{list_any}
 use Rattle.std.proofs.lemmas.Bool.{lt-ltb, not-true, and_parts, or_cases, or_parts}
 use Rattle.std.proofs.lemmas.List.Elements.{All-head, All-tail}
 use Rattle.std.proofs.lemmas.Slice.Eq.{bytes_eq-Decides}
-use Rattle.gu_depend.proofs.Vocabulary.{House, knows_firm, numbered_as, numbered_from, records, is_change, is_reverse_of, is_reversed, live, refusal_of, first, unless, same_command, bytes_same}
+use Rattle.gu_depend.proofs.Vocabulary.{House, knows_firm, numbered_as, numbered_from, records, is_change, is_reverse_of, is_reversed, live, refusal_of, first, unless, bytes_same}
 use Rattle.gu_depend.proofs.Vocabulary.{first_refused, standing_on, parties_of, consents_of, is_among, missing, Call, answer_to, answer_by, accepted_or, entry_of, reversal_of, on_change}
 use Rattle.gu_depend.proofs.Vocabulary.{initiate_rest, reverse_rest, command_refusal, is_same_id, is_same_call, after_all, Initiate, Reverse, Accepted, Entry, Record, Refusal, UnknownFirm}
 use Rattle.gu_depend.proofs.Vocabulary.{UnknownEntry, NotAChange, AlreadyReversed, NotAParty, NeedsConsent, StandsOn, DuplicateId, BookFull, AlreadyConsented, State, ReversalPending, Reversed}
@@ -16,7 +15,7 @@ use Rattle.gu_base.proofs.LegalLaws.{first_refused-cut}
 use Rattle.gu_book.specs.Headline.{IsAcceptedWhereReady, IsConsentAccepted, IsNewestUndone, NamedBy, IsNamed}
 use Rattle.gu_base.proofs.RunLaws.{run_all}
 use Rattle.gu_base.proofs.Numbered.{listed, found_at}
-use Rattle.gu_base.proofs.Basics.{nothing_here}
+use Rattle.gu_book.proofs.Indexed.{no_call}
 use Rattle.gu_book.proofs.Placed.{change_known, firms_known}
 use Rattle.gu_book.proofs.Parties.{AllPass, parties_pass}
 use Rattle.gu_book.proofs.Restored.{newest_is_free}
@@ -62,12 +61,6 @@ all_clear : (known is party : Bool) (reversal : Option Record) (lack : Option (L
     ∷ first (unless is NotAChange ∷ option_map (λ v. AlreadyReversed v.number) reversal ∷ unless party NotAParty
     ∷ first (option_map (λ f. NeedsConsent f) lack ∷ option_map (λ n. StandsOn n) stands ∷ []) ∷ []) ∷ []) ≡ None
 all_clear known is party reversal lack stands a b c d e f = rw (a, b, c, d, e, f) refl
-
-no_call : (c : Call) (rs : List Record) → find (is_same_id c) rs ≡ None → find (is_same_call c) rs ≡ None
-no_call c [] e = refl
-no_call c (r ∷ rs) e =
-    let p = nothing_here (is_same_id c r) r (find (is_same_id c) rs) e in
-    ap (λ b. cond (b && same_command r.command c.command) (Some r) (find (is_same_call c) rs)) p.0 ∙ no_call c rs p.1
 
 answered : (same dup : Option Record) (number : ℕ) (status : State) (room : Bool) (o : Option Refusal) → same ≡ None → dup ≡ None → room ≡ true → o ≡ None
     → answer_by same dup (accepted_or number status (first (unless room BookFull ∷ o ∷ []))) ≡ Accepted number status

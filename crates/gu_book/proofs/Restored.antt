@@ -1,8 +1,7 @@
 -- What a reversal does over any list of calls.
 use Rattle.std.proofs.Common.{◌≡◌, ℕ, ◌+◌, ◌<◌, ◌≤◌, Bool, true, false, not, List, [], ◌∷◌, ◌++◌, length, refl, sym, ◌∙◌, ap, subst, arith, Option, cond}
-use Rattle.std.proofs.Common.{append-nil, append_assoc, inl, inr, ◌⊎◌}
-use Rattle.std.specs.Prelude.{Some, None, map, ◌==◌, is_some}
-use Rattle.std.specs.List.{All, list_all}
+use Rattle.std.proofs.Common.{append-nil, append_assoc, inl, inr, ◌⊎◌, Some, None, map, ◌==◌, is_some, All}
+use Rattle.std.specs.List.{list_all}
 use Rattle.std.proofs.lemmas.Bool.{ne_eqb, eq-eqb, and_parts}
 use Rattle.std.proofs.lemmas.List.Elements.{All-nil, All-cons, All-head, All-tail, filter-append}
 use Rattle.gu_depend.proofs.Vocabulary.{House, numbered_as, is_change, live, RisesFrom, refusal_of, first_refused, standing_on, without, Call, answer_to, after, after_by, is_accepted, after_all}

@@ -1,8 +1,8 @@
 -- The running rows of positions, with one change more.
-use Rattle.std.proofs.Common.{◌≡◌, ℕ, ◌+◌, ◌*◌, ◌≤◌, Bool, true, false, not, ◌&&◌, List, [], ◌∷◌, ◌++◌, length, refl, ap, arith, Option, cond}
-use Rattle.std.specs.Prelude.{Some, None, filter_map, sum_by, is_none, option_map, bytes_eq, IfSome}
-use Rattle.std.specs.List.{cons_option}
-use Rattle.std.proofs.Math.Nat.{mul-le-mul_right}
+use Rattle.std.proofs.Common.{◌≡◌, ℕ, ◌+◌, ◌*◌, ◌≤◌, Bool, true, false, not, ◌&&◌, List, [], ◌∷◌, ◌++◌, length, refl, ap, arith, Option, cond, Some, None}
+use Rattle.std.proofs.Common.{filter_map, sum_by, is_none, option_map, bytes_eq, IfSome, mul-le-mul_right}
+use Rattle.gu_book.proofs.Vocabulary.{cons_option, lots_at, names, PositionRows, Key, Grove, IsNext, taken_by, part_holding, added_by, counted_at, taken_at, HaveRoom, HaveMoved, ArePositionsOf}
+use Rattle.gu_book.proofs.Vocabulary.{PartsWithinLimits, IsWithinLimits, AllWithinLimits, Holding}
 use Rattle.std.proofs.lemmas.List.Elements.{All-head, All-tail}
 use Rattle.std.proofs.lemmas.List.Filters.{sum_by-filter_both}
 use Rattle.std.proofs.lemmas.List.Sums.{sum_by-le, sum_by-cons, sum_by-append, sum_by-le-sum_by}
@@ -10,20 +10,12 @@ use Rattle.gu_depend.proofs.Vocabulary.{House, first_refused, EntryPart, nodes, 
 use Rattle.gu_depend.proofs.Vocabulary.{Split, Claim, Record, Root, Node, Place}
 use Rattle.gu_base.proofs.LegalLaws.{replay_push}
 use Rattle.gu_base.proofs.NodeNames.{made}
-use Rattle.gu_depend.specs.Moves.{lots_at}
-use Rattle.gu_depend.specs.Under.{names}
 use Rattle.gu_depend.proofs.LastMoves.{moves_its_own, is_before, position_is}
 use Rattle.gu_depend.proofs.Replay.{number_once}
 use Rattle.gu_depend.proofs.Settled.{facts}
 use Rattle.gu_depend.proofs.StandsUnder.{rises_distinct}
-use Rattle.gu_positions.specs.Rows.{PositionRows}
 use Rattle.gu_positions.specs.Sums.{AreSumsOf}
-use Rattle.gu_positions.specs.declared.positions.Key.{Key}
-use Rattle.gu_tree.specs.Grove.{Grove}
-use Rattle.gu_book.specs.Filed.{IsNext}
-use Rattle.gu_book.specs.Holdings.{taken_by, part_holding, added_by, counted_at, taken_at, HasTaken, HaveRoom, HaveMoved, ArePositionsOf}
-use Rattle.gu_book.specs.Limits.{PartsWithinLimits, IsWithinLimits, AllWithinLimits}
-use Rattle.gu_book.specs.declared.plain.holdings.Holding.{Holding}
+use Rattle.gu_book.specs.Holdings.{HasTaken}
 use Rattle.gu_book.proofs.HoldingRows.{is_own_key}
 use Rattle.gu_book.proofs.Holdings.{IsCounted, balances, key_at}
 use Rattle.gu_book.proofs.Orders.{sound_before}

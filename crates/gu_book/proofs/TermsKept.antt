@@ -1,13 +1,13 @@
 -- How the terms that a book keeps follow its changes, and what an Agree or a Raise leaves of all else.
-use Rattle.std.proofs.Common.{◌≡◌, ℕ, ◌≤◌, ◌<◌, Bool, true, false, ◌||◌, List, [], ◌∷◌, ◌++◌, length, refl, sym, ◌∙◌, ap, subst, arith, cond, Option, IsSomeAnd}
-use Rattle.std.proofs.Common.{append-nil}
-use Rattle.std.specs.Prelude.{Some, None, sum_by, option_and_then}
+use Rattle.std.proofs.Common.{◌≡◌, ℕ, ◌≤◌, ◌<◌, Bool, true, false, List, [], ◌∷◌, ◌++◌, length, refl, sym, ◌∙◌, ap, subst, arith, cond, Option, IsSomeAnd}
+use Rattle.std.proofs.Common.{append-nil, Some, None, sum_by, option_and_then, slice_get}
+use Rattle.gu_book.proofs.Vocabulary.{lookup, AreTermsOf, pair_of, names, PairView, FeeRows, is_pair, TermsView, last_entry, CanPut, CanPutAt, IsPut, IsTakenOut, PositionRows, Grove, AreFeesOf}
+use Rattle.gu_book.proofs.Vocabulary.{CanClaim, IsClaimed, IsSmallDeed, IsFiled, IsNext, IsFree, ArePositionsOf, counted_at, IsOfTerms, is_return, AllWithinLimits, is_trade, is_of_trees}
 use Rattle.std.proofs.lemmas.List.Elements.{All-contains}
-use Rattle.gu_depend.proofs.Vocabulary.{House, EntryPart, node_of, is_given, charge_of, without, use_of_node, deed_of, raised_under, used_under, Deed, Makes, Raises, Uses, Dealing, Pair, Command}
+use Rattle.gu_depend.proofs.Vocabulary.{House, EntryPart, is_change, node_of, is_given, without, use_of_node, deed_of, raised_under, used_under, Deed, Makes, Raises, Uses, Dealing, Pair, Command}
 use Rattle.gu_depend.proofs.Vocabulary.{Trade, Split, Claim, Refuse, Cancel, Agree, Raise, Record, Kind, Given, Node}
 use Rattle.gu_base.proofs.LegalLaws.{replay_push}
-use Rattle.gu_depend.specs.Terms.{AreTermsOf, pair_of, pair_of_kind}
-use Rattle.gu_depend.specs.Under.{names}
+use Rattle.gu_depend.specs.Terms.{pair_of_kind}
 use Rattle.gu_depend.proofs.Deals.{both_same}
 use Rattle.gu_depend.proofs.LastMoves.{IsBefore, is_before}
 use Rattle.gu_depend.proofs.Replay.{NumbersOnce, number_once}
@@ -15,32 +15,19 @@ use Rattle.gu_depend.proofs.Settled.{Settled, SettledAs, facts}
 use Rattle.gu_depend.proofs.StandsUnder.{rises_distinct}
 use Rattle.gu_depend.proofs.TermsFollow.{apart_follows, put_follows}
 use Rattle.gu_depend.proofs.TermsLess.{taken_follows, nobody_follows}
-use Rattle.gu_fees.specs.Pairs.{PairView, HasRoomFor}
-use Rattle.gu_fees.specs.Rows.{FeeRows}
+use Rattle.gu_fees.specs.Pairs.{HasRoomFor}
 use Rattle.gu_fees.specs.Sums.{AreSumsOf}
-use Rattle.gu_fees.specs.Terms.{TermsView, row_of, last_entry, CanPut, IsPut, IsReady, IsTakenOut}
-use Rattle.gu_positions.specs.Rows.{PositionRows}
-use Rattle.gu_tree.specs.Grove.{Grove, place_of}
-use Rattle.gu_tree.specs.ShownAll.{named_place}
-use Rattle.gu_book.specs.Charging.{AreFeesOf}
-use Rattle.gu_book.specs.Dealing.{HasRoomForClaim, CanClaim, IsClaimed, IsSmallDeed}
-use Rattle.gu_book.specs.Filed.{IsFiled, IsNext, IsFree}
-use Rattle.gu_book.specs.Holdings.{ArePositionsOf, added_by, counted_at, taken_by}
-use Rattle.gu_book.specs.Kinds.{is_agree, is_claim, is_raise, is_return}
-use Rattle.gu_book.specs.Limits.{AllWithinLimits}
-use Rattle.gu_book.specs.TreeRows.{is_trade}
-use Rattle.gu_book.specs.Visits.{is_of_trees}
-use Rattle.gu_book.proofs.Charging.{fees_stay}
+use Rattle.gu_fees.specs.Terms.{row_of, IsReady}
+use Rattle.gu_tree.specs.Grove.{place_of}
+use Rattle.gu_book.specs.Dealing.{HasRoomForClaim}
+use Rattle.gu_book.specs.Kinds.{is_claim, is_of_terms}
 use Rattle.gu_book.proofs.Dealing.{raised_most, used_most}
 use Rattle.gu_book.proofs.FiledChanges.{left_alone}
-use Rattle.gu_book.proofs.Standings.{positions_moved}
+use Rattle.gu_book.proofs.TradesKept.{IsIdle, idle_terms}
 use Rattle.gu_book.proofs.FiledLess as less
 use Rattle.gu_book.proofs.Undoing.{fees_without, positions_without}
 
 -- ---- which changes deal
-
-abbrev pub IsOfTerms : Command → Type 0
-IsOfTerms c = (is_agree c || is_raise c) ≡ true
 
 -- a change of trees that is no Claim deals for nobody
 pub trees_apart : (l : List Record) (by : List ℕ) (c : Command) → is_of_trees c ≡ true → is_claim c ≡ false → pair_of l by c ≡ None
@@ -50,25 +37,22 @@ trees_apart l by (Refuse _) of other = refl
 trees_apart l by (Cancel _) of other = refl
 trees_apart l by _ of other = absurd (cc)
 
--- an Agree and a Raise deal for two firms
+-- an Agree and a Raise are changes, and deal for two firms
+pub terms_change : (c : Command) → IsOfTerms c → is_change c ≡ true
+terms_change (Agree _ _ _ _) of = refl
+terms_change (Raise _ _) of = refl
+terms_change _ of = absurd (cc)
+
 pub terms_paired : (l : List Record) (by : List ℕ) (c : Command) → IsOfTerms c → (p : Pair) × (pair_of l by c ≡ Some p)
 terms_paired l by (Agree giver taker _ _) is = (record { giver = giver; taker = taker }, refl)
 terms_paired l by (Raise giver _) is = (record { giver = giver; taker = by }, refl)
 terms_paired l by _ is = absurd (cc)
 
--- and do nothing to trees, positions and fees
-pub record IsApart (t : House) (l : List Record) (k : ℕ) (by : List ℕ) (c : Command) : Type 0 where
-  pub costs : None ≡ charge_of t l c
-  pub takes : None ≡ taken_by l c
-  pub adds : added_by by c None ≡ []
-  pub trades : is_trade c ≡ false
-  pub named : (n : EntryPart) → names n c ≡ false
-  pub place : named_place k c ≡ None
-
-pub terms_apart : (t : House) (l : List Record) (k : ℕ) (by : List ℕ) (c : Command) → IsOfTerms c → IsApart t l k by c
-terms_apart t l k by (Agree giver taker _ _) is = record { costs = refl; takes = refl; adds = refl; trades = refl; named = λ n. refl; place = refl }
-terms_apart t l k by (Raise giver _) is = record { costs = refl; takes = refl; adds = refl; trades = refl; named = λ n. refl; place = refl }
-terms_apart t l k by _ is = absurd (cc)
+-- and name no node
+terms_unnamed : (c : Command) → IsOfTerms c → (is_trade c ≡ false) × ((n : EntryPart) → names n c ≡ false)
+terms_unnamed (Agree _ _ _ _) of = (refl, λ n. refl)
+terms_unnamed (Raise _ _) of = (refl, λ n. refl)
+terms_unnamed _ of = absurd (cc)
 
 -- ---- room
 
@@ -90,6 +74,14 @@ module _ {t : House} {l : List Record} {v : TermsView} (few : length l ≤ 10000
   pub can_put : (n : ℕ) → last_entry v < n → IsReady v g k → CanPut v g k (record { number = n; deed = d })
   can_put n above ready = record { room = ready.room; above = above; pair = room_by (row_of v g k) refl ready.pair }
 
+-- at the place of the two
+pub can_put_at : {v : TermsView} {g k : List ℕ} {d : Dealing} (i : ℕ) → Some i ≡ lookup (is_pair g k) v.places → CanPut v g k d → CanPutAt v i d
+can_put_at {v} {d = d} i at can = record {
+  room = can.room;
+  above = can.above;
+  pair = subst (λ o. IsSomeAnd (option_and_then (slice_get v.pairs) o) (λ (r : PairView). (1 ≤ r.room) × HasRoomFor r.dealings d.deed)) (sym at) can.pair;
+}
+
 -- ---- one change more
 
 module _ {t : House} {l : List Record} {r : Record} {ts : Grove} (next : IsNext t l r ts) where
@@ -108,17 +100,6 @@ module _ {t : House} {l : List Record} {r : Record} {ts : Grove} (next : IsNext 
       → AreTermsOf t (l ++ r ∷ []) w
   dealt_put v w g k d are deals put = put_follows t l r before v w g k d are deals put
 
-  pub agreed : (v w : TermsView) (g k : List ℕ) (rate limit : ℕ) → r.command ≡ Agree g k rate limit → AreTermsOf t l v
-      → IsPut v w g k (record { number = r.number; deed = Makes (record { rate = rate; limit = limit }) }) → AreTermsOf t (l ++ r ∷ []) w
-  agreed v w g k rate limit is are put =
-      dealt_put v w g k (Makes (record { rate = rate; limit = limit })) are
-      (ap (deed_of l g k r.firm) is ∙ ap (λ b. cond b (Some (Makes (record { rate = rate; limit = limit }))) None) (both_same g k)) put
-
-  pub raised : (v w : TermsView) (g : List ℕ) (lots : ℕ) → r.command ≡ Raise g lots → AreTermsOf t l v
-      → IsPut v w g r.firm (record { number = r.number; deed = Raises lots }) → AreTermsOf t (l ++ r ∷ []) w
-  raised v w g lots is are put =
-      dealt_put v w g r.firm (Raises lots) are (ap (deed_of l g r.firm r.firm) is ∙ ap (λ b. cond b (Some (Raises lots)) None) (both_same g r.firm)) put
-
   module _ (n : EntryPart) (account : List ℕ) (claims : r.command ≡ Claim n account) (x : Node) (there : node_of l n ≡ Some x) where
     claimed_by : (kind : Kind) → x.kind ≡ kind → (v w : TermsView) → AreTermsOf t l v → IsClaimed v w r.number x.lots kind → AreTermsOf t (l ++ r ∷ []) w
     claimed_by (Given m g k) is v w are put =
@@ -133,24 +114,15 @@ module _ {t : House} {l : List Record} {r : Record} {ts : Grove} (next : IsNext 
     pub claim_dealt : (v w : TermsView) → AreTermsOf t l v → IsClaimed v w r.number x.lots x.kind → AreTermsOf t (l ++ r ∷ []) w
     claim_dealt v w are put = claimed_by x.kind refl v w are put
 
-  -- an Agree and a Raise change nothing else
+  -- an Agree and a Raise change no tree
   module _ (of_terms : IsOfTerms r.command) where
-    other : (c : Command) → (is_agree c || is_raise c) ≡ false → r.command ≡ c → ⊥
-    other c unlike is = let z : true ≡ false = sym of_terms ∙ (ap (λ c. is_agree c || is_raise c) is ∙ unlike) in cc
+    other : (c : Command) → is_of_terms c ≡ false → r.command ≡ c → ⊥
+    other c unlike is = let z : true ≡ false = sym of_terms ∙ (ap is_of_terms is ∙ unlike) in cc
 
     pub terms_filed : IsFiled (l ++ r ∷ []) ts
     terms_filed =
         left_alone next (λ firm account instrument side lots. other (Trade firm account instrument side lots) refl) (λ n ps. other (Split n ps) refl)
         (λ n account. other (Claim n account) refl) (λ n. other (Refuse n) refl) (λ n. other (Cancel n) refl)
-
-    apart : IsApart t l r.number r.firm r.command
-    apart = terms_apart t l r.number r.firm r.command of_terms
-
-    pub terms_free : (fees : FeeRows) → AreFeesOf t l fees → AreFeesOf t (l ++ r ∷ []) fees
-    terms_free fees are = fees_stay next fees are apart.costs
-
-    pub terms_stand : (rows : PositionRows) → ArePositionsOf l rows → ArePositionsOf (l ++ r ∷ []) rows
-    terms_stand rows are = positions_moved next rows rows are None apart.takes (λ at side. let a = ap (sum_by (counted_at at side)) apart.adds in omega (arith, a))
 
 -- ---- a claim of a node of some kind
 
@@ -215,11 +187,11 @@ module _ {t : House} {l : List Record} {r : Record} {ts : Grove} (u : IsFree t l
     abbrev others : List Record
     others = without l r.number
 
-    gone : IsApart t others r.number r.firm r.command
-    gone = terms_apart t others r.number r.firm r.command of
+    gone : IsIdle t others r.firm r.command
+    gone = idle_terms t others r.firm r.command of
 
     pub undealt_filed : place_of ts r.number ≡ None → IsFiled others ts
-    undealt_filed placeless = less.left_alone u gone.trades gone.named placeless
+    undealt_filed placeless = let apart = terms_unnamed r.command of in less.left_alone u apart.0 apart.1 placeless
 
     pub undealt_fees : (fees : FeeRows) → AreFeesOf t l fees → AreFeesOf t others fees
     undealt_fees fees are =

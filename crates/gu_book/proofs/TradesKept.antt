@@ -1,23 +1,13 @@
 -- What each kind of change leaves of the fees and the positions: a Claim alone costs something; the lots of a Trade go into one row, those of a
 -- Claim from one into another, and of a Split only what goes to other accounts is moved.
 use Rattle.std.proofs.Common.{◌≡◌, ℕ, ◌+◌, ◌<◌, ◌≤◌, ◌^◌, true, ◌&&◌, List, [], ◌∷◌, ◌++◌, length, refl, sym, ◌∙◌, ap, subst, arith, cond, ◌*◌}
-use Rattle.std.proofs.Common.{Option}
-use Rattle.std.specs.Prelude.{Some, None, sum_by, filter_map, option_and_then, IfSome}
+use Rattle.std.proofs.Common.{Option, Some, None, sum_by, filter_map, option_and_then, IfSome, mul-le-mul_right}
 use Rattle.std.proofs.lemmas.List.Sums.{sum_by-cons}
 use Rattle.gu_depend.proofs.Vocabulary.{House, charge_of, charge_of_node, is_change, place_of, Charge, Deal, Place, node_of, refusal_of, Node, same_side, Part, Side, Command, Trade, Split, Claim}
-use Rattle.gu_depend.proofs.Vocabulary.{Refuse, Cancel, Record, EntryPart}
-use Rattle.std.proofs.Math.Nat.{mul-le-mul_right}
+use Rattle.gu_depend.proofs.Vocabulary.{Refuse, Cancel, Agree, Raise, Record, EntryPart}
 use Rattle.std.proofs.lemmas.Option.{same_Some}
-use Rattle.gu_positions.specs.Rows.{PositionRows, lots_in, is_key}
-use Rattle.gu_positions.specs.declared.positions.Key.{Key}
-use Rattle.gu_tree.specs.Grove.{Grove}
-use Rattle.gu_book.specs.Charging.{AreFeesOf}
-use Rattle.gu_book.specs.Filed.{IsNext}
-use Rattle.gu_book.specs.Kinds.{is_return}
-use Rattle.gu_book.specs.Holdings.{held_at, traded_at, holding_of, taken_by, holding_away, part_away, added_by, counted_at, HaveRoom, HaveMoved, ArePositionsOf}
-use Rattle.gu_book.specs.Limits.{AllWithinLimits}
-use Rattle.gu_fees.specs.Rows.{FeeRows}
-use Rattle.gu_book.specs.declared.plain.holdings.Holding.{Holding}
+use Rattle.gu_book.proofs.Vocabulary.{PositionRows, lots_in, is_key, Key, Grove, AreFeesOf, IsNext, IsOfTerms, is_return, held_at, traded_at, holding_of, taken_by, holding_away, part_away}
+use Rattle.gu_book.proofs.Vocabulary.{added_by, counted_at, HaveRoom, HaveMoved, ArePositionsOf, AllWithinLimits, FeeRows, Holding}
 use Rattle.gu_book.proofs.Charging.{fees_stay}
 use Rattle.gu_book.proofs.PartsAway.{at_whole, moved, moved_few, SplitWell, split_well, whole_well, split_moved}
 use Rattle.gu_book.proofs.Standings.{have_room, has_taken, position_within, positions_moved, positions_push}
@@ -31,22 +21,22 @@ held_lots (Some p) None n h is = absurd (cc)
 held_lots (Some p) (Some d) n h is =
     ap (λ (h : Holding). h.lots) (same_Some h (record { key = record { firm = p.firm; account = p.account; instrument = d.instrument }; side = d.side; lots = n }) is)
 
-costs_none : (t : House) (l : List Record) (c : Command) → is_return c ≡ true → None ≡ charge_of t l c
-costs_none t l (Refuse _) is = refl
-costs_none t l (Cancel _) is = refl
-costs_none t l _ is = absurd (cc)
+-- a command that costs nothing, takes nothing and adds nothing: one that gives a node back, and one of terms
+pub record IsIdle (t : House) (l : List Record) (by : List ℕ) (c : Command) : Type 0 where
+  pub costs : None ≡ charge_of t l c
+  pub takes : None ≡ taken_by l c
+  pub adds : added_by by c None ≡ []
 
-takes_none : (l : List Record) (c : Command) → is_return c ≡ true → None ≡ taken_by l c
-takes_none l (Refuse _) is = refl
-takes_none l (Cancel _) is = refl
-takes_none l _ is = absurd (cc)
+pub idle_return : (t : House) (l : List Record) (by : List ℕ) (c : Command) → is_return c ≡ true → IsIdle t l by c
+idle_return t l by (Refuse _) is = record { costs = refl; takes = refl; adds = refl }
+idle_return t l by (Cancel _) is = record { costs = refl; takes = refl; adds = refl }
+idle_return t l by _ is = absurd (cc)
 
-adds_none : (by : List ℕ) (c : Command) → is_return c ≡ true → added_by by c None ≡ []
-adds_none by (Refuse _) is = refl
-adds_none by (Cancel _) is = refl
-adds_none by _ is = absurd (cc)
+pub idle_terms : (t : House) (l : List Record) (by : List ℕ) (c : Command) → IsOfTerms c → IsIdle t l by c
+idle_terms t l by (Agree _ _ _ _) is = record { costs = refl; takes = refl; adds = refl }
+idle_terms t l by (Raise _ _) is = record { costs = refl; takes = refl; adds = refl }
+idle_terms t l by _ is = absurd (cc)
 
--- each is a change
 pub return_changes : (c : Command) → is_return c ≡ true → is_change c ≡ true
 return_changes (Refuse _) is = refl
 return_changes (Cancel _) is = refl
@@ -182,13 +172,11 @@ module _ {t : House} {l : List Record} {r : Record} {ts : Grove} (next : IsNext 
       pub claim_stands : (new : PositionRows) → HaveMoved mid new (Some whole) [] → ArePositionsOf (l ++ r ∷ []) new
       claim_stands new taken = positions_push next rows mid new are (Some whole) claim_takes (subst (λ (hs : List Holding). HaveMoved rows mid None hs) (sym claim_adds) put) taken
 
-  -- ---- a Refuse or a Cancel
+  -- ---- what moves nothing
 
-  module _ (returns : is_return r.command ≡ true) where
-    pub return_free : (fees : FeeRows) → AreFeesOf t l fees → AreFeesOf t (l ++ r ∷ []) fees
-    return_free fees are = fees_stay next fees are (costs_none t l r.command returns)
+  module _ (idle : IsIdle t l r.firm r.command) where
+    pub idle_free : (fees : FeeRows) → AreFeesOf t l fees → AreFeesOf t (l ++ r ∷ []) fees
+    idle_free fees are = fees_stay next fees are idle.costs
 
-    pub return_stands : (rows : PositionRows) → ArePositionsOf l rows → ArePositionsOf (l ++ r ∷ []) rows
-    return_stands rows are =
-        positions_moved next rows rows are None (takes_none l r.command returns)
-        (λ at side. let a = ap (sum_by (counted_at at side)) (adds_none r.firm r.command returns) in omega (arith, a))
+    pub idle_stands : (rows : PositionRows) → ArePositionsOf l rows → ArePositionsOf (l ++ r ∷ []) rows
+    idle_stands rows are = positions_moved next rows rows are None idle.takes (λ at side. let a = ap (sum_by (counted_at at side)) idle.adds in omega (arith, a))

@@ -1,22 +1,19 @@
 -- A live change on which nothing stands can as well stand last: so the fees and positions without it are those with it, less what it moved.
 use Rattle.std.proofs.Common.{◌≡◌, ◌≢◌, ℕ, suc, ◌+◌, ◌*◌, ◌≤◌, true, not, ◌&&◌, ◌||◌, List, [], ◌∷◌, ◌++◌, length, refl, sym, ◌∙◌, ap, subst}
-use Rattle.std.proofs.Common.{arith, Option, All, Contains, IsPermutation, cond, false, Bool, ◌<◌, ◌^◌}
-use Rattle.std.specs.Prelude.{Some, None, find, filter, filter_map, sum_by, option_and_then, bytes_eq, ◌==◌, IfSome, map}
-use Rattle.std.specs.List.{cons_option}
-use Rattle.std.proofs.Math.Nat.{mul-le-mul_right}
+use Rattle.std.proofs.Common.{arith, Option, All, Contains, IsPermutation, cond, false, Bool, ◌<◌, ◌^◌, Some, None, find, filter, filter_map, sum_by, option_and_then, bytes_eq, ◌==◌}
+use Rattle.std.proofs.Common.{IfSome, map, mul-le-mul_right}
+use Rattle.gu_book.proofs.Vocabulary.{cons_option, Grove, IsFree, names, FeeRows, PositionRows, lots_in, is_key, Rose, named, IsTreeOf, SplitsNode, DecidesNode, IsOnlySplit, IsOnlyDecision}
+use Rattle.gu_book.proofs.Vocabulary.{option_or, IsSmallCharge, AreFeesOf, IsCharged, traded_at, held_at, holding_of, held_above, taken_before, taken_by, added_by, counted_at, taken_at, SameLots}
+use Rattle.gu_book.proofs.Vocabulary.{HaveMoved, HaveThere, HasRoomBack, ArePositionsOf, part_holding, part_away, goes_back, comes_from, HasFewLots, AllWithinLimits, Holding}
 use Rattle.std.proofs.lemmas.Bool.Decides.{Decides-eqb}
 use Rattle.std.proofs.lemmas.List.Elements.{All-nil, All-cons, All-head, All-tail, All-filter, All-contains, filter_passes, All-weaker, All-contains_itself}
-use Rattle.gu_depend.proofs.Vocabulary.{EntryPart, House, most_lots, highest_rate, charges, charge_of, deal_in, node_of, split_of, splits, decides, decision_of, claimed_account}
-use Rattle.gu_depend.proofs.Vocabulary.{is_given, parent, position_of, same_side, line_within, line_of, place_along, place_of_kind, place_of, root_along, root_of, refusal_of, row, split_row}
-use Rattle.gu_depend.proofs.Vocabulary.{claim_row, first, refusal_of_part, first_refused, without, Command, Split, Claim}
-use Rattle.gu_depend.proofs.Vocabulary.{Part, Side, Record, Charge, Kind, Given, Node, Place, Deal}
-use Rattle.gu_tree.specs.Grove.{Grove}
-use Rattle.gu_book.specs.Filed.{IsFree}
+use Rattle.gu_depend.proofs.Vocabulary.{EntryPart, House, most_lots, highest_rate, charges, charge_of, deal_in, node_of, split_of, splits, decides, decision_of, claimed_account, is_given, parent}
+use Rattle.gu_depend.proofs.Vocabulary.{position_of, same_side, line_within, line_of, place_along, place_of_kind, place_of, root_along, root_of, refusal_of, row, split_row, claim_row, first}
+use Rattle.gu_depend.proofs.Vocabulary.{refusal_of_part, first_refused, without, Command, Split, Claim, Part, Side, Record, Charge, Kind, Given, Node, Place, Deal}
 use Rattle.gu_base.proofs.Basics.{no_some, none_is_some, or_none}
 use Rattle.gu_base.proofs.LegalLaws.{none_refused}
 use Rattle.gu_base.proofs.Searches.{found_in, find_passes}
 use Rattle.gu_depend.specs.Same.{IsSameState}
-use Rattle.gu_depend.specs.Under.{names}
 use Rattle.gu_depend.proofs.Cuts.{cut_at, moved_to_end}
 use Rattle.gu_depend.proofs.Finds.{count_permuted, found_once, none_before}
 use Rattle.gu_depend.proofs.Grown.{Within, NamesThere, Grown, SplitsDecided, line_of_grown, place_same, above}
@@ -29,23 +26,13 @@ use Rattle.gu_depend.proofs.Replay.{NumbersOnce, number_once, Legal, SameFinds, 
 use Rattle.gu_depend.proofs.Settled.{facts}
 use Rattle.gu_depend.proofs.StandsUnder.{rises_distinct, can_go}
 use Rattle.gu_depend.proofs.State.{SameDeals, charge_same}
-use Rattle.gu_fees.specs.Rows.{FeeRows}
 use Rattle.gu_fees.specs.Sums.{AreSumsOf}
-use Rattle.gu_positions.specs.Rows.{PositionRows, lots_in, is_key}
-use Rattle.gu_tree.specs.Rose.{Rose, named}
-use Rattle.gu_tree.specs.Shown.{IsTreeOf, SplitsNode, DecidesNode, IsOnlySplit, IsOnlyDecision}
 use Rattle.gu_tree.proofs.Alike.{IsAlike, node-alike}
 use Rattle.std.proofs.lemmas.Bool.{or_parts, false_from_ne_true}
 use Rattle.std.proofs.lemmas.Option.{same_Some}
-use Rattle.std.specs.Option.{option_or}
 use Rattle.gu_book.proofs.Sound.{node_push, next_from_accepted}
 use Rattle.gu_base.proofs.NodeNames.{made_of, node_called}
 use Rattle.gu_base.proofs.Passing.{at_node_none, claim_passes}
-use Rattle.gu_book.specs.Charging.{IsSmallCharge, AreFeesOf, IsCharged}
-use Rattle.gu_book.specs.Holdings.{traded_at, held_at, holding_of, held_above, taken_before, taken_by, added_by, counted_at, taken_at, SameLots, HaveMoved, HaveThere, HasRoomBack, ArePositionsOf}
-use Rattle.gu_book.specs.Holdings.{part_holding, part_away, goes_back, comes_from, HasFewLots}
-use Rattle.gu_book.specs.Limits.{AllWithinLimits}
-use Rattle.gu_book.specs.declared.plain.holdings.Holding.{Holding}
 use Rattle.gu_book.proofs.Holdings.{IsCounted, key_at, decision_kept, given_parent}
 use Rattle.gu_book.proofs.Charging.{is_charged}
 use Rattle.gu_book.proofs.Dealing.{uses_charged}

@@ -1,33 +1,16 @@
 -- How many nodes a call visits, from what was seen before it was kept and what it made.
-use Rattle.std.proofs.Common.{◌≡◌, ℕ, ◌+◌, ◌≤◌, true, false, List, length, refl, sym, ◌∙◌, ap, subst, arith, Option}
-use Rattle.std.specs.Prelude.{Some, None, IsSome, IsSomeAnd, option_and_then, option_map, unwrap_or}
-use Rattle.gu_base.specs.Numbers.{EntryPart}
-use Rattle.gu_base.specs.House.{House}
-use Rattle.gu_base.specs.History.{live, is_change}
-use Rattle.gu_base.specs.Nodes.{node_of}
-use Rattle.gu_base.specs.Places.{depth_of}
-use Rattle.gu_base.specs.Refusals.{refusal_of}
-use Rattle.gu_base.specs.Answers.{answer_to}
-use Rattle.gu_base.specs.Runs.{call_of}
-use Rattle.gu_base.specs.declared.command.Command.{Command}
-use Rattle.gu_base.specs.declared.command.Command.TheVariants.{Trade, Split, Claim, Refuse, Cancel, Agree, Raise, Initiate, Decline, Reverse}
-use Rattle.gu_base.specs.declared.entry.Answer.TheVariants.{Accepted}
-use Rattle.gu_base.specs.declared.entry.Entry.{Entry}
-use Rattle.gu_base.specs.declared.entry.Record.{Record}
+use Rattle.std.proofs.Common.{◌≡◌, ℕ, ◌+◌, ◌≤◌, true, false, List, length, refl, sym, ◌∙◌, ap, subst, arith, Option, Some, None, is_some, IsSome, IsSomeAnd, option_and_then}
+use Rattle.std.proofs.Common.{option_map, unwrap_or}
+use Rattle.gu_depend.proofs.Vocabulary.{EntryPart, House, live, is_change, node_of, depth_of, refusal_of, answer_to, call_of, Command, Trade, Split, Claim, Refuse, Cancel, Reverse, Accepted, Entry}
+use Rattle.gu_depend.proofs.Vocabulary.{Record}
 use Rattle.gu_base.proofs.Accepted.{allowed, change_refused}
 use Rattle.gu_base.proofs.Passing.{refusal_parts}
-use Rattle.gu_tree.specs.Grove.{Grove, place_of, IsPlace}
-use Rattle.gu_tree.specs.Shown.{named_node}
-use Rattle.gu_tree.specs.ShownAll.{named_place, place_in, change_of}
-use Rattle.gu_book.specs.Found.{AreTreesOf}
-use Rattle.gu_book.specs.Visits.{AreVisits, IsMet, depth_meant, parts_in, parts_named, entries_met, is_of_trees, changes_trees, nodes_made}
-use Rattle.gu_book.proofs.AllShown.{undone}
+use Rattle.gu_book.proofs.Vocabulary.{Grove, IsPlace, named_node, named_place, place_in, change_of, AreTreesOf, is_trade, AreVisits, is_of_trees}
+use Rattle.gu_tree.specs.Grove.{place_of}
+use Rattle.gu_book.specs.Visits.{IsMet, depth_meant, parts_in, parts_named, entries_met, changes_trees, nodes_made}
+use Rattle.gu_book.proofs.AllShown.{has_place, undone}
 use Rattle.gu_book.proofs.Filed.{spot}
 use Rattle.gu_book.proofs.Orders.{names_there, in_order}
-
-some_there : {X : Type 0} (o : Option X) (x : X) → o ≡ Some x → IsSome o
-some_there None x e = absurd (cc)
-some_there (Some y) x e = refl
 
 pub some_place : (P : EntryPart → Type 0) (o : Option EntryPart) → IsSomeAnd o P → (n : EntryPart) × (o ≡ Some n) × P n
 some_place P None h = absurd h
@@ -40,38 +23,30 @@ change_met : (t : House) (h : List Entry) (e : Entry) (n : ℕ) → answer_to t 
 change_met t h e n ok change m named =
     let lawful : refusal_of t (live h) e.firm e.command ≡ None = sym (change_refused t h e.firm e.command change) ∙ (allowed t h e n ok).lawful in
     let x = names_there t (live h) e.firm e.command m (refusal_parts t (live h) e.firm e.command lawful).1 named in
-    some_there (node_of (live h) m) x.0 x.1
+    ap is_some x.1
 
-pub place_some : (k : ℕ) (c : Command) → is_of_trees c ≡ true → IsSome (named_place k c)
-place_some k (Trade _ _ _ _ _) h = refl
-place_some k (Split _ _) h = refl
-place_some k (Claim _ _) h = refl
-place_some k (Refuse _) h = refl
-place_some k (Cancel _) h = refl
-place_some k (Agree _ _ _ _) h = absurd (cc)
-place_some k (Raise _ _) h = absurd (cc)
-place_some k (Initiate _) h = absurd (cc)
-place_some k (Decline _) h = absurd (cc)
-place_some k (Reverse _) h = absurd (cc)
-
--- and what is none has none
+-- what is no change of trees has no place there
 pub placeless : (k : ℕ) (c : Command) → is_of_trees c ≡ false → named_place k c ≡ None
-placeless k (Trade _ _ _ _ _) h = absurd (cc)
-placeless k (Split _ _) h = absurd (cc)
-placeless k (Claim _ _) h = absurd (cc)
-placeless k (Refuse _) h = absurd (cc)
-placeless k (Cancel _) h = absurd (cc)
-placeless k (Agree _ _ _ _) h = refl
-placeless k (Raise _ _) h = refl
-placeless k (Initiate _) h = refl
-placeless k (Decline _) h = refl
-placeless k (Reverse _) h = refl
+placeless k c other = none_here (named_place k c) (has_place k c ∙ other)
+  where
+    none_here : (o : Option EntryPart) → is_some o ≡ false → o ≡ None
+    none_here None is = refl
+    none_here (Some n) is = absurd (cc)
 
 reverse_met : (t : House) (h : List Entry) (e : Entry) (n k : ℕ) → answer_to t h (call_of e) ≡ Accepted n e.status → e.command ≡ Reverse k → changes_trees (live h) (Reverse k) ≡ true → IsSome (place_in (live h) k)
 reverse_met t h e n k ok same changes =
     let u = undone t h e n k ok same in
     let is : is_of_trees u.0.command ≡ true = sym (ap (λ (o : Option Record). unwrap_or (option_map (λ (r : Record). is_of_trees r.command) o) false) u.1.found) ∙ changes in
-    subst (λ (o : Option Record). IsSome (option_and_then (λ (r : Record). named_place r.number r.command) o)) (sym u.1.found) (place_some u.0.number u.0.command is)
+    subst (λ (o : Option Record). IsSome (option_and_then (λ (r : Record). named_place r.number r.command) o)) (sym u.1.found) (has_place u.0.number u.0.command ∙ is)
+
+met : (t : House) (h : List Entry) (e : Entry) (n : ℕ) → answer_to t h (call_of e) ≡ Accepted n e.status → (c : Command) → e.command ≡ c → changes_trees (live h) c ≡ true
+    → is_trade c ≡ false → IsMet (live h) c
+met t h e n ok (Split m ps) same changes other = change_met t h e n ok (ap is_change same) m (ap named_node same)
+met t h e n ok (Claim m a) same changes other = change_met t h e n ok (ap is_change same) m (ap named_node same)
+met t h e n ok (Refuse m) same changes other = change_met t h e n ok (ap is_change same) m (ap named_node same)
+met t h e n ok (Cancel m) same changes other = change_met t h e n ok (ap is_change same) m (ap named_node same)
+met t h e n ok (Reverse k) same changes other = reverse_met t h e n k ok same changes
+met t h e n ok _ same changes other = absurd (cc)
 
 -- ---- what is counted
 
@@ -93,23 +68,7 @@ pub visits_kept : (t : House) (h : List Entry) (e : Entry) (n : ℕ) → answer_
     → (c : Command) → e.command ≡ c → (by : List ℕ) (seen made : ℕ) → seen ≤ depth_meant (live h) c + parts_named (live h) c + entries_met (live h) by c + 1
     → (IsMet (live h) c → depth_meant (live h) c + parts_named (live h) c + 1 ≤ seen) → made ≡ nodes_made c → AreVisits (live h) by c true (seen + made)
 visits_kept t h e n ok (Trade a b d s lots) same by seen made most least is = record { most = omega (arith, most, is); least = λ _ _. omega (arith, is) }
-visits_kept t h e n ok (Split m ps) same by seen made most least is =
-    let met = least (change_met t h e n ok (ap is_change same) m (ap named_node same)) in
-    record { most = omega (arith, most, is); least = λ _ _. omega (arith, met, is) }
-visits_kept t h e n ok (Claim m a) same by seen made most least is =
-    let met = least (change_met t h e n ok (ap is_change same) m (ap named_node same)) in
-    record { most = omega (arith, most, is); least = λ _ _. omega (arith, met, is) }
-visits_kept t h e n ok (Refuse m) same by seen made most least is =
-    let met = least (change_met t h e n ok (ap is_change same) m (ap named_node same)) in
-    record { most = omega (arith, most, is); least = λ _ _. omega (arith, met, is) }
-visits_kept t h e n ok (Cancel m) same by seen made most least is =
-    let met = least (change_met t h e n ok (ap is_change same) m (ap named_node same)) in
-    record { most = omega (arith, most, is); least = λ _ _. omega (arith, met, is) }
-visits_kept t h e n ok (Agree g k rate limit) same by seen made most least is = record { most = omega (arith, most, is); least = λ _ z. absurd (cc) }
-visits_kept t h e n ok (Raise g lots) same by seen made most least is = record { most = omega (arith, most, is); least = λ _ z. absurd (cc) }
-visits_kept t h e n ok (Initiate k) same by seen made most least is = record { most = omega (arith, most, is); least = λ _ z. absurd (cc) }
-visits_kept t h e n ok (Decline k) same by seen made most least is = record { most = omega (arith, most, is); least = λ _ z. absurd (cc) }
-visits_kept t h e n ok (Reverse k) same by seen made most least is = record {
+visits_kept t h e n ok c same by seen made most least is = record {
   most = omega (arith, most, is);
-  least = λ _ changes. let met = least (reverse_met t h e n k ok same changes) in omega (arith, met, is);
+  least = λ _ changes. let there = least (met t h e n ok c same changes refl) in omega (arith, there, is);
 }

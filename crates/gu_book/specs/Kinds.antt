@@ -1,5 +1,5 @@
 -- Which command it is.
-use Rattle.std.specs.Prelude.{Bool, true, false}
+use Rattle.std.specs.Prelude.{◌≡◌, Bool, true, false}
 use Rattle.gu_base.specs.declared.command.Command.{Command}
 use Rattle.gu_base.specs.declared.command.Command.TheVariants.{Claim, Refuse, Cancel, Agree, Raise}
 
@@ -7,13 +7,14 @@ abbrev pub is_claim : Command → Bool
 is_claim (Claim _ _) = true
 is_claim _ = false
 
-abbrev pub is_agree : Command → Bool
-is_agree (Agree _ _ _ _) = true
-is_agree _ = false
+-- one that makes terms or raises their limit
+abbrev pub is_of_terms : Command → Bool
+is_of_terms (Agree _ _ _ _) = true
+is_of_terms (Raise _ _) = true
+is_of_terms _ = false
 
-abbrev pub is_raise : Command → Bool
-is_raise (Raise _ _) = true
-is_raise _ = false
+abbrev pub IsOfTerms : Command → Type 0
+IsOfTerms c = is_of_terms c ≡ true
 
 -- one that gives a node back to its giver
 abbrev pub is_return : Command → Bool

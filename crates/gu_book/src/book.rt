@@ -3,6 +3,7 @@
 ghost use Rattle.std.specs.Prelude.{true, vec_len, vec_capacity, ◌≡◌, ◌==◌, ◌≤◌, ◌<◌, ◌+◌, ◌^◌, ℕ, List, [], ◌∷◌, ◌++◌, length, map, option_map, IsTrue, IfOk, IfErr, OnOk, OnErr, IsSome, IsSomeAnd, slice_get, if◌then◌else◌};
 ghost use Rattle.gu_base.specs.Limits.{most_entries};
 ghost use Rattle.gu_base.specs.Consents.{is_consenting};
+ghost use Rattle.gu_base.specs.House.{House as HouseTable};
 ghost use Rattle.gu_base.specs.History.{is_change, live};
 ghost use Rattle.gu_base.specs.Positions.{position_of};
 ghost use Rattle.gu_base.specs.Fees.{paid_by, received_by};
@@ -15,12 +16,13 @@ ghost use Rattle.gu_base.specs.declared.entry.Answer.TheVariants.{Accepted};
 ghost use Rattle.gu_base.specs.Runs.{IsRunFrom, call_of, opening_calls, opening_history};
 ghost use Rattle.gu_base.specs.declared.command.Command.TheVariants.{Initiate, Decline, Reverse};
 ghost use Rattle.gu_consent.specs.Given.{given};
-ghost use Rattle.gu_ids.specs.Chains.{IsHashOf};
+ghost use Rattle.gu_ids.specs.Chains.{IsHashOf, IsReady};
 ghost use Rattle.gu_tree.specs.Shown.{shown, named_node};
 ghost use Rattle.gu_tree.specs.ShownAll.{place_in};
 ghost use Rattle.gu_book.specs.Front.{may_lack};
 ghost use Rattle.gu_book.specs.Ids.{NoIdTwice};
-ghost use Rattle.gu_book.specs.Kinds.{is_agree, is_claim, is_raise, is_return};
+ghost use Rattle.gu_book.specs.Index.{AreIdsOf};
+ghost use Rattle.gu_book.specs.Kinds.{IsOfTerms, is_claim, is_return};
 ghost use Rattle.gu_book.specs.Found.{IsNamedIn, IsNothing, IsStandingIn, IsUndoneIn, LiesThere};
 ghost use Rattle.gu_book.specs.Live.{entry_of_change};
 ghost use Rattle.gu_book.specs.Seen.{stored};
@@ -30,17 +32,16 @@ ghost use Rattle.gu_book.specs.Visits.{AreSeen, AreVisits, is_kept};
 use crate::found::{Sought, seek};
 use crate::index::Index;
 use crate::live::{Change, Live};
-use crate::plain::calls::front_answer;
 use crate::plain::standing::Standing;
-use crate::plain::{charges, holdings, terms};
+use crate::plain::{calls, charges, holdings, terms};
 use crate::{grove, visits};
 use gu_base::{
     AccountId, Agreement, AllocId, Answer, Command, Entry, FirmId, InstrumentId, Memory, Number,
-    Place, Refusal, State,
+    Place, State,
 };
 use gu_consent::Consents;
 use gu_fees::{Fees, Terms};
-use gu_ids::IdHash;
+use gu_ids::{IdHash, Ids};
 use gu_parties::House;
 use gu_positions::{Key, Positions};
 use gu_tree::{Row, Trees};
@@ -251,18 +252,12 @@ impl Book {
             entries: &self.entries,
             changes: Live::of(self.entries.as_slice(), &self.index.reversals),
             named: &sought.named,
+            standing: sought.standing,
             terms: &self.terms,
             index: &self.index,
             consents: &self.consents,
         };
-        let answer = front_answer(&at, by, id, hash, command);
-        let Answer::Accepted { .. } = answer else {
-            return answer;
-        };
-        match sought.standing {
-            Some(other) => Answer::Refused(Refusal::StandsOn(other)),
-            None => answer,
-        }
+        calls::answer(&at, by, id, hash, command)
     }
 
     /// Keeps an accepted call: each kind in a function of its own, so that each runs through no more code and no larger a frame than it needs.
@@ -289,8 +284,7 @@ impl Book {
             Command::Initiate { .. } | Command::Decline { .. } => {
                 self.keep_consenting(alloc, made, hash)
             }
-            Command::Agree { .. } => self.keep_agree(made, hash),
-            Command::Raise { .. } => self.keep_raise(made, hash),
+            Command::Agree { .. } | Command::Raise { .. } => self.keep_deed(alloc, made, hash),
             Command::Reverse { entry } => match &sought.undone {
                 Some(_) => self.keep_reversal(made, hash, *entry, sought),
                 None => self.keep_terms_reversal(made, hash, *entry),
@@ -317,8 +311,7 @@ impl Book {
         else {
             unreachable!()
         };
-        make_room(&mut self.entries)?;
-        self.index.ids.ready()?;
+        make_room(&mut self.entries, &mut self.index.ids)?;
         self.trees.ready()?;
         let key = Key {
             firm: *firm,
@@ -331,7 +324,6 @@ impl Book {
             account: *account,
         };
         grove::plant(&mut self.trees, alloc, made, place, *lots);
-        self.index.ids.add(hash);
         let kept = Command::Trade {
             firm: *firm,
             account: *account,
@@ -339,7 +331,7 @@ impl Book {
             side: *side,
             lots: *lots,
         };
-        push(&mut self.entries, made, kept);
+        push(&mut self.entries, &mut self.index.ids, made, hash, kept);
         Ok(())
     }
 
@@ -364,8 +356,7 @@ impl Book {
         let Command::Split { node, parts } = made.command else {
             unreachable!()
         };
-        make_room(&mut self.entries)?;
-        self.index.ids.ready()?;
+        make_room(&mut self.entries, &mut self.index.ids)?;
         self.trees.ready()?;
         let kept = parts.copy(alloc)?;
         let changes = Live::of(self.entries.as_slice(), &self.index.reversals);
@@ -384,12 +375,11 @@ impl Book {
             return Err(e);
         }
         holdings::take_moved(&mut self.positions, &whole, moved);
-        self.index.ids.add(hash);
         let kept = Command::Split {
             node: *node,
             parts: kept,
         };
-        push(&mut self.entries, made, kept);
+        push(&mut self.entries, &mut self.index.ids, made, hash, kept);
         Ok(())
     }
 
@@ -408,8 +398,7 @@ impl Book {
         let Command::Claim { node, account } = made.command else {
             unreachable!()
         };
-        make_room(&mut self.entries)?;
-        self.index.ids.ready()?;
+        make_room(&mut self.entries, &mut self.index.ids)?;
         self.trees.ready()?;
         let changes = Live::of(self.entries.as_slice(), &self.index.reversals);
         let Some(named) = &sought.named else {
@@ -427,12 +416,11 @@ impl Book {
         grove::claim(&mut self.trees, made, sought, *account);
         holdings::take(&mut self.positions, &whole);
         terms::claim(&mut self.terms, place, made.number, &named.node);
-        self.index.ids.add(hash);
         let kept = Command::Claim {
             node: *node,
             account: *account,
         };
-        push(&mut self.entries, made, kept);
+        push(&mut self.entries, &mut self.index.ids, made, hash, kept);
         Ok(())
     }
 
@@ -452,8 +440,7 @@ impl Book {
         ensures kept { OnOk result (self.new ≡ record self.old { history = self.old.history ++ entry_of_change made.now ∷ [] }) }
         ensures unchanged { OnErr result (self.new ≡ self.old) }
     {
-        make_room(&mut self.entries)?;
-        self.index.ids.ready()?;
+        make_room(&mut self.entries, &mut self.index.ids)?;
         self.trees.ready()?;
         let (kept, state) = match made.command {
             Command::Refuse { node } => (Command::Refuse { node: *node }, State::Refused),
@@ -461,70 +448,25 @@ impl Book {
             _ => unreachable!(),
         };
         grove::give_back(&mut self.trees, made, sought, state);
-        self.index.ids.add(hash);
-        push(&mut self.entries, made, kept);
+        push(&mut self.entries, &mut self.index.ids, made, hash, kept);
         Ok(())
     }
 
-    /// Puts an accepted Agree at the end of the history, and its terms beside the others.
+    /// Puts an accepted Agree or Raise at the end of the history, and what it does beside the other dealings of its giver and taker.
     #[inline(never)]
-    fn keep_agree(&mut self, made: &Change<'_>, hash: IdHash) -> Result<(), Memory>
-        requires agree { is_agree made.now.command.now ≡ true }
+    fn keep_deed(&mut self, alloc: Global, made: &Change<'_>, hash: IdHash) -> Result<(), Memory>
+        requires of_terms { IsOfTerms made.now.command.now }
         requires hashed { IsHashOf hash made.now.firm.now made.now.id.now }
         requires accepted { answer_to self.old.house self.old.history (call_of (entry_of_change made.now)) ≡ Accepted made.now.number made.now.status }
         ensures kept { OnOk result (self.new ≡ record self.old { history = self.old.history ++ entry_of_change made.now ∷ [] }) }
         ensures unchanged { OnErr result (self.new ≡ self.old) }
     {
-        let Command::Agree {
-            giver,
-            taker,
-            rate,
-            limit,
-        } = made.command
-        else {
-            unreachable!()
-        };
-        make_room(&mut self.entries)?;
-        self.index.ids.ready()?;
-        terms::ready(&mut self.terms, &self.house, giver, taker)?;
-        let agreed = Agreement {
-            rate: *rate,
-            limit: *limit,
-        };
-        self.terms.agree(giver, taker, made.number, agreed);
-        self.index.ids.add(hash);
-        let kept = Command::Agree {
-            giver: *giver,
-            taker: *taker,
-            rate: *rate,
-            limit: *limit,
-        };
-        push(&mut self.entries, made, kept);
-        Ok(())
-    }
-
-    /// Puts an accepted Raise at the end of the history, and raises the limit of its giver and taker.
-    #[inline(never)]
-    fn keep_raise(&mut self, made: &Change<'_>, hash: IdHash) -> Result<(), Memory>
-        requires raise { is_raise made.now.command.now ≡ true }
-        requires hashed { IsHashOf hash made.now.firm.now made.now.id.now }
-        requires accepted { answer_to self.old.house self.old.history (call_of (entry_of_change made.now)) ≡ Accepted made.now.number made.now.status }
-        ensures kept { OnOk result (self.new ≡ record self.old { history = self.old.history ++ entry_of_change made.now ∷ [] }) }
-        ensures unchanged { OnErr result (self.new ≡ self.old) }
-    {
-        let Command::Raise { giver, lots } = made.command else {
-            unreachable!()
-        };
-        make_room(&mut self.entries)?;
-        self.index.ids.ready()?;
-        terms::ready(&mut self.terms, &self.house, giver, made.firm)?;
-        self.terms.raise(giver, made.firm, made.number, *lots);
-        self.index.ids.add(hash);
-        let kept = Command::Raise {
-            giver: *giver,
-            lots: *lots,
-        };
-        push(&mut self.entries, made, kept);
+        let kept = made.command.copy(alloc)?;
+        make_room(&mut self.entries, &mut self.index.ids)?;
+        let (giver, taker, deed) = terms::deed_of(made.firm, made.command);
+        let place = terms::ready(&mut self.terms, &self.house, &giver, &taker)?;
+        self.terms.put_at(place, made.number, deed);
+        push(&mut self.entries, &mut self.index.ids, made, hash, kept);
         Ok(())
     }
 
@@ -542,16 +484,14 @@ impl Book {
         ensures kept { OnOk result (self.new ≡ record self.old { history = self.old.history ++ entry_of_change made.now ∷ [] }) }
         ensures unchanged { OnErr result (self.new ≡ self.old) }
     {
-        make_room(&mut self.entries)?;
-        self.index.ids.ready()?;
+        make_room(&mut self.entries, &mut self.index.ids)?;
         let kept = match made.command {
             Command::Initiate { entry } => Command::Initiate { entry: *entry },
             Command::Decline { entry } => Command::Decline { entry: *entry },
             _ => unreachable!(),
         };
         consent(&mut self.consents, alloc, made)?;
-        self.index.ids.add(hash);
-        push(&mut self.entries, made, kept);
+        push(&mut self.entries, &mut self.index.ids, made, hash, kept);
         Ok(())
     }
 
@@ -573,7 +513,7 @@ impl Book {
         ensures kept { OnOk result (self.new ≡ record self.old { history = self.old.history ++ entry_of_change made.now ∷ [] }) }
         ensures unchanged { OnErr result (self.new ≡ self.old) }
     {
-        make_room(&mut self.entries)?;
+        make_room(&mut self.entries, &mut self.index.ids)?;
         let changes = Live::of(self.entries.as_slice(), &self.index.reversals);
         let entry = &self.entries[change.get() as usize - 1];
         let Some(undone) = &sought.undone else {
@@ -582,15 +522,14 @@ impl Book {
         let charge = charges::charge_of(&self.house, &self.terms, &changes, &entry.command);
         let back = holdings::goes_back(&changes, &self.trees, entry, undone);
         holdings::ready_back(&mut self.positions, &back)?;
-        self.index.ids.ready()?;
         self.index.reversals.put(change, made.number)?;
         grove::undo(&mut self.trees, change, entry, sought);
         charges::take_back(&mut self.fees, &charge);
         terms::take_out_claim(&mut self.terms, change, entry);
         holdings::move_back(&mut self.positions, entry, &back);
         self.consents.clear(change);
-        self.index.ids.add(hash);
-        push(&mut self.entries, made, Command::Reverse { entry: change });
+        let kept = Command::Reverse { entry: change };
+        push(&mut self.entries, &mut self.index.ids, made, hash, kept);
         Ok(())
     }
 
@@ -609,13 +548,12 @@ impl Book {
         ensures kept { OnOk result (self.new ≡ record self.old { history = self.old.history ++ entry_of_change made.now ∷ [] }) }
         ensures unchanged { OnErr result (self.new ≡ self.old) }
     {
-        make_room(&mut self.entries)?;
-        self.index.ids.ready()?;
+        make_room(&mut self.entries, &mut self.index.ids)?;
         self.index.reversals.put(entry, made.number)?;
         self.terms.take_out(entry);
         self.consents.clear(entry);
-        self.index.ids.add(hash);
-        push(&mut self.entries, made, Command::Reverse { entry });
+        let kept = Command::Reverse { entry };
+        push(&mut self.entries, &mut self.index.ids, made, hash, kept);
         Ok(())
     }
 
@@ -686,16 +624,21 @@ impl Book {
     }
 }
 
-/// Makes room for one entry more. There mostly is some, so the growth stands apart from the code that runs each time.
+/// Makes room for one entry more, and for its id. There mostly is some for the entry, so that growth stands apart from the code that runs
+/// each time.
 #[inline(always)]
-fn make_room(entries: &mut Vec<Entry>) -> Result<(), Memory>
+fn make_room(entries: &mut Vec<Entry>, ids: &mut Ids) -> Result<(), Memory>
+    requires ids { AreIdsOf ids.old entries.old.items }
+    requires few { length entries.old.items ≤ most_entries }
     ensures items { entries.new.items ≡ entries.old.items }
+    ensures ids { AreIdsOf ids.new entries.old.items }
     ensures room { OnOk result (vec_len entries.new < vec_capacity entries.new) }
+    ensures ready { OnOk result (IsReady ids.new) }
 {
-    if entries.len() < entries.capacity() {
-        return Ok(());
+    if entries.len() >= entries.capacity() {
+        grow(entries)?;
     }
-    grow(entries)
+    ids.ready()
 }
 
 /// Makes room for one entry more where there is none.
@@ -709,13 +652,20 @@ fn grow(entries: &mut Vec<Entry>) -> Result<(), Memory>
     Ok(())
 }
 
-/// Puts the entry of an accepted call at the end of the history; there has to be room for it. It is put together where it then lies.
+/// Puts the entry of an accepted call at the end of the history, and its id; there has to be room for both. The entry is put together where it
+/// then lies.
 #[inline(always)]
-fn push(entries: &mut Vec<Entry>, made: &Change<'_>, command: Command)
+fn push(entries: &mut Vec<Entry>, ids: &mut Ids, made: &Change<'_>, hash: IdHash, command: Command)
     requires room { vec_len entries.old < vec_capacity entries.old }
+    requires ready { IsReady ids.old }
+    requires ids { AreIdsOf ids.old entries.old.items }
     requires same { command ≡ made.now.command.now }
-    ensures { entries.new.items ≡ entries.old.items ++ entry_of_change made.now ∷ [] }
+    requires hashed { IsHashOf hash made.now.firm.now made.now.id.now }
+    requires accepted { (t : HouseTable) × (answer_to t entries.old.items (call_of (entry_of_change made.now)) ≡ Accepted made.now.number made.now.status) }
+    ensures items { entries.new.items ≡ entries.old.items ++ entry_of_change made.now ∷ [] }
+    ensures ids { AreIdsOf ids.new (entries.old.items ++ entry_of_change made.now ∷ []) }
 {
+    ids.add(hash);
     entries.push_reserved(Entry {
         firm: *made.firm,
         id: *made.id,

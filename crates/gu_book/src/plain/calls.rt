@@ -1,14 +1,17 @@
-//! The answer to a call, but for what stands on a change.
-ghost use Rattle.std.specs.Prelude.{◌≡◌, ◌≤◌, length, find, unwrap_or, if◌then◌else◌};
+//! The answer to a call.
+ghost use Rattle.std.specs.Prelude.{◌≡◌, ◌≤◌, ◌+◌, ℕ, [], ◌∷◌, length, find, nat_lt, unwrap_or, if◌then◌else◌};
 ghost use Rattle.gu_base.specs.Limits.{most_entries};
 ghost use Rattle.gu_base.specs.Same.{same_command};
 ghost use Rattle.gu_base.specs.History.{records, live, RisesFrom};
-ghost use Rattle.gu_base.specs.Answers.{is_same_call, is_same_id, answer_by, status_of};
+ghost use Rattle.gu_base.specs.Answers.{accepted_or, answer_by, answer_to, command_refusal, entry_of, is_same_call, is_same_id, on_change, status_of};
+ghost use Rattle.gu_base.specs.House.{knows_firm};
+ghost use Rattle.gu_base.specs.Consents.{consents_left};
+ghost use Rattle.gu_base.specs.Refusals.{first, unless};
 ghost use Rattle.gu_base.specs.declared.entry.Answer.{Answer};
 ghost use Rattle.gu_base.specs.declared.entry.Answer.TheVariants.{Repeated, Refused};
-ghost use Rattle.gu_base.specs.declared.refusal.Refusal.TheVariants.{DuplicateId};
-ghost use Rattle.gu_book.specs.Found.{IsNamedIn};
-ghost use Rattle.gu_book.specs.Front.{front_answer, front_rules, front_refusal};
+ghost use Rattle.gu_base.specs.declared.refusal.Refusal.TheVariants.{BookFull, DuplicateId, UnknownFirm};
+ghost use Rattle.gu_book.specs.Found.{IsNamedIn, IsStandingIn};
+ghost use Rattle.gu_book.specs.Front.{IsStandingOn, rest_of};
 ghost use Rattle.gu_book.specs.Ids.{NoIdTwice};
 ghost use Rattle.gu_book.specs.Index.{AreIdsOf, IsIndexOf};
 ghost use Rattle.gu_consent.specs.Given.{given};
@@ -83,43 +86,66 @@ fn status_of(by: &FirmId, command: &Command) -> State
     }
 }
 
-/// Why a command is refused, but for what stands on a change.
-fn front_refusal(at: &Standing<'_>, by: &FirmId, command: &Command) -> Option<Refusal>
+/// Why a command that names this entry is refused.
+fn named_refusal(
+    at: &Standing<'_>,
+    by: &FirmId,
+    command: &Command,
+    entry: Number,
+) -> Option<Refusal>
+    requires indexed { IsIndexOf at.now.index.now at.now.entries.now }
+    requires few { length at.now.entries.now ≤ most_entries }
+    requires live { at.now.changes ≡ live at.now.entries.now }
+    requires rises { RisesFrom 1 at.now.changes }
+    requires consented { (n : ℕ) → given at.now.consents.now n ≡ consents_left at.now.entries.now n }
+    requires standing { IsStandingOn at.now.house.now at.now.changes command.now entry at.now.standing }
+    ensures { result ≡ first (unless (knows_firm at.now.house.now by.now) UnknownFirm ∷ on_change at.now.house.now at.now.entries.now by.now (rest_of at.now.house.now at.now.entries.now by.now command.now) (entry_of at.now.entries.now entry) ∷ []) }
+{
+    // Asked first, though an unknown firm is told first: so the entry is fetched while the bucket of the id still is.
+    let refusal = naming_refusal(at, by, command, entry);
+    if !at.house.firm(by) {
+        return Some(Refusal::UnknownFirm);
+    }
+    refusal
+}
+
+/// Why a command is refused.
+fn command_refusal(at: &Standing<'_>, by: &FirmId, command: &Command) -> Option<Refusal>
     requires indexed { IsIndexOf at.now.index.now at.now.entries.now }
     requires dealt { AreTermsOf at.now.house.now at.now.changes at.now.terms.now }
     requires few { length at.now.entries.now ≤ most_entries }
     requires live { at.now.changes ≡ live at.now.entries.now }
     requires rises { RisesFrom 1 at.now.changes }
     requires named { IsNamedIn at.now.changes (named_node command.now) at.now.named.now }
-    ensures { result ≡ front_refusal at.now.house.now at.now.entries.now (given at.now.consents.now) by.now command.now }
+    requires consented { (n : ℕ) → given at.now.consents.now n ≡ consents_left at.now.entries.now n }
+    requires standing { IsStandingIn at.now.house.now at.now.changes command.now at.now.standing }
+    ensures { result ≡ command_refusal at.now.house.now at.now.entries.now by.now command.now }
 {
     match command {
-        Command::Initiate { entry } | Command::Decline { entry } | Command::Reverse { entry } => {
-            // Asked first, though an unknown firm is told first: so the entry is fetched while the bucket of the id still is.
-            let refusal = naming_refusal(at, by, command, *entry);
-            if !at.house.firm(by) {
-                return Some(Refusal::UnknownFirm);
-            }
-            refusal
-        }
+        Command::Initiate { entry } => named_refusal(at, by, command, *entry),
+        Command::Decline { entry } => named_refusal(at, by, command, *entry),
+        Command::Reverse { entry } => named_refusal(at, by, command, *entry),
         _ => change_refusal(at, by, command),
     }
 }
 
-/// The answer to a call whose id no entry has, if nothing stood on any change.
-fn new_answer(at: &Standing<'_>, by: &FirmId, command: &Command) -> Answer
+/// The answer by the rules, to a call whose id no entry has.
+fn answer_by_rules(at: &Standing<'_>, by: &FirmId, command: &Command) -> Answer
     requires indexed { IsIndexOf at.now.index.now at.now.entries.now }
     requires dealt { AreTermsOf at.now.house.now at.now.changes at.now.terms.now }
     requires few { length at.now.entries.now ≤ most_entries }
     requires live { at.now.changes ≡ live at.now.entries.now }
     requires rises { RisesFrom 1 at.now.changes }
     requires named { IsNamedIn at.now.changes (named_node command.now) at.now.named.now }
-    ensures { result ≡ front_rules at.now.house.now at.now.entries.now (given at.now.consents.now) by.now command.now }
+    requires consented { (n : ℕ) → given at.now.consents.now n ≡ consents_left at.now.entries.now n }
+    requires standing { IsStandingIn at.now.house.now at.now.changes command.now at.now.standing }
+    ensures { result ≡ accepted_or (length at.now.entries.now + 1) (status_of by.now command.now)
+        (first (unless (nat_lt (length at.now.entries.now) most_entries) BookFull ∷ command_refusal at.now.house.now at.now.entries.now by.now command.now ∷ [])) }
 {
     if at.entries.len() >= Number::MAX as usize {
         return Answer::Refused(Refusal::BookFull);
     }
-    if let Some(refusal) = front_refusal(at, by, command) {
+    if let Some(refusal) = command_refusal(at, by, command) {
         return Answer::Refused(refusal);
     }
     Answer::Accepted {
@@ -128,8 +154,8 @@ fn new_answer(at: &Standing<'_>, by: &FirmId, command: &Command) -> Answer
     }
 }
 
-/// The answer to a call, at a history and what is kept beside it, if nothing stood on any change.
-pub(crate) fn front_answer(
+/// The answer to a call, at a history and what is kept beside it.
+pub(crate) fn answer(
     at: &Standing<'_>,
     by: &FirmId,
     id: &AllocId,
@@ -144,10 +170,12 @@ pub(crate) fn front_answer(
     requires live { at.now.changes ≡ live at.now.entries.now }
     requires rises { RisesFrom 1 at.now.changes }
     requires named { IsNamedIn at.now.changes (named_node command.now) at.now.named.now }
-    ensures { result ≡ front_answer at.now.house.now at.now.entries.now (given at.now.consents.now) (record { firm = by.now; id = id.now; command = command.now }) }
+    requires consented { (n : ℕ) → given at.now.consents.now n ≡ consents_left at.now.entries.now n }
+    requires standing { IsStandingIn at.now.house.now at.now.changes command.now at.now.standing }
+    ensures { result ≡ answer_to at.now.house.now at.now.entries.now (record { firm = by.now; id = id.now; command = command.now }) }
 {
     if let Some(answer) = known(&at.index.ids, at.entries, by, id, hash, command) {
         return answer;
     }
-    new_answer(at, by, command)
+    answer_by_rules(at, by, command)
 }

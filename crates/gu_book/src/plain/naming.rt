@@ -1,10 +1,10 @@
-//! Why an Initiate, a Decline or a Reverse is refused, but for what stands on the change.
+//! Why an Initiate, a Decline or a Reverse is refused.
 ghost use Rattle.std.specs.Prelude.{◌≡◌, ◌≤◌, ◌+◌, ℕ, length, take, option_map, Some, None};
 ghost use Rattle.gu_base.specs.Limits.{most_entries};
 ghost use Rattle.gu_base.specs.History.{numbered_as, is_change, live, RisesFrom};
-ghost use Rattle.gu_base.specs.Consents.{of_node, taker_and_giver, giver_alone, parties_of};
+ghost use Rattle.gu_base.specs.Consents.{of_node, taker_and_giver, giver_alone, consents_left, parties_of};
 ghost use Rattle.gu_base.specs.Answers.{entry_of, on_change};
-ghost use Rattle.gu_book.specs.Front.{own_refusal, own_of};
+ghost use Rattle.gu_book.specs.Front.{IsStandingOn, own_refusal, rest_of};
 ghost use Rattle.gu_book.specs.Index.{IsIndexOf};
 ghost use Rattle.gu_consent.specs.Given.{given};
 
@@ -86,15 +86,16 @@ fn parties_of(
     }
 }
 
-/// The last refusal of each row, over those who consent.
+/// The last refusal of each row, over those who consent and what stands on the entry.
 fn own_refusal(
     consents: &Consents,
     number: Number,
     parties: &[FirmId],
+    standing: Option<Number>,
     by: &FirmId,
     command: &Command,
 ) -> Option<Refusal>
-    ensures { result ≡ own_refusal (given consents.now number) parties.now by.now command.now }
+    ensures { result ≡ own_refusal (given consents.now number) parties.now standing by.now command.now }
 {
     match command {
         Command::Initiate { .. } => match consents.missing(number, &[*by]) {
@@ -109,8 +110,11 @@ fn own_refusal(
             }
         }
         Command::Reverse { .. } => match consents.missing(number, parties) {
-            None => None,
             Some(firm) => Some(Refusal::NeedsConsent(firm)),
+            None => match standing {
+                Some(other) => Some(Refusal::StandsOn(other)),
+                None => None,
+            },
         },
         _ => None,
     }
@@ -128,7 +132,9 @@ fn entry_refusal(
     requires few { length at.now.entries.now ≤ most_entries }
     requires live { at.now.changes ≡ live at.now.entries.now }
     requires rises { RisesFrom 1 at.now.changes }
-    ensures { result ≡ on_change at.now.house.now at.now.entries.now by.now (own_of at.now.house.now at.now.entries.now (given at.now.consents.now) by.now command.now) (Some (numbered_as number e.now)) }
+    requires consented { (n : ℕ) → given at.now.consents.now n ≡ consents_left at.now.entries.now n }
+    requires standing { IsStandingOn at.now.house.now at.now.changes command.now number at.now.standing }
+    ensures { result ≡ on_change at.now.house.now at.now.entries.now by.now (rest_of at.now.house.now at.now.entries.now by.now command.now) (Some (numbered_as number e.now)) }
 {
     if !is_change(&e.command) {
         return Some(Refusal::NotAChange);
@@ -141,7 +147,7 @@ fn entry_refusal(
     if !by.is_among(parties) {
         return Some(Refusal::NotAParty);
     }
-    own_refusal(at.consents, number, parties, by, command)
+    own_refusal(at.consents, number, parties, at.standing, by, command)
 }
 
 /// Why a command that names the entry of this number is refused.
@@ -156,7 +162,9 @@ pub(crate) fn naming_refusal(
     requires few { length at.now.entries.now ≤ most_entries }
     requires live { at.now.changes ≡ live at.now.entries.now }
     requires rises { RisesFrom 1 at.now.changes }
-    ensures { result ≡ on_change at.now.house.now at.now.entries.now by.now (own_of at.now.house.now at.now.entries.now (given at.now.consents.now) by.now command.now) (entry_of at.now.entries.now number) }
+    requires consented { (n : ℕ) → given at.now.consents.now n ≡ consents_left at.now.entries.now n }
+    requires standing { IsStandingOn at.now.house.now at.now.changes command.now number at.now.standing }
+    ensures { result ≡ on_change at.now.house.now at.now.entries.now by.now (rest_of at.now.house.now at.now.entries.now by.now command.now) (entry_of at.now.entries.now number) }
 {
     let place = number.get() as usize - 1;
     if place >= at.entries.len() {

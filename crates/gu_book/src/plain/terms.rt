@@ -2,10 +2,10 @@
 ghost use Rattle.std.specs.Prelude.{◌≡◌, List, Some, IfSome, IfOk, OnOk, option_map, true, false, ◌≤◌};
 ghost use Rattle.gu_base.specs.House.{agreement};
 ghost use Rattle.gu_base.specs.Limits.{highest_rate};
-ghost use Rattle.gu_base.specs.Terms.{terms_of, limit_of, used_of};
+ghost use Rattle.gu_base.specs.Terms.{deed_of, terms_of, limit_of, used_of};
 ghost use Rattle.gu_base.specs.declared.entry.Record.{Record as RecordData};
 ghost use Rattle.gu_book.specs.Dealing.{CanClaim, HasRoomForClaim, IsClaimed, place_of_kind};
-ghost use Rattle.gu_book.specs.Kinds.{is_claim};
+ghost use Rattle.gu_book.specs.Kinds.{IsOfTerms, is_claim};
 ghost use Rattle.gu_book.specs.Limits.{AllWithinLimits};
 ghost use Rattle.gu_depend.specs.Terms.{AreTermsOf, place_of_pair};
 ghost use Rattle.gu_fees.specs.Terms.{IsReady, IsTakenOut, last_entry};
@@ -118,6 +118,29 @@ fn ready_first(
     match terms.place(giver, taker) {
         Some(place) => Ok(place),
         None => unreachable!(),
+    }
+}
+
+/// For which giver and taker an Agree or a Raise of this firm is, and what it does to their terms.
+pub(crate) fn deed_of(by: &FirmId, command: &Command) -> (FirmId, FirmId, Deed)
+    requires { IsOfTerms command.now }
+    ensures { (l : List RecordData) → deed_of l result.0 result.1 by.now command.now ≡ Some result.2 }
+{
+    match command {
+        Command::Agree {
+            giver,
+            taker,
+            rate,
+            limit,
+        } => {
+            let agreed = Agreement {
+                rate: *rate,
+                limit: *limit,
+            };
+            (*giver, *taker, Deed::Makes(agreed))
+        }
+        Command::Raise { giver, lots } => (*giver, *by, Deed::Raises(*lots)),
+        _ => unreachable!(),
     }
 }
 

@@ -1,5 +1,4 @@
-use Rattle.std.proofs.Common.{◌∙◌, ℕ, ap, refl, sym}
-use Rattle.std.specs.Prelude.{option_map}
+use Rattle.std.proofs.Common.{◌∙◌, ℕ, ap, refl, sym, option_map}
 use Rattle.gu_book.proofs.OnePlace.{found_spot}
 use Rattle.gu_book.proofs.found.found_at.Goals as goal
 use Rattle.gu_book.proofs.found.found_at.Goals.{in-Some, in-None}

@@ -1,5 +1,5 @@
 use Rattle.std.proofs.Common.{sym, subst, arith}
-use Rattle.gu_base.specs.declared.command.Command.{Command}
+use Rattle.gu_depend.proofs.Vocabulary.{Command}
 use Rattle.gu_book.specs.Visits.{AreSeen}
 use Rattle.gu_book.proofs.found.seek.Goals as goal
 

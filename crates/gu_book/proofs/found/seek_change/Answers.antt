@@ -1,16 +1,12 @@
-use Rattle.std.proofs.Common.{rules, ◌≡◌, ◌∙◌, ℕ, IsSomeAnd, false, sym, ap, subst, arith}
+use Rattle.std.proofs.Common.{rules, ◌≡◌, ◌∙◌, ℕ, IsSomeAnd, false, sym, ap, subst, arith, Some, None, option_map, option_and_then}
 use Rattle.std.proofs.lemmas.Grind.{common_steps}
-use Rattle.std.specs.Prelude.{Some, None, option_map, option_and_then}
-use Rattle.gu_base.specs.declared.entry.Record.{Record}
+use Rattle.gu_depend.proofs.Vocabulary.{Record}
 use Rattle.gu_depend.specs.Under.{deals_under}
 use Rattle.gu_depend.proofs.ReadOff.{nothing_placed}
 use Rattle.gu_base.proofs.Numbered.{rises_later}
-use Rattle.gu_tree.specs.Grove.{HasTree, IsPlace, place_of}
-use Rattle.gu_tree.specs.Paths.{node_at}
-use Rattle.gu_tree.specs.ShownAll.{named_place, place_in, change_of}
+use Rattle.gu_book.proofs.Vocabulary.{HasTree, IsPlace, node_at, named_place, place_in, change_of, record_of, is_of_trees}
+use Rattle.gu_tree.specs.Grove.{place_of}
 use Rattle.gu_book.specs.Holdings.{deal_of}
-use Rattle.gu_book.specs.Live.{record_of}
-use Rattle.gu_book.specs.Visits.{is_of_trees}
 use Rattle.gu_book.proofs.AllShown.{all_shown}
 use Rattle.gu_book.proofs.OnePlace.{one_place}
 use Rattle.gu_book.proofs.Visited.{placeless, some_place, way_to, parts_of_named}

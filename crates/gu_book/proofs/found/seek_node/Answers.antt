@@ -1,11 +1,8 @@
-use Rattle.std.proofs.Common.{◌≡◌, ◌∙◌, sym, ap, subst, arith}
-use Rattle.gu_base.specs.Places.{depth_of}
-use Rattle.std.specs.Prelude.{Some}
+use Rattle.std.proofs.Common.{◌≡◌, ◌∙◌, sym, ap, subst, arith, Some}
+use Rattle.gu_depend.proofs.Vocabulary.{depth_of, node_of, Node}
 use Rattle.std.proofs.lemmas.Option.{same_Some}
-use Rattle.gu_base.specs.Nodes.{node_of}
-use Rattle.gu_base.specs.declared.node.Node.{Node}
 use Rattle.gu_base.proofs.Basics.{none_is_some}
-use Rattle.gu_book.specs.Found.{IsFoundAs, IsNamedBy}
+use Rattle.gu_book.proofs.Vocabulary.{IsFoundAs, IsNamedBy}
 use Rattle.gu_book.proofs.OnePlace.{found_none, found_node, lies_there}
 use Rattle.gu_book.proofs.found.seek_node.Goals.{After-found_at-found}
 use Rattle.gu_book.proofs.found.seek_node.Goals as goal

@@ -1,4 +1,4 @@
-use Rattle.gu_base.specs.History.{live}
+use Rattle.gu_depend.proofs.Vocabulary.{live}
 use Rattle.gu_base.proofs.LegalLaws.{replay_from_legal}
 use Rattle.gu_book.proofs.Positions as balance
 use Rattle.gu_book.proofs.Leaves as sums

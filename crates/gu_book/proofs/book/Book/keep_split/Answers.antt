@@ -1,24 +1,13 @@
-use Rattle.std.proofs.Common.{◌≡◌, ◌≤◌, ◌∙◌, List, length, refl, ap, subst, arith}
-use Rattle.std.specs.Prelude.{Some, filter_map}
-use Rattle.gu_base.specs.History.{live, is_change}
-use Rattle.gu_base.specs.declared.entry.Record.{Record}
-use Rattle.gu_base.proofs.LiveLaws.{change_is_no_reverse}
-use Rattle.gu_depend.specs.Terms.{AreTermsOf, pair_of}
-use Rattle.gu_fees.specs.Terms.{last_entry}
-use Rattle.gu_book.specs.Charging.{AreFeesOf}
-use Rattle.gu_book.specs.Filed.{IsNext}
-use Rattle.gu_book.specs.Found.{IsNamedBy}
-use Rattle.gu_book.specs.Holdings.{holding_of, part_away, ArePositionsOf}
-use Rattle.gu_book.specs.Live.{entry_of_change, record_of}
+use Rattle.std.proofs.Common.{◌≡◌, refl, ap, Some, filter_map}
+use Rattle.gu_depend.proofs.Vocabulary.{live, is_change}
+use Rattle.gu_book.proofs.Vocabulary.{pair_of, IsNext, IsNamedBy, holding_of, part_away, entry_of_change, record_of}
+use Rattle.gu_book.proofs.Books.{book_apart, few_live, still}
 use Rattle.gu_book.proofs.Filed.{due_same, follows_same, same_both}
 use Rattle.gu_book.proofs.HoldingRows.{put_and_taken}
-use Rattle.gu_book.proofs.Indexed.{ids_few, ids_fewer, index_added}
-use Rattle.gu_book.proofs.Keeps.{next_kept, kept_change, live_few, live_more, still_before}
+use Rattle.gu_book.proofs.Keeps.{next_kept}
 use Rattle.gu_book.proofs.Leaves.{live_rises}
 use Rattle.gu_book.proofs.OnePlace.{next_there}
 use Rattle.gu_book.proofs.PartsAway.{holds_some}
-use Rattle.gu_book.proofs.Still.{still}
-use Rattle.gu_book.proofs.TermsKept.{dealt_apart}
 use Rattle.gu_book.proofs.TradesKept.{split_free, split_home, split_fits, split_takes, split_stands}
 use Rattle.gu_book.proofs.book.Book.keep_split.Goals.{After-whole_of-whole}
 use Rattle.gu_book.proofs.book.Book.keep_split.Goals as goal
@@ -33,19 +22,16 @@ named c = let is = rw (← c.self.view_is) at c.requires.named in rw (c.in-Split
 
 -- and its lots are the whole
 holds : (c : After-whole_of-whole) → Some c.whole_of-whole.result ≡ holding_of (live c.self.inside.entries.items) c.in-Some.named.node
-holds c =
-    let are : c.of-changes.result ≡ live c.self.inside.entries.items = c.of-changes.ensures ∙ ap live (c.as_slice.ensures.value ∙ c.make_room.ensures.items) in
-    rw are at c.whole_of-whole.ensures
+holds c = rw (c.of-changes.ensures, c.as_slice.ensures.value, c.make_room.ensures.items) at c.whole_of-whole.ensures
 
 pub whole_of-whole-requires-clause-there : goal.whole_of-whole-requires-clause-there
 whole_of-whole-requires-clause-there c =
-    let l = live c.self.inside.entries.items in
-    let are : c.of-changes.result ≡ l = c.of-changes.ensures ∙ ap live (c.as_slice.ensures.value ∙ c.make_room.ensures.items) in
     let is = rw (← c.self.view_is) at c.requires.named in
     let found = rw (c.in-Split.is, c.in-Some.is) at is in
     let there = rw (← c.self.view_is) at c.requires.there in
     let lies = rw (c.in-Some.is) at there in
-    rw are (holds_some c.self.invariant.kept.filed (live_rises c.self.inside.entries.items) found.2 (lies c.self.inside.trees c.self.invariant.kept.filed))
+    rw (c.of-changes.ensures, c.as_slice.ensures.value, c.make_room.ensures.items)
+    (holds_some c.self.invariant.kept.filed (live_rises c.self.inside.entries.items) found.2 (lies c.self.inside.trees c.self.invariant.kept.filed))
 
 pub put_all_away-requires-clause-home : goal.put_all_away-requires-clause-home
 put_all_away-requires-clause-home c =
@@ -55,21 +41,18 @@ put_all_away-requires-clause-home c =
 pub put_all_away-requires-clause-room : goal.put_all_away-requires-clause-room
 put_all_away-requires-clause-room c =
     let w = (goal.at.put_all_away-requires-clause-room c).After-whole_of-whole in
-    let few = c.self.invariant.kept.few in
-    let fewer = live_few c.self.inside.entries.items in
-    let within : length (live c.self.inside.entries.items) ≤ 1000000 = omega (arith, few, fewer) in
     rw c.as_slice-2.ensures
     (split_fits (next w) c.in-Split.node c.in-Split.parts c.in-Split.is c.in-Some.named.node (named w).0 c.whole_of-whole.result
-    (holds w) within c.self.invariant.kept.within c.self.inside.positions c.self.invariant.stands)
+    (holds w) (few_live c.self.invariant) c.self.invariant.kept.within c.self.inside.positions c.self.invariant.stands)
 
 pub split-requires-clause-due : goal.split-requires-clause-due
 split-requires-clause-due c =
     let w = (goal.at.split-requires-clause-due c).After-whole_of-whole in
-    due_same (record_of c.args.made.now) c.self.inside.trees c.ready-2.new.self c.in_ok-ready-2.ensures.same (c.self.inside.house, live c.self.inside.entries.items, next w)
+    due_same (record_of c.args.made.now) c.self.inside.trees c.ready.new.self c.in_ok-ready.ensures.same (c.self.inside.house, live c.self.inside.entries.items, next w)
 
 pub split-requires-clause-there : goal.split-requires-clause-there
 split-requires-clause-there c =
-    next_there (next (goal.at.split-requires-clause-there c).After-whole_of-whole) c.ready-2.new.self c.in_ok-ready-2.ensures.same c.args.sought.now.named c.args.sought.now.path.items
+    next_there (next (goal.at.split-requires-clause-there c).After-whole_of-whole) c.ready.new.self c.in_ok-ready.ensures.same c.args.sought.now.named c.args.sought.now.path.items
     (rw (← c.self.view_is) at c.requires.named) (rw (← c.self.view_is) at c.requires.there)
 
 pub take_moved-requires : goal.take_moved-requires
@@ -80,67 +63,46 @@ take_moved-requires c =
     rw is (split_takes (next w) c.in-Split.node c.in-Split.parts c.in-Split.is c.in-Some.named.node (named w).0 c.whole_of-whole.result
     (holds w) c.self.inside.positions c.put_all_away.new.positions c.self.invariant.stands put)
 
-pub ready-requires : goal.ready-requires
-ready-requires c = ids_few c.self.invariant.indexed c.self.invariant.kept.few
-
-pub add-requires-clause-few : goal.add-requires-clause-few
-add-requires-clause-few c =
-    ids_fewer c.self.inside.entries.items c.ready.new.self (c.in_ok-ready.ensures.same c.self.inside.entries.items c.self.invariant.indexed.ids.chained) c.self.inside.house
-    (entry_of_change c.args.made.now) c.args.made.now.number (rw (← c.self.view_is) at c.requires.accepted)
+pub push-requires-clause-accepted : goal.push-requires-clause-accepted
+push-requires-clause-accepted c = (c.self.inside.house, simp (c.make_room.ensures.items) (rw (← c.self.view_is) at c.requires.accepted))
 
 pub invariant_of-self-2 : goal.invariant_of-self-2
 invariant_of-self-2 c =
     let w = (goal.at.invariant_of-self-2 c).After-whole_of-whole in
-    let ok = rw (← c.self.view_is) at c.requires.accepted in
-    let change = ap is_change c.in-Split.is in
-    let h = c.self.inside.entries.items in
-    let e = entry_of_change c.args.made.now in
-    let more = live_more c.self.invariant.kept c.args.made.now.number e ok change in
+    let l = live c.self.inside.entries.items in
     let put = rw c.as_slice-2.ensures at c.in_ok-moved.ensures.put in
     let is = rw c.as_slice-2.ensures at c.in_ok-moved.ensures.moved in
     let taken = rw is at c.take_moved.ensures in
-    simp (c.push.ensures, c.make_room.ensures.items)
-    (record {
-      kept = kept_change c.self.invariant.kept c.args.made.now.number e ok change c.split.new.trees
-          (follows_same (record_of c.args.made.now) c.self.inside.trees c.ready-2.new.self c.split.new.trees c.in_ok-ready-2.ensures.same c.in_default-split.ensures.follows c.self.inside.house
-          (live h) (next w)) c.in_default-split.ensures.last;
-      indexed = index_added c.self.invariant.indexed c.self.inside.house e c.args.made.now.number ok c.add.new.self
-          (c.add.ensures h e c.requires.hashed (c.in_ok-ready.ensures.same h c.self.invariant.indexed.ids.chained)) (λ m. change_is_no_reverse m c.args.made.now.command.now change);
-      charged = subst (λ (l : List Record). AreFeesOf c.self.inside.house l c.self.inside.fees) more
-          (split_free (next w) c.in-Split.node c.in-Split.parts c.in-Split.is c.self.inside.fees c.self.invariant.charged);
-      stands = subst (λ (l : List Record). ArePositionsOf l c.take_moved.new.positions) more
-          (split_stands (next w) c.in-Split.node c.in-Split.parts c.in-Split.is c.in-Some.named.node (named w).0 c.whole_of-whole.result
-          (holds w) c.self.inside.positions c.put_all_away.new.positions c.take_moved.new.positions c.self.invariant.stands put taken);
-      dealt = subst (λ (l : List Record). AreTermsOf c.self.inside.house l c.self.inside.terms) more
-          (dealt_apart (next w) c.self.inside.terms c.self.invariant.dealt (ap (pair_of (live h) c.args.made.now.firm.now) c.in-Split.is));
-      dealt_before = still_before c.self.invariant.kept c.args.made.now.number e ok (last_entry c.self.inside.terms) c.self.invariant.dealt_before;
-    })
+    let filed = follows_same (record_of c.args.made.now) c.self.inside.trees c.ready.new.self c.split.new.trees c.in_ok-ready.ensures.same c.in_default-split.ensures.follows c.self.inside.house l (next w) in
+    simp (c.push.ensures.items, c.make_room.ensures.items)
+    (book_apart c.self.invariant c.args.made.now.number (entry_of_change c.args.made.now) (rw (← c.self.view_is) at c.requires.accepted)
+    c.push.new.ids (rw c.make_room.ensures.items at c.push.ensures.ids) (ap is_change c.in-Split.is) c.split.new.trees filed c.in_default-split.ensures.last
+    c.self.inside.fees (split_free (next w) c.in-Split.node c.in-Split.parts c.in-Split.is c.self.inside.fees c.self.invariant.charged)
+    c.take_moved.new.positions (split_stands (next w) c.in-Split.node c.in-Split.parts c.in-Split.is c.in-Some.named.node (named w).0 c.whole_of-whole.result
+    (holds w) c.self.inside.positions c.put_all_away.new.positions c.take_moved.new.positions c.self.invariant.stands put taken)
+    (ap (pair_of l c.args.made.now.firm.now) c.in-Split.is))
 
 -- ---- where a growth is refused
 
-pub invariant_of-self-in_err-ready-2 : goal.invariant_of-self-in_err-ready-2
-invariant_of-self-in_err-ready-2 c =
+pub invariant_of-self-in_err-ready : goal.invariant_of-self-in_err-ready
+invariant_of-self-in_err-ready c =
     simp (c.make_room.ensures.items)
-    (still c.self.invariant c.ready-2.new.self c.in_err-ready-2.ensures.same c.ready.new.self
-    (c.in_ok-ready.ensures.same c.self.inside.entries.items c.self.invariant.indexed.ids.chained) c.self.inside.positions (λ at side. refl))
+    (still c.self.invariant c.ready.new.self c.in_err-ready.ensures.same c.make_room.new.ids c.make_room.ensures.ids c.self.inside.positions (λ at side. refl))
 
 pub invariant_of-self-in_err-kept : goal.invariant_of-self-in_err-kept
 invariant_of-self-in_err-kept c =
     simp (c.make_room.ensures.items)
-    (still c.self.invariant c.ready-2.new.self c.in_ok-ready-2.ensures.same c.ready.new.self
-    (c.in_ok-ready.ensures.same c.self.inside.entries.items c.self.invariant.indexed.ids.chained) c.self.inside.positions (λ at side. refl))
+    (still c.self.invariant c.ready.new.self c.in_ok-ready.ensures.same c.make_room.new.ids c.make_room.ensures.ids c.self.inside.positions (λ at side. refl))
 
 pub invariant_of-self-in_err-moved : goal.invariant_of-self-in_err-moved
 invariant_of-self-in_err-moved c =
     simp (c.make_room.ensures.items)
-    (still c.self.invariant c.ready-2.new.self c.in_ok-ready-2.ensures.same c.ready.new.self
-    (c.in_ok-ready.ensures.same c.self.inside.entries.items c.self.invariant.indexed.ids.chained) c.put_all_away.new.positions c.in_err-moved.ensures.same)
+    (still c.self.invariant c.ready.new.self c.in_ok-ready.ensures.same c.make_room.new.ids c.make_room.ensures.ids c.put_all_away.new.positions c.in_err-moved.ensures.same)
 
 pub invariant_of-self-in-Err : goal.invariant_of-self-in-Err
 invariant_of-self-in-Err c =
     let put = rw c.as_slice-2.ensures at c.in_ok-moved.ensures.put in
     let gone = rw c.as_slice-in-Err.ensures at c.take_away.ensures.gone in
     simp (c.make_room.ensures.items)
-    (still c.self.invariant c.split.new.trees (same_both c.self.inside.trees c.ready-2.new.self c.split.new.trees c.in_ok-ready-2.ensures.same c.in-Err.ensures.unchanged) c.ready.new.self
-    (c.in_ok-ready.ensures.same c.self.inside.entries.items c.self.invariant.indexed.ids.chained) c.take_away.new.positions
+    (still c.self.invariant c.split.new.trees (same_both c.self.inside.trees c.ready.new.self c.split.new.trees c.in_ok-ready.ensures.same c.in-Err.ensures.unchanged) c.make_room.new.ids c.make_room.ensures.ids c.take_away.new.positions
     (put_and_taken c.self.inside.positions c.put_all_away.new.positions c.take_away.new.positions (filter_map (part_away c.whole_of-whole.result c.args.made.now.firm.now) c.in-Split.parts) put gone))

@@ -1,4 +1,4 @@
-use Rattle.gu_base.specs.History.{live}
+use Rattle.gu_depend.proofs.Vocabulary.{live}
 use Rattle.gu_book.proofs.book.Book.limit.Goals as goal
 
 pub returns : goal.returns

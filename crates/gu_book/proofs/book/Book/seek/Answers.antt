@@ -1,4 +1,4 @@
-use Rattle.gu_base.specs.History.{live}
+use Rattle.gu_depend.proofs.Vocabulary.{live}
 use Rattle.gu_base.proofs.LegalLaws.{legal_from_replay}
 use Rattle.gu_book.proofs.Keeps.{trees_kept}
 use Rattle.gu_book.proofs.book.Book.seek.Goals as goal

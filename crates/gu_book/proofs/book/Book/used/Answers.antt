@@ -1,5 +1,5 @@
 use Rattle.std.proofs.Common.{◌∙◌}
-use Rattle.gu_base.specs.History.{live}
+use Rattle.gu_depend.proofs.Vocabulary.{live}
 use Rattle.gu_book.proofs.Dealing.{uses_are}
 use Rattle.gu_book.proofs.book.Book.used.Goals as goal
 

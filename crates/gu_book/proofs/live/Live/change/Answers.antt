@@ -1,9 +1,5 @@
-use Rattle.std.proofs.Common.{◌<◌, ◌≤◌, ◌-◌, length, sym, ◌∙◌, ap}
-use Rattle.std.specs.Prelude.{Some}
-use Rattle.gu_base.specs.History.{numbered_as, is_change}
-use Rattle.gu_base.specs.Answers.{reversal_of}
-use Rattle.gu_base.specs.declared.entry.Entry.{Entry}
-use Rattle.gu_base.specs.declared.entry.Record.{Record}
+use Rattle.std.proofs.Common.{◌<◌, ◌≤◌, ◌-◌, length, sym, ◌∙◌, ap, Some}
+use Rattle.gu_depend.proofs.Vocabulary.{numbered_as, is_change, reversal_of, Entry, Record}
 use Rattle.gu_base.proofs.Basics.{mapped_none}
 use Rattle.gu_base.proofs.Consenting.{not_reversed}
 use Rattle.gu_base.proofs.Numbered.{positive, unknown_entry, known_entry}

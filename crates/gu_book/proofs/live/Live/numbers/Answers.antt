@@ -1,7 +1,6 @@
-use Rattle.std.proofs.Common.{◌≡◌, ◌+◌, [], ◌∷◌, ◌++◌, map, length, sym, ◌∙◌, ap, arith}
-use Rattle.std.specs.Prelude.{Some, None, find, option_map, ◌==◌}
-use Rattle.gu_base.specs.declared.entry.Record.{Record}
-use Rattle.gu_book.specs.Live.{record_of}
+use Rattle.std.proofs.Common.{◌≡◌, ◌+◌, [], ◌∷◌, ◌++◌, map, length, sym, ◌∙◌, ap, arith, Some, None, find, option_map, ◌==◌}
+use Rattle.gu_depend.proofs.Vocabulary.{Record}
+use Rattle.gu_book.proofs.Vocabulary.{record_of}
 use Rattle.gu_book.proofs.ByNumber.{live_rises_as, up_to, up_to_last, numbers_more, up_to_none, up_to_some, up_to_same}
 use Rattle.gu_book.proofs.live.Live.numbers.Goals as goal
 use Rattle.gu_book.proofs.live.Live.numbers.Goals.{in-Some+in_ok-push, in_default}

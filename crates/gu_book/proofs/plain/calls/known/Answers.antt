@@ -1,5 +1,5 @@
 use Rattle.std.proofs.Common.{◌-◌, ◌<◌, length, sym, ◌∙◌}
-use Rattle.gu_base.specs.Answers.{Call}
+use Rattle.gu_depend.proofs.Vocabulary.{Call}
 use Rattle.gu_book.proofs.Indexed.{stands_within, stands_found, new_answer, known_answer}
 use Rattle.gu_book.proofs.plain.calls.known.Goals as goal
 

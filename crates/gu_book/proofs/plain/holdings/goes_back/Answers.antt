@@ -1,7 +1,6 @@
-use Rattle.std.proofs.Common.{◌<◌, ◌^◌, arith, subst}
-use Rattle.std.specs.Prelude.{sum_by}
-use Rattle.gu_base.specs.declared.command.Part.{Part}
-use Rattle.gu_book.specs.Holdings.{HasFewLots}
+use Rattle.std.proofs.Common.{◌<◌, ◌^◌, arith, subst, sum_by}
+use Rattle.gu_depend.proofs.Vocabulary.{Part}
+use Rattle.gu_book.proofs.Vocabulary.{HasFewLots}
 use Rattle.gu_book.proofs.PartsAway.{moved_few}
 use Rattle.gu_book.proofs.plain.holdings.goes_back.Goals as goal
 

@@ -1,8 +1,6 @@
-use Rattle.std.proofs.Common.{◌≡◌, ◌∙◌, sym, ap}
-use Rattle.std.specs.Prelude.{Some, option_and_then}
-use Rattle.gu_base.specs.Nodes.{parent}
-use Rattle.gu_base.specs.declared.node.Node.{Node}
-use Rattle.gu_book.specs.Holdings.{held_above}
+use Rattle.std.proofs.Common.{◌≡◌, ◌∙◌, sym, ap, Some, option_and_then}
+use Rattle.gu_depend.proofs.Vocabulary.{parent, Node}
+use Rattle.gu_book.proofs.Vocabulary.{held_above}
 use Rattle.gu_book.proofs.OnePlace.{found_node, above_as}
 use Rattle.gu_book.proofs.plain.holdings.holding_above.Goals as goal
 

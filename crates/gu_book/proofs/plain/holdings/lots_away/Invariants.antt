@@ -1,7 +1,5 @@
-use Rattle.std.proofs.Common.{◌≡◌, ◌+◌, drop}
-use Rattle.std.specs.Prelude.{filter_map, sum_by}
-use Rattle.gu_book.specs.Holdings.{part_away}
-use Rattle.gu_book.specs.declared.plain.holdings.Holding.{Holding}
+use Rattle.std.proofs.Common.{◌≡◌, ◌+◌, drop, filter_map, sum_by}
+use Rattle.gu_book.proofs.Vocabulary.{part_away, Holding}
 use Rattle.gu_book.proofs.plain.holdings.lots_away.Given as goal
 
 abbrev pub invariant-loop-part : goal.invariant-loop-part

@@ -1,9 +1,6 @@
-use Rattle.std.proofs.Common.{◌≡◌, ℕ, ◌+◌, List, [], ◌∷◌, drop, take, refl, sym, ◌∙◌, ap, subst, arith}
-use Rattle.std.specs.Prelude.{None, Some, filter_map, sum_by}
+use Rattle.std.proofs.Common.{◌≡◌, ℕ, ◌+◌, List, [], ◌∷◌, drop, take, refl, sym, ◌∙◌, ap, subst, arith, None, Some, filter_map, sum_by}
 use Rattle.std.proofs.lemmas.List.Sums.{sum_by-cons, sum_by-append}
-use Rattle.gu_positions.specs.declared.positions.Key.{Key}
-use Rattle.gu_book.specs.Holdings.{holding_away, part_away, HaveRoom, HaveMoved}
-use Rattle.gu_book.specs.declared.plain.holdings.Holding.{Holding}
+use Rattle.gu_book.proofs.Vocabulary.{Key, holding_away, part_away, HaveRoom, HaveMoved, Holding}
 use Rattle.gu_book.proofs.HoldingRows.{some_here, none_here, some_more, none_more, put_ok, none_gone, one_put, more_put, room_still}
 use Rattle.gu_book.proofs.plain.holdings.put_away.Goals.{in-Some+else-is_err, in_default}
 use Rattle.gu_book.proofs.plain.holdings.put_away.Goals as goal

@@ -1,7 +1,5 @@
-use Rattle.std.proofs.Common.{◌≡◌, ◌+◌, ◌<◌, ◌^◌, take, drop}
-use Rattle.std.specs.Prelude.{None, filter_map, sum_by}
-use Rattle.gu_book.specs.Holdings.{part_away, HaveRoom, HaveMoved}
-use Rattle.gu_book.specs.declared.plain.holdings.Holding.{Holding}
+use Rattle.std.proofs.Common.{◌≡◌, ◌+◌, ◌<◌, ◌^◌, take, drop, None, filter_map, sum_by}
+use Rattle.gu_book.proofs.Vocabulary.{part_away, HaveRoom, HaveMoved, Holding}
 use Rattle.gu_book.proofs.plain.holdings.put_away.Given as goal
 
 abbrev pub invariant-loop-part : goal.invariant-loop-part

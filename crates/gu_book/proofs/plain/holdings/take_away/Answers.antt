@@ -1,8 +1,6 @@
-use Rattle.std.proofs.Common.{◌+◌, List, [], ◌∷◌, drop, take, take_all, subst, sym}
-use Rattle.std.specs.Prelude.{None, filter_map}
-use Rattle.gu_base.specs.declared.command.Part.{Part}
-use Rattle.gu_book.specs.Holdings.{holding_away, part_away, HaveMoved, HaveThere}
-use Rattle.gu_book.specs.declared.plain.holdings.Holding.{Holding}
+use Rattle.std.proofs.Common.{◌+◌, List, [], ◌∷◌, drop, take, take_all, subst, sym, None, filter_map}
+use Rattle.gu_depend.proofs.Vocabulary.{Part}
+use Rattle.gu_book.proofs.Vocabulary.{holding_away, part_away, HaveMoved, HaveThere, Holding}
 use Rattle.gu_book.proofs.HoldingRows.{some_here, none_here, some_more, none_more, first_there, rest_there, none_gone, more_taken, one_taken}
 use Rattle.gu_book.proofs.plain.holdings.take_away.Goals as goal
 use Rattle.gu_book.proofs.plain.holdings.take_away.Goals.{in-Some, in_default}

@@ -1,8 +1,6 @@
-use Rattle.std.proofs.Common.{take, drop}
-use Rattle.std.specs.Prelude.{None, filter_map}
+use Rattle.std.proofs.Common.{take, drop, None, filter_map}
 use Rattle.gu_positions.specs.Rows.{IsReady}
-use Rattle.gu_positions.specs.declared.positions.Key.{Key}
-use Rattle.gu_book.specs.Holdings.{part_away, HaveMoved, HaveThere}
+use Rattle.gu_book.proofs.Vocabulary.{Key, part_away, HaveMoved, HaveThere}
 use Rattle.gu_book.proofs.plain.holdings.take_away.Given as goal
 
 abbrev pub invariant-loop-part : goal.invariant-loop-part

@@ -1,11 +1,8 @@
-use Rattle.std.proofs.Common.{◌≡◌, sym, ◌∙◌, ap}
-use Rattle.std.specs.Prelude.{Some}
-use Rattle.std.specs.Map.{lookup}
-use Rattle.gu_base.specs.House.{agreement}
+use Rattle.std.proofs.Common.{◌≡◌, sym, ◌∙◌, ap, Some}
+use Rattle.gu_book.proofs.Vocabulary.{lookup, is_pair, IsReadied}
+use Rattle.gu_depend.proofs.Vocabulary.{agreement}
 use Rattle.gu_depend.proofs.TermsReadied.{readied_follows}
 use Rattle.gu_fees.specs.Filing.{last_of}
-use Rattle.gu_fees.specs.Rows.{is_pair}
-use Rattle.gu_fees.specs.Terms.{IsReadied}
 use Rattle.gu_book.proofs.plain.terms.ready.Goals.{After-ready_at}
 use Rattle.gu_book.proofs.plain.terms.ready.Goals as goal
 

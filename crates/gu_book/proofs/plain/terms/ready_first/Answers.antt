@@ -1,11 +1,8 @@
-use Rattle.std.proofs.Common.{◌≡◌, ◌≤◌, Option, sym, ◌∙◌, subst}
-use Rattle.std.specs.Prelude.{None, Some, IfSome, IsSomeAnd, option_and_then, slice_get}
-use Rattle.std.specs.Map.{lookup}
-use Rattle.gu_base.specs.Limits.{highest_limit, highest_rate}
-use Rattle.gu_base.specs.declared.house.Agreement.{Agreement}
+use Rattle.std.proofs.Common.{◌≡◌, ◌≤◌, Option, sym, ◌∙◌, subst, None, Some, IfSome, IsSomeAnd, option_and_then, slice_get}
+use Rattle.gu_book.proofs.Vocabulary.{lookup, is_pair, IsReadied}
+use Rattle.gu_base.specs.Limits.{highest_limit}
+use Rattle.gu_depend.proofs.Vocabulary.{highest_rate, Agreement}
 use Rattle.gu_depend.proofs.TermsReadied.{readied_follows}
-use Rattle.gu_fees.specs.Rows.{is_pair}
-use Rattle.gu_fees.specs.Terms.{IsReadied}
 use Rattle.gu_book.proofs.plain.terms.ready_first.Goals as goal
 
 low_limit : (o : Option Agreement) → IfSome o (λ a. (a.rate ≤ highest_rate) × (a.limit ≤ highest_limit)) → IfSome o (λ a. a.limit ≤ highest_limit)

@@ -1,5 +1,4 @@
-use Rattle.std.proofs.Common.{◌≡◌, sym, ◌∙◌, ap}
-use Rattle.std.specs.Prelude.{None, Some, option_and_then, slice_get}
+use Rattle.std.proofs.Common.{◌≡◌, sym, ◌∙◌, ap, None, Some, option_and_then, slice_get}
 use Rattle.gu_fees.specs.Terms.{row_of}
 use Rattle.gu_book.proofs.Dealing.{row_terms, filed_terms, terms_rate}
 use Rattle.gu_book.proofs.plain.terms.terms_at.Goals.{In-Some, In-None}
