@@ -2,9 +2,9 @@
 use Rattle.gu_depend.proofs.Vocabulary.{◌≡◌, ℕ, ◌+◌, Bool, true, false, not, ◌&&◌, List, [], ◌∷◌, ◌++◌, refl, sym, ◌∙◌, ap, subst, cond, Option, All, append-nil}
 use Rattle.gu_depend.proofs.Vocabulary.{Some, None, filter_map, option_map, option_and_then, bytes_eq, ◌==◌, ◌↔◌, cons_option, and_parts, All-head, All-tail, All-weaker, filter_map-append}
 use Rattle.gu_depend.proofs.Vocabulary.{same_Some, bytes_eq-Decides, EntryPart, House, agreement, node_of, is_given, use_of_kind, use_of_node, deed_of, dealing_of, dealings_in, dealings}
-use Rattle.gu_depend.proofs.Vocabulary.{terms_under, limit_of, used_of, leave_out, first_over, first_over_without, first_under_terms, first_under_deed, row, claim_row, raised_row}
-use Rattle.gu_depend.proofs.Vocabulary.{limit_row, limit_by, used_by, without, bytes_same, Agreement, Deed, Makes, Raises, Uses, Dealing, Pair, Command, Claim, Agree, Raise, Record, Kind, Given}
-use Rattle.gu_depend.proofs.Vocabulary.{Node, no_some, may_use, fits, AllFit, first_unfit, name_same, at_node_none, claim_passes, agree_passes, raise_passes}
+use Rattle.gu_depend.proofs.Vocabulary.{terms_under, limit_of, used_of, leave_out, first_over, first_over_without, first_under_terms, first_under_deed, row, claim_row, raised_row, limit_row}
+use Rattle.gu_depend.proofs.Vocabulary.{limit_by, used_by, without, bytes_same, Agreement, Deed, Makes, Raises, Uses, Dealing, Pair, Command, Claim, Agree, Raise, Record, Kind, Given, Node, no_some}
+use Rattle.gu_depend.proofs.Vocabulary.{may_use, fits, AllFit, first_unfit, name_same, at_node_none, claim_passes, agree_passes, raise_passes}
 use Rattle.gu_depend.proofs.Grown.{ThereFor, Within, NamesThere, Grown}
 use Rattle.gu_base.proofs.Accepted.{unless_none}
 use Rattle.gu_base.proofs.Dealt.{may_raise, unfit_none, fit_without_use, unfit_without_raise, unfit_without_terms}

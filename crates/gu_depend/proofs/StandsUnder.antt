@@ -1,10 +1,10 @@
 -- The first change that would be refused without another is the first that the other stands under.
-use Rattle.gu_depend.proofs.Vocabulary.{◌≡◌, ℕ, zero, ◌+◌, ◌<◌, ◌≤◌, Bool, true, false, not, ◌&&◌, ◌||◌, List, [], ◌∷◌, ◌++◌, refl, sym}
-use Rattle.gu_depend.proofs.Vocabulary.{◌∙◌, ap, subst, arith, cond, Option, Contains, All, IsPermutation, append_assoc, map, inl, inr, Some, None, find, count_by, is_some, is_none}
-use Rattle.gu_depend.proofs.Vocabulary.{option_and_then, option_map, ◌==◌, option_or, list_any, AllByRecursion, Decides-eqb, All-nil, All-cons, All-weaker, All-contains, All-contains_itself}
-use Rattle.gu_depend.proofs.Vocabulary.{Contains-append_right, find-append, EntryPart, House, node_of, nodes_of, decision_of, is_given, same_name, splits, decides, refusal_of, first_refused}
-use Rattle.gu_depend.proofs.Vocabulary.{IsLegal, without, standing_on, Refusal, Command, Trade, Split, Claim, Refuse, Cancel, Agree, Record, Root, Node, RisesFrom, replay_front}
-use Rattle.gu_depend.proofs.Vocabulary.{HasDistinctNumbers, same_Some, refusal_parts, splits_well, name_same, node_called, made_of, none_is_some, no_some, found_in, find_passes, false_from_ne_true}
+use Rattle.gu_depend.proofs.Vocabulary.{◌≡◌, ℕ, zero, ◌+◌, ◌<◌, ◌≤◌, Bool, true, false, not, ◌&&◌, ◌||◌, List, [], ◌∷◌, ◌++◌, refl, sym, ◌∙◌, ap, subst}
+use Rattle.gu_depend.proofs.Vocabulary.{arith, cond, Option, Contains, All, IsPermutation, append_assoc, map, inl, inr, Some, None, find, count_by, is_some, is_none, option_and_then, option_map}
+use Rattle.gu_depend.proofs.Vocabulary.{◌==◌, option_or, list_any, AllByRecursion, Decides-eqb, All-nil, All-cons, All-weaker, All-contains, All-contains_itself, Contains-append_right}
+use Rattle.gu_depend.proofs.Vocabulary.{find-append, EntryPart, House, node_of, nodes_of, decision_of, is_given, same_name, splits, decides, refusal_of, first_refused, IsLegal, without, standing_on}
+use Rattle.gu_depend.proofs.Vocabulary.{Refusal, Command, Trade, Split, Claim, Refuse, Cancel, Agree, Record, Root, Node, RisesFrom, replay_front, HasDistinctNumbers, same_Some, refusal_parts}
+use Rattle.gu_depend.proofs.Vocabulary.{splits_well, name_same, node_called, made_of, none_is_some, no_some, found_in, find_passes, false_from_ne_true}
 use Rattle.std.specs.List.{IsDistinct}
 use Rattle.std.proofs.lemmas.List.Elements.{All-filter}
 use Rattle.std.proofs.lemmas.Map.Keys.{IsDistinct-cons}
@@ -13,9 +13,8 @@ use Rattle.std.proofs.lemmas.List.Sorted.{IsPermutation-refl}
 use Rattle.gu_depend.specs.Under.{names, is_under, stands_under, deals_under, first_under, IsLeastUnder}
 use Rattle.gu_depend.proofs.Finds.{none_counts, counts_in, found_once, none_before, count_append, count_permuted}
 use Rattle.gu_depend.proofs.Names.{makes, node_by_maker, makers_once}
-use Rattle.gu_depend.proofs.NamedOnce.{NamedOnce, named_once}
+use Rattle.gu_depend.proofs.Settled.{NamedOnce, named_once, offered_again, accepted_there, front_facts}
 use Rattle.gu_depend.proofs.Grown.{NamesThere, SplitsDecided, Grown}
-use Rattle.gu_depend.proofs.Settled.{offered_again, accepted_there, front_facts}
 use Rattle.gu_depend.proofs.Replay.{Legal, legal_list, finds, order_within}
 use Rattle.gu_depend.proofs.Cuts.{by_cut, stands_between, first_cut, none_passes, moved_to_end}
 use Rattle.gu_depend.proofs.Deals.{deals_some}

@@ -10,7 +10,7 @@ use Rattle.gu_base.proofs.Sums.{sum_option}
 use Rattle.std.proofs.Common.{◌*◌}
 use Rattle.gu_depend.specs.Same.{IsSameState}
 use Rattle.gu_depend.proofs.Finds.{find_permuted}
-use Rattle.gu_depend.proofs.NamedOnce.{NamedOnce}
+use Rattle.gu_depend.proofs.Settled.{NamedOnce}
 use Rattle.gu_depend.proofs.Replay.{SameFinds, same_finds, NumbersOnce}
 
 module _ {l o : List Record} (f : SameFinds l o) where

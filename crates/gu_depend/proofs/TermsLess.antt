@@ -1,7 +1,7 @@
 -- What keeps terms those of a list of changes, when one goes on which nothing stands.
-use Rattle.gu_depend.proofs.Vocabulary.{◌≡◌, ℕ, Bool, true, false, not, ◌&&◌, List, ◌∷◌, ◌++◌, refl, sym, ◌∙◌, ap, subst, cond, Option, Contains, Some, None}
-use Rattle.gu_depend.proofs.Vocabulary.{◌==◌, option_and_then, slice_get, bytes_eq, lookup, Decides-eqb, All-contains, House, standing_on, without, deed_of, dealings_in, dealings}
-use Rattle.gu_depend.proofs.Vocabulary.{leave_out, Pair, Record, none_is_some, eqb_symm, found_in, change_of, is_pair, PairView, TermsView, pair_at}
+use Rattle.gu_depend.proofs.Vocabulary.{◌≡◌, ℕ, Bool, true, false, not, ◌&&◌, List, ◌∷◌, ◌++◌, refl, sym, ◌∙◌, ap, subst, cond, Option, Contains, Some, None, ◌==◌}
+use Rattle.gu_depend.proofs.Vocabulary.{option_and_then, slice_get, bytes_eq, lookup, Decides-eqb, All-contains, House, standing_on, without, deed_of, dealings_in, dealings, leave_out, Pair, Record}
+use Rattle.gu_depend.proofs.Vocabulary.{none_is_some, eqb_symm, found_in, change_of, is_pair, PairView, TermsView, pair_at}
 use Rattle.gu_fees.specs.Terms.{row_of, IsTakenOut}
 use Rattle.gu_depend.specs.Terms.{pair_of, place_of_pair, AreTermsOf}
 use Rattle.gu_depend.proofs.Deals.{dealings_append, dealings_cut, pair, undealt, dealings_grown, left_out}

@@ -1,7 +1,7 @@
 -- What keeps terms those of a list of changes, when a pair is made ready.
-use Rattle.gu_depend.proofs.Vocabulary.{◌≡◌, ℕ, List, [], ◌∷◌, refl, sym, ◌∙◌, ap, subst, Option, Contains, All, Some, None, IsSomeAnd}
-use Rattle.gu_depend.proofs.Vocabulary.{option_and_then, slice_get, ◌==◌, All-nil, All-head, All-tail, All-contains, All-contains_itself, All-weaker, House, agreement, deed_of}
-use Rattle.gu_depend.proofs.Vocabulary.{dealings_in, dealings, Pair, Record, none_is_some, found_in, change_of, PairView, TermsView, pair_at}
+use Rattle.gu_depend.proofs.Vocabulary.{◌≡◌, ℕ, List, [], ◌∷◌, refl, sym, ◌∙◌, ap, subst, Option, Contains, All, Some, None, IsSomeAnd, option_and_then, slice_get, ◌==◌}
+use Rattle.gu_depend.proofs.Vocabulary.{All-nil, All-head, All-tail, All-contains, All-contains_itself, All-weaker, House, agreement, deed_of, dealings_in, dealings, Pair, Record, none_is_some}
+use Rattle.gu_depend.proofs.Vocabulary.{found_in, change_of, PairView, TermsView, pair_at}
 use Rattle.std.specs.Prelude.{IfSome}
 use Rattle.gu_fees.specs.Filing.{kept_at}
 use Rattle.gu_fees.specs.Terms.{row_of, IsSameRow, IsRowAfter, IsReadied}
