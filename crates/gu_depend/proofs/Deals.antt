@@ -127,18 +127,12 @@ deal_is t l g k n by (Raise x lots) d deals =
 deal_is t l g k n by (Claim m account) d deals = ap (first_under_deed (agreement t g k) (dealings l g k) n) (use_of_claim l g k by account m d deals).1
 deal_is t l g k n by _ d deals = absurd (cc)
 
--- a giver and a taker for whom a change deals
-pub record DealsFor (l : List Record) (by : List ℕ) (c : Command) : Type 0 where
-  pub giver : List ℕ
-  pub taker : List ℕ
-  pub deed : Deed
-  pub deals : deed_of l giver taker by c ≡ Some deed
-
--- what stands under terms deals
-pub deals_some : (t : House) (l : List Record) (n : ℕ) (by : List ℕ) (c : Command) (m : ℕ) → deals_under t l n by c ≡ Some m → DealsFor l by c
+-- what stands under terms deals for a giver and a taker
+pub deals_some : (t : House) (l : List Record) (n : ℕ) (by : List ℕ) (c : Command) (m : ℕ) → deals_under t l n by c ≡ Some m
+    → (g : List ℕ) × (k : List ℕ) × (d : Deed) × (deed_of l g k by c ≡ Some d)
 deals_some t l n by (Agree x y rate limit) m h =
-    record { giver = x; taker = y; deed = Makes (record { rate = rate; limit = limit }); deals = ap (λ b. cond b (Some (Makes (record { rate = rate; limit = limit }))) None) (both_same x y) }
-deals_some t l n by (Raise x lots) m h = record { giver = x; taker = by; deed = Raises lots; deals = ap (λ b. cond b (Some (Raises lots)) None) (both_same x by) }
+    let made = Makes (record { rate = rate; limit = limit }) in (x, y, made, ap (λ b. cond b (Some made) None) (both_same x y))
+deals_some t l n by (Raise x lots) m h = (x, by, Raises lots, ap (λ b. cond b (Some (Raises lots)) None) (both_same x by))
 deals_some t l n by _ m h = absurd (cc)
 
 -- what holds of one pair holds of the same pair

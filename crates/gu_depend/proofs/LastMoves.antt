@@ -10,10 +10,9 @@ use Rattle.gu_depend.proofs.Grown.{Within, ThereFor, Grown, NamesThere, line_of_
 use Rattle.gu_depend.proofs.Deals.{both_same, numbered, gives_alike, dealings_grown, dealings_append, dealings_cut, row_fits, not_empty}
 use Rattle.gu_depend.specs.Under.{names}
 use Rattle.gu_depend.specs.Moves.{lots_at, named_by, MovesItsOwn}
-use Rattle.gu_depend.proofs.Finds.{none_before}
+use Rattle.gu_depend.proofs.Finds.{none_before, cut_at}
 use Rattle.gu_depend.proofs.Names.{at_name, maker, made_number}
 use Rattle.gu_depend.proofs.Settled.{front_facts, facts, accepted_there}
-use Rattle.gu_depend.proofs.Cuts.{cut_at}
 use Rattle.gu_base.proofs.Dealt.{all_sound, terms_stay}
 use Rattle.gu_depend.proofs.Replay.{NumbersOnce, Legal}
 use Rattle.gu_depend.proofs.StandsLast.{accepted_at, decision_cut}

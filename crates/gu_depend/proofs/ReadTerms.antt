@@ -7,9 +7,8 @@ use Rattle.gu_fees.specs.Pairs.{deed_at, standing_under}
 use Rattle.gu_fees.specs.Terms.{standing_in, entries_in}
 use Rattle.gu_depend.specs.Terms.{pair_of, place_of_pair, entries_dealt, AreTermsOf}
 use Rattle.gu_depend.specs.Under.{deals_under}
-use Rattle.gu_depend.proofs.Cuts.{cut_at}
+use Rattle.gu_depend.proofs.Finds.{cut_at, none_before}
 use Rattle.gu_depend.proofs.Deals.{numbered, dealt, both_same, dealings_cut, deal_is, pair_of_deed}
-use Rattle.gu_depend.proofs.Finds.{none_before}
 use Rattle.gu_depend.proofs.Replay.{NumbersOnce}
 
 -- ---- the deed of a number

@@ -11,12 +11,12 @@ use Rattle.std.proofs.lemmas.Map.Keys.{IsDistinct-cons}
 use Rattle.gu_depend.specs.Same.{IsSameState}
 use Rattle.std.proofs.lemmas.List.Sorted.{IsPermutation-refl}
 use Rattle.gu_depend.specs.Under.{names, is_under, stands_under, deals_under, first_under, IsLeastUnder}
-use Rattle.gu_depend.proofs.Finds.{none_counts, counts_in, found_once, none_before, count_append, count_permuted}
+use Rattle.gu_depend.proofs.Finds.{none_counts, counts_in, found_once, none_before, count_append, count_permuted, by_cut}
 use Rattle.gu_depend.proofs.Names.{makes, node_by_maker, makers_once}
 use Rattle.gu_depend.proofs.Settled.{NamedOnce, named_once, offered_again, accepted_there, front_facts}
 use Rattle.gu_depend.proofs.Grown.{NamesThere, SplitsDecided, Grown}
 use Rattle.gu_depend.proofs.Replay.{Legal, legal_list, finds, order_within}
-use Rattle.gu_depend.proofs.Cuts.{by_cut, stands_between, first_cut, none_passes, moved_to_end}
+use Rattle.gu_depend.proofs.Cuts.{stands_between, first_cut, none_passes, moved_to_end}
 use Rattle.gu_depend.proofs.Deals.{deals_some}
 use Rattle.gu_depend.proofs.StandsLast.{NoneUnder, replay_stops, not_both, accepted_at, gone, unfit_here, runs_without, stops_at, stands_last}
 
@@ -149,7 +149,7 @@ module _ (t : House) (p : List Record) (k : Record) (s : List Record) (legal : L
   standing_deals un None e = (runs_without t p k s legal un e).replayed
   standing_deals un (Some n) e =
       let d = deals_some t l k.number k.firm k.command n e in
-      stops_at t p k s legal d.giver d.taker d.deed d.deals un n (unfit_here t p k s legal d.giver d.taker d.deed d.deals ∙ e)
+      stops_at t p k s legal d.0 d.1 d.2 d.3 un n (unfit_here t p k s legal d.0 d.1 d.2 d.3 ∙ e)
 
 -- ---- the law
 
