@@ -1,6 +1,6 @@
 -- Lists cut at an element.
-use Rattle.gu_depend.proofs.Vocabulary.{◌≡◌, ℕ, zero, suc, ◌<◌, ◌≤◌, Bool, true, false, not, List, [], ◌∷◌, ◌++◌, length, get_or, refl, sym, ◌∙◌, ap, arith, cond}
-use Rattle.gu_depend.proofs.Vocabulary.{IsPermutation, Contains, All, subst, Some, None, find, filter, count_by, All-nil, All-cons, All-head, All-tail, All-weaker, filter-append}
+use Rattle.gu_depend.proofs.Vocabulary.{◌≡◌, ℕ, zero, ◌≤◌, Bool, true, false, not, List, [], ◌∷◌, ◌++◌, refl, sym, ◌∙◌, ap, arith, cond}
+use Rattle.gu_depend.proofs.Vocabulary.{IsPermutation, Contains, All, Some, None, find, filter, count_by, All-nil, All-cons, All-head, All-tail, All-weaker, filter-append}
 use Rattle.gu_depend.proofs.Vocabulary.{Contains-append_right, nothing_here, false_from_ne_true, same_Some}
 use Rattle.std.proofs.lemmas.List.Elements.{filter_passes}
 use Rattle.std.proofs.lemmas.List.Sorted.{IsPermutation-middle, IsPermutation-to_front, IsPermutation-sym, IsPermutation-trans}

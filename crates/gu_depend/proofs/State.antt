@@ -1,7 +1,7 @@
 -- Lists that find the same, and have the same changes, leave the same trees, positions and fees.
-use Rattle.gu_depend.proofs.Vocabulary.{and_parts, filter_map, ◌≡◌, ℕ, zero, suc, ◌+◌, ◌≤◌, Bool, true, false, ◌&&◌, List, [], ◌∷◌, length, refl, sym, ◌∙◌, ap}
-use Rattle.gu_depend.proofs.Vocabulary.{arith, cond, Option, IsPermutation, Some, None, find, flat_map, filter, sum_by, count_by, option_and_then, option_map, unwrap_or, is_some, is_none, bytes_eq}
-use Rattle.gu_depend.proofs.Vocabulary.{◌==◌, filter-append, sum_by-cons, sum_by-append, sum_by-le-sum_by, sum_by-IsPermutation, EntryPart, House, agreement, node_of, nodes, split_of, claim_of}
+use Rattle.gu_depend.proofs.Vocabulary.{and_parts, filter_map, ◌≡◌, ℕ, zero, suc, ◌+◌, ◌≤◌, Bool, false, ◌&&◌, List, [], ◌∷◌, length, refl, sym, ◌∙◌, ap}
+use Rattle.gu_depend.proofs.Vocabulary.{arith, Option, IsPermutation, Some, None, find, flat_map, filter, sum_by, count_by, option_and_then, option_map, unwrap_or, is_some, is_none, bytes_eq}
+use Rattle.gu_depend.proofs.Vocabulary.{◌==◌, filter-append, sum_by-cons, sum_by-append, sum_by-IsPermutation, EntryPart, House, agreement, node_of, nodes, split_of, claim_of}
 use Rattle.gu_depend.proofs.Vocabulary.{claimed_account, parent, line_within, line_of, place_of_kind, place_along, place_of, root_along, root_of, same_place, is_trade_of, trades_in, stands_at}
 use Rattle.gu_depend.proofs.Vocabulary.{position_of, dealings, terms_under, limit_under, used_under, terms_of, limit_of, used_of, charge_of_kind, charge_of_node, charge_of, charges, counted}
 use Rattle.gu_depend.proofs.Vocabulary.{Agreement, Kind, Given, Row, row_of, state_of, taker_of, made_by, parts_of, rows_within, rows_from, rows_of, Side, Command, Claim, Record, Charge, Node}
