@@ -1,4 +1,4 @@
--- Lists cut at an element.
+-- Lists cut at the first element that passes, and lists without those that pass.
 use Rattle.gu_depend.proofs.Vocabulary.{◌≡◌, ℕ, zero, ◌≤◌, Bool, true, false, not, List, [], ◌∷◌, ◌++◌, refl, sym, ◌∙◌, ap, arith, cond}
 use Rattle.gu_depend.proofs.Vocabulary.{IsPermutation, Contains, All, Some, None, find, filter, count_by, All-nil, All-cons, All-head, All-tail, All-weaker, filter-append}
 use Rattle.gu_depend.proofs.Vocabulary.{Contains-append_right, nothing_here, false_from_ne_true, same_Some}

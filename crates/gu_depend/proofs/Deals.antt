@@ -24,9 +24,7 @@ of_pair g k x y e d false is h = absurd (cc)
 
 -- so what holds of the ones holds of the others
 pub given_for : (P : List ℕ → List ℕ → Deed → Type 0) (g k x y : List ℕ) (e d : Deed) → cond (bytes_eq x g && bytes_eq y k) (Some e) None ≡ Some d → P x y e → P g k d
-given_for P g k x y e d h held =
-    let p = of_pair g k x y e d (bytes_eq x g && bytes_eq y k) refl h in
-    subst (P g k) p.1.1 (subst (λ z. P g z e) p.1.0 (subst (λ z. P z y e) p.0 held))
+given_for P g k x y e d h held = let p = of_pair g k x y e d (bytes_eq x g && bytes_eq y k) refl h in subst (P g k) p.1.1 (subst (λ z. P g z e) p.1.0 (subst (λ z. P z y e) p.0 held))
 
 -- ---- the deed of a change, in lists of which one has some of the changes of the other
 
@@ -130,8 +128,7 @@ deal_is t l g k n by _ d deals = absurd (cc)
 -- what stands under terms deals for a giver and a taker
 pub deals_some : (t : House) (l : List Record) (n : ℕ) (by : List ℕ) (c : Command) (m : ℕ) → deals_under t l n by c ≡ Some m
     → (g : List ℕ) × (k : List ℕ) × (d : Deed) × (deed_of l g k by c ≡ Some d)
-deals_some t l n by (Agree x y rate limit) m h =
-    let made = Makes (record { rate = rate; limit = limit }) in (x, y, made, ap (λ b. cond b (Some made) None) (both_same x y))
+deals_some t l n by (Agree x y rate limit) m h = let made = Makes (record { rate = rate; limit = limit }) in (x, y, made, ap (λ b. cond b (Some made) None) (both_same x y))
 deals_some t l n by (Raise x lots) m h = (x, by, Raises lots, ap (λ b. cond b (Some (Raises lots)) None) (both_same x by))
 deals_some t l n by _ m h = absurd (cc)
 

@@ -1,4 +1,4 @@
--- What is found in a list where at most one element passes, in whatever order the list stands.
+-- What is found in a list where at most one element passes, in whatever order the list stands; lists cut at an element.
 use Rattle.gu_depend.proofs.Vocabulary.{subst, sym, is_some, sum_by-le-sum_by, IsSomeAnd, ◌≡◌, ℕ, zero, suc, ◌+◌, ◌<◌, ◌≤◌, Bool, true, false, List, [], ◌∷◌, ◌++◌}
 use Rattle.gu_depend.proofs.Vocabulary.{length, get_or, refl, ◌∙◌, ap, arith, cond, Option, IsPermutation, Contains, Some, None, find, count_by, option_and_then, option_or, find-append}
 use Rattle.gu_depend.proofs.Vocabulary.{sum_by-cons, sum_by-append, sum_by-IsPermutation, no_some, nothing_here, found_in, find_passes}
@@ -34,7 +34,7 @@ as_often false b h = omega arith
 pub counts_less : {X : Type 0} (p q : X → Bool) (xs : List X) → ((x : X) → p x ≡ true → q x ≡ true) → count_by p xs ≤ count_by q xs
 counts_less p q xs more = sum_by-le-sum_by (λ x. cond (p x) 1 0) (λ x. cond (q x) 1 0) xs (λ x. as_often (p x) (q x) (more x))
 
--- where none is found, none counts, and the other way round
+-- where none is found, none counts
 pub none_counts : {X : Type 0} (p : X → Bool) (xs : List X) → find p xs ≡ None → count_by p xs ≡ 0
 none_counts p [] h = refl
 none_counts p (x ∷ xs) h =
@@ -51,6 +51,7 @@ counts_in p xs x among passes =
     let b : cond (p (get_or xs among.0 x)) 1 0 ≡ 1 = ap (λ y. cond {A = ℕ} (p y) 1 0) among.2 ∙ ap (λ b. cond {A = ℕ} b 1 0) passes in
     omega (arith, a, b)
 
+-- and where none counts, none is found
 pub counts_none : {X : Type 0} (p : X → Bool) (xs : List X) → count_by p xs ≡ 0 → find p xs ≡ None
 counts_none p xs h = no_some (find p xs) (λ x e. let a = counts_in p xs x (found_in p xs x e) (find_passes p xs x e) in omega (arith, a, h))
 
@@ -63,9 +64,7 @@ pub record Cut {X : Type 0} (xs : List X) (x : X) : Type 0 where
 cut_place : {X : Type 0} (xs : List X) (x : X) (k : ℕ) → k < length xs → get_or xs k x ≡ x → Cut xs x
 cut_place [] x k within is = absurd (omega arith)
 cut_place (y ∷ ys) x zero within is = record { before = []; behind = ys; is = ap (λ z. z ∷ ys) is }
-cut_place (y ∷ ys) x (suc k) within is =
-    let c = cut_place ys x k (omega arith) is in
-    record { before = y ∷ c.before; behind = c.behind; is = ap (λ zs. y ∷ zs) c.is }
+cut_place (y ∷ ys) x (suc k) within is = let c = cut_place ys x k (omega arith) is in record { before = y ∷ c.before; behind = c.behind; is = ap (λ zs. y ∷ zs) c.is }
 
 pub cut_at : {X : Type 0} (xs : List X) (x : X) → Contains xs x → Cut xs x
 cut_at xs x among = cut_place xs x among.0 among.1 among.2

@@ -34,9 +34,7 @@ pub record Maker (l : List Record) (n : EntryPart) (x : Node) : Type 0 where
   pub makes_it : made_of change n ≡ Some x
 
 pub maker : (l : List Record) (n : EntryPart) (x : Node) → node_of l n ≡ Some x → Maker l n x
-maker l n x h =
-    let m = and_then_told (λ r. made_of r n) (find (makes n) l) x (sym (node_by_maker l n) ∙ h) in
-    record { change = m.0; among = found_in (makes n) l m.0 m.1.0; makes_it = m.1.1 }
+maker l n x h = let m = and_then_told (λ r. made_of r n) (find (makes n) l) x (sym (node_by_maker l n) ∙ h) in record { change = m.0; among = found_in (makes n) l m.0 m.1.0; makes_it = m.1.1 }
 
 -- it has the number of the change that makes it
 pub made_number : (r : Record) (n : EntryPart) (x : Node) → made_of r n ≡ Some x → n.entry ≡ r.number

@@ -116,9 +116,7 @@ decision_row b yours x = first (unless (is_offered b x) NotOffered ∷ unless (y
 
 settles_at : (l b : List Record) (n : EntryPart) (line : Node → Option Refusal) (P : Node → Type 0) → Grown l b → at_node line (node_of b n) ≡ None
     → ((x : Node) → node_of b n ≡ Some x → line x ≡ None → P x) → SettledAt l n P
-settles_at l b n line P g h holds =
-    let x = at_node_none line (node_of b n) h in
-    record { node = x.0; there = g.within.nodes n x.0 x.1.0; holds = holds x.0 x.1.0 x.1.1 }
+settles_at l b n line P g h holds = let x = at_node_none line (node_of b n) h in record { node = x.0; there = g.within.nodes n x.0 x.1.0; holds = holds x.0 x.1.0 x.1.1 }
 
 decision_settles : (l b : List Record) (n : EntryPart) (yours : Kind → Bool) → Grown l b → at_node (decision_row b yours) (node_of b n) ≡ None → SettledAt l n (IsYours yours)
 decision_settles l b n yours g h = settles_at l b n (decision_row b yours) (IsYours yours) g h (λ x found passes. let p = decision_passes b x (yours x.kind) passes in (p.0, p.2))

@@ -116,9 +116,7 @@ module _ (t : House) (p : List Record) (k : Record) (s : List Record) (legal : L
 
   -- or under itself
   itself_none : Under k.number k.firm k.command k.command → ⊥
-  itself_none (part n x is h) =
-      let y = accepted_there t p k.firm k.command (accepted_at t l p k s legal refl) n is in
-      none_is_some (node_of p n) y.0 (before.nodes_gone n x h) y.1
+  itself_none (part n x is h) = let y = accepted_there t p k.firm k.command (accepted_at t l p k s legal refl) n is in none_is_some (node_of p n) y.0 (before.nodes_gone n x h) y.1
   itself_none (decided n split h) = no_split_decides n k.command split h
 
   -- so the first that it stands under is behind it
@@ -147,9 +145,7 @@ module _ (t : House) (p : List Record) (k : Record) (s : List Record) (legal : L
   -- where nothing stands under it by a node, it is the first that stands under what it deals
   standing_deals : NoneUnder k s → (o : Option ℕ) → deals_under t l k.number k.firm k.command ≡ o → first_refused t [] (p ++ s) ≡ o
   standing_deals un None e = (runs_without t p k s legal un e).replayed
-  standing_deals un (Some n) e =
-      let d = deals_some t l k.number k.firm k.command n e in
-      stops_at t p k s legal d.0 d.1 d.2 d.3 un n (unfit_here t p k s legal d.0 d.1 d.2 d.3 ∙ e)
+  standing_deals un (Some n) e = let d = deals_some t l k.number k.firm k.command n e in stops_at t p k s legal d.0 d.1 d.2 d.3 un n (unfit_here t p k s legal d.0 d.1 d.2 d.3 ∙ e)
 
 -- ---- the law
 
@@ -286,6 +282,4 @@ module _ (t : House) (l : List Record) (k : Record) (rises : RisesFrom 0 l) wher
   )
 
 pub standing_is_least : (t : House) (l : List Record) (k : Record) → RisesFrom 0 l → Legal t l → Contains l k → IsLeastUnder t l k (standing_on t l k.number)
-standing_is_least t l k rises legal among =
-    let first = standing_is_first t l k legal among in
-    subst (IsLeastUnder t l k) (sym first) (least_by t l k rises (find (stands_under k) l) refl first)
+standing_is_least t l k rises legal among = let first = standing_is_first t l k legal among in subst (IsLeastUnder t l k) (sym first) (least_by t l k rises (find (stands_under k) l) refl first)

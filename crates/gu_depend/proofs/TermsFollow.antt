@@ -37,9 +37,7 @@ other_pair p o x y of differ e =
 
 pairs_by : (P : List ℕ → List ℕ → Type 0) (g k : List ℕ) → P g k → ((x y : List ℕ) → (bytes_eq g x && bytes_eq k y) ≡ false → P x y)
     → (x y : List ℕ) (b : Bool) → (bytes_eq g x && bytes_eq k y) ≡ b → P x y
-pairs_by P g k own others x y true is =
-    let p = and_parts (bytes_eq g x) (bytes_eq k y) is in
-    at_pair P g k x y ((bytes_eq-Decides g x).0 p.0, (bytes_eq-Decides k y).0 p.1) own
+pairs_by P g k own others x y true is = let p = and_parts (bytes_eq g x) (bytes_eq k y) is in at_pair P g k x y ((bytes_eq-Decides g x).0 p.0, (bytes_eq-Decides k y).0 p.1) own
 pairs_by P g k own others x y false is = others x y is
 
 -- what holds of one pair, and of each other, holds of all

@@ -43,9 +43,7 @@ module _ (t : House) (l : List Record) (v : TermsView) (are : AreTermsOf t l v) 
     other_row : (x y : List ℕ) (o n : Option PairView) → row_of v x y ≡ o → IsSameRow o n → (q : PairView) → n ≡ Some q → IsRowOf t l x y q
     other_row x y None n old same q e = absurd (none_is_some n q same e)
     other_row x y (Some r) None old same q e = absurd same
-    other_row x y (Some r) (Some p) old same q e =
-        let were = are.rows x y r old in
-        subst (λ o. IfSome o (λ (q : PairView). IsRowOf t l x y q)) e (same.0 ∙ were.0, same.1 ∙ were.1)
+    other_row x y (Some r) (Some p) old same q e = let were = are.rows x y r old in subst (λ o. IfSome o (λ (q : PairView). IsRowOf t l x y q)) e (same.0 ∙ were.0, same.1 ∙ were.1)
 
     own_kept : (o n : Option PairView) (q : PairView) → o ≡ Some q → IsRowAfter o (agreement t g k) n → (p : PairView) × (n ≡ Some p)
     own_kept None n q e after = absurd (cc)
