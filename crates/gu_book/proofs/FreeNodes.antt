@@ -15,7 +15,7 @@ use Rattle.gu_base.proofs.Numbered.{rises_later}
 use Rattle.gu_base.proofs.Searches.{found_in, find_passes}
 use Rattle.gu_depend.specs.Under.{names, is_under, stands_under, IsLeastUnder}
 use Rattle.gu_depend.proofs.Finds.{found_once}
-use Rattle.gu_depend.proofs.NamedOnce.{NamedOnce, named_once}
+use Rattle.gu_depend.proofs.Settled.{NamedOnce, named_once}
 use Rattle.gu_depend.proofs.Replay.{NumbersOnce, number_once}
 use Rattle.gu_depend.proofs.Names.{made_number}
 use Rattle.gu_depend.proofs.StandsLast.{any_in}

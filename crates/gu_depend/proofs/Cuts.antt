@@ -1,30 +1,10 @@
--- Lists cut at an element.
-use Rattle.gu_depend.proofs.Vocabulary.{◌≡◌, ℕ, zero, suc, ◌<◌, ◌≤◌, Bool, true, false, not, List, [], ◌∷◌, ◌++◌, length, get_or, refl, sym, ◌∙◌, ap, arith, cond}
-use Rattle.gu_depend.proofs.Vocabulary.{IsPermutation, Contains, All, subst, Some, None, find, filter, count_by, All-nil, All-cons, All-head, All-tail, All-weaker, filter-append}
+-- Lists cut at the first element that passes, and lists without those that pass.
+use Rattle.gu_depend.proofs.Vocabulary.{◌≡◌, ℕ, zero, ◌≤◌, Bool, true, false, not, List, [], ◌∷◌, ◌++◌, refl, sym, ◌∙◌, ap, arith, cond}
+use Rattle.gu_depend.proofs.Vocabulary.{IsPermutation, Contains, All, Some, None, find, filter, count_by, All-nil, All-cons, All-head, All-tail, All-weaker, filter-append}
 use Rattle.gu_depend.proofs.Vocabulary.{Contains-append_right, nothing_here, false_from_ne_true, same_Some}
 use Rattle.std.proofs.lemmas.List.Elements.{filter_passes}
 use Rattle.std.proofs.lemmas.List.Sorted.{IsPermutation-middle, IsPermutation-to_front, IsPermutation-sym, IsPermutation-trans}
 use Rattle.gu_depend.proofs.Finds.{count_append, count_cons, counts_none}
-
--- an element, with what stands before and behind it
-pub record Cut {X : Type 0} (xs : List X) (x : X) : Type 0 where
-  pub before : List X
-  pub behind : List X
-  pub is : xs ≡ before ++ x ∷ behind
-
-cut_place : {X : Type 0} (xs : List X) (x : X) (k : ℕ) → k < length xs → get_or xs k x ≡ x → Cut xs x
-cut_place [] x k within is = absurd (omega arith)
-cut_place (y ∷ ys) x zero within is = record { before = []; behind = ys; is = ap (λ z. z ∷ ys) is }
-cut_place (y ∷ ys) x (suc k) within is =
-    let c = cut_place ys x k (omega arith) is in
-    record { before = y ∷ c.before; behind = c.behind; is = ap (λ zs. y ∷ zs) c.is }
-
-pub cut_at : {X : Type 0} (xs : List X) (x : X) → Contains xs x → Cut xs x
-cut_at xs x among = cut_place xs x among.0 among.1 among.2
-
--- what holds of each list cut at an element holds of each that has it
-pub by_cut : {X : Type 0} (P : List X → Type 0) (xs : List X) (x : X) → Contains xs x → ((ys zs : List X) → P (ys ++ x ∷ zs)) → P xs
-by_cut P xs x among each = let c = cut_at xs x among in subst P (sym c.is) (each c.before c.behind)
 
 pub stands_between : {X : Type 0} (xs : List X) (x : X) (ys : List X) → Contains (xs ++ x ∷ ys) x
 stands_between xs x ys = Contains-append_right xs (x ∷ ys) x (zero, omega arith, refl)
@@ -77,15 +57,12 @@ filter_one p xs x ys passes once =
     ∙ (ap (λ zs. zs ++ filter (λ x. not (p x)) (x ∷ ys)) before
     ∙ ap (λ zs. xs ++ zs) (ap (λ b. cond (not b) (x ∷ filter (λ x. not (p x)) ys) (filter (λ x. not (p x)) ys)) passes ∙ behind))
 
-was_false : (b : Bool) → not b ≡ true → b ≡ false
-was_false true h = sym h
-was_false false h = refl
-
 -- what is left out isn't found
 pub gone_from : {X : Type 0} (p : X → Bool) (xs : List X) → find p (filter (λ x. not (p x)) xs) ≡ None
 gone_from p xs =
     let rest = filter (λ x. not (p x)) xs in
-    none_found p rest (All-weaker (λ x. not (p x) ≡ true) (λ x. p x ≡ false) (λ x h. was_false (p x) h) rest (filter_passes (λ x. not (p x)) xs))
+    none_found p rest (All-weaker (λ x. not (p x) ≡ true) (λ x. p x ≡ false)
+    (λ x h. false_from_ne_true (p x) (λ t. let no : false ≡ true = sym (ap not t) ∙ h in cc)) rest (filter_passes (λ x. not (p x)) xs))
 
 kept_at : {X : Type 0} (p : X → Bool) (x : X) (rest xs : List X) → find p rest ≡ find p xs → (b : Bool) → (p x ≡ true → b ≡ true)
     → find p (cond b (x ∷ rest) rest) ≡ cond (p x) (Some x) (find p xs)

@@ -2,9 +2,9 @@
 use Rattle.gu_depend.proofs.Vocabulary.{◌≡◌, ℕ, ◌+◌, Bool, true, false, not, ◌&&◌, List, [], ◌∷◌, ◌++◌, refl, sym, ◌∙◌, ap, subst, cond, Option, All, append-nil}
 use Rattle.gu_depend.proofs.Vocabulary.{Some, None, filter_map, option_map, option_and_then, bytes_eq, ◌==◌, ◌↔◌, cons_option, and_parts, All-head, All-tail, All-weaker, filter_map-append}
 use Rattle.gu_depend.proofs.Vocabulary.{same_Some, bytes_eq-Decides, EntryPart, House, agreement, node_of, is_given, use_of_kind, use_of_node, deed_of, dealing_of, dealings_in, dealings}
-use Rattle.gu_depend.proofs.Vocabulary.{terms_under, limit_of, used_of, leave_out, first_over, first_over_without, first_under_terms, first_under_deed, row, claim_row, raised_row}
-use Rattle.gu_depend.proofs.Vocabulary.{limit_row, limit_by, used_by, without, bytes_same, Agreement, Deed, Makes, Raises, Uses, Dealing, Pair, Command, Claim, Agree, Raise, Record, Kind, Given}
-use Rattle.gu_depend.proofs.Vocabulary.{Node, no_some, may_use, fits, AllFit, first_unfit, name_same, at_node_none, claim_passes, agree_passes, raise_passes}
+use Rattle.gu_depend.proofs.Vocabulary.{terms_under, limit_of, used_of, leave_out, first_over, first_over_without, first_under_terms, first_under_deed, row, claim_row, raised_row, limit_row}
+use Rattle.gu_depend.proofs.Vocabulary.{limit_by, used_by, without, bytes_same, Agreement, Deed, Makes, Raises, Uses, Dealing, Pair, Command, Claim, Agree, Raise, Record, Kind, Given, Node, no_some}
+use Rattle.gu_depend.proofs.Vocabulary.{may_use, fits, AllFit, first_unfit, name_same, at_node_none, claim_passes, agree_passes, raise_passes}
 use Rattle.gu_depend.proofs.Grown.{ThereFor, Within, NamesThere, Grown}
 use Rattle.gu_base.proofs.Accepted.{unless_none}
 use Rattle.gu_base.proofs.Dealt.{may_raise, unfit_none, fit_without_use, unfit_without_raise, unfit_without_terms}
@@ -24,9 +24,7 @@ of_pair g k x y e d false is h = absurd (cc)
 
 -- so what holds of the ones holds of the others
 pub given_for : (P : List ℕ → List ℕ → Deed → Type 0) (g k x y : List ℕ) (e d : Deed) → cond (bytes_eq x g && bytes_eq y k) (Some e) None ≡ Some d → P x y e → P g k d
-given_for P g k x y e d h held =
-    let p = of_pair g k x y e d (bytes_eq x g && bytes_eq y k) refl h in
-    subst (P g k) p.1.1 (subst (λ z. P g z e) p.1.0 (subst (λ z. P z y e) p.0 held))
+given_for P g k x y e d h held = let p = of_pair g k x y e d (bytes_eq x g && bytes_eq y k) refl h in subst (P g k) p.1.1 (subst (λ z. P g z e) p.1.0 (subst (λ z. P z y e) p.0 held))
 
 -- ---- the deed of a change, in lists of which one has some of the changes of the other
 
@@ -127,18 +125,11 @@ deal_is t l g k n by (Raise x lots) d deals =
 deal_is t l g k n by (Claim m account) d deals = ap (first_under_deed (agreement t g k) (dealings l g k) n) (use_of_claim l g k by account m d deals).1
 deal_is t l g k n by _ d deals = absurd (cc)
 
--- a giver and a taker for whom a change deals
-pub record DealsFor (l : List Record) (by : List ℕ) (c : Command) : Type 0 where
-  pub giver : List ℕ
-  pub taker : List ℕ
-  pub deed : Deed
-  pub deals : deed_of l giver taker by c ≡ Some deed
-
--- what stands under terms deals
-pub deals_some : (t : House) (l : List Record) (n : ℕ) (by : List ℕ) (c : Command) (m : ℕ) → deals_under t l n by c ≡ Some m → DealsFor l by c
-deals_some t l n by (Agree x y rate limit) m h =
-    record { giver = x; taker = y; deed = Makes (record { rate = rate; limit = limit }); deals = ap (λ b. cond b (Some (Makes (record { rate = rate; limit = limit }))) None) (both_same x y) }
-deals_some t l n by (Raise x lots) m h = record { giver = x; taker = by; deed = Raises lots; deals = ap (λ b. cond b (Some (Raises lots)) None) (both_same x by) }
+-- what stands under terms deals for a giver and a taker
+pub deals_some : (t : House) (l : List Record) (n : ℕ) (by : List ℕ) (c : Command) (m : ℕ) → deals_under t l n by c ≡ Some m
+    → (g : List ℕ) × (k : List ℕ) × (d : Deed) × (deed_of l g k by c ≡ Some d)
+deals_some t l n by (Agree x y rate limit) m h = let made = Makes (record { rate = rate; limit = limit }) in (x, y, made, ap (λ b. cond b (Some made) None) (both_same x y))
+deals_some t l n by (Raise x lots) m h = (x, by, Raises lots, ap (λ b. cond b (Some (Raises lots)) None) (both_same x by))
 deals_some t l n by _ m h = absurd (cc)
 
 -- what holds of one pair holds of the same pair

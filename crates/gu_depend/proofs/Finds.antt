@@ -1,7 +1,7 @@
--- What is found in a list where at most one element passes, in whatever order the list stands.
-use Rattle.gu_depend.proofs.Vocabulary.{IsSomeAnd, ◌≡◌, ℕ, zero, suc, ◌+◌, ◌<◌, ◌≤◌, Bool, true, false, List, [], ◌∷◌, ◌++◌, length, get_or, refl, ◌∙◌, ap}
-use Rattle.gu_depend.proofs.Vocabulary.{arith, cond, Option, IsPermutation, Contains, Some, None, find, count_by, option_and_then, option_or, find-append, sum_by-cons, sum_by-append}
-use Rattle.gu_depend.proofs.Vocabulary.{sum_by-IsPermutation, no_some, nothing_here, found_in, find_passes}
+-- What is found in a list where at most one element passes, in whatever order the list stands; lists cut at an element.
+use Rattle.gu_depend.proofs.Vocabulary.{subst, sym, is_some, sum_by-le-sum_by, IsSomeAnd, ◌≡◌, ℕ, zero, suc, ◌+◌, ◌<◌, ◌≤◌, Bool, true, false, List, [], ◌∷◌, ◌++◌}
+use Rattle.gu_depend.proofs.Vocabulary.{length, get_or, refl, ◌∙◌, ap, arith, cond, Option, IsPermutation, Contains, Some, None, find, count_by, option_and_then, option_or, find-append}
+use Rattle.gu_depend.proofs.Vocabulary.{sum_by-cons, sum_by-append, sum_by-IsPermutation, no_some, nothing_here, found_in, find_passes}
 use Rattle.std.proofs.lemmas.List.Sums.{sum_by_push, get_or-le-sum_by}
 use Rattle.std.proofs.lemmas.List.Sorted.{Contains-permutation}
 
@@ -13,6 +13,10 @@ pub and_then_told : {X Y : Type 0} (f : X → Option Y) (o : Option X) (y : Y) �
 and_then_told f None y h = absurd (cc)
 and_then_told f (Some x) y h = (x, (refl, h))
 
+pub some_there : {X : Type 0} (o : Option X) → is_some o ≡ true → (x : X) × (o ≡ Some x)
+some_there None h = absurd (cc)
+some_there (Some x) h = (x, refl)
+
 pub count_cons : {X : Type 0} (p : X → Bool) (x : X) (xs : List X) → count_by p (x ∷ xs) ≡ cond (p x) 1 0 + count_by p xs
 count_cons p x xs = sum_by-cons (λ y. cond (p y) 1 0) x xs
 
@@ -22,7 +26,15 @@ count_append p xs ys = sum_by-append (λ y. cond (p y) 1 0) xs ys
 pub count_permuted : {X : Type 0} (p : X → Bool) (xs ys : List X) → IsPermutation xs ys → count_by p ys ≡ count_by p xs
 count_permuted p xs ys same = sum_by-IsPermutation (λ y. cond (p y) 1 0) xs ys same
 
--- where none is found, none counts, and the other way round
+as_often : (a b : Bool) → (a ≡ true → b ≡ true) → cond a 1 0 ≤ cond b 1 0
+as_often true b h = let e : cond {A = ℕ} b 1 0 ≡ 1 = ap (λ b. cond {A = ℕ} b 1 0) (h refl) in omega (arith, e)
+as_often false b h = omega arith
+
+-- where each that passes one test passes another, no more pass the one
+pub counts_less : {X : Type 0} (p q : X → Bool) (xs : List X) → ((x : X) → p x ≡ true → q x ≡ true) → count_by p xs ≤ count_by q xs
+counts_less p q xs more = sum_by-le-sum_by (λ x. cond (p x) 1 0) (λ x. cond (q x) 1 0) xs (λ x. as_often (p x) (q x) (more x))
+
+-- where none is found, none counts
 pub none_counts : {X : Type 0} (p : X → Bool) (xs : List X) → find p xs ≡ None → count_by p xs ≡ 0
 none_counts p [] h = refl
 none_counts p (x ∷ xs) h =
@@ -39,25 +51,41 @@ counts_in p xs x among passes =
     let b : cond (p (get_or xs among.0 x)) 1 0 ≡ 1 = ap (λ y. cond {A = ℕ} (p y) 1 0) among.2 ∙ ap (λ b. cond {A = ℕ} b 1 0) passes in
     omega (arith, a, b)
 
+-- and where none counts, none is found
 pub counts_none : {X : Type 0} (p : X → Bool) (xs : List X) → count_by p xs ≡ 0 → find p xs ≡ None
 counts_none p xs h = no_some (find p xs) (λ x e. let a = counts_in p xs x (found_in p xs x e) (find_passes p xs x e) in omega (arith, a, h))
 
-found_past : {X : Type 0} (p : X → Bool) (y : X) (ys : List X) (x : X) → 1 ≤ count_by p ys → (count_by p ys ≤ 1 → find p ys ≡ Some x) → (b : Bool)
-    → cond b 1 0 + count_by p ys ≤ 1 → cond b (Some y) (find p ys) ≡ Some x
-found_past p y ys x some later true once = absurd (omega (arith, some, once))
-found_past p y ys x some later false once = later (omega (arith, once))
+-- an element, with what stands before and behind it
+pub record Cut {X : Type 0} (xs : List X) (x : X) : Type 0 where
+  pub before : List X
+  pub behind : List X
+  pub is : xs ≡ before ++ x ∷ behind
 
-found_place : {X : Type 0} (p : X → Bool) (xs : List X) (k : ℕ) (x : X) → k < length xs → get_or xs k x ≡ x → p x ≡ true → count_by p xs ≤ 1 → find p xs ≡ Some x
-found_place p [] k x within is passes once = absurd (omega arith)
-found_place p (y ∷ ys) zero x within is passes once = ap (λ b. cond b (Some y) (find p ys)) (ap p is ∙ passes) ∙ ap (λ z. Some z) is
-found_place p (y ∷ ys) (suc k) x within is passes once =
-    let inside : k < length ys = omega arith in
-    let a = count_cons p y ys in
-    found_past p y ys x (counts_in p ys x (k, inside, is) passes) (found_place p ys k x inside is passes) (p y) (omega (arith, a, once))
+cut_place : {X : Type 0} (xs : List X) (x : X) (k : ℕ) → k < length xs → get_or xs k x ≡ x → Cut xs x
+cut_place [] x k within is = absurd (omega arith)
+cut_place (y ∷ ys) x zero within is = record { before = []; behind = ys; is = ap (λ z. z ∷ ys) is }
+cut_place (y ∷ ys) x (suc k) within is = let c = cut_place ys x k (omega arith) is in record { before = y ∷ c.before; behind = c.behind; is = ap (λ zs. y ∷ zs) c.is }
+
+pub cut_at : {X : Type 0} (xs : List X) (x : X) → Contains xs x → Cut xs x
+cut_at xs x among = cut_place xs x among.0 among.1 among.2
+
+-- what holds of each list cut at an element holds of each that has it
+pub by_cut : {X : Type 0} (P : List X → Type 0) (xs : List X) (x : X) → Contains xs x → ((ys zs : List X) → P (ys ++ x ∷ zs)) → P xs
+by_cut P xs x among each = let c = cut_at xs x among in subst P (sym c.is) (each c.before c.behind)
+
+-- where at most one passes, and one does that stands behind, none passes before it
+pub none_before : {X : Type 0} (p : X → Bool) (xs : List X) (y : X) (ys : List X) → count_by p (xs ++ y ∷ ys) ≤ 1 → p y ≡ true → find p xs ≡ None
+none_before p xs y ys once passes =
+    let a = count_append p xs (y ∷ ys) in
+    let b = count_cons p y ys in
+    let c : cond (p y) 1 0 ≡ 1 = ap (λ b. cond {A = ℕ} b 1 0) passes in
+    counts_none p xs (omega (arith, a, b, c, once))
 
 -- where at most one passes, one that does is found
 pub found_once : {X : Type 0} (p : X → Bool) (xs : List X) (x : X) → Contains xs x → p x ≡ true → count_by p xs ≤ 1 → find p xs ≡ Some x
-found_once p xs x among passes once = found_place p xs among.0 x among.1 among.2 passes once
+found_once p xs x among passes once =
+    by_cut (λ xs. count_by p xs ≤ 1 → find p xs ≡ Some x) xs x among (λ ys zs once. find-append p ys (x ∷ zs)
+    ∙ (ap (λ o. option_or o (find p (x ∷ zs))) (none_before p ys x zs once passes) ∙ ap (λ b. cond b (Some x) (find p zs)) passes)) once
 
 find_permuted_by : {X : Type 0} (p : X → Bool) (xs ys : List X) → IsPermutation xs ys → count_by p xs ≤ 1 → (o : Option X) → find p xs ≡ o → find p ys ≡ o
 find_permuted_by p xs ys same once None h =
@@ -85,11 +113,3 @@ once_push p xs y once new =
     let a = sum_by_push (λ z. cond (p z) 1 0) xs y in
     let b = once_push_at p xs (p y) once new in
     omega (arith, a, b)
-
--- where at most one passes, and one does that stands behind, none passes before it
-pub none_before : {X : Type 0} (p : X → Bool) (xs : List X) (y : X) (ys : List X) → count_by p (xs ++ y ∷ ys) ≤ 1 → p y ≡ true → find p xs ≡ None
-none_before p xs y ys once passes =
-    let a = count_append p xs (y ∷ ys) in
-    let b = count_cons p y ys in
-    let c : cond (p y) 1 0 ≡ 1 = ap (λ b. cond {A = ℕ} b 1 0) passes in
-    counts_none p xs (omega (arith, a, b, c, once))

@@ -80,9 +80,7 @@ module _ (l b : List Record) (nodes : (n : EntryPart) (x : Node) → node_of b n
       → (n : EntryPart) (x : Node) → node_of b n ≡ Some x → (o : Option EntryPart) → parent x.kind ≡ o
       → line_within f b (option_and_then (node_of b) o) ≡ line_within f l (option_and_then (node_of l) o)
   line_up f same n x found None e = line_none f b ∙ sym (line_none f l)
-  line_up f same n x found (Some m) e =
-      let y = parent_there b n m x named found e in
-      ap (line_within f b) y.1 ∙ (same m y.0 y.1 ∙ sym (ap (line_within f l) (nodes m y.0 y.1)))
+  line_up f same n x found (Some m) e = let y = parent_there b n m x named found e in ap (line_within f b) y.1 ∙ (same m y.0 y.1 ∙ sym (ap (line_within f l) (nodes m y.0 y.1)))
 
   -- a node has the same line in both
   line_led : (f : ℕ) (n : EntryPart) (x : Node) → node_of b n ≡ Some x → line_within f b (Some x) ≡ line_within f l (Some x)

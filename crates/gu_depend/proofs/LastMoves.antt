@@ -1,19 +1,18 @@
 -- What a change that stands behind others moves.
 use Rattle.gu_depend.proofs.Vocabulary.{use_of_node, use_of_kind, charge_of_kind, charge_of_node, Command, Claim, Kind, Given, ◌≡◌, ℕ, zero, suc, ◌+◌, Bool, true, false, ◌&&◌, List}
-use Rattle.gu_depend.proofs.Vocabulary.{[], ◌∷◌, ◌++◌, length, refl, sym, ◌∙◌, ap, subst, arith, cond, Option, Contains, Some, None, find, filter, sum_by, is_some}
-use Rattle.gu_depend.proofs.Vocabulary.{is_none, option_and_then, option_map, unwrap_or, ◌==◌, cons_option, option_or, Decides-eqb, All-weaker, All-contains}
-use Rattle.gu_depend.proofs.Vocabulary.{All-contains_itself, filter_map-append, find-append, sum_by-cons, sum_by-append, EntryPart, House, agreement, node_of, nodes, nodes_of, split_of, decision_of}
-use Rattle.gu_depend.proofs.Vocabulary.{same_name, splits, decides, parent, line_within, root_along, root_of, same_place, is_trade_of, trades_in, stands_at, position_of, charge_of, charges, row}
-use Rattle.gu_depend.proofs.Vocabulary.{Side, Record, Charge, Node, Place, deed_of, dealings_in, dealings, terms_under, raised_under, used_under, terms_of, Agreement, Deed, Uses, or_none}
-use Rattle.gu_depend.proofs.Vocabulary.{none_is_some, replay_front, may_use, AllFit, same_Some, name_same, made, or_parts, false_from_ne_true}
+use Rattle.gu_depend.proofs.Vocabulary.{[], ◌∷◌, ◌++◌, length, refl, sym, ◌∙◌, ap, subst, arith, cond, Option, Contains, Some, None, find, filter, sum_by, is_some, is_none}
+use Rattle.gu_depend.proofs.Vocabulary.{option_and_then, option_map, unwrap_or, ◌==◌, cons_option, option_or, Decides-eqb, All-weaker, All-contains, All-contains_itself, filter_map-append}
+use Rattle.gu_depend.proofs.Vocabulary.{find-append, sum_by-cons, sum_by-append, EntryPart, House, agreement, node_of, nodes, nodes_of, split_of, decision_of, same_name, splits, decides, parent}
+use Rattle.gu_depend.proofs.Vocabulary.{line_within, root_along, root_of, same_place, is_trade_of, trades_in, stands_at, position_of, charge_of, charges, row, Side, Record, Charge, Node, Place}
+use Rattle.gu_depend.proofs.Vocabulary.{deed_of, dealings_in, dealings, terms_under, raised_under, used_under, terms_of, Agreement, Deed, Uses, or_none, none_is_some, replay_front, may_use, AllFit}
+use Rattle.gu_depend.proofs.Vocabulary.{same_Some, name_same, made, or_parts, false_from_ne_true}
 use Rattle.gu_depend.proofs.Grown.{Within, ThereFor, Grown, NamesThere, line_of_grown, place_same}
 use Rattle.gu_depend.proofs.Deals.{both_same, numbered, gives_alike, dealings_grown, dealings_append, dealings_cut, row_fits, not_empty}
 use Rattle.gu_depend.specs.Under.{names}
 use Rattle.gu_depend.specs.Moves.{lots_at, named_by, MovesItsOwn}
-use Rattle.gu_depend.proofs.Finds.{none_before}
+use Rattle.gu_depend.proofs.Finds.{none_before, cut_at}
 use Rattle.gu_depend.proofs.Names.{at_name, maker, made_number}
 use Rattle.gu_depend.proofs.Settled.{front_facts, facts, accepted_there}
-use Rattle.gu_depend.proofs.Cuts.{cut_at}
 use Rattle.gu_base.proofs.Dealt.{all_sound, terms_stay}
 use Rattle.gu_depend.proofs.Replay.{NumbersOnce, Legal}
 use Rattle.gu_depend.proofs.StandsLast.{accepted_at, decision_cut}

@@ -1,8 +1,8 @@
 -- Names of nodes, and the changes that make them.
 use Rattle.gu_depend.proofs.Vocabulary.{◌≡◌, ℕ, ◌≤◌, Bool, true, false, List, [], ◌∷◌, refl, sym, ◌∙◌, ap, subst, arith, cond, Option, IsPermutation, Contains, Some, None}
-use Rattle.gu_depend.proofs.Vocabulary.{find, count_by, ◌==◌, is_some, option_and_then, option_or, Decides-eqb, find-append, sum_by-le-sum_by, EntryPart, node_of, nodes, nodes_of, same_name}
+use Rattle.gu_depend.proofs.Vocabulary.{find, count_by, ◌==◌, is_some, option_and_then, option_or, Decides-eqb, find-append, EntryPart, node_of, nodes, nodes_of, same_name}
 use Rattle.gu_depend.proofs.Vocabulary.{parent, splits, Command, Trade, Split, Record, Root, Node, or_none, none_is_some, same_Some, name_same, node_called, made, made_of, first_or, found_in}
-use Rattle.gu_depend.proofs.Finds.{and_then_told, find_permuted}
+use Rattle.gu_depend.proofs.Finds.{counts_less, some_there, and_then_told, find_permuted}
 use Rattle.gu_base.proofs.NodeNames.{made_entry, part_parent}
 
 pub at_name : (l : List Record) (n : EntryPart) (x : Node) → node_of l n ≡ Some x → node_of l x.name ≡ Some x
@@ -34,9 +34,7 @@ pub record Maker (l : List Record) (n : EntryPart) (x : Node) : Type 0 where
   pub makes_it : made_of change n ≡ Some x
 
 pub maker : (l : List Record) (n : EntryPart) (x : Node) → node_of l n ≡ Some x → Maker l n x
-maker l n x h =
-    let m = and_then_told (λ r. made_of r n) (find (makes n) l) x (sym (node_by_maker l n) ∙ h) in
-    record { change = m.0; among = found_in (makes n) l m.0 m.1.0; makes_it = m.1.1 }
+maker l n x h = let m = and_then_told (λ r. made_of r n) (find (makes n) l) x (sym (node_by_maker l n) ∙ h) in record { change = m.0; among = found_in (makes n) l m.0 m.1.0; makes_it = m.1.1 }
 
 -- it has the number of the change that makes it
 pub made_number : (r : Record) (n : EntryPart) (x : Node) → made_of r n ≡ Some x → n.entry ≡ r.number
@@ -54,17 +52,11 @@ parent_made n m k by _ x h up = absurd (cc)
 pub made_by_split : (r : Record) (n m : EntryPart) (x : Node) → made_of r n ≡ Some x → parent x.kind ≡ Some m → splits m r.command ≡ true
 made_by_split r n m x h up = parent_made n m r.number r.firm r.command x h up
 
-counts_as : (r : Record) (n : EntryPart) (o : Option Node) → made_of r n ≡ o → cond (is_some o) 1 0 ≤ cond (r.number == n.entry) 1 0
-counts_as r n None e = omega arith
-counts_as r n (Some x) e =
-    let same : r.number ≡ n.entry = sym (made_number r n x e) in
-    let a : cond (r.number == n.entry) 1 0 ≡ 1 = ap (λ b. cond {A = ℕ} b 1 0) ((Decides-eqb r.number n.entry).1 same) in
-    omega (arith, a)
-
 -- where a number stands once, its nodes are made once
 pub makers_once : (l : List Record) (n : EntryPart) → count_by (λ r. r.number == n.entry) l ≤ 1 → count_by (makes n) l ≤ 1
 makers_once l n once =
-    let a = sum_by-le-sum_by (λ r. cond (makes n r) 1 0) (λ r. cond (r.number == n.entry) 1 0) l (λ r. counts_as r n (made_of r n) refl) in
+    let a = counts_less (makes n) (λ r. r.number == n.entry) l
+    (λ r h. let x = some_there (made_of r n) h in (Decides-eqb r.number n.entry).1 (sym (made_number r n x.0 x.1))) in
     omega (arith, a, once)
 
 -- where no number stands twice, a node is the same in whatever order the changes stand

@@ -1,9 +1,8 @@
 -- What stands on a change, read off trees that show the list.
-use Rattle.gu_depend.proofs.Vocabulary.{◌≡◌, ℕ, true, false, List, [], refl, sym, ◌∙◌, ap, subst, arith, Option, Contains, IsSomeAnd, inl, inr, Some, None, find}
-use Rattle.gu_depend.proofs.Vocabulary.{flat_map, option_map, option_and_then, ◌==◌, ◌↔◌, or_cases, or_parts, Decides-eqb, same_Some, made_by, parts_of, EntryPart, RisesFrom, House}
-use Rattle.gu_depend.proofs.Vocabulary.{node_of, nodes_of, split_of, decision_of, splits, decides, same_name, IsLegal, first_refused, standing_on, without, Part, Command, Trade, Split, Claim}
-use Rattle.gu_depend.proofs.Vocabulary.{Refuse, Cancel, Agree, Raise, Record, Node, legal_from_replay, replay_from_legal, name_same, made_of, found_in, find_passes, change_of, named_place}
-use Rattle.gu_depend.proofs.Vocabulary.{number_in, numbers_on, least}
+use Rattle.gu_depend.proofs.Vocabulary.{◌≡◌, ℕ, true, false, List, [], refl, sym, ◌∙◌, ap, subst, arith, Option, Contains, IsSomeAnd, inl, inr, Some, None, find, flat_map, option_map}
+use Rattle.gu_depend.proofs.Vocabulary.{option_and_then, ◌==◌, ◌↔◌, or_cases, or_parts, Decides-eqb, same_Some, made_by, parts_of, EntryPart, RisesFrom, House, node_of, nodes_of, split_of}
+use Rattle.gu_depend.proofs.Vocabulary.{decision_of, splits, decides, same_name, IsLegal, first_refused, standing_on, without, Part, Command, Trade, Split, Claim, Refuse, Cancel, Agree, Raise}
+use Rattle.gu_depend.proofs.Vocabulary.{Record, Node, legal_from_replay, replay_from_legal, name_same, made_of, found_in, find_passes, change_of, named_place, number_in, numbers_on, least}
 use Rattle.gu_depend.proofs.Finds.{some_with, and_then_told, found_once}
 use Rattle.std.proofs.Common.{◌≢◌, ◌⊎◌}
 use Rattle.gu_tree.specs.Rose.{Rose, head_of, split_of_node}
@@ -17,7 +16,7 @@ use Rattle.gu_tree.proofs.ShowsLess.{no-root-part}
 use Rattle.gu_tree.proofs.ToldAt.{IsToldAt, told-at}
 use Rattle.gu_depend.specs.Touch.{is_trade_or_decision}
 use Rattle.gu_depend.specs.Under.{numbers_under, deals_under}
-use Rattle.gu_depend.proofs.NamedOnce.{named_once}
+use Rattle.gu_depend.proofs.Settled.{named_once}
 use Rattle.gu_depend.proofs.Names.{maker, made_number}
 use Rattle.gu_depend.proofs.Replay.{Legal}
 use Rattle.gu_depend.proofs.Cuts.{filter_all}

@@ -1,15 +1,14 @@
 -- What stands on a change that deals, and how many entries stand beside it, read off terms that are those of the list.
-use Rattle.gu_depend.proofs.Vocabulary.{◌≡◌, ℕ, true, false, List, [], ◌∷◌, refl, sym, ◌∙◌, ap, subst, cond, Option, Contains, Some, None, find, ◌==◌, length}
-use Rattle.gu_depend.proofs.Vocabulary.{option_map, option_and_then, unwrap_or, slice_get, lookup, nothing_here, option_or, Decides-eqb, find-append, House, agreement, deed_of, dealings_in}
-use Rattle.gu_depend.proofs.Vocabulary.{dealings, first_under_deed, Deed, Makes, Raises, Dealing, Pair, Command, Claim, Agree, Raise, Record, found_in, find_passes, change_of, named_place, is_pair}
-use Rattle.gu_depend.proofs.Vocabulary.{PairView, TermsView, pair_at}
+use Rattle.gu_depend.proofs.Vocabulary.{◌≡◌, ℕ, true, false, List, [], ◌∷◌, refl, sym, ◌∙◌, ap, subst, cond, Option, Contains, Some, None, find, ◌==◌, length, option_map}
+use Rattle.gu_depend.proofs.Vocabulary.{option_and_then, unwrap_or, slice_get, lookup, nothing_here, option_or, Decides-eqb, find-append, House, agreement, deed_of, dealings_in, dealings}
+use Rattle.gu_depend.proofs.Vocabulary.{first_under_deed, Deed, Makes, Raises, Dealing, Pair, Command, Claim, Agree, Raise, Record, found_in, find_passes, change_of, named_place, is_pair, PairView}
+use Rattle.gu_depend.proofs.Vocabulary.{TermsView, pair_at}
 use Rattle.gu_fees.specs.Pairs.{deed_at, standing_under}
 use Rattle.gu_fees.specs.Terms.{standing_in, entries_in}
 use Rattle.gu_depend.specs.Terms.{pair_of, place_of_pair, entries_dealt, AreTermsOf}
 use Rattle.gu_depend.specs.Under.{deals_under}
-use Rattle.gu_depend.proofs.Cuts.{cut_at}
+use Rattle.gu_depend.proofs.Finds.{cut_at, none_before}
 use Rattle.gu_depend.proofs.Deals.{numbered, dealt, both_same, dealings_cut, deal_is, pair_of_deed}
-use Rattle.gu_depend.proofs.Finds.{none_before}
 use Rattle.gu_depend.proofs.Replay.{NumbersOnce}
 
 -- ---- the deed of a number

@@ -1,21 +1,19 @@
 -- A lawful order of a legal list is legal.
 use Rattle.gu_depend.proofs.Vocabulary.{find, ◌≡◌, ℕ, ◌+◌, ◌≤◌, Bool, true, false, ◌&&◌, ◌||◌, List, [], ◌∷◌, ◌++◌, length, refl, sym, ◌∙◌, ap, subst}
 use Rattle.gu_depend.proofs.Vocabulary.{arith, cond, Option, All, append_assoc, append-nil, IsPermutation, map, Some, None, count_by, is_none, is_some, ◌==◌, filter_map, option_map}
-use Rattle.gu_depend.proofs.Vocabulary.{option_and_then, AllByRecursion, Decides-eqb, All-head, All-tail, All-nil, All-cons, EntryPart, House, agreement, node_of, split_of, decision_of}
-use Rattle.gu_depend.proofs.Vocabulary.{splits, decides, same_name, use_of_node, deed_of, dealings_in, dealings, limit_of, refusal_of, row, split_row, claim_row, is_taker, is_giver}
-use Rattle.gu_depend.proofs.Vocabulary.{first_refused, IsLegal, is_ready, in_lawful_order, IsLawfulOrder, Deed, Makes, Raises, Dealing, Command, Trade, Split, Claim, Refuse, Cancel, Agree}
-use Rattle.gu_depend.proofs.Vocabulary.{Raise, Record, Kind, Node, Refusal, at_node, fits, AllFit, legal_from_replay, replay_from_legal, and_parts, HasDistinctNumbers, eqb_symm, name_is}
-use Rattle.gu_depend.proofs.Vocabulary.{name_same, node_called}
+use Rattle.gu_depend.proofs.Vocabulary.{option_and_then, AllByRecursion, Decides-eqb, All-head, All-tail, All-nil, All-cons, EntryPart, House, agreement, node_of, split_of, decision_of, splits}
+use Rattle.gu_depend.proofs.Vocabulary.{decides, same_name, use_of_node, deed_of, dealings_in, dealings, limit_of, refusal_of, row, split_row, claim_row, is_taker, is_giver, first_refused, IsLegal}
+use Rattle.gu_depend.proofs.Vocabulary.{is_ready, in_lawful_order, IsLawfulOrder, Deed, Makes, Raises, Dealing, Command, Trade, Split, Claim, Refuse, Cancel, Agree, Raise, Record, Kind, Node}
+use Rattle.gu_depend.proofs.Vocabulary.{Refusal, at_node, fits, AllFit, legal_from_replay, replay_from_legal, and_parts, HasDistinctNumbers, eqb_symm, name_is, name_same, node_called}
+use Rattle.gu_depend.proofs.Finds.{some_there, count_cons, count_permuted, find_permuted, none_before}
 use Rattle.gu_depend.proofs.Grown.{ThereFor, Within, Grown, grown_none, grown_push, owns_same, depth_same}
 use Rattle.std.proofs.lemmas.List.Sorted.{All-permutation, length_permutation}
 use Rattle.std.proofs.lemmas.Map.Keys.{IsDistinct-head, IsDistinct-tail}
 use Rattle.gu_depend.specs.Under.{names}
-use Rattle.gu_depend.proofs.Finds.{count_cons, count_permuted, find_permuted, none_before}
 use Rattle.gu_depend.proofs.Names.{at_name, node_permuted}
-use Rattle.gu_depend.proofs.NamedOnce.{NamedOnce, named_once}
+use Rattle.gu_depend.proofs.Settled.{NamedOnce, named_once, SettledAs, SettledAt, IsYours, decision_row, split_moved, Settled, facts, front_within, front_short}
 use Rattle.gu_depend.proofs.Deals.{numbered, dealt, both_same, dealings_grown, dealings_cut, dealings_idle, raised_may, claim_within}
 use Rattle.gu_base.proofs.Basics.{or_false}
-use Rattle.gu_depend.proofs.Settled.{SettledAs, SettledAt, IsYours, decision_row, split_moved, Settled, facts, front_within, front_short}
 use Rattle.gu_base.proofs.Passing.{none_at_node, split_accepted, claim_accepted, agree_accepted, raise_accepted, decision_accepted, refusal_none}
 
 -- ---- numbers that stand once
@@ -82,10 +80,6 @@ order_short l o b rest same e = omega (arith, front_short o b rest e, same.long)
 
 pub both_true : (a b : Bool) → a ≡ true → b ≡ true → (a && b) ≡ true
 both_true a b e f = ap (λ z. z && b) e ∙ f
-
-some_there : (o : Option Node) → is_some o ≡ true → (x : Node) × (o ≡ Some x)
-some_there None h = absurd (cc)
-some_there (Some x) h = (x, refl)
 
 moved : (b : List Record) (m n : EntryPart) → same_name m n ≡ true → is_some (node_of b m) ≡ true → (x : Node) × (node_of b n ≡ Some x)
 moved b m n is h = subst (λ (z : EntryPart). (x : Node) × (node_of b z ≡ Some x)) (name_is m n is) (some_there (node_of b m) h)

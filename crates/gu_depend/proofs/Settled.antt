@@ -1,17 +1,50 @@
 -- What holds of the changes of a legal list over the whole list, wherever each of them stands.
-use Rattle.gu_depend.proofs.Vocabulary.{◌≡◌, ℕ, ◌≤◌, Bool, true, not, ◌&&◌, List, [], ◌∷◌, ◌++◌, length, length-append, refl, sym, ◌∙◌, ap, subst, arith}
-use Rattle.gu_depend.proofs.Vocabulary.{Option, All, append-nil, append_assoc, inl, inr, Some, None, is_none, nat_lt, All-nil, All-push, EntryPart, House, knows_firm, agreement, node_of}
-use Rattle.gu_depend.proofs.Vocabulary.{owns, depth_of, decision_of, is_offered, is_given, splits, decides, refusal_of, row, trade_row, split_row, claim_row, Refusal, NotOffered, NotYours, first}
-use Rattle.gu_depend.proofs.Vocabulary.{unless, is_taker, is_giver, first_refused, IsLegal, Part, Command, Trade, Split, Claim, Refuse, Cancel, Agree, Raise, Record, Kind, Node, deed_of}
-use Rattle.gu_depend.proofs.Vocabulary.{dealings_in, Deed, at_node, node_more, legal_from_replay, fits, AllFit, same_Some, at_node_none, SplitHolds, claim_passes, agree_passes, raise_passes}
-use Rattle.gu_depend.proofs.Vocabulary.{refusal_parts, splits_well, decides_well, node_called, no_some, or_cases}
+use Rattle.gu_depend.proofs.Vocabulary.{◌≡◌, ◌≤◌, true, List, [], ◌∷◌, ◌++◌, sym, subst, arith, append-nil, append_assoc, Some, None, count_by, EntryPart, House, node_of}
+use Rattle.gu_depend.proofs.Vocabulary.{decision_of, is_given, splits, decides, refusal_of, row, first_refused, Record, Node, node_more, none_refused, refusal_parts, splits_well, decides_well, ℕ}
+use Rattle.gu_depend.proofs.Vocabulary.{Bool, not, ◌&&◌, length, length-append, refl, ◌∙◌, ap, Option, All, inl, inr, is_none, nat_lt, All-nil, All-push, knows_firm, agreement, owns}
+use Rattle.gu_depend.proofs.Vocabulary.{depth_of, is_offered, trade_row, split_row, claim_row, Refusal, NotOffered, NotYours, first, unless, is_taker, is_giver, IsLegal, Part, Command, Trade, Split}
+use Rattle.gu_depend.proofs.Vocabulary.{Claim, Refuse, Cancel, Agree, Raise, Kind, deed_of, dealings_in, Deed, at_node, legal_from_replay, fits, AllFit, same_Some, at_node_none, SplitHolds}
+use Rattle.gu_depend.proofs.Vocabulary.{claim_passes, agree_passes, raise_passes, node_called, no_some, or_cases}
+use Rattle.gu_depend.proofs.Finds.{once_push, find_more}
+use Rattle.gu_base.proofs.Decisions.{Which, before, here, which}
 use Rattle.gu_depend.proofs.Grown.{ThereFor, Within, Grown, grown_none, grown_push, owns_same, depth_same}
-use Rattle.gu_depend.proofs.Finds.{find_more}
 use Rattle.gu_depend.proofs.Names.{at_name}
-use Rattle.gu_depend.proofs.NamedOnce.{NamedOnce, named_once}
 use Rattle.gu_depend.proofs.Deals.{numbered, deed_grown, dealings_grown, dealings_cut, dealings_idle, row_fits}
 use Rattle.gu_base.proofs.Dealt.{fit_append}
 use Rattle.gu_base.proofs.Passing.{split_passes, ClaimHolds, AgreeHolds, decision_passes}
+
+-- ---- what a list names, and what it finds
+
+-- a node is split once and decided once at most, and only given ones are decided
+pub record NamedOnce (l : List Record) : Type 0 where
+  pub given : (n : EntryPart) (r : Record) → decision_of l n ≡ Some r → (x : Node) × ((node_of l n ≡ Some x) × (is_given x.kind ≡ true))
+  pub splits_once : (n : EntryPart) → count_by (λ r. splits n r.command) l ≤ 1
+  pub decisions_once : (n : EntryPart) → count_by (λ r. decides n r.command) l ≤ 1
+
+given_or : (t : House) (l : List Record) (r : Record) (n : EntryPart) (d : Record) → NamedOnce l → row t l r.firm r.command ≡ None → Which l r n d
+    → (x : Node) × ((node_of (l ++ r ∷ []) n ≡ Some x) × (is_given x.kind ≡ true))
+given_or t l r n d s h (before e) = let x = s.given n d e in (x.0, (node_more l (r ∷ []) n x.0 x.1.0, x.1.1))
+given_or t l r n d s h (here is _) = let w = decides_well t l r.firm r.command n h is in (w.node, (node_more l (r ∷ []) n w.node w.there, w.given))
+
+pub named_once_push : (t : House) (l : List Record) (r : Record) → NamedOnce l → row t l r.firm r.command ≡ None → NamedOnce (l ++ r ∷ [])
+named_once_push t l r s h = record {
+  given = λ n d e. given_or t l r n d s h (which l r n d e);
+  splits_once = λ n. once_push (λ r. splits n r.command) l r (s.splits_once n) (λ is. (splits_well t l r.firm r.command n h is).whole);
+  decisions_once = λ n. once_push (λ r. decides n r.command) l r (s.decisions_once n) (λ is. (decides_well t l r.firm r.command n h is).undecided);
+}
+
+pub named_once_none : NamedOnce []
+named_once_none = record { given = λ n r e. absurd (cc); splits_once = λ n. omega arith; decisions_once = λ n. omega arith }
+
+pub named_once_from : (t : House) (done rest : List Record) → NamedOnce done → first_refused t done rest ≡ None → NamedOnce (done ++ rest)
+named_once_from t done [] s none = subst (λ (l : List Record). NamedOnce l) (sym (append-nil done)) s
+named_once_from t done (r ∷ rest) s none =
+    let p = none_refused (refusal_of t done r.firm r.command) r.number (first_refused t (done ++ r ∷ []) rest) none in
+    subst (λ (l : List Record). NamedOnce l) (append_assoc done (r ∷ []) rest)
+    (named_once_from t (done ++ r ∷ []) rest (named_once_push t done r s (refusal_parts t done r.firm r.command p.0).1) p.1)
+
+pub named_once : (t : House) (l : List Record) → first_refused t [] l ≡ None → NamedOnce l
+named_once t l none = named_once_from t [] l named_once_none none
 
 -- a node of the list, of which this holds
 pub record SettledAt (l : List Record) (n : EntryPart) (P : Node → Type 0) : Type 0 where
@@ -83,9 +116,7 @@ decision_row b yours x = first (unless (is_offered b x) NotOffered ∷ unless (y
 
 settles_at : (l b : List Record) (n : EntryPart) (line : Node → Option Refusal) (P : Node → Type 0) → Grown l b → at_node line (node_of b n) ≡ None
     → ((x : Node) → node_of b n ≡ Some x → line x ≡ None → P x) → SettledAt l n P
-settles_at l b n line P g h holds =
-    let x = at_node_none line (node_of b n) h in
-    record { node = x.0; there = g.within.nodes n x.0 x.1.0; holds = holds x.0 x.1.0 x.1.1 }
+settles_at l b n line P g h holds = let x = at_node_none line (node_of b n) h in record { node = x.0; there = g.within.nodes n x.0 x.1.0; holds = holds x.0 x.1.0 x.1.1 }
 
 decision_settles : (l b : List Record) (n : EntryPart) (yours : Kind → Bool) → Grown l b → at_node (decision_row b yours) (node_of b n) ≡ None → SettledAt l n (IsYours yours)
 decision_settles l b n yours g h = settles_at l b n (decision_row b yours) (IsYours yours) g h (λ x found passes. let p = decision_passes b x (yours x.kind) passes in (p.0, p.2))

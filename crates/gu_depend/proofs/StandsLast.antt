@@ -1,19 +1,17 @@
 -- A change that stands under none of those behind it can stand behind them all.
-use Rattle.gu_depend.proofs.Vocabulary.{◌≡◌, ℕ, ◌+◌, Bool, true, false, ◌||◌, List, [], ◌∷◌, ◌++◌, refl, sym, ◌∙◌, ap, subst, cond, Option, Contains, All}
-use Rattle.gu_depend.proofs.Vocabulary.{append-nil, append_assoc, inl, inr, Some, None, find, is_some, is_none, option_and_then, option_map, ◌==◌, option_or, list_any, All-head}
-use Rattle.gu_depend.proofs.Vocabulary.{All-tail, find-append, EntryPart, House, agreement, node_of, nodes_of, decision_of, is_given, same_name, splits, decides, refusal_of, row, first_refused}
-use Rattle.gu_depend.proofs.Vocabulary.{without, is_ready, in_lawful_order, Command, Trade, Split, Claim, Refuse, Cancel, Record, Root, Node, Refusal, deed_of, dealings_in, dealings, terms_under}
-use Rattle.gu_depend.proofs.Vocabulary.{raised_under, limit_under, used_under, terms_of, limit_of, used_of, leave_out, first_under_deed, Deed, Dealing, Agreement, or_none, no_some, and_parts}
-use Rattle.gu_depend.proofs.Vocabulary.{or_cases, false_from_ne_true, node_more, none_refused, legal_from_replay, fits, AllFit, first_unfit, Decides-eqb, same_Some, refusal_parts, splits_well}
-use Rattle.gu_depend.proofs.Vocabulary.{decides_well, name_is, made_of, node_cut, first_or, found_in, find_passes}
+use Rattle.gu_depend.proofs.Vocabulary.{◌≡◌, ℕ, ◌+◌, Bool, true, false, ◌||◌, List, [], ◌∷◌, ◌++◌, refl, sym, ◌∙◌, ap, subst, cond, Option, Contains, All, append-nil}
+use Rattle.gu_depend.proofs.Vocabulary.{append_assoc, inl, inr, Some, None, find, is_some, is_none, option_and_then, option_map, ◌==◌, option_or, list_any, All-head, All-tail, find-append}
+use Rattle.gu_depend.proofs.Vocabulary.{EntryPart, House, agreement, node_of, nodes_of, decision_of, is_given, same_name, splits, decides, refusal_of, row, first_refused, without, is_ready}
+use Rattle.gu_depend.proofs.Vocabulary.{in_lawful_order, Command, Trade, Split, Claim, Refuse, Cancel, Record, Root, Node, Refusal, deed_of, dealings_in, dealings, terms_under, raised_under}
+use Rattle.gu_depend.proofs.Vocabulary.{limit_under, used_under, terms_of, limit_of, used_of, leave_out, first_under_deed, Deed, Dealing, Agreement, or_none, no_some, and_parts, or_cases}
+use Rattle.gu_depend.proofs.Vocabulary.{false_from_ne_true, node_more, none_refused, legal_from_replay, fits, AllFit, first_unfit, Decides-eqb, same_Some, refusal_parts, splits_well, decides_well}
+use Rattle.gu_depend.proofs.Vocabulary.{name_is, made_of, node_cut, first_or, found_in, find_passes}
 use Rattle.std.proofs.lemmas.List.Folds.{list_any_at}
 use Rattle.gu_depend.specs.Under.{names, is_under, stands_under, deals_under}
 use Rattle.gu_depend.proofs.Finds.{found_once}
 use Rattle.gu_depend.proofs.Names.{makes, node_by_maker, makers_once, made_alone}
-use Rattle.gu_depend.proofs.NamedOnce.{named_once}
-use Rattle.gu_depend.proofs.Settled.{free_decided, front_within, accepted_there, facts}
-use Rattle.gu_depend.proofs.Deals.{numbered, deed_grown, dealings_grown, dealings_append, dealings_cut, dealings_idle, row_fits, deal_is, at_pair, same_pair, unfit_without, left_out}
-use Rattle.gu_depend.proofs.Deals.{deal_cut}
+use Rattle.gu_depend.proofs.Settled.{named_once, free_decided, front_within, accepted_there, facts}
+use Rattle.gu_depend.proofs.Deals.{numbered, deed_grown, dealings_grown, dealings_append, dealings_cut, dealings_idle, row_fits, deal_is, at_pair, same_pair, unfit_without, left_out, deal_cut}
 use Rattle.gu_base.proofs.Dealt.{none_unfit, fit_front, unfit_cut, fit_last, terms_last, raised_last, used_last}
 use Rattle.gu_depend.proofs.Replay.{NumbersOnce, Legal, PairsFit, Runs, both_true, ready_there, ready_split, ready_from, ready_replays, finds, dealings_found}
 use Rattle.gu_depend.proofs.State.{state_same}

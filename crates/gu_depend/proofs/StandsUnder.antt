@@ -1,23 +1,22 @@
 -- The first change that would be refused without another is the first that the other stands under.
-use Rattle.gu_depend.proofs.Vocabulary.{◌≡◌, ℕ, zero, ◌+◌, ◌<◌, ◌≤◌, Bool, true, false, not, ◌&&◌, ◌||◌, List, [], ◌∷◌, ◌++◌, refl, sym}
-use Rattle.gu_depend.proofs.Vocabulary.{◌∙◌, ap, subst, arith, cond, Option, Contains, All, IsPermutation, append_assoc, map, inl, inr, Some, None, find, count_by, is_some, is_none}
-use Rattle.gu_depend.proofs.Vocabulary.{option_and_then, option_map, ◌==◌, option_or, list_any, AllByRecursion, Decides-eqb, All-nil, All-cons, All-weaker, All-contains, All-contains_itself}
-use Rattle.gu_depend.proofs.Vocabulary.{Contains-append_right, find-append, EntryPart, House, node_of, nodes_of, decision_of, is_given, same_name, splits, decides, refusal_of, first_refused}
-use Rattle.gu_depend.proofs.Vocabulary.{IsLegal, without, standing_on, Refusal, Command, Trade, Split, Claim, Refuse, Cancel, Agree, Record, Root, Node, RisesFrom, replay_front}
-use Rattle.gu_depend.proofs.Vocabulary.{HasDistinctNumbers, same_Some, refusal_parts, splits_well, name_same, node_called, made_of, none_is_some, no_some, found_in, find_passes, false_from_ne_true}
+use Rattle.gu_depend.proofs.Vocabulary.{◌≡◌, ℕ, zero, ◌+◌, ◌<◌, ◌≤◌, Bool, true, false, not, ◌&&◌, ◌||◌, List, [], ◌∷◌, ◌++◌, refl, sym, ◌∙◌, ap, subst}
+use Rattle.gu_depend.proofs.Vocabulary.{arith, cond, Option, Contains, All, IsPermutation, append_assoc, map, inl, inr, Some, None, find, count_by, is_some, is_none, option_and_then, option_map}
+use Rattle.gu_depend.proofs.Vocabulary.{◌==◌, option_or, list_any, AllByRecursion, Decides-eqb, All-nil, All-cons, All-weaker, All-contains, All-contains_itself, Contains-append_right}
+use Rattle.gu_depend.proofs.Vocabulary.{find-append, EntryPart, House, node_of, nodes_of, decision_of, is_given, same_name, splits, decides, refusal_of, first_refused, IsLegal, without, standing_on}
+use Rattle.gu_depend.proofs.Vocabulary.{Refusal, Command, Trade, Split, Claim, Refuse, Cancel, Agree, Record, Root, Node, RisesFrom, replay_front, HasDistinctNumbers, same_Some, refusal_parts}
+use Rattle.gu_depend.proofs.Vocabulary.{splits_well, name_same, node_called, made_of, none_is_some, no_some, found_in, find_passes, false_from_ne_true}
 use Rattle.std.specs.List.{IsDistinct}
 use Rattle.std.proofs.lemmas.List.Elements.{All-filter}
 use Rattle.std.proofs.lemmas.Map.Keys.{IsDistinct-cons}
 use Rattle.gu_depend.specs.Same.{IsSameState}
 use Rattle.std.proofs.lemmas.List.Sorted.{IsPermutation-refl}
 use Rattle.gu_depend.specs.Under.{names, is_under, stands_under, deals_under, first_under, IsLeastUnder}
-use Rattle.gu_depend.proofs.Finds.{none_counts, counts_in, found_once, none_before, count_append, count_permuted}
+use Rattle.gu_depend.proofs.Finds.{none_counts, counts_in, found_once, none_before, count_append, count_permuted, by_cut}
 use Rattle.gu_depend.proofs.Names.{makes, node_by_maker, makers_once}
-use Rattle.gu_depend.proofs.NamedOnce.{NamedOnce, named_once}
+use Rattle.gu_depend.proofs.Settled.{NamedOnce, named_once, offered_again, accepted_there, front_facts}
 use Rattle.gu_depend.proofs.Grown.{NamesThere, SplitsDecided, Grown}
-use Rattle.gu_depend.proofs.Settled.{offered_again, accepted_there, front_facts}
 use Rattle.gu_depend.proofs.Replay.{Legal, legal_list, finds, order_within}
-use Rattle.gu_depend.proofs.Cuts.{by_cut, stands_between, first_cut, none_passes, moved_to_end}
+use Rattle.gu_depend.proofs.Cuts.{stands_between, first_cut, none_passes, moved_to_end}
 use Rattle.gu_depend.proofs.Deals.{deals_some}
 use Rattle.gu_depend.proofs.StandsLast.{NoneUnder, replay_stops, not_both, accepted_at, gone, unfit_here, runs_without, stops_at, stands_last}
 
@@ -117,9 +116,7 @@ module _ (t : House) (p : List Record) (k : Record) (s : List Record) (legal : L
 
   -- or under itself
   itself_none : Under k.number k.firm k.command k.command → ⊥
-  itself_none (part n x is h) =
-      let y = accepted_there t p k.firm k.command (accepted_at t l p k s legal refl) n is in
-      none_is_some (node_of p n) y.0 (before.nodes_gone n x h) y.1
+  itself_none (part n x is h) = let y = accepted_there t p k.firm k.command (accepted_at t l p k s legal refl) n is in none_is_some (node_of p n) y.0 (before.nodes_gone n x h) y.1
   itself_none (decided n split h) = no_split_decides n k.command split h
 
   -- so the first that it stands under is behind it
@@ -148,9 +145,7 @@ module _ (t : House) (p : List Record) (k : Record) (s : List Record) (legal : L
   -- where nothing stands under it by a node, it is the first that stands under what it deals
   standing_deals : NoneUnder k s → (o : Option ℕ) → deals_under t l k.number k.firm k.command ≡ o → first_refused t [] (p ++ s) ≡ o
   standing_deals un None e = (runs_without t p k s legal un e).replayed
-  standing_deals un (Some n) e =
-      let d = deals_some t l k.number k.firm k.command n e in
-      stops_at t p k s legal d.giver d.taker d.deed d.deals un n (unfit_here t p k s legal d.giver d.taker d.deed d.deals ∙ e)
+  standing_deals un (Some n) e = let d = deals_some t l k.number k.firm k.command n e in stops_at t p k s legal d.0 d.1 d.2 d.3 un n (unfit_here t p k s legal d.0 d.1 d.2 d.3 ∙ e)
 
 -- ---- the law
 
@@ -287,6 +282,4 @@ module _ (t : House) (l : List Record) (k : Record) (rises : RisesFrom 0 l) wher
   )
 
 pub standing_is_least : (t : House) (l : List Record) (k : Record) → RisesFrom 0 l → Legal t l → Contains l k → IsLeastUnder t l k (standing_on t l k.number)
-standing_is_least t l k rises legal among =
-    let first = standing_is_first t l k legal among in
-    subst (IsLeastUnder t l k) (sym first) (least_by t l k rises (find (stands_under k) l) refl first)
+standing_is_least t l k rises legal among = let first = standing_is_first t l k legal among in subst (IsLeastUnder t l k) (sym first) (least_by t l k rises (find (stands_under k) l) refl first)

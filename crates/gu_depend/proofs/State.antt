@@ -1,16 +1,16 @@
 -- Lists that find the same, and have the same changes, leave the same trees, positions and fees.
-use Rattle.gu_depend.proofs.Vocabulary.{filter_map, ◌≡◌, ℕ, zero, suc, ◌+◌, ◌≤◌, Bool, true, false, ◌&&◌, List, [], ◌∷◌, length, refl, sym, ◌∙◌, ap, arith, cond}
-use Rattle.gu_depend.proofs.Vocabulary.{Option, IsPermutation, Some, None, find, flat_map, filter, sum_by, count_by, option_and_then, option_map, unwrap_or, is_some, is_none, bytes_eq, ◌==◌}
-use Rattle.gu_depend.proofs.Vocabulary.{filter-append, sum_by-cons, sum_by-append, sum_by-le-sum_by, sum_by-IsPermutation, EntryPart, House, agreement, node_of, nodes, split_of, claim_of}
+use Rattle.gu_depend.proofs.Vocabulary.{and_parts, filter_map, ◌≡◌, ℕ, zero, suc, ◌+◌, ◌≤◌, Bool, false, ◌&&◌, List, [], ◌∷◌, length, refl, sym, ◌∙◌, ap}
+use Rattle.gu_depend.proofs.Vocabulary.{arith, Option, IsPermutation, Some, None, find, flat_map, filter, sum_by, count_by, option_and_then, option_map, unwrap_or, is_some, is_none, bytes_eq}
+use Rattle.gu_depend.proofs.Vocabulary.{◌==◌, filter-append, sum_by-cons, sum_by-append, sum_by-IsPermutation, EntryPart, House, agreement, node_of, nodes, split_of, claim_of}
 use Rattle.gu_depend.proofs.Vocabulary.{claimed_account, parent, line_within, line_of, place_of_kind, place_along, place_of, root_along, root_of, same_place, is_trade_of, trades_in, stands_at}
 use Rattle.gu_depend.proofs.Vocabulary.{position_of, dealings, terms_under, limit_under, used_under, terms_of, limit_of, used_of, charge_of_kind, charge_of_node, charge_of, charges, counted}
 use Rattle.gu_depend.proofs.Vocabulary.{Agreement, Kind, Given, Row, row_of, state_of, taker_of, made_by, parts_of, rows_within, rows_from, rows_of, Side, Command, Claim, Record, Charge, Node}
 use Rattle.gu_depend.proofs.Vocabulary.{Place, made}
+use Rattle.gu_depend.proofs.Finds.{counts_less, find_permuted}
 use Rattle.gu_base.proofs.Sums.{sum_option}
 use Rattle.std.proofs.Common.{◌*◌}
 use Rattle.gu_depend.specs.Same.{IsSameState}
-use Rattle.gu_depend.proofs.Finds.{find_permuted}
-use Rattle.gu_depend.proofs.NamedOnce.{NamedOnce}
+use Rattle.gu_depend.proofs.Settled.{NamedOnce}
 use Rattle.gu_depend.proofs.Replay.{SameFinds, same_finds, NumbersOnce}
 
 module _ {l o : List Record} (f : SameFinds l o) where
@@ -91,16 +91,11 @@ nodes_sum_permuted p q p' q' l o same ps qs =
     ∙ (ap (λ (g : Node → Bool). sum_by (λ (x : Node). x.lots) (filter p (filter g (nodes o)))) (λ i x. qs x i)
     ∙ (nodes_sum p q o ∙ (sum_by-IsPermutation (made_lots p q) l o same ∙ sym (nodes_sum p q l))))
 
-one_of_both : (a b : Bool) → cond (a && b) 1 0 ≤ cond a 1 0
-one_of_both true true = omega arith
-one_of_both true false = omega arith
-one_of_both false b = omega arith
-
 trade_once : (l : List Record) (instrument : List ℕ) (side : Side) (k : ℕ) → count_by (λ r. r.number == k) l ≤ 1
     → count_by (λ r. (r.number == k) && is_trade_of instrument side r.command) l ≤ 1
 trade_once l instrument side k once =
-    let a = sum_by-le-sum_by (λ (r : Record). cond ((r.number == k) && is_trade_of instrument side r.command) 1 0) (λ (r : Record). cond (r.number == k) 1 0) l
-    (λ r. one_of_both (r.number == k) (is_trade_of instrument side r.command)) in
+    let a = counts_less (λ (r : Record). (r.number == k) && is_trade_of instrument side r.command) (λ r. r.number == k) l
+    (λ r h. (and_parts (r.number == k) (is_trade_of instrument side r.command) h).0) in
     omega (arith, a, once)
 
 module _ {l o : List Record} (same : IsPermutation l o) (once : NumbersOnce l) (f : SameFinds l o) where

@@ -1,8 +1,8 @@
 -- What keeps terms those of a list of changes.
 use Rattle.gu_depend.proofs.Vocabulary.{Dealing, ◌≡◌, ℕ, Bool, true, false, ◌&&◌, List, [], ◌∷◌, ◌++◌, refl, sym, ◌∙◌, ap, subst, cond, Option, Contains, append-nil, inl}
-use Rattle.gu_depend.proofs.Vocabulary.{inr, Some, None, ◌==◌, option_and_then, bytes_eq, IsSomeAnd, lookup, option_or, and_parts, bytes_eq-Decides, All-contains, find-append, same_Some}
-use Rattle.gu_depend.proofs.Vocabulary.{House, agreement, deed_of, dealings, Deed, Pair, Command, Claim, Record, none_is_some, or_none, name_same, found_in, change_of}
-use Rattle.gu_depend.proofs.Vocabulary.{is_pair, PairView, TermsView, pair_at}
+use Rattle.gu_depend.proofs.Vocabulary.{inr, Some, None, ◌==◌, option_and_then, bytes_eq, IsSomeAnd, lookup, option_or, and_parts, bytes_eq-Decides, All-contains, find-append, same_Some, House}
+use Rattle.gu_depend.proofs.Vocabulary.{agreement, deed_of, dealings, Deed, Pair, Command, Claim, Record, none_is_some, or_none, name_same, found_in, change_of, is_pair, PairView, TermsView}
+use Rattle.gu_depend.proofs.Vocabulary.{pair_at}
 use Rattle.gu_depend.proofs.Finds.{some_with, none_before}
 use Rattle.gu_depend.proofs.Grown.{ThereFor, Within, NamesThere}
 use Rattle.std.specs.Prelude.{if◌then◌else◌}
@@ -37,9 +37,7 @@ other_pair p o x y of differ e =
 
 pairs_by : (P : List ℕ → List ℕ → Type 0) (g k : List ℕ) → P g k → ((x y : List ℕ) → (bytes_eq g x && bytes_eq k y) ≡ false → P x y)
     → (x y : List ℕ) (b : Bool) → (bytes_eq g x && bytes_eq k y) ≡ b → P x y
-pairs_by P g k own others x y true is =
-    let p = and_parts (bytes_eq g x) (bytes_eq k y) is in
-    at_pair P g k x y ((bytes_eq-Decides g x).0 p.0, (bytes_eq-Decides k y).0 p.1) own
+pairs_by P g k own others x y true is = let p = and_parts (bytes_eq g x) (bytes_eq k y) is in at_pair P g k x y ((bytes_eq-Decides g x).0 p.0, (bytes_eq-Decides k y).0 p.1) own
 pairs_by P g k own others x y false is = others x y is
 
 -- what holds of one pair, and of each other, holds of all

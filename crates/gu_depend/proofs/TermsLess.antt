@@ -1,16 +1,16 @@
 -- What keeps terms those of a list of changes, when one goes on which nothing stands.
-use Rattle.gu_depend.proofs.Vocabulary.{◌≡◌, ℕ, Bool, true, false, not, ◌&&◌, List, ◌∷◌, ◌++◌, refl, sym, ◌∙◌, ap, subst, cond, Option, Contains, Some, None}
-use Rattle.gu_depend.proofs.Vocabulary.{◌==◌, option_and_then, slice_get, bytes_eq, lookup, Decides-eqb, All-contains, House, standing_on, without, deed_of, dealings_in, dealings}
-use Rattle.gu_depend.proofs.Vocabulary.{leave_out, Pair, Record, none_is_some, eqb_symm, found_in, change_of, is_pair, PairView, TermsView, pair_at}
+use Rattle.gu_depend.proofs.Vocabulary.{◌≡◌, ℕ, Bool, true, false, not, ◌&&◌, List, ◌∷◌, ◌++◌, refl, sym, ◌∙◌, ap, subst, cond, Option, Contains, Some, None, ◌==◌}
+use Rattle.gu_depend.proofs.Vocabulary.{option_and_then, slice_get, bytes_eq, lookup, Decides-eqb, All-contains, House, standing_on, without, deed_of, dealings_in, dealings, leave_out, Pair, Record}
+use Rattle.gu_depend.proofs.Vocabulary.{none_is_some, eqb_symm, found_in, change_of, is_pair, PairView, TermsView, pair_at}
 use Rattle.gu_fees.specs.Terms.{row_of, IsTakenOut}
 use Rattle.gu_depend.specs.Terms.{pair_of, place_of_pair, AreTermsOf}
 use Rattle.gu_depend.proofs.Deals.{dealings_append, dealings_cut, pair, undealt, dealings_grown, left_out}
-use Rattle.gu_depend.proofs.Finds.{found_once}
+use Rattle.gu_depend.proofs.Finds.{found_once, by_cut}
 use Rattle.gu_depend.proofs.Grown.{NamesThere, Grown}
 use Rattle.gu_depend.proofs.Replay.{Legal}
 use Rattle.gu_depend.proofs.StandsLast.{not_both, gone}
 use Rattle.gu_depend.proofs.StandsUnder.{can_go, in_whole}
-use Rattle.gu_depend.proofs.Cuts.{by_cut, gone_from, find_kept}
+use Rattle.gu_depend.proofs.Cuts.{gone_from, find_kept}
 use Rattle.gu_depend.proofs.TermsFollow.{new_row, alike_at, pair_place, pair_grown, other_pair, IsRowOf, rows_moved, row_kept}
 
 module _ (t : House) (l : List Record) (k : Record) (legal : Legal t l) (among : Contains l k) (free : standing_on t l k.number ≡ None) where

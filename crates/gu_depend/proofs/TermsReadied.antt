@@ -1,7 +1,7 @@
 -- What keeps terms those of a list of changes, when a pair is made ready.
-use Rattle.gu_depend.proofs.Vocabulary.{◌≡◌, ℕ, List, [], ◌∷◌, refl, sym, ◌∙◌, ap, subst, Option, Contains, All, Some, None, IsSomeAnd}
-use Rattle.gu_depend.proofs.Vocabulary.{option_and_then, slice_get, ◌==◌, All-nil, All-head, All-tail, All-contains, All-contains_itself, All-weaker, House, agreement, deed_of}
-use Rattle.gu_depend.proofs.Vocabulary.{dealings_in, dealings, Pair, Record, none_is_some, found_in, change_of, PairView, TermsView, pair_at}
+use Rattle.gu_depend.proofs.Vocabulary.{◌≡◌, ℕ, List, [], ◌∷◌, refl, sym, ◌∙◌, ap, subst, Option, Contains, All, Some, None, IsSomeAnd, option_and_then, slice_get, ◌==◌}
+use Rattle.gu_depend.proofs.Vocabulary.{All-nil, All-head, All-tail, All-contains, All-contains_itself, All-weaker, House, agreement, deed_of, dealings_in, dealings, Pair, Record, none_is_some}
+use Rattle.gu_depend.proofs.Vocabulary.{found_in, change_of, PairView, TermsView, pair_at}
 use Rattle.std.specs.Prelude.{IfSome}
 use Rattle.gu_fees.specs.Filing.{kept_at}
 use Rattle.gu_fees.specs.Terms.{row_of, IsSameRow, IsRowAfter, IsReadied}
@@ -43,9 +43,7 @@ module _ (t : House) (l : List Record) (v : TermsView) (are : AreTermsOf t l v) 
     other_row : (x y : List ℕ) (o n : Option PairView) → row_of v x y ≡ o → IsSameRow o n → (q : PairView) → n ≡ Some q → IsRowOf t l x y q
     other_row x y None n old same q e = absurd (none_is_some n q same e)
     other_row x y (Some r) None old same q e = absurd same
-    other_row x y (Some r) (Some p) old same q e =
-        let were = are.rows x y r old in
-        subst (λ o. IfSome o (λ (q : PairView). IsRowOf t l x y q)) e (same.0 ∙ were.0, same.1 ∙ were.1)
+    other_row x y (Some r) (Some p) old same q e = let were = are.rows x y r old in subst (λ o. IfSome o (λ (q : PairView). IsRowOf t l x y q)) e (same.0 ∙ were.0, same.1 ∙ were.1)
 
     own_kept : (o n : Option PairView) (q : PairView) → o ≡ Some q → IsRowAfter o (agreement t g k) n → (p : PairView) × (n ≡ Some p)
     own_kept None n q e after = absurd (cc)

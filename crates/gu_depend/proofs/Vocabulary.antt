@@ -4,7 +4,7 @@ pub use Rattle.gu_base.specs.Answers.{is_same_id, on_change, reversal_of, revers
 pub use Rattle.gu_base.specs.Consents.{consents_left, consents_of, giver_alone, is_among, is_consenting, missing, of_node, parties_of, taker_and_giver}
 pub use Rattle.gu_base.specs.Dealt.{first_over, first_over_without, first_under_deed, first_under_terms, leave_out}
 pub use Rattle.gu_base.specs.Fees.{charge_of, charge_of_kind, charge_of_node, charges, counted}
-pub use Rattle.gu_base.specs.FirmsNamed.{NamesOnly}
+pub use Rattle.gu_base.specs.{FirmsNamed.NamesOnly, Same.same_command, SameLaws.same_name-Decides, Refusals.at_node}
 pub use Rattle.gu_base.specs.History.{RisesFrom, is_change, is_reverse_of, is_reversed, live, numbered_as, numbered_from, records}
 pub use Rattle.gu_base.specs.House.{House, agreement, knows_account, knows_firm}
 pub use Rattle.gu_base.specs.Limits.{highest_rate, most_entries, most_lots}
@@ -18,8 +18,6 @@ pub use Rattle.gu_base.specs.Refusals.{cancel_row, claim_row, first, is_giver, i
 pub use Rattle.gu_base.specs.Refusals.{split_row, trade_row, unless, used_by}
 pub use Rattle.gu_base.specs.Rows.{Row, made_by, parts_of, row_of, rows_from, rows_of, rows_within, state_after, state_of, taker_of}
 pub use Rattle.gu_base.specs.Runs.{IsRunFrom, after_all, call_of, opening_calls, opening_from, opening_history}
-pub use Rattle.gu_base.specs.Same.{same_command}
-pub use Rattle.gu_base.specs.SameLaws.{same_name-Decides}
 pub use Rattle.gu_base.specs.SamePartsLaws.{bytes_same, number_same}
 pub use Rattle.gu_base.specs.Standing.{IsLegal, first_refused, standing_on, without}
 pub use Rattle.gu_base.specs.Terms.{dealing_of, dealings, dealings_in, deed_of, limit_of, limit_under, raised_under, terms_of, terms_under, use_of_kind, use_of_node, used_of, used_under}
@@ -41,9 +39,7 @@ pub use Rattle.gu_base.proofs.Lines.{node_more}
 pub use Rattle.gu_base.proofs.NodeNames.{name_same, node_called, made_of, node_cut, made, first_or, name_is}
 pub use Rattle.gu_base.proofs.Passing.{at_node_none, claim_passes, agree_passes, raise_passes, refusal_parts, splits_well, decides_well, SplitHolds}
 pub use Rattle.gu_base.proofs.Searches.{found_in, find_passes}
-pub use Rattle.gu_base.specs.Refusals.{at_node}
-pub use Rattle.gu_fees.specs.Pairs.{PairView}
-pub use Rattle.gu_fees.specs.Rows.{is_pair}
+pub use Rattle.gu_fees.specs.{Pairs.PairView, Rows.is_pair}
 pub use Rattle.gu_fees.specs.Terms.{TermsView, pair_at}
 pub use Rattle.gu_tree.specs.NumbersOn.{number_in, numbers_on, least}
 pub use Rattle.gu_tree.specs.Shown.{HasDistinctNumbers}
@@ -51,16 +47,10 @@ pub use Rattle.gu_tree.specs.ShownAll.{change_of, named_place}
 pub use Rattle.std.proofs.Common.{◌≡◌, ℕ, Bool, true, List, [], ◌∷◌, refl, sym, ◌∙◌, ap, arith, cond, Option, zero, suc, ◌<◌, ◌≤◌, false, not, ◌++◌, length, get_or}
 pub use Rattle.std.proofs.Common.{IsPermutation, Contains, All, subst, ◌+◌, ◌&&◌, append-nil, ◌||◌, length-append, inl, inr, append_assoc, IsSomeAnd, map}
 pub use Rattle.std.proofs.lemmas.Bool.{false_from_ne_true, and_parts, or_parts, or_cases}
-pub use Rattle.std.proofs.lemmas.Bool.Decides.{Decides-eqb}
+pub use Rattle.std.proofs.lemmas.{Bool.Decides.Decides-eqb, List.Elements.All-contains_itself, List.Folds.find-append, List.Sorted.sum_by-IsPermutation, Option.same_Some, Slice.Eq.bytes_eq-Decides}
 pub use Rattle.std.proofs.lemmas.List.Elements.{All-nil, All-cons, All-head, All-tail, All-weaker, filter-append, Contains-append_right, filter_map-append, All-push, All-contains}
-pub use Rattle.std.proofs.lemmas.List.Elements.{All-contains_itself}
-pub use Rattle.std.proofs.lemmas.List.Folds.{find-append}
-pub use Rattle.std.proofs.lemmas.List.Sorted.{sum_by-IsPermutation}
 pub use Rattle.std.proofs.lemmas.List.Sums.{sum_by-cons, sum_by-append, sum_by-le-sum_by}
-pub use Rattle.std.proofs.lemmas.Option.{same_Some}
-pub use Rattle.std.proofs.lemmas.Slice.Eq.{bytes_eq-Decides}
 pub use Rattle.std.specs.List.{cons_option, list_any, AllByRecursion}
-pub use Rattle.std.specs.Map.{lookup}
-pub use Rattle.std.specs.Option.{option_or}
+pub use Rattle.std.specs.{Map.lookup, Option.option_or}
 pub use Rattle.std.specs.Prelude.{Some, None, filter, filter_map, sum_by, option_map, option_and_then, find, count_by, bytes_eq, ◌==◌, ◌↔◌, unwrap_or, is_some, is_none, flat_map}
 pub use Rattle.std.specs.Prelude.{slice_get, nat_lt}
