@@ -14,14 +14,8 @@ use Rattle.gu_base.proofs.Basics.{no_some, none_is_some, or_none}
 use Rattle.gu_base.proofs.LegalLaws.{none_refused}
 use Rattle.gu_base.proofs.Searches.{found_in, find_passes}
 use Rattle.gu_depend.specs.Same.{IsSameState}
-<<<<<<< HEAD
-use Rattle.gu_depend.proofs.Cuts.{cut_at, moved_to_end}
-use Rattle.gu_depend.proofs.Finds.{count_permuted, found_once, none_before}
-=======
-use Rattle.gu_depend.specs.Under.{names}
 use Rattle.gu_depend.proofs.Cuts.{moved_to_end}
 use Rattle.gu_depend.proofs.Finds.{cut_at, count_permuted, found_once, none_before}
->>>>>>> x_depend
 use Rattle.gu_depend.proofs.Grown.{Within, NamesThere, Grown, SplitsDecided, line_of_grown, place_same, above}
 use Rattle.gu_depend.proofs.LastMoves.{IsBefore, is_before, moves_its_own, split_kept, root_found, charge_kept}
 use Rattle.gu_depend.proofs.LastMoves as before_last
