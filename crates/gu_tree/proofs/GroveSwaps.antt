@@ -1,7 +1,9 @@
 -- What it does to the trees to put another node of its name in the place of one.
-use Rattle.std.proofs.Common.{◌≡◌, ◌≢◌, ℕ, zero, suc, ◌+◌, ◌≤◌, ◌⊎◌, inl, inr, Option, Some, None, IsSomeAnd, List, [], ◌∷◌, ◌++◌, length, refl, ap, sym, ◌∙◌, subst, arith, append_assoc, append-nil, length-append}
-use Rattle.std.specs.Prelude.{true, is_none, option_and_then, option_map, ◌↔◌}
-use Rattle.std.proofs.lemmas.Bool.{cases_eq}
+use Rattle.std.proofs.Common.{◌≡◌, ◌≢◌, ℕ, zero, suc, ◌<◌, ◌≤◌, ◌⊎◌, inl, inr, Option, Some, None, IsSomeAnd, List, [], ◌∷◌, ◌++◌, length, get_or, refl, ap, sym, ◌∙◌, subst, arith, append_assoc, append-nil, length-append}
+use Rattle.std.specs.Prelude.{true, is_none, option_and_then, option_map, ◌↔◌, ◌==◌, if◌then◌else◌}
+use Rattle.std.proofs.Math.ListN.{set, length-set}
+use Rattle.std.proofs.lemmas.Bool.{cases_eq, cond_both, eqb-true, eqb-false}
+use Rattle.std.proofs.lemmas.List.{get_or-set_same, get_or-set_other}
 use Rattle.std.proofs.lemmas.Option.{same_Some, option_and_then_some}
 use Rattle.gu_base.specs.Numbers.{EntryPart}
 use Rattle.gu_base.specs.declared.state.State.TheVariants.{Held}
@@ -9,11 +11,13 @@ use Rattle.gu_tree.specs.Rose.{Rose, Roses, leaf, parted, no_parts, part_then, h
 use Rattle.gu_tree.specs.Paths.{part_at, edit_part, node_at, edit_at, HasAt, LeadsTo}
 use Rattle.gu_tree.specs.Changes.{IsLeaf, is_open, is_undecided_leaf}
 use Rattle.gu_tree.specs.declared.head.Head.{Head}
-use Rattle.gu_tree.specs.Filing.{Filing, slot_of, Leads, turned}
-use Rattle.gu_tree.specs.Grove.{Grove, tree_of, place_of, IsLed, IsGrove, IsOn, IsFiledWith, IsSettled, IsNoted}
-use Rattle.gu_tree.specs.declared.slot.Slot.TheVariants.{Empty, Node}
+use Rattle.gu_tree.specs.Filing.{Filing, slot_of, last_of, without_slot, name_in, IsRising, Leads, turned}
+use Rattle.gu_tree.specs.Grove.{Grove, tree_of, tree_in, place_of, IsLed, IsGrove, IsOn, IsFiledWith, IsSettled, IsNoted, ChangesTree}
+use Rattle.gu_tree.specs.declared.slot.Slot.{Slot}
+use Rattle.gu_tree.specs.declared.slot.Slot.TheVariants.{Empty, Root, Node}
 use Rattle.gu_tree.proofs.Parts.{some_and, at_there, node_at-further}
-use Rattle.gu_tree.proofs.Groves.{cons-same, led-kept, leads-one, length-turned, turned-more, turned-turned}
+use Rattle.gu_tree.proofs.Slots.{with_slot, slot_of-past, slot_of-here, slot_of-other, slot_of-gone, slot_of-kept, slot-low}
+use Rattle.gu_tree.proofs.Groves.{cons-same, led-kept, leads-one, node-same, length-turned, turned-turned}
 
 pub by-cases : (a b : ℕ) → (a ≡ b) ⊎ (a ≢ b)
 by-cases a b = cases_eq a b
@@ -184,28 +188,6 @@ FilesAlike s z n = (e : ℕ) → (slot_of z e ≡ Node n) ↔ (slot_of s e ≡ N
 pub noted-kept : (s z : List Filing) (u : Rose) → FilesAlike s z (head_of u).name → IsNoted s u → IsNoted z u
 noted-kept s z u alike is = record { filed = λ e. ((λ at. (is.filed e).0 ((alike e).0 at)), (λ on. (alike e).1 ((is.filed e).1 on))); settled = is.settled }
 
--- on w is what is on u, and this entry
-pub record HasMore (u w : Rose) (entry : ℕ) : Type 0 where
-  pub on : IsOn entry w
-  pub old : (e : ℕ) → e ≢ entry → IsOn e w → IsOn e u
-  pub kept : (e : ℕ) → IsOn e u → IsOn e w
-
-module _ (s z : List Filing) {u w : Rose} {entry : ℕ} (n : EntryPart) (more : HasMore u w entry) (same : (e : ℕ) → e ≢ entry → slot_of z e ≡ slot_of s e) where
-  pub filed-more : slot_of z entry ≡ Node n → IsFiledWith s n u → IsFiledWith z n w
-  filed-more here is = λ e. elim (by-cases e entry) [
-    | inl q ↦ ((λ at. subst (λ k. IsOn k w) (sym q) more.on), (λ on. ap (slot_of z) q ∙ here))
-    | inr q ↦ ((λ at. more.kept e ((is e).0 (sym (same e q) ∙ at))), (λ on. same e q ∙ (is e).1 (more.old e q on)))
-  ]
-
-module _ (s z : List Filing) {u w : Rose} {entry : ℕ} (n : EntryPart) (more : HasMore w u entry) (same : (e : ℕ) → e ≢ entry → slot_of z e ≡ slot_of s e) where
-  pub filed-less : slot_of z entry ≡ Empty → (IsOn entry w → ⊥) → IsFiledWith s n u → IsFiledWith z n w
-  filed-less gone none is = λ e. elim (by-cases e entry) [
-    | inl q ↦ ((λ at. let y : Empty ≡ Node n = sym gone ∙ (ap (slot_of z) (sym q) ∙ at) in absurd (cc)), (λ on. absurd (none (subst (λ k. IsOn k w) q on))))
-    | inr q ↦ ((λ at. more.old e q ((is e).0 (sym (same e q) ∙ at))), (λ on. same e q ∙ (is e).1 (more.kept e on)))
-  ]
-
--- ---- a node gives way to a node of its name
-
 -- a node of this name lies there alone
 pub same-spot : {g : Grove} (u trade : ℕ) (tree t : Rose) (q p : List ℕ) (w v : Rose) → IsGrove g → tree_of g u ≡ Some tree → node_at q tree ≡ Some w → tree_of g trade ≡ Some t → node_at p t ≡ Some v
     → (head_of w).name ≡ (head_of v).name → (u ≡ trade) × (q ≡ p)
@@ -213,39 +195,162 @@ same-spot {g} u trade tree t q p w v is e at f led same =
     let one = leads-one g.slots (head_of v).name u trade (turned q) (turned p) (subst (λ n. Leads g.slots n u (turned q)) same (is.made u tree q w e at)) (is.made trade t p v f led) in
     (one.0, sym (turned-turned q) ∙ (ap turned one.1 ∙ turned-turned p))
 
-pub record IsSwap (g new : Grove) (trade : ℕ) (t v : Rose) (f : Rose → Rose) (p : List ℕ) : Type 0 where
+-- ---- the slot of one entry changes
+
+pub root-some : (i : ℕ) → Root i ≢ Empty
+root-some i e = cc
+
+pub node-some : (n : EntryPart) → Node n ≢ Empty
+node-some n e = cc
+
+-- what is so at one number, and elsewhere as it was
+pub changed-at : {A : Type 0} (e : ℕ) (x : A) (old new : ℕ → A) → new e ≡ x → ((k : ℕ) → k ≢ e → new k ≡ old k) → (k : ℕ) → new k ≡ (if k == e then x else old k)
+changed-at e x old new here there k = cond_both (k == e) x (old k) (λ z. new k ≡ z) (λ q. ap new (eqb-true k e q) ∙ here) (λ q. there k (eqb-false k e q))
+
+pub record IsOneOff (g new : Grove) (entry : ℕ) (x y : Slot) : Type 0 where
+  pub before : slot_of g.slots entry ≡ x
+  pub after : slot_of new.slots entry ≡ y
+  pub same : (k : ℕ) → k ≢ entry → slot_of new.slots k ≡ slot_of g.slots k
+
+-- an entry above all others is filed, or one is taken out
+pub filing : {g new : Grove} {entry : ℕ} {x : Slot} → last_of g.slots < entry → new.slots ≡ with_slot g.slots entry x → IsOneOff g new entry Empty x
+filing {g} {new} {entry} {x} above slots = record {
+  before = slot_of-past g.slots entry above;
+  after = ap (λ s. slot_of s entry) slots ∙ slot_of-here g.slots entry x above;
+  same = λ k other. ap (λ s. slot_of s k) slots ∙ slot_of-other g.slots entry x k other;
+}
+
+pub clearing : {g new : Grove} {entry : ℕ} {x : Slot} → slot_of g.slots entry ≡ x → new.slots ≡ without_slot g.slots entry → IsOneOff g new entry x Empty
+clearing {g} {new} {entry} was slots = record {
+  before = was;
+  after = ap (λ s. slot_of s entry) slots ∙ slot_of-gone g.slots entry;
+  same = λ k other. ap (λ s. slot_of s k) slots ∙ slot_of-kept g.slots entry k other;
+}
+
+module _ {g new : Grove} {entry : ℕ} {x y : Slot} (one : IsOneOff g new entry x y) where
+  -- what differs from both stands where it stood
+  pub slots-alike : (w : Slot) → x ≢ w → y ≢ w → (e : ℕ) → (slot_of new.slots e ≡ w) ↔ (slot_of g.slots e ≡ w)
+  slots-alike w was now e = elim (by-cases e entry) [
+    | inl q ↦ ((λ at. absurd (now (sym one.after ∙ (ap (slot_of new.slots) (sym q) ∙ at)))), (λ at. absurd (was (sym one.before ∙ (ap (slot_of g.slots) (sym q) ∙ at)))))
+    | inr q ↦ ((λ at. sym (one.same e q) ∙ at), (λ at. one.same e q ∙ at))
+  ]
+
+  pub one-place : (e : ℕ) → place_of new e ≡ (if e == entry then name_in entry y else place_of g e)
+  one-place = changed-at entry (name_in entry y) (place_of g) (place_of new) (ap (name_in entry) one.after) (λ k other. ap (name_in k) (one.same k other))
+
+-- no entry is filed with a node that a new entry makes
+pub newest-free : {g new : Grove} {entry : ℕ} {x : Slot} → IsGrove g → last_of g.slots < entry → IsOneOff g new entry Empty x → (m : EntryPart) → m.entry ≡ entry → x ≢ Node m → (e : ℕ) → slot_of new.slots e ≢ Node m
+newest-free {g} is above one m made other e at =
+    let was = (slots-alike one (Node m) (λ z. node-some m (sym z)) other e).0 at in
+    absurd (omega (arith, is.falls e m was, made, slot-low g.slots e (Node m) was (node-some m), above))
+
+-- ---- another tree, or none, stands in the place of one
+
+pub record IsPut (g new : Grove) (trade i : ℕ) (o : Option Rose) : Type 0 where
+  pub slot : slot_of g.slots trade ≡ Root i
+  pub trees : new.trees ≡ set g.trees i o
+
+module _ {g new : Grove} {trade i : ℕ} {o : Option Rose} (is : IsGrove g) (puts : IsPut g new trade i o) where
+  pub tree-put : tree_in new.trees (Root i) ≡ o
+  tree-put = ap (λ ts. get_or ts i None) puts.trees ∙ get_or-set_same g.trees i o None (is.rooted trade i puts.slot)
+
+  pub tree-same : (u : ℕ) → u ≢ trade → (x : Slot) → slot_of g.slots u ≡ x → tree_in new.trees x ≡ tree_in g.trees x
+  tree-same u other Empty e = refl
+  tree-same u other (Node n) e = refl
+  tree-same u other (Root j) e =
+      let apart : j ≢ i = λ q. other (is.apart u trade i (e ∙ ap Root q) puts.slot) in
+      ap (λ ts. get_or ts j None) puts.trees ∙ get_or-set_other g.trees i j o None apart
+
+-- ---- a node gives way to a node of its name, with or without the entry on it
+
+abbrev IsFor : EntryPart → Slot → Type 0
+IsFor n x = (x ≡ Empty) ⊎ (x ≡ Node n)
+
+for-other : (n : EntryPart) (x : Slot) → IsFor n x → (w : Slot) → w ≢ Empty → w ≢ Node n → x ≢ w
+for-other n x (inl q) w some other e = some (sym e ∙ q)
+for-other n x (inr q) w some other e = other (sym e ∙ q)
+
+for-node : (n : EntryPart) (x : Slot) → IsFor n x → (m : EntryPart) → x ≡ Node m → m ≡ n
+for-node n x (inl q) m e = absurd (node-some m (sym e ∙ q))
+for-node n x (inr q) m e = node-same m n (sym e ∙ q)
+
+no-tree : (n : EntryPart) (ts : List (Option Rose)) (x : Slot) → IsFor n x → tree_in ts x ≡ None
+no-tree n ts x (inl q) = ap (tree_in ts) q
+no-tree n ts x (inr q) = ap (tree_in ts) q
+
+pub record IsSwap (g new : Grove) (trade i : ℕ) (t v : Rose) (f : Rose → Rose) (p : List ℕ) (entry : ℕ) (x y : Slot) : Type 0 where
+  pub slot : slot_of g.slots trade ≡ Root i
   pub tree : tree_of g trade ≡ Some t
   pub led : node_at p t ≡ Some v
   pub name : (head_of (f v)).name ≡ (head_of v).name
-  pub here : tree_of new trade ≡ Some (edit_at f p t)
-  pub there : (u : ℕ) → u ≢ trade → tree_of new u ≡ tree_of g u
-  pub leads : (m : EntryPart) (u : ℕ) (up : List ℕ) → Leads g.slots m u up → (ComesUp trade p u up → ⊥) → Leads new.slots m u up
+  pub trees : new.trees ≡ set g.trees i (Some (edit_at f p t))
+  pub one : IsOneOff g new entry x y
+  pub was : IsFor (head_of v).name x
+  pub now : IsFor (head_of v).name y
+  pub rising : IsRising new.slots
+  pub last : last_of g.slots ≤ last_of new.slots
+  pub low : y ≡ Node (head_of v).name → ((head_of v).name.entry < entry) × (length p ≤ 64)
   pub free : (e : ℕ) (m : EntryPart) (q : List ℕ) (w : Rose) → place_of g e ≡ Some m → node_at q t ≡ Some w → IsNamed m w → Outside p q
   pub stays : (q : List ℕ) (w u : Rose) → node_at q t ≡ Some w → node_at q (edit_at f p t) ≡ Some u → Outside p q
-  pub places : (k : ℕ) (n : EntryPart) → place_of new k ≡ Some n → (place_of g k ≡ Some n) ⊎ ((n ≡ (head_of v).name) × (length p ≤ 64))
-  pub alike : (m : EntryPart) → m ≢ (head_of v).name → FilesAlike g.slots new.slots m
-  pub node : IsNoted new.slots (f v)
-  pub below : (q : List ℕ) (u : Rose) → IsBelow p q (f v) u → Leads new.slots (head_of u).name trade (turned q) × IsNoted new.slots u
+  pub on : (y ≡ Node (head_of v).name) ↔ IsOn entry (f v)
+  pub others : (e : ℕ) → e ≢ entry → IsOn e (f v) ↔ IsOn e v
+  pub settled : IsSettled (f v)
+  pub below : (q : List ℕ) (u : Rose) → IsBelow p q (f v) u → Leads new.slots (head_of v).name trade (turned p) → Leads new.slots (head_of u).name trade (turned q) × IsNoted new.slots u
 
-module _ {g new : Grove} {trade : ℕ} {t v : Rose} {f : Rose → Rose} {p : List ℕ} (is : IsGrove g) (sw : IsSwap g new trade t v f p) where
-  leads-node : Leads new.slots (head_of v).name trade (turned p)
+module _ {g new : Grove} {trade i : ℕ} {t v : Rose} {f : Rose → Rose} {p : List ℕ} {entry : ℕ} {x y : Slot} (is : IsGrove g) (sw : IsSwap g new trade i t v f p entry x y) where
+  abbrev n : EntryPart
+  n = (head_of v).name
+
+  stay : (w : Slot) → w ≢ Empty → w ≢ Node n → (e : ℕ) → (slot_of new.slots e ≡ w) ↔ (slot_of g.slots e ≡ w)
+  stay w some other = slots-alike sw.one w (for-other n x sw.was w some other) (for-other n y sw.now w some other)
+
+  root-stay : (u j : ℕ) → (slot_of new.slots u ≡ Root j) ↔ (slot_of g.slots u ≡ Root j)
+  root-stay u j = stay (Root j) (root-some j) (λ e. cc) u
+
+  alike : (m : EntryPart) → m ≢ n → FilesAlike g.slots new.slots m
+  alike m other = stay (Node m) (node-some m) (λ e. other (node-same m n e))
+
+  puts : IsPut g new trade i (Some (edit_at f p t))
+  puts = record { slot = sw.slot; trees = sw.trees }
+
+  tree-here : tree_of new trade ≡ Some (edit_at f p t)
+  tree-here = ap (tree_in new.trees) ((root-stay trade i).1 sw.slot) ∙ tree-put is puts
+
+  tree-there : (u : ℕ) → u ≢ trade → tree_of new u ≡ tree_of g u
+  tree-there u other = elim (by-cases u entry) [
+    | inl q ↦ ap (tree_of new) q ∙ (ap (tree_in new.trees) sw.one.after ∙ (no-tree n new.trees y sw.now ∙ sym (ap (tree_of g) q ∙ (ap (tree_in g.trees) sw.one.before ∙ no-tree n g.trees x sw.was))))
+    | inr q ↦ ap (tree_in new.trees) (sw.one.same u q) ∙ tree-same is puts u other (slot_of g.slots u) refl
+  ]
+
+  pub swapped-tree : ChangesTree g new trade (edit_at f p t)
+  swapped-tree = changed-at trade (Some (edit_at f p t)) (tree_of g) (tree_of new) tree-here tree-there
+
+  leads-on : (m : EntryPart) (u : ℕ) (up : List ℕ) → Leads g.slots m u up → (ComesUp trade p u up → ⊥) → Leads new.slots m u up
+  leads-on m u [] l free = l
+  leads-on m u (j ∷ up) l free =
+      let other : m.entry ≢ entry = λ q.
+      let same : l.1.0 ≡ n = for-node n x sw.was l.1.0 (sym sw.one.before ∙ (ap (slot_of g.slots) (sym q) ∙ l.1.1)) in
+      let one = leads-one g.slots n u trade up (turned p) (subst (λ m. Leads g.slots m u up) same l.1.2) (is.made trade t p v sw.tree sw.led) in
+      free (one.0, (j, [], ap (λ (z : List ℕ). j ∷ z) one.1)) in
+      (l.0, (l.1.0, sw.one.same m.entry other ∙ l.1.1, leads-on l.1.0 u up l.1.2 (λ c. free (c.0, (j, c.1.0 ∷ c.1.1, ap (λ (z : List ℕ). j ∷ z) c.1.2)))))
+
+  leads-node : Leads new.slots n trade (turned p)
   leads-node =
-      sw.leads (head_of v).name trade (turned p) (is.made trade t p v sw.tree sw.led)
-      (λ c. absurd (omega (arith, ap length c.1.2, length-append (c.1.0 ∷ c.1.1) (turned p))))
+      leads-on n trade (turned p) (is.made trade t p v sw.tree sw.led) (λ c. absurd (omega (arith, ap length c.1.2, length-append (c.1.0 ∷ c.1.1) (turned p))))
 
-  node-led : length p ≤ 64 → IsLed new (head_of v).name
+  node-led : length p ≤ 64 → IsLed new n
   node-led short = record {
     trade = trade;
     up = turned p;
     tree = edit_at f p t;
     leads = leads-node;
     short = omega (arith, length-turned p, short);
-    found = sw.here;
-    there = subst (λ q. LeadsTo q (edit_at f p t) (head_of v).name) (sym (turned-turned p)) (at_there (IsNamed (head_of v).name) _ (f v) (edited-there f p t v sw.led) sw.name);
+    found = tree-here;
+    there = subst (λ q. LeadsTo q (edit_at f p t) n) (sym (turned-turned p)) (at_there (IsNamed n) _ (f v) (edited-there f p t v sw.led) sw.name);
   }
 
   led-same : (k : ℕ) (n : EntryPart) → place_of g k ≡ Some n → (l : IsLed g n) → (l.trade ≡ trade) ⊎ (l.trade ≢ trade) → IsLed new n
-  led-same k n placed l (inr other) = led-kept n l (sw.leads n l.trade l.up l.leads (λ c. other c.0)) (sw.there l.trade other)
+  led-same k n placed l (inr other) = led-kept n l (leads-on n l.trade l.up l.leads (λ c. other c.0)) (tree-there l.trade other)
   led-same k n placed l (inl here) =
       let same : l.tree ≡ t = let z : Some l.tree ≡ Some t = sym l.found ∙ (ap (tree_of g) here ∙ sw.tree) in cc in
       let w = some_and (IsNamed n) (node_at (turned l.up) l.tree) l.there in
@@ -255,26 +360,49 @@ module _ {g new : Grove} {trade : ℕ} {t v : Rose} {f : Rose → Rose} {p : Lis
         trade = l.trade;
         up = l.up;
         tree = edit_at f p t;
-        leads = sw.leads n l.trade l.up l.leads (λ c. no-steps p l.up c.1.0 c.1.1 out c.1.2);
+        leads = leads-on n l.trade l.up l.leads (λ c. no-steps p l.up c.1.0 c.1.1 out c.1.2);
         short = l.short;
-        found = ap (tree_of new) here ∙ sw.here;
+        found = ap (tree_of new) here ∙ tree-here;
         there = still-outside n f p (turned l.up) t v w.0 out sw.led sw.name w.2 at;
       }
 
-  pub swapped-led : (k : ℕ) (n : EntryPart) → place_of new k ≡ Some n → IsLed new n
-  swapped-led k n e = elim (sw.places k n e) [
-    | inl placed ↦ (let l = is.led k n placed in led-same k n placed l (by-cases l.trade trade))
-    | inr node ↦ subst (IsLed new) (sym node.0) (node-led node.1)
+  led-new : (k : ℕ) (m : EntryPart) → place_of new k ≡ Some m → IsLed new m
+  led-new k m e = elim (by-cases k entry) [
+    | inl q ↦ (let at : name_in entry y ≡ Some m = sym (ap (name_in entry) sw.one.after) ∙ (ap (place_of new) (sym q) ∙ e) in
+        elim sw.now [
+          | inl none ↦ (let z : None ≡ Some m = ap (name_in entry) (sym none) ∙ at in absurd (cc))
+          | inr node ↦ subst (IsLed new) (same_Some n m (ap (name_in entry) (sym node) ∙ at)) (node-led (sw.low node).1)
+        ])
+    | inr q ↦ (let placed = sym (ap (name_in k) (sw.one.same k q)) ∙ e in let l = is.led k m placed in led-same k m placed l (by-cases l.trade trade))
   ]
+
+  falls-new : (k : ℕ) (m : EntryPart) → slot_of new.slots k ≡ Node m → m.entry < k
+  falls-new k m e = elim (by-cases k entry) [
+    | inl q ↦ (let at : y ≡ Node m = sym sw.one.after ∙ (ap (slot_of new.slots) (sym q) ∙ e) in
+        let same = for-node n y sw.now m at in
+        omega (arith, (sw.low (at ∙ ap Node same)).0, q, ap (λ (z : EntryPart). z.entry) same))
+    | inr q ↦ is.falls k m (sym (sw.one.same k q) ∙ e)
+  ]
+
+  -- on the node is what was, but for the entry
+  node-noted : IsNoted new.slots (f v)
+  node-noted = record { filed = subst (λ m. IsFiledWith new.slots m (f v)) (sym sw.name) filed; settled = sw.settled }
+    where
+      filed : IsFiledWith new.slots n (f v)
+      filed e = elim (by-cases e entry) [
+        | inl q ↦ ((λ at. subst (λ k. IsOn k (f v)) (sym q) (sw.on.0 (sym sw.one.after ∙ (ap (slot_of new.slots) (sym q) ∙ at)))), (λ on. ap (slot_of new.slots) q ∙ (sw.one.after ∙ sw.on.1 (subst (λ k. IsOn k (f v)) q on))))
+        | inr q ↦ (let was = (is.noted trade t p v sw.tree sw.led).filed e in
+            ((λ at. (sw.others e q).1 (was.0 (sym (sw.one.same e q) ∙ at))), (λ on. sw.one.same e q ∙ was.1 ((sw.others e q).0 on))))
+      ]
 
   was-there : (q : List ℕ) (u : Rose) → node_at q (edit_at f p t) ≡ Some u → WasThere p q t u → Leads new.slots (head_of u).name trade (turned q) × IsNoted new.slots u
   was-there q u at (w, was, like, other) =
       let out = sw.stays q w u was at in (
         subst (λ (h : Head). Leads new.slots h.name trade (turned q)) (like-head w u like)
-            (sw.leads (head_of w).name trade (turned q) (is.made trade t q w sw.tree was)
+            (leads-on (head_of w).name trade (turned q) (is.made trade t q w sw.tree was)
             (λ c. no-steps p (turned q) c.1.0 c.1.1 (subst (Outside p) (sym (turned-turned q)) out) c.1.2)),
         noted-like new.slots w u like
-            (noted-kept g.slots new.slots w (sw.alike (head_of w).name (λ s. other (same-spot trade trade t t q p w v is sw.tree was sw.tree sw.led s).1))
+            (noted-kept g.slots new.slots w (alike (head_of w).name (λ s. other (same-spot trade trade t t q p w v is sw.tree was sw.tree sw.led s).1))
             (is.noted trade t q w sw.tree was)),
       )
 
@@ -282,7 +410,7 @@ module _ {g new : Grove} {trade : ℕ} {t v : Rose} {f : Rose → Rose} {p : Lis
   put-here q u at same = (
     subst (λ x. Leads new.slots (head_of u).name trade (turned x)) (sym at)
         (subst (λ n. Leads new.slots n trade (turned p)) (sym (ap (λ x. (head_of x).name) same ∙ sw.name)) leads-node),
-    subst (IsNoted new.slots) (sym same) sw.node,
+    subst (IsNoted new.slots) (sym same) node-noted,
   )
 
   in-tree : (tree : Rose) (q : List ℕ) (u : Rose) → tree ≡ edit_at f p t → node_at q tree ≡ Some u → Leads new.slots (head_of u).name trade (turned q) × IsNoted new.slots u
@@ -290,16 +418,28 @@ module _ {g new : Grove} {trade : ℕ} {t v : Rose} {f : Rose → Rose} {p : Lis
       let there = subst (λ x. node_at q x ≡ Some u) same at in
       elim (from-edited f p q t v u sw.led there) [
         | inl was ↦ was-there q u there was
-        | inr put ↦ elim put [ inl here ↦ put-here q u here.0 here.1 | inr below ↦ sw.below q u below ]
+        | inr put ↦ elim put [ inl here ↦ put-here q u here.0 here.1 | inr below ↦ sw.below q u below leads-node ]
       ]
 
-  pub swapped : (u : ℕ) (tree : Rose) (q : List ℕ) (w : Rose) → tree_of new u ≡ Some tree → node_at q tree ≡ Some w → Leads new.slots (head_of w).name u (turned q) × IsNoted new.slots w
+  swapped : (u : ℕ) (tree : Rose) (q : List ℕ) (w : Rose) → tree_of new u ≡ Some tree → node_at q tree ≡ Some w → Leads new.slots (head_of w).name u (turned q) × IsNoted new.slots w
   swapped u tree q w e at = elim (by-cases u trade) [
-    | inl here ↦ (let z : Some tree ≡ Some (edit_at f p t) = sym e ∙ (ap (tree_of new) here ∙ sw.here) in
+    | inl here ↦ (let z : Some tree ≡ Some (edit_at f p t) = sym e ∙ (ap (tree_of new) here ∙ tree-here) in
         let same : tree ≡ edit_at f p t = cc in
         subst (λ x. Leads new.slots (head_of w).name x (turned q) × IsNoted new.slots w) (sym here) (in-tree tree q w same at))
-    | inr other ↦ (let found = sym (sw.there u other) ∙ e in (
-      sw.leads (head_of w).name u (turned q) (is.made u tree q w found at) (λ c. other c.0),
-      noted-kept g.slots new.slots w (sw.alike (head_of w).name (λ s. other (same-spot u trade tree t q p w v is found at sw.tree sw.led s).0)) (is.noted u tree q w found at),
+    | inr other ↦ (let found = sym (tree-there u other) ∙ e in (
+      leads-on (head_of w).name u (turned q) (is.made u tree q w found at) (λ c. other c.0),
+      noted-kept g.slots new.slots w (alike (head_of w).name (λ s. other (same-spot u trade tree t q p w v is found at sw.tree sw.led s).0)) (is.noted u tree q w found at),
     ))
   ]
+
+  pub swapped-grove : IsGrove new
+  swapped-grove = record {
+    rising = sw.rising;
+    few = omega (arith, is.few, ap length sw.trees, length-set g.trees i (Some (edit_at f p t)), sw.last);
+    rooted = λ u j e. omega (arith, is.rooted u j ((root-stay u j).0 e), ap length sw.trees, length-set g.trees i (Some (edit_at f p t)));
+    apart = λ u w j a b. is.apart u w j ((root-stay u j).0 a) ((root-stay w j).0 b);
+    falls = falls-new;
+    led = led-new;
+    made = λ u tree q w e at. (swapped u tree q w e at).0;
+    noted = λ u tree q w e at. (swapped u tree q w e at).1;
+  }
