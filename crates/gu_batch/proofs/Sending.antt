@@ -5,13 +5,11 @@ use Rattle.gu_codec.specs.Writing.{HeaderText, fields_text, header_pairs, front_
 use Rattle.gu_codec.proofs.ReadBack.{text_of_message}
 use Rattle.gu_message.specs.Meaning.{meaning_of}
 use Rattle.gu_message.specs.Reply.{Reply, message_of}
-use Rattle.gu_base.specs.declared.command.Command.{Command}
-use Rattle.gu_message.specs.Outcome.{Gives}
+use Rattle.gu_message.specs.Outcome.{GivesBy, IsSplit}
 use Rattle.gu_message.specs.declared.fault.Reject.{Reject}
 use Rattle.gu_message.specs.declared.fault.MeaningError.{MeaningError}
 use Rattle.gu_message.specs.declared.fault.MeaningError.TheVariants as errors
 use Rattle.gu_message.specs.declared.inbound.Inbound.{Inbound}
-use Rattle.gu_message.specs.declared.inbound.Inbound.TheVariants.{Call}
 use Rattle.gu_batch.specs.Output.{Progress, stamp, sent, replies_by, answers_by, answers_to, progress_by, progress_after}
 
 -- the header's fields and a body
@@ -40,17 +38,14 @@ pub one_after : (p : Progress) (message : Message) (r : Result Inbound Reject) �
 unfolding progress_after
 one_after p message r m = ap (progress_by p message) (sym m)
 
--- the meaning that a call of `meaning` gave
-pub means : (p : Progress) (message : Message) (house : List ℕ) (result : Result Inbound MeaningError) (r : Result Inbound Reject) → house ≡ p.house.house → Gives result (meaning_of house message)
-    → (Gives result (meaning_of house message) → meaning_of house message ≡ r) → meaning_of p.house.house message ≡ r
-means p message house result r same g k = subst (λ (h : List ℕ). meaning_of h message ≡ r) same (k g)
+-- the meaning that was put into this place
+pub put_call : (p : Progress) (message : Message) (read : Result (Unit {0}) MeaningError) (done : Unit {0}) (place call : Inbound)
+    → GivesBy IsSplit (λ _. place) read (meaning_of p.house.house message) → read ≡ Ok done → place ≡ call → meaning_of p.house.house message ≡ Ok call
+put_call p message read done place call gives ok is =
+    let put : meaning_of p.house.house message ≡ Ok place = subst (λ (r : Result (Unit {0}) MeaningError). GivesBy IsSplit (λ (_ : Unit {0}). place) r (meaning_of p.house.house message)) ok gives in
+    put ∙ ap (λ (m : Inbound). Ok m) is
 
-pub means_call : (p : Progress) (message : Message) (house : List ℕ) (result : Result Inbound MeaningError) (firm : List ℕ) (trade : Bool) (id : List ℕ) (command : Command)
-    → house ≡ p.house.house → Gives result (meaning_of house message) → result ≡ Ok (Call firm trade id command) → meaning_of p.house.house message ≡ Ok (Call firm trade id command)
-means_call p message house result firm trade id command same g e =
-    means p message house result (Ok (Call firm trade id command)) same g (λ h. subst (λ (r : Result Inbound MeaningError). Gives r (meaning_of house message)) e h)
-
-pub means_fault : (p : Progress) (message : Message) (house : List ℕ) (result : Result Inbound MeaningError) (fault : Reject)
-    → house ≡ p.house.house → Gives result (meaning_of house message) → result ≡ Err (errors.Reject fault) → meaning_of p.house.house message ≡ Err fault
-means_fault p message house result fault same g e =
-    means p message house result (Err fault) same g (λ h. subst (λ (r : Result Inbound MeaningError). Gives r (meaning_of house message)) e h)
+pub put_fault : (p : Progress) (message : Message) (read : Result (Unit {0}) MeaningError) (place : Inbound) (fault : Reject)
+    → GivesBy IsSplit (λ _. place) read (meaning_of p.house.house message) → read ≡ Err (errors.Reject fault) → meaning_of p.house.house message ≡ Err fault
+put_fault p message read place fault gives err =
+    subst (λ (r : Result (Unit {0}) MeaningError). GivesBy IsSplit (λ (_ : Unit {0}). place) r (meaning_of p.house.house message)) err gives
