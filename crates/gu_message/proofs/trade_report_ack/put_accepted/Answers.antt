@@ -1,11 +1,8 @@
-use Rattle.std.proofs.Common.{◌≡◌, ◌∙◌, length, take, ap, sym, arith}
-use Rattle.std.specs.Prelude.{decimal}
-use Rattle.std.proofs.lemmas.List.{take_all}
+use Rattle.std.specs.Prelude.{decimal, take}
 use Rattle.gu_message.proofs.Joined.{trade_text}
 use Rattle.gu_message.proofs.trade_report_ack.put_accepted.Goals as goal
 
-pub returns : goal.returns
-returns c =
-    let whole : take c.put.result c.put.new.bytes ≡ c.put.new.bytes = take_all c.put.result c.put.new.bytes (omega (arith, c.requires.fits, c.put.ensures.end, c.put.ensures.len, c.put_number-at.ensures.end, c.put_number-at.ensures.len, c.put-at-3.ensures.end, c.put-at-3.ensures.len, c.put-at-2.ensures.end, c.put-at-2.ensures.len, c.put-at.ensures.end, c.put-at.ensures.len, ap length c.as_bytes.ensures.value)) in
-    sym whole ∙ rw (c.put.ensures.text, c.put_number-at.ensures.text, c.put-at-3.ensures.text, c.put-at-2.ensures.text, c.put-at.ensures.text, c.as_bytes.ensures.value)
-    (trade_text (take c.args.start c.args.bytes.now) c.args.id.now (decimal c.args.number))
+pub returns-clause-text : goal.returns-clause-text
+returns-clause-text c =
+    rw (c.put.ensures.text, c.put_entry-at.ensures.text, c.put-at-3.ensures.text, c.put-at-2.ensures.text, c.put-at.ensures.text, c.as_bytes.ensures.value)
+    (trade_text (take c.args.at c.args.bytes.now) c.args.id.now (decimal c.args.number))
