@@ -1,7 +1,7 @@
 -- What is sent, as the answers of the definitions.
-use Rattle.std.proofs.Common.{◌≡◌, ℕ, ◌+◌, Bool, List, [], ◌∷◌, ◌++◌, Result, Ok, Err, sym, ap, subst, ◌∙◌, append-nil}
+use Rattle.std.proofs.Common.{◌≡◌, ℕ, ◌+◌, Bool, List, [], ◌∷◌, ◌++◌, length, take, Result, Ok, Err, sym, ap, subst, ◌∙◌, append-nil, append_assoc}
 use Rattle.gu_codec.specs.Messages.{Message}
-use Rattle.gu_codec.specs.Writing.{HeaderText, fields_text, header_pairs, frame_text, message_text, stream_text}
+use Rattle.gu_codec.specs.Writing.{HeaderText, fields_text, header_pairs, front_text, frame_text, message_text, stream_text}
 use Rattle.gu_codec.proofs.ReadBack.{text_of_message}
 use Rattle.gu_message.specs.Meaning.{meaning_of}
 use Rattle.gu_message.specs.Reply.{Reply, message_of}
@@ -18,6 +18,13 @@ use Rattle.gu_batch.specs.Output.{Progress, stamp, sent, replies_by, answers_by,
 pub sent_text : (h : HeaderText) (fs : Message) (body old new : List ℕ) → body ≡ fields_text fs → new ≡ old ++ frame_text (fields_text (header_pairs h) ++ body) → new ≡ old ++ message_text (header_pairs h ++ fs)
 sent_text h fs body old new b e =
     e ∙ ap (λ (t : List ℕ). old ++ frame_text (fields_text (header_pairs h) ++ t)) b ∙ ap (λ (t : List ℕ). old ++ t) (sym (text_of_message h fs))
+
+-- what stands before a body, and the body that is put behind it
+pub answer_put : (h : HeaderText) (fs : Message) (old opened put : List ℕ) (at end n : ℕ)
+    → take at opened ≡ old ++ front_text h n → n ≡ length (fields_text fs) → take end put ≡ take at opened ++ fields_text fs
+    → take end put ≡ old ++ (front_text h (length (fields_text fs)) ++ fields_text fs)
+answer_put h fs old opened put at end n front len e =
+    e ∙ ap (λ (t : List ℕ). t ++ fields_text fs) (front ∙ ap (λ (k : ℕ). old ++ front_text h k) len) ∙ append_assoc old (front_text h (length (fields_text fs))) (fields_text fs)
 
 -- ---- a message that means this is answered by one reply
 

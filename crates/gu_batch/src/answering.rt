@@ -1,21 +1,23 @@
 //! Answering one message after the other.
 
-ghost use Rattle.std.specs.Prelude.{◌≡◌, ◌≤◌, ◌<◌, ◌^◌, ◌+◌, ◌++◌, length, OnOk, OnErr};
+ghost use Rattle.std.specs.Prelude.{◌≡◌, ◌≤◌, ◌<◌, ◌^◌, ◌+◌, ◌++◌, length, codes, OnOk, OnErr};
 ghost use Rattle.gu_codec.specs.Answer.{pairs};
 ghost use Rattle.gu_codec.specs.Limits.{longest_body};
 ghost use Rattle.gu_codec.specs.Messages.{Message};
 ghost use Rattle.gu_codec.specs.Writing.{IsText, fields_text, message_text, stream_text};
 ghost use Rattle.gu_base.specs.Answers.{answer_to, after};
+ghost use Rattle.gu_message.specs.AllocationAck.{ack_fields};
 ghost use Rattle.gu_message.specs.Meaning.{meaning_of};
 ghost use Rattle.gu_message.specs.Outcome.{Gives};
 ghost use Rattle.gu_message.specs.Reply.{Reply, message_of, answer_reply, reject_reply};
+ghost use Rattle.gu_message.specs.TradeReportAck.{trade_ack_fields};
 
-use gu_base::{AllocId, Command, FirmId, Memory, Part};
+use gu_base::{AllocId, Answer, Command, FirmId, Memory, Part};
 use gu_book::Book;
-use gu_codec::{Fields, Header, write_frame};
+use gu_codec::{Fields, Header, close_frame, open_frame, write_frame};
 use gu_message::{
-    Inbound, Index, MeaningError, Reject, SLOTS, Slot, ack, give_back, meaning_in, msg_types,
-    reject, reject_target, trade_ack, walk,
+    Inbound, Index, MeaningError, Reject, SLOTS, Slot, ack_len, give_back, meaning_in, msg_types,
+    put_ack, put_trade_ack, reject, reject_target, trade_ack_len, walk,
 };
 use gu_parties::House;
 use std::alloc::{AllocError, Global};
@@ -36,7 +38,7 @@ struct Call<'a> {
 /// Room that is taken anew for each message and kept between them, so that memory is asked for only where more is needed than ever before.
 #[derive(Drop)]
 pub(crate) struct Room {
-    /// For the body of an answer.
+    /// For the body of a Reject.
     body: Vec<u8>,
     /// For the parts of a split.
     parts: Vec<Part>,
@@ -92,7 +94,16 @@ impl Answering {
         &self.book
     }
 
-    /// Appends a reply to a firm, with the next number. An `Err` appends nothing. The one place where a frame is written, which all answers share.
+    /// The number of the next message.
+    #[inline(always)]
+    fn next_number(&self) -> u64
+        requires { self.now.written + 1 < 2 ^ 64 }
+        ensures { result ≡ self.now.written + 1 }
+    {
+        self.written + 1
+    }
+
+    /// Appends a reply to a firm, with the next number. An `Err` appends nothing.
     #[inline(never)]
     fn send(
         &mut self,
@@ -112,11 +123,73 @@ impl Answering {
             kind,
             sender: self.book.house().house(),
             target: *target,
-            number: self.written + 1,
+            number: self.next_number(),
             sent: BATCH_TIME,
             resent: None,
         };
         write_frame(out, &header, body)?;
+        self.written += 1;
+        Ok(())
+    }
+
+    /// Appends the AllocationInstructionAck that answers a call, with the next number: its body is put where it goes
+    /// out. An `Err` appends nothing.
+    #[inline(always)]
+    fn send_ack(
+        &mut self,
+        call: &Call<'_>,
+        answer: &Answer,
+        out: &mut Vec<u8>,
+    ) -> Result<(), Memory>
+        requires { self.old.written + 1 < 2 ^ 64 }
+        ensures ok { OnOk result (out.new.items ≡ out.old.items ++ message_text (message_of (stamp self.old.house.house (self.old.written + 1)) (record { target = call.now.firm.now; kind = codes "P"; fields = ack_fields call.now.id.now answer.now }))) }
+        ensures after { OnOk result (self.new ≡ record self.old { written = self.old.written + 1 }) }
+        ensures err { OnErr result (out.new.items ≡ out.old.items) }
+    {
+        let header = Header {
+            kind: msg_types::ALLOCATION_INSTRUCTION_ACK,
+            sender: self.book.house().house(),
+            target: *call.firm,
+            number: self.next_number(),
+            sent: BATCH_TIME,
+            resent: None,
+        };
+        let start = out.len();
+        let at = open_frame(out, &header, ack_len(call.id, answer))?;
+        let bytes = out.as_mut_slice();
+        let end = put_ack(bytes, at, call.id, answer);
+        close_frame(bytes, start, end);
+        self.written += 1;
+        Ok(())
+    }
+
+    /// Appends the TradeCaptureReportAck that answers a call, with the next number: its body is put where it goes
+    /// out. An `Err` appends nothing.
+    #[inline(always)]
+    fn send_trade_ack(
+        &mut self,
+        call: &Call<'_>,
+        answer: &Answer,
+        out: &mut Vec<u8>,
+    ) -> Result<(), Memory>
+        requires { self.old.written + 1 < 2 ^ 64 }
+        ensures ok { OnOk result (out.new.items ≡ out.old.items ++ message_text (message_of (stamp self.old.house.house (self.old.written + 1)) (record { target = call.now.firm.now; kind = codes "AR"; fields = trade_ack_fields call.now.id.now answer.now }))) }
+        ensures after { OnOk result (self.new ≡ record self.old { written = self.old.written + 1 }) }
+        ensures err { OnErr result (out.new.items ≡ out.old.items) }
+    {
+        let header = Header {
+            kind: msg_types::TRADE_CAPTURE_REPORT_ACK,
+            sender: self.book.house().house(),
+            target: *call.firm,
+            number: self.next_number(),
+            sent: BATCH_TIME,
+            resent: None,
+        };
+        let start = out.len();
+        let at = open_frame(out, &header, trade_ack_len(call.id, answer))?;
+        let bytes = out.as_mut_slice();
+        let end = put_trade_ack(bytes, at, call.id, answer);
+        close_frame(bytes, start, end);
         self.written += 1;
         Ok(())
     }
@@ -126,7 +199,6 @@ impl Answering {
         &mut self,
         alloc: Global,
         call: &Call<'_>,
-        body: &mut Vec<u8>,
         out: &mut Vec<u8>,
     ) -> Result<(), Memory>
         requires { self.old.written + 1 < 2 ^ 64 }
@@ -134,16 +206,9 @@ impl Answering {
         ensures after { let asked = call_of call.now.firm.now call.now.id.now call.now.command.now in OnOk result (self.new ≡ record { house = self.old.house; history = after self.old.house self.old.history asked; written = self.old.written + 1 }) }
         ensures err { OnErr result (out.new.items ≡ out.old.items) }
     {
-        body.clear();
         match &self.book.apply(alloc, call.firm, call.id, call.command) {
-            Ok(answer) if call.trade => {
-                trade_ack(body, call.id, answer)?;
-                self.send(out, call.firm, msg_types::TRADE_CAPTURE_REPORT_ACK, body)
-            }
-            Ok(answer) => {
-                ack(body, call.id, answer)?;
-                self.send(out, call.firm, msg_types::ALLOCATION_INSTRUCTION_ACK, body)
-            }
+            Ok(answer) if call.trade => self.send_trade_ack(call, answer, out),
+            Ok(answer) => self.send_ack(call, answer, out),
             Err(_) => Err(AllocError),
         }
     }
@@ -199,7 +264,7 @@ impl Answering {
                     id,
                     command,
                 };
-                self.answer_call(alloc, &call, body, out)
+                self.answer_call(alloc, &call, out)
             }
             Ok(_) => Ok(()),
             Err(MeaningError::Reject(fault)) => self.answer_fault(fields, *fault, body, out),
