@@ -97,6 +97,15 @@ impl Answering {
         &self.book
     }
 
+    /// The number of the next message.
+    #[inline(always)]
+    fn next_number(&self) -> u64
+        requires { self.now.written + 1 < 2 ^ 64 }
+        ensures { result ≡ self.now.written + 1 }
+    {
+        self.written + 1
+    }
+
     /// Appends a reply to a firm, with the next number. An `Err` appends nothing.
     #[inline(never)]
     fn send(
@@ -117,7 +126,7 @@ impl Answering {
             kind,
             sender: self.book.house().house(),
             target: *target,
-            number: self.written + 1,
+            number: self.next_number(),
             sent: BATCH_TIME,
             resent: None,
         };
@@ -144,7 +153,7 @@ impl Answering {
             kind: msg_types::ALLOCATION_INSTRUCTION_ACK,
             sender: self.book.house().house(),
             target: *call.firm,
-            number: self.written + 1,
+            number: self.next_number(),
             sent: BATCH_TIME,
             resent: None,
         };
@@ -175,7 +184,7 @@ impl Answering {
             kind: msg_types::TRADE_CAPTURE_REPORT_ACK,
             sender: self.book.house().house(),
             target: *call.firm,
-            number: self.written + 1,
+            number: self.next_number(),
             sent: BATCH_TIME,
             resent: None,
         };
