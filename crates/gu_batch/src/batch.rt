@@ -8,7 +8,7 @@ ghost use Rattle.gu_batch.specs.Output.{start};
 ghost use Rattle.gu_batch.specs.Runs.{Fills, Runs, RunsTo, and_progress, Answered, EndsAs};
 
 use crate::answering::{Answering, Room};
-use crate::held::answer_held;
+use crate::held::answer_frames;
 use crate::streams::{Sink, Source, write_all};
 use gu_codec::{Feed, MAX_FRAME_LEN};
 use gu_parties::House;
@@ -82,7 +82,7 @@ fn fill<R: Source>(reader: &mut R, feed: &mut Feed, buf: &mut [u8; LONGEST_READ]
 }
 
 /// Answers the frames that are held, and writes the answers.
-fn answer_piece<W: Sink>(
+fn answer_read<W: Sink>(
     alloc: Global,
     feed: &mut Feed,
     answering: &mut Answering,
@@ -96,7 +96,7 @@ fn answer_piece<W: Sink>(
     ensures { Answered answering.old feed.old answering.new feed.new (W.contents writer.old) (W.contents writer.new) (W.failed writer.old) (W.failed writer.new) result }
 {
     out.clear();
-    let answered = answer_held(alloc, feed, answering, room, out);
+    let answered = answer_frames(alloc, feed, answering, room, out);
     match write_all(writer, out) {
         Ok(()) => answered,
         Err(_) => Err(RunError::Write),
@@ -143,7 +143,7 @@ fn answer_reads<R: Source, W: Sink>(
             Came::End => return end_of(&feed, total),
             Came::Bytes { count } => {
                 total += count;
-                match answer_piece(alloc, &mut feed, answering, &mut room, &mut out, writer) {
+                match answer_read(alloc, &mut feed, answering, &mut room, &mut out, writer) {
                     Ok(()) => {}
                     Err(e) => return Err(e),
                 }

@@ -2,7 +2,7 @@
 pub use Rattle.gu_book.specs.Charging.{AreFeesOf, IsCharged, IsSmallCharge}
 pub use Rattle.gu_book.specs.Conserved.{lots_traded}
 pub use Rattle.gu_book.specs.Dealing.{CanClaim, IsClaimed, IsSmallDeed}
-pub use Rattle.gu_book.specs.Filed.{IsFiled, IsFree, IsIn, IsNext}
+pub use Rattle.gu_book.specs.Filed.{AreTreesOf, IsFree, IsIn, IsNext}
 pub use Rattle.gu_book.specs.Found.{AreTreesOf, IsFoundAs, IsFoundIn, IsNamedBy, IsUndoneBy, IsUndoneThere}
 pub use Rattle.gu_book.specs.Front.{rest_of}
 pub use Rattle.gu_book.specs.Holdings.{ArePositionsOf, HasFewLots, HasRoomBack, HaveMoved, HaveRoom, HaveThere, SameLots, added_by, comes_from, counted_at, goes_back, held_above, held_at, holding_away}
@@ -18,7 +18,7 @@ pub use Rattle.gu_book.specs.TreeRows.{is_live_trade, is_trade}
 pub use Rattle.gu_book.specs.Visits.{AreVisits, is_of_trees}
 pub use Rattle.gu_book.specs.declared.found.Found.{Found}
 pub use Rattle.gu_book.specs.declared.index.Reversals.{Reversals}
-pub use Rattle.gu_book.specs.declared.plain.holdings.Holding.{Holding}
+pub use Rattle.gu_book.specs.declared.rules.holdings.Holding.{Holding}
 pub use Rattle.gu_consent.specs.Given.{given}
 pub use Rattle.gu_consent.specs.declared.Consents.{Consents}
 pub use Rattle.gu_depend.specs.Moves.{lots_at}

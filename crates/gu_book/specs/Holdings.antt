@@ -13,7 +13,7 @@ use Rattle.gu_base.specs.declared.node.Node.{Node}
 use Rattle.gu_base.specs.declared.node.Place.{Place}
 use Rattle.gu_positions.specs.Rows.{PositionRows, lots_in, is_key, IsReady}
 use Rattle.gu_positions.specs.declared.positions.Key.{Key}
-use Rattle.gu_book.specs.declared.plain.holdings.Holding.{Holding}
+use Rattle.gu_book.specs.declared.rules.holdings.Holding.{Holding}
 use Rattle.gu_base.specs.declared.node.Deal.{Deal}
 
 -- what the change of this number trades

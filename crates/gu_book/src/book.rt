@@ -32,8 +32,8 @@ ghost use Rattle.gu_book.specs.Visits.{AreSeen, AreVisits, is_kept};
 use crate::found::{Sought, seek};
 use crate::index::Index;
 use crate::live::{Change, Live};
-use crate::plain::standing::Standing;
-use crate::plain::{calls, charges, holdings, terms};
+use crate::rules::basis::Basis;
+use crate::rules::{calls, charges, holdings, terms};
 use crate::{grove, visits};
 use gu_base::{
     AccountId, Agreement, AllocId, Answer, Command, Entry, FirmId, InstrumentId, Memory, Number,
@@ -247,7 +247,7 @@ impl Book {
         requires standing { IsStandingIn self.now.house (live self.now.history) command.now sought.now.standing }
         ensures { result ≡ answer_to self.now.house self.now.history (record { firm = by.now; id = id.now; command = command.now }) }
     {
-        let at = Standing {
+        let at = Basis {
             house: &self.house,
             entries: &self.entries,
             changes: Live::of(self.entries.as_slice(), &self.index.reversals),

@@ -18,8 +18,8 @@ ghost use Rattle.gu_tree.specs.Shown.{named_node};
 ghost use Rattle.gu_tree.specs.ShownAll.{place_in};
 
 use crate::live::Live;
-use crate::plain::holdings::traded_under;
-use crate::plain::nodes::node_of;
+use crate::rules::holdings::traded_under;
+use crate::rules::nodes::node_of;
 use crate::visits;
 use gu_base::{Command, Deal, FirmId, Node, NodeName, Number, State};
 use gu_depend::{first_standing_at, standing_beside};

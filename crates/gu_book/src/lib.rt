@@ -17,7 +17,7 @@
 //! - `laws` has what follows for every book, first the headline in five laws.
 //! - `index` finds the entry of an id and the Reverse of an entry without going over the history, `live` a live change by its number,
 //!   `found` what the trees say of what a command names.
-//! - `plain` has each answer; what stands on a change it is told (gu_depend reads that off the trees). `grove` has what a change and its
+//! - `rules` has each answer; what stands on a change it is told (gu_depend reads that off the trees). `grove` has what a change and its
 //!   Reverse do to the trees; no public contract speaks of them.
 //!
 //! Its cases, whole days of a small house, are data of the program `test_book`.
@@ -29,7 +29,7 @@ mod grove;
 mod index;
 pub mod laws;
 mod live;
-mod plain;
+mod rules;
 mod visits;
 
 pub use book::Book;

@@ -6,7 +6,7 @@ ghost use Rattle.gu_book.specs.Index.{AreReversalsOf};
 ghost use Rattle.gu_book.specs.Live.{record_of};
 
 use crate::index::Reversals;
-use crate::plain::naming::is_change;
+use crate::rules::naming::is_change;
 use gu_base::{AllocId, Command, Entry, FirmId, Memory, Number, State};
 use std::alloc::Global;
 use std::marker::Model;

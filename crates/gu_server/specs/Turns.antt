@@ -10,8 +10,8 @@ use Rattle.gu_session.specs.declared.event.Event.TheVariants as event
 use Rattle.gu_session.specs.declared.event.Actions.{Actions}
 use Rattle.gu_session.specs.Steps.{Seen}
 use Rattle.gu_session.specs.Text.{Steps}
-use Rattle.gu_server.specs.declared.connection.Came.{Came}
-use Rattle.gu_server.specs.declared.connection.Came.TheVariants as came
+use Rattle.gu_server.specs.declared.connection.Brought.{Brought}
+use Rattle.gu_server.specs.declared.connection.Brought.TheVariants as brought
 
 -- a step of the session by its table, at some moment from 1970 on
 abbrev pub StepsNow : Event → Seen → Seen → Actions → Type 0
@@ -22,8 +22,8 @@ abbrev pub Speaks : Event → Seen → Seen → List ℕ → List ℕ → Type 0
 Speaks e before after out out_after = (a : Actions) × StepsNow e before after a × (out_after ≡ out ++ a.send.items) × (a.close ≡ false)
 
 -- what the bytes held bring, and what they leave of them: no frame yet, a garbled one, of which the session learns nothing, or a message and the session's step over it
-abbrev pub Brings : Stream → Seen → Seen → Stream → Came → Type 0
-Brings held before behind left came.Nothing = NextAnswers held None × (left ≡ held) × (behind ≡ before)
-Brings held before behind left came.Garbled = (len : ℕ) × NextAnswers held (Some (Garbled len)) × (left ≡ after held (Some (Garbled len))) × (behind ≡ before)
-Brings held before behind left (came.Message a) = (fields : Fields) × (len : ℕ) × NextAnswers held (Some (Whole fields len)) × (left ≡ after held (Some (Whole fields len)))
+abbrev pub Brings : Stream → Seen → Seen → Stream → Brought → Type 0
+Brings held before behind left brought.Nothing = NextAnswers held None × (left ≡ held) × (behind ≡ before)
+Brings held before behind left brought.Garbled = (len : ℕ) × NextAnswers held (Some (Garbled len)) × (left ≡ after held (Some (Garbled len))) × (behind ≡ before)
+Brings held before behind left (brought.Message a) = (fields : Fields) × (len : ℕ) × NextAnswers held (Some (Whole fields len)) × (left ≡ after held (Some (Whole fields len)))
     × StepsNow (event.Message fields) before behind a

@@ -33,7 +33,7 @@ pub(crate) struct Closed;
 
 /// What the bytes held have brought.
 #[derive(Drop)]
-pub(crate) enum Came {
+pub(crate) enum Brought {
     /// They only begin a frame, if there are any.
     Nothing,
     /// A garbled frame, which is passed over.
@@ -186,7 +186,7 @@ impl<'a> Connection<'a> {
     }
 
     /// Takes the next frame that has come whole. A broken stream ends the session.
-    pub(crate) fn next<R: Clock>(&mut self, rt: &R) -> Result<Came, Closed>
+    pub(crate) fn next<R: Clock>(&mut self, rt: &R) -> Result<Brought, Closed>
         ensures brings { IfOk result (Brings self.old.feed self.old.session self.new.session self.new.feed) }
         ensures told { self.new.told ≡ self.old.told }
         ensures looked { self.new.looked ≡ self.old.looked }
@@ -194,12 +194,12 @@ impl<'a> Connection<'a> {
         ensures out { self.new.out.items ≡ self.old.out.items }
     {
         match self.feed.next() {
-            None => Ok(Came::Nothing),
-            Some(Frame::Partial) => Ok(Came::Nothing),
-            Some(Frame::Garbled { .. }) => Ok(Came::Garbled),
+            None => Ok(Brought::Nothing),
+            Some(Frame::Partial) => Ok(Brought::Nothing),
+            Some(Frame::Garbled { .. }) => Ok(Brought::Garbled),
             Some(Frame::Whole { fields, .. }) => {
                 match step(rt, &mut self.session, Event::Message(fields)) {
-                    Ok(actions) => Ok(Came::Message(actions)),
+                    Ok(actions) => Ok(Brought::Message(actions)),
                     Err(e) => Err(e),
                 }
             }

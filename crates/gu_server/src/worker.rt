@@ -6,7 +6,7 @@
 //! A connection that has no accepted Logon in time is ended.
 ghost use Rattle.std.specs.Prelude.{◌≡◌, true, is_some, OnOk, OnErr};
 
-use crate::connection::{Came, Closed, Connection};
+use crate::connection::{Brought, Closed, Connection};
 use gu_base::{AllocId, Answer, Command, FirmId};
 use gu_codec::MAX_FRAME_LEN;
 use gu_desk::{Desk, Gate, Job, Seat};
@@ -177,9 +177,9 @@ impl<'a, J: Job, R: Wait + Clock, G: Gate> Worker<'a, J, R, G> {
         // A frame has a byte at least, so no feed holds more of them.
         for _ in 0..MAX_FRAME_LEN {
             match connection.next(self.rt) {
-                Ok(Came::Nothing) => break,
-                Ok(Came::Garbled) => {}
-                Ok(Came::Message(actions)) => {
+                Ok(Brought::Nothing) => break,
+                Ok(Brought::Garbled) => {}
+                Ok(Brought::Message(actions)) => {
                     let (back, acted) = self.act(seat, connection, actions);
                     seat = back;
                     if acted.is_err() {

@@ -12,7 +12,7 @@ use Rattle.gu_message.specs.declared.inbound.Inbound.{Inbound}
 use Rattle.gu_message.specs.declared.inbound.Inbound.TheVariants as inbound
 use Rattle.gu_session.specs.declared.link.Link.{Link}
 use Rattle.gu_session.specs.declared.link.Waiting.{Waiting}
-use Rattle.gu_session.specs.declared.line.Line.{Line}
+use Rattle.gu_session.specs.declared.line.TableLine.{TableLine}
 use Rattle.gu_session.specs.declared.verdict.Span.{Span}
 use Rattle.gu_session.specs.declared.verdict.Say.{Say}
 use Rattle.gu_session.specs.declared.verdict.Verdict.{Verdict}
@@ -114,10 +114,10 @@ keeps_resets now l next meaning =
 keeps_line : (now : Timestamp) (l : Link) (meaning : Result Inbound Reject) (h : Heading) (reset : Option ℕ) (is_logout : Bool) → Keeps l meaning (on_line now l meaning (line_by_number l h reset is_logout))
 keeps_line now l meaning h (Some next) is_logout = keeps_resets now l next meaning
 keeps_line now l meaning h None is_logout =
-    either_way (λ (line : Line). Keeps l meaning (on_line now l meaning line)) (nat_lt h.number l.want && h.poss_dup) _ _ (λ _. keeps_silent l l.want meaning (omega arith))
-    (λ _. either_way (λ (line : Line). Keeps l meaning (on_line now l meaning line)) (nat_lt h.number l.want) _ _ (λ _. keeps_closes now l l.want _ meaning (omega arith))
-    (λ low. either_way (λ (line : Line). Keeps l meaning (on_line now l meaning line)) (nat_lt l.want h.number && is_logout) _ _ (λ _. keeps_closes now l l.want _ meaning (omega arith))
-    (λ _. either_way (λ (line : Line). Keeps l meaning (on_line now l meaning line)) (nat_lt l.want h.number) _ _
+    either_way (λ (line : TableLine). Keeps l meaning (on_line now l meaning line)) (nat_lt h.number l.want && h.poss_dup) _ _ (λ _. keeps_silent l l.want meaning (omega arith))
+    (λ _. either_way (λ (line : TableLine). Keeps l meaning (on_line now l meaning line)) (nat_lt h.number l.want) _ _ (λ _. keeps_closes now l l.want _ meaning (omega arith))
+    (λ low. either_way (λ (line : TableLine). Keeps l meaning (on_line now l meaning line)) (nat_lt l.want h.number && is_logout) _ _ (λ _. keeps_closes now l l.want _ meaning (omega arith))
+    (λ _. either_way (λ (line : TableLine). Keeps l meaning (on_line now l meaning line)) (nat_lt l.want h.number) _ _
     (λ _. keeps_again now l meaning (resend_of l.out meaning) (asks now l h.number l.asked) (resend_rises l.out meaning) (keeps_asks now l h.number l.asked meaning))
     (λ high. keeps_by_type now l h.number meaning (grind (arith, nat_tests))))))
 
@@ -125,7 +125,7 @@ keeps_after_logon : (now : Timestamp) (l : Link) (firm : List ℕ) (heading : Re
     → Keeps l meaning (on_line now l meaning (line_of l firm heading meaning is_logout))
 keeps_after_logon now l firm (Err fault) meaning is_logout = keeps_closes now l l.want _ meaning (omega arith)
 keeps_after_logon now l firm (Ok h) meaning is_logout =
-    either_way (λ (line : Line). Keeps l meaning (on_line now l meaning line)) (bytes_eq h.firm firm) _ _
+    either_way (λ (line : TableLine). Keeps l meaning (on_line now l meaning line)) (bytes_eq h.firm firm) _ _
     (λ _. keeps_line now l meaning h (reset_to meaning) is_logout) (λ _. keeps_closes now l l.want _ meaning (omega arith))
 
 -- before the Logon the number 1 is wanted, or none has come, and no call waits

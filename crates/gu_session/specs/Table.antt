@@ -10,8 +10,8 @@ use Rattle.gu_message.specs.declared.session_bodies.LogoutText.{LogoutText}
 use Rattle.gu_message.specs.declared.session_bodies.LogoutText.TheVariants as text
 use Rattle.gu_message.specs.Checks.{bad_value}
 use Rattle.gu_session.specs.declared.link.Link.{Link}
-use Rattle.gu_session.specs.declared.line.Line.{Line}
-use Rattle.gu_session.specs.declared.line.Line.TheVariants as line
+use Rattle.gu_session.specs.declared.line.TableLine.{TableLine}
+use Rattle.gu_session.specs.declared.line.TableLine.TheVariants as line
 use Rattle.gu_session.specs.declared.verdict.Span.{Span}
 use Rattle.gu_session.specs.declared.verdict.Say.{Say}
 use Rattle.gu_session.specs.declared.verdict.Say.TheVariants as say
@@ -81,7 +81,7 @@ reset_to (Ok (inbound.SequenceReset false next)) = Some next
 reset_to _ = None
 
 -- lines 2 to 7; line 5 holds of each Logout, understood or not
-abbrev pub line_by_number : Link → Heading → Option ℕ → Bool → Line
+abbrev pub line_by_number : Link → Heading → Option ℕ → Bool → TableLine
 line_by_number l h (Some next) is_logout = line.Reset next
 line_by_number l h None is_logout =
     if nat_lt h.number l.want && h.poss_dup then line.Duplicate
@@ -91,7 +91,7 @@ line_by_number l h None is_logout =
     else line.Wanted h.number)))
 
 -- line 1 is the header's: another firm, another house, or a number that can't be read
-abbrev pub line_of : Link → List ℕ → Result Heading Reject → Result Inbound Reject → Bool → Line
+abbrev pub line_of : Link → List ℕ → Result Heading Reject → Result Inbound Reject → Bool → TableLine
 line_of l firm (Err fault) meaning is_logout = line.BadHeader
 line_of l firm (Ok h) meaning is_logout = if bytes_eq h.firm firm then line_by_number l h (reset_to meaning) is_logout else line.BadHeader
 
@@ -122,7 +122,7 @@ by_type now l number (Ok (inbound.SequenceReset gap_fill next)) = fills now l nu
 by_type now l number (Ok (inbound.ResendRequest from to)) = again now (span_of l.out from to) (silent l)
 by_type now l number (Ok (inbound.Call firm trade id command)) = hands_out l number trade id
 
-abbrev pub on_line : Timestamp → Link → Result Inbound Reject → Line → Verdict
+abbrev pub on_line : Timestamp → Link → Result Inbound Reject → TableLine → Verdict
 on_line now l meaning line.BadHeader = closes now l (Some text.BadHeader)
 on_line now l meaning (line.Reset next) = resets now l next
 on_line now l meaning line.Duplicate = silent l

@@ -9,7 +9,7 @@ use gu_message::{Heading, Inbound, Reject};
 
 /// The lines of the table for a message after the Logon, in their order: the first that holds decides.
 #[derive(Clone, Copy)]
-pub enum Line {
+pub enum TableLine {
     /// The sender isn't the session's firm, the target isn't the house, or the number can't be read.
     BadHeader,
     /// A SequenceReset without GapFillFlag (123) Y, whatever its number.
@@ -39,23 +39,23 @@ fn reset_to(meaning: &Result<Inbound, Reject>) -> Option<u32>
 }
 
 /// The line of a message whose header is the session's.
-fn line_by_number(link: &Link, heading: Heading, reset: Option<u32>, is_logout: bool) -> Line
+fn line_by_number(link: &Link, heading: Heading, reset: Option<u32>, is_logout: bool) -> TableLine
     ensures { result ≡ line_by_number_of link.now heading reset is_logout }
 {
     if let Some(next) = reset {
-        Line::Reset { next }
+        TableLine::Reset { next }
     } else if heading.number < link.want && heading.poss_dup {
-        Line::Duplicate
+        TableLine::Duplicate
     } else if heading.number < link.want {
-        Line::TooLow
+        TableLine::TooLow
     } else if link.want < heading.number && is_logout {
-        Line::LogoutAbove
+        TableLine::LogoutAbove
     } else if link.want < heading.number {
-        Line::Gap {
+        TableLine::Gap {
             number: heading.number,
         }
     } else {
-        Line::Wanted {
+        TableLine::Wanted {
             number: heading.number,
         }
     }
@@ -68,16 +68,16 @@ pub fn line_of(
     heading: Result<Heading, Reject>,
     meaning: &Result<Inbound, Reject>,
     is_logout: bool,
-) -> Line
+) -> TableLine
     ensures { result ≡ line_of_table link.now firm heading meaning.now is_logout }
 {
     match heading {
-        Err(_) => Line::BadHeader,
+        Err(_) => TableLine::BadHeader,
         Ok(heading) => {
             if heading.firm == firm {
                 line_by_number(link, heading, reset_to(meaning), is_logout)
             } else {
-                Line::BadHeader
+                TableLine::BadHeader
             }
         }
     }

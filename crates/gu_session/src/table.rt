@@ -4,7 +4,7 @@ ghost use Rattle.std.specs.Prelude.{◌≡◌, ◌≤◌, ◌+◌};
 ghost use Rattle.gu_session.specs.Limits.{last_number, past_last};
 ghost use Rattle.gu_session.specs.Table.{silent as silent_of, says as says_of, closes as closes_of, shut as shut_of, again as again_of, hands_out as hands_out_of, last_asked as last_asked_of, span_of, resend_of, first_logon as first_logon_of, before_logon as before_logon_of, resets as resets_of, asks as asks_of, fills as fills_of, by_type as by_type_of, on_line as on_line_of, heard as heard_of, open_gap as open_gap_of, settled as settled_of, on_message as on_message_of, waited as waited_of, by_silence as by_silence_of, on_tick as on_tick_of};
 
-use crate::line::{Line, line_of};
+use crate::line::{TableLine, line_of};
 use crate::link::{Link, Waiting};
 use crate::verdict::{Say, Span, Verdict};
 use gu_base::{AllocId, FirmId};
@@ -261,28 +261,33 @@ fn by_type(moment: Timestamp, link: Link, number: u32, meaning: &Result<Inbound,
 }
 
 /// What the line of a message decides.
-fn on_line(moment: Timestamp, link: Link, meaning: &Result<Inbound, Reject>, line: Line) -> Verdict
+fn on_line(
+    moment: Timestamp,
+    link: Link,
+    meaning: &Result<Inbound, Reject>,
+    line: TableLine,
+) -> Verdict
     requires out { link.out ≤ past_last }
     requires want { link.want ≤ last_number }
     ensures { result ≡ on_line_of moment link meaning.now line }
 {
     match line {
-        Line::BadHeader => closes(moment, link, Some(LogoutText::BadHeader)),
-        Line::Reset { next } => resets(moment, link, next),
-        Line::Duplicate => silent(link),
-        Line::TooLow => closes(
+        TableLine::BadHeader => closes(moment, link, Some(LogoutText::BadHeader)),
+        TableLine::Reset { next } => resets(moment, link, next),
+        TableLine::Duplicate => silent(link),
+        TableLine::TooLow => closes(
             moment,
             link,
             Some(LogoutText::NumberTooLow {
                 expected: link.want,
             }),
         ),
-        Line::LogoutAbove => closes(moment, link, None),
-        Line::Gap { number } => {
+        TableLine::LogoutAbove => closes(moment, link, None),
+        TableLine::Gap { number } => {
             let span = resend(link.out, meaning);
             again(moment, span, asks(moment, link, number))
         }
-        Line::Wanted { number } => by_type(
+        TableLine::Wanted { number } => by_type(
             moment,
             Link {
                 want: link.want + 1,

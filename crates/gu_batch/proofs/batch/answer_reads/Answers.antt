@@ -1,7 +1,7 @@
 use Rattle.std.proofs.Common.{arith}
 use Rattle.gu_codec.proofs.Streams.{front_len}
 use Rattle.gu_batch.proofs.Sofar.{memory_first, sofar_fresh, numbered_with, short_with, after_nothing, after_bytes, fault_right, limit_right, end_as, piece_right}
-use Rattle.gu_batch.proofs.batch.answer_reads.Goals.{in-Nothing, in-Bytes+in-Ok-answer_piece}
+use Rattle.gu_batch.proofs.batch.answer_reads.Goals.{in-Nothing, in-Bytes+in-Ok-answer_read}
 use Rattle.gu_batch.proofs.batch.answer_reads.Goals as goal
 
 pub returns-in_default : goal.returns-in_default
@@ -13,11 +13,11 @@ reads-init g c = sofar_fresh _ c.args.answering.now c.in-Ok.feed c.requires.fres
 pub fill-requires-clause-room : goal.fill-requires-clause-room
 fill-requires-clause-room g c = front_len c.reads.feed.held c.reads.invariant.front
 
-pub answer_piece-requires-clause-numbered : goal.answer_piece-requires-clause-numbered
-answer_piece-requires-clause-numbered g c = numbered_with c.args.answering.now.house _ _ c.reads.answering c.reads.feed c.fill.new.feed c.reads.total c.reads.counter _ _ c.in-Bytes.count c.reads.invariant c.in-Bytes.ensures.fills
+pub answer_read-requires-clause-numbered : goal.answer_read-requires-clause-numbered
+answer_read-requires-clause-numbered g c = numbered_with c.args.answering.now.house _ _ c.reads.answering c.reads.feed c.fill.new.feed c.reads.total c.reads.counter _ _ c.in-Bytes.count c.reads.invariant c.in-Bytes.ensures.fills
 
-pub answer_piece-requires-clause-short : goal.answer_piece-requires-clause-short
-answer_piece-requires-clause-short g c = short_with c.args.answering.now.house _ _ c.reads.answering c.reads.feed c.fill.new.feed c.reads.total c.reads.counter _ _ c.in-Bytes.count c.reads.invariant c.in-Bytes.ensures.fills (omega arith)
+pub answer_read-requires-clause-short : goal.answer_read-requires-clause-short
+answer_read-requires-clause-short g c = short_with c.args.answering.now.house _ _ c.reads.answering c.reads.feed c.fill.new.feed c.reads.total c.reads.counter _ _ c.in-Bytes.count c.reads.invariant c.in-Bytes.ensures.fills (omega arith)
 
 pub returns-in-Fault : goal.returns-in-Fault
 returns-in-Fault g c =
@@ -38,10 +38,10 @@ reads-preserved g c =
       | in-Nothing w ↦
           rw (w.writer-is, w.feed-is, w.answering-is, w.total-is)
           (after_nothing c.args.answering.now.house _ _ c.reads.answering c.reads.feed c.fill.new.feed c.reads.total c.reads.counter _ _ _ c.reads.invariant w.in-Nothing.ensures.fills c.fill.ensures.made)
-      | in-Bytes+in-Ok-answer_piece w ↦
+      | in-Bytes+in-Ok-answer_read w ↦
           rw (w.writer-is, w.feed-is, w.answering-is, w.total-is)
-          (after_bytes c.args.answering.now.house _ _ c.reads.answering w.answer_piece.new.answering c.reads.feed c.fill.new.feed w.answer_piece.new.feed c.reads.total c.reads.counter w.in-Bytes.count _ _ _ _ _ _ c.reads.invariant w.in-Bytes.ensures.fills c.fill.ensures.made
-          w.in-Ok-answer_piece.ensures.right w.in-Ok-answer_piece.ensures.appended w.in-Ok-answer_piece.ensures.grows)
+          (after_bytes c.args.answering.now.house _ _ c.reads.answering w.answer_read.new.answering c.reads.feed c.fill.new.feed w.answer_read.new.feed c.reads.total c.reads.counter w.in-Bytes.count _ _ _ _ _ _ c.reads.invariant w.in-Bytes.ensures.fills c.fill.ensures.made
+          w.in-Ok-answer_read.ensures.right w.in-Ok-answer_read.ensures.appended w.in-Ok-answer_read.ensures.grows)
     ]
 
 pub returns : goal.returns

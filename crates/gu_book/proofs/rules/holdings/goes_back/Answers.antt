@@ -1,0 +1,11 @@
+use Rattle.std.proofs.Common.{◌<◌, ◌^◌, arith, subst, sum_by}
+use Rattle.gu_depend.proofs.Vocabulary.{Part}
+use Rattle.gu_book.proofs.Vocabulary.{HasFewLots}
+use Rattle.gu_book.proofs.PartsAway.{moved_few}
+use Rattle.gu_book.proofs.rules.holdings.goes_back.Goals as goal
+
+pub lots_away-requires : goal.lots_away-requires
+lots_away-requires c =
+    let few : sum_by (λ (p : Part). p.lots) c.in-Split.parts < 2 ^ 64 = subst HasFewLots c.in-Split.is c.requires.few in
+    let less = moved_few c.in-Some.whole c.args.entry.now.firm c.in-Split.parts in
+    rw c.as_slice.ensures (omega (arith, few, less))

@@ -1,0 +1,176 @@
+//! The answer to a call.
+ghost use Rattle.std.specs.Prelude.{◌≡◌, ◌≤◌, ◌+◌, ℕ, [], ◌∷◌, length, find, nat_lt, unwrap_or, if◌then◌else◌};
+ghost use Rattle.gu_base.specs.Limits.{most_entries};
+ghost use Rattle.gu_base.specs.Same.{same_command};
+ghost use Rattle.gu_base.specs.History.{records, live, RisesFrom};
+ghost use Rattle.gu_base.specs.Answers.{accepted_or, answer_by, answer_to, command_refusal, entry_of, is_same_call, is_same_id, on_change, status_of};
+ghost use Rattle.gu_base.specs.House.{knows_firm};
+ghost use Rattle.gu_base.specs.Consents.{consents_left};
+ghost use Rattle.gu_base.specs.Refusals.{first, unless};
+ghost use Rattle.gu_base.specs.declared.entry.Answer.{Answer};
+ghost use Rattle.gu_base.specs.declared.entry.Answer.TheVariants.{Repeated, Refused};
+ghost use Rattle.gu_base.specs.declared.refusal.Refusal.TheVariants.{BookFull, DuplicateId, UnknownFirm};
+ghost use Rattle.gu_book.specs.Found.{IsNamedIn, IsStandingIn};
+ghost use Rattle.gu_book.specs.Front.{IsStandingOn, rest_of};
+ghost use Rattle.gu_book.specs.Ids.{NoIdTwice};
+ghost use Rattle.gu_book.specs.Index.{AreIdsOf, IsIndexOf};
+ghost use Rattle.gu_consent.specs.Given.{given};
+ghost use Rattle.gu_depend.specs.Terms.{AreTermsOf};
+ghost use Rattle.gu_ids.specs.Chains.{IsHashOf};
+ghost use Rattle.gu_tree.specs.Shown.{named_node};
+
+use crate::rules::basis::Basis;
+use crate::rules::naming::naming_refusal;
+use crate::rules::refusals::change_refusal;
+use gu_base::{AllocId, Answer, Command, Entry, FirmId, Number, Refusal, State};
+use gu_ids::{IdHash, Ids};
+
+/// The answer to a call whose firm and id this entry has.
+#[cold]
+#[inline(never)]
+fn known_answer(number: Number, e: &Entry, command: &Command) -> Answer
+    ensures { result ≡ (if same_command e.now.command command.now then Repeated number e.now.status else Refused (DuplicateId number)) }
+{
+    if e.command == *command {
+        Answer::Repeated {
+            number,
+            status: e.status,
+        }
+    } else {
+        Answer::Refused(Refusal::DuplicateId(number))
+    }
+}
+
+/// The answer to a call whose firm and id stand in the history, whatever the rules say of its command.
+fn known(
+    ids: &Ids,
+    entries: &[Entry],
+    by: &FirmId,
+    id: &AllocId,
+    hash: IdHash,
+    command: &Command,
+) -> Option<Answer>
+    requires hashed { IsHashOf hash by.now id.now }
+    requires once { NoIdTwice entries.now }
+    requires ids { AreIdsOf ids.now entries.now }
+    requires few { length entries.now ≤ most_entries }
+    ensures { (other : Answer) → unwrap_or result other ≡ answer_by (find (is_same_call (record { firm = by.now; id = id.now; command = command.now })) (records entries.now)) (find (is_same_id (record { firm = by.now; id = id.now; command = command.now })) (records entries.now)) other }
+{
+    let Some(number) = ids.number(entries, by, id, hash) else {
+        return None;
+    };
+    let place = number.get() as usize - 1;
+    Some(known_answer(number, &entries[place], command))
+}
+
+/// The status of a command that is accepted.
+fn status_of(by: &FirmId, command: &Command) -> State
+    ensures { result ≡ status_of by.now command.now }
+{
+    match command {
+        Command::Trade { .. } => State::Held,
+        Command::Split { parts, .. } => {
+            if by.gives_up(parts.as_slice()) {
+                State::Offered
+            } else {
+                State::Held
+            }
+        }
+        Command::Claim { .. } => State::Claimed,
+        Command::Refuse { .. } => State::Refused,
+        Command::Cancel { .. } => State::Cancelled,
+        Command::Agree { .. } | Command::Raise { .. } => State::Held,
+        Command::Initiate { .. } => State::ReversalPending,
+        Command::Decline { .. } => State::Held,
+        Command::Reverse { .. } => State::Reversed,
+    }
+}
+
+/// Why a command that names this entry is refused.
+fn named_refusal(at: &Basis<'_>, by: &FirmId, command: &Command, entry: Number) -> Option<Refusal>
+    requires indexed { IsIndexOf at.now.index.now at.now.entries.now }
+    requires few { length at.now.entries.now ≤ most_entries }
+    requires live { at.now.changes ≡ live at.now.entries.now }
+    requires rises { RisesFrom 1 at.now.changes }
+    requires consented { (n : ℕ) → given at.now.consents.now n ≡ consents_left at.now.entries.now n }
+    requires standing { IsStandingOn at.now.house.now at.now.changes command.now entry at.now.standing }
+    ensures { result ≡ first (unless (knows_firm at.now.house.now by.now) UnknownFirm ∷ on_change at.now.house.now at.now.entries.now by.now (rest_of at.now.house.now at.now.entries.now by.now command.now) (entry_of at.now.entries.now entry) ∷ []) }
+{
+    // Asked first, though an unknown firm is told first: so the entry is fetched while the bucket of the id still is.
+    let refusal = naming_refusal(at, by, command, entry);
+    if !at.house.firm(by) {
+        return Some(Refusal::UnknownFirm);
+    }
+    refusal
+}
+
+/// Why a command is refused.
+fn command_refusal(at: &Basis<'_>, by: &FirmId, command: &Command) -> Option<Refusal>
+    requires indexed { IsIndexOf at.now.index.now at.now.entries.now }
+    requires dealt { AreTermsOf at.now.house.now at.now.changes at.now.terms.now }
+    requires few { length at.now.entries.now ≤ most_entries }
+    requires live { at.now.changes ≡ live at.now.entries.now }
+    requires rises { RisesFrom 1 at.now.changes }
+    requires named { IsNamedIn at.now.changes (named_node command.now) at.now.named.now }
+    requires consented { (n : ℕ) → given at.now.consents.now n ≡ consents_left at.now.entries.now n }
+    requires standing { IsStandingIn at.now.house.now at.now.changes command.now at.now.standing }
+    ensures { result ≡ command_refusal at.now.house.now at.now.entries.now by.now command.now }
+{
+    match command {
+        Command::Initiate { entry } => named_refusal(at, by, command, *entry),
+        Command::Decline { entry } => named_refusal(at, by, command, *entry),
+        Command::Reverse { entry } => named_refusal(at, by, command, *entry),
+        _ => change_refusal(at, by, command),
+    }
+}
+
+/// The answer by the rules, to a call whose id no entry has.
+fn answer_by_rules(at: &Basis<'_>, by: &FirmId, command: &Command) -> Answer
+    requires indexed { IsIndexOf at.now.index.now at.now.entries.now }
+    requires dealt { AreTermsOf at.now.house.now at.now.changes at.now.terms.now }
+    requires few { length at.now.entries.now ≤ most_entries }
+    requires live { at.now.changes ≡ live at.now.entries.now }
+    requires rises { RisesFrom 1 at.now.changes }
+    requires named { IsNamedIn at.now.changes (named_node command.now) at.now.named.now }
+    requires consented { (n : ℕ) → given at.now.consents.now n ≡ consents_left at.now.entries.now n }
+    requires standing { IsStandingIn at.now.house.now at.now.changes command.now at.now.standing }
+    ensures { result ≡ accepted_or (length at.now.entries.now + 1) (status_of by.now command.now)
+        (first (unless (nat_lt (length at.now.entries.now) most_entries) BookFull ∷ command_refusal at.now.house.now at.now.entries.now by.now command.now ∷ [])) }
+{
+    if at.entries.len() >= Number::MAX as usize {
+        return Answer::Refused(Refusal::BookFull);
+    }
+    if let Some(refusal) = command_refusal(at, by, command) {
+        return Answer::Refused(refusal);
+    }
+    Answer::Accepted {
+        number: Number::at_place(at.entries.len()),
+        status: status_of(by, command),
+    }
+}
+
+/// The answer to a call, at a history and what is kept beside it.
+pub(crate) fn answer(
+    at: &Basis<'_>,
+    by: &FirmId,
+    id: &AllocId,
+    hash: IdHash,
+    command: &Command,
+) -> Answer
+    requires hashed { IsHashOf hash by.now id.now }
+    requires once { NoIdTwice at.now.entries.now }
+    requires indexed { IsIndexOf at.now.index.now at.now.entries.now }
+    requires dealt { AreTermsOf at.now.house.now at.now.changes at.now.terms.now }
+    requires few { length at.now.entries.now ≤ most_entries }
+    requires live { at.now.changes ≡ live at.now.entries.now }
+    requires rises { RisesFrom 1 at.now.changes }
+    requires named { IsNamedIn at.now.changes (named_node command.now) at.now.named.now }
+    requires consented { (n : ℕ) → given at.now.consents.now n ≡ consents_left at.now.entries.now n }
+    requires standing { IsStandingIn at.now.house.now at.now.changes command.now at.now.standing }
+    ensures { result ≡ answer_to at.now.house.now at.now.entries.now (record { firm = by.now; id = id.now; command = command.now }) }
+{
+    if let Some(answer) = known(&at.index.ids, at.entries, by, id, hash, command) {
+        return answer;
+    }
+    answer_by_rules(at, by, command)
+}
