@@ -1,6 +1,6 @@
 //! A session.
 
-ghost use Rattle.std.specs.Prelude.{◌≡◌, ◌↔◌, ◌≤◌, ◌≤ℤ◌, ◌+◌, ◌++◌, pos, true, false, IsTrue, OnOk, OnErr, IfOk, Ok, Some, is_some, option_map, length};
+ghost use Rattle.std.specs.Prelude.{◌≡◌, ◌↔◌, ◌≤◌, ◌≤ℤ◌, ◌+◌, ◌++◌, pos, true, false, IsTrue, OnOk, OnErr, IfOk, Ok, None, Some, is_some, option_map, length};
 ghost use Rattle.std.specs.List.{All};
 ghost use Rattle.gu_codec.specs.Answer.{pairs};
 ghost use Rattle.gu_message.specs.AllocationReport.{ShowsFewParts};
@@ -112,6 +112,20 @@ fn no_message() -> Result<Inbound, Reject>
     Ok(Inbound::Heartbeat)
 }
 
+/// Whether a verdict sends nothing.
+fn is_silent(verdict: &Verdict) -> bool
+    ensures resend { IsTrue result → verdict.now.resend ≡ None }
+    ensures say { IsTrue result → verdict.now.say ≡ None }
+{
+    match verdict.resend {
+        None => match verdict.say {
+            None => true,
+            Some(_) => false,
+        },
+        Some(_) => false,
+    }
+}
+
 /// The frames of a verdict.
 fn frames(
     alloc: Global,
@@ -127,6 +141,9 @@ fn frames(
         (resends (time_of moment) kept.now verdict.now.resend ++ sayings (fields_of came.entry) number verdict.now.say)) }
 {
     let mut send = Vec::new(alloc);
+    if is_silent(verdict) {
+        return Ok(send);
+    }
     if let Some(firm) = verdict.link.firm {
         let writer = Writer {
             house,
