@@ -10,8 +10,11 @@
 //!
 //! Then a trade and one of its parts are split, and both Splits taken back, ten times in the least heap that takes them once: nothing is lost
 //! on the way, whether something stood on the parts or not.
+//!
+//! Last a trade is planted, split and claimed among the trees of all trades, in heaps that grow until all of it fits: no refusal changes anything.
 #![tactic(auto)]
 
+mod grove;
 mod growths;
 mod rounds;
 mod splits;
@@ -25,5 +28,6 @@ fn main(rt: HostRuntime) -> io::Result<()> {
     splits::tell(&rt, alloc)?;
     tight::tell(&rt, alloc)?;
     growths::tell(&rt, alloc)?;
-    rounds::tell(&rt, alloc)
+    rounds::tell(&rt, alloc)?;
+    grove::tell(&rt, alloc)
 }

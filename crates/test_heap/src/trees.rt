@@ -45,14 +45,19 @@ pub(crate) fn split_in_two<A: Allocator + Clone>(tree: &mut Tree<A>) -> io::Resu
     Ok(split(tree, root, Number::at_place(1), &parts))
 }
 
-/// Splits the trade into a part of 60 lots and one of 40 that is given up to BBB.
-pub(crate) fn give_up<A: Allocator + Clone>(tree: &mut Tree<A>) -> io::Result<Outcome> {
+/// A part of 60 lots for AAA, and one of 40 that is given up to BBB.
+pub(crate) fn give_up_parts() -> io::Result<[Part; 2]> {
     let given = Part {
         lots: 40,
         firm: taken()?.firm,
         account: None,
     };
-    let parts = [part(60)?, given];
+    Ok([part(60)?, given])
+}
+
+/// Splits the trade into these two parts.
+pub(crate) fn give_up<A: Allocator + Clone>(tree: &mut Tree<A>) -> io::Result<Outcome> {
+    let parts = give_up_parts()?;
     let root = NodeName::in_entry(Number::at_place(0), 0);
     Ok(split(tree, root, Number::at_place(1), &parts))
 }

@@ -7,7 +7,7 @@ use std::alloc::Global;
 use test_splits::{Outcome, cancel, claim, offer_again, refuse, split, unclaim, unsplit};
 
 /// The parts of these words.
-fn parts_of(alloc: Global, words: &str) -> Result<Vec<Part>, Memory> {
+pub(crate) fn parts_of(alloc: Global, words: &str) -> Result<Vec<Part>, Memory> {
     let mut parts = Vec::new(alloc);
     for word in words.split(' ') {
         if let Some(

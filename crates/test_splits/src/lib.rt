@@ -1,8 +1,10 @@
 //! The changes of a tree's node and their undo, each made where all that it asks for holds, for the programs that change trees (`test_nodes`,
-//! `test_heap`).
+//! `test_heap`); in `trees` the same among the trees of all trades.
 //!
 //! It has no cases of its own: those of the two programs try it.
 #![tactic(auto)]
+
+pub mod trees;
 
 use gu_base::{NodeName, Number, Part, Place, State};
 use gu_tree::{MAX_DEPTH, Tree};
@@ -126,7 +128,7 @@ pub fn unclaim<A: Allocator + Clone>(tree: &mut Tree<A>, name: NodeName) -> Outc
     };
     let head = *tree.head(&path);
     let parted = tree.parted(&path);
-    if path.is_empty() || parted.is_some() || head.state != State::Claimed {
+    if parted.is_some() || head.state != State::Claimed {
         return Outcome::Unfit;
     }
     tree.unclaim(&path);
