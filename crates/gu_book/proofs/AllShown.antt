@@ -11,7 +11,7 @@ use Rattle.gu_base.proofs.Basics.{no_some, mapped_none}
 use Rattle.gu_base.proofs.Numbered.{found_at, known_entry}
 use Rattle.gu_base.proofs.Consenting.{not_reversed}
 use Rattle.gu_base.proofs.Searches.{found_in, find_passes}
-use Rattle.gu_book.proofs.Vocabulary.{Rose, Grove, tree_of, IsPlace, IsTreeOf, named_node, named_place, place_in, Consents, AreTreesOf, IsFree, IsKept, is_trade, is_live_trade, IsFoundIn, IsUndoneBy}
+use Rattle.gu_book.proofs.Vocabulary.{Rose, Grove, tree_of, IsPlace, IsTreeOf, named_node, named_place, place_in, Consents, IsGroveOf, IsFree, IsKept, is_trade, is_live_trade, IsFoundIn, IsUndoneBy}
 use Rattle.gu_book.proofs.Vocabulary.{IsUndoneThere, IsOfTerms, is_of_trees}
 use Rattle.gu_tree.specs.Rose.{rows}
 use Rattle.gu_tree.specs.Shown.{shown}
@@ -48,7 +48,7 @@ shown_in : (l : List Record) (k : ℕ) (o : Option Rose) → is_some o ≡ is_li
 shown_in l k None live shown = no_some (node_of l (record { entry = k; part = 0 })) (λ x e. let z : false ≡ true = live ∙ live_root l k x e in absurd (cc))
 shown_in l k (Some t) live shown = shown
 
-pub all_shown : {l : List Record} {g : Grove} → AreTreesOf l g → ShowsAll l g
+pub all_shown : {l : List Record} {g : Grove} → IsGroveOf l g → ShowsAll l g
 all_shown {l} {g} filed = record {
   trees = λ k. shown_in l k (tree_of g k) (filed.live k) (filed.shown k);
   places = filed.placed;
@@ -123,7 +123,7 @@ module _ {t : House} {h : List Entry} {g : Grove} {cs : Consents} (kept : IsKept
 -- ---- what a book answers by its trees is what its live changes say
 
 -- the rows of the tree of a number are those of the live trade, and no tree bears another number
-rows_filed : (l : List Record) (g : Grove) → InOrder l → AreTreesOf l g → (k : ℕ) (o : Option Rose) → tree_of g k ≡ o → option_map (λ t. map shown (rows t)) o ≡ tree_rows l k
+rows_filed : (l : List Record) (g : Grove) → InOrder l → IsGroveOf l g → (k : ℕ) (o : Option Rose) → tree_of g k ≡ o → option_map (λ t. map shown (rows t)) o ≡ tree_rows l k
 rows_filed l g order filed k None e = ap (λ b. cond b (Some (rows_of l k)) None) (sym (ap is_some e) ∙ filed.live k)
 rows_filed l g order filed k (Some t) e =
     ap (λ (rs : List Row). Some rs) (rows-shown l order.distinct k t (tree_shown filed k t e))

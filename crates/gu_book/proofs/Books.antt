@@ -3,7 +3,7 @@ use Rattle.std.proofs.Common.{◌≡◌, ℕ, ◌≤◌, ◌<◌, true, ◌∙�
 use Rattle.gu_base.proofs.LiveLaws.{change_is_no_reverse, consent_is_no_reverse}
 use Rattle.gu_depend.proofs.Vocabulary.{House, Initiate, Decline, Reverse, Deed, Entry, Record, Accepted, answer_to, call_of, live, numbered_as, is_change, is_consenting, without, deed_of}
 use Rattle.gu_book.proofs.Vocabulary.{AreTermsOf, pair_of, given, Consents, FeeRows, TermsView, IsPut, CanPut, last_entry, Ids, PositionRows, Grove, IsSameGrove, last_place, AreFeesOf, IsSmallDeed}
-use Rattle.gu_book.proofs.Vocabulary.{AreTreesOf, IsNext, SameLots, ArePositionsOf, reversal_in, IsOfTerms, Reversals}
+use Rattle.gu_book.proofs.Vocabulary.{IsGroveOf, IsNext, SameLots, ArePositionsOf, reversal_in, IsOfTerms, Reversals}
 use Rattle.gu_fees.specs.Terms.{IsReady}
 use Rattle.gu_book.specs.Index.{AreIdsOf}
 use Rattle.gu_book.specs.Kept.{IsBook}
@@ -46,7 +46,7 @@ module _ {t : House} {h : List Entry} {g : Grove} {cs : Consents} {index : Index
     module _ (ids : Ids) (known : AreIdsOf ids (h ++ e ∷ [])) where
       -- a change
       module _ (change : is_change e.command ≡ true) where
-        pub book_more : (trees : Grove) → AreTreesOf (live h ++ numbered_as n e ∷ []) trees → last_place trees ≤ n
+        pub book_more : (trees : Grove) → IsGroveOf (live h ++ numbered_as n e ∷ []) trees → last_place trees ≤ n
             → (paid : FeeRows) → AreFeesOf t (live h ++ numbered_as n e ∷ []) paid → (now : PositionRows) → ArePositionsOf (live h ++ numbered_as n e ∷ []) now
             → (dealt : TermsView) → AreTermsOf t (live h ++ numbered_as n e ∷ []) dealt → last_entry dealt ≤ n
             → IsBook t (h ++ e ∷ []) trees cs (record { ids = ids; reversals = index.reversals }) paid now dealt
@@ -62,7 +62,7 @@ module _ {t : House} {h : List Entry} {g : Grove} {cs : Consents} {index : Index
             }
 
         -- that deals for nobody
-        pub book_apart : (trees : Grove) → AreTreesOf (live h ++ numbered_as n e ∷ []) trees → last_place trees ≤ n
+        pub book_apart : (trees : Grove) → IsGroveOf (live h ++ numbered_as n e ∷ []) trees → last_place trees ≤ n
             → (paid : FeeRows) → AreFeesOf t (live h ++ numbered_as n e ∷ []) paid → (now : PositionRows) → ArePositionsOf (live h ++ numbered_as n e ∷ []) now
             → pair_of (live h) e.firm e.command ≡ None
             → IsBook t (h ++ e ∷ []) trees cs (record { ids = ids; reversals = index.reversals }) paid now terms
@@ -87,7 +87,7 @@ module _ {t : House} {h : List Entry} {g : Grove} {cs : Consents} {index : Index
           }
 
       -- a Reverse
-      pub book_less : (k : ℕ) → e.command ≡ Reverse k → (trees : Grove) → AreTreesOf (without (live h) k) trees → last_place trees ≡ last_place g
+      pub book_less : (k : ℕ) → e.command ≡ Reverse k → (trees : Grove) → IsGroveOf (without (live h) k) trees → last_place trees ≡ last_place g
           → (ds : Consents) → ((m : ℕ) → given ds m ≡ cond (m == k) [] (given cs m))
           → (rs : Reversals) → ((m : ℕ) → reversal_in rs m ≡ cond (k == m) (Some n) (reversal_in index.reversals m))
           → (paid : FeeRows) → AreFeesOf t (without (live h) k) paid → (now : PositionRows) → ArePositionsOf (without (live h) k) now

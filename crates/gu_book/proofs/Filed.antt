@@ -22,7 +22,7 @@ use Rattle.gu_tree.proofs.Along.{IsAlong, along, path-of}
 use Rattle.gu_tree.proofs.GroveSwaps.{by-cases}
 use Rattle.gu_tree.proofs.Parts.{some_and}
 use Rattle.gu_tree.proofs.Shows.{tree-kept}
-use Rattle.gu_book.specs.Filed.{IsIn, AreTreesOf, IsNext, IsDue, Follows}
+use Rattle.gu_book.specs.Filed.{IsIn, IsGroveOf, IsNext, IsDue, Follows}
 use Rattle.gu_book.specs.TreeRows.{is_trade, is_live_trade}
 use Rattle.gu_book.proofs.Leaves.{other_number, sound_first}
 use Rattle.gu_book.proofs.Orders.{InOrder, in_order, sound_before, earlier}
@@ -70,7 +70,7 @@ parts_named n e i h m by (p ∷ ps) =
 -- ---- of two groves
 
 -- groves that look alike file the same
-pub same_filed : (l : List Record) (old new : Grove) → IsSameGrove old new → AreTreesOf l old → AreTreesOf l new
+pub same_filed : (l : List Record) (old new : Grove) → IsSameGrove old new → IsGroveOf l old → IsGroveOf l new
 same_filed l old new same filed =
     let tree : (k : ℕ) → tree_of old k ≡ tree_of new k = λ k. sym (λ i. tree_in (same.trees i) (slot_of (same.slots i) k)) in
     let place : (k : ℕ) → place_of new k ≡ place_of old k = λ k. ap (λ s. name_in k (slot_of s k)) same.slots in
@@ -101,7 +101,7 @@ pub due_same : (r : Record) (old new : Grove) → IsSameGrove old new → IsDue 
 due_same r old new same due = (due.0, due.1, same_next due.0 due.1 r old new same due.2)
 
 -- no trees and no places
-pub filed_none : (g : Grove) → ((k : ℕ) → tree_of g k ≡ None) → ((k : ℕ) → place_of g k ≡ None) → AreTreesOf [] g
+pub filed_none : (g : Grove) → ((k : ℕ) → tree_of g k ≡ None) → ((k : ℕ) → place_of g k ≡ None) → IsGroveOf [] g
 filed_none g trees places = record {
   live = λ k. ap is_some (trees k);
   shown = λ k. subst (λ (o : Option Rose). IfSome o (IsTreeOf [] k)) (sym (trees k)) tt;
@@ -120,10 +120,10 @@ pub record Spot (l : List Record) (g : Grove) (trade : ℕ) (p : List ℕ) (n : 
   pub shown : IsTreeOf l trade tree
   pub said : IsAlong l trade p node
 
-pub tree_shown : {l : List Record} {g : Grove} → AreTreesOf l g → (k : ℕ) (tree : Rose) → tree_of g k ≡ Some tree → IsTreeOf l k tree
+pub tree_shown : {l : List Record} {g : Grove} → IsGroveOf l g → (k : ℕ) (tree : Rose) → tree_of g k ≡ Some tree → IsTreeOf l k tree
 tree_shown {l} filed k tree e = subst (λ (o : Option Rose). IfSome o (IsTreeOf l k)) e (filed.shown k)
 
-pub spot : {l : List Record} {g : Grove} → AreTreesOf l g → InOrder l → (trade : ℕ) (p : List ℕ) (n : EntryPart) → IsPlace g n trade p → Spot l g trade p n
+pub spot : {l : List Record} {g : Grove} → IsGroveOf l g → InOrder l → (trade : ℕ) (p : List ℕ) (n : EntryPart) → IsPlace g n trade p → Spot l g trade p n
 spot {l} {g} filed order trade p n place =
     let v = some_and (λ v. (head_of v).name ≡ n) (node_at p place.tree) place.there in
     let shown = tree_shown filed trade place.tree place.found in
@@ -152,7 +152,7 @@ placed_in {g} n is =
     )
 
 -- a node lies in the tree of one trade alone
-pub one_trade : {l : List Record} {g : Grove} → AreTreesOf l g → InOrder l → (n : EntryPart) (trade other : ℕ) (p : List ℕ) (tree : Rose)
+pub one_trade : {l : List Record} {g : Grove} → IsGroveOf l g → InOrder l → (n : EntryPart) (trade other : ℕ) (p : List ℕ) (tree : Rose)
     → Spot l g trade p n → tree_of g other ≡ Some tree → other ≢ trade → named n tree ≡ 0
 one_trade {l} {g} filed order n trade other p tree s found apart = none (named n tree) refl
   where
@@ -288,7 +288,7 @@ module _ {t : House} {l : List Record} {r : Record} {g : Grove} (next : IsNext t
     whole_after m x (before e) = whole_before m (next.filed.whole m x e)
     whole_after m x (here e) = has_tree h trade new m here_now (omega (arith, count m, made_counts m x e))
 
-    pub changed : AreTreesOf (l ++ r ∷ []) h
+    pub changed : IsGroveOf (l ++ r ∷ []) h
     changed = record {
       live = λ k. elim (by-cases k trade) [
         | inl same ↦ ap is_some (ap (tree_of h) same ∙ here_now)
@@ -344,7 +344,7 @@ module _ {t : House} {l : List Record} {r : Record} {g : Grove} (next : IsNext t
     other_live k other =
         live_more l r k ∙ (ap (λ b. is_live_trade l k || (b && is_trade r.command)) (other_number r.number k (λ e. other (sym e))) ∙ or_false (is_live_trade l k))
 
-    pub planted : AreTreesOf (l ++ r ∷ []) h
+    pub planted : IsGroveOf (l ++ r ∷ []) h
     planted = record {
       live = λ k. elim (by-cases k r.number) [
         | inl same ↦ ap is_some (ap (tree_of h) same ∙ new_here)
@@ -373,7 +373,7 @@ module _ {t : House} {l : List Record} {r : Record} {g : Grove} (next : IsNext t
     stays_shown k None e = tt
     stays_shown k (Some tree) e = kept k tree e (λ m is. absurd (no_name m (sym names ∙ is)))
 
-    pub stays : AreTreesOf (l ++ r ∷ []) g
+    pub stays : IsGroveOf (l ++ r ∷ []) g
     stays = record {
       live = λ k. next.filed.live k ∙ sym (live_same l r k trades);
       shown = λ k. stays_shown k (tree_of g k) refl;

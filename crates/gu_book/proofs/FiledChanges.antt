@@ -26,7 +26,7 @@ use Rattle.gu_tree.proofs.Names.{named-edit_at, named-with_head}
 use Rattle.gu_tree.proofs.Parts.{at_fact}
 use Rattle.gu_tree.proofs.ShowsChanges.{decided_state}
 use Rattle.gu_tree.proofs.Splits.{named-split_node}
-use Rattle.gu_book.specs.Filed.{AreTreesOf, IsNext}
+use Rattle.gu_book.specs.Filed.{IsGroveOf, IsNext}
 use Rattle.gu_book.specs.TreeRows.{is_trade}
 use Rattle.gu_book.proofs.Filed.{Spot, order, low, lower, changed, planted, stays, count_of, parts_named}
 use Rattle.gu_book.proofs.Orders.{unnamed}
@@ -95,7 +95,7 @@ module _ {t : House} {l : List Record} {r : Record} {g : Grove} (next : IsNext t
   edited : {trade : ℕ} {p : List ℕ} {n : EntryPart} (s : Spot l g trade p n) → named_node r.command ≡ Some n
       → (h : Grove) (f : Rose → Rose) → IsDone g trade p r h f → IsTreeOf (l ++ r ∷ []) trade (edit_at f p s.tree)
       → ((m : EntryPart) → named m (edit_at f p s.tree) ≡ named m s.tree + count_of m (made r))
-      → AreTreesOf (l ++ r ∷ []) h
+      → IsGroveOf (l ++ r ∷ []) h
   edited {trade} {p} {n} s names h f done shows count =
       changed next s names h (edit_at f p s.tree)
       (from_tree s (λ u. ChangesTree g h trade (edit_at f p u)) done.tree)
@@ -105,7 +105,7 @@ module _ {t : House} {l : List Record} {r : Record} {g : Grove} (next : IsNext t
   reheaded : {trade : ℕ} {p : List ℕ} {n : EntryPart} (s : Spot l g trade p n) → named_node r.command ≡ Some n → made r ≡ []
       → (h : Grove) (f : Head → Head) → ((k : Head) → (f k).name ≡ k.name) → IsDone g trade p r h (λ v. with_head (f (head_of v)) v)
       → IsTreeOf (l ++ r ∷ []) trade (edit_at (λ v. with_head (f (head_of v)) v) p s.tree)
-      → AreTreesOf (l ++ r ∷ []) h
+      → IsGroveOf (l ++ r ∷ []) h
   reheaded {trade} {p} {n} s names makes h f same_names done shows =
       let k : Rose → Rose = λ v. with_head (f (head_of v)) v in
       edited s names h k done shows
@@ -134,7 +134,7 @@ module _ {t : House} {l : List Record} {r : Record} {g : Grove} (next : IsNext t
     pub claimed : (account : List ℕ) → r.command ≡ Claim n account → (h : Grove) → IsDone g trade p r h (claim_node r.number (record { firm = r.firm; account = account }))
         → HasTree g trade (λ u. ShowsMore (λ k q. HasAt p (λ v. IsClaimOf (head_of v) r.number (record { firm = r.firm; account = account }) q) u) u
         (edit_at (claim_node r.number (record { firm = r.firm; account = account })) p u))
-        → AreTreesOf (l ++ r ∷ []) h
+        → IsGroveOf (l ++ r ∷ []) h
     claimed account e h done shows =
         let x = claim_lines n account e in
         let place : Place = record { firm = r.firm; account = account } in
@@ -174,7 +174,7 @@ module _ {t : House} {l : List Record} {r : Record} {g : Grove} (next : IsNext t
 
     pub given_back : (state : State) → GivesBack n state r.command → (h : Grove) → IsDone g trade p r h (give_back_node r.number state)
         → HasTree g trade (λ u. ShowsMore (λ k q. HasAt p (λ v. IsGivingBackOf (head_of v) r.number state q) u) u (edit_at (give_back_node r.number state) p u))
-        → AreTreesOf (l ++ r ∷ []) h
+        → IsGroveOf (l ++ r ∷ []) h
     given_back state e h done shows =
         reheaded s (back_names n state r.command e) (back_makes n state r.command e) h (given_back_head r.number state) (λ k. refl) done
         (from_tree s (λ u. ShowsMore (λ k q. HasAt p (λ v. IsGivingBackOf (head_of v) r.number state q) u) u (edit_at (give_back_node r.number state) p u)) shows
@@ -265,7 +265,7 @@ module _ {t : House} {l : List Record} {r : Record} {g : Grove} (next : IsNext t
 
     pub split_filed : (h : Grove) → IsDone g trade p r h (split_node r.number ps)
         → HasTree g trade (λ u. ShowsMore (λ k q. HasAt p (λ v. IsSplitOf (head_of v) r.number ps q) u × IsUnnamed k r.number) u (edit_at (split_node r.number ps) p u))
-        → AreTreesOf (l ++ r ∷ []) h
+        → IsGroveOf (l ++ r ∷ []) h
     split_filed h done shows =
         edited next s (ap named_node e) h (split_node r.number ps) done
         (from_tree s (λ u. ShowsMore (λ k q. HasAt p (λ v. IsSplitOf (head_of v) r.number ps q) u × IsUnnamed k r.number) u (edit_at (split_node r.number ps) p u)) shows
@@ -287,7 +287,7 @@ module _ {t : House} {l : List Record} {r : Record} {g : Grove} (next : IsNext t
   pub trade_filed : (h : Grove) (new : Rose) → new ≡ leaf (root_head r.number place lots)
       → ((k : List Record) (q : Record) → IsTradeOf r.number place lots q → IsUnnamed k r.number → node_of k (record { entry = r.number; part = 0 }) ≡ None
       → IsTreeOf (k ++ q ∷ []) r.number new)
-      → ChangesTree g h r.number new → Places g h r.number (record { entry = r.number; part = 0 }) → AreTreesOf (l ++ r ∷ []) h
+      → ChangesTree g h r.number new → Places g h r.number (record { entry = r.number; part = 0 }) → IsGroveOf (l ++ r ∷ []) h
   trade_filed h new same shows changes places =
       planted next h new (ap is_trade is.command) (ap named_node is.command) (ap (named_place r.number) is.command) changes places
       (shows l r is (unnamed 0 r.number l (order next).orderly (low next)) no_root)
@@ -318,7 +318,7 @@ plain_command k by _ trade split claim refuse cancel = record { names = refl; tr
 pub left_alone : {t : House} {l : List Record} {r : Record} {g : Grove} → IsNext t l r g
     → ((firm account instrument : List ℕ) (side : Side) (lots : ℕ) → r.command ≡ Trade firm account instrument side lots → ⊥)
     → ((n : EntryPart) (ps : List Part) → r.command ≡ Split n ps → ⊥) → ((n : EntryPart) (account : List ℕ) → r.command ≡ Claim n account → ⊥)
-    → ((n : EntryPart) → r.command ≡ Refuse n → ⊥) → ((n : EntryPart) → r.command ≡ Cancel n → ⊥) → AreTreesOf (l ++ r ∷ []) g
+    → ((n : EntryPart) → r.command ≡ Refuse n → ⊥) → ((n : EntryPart) → r.command ≡ Cancel n → ⊥) → IsGroveOf (l ++ r ∷ []) g
 left_alone {r = r} {g = g} next trade split claim refuse cancel =
     let a = plain_command r.number r.firm r.command trade split claim refuse cancel in
     stays next a.names a.trades a.own a.makes

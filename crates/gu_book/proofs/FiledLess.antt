@@ -21,7 +21,7 @@ use Rattle.gu_tree.proofs.GroveSwaps.{by-cases}
 use Rattle.gu_tree.specs.declared.head.Head.{Head}
 use Rattle.gu_tree.proofs.Names.{is_named-other}
 use Rattle.gu_tree.proofs.Parts.{some_and}
-use Rattle.gu_book.specs.Filed.{IsIn, AreTreesOf, IsFree}
+use Rattle.gu_book.specs.Filed.{IsIn, IsGroveOf, IsFree}
 use Rattle.gu_book.specs.TreeRows.{is_trade, is_live_trade}
 use Rattle.gu_book.proofs.Filed.{Spot, tree_shown, one_trade, not_trade, and_no, if_here, if_there}
 use Rattle.gu_book.proofs.Leaves.{other_number, change_left}
@@ -109,7 +109,7 @@ module _ {t : House} {l : List Record} {r : Record} {g : Grove} (u : IsFree t l 
     ]
 
     -- the trees are those of the others
-    pub left_alone : AreTreesOf (without l r.number) g
+    pub left_alone : IsGroveOf (without l r.number) g
     left_alone = record {
       live = λ k. u.filed.live k ∙ sym (left_live k trades);
       shown = λ k. shown_alone k (tree_of g k) refl;
@@ -151,7 +151,7 @@ module _ {t : House} {l : List Record} {r : Record} {g : Grove} (u : IsFree t l 
           | inr other ↦ has_tree is.0 u.0 m (there_now is.0 other ∙ u.1) u.2
         ]
 
-    pub taken_back : AreTreesOf (without l r.number) h
+    pub taken_back : IsGroveOf (without l r.number) h
     taken_back = record {
       live = λ k. elim (by-cases k trade) [
         | inl same ↦ ap is_some (ap (tree_of h) same ∙ here_now)
@@ -219,7 +219,7 @@ module _ {t : House} {l : List Record} {r : Record} {g : Grove} (u : IsFree t l 
           | inr other ↦ (is.0, subst (λ (o : Option Rose). IsSomeAnd o (λ t. 1 ≤ named m t)) (sym (others_now is.0 other ∙ u.1)) u.2)
         ]
 
-    pub uprooted : AreTreesOf (without l r.number) h
+    pub uprooted : IsGroveOf (without l r.number) h
     uprooted = record {
       live = λ k. elim (by-cases k r.number) [
         | inl same ↦ ap is_some (ap (tree_of h) same ∙ gone_now) ∙ (sym no_trade_left ∙ ap (is_live_trade (without l r.number)) (sym same))

@@ -12,7 +12,7 @@ use Rattle.gu_tree.specs.declared.head.Head.{Head}
 use Rattle.gu_tree.proofs.Edits.{edit_at-same}
 use Rattle.gu_tree.proofs.Names.{named-edit_at}
 use Rattle.gu_tree.proofs.Parts.{some_and, at_fact}
-use Rattle.gu_book.specs.Filed.{AreTreesOf, IsFree}
+use Rattle.gu_book.specs.Filed.{IsGroveOf, IsFree}
 use Rattle.gu_book.specs.TreeRows.{is_trade}
 use Rattle.gu_book.proofs.Filed.{Spot}
 use Rattle.gu_book.proofs.FiledChanges.{from_tree, has_at, is_at, said_at}
@@ -34,7 +34,7 @@ module _ {t : House} {l : List Record} {r : Record} {g : Grove} (u : IsFree t l 
     may_unsplit = is_at s (λ v. IsTrue (can_unsplit v)) (splits_bare u s is)
 
     pub unsplit_gone : (h : Grove) → HasTree g trade (λ v. ChangesTree g h trade (edit_at unsplit_node p v)) → HasTree g trade (HasAt p (λ w. IsSomeAnd (split_of_node w) (λ q. Takes g h q.0)))
-        → HasTree g trade (λ v. ShowsLess (λ l k. HasAt p (λ w. IsOnlySplit l k (head_of w).name) v) v (edit_at unsplit_node p v)) → AreTreesOf (without l r.number) h
+        → HasTree g trade (λ v. ShowsLess (λ l k. HasAt p (λ w. IsOnlySplit l k (head_of w).name) v) v (edit_at unsplit_node p v)) → IsGroveOf (without l r.number) h
     unsplit_gone h tree place shows =
         let only : IsOnlySplit l r.number n = only_split u n is (split_names n r.command is).1 in
         taken_back u s (split_names n r.command is).0 h (edit_at unsplit_node p s.tree)
@@ -55,7 +55,7 @@ module _ {t : House} {l : List Record} {r : Record} {g : Grove} (u : IsFree t l 
 
     -- the part is offered again, in this account
     pub offered_gone : (h : Grove) (to : Place) → ChangesTree g h trade (edit_at (offer_node to) p s.tree) → HasTree g trade (HasAt p (λ w. IsSomeAnd (head_of w).decision (Takes g h)))
-        → ShowsLess (λ l k. HasAt p (λ w. IsOnlyDecision l k (head_of w).name) s.tree) s.tree (edit_at (offer_node to) p s.tree) → AreTreesOf (without l r.number) h
+        → ShowsLess (λ l k. HasAt p (λ w. IsOnlyDecision l k (head_of w).name) s.tree) s.tree (edit_at (offer_node to) p s.tree) → IsGroveOf (without l r.number) h
     offered_gone h to tree place shows =
         let only : IsOnlyDecision l r.number n = only_decision u n (decides_node n r.command is) is in
         taken_back u s names_n h (edit_at (offer_node to) p s.tree) tree
@@ -81,7 +81,7 @@ module _ {t : House} {l : List Record} {r : Record} {g : Grove} (u : IsFree t l 
     pub claim_gone : (h : Grove) → HasTree g trade (λ v. HasAt (above p) (λ w. ChangesTree g h trade (edit_at (offer_node (head_of w).place) p v)) v)
         → HasTree g trade (HasAt p (λ w. IsSomeAnd (head_of w).decision (Takes g h)))
         → HasTree g trade (λ v. HasAt (above p) (λ w. ShowsLess (λ l k. HasAt p (λ x. IsOnlyDecision l k (head_of x).name) v) v (edit_at (offer_node (head_of w).place) p v)) v)
-        → AreTreesOf (without l r.number) h
+        → IsGroveOf (without l r.number) h
     claim_gone h tree place shows =
         let w = some_and (λ w. ChangesTree g h trade (edit_at (offer_node (head_of w).place) p s.tree)) (node_at (above p) s.tree)
         (from_tree s (λ v. HasAt (above p) (λ w. ChangesTree g h trade (edit_at (offer_node (head_of w).place) p v)) v) tree) in
@@ -103,7 +103,7 @@ module _ {t : House} {l : List Record} {r : Record} {g : Grove} (u : IsFree t l 
         is_leaf_in s is_turned named_turned IsGivenBackLeaf (λ h e. ap is_given_back (e ∙ decided_state u s is_turned named_turned) ∙ (turned_names n r.command is).2)
 
     pub turned_gone : (h : Grove) → HasTree g trade (λ v. ChangesTree g h trade (edit_at offer_again_node p v)) → HasTree g trade (HasAt p (λ w. IsSomeAnd (head_of w).decision (Takes g h)))
-        → HasTree g trade (λ v. ShowsLess (λ l k. HasAt p (λ w. IsOnlyDecision l k (head_of w).name) v) v (edit_at offer_again_node p v)) → AreTreesOf (without l r.number) h
+        → HasTree g trade (λ v. ShowsLess (λ l k. HasAt p (λ w. IsOnlyDecision l k (head_of w).name) v) v (edit_at offer_again_node p v)) → IsGroveOf (without l r.number) h
     turned_gone h tree place shows =
         let same : edit_at offer_again_node p s.tree ≡ edit_at (offer_node (head_of s.node).place) p s.tree =
         edit_at-same offer_again_node (offer_node (head_of s.node).place) p s.tree s.node s.at refl in
@@ -120,7 +120,7 @@ module _ {t : House} {l : List Record} {r : Record} {g : Grove} (u : IsFree t l 
         let root = root_leaf u trades in
         subst (λ (o : Option Rose). IsSomeAnd o IsSapling) (sym root.1) (ap (λ (m : EntryPart). m.part) root.2)
 
-    pub root_gone : (h : Grove) → TakesTree g h r.number → Takes g h r.number → AreTreesOf (without l r.number) h
+    pub root_gone : (h : Grove) → TakesTree g h r.number → Takes g h r.number → IsGroveOf (without l r.number) h
     root_gone h tree place =
         let root = root_leaf u trades in
         uprooted u root.0 root.1 h tree place (unnamed_trade r.command trades)

@@ -2,7 +2,7 @@
 use Rattle.std.proofs.Common.{◌≡◌, ℕ, ◌+◌, ◌<◌, ◌≤◌, true, false, ◌&&◌, ◌||◌, List, [], ◌∷◌, ◌++◌, length, refl, sym, ◌∙◌, ap, subst, arith, cond}
 use Rattle.std.proofs.Common.{append-nil, append_assoc, length-append, None, find, bytes_eq, ◌==◌}
 use Rattle.std.specs.List.{IsDistinct}
-use Rattle.gu_book.proofs.Vocabulary.{list_any, Grove, tree_of, last_place, IsSameGrove, AreTreesOf, IsNext, AreTreesOf, same_id, NoIdTwice, IsKept, IsWithinLimits, AllWithinLimits, given}
+use Rattle.gu_book.proofs.Vocabulary.{list_any, Grove, tree_of, last_place, IsSameGrove, IsGroveOf, IsNext, AreTreesOf, same_id, NoIdTwice, IsKept, IsWithinLimits, AllWithinLimits, given}
 use Rattle.gu_book.proofs.Vocabulary.{Consents}
 use Rattle.std.specs.Cmp.{IsEquivalence}
 use Rattle.std.proofs.lemmas.List.Elements.{All-nil, All-push}
@@ -67,7 +67,7 @@ module _ {t : House} {h : List Entry} {ts : Grove} {cs : Consents} (kept : IsKep
   shown = allowed t h e n ok
 
   -- what an accepted call leaves true, of any kind
-  kept_next : (us : Grove) (ds : Consents) → AllWithinLimits (live (h ++ e ∷ [])) → AreTreesOf (live (h ++ e ∷ [])) us → last_place us ≤ n
+  kept_next : (us : Grove) (ds : Consents) → AllWithinLimits (live (h ++ e ∷ [])) → IsGroveOf (live (h ++ e ∷ [])) us → last_place us ≤ n
       → ((m : ℕ) → given ds m ≡ consents_left (h ++ e ∷ []) m) → IsKept t (h ++ e ∷ []) us ds
   kept_next us ds small filed placed consented =
       let a = shown in
@@ -121,11 +121,11 @@ module _ {t : House} {h : List Entry} {ts : Grove} {cs : Consents} (kept : IsKep
       rises = subst (RisesFrom 1) (sym live_more) (live_rises (h ++ e ∷ []));
     }
 
-    pub kept_change : (us : Grove) → AreTreesOf (live h ++ numbered_as n e ∷ []) us → last_place us ≤ n → IsKept t (h ++ e ∷ []) us cs
+    pub kept_change : (us : Grove) → IsGroveOf (live h ++ numbered_as n e ∷ []) us → last_place us ≤ n → IsKept t (h ++ e ∷ []) us cs
     kept_change us filed placed =
         kept_next us cs
         (subst AllWithinLimits live_more (All-push (λ r. IsWithinLimits r.command) (live h) (numbered_as n e) kept.within (accepted_small t (live h) e.firm e.command lawful)))
-        (subst (λ (l : List Record). AreTreesOf l us) live_more filed) placed
+        (subst (λ (l : List Record). IsGroveOf l us) live_more filed) placed
         (λ m. kept.consented m ∙ left_change h e m e.command refl change)
 
   -- ---- an Initiate or a Decline
@@ -135,7 +135,7 @@ module _ {t : House} {h : List Entry} {ts : Grove} {cs : Consents} (kept : IsKep
 
   kept_consenting : is_consenting e.command ≡ true → (ds : Consents) → ((m : ℕ) → given ds m ≡ consents_left (h ++ e ∷ []) m) → IsKept t (h ++ e ∷ []) ts ds
   kept_consenting consent ds consented =
-      kept_next ts ds (subst AllWithinLimits (live_same consent) kept.within) (subst (λ (l : List Record). AreTreesOf l ts) (live_same consent) kept.filed) (no_later ts kept.placed) consented
+      kept_next ts ds (subst AllWithinLimits (live_same consent) kept.within) (subst (λ (l : List Record). IsGroveOf l ts) (live_same consent) kept.filed) (no_later ts kept.placed) consented
 
   open_entry : (k : ℕ) → e.command ≡ Initiate k → is_reversed h k ≡ false
   open_entry k same =
@@ -174,10 +174,10 @@ module _ {t : House} {h : List Entry} {ts : Grove} {cs : Consents} (kept : IsKep
   pub live_less : (k : ℕ) → e.command ≡ Reverse k → without (live h) k ≡ live (h ++ e ∷ [])
   live_less k same = sym (live_push_reverse h e k same)
 
-  pub kept_reverse : (k : ℕ) → e.command ≡ Reverse k → (us : Grove) → AreTreesOf (without (live h) k) us → last_place us ≡ last_place ts
+  pub kept_reverse : (k : ℕ) → e.command ≡ Reverse k → (us : Grove) → IsGroveOf (without (live h) k) us → last_place us ≡ last_place ts
       → (ds : Consents) → ((m : ℕ) → given ds m ≡ cond (m == k) [] (given cs m)) → IsKept t (h ++ e ∷ []) us ds
   kept_reverse k same us filed placed ds less =
-      kept_next us ds (subst AllWithinLimits (live_less k same) (without_small k (live h) kept.within)) (subst (λ (l : List Record). AreTreesOf l us) (live_less k same) filed)
+      kept_next us ds (subst AllWithinLimits (live_less k same) (without_small k (live h) kept.within)) (subst (λ (l : List Record). IsGroveOf l us) (live_less k same) filed)
       (no_later us (let before = kept.placed in omega (arith, placed, before)))
       (λ m. less m ∙ (ap (λ fs. cond (m == k) [] fs) (kept.consented m) ∙ left_reverse h e k m same))
 

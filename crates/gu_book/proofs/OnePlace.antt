@@ -4,7 +4,7 @@ use Rattle.std.proofs.Common.{Some, None, option_map, unwrap_or, bytes_eq}
 use Rattle.std.proofs.lemmas.Option.{same_Some}
 use Rattle.gu_depend.proofs.Vocabulary.{EntryPart, node_of, nodes_of, deal_in, split_of, parent, House, Record, Place, Node, place_of, depth_of, root_of, owns, Deal}
 use Rattle.gu_book.proofs.Vocabulary.{Rose, Roses, leaf, parted, no_parts, part_then, head_of, split_of_node, node_at, HasAt, Grove, tree_of, tree_in, IsPlace, IsSameGrove, HasTree, slot_of}
-use Rattle.gu_book.proofs.Vocabulary.{IsNodeOf, ArePartsOf, IsTreeOf, named_node, IsHeadOf, AreTreesOf, IsNext, AreTreesOf, IsFoundAs, IsFoundIn, Head, traded_at, held_at, held_above, Found}
+use Rattle.gu_book.proofs.Vocabulary.{IsNodeOf, ArePartsOf, IsTreeOf, named_node, IsHeadOf, IsGroveOf, IsNext, AreTreesOf, IsFoundAs, IsFoundIn, Head, traded_at, held_at, held_above, Found}
 use Rattle.gu_tree.specs.Paths.{part_at, LeadsTo}
 use Rattle.gu_tree.proofs.Along.{its-head}
 use Rattle.gu_tree.proofs.Parts.{some_and, at_fact, at_there}
@@ -49,7 +49,7 @@ there_too None e = absurd (cc)
 there_too (Some t) e = (t, refl)
 
 -- what trees of the changes have at a place, all trees of the changes have there
-pub one_place : {l : List Record} {g : Grove} → AreTreesOf l g → (n : EntryPart) (trade : ℕ) (p : List ℕ) → IsPlace g n trade p → (h : Grove) → AreTreesOf l h → IsPlace h n trade p
+pub one_place : {l : List Record} {g : Grove} → IsGroveOf l g → (n : EntryPart) (trade : ℕ) (p : List ℕ) → IsPlace g n trade p → (h : Grove) → IsGroveOf l h → IsPlace h n trade p
 one_place {l} {g} filed n trade p place h others =
     let live : is_some (tree_of h trade) ≡ true = others.live trade ∙ (sym (filed.live trade) ∙ ap is_some place.found) in
     let u = there_too (tree_of h trade) live in
@@ -65,14 +65,14 @@ one_place {l} {g} filed n trade p place h others =
     }
 
 -- what was found at a place lies there
-pub lies_there : {l : List Record} {g : Grove} → AreTreesOf l g → (n : EntryPart) (m : Named) (trade : ℕ) (p : List ℕ) → m.node.name ≡ n → m.found.trade ≡ trade → IsPlace g n trade p
+pub lies_there : {l : List Record} {g : Grove} → IsGroveOf l g → (n : EntryPart) (m : Named) (trade : ℕ) (p : List ℕ) → m.node.name ≡ n → m.found.trade ≡ trade → IsPlace g n trade p
     → LiesThere l (Some m) p
 lies_there {l} {g} filed n m trade p called same place h others =
     one_place filed m.node.name m.found.trade p
     (subst (λ (k : EntryPart). IsPlace g k m.found.trade p) (sym called) (subst (λ (k : ℕ). IsPlace g n k p) (sym same) place)) h others
 
 -- what a command names was found there, where the changes make it
-pub found_there : (l : List Record) (g : Grove) (k : Option EntryPart) (o : Option Named) (p : List ℕ) → AreTreesOf l g → IsNamedIn l k o → LiesThere l o p
+pub found_there : (l : List Record) (g : Grove) (k : Option EntryPart) (o : Option Named) (p : List ℕ) → IsGroveOf l g → IsNamedIn l k o → LiesThere l o p
     → ((n : EntryPart) → k ≡ Some n → (x : Node) × (node_of l n ≡ Some x)) → IsFoundThere g k o p
 found_there l g None o p filed is lies there = tt
 found_there l g (Some n) None p filed is lies there = let x = there n refl in let z : None ≡ Some x.0 = sym is ∙ x.1 in absurd (cc)

@@ -1,7 +1,7 @@
 -- Of what a split moves, the lots of the parts that stay where the whole stood cancel: the others alone have to be moved.
 use Rattle.std.proofs.Common.{◌≡◌, ℕ, ◌+◌, ◌≤◌, Bool, true, false, not, ◌&&◌, ◌||◌, List, [], ◌∷◌, refl, sym, ◌∙◌, ap, subst, arith, Option, cond, Some, None}
 use Rattle.std.proofs.Common.{IsSome, map, find, filter_map, sum_by, is_some, unwrap_or, option_map, option_and_then, bytes_eq, ◌==◌}
-use Rattle.gu_book.proofs.Vocabulary.{cons_option, list_any, PositionRows, is_key, Key, Grove, IsPlace, AreTreesOf, IsFoundAs, traded_at, held_at, holding_of, part_holding, holding_away, part_away}
+use Rattle.gu_book.proofs.Vocabulary.{cons_option, list_any, PositionRows, is_key, Key, Grove, IsPlace, IsGroveOf, IsFoundAs, traded_at, held_at, holding_of, part_holding, holding_away, part_away}
 use Rattle.gu_book.proofs.Vocabulary.{counted_at, taken_at, HaveMoved, is_trade, is_live_trade, Found, Holding}
 use Rattle.std.proofs.lemmas.Bool.{eqb-true}
 use Rattle.std.proofs.lemmas.List.Sums.{sum_by-cons}
@@ -143,7 +143,7 @@ deal_there l k rises live =
     (sym (one_found (λ (r : Record). r.number == k) (λ (r : Record). is_trade r.command) l once) ∙ (sym (any_found (λ (r : Record). (r.number == k) && is_trade r.command) l) ∙ live))
 
 -- so each node that was found holds something
-pub holds_some : {l : List Record} {g : Grove} → AreTreesOf l g → RisesFrom 1 l → {x : Node} {f : Found} {p : List ℕ} → IsFoundAs l x f → IsPlace g x.name f.trade p
+pub holds_some : {l : List Record} {g : Grove} → IsGroveOf l g → RisesFrom 1 l → {x : Node} {f : Found} {p : List ℕ} → IsFoundAs l x f → IsPlace g x.name f.trade p
     → IsSome (holding_of l x)
 holds_some {l} {g} filed rises {x} {f} is place =
     let d = deal_there l f.trade rises (sym (filed.live f.trade) ∙ ap is_some place.found) in

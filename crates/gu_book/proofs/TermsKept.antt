@@ -2,7 +2,7 @@
 use Rattle.std.proofs.Common.{◌≡◌, ℕ, ◌≤◌, ◌<◌, Bool, true, false, List, [], ◌∷◌, ◌++◌, length, refl, sym, ◌∙◌, ap, subst, arith, cond, Option, IsSomeAnd}
 use Rattle.std.proofs.Common.{append-nil, Some, None, sum_by, option_and_then, slice_get}
 use Rattle.gu_book.proofs.Vocabulary.{lookup, AreTermsOf, pair_of, names, PairView, FeeRows, is_pair, TermsView, last_entry, CanPut, CanPutAt, IsPut, IsTakenOut, PositionRows, Grove, AreFeesOf}
-use Rattle.gu_book.proofs.Vocabulary.{CanClaim, IsClaimed, IsSmallDeed, AreTreesOf, IsNext, IsFree, ArePositionsOf, counted_at, IsOfTerms, is_return, AllWithinLimits, is_trade, is_of_trees}
+use Rattle.gu_book.proofs.Vocabulary.{CanClaim, IsClaimed, IsSmallDeed, IsGroveOf, IsNext, IsFree, ArePositionsOf, counted_at, IsOfTerms, is_return, AllWithinLimits, is_trade, is_of_trees}
 use Rattle.std.proofs.lemmas.List.Elements.{All-contains}
 use Rattle.gu_depend.proofs.Vocabulary.{House, EntryPart, is_change, node_of, is_given, without, use_of_node, deed_of, raised_under, used_under, Deed, Makes, Raises, Uses, Dealing, Pair, Command}
 use Rattle.gu_depend.proofs.Vocabulary.{Trade, Split, Claim, Refuse, Cancel, Agree, Raise, Record, Kind, Given, Node}
@@ -119,7 +119,7 @@ module _ {t : House} {l : List Record} {r : Record} {ts : Grove} (next : IsNext 
     other : (c : Command) → is_of_terms c ≡ false → r.command ≡ c → ⊥
     other c unlike is = let z : true ≡ false = sym of_terms ∙ (ap is_of_terms is ∙ unlike) in cc
 
-    pub terms_filed : AreTreesOf (l ++ r ∷ []) ts
+    pub terms_filed : IsGroveOf (l ++ r ∷ []) ts
     terms_filed =
         left_alone next (λ firm account instrument side lots. other (Trade firm account instrument side lots) refl) (λ n ps. other (Split n ps) refl)
         (λ n account. other (Claim n account) refl) (λ n. other (Refuse n) refl) (λ n. other (Cancel n) refl)
@@ -190,7 +190,7 @@ module _ {t : House} {l : List Record} {r : Record} {ts : Grove} (u : IsFree t l
     gone : IsIdle t others r.firm r.command
     gone = idle_terms t others r.firm r.command of
 
-    pub undealt_filed : place_of ts r.number ≡ None → AreTreesOf others ts
+    pub undealt_filed : place_of ts r.number ≡ None → IsGroveOf others ts
     undealt_filed placeless = let apart = terms_unnamed r.command of in less.left_alone u apart.0 apart.1 placeless
 
     pub undealt_fees : (fees : FeeRows) → AreFeesOf t l fees → AreFeesOf t others fees

@@ -2,7 +2,7 @@
 pub use Rattle.gu_book.specs.Charging.{AreFeesOf, IsCharged, IsSmallCharge}
 pub use Rattle.gu_book.specs.Conserved.{lots_traded}
 pub use Rattle.gu_book.specs.Dealing.{CanClaim, IsClaimed, IsSmallDeed}
-pub use Rattle.gu_book.specs.Filed.{AreTreesOf, IsFree, IsIn, IsNext}
+pub use Rattle.gu_book.specs.Filed.{IsGroveOf, IsFree, IsIn, IsNext}
 pub use Rattle.gu_book.specs.Found.{AreTreesOf, IsFoundAs, IsFoundIn, IsNamedBy, IsUndoneBy, IsUndoneThere}
 pub use Rattle.gu_book.specs.Front.{rest_of}
 pub use Rattle.gu_book.specs.Holdings.{ArePositionsOf, HasFewLots, HasRoomBack, HaveMoved, HaveRoom, HaveThere, SameLots, added_by, comes_from, counted_at, goes_back, held_above, held_at, holding_away}

@@ -20,7 +20,7 @@ IsIn g n = (trade : ℕ) × HasTree g trade (λ t. 1 ≤ named n t)
 
 -- there is a tree for each live trade and for nothing else, and it shows the trade; all nodes of the changes are in the trees; the live
 -- changes have their places, and nothing else has one
-pub record AreTreesOf (l : List Record) (g : Grove) : Type 0 where
+pub record IsGroveOf (l : List Record) (g : Grove) : Type 0 where
   pub live : (k : ℕ) → is_some (tree_of g k) ≡ is_live_trade l k
   pub shown : (k : ℕ) → IfSome (tree_of g k) (IsTreeOf l k)
   pub whole : (n : EntryPart) (x : Node) → node_of l n ≡ Some x → IsIn g n
@@ -28,7 +28,7 @@ pub record AreTreesOf (l : List Record) (g : Grove) : Type 0 where
 
 -- a change that may follow these, the trees of which are filed, and the places too; no entry so late ever had a place
 pub record IsNext (t : House) (l : List Record) (r : Record) (g : Grove) : Type 0 where
-  pub filed : AreTreesOf l g
+  pub filed : IsGroveOf l g
   pub later : last_place g < r.number
   pub replayed : first_refused t [] l ≡ None
   pub lawful : refusal_of t l r.firm r.command ≡ None
@@ -40,11 +40,11 @@ IsDue r g = (t : House) × (l : List Record) × IsNext t l r g
 
 -- whatever list the change may follow, the new trees are those of it and the change
 abbrev pub Follows : Record → Grove → Grove → Type 0
-Follows r old new = (t : House) (l : List Record) → IsNext t l r old → AreTreesOf (l ++ r ∷ []) new
+Follows r old new = (t : House) (l : List Record) → IsNext t l r old → IsGroveOf (l ++ r ∷ []) new
 
 -- a change of these on which nothing stands; the trees are those of all of them
 pub record IsFree (t : House) (l : List Record) (r : Record) (g : Grove) : Type 0 where
-  pub filed : AreTreesOf l g
+  pub filed : IsGroveOf l g
   pub replayed : first_refused t [] l ≡ None
   pub rises : RisesFrom 1 l
   pub among : Contains l r
@@ -56,4 +56,4 @@ MayGo r g = (t : House) × (l : List Record) × IsFree t l r g
 
 -- whatever list the change may go from, the new trees are those of the others
 abbrev pub IsGone : Record → Grove → Grove → Type 0
-IsGone r old new = (t : House) (l : List Record) → IsFree t l r old → AreTreesOf (without l r.number) new
+IsGone r old new = (t : House) (l : List Record) → IsFree t l r old → IsGroveOf (without l r.number) new

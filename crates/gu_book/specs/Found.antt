@@ -13,7 +13,7 @@ use Rattle.gu_base.specs.declared.entry.Record.{Record}
 use Rattle.gu_base.specs.declared.node.Node.{Node}
 use Rattle.gu_tree.specs.Grove.{Grove, IsPlace, place_of as place_kept}
 use Rattle.gu_tree.specs.ShownAll.{place_in}
-use Rattle.gu_book.specs.Filed.{AreTreesOf}
+use Rattle.gu_book.specs.Filed.{IsGroveOf}
 use Rattle.gu_book.specs.Holdings.{deal_of}
 use Rattle.gu_book.specs.declared.found.Found.{Found}
 use Rattle.gu_book.specs.declared.found.Named.{Named}
@@ -23,7 +23,7 @@ use Rattle.gu_book.specs.declared.found.Undone.{Undone}
 -- the trees are those of these changes, none of which a house refuses
 pub record AreTreesOf (l : List Record) (g : Grove) : Type 0 where
   pub house : House
-  pub filed : AreTreesOf l g
+  pub filed : IsGroveOf l g
   pub replayed : first_refused house [] l ≡ None
   pub rises : RisesFrom 1 l
 
@@ -55,7 +55,7 @@ IsNamedIn l (Some n) o = IsNamedBy l n o
 -- the path leads to the node that was found, in whatever trees these changes have
 abbrev pub LiesThere : List Record → Option Named → List ℕ → Type 0
 LiesThere l None p = Unit {0}
-LiesThere l (Some m) p = (g : Grove) → AreTreesOf l g → IsPlace g m.node.name m.found.trade p
+LiesThere l (Some m) p = (g : Grove) → IsGroveOf l g → IsPlace g m.node.name m.found.trade p
 
 -- the node of this name was found, and these trees have it where the path leads
 abbrev pub IsFoundThere : Grove → Option EntryPart → Option Named → List ℕ → Type 0
@@ -69,7 +69,7 @@ pub record IsUndoneAs (l : List Record) (k : ℕ) (u : Undone) (p : List ℕ) : 
   pub name : EntryPart
   pub place : place_in l k ≡ Some name
   pub found : IsFoundIn l name (Some u.found)
-  pub there : (g : Grove) → AreTreesOf l g → IsPlace g name u.found.trade p
+  pub there : (g : Grove) → IsGroveOf l g → IsPlace g name u.found.trade p
   pub deal : u.deal ≡ deal_of l u.found.trade
 
 -- if there is one

@@ -9,7 +9,7 @@ use Rattle.gu_base.specs.Runs.{call_of}
 use Rattle.gu_base.specs.declared.entry.Answer.TheVariants.{Accepted}
 use Rattle.gu_base.specs.declared.entry.Entry.{Entry}
 use Rattle.gu_tree.specs.Grove.{Grove, last_place}
-use Rattle.gu_book.specs.Filed.{AreTreesOf}
+use Rattle.gu_book.specs.Filed.{IsGroveOf}
 use Rattle.gu_book.specs.Charging.{AreFeesOf}
 use Rattle.gu_book.specs.Holdings.{ArePositionsOf}
 use Rattle.gu_fees.specs.Rows.{FeeRows}
@@ -38,7 +38,7 @@ pub record IsKept (house : House) (history : List Entry) (trees : Grove) (consen
   pub within : AllWithinLimits (live history)
   pub accepted : AcceptedFrom house [] history
   pub once : NoIdTwice history
-  pub filed : AreTreesOf (live history) trees
+  pub filed : IsGroveOf (live history) trees
   pub placed : last_place trees ≤ length history
   pub consented : (n : ℕ) → given consents n ≡ consents_left history n
 

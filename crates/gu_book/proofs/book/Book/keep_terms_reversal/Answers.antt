@@ -1,6 +1,6 @@
 use Rattle.std.proofs.Common.{◌≡◌, ◌∙◌, ℕ, refl, ap, subst, None}
 use Rattle.gu_depend.proofs.Vocabulary.{live, without}
-use Rattle.gu_book.proofs.Vocabulary.{AreTermsOf, IsTakenOut, AreFeesOf, AreTreesOf, ArePositionsOf, entry_of_change}
+use Rattle.gu_book.proofs.Vocabulary.{AreTermsOf, IsTakenOut, AreFeesOf, IsGroveOf, ArePositionsOf, entry_of_change}
 use Rattle.gu_tree.specs.Grove.{place_of}
 use Rattle.gu_book.proofs.AllShown.{undone, undone_number, undone_may_go, undone_of_terms}
 use Rattle.gu_book.proofs.Books.{book_less}
@@ -28,7 +28,7 @@ invariant_of-self-2 c =
     let taken : IsTakenOut c.self.inside.terms c.take_out.new.self m = rw one c.take_out.ensures in
     simp (c.push.ensures.items, c.make_room.ensures.items)
     (book_less c.self.invariant n e ok c.push.new.ids (rw c.make_room.ensures.items at c.push.ensures.ids) k c.requires.names
-    c.self.inside.trees (subst (λ (m : ℕ). AreTreesOf (without l m) c.self.inside.trees) one (undealt_filed go of nowhere)) refl
+    c.self.inside.trees (subst (λ (m : ℕ). IsGroveOf (without l m) c.self.inside.trees) one (undealt_filed go of nowhere)) refl
     c.clear.new.self c.clear.ensures c.put.new.self c.in_ok-put.ensures.put
     c.self.inside.fees (subst (λ (m : ℕ). AreFeesOf c.self.inside.house (without l m) c.self.inside.fees) one (undealt_fees go of c.self.inside.fees c.self.invariant.charged))
     c.self.inside.positions (subst (λ (m : ℕ). ArePositionsOf (without l m) c.self.inside.positions) one (undealt_stands go of c.self.inside.positions c.self.invariant.stands))
