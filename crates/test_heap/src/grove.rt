@@ -31,11 +31,12 @@ fn rows<A: Allocator + Clone>(alloc: Global, trees: &Trees<A>) -> io::Result<Vec
 
 /// How many of the entries of the trade, its split and the claim have a place, where each has one if the entry before has.
 fn placed<A: Allocator + Clone>(trees: &Trees<A>) -> usize {
-    let mut count = 0;
-    while count < 3 && trees.place(Number::at_place(count)).is_some() {
-        count += 1;
+    for place in 0..3 {
+        if trees.place(Number::at_place(place)).is_none() {
+            return place;
+        }
     }
-    count
+    3
 }
 
 fn told(same: bool, reached: Reached) -> Reached {
