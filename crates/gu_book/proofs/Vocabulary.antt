@@ -32,7 +32,7 @@ pub use Rattle.gu_positions.specs.Rows.{PositionRows, is_key, lots_in}
 pub use Rattle.gu_positions.specs.declared.positions.Key.{Key}
 pub use Rattle.gu_tree.specs.Changes.{can_unsplit, is_given_back, unsplit_node}
 pub use Rattle.gu_tree.specs.Filing.{slot_of}
-pub use Rattle.gu_tree.specs.Grove.{ChangesTree, Grove, HasFreeParts, HasTree, IsDecidedIn, IsPlace, IsSameGrove, IsSplitIn, Places, Takes, TakesTree, last_place, tree_in, tree_of}
+pub use Rattle.gu_tree.specs.Grove.{ChangesTree, Grove, HasTree, IsPlace, IsSameGrove, Places, Takes, TakesTree, last_place, tree_in, tree_of}
 pub use Rattle.gu_tree.specs.Paths.{HasAt, edit_at, node_at}
 pub use Rattle.gu_tree.specs.Rose.{Rose, Roses, head_of, leaf, named, named_below, no_parts, part_then, parted, split_of_node}
 pub use Rattle.gu_tree.specs.Shown.{ArePartsOf, DecidesNode, IsHeadOf, IsNodeOf, IsOnlyDecision, IsOnlySplit, IsTreeOf, IsUnnamed, SplitsNode, named_node}
