@@ -105,7 +105,8 @@ module _ (t : House) (l : List Record) (none : first_refused t [] l ≡ None) wh
       none_is_some (deed_of l g k r.firm r.command) d (All-contains (λ (r : Record). deed_of l g k r.firm r.command ≡ None) l r (none_dealt l g k l empty) there) deals
 
   given_charged : (g k x y : List ℕ) (lots : ℕ) (o : Option Agreement) → (o ≡ None → ⊥)
-      → counted (of_pair g k) (λ c. c.lots) (option_map (λ (a : Agreement). record { giver = x; taker = y; lots = lots; rate = a.rate }) o) ≡ used_told (cond (bytes_eq x g && bytes_eq y k) (Some (Uses lots)) None)
+      → counted (of_pair g k) (λ c. c.lots) (option_map (λ (a : Agreement). record { giver = x; taker = y; lots = lots; rate = a.rate }) o) ≡ used_told
+      (cond (bytes_eq x g && bytes_eq y k) (Some (Uses lots)) None)
   given_charged g k x y lots None some = absurd (some refl)
   given_charged g k x y lots (Some a) some = lots_told (bytes_eq x g && bytes_eq y k) lots
 
@@ -225,7 +226,8 @@ used_most l g k all few =
     let d : length (dealings l g k) * 10000000 ≤ 1000000 * 10000000 = mul-le-mul_right 10000000 c in
     omega (arith, a, d)
 
-made_first : (f : Deed) (rest : Option Agreement) (a : Agreement) → IsSmallDeed f → (rest ≡ Some a → a.rate ≤ highest_rate) → option_or (made_by_deed f) rest ≡ Some a → a.rate ≤ highest_rate
+made_first : (f : Deed) (rest : Option Agreement) (a : Agreement) → IsSmallDeed f
+    → (rest ≡ Some a → a.rate ≤ highest_rate) → option_or (made_by_deed f) rest ≡ Some a → a.rate ≤ highest_rate
 made_first (Makes b) rest a small later e = subst (λ (b : Agreement). b.rate ≤ highest_rate) (same_Some b a e) small.rate_fits
 made_first (Raises lots) rest a small later e = later e
 made_first (Uses lots) rest a small later e = later e
@@ -239,7 +241,8 @@ made_rate : (t : House) (l : List Record) (g k : List ℕ) → AllWithinLimits l
 made_rate t l g k all absent a e =
     made_small (dealings l g k) (small_in l g k all l all) a (ap (λ f. terms_under f (dealings l g k)) (sym absent) ∙ e)
 
-rate_by : (t : House) (l : List Record) (g k : List ℕ) → AllWithinLimits l → (p : Option Agreement) → agreement t g k ≡ p → IfSome p (λ a. (a.rate ≤ highest_rate) × (a.limit ≤ highest_limit))
+rate_by : (t : House) (l : List Record) (g k : List ℕ) → AllWithinLimits l → (p : Option Agreement)
+    → agreement t g k ≡ p → IfSome p (λ a. (a.rate ≤ highest_rate) × (a.limit ≤ highest_limit))
     → (o : Option Agreement) → o ≡ terms_of t l g k → IfSome o (λ a. a.rate ≤ highest_rate)
 rate_by t l g k all p is in_range None e = tt
 rate_by t l g k all None is in_range (Some a) e = made_rate t l g k all is a (sym e)

@@ -33,7 +33,8 @@ placeless k c other = none_here (named_place k c) (has_place k c ∙ other)
     none_here None is = refl
     none_here (Some n) is = absurd (cc)
 
-reverse_met : (t : House) (h : List Entry) (e : Entry) (n k : ℕ) → answer_to t h (call_of e) ≡ Accepted n e.status → e.command ≡ Reverse k → changes_trees (live h) (Reverse k) ≡ true → IsSome (place_in (live h) k)
+reverse_met : (t : House) (h : List Entry) (e : Entry) (n k : ℕ) → answer_to t h (call_of e) ≡ Accepted n e.status
+    → e.command ≡ Reverse k → changes_trees (live h) (Reverse k) ≡ true → IsSome (place_in (live h) k)
 reverse_met t h e n k ok same changes =
     let u = undone t h e n k ok same in
     let is : is_of_trees u.0.command ≡ true = sym (ap (λ (o : Option Record). unwrap_or (option_map (λ (r : Record). is_of_trees r.command) o) false) u.1.found) ∙ changes in

@@ -5,7 +5,8 @@ pub use Rattle.gu_book.specs.Dealing.{CanClaim, IsClaimed, IsSmallDeed}
 pub use Rattle.gu_book.specs.Filed.{IsGroveOf, IsFree, IsIn, IsNext}
 pub use Rattle.gu_book.specs.Found.{AreTreesOf, IsFoundAs, IsFoundIn, IsNamedBy, IsUndoneBy, IsUndoneThere}
 pub use Rattle.gu_book.specs.Front.{rest_of}
-pub use Rattle.gu_book.specs.Holdings.{ArePositionsOf, HasFewLots, HasRoomBack, HaveMoved, HaveRoom, HaveThere, SameLots, added_by, comes_from, counted_at, goes_back, held_above, held_at, holding_away}
+pub use Rattle.gu_book.specs.Holdings.{ArePositionsOf, HasFewLots, HasRoomBack, HaveMoved, HaveRoom,
+    HaveThere, SameLots, added_by, comes_from, counted_at, goes_back, held_above, held_at, holding_away}
 pub use Rattle.gu_book.specs.Holdings.{holding_of, part_away, part_holding, taken_at, taken_before, taken_by, traded_at}
 pub use Rattle.gu_book.specs.Ids.{NoIdTwice, same_id}
 pub use Rattle.gu_book.specs.Index.{reversal_in}

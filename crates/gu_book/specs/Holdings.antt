@@ -1,5 +1,6 @@
 -- What stands in accounts, and what a change moves from one to another.
-use Rattle.std.specs.Prelude.{◌≡◌, ℕ, ◌+◌, ◌<◌, ◌≤◌, ◌^◌, ◌&&◌, ◌==◌, if◌then◌else◌, List, [], ◌∷◌, find, filter_map, sum_by, Option, Some, None, option_map, option_and_then, bytes_eq}
+use Rattle.std.specs.Prelude.{◌≡◌, ℕ, ◌+◌, ◌<◌, ◌≤◌, ◌^◌, ◌&&◌, ◌==◌, if◌then◌else◌, List, [], ◌∷◌, find, filter_map, sum_by, Option, Some, None}
+use Rattle.std.specs.Prelude.{option_map, option_and_then, bytes_eq}
 use Rattle.gu_base.specs.Numbers.{EntryPart}
 use Rattle.gu_base.specs.Nodes.{deal_in, node_of, parent}
 use Rattle.gu_base.specs.Places.{place_of, root_of}

@@ -1,5 +1,6 @@
 -- Look-ups in changes with distinct numbers.
-use Rattle.std.proofs.Common.{◌≡◌, ◌≢◌, ℕ, ◌+◌, ◌≤◌, cond, Bool, true, false, Option, Some, None, List, [], ◌∷◌, map, refl, ap, sym, ◌∙◌, subst, arith, inl, inr, ◌⊎◌}
+use Rattle.std.proofs.Common.{◌≡◌, ◌≢◌, ℕ, ◌+◌, ◌≤◌, cond, Bool, true, false, Option, Some, None, List, [], ◌∷◌, map, refl, ap, sym, ◌∙◌, subst, arith, inl, inr}
+use Rattle.std.proofs.Common.{◌⊎◌}
 use Rattle.std.specs.Prelude.{find, bytes_eq, ◌==◌}
 use Rattle.std.specs.Option.{option_or}
 use Rattle.std.specs.List.{AllByRecursion}
@@ -69,7 +70,8 @@ found-split (s ∷ l) distinct m r e =
       | inl a ↦ subst (IsFound (s ∷ l) m) a.1 (record {
         splits_it = a.0;
         taken = λ k free. free.0;
-        its_nodes = λ n q. node_of-first s l n ∙ (ap (λ o. option_or (among n (nodes_of s.number s.firm s.command)) o) (nodes-free s.number l free n q) ∙ or_none (among n (nodes_of s.number s.firm s.command)));
+        its_nodes = λ n q. node_of-first s l n
+            ∙ (ap (λ o. option_or (among n (nodes_of s.number s.firm s.command)) o) (nodes-free s.number l free n q) ∙ or_none (among n (nodes_of s.number s.firm s.command)));
       })
       | inr a ↦ (
           let rest = found-split l (IsDistinct-tail (λ a b. a == b) s.number (map (λ r. r.number) l) distinct) m r a.1 in
@@ -97,7 +99,8 @@ parts-in l k i u maker (p ∷ ps) at =
           (differ-same_name first n (λ t. let same : i ≡ n.part = ap (λ (m : EntryPart). m.part) t in absurd (omega arith)))),
     )
 
-split-in : (l : List Record) (m : EntryPart) (k : ℕ) (by : List ℕ) (c : Command) → splits m c ≡ true → ((n : EntryPart) → n.entry ≡ k → node_of l n ≡ among n (nodes_of k by c)) → AreIn l m (nodes_of k by c)
+split-in : (l : List Record) (m : EntryPart) (k : ℕ) (by : List ℕ) (c : Command) → splits m c ≡ true
+    → ((n : EntryPart) → n.entry ≡ k → node_of l n ≡ among n (nodes_of k by c)) → AreIn l m (nodes_of k by c)
 split-in l m k by (Split u ps) e at = subst (λ w. AreIn l w (nodes_of_parts k 1 u by ps)) (name_is u m e) (parts-in l k 1 u by ps (λ n q later. at n q))
 split-in l m k by _ e at = absurd (cc)
 

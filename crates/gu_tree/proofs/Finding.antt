@@ -20,7 +20,8 @@ root-place g n tree is part found =
     let leads = is.made n.entry tree [] tree found refl in
     record { tree = tree; found = found; there = (λ i. record { entry = leads.1 i; part = (leads.0 ∙ sym part) i }) }
 
-from-root : (g : Grove) (n : EntryPart) (trade : ℕ) (tree : Rose) (up : List ℕ) → n.part ≡ 0 → tree_of g n.entry ≡ None → tree_of g trade ≡ Some tree → Leads g.slots n trade up → ⊥
+from-root : (g : Grove) (n : EntryPart) (trade : ℕ) (tree : Rose) (up : List ℕ) → n.part ≡ 0
+    → tree_of g n.entry ≡ None → tree_of g trade ≡ Some tree → Leads g.slots n trade up → ⊥
 from-root g n trade tree [] part none found leads = let z : None ≡ Some tree = sym none ∙ (ap (tree_of g) leads.1 ∙ found) in cc
 from-root g n trade tree (i ∷ up) part none found leads = omega (arith, part, leads.0)
 
@@ -41,7 +42,8 @@ record IsStep (g : Grove) (n : EntryPart) (trade other : ℕ) (p above : List �
   same : trade ≡ other
   path : p ≡ above ++ i ∷ []
 
-step-up : (g : Grove) (n m : EntryPart) (trade other : ℕ) (p above up : List ℕ) → n.part ≢ 0 → place_of g n.entry ≡ Some m → Leads g.slots m other (turned above) → turned p ≡ up → Leads g.slots n trade up
+step-up : (g : Grove) (n m : EntryPart) (trade other : ℕ) (p above up : List ℕ) → n.part ≢ 0
+    → place_of g n.entry ≡ Some m → Leads g.slots m other (turned above) → turned p ≡ up → Leads g.slots n trade up
     → IsStep g n trade other p above
 step-up g n m trade other p above [] part at leads e is = absurd (part is.0)
 step-up g n m trade other p above (i ∷ up) part at leads e is =
@@ -55,7 +57,8 @@ step-up g n m trade other p above (i ∷ up) part at leads e is =
     }
 
 -- a node of the name lies one step below the place of its entry
-pub below-place : (g : Grove) (n : EntryPart) (other : ℕ) (above : List ℕ) (tree : Rose) → IsGrove g → n.part ≢ 0 → IsSomeAnd (place_of g n.entry) (λ m. IsPlace g m other above) → tree_of g other ≡ Some tree
+pub below-place : (g : Grove) (n : EntryPart) (other : ℕ) (above : List ℕ) (tree : Rose) → IsGrove g
+    → n.part ≢ 0 → IsSomeAnd (place_of g n.entry) (λ m. IsPlace g m other above) → tree_of g other ≡ Some tree
     → ((i : ℕ) → n.part ≡ i + 1 → LeadsTo (above ++ i ∷ []) tree n → ⊥) → (trade : ℕ) (p : List ℕ) → IsPlace g n trade p → ⊥
 below-place g n other above tree is part at found never trade p place =
     let m = place_and (place_of g n.entry) at in
@@ -88,7 +91,8 @@ module _ (g : Grove) (n : EntryPart) (other : ℕ) (above : List ℕ) (u : Rose)
       }
 
   -- where no part has it there is no such node
-  pub next-absent : IsGrove g → n.part ≢ 0 → IsSomeAnd (place_of g n.entry) (λ m. IsPlace g m other above) → (LeadsTo ((n.part - 1) ∷ []) u n → ⊥) → (trade : ℕ) (p : List ℕ) → IsPlace g n trade p → ⊥
+  pub next-absent : IsGrove g → n.part ≢ 0 → IsSomeAnd (place_of g n.entry) (λ m. IsPlace g m other above)
+      → (LeadsTo ((n.part - 1) ∷ []) u n → ⊥) → (trade : ℕ) (p : List ℕ) → IsPlace g n trade p → ⊥
   next-absent is part found none =
       let t = its-tree in
       below-place g n other above t.0 is part found t.1 (λ i step led.

@@ -1,5 +1,6 @@
 -- The least number that stands on the parts of a node, and which it is in a list that the tree shows.
-use Rattle.std.proofs.Common.{◌≡◌, true, ℕ, ◌+◌, ◌<◌, ◌≤◌, min, Option, Some, None, IsSomeAnd, List, [], ◌∷◌, ◌++◌, length, get_or, take, refl, ap, sym, ◌∙◌, subst, arith, append_assoc, append-nil}
+use Rattle.std.proofs.Common.{◌≡◌, true, ℕ, ◌+◌, ◌<◌, ◌≤◌, min, Option, Some, None, IsSomeAnd, List, [], ◌∷◌, ◌++◌, length, get_or, take, refl, ap, sym, ◌∙◌}
+use Rattle.std.proofs.Common.{subst, arith, append_assoc, append-nil}
 use Rattle.std.specs.Prelude.{flat_map, is_none, option_map}
 use Rattle.std.specs.Option.{option_to_list}
 use Rattle.std.proofs.lemmas.Bool.{and_parts}

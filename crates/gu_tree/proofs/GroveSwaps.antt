@@ -1,5 +1,6 @@
 -- What it does to the trees to put another node of its name in the place of one.
-use Rattle.std.proofs.Common.{◌≡◌, ◌≢◌, ℕ, zero, suc, ◌<◌, ◌≤◌, ◌⊎◌, inl, inr, Option, Some, None, IsSomeAnd, List, [], ◌∷◌, ◌++◌, length, get_or, refl, ap, sym, ◌∙◌, subst, arith, append_assoc, append-nil, length-append}
+use Rattle.std.proofs.Common.{◌≡◌, ◌≢◌, ℕ, zero, suc, ◌<◌, ◌≤◌, ◌⊎◌, inl, inr, Option, Some, None, IsSomeAnd, List, [], ◌∷◌, ◌++◌, length, get_or, refl, ap}
+use Rattle.std.proofs.Common.{sym, ◌∙◌, subst, arith, append_assoc, append-nil, length-append}
 use Rattle.std.specs.Prelude.{true, is_none, option_and_then, option_map, ◌↔◌, ◌==◌, if◌then◌else◌}
 use Rattle.std.proofs.Math.ListN.{set, length-set}
 use Rattle.std.proofs.lemmas.Bool.{cases_eq, cond_both, eqb-true, eqb-false}
@@ -56,7 +57,8 @@ through : (p : List ℕ) (i : ℕ) (ts : Roses) (v : Rose) → option_and_then (
 through p i ts v e = option_and_then_some (node_at p) (part_at i ts) v e (λ t at led. (t, at, led))
 
 -- a step that goes through the edited part
-edited-step : (g : Rose → Rose) (q : List ℕ) (i j : ℕ) (ts : Roses) (t : Rose) → j ≡ i → part_at i ts ≡ Some t → option_and_then (node_at q) (part_at j (edit_part g i ts)) ≡ node_at q (g t)
+edited-step : (g : Rose → Rose) (q : List ℕ) (i j : ℕ) (ts : Roses) (t : Rose) → j ≡ i
+    → part_at i ts ≡ Some t → option_and_then (node_at q) (part_at j (edit_part g i ts)) ≡ node_at q (g t)
 edited-step g q i j ts t same at =
     ap (option_and_then (node_at q)) (ap (λ k. part_at k (edit_part g i ts)) same ∙ (part-edited g i ts ∙ ap (option_map g) at))
 
@@ -121,7 +123,8 @@ from-edited f (i ∷ p) (j ∷ q) (parted h n ts) v u e d = elim (by-cases j i) 
 ]
 
 -- the names that don't lie below the node stand where they stood, where it gives way to a node of its name
-still-outside : (n : EntryPart) (f : Rose → Rose) (p q : List ℕ) (t v w : Rose) → Outside p q → node_at p t ≡ Some v → (head_of (f v)).name ≡ (head_of v).name → IsNamed n w → node_at q t ≡ Some w → HasAt q (IsNamed n) (edit_at f p t)
+still-outside : (n : EntryPart) (f : Rose → Rose) (p q : List ℕ) (t v w : Rose) → Outside p q → node_at p t ≡ Some v
+    → (head_of (f v)).name ≡ (head_of v).name → IsNamed n w → node_at q t ≡ Some w → HasAt q (IsNamed n) (edit_at f p t)
 still-outside n f [] [] t v w out e name named d =
     let s : t ≡ v = cc in
     let z : t ≡ w = cc in
@@ -168,9 +171,11 @@ pub bare-on : (u : Rose) (e : ℕ) → is_undecided_leaf u ≡ true → IsOn e u
 bare-on (leaf h) e bare on = let z = sym (none_when h.decision bare) ∙ on in cc
 bare-on (parted h n ts) e bare on = cc
 
-pub bare-noted : (s : List Filing) (u : Rose) → is_undecided_leaf u ≡ true → is_open (head_of u).state ≡ true → ((e : ℕ) → slot_of s e ≢ Node (head_of u).name) → ((head_of u).name.part ≡ 0 → (head_of u).state ≡ Held) → IsNoted s u
+pub bare-noted : (s : List Filing) (u : Rose) → is_undecided_leaf u ≡ true → is_open (head_of u).state ≡ true
+    → ((e : ℕ) → slot_of s e ≢ Node (head_of u).name) → ((head_of u).name.part ≡ 0 → (head_of u).state ≡ Held) → IsNoted s u
 bare-noted s (leaf h) bare fits free root =
-    record { filed = λ e. ((λ at. absurd (free e at)), (λ on. absurd (bare-on (leaf h) e bare on))); settled = record { root = λ z. (root z, none_when h.decision bare); decided = bare ∙ sym fits; apart = tt } }
+    record { filed = λ e. ((λ at. absurd (free e at)), (λ on. absurd (bare-on (leaf h) e bare on))); settled =
+    record { root = λ z. (root z, none_when h.decision bare); decided = bare ∙ sym fits; apart = tt } }
 bare-noted s (parted h n ts) bare fits free root = absurd (cc)
 
 noted-like : (s : List Filing) (w u : Rose) → IsLike w u → IsNoted s w → IsNoted s u
@@ -189,7 +194,8 @@ pub noted-kept : (s z : List Filing) (u : Rose) → FilesAlike s z (head_of u).n
 noted-kept s z u alike is = record { filed = λ e. ((λ at. (is.filed e).0 ((alike e).0 at)), (λ on. (alike e).1 ((is.filed e).1 on))); settled = is.settled }
 
 -- a node of this name lies there alone
-pub same-spot : {g : Grove} (u trade : ℕ) (tree t : Rose) (q p : List ℕ) (w v : Rose) → IsGrove g → tree_of g u ≡ Some tree → node_at q tree ≡ Some w → tree_of g trade ≡ Some t → node_at p t ≡ Some v
+pub same-spot : {g : Grove} (u trade : ℕ) (tree t : Rose) (q p : List ℕ) (w v : Rose) → IsGrove g
+    → tree_of g u ≡ Some tree → node_at q tree ≡ Some w → tree_of g trade ≡ Some t → node_at p t ≡ Some v
     → (head_of w).name ≡ (head_of v).name → (u ≡ trade) × (q ≡ p)
 same-spot {g} u trade tree t q p w v is e at f led same =
     let one = leads-one g.slots (head_of v).name u trade (turned q) (turned p) (subst (λ n. Leads g.slots n u (turned q)) same (is.made u tree q w e at)) (is.made trade t p v f led) in
@@ -239,7 +245,8 @@ module _ {g new : Grove} {entry : ℕ} {x y : Slot} (one : IsOneOff g new entry 
   one-place = changed-at entry (name_in entry y) (place_of g) (place_of new) (ap (name_in entry) one.after) (λ k other. ap (name_in k) (one.same k other))
 
 -- no entry is filed with a node that a new entry makes
-pub newest-free : {g new : Grove} {entry : ℕ} {x : Slot} → IsGrove g → last_of g.slots < entry → IsOneOff g new entry Empty x → (m : EntryPart) → m.entry ≡ entry → x ≢ Node m → (e : ℕ) → slot_of new.slots e ≢ Node m
+pub newest-free : {g new : Grove} {entry : ℕ} {x : Slot} → IsGrove g → last_of g.slots < entry → IsOneOff g new entry Empty x
+    → (m : EntryPart) → m.entry ≡ entry → x ≢ Node m → (e : ℕ) → slot_of new.slots e ≢ Node m
 newest-free {g} is above one m made other e at =
     let was = (slots-alike one (Node m) (λ z. node-some m (sym z)) other e).0 at in
     absurd (omega (arith, is.falls e m was, made, slot-low g.slots e (Node m) was (node-some m), above))
@@ -318,7 +325,8 @@ module _ {g new : Grove} {trade i : ℕ} {t v : Rose} {f : Rose → Rose} {p : L
 
   tree-there : (u : ℕ) → u ≢ trade → tree_of new u ≡ tree_of g u
   tree-there u other = elim (by-cases u entry) [
-    | inl q ↦ ap (tree_of new) q ∙ (ap (tree_in new.trees) sw.one.after ∙ (no-tree n new.trees y sw.now ∙ sym (ap (tree_of g) q ∙ (ap (tree_in g.trees) sw.one.before ∙ no-tree n g.trees x sw.was))))
+    | inl q ↦ ap (tree_of new) q ∙
+        (ap (tree_in new.trees) sw.one.after ∙ (no-tree n new.trees y sw.now ∙ sym (ap (tree_of g) q ∙ (ap (tree_in g.trees) sw.one.before ∙ no-tree n g.trees x sw.was))))
     | inr q ↦ ap (tree_in new.trees) (sw.one.same u q) ∙ tree-same is puts u other (slot_of g.slots u) refl
   ]
 
@@ -390,7 +398,8 @@ module _ {g new : Grove} {trade i : ℕ} {t v : Rose} {f : Rose → Rose} {p : L
     where
       filed : IsFiledWith new.slots n (f v)
       filed e = elim (by-cases e entry) [
-        | inl q ↦ ((λ at. subst (λ k. IsOn k (f v)) (sym q) (sw.on.0 (sym sw.one.after ∙ (ap (slot_of new.slots) (sym q) ∙ at)))), (λ on. ap (slot_of new.slots) q ∙ (sw.one.after ∙ sw.on.1 (subst (λ k. IsOn k (f v)) q on))))
+        | inl q ↦ ((λ at. subst (λ k. IsOn k (f v)) (sym q) (sw.on.0 (sym sw.one.after ∙ (ap (slot_of new.slots) (sym q) ∙ at)))),
+            (λ on. ap (slot_of new.slots) q ∙ (sw.one.after ∙ sw.on.1 (subst (λ k. IsOn k (f v)) q on))))
         | inr q ↦ (let was = (is.noted trade t p v sw.tree sw.led).filed e in
             ((λ at. (sw.others e q).1 (was.0 (sym (sw.one.same e q) ∙ at))), (λ on. sw.one.same e q ∙ was.1 ((sw.others e q).0 on))))
       ]

@@ -1,5 +1,6 @@
 -- Entries filed in the order of their numbers, and what is found among them.
-use Rattle.std.proofs.Common.{◌≡◌, ◌≢◌, ℕ, zero, suc, ◌-◌, ◌<◌, ◌≤◌, true, false, List, [], ◌∷◌, ◌++◌, length, get_or, set, Result, Ok, Err, IfOk, OnErr, refl, ap, sym, ◌∙◌, subst, arith}
+use Rattle.std.proofs.Common.{◌≡◌, ◌≢◌, ℕ, zero, suc, ◌-◌, ◌<◌, ◌≤◌, true, false, List, [], ◌∷◌, ◌++◌, length, get_or, set, Result, Ok, Err, IfOk, OnErr, refl}
+use Rattle.std.proofs.Common.{ap, sym, ◌∙◌, subst, arith}
 use Rattle.std.specs.Prelude.{◌==◌, if◌then◌else◌, max}
 use Rattle.std.specs.List.Sorted.{IsSearchInRange, IsBinarySearchResult, IsNonDecreasingBy}
 use Rattle.std.specs.Ordering.{nat_cmp, ordering_index}
@@ -112,7 +113,8 @@ module _ (s : List Filing) (rising : IsRising s) (e : ℕ) where
       grind (arith, nat_tests))
 
   -- a binary search by number ends at the entry, or there is none
-  pub searched : (r : Result ℕ ℕ) → IsSearchInRange r (length s) → IsBinarySearchResult (λ x. nat_cmp x.entry e) s r → record { found : IfOk r (IsFiledAt s e); absent : OnErr r (IsNotFiled s e) }
+  pub searched : (r : Result ℕ ℕ) → IsSearchInRange r (length s) → IsBinarySearchResult (λ x. nat_cmp x.entry e) s r
+      → record { found : IfOk r (IsFiledAt s e); absent : OnErr r (IsNotFiled s e) }
   searched (Ok at) in_range equal = record { found = record { in_range = in_range; entry = ranked _ e _ (sym (equal no_filing)) }; absent = tt }
   searched (Err at) in_range parted = record {
     found = tt;
@@ -161,7 +163,8 @@ without_slot-absent (x ∷ s) e none = rw (ne_eqb x.entry e (none zero (omega ar
 set-at : (n : ℕ) (s : List Filing) (e i : ℕ) → RisesAbove n s → i < length s → entry_at s i ≡ e → set s i (gone e) ≡ without_slot s e
 set-at n [] e i rises h is = absurd (omega (arith, h))
 set-at n (x ∷ s) e zero rises h is = rw (ap (λ k. k == e) is ∙ same-eqb e) refl
-set-at n (x ∷ s) e (suc i) rises h is = rw (lower-eqb x.entry e (omega (arith, is, rises-at x.entry s i rises.1 (omega (arith, h))))) (ap (λ r. x ∷ r) (set-at x.entry s e i rises.1 (omega (arith, h)) is))
+set-at n (x ∷ s) e (suc i) rises h is =
+    rw (lower-eqb x.entry e (omega (arith, is, rises-at x.entry s i rises.1 (omega (arith, h))))) (ap (λ r. x ∷ r) (set-at x.entry s e i rises.1 (omega (arith, h)) is))
 
 pub without_slot-found : (s : List Filing) (e i : ℕ) → IsRising s → IsFiledAt s e i → set s i (record { entry = e; slot = Empty }) ≡ without_slot s e
 without_slot-found s e i rising is = set-at 0 s e i rising is.in_range is.entry

@@ -20,7 +20,8 @@ undecided-append : (xs ys : List Rose) → are_undecided_leaves (from_list (xs +
 undecided-append [] ys = refl
 undecided-append (x ∷ xs) ys = rw (undecided-append xs ys) (and-assoc (is_undecided_leaf x) _ _)
 
-pub undecided-more : (xs : List Rose) (i : ℕ) (u : Rose) → i < length xs → u ≡ get_or xs i u → are_undecided_leaves (from_list (take i xs)) ≡ true → is_undecided_leaf u ≡ true → are_undecided_leaves (from_list (take (i + 1) xs)) ≡ true
+pub undecided-more : (xs : List Rose) (i : ℕ) (u : Rose) → i < length xs → u ≡ get_or xs i u → are_undecided_leaves (from_list (take i xs)) ≡ true
+    → is_undecided_leaf u ≡ true → are_undecided_leaves (from_list (take (i + 1) xs)) ≡ true
 undecided-more xs i u h e before here = rw (take_more xs i u h, ← e, undecided-append (take i xs) (u ∷ []), before, here) refl
 
 pub undecided-parts : (t : Rose) (h : Head) (n : ℕ) (xs : List Rose) (b : Bool) → parted h n (from_list xs) ≡ t → are_undecided_leaves (from_list xs) ≡ b → can_unsplit t ≡ b

@@ -21,14 +21,16 @@ pub returns-clause-undone : goal.returns-clause-undone
 returns-clause-undone c =
     let l = c.args.changes.now in
     let are = c.requires.trees in
-    let at : IsSomeAnd (place_of c.args.trees.now c.args.number) (λ n. IsPlace c.args.trees.now n c.in-Some-named.spot.trade c.named.new.path.items) = rw c.in-Some-named.is at c.named.ensures.found in
+    let at : IsSomeAnd (place_of c.args.trees.now c.args.number) (λ n. IsPlace c.args.trees.now n c.in-Some-named.spot.trade c.named.new.path.items) =
+    rw c.in-Some-named.is at c.named.ensures.found in
     let tree : HasTree c.args.trees.now c.in-Some-named.spot.trade (λ v. node_at c.named.new.path.items v ≡ Some c.in-Some-named.spot.node.now) = rw c.in-Some-named.is at c.named.ensures.node in
     let m = some_place (λ n. IsPlace c.args.trees.now n c.in-Some-named.spot.trade c.named.new.path.items) (place_of c.args.trees.now c.args.number) at in
     record {
       name = m.0;
       place = sym (are.filed.placed c.args.number) ∙ m.1;
       found = c.found_at-found.ensures.found l m.0 c.args.trees.now are m.2 tree;
-      there = λ h filed. subst (λ (k : ℕ). IsPlace h m.0 k c.named.new.path.items) (sym c.found_at-found.ensures.trade) (one_place are.filed m.0 c.in-Some-named.spot.trade c.named.new.path.items m.2 h filed);
+      there = λ h filed. subst (λ (k : ℕ). IsPlace h m.0 k c.named.new.path.items) (sym c.found_at-found.ensures.trade)
+          (one_place are.filed m.0 c.in-Some-named.spot.trade c.named.new.path.items m.2 h filed);
       deal = c.traded_under.ensures ∙ ap (deal_of l) (sym c.found_at-found.ensures.trade);
     }
 
@@ -37,7 +39,8 @@ pub returns-clause-standing : goal.returns-clause-standing
 returns-clause-standing c = λ t legal dealt.
     let l = c.args.changes.now in
     let are = c.requires.trees in
-    let at : IsSomeAnd (place_of c.args.trees.now c.args.number) (λ n. IsPlace c.args.trees.now n c.in-Some-named.spot.trade c.named.new.path.items) = rw c.in-Some-named.is at c.named.ensures.found in
+    let at : IsSomeAnd (place_of c.args.trees.now c.args.number) (λ n. IsPlace c.args.trees.now n c.in-Some-named.spot.trade c.named.new.path.items) =
+    rw c.in-Some-named.is at c.named.ensures.found in
     let tree : HasTree c.args.trees.now c.in-Some-named.spot.trade (λ v. node_at c.named.new.path.items v ≡ Some c.in-Some-named.spot.node.now) = rw c.in-Some-named.is at c.named.ensures.node in
     c.first_standing_at-sought.ensures t l c.args.trees.now c.named.new.path.items (rises_later 0 1 l (omega arith) are.rises) legal (all_shown are.filed) at tree
 
@@ -53,7 +56,8 @@ without_place c =
 pub returns-then-not-is_of_trees-clause-standing : goal.returns-then-not-is_of_trees-clause-standing
 returns-then-not-is_of_trees-clause-standing c = λ t legal dealt.
     let l = c.args.changes.now in
-    c.standing_beside-count.ensures.first t l (rises_later 0 1 l (omega arith) c.requires.trees.rises) legal dealt (without_place (goal.at.returns-then-not-is_of_trees-clause-standing c).Then-not-is_of_trees)
+    c.standing_beside-count.ensures.first t l (rises_later 0 1 l (omega arith) c.requires.trees.rises) legal dealt
+    (without_place (goal.at.returns-then-not-is_of_trees-clause-standing c).Then-not-is_of_trees)
 
 -- and nothing stands on what isn't there
 pub returns-in_default-clause-standing : goal.returns-in_default-clause-standing

@@ -49,7 +49,8 @@ pub claim-requires-2-clause-room : goal.claim-requires-2-clause-room
 claim-requires-2-clause-room c =
     let w = (goal.at.claim-requires-2-clause-room c).After-whole_of-whole in
     let small = subst (λ (o : Option Node). IfSome o (λ x. x.lots ≤ 10000000)) (named w).0 (node_within (live c.self.inside.entries.items) c.in-Claim.node c.self.invariant.kept.within) in
-    can_claim (few_live c.self.invariant) c.self.invariant.kept.within (c.in_ok-place.ensures.same (live c.self.inside.entries.items) c.self.invariant.dealt) c.args.made.now.number c.in-Some.named.node.lots small (above w)
+    can_claim (few_live c.self.invariant) c.self.invariant.kept.within
+    (c.in_ok-place.ensures.same (live c.self.inside.entries.items) c.self.invariant.dealt) c.args.made.now.number c.in-Some.named.node.lots small (above w)
     c.in-Some.named.node.kind c.in_ok-place.ensures.ready
 
 pub invariant_of-self-in_err-place : goal.invariant_of-self-in_err-place
@@ -62,18 +63,22 @@ pub put-requires : goal.put-requires
 put-requires c =
     let w = (goal.at.put-requires c).After-whole_of-whole in
     rw c.in_account-claimed.ensures
-    (claim_fits (next w) c.in-Claim.node c.in-Claim.account c.in-Claim.is c.in-Some.named.node (named w).0 c.whole_of-whole.result (holds w) (few_live c.self.invariant) c.self.invariant.kept.within c.self.inside.positions c.self.invariant.stands)
+    (claim_fits (next w) c.in-Claim.node c.in-Claim.account c.in-Claim.is c.in-Some.named.node (named w).0 c.whole_of-whole.result
+    (holds w) (few_live c.self.invariant) c.self.invariant.kept.within c.self.inside.positions c.self.invariant.stands)
 
 pub put-requires-2 : goal.put-requires-2
 put-requires-2 c =
-    has_room c.self.inside.house (live c.self.inside.entries.items) c.self.inside.fees c.self.invariant.charged (few_live c.self.invariant) c.node_charge-charge.result c.node_charge-charge.ensures.lots (c.node_charge-charge.ensures.rate (live c.self.inside.entries.items) (c.in_ok-place.ensures.same (live c.self.inside.entries.items) c.self.invariant.dealt) c.self.invariant.kept.within)
+    has_room c.self.inside.house (live c.self.inside.entries.items) c.self.inside.fees c.self.invariant.charged
+    (few_live c.self.invariant) c.node_charge-charge.result c.node_charge-charge.ensures.lots
+    (c.node_charge-charge.ensures.rate (live c.self.inside.entries.items) (c.in_ok-place.ensures.same (live c.self.inside.entries.items) c.self.invariant.dealt) c.self.invariant.kept.within)
 
 pub take-requires : goal.take-requires
 take-requires c =
     let w = (goal.at.take-requires c).After-whole_of-whole in
     let put = rw c.in_account-claimed.ensures at c.in_ok-put.ensures.put in
     rw c.in_account-claimed.ensures
-    (claim_there (next w) c.in-Claim.node c.in-Claim.account c.in-Claim.is c.in-Some.named.node (named w).0 c.whole_of-whole.result (holds w) c.self.inside.positions c.put.new.positions c.self.invariant.stands put)
+    (claim_there (next w) c.in-Claim.node c.in-Claim.account c.in-Claim.is c.in-Some.named.node
+    (named w).0 c.whole_of-whole.result (holds w) c.self.inside.positions c.put.new.positions c.self.invariant.stands put)
 
 pub claim-requires-clause-due : goal.claim-requires-clause-due
 claim-requires-clause-due c =
@@ -89,7 +94,8 @@ pub take-requires-2 : goal.take-requires-2
 take-requires-2 c =
     let w = (goal.at.take-requires-2 c).After-whole_of-whole in
     let put = rw c.in_account-claimed.ensures at c.in_ok-put.ensures.put in
-    claim_whole (next w) c.in-Claim.node c.in-Claim.account c.in-Claim.is c.in-Some.named.node (named w).0 c.whole_of-whole.result (holds w) c.self.inside.positions c.put.new.positions c.self.invariant.stands put
+    claim_whole (next w) c.in-Claim.node c.in-Claim.account c.in-Claim.is c.in-Some.named.node
+    (named w).0 c.whole_of-whole.result (holds w) c.self.inside.positions c.put.new.positions c.self.invariant.stands put
 
 pub push-requires-clause-accepted : goal.push-requires-clause-accepted
 push-requires-clause-accepted c = (c.self.inside.house, simp (c.make_room.ensures.items) (rw (← c.self.view_is) at c.requires.accepted))
@@ -100,7 +106,8 @@ invariant_of-self-2 c =
     let l = live c.self.inside.entries.items in
     let put = rw c.in_account-claimed.ensures at c.in_ok-put.ensures.put in
     let are = c.in_ok-place.ensures.same l c.self.invariant.dealt in
-    let costs = claim_costs (next w) c.in-Claim.node c.in-Claim.account c.in-Claim.is c.in-Some.named.node (named w).0 c.whole_of-whole.result (holds w) c.node_charge-charge.result (c.node_charge-charge.ensures.value l are) in
+    let costs = claim_costs (next w) c.in-Claim.node c.in-Claim.account c.in-Claim.is c.in-Some.named.node
+    (named w).0 c.whole_of-whole.result (holds w) c.node_charge-charge.result (c.node_charge-charge.ensures.value l are) in
     let filed = follows_same (record_of c.args.made.now) c.self.inside.trees c.ready.new.self c.claim.new.trees c.in_ok-ready.ensures.same c.claim.ensures.follows c.self.inside.house l (next w) in
     simp (c.push.ensures.items, c.make_room.ensures.items)
     (book_more c.self.invariant c.args.made.now.number (entry_of_change c.args.made.now) (rw (← c.self.view_is) at c.requires.accepted)
@@ -137,7 +144,8 @@ invariant_of-self-in-Err c =
       kept = book.kept;
       indexed = book.indexed;
       charged = record { sums = c.in-Err.ensures.same _ c.self.invariant.charged.sums; small = c.self.invariant.charged.small };
-      stands = claim_undone (next w) c.in-Claim.node c.in-Claim.account c.in-Claim.is c.in-Some.named.node (named w).0 c.whole_of-whole.result (holds w) c.self.inside.positions c.put.new.positions c.self.invariant.stands put c.take.new.positions taken;
+      stands = claim_undone (next w) c.in-Claim.node c.in-Claim.account c.in-Claim.is c.in-Some.named.node (named w).0 c.whole_of-whole.result
+          (holds w) c.self.inside.positions c.put.new.positions c.self.invariant.stands put c.take.new.positions taken;
       dealt = book.dealt;
       dealt_before = book.dealt_before;
     })

@@ -10,7 +10,8 @@ put_at-requires c =
     let ok = rw (← c.self.view_is) at c.requires.accepted in
     let l = live c.self.inside.entries.items in
     can_put_at _ c.in_ok-place.ensures.place
-    (may_deal c.self.invariant c.args.made.now.number (entry_of_change c.args.made.now) ok c.requires.of_terms c.deed_of-giver.result.0 c.deed_of-giver.result.1 c.deed_of-giver.result.2 (c.deed_of-giver.ensures l)
+    (may_deal c.self.invariant c.args.made.now.number
+    (entry_of_change c.args.made.now) ok c.requires.of_terms c.deed_of-giver.result.0 c.deed_of-giver.result.1 c.deed_of-giver.result.2 (c.deed_of-giver.ensures l)
     c.ready.new.terms (c.in_ok-place.ensures.same l c.self.invariant.dealt) c.in_ok-place.ensures.last c.in_ok-place.ensures.ready)
 
 pub push-requires-clause-accepted : goal.push-requires-clause-accepted
@@ -22,7 +23,8 @@ invariant_of-self-2 c =
     let l = live c.self.inside.entries.items in
     let known = rw c.make_room.ensures.items at c.push.ensures.ids in
     simp (c.push.ensures.items, c.make_room.ensures.items)
-    (book_dealt c.self.invariant c.args.made.now.number (entry_of_change c.args.made.now) ok c.requires.of_terms c.deed_of-giver.result.0 c.deed_of-giver.result.1 c.deed_of-giver.result.2 (c.deed_of-giver.ensures l)
+    (book_dealt c.self.invariant c.args.made.now.number
+    (entry_of_change c.args.made.now) ok c.requires.of_terms c.deed_of-giver.result.0 c.deed_of-giver.result.1 c.deed_of-giver.result.2 (c.deed_of-giver.ensures l)
     c.ready.new.terms (c.in_ok-place.ensures.same l c.self.invariant.dealt) c.in_ok-place.ensures.last c.push.new.ids known c.put_at.new.self
     (c.put_at.ensures c.deed_of-giver.result.0 c.deed_of-giver.result.1 (sym c.in_ok-place.ensures.place)))
 

@@ -73,7 +73,8 @@ invariant_of-self-2 c =
     let put = rw c.as_slice-2.ensures at c.in_ok-moved.ensures.put in
     let is = rw c.as_slice-2.ensures at c.in_ok-moved.ensures.moved in
     let taken = rw is at c.take_moved.ensures in
-    let filed = follows_same (record_of c.args.made.now) c.self.inside.trees c.ready.new.self c.split.new.trees c.in_ok-ready.ensures.same c.in_default-split.ensures.follows c.self.inside.house l (next w) in
+    let filed = follows_same (record_of c.args.made.now) c.self.inside.trees c.ready.new.self c.split.new.trees
+    c.in_ok-ready.ensures.same c.in_default-split.ensures.follows c.self.inside.house l (next w) in
     simp (c.push.ensures.items, c.make_room.ensures.items)
     (book_apart c.self.invariant c.args.made.now.number (entry_of_change c.args.made.now) (rw (← c.self.view_is) at c.requires.accepted)
     c.push.new.ids (rw c.make_room.ensures.items at c.push.ensures.ids) (ap is_change c.in-Split.is) c.split.new.trees filed c.in_default-split.ensures.last
@@ -104,5 +105,6 @@ invariant_of-self-in-Err c =
     let put = rw c.as_slice-2.ensures at c.in_ok-moved.ensures.put in
     let gone = rw c.as_slice-in-Err.ensures at c.take_away.ensures.gone in
     simp (c.make_room.ensures.items)
-    (still c.self.invariant c.split.new.trees (same_both c.self.inside.trees c.ready.new.self c.split.new.trees c.in_ok-ready.ensures.same c.in-Err.ensures.unchanged) c.make_room.new.ids c.make_room.ensures.ids c.take_away.new.positions
+    (still c.self.invariant c.split.new.trees
+    (same_both c.self.inside.trees c.ready.new.self c.split.new.trees c.in_ok-ready.ensures.same c.in-Err.ensures.unchanged) c.make_room.new.ids c.make_room.ensures.ids c.take_away.new.positions
     (put_and_taken c.self.inside.positions c.put_all_away.new.positions c.take_away.new.positions (filter_map (part_away c.whole_of-whole.result c.args.made.now.firm.now) c.in-Split.parts) put gone))

@@ -25,7 +25,8 @@ pub returns-clause-same : goal.returns-clause-same
 returns-clause-same c = λ l are. readied_follows c.args.house.now l c.args.terms.now are c.ready_at.new.self c.args.giver.now c.args.taker.now (readied (goal.at.returns-clause-same c).After-ready_at)
 
 pub returns-in_err-ready_at-clause-same : goal.returns-in_err-ready_at-clause-same
-returns-in_err-ready_at-clause-same c = λ l are. readied_follows c.args.house.now l c.args.terms.now are c.ready_at.new.self c.args.giver.now c.args.taker.now (readied (goal.at.returns-in_err-ready_at-clause-same c).After-ready_at)
+returns-in_err-ready_at-clause-same c =
+    λ l are. readied_follows c.args.house.now l c.args.terms.now are c.ready_at.new.self c.args.giver.now c.args.taker.now (readied (goal.at.returns-in_err-ready_at-clause-same c).After-ready_at)
 
 pub returns-clause-last : goal.returns-clause-last
 returns-clause-last c = ap last_of (readied (goal.at.returns-clause-last c).After-ready_at).entries

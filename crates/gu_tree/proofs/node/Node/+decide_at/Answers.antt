@@ -16,7 +16,8 @@ decide_at-requires g t c κs within =
 pub invariant_of-self-2 : goal.invariant_of-self-2
 invariant_of-self-2 g t c =
     let e = going _ _ _ _ _ _ _ _ c.in-Some.ensures.cases.0 (rw c.in-Parted.is at c.self.view_is) c.requires in
-    goes-parted (decide_node c.args.number c.args.decision.now) _ _ _ e c.index_mut.ensures.value c.decide_at.ensures.node c.requires (λ v. lots_of-with_head _ v) (rw c.in-Parted.is at c.self.invariant)
+    goes-parted (decide_node c.args.number c.args.decision.now) _ _ _ e c.index_mut.ensures.value c.decide_at.ensures.node c.requires
+    (λ v. lots_of-with_head _ v) (rw c.in-Parted.is at c.self.invariant)
 
 pub returns-clause-name : goal.returns-clause-name
 returns-clause-name g t c =

@@ -16,7 +16,8 @@ split_at-requires g t c κs within =
 pub invariant_of-self : goal.invariant_of-self
 invariant_of-self g t c =
     let e = going _ _ _ _ _ _ _ _ c.in-Some.ensures.cases.0 (rw c.in-Parted.is at c.self-2.view_is) c.requires.leaf in
-    tried-parted (split_node c.args.entry c.args.parts.now) _ _ e c.index_mut.ensures.value _ c.split_at.result c.split_at.ensures.node c.split_at.ensures.err c.requires.leaf (λ v. refl) (rw c.in-Parted.is at c.self-2.invariant)
+    tried-parted (split_node c.args.entry c.args.parts.now) _ _ e c.index_mut.ensures.value _ c.split_at.result c.split_at.ensures.node c.split_at.ensures.err c.requires.leaf
+    (λ v. refl) (rw c.in-Parted.is at c.self-2.invariant)
 
 pub returns-clause-name : goal.returns-clause-name
 returns-clause-name g t c =

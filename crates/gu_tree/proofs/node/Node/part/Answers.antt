@@ -6,7 +6,8 @@ use Rattle.gu_tree.proofs.node.Node.part.Goals as goal
 
 pub returns-then-place-len-clause-absent : goal.returns-then-place-len-clause-absent
 returns-then-place-len-clause-absent g c = λ led.
-    part-beyond _ _ _ _ (c.args.name.part - 1) c.args.name (rw c.in-Parted.is at c.self.view_is) (omega (arith, c.in-Parted.parts.ok, c.if-place-len.true, c.len.ensures, c.from-place.ensures, c.part.ensures.value)) led
+    part-beyond _ _ _ _ (c.args.name.part - 1) c.args.name (rw c.in-Parted.is at c.self.view_is)
+    (omega (arith, c.in-Parted.parts.ok, c.if-place-len.true, c.len.ensures, c.from-place.ensures, c.part.ensures.value)) led
 
 pub returns-then-eq-clause-found : goal.returns-then-eq-clause-found
 returns-then-eq-clause-found g c =

@@ -15,7 +15,8 @@ invariant_of-self g c =
     let v = some_and _ _ c.requires in
     let n = c.args.number in
     let d = c.args.decision.now in
-    head-tree _ _ _ _ _ v.1 refl (offered-moves v.0 v.2) (returns-clause-node g c ∙ edit_at-same (decide_node n d) (with_head (decided_head n d (head_of v.0))) _ _ v.0 v.1 refl) (rw c.self.view_is at c.self.invariant)
+    head-tree _ _ _ _ _ v.1 refl (offered-moves v.0 v.2)
+    (returns-clause-node g c ∙ edit_at-same (decide_node n d) (with_head (decided_head n d (head_of v.0))) _ _ v.0 v.1 refl) (rw c.self.view_is at c.self.invariant)
 
 pub returns-clause-shows : goal.returns-clause-shows
 returns-clause-shows g c =

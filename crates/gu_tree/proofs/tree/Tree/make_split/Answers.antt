@@ -19,4 +19,5 @@ invariant_of-self-2 g c =
 pub returns-clause-shows : goal.returns-clause-shows
 returns-clause-shows g c =
     let v = some_and _ _ c.requires.leaf in
-    split-shows c.args.path.now.items c.args.self.now v.0 _ c.args.entry c.args.parts.now v.1 v.2 (at_fact (λ t. IsTrue (own_parts_have_accounts c.args.parts.now (head_of t))) _ _ v.1 c.requires.accounts) c.requires.fresh (rw c.self.view_is at c.self.invariant).once (returns-clause-node g c)
+    split-shows c.args.path.now.items c.args.self.now v.0 _ c.args.entry c.args.parts.now v.1 v.2
+    (at_fact (λ t. IsTrue (own_parts_have_accounts c.args.parts.now (head_of t))) _ _ v.1 c.requires.accounts) c.requires.fresh (rw c.self.view_is at c.self.invariant).once (returns-clause-node g c)

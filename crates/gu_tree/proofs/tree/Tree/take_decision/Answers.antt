@@ -32,11 +32,15 @@ returns-clause-node g c =
 pub invariant_of-self : goal.invariant_of-self
 invariant_of-self g c =
     let v = some_and _ _ c.requires.decided in
-    let u = some_and (λ x. c.offer_at.new.self ≡ edit_at (offer_node (head_of x).place) c.args.path.now.items c.args.self.now) (node_at (stand_path c.args.stand c.args.path.now.items) c.args.self.now) (returns-clause-node g c) in
-    cut-tree (offer_node (head_of u.0).place) c.args.path.now.items c.args.self.now v.0 _ _ v.1 refl refl (λ held. absurd (decided-moves c.args.stand v.0 v.2 held)) u.2 (rw c.self.view_is at c.self.invariant)
+    let u = some_and (λ x. c.offer_at.new.self ≡ edit_at (offer_node (head_of x).place) c.args.path.now.items c.args.self.now)
+    (node_at (stand_path c.args.stand c.args.path.now.items) c.args.self.now) (returns-clause-node g c) in
+    cut-tree (offer_node (head_of u.0).place) c.args.path.now.items c.args.self.now v.0 _ _ v.1 refl refl
+    (λ held. absurd (decided-moves c.args.stand v.0 v.2 held)) u.2 (rw c.self.view_is at c.self.invariant)
 
 pub returns-clause-shows : goal.returns-clause-shows
 returns-clause-shows g c =
     let v = some_and _ _ c.requires.decided in
-    let u = some_and (λ x. c.offer_at.new.self ≡ edit_at (offer_node (head_of x).place) c.args.path.now.items c.args.self.now) (node_at (stand_path c.args.stand c.args.path.now.items) c.args.self.now) (returns-clause-node g c) in
-    taken-shows c.args.stand c.args.path.now.items c.args.self.now v.0 u.0 _ (has_stand c.args.stand c.args.path.now.items c.args.self.now v.0 v.1 v.2 (rw c.self.view_is at c.self.invariant).root) v.1 u.1 v.2 (rw c.self.view_is at c.self.invariant).once u.2
+    let u = some_and (λ x. c.offer_at.new.self ≡ edit_at (offer_node (head_of x).place) c.args.path.now.items c.args.self.now)
+    (node_at (stand_path c.args.stand c.args.path.now.items) c.args.self.now) (returns-clause-node g c) in
+    taken-shows c.args.stand c.args.path.now.items c.args.self.now v.0 u.0 _
+    (has_stand c.args.stand c.args.path.now.items c.args.self.now v.0 v.1 v.2 (rw c.self.view_is at c.self.invariant).root) v.1 u.1 v.2 (rw c.self.view_is at c.self.invariant).once u.2
