@@ -1,5 +1,6 @@
 -- A field by the place of its SOH.
-use Rattle.std.proofs.Common.{◌≡◌, ℕ, ◌+◌, ◌-◌, ◌<◌, ◌≤◌, Bool, cond, ap₂, true, false, eqb, ltb, List, [], ◌∷◌, ◌++◌, length, take, drop, None, Some, refl, sym, ap, ◌∙◌, append_assoc, arith, length-append, inl, inr}
+use Rattle.std.proofs.Common.{◌≡◌, ℕ, ◌+◌, ◌-◌, ◌<◌, ◌≤◌, Bool, cond, ap₂, true, false, eqb, ltb, List, [], ◌∷◌, ◌++◌, length, take, drop, None, Some, refl, sym}
+use Rattle.std.proofs.Common.{ap, ◌∙◌, append_assoc, arith, length-append, inl, inr}
 use Rattle.std.specs.List.{position_or_len, before_first, after_first}
 use Rattle.std.specs.Prelude.{◌&&◌}
 use Rattle.std.specs.Str.Parse.{AllDigits}
@@ -73,7 +74,8 @@ field_ends bytes tag rest start end e first inside place some =
     let h = begins bytes tag rest e in
     let there : drop start bytes ≡ rest = ap (λ (n : ℕ). drop n bytes) place ∙ h.there in
     let n : end - start ≡ position_or_len is_soh rest = omega (arith, h.soh) in
-    let after : drop (end - start + 1) rest ≡ drop (end + 1) bytes = ap (drop (end - start + 1)) (sym there) ∙ drop-drop (end - start + 1) start bytes ∙ ap (λ (m : ℕ). drop m bytes) (omega arith) in
+    let after : drop (end - start + 1) rest ≡ drop (end + 1) bytes = ap (drop (end - start + 1)) (sym there)
+    ∙ drop-drop (end - start + 1) start bytes ∙ ap (λ (m : ℕ). drop m bytes) (omega arith) in
     with_value bytes tag rest (take (end - start) (drop start bytes)) (drop (end + 1) bytes) e
     (value_ends rest (end - start) n (omega arith) (omega (arith, h.shorter)) ∙ ap₂ (λ (a b : List ℕ). Some (a, b)) (ap (take (end - start)) (sym there)) after)
 

@@ -26,8 +26,10 @@ four_values o a k b s c t d n rest =
 
 -- MsgType (35) to MsgSeqNum (34), and what follows
 pub header_text : (o kind sender target number rest : List ℕ)
-    → ((((((((o ++ 1 ∷ 51 ∷ 53 ∷ 61 ∷ []) ++ kind) ++ 1 ∷ 52 ∷ 57 ∷ 61 ∷ []) ++ sender) ++ 1 ∷ 53 ∷ 54 ∷ 61 ∷ []) ++ target) ++ 1 ∷ 51 ∷ 52 ∷ 61 ∷ []) ++ number) ++ 1 ∷ rest
-    ≡ o ++ 1 ∷ ((decimal 35 ++ 61 ∷ (kind ++ 1 ∷ [])) ++ ((decimal 49 ++ 61 ∷ (sender ++ 1 ∷ [])) ++ ((decimal 56 ++ 61 ∷ (target ++ 1 ∷ [])) ++ ((decimal 34 ++ 61 ∷ (number ++ 1 ∷ [])) ++ rest))))
+    → ((((((((o ++ 1 ∷ 51 ∷ 53 ∷ 61 ∷ []) ++ kind) ++ 1 ∷ 52 ∷ 57 ∷ 61 ∷ []) ++ sender) ++ 1 ∷ 53 ∷ 54 ∷ 61 ∷ []) ++ target) ++ 1 ∷ 51 ∷ 52 ∷ 61 ∷ []) ++
+    number) ++ 1 ∷ rest
+    ≡ o ++ 1 ∷ ((decimal 35 ++ 61 ∷ (kind ++ 1 ∷ [])) ++
+    ((decimal 49 ++ 61 ∷ (sender ++ 1 ∷ [])) ++ ((decimal 56 ++ 61 ∷ (target ++ 1 ∷ [])) ++ ((decimal 34 ++ 61 ∷ (number ++ 1 ∷ [])) ++ rest))))
 header_text o kind sender target number rest =
     rw (decimal_two 35 (omega arith) (omega arith), decimal_two 49 (omega arith) (omega arith), decimal_two 56 (omega arith) (omega arith), decimal_two 34 (omega arith) (omega arith))
     (four_values o (51 ∷ 53 ∷ 61 ∷ []) kind (52 ∷ 57 ∷ 61 ∷ []) sender (53 ∷ 54 ∷ 61 ∷ []) target (51 ∷ 52 ∷ 61 ∷ []) number rest)
@@ -53,7 +55,15 @@ resend_fields : (o : Option (List ℕ)) (sent : List ℕ) → length sent + rese
 resend_fields None sent = omega (arith, two_len 52 sent (omega arith) (omega arith), length-append (field 52 sent) [])
 resend_fields (Some t) sent =
     let first = field 122 t ++ [] in
-    omega (arith, two_len 43 (89 ∷ []) (omega arith) (omega arith), two_len 52 sent (omega arith) (omega arith), three_len 122 t (omega arith) (omega arith), length-append (field 122 t) [], length-append (field 52 sent) first, length-append (field 43 (89 ∷ [])) (field 52 sent ++ first))
+    omega (
+      arith,
+      two_len 43 (89 ∷ []) (omega arith) (omega arith),
+      two_len 52 sent (omega arith) (omega arith),
+      three_len 122 t (omega arith) (omega arith),
+      length-append (field 122 t) [],
+      length-append (field 52 sent) first,
+      length-append (field 43 (89 ∷ [])) (field 52 sent ++ first),
+    )
 
 -- how many bytes a header's fields have
 pub header_len : (h : HeaderText) → values_len h + 20 ≡ length (fields_text (header_pairs h))
@@ -62,4 +72,15 @@ header_len h =
     let r3 = field 34 (decimal h.number) ++ r4 in
     let r2 = field 56 h.target ++ r3 in
     let r1 = field 49 h.sender ++ r2 in
-    omega (arith, resend_fields h.resent h.sent, two_len 35 h.kind (omega arith) (omega arith), two_len 49 h.sender (omega arith) (omega arith), two_len 56 h.target (omega arith) (omega arith), two_len 34 (decimal h.number) (omega arith) (omega arith), length-append (field 34 (decimal h.number)) r4, length-append (field 56 h.target) r3, length-append (field 49 h.sender) r2, length-append (field 35 h.kind) r1)
+    omega (
+      arith,
+      resend_fields h.resent h.sent,
+      two_len 35 h.kind (omega arith) (omega arith),
+      two_len 49 h.sender (omega arith) (omega arith),
+      two_len 56 h.target (omega arith) (omega arith),
+      two_len 34 (decimal h.number) (omega arith) (omega arith),
+      length-append (field 34 (decimal h.number)) r4,
+      length-append (field 56 h.target) r3,
+      length-append (field 49 h.sender) r2,
+      length-append (field 35 h.kind) r1,
+    )

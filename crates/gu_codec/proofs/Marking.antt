@@ -1,5 +1,6 @@
 -- Marks of SOH: how they are made, what the lowest one says, and what is left without it.
-use Rattle.std.proofs.Common.{◌≡◌, ◌⊎◌, ℕ, zero, suc, ◌+◌, ◌-◌, ◌*◌, ◌/◌, ◌%◌, ◌^◌, ◌<◌, ◌≤◌, Bool, true, false, cond, eqb, leb, List, [], ◌∷◌, map, length, get_or, drop, replicate, refl, sym, ap, subst, ◌∙◌, arith, inl, inr, w8, w64, length-drop, mod-lt}
+use Rattle.std.proofs.Common.{◌≡◌, ◌⊎◌, ℕ, zero, suc, ◌+◌, ◌-◌, ◌*◌, ◌/◌, ◌%◌, ◌^◌, ◌<◌, ◌≤◌, Bool, true, false, cond, eqb, leb, List, [], ◌∷◌}
+use Rattle.std.proofs.Common.{map, length, get_or, drop, replicate, refl, sym, ap, subst, ◌∙◌, arith, inl, inr, w8, w64, length-drop, mod-lt}
 use Rattle.std.specs.Int.{bit_at}
 use Rattle.std.specs.List.{position_or_len}
 use Rattle.std.proofs.lemmas.Bool.{cases_lt, cases_order, eq-eqb, ne_eqb, leb-true}
@@ -59,7 +60,8 @@ one_of a s i x (inl h) = omega (arith, bit_at_or a s i, h.0, h.1)
 one_of a s i x (inr (inl h)) = omega (arith, bit_at_or a s i, h.0, h.1)
 one_of a s i x (inr (inr h)) = omega (arith, bit_at_or a s i, h.0, h.1)
 
-two_marks : (bytes : List ℕ) (n k a b i : ℕ) → k + n ≡ length bytes → k ≤ n → n ≤ 64 → AreMarks bytes 0 n a → AreMarks bytes k n b → i < 64 → bit_at (bit_or a (b * 2 ^ k % 2 ^ 64)) i ≡ soh_bit bytes i
+two_marks : (bytes : List ℕ) (n k a b i : ℕ) → k + n ≡ length bytes → k ≤ n → n ≤ 64 → AreMarks bytes 0 n a
+    → AreMarks bytes k n b → i < 64 → bit_at (bit_or a (b * 2 ^ k % 2 ^ 64)) i ≡ soh_bit bytes i
 two_marks bytes n k a b i e le few ha hb lt =
     let s = b * 2 ^ k % 2 ^ 64 in
     let same : 0 + i ≡ i = omega arith in
@@ -81,7 +83,8 @@ two_marks bytes n k a b i e le few ha hb lt =
     ]
 
 -- the marks of the first n bytes and of the last n
-pub joined : (bytes : List ℕ) (n k a b : ℕ) → k + n ≡ length bytes → k ≤ n → n ≤ 64 → AreMarks bytes 0 n a → AreMarks bytes k n b → AreMarks bytes 0 64 (bit_or a (b * 2 ^ k % 2 ^ 64))
+pub joined : (bytes : List ℕ) (n k a b : ℕ) → k + n ≡ length bytes → k ≤ n → n ≤ 64
+    → AreMarks bytes 0 n a → AreMarks bytes k n b → AreMarks bytes 0 64 (bit_or a (b * 2 ^ k % 2 ^ 64))
 joined bytes n k a b e le few ha hb =
     record {
       inside = λ i lt. two_marks bytes n k a b i e le few ha hb lt ∙ ap (soh_bit bytes) (omega arith);
@@ -89,7 +92,8 @@ joined bytes n k a b e le few ha hb =
     }
 
 -- the last 64 bytes' marks from a place on
-pub from_last : (bytes : List ℕ) (at m : ℕ) → 64 ≤ length bytes → at < length bytes → length bytes < at + 64 → AreMarks bytes (length bytes - 64) 64 m → AreMarks bytes at 64 (m / 2 ^ (64 - (length bytes - at)))
+pub from_last : (bytes : List ℕ) (at m : ℕ) → 64 ≤ length bytes → at < length bytes → length bytes < at + 64
+    → AreMarks bytes (length bytes - 64) 64 m → AreMarks bytes at 64 (m / 2 ^ (64 - (length bytes - at)))
 from_last bytes at m long inside few h =
     let k = 64 - (length bytes - at) in
     let bit = λ (i : ℕ). ap (λ n. n % 2) (shr-shr m k i) in
@@ -106,7 +110,8 @@ bool_bit true = (omega arith, refl)
 bool_bit false = (omega arith, refl)
 
 -- one more byte in front
-pub pushed : (bytes : List ℕ) (at b m : ℕ) → b < 2 → b ≡ soh_bit bytes at → ((i : ℕ) → bit_at m i ≡ soh_bit bytes (suc at + i)) → (i : ℕ) → bit_at (m * 2 + b) i ≡ soh_bit bytes (at + i)
+pub pushed : (bytes : List ℕ) (at b m : ℕ) → b < 2 → b ≡ soh_bit bytes at
+    → ((i : ℕ) → bit_at m i ≡ soh_bit bytes (suc at + i)) → (i : ℕ) → bit_at (m * 2 + b) i ≡ soh_bit bytes (at + i)
 pushed bytes at b m small here h zero = bit_at_lowest (m * 2 + b) ∙ (omega arith) ∙ here ∙ ap (soh_bit bytes) (omega arith)
 pushed bytes at b m small here h (suc i) = bit_at-suc (m * 2 + b) i ∙ ap (λ n. bit_at n i) (omega arith) ∙ h i ∙ ap (soh_bit bytes) (omega arith)
 
@@ -178,7 +183,8 @@ module _ (bytes : List ℕ) (at base marks : ℕ) (h : IsMarked bytes at base ma
       (λ k lt. ap is_soh (get_or-drop at bytes k 0) ∙ none (at + k) (omega arith) (omega (arith, length-drop at bytes, h.within))) (λ lt. absurd (omega arith))
 
   -- the bits without the lowest
-  others : (t : ℕ) → ((i : ℕ) → i < t → bit_at marks i ≡ 0) → at ≤ base + t → (i : ℕ) → i < 64 → cond (eqb i t) 0 (bit_at marks i) ≡ cond (leb (base + t + 1) (base + i)) (soh_bit bytes (base + i)) 0
+  others : (t : ℕ) → ((i : ℕ) → i < t → bit_at marks i ≡ 0) → at ≤ base + t → (i : ℕ) → i < 64
+      → cond (eqb i t) 0 (bit_at marks i) ≡ cond (leb (base + t + 1) (base + i)) (soh_bit bytes (base + i)) 0
   others t low from i lt =
       let gone = λ (le : i ≤ t). sym (ap (λ c. cond c (soh_bit bytes (base + i)) 0) (le_false (base + t + 1) (base + i) (omega arith))) in
       elim (cases_order i t) [

@@ -6,7 +6,8 @@ use Rattle.itoa.proofs.Decimal.{length_one, length_pair}
 use Rattle.itoa.proofs.Decimal as itoa
 
 -- a text that stands behind what stood there, and before anything else
-pub put_there : (old new text rest : List ℕ) (at end : ℕ) → at + length text ≡ end → at ≤ length old → take at new ≡ take at old → drop at new ≡ text ++ rest → take end new ≡ take at old ++ text
+pub put_there : (old new text rest : List ℕ) (at end : ℕ) → at + length text ≡ end → at ≤ length old
+    → take at new ≡ take at old → drop at new ≡ text ++ rest → take end new ≡ take at old ++ text
 put_there old new text rest at end len fits before behind =
     let parts : new ≡ (take at old ++ text) ++ rest = sym (take-append-drop at new) ∙ rw (before, behind) (sym (append_assoc (take at old) text rest)) in
     ap (take end) parts ∙ take_at (take at old ++ text) rest end (omega (arith, length-append (take at old) text, length-take-le at old fits, len))

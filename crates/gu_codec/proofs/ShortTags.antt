@@ -1,5 +1,6 @@
 -- Fields with short tags, which are told without a walk over them.
-use Rattle.std.proofs.Common.{◌≡◌, ◌≢◌, ℕ, zero, suc, ◌+◌, ◌-◌, ◌*◌, ◌<◌, ◌≤◌, inl, inr, ◌⊎◌, Bool, true, false, eqb, ltb, List, [], ◌∷◌, length, get_or, take, drop, Some, refl, sym, ap, subst, ◌∙◌, arith, below_more, length-drop}
+use Rattle.std.proofs.Common.{◌≡◌, ◌≢◌, ℕ, zero, suc, ◌+◌, ◌-◌, ◌*◌, ◌<◌, ◌≤◌, inl, inr, ◌⊎◌, Bool, true, false, eqb, ltb, List, [], ◌∷◌, length}
+use Rattle.std.proofs.Common.{get_or, take, drop, Some, refl, sym, ap, subst, ◌∙◌, arith, below_more, length-drop}
 use Rattle.std.specs.Prelude.{◌&&◌, ◌||◌, not}
 use Rattle.std.proofs.lemmas.List.{get_or_past, get_or-take, get_or-drop, drop-drop, nil_from_length}
 use Rattle.std.proofs.lemmas.Bool.{eqb-true, eq-eqb, lt-ltb, and_parts, cases_lt}
@@ -9,7 +10,8 @@ use Rattle.gu_base.specs.Names.{is_digit}
 use Rattle.gu_codec.specs.Fields.{tag_after, is_soh, value_at, field_at, are_fields, is_short_front, short_front, ShortBehind, AllShort}
 use Rattle.gu_codec.proofs.FieldSteps.{tag_goes, test_goes, test_ends}
 
-front_behind : (bytes : List ℕ) (k : ℕ) → is_short_front (get_or bytes (k + 1) 0) (get_or bytes (k + 2) 0) (get_or bytes (k + 3) 0) (get_or bytes (k + 4) 0) (get_or bytes (k + 5) 0) ≡ short_front bytes (k + 1)
+front_behind : (bytes : List ℕ) (k : ℕ)
+    → is_short_front (get_or bytes (k + 1) 0) (get_or bytes (k + 2) 0) (get_or bytes (k + 3) 0) (get_or bytes (k + 4) 0) (get_or bytes (k + 5) 0) ≡ short_front bytes (k + 1)
 front_behind bytes k =
     let b : k + 2 ≡ k + 1 + 1 = omega arith in
     let c : k + 3 ≡ k + 1 + 2 = omega arith in
@@ -108,7 +110,8 @@ pub record HasTag (bytes : List ℕ) : Type 0 where
 first_digit : (a : ℕ) (bytes : List ℕ) → is_digit a ≡ true → not (eqb a 48) ≡ true → tag_after 0 0 (a ∷ bytes) ≡ tag_after 1 (0 * 10 + (a - 48)) bytes
 first_digit a bytes digit some = tag_goes 0 0 a bytes (rw (digit, some) refl)
 
-one_digit : (bytes : List ℕ) → is_digit (get_or bytes 0 0) ≡ true → not (eqb (get_or bytes 0 0) 48) ≡ true → (eqb (get_or bytes 1 0) 61 && not (eqb (get_or bytes 2 0) 1)) ≡ true → HasTag bytes
+one_digit : (bytes : List ℕ) → is_digit (get_or bytes 0 0) ≡ true → not (eqb (get_or bytes 0 0) 48) ≡ true
+    → (eqb (get_or bytes 1 0) 61 && not (eqb (get_or bytes 2 0) 1)) ≡ true → HasTag bytes
 one_digit [] digit some ends = absurd cc
 one_digit (a ∷ []) digit some ends = absurd cc
 one_digit (a ∷ b ∷ bytes) digit some ends =
@@ -207,7 +210,8 @@ pub record HasShort (bytes : List ℕ) : Type 0 where
   pub inside : after ≤ length bytes
   pub soh : get_or bytes (after - 1) 0 ≡ 1
 
-field_from : (bytes : List ℕ) (tag : ℕ) (rest value after : List ℕ) → tag_after 0 0 bytes ≡ Some (tag, rest) → value_at rest ≡ Some (value, after) → field_at bytes ≡ Some ((tag, value), after)
+field_from : (bytes : List ℕ) (tag : ℕ) (rest value after : List ℕ) → tag_after 0 0 bytes ≡ Some (tag, rest)
+    → value_at rest ≡ Some (value, after) → field_at bytes ≡ Some ((tag, value), after)
 unfolding field_at
 field_from bytes tag rest value after e f = rw (e, f) refl
 
@@ -265,7 +269,8 @@ short_after bytes after all some inside soh =
       front = front_moved bytes rest after (length bytes + 5) 0 same (omega arith) ∙ ap (short_front bytes) (zero_after ∙ sym next) ∙ all.behind (after - 1) (omega arith) soh;
       behind = λ k lt e.
           let up : after + (k + 1) ≡ after + k + 1 = omega arith in
-          front_moved bytes rest after (length bytes + 5) (k + 1) same (omega (arith, size, lt)) ∙ ap (short_front bytes) up ∙ all.behind (after + k) (omega (arith, size, lt)) (sym (get_or-drop after bytes k 0) ∙ e);
+          front_moved bytes rest after (length bytes + 5) (k + 1) same (omega (arith, size, lt)) ∙ ap (short_front bytes) up
+          ∙ all.behind (after + k) (omega (arith, size, lt)) (sym (get_or-drop after bytes k 0) ∙ e);
       ends = get_or-drop after bytes (length rest - 1) 0 ∙ ap (λ (k : ℕ). get_or bytes k 0) place ∙ all.ends;
     }
 

@@ -6,7 +6,8 @@ pub returns-in-Some : goal.returns-in-Some
 returns-in-Some c =
     let bytes = c.args.bytes.now in
     let start = c.in-Some.start in
-    sym (field_ends bytes c.in-Some.tag (drop start bytes) start c.args.end c.in-Some.ensures.0 c.requires.first c.requires.inside (omega (arith, length-drop start bytes, c.in-Some.ensures.1, c.requires.inside)) c.in-Some.ensures.1)
+    sym (field_ends bytes c.in-Some.tag (drop start bytes) start c.args.end c.in-Some.ensures.0 c.requires.first c.requires.inside
+    (omega (arith, length-drop start bytes, c.in-Some.ensures.1, c.requires.inside)) c.in-Some.ensures.1)
 
 pub returns-in_err-tag : goal.returns-in_err-tag
 returns-in_err-tag c = rw c.from_residual.ensures (sym (no_tag c.args.bytes.now (sym c.in_err-tag.ensures)))

@@ -9,7 +9,8 @@ pub returns-clause-len : goal.returns-clause-len
 returns-clause-len c =
     let last = length-chunk (length c.args.bytes.now - 16) 16 c.args.bytes.now (omega arith) in
     let few = length-chunk c.args.left 16 kept (omega arith) in
-    length-zip2 bit_and (chunk (length c.args.bytes.now - 16) 16 c.args.bytes.now) _ (last ∙ omega (arith, few, ap length (take-take 16 (32 - c.args.left) (drop c.args.left kept) (omega arith)))) ∙ last
+    length-zip2 bit_and (chunk (length c.args.bytes.now - 16) 16 c.args.bytes.now) _
+    (last ∙ omega (arith, few, ap length (take-take 16 (32 - c.args.left) (drop c.args.left kept) (omega arith)))) ∙ last
 
 pub returns-clause-sum : goal.returns-clause-sum
 returns-clause-sum c =
