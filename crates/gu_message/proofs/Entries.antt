@@ -31,5 +31,6 @@ behind_le tag first (f ∷ fs) = elim (cases_Bool (f.0 == first)) [
 ]
 
 -- one at most, and one behind a field: so it is the one
-pub lone_entry : (tag first : ℕ) (fs : List (ℕ × List ℕ)) → length (entries tag fs) ≤ 1 → 1 ≤ length (entries tag (behind first fs)) → true ≡ (length (entries tag (behind first fs)) == 1)
+pub lone_entry : (tag first : ℕ) (fs : List (ℕ × List ℕ)) → length (entries tag fs) ≤ 1
+    → 1 ≤ length (entries tag (behind first fs)) → true ≡ (length (entries tag (behind first fs)) == 1)
 lone_entry tag first fs most least = sym (eq-eqb (length (entries tag (behind first fs))) 1 (omega (arith, most, least, behind_le tag first fs)))

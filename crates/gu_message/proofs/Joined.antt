@@ -33,7 +33,8 @@ three_values o front id text number more status =
 -- TradeReportID (571), TrdRptStatus (939) `0`, Text (58) `entry n`
 pub trade_text : (o id number : List ℕ)
     → ((((o ++ 53 ∷ 55 ∷ 49 ∷ 61 ∷ []) ++ id) ++ 1 ∷ 57 ∷ 51 ∷ 57 ∷ 61 ∷ 48 ∷ 1 ∷ 53 ∷ 56 ∷ 61 ∷ 101 ∷ 110 ∷ 116 ∷ 114 ∷ 121 ∷ 32 ∷ []) ++ number) ++ 1 ∷ []
-    ≡ o ++ ((decimal 571 ++ 61 ∷ (id ++ 1 ∷ [])) ++ ((decimal 939 ++ 61 ∷ 48 ∷ 1 ∷ []) ++ ((decimal 58 ++ 61 ∷ 101 ∷ 110 ∷ 116 ∷ 114 ∷ 121 ∷ 32 ∷ (number ++ 1 ∷ [])) ++ [])))
+    ≡ o ++ ((decimal 571 ++ 61 ∷ (id ++ 1 ∷ [])) ++
+    ((decimal 939 ++ 61 ∷ 48 ∷ 1 ∷ []) ++ ((decimal 58 ++ 61 ∷ 101 ∷ 110 ∷ 116 ∷ 114 ∷ 121 ∷ 32 ∷ (number ++ 1 ∷ [])) ++ [])))
 trade_text o id number =
     rw (three_digits 571 (omega arith) (omega arith), three_digits 939 (omega arith) (omega arith), two_digits 58 (omega arith) (omega arith)) (two_values o _ id _ number)
 
@@ -79,9 +80,14 @@ three_len front id text number more status =
 
 pub trade_len : (id number : List ℕ)
     → length id + length number + 21
-    ≡ length ((decimal 571 ++ 61 ∷ (id ++ 1 ∷ [])) ++ ((decimal 939 ++ 61 ∷ 48 ∷ 1 ∷ []) ++ ((decimal 58 ++ 61 ∷ 101 ∷ 110 ∷ 116 ∷ 114 ∷ 121 ∷ 32 ∷ (number ++ 1 ∷ [])) ++ [])))
+    ≡ length ((decimal 571 ++ 61 ∷ (id ++ 1 ∷ [])) ++
+    ((decimal 939 ++ 61 ∷ 48 ∷ 1 ∷ []) ++ ((decimal 58 ++ 61 ∷ 101 ∷ 110 ∷ 116 ∷ 114 ∷ 121 ∷ 32 ∷ (number ++ 1 ∷ [])) ++ [])))
 trade_len id number =
-    omega (arith, two_len (53 ∷ 55 ∷ 49 ∷ 61 ∷ []) id (57 ∷ 51 ∷ 57 ∷ 61 ∷ 48 ∷ 1 ∷ 53 ∷ 56 ∷ 61 ∷ 101 ∷ 110 ∷ 116 ∷ 114 ∷ 121 ∷ 32 ∷ []) number, ap length (trade_text [] id number))
+    omega (
+      arith,
+      two_len (53 ∷ 55 ∷ 49 ∷ 61 ∷ []) id (57 ∷ 51 ∷ 57 ∷ 61 ∷ 48 ∷ 1 ∷ 53 ∷ 56 ∷ 61 ∷ 101 ∷ 110 ∷ 116 ∷ 114 ∷ 121 ∷ 32 ∷ []) number,
+      ap length (trade_text [] id number),
+    )
 
 pub refused_trade_len : (id text : List ℕ)
     → length id + length text + 15 ≡ length ((decimal 571 ++ 61 ∷ (id ++ 1 ∷ [])) ++ ((decimal 939 ++ 61 ∷ 49 ∷ 1 ∷ []) ++ ((decimal 58 ++ 61 ∷ (text ++ 1 ∷ [])) ++ [])))

@@ -58,10 +58,12 @@ name_passes = text_passes is_firm_text
 id_passes : (t : List ℕ) (e : Reject) → Passes (λ id. IsTrue (is_id_text id)) (ok_or (id_of t) e)
 id_passes = text_passes is_id_text
 
-name_then : {B : Type 0} (q : B → Type 0) (t : List ℕ) (e : Reject) (f : List ℕ → Result B Reject) → ((x : List ℕ) → IsTrue (is_firm_text x) → Passes q (f x)) → Passes q (ok_or (name_of t) e >>= f)
+name_then : {B : Type 0} (q : B → Type 0) (t : List ℕ) (e : Reject) (f : List ℕ → Result B Reject)
+    → ((x : List ℕ) → IsTrue (is_firm_text x) → Passes q (f x)) → Passes q (ok_or (name_of t) e >>= f)
 name_then q t e f h = then (λ x. IsTrue (is_firm_text x)) q (ok_or (name_of t) e) f (name_passes t e) h
 
-id_then : {B : Type 0} (q : B → Type 0) (t : List ℕ) (e : Reject) (f : List ℕ → Result B Reject) → ((x : List ℕ) → IsTrue (is_id_text x) → Passes q (f x)) → Passes q (ok_or (id_of t) e >>= f)
+id_then : {B : Type 0} (q : B → Type 0) (t : List ℕ) (e : Reject) (f : List ℕ → Result B Reject)
+    → ((x : List ℕ) → IsTrue (is_id_text x) → Passes q (f x)) → Passes q (ok_or (id_of t) e >>= f)
 id_then q t e f h = then (λ x. IsTrue (is_id_text x)) q (ok_or (id_of t) e) f (id_passes t e) h
 
 heading_passes : (house : List ℕ) (fs : List (ℕ × List ℕ)) → Passes (λ (h : Heading). IsTrue (is_firm_text h.firm)) (heading_of house fs)
@@ -87,7 +89,8 @@ firm_passes : (fs : List (ℕ × List ℕ)) → Passes (λ firm. IsTrue (is_firm
 unfolding trading_firm
 firm_passes fs = search (name_passes, any_then) depth 20 fits 4000
 
-firm_then : {B : Type 0} (q : B → Type 0) (fs : List (ℕ × List ℕ)) (f : List ℕ → Result B Reject) → ((x : List ℕ) → IsTrue (is_firm_text x) → Passes q (f x)) → Passes q (trading_firm fs >>= f)
+firm_then : {B : Type 0} (q : B → Type 0) (fs : List (ℕ × List ℕ)) (f : List ℕ → Result B Reject)
+    → ((x : List ℕ) → IsTrue (is_firm_text x) → Passes q (f x)) → Passes q (trading_firm fs >>= f)
 firm_then q fs f h = then (λ x. IsTrue (is_firm_text x)) q (trading_firm fs) f (firm_passes fs) h
 
 trade_passes : (by : List ℕ) (fs : List (ℕ × List ℕ)) → IsTrue (is_firm_text by) → Passes IsLawfulMeaning (trade_of by fs)
@@ -125,11 +128,13 @@ given_passes by (Some firm) h = by_test (bytes_eq firm by)
     by_test true = tt
     by_test false = h
 
-part_for_passes : (by text : List ℕ) (lots : ℕ) (firm : Option (List ℕ)) → IsTrue (is_firm_text by) → IfNamed firm → Passes (λ (q : Part). IsTrue (is_firm_text q.firm)) (part_for by text lots firm)
+part_for_passes : (by text : List ℕ) (lots : ℕ) (firm : Option (List ℕ)) → IsTrue (is_firm_text by)
+    → IfNamed firm → Passes (λ (q : Part). IsTrue (is_firm_text q.firm)) (part_for by text lots firm)
 part_for_passes by text lots None lawful h = any_then (λ (q : Part). IsTrue (is_firm_text q.firm)) (ok_or (name_of text) (bad_value 79)) _ (λ account. lawful)
 part_for_passes by text lots (Some firm) lawful h = h
 
-named_then : {B : Type 0} (q : B → Type 0) (fs : List (ℕ × List ℕ)) (f : Option (List ℕ) → Result B Reject) → ((x : Option (List ℕ)) → IfNamed x → Passes q (f x)) → Passes q (named_by fs >>= f)
+named_then : {B : Type 0} (q : B → Type 0) (fs : List (ℕ × List ℕ)) (f : Option (List ℕ) → Result B Reject)
+    → ((x : Option (List ℕ)) → IfNamed x → Passes q (f x)) → Passes q (named_by fs >>= f)
 named_then q fs f h = then IfNamed q (named_by fs) f (named_by_passes fs) h
 
 part_passes : (by : List ℕ) (e : List ℕ × List (ℕ × List ℕ)) → IsTrue (is_firm_text by) → Passes (λ (q : Part). IsTrue (is_firm_text q.firm)) (part_of by e)
@@ -153,7 +158,8 @@ firm_in_passes : (tag : ℕ) (fs : List (ℕ × List ℕ)) → Passes (λ firm. 
 unfolding firm_in
 firm_in_passes tag fs = search (name_passes, any_then) depth 12 fits 2000
 
-firm_in_then : {B : Type 0} (q : B → Type 0) (tag : ℕ) (fs : List (ℕ × List ℕ)) (f : List ℕ → Result B Reject) → ((x : List ℕ) → IsTrue (is_firm_text x) → Passes q (f x)) → Passes q (firm_in tag fs >>= f)
+firm_in_then : {B : Type 0} (q : B → Type 0) (tag : ℕ) (fs : List (ℕ × List ℕ)) (f : List ℕ → Result B Reject)
+    → ((x : List ℕ) → IsTrue (is_firm_text x) → Passes q (f x)) → Passes q (firm_in tag fs >>= f)
 firm_in_then q tag fs f h = then (λ x. IsTrue (is_firm_text x)) q (firm_in tag fs) f (firm_in_passes tag fs) h
 
 agreement_passes : (fs : List (ℕ × List ℕ)) → Passes (NamesOnly is_firm_text) (agreement_in fs)
@@ -169,7 +175,8 @@ raise_passes fs = firm_in_then (NamesOnly is_firm_text) 5001 fs _ (λ giver g. a
 command_passes : (by : List ℕ) (what : Asked) (fs : List (ℕ × List ℕ)) → IsTrue (is_firm_text by) → Passes (NamesOnly is_firm_text) (command_of by what fs)
 unfolding command_of
 command_passes by asked.Split fs lawful =
-    any_then (NamesOnly is_firm_text) (node_in fs) _ (λ node. then (All (λ (q : Part). IsTrue (is_firm_text q.firm))) (NamesOnly is_firm_text) (counted_parts by fs) _ (counted_passes by fs lawful) (λ parts h. h))
+    any_then (NamesOnly is_firm_text) (node_in fs) _
+    (λ node. then (All (λ (q : Part). IsTrue (is_firm_text q.firm))) (NamesOnly is_firm_text) (counted_parts by fs) _ (counted_passes by fs lawful) (λ parts h. h))
 command_passes by asked.Claim fs lawful = search any_then
 command_passes by asked.Refuse fs lawful = any_map (NamesOnly is_firm_text) Refuse (node_in fs) (λ node. tt)
 command_passes by asked.Cancel fs lawful = any_map (NamesOnly is_firm_text) Cancel (node_in fs) (λ node. tt)
@@ -200,7 +207,8 @@ type_passes : (by t : List ℕ) (fs : List (ℕ × List ℕ)) → IsTrue (is_fir
 unfolding by_type
 type_passes by t fs lawful = search (chosen, trade_passes, instruction_passes, session_passes) depth 8
 
-heading_then : {B : Type 0} (q : B → Type 0) (house : List ℕ) (fs : List (ℕ × List ℕ)) (f : Heading → Result B Reject) → ((x : Heading) → IsTrue (is_firm_text x.firm) → Passes q (f x)) → Passes q (heading_of house fs >>= f)
+heading_then : {B : Type 0} (q : B → Type 0) (house : List ℕ) (fs : List (ℕ × List ℕ)) (f : Heading → Result B Reject)
+    → ((x : Heading) → IsTrue (is_firm_text x.firm) → Passes q (f x)) → Passes q (heading_of house fs >>= f)
 heading_then q house fs f h = then (λ (x : Heading). IsTrue (is_firm_text x.firm)) q (heading_of house fs) f (heading_passes house fs) h
 
 pub meaning_passes : (house : List ℕ) (fs : List (ℕ × List ℕ)) → Passes IsLawfulMeaning (meaning_of house fs)

@@ -1,5 +1,6 @@
 -- An own part as most are sent.
-use Rattle.std.proofs.Common.{◌≡◌, ◌≢◌, ◌<◌, ◌+◌, ◌-◌, ◌*◌, ◌∙◌, inl, inr, ℕ, Bool, true, false, cond, eqb, ltb, List, [], ◌∷◌, ◌++◌, length, take, drop, Option, Some, None, Ok, refl, sym, ap, append-nil, arith}
+use Rattle.std.proofs.Common.{◌≡◌, ◌≢◌, ◌<◌, ◌+◌, ◌-◌, ◌*◌, ◌∙◌, inl, inr, ℕ, Bool, true, false, cond, eqb, ltb, List, [], ◌∷◌, ◌++◌, length, take, drop}
+use Rattle.std.proofs.Common.{Option, Some, None, Ok, refl, sym, ap, append-nil, arith}
 use Rattle.std.specs.List.{position_or_len}
 use Rattle.std.specs.Option.{is_some}
 use Rattle.std.proofs.lemmas.Bool.{cases_Bool, lt-ltb, le-ltb, ne_eqb}
@@ -93,7 +94,8 @@ plain bytes at name end lots first name_is named name_in second end_is end_in di
     (value_to bytes (name + 4) end end_is (omega (arith, length-take (end - (name + 4)) (drop (name + 4) bytes))) end_in) in
     record {
       quantity = quantity;
-      fields = fields_some (drop at bytes) (79, account) (drop (name + 1) bytes) a ∙ ap (λ (fs : List (ℕ × List ℕ)). (79, account) ∷ fs) (fields_some (drop (name + 1) bytes) (80, quantity) (drop (end + 1) bytes) q);
+      fields = fields_some (drop at bytes) (79, account) (drop (name + 1) bytes) a
+          ∙ ap (λ (fs : List (ℕ × List ℕ)). (79, account) ∷ fs) (fields_some (drop (name + 1) bytes) (80, quantity) (drop (end + 1) bytes) q);
       is_lots = quantity_digits quantity lots digits;
       inside = omega arith;
     }

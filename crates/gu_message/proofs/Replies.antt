@@ -1,5 +1,6 @@
 -- Replies are lawful: each of their fields, how long they are, and to whom they go.
-use Rattle.std.proofs.Common.{◌≡◌, ◌≢◌, ℕ, suc, zero, ◌+◌, ◌*◌, ◌<◌, ◌≤◌, ◌/◌, ◌%◌, Bool, true, false, cond, ◌&&◌, List, [], ◌∷◌, ◌++◌, length, take, refl, ◌∙◌, arith, length-append, length-take, inl, inr, IsTrue}
+use Rattle.std.proofs.Common.{◌≡◌, ◌≢◌, ℕ, suc, zero, ◌+◌, ◌*◌, ◌<◌, ◌≤◌, ◌/◌, ◌%◌, Bool, true, false, cond, ◌&&◌, List, [], ◌∷◌, ◌++◌, length}
+use Rattle.std.proofs.Common.{take, refl, ◌∙◌, arith, length-append, length-take, inl, inr, IsTrue}
 use Rattle.std.specs.Prelude.{Option, Some, None, nat_le, nat_lt, ◌==◌, codes, decimal, option_and_then}
 use Rattle.std.specs.Option.{unwrap_or}
 use Rattle.std.specs.List.{AllByRecursion, list_all}
@@ -60,7 +61,8 @@ digit_clear n = rw (lt-ltb (n % 10) 10 (omega arith)) (and_from _ _ (le-leb 32 (
 onto_shown : (k n least most : ℕ) (acc : List ℕ) → 0 < k + least → IsShown least most acc → IsShown 1 (k + most) (digits_onto k 10 false n acc)
 onto_shown zero n least most acc some h = record { clear = h.clear; some = omega (arith, h.some); few = omega (arith, h.few) }
 onto_shown (suc k) n least most acc some h =
-    let more : IsShown (suc least) (suc most) (digit_glyph false (n % 10) ∷ acc) = record { clear = and_from _ _ (digit_clear n) h.clear; some = omega (arith, h.some); few = omega (arith, h.few) } in
+    let more : IsShown (suc least) (suc most) (digit_glyph false (n % 10) ∷ acc) =
+    record { clear = and_from _ _ (digit_clear n) h.clear; some = omega (arith, h.some); few = omega (arith, h.few) } in
     elim (cases_Bool (n / 10 == 0)) [
       | inl e ↦ rw e (record { clear = more.clear; some = omega (arith, more.some); few = omega (arith, more.few) })
       | inr e ↦ let rest = onto_shown k (n / 10) (suc least) (suc most) (digit_glyph false (n % 10) ∷ acc) (omega arith) more in
@@ -153,11 +155,14 @@ three target kind t u w a b c to k ha hb hc = reply_lawful target kind ((t, a) �
 pub byte_short : (b : ℕ) → is_text b ≡ true → IsShort (b ∷ [])
 byte_short b h = short 1 1 (b ∷ []) (omega arith) (omega arith) (record { clear = and_from _ _ h refl; some = omega arith; few = omega arith })
 
-ack_lawful : (firm id : List ℕ) (a : Answer) → IsTrue (is_firm_text firm) → IsTrue (is_id_text id) → IsLawfulAnswer a → IsLawfulReply (record { target = firm; kind = codes "P"; fields = ack_fields id a })
+ack_lawful : (firm id : List ℕ) (a : Answer) → IsTrue (is_firm_text firm) → IsTrue (is_id_text id)
+    → IsLawfulAnswer a → IsLawfulReply (record { target = firm; kind = codes "P"; fields = ack_fields id a })
 ack_lawful firm id (Accepted number status) t k h =
-    three firm (codes "P") 70 793 87 id (decimal number) (decimal (code_of status)) t refl (given 70 id refl (id_short id k)) (given 793 _ refl (decimal_short number)) (given 87 _ refl (decimal_short (code_of status)))
+    three firm (codes "P") 70 793 87 id (decimal number) (decimal (code_of status)) t refl (given 70 id refl (id_short id k))
+    (given 793 _ refl (decimal_short number)) (given 87 _ refl (decimal_short (code_of status)))
 ack_lawful firm id (Repeated number status) t k h =
-    three firm (codes "P") 70 793 87 id (decimal number) (decimal (code_of status)) t refl (given 70 id refl (id_short id k)) (given 793 _ refl (decimal_short number)) (given 87 _ refl (decimal_short (code_of status)))
+    three firm (codes "P") 70 793 87 id (decimal number) (decimal (code_of status)) t refl (given 70 id refl (id_short id k))
+    (given 793 _ refl (decimal_short number)) (given 87 _ refl (decimal_short (code_of status)))
 ack_lawful firm id (Refused r) t k h =
     three firm (codes "P") 70 87 58 id (codes "1") (refusal_text r) t refl (given 70 id refl (id_short id k)) (given 87 _ refl (byte_short 49 refl)) (given 58 _ refl (refusal_short r h))
 
@@ -165,15 +170,19 @@ entry_short : (number : ℕ) → IsShort (codes "entry " ++ decimal number)
 entry_short number =
     short 1 70 _ (omega arith) (omega arith) (joined 0 6 1 64 (codes "entry ") (decimal number) (record { clear = refl; some = omega arith; few = omega arith }) (decimal_shown number))
 
-trade_ack_lawful : (firm id : List ℕ) (a : Answer) → IsTrue (is_firm_text firm) → IsTrue (is_id_text id) → IsLawfulAnswer a → IsLawfulReply (record { target = firm; kind = codes "AR"; fields = trade_ack_fields id a })
+trade_ack_lawful : (firm id : List ℕ) (a : Answer) → IsTrue (is_firm_text firm) → IsTrue (is_id_text id)
+    → IsLawfulAnswer a → IsLawfulReply (record { target = firm; kind = codes "AR"; fields = trade_ack_fields id a })
 trade_ack_lawful firm id (Accepted number status) t k h =
-    three firm (codes "AR") 571 939 58 id (codes "0") (codes "entry " ++ decimal number) t refl (given 571 id refl (id_short id k)) (given 939 _ refl (byte_short 48 refl)) (given 58 _ refl (entry_short number))
+    three firm (codes "AR") 571 939 58 id (codes "0") (codes "entry " ++ decimal number) t refl
+    (given 571 id refl (id_short id k)) (given 939 _ refl (byte_short 48 refl)) (given 58 _ refl (entry_short number))
 trade_ack_lawful firm id (Repeated number status) t k h =
-    three firm (codes "AR") 571 939 58 id (codes "0") (codes "entry " ++ decimal number) t refl (given 571 id refl (id_short id k)) (given 939 _ refl (byte_short 48 refl)) (given 58 _ refl (entry_short number))
+    three firm (codes "AR") 571 939 58 id (codes "0") (codes "entry " ++ decimal number) t refl
+    (given 571 id refl (id_short id k)) (given 939 _ refl (byte_short 48 refl)) (given 58 _ refl (entry_short number))
 trade_ack_lawful firm id (Refused r) t k h =
     three firm (codes "AR") 571 939 58 id (codes "1") (refusal_text r) t refl (given 571 id refl (id_short id k)) (given 939 _ refl (byte_short 49 refl)) (given 58 _ refl (refusal_short r h))
 
-pub answer_lawful : (firm : List ℕ) (trade : Bool) (id : List ℕ) (a : Answer) → IsTrue (is_firm_text firm) → IsTrue (is_id_text id) → IsLawfulAnswer a → IsLawfulReply (answer_reply firm trade id a)
+pub answer_lawful : (firm : List ℕ) (trade : Bool) (id : List ℕ) (a : Answer) → IsTrue (is_firm_text firm)
+    → IsTrue (is_id_text id) → IsLawfulAnswer a → IsLawfulReply (answer_reply firm trade id a)
 answer_lawful firm true id a t k h = trade_ack_lawful firm id a t k h
 answer_lawful firm false id a t k h = ack_lawful firm id a t k h
 
@@ -200,7 +209,8 @@ type_short : (bytes : List ℕ) (fs : Message) → IsBody bytes fs → IsShort (
 type_short bytes [] h = absurd h.1
 type_short bytes (f ∷ fs) h =
     let kind = h.0.3 in
-    let few : IsShort (take 8 f.1) = record { value = record { some = omega (arith, kind.some, length-take 8 f.1); no_soh = no_soh_in_front 8 f.1 kind.no_soh }; few = omega (arith, length-take 8 f.1) } in
+    let few : IsShort (take 8 f.1) =
+    record { value = record { some = omega (arith, kind.some, length-take 8 f.1); no_soh = no_soh_in_front 8 f.1 kind.no_soh }; few = omega (arith, length-take 8 f.1) } in
     rw (eq-eqb f.0 35 h.1) few
 
 pub reject_lawful : (bytes : List ℕ) (message : Message) (fault : Reject) → IsBody bytes message → IsLawfulReply (reject_reply message fault)

@@ -27,6 +27,7 @@ pub node_joined : (old tag e p o1 o2 o3 o4 o5 o6 : List ℕ) → o1 ≡ old ++ t
 node_joined old tag e p o1 o2 o3 o4 o5 o6 e1 e2 e3 e4 e5 e6 = rw (e6, e5, e4, e3, e2, e1) (simp append_assoc)
 
 -- a report is short
-pub both_short : (a b c e s : List ℕ) (n : ℕ) → b ≡ a ++ e → c ≡ b ++ s → length b ≤ length a + 700 → length c ≤ length b + (52 + 256 * n) → n ≤ 100 → length (e ++ s) ≤ 65000
+pub both_short : (a b c e s : List ℕ) (n : ℕ) → b ≡ a ++ e → c ≡ b ++ s → length b ≤ length a + 700
+    → length c ≤ length b + (52 + 256 * n) → n ≤ 100 → length (e ++ s) ≤ 65000
 both_short a b c e s n f g h k few =
     omega (arith, ap (λ (t : List ℕ). length t) f, ap (λ (t : List ℕ). length t) g, length-append a e, length-append b s, length-append e s)

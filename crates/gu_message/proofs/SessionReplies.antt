@@ -11,7 +11,8 @@ use Rattle.gu_message.proofs.Replies.{IsShort, short, joined, decimal_shown, dec
 
 logon_lawful : (firm : List ℕ) → IsTrue (is_firm_text firm) → (heartbeat : ℕ) (reset : Bool) → IsLawfulReply (to_firm firm (codes "A") (logon_fields heartbeat reset))
 logon_lawful firm t heartbeat false =
-    reply_lawful firm (codes "A") (logon_fields heartbeat false) t refl (omega arith) (given 98 _ refl (byte_short 48 refl), (given 108 _ refl (decimal_short heartbeat), (given 1137 _ refl (byte_short 57 refl), tt)))
+    reply_lawful firm (codes "A") (logon_fields heartbeat false) t refl (omega arith)
+    (given 98 _ refl (byte_short 48 refl), (given 108 _ refl (decimal_short heartbeat), (given 1137 _ refl (byte_short 57 refl), tt)))
 logon_lawful firm t heartbeat true =
     reply_lawful firm (codes "A") (logon_fields heartbeat true) t refl (omega arith)
     (given 98 _ refl (byte_short 48 refl), (given 108 _ refl (decimal_short heartbeat), (given 1137 _ refl (byte_short 57 refl), (given 141 _ refl (byte_short 89 refl), tt))))

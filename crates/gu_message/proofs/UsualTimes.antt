@@ -112,7 +112,8 @@ module _ (t : List ℕ) (size : length t ≡ 21) (front : AreBetween t 0 (codes 
       let minute = from_ranges (get_or t 12 0) (get_or t 13 0) 53 57 (front 12 (omega arith)) (front 13 (omega arith)) (omega arith) (omega arith) in
       let second = from_ranges (get_or t 15 0) (get_or t 16 0) 53 57 (front 15 (omega arith)) (back 11 (omega arith)) (omega arith) (omega arith) in
       rw (part_two t 9 (omega arith) hour, part_two t 12 (omega arith) minute, part_two t 15 (omega arith) second)
-      (clock_is (get_or t 9 0) (get_or t 10 0) (get_or t 12 0) (get_or t 13 0) (get_or t 15 0) (get_or t 16 0) hour minute second h (omega (arith, front 12 (omega arith))) (omega (arith, front 15 (omega arith))))
+      (clock_is (get_or t 9 0) (get_or t 10 0) (get_or t 12 0) (get_or t 13 0) (get_or t 15 0)
+      (get_or t 16 0) hour minute second h (omega (arith, front 12 (omega arith))) (omega (arith, front 15 (omega arith))))
 
   pub usual : 528 < two t 4 → two t 4 ≤ 540 → 528 < two t 6 → two t 6 ≤ 556 → two t 9 ≤ 551 → is_timestamp t ≡ true
   unfolding is_timestamp

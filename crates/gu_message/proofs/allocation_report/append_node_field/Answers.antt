@@ -11,5 +11,6 @@ returns-clause-items c =
     c.append-2.ensures.items
     (c.append-3.ensures.items ∙ ap (λ (t : List ℕ). c.append-2.new.out.items ++ t) (c.as_bytes-2.ensures.value ∙ entry))
     c.append-4.ensures.items
-    (c.append-5.ensures.items ∙ ap (λ (t : List ℕ). c.append-4.new.out.items ++ t) (c.as_bytes-3.ensures.value ∙ c.format-3.ensures.text ∙ ap decimal (c.from.ensures ∙ c.part.ensures.value)))
+    (c.append-5.ensures.items ∙ ap (λ (t : List ℕ). c.append-4.new.out.items ++ t)
+    (c.as_bytes-3.ensures.value ∙ c.format-3.ensures.text ∙ ap decimal (c.from.ensures ∙ c.part.ensures.value)))
     c.append-6.ensures.items

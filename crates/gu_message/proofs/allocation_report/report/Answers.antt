@@ -18,7 +18,8 @@ returns-clause-short c =
     let then = c.append_parts.ensures.items ∙ ap (λ (t : List ReportPart). c.append_entry.new.out.items ++ fields_text (shown_parts t)) shown in
     let same : length c.as_slice-parts.result.now ≡ length r.parts = ap (λ (t : List ReportPart). length t) shown in
     let few : length c.as_slice-parts.result.now ≤ 100 = omega (arith, same, c.requires.few) in
-    let short = both_short c.reserve.new.self.items c.append_entry.new.out.items c.append_parts.new.out.items (fields_text (entry_fields date r)) (fields_text (shown_parts r.parts)) (length c.as_slice-parts.result.now) first then
+    let short = both_short c.reserve.new.self.items c.append_entry.new.out.items c.append_parts.new.out.items
+    (fields_text (entry_fields date r)) (fields_text (shown_parts r.parts)) (length c.as_slice-parts.result.now) first then
     (omega (arith, c.append_entry.ensures.len, c.append_entry.new.out.ok.0, c.reserve.new.self.ok.0))
     (omega (arith, c.append_parts.ensures.len, c.append_parts.new.out.ok.0, c.append_entry.new.out.ok.0)) few in
     subst (λ (t : List ℕ). length t ≤ 65000) (sym (text_join (entry_fields date r) (shown_parts r.parts))) short

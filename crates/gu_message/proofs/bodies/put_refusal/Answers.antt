@@ -13,7 +13,8 @@ put_named-requires c = omega (arith, c.requires, text_len c.args.refusal.now, ap
 pub returns-clause-text : goal.returns-clause-text
 returns-clause-text c =
     rw (c.put_named.ensures.text, c.put-at.ensures.text, c.words.ensures.value)
-    (append_assoc (take c.args.at c.args.bytes.now) (words_of c.args.refusal.now) (tail_of c.args.refusal.now) ∙ ap (λ (t : List ℕ). take c.args.at c.args.bytes.now ++ t) (in_parts c.args.refusal.now))
+    (append_assoc (take c.args.at c.args.bytes.now) (words_of c.args.refusal.now) (tail_of c.args.refusal.now)
+    ∙ ap (λ (t : List ℕ). take c.args.at c.args.bytes.now ++ t) (in_parts c.args.refusal.now))
 
 pub returns-clause-end : goal.returns-clause-end
 returns-clause-end c = omega (arith, text_len c.args.refusal.now, ap length c.words.ensures.value, c.put-at.ensures.end, c.put_named.ensures.end)
