@@ -1,5 +1,6 @@
 -- Frames taken from bytes that are held while more may come.
-use Rattle.std.proofs.Common.{◌≡◌, ℕ, ◌+◌, ◌<◌, ◌≤◌, ◌^◌, inl, inr, List, [], ◌++◌, length, drop, Option, Some, None, Result, Ok, Err, refl, sym, subst, append_assoc, append-nil, arith, length-drop}
+use Rattle.std.proofs.Common.{◌≡◌, ℕ, ◌+◌, ◌<◌, ◌≤◌, ◌^◌, inl, inr, List, [], ◌++◌, length, drop, Option, Some, None, Result, Ok, Err, refl, sym, subst, append_assoc}
+use Rattle.std.proofs.Common.{append-nil, arith, length-drop}
 use Rattle.std.specs.Prelude.{option_map}
 use Rattle.std.proofs.lemmas.Bool.{cases_Bool}
 use Rattle.std.proofs.lemmas.List.{drop-append-le}
@@ -38,9 +39,12 @@ after_written p m = by_meaning (meaning_of p.house.house m)
     by_meaning (Err fault) = omega arith
 
 -- the answer of an unbroken feed, and what it leaves
-pub answer_of : (f h : Stream) (r q : Option Frame) → f.broken ≡ None → NextAnswers f (option_map settled r) → h ≡ next_after f r → r ≡ q → NextOf None f (option_map settled q) × (h ≡ next_after f q)
-answer_of f h r q e a k w =
-    (subst (λ (o : Option Frame). NextOf None f (option_map settled o)) w (subst (λ (b : Option ℕ). NextOf b f (option_map settled r)) e a), subst (λ (o : Option Frame). h ≡ next_after f o) w k)
+pub answer_of : (f h : Stream) (r q : Option Frame) → f.broken ≡ None → NextAnswers f (option_map settled r)
+    → h ≡ next_after f r → r ≡ q → NextOf None f (option_map settled q) × (h ≡ next_after f q)
+answer_of f h r q e a k w = (
+  subst (λ (o : Option Frame). NextOf None f (option_map settled o)) w (subst (λ (b : Option ℕ). NextOf b f (option_map settled r)) e a),
+  subst (λ (o : Option Frame). h ≡ next_after f o) w k,
+)
 
 pub leads_good : (p q : Progress) (f g h : Stream) (out : List ℕ) (fields : Fields) (len : ℕ)
     → LeadsTo p f q g out → NextOf None g (Some (Whole fields len)) → h ≡ next_after g (Some (Whole fields len))

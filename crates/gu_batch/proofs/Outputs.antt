@@ -68,7 +68,8 @@ begun_so house bytes out h =
     let all = first_frames bytes h.0 h.1 in
     let more = messages_front h.0 all.0 in
     let whole : messages_of bytes ≡ messages_in h.0 ++ more.0 = ap messages_in all.1 ∙ more.1 in
-    let front : take (length (messages_in h.0)) (messages_of bytes) ≡ messages_in h.0 = ap (take (length (messages_in h.0))) whole ∙ take_at (messages_in h.0) more.0 (length (messages_in h.0)) refl in
+    let front : take (length (messages_in h.0)) (messages_of bytes) ≡ messages_in h.0 = ap (take (length (messages_in h.0))) whole
+    ∙ take_at (messages_in h.0) more.0 (length (messages_in h.0)) refl in
     (length (messages_in h.0), h.2 ∙ ap (texts (start house)) (sym front))
 
 texts_front : (p : Progress) (ms : List Message) (n : ℕ) → (rest : List ℕ) × (texts p ms ≡ texts p (take n ms) ++ rest)
@@ -77,8 +78,11 @@ texts_front p [] (suc n) = ([], refl)
 texts_front p (m ∷ ms) zero = (texts p (m ∷ ms), refl)
 texts_front p (m ∷ ms) (suc n) =
     let more = texts_front (progress_after p m) ms n in
-    let one = stream_text (answers_to p m) in
-    (more.0, one_more p m ms ∙ ap (λ (t : List ℕ). one ++ t) more.1 ∙ sym (append_assoc one (texts (progress_after p m) (take n ms)) more.0) ∙ ap (λ (t : List ℕ). t ++ more.0) (sym (one_more p m (take n ms))))
+    let one = stream_text (answers_to p m) in (
+      more.0,
+      one_more p m ms ∙ ap (λ (t : List ℕ). one ++ t) more.1 ∙ sym (append_assoc one (texts (progress_after p m) (take n ms)) more.0)
+          ∙ ap (λ (t : List ℕ). t ++ more.0) (sym (one_more p m (take n ms))),
+    )
 
 -- and a prefix of the output
 pub prefix_so : (house : House) (bytes out : List ℕ) → Answers (start house) 0 bytes None out → (rest : List ℕ) × (output_of house bytes ≡ out ++ rest)
@@ -88,7 +92,8 @@ prefix_so house bytes out h =
     (more.0, more.1 ∙ ap (λ (t : List ℕ). t ++ more.0) (sym some.1))
 
 -- a broken stream has the same output whatever follows
-pub broken_output : (house : House) (bytes later : List ℕ) (at : ℕ) → end_of bytes ≡ Broken at → (end_of (bytes ++ later) ≡ Broken at) × (output_of house (bytes ++ later) ≡ output_of house bytes)
+pub broken_output : (house : House) (bytes later : List ℕ) (at : ℕ) → end_of bytes ≡ Broken at
+    → (end_of (bytes ++ later) ≡ Broken at) × (output_of house (bytes ++ later) ≡ output_of house bytes)
 broken_output house bytes later at e =
     let stays = broken_stays bytes later at e in
     (stays.1, ap (λ (fs : List Seen). texts (start house) (messages_in fs)) stays.0)

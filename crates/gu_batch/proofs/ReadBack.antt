@@ -41,7 +41,8 @@ record IsSound (p : Progress) : Type 0 where
   house : IsTrue (is_firm_text p.house.house)
   named : All (EntryNames is_firm_text) p.history
 
-replies_lawful : (p : Progress) (message : Message) (meaning : Result Inbound Reject) → IsSound p → HasBody message → Passes IsLawfulMeaning meaning → AllByRecursion IsLawfulReply (replies_by p message meaning)
+replies_lawful : (p : Progress) (message : Message) (meaning : Result Inbound Reject) → IsSound p → HasBody message
+    → Passes IsLawfulMeaning meaning → AllByRecursion IsLawfulReply (replies_by p message meaning)
 replies_lawful p message (Ok (inbound.Call firm trade id command)) s came h =
     (answer_reply_lawful firm trade id (answer_to p.house p.history (call_of firm id command)) h.named h.known (answer_lawful p.house p.history firm id command s.house s.named), tt)
 replies_lawful p message (Ok (inbound.Logon heartbeat reset)) s came h = tt
@@ -68,7 +69,8 @@ time_text : IsText batch_time
 time_text = record { value = record { some = omega arith; no_soh = no_soh (nat_lt 1) batch_time (λ b e. let low : 1 < b = ltb-true 1 b e in λ w. absurd (omega arith)) refl }; short = omega arith }
 
 -- replies of a lawful house, as many as there are numbers
-sent_lawful : (house : List ℕ) (written : ℕ) (rs : List Reply) → IsTrue (is_firm_text house) → written + length rs < 2 ^ 64 → AllByRecursion IsLawfulReply rs → AllByRecursion IsWritable (sent house written rs)
+sent_lawful : (house : List ℕ) (written : ℕ) (rs : List Reply) → IsTrue (is_firm_text house)
+    → written + length rs < 2 ^ 64 → AllByRecursion IsLawfulReply rs → AllByRecursion IsWritable (sent house written rs)
 sent_lawful house written [] h few ok = tt
 sent_lawful house written (r ∷ rs) h few ok = (
   sent_writable (stamp house (written + 1)) r (record { sender = h; number = omega (arith, few); sent = time_text; resent = tt }) ok.0,
@@ -79,7 +81,8 @@ answers_lawful : (p : Progress) (message : Message) → IsSound p → p.written 
 unfolding answers_to
 answers_lawful p message s few came =
     let meaning = meaning_of p.house.house message in
-    sent_lawful p.house.house p.written (replies_by p message meaning) s.house (omega (arith, few, one_at_most p message meaning)) (replies_lawful p message meaning s came (meaning_passes p.house.house message))
+    sent_lawful p.house.house p.written (replies_by p message meaning) s.house (omega (arith, few, one_at_most p message meaning))
+    (replies_lawful p message meaning s came (meaning_passes p.house.house message))
   where
     one_at_most : (p : Progress) (message : Message) (meaning : Result Inbound Reject) → length (replies_by p message meaning) ≤ 1
     one_at_most p message (Ok (inbound.Call firm trade id command)) = omega arith
@@ -126,7 +129,8 @@ came_of [] offset bytes end h = record { bodies = tt; few = omega arith }
 came_of (f ∷ fs) offset bytes end h = came_next f.fields f.len bytes fs h.0 (came_of fs (offset + f.len) (drop f.len bytes) end h.1)
 
 -- the opening calls name the house, and the firms of the opening
-opening_named : (t : House) (i : ℕ) (es : List (Pair × Agreement)) (h : List Entry) → IsTrue (is_firm_text t.house) → AllByRecursion (λ e. IsTrue (is_firm_text e.0.giver) × IsTrue (is_firm_text e.0.taker)) es
+opening_named : (t : House) (i : ℕ) (es : List (Pair × Agreement)) (h : List Entry) → IsTrue (is_firm_text t.house)
+    → AllByRecursion (λ e. IsTrue (is_firm_text e.0.giver) × IsTrue (is_firm_text e.0.taker)) es
     → All (EntryNames is_firm_text) h → All (EntryNames is_firm_text) (after_all t h (opening_from t i es))
 opening_named t i [] h lawful names named = named
 opening_named t i (e ∷ es) h lawful names named =

@@ -1,5 +1,6 @@
 -- A batch, piece by piece.
-use Rattle.std.proofs.Common.{◌≡◌, ℕ, ◌+◌, ◌*◌, ◌^◌, ◌<◌, ◌≤◌, inl, inr, List, [], ◌∷◌, ◌++◌, length, take, drop, Option, Some, None, Result, Ok, Err, refl, sym, ap, subst, ◌∙◌, append_assoc, append-nil, arith, length-append, take-append-drop}
+use Rattle.std.proofs.Common.{◌≡◌, ℕ, ◌+◌, ◌*◌, ◌^◌, ◌<◌, ◌≤◌, inl, inr, List, [], ◌∷◌, ◌++◌, length, take, drop, Option, Some, None, Result, Ok, Err, refl}
+use Rattle.std.proofs.Common.{sym, ap, subst, ◌∙◌, append_assoc, append-nil, arith, length-append, take-append-drop}
 use Rattle.std.specs.Io.KnownBytes.{Consumes, Appends, IsAtEnd}
 use Rattle.std.proofs.KnownBytes.{Consumes-nil, Consumes-trans, Appends-nil, Appends-trans}
 use Rattle.gu_codec.specs.Grammar.{IsFront}
@@ -98,7 +99,8 @@ carries_all house old new p f total turns now piece end more h =
     subst (λ (t : List ℕ). Answers (start house) 0 t end (now.out ++ more)) (append-nil (now.bytes ++ piece)) (carries house old new p f total turns now piece [] end more (h []))
 
 -- no frame more, and this end
-ends_so : (house : House) (old new : Told) (p : Progress) (f : Stream) (total turns : ℕ) (now : Sofar house old new p f total turns) (end : Option End) → Ends f.passed f.held end → Answers (start house) 0 now.bytes end now.out
+ends_so : (house : House) (old new : Told) (p : Progress) (f : Stream) (total turns : ℕ) (now : Sofar house old new p f total turns) (end : Option End)
+    → Ends f.passed f.held end → Answers (start house) 0 now.bytes end now.out
 ends_so house old new p f total turns now end h =
     let all = now.goes [] end [] ([], subst (λ (t : List ℕ). Ends f.passed t end) (sym (append-nil f.held)) h, refl) in
     subst (λ (t : List ℕ). Answers (start house) 0 t end now.out) (append-nil now.bytes)
@@ -195,7 +197,8 @@ fault_right house old now p f g total turns left made failed k r = record {
   behind = tt;
 }
 
-pub limit_right : (house : House) (old now : Told) (p : Progress) (f : Stream) (total turns : ℕ) → turns ≡ 16777216 → Sofar house old now p f total turns → RunsTo house old now (Err error.Read)
+pub limit_right : (house : House) (old now : Told) (p : Progress) (f : Stream) (total turns : ℕ)
+    → turns ≡ 16777216 → Sofar house old now p f total turns → RunsTo house old now (Err error.Read)
 limit_right house old now p f total turns e k = record {
   bytes = k.bytes;
   out = k.out;
@@ -205,8 +208,10 @@ limit_right house old now p f total turns e k = record {
   behind = tt;
 }
 
-ending : (house : House) (old now : Told) (p : Progress) (f : Stream) (total turns : ℕ) (left : Option (List ℕ)) (made failed : ℕ) (k : Sofar house old now p f total turns) (r : Result (Unit {0}) RunError)
-    → IsAtEnd left → EndsAs f r → IsRight {A = Unit {0}} house old (record { left = left; made = made; reads_failed = failed; contents = now.contents; writes_failed = now.writes_failed }) k.bytes k.out r
+ending : (house : House) (old now : Told) (p : Progress) (f : Stream) (total turns : ℕ) (left : Option (List ℕ))
+    (made failed : ℕ) (k : Sofar house old now p f total turns) (r : Result (Unit {0}) RunError)
+    → IsAtEnd left → EndsAs f r → IsRight {A = Unit {0}} house old
+    (record { left = left; made = made; reads_failed = failed; contents = now.contents; writes_failed = now.writes_failed }) k.bytes k.out r
 ending house old now p f total turns left made failed k (Ok x) at h =
     let so = output_so house k.bytes k.out Clean (ends_so house old now p f total turns k (Some Clean) h) in (at, so.0, so.1)
 ending house old now p f total turns left made failed k (Err (error.Truncated n)) at h =
@@ -275,7 +280,8 @@ end_as house old now p f g total turns left made failed (Err e) k r h = end_wron
 pub sofar_fresh : (old : Told) (p : Progress) (f : Stream) → p ≡ start p.house → f.held ≡ [] → f.passed ≡ 0 → f.broken ≡ None → Sofar p.house old old p f 0 0
 sofar_fresh old p f fresh e z b = subst (λ (x : Progress). Sofar p.house old old x f 0 0) (sym fresh) (sofar_first p.house old f e z b)
 
-pub piece_right : (house : House) (old now : Told) (p : Progress) (f g : Stream) (total turns count : ℕ) (left contents : Option (List ℕ)) (made failed writes_failed : ℕ) (out : List ℕ) (e : RunError)
+pub piece_right : (house : House) (old now : Told) (p : Progress) (f g : Stream) (total turns count : ℕ)
+    (left contents : Option (List ℕ)) (made failed writes_failed : ℕ) (out : List ℕ) (e : RunError)
     → Sofar house old now p f total turns → Fills now.left left now.reads_failed failed f g (came.Bytes count)
     → PieceFails p g out now.writes_failed writes_failed e → Appends now.contents contents out
     → RunsTo house old (record { left = left; made = made; reads_failed = failed; contents = contents; writes_failed = writes_failed }) (Err e)

@@ -1,16 +1,15 @@
 //! Answering one message after the other.
 
-ghost use Rattle.std.specs.Prelude.{◌≡◌, ◌≤◌, ◌<◌, ◌^◌, ◌+◌, ◌++◌, length, codes, OnOk, OnErr};
+ghost use Rattle.std.specs.Prelude.{◌≡◌, ◌≤◌, ◌<◌, ◌^◌, ◌+◌, ◌++◌, length, take, OnOk, OnErr};
+ghost use Rattle.gu_base.specs.declared.entry.Answer.{Answer as AnswerData};
 ghost use Rattle.gu_codec.specs.Answer.{pairs};
 ghost use Rattle.gu_codec.specs.Limits.{longest_body};
 ghost use Rattle.gu_codec.specs.Messages.{Message};
 ghost use Rattle.gu_codec.specs.Writing.{IsText, fields_text, message_text, stream_text};
 ghost use Rattle.gu_base.specs.Answers.{answer_to, after};
-ghost use Rattle.gu_message.specs.AllocationAck.{ack_fields};
 ghost use Rattle.gu_message.specs.Meaning.{meaning_of};
 ghost use Rattle.gu_message.specs.Outcome.{GivesBy, IsSplit};
-ghost use Rattle.gu_message.specs.Reply.{Reply, message_of, answer_reply, reject_reply};
-ghost use Rattle.gu_message.specs.TradeReportAck.{trade_ack_fields};
+ghost use Rattle.gu_message.specs.Reply.{message_of, answer_reply, reject_reply};
 
 use gu_base::{AllocId, Answer, Command, FirmId, Memory, Part};
 use gu_book::Book;
@@ -33,6 +32,49 @@ struct Call<'a> {
     trade: bool,
     id: &'a AllocId,
     command: &'a Command,
+}
+
+impl Call<'_> {
+    /// MsgType (35) of the message that answers the call.
+    #[inline(always)]
+    fn answer_kind(&self) -> &'static [u8]
+        ensures kind { (a : AnswerData) → result.now ≡ (answer_reply self.now.firm.now self.now.trade self.now.id.now a).kind }
+        ensures text { IsText result.now }
+    {
+        if self.trade {
+            msg_types::TRADE_CAPTURE_REPORT_ACK
+        } else {
+            msg_types::ALLOCATION_INSTRUCTION_ACK
+        }
+    }
+
+    /// How many bytes the body of that message has, 256 at most.
+    #[inline(always)]
+    fn answer_len(&self, answer: &Answer) -> usize
+        ensures exact { result ≡ length (fields_text (answer_reply self.now.firm.now self.now.trade self.now.id.now answer.now).fields) }
+        ensures few { result ≤ 256 }
+    {
+        if self.trade {
+            trade_ack_len(self.id, answer)
+        } else {
+            ack_len(self.id, answer)
+        }
+    }
+
+    /// Puts that body at a place among bytes. Tells where it ends.
+    #[inline(always)]
+    fn put_answer(&self, bytes: &mut [u8], at: usize, answer: &Answer) -> usize
+        requires { at + length (fields_text (answer_reply self.now.firm.now self.now.trade self.now.id.now answer.now).fields) ≤ length bytes.old }
+        ensures text { take result bytes.new ≡ take at bytes.old ++ fields_text (answer_reply self.now.firm.now self.now.trade self.now.id.now answer.now).fields }
+        ensures end { result ≡ at + length (fields_text (answer_reply self.now.firm.now self.now.trade self.now.id.now answer.now).fields) }
+        ensures len { length bytes.new ≡ length bytes.old }
+    {
+        if self.trade {
+            put_trade_ack(bytes, at, self.id, answer)
+        } else {
+            put_ack(bytes, at, self.id, answer)
+        }
+    }
 }
 
 /// Room that is taken anew for each message and kept between them, so that memory is asked for only where more is needed than ever before.
@@ -135,22 +177,21 @@ impl Answering {
         Ok(())
     }
 
-    /// Appends the AllocationInstructionAck that answers a call, with the next number: its body is put where it goes
-    /// out. An `Err` appends nothing.
+    /// Appends the message that answers a call, with the next number: its body is put where it goes out. An `Err` appends nothing.
     #[inline(always)]
-    fn send_ack(
+    fn send_answer(
         &mut self,
         call: &Call<'_>,
         answer: &Answer,
         out: &mut Vec<u8>,
     ) -> Result<(), Memory>
         requires { self.old.written + 1 < 2 ^ 64 }
-        ensures ok { OnOk result (out.new.items ≡ out.old.items ++ message_text (message_of (stamp self.old.house.house (self.old.written + 1)) (record { target = call.now.firm.now; kind = codes "P"; fields = ack_fields call.now.id.now answer.now }))) }
+        ensures ok { OnOk result (out.new.items ≡ out.old.items ++ message_text (message_of (stamp self.old.house.house (self.old.written + 1)) (answer_reply call.now.firm.now call.now.trade call.now.id.now answer.now))) }
         ensures after { OnOk result (self.new ≡ record self.old { written = self.old.written + 1 }) }
         ensures err { OnErr result (out.new.items ≡ out.old.items) }
     {
         let header = Header {
-            kind: msg_types::ALLOCATION_INSTRUCTION_ACK,
+            kind: call.answer_kind(),
             sender: self.book.house().house(),
             target: *call.firm,
             number: self.next_number(),
@@ -158,40 +199,9 @@ impl Answering {
             resent: None,
         };
         let start = out.len();
-        let at = open_frame(out, &header, ack_len(call.id, answer))?;
+        let at = open_frame(out, &header, call.answer_len(answer))?;
         let bytes = out.as_mut_slice();
-        let end = put_ack(bytes, at, call.id, answer);
-        close_frame(bytes, start, end);
-        self.written += 1;
-        Ok(())
-    }
-
-    /// Appends the TradeCaptureReportAck that answers a call, with the next number: its body is put where it goes
-    /// out. An `Err` appends nothing.
-    #[inline(always)]
-    fn send_trade_ack(
-        &mut self,
-        call: &Call<'_>,
-        answer: &Answer,
-        out: &mut Vec<u8>,
-    ) -> Result<(), Memory>
-        requires { self.old.written + 1 < 2 ^ 64 }
-        ensures ok { OnOk result (out.new.items ≡ out.old.items ++ message_text (message_of (stamp self.old.house.house (self.old.written + 1)) (record { target = call.now.firm.now; kind = codes "AR"; fields = trade_ack_fields call.now.id.now answer.now }))) }
-        ensures after { OnOk result (self.new ≡ record self.old { written = self.old.written + 1 }) }
-        ensures err { OnErr result (out.new.items ≡ out.old.items) }
-    {
-        let header = Header {
-            kind: msg_types::TRADE_CAPTURE_REPORT_ACK,
-            sender: self.book.house().house(),
-            target: *call.firm,
-            number: self.next_number(),
-            sent: BATCH_TIME,
-            resent: None,
-        };
-        let start = out.len();
-        let at = open_frame(out, &header, trade_ack_len(call.id, answer))?;
-        let bytes = out.as_mut_slice();
-        let end = put_trade_ack(bytes, at, call.id, answer);
+        let end = call.put_answer(bytes, at, answer);
         close_frame(bytes, start, end);
         self.written += 1;
         Ok(())
@@ -210,8 +220,21 @@ impl Answering {
         ensures err { OnErr result (out.new.items ≡ out.old.items) }
     {
         match &self.book.apply(alloc, call.firm, call.id, call.command) {
-            Ok(answer) if call.trade => self.send_trade_ack(call, answer, out),
-            Ok(answer) => self.send_ack(call, answer, out),
+            // Either way is compiled for its kind alone.
+            Ok(answer) if call.trade => {
+                let call = Call {
+                    trade: true,
+                    ..*call
+                };
+                self.send_answer(&call, answer, out)
+            }
+            Ok(answer) => {
+                let call = Call {
+                    trade: false,
+                    ..*call
+                };
+                self.send_answer(&call, answer, out)
+            }
             Err(_) => Err(AllocError),
         }
     }

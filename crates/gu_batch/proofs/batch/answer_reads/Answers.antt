@@ -14,10 +14,12 @@ pub fill-requires-clause-room : goal.fill-requires-clause-room
 fill-requires-clause-room g c = front_len c.reads.feed.held c.reads.invariant.front
 
 pub answer_read-requires-clause-numbered : goal.answer_read-requires-clause-numbered
-answer_read-requires-clause-numbered g c = numbered_with c.args.answering.now.house _ _ c.reads.answering c.reads.feed c.fill.new.feed c.reads.total c.reads.counter _ _ c.in-Bytes.count c.reads.invariant c.in-Bytes.ensures.fills
+answer_read-requires-clause-numbered g c =
+    numbered_with c.args.answering.now.house _ _ c.reads.answering c.reads.feed c.fill.new.feed c.reads.total c.reads.counter _ _ c.in-Bytes.count c.reads.invariant c.in-Bytes.ensures.fills
 
 pub answer_read-requires-clause-short : goal.answer_read-requires-clause-short
-answer_read-requires-clause-short g c = short_with c.args.answering.now.house _ _ c.reads.answering c.reads.feed c.fill.new.feed c.reads.total c.reads.counter _ _ c.in-Bytes.count c.reads.invariant c.in-Bytes.ensures.fills (omega arith)
+answer_read-requires-clause-short g c =
+    short_with c.args.answering.now.house _ _ c.reads.answering c.reads.feed c.fill.new.feed c.reads.total c.reads.counter _ _ c.in-Bytes.count c.reads.invariant c.in-Bytes.ensures.fills (omega arith)
 
 pub returns-in-Fault : goal.returns-in-Fault
 returns-in-Fault g c =
@@ -29,7 +31,8 @@ returns-in-End g c =
 
 pub returns-in-Err : goal.returns-in-Err
 returns-in-Err g c =
-    piece_right c.args.answering.now.house _ _ c.reads.answering c.reads.feed c.fill.new.feed c.reads.total c.reads.counter c.in-Bytes.count _ _ _ _ _ _ c.in-Err.e c.reads.invariant c.in-Bytes.ensures.fills
+    piece_right c.args.answering.now.house _ _ c.reads.answering c.reads.feed c.fill.new.feed c.reads.total
+    c.reads.counter c.in-Bytes.count _ _ _ _ _ _ c.in-Err.e c.reads.invariant c.in-Bytes.ensures.fills
     c.in-Err.ensures.right c.in-Err.ensures.appended
 
 pub reads-preserved : goal.reads-preserved
@@ -37,10 +40,12 @@ reads-preserved g c =
     elim c.match-fill.branch [
       | in-Nothing w ↦
           rw (w.writer-is, w.feed-is, w.answering-is, w.total-is)
-          (after_nothing c.args.answering.now.house _ _ c.reads.answering c.reads.feed c.fill.new.feed c.reads.total c.reads.counter _ _ _ c.reads.invariant w.in-Nothing.ensures.fills c.fill.ensures.made)
+          (after_nothing c.args.answering.now.house _ _ c.reads.answering c.reads.feed c.fill.new.feed
+          c.reads.total c.reads.counter _ _ _ c.reads.invariant w.in-Nothing.ensures.fills c.fill.ensures.made)
       | in-Bytes+in-Ok-answer_read w ↦
           rw (w.writer-is, w.feed-is, w.answering-is, w.total-is)
-          (after_bytes c.args.answering.now.house _ _ c.reads.answering w.answer_read.new.answering c.reads.feed c.fill.new.feed w.answer_read.new.feed c.reads.total c.reads.counter w.in-Bytes.count _ _ _ _ _ _ c.reads.invariant w.in-Bytes.ensures.fills c.fill.ensures.made
+          (after_bytes c.args.answering.now.house _ _ c.reads.answering w.answer_read.new.answering c.reads.feed c.fill.new.feed w.answer_read.new.feed
+          c.reads.total c.reads.counter w.in-Bytes.count _ _ _ _ _ _ c.reads.invariant w.in-Bytes.ensures.fills c.fill.ensures.made
           w.in-Ok-answer_read.ensures.right w.in-Ok-answer_read.ensures.appended w.in-Ok-answer_read.ensures.grows)
     ]
 

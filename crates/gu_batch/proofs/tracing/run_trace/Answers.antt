@@ -11,7 +11,8 @@ pub returns-in_err-text : goal.returns-in_err-text
 returns-in_err-text g c =
     let p = err_from_is_err_and c.from_residual-in_err-text.result c.from_residual-in_err-text.ensures.1 in
     rw (p.1, p.2)
-    (told_wrong c.args.house _ _ c.in_ok-answering.answering c.args.trade _ _ _ _ _ _ _ _ c.in_err-text.field-0.0 c.in_ok-answering.ensures c.book.ensures.house c.book.ensures.history c.in_err-text.ensures.err)
+    (told_wrong c.args.house _ _ c.in_ok-answering.answering c.args.trade _ _ _ _ _ _ _ _ c.in_err-text.field-0.0
+    c.in_ok-answering.ensures c.book.ensures.house c.book.ensures.history c.in_err-text.ensures.err)
 
 pub returns-in-Ok : goal.returns-in-Ok
 returns-in-Ok g c =

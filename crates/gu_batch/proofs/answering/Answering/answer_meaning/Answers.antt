@@ -23,7 +23,8 @@ faulty c =
 pub returns-in-Call-clause-ok : goal.returns-in-Call-clause-ok
 returns-in-Call-clause-ok c =
     let m = calls (goal.at.returns-in-Call-clause-ok c).In-Call in
-    subst (λ (x : List ℕ). OnOk c.answer_call-answered.result (c.answer_call-answered.new.out.items ≡ c.args.out.now.items ++ x)) (one_text c.args.self.now (pairs c.args.fields) _ _ m refl) c.answer_call-answered.ensures.ok
+    subst (λ (x : List ℕ). OnOk c.answer_call-answered.result (c.answer_call-answered.new.out.items ≡ c.args.out.now.items ++ x))
+    (one_text c.args.self.now (pairs c.args.fields) _ _ m refl) c.answer_call-answered.ensures.ok
 
 pub returns-in-Call-clause-after : goal.returns-in-Call-clause-after
 returns-in-Call-clause-after c =
@@ -33,7 +34,8 @@ returns-in-Call-clause-after c =
 pub returns-in-Err-Reject-clause-ok : goal.returns-in-Err-Reject-clause-ok
 returns-in-Err-Reject-clause-ok c =
     let m = faulty (goal.at.returns-in-Err-Reject-clause-ok c).In-Err-Reject in
-    subst (λ (x : List ℕ). OnOk c.answer_fault.result (c.answer_fault.new.out.items ≡ c.args.out.now.items ++ x)) (one_text c.args.self.now (pairs c.args.fields) _ _ m refl) c.answer_fault.ensures.ok
+    subst (λ (x : List ℕ). OnOk c.answer_fault.result (c.answer_fault.new.out.items ≡ c.args.out.now.items ++ x))
+    (one_text c.args.self.now (pairs c.args.fields) _ _ m refl) c.answer_fault.ensures.ok
 
 pub returns-in-Err-Reject-clause-after : goal.returns-in-Err-Reject-clause-after
 returns-in-Err-Reject-clause-after c =
