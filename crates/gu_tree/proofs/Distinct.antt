@@ -1,22 +1,13 @@
 -- Look-ups in changes with distinct numbers.
-use Rattle.std.proofs.Common.{◌≡◌, ◌≢◌, ℕ, ◌+◌, ◌≤◌, cond, Bool, true, false, Option, Some, None, List, [], ◌∷◌, map, refl, ap, sym, ◌∙◌, subst, arith, inl, inr}
-use Rattle.std.proofs.Common.{◌⊎◌}
-use Rattle.std.specs.Prelude.{find, bytes_eq, ◌==◌}
-use Rattle.std.specs.Option.{option_or}
+use Rattle.gu_tree.proofs.Vocabulary.{◌≡◌, ◌≢◌, ℕ, ◌+◌, ◌≤◌, cond, Bool, true, false, Option, Some, None, List, [], ◌∷◌, map, refl, ap, sym, ◌∙◌, subst, arith, inl}
+use Rattle.gu_tree.proofs.Vocabulary.{inr, ◌⊎◌, find, ◌==◌, option_or, eqb-false, find-append, EntryPart, same_name, nodes_of_parts, nodes_of, nodes, node_of, splits, split_of, parent}
+use Rattle.gu_tree.proofs.Vocabulary.{Record, Part, Command, Split, or_none, name_same, name_is, HasDistinctNumbers}
+use Rattle.std.specs.Prelude.{bytes_eq}
 use Rattle.std.specs.List.{AllByRecursion}
-use Rattle.std.proofs.lemmas.Bool.{eqb-false}
-use Rattle.std.proofs.lemmas.List.Folds.{find-append}
 use Rattle.std.proofs.lemmas.Map.Keys.{IsDistinct-head, IsDistinct-tail}
-use Rattle.gu_base.specs.Numbers.{EntryPart}
-use Rattle.gu_base.specs.Nodes.{same_name, kind_of_part, nodes_of_parts, nodes_of, nodes, node_of, splits, split_of, parent}
-use Rattle.gu_base.specs.declared.entry.Record.{Record}
+use Rattle.gu_base.specs.Nodes.{kind_of_part}
 use Rattle.gu_base.specs.declared.node.Node.{Node}
-use Rattle.gu_base.specs.declared.command.Part.{Part}
-use Rattle.gu_base.specs.declared.command.Command.{Command}
-use Rattle.gu_base.specs.declared.command.Command.TheVariants.{Split}
-use Rattle.gu_base.proofs.Basics.{or_none}
-use Rattle.gu_base.proofs.NodeNames.{name_same, name_is, made_entry, parent_by}
-use Rattle.gu_tree.specs.Shown.{HasDistinctNumbers}
+use Rattle.gu_base.proofs.NodeNames.{made_entry, parent_by}
 use Rattle.gu_tree.proofs.Shows.{differ-same_name}
 
 -- ---- the nodes that one change makes

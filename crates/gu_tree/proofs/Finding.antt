@@ -1,13 +1,10 @@
 -- Where the node of a name lies.
-use Rattle.std.proofs.Common.{◌≡◌, ◌≢◌, ℕ, ◌+◌, ◌-◌, ◌≤◌, Option, Some, None, IsSome, IsSomeAnd, List, [], ◌∷◌, ◌++◌, refl, ap, sym, ◌∙◌, subst, arith}
-use Rattle.std.proofs.lemmas.Option.{same_Some}
-use Rattle.gu_base.specs.Numbers.{EntryPart}
-use Rattle.gu_tree.specs.Rose.{Rose, head_of, height_of}
-use Rattle.gu_tree.specs.Paths.{node_at, LeadsTo, HasPath}
-use Rattle.gu_tree.specs.Filing.{name_in, Leads, turned}
-use Rattle.gu_tree.specs.Grove.{Grove, tree_of, place_of, HasTree, IsGrove, IsPlace}
-use Rattle.gu_tree.proofs.Edits.{height_of-at}
-use Rattle.gu_tree.proofs.Groves.{leads-one, turned-turned}
+use Rattle.gu_tree.proofs.Vocabulary.{◌≡◌, ◌≢◌, ℕ, ◌+◌, ◌-◌, ◌≤◌, Option, Some, None, IsSome, IsSomeAnd, List, [], ◌∷◌, ◌++◌, refl, ap, sym, ◌∙◌, subst}
+use Rattle.gu_tree.proofs.Vocabulary.{arith, same_Some, EntryPart, Rose, head_of, height_of, node_at, LeadsTo, name_in, Leads, turned, Grove, tree_of, HasTree, IsGrove, IsPlace}
+use Rattle.gu_tree.specs.Paths.{HasPath}
+use Rattle.gu_tree.specs.Grove.{place_of}
+use Rattle.gu_tree.proofs.Edits.{height_of_at}
+use Rattle.gu_tree.proofs.Groves.{at-root, leads-one, step-up, turned-turned}
 use Rattle.gu_tree.proofs.Parts.{at_there, some_and, node_at-further}
 
 place-leads : (g : Grove) (n : EntryPart) (trade : ℕ) (p : List ℕ) → IsGrove g → IsPlace g n trade p → Leads g.slots n trade (turned p)
@@ -20,41 +17,15 @@ root-place g n tree is part found =
     let leads = is.made n.entry tree [] tree found refl in
     record { tree = tree; found = found; there = (λ i. record { entry = leads.1 i; part = (leads.0 ∙ sym part) i }) }
 
-from-root : (g : Grove) (n : EntryPart) (trade : ℕ) (tree : Rose) (up : List ℕ) → n.part ≡ 0
-    → tree_of g n.entry ≡ None → tree_of g trade ≡ Some tree → Leads g.slots n trade up → ⊥
-from-root g n trade tree [] part none found leads = let z : None ≡ Some tree = sym none ∙ (ap (tree_of g) leads.1 ∙ found) in cc
-from-root g n trade tree (i ∷ up) part none found leads = omega (arith, part, leads.0)
-
 pub no-root : (g : Grove) (n : EntryPart) → IsGrove g → n.part ≡ 0 → tree_of g n.entry ≡ None → (trade : ℕ) (p : List ℕ) → IsPlace g n trade p → ⊥
-no-root g n is part none trade p place = from-root g n trade place.tree (turned p) part none place.found (place-leads g n trade p is place)
-
-from-above : (g : Grove) (n : EntryPart) (trade : ℕ) (up : List ℕ) → n.part ≢ 0 → place_of g n.entry ≡ None → Leads g.slots n trade up → ⊥
-from-above g n trade [] part none leads = part leads.0
-from-above g n trade (i ∷ up) part none leads = let z : None ≡ Some leads.1.0 = sym none ∙ ap (name_in n.entry) leads.1.1 in cc
+no-root g n is part none trade p place =
+    let root = at-root g.slots n trade (turned p) part (place-leads g n trade p is place) in
+    let z : None ≡ Some place.tree = sym none ∙ (ap (tree_of g) root.1 ∙ place.found) in cc
 
 pub no-above : (g : Grove) (n : EntryPart) → IsGrove g → n.part ≢ 0 → place_of g n.entry ≡ None → (trade : ℕ) (p : List ℕ) → IsPlace g n trade p → ⊥
-no-above g n is part none trade p place = from-above g n trade (turned p) part none (place-leads g n trade p is place)
-
--- the node above lies where the entry has its place
-record IsStep (g : Grove) (n : EntryPart) (trade other : ℕ) (p above : List ℕ) : Type 0 where
-  i : ℕ
-  part : n.part ≡ i + 1
-  same : trade ≡ other
-  path : p ≡ above ++ i ∷ []
-
-step-up : (g : Grove) (n m : EntryPart) (trade other : ℕ) (p above up : List ℕ) → n.part ≢ 0
-    → place_of g n.entry ≡ Some m → Leads g.slots m other (turned above) → turned p ≡ up → Leads g.slots n trade up
-    → IsStep g n trade other p above
-step-up g n m trade other p above [] part at leads e is = absurd (part is.0)
-step-up g n m trade other p above (i ∷ up) part at leads e is =
-    let same : is.1.0 ≡ m = same_Some is.1.0 m (sym (ap (name_in n.entry) is.1.1) ∙ at) in
-    let one = leads-one g.slots m trade other up (turned above) (subst (λ (k : EntryPart). Leads g.slots k trade up) same is.1.2) leads in
-    record {
-      i = i;
-      part = is.0;
-      same = one.0;
-      path = sym (turned-turned p) ∙ (ap turned e ∙ (ap (λ q. turned q ++ i ∷ []) one.1 ∙ ap (λ q. q ++ i ∷ []) (turned-turned above)));
-    }
+no-above g n is part none trade p place =
+    let u = step-up g.slots n trade (turned p) part (place-leads g n trade p is place) in
+    let z : None ≡ Some u.above = sym none ∙ ap (name_in n.entry) u.slot in cc
 
 -- a node of the name lies one step below the place of its entry
 pub below-place : (g : Grove) (n : EntryPart) (other : ℕ) (above : List ℕ) (tree : Rose) → IsGrove g
@@ -62,9 +33,13 @@ pub below-place : (g : Grove) (n : EntryPart) (other : ℕ) (above : List ℕ) (
     → ((i : ℕ) → n.part ≡ i + 1 → LeadsTo (above ++ i ∷ []) tree n → ⊥) → (trade : ℕ) (p : List ℕ) → IsPlace g n trade p → ⊥
 below-place g n other above tree is part at found never trade p place =
     let m = place_and (place_of g n.entry) at in
-    let s = step-up g n m.0 trade other p above (turned p) part m.1 (place-leads g m.0 other above is m.2) refl (place-leads g n trade p is place) in
-    let same : place.tree ≡ tree = same_Some place.tree tree (sym place.found ∙ (ap (tree_of g) s.same ∙ found)) in
-    never s.i s.part (subst (λ q. LeadsTo q tree n) s.path (subst (λ t. LeadsTo p t n) same place.there))
+    let s = step-up g.slots n trade (turned p) part (place-leads g n trade p is place) in
+    let up : s.above ≡ m.0 = same_Some s.above m.0 (sym (ap (name_in n.entry) s.slot) ∙ m.1) in
+    let one = leads-one g.slots m.0 trade other s.up (turned above) (subst (λ (k : EntryPart). Leads g.slots k trade s.up) up s.ahead) (place-leads g m.0 other above is m.2) in
+    let path : p ≡ above ++ s.i ∷ [] =
+    sym (turned-turned p) ∙ (ap turned s.is ∙ (ap (λ q. turned q ++ s.i ∷ []) one.1 ∙ ap (λ q. q ++ s.i ∷ []) (turned-turned above))) in
+    let same : place.tree ≡ tree = same_Some place.tree tree (sym place.found ∙ (ap (tree_of g) one.0 ∙ found)) in
+    never s.i s.part (subst (λ q. LeadsTo q tree n) path (subst (λ t. LeadsTo p t n) same place.there))
   where
     place_and : (o : Option EntryPart) → IsSomeAnd o (λ m. IsPlace g m other above) → (m : EntryPart) × (o ≡ Some m) × IsPlace g m other above
     place_and None h = absurd h
@@ -101,16 +76,16 @@ module _ (g : Grove) (n : EntryPart) (other : ℕ) (above : List ℕ) (u : Rose)
 
 -- a node with a part has a height
 pub next-height : (i : ℕ) (u w : Rose) → node_at (i ∷ []) u ≡ Some w → 1 ≤ height_of u
-next-height i u w e = omega (arith, height_of-at (i ∷ []) u w e)
+next-height i u w e = omega (arith, height_of_at (i ∷ []) u w e)
 
 -- where the tree of a place was found, the path leads to its node
-pub has-place : (g : Grove) (trade : ℕ) (p : List ℕ) (t : Rose) (o : Option EntryPart) → IsSomeAnd o (λ n. IsPlace g n trade p) → tree_of g trade ≡ Some t → HasPath p t
-has-place g trade p t None h found = absurd h
-has-place g trade p t (Some n) place found =
+pub has_place : (g : Grove) (trade : ℕ) (p : List ℕ) (t : Rose) (o : Option EntryPart) → IsSomeAnd o (λ n. IsPlace g n trade p) → tree_of g trade ≡ Some t → HasPath p t
+has_place g trade p t None h found = absurd h
+has_place g trade p t (Some n) place found =
     let same : place.tree ≡ t = same_Some place.tree t (sym place.found ∙ found) in
     let v = some_and (λ v. (head_of v).name ≡ n) (node_at p t) (subst (λ x. LeadsTo p x n) same place.there) in
     subst IsSome (sym v.1) refl
 
-pub no-tree : (g : Grove) (trade : ℕ) (p : List ℕ) (o : Option EntryPart) → IsSomeAnd o (λ n. IsPlace g n trade p) → tree_of g trade ≡ None → ⊥
-no-tree g trade p None h none = h
-no-tree g trade p (Some n) place none = let z = sym none ∙ place.found in cc
+pub no_tree : (g : Grove) (trade : ℕ) (p : List ℕ) (o : Option EntryPart) → IsSomeAnd o (λ n. IsPlace g n trade p) → tree_of g trade ≡ None → ⊥
+no_tree g trade p None h none = h
+no_tree g trade p (Some n) place none = let z = sym none ∙ place.found in cc

@@ -1,29 +1,14 @@
 -- The least number that stands on the parts of a node, and which it is in a list that the tree shows.
-use Rattle.std.proofs.Common.{◌≡◌, true, ℕ, ◌+◌, ◌<◌, ◌≤◌, min, Option, Some, None, IsSomeAnd, List, [], ◌∷◌, ◌++◌, length, get_or, take, refl, ap, sym, ◌∙◌}
-use Rattle.std.proofs.Common.{subst, arith, append_assoc, append-nil}
-use Rattle.std.specs.Prelude.{flat_map, is_none, option_map}
+use Rattle.gu_tree.proofs.Vocabulary.{◌≡◌, true, ℕ, ◌+◌, ◌<◌, ◌≤◌, min, Option, Some, None, List, [], ◌∷◌, ◌++◌, length, get_or, take, refl, ap, sym, ◌∙◌, arith}
+use Rattle.gu_tree.proofs.Vocabulary.{append_assoc, append-nil, flat_map, is_none, option_map, and_parts, nodes_of, decision_of, made_by, parts_of, Record, Place, Rose, Roses, leaf, parted, no_parts}
+use Rattle.gu_tree.proofs.Vocabulary.{part_then, from_list, is_undecided_leaf, are_undecided_leaves, node_at, Head, IsNodeOf, ArePartsOf, numbers_on, least, numbers_at_each, numbers_on_parts}
+use Rattle.gu_tree.proofs.Vocabulary.{EntryPart, nodes_of_parts, splits, Part, Command, Split, height_of}
 use Rattle.std.specs.Option.{option_to_list}
-use Rattle.std.proofs.lemmas.Bool.{and_parts}
-use Rattle.std.proofs.lemmas.List.{take_more}
-use Rattle.gu_base.specs.Nodes.{nodes_of, decision_of}
-use Rattle.gu_base.specs.Rows.{made_by, parts_of}
-use Rattle.gu_base.specs.declared.entry.Record.{Record}
-use Rattle.gu_base.specs.declared.node.Place.{Place}
+use Rattle.gu_tree.proofs.Parts.{over-more}
 use Rattle.gu_base.specs.declared.node.Node.{Node}
-use Rattle.gu_tree.specs.Rose.{Rose, Roses, leaf, parted, no_parts, part_then, from_list, head_of}
-use Rattle.gu_tree.specs.Changes.{is_undecided_leaf, are_undecided_leaves}
-use Rattle.gu_tree.specs.Paths.{node_at, HasAt}
-use Rattle.gu_tree.specs.declared.head.Head.{Head}
-use Rattle.gu_tree.specs.Shown.{IsNodeOf, ArePartsOf, IsTreeOf}
-use Rattle.gu_tree.specs.NumbersOn.{number_in, numbers_on, least_with, least, lesser, numbers_at, numbers_at_each, numbers_on_parts}
-use Rattle.gu_base.specs.Numbers.{EntryPart}
-use Rattle.gu_base.specs.Nodes.{nodes_of_parts, splits}
-use Rattle.gu_base.specs.declared.command.Part.{Part}
-use Rattle.gu_base.specs.declared.command.Command.{Command}
-use Rattle.gu_base.specs.declared.command.Command.TheVariants.{Split}
+use Rattle.gu_tree.specs.NumbersOn.{number_in, least_with, lesser, numbers_at}
 use Rattle.gu_base.proofs.Searches.{find_passes}
-use Rattle.gu_tree.specs.Rose.{height_of}
-use Rattle.gu_tree.proofs.Along.{Each, IsReached, reach, its-head}
+use Rattle.gu_tree.proofs.Along.{Each, IsReached, reach}
 
 -- ---- the least of two lists of numbers
 
@@ -41,16 +26,11 @@ least-append (n ∷ ns) ms = ap (λ o. Some (least_with n o)) (least-append ns m
 
 -- ---- the numbers at the first parts of a node
 
-each-append : (xs ys : List Rose) → numbers_at_each (from_list (xs ++ ys)) ≡ numbers_at_each (from_list xs) ++ numbers_at_each (from_list ys)
-each-append [] ys = refl
-each-append (x ∷ xs) ys = ap (λ ns. numbers_at x ++ ns) (each-append xs ys) ∙ sym (append_assoc (numbers_at x) (numbers_at_each (from_list xs)) (numbers_at_each (from_list ys)))
-
-pub least-more : (xs : List Rose) (i : ℕ) (u : Rose) → i < length xs → u ≡ get_or xs i u
+pub least_more : (xs : List Rose) (i : ℕ) (u : Rose) → i < length xs → u ≡ get_or xs i u
     → least (numbers_at_each (from_list (take (i + 1) xs))) ≡ lesser (least (numbers_at_each (from_list (take i xs)))) (least (numbers_at u))
-least-more xs i u h e =
-    rw (take_more xs i u h, ← e)
-    (ap least (each-append (take i xs) (u ∷ []) ∙ ap (λ ns. numbers_at_each (from_list (take i xs)) ++ ns) (append-nil (numbers_at u)))
-    ∙ least-append (numbers_at_each (from_list (take i xs))) (numbers_at u))
+least_more xs i u h e =
+    ap least (over-more [] (λ a b. a ++ b) (λ _. refl) append-nil append_assoc numbers_at (λ xs. numbers_at_each (from_list xs)) refl (λ x xs. refl) xs i u h e)
+    ∙ least-append (numbers_at_each (from_list (take i xs))) (numbers_at u)
 
 -- ---- where nothing stands on the parts
 
@@ -68,8 +48,8 @@ undecided-each (part_then t ts) is =
     let b = and_parts (is_undecided_leaf t) (are_undecided_leaves ts) is in
     rw (undecided-numbers t b.0, undecided-each ts b.1) refl
 
-pub first-of_none : (t : Rose) (h : Head) (n : ℕ) (xs : List Rose) → parted h n (from_list xs) ≡ t → are_undecided_leaves (from_list xs) ≡ true → None ≡ least (numbers_on_parts t)
-first-of_none t h n xs o is = rw (← o, undecided-each (from_list xs) is) refl
+pub first_of_none : (t : Rose) (h : Head) (n : ℕ) (xs : List Rose) → parted h n (from_list xs) ≡ t → are_undecided_leaves (from_list xs) ≡ true → None ≡ least (numbers_on_parts t)
+first_of_none t h n xs o is = rw (← o, undecided-each (from_list xs) is) refl
 
 -- ---- parts are counted from 1
 
@@ -105,12 +85,11 @@ module _ (l : List Record) where
 
   each-numbers : (above : Option Place) (xs : List Node) (ts : Roses) → ArePartsOf l above xs ts → numbers_at_each ts ≡ flat_map (λ x. numbers_on l x.name) xs
   each-numbers above [] no_parts is = refl
-  each-numbers above [] (part_then t ts) is = absurd is
-  each-numbers above (x ∷ xs) no_parts is = absurd is
   each-numbers above (x ∷ xs) (part_then t ts) is =
       let first = node-numbers above x t is.0 in
       let rest = each-numbers above xs ts is.1 in
       λ i. first i ++ rest i
+  each-numbers above _ _ is = absurd is
 
   pub parts-numbers : (above : Option Place) (x : Node) (t : Rose) → IsNodeOf l above x t → numbers_on_parts t ≡ flat_map (λ x. numbers_on l x.name) (parts_of l x.name)
   parts-numbers above x (leaf h) is = ap (λ o. flat_map (λ x. numbers_on l x.name) (made_by o)) (sym is.1)
@@ -124,13 +103,3 @@ module _ (l : List Record) where
       reach l (1 + height_of t) IsCounted
       (λ d above x h r within here its split. split-counted (d + 1) (Some h.place) x.name r.number r.firm r.command (find_passes (λ r. splits x.name r.command) l r split))
       0 p v (length p) (omega arith) None root t (omega arith) (λ below. absurd (omega (arith, below))) is e
-
--- the least on the parts of the node at the path, by the list alone
-pub first-shown : (o : Option ℕ) (p : List ℕ) (t v : Rose) → node_at p t ≡ Some v → o ≡ least (numbers_on_parts v)
-    → (l : List Record) (trade : ℕ) → IsTreeOf l trade t → HasAt p (λ w. o ≡ least (flat_map (λ x. numbers_on l x.name) (parts_of l (head_of w).name))) t
-first-shown o p t v led is_least l trade is =
-    let s = shown-at l p v is.root t is.tree led in
-    let named : (head_of v).name ≡ s.node.name = (its-head l s.above s.node v s.shown).name in
-    let found : o ≡ least (flat_map (λ x. numbers_on l x.name) (parts_of l (head_of v).name)) =
-    is_least ∙ (ap least (parts-numbers l s.above s.node v s.shown) ∙ ap (λ n. least (flat_map (λ x. numbers_on l x.name) (parts_of l n))) (sym named)) in
-    subst (λ w. IsSomeAnd w (λ v. o ≡ least (flat_map (λ x. numbers_on l x.name) (parts_of l (head_of v).name)))) (sym led) found

@@ -1,21 +1,12 @@
 -- What it does to the trees to put another node of its name in the place of one.
-use Rattle.std.proofs.Common.{◌≡◌, ◌≢◌, ℕ, zero, suc, ◌<◌, ◌≤◌, ◌⊎◌, inl, inr, Option, Some, None, IsSomeAnd, List, [], ◌∷◌, ◌++◌, length, get_or, refl, ap}
-use Rattle.std.proofs.Common.{sym, ◌∙◌, subst, arith, append_assoc, append-nil, length-append}
-use Rattle.std.specs.Prelude.{true, is_none, option_and_then, option_map, ◌↔◌, ◌==◌, if◌then◌else◌}
-use Rattle.std.proofs.Math.ListN.{set, length-set}
-use Rattle.std.proofs.lemmas.Bool.{cases_eq, cond_both, eqb-true, eqb-false}
+use Rattle.gu_tree.proofs.Vocabulary.{◌≡◌, ◌≢◌, ℕ, zero, suc, ◌<◌, ◌≤◌, ◌⊎◌, inl, inr, Option, Some, None, IsSomeAnd, List, [], ◌∷◌, ◌++◌, length, get_or, refl}
+use Rattle.gu_tree.proofs.Vocabulary.{ap, sym, ◌∙◌, subst, arith, append_assoc, append-nil, length-append, true, is_none, option_and_then, option_map, ◌↔◌, ◌==◌, if◌then◌else◌}
+use Rattle.gu_tree.proofs.Vocabulary.{set, length-set, cases_eq, cond_both, eqb-true, eqb-false, same_Some, option_and_then_some, EntryPart, Held, Rose, Roses, leaf, parted, no_parts, part_then}
+use Rattle.gu_tree.proofs.Vocabulary.{head_of, part_at, edit_part, node_at, edit_at, HasAt, LeadsTo, IsLeaf, is_open, is_undecided_leaf, Head, Filing, slot_of, last_of, without_slot, name_in}
+use Rattle.gu_tree.proofs.Vocabulary.{IsRising, Leads, turned, Grove, tree_of, tree_in, IsLed, IsGrove, IsOn, IsSettled, IsNoted, ChangesTree, Slot, Empty}
 use Rattle.std.proofs.lemmas.List.{get_or-set_same, get_or-set_other}
-use Rattle.std.proofs.lemmas.Option.{same_Some, option_and_then_some}
-use Rattle.gu_base.specs.Numbers.{EntryPart}
-use Rattle.gu_base.specs.declared.state.State.TheVariants.{Held}
-use Rattle.gu_tree.specs.Rose.{Rose, Roses, leaf, parted, no_parts, part_then, head_of}
-use Rattle.gu_tree.specs.Paths.{part_at, edit_part, node_at, edit_at, HasAt, LeadsTo}
-use Rattle.gu_tree.specs.Changes.{IsLeaf, is_open, is_undecided_leaf}
-use Rattle.gu_tree.specs.declared.head.Head.{Head}
-use Rattle.gu_tree.specs.Filing.{Filing, slot_of, last_of, without_slot, name_in, IsRising, Leads, turned}
-use Rattle.gu_tree.specs.Grove.{Grove, tree_of, tree_in, place_of, IsLed, IsGrove, IsOn, IsFiledWith, IsSettled, IsNoted, ChangesTree}
-use Rattle.gu_tree.specs.declared.slot.Slot.{Slot}
-use Rattle.gu_tree.specs.declared.slot.Slot.TheVariants.{Empty, Root, Node}
+use Rattle.gu_tree.specs.Grove.{place_of, IsFiledWith}
+use Rattle.gu_tree.specs.declared.slot.Slot.TheVariants.{Root, Node}
 use Rattle.gu_tree.proofs.Parts.{some_and, at_there, node_at-further}
 use Rattle.gu_tree.proofs.Slots.{with_slot, slot_of-past, slot_of-here, slot_of-other, slot_of-gone, slot_of-kept, slot-low}
 use Rattle.gu_tree.proofs.Groves.{cons-same, led-kept, leads-one, node-same, length-turned, turned-turned}
@@ -85,8 +76,7 @@ like-same (parted h n ts) = (refl, refl)
 like-head : (w u : Rose) → IsLike w u → head_of w ≡ head_of u
 like-head (leaf h) (leaf k) is = is
 like-head (parted h m ts) (parted k n us) is = is.0
-like-head (leaf h) (parted k n us) is = absurd is
-like-head (parted h m ts) (leaf k) is = absurd is
+like-head _ _ is = absurd is
 
 -- a node of the edited tree was there, is what was put, or lies below it
 abbrev WasThere : List ℕ → List ℕ → Rose → Rose → Type 0
@@ -174,8 +164,11 @@ bare-on (parted h n ts) e bare on = cc
 pub bare-noted : (s : List Filing) (u : Rose) → is_undecided_leaf u ≡ true → is_open (head_of u).state ≡ true
     → ((e : ℕ) → slot_of s e ≢ Node (head_of u).name) → ((head_of u).name.part ≡ 0 → (head_of u).state ≡ Held) → IsNoted s u
 bare-noted s (leaf h) bare fits free root =
-    record { filed = λ e. ((λ at. absurd (free e at)), (λ on. absurd (bare-on (leaf h) e bare on))); settled =
-    record { root = λ z. (root z, none_when h.decision bare); decided = bare ∙ sym fits; apart = tt } }
+    record {
+      filed = λ e. ((λ at. absurd (free e at)), (λ on. absurd (bare-on (leaf h) e bare on)));
+      settled =
+          record { root = λ z. (root z, none_when h.decision bare); decided = bare ∙ sym fits; apart = tt };
+    }
 bare-noted s (parted h n ts) bare fits free root = absurd (cc)
 
 noted-like : (s : List Filing) (w u : Rose) → IsLike w u → IsNoted s w → IsNoted s u
@@ -183,8 +176,7 @@ noted-like s (leaf h) (leaf k) e is = subst (λ x. IsNoted s (leaf x)) e is
 noted-like s (parted h m ts) (parted k n us) e is =
     let same : IsNoted s (parted h m us) = record { filed = is.filed; settled = record { root = is.settled.root; decided = is.settled.decided; apart = is.settled.apart } } in
     subst (λ x. IsNoted s (parted k x us)) e.1 (subst (λ x. IsNoted s (parted x m us)) e.0 same)
-noted-like s (leaf h) (parted k n us) e is = absurd e
-noted-like s (parted h m ts) (leaf k) e is = absurd e
+noted-like s _ _ e is = absurd e
 
 -- the same entries are filed with the node
 abbrev pub FilesAlike : List Filing → List Filing → EntryPart → Type 0
@@ -281,9 +273,9 @@ for-node : (n : EntryPart) (x : Slot) → IsFor n x → (m : EntryPart) → x �
 for-node n x (inl q) m e = absurd (node-some m (sym e ∙ q))
 for-node n x (inr q) m e = node-same m n (sym e ∙ q)
 
-no-tree : (n : EntryPart) (ts : List (Option Rose)) (x : Slot) → IsFor n x → tree_in ts x ≡ None
-no-tree n ts x (inl q) = ap (tree_in ts) q
-no-tree n ts x (inr q) = ap (tree_in ts) q
+no_tree : (n : EntryPart) (ts : List (Option Rose)) (x : Slot) → IsFor n x → tree_in ts x ≡ None
+no_tree n ts x (inl q) = ap (tree_in ts) q
+no_tree n ts x (inr q) = ap (tree_in ts) q
 
 pub record IsSwap (g new : Grove) (trade i : ℕ) (t v : Rose) (f : Rose → Rose) (p : List ℕ) (entry : ℕ) (x y : Slot) : Type 0 where
   pub slot : slot_of g.slots trade ≡ Root i
@@ -326,7 +318,7 @@ module _ {g new : Grove} {trade i : ℕ} {t v : Rose} {f : Rose → Rose} {p : L
   tree-there : (u : ℕ) → u ≢ trade → tree_of new u ≡ tree_of g u
   tree-there u other = elim (by-cases u entry) [
     | inl q ↦ ap (tree_of new) q ∙
-        (ap (tree_in new.trees) sw.one.after ∙ (no-tree n new.trees y sw.now ∙ sym (ap (tree_of g) q ∙ (ap (tree_in g.trees) sw.one.before ∙ no-tree n g.trees x sw.was))))
+        (ap (tree_in new.trees) sw.one.after ∙ (no_tree n new.trees y sw.now ∙ sym (ap (tree_of g) q ∙ (ap (tree_in g.trees) sw.one.before ∙ no_tree n g.trees x sw.was))))
     | inr q ↦ ap (tree_in new.trees) (sw.one.same u q) ∙ tree-same is puts u other (slot_of g.slots u) refl
   ]
 
@@ -398,8 +390,10 @@ module _ {g new : Grove} {trade i : ℕ} {t v : Rose} {f : Rose → Rose} {p : L
     where
       filed : IsFiledWith new.slots n (f v)
       filed e = elim (by-cases e entry) [
-        | inl q ↦ ((λ at. subst (λ k. IsOn k (f v)) (sym q) (sw.on.0 (sym sw.one.after ∙ (ap (slot_of new.slots) (sym q) ∙ at)))),
-            (λ on. ap (slot_of new.slots) q ∙ (sw.one.after ∙ sw.on.1 (subst (λ k. IsOn k (f v)) q on))))
+        | inl q ↦ (
+          (λ at. subst (λ k. IsOn k (f v)) (sym q) (sw.on.0 (sym sw.one.after ∙ (ap (slot_of new.slots) (sym q) ∙ at)))),
+          (λ on. ap (slot_of new.slots) q ∙ (sw.one.after ∙ sw.on.1 (subst (λ k. IsOn k (f v)) q on))),
+        )
         | inr q ↦ (let was = (is.noted trade t p v sw.tree sw.led).filed e in
             ((λ at. (sw.others e q).1 (was.0 (sym (sw.one.same e q) ∙ at))), (λ on. sw.one.same e q ∙ was.1 ((sw.others e q).0 on))))
       ]

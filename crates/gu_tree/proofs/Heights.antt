@@ -1,18 +1,10 @@
 -- A tree that shows a trade has fewer levels than its list has changes.
 -- A node's name says how many levels lie below it. So the Splits along a path are all different, and none of them is the Trade.
-use Rattle.std.proofs.Common.{◌≡◌, ℕ, zero, suc, ◌+◌, ◌-◌, ◌<◌, ◌≤◌, min, max, true, Option, Some, None, List, [], ◌∷◌, length, refl, ap, sym, ◌∙◌, arith, inl}
-use Rattle.std.proofs.Common.{inr}
-use Rattle.std.specs.Option.{option_or}
-use Rattle.gu_base.specs.Numbers.{EntryPart}
-use Rattle.gu_base.specs.Nodes.{nodes_of, node_of, splits, split_of, parent}
-use Rattle.gu_base.specs.declared.entry.Record.{Record}
-use Rattle.gu_base.specs.declared.node.Place.{Place}
+use Rattle.gu_tree.proofs.Vocabulary.{◌≡◌, ℕ, zero, suc, ◌+◌, ◌-◌, ◌<◌, ◌≤◌, min, max, true, Option, Some, None, List, [], ◌∷◌, length, refl, ap, sym, ◌∙◌, arith}
+use Rattle.gu_tree.proofs.Vocabulary.{inl, inr, option_or, EntryPart, nodes_of, node_of, splits, split_of, parent, Record, Place, Command, Split, name_is, Rose, Roses, leaf, parted, no_parts}
+use Rattle.gu_tree.proofs.Vocabulary.{part_then, height_of, heights_of, IsNodeOf, ArePartsOf, IsTreeOf}
 use Rattle.gu_base.specs.declared.node.Node.{Node}
-use Rattle.gu_base.specs.declared.command.Command.{Command}
-use Rattle.gu_base.specs.declared.command.Command.TheVariants.{Split}
-use Rattle.gu_base.proofs.NodeNames.{name_is, part_parent}
-use Rattle.gu_tree.specs.Rose.{Rose, Roses, leaf, parted, no_parts, part_then, height_of, heights_of}
-use Rattle.gu_tree.specs.Shown.{IsNodeOf, ArePartsOf, IsTreeOf}
+use Rattle.gu_base.proofs.NodeNames.{part_parent}
 use Rattle.gu_tree.proofs.Distinct.{among, chosen_case, node_of-first}
 
 -- ---- the levels below a name
@@ -42,12 +34,11 @@ mutual
 
   levels-parts : (l : List Record) (k : ℕ) (above : Option Place) (xs : List Node) (ts : Roses) → ArePartsOf l above xs ts → heights_of ts ≤ k → most (levels k l) xs ≡ heights_of ts
   levels-parts l k above [] no_parts is low = refl
-  levels-parts l k above [] (part_then t ts) is low = absurd is
-  levels-parts l k above (x ∷ xs) no_parts is low = absurd is
   levels-parts l k above (x ∷ xs) (part_then t ts) is low =
       let first = levels-node l k above x t is.0 (omega arith) in
       let rest = levels-parts l k above xs ts is.1 (omega arith) in
       λ i. max (first i) (rest i)
+  levels-parts l k above _ _ is low = absurd is
 
 -- ---- counting Splits by the levels of their nodes
 
@@ -101,13 +92,12 @@ mutual
   counted-parts : (l : List Record) (k : ℕ) (above : Option Place) (xs : List Node) (ts : Roses) → ArePartsOf l above xs ts → heights_of ts ≤ k
       → (m : ℕ) → heights_of ts ≤ m → heights_of ts ≤ count_low (levels k l) m l
   counted-parts l k above [] no_parts is within m less = omega arith
-  counted-parts l k above [] (part_then t ts) is within m less = absurd is
-  counted-parts l k above (x ∷ xs) no_parts is within m less = absurd is
   counted-parts l k above (x ∷ xs) (part_then t ts) is within m less =
       let first = counted-node l k above x t is.0 (omega arith) in
       let more = count_low-more (levels k l) (height_of t) m l (omega arith) in
       let rest = counted-parts l k above xs ts is.1 (omega arith) m (omega arith) in
       omega (arith, first, more, rest)
+  counted-parts l k above _ _ is within m less = absurd is
 
 -- ---- the Trade
 

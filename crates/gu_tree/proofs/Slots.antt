@@ -1,17 +1,15 @@
 -- Entries filed in the order of their numbers, and what is found among them.
-use Rattle.std.proofs.Common.{◌≡◌, ◌≢◌, ℕ, zero, suc, ◌-◌, ◌<◌, ◌≤◌, true, false, List, [], ◌∷◌, ◌++◌, length, get_or, set, Result, Ok, Err, IfOk, OnErr, refl}
-use Rattle.std.proofs.Common.{ap, sym, ◌∙◌, subst, arith}
-use Rattle.std.specs.Prelude.{◌==◌, if◌then◌else◌, max}
+use Rattle.gu_tree.proofs.Vocabulary.{◌≡◌, ◌≢◌, ℕ, zero, suc, ◌-◌, ◌<◌, ◌≤◌, true, false, List, [], ◌∷◌, ◌++◌, length, get_or, set, Result, Ok, Err, OnErr, refl}
+use Rattle.gu_tree.proofs.Vocabulary.{ap, sym, ◌∙◌, subst, arith, ◌==◌, if◌then◌else◌, max, cond_both, eqb-true, eqb-false, get_or_read, Filing, slot_of, last_of, IsRising}
+use Rattle.gu_tree.proofs.Vocabulary.{without_slot, Slot, Empty}
+use Rattle.std.proofs.Common.{IfOk}
 use Rattle.std.specs.List.Sorted.{IsSearchInRange, IsBinarySearchResult, IsNonDecreasingBy}
 use Rattle.std.specs.Ordering.{nat_cmp, ordering_index}
 use Rattle.std.proofs.lemmas.Cmp.{ranked}
 use Rattle.std.proofs.lemmas.List.Sorted.{IsNonDecreasingBy-from_default}
-use Rattle.std.proofs.lemmas.Bool.{cond_both, eq-eqb, ne_eqb, eqb-true, eqb-false}
+use Rattle.std.proofs.lemmas.Bool.{eq-eqb, ne_eqb}
 use Rattle.std.proofs.lemmas.Bool.Decides.{nat_tests}
-use Rattle.std.proofs.lemmas.List.{get_or_read}
-use Rattle.gu_tree.specs.Filing.{Filing, slot_of, last_of, RisesAbove, IsRising, no_filing, IsFiledAt, IsNotFiled, without_slot}
-use Rattle.gu_tree.specs.declared.slot.Slot.{Slot}
-use Rattle.gu_tree.specs.declared.slot.Slot.TheVariants.{Empty}
+use Rattle.gu_tree.specs.Filing.{RisesAbove, no_filing, IsFiledAt, IsNotFiled}
 
 -- ---- numbers that differ, and that don't
 
@@ -134,8 +132,8 @@ rising-last n (x ∷ y ∷ s) rises some =
     let low = rises-at x.entry (y ∷ s) (length (y ∷ s) - 1) rises.1 (omega arith) in
     omega (arith, rest, low, ap (entry_at (x ∷ y ∷ s)) k)
 
-pub last_of-found : (s : List Filing) (u : Filing) → IsRising s → (length s == 0) ≡ false → u ≡ get_or s (length s - 1) u → u.entry ≡ last_of s
-last_of-found s u rising some here =
+pub last_of_found : (s : List Filing) (u : Filing) → IsRising s → (length s == 0) ≡ false → u ≡ get_or s (length s - 1) u → u.entry ≡ last_of s
+last_of_found s u rising some here =
     let one : 1 ≤ length s = omega (arith, eqb-false (length s) 0 some) in
     ap (λ (f : Filing). f.entry) (get_or_read s (length s - 1) u (omega (arith, one)) here no_filing) ∙ sym (rising-last 0 s rising one)
 
@@ -146,19 +144,19 @@ slot-at n [] e i rises h is = absurd (omega (arith, h))
 slot-at n (x ∷ s) e zero rises h is = rw (ap (λ k. k == e) is ∙ same-eqb e) refl
 slot-at n (x ∷ s) e (suc i) rises h is = rw (lower-eqb x.entry e (omega (arith, is, rises-at x.entry s i rises.1 (omega (arith, h))))) (slot-at x.entry s e i rises.1 (omega (arith, h)) is)
 
-pub slot_of-found : (s : List Filing) (e i : ℕ) (u : Filing) → IsRising s → IsFiledAt s e i → u ≡ get_or s i u → u.slot ≡ slot_of s e
-slot_of-found s e i u rising is here = ap (λ (f : Filing). f.slot) (get_or_read s i u is.in_range here no_filing) ∙ sym (slot-at 0 s e i rising is.in_range is.entry)
+pub slot_of_found : (s : List Filing) (e i : ℕ) (u : Filing) → IsRising s → IsFiledAt s e i → u ≡ get_or s i u → u.slot ≡ slot_of s e
+slot_of_found s e i u rising is here = ap (λ (f : Filing). f.slot) (get_or_read s i u is.in_range here no_filing) ∙ sym (slot-at 0 s e i rising is.in_range is.entry)
 
 absent-rest : (x : Filing) (s : List Filing) (e : ℕ) → IsNotFiled (x ∷ s) e → IsNotFiled s e
 absent-rest x s e none i h is = none (suc i) (omega (arith, h)) is
 
-pub slot_of-absent : (s : List Filing) (e : ℕ) → IsNotFiled s e → slot_of s e ≡ Empty
-slot_of-absent [] e none = refl
-slot_of-absent (x ∷ s) e none = rw (ne_eqb x.entry e (none zero (omega arith))) (slot_of-absent s e (absent-rest x s e none))
+pub slot_of_absent : (s : List Filing) (e : ℕ) → IsNotFiled s e → slot_of s e ≡ Empty
+slot_of_absent [] e none = refl
+slot_of_absent (x ∷ s) e none = rw (ne_eqb x.entry e (none zero (omega arith))) (slot_of_absent s e (absent-rest x s e none))
 
-pub without_slot-absent : (s : List Filing) (e : ℕ) → IsNotFiled s e → without_slot s e ≡ s
-without_slot-absent [] e none = refl
-without_slot-absent (x ∷ s) e none = rw (ne_eqb x.entry e (none zero (omega arith))) (ap (λ r. x ∷ r) (without_slot-absent s e (absent-rest x s e none)))
+pub without_slot_absent : (s : List Filing) (e : ℕ) → IsNotFiled s e → without_slot s e ≡ s
+without_slot_absent [] e none = refl
+without_slot_absent (x ∷ s) e none = rw (ne_eqb x.entry e (none zero (omega arith))) (ap (λ r. x ∷ r) (without_slot_absent s e (absent-rest x s e none)))
 
 set-at : (n : ℕ) (s : List Filing) (e i : ℕ) → RisesAbove n s → i < length s → entry_at s i ≡ e → set s i (gone e) ≡ without_slot s e
 set-at n [] e i rises h is = absurd (omega (arith, h))
@@ -166,5 +164,5 @@ set-at n (x ∷ s) e zero rises h is = rw (ap (λ k. k == e) is ∙ same-eqb e) 
 set-at n (x ∷ s) e (suc i) rises h is =
     rw (lower-eqb x.entry e (omega (arith, is, rises-at x.entry s i rises.1 (omega (arith, h))))) (ap (λ r. x ∷ r) (set-at x.entry s e i rises.1 (omega (arith, h)) is))
 
-pub without_slot-found : (s : List Filing) (e i : ℕ) → IsRising s → IsFiledAt s e i → set s i (record { entry = e; slot = Empty }) ≡ without_slot s e
-without_slot-found s e i rising is = set-at 0 s e i rising is.in_range is.entry
+pub without_slot_found : (s : List Filing) (e i : ℕ) → IsRising s → IsFiledAt s e i → set s i (record { entry = e; slot = Empty }) ≡ without_slot s e
+without_slot_found s e i rising is = set-at 0 s e i rising is.in_range is.entry

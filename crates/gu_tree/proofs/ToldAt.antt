@@ -1,20 +1,11 @@
 -- What the node at a path of a tree tells of a list of changes that the tree shows.
-use Rattle.std.proofs.Common.{◌≡◌, ℕ, ◌≤◌, Option, Some, None, List, [], ◌∷◌, length, ap, sym, ◌∙◌, arith}
-use Rattle.std.specs.Prelude.{flat_map, option_map}
-use Rattle.gu_base.specs.Numbers.{EntryPart}
-use Rattle.gu_base.specs.Nodes.{node_of, split_of, decision_of}
-use Rattle.gu_base.specs.Rows.{parts_of}
-use Rattle.gu_base.specs.declared.entry.Record.{Record}
-use Rattle.gu_base.specs.declared.node.Place.{Place}
+use Rattle.gu_tree.proofs.Vocabulary.{◌≡◌, ℕ, ◌≤◌, Option, Some, None, List, [], ◌∷◌, length, ap, sym, ◌∙◌, arith, flat_map, option_map, EntryPart, node_of, split_of}
+use Rattle.gu_tree.proofs.Vocabulary.{decision_of, parts_of, Record, Place, same_Some, node_called, Rose, leaf, parted, head_of, split_of_node, node_at, HasAt, IsNodeOf, IsTreeOf, least, numbers_on}
+use Rattle.gu_tree.proofs.Vocabulary.{numbers_on_parts}
 use Rattle.gu_base.specs.declared.node.Node.{Node}
-use Rattle.std.proofs.lemmas.Option.{same_Some}
-use Rattle.gu_base.proofs.NodeNames.{node_called}
-use Rattle.gu_tree.specs.Rose.{Rose, leaf, parted, head_of, split_of_node}
-use Rattle.gu_tree.specs.Paths.{node_at}
-use Rattle.gu_tree.specs.Shown.{IsNodeOf, IsTreeOf}
-use Rattle.gu_tree.specs.NumbersOn.{numbers_on, numbers_on_parts}
 use Rattle.gu_tree.proofs.Along.{its-head}
 use Rattle.gu_tree.proofs.FirstOn.{shown-at, parts-numbers}
+use Rattle.gu_tree.proofs.Parts.{at_there}
 
 -- the node of part 0 is the trade's root
 root-told : (p : List ℕ) (t v : Rose) → node_at p t ≡ Some v → (1 ≤ length p → 1 ≤ (head_of v).name.part) → (head_of v).name.part ≡ 0 → t ≡ v
@@ -50,3 +41,8 @@ told-at l trade t is p v led =
       root = is.root;
       has_root = is.found;
     }
+
+-- the least on the parts of the node at the path, by the list alone
+pub first_shown : (o : Option ℕ) (p : List ℕ) (t v : Rose) → node_at p t ≡ Some v → o ≡ least (numbers_on_parts v)
+    → (l : List Record) (trade : ℕ) → IsTreeOf l trade t → HasAt p (λ w. o ≡ least (flat_map (λ x. numbers_on l x.name) (parts_of l (head_of w).name))) t
+first_shown o p t v led is_least l trade is = at_there _ _ v led (is_least ∙ ap least (told-at l trade t is p v led).parts)

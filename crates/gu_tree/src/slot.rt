@@ -120,6 +120,7 @@ fn shift_of(slots: &[Filed]) -> usize {
 }
 
 /// The highest number of an entry that was filed, 0 where there is none.
+#[tactic(auto, using(crate::proofs::Slots::last_of_found))]
 pub(crate) fn last_number(slots: &[Filed]) -> u32
     requires { IsRising slots.now }
     ensures { result ≡ last_of slots.now }
@@ -131,6 +132,7 @@ pub(crate) fn last_number(slots: &[Filed]) -> u32
 }
 
 /// What the entry named, and how far above its number it is filed if it is; `shift` as for `find`.
+#[tactic(auto, using(crate::proofs::Slots::slot_of_found, crate::proofs::Slots::slot_of_absent))]
 fn filed_at(slots: &[Filed], shift: usize, entry: Number) -> (usize, Slot)
     requires { IsRising slots.now }
     ensures { result.1 ≡ slot_of slots.now entry }
@@ -214,6 +216,7 @@ pub(crate) fn file<A: Allocator>(slots: &mut Vec<Filed, A>, entry: Number, slot:
 }
 
 /// Takes the slot of an entry out.
+#[tactic(auto, using(crate::proofs::Slots::without_slot_found, crate::proofs::Slots::without_slot_absent))]
 pub(crate) fn clear<A: Allocator>(slots: &mut Vec<Filed, A>, entry: Number)
     requires { IsRising slots.old.items }
     ensures { slots.new.items ≡ without_slot slots.old.items entry }

@@ -1,6 +1,4 @@
-use Rattle.std.proofs.Common.{rules, ◌≡◌, ◌≢◌, ◌∙◌, ◌+◌, ◌-◌, ap, arith, sym}
-use Rattle.std.proofs.lemmas.List.{length-set}
-use Rattle.gu_tree.specs.Filing.{slot_of}
+use Rattle.gu_tree.proofs.Vocabulary.{rules, ◌≡◌, ◌≢◌, ◌∙◌, ◌+◌, ◌-◌, ap, arith, sym, length-set, slot_of}
 use Rattle.gu_tree.proofs.Groves.{way-there, way-cell, way-further, way-ends, written-before, read-out}
 use Rattle.gu_tree.proofs.slot.climb.Goals as goal
 

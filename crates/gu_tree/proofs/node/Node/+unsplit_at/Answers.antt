@@ -5,25 +5,23 @@ use Rattle.gu_tree.proofs.node.Node.+unsplit_at.Goals as goal
 
 pub index_mut-requires : goal.index_mut-requires
 index_mut-requires g t c =
-    let e = going _ _ _ _ _ _ _ _ c.in-Some.ensures.cases.0 (rw c.in-Parted-kind.is at c.self.view_is) c.requires in
+    let e = going _ c.in-Some.ensures.cases.0 (rw c.in-Parted-kind.is at c.self.view_is) c.requires in
     omega (arith, e.there, c.in-Parted-kind.parts.ok)
 
 pub unsplit_at-requires : goal.unsplit_at-requires
 unsplit_at-requires g t c κs within =
-    let e = going _ _ _ _ _ _ _ _ c.in-Some.ensures.cases.0 (rw c.in-Parted-kind.is at c.self.view_is) c.requires in
+    let e = going _ c.in-Some.ensures.cases.0 (rw c.in-Parted-kind.is at c.self.view_is) c.requires in
     (search rules, (search rules, rw (← goes-below _ e c.index_mut.ensures.value) c.requires))
 
 pub invariant_of-self-2 : goal.invariant_of-self-2
 invariant_of-self-2 g t c =
-    let e = going _ _ _ _ _ _ _ _ c.in-Some.ensures.cases.0 (rw c.in-Parted-kind.is at c.self.view_is) c.requires in
+    let e = going _ c.in-Some.ensures.cases.0 (rw c.in-Parted-kind.is at c.self.view_is) c.requires in
     goes-parted unsplit_node _ _ _ e c.index_mut.ensures.value c.unsplit_at.ensures.node c.requires (λ v. refl) (rw c.in-Parted-kind.is at c.self.invariant)
 
-pub returns-clause-split : goal.returns-clause-split
-returns-clause-split g t c =
-    let e = going _ _ _ _ _ _ _ _ c.in-Some.ensures.cases.0 (rw c.in-Parted-kind.is at c.self.view_is) c.requires in
-    goes-has _ _ e c.index_mut.ensures.value c.unsplit_at.ensures.split
-
-pub returns-clause-node : goal.returns-clause-node
-returns-clause-node g t c =
-    let e = going _ _ _ _ _ _ _ _ c.in-Some.ensures.cases.0 (rw c.in-Parted-kind.is at c.self.view_is) c.requires in
-    goes-edit _ _ _ e c.index_mut.ensures.value c.unsplit_at.ensures.node
+pub returns : goal.returns
+returns g t c =
+    let e = going _ c.in-Some.ensures.cases.0 (rw c.in-Parted-kind.is at c.self.view_is) c.requires in
+    record {
+      split = goes-has _ _ e c.index_mut.ensures.value c.unsplit_at.ensures.split;
+      node = goes-edit _ _ _ e c.index_mut.ensures.value c.unsplit_at.ensures.node;
+    }

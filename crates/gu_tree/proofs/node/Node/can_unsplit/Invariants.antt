@@ -1,6 +1,4 @@
-use Rattle.std.proofs.Common.{◌≡◌, take, true}
-use Rattle.gu_tree.specs.Rose.{from_list}
-use Rattle.gu_tree.specs.Changes.{are_undecided_leaves}
+use Rattle.gu_tree.proofs.Vocabulary.{◌≡◌, take, true, from_list, are_undecided_leaves}
 use Rattle.gu_tree.proofs.node.Node.can_unsplit.Given as goal
 
 abbrev pub invariant-loop-part : goal.invariant-loop-part

@@ -1,6 +1,4 @@
-use Rattle.std.proofs.Common.{◌≡◌, take}
-use Rattle.gu_tree.specs.Rose.{from_list}
-use Rattle.gu_tree.specs.NumbersOn.{least, numbers_at_each}
+use Rattle.gu_tree.proofs.Vocabulary.{◌≡◌, take, from_list, least, numbers_at_each}
 use Rattle.gu_tree.proofs.node.Node.first_on_parts.Given as goal
 
 abbrev pub invariant-loop-part : goal.invariant-loop-part

@@ -1,10 +1,9 @@
-use Rattle.std.proofs.Common.{◌∙◌, refl}
-use Rattle.gu_tree.specs.Rose.{head_of}
-use Rattle.gu_tree.specs.Changes.{IsLeaf, with_head, decide_node, decided_head}
-use Rattle.gu_tree.proofs.Edits.{edit_at-same}
-use Rattle.gu_tree.proofs.Parts.{at_fact, some_and}
+use Rattle.gu_tree.proofs.Vocabulary.{arith, refl, head_of, IsLeaf, decide_node, decided_head}
+use Rattle.gu_tree.proofs.Inverses.{lesser-tree}
+use Rattle.gu_tree.proofs.Names.{named-with_head}
+use Rattle.gu_tree.proofs.Parts.{at_fact, height_of-with_head, some_and}
 use Rattle.gu_tree.proofs.ShowsChanges.{decision-shows}
-use Rattle.gu_tree.proofs.Splits.{head-tree, offered-moves}
+use Rattle.gu_tree.proofs.Splits.{offered-moves}
 use Rattle.gu_tree.proofs.tree.Tree.decide.Goals as goal
 
 pub returns-clause-node : goal.returns-clause-node
@@ -13,10 +12,9 @@ returns-clause-node g c = rw (c.as_slice.ensures.value, c.self.view_is) at c.dec
 pub invariant_of-self : goal.invariant_of-self
 invariant_of-self g c =
     let v = some_and _ _ c.requires in
-    let n = c.args.number in
-    let d = c.args.decision.now in
-    head-tree _ _ _ _ _ v.1 refl (offered-moves v.0 v.2)
-    (returns-clause-node g c ∙ edit_at-same (decide_node n d) (with_head (decided_head n d (head_of v.0))) _ _ v.0 v.1 refl) (rw c.self.view_is at c.self.invariant)
+    let h = decided_head c.args.number c.args.decision.now (head_of v.0) in
+    lesser-tree (decide_node c.args.number c.args.decision.now) _ _ v.0 _ v.1 (omega (arith, height_of-with_head h v.0)) (λ name. omega (arith, named-with_head name h v.0 refl))
+    (λ held. absurd (offered-moves v.0 v.2 held)) (returns-clause-node g c) (rw c.self.view_is at c.self.invariant)
 
 pub returns-clause-shows : goal.returns-clause-shows
 returns-clause-shows g c =

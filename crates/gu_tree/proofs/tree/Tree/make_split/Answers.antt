@@ -1,6 +1,4 @@
-use Rattle.std.proofs.Common.{IsTrue, refl}
-use Rattle.gu_tree.specs.Rose.{head_of}
-use Rattle.gu_tree.specs.Changes.{part_leaves, own_parts_have_accounts}
+use Rattle.gu_tree.proofs.Vocabulary.{IsTrue, refl, head_of, part_leaves, own_parts_have_accounts}
 use Rattle.gu_tree.proofs.Parts.{at_fact, some_and}
 use Rattle.gu_tree.proofs.ShowsChanges.{split-shows}
 use Rattle.gu_tree.proofs.Splits.{Ready, ready-tree}

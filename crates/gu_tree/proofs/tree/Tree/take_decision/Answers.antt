@@ -1,8 +1,5 @@
-use Rattle.std.proofs.Common.{◌≡◌, refl}
-use Rattle.gu_tree.specs.Rose.{head_of}
-use Rattle.gu_tree.specs.Paths.{node_at, edit_at}
-use Rattle.gu_tree.specs.Changes.{offer_node, stand_path, IsLeaf}
-use Rattle.gu_tree.proofs.Inverses.{cut-tree}
+use Rattle.gu_tree.proofs.Vocabulary.{◌≡◌, arith, refl, head_of, node_at, edit_at, offer_node, offered_head, stand_path, IsLeaf}
+use Rattle.gu_tree.proofs.Inverses.{lesser-tree, named-cut}
 use Rattle.gu_tree.proofs.Parts.{some_and, at_there}
 use Rattle.gu_tree.proofs.ShowsLess.{stand-there, has_stand, decided-leaf, decided-moves, taken-shows}
 use Rattle.gu_tree.proofs.tree.Tree.take_decision.Goals as goal
@@ -34,7 +31,8 @@ invariant_of-self g c =
     let v = some_and _ _ c.requires.decided in
     let u = some_and (λ x. c.offer_at.new.self ≡ edit_at (offer_node (head_of x).place) c.args.path.now.items c.args.self.now)
     (node_at (stand_path c.args.stand c.args.path.now.items) c.args.self.now) (returns-clause-node g c) in
-    cut-tree (offer_node (head_of u.0).place) c.args.path.now.items c.args.self.now v.0 _ _ v.1 refl refl
+    let h = offered_head (head_of u.0).place (head_of v.0) in
+    lesser-tree (offer_node (head_of u.0).place) c.args.path.now.items c.args.self.now v.0 _ v.1 (omega arith) (λ name. named-cut name h v.0 refl)
     (λ held. absurd (decided-moves c.args.stand v.0 v.2 held)) u.2 (rw c.self.view_is at c.self.invariant)
 
 pub returns-clause-shows : goal.returns-clause-shows

@@ -33,14 +33,8 @@ push-requires g c =
     let step = rw c.in-Some-part.is at c.part-2.ensures.found in
     (omega arith, omega (arith, low, next-height (c.args.name.part - 1) c.in-Some-named.above.node.now c.in-Some-part.node.now step))
 
-pub returns-clause-found : goal.returns-clause-found
-returns-clause-found g c =
+pub returns : goal.returns
+returns g c =
     let n = next-there c.args.self.now c.args.name c.in-Some-named.above.trade c.named.new.path.items c.in-Some-named.above.node.now (rw c.in-Some-named.is at c.named.ensures.node)
     c.in-Some-part.node.now (rw c.in-Some-part.is at c.part-2.ensures.found) (rw c.in-Some-part.is at c.part-2.ensures.name) in
-    rw (c.push.ensures.items, c.part-3.ensures.value) n.place
-
-pub returns-clause-node : goal.returns-clause-node
-returns-clause-node g c =
-    let n = next-there c.args.self.now c.args.name c.in-Some-named.above.trade c.named.new.path.items c.in-Some-named.above.node.now (rw c.in-Some-named.is at c.named.ensures.node)
-    c.in-Some-part.node.now (rw c.in-Some-part.is at c.part-2.ensures.found) (rw c.in-Some-part.is at c.part-2.ensures.name) in
-    rw (c.push.ensures.items, c.part-3.ensures.value) n.node
+    rw (c.push.ensures.items, c.part-3.ensures.value) (record { found = n.place; node = n.node; absent = tt })
