@@ -1,8 +1,7 @@
 -- Lists cut at the first element that passes, and lists without those that pass.
-use Rattle.gu_depend.proofs.Vocabulary.{◌≡◌, ℕ, zero, ◌≤◌, Bool, true, false, not, List, [], ◌∷◌, ◌++◌, refl, sym, ◌∙◌, ap, arith, cond}
-use Rattle.gu_depend.proofs.Vocabulary.{IsPermutation, Contains, All, Some, None, find, filter, count_by, All-nil, All-cons, All-head, All-tail, All-weaker, filter-append}
-use Rattle.gu_depend.proofs.Vocabulary.{Contains-append_right, nothing_here, false_from_ne_true, same_Some}
-use Rattle.std.proofs.lemmas.List.Elements.{filter_passes}
+use Rattle.gu_depend.proofs.Vocabulary.{◌≡◌, ℕ, zero, ◌≤◌, Bool, true, false, not, List, [], ◌∷◌, ◌++◌, refl, sym, ◌∙◌, ap, arith, cond, IsPermutation, Contains, All}
+use Rattle.gu_depend.proofs.Vocabulary.{Some, None, find, filter, count_by, All-nil, All-cons, All-head, All-tail, filter-append, Contains-append_right, nothing_here, false_from_ne_true}
+use Rattle.gu_depend.proofs.Vocabulary.{same_Some, inl, inr, cases_Bool}
 use Rattle.std.proofs.lemmas.List.Sorted.{IsPermutation-middle, IsPermutation-to_front, IsPermutation-sym, IsPermutation-trans}
 use Rattle.gu_depend.proofs.Finds.{count_append, count_cons, counts_none}
 
@@ -14,21 +13,19 @@ pub record FirstCut {X : Type 0} (p : X → Bool) (xs : List X) (x : X) : Type 0
   pub before : List X
   pub behind : List X
   pub is : xs ≡ before ++ x ∷ behind
-  pub none : All (λ y. p y ≡ false) before
+  pub none : find p before ≡ None
   pub passes : p x ≡ true
-
-first_cut_at : {X : Type 0} (p : X → Bool) (y : X) (ys : List X) (x : X) → (find p ys ≡ Some x → FirstCut p ys x) → (b : Bool) → p y ≡ b → cond b (Some y) (find p ys) ≡ Some x
-    → FirstCut p (y ∷ ys) x
-first_cut_at p y ys x later true e h =
-    let one : y ≡ x = same_Some y x h in
-    record { before = []; behind = ys; is = ap (λ z. z ∷ ys) one; none = All-nil (λ z. p z ≡ false); passes = sym (ap p one) ∙ e }
-first_cut_at p y ys x later false e h =
-    let c = later h in
-    record { before = y ∷ c.before; behind = c.behind; is = ap (λ zs. y ∷ zs) c.is; none = All-cons (λ z. p z ≡ false) y c.before e c.none; passes = c.passes }
 
 pub first_cut : {X : Type 0} (p : X → Bool) (xs : List X) (x : X) → find p xs ≡ Some x → FirstCut p xs x
 first_cut p [] x h = absurd (cc)
-first_cut p (y ∷ ys) x h = first_cut_at p y ys x (first_cut p ys x) (p y) refl h
+first_cut p (y ∷ ys) x h = elim (cases_Bool (p y)) [
+  | inl is ↦ (
+      let one = same_Some y x (sym (ap (λ b. cond b (Some y) (find p ys)) is) ∙ h) in
+      record { before = []; behind = ys; is = ap (λ z. z ∷ ys) one; none = refl; passes = sym (ap p one) ∙ is })
+  | inr is ↦ (
+      let c = first_cut p ys x (sym (ap (λ b. cond b (Some y) (find p ys)) is) ∙ h) in
+      record { before = y ∷ c.before; behind = c.behind; is = ap (λ zs. y ∷ zs) c.is; none = ap (λ b. cond b (Some y) (find p c.before)) is ∙ c.none; passes = c.passes })
+]
 
 -- where none is found, none passes, and the other way round
 pub none_passes : {X : Type 0} (p : X → Bool) (xs : List X) → find p xs ≡ None → All (λ z. p z ≡ false) xs
@@ -57,22 +54,22 @@ filter_one p xs x ys passes once =
     ∙ (ap (λ zs. zs ++ filter (λ x. not (p x)) (x ∷ ys)) before
     ∙ ap (λ zs. xs ++ zs) (ap (λ b. cond (not b) (x ∷ filter (λ x. not (p x)) ys) (filter (λ x. not (p x)) ys)) passes ∙ behind))
 
+-- where all that pass are kept, what is found stays, and where all are left out, none is found
+pub find_filter : {X : Type 0} (p q : X → Bool) (b : Bool) (xs : List X) → ((x : X) → p x ≡ true → q x ≡ b) → find p (filter q xs) ≡ cond b (find p xs) None
+find_filter p q true [] each = refl
+find_filter p q false [] each = refl
+find_filter p q b (x ∷ xs) each = at (q x) b (each x) (find_filter p q b xs each)
+  where
+    at : (kept b : Bool) → (p x ≡ true → kept ≡ b) → find p (filter q xs) ≡ cond b (find p xs) None
+        → find p (cond kept (x ∷ filter q xs) (filter q xs)) ≡ cond b (find p (x ∷ xs)) None
+    at true true same later = ap (cond (p x) (Some x)) later
+    at true false same later = ap (λ a. cond a (Some x) (find p (filter q xs))) (false_from_ne_true (p x) (λ h. let no : true ≡ false = same h in cc)) ∙ later
+    at false true same later = later ∙ sym (ap (λ a. cond a (Some x) (find p xs)) (false_from_ne_true (p x) (λ h. let no : false ≡ true = same h in cc)))
+    at false false same later = later
+
 -- what is left out isn't found
 pub gone_from : {X : Type 0} (p : X → Bool) (xs : List X) → find p (filter (λ x. not (p x)) xs) ≡ None
-gone_from p xs =
-    let rest = filter (λ x. not (p x)) xs in
-    none_found p rest (All-weaker (λ x. not (p x) ≡ true) (λ x. p x ≡ false)
-    (λ x h. false_from_ne_true (p x) (λ t. let no : false ≡ true = sym (ap not t) ∙ h in cc)) rest (filter_passes (λ x. not (p x)) xs))
-
-kept_at : {X : Type 0} (p : X → Bool) (x : X) (rest xs : List X) → find p rest ≡ find p xs → (b : Bool) → (p x ≡ true → b ≡ true)
-    → find p (cond b (x ∷ rest) rest) ≡ cond (p x) (Some x) (find p xs)
-kept_at p x rest xs same true kept = ap (cond (p x) (Some x)) same
-kept_at p x rest xs same false kept = same ∙ sym (ap (λ b. cond b (Some x) (find p xs)) (false_from_ne_true (p x) (λ h. let no : false ≡ true = kept h in cc)))
-
--- and where all that pass are kept, what is found stays
-pub find_kept : {X : Type 0} (p q : X → Bool) (xs : List X) → ((x : X) → p x ≡ true → q x ≡ true) → find p (filter q xs) ≡ find p xs
-find_kept p q [] kept = refl
-find_kept p q (x ∷ xs) kept = kept_at p x (filter q xs) xs (find_kept p q xs kept) (q x) (kept x)
+gone_from p xs = find_filter p (λ x. not (p x)) false xs (λ x passes. ap not passes)
 
 -- the element moved to the end
 pub moved_to_end : {X : Type 0} (xs : List X) (x : X) (ys : List X) → IsPermutation (xs ++ x ∷ ys) ((xs ++ ys) ++ x ∷ [])

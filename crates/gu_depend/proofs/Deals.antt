@@ -1,30 +1,28 @@
 -- What changes deal under the terms of a giver and a taker.
 use Rattle.gu_depend.proofs.Vocabulary.{◌≡◌, ℕ, ◌+◌, Bool, true, false, not, ◌&&◌, List, [], ◌∷◌, ◌++◌, refl, sym, ◌∙◌, ap, subst, cond, Option, All, append-nil}
-use Rattle.gu_depend.proofs.Vocabulary.{Some, None, filter_map, option_map, option_and_then, bytes_eq, ◌==◌, ◌↔◌, cons_option, and_parts, All-head, All-tail, All-weaker, filter_map-append}
-use Rattle.gu_depend.proofs.Vocabulary.{same_Some, bytes_eq-Decides, EntryPart, House, agreement, node_of, is_given, use_of_kind, use_of_node, deed_of, dealing_of, dealings_in, dealings}
-use Rattle.gu_depend.proofs.Vocabulary.{terms_under, limit_of, used_of, leave_out, first_over, first_over_without, first_under_terms, first_under_deed, row, claim_row, raised_row, limit_row}
-use Rattle.gu_depend.proofs.Vocabulary.{limit_by, used_by, without, bytes_same, Agreement, Deed, Makes, Raises, Uses, Dealing, Pair, Command, Claim, Agree, Raise, Record, Kind, Given, Node, no_some}
-use Rattle.gu_depend.proofs.Vocabulary.{may_use, fits, AllFit, first_unfit, name_same, at_node_none, claim_passes, agree_passes, raise_passes}
+use Rattle.gu_depend.proofs.Vocabulary.{Some, None, filter_map, option_map, option_and_then, bytes_eq, ◌==◌, ◌↔◌, cons_option, and_parts, All-head, All-tail, All-weaker}
+use Rattle.gu_depend.proofs.Vocabulary.{filter_map-append, same_Some, bytes_eq-Decides, EntryPart, House, agreement, node_of, is_given, use_of_kind, use_of_node, deed_of, dealing_of, dealings_in}
+use Rattle.gu_depend.proofs.Vocabulary.{dealings, terms_under, limit_of, used_of, leave_out, first_over, first_under_deed, row, claim_row, raised_row, limit_row, limit_by, used_by, without}
+use Rattle.gu_depend.proofs.Vocabulary.{bytes_same, Agreement, Deed, Makes, Raises, Uses, Dealing, Pair, Command, Claim, Agree, Raise, Record, Kind, Given, Node, no_some, may_use, fits, AllFit}
+use Rattle.gu_depend.proofs.Vocabulary.{first_unfit, name_same, claim_passes, agree_passes, raise_passes, at_node, pair_of_kind, pair_of, deals_under, cond_both}
 use Rattle.gu_depend.proofs.Grown.{ThereFor, Within, NamesThere, Grown}
 use Rattle.gu_base.proofs.Accepted.{unless_none}
 use Rattle.gu_base.proofs.Dealt.{may_raise, unfit_none, fit_without_use, unfit_without_raise, unfit_without_terms}
 use Rattle.gu_base.proofs.Passing.{none_unless}
-use Rattle.gu_depend.specs.Terms.{pair_of_kind, pair_of}
-use Rattle.gu_depend.specs.Under.{deals_under}
+use Rattle.gu_depend.proofs.Finds.{and_then_told}
+use Rattle.std.proofs.lemmas.Option.{cond_some}
 
 -- ---- pairs
 
 pub both_same : (g k : List ℕ) → (bytes_eq g g && bytes_eq k k) ≡ true
 both_same g k = ap (λ b. b && bytes_eq k k) (bytes_same g) ∙ bytes_same k
 
--- what is given where both are the giver and the taker is given for them alone
-pub of_pair : (g k x y : List ℕ) (e d : Deed) (b : Bool) → (bytes_eq x g && bytes_eq y k) ≡ b → cond b (Some e) None ≡ Some d → (x ≡ g) × ((y ≡ k) × (e ≡ d))
-of_pair g k x y e d true is h = let p = and_parts (bytes_eq x g) (bytes_eq y k) is in ((bytes_eq-Decides x g).0 p.0, ((bytes_eq-Decides y k).0 p.1, same_Some e d h))
-of_pair g k x y e d false is h = absurd (cc)
-
--- so what holds of the ones holds of the others
+-- what holds of a pair and its deed holds of the two for whom it is given
 pub given_for : (P : List ℕ → List ℕ → Deed → Type 0) (g k x y : List ℕ) (e d : Deed) → cond (bytes_eq x g && bytes_eq y k) (Some e) None ≡ Some d → P x y e → P g k d
-given_for P g k x y e d h held = let p = of_pair g k x y e d (bytes_eq x g && bytes_eq y k) refl h in subst (P g k) p.1.1 (subst (λ z. P g z e) p.1.0 (subst (λ z. P z y e) p.0 held))
+given_for P g k x y e d h held =
+    let c = cond_some (bytes_eq x g && bytes_eq y k) e d h in
+    let p = and_parts (bytes_eq x g) (bytes_eq y k) c.0 in
+    subst (P g k) c.1 (subst (λ z. P g z e) ((bytes_eq-Decides y k).0 p.1) (subst (λ z. P z y e) ((bytes_eq-Decides x g).0 p.0) held))
 
 -- ---- the deed of a change, in lists of which one has some of the changes of the other
 
@@ -63,6 +61,10 @@ dealings_cut l p r s g k o e = dealings_append l p (r ∷ s) g k ∙ ap (λ o. d
 pub dealings_idle : (l p : List Record) (r : Record) (g k : List ℕ) → deed_of l g k r.firm r.command ≡ None → dealings_in l (p ++ r ∷ []) g k ≡ dealings_in l p g k
 dealings_idle l p r g k e = dealings_cut l p r [] g k None e ∙ append-nil (dealings_in l p g k)
 
+pub not_empty : (before : List Dealing) (d : Dealing) (behind : List Dealing) → [] ≡ before ++ d ∷ behind → ⊥
+not_empty [] d behind e = cc
+not_empty (x ∷ before) d behind e = cc
+
 -- ---- what is accepted fits
 
 pub raised_may : (lots : ℕ) (o : Option ℕ) → (raised_row lots o ≡ None) ↔ (may_raise lots o ≡ true)
@@ -73,24 +75,35 @@ used_may : (lots : ℕ) (o : Option ℕ) → (limit_row lots o ≡ None) ↔ (ma
 used_may lots None = (λ h. absurd (cc), λ h. absurd (cc))
 used_may lots (Some limit) = (λ h. unless_none _ _ h, λ h. none_unless _ _ h)
 
-abbrev Fits : House → List Record → List ℕ → List ℕ → Deed → Type 0
-Fits t b g k d = fits (agreement t g k) (dealings b g k) d ≡ true
+abbrev pub pair : List ℕ → List ℕ → Option Pair
+pair g k = Some (record { giver = g; taker = k })
 
-use_fits : (t : House) (b : List Record) (g k : List ℕ) (lots : ℕ) (kind : Kind) (d : Deed) → use_of_kind g k lots kind ≡ Some d
-    → limit_row (used_by b kind + lots) (limit_by t b kind) ≡ None
-    → fits (agreement t g k) (dealings b g k) d ≡ true
-use_fits t b g k lots (Given m x y) d deals h = given_for (Fits t b) g k x y (Uses lots) d deals ((used_may (used_of b x y + lots) (limit_of t b x y)).0 h)
-use_fits t b g k lots _ d deals h = absurd (cc)
+-- a command with this deed is of this pair, stands under what its deed stands under, and fits where it is accepted
+pub record IsDeal (l : List Record) (by : List ℕ) (c : Command) (g k : List ℕ) (d : Deed) : Type 0 where
+  pub of : pair_of l by c ≡ pair g k
+  pub under : (t : House) (n : ℕ) → deals_under t l n by c ≡ first_under_deed (agreement t g k) (dealings l g k) n d
+  pub fit : (t : House) → row t l by c ≡ None → fits (agreement t g k) (dealings l g k) d ≡ true
 
-pub row_fits : (t : House) (b : List Record) (g k by : List ℕ) (c : Command) (d : Deed) → row t b by c ≡ None → deed_of b g k by c ≡ Some d
-    → fits (agreement t g k) (dealings b g k) d ≡ true
-row_fits t b g k by (Claim n account) d h deals =
-    let there = at_node_none (claim_row t b by account) (node_of b n) h in
-    let passes = claim_passes t b by account there.0 there.1.1 in
-    use_fits t b g k there.0.lots there.0.kind d (sym (ap (option_and_then (use_of_node g k)) there.1.0) ∙ deals) passes.2
-row_fits t b g k by (Agree x y rate limit) d h deals = given_for (Fits t b) g k x y (Makes (record { rate = rate; limit = limit })) d deals (agree_passes t b by x y rate limit h).1
-row_fits t b g k by (Raise x lots) d h deals = given_for (Fits t b) g k x by (Raises lots) d deals ((raised_may lots (limit_of t b x by)).0 (raise_passes t b by x lots h).1)
-row_fits t b g k by _ d h deals = absurd (cc)
+pub deal : (l : List Record) (by : List ℕ) (c : Command) (g k : List ℕ) (d : Deed) → deed_of l g k by c ≡ Some d → IsDeal l by c g k d
+deal l by (Agree x y rate limit) g k d h =
+    given_for (IsDeal l by (Agree x y rate limit)) g k x y (Makes (record { rate = rate; limit = limit })) d h
+    (record { of = refl; under = λ t n. refl; fit = λ t h. (agree_passes t l by x y rate limit h).1 })
+deal l by (Raise x lots) g k d h =
+    given_for (IsDeal l by (Raise x lots)) g k x by (Raises lots) d h
+    (record { of = refl; under = λ t n. refl; fit = λ t h. (raised_may lots (limit_of t l x by)).0 (raise_passes t l by x lots h).1 })
+deal l by (Claim n account) g k d h = let x = and_then_told (use_of_node g k) (node_of l n) d h in of_kind x.0 x.1.0 x.0.kind refl x.1.1
+  where
+    of_kind : (x : Node) → node_of l n ≡ Some x → (kind : Kind) → x.kind ≡ kind → use_of_kind g k x.lots kind ≡ Some d → IsDeal l by (Claim n account) g k d
+    of_kind x there (Given m a b) is h =
+        given_for (IsDeal l by (Claim n account)) g k a b (Uses x.lots) d h (record {
+          of = ap (option_and_then (λ x. pair_of_kind x.kind)) there ∙ ap pair_of_kind is;
+          under = λ t n. refl;
+          fit = λ t h.
+              let passes = claim_passes t l by account x (subst (λ o. at_node (claim_row t l by account) o ≡ None) there h) in
+              (used_may (used_of l a b + x.lots) (limit_of t l a b)).0 (subst (λ z. limit_row (used_by l z + x.lots) (limit_by t l z) ≡ None) is passes.2);
+        })
+    of_kind x there _ is h = absurd (cc)
+deal l by _ g k d h = absurd (cc)
 
 -- and what fits is within the limit
 pub claim_within : (t : House) (l b : List Record) (n : EntryPart) (by account : List ℕ) (x : Node) → node_of l n ≡ Some x
@@ -103,28 +116,6 @@ claim_within t l b n by account x found fit _ is given = absurd (cc)
 
 -- ---- whom a change deals with
 
--- what a claim deals is a use
-use_of_claim : (l : List Record) (g k by account : List ℕ) (n : EntryPart) (d : Deed) → deed_of l g k by (Claim n account) ≡ Some d → (lots : ℕ) × (Uses lots ≡ d)
-use_of_claim l g k by account n d h = of_node (node_of l n) h
-  where
-    of_kind : (lots : ℕ) (kind : Kind) → use_of_kind g k lots kind ≡ Some d → (lots : ℕ) × (Uses lots ≡ d)
-    of_kind lots (Given m x y) h = (lots, (of_pair g k x y (Uses lots) d (bytes_eq x g && bytes_eq y k) refl h).1.1)
-    of_kind lots _ h = absurd (cc)
-
-    of_node : (o : Option Node) → option_and_then (use_of_node g k) o ≡ Some d → (lots : ℕ) × (Uses lots ≡ d)
-    of_node None h = absurd (cc)
-    of_node (Some x) h = of_kind x.lots x.kind h
-
--- what an Agree, a Raise or a Claim stands under, by its deed
-pub deal_is : (t : House) (l : List Record) (g k : List ℕ) (n : ℕ) (by : List ℕ) (c : Command) (d : Deed) → deed_of l g k by c ≡ Some d
-    → deals_under t l n by c ≡ first_under_deed (agreement t g k) (dealings l g k) n d
-deal_is t l g k n by (Agree x y rate limit) d deals =
-    given_for (λ g k e. first_under_terms (dealings l x y) ≡ first_under_deed (agreement t g k) (dealings l g k) n e) g k x y (Makes (record { rate = rate; limit = limit })) d deals refl
-deal_is t l g k n by (Raise x lots) d deals =
-    given_for (λ g k e. first_over_without (agreement t x by) (dealings l x by) n ≡ first_under_deed (agreement t g k) (dealings l g k) n e) g k x by (Raises lots) d deals refl
-deal_is t l g k n by (Claim m account) d deals = ap (first_under_deed (agreement t g k) (dealings l g k) n) (use_of_claim l g k by account m d deals).1
-deal_is t l g k n by _ d deals = absurd (cc)
-
 -- what stands under terms deals for a giver and a taker
 pub deals_some : (t : House) (l : List Record) (n : ℕ) (by : List ℕ) (c : Command) (m : ℕ) → deals_under t l n by c ≡ Some m
     → (g : List ℕ) × (k : List ℕ) × (d : Deed) × (deed_of l g k by c ≡ Some d)
@@ -136,106 +127,38 @@ deals_some t l n by _ m h = absurd (cc)
 pub at_pair : (P : List ℕ → List ℕ → Type 0) (g k x y : List ℕ) → (g ≡ x) × (k ≡ y) → P g k → P x y
 at_pair P g k x y same held = subst (P x) same.1 (subst (λ z. P z k) same.0 held)
 
-abbrev pub pair : List ℕ → List ℕ → Option Pair
-pair g k = Some (record { giver = g; taker = k })
-
--- whoever deals for a giver and a taker is of that pair
-pub pair_of_deed : (l : List Record) (g k by : List ℕ) (c : Command) (d : Deed) → deed_of l g k by c ≡ Some d → pair_of l by c ≡ pair g k
-pair_of_deed l g k by (Agree x y rate limit) d h = given_for (λ g k _. pair x y ≡ pair g k) g k x y (Makes (record { rate = rate; limit = limit })) d h refl
-pair_of_deed l g k by (Raise x lots) d h = given_for (λ g k _. pair x by ≡ pair g k) g k x by (Raises lots) d h refl
-pair_of_deed l g k by (Claim n account) d h = of_node (node_of l n) h
-  where
-    of_kind : (lots : ℕ) (kind : Kind) → use_of_kind g k lots kind ≡ Some d → pair_of_kind kind ≡ pair g k
-    of_kind lots (Given m x y) h = given_for (λ g k _. pair x y ≡ pair g k) g k x y (Uses lots) d h refl
-    of_kind lots _ h = absurd (cc)
-
-    of_node : (o : Option Node) → option_and_then (use_of_node g k) o ≡ Some d → option_and_then (λ x. pair_of_kind x.kind) o ≡ pair g k
-    of_node None h = absurd (cc)
-    of_node (Some x) h = of_kind x.lots x.kind h
-pair_of_deed l g k by _ d h = absurd (cc)
-
 pub pair_told : (p q : Pair) → Some p ≡ Some q → (p.giver ≡ q.giver) × (p.taker ≡ q.taker)
 pair_told p q e = let one : p ≡ q = same_Some p q e in (ap (λ (z : Pair). z.giver) one, ap (λ (z : Pair). z.taker) one)
 
 -- a change deals for one giver and one taker
 pub same_pair : (l : List Record) (g k x y by : List ℕ) (c : Command) (d f : Deed) → deed_of l g k by c ≡ Some d → deed_of l x y by c ≡ Some f → (g ≡ x) × (k ≡ y)
-same_pair l g k x y by c d f a b = pair_told (record { giver = g; taker = k }) (record { giver = x; taker = y }) (sym (pair_of_deed l g k by c d a) ∙ pair_of_deed l x y by c f b)
+same_pair l g k x y by c d f a b = pair_told (record { giver = g; taker = k }) (record { giver = x; taker = y }) (sym (deal l by c g k d a).of ∙ (deal l by c x y f b).of)
 
 -- and for the others nothing
 pub undealt : (l : List Record) (x y by : List ℕ) (c : Command) → (pair_of l by c ≡ pair x y → ⊥) → deed_of l x y by c ≡ None
-undealt l x y by c other = no_some (deed_of l x y by c) (λ d e. other (pair_of_deed l x y by c d e))
+undealt l x y by c other = no_some (deed_of l x y by c) (λ d e. other (deal l by c x y d e).of)
 
 -- ---- one left out
 
-unfit_by : (file : Option Agreement) (xs : List Dealing) (k : Dealing) (ys : List Dealing) → AllFit file [] (xs ++ k ∷ ys) → leave_out k.number (xs ++ k ∷ ys) ≡ xs ++ ys
-    → (e : Deed) → k.deed ≡ e → first_unfit file [] (xs ++ ys) ≡ first_under_deed file (xs ++ k ∷ ys) k.number e
-unfit_by file xs k ys all left (Makes a) is = unfit_without_terms file xs k ys a is all
-unfit_by file xs k ys all left (Raises lots) is =
-    unfit_without_raise file xs k ys lots is all ∙ sym (ap (λ z. option_and_then (λ (a : Agreement). first_over a.limit 0 z) (terms_under file (xs ++ k ∷ ys))) left)
-unfit_by file xs k ys all left (Uses lots) is = unfit_none file [] (xs ++ ys) (fit_without_use file xs k ys lots is all)
-
 -- without one of them, the first that doesn't fit is the first that stands on it
 pub unfit_without : (file : Option Agreement) (xs : List Dealing) (k : Dealing) (ys : List Dealing) → AllFit file [] (xs ++ k ∷ ys) → leave_out k.number (xs ++ k ∷ ys) ≡ xs ++ ys
-    → first_unfit file [] (xs ++ ys) ≡ first_under_deed file (xs ++ k ∷ ys) k.number k.deed
-unfit_without file xs k ys all left = unfit_by file xs k ys all left k.deed refl
-
-left_step : (l : List Record) (g k : List ℕ) (n : ℕ) (r : Record) (b : List Record) → leave_out n (dealings_in l b g k) ≡ dealings_in l (without b n) g k
-    → (o : Option Deed) → deed_of l g k r.firm r.command ≡ o → (test : Bool) → (r.number == n) ≡ test
-    → leave_out n (dealt r o (dealings_in l b g k)) ≡ dealings_in l (cond (not test) (r ∷ without b n) (without b n)) g k
-left_step l g k n r b rest None e true is = rest
-left_step l g k n r b rest None e false is = rest ∙ sym (ap (λ o. dealt r o (dealings_in l (without b n) g k)) e)
-left_step l g k n r b rest (Some d) e true is = ap (λ b0. cond (not b0) (numbered r d ∷ leave_out n (dealings_in l b g k)) (leave_out n (dealings_in l b g k))) is ∙ rest
-left_step l g k n r b rest (Some d) e false is =
-    ap (λ b0. cond (not b0) (numbered r d ∷ leave_out n (dealings_in l b g k)) (leave_out n (dealings_in l b g k))) is
-    ∙ (ap (λ z. numbered r d ∷ z) rest ∙ sym (ap (λ o. dealt r o (dealings_in l (without b n) g k)) e))
+    → (e : Deed) → k.deed ≡ e → first_unfit file [] (xs ++ ys) ≡ first_under_deed file (xs ++ k ∷ ys) k.number e
+unfit_without file xs k ys all left (Makes a) is = unfit_without_terms file xs k ys a is all
+unfit_without file xs k ys all left (Raises lots) is =
+    unfit_without_raise file xs k ys lots is all ∙ sym (ap (λ z. option_and_then (λ (a : Agreement). first_over a.limit 0 z) (terms_under file (xs ++ k ∷ ys))) left)
+unfit_without file xs k ys all left (Uses lots) is = unfit_none file [] (xs ++ ys) (fit_without_use file xs k ys lots is all)
 
 -- the dealings but the one of a number are those of the changes without it
 pub left_out : (l : List Record) (g k : List ℕ) (n : ℕ) (b : List Record) → leave_out n (dealings_in l b g k) ≡ dealings_in l (without b n) g k
 left_out l g k n [] = refl
-left_out l g k n (r ∷ b) = left_step l g k n r b (left_out l g k n b) (deed_of l g k r.firm r.command) refl (r.number == n) refl
+left_out l g k n (r ∷ b) = at (deed_of l g k r.firm r.command) ∙ along (not (r.number == n)) (left_out l g k n b)
+  where
+    at : (o : Option Deed) → leave_out n (dealt r o (dealings_in l b g k)) ≡ cond (not (r.number == n)) (dealt r o (leave_out n (dealings_in l b g k))) (leave_out n (dealings_in l b g k))
+    at None = cond_both (not (r.number == n)) (leave_out n (dealings_in l b g k)) (leave_out n (dealings_in l b g k)) (λ ds. leave_out n (dealings_in l b g k) ≡ ds) (λ _. refl) (λ _. refl)
+    at (Some d) = refl
 
--- ---- the change behind a dealing
-
-pub record DealCut (l among : List Record) (g k : List ℕ) (before : List Dealing) (d : Dealing) : Type 0 where
-  pub front : List Record
-  pub change : Record
-  pub behind : List Record
-  pub is : among ≡ front ++ change ∷ behind
-  pub deals : dealings_in l front g k ≡ before
-  pub deed_is : deed_of l g k change.firm change.command ≡ Some d.deed
-  pub number : change.number ≡ d.number
-
-pub not_empty : (before : List Dealing) (d : Dealing) (behind : List Dealing) → [] ≡ before ++ d ∷ behind → ⊥
-not_empty [] d behind e = cc
-not_empty (x ∷ before) d behind e = cc
-
--- behind one change more, which deals this
-cut_over : (l : List Record) (g k : List ℕ) (r : Record) (rest : List Record) (d : Dealing) (before : List Dealing) (o : Option Deed) → deed_of l g k r.firm r.command ≡ o
-    → DealCut l rest g k before d → DealCut l (r ∷ rest) g k (dealt r o before) d
-cut_over l g k r rest d before o e c = record {
-  front = r ∷ c.front;
-  change = c.change;
-  behind = c.behind;
-  is = ap (λ z. r ∷ z) c.is;
-  deals = ap (λ o. dealt r o (dealings_in l c.front g k)) e ∙ ap (dealt r o) c.deals;
-  deed_is = c.deed_is;
-  number = c.number;
-}
-
-cut_step : (l : List Record) (g k : List ℕ) (r : Record) (rest : List Record) (d : Dealing) (behind : List Dealing)
-    → ((before : List Dealing) → dealings_in l rest g k ≡ before ++ d ∷ behind → DealCut l rest g k before d)
-    → (o : Option Deed) → deed_of l g k r.firm r.command ≡ o → (before : List Dealing) → dealt r o (dealings_in l rest g k) ≡ before ++ d ∷ behind
-    → DealCut l (r ∷ rest) g k before d
-cut_step l g k r rest d behind later None e before h = cut_over l g k r rest d before None e (later before h)
-cut_step l g k r rest d behind later (Some f) e [] h =
-    let one : numbered r f ≡ d = cc in
-    record { front = []; change = r; behind = rest; is = refl; deals = refl; deed_is = e ∙ ap (λ (z : Dealing). Some z.deed) one; number = ap (λ (z : Dealing). z.number) one }
-cut_step l g k r rest d behind later (Some f) e (x ∷ before) h =
-    let one : numbered r f ≡ x = cc in
-    let tail : dealings_in l rest g k ≡ before ++ d ∷ behind = cc in
-    subst (λ z. DealCut l (r ∷ rest) g k (z ∷ before) d) one (cut_over l g k r rest d before (Some f) e (later before tail))
-
-pub deal_cut : (l among : List Record) (g k : List ℕ) (before : List Dealing) (d : Dealing) (behind : List Dealing) → dealings_in l among g k ≡ before ++ d ∷ behind
-    → DealCut l among g k before d
-deal_cut l [] g k before d behind h = absurd (not_empty before d behind h)
-deal_cut l (r ∷ rest) g k before d behind h = cut_step l g k r rest d behind (λ before h. deal_cut l rest g k before d behind h) (deed_of l g k r.firm r.command) refl before h
+    along : (kept : Bool) → leave_out n (dealings_in l b g k) ≡ dealings_in l (without b n) g k
+        → cond kept (dealt r (deed_of l g k r.firm r.command) (leave_out n (dealings_in l b g k))) (leave_out n (dealings_in l b g k))
+        ≡ dealings_in l (cond kept (r ∷ without b n) (without b n)) g k
+    along true rest = ap (dealt r (deed_of l g k r.firm r.command)) rest
+    along false rest = rest

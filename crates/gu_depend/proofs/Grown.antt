@@ -1,11 +1,10 @@
 -- A list of changes that has some of the changes of another, each behind what it stands on: what it says of a node is what the
 -- other says.
-use Rattle.gu_depend.proofs.Vocabulary.{Command, ◌≡◌, ℕ, zero, suc, ◌+◌, ◌≤◌, true, false, ◌||◌, List, [], ◌∷◌, ◌++◌, length, refl, sym, ◌∙◌, ap, subst, arith}
-use Rattle.gu_depend.proofs.Vocabulary.{Option, All, length-append, Some, None, option_and_then, option_map, unwrap_or, bytes_eq, option_or, All-nil, All-push, All-weaker, All-contains, EntryPart}
-use Rattle.gu_depend.proofs.Vocabulary.{node_of, decision_of, claim_of, claimed_account, parent, splits, decides, line_within, line_of, place_of_kind, place_along, place_of, depth_of, owns, Record}
-use Rattle.gu_depend.proofs.Vocabulary.{Node, node_more, node_called, made_of, node_cut, none_is_some, no_some}
+use Rattle.gu_depend.proofs.Vocabulary.{Command, ◌≡◌, ℕ, zero, suc, ◌+◌, ◌<◌, ◌≤◌, true, false, ◌||◌, List, [], ◌∷◌, ◌++◌, length, refl, sym, ◌∙◌, ap}
+use Rattle.gu_depend.proofs.Vocabulary.{subst, arith, append-nil, append_assoc, inl, inr, none_or_some, Option, All, length-append, Some, None, option_and_then, option_map, unwrap_or, bytes_eq}
+use Rattle.gu_depend.proofs.Vocabulary.{option_or, All-nil, All-push, All-weaker, All-contains, EntryPart, node_of, decision_of, claim_of, claimed_account, parent, splits, decides, line_within}
+use Rattle.gu_depend.proofs.Vocabulary.{line_of, place_of_kind, place_along, place_of, depth_of, owns, Record, Node, node_more, node_called, made_of, node_cut, none_is_some, no_some, names}
 use Rattle.std.proofs.Common.{◌-◌}
-use Rattle.gu_depend.specs.Under.{names}
 use Rattle.gu_depend.proofs.Finds.{find_more}
 use Rattle.gu_depend.proofs.Names.{maker, made_by_split, made_alone}
 
@@ -24,6 +23,24 @@ NamesThere b r = ThereFor b r.command
 -- a Split stands behind the decision of its node
 abbrev pub SplitsDecided : List Record → List Record → Record → Type 0
 SplitsDecided l b r = (n : EntryPart) → splits n r.command ≡ true → decision_of b n ≡ decision_of l n
+
+-- a change follows what it stands on: the node that it names is there, and the node that it splits has its decision, if it ever has one
+pub record Follows (l b : List Record) (c : Command) : Type 0 where
+  pub there : ThereFor b c
+  pub decided : (n : EntryPart) → splits n c ≡ true → decision_of b n ≡ decision_of l n
+
+-- each of some changes does, behind those before it
+abbrev pub AllFollow : List Record → List Record → List Record → Type 0
+AllFollow l b [] = Unit {0}
+AllFollow l b (r ∷ rest) = Follows l b r.command × AllFollow l (b ++ r ∷ []) rest
+
+pub follow_append : (l b xs ys : List Record) → AllFollow l b xs → AllFollow l (b ++ xs) ys → AllFollow l b (xs ++ ys)
+follow_append l b [] ys first second = subst (λ z. AllFollow l z ys) (append-nil b) second
+follow_append l b (r ∷ xs) ys first second = (first.0, follow_append l (b ++ r ∷ []) xs ys first.1 (subst (λ z. AllFollow l z ys) (sym (append_assoc b (r ∷ []) xs)) second))
+
+pub follow_front : (l b xs ys : List Record) → AllFollow l b (xs ++ ys) → AllFollow l b xs
+follow_front l b [] ys all = tt
+follow_front l b (r ∷ xs) ys all = (all.0, follow_front l (b ++ r ∷ []) xs ys all.1)
 
 -- within as many steps as the list is long, each line has come to its end
 abbrev pub LinesEnd : List Record → Type 0
@@ -45,20 +62,19 @@ grown_none l = record {
   ends = λ f n x e. absurd (cc);
 }
 
-decided_more_by : (l b : List Record) (r : Record) (n : EntryPart) → Within l (b ++ r ∷ []) → (o : Option Record) → decision_of b n ≡ o → o ≡ decision_of l n
-    → decision_of (b ++ r ∷ []) n ≡ decision_of l n
-decided_more_by l b r n w None e same = no_some (decision_of (b ++ r ∷ []) n) (λ d h. none_is_some (decision_of l n) d (sym same) (w.decisions n d h)) ∙ same
-decided_more_by l b r n w (Some d) e same = find_more (λ r. decides n r.command) b (r ∷ []) d e ∙ same
-
 -- a decision that both lists have, or neither, stays so
-pub decided_more : (l b : List Record) (r : Record) (n : EntryPart) → Within l (b ++ r ∷ []) → decision_of b n ≡ decision_of l n → decision_of (b ++ r ∷ []) n ≡ decision_of l n
-decided_more l b r n w same = decided_more_by l b r n w (decision_of b n) refl same
+pub decided_more : (l b z : List Record) (n : EntryPart) → Within l (b ++ z) → decision_of b n ≡ decision_of l n → decision_of (b ++ z) n ≡ decision_of l n
+decided_more l b z n w same = elim (none_or_some (decision_of b n)) [
+  | inl none ↦ no_some (decision_of (b ++ z) n) (λ d h. none_is_some (decision_of l n) d (sym same ∙ none) (w.decisions n d h)) ∙ (sym none ∙ same)
+  | inr d ↦ find_more (λ r. decides n r.command) b z d.0 d.1 ∙ (sym d.1 ∙ same)
+]
 
-there_more : (b : List Record) (r : Record) (d : Record) → NamesThere b d → NamesThere (b ++ r ∷ []) d
-there_more b r d h n is = let x = h n is in (x.0, node_more b (r ∷ []) n x.0 x.1)
+there_more : (b z : List Record) (c : Command) → ThereFor b c → ThereFor (b ++ z) c
+there_more b z c h n is = let x = h n is in (x.0, node_more b z n x.0 x.1)
 
-splits_more : (l b : List Record) (r : Record) → Within l (b ++ r ∷ []) → (d : Record) → SplitsDecided l b d → SplitsDecided l (b ++ r ∷ []) d
-splits_more l b r w d h n is = decided_more l b r n w (h n is)
+-- and what follows its own stays behind it
+pub follows_more : (l b z : List Record) (c : Command) → Within l (b ++ z) → Follows l b c → Follows l (b ++ z) c
+follows_more l b z c w f = record { there = there_more b z c f.there; decided = λ n is. decided_more l b z n w (f.decided n is) }
 
 splits_names : (n : EntryPart) (r : Record) → splits n r.command ≡ true → names n r.command ≡ true
 splits_names n r is = ap (λ b. b || decides n r.command) is
@@ -76,61 +92,60 @@ parent_there b n m x named found up =
 
 -- where the nodes of the one list are those of the other, and what it names is there
 module _ (l b : List Record) (nodes : (n : EntryPart) (x : Node) → node_of b n ≡ Some x → node_of l n ≡ Some x) (named : All (NamesThere b) b) where
-  line_up : (f : ℕ) → ((m : EntryPart) (y : Node) → node_of b m ≡ Some y → line_within f b (Some y) ≡ line_within f l (Some y))
-      → (n : EntryPart) (x : Node) → node_of b n ≡ Some x → (o : Option EntryPart) → parent x.kind ≡ o
-      → line_within f b (option_and_then (node_of b) o) ≡ line_within f l (option_and_then (node_of l) o)
-  line_up f same n x found None e = line_none f b ∙ sym (line_none f l)
-  line_up f same n x found (Some m) e = let y = parent_there b n m x named found e in ap (line_within f b) y.1 ∙ (same m y.0 y.1 ∙ sym (ap (line_within f l) (nodes m y.0 y.1)))
-
   -- a node has the same line in both
   line_led : (f : ℕ) (n : EntryPart) (x : Node) → node_of b n ≡ Some x → line_within f b (Some x) ≡ line_within f l (Some x)
   line_led zero n x found = refl
-  line_led (suc f) n x found = ap (λ xs. x ∷ xs) (line_up f (line_led f) n x found (parent x.kind) refl)
+  line_led (suc f) n x found = ap (λ xs. x ∷ xs) (up (parent x.kind) refl (line_led f))
+    where
+      up : (o : Option EntryPart) → parent x.kind ≡ o → ((m : EntryPart) (y : Node) → node_of b m ≡ Some y → line_within f b (Some y) ≡ line_within f l (Some y))
+          → line_within f b (option_and_then (node_of b) o) ≡ line_within f l (option_and_then (node_of l) o)
+      up None e same = line_none f b ∙ sym (line_none f l)
+      up (Some m) e same = let y = parent_there b n m x named found e in ap (line_within f b) y.1 ∙ (same m y.0 y.1 ∙ sym (ap (line_within f l) (nodes m y.0 y.1)))
 
 -- one change more
 module _ (b : List Record) (r : Record) (named : All (NamesThere b) b) (ends : LinesEnd b) (there : NamesThere b r) where
   abbrev more : List Record
   more = b ++ r ∷ []
 
-  -- the line of a node that was there before ends where it ended
-  old_ends : (f : ℕ) (n : EntryPart) (x : Node) → node_of b n ≡ Some x → length b ≤ f → line_within f more (Some x) ≡ line_within (length b) b (Some x)
-  old_ends f n x found far = sym (line_led more b (node_more b (r ∷ [])) named f n x found) ∙ ends f n x found far
+  -- so many steps, or more, lead to the same line from a node that was there before
+  old_ends : (f g : ℕ) (n : EntryPart) (x : Node) → node_of b n ≡ Some x → length b ≤ f → length b ≤ g → line_within f more (Some x) ≡ line_within g more (Some x)
+  old_ends f g n x found far long =
+      let old = λ (f : ℕ). line_led more b (node_more b (r ∷ [])) named f n x found in
+      sym (old f) ∙ (ends f n x found far ∙ (sym (ends g n x found long) ∙ old g))
 
-  -- and above a node that the change makes, there are only such
-  new_up : (f : ℕ) (n : EntryPart) (x : Node) → made_of r n ≡ Some x → length b ≤ f → (o : Option EntryPart) → parent x.kind ≡ o
-      → line_within f more (option_and_then (node_of more) o) ≡ line_within (length b) more (option_and_then (node_of more) o)
-  new_up f n x makes far None e = line_none f more ∙ sym (line_none (length b) more)
-  new_up f n x makes far (Some m) e =
-      let y = there m (splits_names m r (made_by_split r n m x makes e)) in
-      let found = node_more b (r ∷ []) m y.0 y.1 in
-      ap (line_within f more) found ∙ (old_ends f m y.0 y.1 far ∙ (sym (old_ends (length b) m y.0 y.1 (omega arith)) ∙ sym (ap (line_within (length b) more) found)))
-
-  new_ends : (f k : ℕ) (n : EntryPart) (x : Node) → made_of r n ≡ Some x → k ≡ suc (length b) → k ≤ f → line_within f more (Some x) ≡ line_within k more (Some x)
-  new_ends zero k n x makes e far = absurd (omega (arith, e, far))
-  new_ends (suc f) zero n x makes e far = absurd (omega (arith, e))
-  new_ends (suc f) (suc k) n x makes e far =
-      let long : k ≡ length b = omega (arith, e) in
-      ap (λ xs. x ∷ xs) (new_up f n x makes (omega (arith, e, far)) (parent x.kind) refl ∙ ap (λ j. line_within j more (option_and_then (node_of more) (parent x.kind))) (sym long))
-
-  ends_or : (f : ℕ) (n : EntryPart) (x : Node) → length b + 1 ≤ f → length more ≡ length b + 1 → (o : Option Node) → node_of b n ≡ o → option_or o (node_of (r ∷ []) n) ≡ Some x
-      → line_within f more (Some x) ≡ line_within (length more) more (Some x)
-  ends_or f n x far long None e h = new_ends f (length more) n x (made_alone r n ∙ h) (omega (arith, long)) (omega (arith, long, far))
-  ends_or f n x far long (Some y) e h = old_ends f n x (e ∙ h) (omega (arith, far)) ∙ sym (old_ends (length more) n x (e ∙ h) (omega (arith, long)))
+  -- and from one that the change makes, since above it there are only such
+  new_ends : (f g : ℕ) (n : EntryPart) (x : Node) → made_of r n ≡ Some x → length b < f → length b < g → line_within f more (Some x) ≡ line_within g more (Some x)
+  new_ends zero g n x makes far long = absurd (omega arith)
+  new_ends (suc f) zero n x makes far long = absurd (omega arith)
+  new_ends (suc f) (suc g) n x makes far long = ap (λ xs. x ∷ xs) (up (parent x.kind) refl)
+    where
+      up : (o : Option EntryPart) → parent x.kind ≡ o → line_within f more (option_and_then (node_of more) o) ≡ line_within g more (option_and_then (node_of more) o)
+      up None e = line_none f more ∙ sym (line_none g more)
+      up (Some m) e =
+          let y = there m (splits_names m r (made_by_split r n m x makes e)) in
+          let found = node_more b (r ∷ []) m y.0 y.1 in
+          ap (line_within f more) found ∙ (old_ends f g m y.0 y.1 (omega arith) (omega arith) ∙ sym (ap (line_within g more) found))
 
   ends_push : LinesEnd more
   ends_push f n x found far =
       let long : length more ≡ length b + 1 = length-append b (r ∷ []) in
-      ends_or f n x (omega (arith, long, far)) long (node_of b n) refl (sym (node_cut b (r ∷ []) n) ∙ found)
+      let either = sym (node_cut b (r ∷ []) n) ∙ found in
+      elim (none_or_some (node_of b n)) [
+        | inl none ↦ new_ends f (length more) n x (made_alone r n ∙ (sym (ap (λ o. option_or o (node_of (r ∷ []) n)) none) ∙ either)) (omega (arith, long)) (omega (arith, long))
+        | inr y ↦ old_ends f (length more) n x (y.1 ∙ (sym (ap (λ o. option_or o (node_of (r ∷ []) n)) y.1) ∙ either)) (omega (arith, long)) (omega (arith, long))
+      ]
 
-pub grown_push : (l b : List Record) (r : Record) → Grown l b → Within l (b ++ r ∷ []) → length (b ++ r ∷ []) ≤ length l → NamesThere b r → SplitsDecided l b r
-    → Grown l (b ++ r ∷ [])
-grown_push l b r g w short there decided = record {
-  within = w;
-  named = All-push (NamesThere (b ++ r ∷ [])) b r (All-weaker (NamesThere b) (NamesThere (b ++ r ∷ [])) (there_more b r) b g.named) (there_more b r r there);
-  decided = All-push (SplitsDecided l (b ++ r ∷ [])) b r (All-weaker (SplitsDecided l b) (SplitsDecided l (b ++ r ∷ [])) (splits_more l b r w) b g.decided) (splits_more l b r w r decided);
-  short = short;
-  ends = ends_push b r g.named g.ends there;
-}
+pub grown_push : (l b : List Record) (r : Record) → Grown l b → Within l (b ++ r ∷ []) → length (b ++ r ∷ []) ≤ length l → Follows l b r.command → Grown l (b ++ r ∷ [])
+grown_push l b r g w short f =
+    let own = follows_more l b (r ∷ []) r.command w f in
+    record {
+      within = w;
+      named = All-push (NamesThere (b ++ r ∷ [])) b r (All-weaker (NamesThere b) (NamesThere (b ++ r ∷ [])) (λ d. there_more b (r ∷ []) d.command) b g.named) own.there;
+      decided = All-push (SplitsDecided l (b ++ r ∷ [])) b r
+          (All-weaker (SplitsDecided l b) (SplitsDecided l (b ++ r ∷ [])) (λ d h n is. decided_more l b (r ∷ []) n w (h n is)) b g.decided) own.decided;
+      short = short;
+      ends = ends_push b r g.named g.ends f.there;
+    }
 
 -- what is above a node: its parent, and the decision of the parent
 pub record Above (l b : List Record) (m : EntryPart) : Type 0 where

@@ -1,39 +1,23 @@
 -- What a change that stands behind others moves.
-use Rattle.gu_depend.proofs.Vocabulary.{use_of_node, use_of_kind, charge_of_kind, charge_of_node, Command, Claim, Kind, Given, ◌≡◌, ℕ, zero, suc, ◌+◌, Bool, true, false, ◌&&◌, List}
-use Rattle.gu_depend.proofs.Vocabulary.{[], ◌∷◌, ◌++◌, length, refl, sym, ◌∙◌, ap, subst, arith, cond, Option, Contains, Some, None, find, filter, sum_by, is_some, is_none}
-use Rattle.gu_depend.proofs.Vocabulary.{option_and_then, option_map, unwrap_or, ◌==◌, cons_option, option_or, Decides-eqb, All-weaker, All-contains, All-contains_itself, filter_map-append}
-use Rattle.gu_depend.proofs.Vocabulary.{find-append, sum_by-cons, sum_by-append, EntryPart, House, agreement, node_of, nodes, nodes_of, split_of, decision_of, same_name, splits, decides, parent}
-use Rattle.gu_depend.proofs.Vocabulary.{line_within, root_along, root_of, same_place, is_trade_of, trades_in, stands_at, position_of, charge_of, charges, row, Side, Record, Charge, Node, Place}
-use Rattle.gu_depend.proofs.Vocabulary.{deed_of, dealings_in, dealings, terms_under, raised_under, used_under, terms_of, Agreement, Deed, Uses, or_none, none_is_some, replay_front, may_use, AllFit}
-use Rattle.gu_depend.proofs.Vocabulary.{same_Some, name_same, made, or_parts, false_from_ne_true}
-use Rattle.gu_depend.proofs.Grown.{Within, ThereFor, Grown, NamesThere, line_of_grown, place_same}
-use Rattle.gu_depend.proofs.Deals.{both_same, numbered, gives_alike, dealings_grown, dealings_append, dealings_cut, row_fits, not_empty}
-use Rattle.gu_depend.specs.Under.{names}
+use Rattle.gu_depend.proofs.Vocabulary.{Command, ◌≡◌, ℕ, zero, suc, ◌+◌, Bool, true, false, ◌&&◌, List, [], ◌∷◌, ◌++◌, length, refl, sym, ◌∙◌, ap, subst, arith}
+use Rattle.gu_depend.proofs.Vocabulary.{cond, Option, Contains, Some, None, find, sum_by, is_some, is_none, option_and_then, option_map, unwrap_or, ◌==◌, cons_option, option_or, Decides-eqb}
+use Rattle.gu_depend.proofs.Vocabulary.{All-weaker, All-contains, All-contains_itself, filter_map-append, find-append, sum_by-append, EntryPart, House, agreement, node_of, nodes, nodes_of}
+use Rattle.gu_depend.proofs.Vocabulary.{split_of, decision_of, same_name, splits, decides, parent, line_within, root_along, root_of, same_place, is_trade_of, trades_in, stands_at, position_of}
+use Rattle.gu_depend.proofs.Vocabulary.{charge_of, charges, row, Side, Record, Charge, Node, Place, deed_of, dealings_in, dealings, terms_under, raised_under, used_under, terms_of, Agreement}
+use Rattle.gu_depend.proofs.Vocabulary.{Deed, Uses, or_none, none_is_some, replay_front, may_use, AllFit, same_Some, name_same, made, or_parts, false_from_ne_true, none_or_some, inl, inr, names}
+use Rattle.gu_depend.proofs.Grown.{Within, ThereFor, Grown, NamesThere, line_of_grown, place_same, line_none}
+use Rattle.gu_depend.proofs.Deals.{numbered, gives_alike, dealings_grown, dealings_append, dealings_cut, deal, not_empty}
 use Rattle.gu_depend.specs.Moves.{lots_at, named_by, MovesItsOwn}
-use Rattle.gu_depend.proofs.Finds.{none_before, cut_at}
+use Rattle.gu_depend.proofs.Finds.{none_before, cut_at, found_some, alike_at, and_then_told}
 use Rattle.gu_depend.proofs.Names.{at_name, maker, made_number}
 use Rattle.gu_depend.proofs.Settled.{front_facts, facts, accepted_there}
 use Rattle.gu_base.proofs.Dealt.{all_sound, terms_stay}
 use Rattle.gu_depend.proofs.Replay.{NumbersOnce, Legal}
 use Rattle.gu_depend.proofs.StandsLast.{accepted_at, decision_cut}
-use Rattle.gu_depend.proofs.StandsUnder.{found_some}
 use Rattle.gu_base.proofs.NodeNames.{nodes_push}
-use Rattle.gu_base.proofs.Sums.{sum_agree_on, sum_kept, sum_plus}
-
--- ---- sums
-
-pub sum_filter : {X : Type 0} (w : X → ℕ) (p : X → Bool) (xs : List X) → sum_by w (filter p xs) ≡ sum_by (λ x. cond (p x) (w x) 0) xs
-sum_filter w p [] = refl
-sum_filter w p (x ∷ xs) =
-    let a = sum_kept w (p x) x (filter p xs) in
-    let b = sum_filter w p xs in
-    let c = sum_by-cons (λ x. cond (p x) (w x) 0) x xs in
-    omega (arith, a, b, c)
-
-pub position_is : (l : List Record) (at : Place) (instrument : List ℕ) (side : Side) → position_of l at.firm at.account instrument side ≡ sum_by (lots_at l at instrument side) (nodes l)
-position_is l at instrument side =
-    sum_filter (λ (x : Node). x.lots) (λ x. stands_at l at x.name && trades_in l instrument side x.name) (filter (λ x. is_none (split_of l x.name)) (nodes l))
-    ∙ sum_filter (λ (x : Node). cond (stands_at l at x.name && trades_in l instrument side x.name) x.lots 0) (λ x. is_none (split_of l x.name)) (nodes l)
+use Rattle.gu_base.proofs.Sums.{sum_agree_on, sum_plus}
+use Rattle.gu_depend.proofs.State.{SameTermsFor, charge_alike}
+pub use Rattle.gu_depend.proofs.State.{sum_filter, position_is}
 
 swapped : (old new : ℕ) (b : Bool) → (b ≡ false → new ≡ old) → new + cond b old 0 ≡ old + cond b new 0
 swapped old new true same = omega arith
@@ -46,40 +30,23 @@ root_at : (l : List Record) (x : Node) (p : EntryPart) → node_of l x.name ≡ 
 root_at l x p found [] later h = (x, subst (λ (z : EntryPart). node_of l z ≡ Some x) (same_Some x.name p h) found)
 root_at l x p found (y ∷ ys) later h = later h
 
-root_by : (f : ℕ) (l : List Record) (p : EntryPart)
-    → ((m : EntryPart) (y : Node) → node_of l m ≡ Some y → root_along (line_within f l (Some y)) ≡ Some p → (z : Node) × (node_of l p ≡ Some z))
-    → (k : Option EntryPart) → (o : Option Node) → option_and_then (node_of l) k ≡ o → root_along (line_within f l o) ≡ Some p → (z : Node) × (node_of l p ≡ Some z)
-root_by f l p found k None e h = absurd (cc)
-root_by f l p found None (Some y) e h = absurd (cc)
-root_by f l p found (Some m) (Some y) e h = found m y e h
-
 -- the root of a node is a node of the list
 pub root_found : (f : ℕ) (l : List Record) (p m : EntryPart) (x : Node) → node_of l m ≡ Some x → root_along (line_within f l (Some x)) ≡ Some p → (z : Node) × (node_of l p ≡ Some z)
 root_found zero l p m x found h = absurd (cc)
 root_found (suc f) l p m x found h =
-    root_at l x p (at_name l m x found) (line_within f l (option_and_then (node_of l) (parent x.kind)))
-    (root_by f l p (root_found f l p) (parent x.kind) (option_and_then (node_of l) (parent x.kind)) refl) h
+    let above = option_and_then (node_of l) (parent x.kind) in
+    root_at l x p (at_name l m x found) (line_within f l above) (λ later. elim (none_or_some above) [
+      | inl none ↦ absurd (none_is_some (root_along (line_within f l above)) p (ap (λ o. root_along (line_within f l o)) none ∙ ap root_along (line_none f l)) later)
+      | inr y ↦ (
+          let up = and_then_told (node_of l) (parent x.kind) y.0 y.1 in
+          root_found f l p up.0 y.0 up.1.1 (sym (ap (λ o. root_along (line_within f l o)) y.1) ∙ later))
+    ]) h
 
 -- ---- what a claim costs
 
--- the terms of those whose lots a change uses are the same in both lists
-abbrev pub SameTermsFor : House → List Record → List Record → List ℕ → Command → Type 0
-SameTermsFor t l b by c = (g k : List ℕ) (lots : ℕ) → deed_of b g k by c ≡ Some (Uses lots) → terms_of t b g k ≡ terms_of t l g k
-
-charge_of_given : (t : House) (l b : List Record) (lots : ℕ) (kind : Kind) → ((g k : List ℕ) → use_of_kind g k lots kind ≡ Some (Uses lots) → terms_of t b g k ≡ terms_of t l g k)
-    → charge_of_kind t b lots kind ≡ charge_of_kind t l lots kind
-charge_of_given t l b lots (Given m g k) same =
-    ap (option_map (λ (a : Agreement). record { giver = g; taker = k; lots = lots; rate = a.rate })) (same g k (ap (λ b. cond b (Some (Uses lots)) None) (both_same g k)))
-charge_of_given t l b lots _ same = refl
-
 -- a claim of a node that is there, under terms that are the same, is charged the same in both lists
 pub charge_same : (t : House) (l b : List Record) → Within l b → (by : List ℕ) (c : Command) → ThereFor b c → SameTermsFor t l b by c → charge_of t b c ≡ charge_of t l c
-charge_same t l b w by (Claim n account) there same =
-    let x = there n (name_same n) in
-    ap (option_and_then (charge_of_node t b)) x.1
-    ∙ (charge_of_given t l b x.0.lots x.0.kind (λ g k deals. same g k x.0.lots (ap (option_and_then (use_of_node g k)) x.1 ∙ deals))
-    ∙ sym (ap (option_and_then (charge_of_node t l)) (w.nodes n x.0 x.1)))
-charge_same t l b w by _ there same = refl
+charge_same t l b w by c there same = charge_alike t l b by c (λ n is. let x = there n is in x.1 ∙ sym (w.nodes n x.0 x.1)) same
 
 -- ---- a change behind the others
 
@@ -100,24 +67,17 @@ module _ {t : House} {l : List Record} {r : Record} (b : IsBefore t l r) where
       let by = maker l p y found in
       let own : p.entry ≡ by.change.number = made_number by.change p y by.makes_it in
       let none = none_before (λ d. d.number == p.entry) l r [] (b.once p.entry) h in
-      let some = found_some (λ d. d.number == p.entry) l by.change by.among ((Decides-eqb by.change.number p.entry).1 (sym own)) (find (λ d. d.number == p.entry) l) refl in
+      let some = found_some (λ d. d.number == p.entry) l by.change by.among ((Decides-eqb by.change.number p.entry).1 (sym own)) in
       none_is_some (find (λ d. d.number == p.entry) l) some.0 none some.1)
-
-  trade_kept : (instrument : List ℕ) (side : Side) (o : Option EntryPart) → ((p : EntryPart) → o ≡ Some p → (y : Node) × (node_of l p ≡ Some y))
-      → is_some (option_and_then (λ p. find (λ d. (d.number == p.entry) && is_trade_of instrument side d.command) (l ++ r ∷ [])) o)
-      ≡ is_some (option_and_then (λ p. find (λ d. (d.number == p.entry) && is_trade_of instrument side d.command) l) o)
-  trade_kept instrument side None there = refl
-  trade_kept instrument side (Some p) there =
-      let y = there p refl in
-      let q : Record → Bool = λ d. (d.number == p.entry) && is_trade_of instrument side d.command in
-      ap is_some (find-append q l (r ∷ [])
-      ∙ (ap (λ c. option_or (find q l) (cond (c && is_trade_of instrument side r.command) (Some r) None)) (other_trade p y.0 y.1)
-      ∙ or_none (find q l)))
 
   pub trades_kept : (instrument : List ℕ) (side : Side) (m : EntryPart) (x : Node) → node_of l m ≡ Some x → trades_in (l ++ r ∷ []) instrument side m ≡ trades_in l instrument side m
   trades_kept instrument side m x found =
-      ap (λ o. is_some (option_and_then (λ p. find (λ d. (d.number == p.entry) && is_trade_of instrument side d.command) (l ++ r ∷ [])) o)) (root_kept m x found)
-      ∙ trade_kept instrument side (root_of l m) (λ p h. root_found (length l) l p m x found (sym (ap (λ o. root_along (line_within (length l) l o)) found) ∙ h))
+      let trade = λ (p : EntryPart) (d : Record). (d.number == p.entry) && is_trade_of instrument side d.command in
+      ap (λ o. is_some (option_and_then (λ p. find (trade p) (l ++ r ∷ [])) o)) (root_kept m x found)
+      ∙ ap is_some (alike_at (λ p. find (trade p) (l ++ r ∷ [])) (λ p. find (trade p) l) (root_of l m) (λ p h.
+      let y = root_found (length l) l p m x found (sym (ap (λ o. root_along (line_within (length l) l o)) found) ∙ h) in
+      find-append (trade p) l (r ∷ [])
+      ∙ (ap (λ c. option_or (find (trade p) l) (cond (c && is_trade_of instrument side r.command) (Some r) None)) (other_trade p y.0 y.1) ∙ or_none (find (trade p) l))))
 
   stands_kept : (at : Place) (m : EntryPart) (x : Node) → node_of l m ≡ Some x → decides m r.command ≡ false → stands_at (l ++ r ∷ []) at m ≡ stands_at l at m
   stands_kept at m x found un =
@@ -133,9 +93,10 @@ module _ {t : House} {l : List Record} {r : Record} (b : IsBefore t l r) where
       → lots_at (l ++ r ∷ []) at instrument side x ≡ lots_at l at instrument side x
   lots_kept at instrument side x y found un =
       let apart = or_parts (splits x.name r.command) (decides x.name r.command) un in
-      ap (λ s. cond (is_none s) (cond (stands_at (l ++ r ∷ []) at x.name && trades_in (l ++ r ∷ []) instrument side x.name) x.lots 0) 0) (split_kept x.name apart.0)
-      ∙ (ap (λ c. cond (is_none (split_of l x.name)) (cond (c && trades_in (l ++ r ∷ []) instrument side x.name) x.lots 0) 0) (stands_kept at x.name y found apart.1)
-      ∙ ap (λ c. cond (is_none (split_of l x.name)) (cond (stands_at l at x.name && c) x.lots 0) 0) (trades_kept instrument side x.name y found))
+      let split = split_kept x.name apart.0 in
+      let stands = stands_kept at x.name y found apart.1 in
+      let trades = trades_kept instrument side x.name y found in
+      λ i. cond (is_none (split i)) (cond (stands i && trades i) x.lots 0) 0
 
   positions_moved : (at : Place) (instrument : List ℕ) (side : Side) → position_of (l ++ r ∷ []) at.firm at.account instrument side + sum_by (lots_at l at instrument side) (named_by l r)
       ≡ position_of l at.firm at.account instrument side + sum_by (lots_at (l ++ r ∷ []) at instrument side) (named_by l r)
@@ -154,18 +115,19 @@ module _ {t : House} {l : List Record} {r : Record} (b : IsBefore t l r) where
       let each = sum_agree_on (λ x. new x + cond (p x) (old x) 0) (λ x. old x + cond (p x) (new x) 0) (nodes l)
       (All-weaker (Contains (nodes l)) (λ (x : Node). new x + cond (p x) (old x) 0 ≡ old x + cond (p x) (new x) 0)
       (λ x among.
-      let y = found_some (λ z. same_name z.name x.name) (nodes l) x among (name_same x.name) (node_of l x.name) refl in
+      let y = found_some (λ z. same_name z.name x.name) (nodes l) x among (name_same x.name) in
       swapped (old x) (new x) (p x) (λ un. lots_kept at instrument side x y.0 y.1 un)) (nodes l) (All-contains_itself (nodes l))) in
       omega (arith, whole, before, cut, olds, news, left, right, each)
 
   -- terms that are there stay
-  terms_kept : (g k : List ℕ) → ((terms_of t l g k ≡ None) → ⊥) → (o : Option Agreement) → terms_of t l g k ≡ o → terms_of t l g k ≡ terms_of t (l ++ r ∷ []) g k
-  terms_kept g k some None e = absurd (some e)
-  terms_kept g k some (Some a) e =
-      let ds = dealings_in (l ++ r ∷ []) (r ∷ []) g k in
-      let more : dealings (l ++ r ∷ []) g k ≡ dealings l g k ++ ds =
-      dealings_append (l ++ r ∷ []) l (r ∷ []) g k ∙ ap (λ z. z ++ ds) (sym (dealings_grown (l ++ r ∷ []) l g k b.grown)) in
-      e ∙ sym (ap (terms_under (agreement t g k)) more ∙ terms_stay (agreement t g k) (dealings l g k) ds a e)
+  terms_kept : (g k : List ℕ) → ((terms_of t l g k ≡ None) → ⊥) → terms_of t l g k ≡ terms_of t (l ++ r ∷ []) g k
+  terms_kept g k some = elim (none_or_some (terms_of t l g k)) [
+    | inl none ↦ absurd (some none)
+    | inr a ↦ (
+        let ds = dealings_in (l ++ r ∷ []) (r ∷ []) g k in
+        let more = dealings_append (l ++ r ∷ []) l (r ∷ []) g k ∙ ap (λ z. z ++ ds) (sym (dealings_grown (l ++ r ∷ []) l g k b.grown)) in
+        a.1 ∙ sym (ap (terms_under (agreement t g k)) more ∙ terms_stay (agreement t g k) (dealings l g k) ds a.0 a.1))
+  ]
 
   deals_there : (d : Record) → Contains l d → (g k : List ℕ) (e : Deed) → deed_of l g k d.firm d.command ≡ Some e → dealings l g k ≡ [] → ⊥
   deals_there d among g k e deals empty =
@@ -177,16 +139,16 @@ module _ {t : House} {l : List Record} {r : Record} (b : IsBefore t l r) where
   pub charge_kept : (d : Record) → Contains l d → charge_of t l d.command ≡ charge_of t (l ++ r ∷ []) d.command
   charge_kept d among =
       charge_same t (l ++ r ∷ []) l b.grown.within d.firm d.command (All-contains (NamesThere l) l d b.grown.named among) (λ g k lots deals.
-      terms_kept g k (λ none. deals_there d among g k (Uses lots) deals ((all_sound (agreement t g k) (dealings l g k) (b.deals g k)).none none)) (terms_of t l g k) refl)
+      terms_kept g k (λ none. deals_there d among g k (Uses lots) deals ((all_sound (agreement t g k) (dealings l g k) (b.deals g k)).none none)))
 
   -- what it costs itself can be read off either list, since what it uses fits
   pub own_charge : charge_of t l r.command ≡ charge_of t (l ++ r ∷ []) r.command
   own_charge =
       charge_same t (l ++ r ∷ []) l b.grown.within r.firm r.command (accepted_there t l r.firm r.command b.accepted) (λ g k lots deals.
       terms_kept g k (λ none.
-      let fit = row_fits t l g k r.firm r.command (Uses lots) b.accepted deals in
+      let fit = (deal l r.firm r.command g k (Uses lots) deals).fit t b.accepted in
       let f : false ≡ true = sym (ap (λ o. may_use (used_under (dealings l g k) + lots) (option_map (λ (a : Agreement). a.limit + raised_under (dealings l g k)) o)) none) ∙ fit in
-      absurd (cc)) (terms_of t l g k) refl)
+      cc))
 
   charges_moved : charges t (l ++ r ∷ []) ≡ charges t l ++ cons_option (charge_of t l r.command) []
   charges_moved =

@@ -1,7 +1,7 @@
 -- Names of nodes, and the changes that make them.
-use Rattle.gu_depend.proofs.Vocabulary.{◌≡◌, ℕ, ◌≤◌, Bool, true, false, List, [], ◌∷◌, refl, sym, ◌∙◌, ap, subst, arith, cond, Option, IsPermutation, Contains, Some, None}
-use Rattle.gu_depend.proofs.Vocabulary.{find, count_by, ◌==◌, is_some, option_and_then, option_or, Decides-eqb, find-append, EntryPart, node_of, nodes, nodes_of, same_name}
-use Rattle.gu_depend.proofs.Vocabulary.{parent, splits, Command, Trade, Split, Record, Root, Node, or_none, none_is_some, same_Some, name_same, node_called, made, made_of, first_or, found_in}
+use Rattle.gu_depend.proofs.Vocabulary.{◌≡◌, ℕ, ◌≤◌, Bool, true, false, List, [], ◌∷◌, refl, sym, ◌∙◌, ap, subst, arith, cond, Option, IsPermutation, Contains, Some}
+use Rattle.gu_depend.proofs.Vocabulary.{None, find, count_by, ◌==◌, is_some, option_and_then, option_or, Decides-eqb, find-append, EntryPart, node_of, nodes, nodes_of, same_name, parent}
+use Rattle.gu_depend.proofs.Vocabulary.{splits, Command, Trade, Split, Record, Root, Node, or_none, none_is_some, same_Some, name_same, node_called, made, made_of, first_or, found_in}
 use Rattle.gu_depend.proofs.Finds.{counts_less, some_there, and_then_told, find_permuted}
 use Rattle.gu_base.proofs.NodeNames.{made_entry, part_parent}
 

@@ -1,51 +1,42 @@
 -- What stands on a change, read off trees that show the list.
-use Rattle.gu_depend.proofs.Vocabulary.{◌≡◌, ℕ, true, false, List, [], refl, sym, ◌∙◌, ap, subst, arith, Option, Contains, IsSomeAnd, inl, inr, Some, None, find, flat_map, option_map}
-use Rattle.gu_depend.proofs.Vocabulary.{option_and_then, ◌==◌, ◌↔◌, or_cases, or_parts, Decides-eqb, same_Some, made_by, parts_of, EntryPart, RisesFrom, House, node_of, nodes_of, split_of}
-use Rattle.gu_depend.proofs.Vocabulary.{decision_of, splits, decides, same_name, IsLegal, first_refused, standing_on, without, Part, Command, Trade, Split, Claim, Refuse, Cancel, Agree, Raise}
-use Rattle.gu_depend.proofs.Vocabulary.{Record, Node, legal_from_replay, replay_from_legal, name_same, made_of, found_in, find_passes, change_of, named_place, number_in, numbers_on, least}
-use Rattle.gu_depend.proofs.Finds.{some_with, and_then_told, found_once}
-use Rattle.std.proofs.Common.{◌≢◌, ◌⊎◌}
+use Rattle.gu_depend.proofs.Vocabulary.{◌≡◌, ℕ, true, false, List, [], refl, sym, ◌∙◌, ap, subst, arith, Option, Contains, IsSomeAnd, inl, inr, Some, None, find, flat_map}
+use Rattle.gu_depend.proofs.Vocabulary.{option_map, option_and_then, ◌==◌, ◌↔◌, or_cases, Decides-eqb, same_Some, made_by, parts_of, EntryPart, RisesFrom, House, node_of, nodes_of}
+use Rattle.gu_depend.proofs.Vocabulary.{split_of, decision_of, splits, decides, same_name, IsLegal, first_refused, standing_on, without, Part, Command, Trade, Split, Claim, Refuse, Cancel, Agree}
+use Rattle.gu_depend.proofs.Vocabulary.{Raise, Record, Node, legal_from_replay, replay_from_legal, name_same, made_of, found_in, find_passes, change_of, named_place, number_in, numbers_on, least}
+use Rattle.gu_depend.proofs.Vocabulary.{false_from_ne_true, ◌||◌, numbers_under, deals_under, or_right}
+use Rattle.gu_depend.proofs.Finds.{some_with, and_then_told, found_once, not_both}
+use Rattle.std.proofs.Common.{◌≢◌}
 use Rattle.gu_tree.specs.Rose.{Rose, head_of, split_of_node}
-use Rattle.gu_tree.specs.Paths.{node_at, HasAt, LeadsTo}
-use Rattle.gu_tree.specs.Grove.{Grove, tree_of, place_of, IsPlace}
+use Rattle.gu_tree.specs.Paths.{node_at, LeadsTo}
+use Rattle.gu_tree.specs.Grove.{Grove, tree_of, place_of, IsPlace, HasTree}
 use Rattle.gu_tree.specs.ShownAll.{place_in, IsTreeIn, ShowsAll}
 use Rattle.gu_tree.specs.NumbersOn.{numbers_on_parts}
-use Rattle.gu_tree.specs.declared.head.Head.{Head}
 use Rattle.gu_tree.proofs.Parts.{some_and, at_fact}
 use Rattle.gu_tree.proofs.ShowsLess.{no-root-part}
 use Rattle.gu_tree.proofs.ToldAt.{IsToldAt, told-at}
 use Rattle.gu_depend.specs.Touch.{is_trade_or_decision}
-use Rattle.gu_depend.specs.Under.{numbers_under, deals_under}
 use Rattle.gu_depend.proofs.Settled.{named_once}
 use Rattle.gu_depend.proofs.Names.{maker, made_number}
 use Rattle.gu_depend.proofs.Replay.{Legal}
 use Rattle.gu_depend.proofs.Cuts.{filter_all}
 use Rattle.gu_depend.proofs.StandsUnder.{legal_rising}
-use Rattle.gu_depend.proofs.LookedUp.{looked_up, least_one}
-
-least_in : (o : Option Record) → least (number_in o) ≡ option_map (λ r. r.number) o
-least_in None = refl
-least_in (Some r) = refl
+use Rattle.gu_depend.proofs.LookedUp.{looked_up, least_one, least_in}
 
 -- ---- a trade, a decision, or neither
 
-pub one_of_both : (k trade : ℕ) (d : Option ℕ) → is_trade_or_decision k trade d ≡ true → (trade ≡ k) ⊎ (d ≡ Some k)
-one_of_both k trade None h = inl ((Decides-eqb trade k).0 h)
-one_of_both k trade (Some d) h = elim (or_cases (trade == k) (d == k) h) [
-  | inl same ↦ inl ((Decides-eqb trade k).0 same)
-  | inr decided ↦ inr (ap (λ n. Some n) ((Decides-eqb d k).0 decided))
-]
+of_trade : (k trade : ℕ) (d : Option ℕ) → trade ≡ k → is_trade_or_decision k trade d ≡ true
+of_trade k trade None same = (Decides-eqb trade k).1 same
+of_trade k trade (Some d) same = ap (λ b. b || (d == k)) ((Decides-eqb trade k).1 same)
 
-apart : (n k : ℕ) → (n == k) ≡ false → n ≢ k
-apart n k differ e = let yes : (n == k) ≡ true = (Decides-eqb n k).1 e in absurd (cc)
+of_decision : (k trade : ℕ) (d : Option ℕ) → d ≡ Some k → is_trade_or_decision k trade d ≡ true
+of_decision k trade d is = ap (is_trade_or_decision k trade) is ∙ or_right (trade == k) (k == k) ((Decides-eqb k k).1 refl)
 
-pub no_trade : (k trade : ℕ) (d : Option ℕ) → is_trade_or_decision k trade d ≡ false → trade ≢ k
-no_trade k trade None h = apart trade k h
-no_trade k trade (Some d) h = apart trade k (or_parts (trade == k) (d == k) h).0
-
-pub no_decision : (k trade : ℕ) (d : Option ℕ) → is_trade_or_decision k trade d ≡ false → d ≢ Some k
-no_decision k trade None h = λ e. absurd (cc)
-no_decision k trade (Some d) h = λ e. apart d k (or_parts (trade == k) (d == k) h).1 (same_Some d k e)
+of_neither : (k trade : ℕ) (d : Option ℕ) → trade ≢ k → d ≢ Some k → is_trade_or_decision k trade d ≡ false
+of_neither k trade None other undecided = false_from_ne_true (trade == k) (λ h. other ((Decides-eqb trade k).0 h))
+of_neither k trade (Some d) other undecided = false_from_ne_true ((trade == k) || (d == k)) (λ h. elim (or_cases (trade == k) (d == k) h) [
+  | inl same ↦ other ((Decides-eqb trade k).0 same)
+  | inr decided ↦ undecided (ap (λ n. Some n) ((Decides-eqb d k).0 decided))
+])
 
 -- ---- one change of a number
 
@@ -88,18 +79,6 @@ module _ (t : House) (l : List Record) (list : Legal t l) (k : ℕ) (r : Record)
     split_at : (n : EntryPart) → Some n ≡ Some (head_of v).name → option_map (λ s. s.0) (split_of_node v) ≡ least (number_in (split_of l n))
     split_at n at = told.split ∙ (ap (λ n. option_map (λ r. r.number) (split_of l n)) (sym (same_Some _ _ at)) ∙ sym (least_in (split_of l n)))
 
-    -- where the change is the trade of the root, or decided the node, the node's Split stands on it
-    by_split : (c : Command) → r.command ≡ c → named_place r.number c ≡ Some (head_of v).name → (trade ≡ k) ⊎ ((head_of v).decision ≡ Some k)
-        → option_map (λ s. s.0) (split_of_node v) ≡ least (numbers_under t l r.number r.firm c)
-    by_split (Trade _ _ _ _ _) is at which = split_at (record { entry = r.number; part = 0 }) at
-    by_split (Split n ps) is at (inl same) = absurd (split_no_trade n ps is trade told.root told.has_root same)
-    by_split (Split n ps) is at (inr decided) =
-        absurd (split_no_decision n ps is (decision_of l n) refl (ap (λ m. option_map (λ d. d.number) (decision_of l m)) (same_Some _ _ at) ∙ (sym told.decision ∙ decided)))
-    by_split (Claim n _) is at which = split_at n at
-    by_split (Refuse n) is at which = split_at n at
-    by_split (Cancel n) is at which = split_at n at
-    by_split _ is at which = absurd (cc)
-
     -- a decision is the one of its node
     its_decision : (n : EntryPart) → decides n r.command ≡ true → Some n ≡ Some (head_of v).name → (head_of v).decision ≡ Some k
     its_decision n passes at =
@@ -108,42 +87,48 @@ module _ (t : House) (l : List Record) (list : Legal t l) (k : ℕ) (r : Record)
         ∙ (ap (option_map (λ d. d.number)) (found_once (λ r. decides n r.command) l r among passes ((named_once t l list.replayed).decisions_once n))
         ∙ ap (λ m. Some m) number_is))
 
-    -- else it split the node, and what names a part stands on it
-    by_parts : (c : Command) → r.command ≡ c → named_place r.number c ≡ Some (head_of v).name → trade ≢ k → (head_of v).decision ≢ Some k
-        → least (numbers_on_parts v) ≡ least (numbers_under t l r.number r.firm c)
-    by_parts (Trade _ _ _ _ _) is at other undecided =
+    -- where the change is the trade of the root, or decided the node, the node's Split stands on it; else it split the node, and what names a part does
+    data StandsAt (c : Command) : Type 0 where
+      on_split : is_trade_or_decision k trade (head_of v).decision ≡ true → option_map (λ s. s.0) (split_of_node v) ≡ least (numbers_under t l r.number r.firm c) → StandsAt c
+      on_parts : is_trade_or_decision k trade (head_of v).decision ≡ false → least (numbers_on_parts v) ≡ least (numbers_under t l r.number r.firm c) → StandsAt c
+
+    at_decision : (n : EntryPart) (c : Command) → decides n r.command ≡ true → Some n ≡ Some (head_of v).name
+        → least (number_in (split_of l n)) ≡ least (numbers_under t l r.number r.firm c) → StandsAt c
+    at_decision n c passes at is = on_split (of_decision k trade (head_of v).decision (its_decision n passes at)) (split_at n at ∙ is)
+
+    stands_at : (c : Command) → r.command ≡ c → named_place r.number c ≡ Some (head_of v).name → StandsAt c
+    stands_at (Trade _ _ _ _ _) is at =
         let name : record { entry = r.number; part = 0 } ≡ (head_of v).name = same_Some _ _ at in
         let root : (head_of v).name.entry ≡ trade = told.rooted (sym (ap (λ (m : EntryPart). m.part) name)) in
-        absurd (other (sym root ∙ (sym (ap (λ (m : EntryPart). m.entry) name) ∙ number_is)))
-    by_parts (Split n ps) is at other undecided =
+        on_split (of_trade k trade (head_of v).decision (sym root ∙ (sym (ap (λ (m : EntryPart). m.entry) name) ∙ number_is))) (split_at (record { entry = r.number; part = 0 }) at)
+    stands_at (Split n ps) is at =
         let found : split_of l n ≡ Some r = found_once (λ r. splits n r.command) l r among (ap (splits n) is ∙ name_same n) ((named_once t l list.replayed).splits_once n) in
-        ap least (told.parts
-        ∙ (ap (λ m. flat_map (λ x. numbers_on l x.name) (parts_of l m)) (sym (same_Some _ _ at))
-        ∙ (ap (λ o. flat_map (λ x. numbers_on l x.name) (made_by o)) found
-        ∙ ap (λ c. flat_map (λ x. numbers_on l x.name) (nodes_of r.number r.firm c)) is)))
-    by_parts (Claim n a) is at other undecided = absurd (undecided (its_decision n (ap (decides n) is ∙ name_same n) at))
-    by_parts (Refuse n) is at other undecided = absurd (undecided (its_decision n (ap (decides n) is ∙ name_same n) at))
-    by_parts (Cancel n) is at other undecided = absurd (undecided (its_decision n (ap (decides n) is ∙ name_same n) at))
-    by_parts _ is at other undecided = absurd (cc)
+        let undecided = λ (h : (head_of v).decision ≡ Some k). split_no_decision n ps is (decision_of l n) refl
+        (ap (λ m. option_map (λ d. d.number) (decision_of l m)) (same_Some _ _ at) ∙ (sym told.decision ∙ h)) in
+        on_parts (of_neither k trade (head_of v).decision (split_no_trade n ps is trade told.root told.has_root) undecided)
+        (ap least (told.parts ∙ ap (flat_map (λ x. numbers_on l x.name)) (sym (ap (parts_of l) (same_Some _ _ at)) ∙ (ap made_by found ∙ ap (nodes_of r.number r.firm) is))))
+    stands_at (Claim n a) is at = at_decision n (Claim n a) (ap (decides n) is ∙ name_same n) at refl
+    stands_at (Refuse n) is at = at_decision n (Refuse n) (ap (decides n) is ∙ name_same n) at refl
+    stands_at (Cancel n) is at = at_decision n (Cancel n) (ap (decides n) is ∙ name_same n) at refl
+    stands_at _ is at = absurd (cc)
 
 -- ---- the answers
 
--- what the place of the change and the tree of its trade say
-pub record IsFound (g : Grove) (k trade : ℕ) (p : List ℕ) (tree : Rose) (h : Head) : Type 0 where
-  pub node : Rose
-  pub placed : place_of g k ≡ Some (head_of node).name
+-- a node that lies where the trees place the change
+pub record IsFound (g : Grove) (k trade : ℕ) (p : List ℕ) (v : Rose) : Type 0 where
+  pub tree : Rose
+  pub placed : place_of g k ≡ Some (head_of v).name
   pub found : tree_of g trade ≡ Some tree
-  pub led : node_at p tree ≡ Some node
-  pub head : head_of node ≡ h
+  pub led : node_at p tree ≡ Some v
 
-pub found_at : (g : Grove) (k trade : ℕ) (tree : Rose) (p : List ℕ) (h : Head) → IsSomeAnd (place_of g k) (λ n. IsPlace g n trade p) → tree_of g trade ≡ Some tree
-    → HasAt p (λ t. head_of t ≡ h) tree → IsFound g k trade p tree h
-found_at g k trade tree p h place found has =
+pub found_at : (g : Grove) (k trade : ℕ) (p : List ℕ) (v : Rose) → IsSomeAnd (place_of g k) (λ n. IsPlace g n trade p)
+    → HasTree g trade (λ t. node_at p t ≡ Some v) → IsFound g k trade p v
+found_at g k trade p v place has =
     let n = some_with (λ n. IsPlace g n trade p) (place_of g k) place in
-    let v = some_and (λ t. head_of t ≡ h) (node_at p tree) has in
-    let leads = subst (λ t. LeadsTo p t n.0) (same_Some n.1.1.tree tree (sym n.1.1.found ∙ found)) n.1.1.there in
-    let named : (head_of v.0).name ≡ n.0 = at_fact (λ u. (head_of u).name ≡ n.0) (node_at p tree) v.0 v.1 leads in
-    record { node = v.0; placed = n.1.0 ∙ ap (λ m. Some m) (sym named); found = found; led = v.1; head = v.2 }
+    let t = some_and (λ t. node_at p t ≡ Some v) (tree_of g trade) has in
+    let leads = subst (λ t. LeadsTo p t n.0) (same_Some n.1.1.tree t.0 (sym n.1.1.found ∙ t.1)) n.1.1.there in
+    let named : (head_of v).name ≡ n.0 = at_fact (λ u. (head_of u).name ≡ n.0) (node_at p t.0) v t.2 leads in
+    record { tree = t.0; placed = n.1.0 ∙ ap (λ m. Some m) (sym named); found = t.1; led = t.2 }
 
 module _ (t : House) (l : List Record) (rises : RisesFrom 0 l) (legal : IsLegal t l) where
   abbrev list : Legal t l
@@ -167,27 +152,30 @@ module _ (g : Grove) (t : House) (l : List Record) (rises : RisesFrom 0 l) (lega
   pub nothing_placed : (k : ℕ) → place_of g k ≡ None → option_and_then (λ r. deals_under t l r.number r.firm r.command) (change_of l k) ≡ standing_on t l k
   nothing_placed k none = placeless t l rises legal k (sym (shows.places k) ∙ none)
 
-  module _ (k trade : ℕ) (p : List ℕ) (tree : Rose) (h : Head) (f : IsFound g k trade p tree h) where
+  module _ (k trade : ℕ) (p : List ℕ) (v : Rose) (f : IsFound g k trade p v) where
     -- the change, which the trees place where it was found
-    placed : (r : Record) × ((change_of l k ≡ Some r) × (named_place r.number r.command ≡ Some (head_of f.node).name))
-    placed = and_then_told (λ r. named_place r.number r.command) (change_of l k) (head_of f.node).name (sym (shows.places k) ∙ f.placed)
+    placed : (r : Record) × ((change_of l k ≡ Some r) × (named_place r.number r.command ≡ Some (head_of v).name))
+    placed = and_then_told (λ r. named_place r.number r.command) (change_of l k) (head_of v).name (sym (shows.places k) ∙ f.placed)
 
-    told_here : IsToldAt l trade f.node
-    told_here = told-at l trade tree (subst (IsTreeIn l trade) f.found (shows.trees trade)) p f.node f.led
+    told_here : IsToldAt l trade v
+    told_here = told-at l trade f.tree (subst (IsTreeIn l trade) f.found (shows.trees trade)) p v f.led
+
+    here : StandsAt t l (list t l rises legal) k placed.0 placed.1.0 trade v told_here placed.0.command
+    here = stands_at t l (list t l rises legal) k placed.0 placed.1.0 trade v told_here placed.0.command refl placed.1.1
 
     -- the Split of the node that a trade made, or that a decision names
-    pub split_found : (trade ≡ k) ⊎ (h.decision ≡ Some k) → (o : Option ℕ) → HasAt p (λ v. o ≡ option_map (λ s. s.0) (split_of_node v)) tree → o ≡ standing_on t l k
-    split_found which o has =
-        at_fact (λ v. o ≡ option_map (λ s. s.0) (split_of_node v)) (node_at p tree) f.node f.led has
-        ∙ (by_split t l (list t l rises legal) k placed.0 placed.1.0 trade f.node told_here placed.0.command refl placed.1.1
-        (subst (λ (z : Head). (trade ≡ k) ⊎ (z.decision ≡ Some k)) (sym f.head) which) ∙ looked_up_here t l (list t l rises legal) k placed.0 placed.1.0 rises)
+    pub split_found : is_trade_or_decision k trade (head_of v).decision ≡ true → option_map (λ s. s.0) (split_of_node v) ≡ standing_on t l k
+    split_found is_it = elim here [
+      | on_split _ is ↦ is
+      | on_parts not_it _ ↦ absurd (not_both _ is_it not_it)
+    ] ∙ looked_up_here t l (list t l rises legal) k placed.0 placed.1.0 rises
 
     -- the first on the parts that a Split made
-    pub parts_found : trade ≢ k → h.decision ≢ Some k → (o : Option ℕ) → HasAt p (λ v. o ≡ least (numbers_on_parts v)) tree → o ≡ standing_on t l k
-    parts_found other undecided o has =
-        at_fact (λ v. o ≡ least (numbers_on_parts v)) (node_at p tree) f.node f.led has
-        ∙ (by_parts t l (list t l rises legal) k placed.0 placed.1.0 trade f.node told_here placed.0.command refl placed.1.1 other
-        (subst (λ (z : Head). z.decision ≢ Some k) (sym f.head) undecided) ∙ looked_up_here t l (list t l rises legal) k placed.0 placed.1.0 rises)
+    pub parts_found : is_trade_or_decision k trade (head_of v).decision ≡ false → least (numbers_on_parts v) ≡ standing_on t l k
+    parts_found not_it = elim here [
+      | on_split is_it _ ↦ absurd (not_both _ is_it not_it)
+      | on_parts _ is ↦ is
+    ] ∙ looked_up_here t l (list t l rises legal) k placed.0 placed.1.0 rises
 
 -- none is answered exactly where the others alone are legal
 pub none_where_legal : (t : House) (l : List Record) (k : ℕ) (o : Option ℕ) → o ≡ standing_on t l k → (o ≡ None) ↔ IsLegal t (without l k)

@@ -1,15 +1,14 @@
 -- What stands on a change that deals, and how many entries stand beside it, read off terms that are those of the list.
 use Rattle.gu_depend.proofs.Vocabulary.{◌≡◌, ℕ, true, false, List, [], ◌∷◌, refl, sym, ◌∙◌, ap, subst, cond, Option, Contains, Some, None, find, ◌==◌, length, option_map}
 use Rattle.gu_depend.proofs.Vocabulary.{option_and_then, unwrap_or, slice_get, lookup, nothing_here, option_or, Decides-eqb, find-append, House, agreement, deed_of, dealings_in, dealings}
-use Rattle.gu_depend.proofs.Vocabulary.{first_under_deed, Deed, Makes, Raises, Dealing, Pair, Command, Claim, Agree, Raise, Record, found_in, find_passes, change_of, named_place, is_pair, PairView}
-use Rattle.gu_depend.proofs.Vocabulary.{TermsView, pair_at}
+use Rattle.gu_depend.proofs.Vocabulary.{first_under_deed, Deed, Makes, Raises, Dealing, Pair, Command, Claim, Agree, Raise, Record, found_in, find_passes, change_of, named_place, is_pair}
+use Rattle.gu_depend.proofs.Vocabulary.{PairView, TermsView, pair_at, pair_of, place_of_pair, entries_dealt, AreTermsOf, deals_under}
 use Rattle.gu_fees.specs.Pairs.{deed_at, standing_under}
-use Rattle.gu_fees.specs.Terms.{standing_in, entries_in}
-use Rattle.gu_depend.specs.Terms.{pair_of, place_of_pair, entries_dealt, AreTermsOf}
-use Rattle.gu_depend.specs.Under.{deals_under}
-use Rattle.gu_depend.proofs.Finds.{cut_at, none_before}
-use Rattle.gu_depend.proofs.Deals.{numbered, dealt, both_same, dealings_cut, deal_is, pair_of_deed}
+use Rattle.gu_fees.specs.Terms.{standing_in, entries_in, row_of}
+use Rattle.gu_depend.proofs.Finds.{cut_at, none_before, alike_at, and_then_steps, and_then_told}
+use Rattle.gu_depend.proofs.Deals.{numbered, dealt, both_same, dealings_cut, deal}
 use Rattle.gu_depend.proofs.Replay.{NumbersOnce}
+use Rattle.gu_depend.proofs.TermsFollow.{pair_place}
 
 -- ---- the deed of a number
 
@@ -37,60 +36,50 @@ deed_found l once r g k d among deals =
 
 -- ---- read off the terms
 
-through : (v : TermsView) (n : ℕ) (o : Option ℕ) → option_and_then (λ i. standing_in v.pairs i n) o
-    ≡ option_and_then (λ (r : PairView). standing_under r.file r.dealings n) (option_and_then (slice_get v.pairs) o)
-through v n None = refl
-through v n (Some i) = refl
+abbrev standing_of : ℕ → PairView → Option ℕ
+standing_of n r = standing_under r.file r.dealings n
 
 -- what stands in the row of a place, where there is one
 pub stands_in : (v : TermsView) (n : ℕ) (i : Option ℕ) (o : Option PairView) → o ≡ option_and_then (slice_get v.pairs) i
     → option_and_then (λ (r : PairView). standing_under r.file r.dealings n) o ≡ option_and_then (λ i. standing_in v.pairs i n) i
-stands_in v n i o is = ap (option_and_then (λ (r : PairView). standing_under r.file r.dealings n)) is ∙ sym (through v n i)
+stands_in v n i o is = ap (option_and_then (standing_of n)) is ∙ and_then_steps (slice_get v.pairs) (standing_of n) i
 
-abbrev standing_at : TermsView → ℕ → Option ℕ
-standing_at v n = option_and_then (λ i. standing_in v.pairs i n) (pair_at v n)
+module _ (t : House) (l : List Record) (v : TermsView) (are : AreTermsOf t l v) (once : NumbersOnce l) where
+  -- of a change that deals for these two
+  read_deal : (r : Record) → Contains l r → (g k : List ℕ) (d : Deed) → deed_of l g k r.firm r.command ≡ Some d
+      → option_and_then (λ i. standing_in v.pairs i r.number) (pair_place v l r) ≡ deals_under t l r.number r.firm r.command
+  read_deal r among g k d deals =
+      let is_deal = deal l r.firm r.command g k d deals in
+      let q = are.ready r (record { giver = g; taker = k }) among is_deal.of in
+      let row = are.rows g k q.0 q.1 in
+      ap (λ o. option_and_then (λ i. standing_in v.pairs i r.number) (option_and_then (place_of_pair v) o)) is_deal.of
+      ∙ (sym (and_then_steps (slice_get v.pairs) (standing_of r.number) (lookup (is_pair g k) v.places))
+      ∙ (ap (option_and_then (standing_of r.number)) q.1
+      ∙ (ap (λ f. standing_under f q.0.dealings r.number) row.0
+      ∙ (ap (λ ds. standing_under (agreement t g k) ds r.number) row.1
+      ∙ (ap (option_and_then (first_under_deed (agreement t g k) (dealings l g k) r.number)) (deed_found l once r g k d among deals)
+      ∙ sym (is_deal.under t r.number))))))
 
-module _ (t : House) (l : List Record) (v : TermsView) (are : AreTermsOf t l v) where
-  placed_at : (n : ℕ) (o : Option Record) → change_of l n ≡ o → pair_at v n ≡ option_and_then (λ r. option_and_then (place_of_pair v) (pair_of l r.firm r.command)) o
-  placed_at n o found = are.placed n ∙ ap (option_and_then (λ (r : Record). option_and_then (place_of_pair v) (pair_of l r.firm r.command))) found
+  read_by : (r : Record) → Contains l r → (c : Command) → r.command ≡ c → named_place r.number c ≡ None
+      → option_and_then (λ i. standing_in v.pairs i r.number) (pair_place v l r) ≡ deals_under t l r.number r.firm c
+  read_by r among (Agree g k rate limit) is none =
+      let made = Makes (record { rate = rate; limit = limit }) in
+      read_deal r among g k made (ap (deed_of l g k r.firm) is ∙ ap (λ b. cond b (Some made) None) (both_same g k)) ∙ ap (deals_under t l r.number r.firm) is
+  read_by r among (Raise g lots) is none =
+      read_deal r among g r.firm (Raises lots) (ap (deed_of l g r.firm r.firm) is ∙ ap (λ b. cond b (Some (Raises lots)) None) (both_same g r.firm)) ∙ ap (deals_under t l r.number r.firm) is
+  read_by r among (Claim m account) is none = absurd (cc)
+  read_by r among _ is none = ap (λ c. option_and_then (λ i. standing_in v.pairs i r.number) (option_and_then (place_of_pair v) (pair_of l r.firm c))) is
 
-  module _ (once : NumbersOnce l) where
-    -- of a change that deals for these two
-    read_deal : (n : ℕ) (r : Record) → change_of l n ≡ Some r → (g k : List ℕ) (d : Deed) → deed_of l g k r.firm r.command ≡ Some d
-        → standing_at v n ≡ deals_under t l r.number r.firm r.command
-    read_deal n r found g k d deals =
-        let among = found_in (λ r. r.number == n) l r found in
-        let own = pair_of_deed l g k r.firm r.command d deals in
-        let q = are.ready r (record { giver = g; taker = k }) among own in
-        let row = are.rows g k q.0 q.1 in
-        let number : r.number ≡ n = (Decides-eqb r.number n).0 (find_passes (λ r. r.number == n) l r found) in
-        ap (option_and_then (λ i. standing_in v.pairs i n)) (placed_at n (Some r) found ∙ ap (option_and_then (place_of_pair v)) own)
-        ∙ (through v n (lookup (is_pair g k) v.places)
-        ∙ (ap (option_and_then (λ (r0 : PairView). standing_under r0.file r0.dealings n)) q.1
-        ∙ (ap (λ f. standing_under f q.0.dealings n) row.0
-        ∙ (ap (λ ds. standing_under (agreement t g k) ds n) row.1
-        ∙ (ap (λ m. standing_under (agreement t g k) (dealings l g k) m) (sym number)
-        ∙ (ap (option_and_then (first_under_deed (agreement t g k) (dealings l g k) r.number)) (deed_found l once r g k d among deals)
-        ∙ sym (deal_is t l g k r.number r.firm r.command d deals)))))))
-
-    read_by : (n : ℕ) (r : Record) → change_of l n ≡ Some r → (c : Command) → r.command ≡ c → named_place r.number c ≡ None → standing_at v n ≡ deals_under t l r.number r.firm c
-    read_by n r found (Agree g k rate limit) is none =
-        let made = Makes (record { rate = rate; limit = limit }) in
-        read_deal n r found g k made (ap (deed_of l g k r.firm) is ∙ ap (λ b. cond b (Some made) None) (both_same g k)) ∙ ap (deals_under t l r.number r.firm) is
-    read_by n r found (Raise g lots) is none =
-        read_deal n r found g r.firm (Raises lots) (ap (deed_of l g r.firm r.firm) is ∙ ap (λ b. cond b (Some (Raises lots)) None) (both_same g r.firm)) ∙ ap (deals_under t l r.number r.firm) is
-    read_by n r found (Claim m account) is none = absurd (cc)
-    read_by n r found _ is none = ap (option_and_then (λ i. standing_in v.pairs i n)) (placed_at n (Some r) found ∙ ap (λ c. option_and_then (place_of_pair v) (pair_of l r.firm c)) is)
-
-    read_or : (n : ℕ) (o : Option Record) → change_of l n ≡ o → option_and_then (λ r. named_place r.number r.command) o ≡ None
-        → standing_at v n ≡ option_and_then (λ r. deals_under t l r.number r.firm r.command) o
-    read_or n None found none = ap (option_and_then (λ i. standing_in v.pairs i n)) (placed_at n None found)
-    read_or n (Some r) found none = read_by n r found r.command refl none
-
-    -- what the terms say stands on a number without a place in the trees is what the list says
-    pub read_off : (n : ℕ) → option_and_then (λ r. named_place r.number r.command) (change_of l n) ≡ None
-        → option_and_then (λ i. standing_in v.pairs i n) (pair_at v n) ≡ option_and_then (λ r. deals_under t l r.number r.firm r.command) (change_of l n)
-    read_off n none = read_or n (change_of l n) refl none
+  -- what the terms say stands on a number without a place in the trees is what the list says
+  pub read_off : (n : ℕ) → option_and_then (λ r. named_place r.number r.command) (change_of l n) ≡ None
+      → option_and_then (λ i. standing_in v.pairs i n) (pair_at v n) ≡ option_and_then (λ r. deals_under t l r.number r.firm r.command) (change_of l n)
+  read_off n none =
+      ap (option_and_then (λ i. standing_in v.pairs i n)) (are.placed n)
+      ∙ (and_then_steps (pair_place v l) (λ i. standing_in v.pairs i n) (change_of l n)
+      ∙ alike_at (λ r. option_and_then (λ i. standing_in v.pairs i n) (pair_place v l r)) (λ r. deals_under t l r.number r.firm r.command) (change_of l n) (λ r found.
+      let number = (Decides-eqb r.number n).0 (find_passes (λ r. r.number == n) l r found) in
+      ap (λ m. option_and_then (λ i. standing_in v.pairs i m) (pair_place v l r)) (sym number)
+      ∙ read_by r (found_in (λ r. r.number == n) l r found) r.command refl (sym (ap (option_and_then (λ (r : Record). named_place r.number r.command)) found) ∙ none)))
 
 -- ---- how many entries stand beside a change
 
@@ -111,15 +100,15 @@ pub counts_in : (v : TermsView) (i : Option ℕ) (o : Option PairView) → o ≡
 counts_in v i o is = ap (λ o. unwrap_or (option_map (λ (r : PairView). length r.dealings) o) 0) is ∙ sym (counts_through v i)
 
 module _ (t : House) (l : List Record) (v : TermsView) (are : AreTermsOf t l v) where
-  of_pair : (r : Record) → Contains l r → (o : Option Pair) → pair_of l r.firm r.command ≡ o → count_at v (option_and_then (place_of_pair v) o) ≡ count_of l o
-  of_pair r among None is = refl
-  of_pair r among (Some p) is =
-      let q = are.ready r p among is in
+  of_pair : (o : Option Pair) → ((p : Pair) → o ≡ Some p → (q : PairView) × (row_of v p.giver p.taker ≡ Some q)) → count_at v (option_and_then (place_of_pair v) o) ≡ count_of l o
+  of_pair None there = refl
+  of_pair (Some p) there =
+      let q = there p refl in
       counts_through v (place_of_pair v p) ∙ (ap (λ o. unwrap_or (option_map (λ (x : PairView). length x.dealings) o) 0) q.1 ∙ ap length (are.rows p.giver p.taker q.0 q.1).1)
 
-  of_change : (n : ℕ) (o : Option Record) → change_of l n ≡ o → count_at v (pair_at v n) ≡ count_of l (option_and_then (λ (r : Record). pair_of l r.firm r.command) o)
-  of_change n None found = ap (count_at v) (placed_at t l v are n None found)
-  of_change n (Some r) found = ap (count_at v) (placed_at t l v are n (Some r) found) ∙ of_pair r (found_in (λ r. r.number == n) l r found) (pair_of l r.firm r.command) refl
-
   pub counted : (n : ℕ) → count_at v (pair_at v n) ≡ entries_dealt l n
-  counted n = of_change n (change_of l n) refl
+  counted n =
+      let pairs = λ (r : Record). pair_of l r.firm r.command in
+      ap (count_at v) (are.placed n ∙ sym (and_then_steps pairs (place_of_pair v) (change_of l n))) ∙ of_pair (option_and_then pairs (change_of l n)) (λ p e.
+      let r = and_then_told pairs (change_of l n) p e in
+      are.ready r.0 p (found_in (λ r. r.number == n) l r.0 r.1.0) r.1.1)

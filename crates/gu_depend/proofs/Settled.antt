@@ -1,17 +1,17 @@
 -- What holds of the changes of a legal list over the whole list, wherever each of them stands.
 use Rattle.gu_depend.proofs.Vocabulary.{◌≡◌, ◌≤◌, true, List, [], ◌∷◌, ◌++◌, sym, subst, arith, append-nil, append_assoc, Some, None, count_by, EntryPart, House, node_of}
-use Rattle.gu_depend.proofs.Vocabulary.{decision_of, is_given, splits, decides, refusal_of, row, first_refused, Record, Node, node_more, none_refused, refusal_parts, splits_well, decides_well, ℕ}
-use Rattle.gu_depend.proofs.Vocabulary.{Bool, not, ◌&&◌, length, length-append, refl, ◌∙◌, ap, Option, All, inl, inr, is_none, nat_lt, All-nil, All-push, knows_firm, agreement, owns}
-use Rattle.gu_depend.proofs.Vocabulary.{depth_of, is_offered, trade_row, split_row, claim_row, Refusal, NotOffered, NotYours, first, unless, is_taker, is_giver, IsLegal, Part, Command, Trade, Split}
-use Rattle.gu_depend.proofs.Vocabulary.{Claim, Refuse, Cancel, Agree, Raise, Kind, deed_of, dealings_in, Deed, at_node, legal_from_replay, fits, AllFit, same_Some, at_node_none, SplitHolds}
-use Rattle.gu_depend.proofs.Vocabulary.{claim_passes, agree_passes, raise_passes, node_called, no_some, or_cases}
+use Rattle.gu_depend.proofs.Vocabulary.{decision_of, is_given, splits, decides, refusal_of, row, first_refused, Record, Node, node_more, refusal_parts, splits_well, decides_well, ℕ, Bool, not}
+use Rattle.gu_depend.proofs.Vocabulary.{◌&&◌, length, length-append, ◌∙◌, ap, Option, All, inl, inr, is_none, nat_lt, All-nil, All-push, knows_firm, agreement, owns, depth_of}
+use Rattle.gu_depend.proofs.Vocabulary.{is_offered, trade_row, split_row, claim_row, Refusal, NotOffered, NotYours, first, unless, is_taker, is_giver, IsLegal, Part, Command, Trade, Split, Claim}
+use Rattle.gu_depend.proofs.Vocabulary.{Refuse, Cancel, Agree, Raise, Kind, deed_of, dealings_in, at_node, legal_from_replay, fits, AllFit, same_Some, at_node_none, SplitHolds, claim_passes}
+use Rattle.gu_depend.proofs.Vocabulary.{agree_passes, raise_passes, node_called, no_some, or_cases, none_or_some}
 use Rattle.gu_depend.proofs.Finds.{once_push, find_more}
 use Rattle.gu_base.proofs.Decisions.{Which, before, here, which}
-use Rattle.gu_depend.proofs.Grown.{ThereFor, Within, Grown, grown_none, grown_push, owns_same, depth_same}
+use Rattle.gu_depend.proofs.Grown.{ThereFor, Within, Grown, grown_none, grown_push, owns_same, depth_same, Follows}
 use Rattle.gu_depend.proofs.Names.{at_name}
-use Rattle.gu_depend.proofs.Deals.{numbered, deed_grown, dealings_grown, dealings_cut, dealings_idle, row_fits}
+use Rattle.gu_depend.proofs.Deals.{numbered, deed_grown, dealings_grown, dealings_cut, dealings_idle, deal}
 use Rattle.gu_base.proofs.Dealt.{fit_append}
-use Rattle.gu_base.proofs.Passing.{split_passes, ClaimHolds, AgreeHolds, decision_passes}
+use Rattle.gu_base.proofs.Passing.{split_passes, ClaimHolds, AgreeHolds, decision_passes, offered_of}
 
 -- ---- what a list names, and what it finds
 
@@ -26,25 +26,28 @@ given_or : (t : House) (l : List Record) (r : Record) (n : EntryPart) (d : Recor
 given_or t l r n d s h (before e) = let x = s.given n d e in (x.0, (node_more l (r ∷ []) n x.0 x.1.0, x.1.1))
 given_or t l r n d s h (here is _) = let w = decides_well t l r.firm r.command n h is in (w.node, (node_more l (r ∷ []) n w.node w.there, w.given))
 
-pub named_once_push : (t : House) (l : List Record) (r : Record) → NamedOnce l → row t l r.firm r.command ≡ None → NamedOnce (l ++ r ∷ [])
+named_once_push : (t : House) (l : List Record) (r : Record) → NamedOnce l → row t l r.firm r.command ≡ None → NamedOnce (l ++ r ∷ [])
 named_once_push t l r s h = record {
   given = λ n d e. given_or t l r n d s h (which l r n d e);
   splits_once = λ n. once_push (λ r. splits n r.command) l r (s.splits_once n) (λ is. (splits_well t l r.firm r.command n h is).whole);
   decisions_once = λ n. once_push (λ r. decides n r.command) l r (s.decisions_once n) (λ is. (decides_well t l r.firm r.command n h is).undecided);
 }
 
-pub named_once_none : NamedOnce []
+named_once_none : NamedOnce []
 named_once_none = record { given = λ n r e. absurd (cc); splits_once = λ n. omega arith; decisions_once = λ n. omega arith }
 
-pub named_once_from : (t : House) (done rest : List Record) → NamedOnce done → first_refused t done rest ≡ None → NamedOnce (done ++ rest)
-named_once_from t done [] s none = subst (λ (l : List Record). NamedOnce l) (sym (append-nil done)) s
-named_once_from t done (r ∷ rest) s none =
-    let p = none_refused (refusal_of t done r.firm r.command) r.number (first_refused t (done ++ r ∷ []) rest) none in
-    subst (λ (l : List Record). NamedOnce l) (append_assoc done (r ∷ []) rest)
-    (named_once_from t (done ++ r ∷ []) rest (named_once_push t done r s (refusal_parts t done r.firm r.command p.0).1) p.1)
+-- what no changes have, and one more that is accepted keeps, each front of a legal list has
+along : (t : House) (l : List Record) (P : List Record → Type 0) → IsLegal t l
+    → ((b : List Record) (r : Record) (rest : List Record) → l ≡ (b ++ r ∷ []) ++ rest → refusal_of t b r.firm r.command ≡ None → P b → P (b ++ r ∷ []))
+    → (b front rest : List Record) → l ≡ b ++ (front ++ rest) → P b → P (b ++ front)
+along t l P legal keeps b [] rest e held = subst P (sym (append-nil b)) held
+along t l P legal keeps b (r ∷ front) rest e held =
+    let cut : l ≡ (b ++ r ∷ []) ++ (front ++ rest) = e ∙ sym (append_assoc b (r ∷ []) (front ++ rest)) in
+    subst P (append_assoc b (r ∷ []) front) (along t l P legal keeps (b ++ r ∷ []) front rest cut (keeps b r (front ++ rest) cut (legal.accepted b (front ++ rest) r e) held))
 
 pub named_once : (t : House) (l : List Record) → first_refused t [] l ≡ None → NamedOnce l
-named_once t l none = named_once_from t [] l named_once_none none
+named_once t l none =
+    along t l NamedOnce (legal_from_replay t l none) (λ b r rest e h s. named_once_push t b r s (refusal_parts t b r.firm r.command h).1) [] l [] (sym (append-nil l)) named_once_none
 
 -- a node of the list, of which this holds
 pub record SettledAt (l : List Record) (n : EntryPart) (P : Node → Type 0) : Type 0 where
@@ -73,22 +76,17 @@ pub record Settled (t : House) (l : List Record) (r : Record) : Type 0 where
 -- ---- a node that is no longer offered has its decision, if it ever has one
 
 -- what is given and not decided is offered
-pub offered_again : (g : Bool) → g ≡ true → not (g && true) ≡ true → ⊥
-offered_again g e h = cc
-
-free_decided_by : (l b : List Record) (n : EntryPart) (x : Node) → NamedOnce l → Within l b → node_of b n ≡ Some x → (o : Option Record) → decision_of b n ≡ o
-    → not (is_given x.kind && is_none o) ≡ true → o ≡ decision_of l n
-free_decided_by l b n x s w found (Some d) e free = sym (w.decisions n d e)
-free_decided_by l b n x s w found None e free =
-    sym (no_some (decision_of l n) (λ d h.
-    let y = s.given n d h in
-    let one : y.0 ≡ x = same_Some y.0 x (sym y.1.0 ∙ w.nodes n x found) in
-    offered_again (is_given x.kind) (subst (λ (z : Node). is_given z.kind ≡ true) one y.1.1) free))
+pub still_offered : (l : List Record) (x : Node) → is_given x.kind ≡ true → decision_of l x.name ≡ None → not (is_offered l x) ≡ true → ⊥
+still_offered l x given none free = let offered : is_offered l x ≡ true = offered_of l x given none in cc
 
 pub free_decided : (l b : List Record) (n : EntryPart) (x : Node) → NamedOnce l → Within l b → node_of b n ≡ Some x → not (is_offered b x) ≡ true → decision_of b n ≡ decision_of l n
-free_decided l b n x s w found free =
-    let called = node_called b n x found in
-    free_decided_by l b n x s w found (decision_of b n) refl (subst (λ (z : EntryPart). not (is_given x.kind && is_none (decision_of b z)) ≡ true) called free)
+free_decided l b n x s w found free = elim (none_or_some (decision_of b n)) [
+  | inl none ↦ none ∙ sym (no_some (decision_of l n) (λ d h.
+      let y = s.given n d h in
+      let one : y.0 ≡ x = same_Some y.0 x (sym y.1.0 ∙ w.nodes n x found) in
+      still_offered b x (subst (λ (z : Node). is_given z.kind ≡ true) one y.1.1) (ap (decision_of b) (node_called b n x found) ∙ none) free))
+  | inr d ↦ d.1 ∙ sym (w.decisions n d.0 d.1)
+]
 
 -- ---- what is accepted behind some changes is settled over all
 
@@ -141,6 +139,13 @@ accepted_there t b by c h n is = elim (or_cases (splits n c) (decides n c) is) [
 
 -- ---- along the list
 
+-- so it follows what it stands on
+pub accepted_follows : (t : House) (l b : List Record) (by : List ℕ) (c : Command) → NamedOnce l → Within l b → row t b by c ≡ None → Follows l b c
+accepted_follows t l b by c s w h = record {
+  there = accepted_there t b by c h;
+  decided = λ n is. let y = splits_well t b by c n h is in free_decided l b n y.node s w y.there y.free;
+}
+
 -- the second list is a front of the first
 pub front_within : (l b rest : List Record) → l ≡ b ++ rest → Within l b
 front_within l b rest e = record {
@@ -158,40 +163,31 @@ pub record Facts (t : House) (l b : List Record) : Type 0 where
   pub deals : (giver taker : List ℕ) → AllFit (agreement t giver taker) [] (dealings_in l b giver taker)
 
 -- one more change that is accepted fits
-deals_push : (t : House) (l b : List Record) (r : Record) → Facts t l b → (g k : List ℕ) → row t b r.firm r.command ≡ None → (o : Option Deed) → deed_of l g k r.firm r.command ≡ o
-    → AllFit (agreement t g k) [] (dealings_in l (b ++ r ∷ []) g k)
-deals_push t l b r f g k h None e = subst (AllFit (agreement t g k) []) (sym (dealings_idle l b r g k e)) (f.deals g k)
-deals_push t l b r f g k h (Some d) e =
-    let same : deed_of b g k r.firm r.command ≡ Some d = deed_grown l b g k r.firm r.command f.grown.within (accepted_there t b r.firm r.command h) ∙ e in
-    let fit : fits (agreement t g k) (dealings_in l b g k) d ≡ true = subst (λ z. fits (agreement t g k) z d ≡ true) (dealings_grown l b g k f.grown)
-    (row_fits t b g k r.firm r.command d h same) in
-    subst (AllFit (agreement t g k) []) (sym (dealings_cut l b r [] g k (Some d) e)) (fit_append (agreement t g k) [] (dealings_in l b g k) (numbered r d ∷ []) (f.deals g k) (fit, tt))
+deals_push : (t : House) (l b : List Record) (r : Record) → Facts t l b → row t b r.firm r.command ≡ None → (g k : List ℕ) → AllFit (agreement t g k) [] (dealings_in l (b ++ r ∷ []) g k)
+deals_push t l b r f h g k = elim (none_or_some (deed_of l g k r.firm r.command)) [
+  | inl none ↦ subst (AllFit (agreement t g k) []) (sym (dealings_idle l b r g k none)) (f.deals g k)
+  | inr d ↦ (
+      let same = deed_grown l b g k r.firm r.command f.grown.within (accepted_there t b r.firm r.command h) ∙ d.1 in
+      let fit = subst (λ z. fits (agreement t g k) z d.0 ≡ true) (dealings_grown l b g k f.grown) ((deal b r.firm r.command g k d.0 same).fit t h) in
+      subst (AllFit (agreement t g k) []) (sym (dealings_cut l b r [] g k (Some d.0) d.1))
+      (fit_append (agreement t g k) [] (dealings_in l b g k) (numbered r d.0 ∷ []) (f.deals g k) (fit, tt)))
+]
 
-facts_push : (t : House) (l b : List Record) (r : Record) → NamedOnce l → Within l (b ++ r ∷ []) → length (b ++ r ∷ []) ≤ length l → Facts t l b
-    → refusal_of t b r.firm r.command ≡ None → Facts t l (b ++ r ∷ [])
-facts_push t l b r s w short f h =
+facts_push : (t : House) (l b : List Record) (r : Record) (rest : List Record) → NamedOnce l → l ≡ (b ++ r ∷ []) ++ rest → refusal_of t b r.firm r.command ≡ None
+    → Facts t l b → Facts t l (b ++ r ∷ [])
+facts_push t l b r rest s e h f =
     let p = refusal_parts t b r.firm r.command h in
     record {
-      grown = grown_push l b r f.grown w short (accepted_there t b r.firm r.command p.1)
-          (λ n is. let y = splits_well t b r.firm r.command n p.1 is in free_decided l b n y.node s f.grown.within y.there y.free);
+      grown = grown_push l b r f.grown (front_within l (b ++ r ∷ []) rest e) (front_short l (b ++ r ∷ []) rest e) (accepted_follows t l b r.firm r.command s f.grown.within p.1);
       settled = All-push (Settled t l) b r f.settled (record { known = p.0; stands = settles t l b r.firm r.command s f.grown p.1 });
-      deals = λ g k. deals_push t l b r f g k p.1 (deed_of l g k r.firm r.command) refl;
+      deals = deals_push t l b r f p.1;
     }
-
--- along the list, up to a front of it
-facts_to : (t : House) (l b front rest : List Record) → NamedOnce l → IsLegal t l → l ≡ b ++ (front ++ rest) → Facts t l b → Facts t l (b ++ front)
-facts_to t l b [] rest s legal e f = subst (Facts t l) (sym (append-nil b)) f
-facts_to t l b (r ∷ front) rest s legal e f =
-    let cut : l ≡ (b ++ r ∷ []) ++ (front ++ rest) = e ∙ sym (append_assoc b (r ∷ []) (front ++ rest)) in
-    let more = facts_push t l b r s (front_within l (b ++ r ∷ []) (front ++ rest) cut) (front_short l (b ++ r ∷ []) (front ++ rest) cut) f (legal.accepted b (front ++ rest) r e) in
-    subst (Facts t l) (append_assoc b (r ∷ []) front) (facts_to t l (b ++ r ∷ []) front rest s legal cut more)
-
-facts_none : (t : House) (l : List Record) → Facts t l []
-facts_none t l = record { grown = grown_none l; settled = All-nil (Settled t l); deals = λ giver taker. tt }
 
 -- what holds of a front of a legal list, over the whole list
 pub front_facts : (t : House) (l front rest : List Record) → l ≡ front ++ rest → first_refused t [] l ≡ None → Facts t l front
-front_facts t l front rest e none = facts_to t l [] front rest (named_once t l none) (legal_from_replay t l none) e (facts_none t l)
+front_facts t l front rest e none =
+    along t l (Facts t l) (legal_from_replay t l none) (λ b r rest e h f. facts_push t l b r rest (named_once t l none) e h f) [] front rest e
+    (record { grown = grown_none l; settled = All-nil (Settled t l); deals = λ giver taker. tt })
 
 pub facts : (t : House) (l : List Record) → first_refused t [] l ≡ None → Facts t l l
 facts t l none = front_facts t l l [] (sym (append-nil l)) none

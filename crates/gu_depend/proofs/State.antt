@@ -1,45 +1,35 @@
 -- Lists that find the same, and have the same changes, leave the same trees, positions and fees.
-use Rattle.gu_depend.proofs.Vocabulary.{and_parts, filter_map, ◌≡◌, ℕ, zero, suc, ◌+◌, ◌≤◌, Bool, false, ◌&&◌, List, [], ◌∷◌, length, refl, sym, ◌∙◌, ap}
-use Rattle.gu_depend.proofs.Vocabulary.{arith, Option, IsPermutation, Some, None, find, flat_map, filter, sum_by, count_by, option_and_then, option_map, unwrap_or, is_some, is_none, bytes_eq}
-use Rattle.gu_depend.proofs.Vocabulary.{◌==◌, filter-append, sum_by-cons, sum_by-append, sum_by-IsPermutation, EntryPart, House, agreement, node_of, nodes, split_of, claim_of}
-use Rattle.gu_depend.proofs.Vocabulary.{claimed_account, parent, line_within, line_of, place_of_kind, place_along, place_of, root_along, root_of, same_place, is_trade_of, trades_in, stands_at}
-use Rattle.gu_depend.proofs.Vocabulary.{position_of, dealings, terms_under, limit_under, used_under, terms_of, limit_of, used_of, charge_of_kind, charge_of_node, charge_of, charges, counted}
-use Rattle.gu_depend.proofs.Vocabulary.{Agreement, Kind, Given, Row, row_of, state_of, taker_of, made_by, parts_of, rows_within, rows_from, rows_of, Side, Command, Claim, Record, Charge, Node}
-use Rattle.gu_depend.proofs.Vocabulary.{Place, made}
-use Rattle.gu_depend.proofs.Finds.{counts_less, find_permuted}
-use Rattle.gu_base.proofs.Sums.{sum_option}
+use Rattle.gu_depend.proofs.Vocabulary.{and_parts, filter_map, ◌≡◌, ℕ, zero, suc, ◌+◌, ◌≤◌, Bool, false, ◌&&◌, List, [], ◌∷◌, refl, sym, ◌∙◌, ap, arith, Option}
+use Rattle.gu_depend.proofs.Vocabulary.{IsPermutation, Some, None, flat_map, filter, sum_by, count_by, option_and_then, option_map, unwrap_or, is_some, is_none, bytes_eq, ◌==◌, sum_by-cons}
+use Rattle.gu_depend.proofs.Vocabulary.{sum_by-append, sum_by-IsPermutation, EntryPart, House, agreement, node_of, nodes, split_of, claimed_account, parent, line_within, line_of, place_of_kind}
+use Rattle.gu_depend.proofs.Vocabulary.{place_along, place_of, root_along, same_place, is_trade_of, trades_in, stands_at, position_of, dealings, terms_under, limit_under, used_under, terms_of}
+use Rattle.gu_depend.proofs.Vocabulary.{limit_of, used_of, charge_of_kind, charge_of_node, charge_of, charges, counted, Agreement, Kind, Given, row_of, state_of, taker_of, made_by, rows_within}
+use Rattle.gu_depend.proofs.Vocabulary.{rows_from, rows_of, Side, Command, Claim, Record, Charge, Node, Place, made, cond, deed_of, use_of_node, use_of_kind, Uses, name_same, true, IsSameState}
+use Rattle.gu_depend.proofs.Vocabulary.{names}
+use Rattle.gu_depend.proofs.Finds.{counts_less, find_permuted, alike_at}
+use Rattle.gu_base.proofs.Sums.{sum_option, sum_kept}
 use Rattle.std.proofs.Common.{◌*◌}
-use Rattle.gu_depend.specs.Same.{IsSameState}
 use Rattle.gu_depend.proofs.Settled.{NamedOnce}
 use Rattle.gu_depend.proofs.Replay.{SameFinds, same_finds, NumbersOnce}
+use Rattle.gu_depend.specs.Moves.{lots_at}
+use Rattle.gu_depend.proofs.Deals.{both_same}
 
 module _ {l o : List Record} (f : SameFinds l o) where
-  line_above : (n : ℕ) → ((x : Option Node) → line_within n o x ≡ line_within n l x) → (k : Option EntryPart)
-      → line_within n o (option_and_then (node_of o) k) ≡ line_within n l (option_and_then (node_of l) k)
-  line_above n same None = same None
-  line_above n same (Some m) = ap (line_within n o) (f.nodes m) ∙ same (node_of l m)
-
   line_same : (n : ℕ) (x : Option Node) → line_within n o x ≡ line_within n l x
   line_same zero None = refl
   line_same (suc n) None = refl
   line_same zero (Some x) = refl
-  line_same (suc n) (Some x) = ap (λ xs. x ∷ xs) (line_above n (line_same n) (parent x.kind))
+  line_same (suc n) (Some x) = λ i. x ∷ line_same n (option_and_then (λ m. f.nodes m i) (parent x.kind)) i
 
-  pub line_of_same : (n : EntryPart) → line_of o n ≡ line_of l n
-  line_of_same n = ap (λ k. line_within k o (node_of o n)) f.long ∙ (ap (line_within (length l) o) (f.nodes n) ∙ line_same (length l) (node_of l n))
-
-  claim_same : (n : EntryPart) → claim_of o n ≡ claim_of l n
-  claim_same n = ap (option_and_then (λ r. claimed_account r.command)) (f.decisions n)
+  line_of_same : (n : EntryPart) → line_of o n ≡ line_of l n
+  line_of_same n = λ i. line_same (f.long i) (f.nodes n i) i
 
   along_same : (xs : List Node) → place_along o xs ≡ place_along l xs
   along_same [] = refl
-  along_same (x ∷ xs) = ap (λ c. place_of_kind x.kind c (place_along o xs)) (claim_same x.name) ∙ ap (place_of_kind x.kind (claim_of l x.name)) (along_same xs)
+  along_same (x ∷ xs) = λ i. place_of_kind x.kind (option_and_then (λ r. claimed_account r.command) (f.decisions x.name i)) (along_same xs i)
 
-  pub place_same : (n : EntryPart) → place_of o n ≡ place_of l n
-  place_same n = ap (place_along o) (line_of_same n) ∙ along_same (line_of l n)
-
-  pub root_same : (n : EntryPart) → root_of o n ≡ root_of l n
-  root_same n = ap root_along (line_of_same n)
+  place_same : (n : EntryPart) → place_of o n ≡ place_of l n
+  place_same n = λ i. along_same (line_of_same n i) i
 
   row_same : (depth : ℕ) (x : Node) → row_of o depth x ≡ row_of l depth x
   row_same depth x = λ i. record {
@@ -53,43 +43,39 @@ module _ {l o : List Record} (f : SameFinds l o) where
   }
 
   rows_same : (levels depth : ℕ) (x : Node) → rows_within levels o depth x ≡ rows_within levels l depth x
-  rows_same zero depth x = ap (λ r. r ∷ []) (row_same depth x)
-  rows_same (suc levels) depth x =
-      ap (λ r. r ∷ flat_map (rows_within levels o (depth + 1)) (parts_of o x.name)) (row_same depth x)
-      ∙ ap (λ rs. row_of l depth x ∷ rs)
-      (ap (λ s. flat_map (rows_within levels o (depth + 1)) (made_by s)) (f.splits_same x.name)
-      ∙ ap (λ (g : Node → List Row). flat_map g (parts_of l x.name)) (λ i y. rows_same levels (depth + 1) y i))
+  rows_same zero depth x = λ i. row_same depth x i ∷ []
+  rows_same (suc levels) depth x = λ i. row_same depth x i ∷ flat_map (λ y. rows_same levels (depth + 1) y i) (made_by (f.splits_same x.name i))
 
   rows_from_same : (x : Option Node) → rows_from o x ≡ rows_from l x
   rows_from_same None = refl
-  rows_from_same (Some x) = ap (λ n. rows_within n o 0 x) f.long ∙ rows_same (length l) 0 x
+  rows_from_same (Some x) = λ i. rows_same (f.long i) 0 x i
 
-  pub trees_same : (trade : ℕ) → rows_of o trade ≡ rows_of l trade
-  trees_same trade = ap (rows_from o) (f.nodes (record { entry = trade; part = 0 })) ∙ rows_from_same (node_of l (record { entry = trade; part = 0 }))
+  trees_same : (trade : ℕ) → rows_of o trade ≡ rows_of l trade
+  trees_same trade = λ i. rows_from_same (f.nodes (record { entry = trade; part = 0 }) i) i
 
 -- ---- sums over the nodes
 
--- what the nodes that a change makes sum to, of those that two tests take
-abbrev made_lots : (Node → Bool) → (Node → Bool) → Record → ℕ
-made_lots p q r = sum_by (λ x. x.lots) (filter p (filter q (made r)))
+pub sum_filter : {X : Type 0} (w : X → ℕ) (p : X → Bool) (xs : List X) → sum_by w (filter p xs) ≡ sum_by (λ x. cond (p x) (w x) 0) xs
+sum_filter w p [] = refl
+sum_filter w p (x ∷ xs) =
+    let a = sum_kept w (p x) x (filter p xs) in
+    let b = sum_filter w p xs in
+    let c = sum_by-cons (λ x. cond (p x) (w x) 0) x xs in
+    omega (arith, a, b, c)
 
-nodes_sum : (p q : Node → Bool) (l : List Record) → sum_by (λ x. x.lots) (filter p (filter q (nodes l))) ≡ sum_by (made_lots p q) l
-nodes_sum p q [] = refl
-nodes_sum p q (r ∷ l) =
-    let a = ap (λ xs. sum_by (λ (x : Node). x.lots) (filter p xs)) (filter-append q (made r) (nodes l)) in
-    let b = ap (λ xs. sum_by (λ (x : Node). x.lots) xs) (filter-append p (filter q (made r)) (filter q (nodes l))) in
-    let c = sum_by-append (λ (x : Node). x.lots) (filter p (filter q (made r))) (filter p (filter q (nodes l))) in
-    let d = nodes_sum p q l in
-    let e = sum_by-cons (made_lots p q) r l in
-    omega (arith, a, b, c, d, e)
+pub position_is : (l : List Record) (at : Place) (instrument : List ℕ) (side : Side) → position_of l at.firm at.account instrument side ≡ sum_by (lots_at l at instrument side) (nodes l)
+position_is l at instrument side =
+    sum_filter (λ (x : Node). x.lots) (λ x. stands_at l at x.name && trades_in l instrument side x.name) (filter (λ x. is_none (split_of l x.name)) (nodes l))
+    ∙ sum_filter (λ (x : Node). cond (stands_at l at x.name && trades_in l instrument side x.name) x.lots 0) (λ x. is_none (split_of l x.name)) (nodes l)
 
--- the same tests take the same sum in whatever order the changes stand
-nodes_sum_permuted : (p q p' q' : Node → Bool) (l o : List Record) → IsPermutation l o → ((x : Node) → p' x ≡ p x) → ((x : Node) → q' x ≡ q x)
-    → sum_by (λ x. x.lots) (filter p' (filter q' (nodes o))) ≡ sum_by (λ x. x.lots) (filter p (filter q (nodes l)))
-nodes_sum_permuted p q p' q' l o same ps qs =
-    ap (λ (g : Node → Bool). sum_by (λ (x : Node). x.lots) (filter g (filter q' (nodes o)))) (λ i x. ps x i)
-    ∙ (ap (λ (g : Node → Bool). sum_by (λ (x : Node). x.lots) (filter p (filter g (nodes o)))) (λ i x. qs x i)
-    ∙ (nodes_sum p q o ∙ (sum_by-IsPermutation (made_lots p q) l o same ∙ sym (nodes_sum p q l))))
+-- a sum over the nodes is one over the changes
+sum_made : (w : Node → ℕ) (l : List Record) → sum_by w (nodes l) ≡ sum_by (λ r. sum_by w (made r)) l
+sum_made w [] = refl
+sum_made w (r ∷ l) =
+    let a = sum_by-append w (made r) (nodes l) in
+    let b = sum_made w l in
+    let c = sum_by-cons (λ r. sum_by w (made r)) r l in
+    omega (arith, a, b, c)
 
 trade_once : (l : List Record) (instrument : List ℕ) (side : Side) (k : ℕ) → count_by (λ r. r.number == k) l ≤ 1
     → count_by (λ r. (r.number == k) && is_trade_of instrument side r.command) l ≤ 1
@@ -100,23 +86,22 @@ trade_once l instrument side k once =
 
 module _ {l o : List Record} (same : IsPermutation l o) (once : NumbersOnce l) (f : SameFinds l o) where
   trades_same : (instrument : List ℕ) (side : Side) (n : EntryPart) → trades_in o instrument side n ≡ trades_in l instrument side n
-  trades_same instrument side n =
-      ap (λ r. is_some (option_and_then (λ t. find (λ r. (r.number == t.entry) && is_trade_of instrument side r.command) o) r)) (root_same f n)
-      ∙ ap (λ (g : EntryPart → Option Record). is_some (option_and_then g (root_of l n)))
-      (λ i t. find_permuted (λ r. (r.number == t.entry) && is_trade_of instrument side r.command) l o same (trade_once l instrument side t.entry (once t.entry)) i)
+  trades_same instrument side n = λ i. is_some (option_and_then (λ t.
+      find_permuted (λ r. (r.number == t.entry) && is_trade_of instrument side r.command) l o same (trade_once l instrument side t.entry (once t.entry)) i)
+      (root_along (line_of_same f n i)))
 
-  stands_same : (at : Place) (n : EntryPart) → stands_at o at n ≡ stands_at l at n
-  stands_same at n = ap (λ p. unwrap_or (option_map (same_place at) p) false) (place_same f n)
+  lots_same : (at : Place) (instrument : List ℕ) (side : Side) (x : Node) → lots_at o at instrument side x ≡ lots_at l at instrument side x
+  lots_same at instrument side x = λ i.
+      cond (is_none (f.splits_same x.name i))
+      (cond (unwrap_or (option_map (same_place at) (place_same f x.name i)) false && trades_same instrument side x.name i) x.lots 0) 0
 
-  pub positions_same : (firm account instrument : List ℕ) (side : Side) → position_of o firm account instrument side ≡ position_of l firm account instrument side
+  positions_same : (firm account instrument : List ℕ) (side : Side) → position_of o firm account instrument side ≡ position_of l firm account instrument side
   positions_same firm account instrument side =
       let at : Place = record { firm = firm; account = account } in
-      nodes_sum_permuted
-      (λ x. stands_at l at x.name && trades_in l instrument side x.name) (λ x. is_none (split_of l x.name))
-      (λ x. stands_at o at x.name && trades_in o instrument side x.name) (λ x. is_none (split_of o x.name))
-      l o same
-      (λ x. ap (λ b. b && trades_in o instrument side x.name) (stands_same at x.name) ∙ ap (λ b. stands_at l at x.name && b) (trades_same instrument side x.name))
-      (λ x. ap is_none (f.splits_same x.name))
+      let w = lots_at l at instrument side in
+      position_is o at instrument side
+      ∙ (ap (λ (w : Node → ℕ). sum_by w (nodes o)) (λ i x. lots_same at instrument side x i)
+      ∙ (sum_made w o ∙ (sum_by-IsPermutation (λ r. sum_by w (made r)) l o same ∙ (sym (sum_made w l) ∙ sym (position_is l at instrument side)))))
 
 -- ---- sums over the charges
 
@@ -143,15 +128,27 @@ same_deals t l o same = record {
   used = λ g k. ap used_under (same g k);
 }
 
-kind_same : (t : House) (l o : List Record) → SameDeals t l o → (lots : ℕ) (kind : Kind) → charge_of_kind t o lots kind ≡ charge_of_kind t l lots kind
-kind_same t l o deals lots (Given m g k) = ap (option_map (λ (a : Agreement). record { giver = g; taker = k; lots = lots; rate = a.rate })) (deals.terms g k)
-kind_same t l o deals lots _ = refl
+-- the terms of those whose lots a change uses are the same in both lists
+abbrev pub SameTermsFor : House → List Record → List Record → List ℕ → Command → Type 0
+SameTermsFor t l b by c = (g k : List ℕ) (lots : ℕ) → deed_of b g k by c ≡ Some (Uses lots) → terms_of t b g k ≡ terms_of t l g k
 
--- and what a change costs
+charge_of_given : (t : House) (l b : List Record) (lots : ℕ) (kind : Kind) → ((g k : List ℕ) → use_of_kind g k lots kind ≡ Some (Uses lots) → terms_of t b g k ≡ terms_of t l g k)
+    → charge_of_kind t b lots kind ≡ charge_of_kind t l lots kind
+charge_of_given t l b lots (Given m g k) same =
+    ap (option_map (λ (a : Agreement). record { giver = g; taker = k; lots = lots; rate = a.rate })) (same g k (ap (λ b. cond b (Some (Uses lots)) None) (both_same g k)))
+charge_of_given t l b lots _ same = refl
+
+-- a change whose node and terms are the same is charged the same
+pub charge_alike : (t : House) (l b : List Record) (by : List ℕ) (c : Command) → ((n : EntryPart) → names n c ≡ true → node_of b n ≡ node_of l n) → SameTermsFor t l b by c
+    → charge_of t b c ≡ charge_of t l c
+charge_alike t l b by (Claim n account) nodes same =
+    alike_at (charge_of_node t b) (charge_of_node t l) (node_of b n)
+    (λ x e. charge_of_given t l b x.lots x.kind (λ g k deals. same g k x.lots (ap (option_and_then (use_of_node g k)) e ∙ deals)))
+    ∙ ap (option_and_then (charge_of_node t l)) (nodes n (name_same n))
+charge_alike t l b by _ nodes same = refl
+
 pub charge_same : (t : House) (l o : List Record) → SameFinds l o → SameDeals t l o → (c : Command) → charge_of t o c ≡ charge_of t l c
-charge_same t l o f deals (Claim n account) =
-    ap (option_and_then (charge_of_node t o)) (f.nodes n) ∙ ap (λ (h : Node → Option Charge). option_and_then h (node_of l n)) (λ i x. kind_same t l o deals x.lots x.kind i)
-charge_same t l o f deals _ = refl
+charge_same t l o f deals c = charge_alike t l o [] c (λ n _. f.nodes n) (λ g k lots _. deals.terms g k)
 
 charges_same : (t : House) (takes : Charge → Bool) (counts : Charge → ℕ) (l o : List Record) → IsPermutation l o → SameFinds l o → SameDeals t l o
     → sum_by counts (filter takes (charges t o)) ≡ sum_by counts (filter takes (charges t l))

@@ -1,22 +1,16 @@
 -- What keeps terms those of a list of changes.
-use Rattle.gu_depend.proofs.Vocabulary.{Dealing, ◌≡◌, ℕ, Bool, true, false, ◌&&◌, List, [], ◌∷◌, ◌++◌, refl, sym, ◌∙◌, ap, subst, cond, Option, Contains, append-nil, inl}
-use Rattle.gu_depend.proofs.Vocabulary.{inr, Some, None, ◌==◌, option_and_then, bytes_eq, IsSomeAnd, lookup, option_or, and_parts, bytes_eq-Decides, All-contains, find-append, same_Some, House}
-use Rattle.gu_depend.proofs.Vocabulary.{agreement, deed_of, dealings, Deed, Pair, Command, Claim, Record, none_is_some, or_none, name_same, found_in, change_of, is_pair, PairView, TermsView}
-use Rattle.gu_depend.proofs.Vocabulary.{pair_at}
-use Rattle.gu_depend.proofs.Finds.{some_with, none_before}
+use Rattle.gu_depend.proofs.Vocabulary.{Dealing, ◌≡◌, ℕ, Bool, true, false, ◌&&◌, List, [], ◌∷◌, ◌++◌, refl, sym, ◌∙◌, ap, subst, cond, Option, Contains, append-nil}
+use Rattle.gu_depend.proofs.Vocabulary.{inl, inr, Some, None, ◌==◌, option_and_then, bytes_eq, IsSomeAnd, lookup, option_or, and_parts, bytes_eq-Decides, All-contains, find-append, same_Some}
+use Rattle.gu_depend.proofs.Vocabulary.{House, agreement, deed_of, dealings, Deed, Pair, Command, Claim, Record, none_is_some, or_none, name_same, found_in, change_of, is_pair, PairView}
+use Rattle.gu_depend.proofs.Vocabulary.{TermsView, pair_at, pair_of_kind, pair_of, place_of_pair, AreTermsOf, cases_Bool, cond_both}
+use Rattle.gu_depend.proofs.Finds.{some_with, none_before, not_both, alike_at}
 use Rattle.gu_depend.proofs.Grown.{ThereFor, Within, NamesThere}
 use Rattle.std.specs.Prelude.{if◌then◌else◌}
 use Rattle.std.proofs.lemmas.List.Elements.{Contains-push_cases}
 use Rattle.gu_fees.specs.Terms.{row_of, IsPut}
-use Rattle.gu_depend.specs.Terms.{pair_of_kind, pair_of, place_of_pair, AreTermsOf}
-use Rattle.gu_depend.proofs.Deals.{numbered, dealt, both_same, at_pair, pair, pair_of_deed, pair_told, undealt, deed_grown, dealings_grown, dealings_cut}
-use Rattle.gu_depend.proofs.StandsLast.{not_both}
+use Rattle.gu_depend.proofs.Deals.{numbered, dealt, both_same, at_pair, pair, pair_told, undealt, deed_grown, dealings_grown, dealings_cut, deal}
 use Rattle.gu_depend.proofs.LastMoves.{IsBefore}
 use Rattle.gu_depend.proofs.Settled.{accepted_there}
-
-pub alike_at : {X Y : Type 0} (f h : X → Option Y) (o : Option X) → ((x : X) → o ≡ Some x → f x ≡ h x) → option_and_then f o ≡ option_and_then h o
-alike_at f h None same = refl
-alike_at f h (Some x) same = same x refl
 
 -- ---- pairs
 
@@ -35,14 +29,12 @@ other_pair p o x y of differ e =
     let same = pair_told p (record { giver = x; taker = y }) (sym of ∙ e) in
     not_both (bytes_eq p.giver x && bytes_eq p.taker y) (at_pair (λ x y. (bytes_eq p.giver x && bytes_eq p.taker y) ≡ true) p.giver p.taker x y same (both_same p.giver p.taker)) differ
 
-pairs_by : (P : List ℕ → List ℕ → Type 0) (g k : List ℕ) → P g k → ((x y : List ℕ) → (bytes_eq g x && bytes_eq k y) ≡ false → P x y)
-    → (x y : List ℕ) (b : Bool) → (bytes_eq g x && bytes_eq k y) ≡ b → P x y
-pairs_by P g k own others x y true is = let p = and_parts (bytes_eq g x) (bytes_eq k y) is in at_pair P g k x y ((bytes_eq-Decides g x).0 p.0, (bytes_eq-Decides k y).0 p.1) own
-pairs_by P g k own others x y false is = others x y is
-
 -- what holds of one pair, and of each other, holds of all
 pub of_pairs : (P : List ℕ → List ℕ → Type 0) (g k : List ℕ) → P g k → ((x y : List ℕ) → (bytes_eq g x && bytes_eq k y) ≡ false → P x y) → (x y : List ℕ) → P x y
-of_pairs P g k own others x y = pairs_by P g k own others x y (bytes_eq g x && bytes_eq k y) refl
+of_pairs P g k own others x y = elim (cases_Bool (bytes_eq g x && bytes_eq k y)) [
+  | inl is ↦ (let p = and_parts (bytes_eq g x) (bytes_eq k y) is in at_pair P g k x y ((bytes_eq-Decides g x).0 p.0, (bytes_eq-Decides k y).0 p.1) own)
+  | inr is ↦ others x y is
+]
 
 -- a row with the terms of the house table and what is dealt
 abbrev pub IsRowOf : House → List Record → List ℕ → List ℕ → PairView → Type 0
@@ -58,17 +50,16 @@ new_row t l m v w g k after are is told =
     let old = are.rows g k own.0 own.1.0 in
     (new.0, (new.1.0, (new.1.1.0 ∙ old.0, new.1.1.1 ∙ (ap after old.1 ∙ sym is))))
 
--- where one pair has a new row, and the others have those that they had
-module _ (t : House) (l m : List Record) (v w : TermsView) (are : AreTermsOf t l v) (g k : List ℕ) (new : (p : PairView) × ((row_of w g k ≡ Some p) × IsRowOf t m g k p))
-    (others : (x y : List ℕ) → (bytes_eq g x && bytes_eq k y) ≡ false → (row_of w x y ≡ row_of v x y) × (dealings m x y ≡ dealings l x y)) where
-  pub rows_moved : (x y : List ℕ) (q : PairView) → row_of w x y ≡ Some q → IsRowOf t m x y q
-  rows_moved = of_pairs (λ x y. (q : PairView) → row_of w x y ≡ Some q → IsRowOf t m x y q) g k
-      (λ q e. subst (IsRowOf t m g k) (same_Some new.0 q (sym new.1.0 ∙ e)) new.1.1)
-      (λ x y is q e. let o = others x y is in let old = are.rows x y q (sym o.0 ∙ e) in (old.0, old.1 ∙ sym o.1))
+-- a row is that of the second list, and there where the old one was
+abbrev pub IsMoved : House → List Record → TermsView → TermsView → List ℕ → List ℕ → Type 0
+IsMoved t m v w x y = ((q : PairView) → row_of w x y ≡ Some q → IsRowOf t m x y q) × ((q : PairView) → row_of v x y ≡ Some q → (p : PairView) × (row_of w x y ≡ Some p))
 
-  pub row_kept : (x y : List ℕ) (q : PairView) → row_of v x y ≡ Some q → (p : PairView) × (row_of w x y ≡ Some p)
-  row_kept = of_pairs (λ x y. (q : PairView) → row_of v x y ≡ Some q → (p : PairView) × (row_of w x y ≡ Some p)) g k
-      (λ q e. (new.0, new.1.0)) (λ x y is q e. (q, (others x y is).0 ∙ e))
+-- where one pair has a new row, and the others have those that they had
+pub rows_moved : (t : House) (l m : List Record) (v w : TermsView) → AreTermsOf t l v → (g k : List ℕ) → (p : PairView) × ((row_of w g k ≡ Some p) × IsRowOf t m g k p)
+    → ((x y : List ℕ) → (bytes_eq g x && bytes_eq k y) ≡ false → (row_of w x y ≡ row_of v x y) × (dealings m x y ≡ dealings l x y)) → (x y : List ℕ) → IsMoved t m v w x y
+rows_moved t l m v w are g k new others = of_pairs (IsMoved t m v w) g k
+    (λ q e. subst (IsRowOf t m g k) (same_Some new.0 q (sym new.1.0 ∙ e)) new.1.1, λ q e. (new.0, new.1.0))
+    (λ x y is. let o = others x y is in (λ q e. (let old = are.rows x y q (sym o.0 ∙ e) in (old.0, old.1 ∙ sym o.1)), λ q e. (q, o.0 ∙ e)))
 
 -- ---- one more change
 
@@ -117,17 +108,16 @@ module _ (t : House) (l : List Record) (r : Record) (before : IsBefore t l r) wh
   -- ---- that deals for nobody
 
   module _ (v : TermsView) (are : AreTermsOf t l v) (none : pair_of l r.firm r.command ≡ None) where
-    apart_placed : (n : ℕ) (b : Bool) → (r.number == n) ≡ b → pair_at v n ≡ cond b (pair_place v l r) (option_and_then (pair_place v l) (change_of l n))
-    apart_placed n true is = are.placed n ∙ (ap (option_and_then (pair_place v l)) (new_number n is) ∙ sym (ap (option_and_then (place_of_pair v)) none))
-    apart_placed n false is = are.placed n
-
     -- the terms stay those of the list
     pub apart_follows : AreTermsOf t more v
     apart_follows = record {
       rows = λ x y q e. let p = are.rows x y q e in
           (p.0, p.1 ∙ sym (dealings_same x y (none_is_some (pair_of l r.firm r.command) (record { giver = x; taker = y }) none)));
       ready = ready_more v are.ready (λ p e. absurd (none_is_some (pair_of l r.firm r.command) p none e));
-      placed = λ n. apart_placed n (r.number == n) refl ∙ placed_more v n;
+      placed = λ n.
+          let old = option_and_then (pair_place v l) (change_of l n) in
+          are.placed n ∙ (cond_both (r.number == n) (pair_place v l r) old (λ o. old ≡ o)
+          (λ is. ap (option_and_then (pair_place v l)) (new_number n is) ∙ sym (ap (option_and_then (place_of_pair v)) none)) (λ _. refl) ∙ placed_more v n);
     }
 
   -- ---- that deals for a pair
@@ -135,7 +125,7 @@ module _ (t : House) (l : List Record) (r : Record) (before : IsBefore t l r) wh
   module _ (v w : TermsView) (g k : List ℕ) (d : Deed) (are : AreTermsOf t l v) (deals : deed_of l g k r.firm r.command ≡ Some d)
       (put : IsPut v w g k (record { number = r.number; deed = d })) where
     of : pair_of l r.firm r.command ≡ pair g k
-    of = pair_of_deed l g k r.firm r.command d deals
+    of = (deal l r.firm r.command g k d deals).of
 
     own : (p : PairView) × ((row_of w g k ≡ Some p) × IsRowOf t more g k p)
     own = new_row t l more v w g k (λ ds. ds ++ numbered r d ∷ []) are (dealings_more g k (Some d) deals) put.own
@@ -143,18 +133,23 @@ module _ (t : House) (l : List Record) (r : Record) (before : IsBefore t l r) wh
     others : (x y : List ℕ) → (bytes_eq g x && bytes_eq k y) ≡ false → (row_of w x y ≡ row_of v x y) × (dealings more x y ≡ dealings l x y)
     others x y is = (put.others x y is, dealings_same x y (other_pair (record { giver = g; taker = k }) (pair_of l r.firm r.command) x y of is))
 
+    moved : (x y : List ℕ) → IsMoved t more v w x y
+    moved = rows_moved t l more v w are g k own others
+
     same_places : (c : Record) → pair_place w l c ≡ pair_place v l c
     same_places c = ap (λ ps. option_and_then (λ (p : Pair). lookup (is_pair p.giver p.taker) ps) (pair_of l c.firm c.command)) put.places
 
-    put_placed : (n : ℕ) (b : Bool) → (if b then lookup (is_pair g k) v.places else pair_at v n) ≡ cond b (pair_place w l r) (option_and_then (pair_place w l) (change_of l n))
-    put_placed n true = sym (same_places r ∙ ap (option_and_then (place_of_pair v)) of)
-    put_placed n false = are.placed n ∙ sym (ap (λ (h : Record → Option ℕ). option_and_then h (change_of l n)) (λ i c. same_places c i))
+    put_placed : (n : ℕ) → (if r.number == n then lookup (is_pair g k) v.places else pair_at v n) ≡ cond (r.number == n) (pair_place w l r) (option_and_then (pair_place w l) (change_of l n))
+    put_placed n =
+        let own_place = sym (same_places r ∙ ap (option_and_then (place_of_pair v)) of) in
+        let old_place = are.placed n ∙ sym (ap (λ (h : Record → Option ℕ). option_and_then h (change_of l n)) (λ i c. same_places c i)) in
+        λ i. cond (r.number == n) (own_place i) (old_place i)
 
     -- the terms that it was put into are those of the longer list
     pub put_follows : AreTermsOf t more w
     put_follows = record {
-      rows = rows_moved t l more v w are g k own others;
-      ready = ready_more w (λ c p among e. let q = are.ready c p among e in row_kept t l more v w are g k own others p.giver p.taker q.0 q.1)
+      rows = λ x y. (moved x y).0;
+      ready = ready_more w (λ c p among e. let q = are.ready c p among e in (moved p.giver p.taker).1 q.0 q.1)
           (λ p e. at_pair (λ x y. (q : PairView) × (row_of w x y ≡ Some q)) g k p.giver p.taker (pair_told (record { giver = g; taker = k }) p (sym of ∙ e)) (own.0, own.1.0));
-      placed = λ n. put.placed n ∙ (put_placed n (r.number == n) ∙ placed_more w n);
+      placed = λ n. put.placed n ∙ (put_placed n ∙ placed_more w n);
     }

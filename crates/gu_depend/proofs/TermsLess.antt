@@ -1,17 +1,16 @@
 -- What keeps terms those of a list of changes, when one goes on which nothing stands.
-use Rattle.gu_depend.proofs.Vocabulary.{◌≡◌, ℕ, Bool, true, false, not, ◌&&◌, List, ◌∷◌, ◌++◌, refl, sym, ◌∙◌, ap, subst, cond, Option, Contains, Some, None, ◌==◌}
-use Rattle.gu_depend.proofs.Vocabulary.{option_and_then, slice_get, bytes_eq, lookup, Decides-eqb, All-contains, House, standing_on, without, deed_of, dealings_in, dealings, leave_out, Pair, Record}
-use Rattle.gu_depend.proofs.Vocabulary.{none_is_some, eqb_symm, found_in, change_of, is_pair, PairView, TermsView, pair_at}
+use Rattle.gu_depend.proofs.Vocabulary.{◌≡◌, ℕ, Bool, true, false, not, ◌&&◌, List, ◌∷◌, ◌++◌, refl, sym, ◌∙◌, ap, cond, Option, Contains, Some, None, ◌==◌}
+use Rattle.gu_depend.proofs.Vocabulary.{option_and_then, slice_get, bytes_eq, lookup, Decides-eqb, All-contains, House, standing_on, without, deed_of, dealings_in, dealings, leave_out, Pair}
+use Rattle.gu_depend.proofs.Vocabulary.{Record, none_is_some, eqb_symm, found_in, change_of, is_pair, PairView, TermsView, pair_at, pair_of, place_of_pair, AreTermsOf, cond_both}
 use Rattle.gu_fees.specs.Terms.{row_of, IsTakenOut}
-use Rattle.gu_depend.specs.Terms.{pair_of, place_of_pair, AreTermsOf}
 use Rattle.gu_depend.proofs.Deals.{dealings_append, dealings_cut, pair, undealt, dealings_grown, left_out}
-use Rattle.gu_depend.proofs.Finds.{found_once, by_cut}
+use Rattle.gu_depend.proofs.Finds.{found_once, by_cut, not_both, and_then_told, alike_at}
 use Rattle.gu_depend.proofs.Grown.{NamesThere, Grown}
 use Rattle.gu_depend.proofs.Replay.{Legal}
-use Rattle.gu_depend.proofs.StandsLast.{not_both, gone}
+use Rattle.gu_depend.proofs.StandsLast.{gone}
 use Rattle.gu_depend.proofs.StandsUnder.{can_go, in_whole}
-use Rattle.gu_depend.proofs.Cuts.{gone_from, find_kept}
-use Rattle.gu_depend.proofs.TermsFollow.{new_row, alike_at, pair_place, pair_grown, other_pair, IsRowOf, rows_moved, row_kept}
+use Rattle.gu_depend.proofs.Cuts.{find_filter}
+use Rattle.gu_depend.proofs.TermsFollow.{new_row, pair_place, pair_grown, other_pair, IsRowOf, rows_moved, IsMoved}
 
 module _ (t : House) (l : List Record) (k : Record) (legal : Legal t l) (among : Contains l k) (free : standing_on t l k.number ≡ None) where
   abbrev less : List Record
@@ -37,20 +36,19 @@ module _ (t : House) (l : List Record) (k : Record) (legal : Legal t l) (among :
   change_k : change_of l k.number ≡ Some k
   change_k = found_once (λ r. r.number == k.number) l k among ((Decides-eqb k.number k.number).1 refl) (legal.once k.number)
 
-  kept : (n : ℕ) → (k.number == n) ≡ false → change_of less n ≡ change_of l n
-  kept n is = find_kept (λ d. d.number == n) (λ r. not (r.number == k.number)) l
-      (λ d same. subst (λ m. not (m == k.number) ≡ true) (sym ((Decides-eqb d.number n).0 same)) (ap not (eqb_symm n k.number ∙ is)))
+  change_less : (n : ℕ) → change_of less n ≡ cond (not (n == k.number)) (change_of l n) None
+  change_less n = find_filter (λ d. d.number == n) (λ r. not (r.number == k.number)) (not (n == k.number)) l (λ d same. ap (λ m. not (m == k.number)) ((Decides-eqb d.number n).0 same))
 
   -- the place of each change but the one
-  placed_less : (v : TermsView) (n : ℕ) (b : Bool) → (k.number == n) ≡ b
-      → cond b None (option_and_then (pair_place v l) (change_of l n)) ≡ option_and_then (pair_place v less) (change_of less n)
-  placed_less v n true is =
-      subst (λ m. None ≡ option_and_then (pair_place v less) (change_of less m)) ((Decides-eqb k.number n).0 is)
-      (sym (ap (option_and_then (pair_place v less)) (gone_from (λ r. r.number == k.number) l)))
-  placed_less v n false is =
-      sym (alike_at (pair_place v less) (pair_place v l) (change_of less n)
-      (λ d e. ap (option_and_then (place_of_pair v)) (pair_less d (found_in (λ r. r.number == n) less d e)))
-      ∙ ap (option_and_then (pair_place v l)) (kept n is))
+  placed_less : (v : TermsView) (n : ℕ) → cond (k.number == n) None (option_and_then (pair_place v l) (change_of l n)) ≡ option_and_then (pair_place v less) (change_of less n)
+  placed_less v n =
+      by_test (k.number == n) ∙ (ap (λ b. option_and_then (pair_place v l) (cond (not b) (change_of l n) None)) (eqb_symm k.number n)
+      ∙ sym (alike_at (pair_place v less) (pair_place v l) (change_of less n) (λ d e. ap (option_and_then (place_of_pair v)) (pair_less d (found_in (λ r. r.number == n) less d e)))
+      ∙ ap (option_and_then (pair_place v l)) (change_less n)))
+    where
+      by_test : (b : Bool) → cond b None (option_and_then (pair_place v l) (change_of l n)) ≡ option_and_then (pair_place v l) (cond (not b) (change_of l n) None)
+      by_test true = refl
+      by_test false = refl
 
   -- ---- that deals for a pair
 
@@ -58,15 +56,11 @@ module _ (t : House) (l : List Record) (k : Record) (legal : Legal t l) (among :
     at_k : pair_at v k.number ≡ place_of_pair v p
     at_k = are.placed k.number ∙ (ap (option_and_then (pair_place v l)) change_k ∙ ap (option_and_then (place_of_pair v)) of)
 
-    place_by : (q : PairView) (o : Option ℕ) → place_of_pair v p ≡ o → row_of v p.giver p.taker ≡ Some q → (i : ℕ) × (place_of_pair v p ≡ Some i)
-    place_by q None e there = absurd (none_is_some (row_of v p.giver p.taker) q (ap (option_and_then (slice_get v.pairs)) e) there)
-    place_by q (Some i) e there = (i, e)
-
     own : (z : PairView) × ((row_of w p.giver p.taker ≡ Some z) × IsRowOf t less p.giver p.taker z)
     own =
         let there = are.ready k p among of in
-        let place = place_by there.0 (place_of_pair v p) refl there.1 in
-        new_row t l less v w p.giver p.taker (leave_out k.number) are (dealings_less p.giver p.taker) (taken.own p.giver p.taker place.0 (at_k ∙ place.1) place.1)
+        let place = and_then_told (slice_get v.pairs) (place_of_pair v p) there.0 there.1 in
+        new_row t l less v w p.giver p.taker (leave_out k.number) are (dealings_less p.giver p.taker) (taken.own p.giver p.taker place.0 (at_k ∙ place.1.0) place.1.0)
 
     -- a row that is another pair's is what it was
     others : (x y : List ℕ) → (bytes_eq p.giver x && bytes_eq p.taker y) ≡ false → (row_of w x y ≡ row_of v x y) × (dealings less x y ≡ dealings l x y)
@@ -75,34 +69,32 @@ module _ (t : House) (l : List Record) (k : Record) (legal : Legal t l) (among :
       dealings_same x y (other_pair p (pair_of l k.firm k.command) x y of differ),
     )
 
+    moved : (x y : List ℕ) → IsMoved t less v w x y
+    moved = rows_moved t l less v w are p.giver p.taker own others
+
     same_places : (d : Record) → pair_place w less d ≡ pair_place v less d
     same_places d = ap (λ ps. option_and_then (λ (z : Pair). lookup (is_pair z.giver z.taker) ps) (pair_of less d.firm d.command)) taken.places
 
     -- the terms that it was taken out of are those of the others
     pub taken_follows : AreTermsOf t less w
     taken_follows = record {
-      rows = rows_moved t l less v w are p.giver p.taker own others;
-      ready = λ d z in_less e.
-          let q = are.ready d z (in_whole l k.number d in_less) (sym (pair_less d in_less) ∙ e) in
-          row_kept t l less v w are p.giver p.taker own others z.giver z.taker q.0 q.1;
+      rows = λ x y. (moved x y).0;
+      ready = λ d z in_less e. let q = are.ready d z (in_whole l k.number d in_less) (sym (pair_less d in_less) ∙ e) in (moved z.giver z.taker).1 q.0 q.1;
       placed = λ n.
           taken.placed n ∙ (ap (cond (k.number == n) None) (are.placed n)
-          ∙ (placed_less v n (k.number == n) refl ∙ sym (ap (λ (h : Record → Option ℕ). option_and_then h (change_of less n)) (λ i d. same_places d i))));
+          ∙ (placed_less v n ∙ sym (ap (λ (h : Record → Option ℕ). option_and_then h (change_of less n)) (λ i d. same_places d i))));
     }
 
   -- ---- that deals for nobody
 
   module _ (v : TermsView) (are : AreTermsOf t l v) (nobody : pair_of l k.firm k.command ≡ None) where
-    no_place : (n : ℕ) (b : Bool) → (k.number == n) ≡ b → option_and_then (pair_place v l) (change_of l n) ≡ cond b None (option_and_then (pair_place v l) (change_of l n))
-    no_place n true is =
-        subst (λ m. option_and_then (pair_place v l) (change_of l m) ≡ None) ((Decides-eqb k.number n).0 is)
-        (ap (option_and_then (pair_place v l)) change_k ∙ ap (option_and_then (place_of_pair v)) nobody)
-    no_place n false is = refl
-
     pub nobody_follows : AreTermsOf t less v
     nobody_follows = record {
       rows = λ x y q e. let old = are.rows x y q e in
           (old.0, old.1 ∙ sym (dealings_same x y (none_is_some (pair_of l k.firm k.command) (record { giver = x; taker = y }) nobody)));
       ready = λ d z in_less e. are.ready d z (in_whole l k.number d in_less) (sym (pair_less d in_less) ∙ e);
-      placed = λ n. are.placed n ∙ (no_place n (k.number == n) refl ∙ placed_less v n (k.number == n) refl);
+      placed = λ n.
+          let old = λ (m : ℕ). option_and_then (pair_place v l) (change_of l m) in
+          let none = ap (option_and_then (pair_place v l)) change_k ∙ ap (option_and_then (place_of_pair v)) nobody in
+          are.placed n ∙ (cond_both (k.number == n) None (old n) (λ o. old n ≡ o) (λ is. ap old (sym ((Decides-eqb k.number n).0 is)) ∙ none) (λ _. refl) ∙ placed_less v n);
     }

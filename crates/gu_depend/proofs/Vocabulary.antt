@@ -1,8 +1,8 @@
 -- The words of the definitions, and what several files here use of std and of the crates below, passed on together.
-pub use Rattle.gu_base.specs.Answers.{Call, accepted_or, after, after_by, answer_by, answer_to, command_refusal, decline_rest, entry_of, initiate_rest, is_accepted, is_empty, is_same_call}
-pub use Rattle.gu_base.specs.Answers.{is_same_id, on_change, reversal_of, reverse_rest, status_of}
+pub use Rattle.gu_base.specs.Answers.{Call, accepted_or, after, after_by, answer_by, answer_to, command_refusal, entry_of, initiate_rest, is_accepted, is_empty, is_same_call}
+pub use Rattle.gu_base.specs.Answers.{is_same_id, on_change, reversal_of, reverse_rest}
 pub use Rattle.gu_base.specs.Consents.{consents_left, consents_of, giver_alone, is_among, is_consenting, missing, of_node, parties_of, taker_and_giver}
-pub use Rattle.gu_base.specs.Dealt.{first_over, first_over_without, first_under_deed, first_under_terms, leave_out}
+pub use Rattle.gu_base.specs.Dealt.{first_over, first_under_deed, leave_out}
 pub use Rattle.gu_base.specs.Fees.{charge_of, charge_of_kind, charge_of_node, charges, counted}
 pub use Rattle.gu_base.specs.{FirmsNamed.NamesOnly, Same.same_command, SameLaws.same_name-Decides, Refusals.at_node}
 pub use Rattle.gu_base.specs.History.{RisesFrom, is_change, is_reverse_of, is_reversed, live, numbered_as, numbered_from, records}
@@ -32,13 +32,16 @@ pub use Rattle.gu_base.specs.declared.node.Kind.TheVariants.{Given, Own, Root}
 pub use Rattle.gu_base.specs.declared.refusal.Refusal.TheVariants.{AlreadyConsented, AlreadyReversed, BadTerms, BookFull, DuplicateId, NeedsConsent, NotAChange, NotAParty, NotOffered, NotYours}
 pub use Rattle.gu_base.specs.declared.refusal.Refusal.TheVariants.{NothingPending, StandsOn, UnknownAccount, UnknownEntry, UnknownFirm}
 pub use Rattle.gu_base.specs.declared.state.State.TheVariants.{Cancelled, Claimed, Held, Offered, ReversalPending, Reversed}
-pub use Rattle.gu_base.proofs.Basics.{nothing_here, no_some, none_is_some, or_none, eqb_symm}
+pub use Rattle.gu_base.proofs.Basics.{nothing_here, no_some, none_is_some, none_or_some, or_none, eqb_symm}
 pub use Rattle.gu_base.proofs.Dealt.{may_use, fits, AllFit, first_unfit}
 pub use Rattle.gu_base.proofs.LegalLaws.{replay_front, none_refused, legal_from_replay, replay_from_legal}
 pub use Rattle.gu_base.proofs.Lines.{node_more}
 pub use Rattle.gu_base.proofs.NodeNames.{name_same, node_called, made_of, node_cut, made, first_or, name_is}
 pub use Rattle.gu_base.proofs.Passing.{at_node_none, claim_passes, agree_passes, raise_passes, refusal_parts, splits_well, decides_well, SplitHolds}
 pub use Rattle.gu_base.proofs.Searches.{found_in, find_passes}
+pub use Rattle.gu_depend.specs.Same.{IsSameState}
+pub use Rattle.gu_depend.specs.Terms.{AreTermsOf, entries_dealt, pair_of, pair_of_kind, place_of_pair}
+pub use Rattle.gu_depend.specs.Under.{IsLeastUnder, deals_under, first_under, is_under, names, numbers_under, stands_under}
 pub use Rattle.gu_fees.specs.{Pairs.PairView, Rows.is_pair}
 pub use Rattle.gu_fees.specs.Terms.{TermsView, pair_at}
 pub use Rattle.gu_tree.specs.NumbersOn.{number_in, numbers_on, least}
@@ -46,7 +49,7 @@ pub use Rattle.gu_tree.specs.Shown.{HasDistinctNumbers}
 pub use Rattle.gu_tree.specs.ShownAll.{change_of, named_place}
 pub use Rattle.std.proofs.Common.{◌≡◌, ℕ, Bool, true, List, [], ◌∷◌, refl, sym, ◌∙◌, ap, arith, cond, Option, zero, suc, ◌<◌, ◌≤◌, false, not, ◌++◌, length, get_or}
 pub use Rattle.std.proofs.Common.{IsPermutation, Contains, All, subst, ◌+◌, ◌&&◌, append-nil, ◌||◌, length-append, inl, inr, append_assoc, IsSomeAnd, map}
-pub use Rattle.std.proofs.lemmas.Bool.{false_from_ne_true, and_parts, or_parts, or_cases}
+pub use Rattle.std.proofs.lemmas.Bool.{false_from_ne_true, and_parts, or_parts, or_cases, cases_Bool, cond_both, or_right}
 pub use Rattle.std.proofs.lemmas.{Bool.Decides.Decides-eqb, List.Elements.All-contains_itself, List.Folds.find-append, List.Sorted.sum_by-IsPermutation, Option.same_Some, Slice.Eq.bytes_eq-Decides}
 pub use Rattle.std.proofs.lemmas.List.Elements.{All-nil, All-cons, All-head, All-tail, All-weaker, filter-append, Contains-append_right, filter_map-append, All-push, All-contains}
 pub use Rattle.std.proofs.lemmas.List.Sums.{sum_by-cons, sum_by-append, sum_by-le-sum_by}
