@@ -1,58 +1,33 @@
 -- The filed trees show all live changes, so what stands on a change is read off them.
-use Rattle.std.proofs.Common.{◌+◌, length, get_or, not, cond, Contains, ◌-◌, ◌<◌, ◌≡◌, ℕ, ◌≤◌, true, false, ◌&&◌, List, [], ◌∷◌, refl, sym, ◌∙◌, ap}
-use Rattle.std.proofs.Common.{subst, arith, Option, Some, None, find, ◌==◌, is_some, option_map, IfSome, map, IsSome, option_and_then, IsSomeAnd}
-use Rattle.std.proofs.lemmas.Bool.Decides.{Decides-eqb}
-use Rattle.std.proofs.lemmas.Option.{same_Some}
-use Rattle.gu_depend.proofs.Vocabulary.{House, knows_firm, numbered_as, is_change, is_reversed, live, node_of, nodes_of, same_name, unless, standing_on, missing, parties_of, consents_of}
-use Rattle.gu_depend.proofs.Vocabulary.{answer_to, entry_of, on_change, reverse_rest, command_refusal, call_of, Command, Trade, Split, Agree, Raise, Reverse, Accepted, Entry, Record, Node}
-use Rattle.gu_depend.proofs.Vocabulary.{UnknownFirm, NeedsConsent, StandsOn, Row, rows_of, EntryPart}
+use Rattle.gu_depend.proofs.Vocabulary.{Bool, ◌+◌, length, get_or, not, cond, Contains, ◌<◌, ◌≡◌, ℕ, ◌≤◌, true, false, ◌&&◌, List, [], ◌∷◌, refl, sym}
+use Rattle.gu_depend.proofs.Vocabulary.{◌∙◌, ap, subst, arith, Option, map, IsSomeAnd, Decides-eqb, same_Some, House, knows_firm, numbered_as, is_change, is_reversed, live, node_of}
+use Rattle.gu_depend.proofs.Vocabulary.{unless, standing_on, missing, parties_of, consents_of, answer_to, entry_of, on_change, reverse_rest, command_refusal, call_of, Command, Trade, Agree}
+use Rattle.gu_depend.proofs.Vocabulary.{Raise, Reverse, Accepted, Entry, Record, UnknownFirm, NeedsConsent, StandsOn, Row, rows_of, EntryPart, none_is_some, found_in, find_passes}
+use Rattle.gu_depend.proofs.Vocabulary.{false_from_ne_true, and_parts}
+use Rattle.std.proofs.Common.{◌-◌, Some, None, find, ◌==◌, is_some, option_map, IsSome, option_and_then}
 use Rattle.gu_base.proofs.Accepted.{first_none, allowed, open_from_none}
-use Rattle.gu_base.proofs.Basics.{no_some, mapped_none}
+use Rattle.gu_base.proofs.Basics.{mapped_none}
 use Rattle.gu_base.proofs.Numbered.{found_at, known_entry}
 use Rattle.gu_base.proofs.Consenting.{not_reversed}
-use Rattle.gu_base.proofs.Searches.{found_in, find_passes}
-use Rattle.gu_book.proofs.Vocabulary.{Rose, Grove, tree_of, IsPlace, IsTreeOf, named_node, named_place, place_in, Consents, IsGroveOf, IsFree, IsKept, is_trade, is_live_trade, IsFoundIn, IsUndoneBy}
+use Rattle.gu_book.proofs.Vocabulary.{Rose, Grove, tree_of, IsPlace, named_node, named_place, place_in, Consents, IsGroveOf, IsFree, IsKept, is_trade, is_live_trade, IsFoundIn, IsUndoneBy}
 use Rattle.gu_book.proofs.Vocabulary.{IsUndoneThere, IsOfTerms, is_of_trees}
 use Rattle.gu_tree.specs.Rose.{rows}
 use Rattle.gu_tree.specs.Shown.{shown}
-use Rattle.gu_tree.specs.ShownAll.{IsTreeIn, ShowsAll}
-use Rattle.gu_tree.proofs.ShowsLess.{no-root-part}
-use Rattle.gu_depend.proofs.Names.{maker, made_number}
-use Rattle.gu_depend.proofs.StandsLast.{any_in}
+use Rattle.gu_tree.specs.ShownAll.{IsTreeIn}
+use Rattle.gu_depend.proofs.Finds.{some_there}
+use Rattle.gu_depend.proofs.Replay.{NumbersOnce, number_once}
+use Rattle.gu_depend.proofs.StandsLast.{node_of_maker}
+use Rattle.gu_depend.proofs.StandsUnder.{any_found}
 use Rattle.gu_book.specs.TreeRows.{tree_rows}
 use Rattle.gu_base.proofs.LiveLaws.{is_live}
 use Rattle.gu_book.proofs.ByNumber.{found_live, if_passes}
 use Rattle.gu_book.proofs.Leaves.{live_rises}
 use Rattle.gu_tree.specs.declared.head.Row.{Row as TreeRow}
 use Rattle.gu_tree.proofs.ShowsRows.{rows-shown}
-use Rattle.gu_book.proofs.Filed.{tree_shown, place_named}
+use Rattle.gu_book.proofs.Filed.{root_name, makes_root, tree_shown, live_at, place_named}
 use Rattle.gu_book.proofs.Orders.{InOrder, in_order}
 use Rattle.gu_book.specs.Found.{IsUndoneAs}
 use Rattle.gu_book.specs.declared.found.Undone.{Undone}
-
--- ---- a root is made by a Trade
-
-makes_root : (k n : ℕ) (by : List ℕ) (c : Command) (x : Node) → find (λ x. same_name x.name (record { entry = k; part = 0 })) (nodes_of n by c) ≡ Some x → is_trade c ≡ true
-makes_root k n by (Trade _ _ _ _ _) x h = refl
-makes_root k n by (Split m ps) x h = let z : None ≡ Some x = sym (no-root-part k n 1 m by ps (omega arith)) ∙ h in absurd (cc)
-makes_root k n by _ x h = absurd (cc)
-
-live_root : (l : List Record) (k : ℕ) (x : Node) → node_of l (record { entry = k; part = 0 }) ≡ Some x → is_live_trade l k ≡ true
-live_root l k x found =
-    let m = maker l (record { entry = k; part = 0 }) x found in
-    let same : (m.change.number == k) ≡ true = (Decides-eqb m.change.number k).1 (sym (made_number m.change (record { entry = k; part = 0 }) x m.makes_it)) in
-    any_in (λ (r : Record). (r.number == k) && is_trade r.command) l m.change m.among
-    (ap (λ b. b && is_trade m.change.command) same ∙ makes_root k m.change.number m.change.firm m.change.command x m.makes_it)
-
-shown_in : (l : List Record) (k : ℕ) (o : Option Rose) → is_some o ≡ is_live_trade l k → IfSome o (IsTreeOf l k) → IsTreeIn l k o
-shown_in l k None live shown = no_some (node_of l (record { entry = k; part = 0 })) (λ x e. let z : false ≡ true = live ∙ live_root l k x e in absurd (cc))
-shown_in l k (Some t) live shown = shown
-
-pub all_shown : {l : List Record} {g : Grove} → IsGroveOf l g → ShowsAll l g
-all_shown {l} {g} filed = record {
-  trees = λ k. shown_in l k (tree_of g k) (filed.live k) (filed.shown k);
-  places = filed.placed;
-}
 
 -- ---- a change whose Reverse is accepted
 
@@ -61,10 +36,11 @@ pub record IsUndone (t : House) (h : List Entry) (k : ℕ) (r : Record) : Type 0
   pub entry : entry_of h k ≡ Some r
   pub found : find (λ (q : Record). q.number == k) (live h) ≡ Some r
   pub change : is_change r.command ≡ true
+  pub number : r.number ≡ k
   pub from : 1 ≤ k
   pub within : k < 1 + length h
   pub among : Contains (live h) r
-  pub free : standing_on t (live h) k ≡ None
+  pub free : standing_on t (live h) r.number ≡ None
 
 pub undone : (t : House) (h : List Entry) (e : Entry) (n k : ℕ) → answer_to t h (call_of e) ≡ Accepted n e.status → e.command ≡ Reverse k → (r : Record) × IsUndone t h k r
 undone t h e n k ok same =
@@ -84,11 +60,12 @@ undone t h e n k ok same =
       record {
         entry = o.1.found;
         change = o.1.is;
+        number = at.number;
         from = at.from;
         within = at.within;
         found = there;
         among = found_in (λ (q : Record). q.number == k) (live h) r there;
-        free = subst (λ m. standing_on t (live h) m ≡ None) at.number (mapped_none (λ m. StandsOn m) (standing_on t (live h) r.number) d.0);
+        free = mapped_none (λ m. StandsOn m) (standing_on t (live h) r.number) d.0;
       },
     )
 
@@ -101,33 +78,38 @@ undone_entry {h = h} {k = k} {r = r} u d is =
 
 module _ {t : House} {h : List Entry} {g : Grove} {cs : Consents} (kept : IsKept t h g cs) (e : Entry) (n k : ℕ) (ok : answer_to t h (call_of e) ≡ Accepted n e.status)
     (same : e.command ≡ Reverse k) where
-  pub undone_free : standing_on t (live h) k ≡ None
-  undone_free = (undone t h e n k ok same).1.free
-
-  pub undone_among : (d : Entry) → d ≡ get_or h (k - 1) d → Contains (live h) (numbered_as k d)
-  undone_among d is = let u = undone t h e n k ok same in subst (λ (r : Record). Contains (live h) r) (undone_entry u.1 d is) u.1.among
+  pub undone_number : (undone t h e n k ok same).0.number ≡ k
+  undone_number = (undone t h e n k ok same).1.number
 
   -- so it may go from the trees
-  pub undone_goes : (d : Entry) → d ≡ get_or h (k - 1) d → IsFree t (live h) (numbered_as k d) g
-  undone_goes d is = record { filed = kept.filed; replayed = kept.replayed; rises = live_rises h; among = undone_among d is; free = undone_free }
-
-  -- the same of the change as it was found
-  pub undone_number : (undone t h e n k ok same).0.number ≡ k
-  undone_number = let u = undone t h e n k ok same in (Decides-eqb u.0.number k).0 (find_passes (λ (q : Record). q.number == k) (live h) u.0 u.1.found)
-
   pub undone_may_go : IsFree t (live h) (undone t h e n k ok same).0 g
-  undone_may_go =
-      let u = undone t h e n k ok same in
-      record { filed = kept.filed; replayed = kept.replayed; rises = live_rises h; among = u.1.among; free = subst (λ m. standing_on t (live h) m ≡ None) (sym undone_number) u.1.free }
+  undone_may_go = let u = undone t h e n k ok same in record { filed = kept.filed; replayed = kept.replayed; rises = live_rises h; among = u.1.among; free = u.1.free }
+
+  -- the same of the change by its entry
+  pub undone_goes : (d : Entry) → d ≡ get_or h (k - 1) d → IsFree t (live h) (numbered_as k d) g
+  undone_goes d is = subst (λ (r : Record). IsFree t (live h) r g) (undone_entry (undone t h e n k ok same).1 d is) undone_may_go
 
 -- ---- what a book answers by its trees is what its live changes say
 
+-- without its root a list has no live trade
+no_trade : (l : List Record) (k : ℕ) → NumbersOnce l → node_of l (root_name k) ≡ None → is_live_trade l k ≡ false
+no_trade l k once none =
+    false_from_ne_true (is_live_trade l k) (λ live.
+    let test : Record → Bool = λ r. (r.number == k) && is_trade r.command in
+    let d = any_found test l live in
+    let is = and_parts (d.0.number == k) (is_trade d.0.command) (find_passes test l d.0 d.1) in
+    let same = (Decides-eqb d.0.number k).0 is.0 in
+    let x = makes_root d.0.number d.0.firm d.0.command is.1 in
+    none_is_some (node_of l (root_name k)) x.0 none
+    (ap (λ j. node_of l (root_name j)) (sym same) ∙ node_of_maker l d.0 (root_name d.0.number) x.0 once (found_in test l d.0 d.1) x.1))
+
 -- the rows of the tree of a number are those of the live trade, and no tree bears another number
-rows_filed : (l : List Record) (g : Grove) → InOrder l → IsGroveOf l g → (k : ℕ) (o : Option Rose) → tree_of g k ≡ o → option_map (λ t. map shown (rows t)) o ≡ tree_rows l k
-rows_filed l g order filed k None e = ap (λ b. cond b (Some (rows_of l k)) None) (sym (ap is_some e) ∙ filed.live k)
-rows_filed l g order filed k (Some t) e =
+rows_filed : (l : List Record) (g : Grove) → InOrder l → NumbersOnce l → IsGroveOf l g
+    → (k : ℕ) (o : Option Rose) → tree_of g k ≡ o → option_map (λ t. map shown (rows t)) o ≡ tree_rows l k
+rows_filed l g order once filed k None e = ap (λ b. cond b (Some (rows_of l k)) None) (sym (no_trade l k once (subst (IsTreeIn l k) e (filed.trees k))))
+rows_filed l g order once filed k (Some t) e =
     ap (λ (rs : List Row). Some rs) (rows-shown l order.distinct k t (tree_shown filed k t e))
-    ∙ ap (λ b. cond b (Some (rows_of l k)) None) (sym (ap is_some e) ∙ filed.live k)
+    ∙ ap (λ b. cond b (Some (rows_of l k)) None) (sym (live_at filed k t e))
 
 module _ {t : House} {h : List Entry} {g : Grove} {cs : Consents} (kept : IsKept t h g cs) where
   order_kept : InOrder (live h)
@@ -142,11 +124,11 @@ module _ {t : House} {h : List Entry} {g : Grove} {cs : Consents} (kept : IsKept
   rows_shown items o k e =
       mapped items (map shown) o
       ∙ (ap (option_map (map shown)) e
-      ∙ (sym (mapped rows (map shown) (tree_of g k)) ∙ rows_filed (live h) g order_kept kept.filed k (tree_of g k) refl))
+      ∙ (sym (mapped rows (map shown) (tree_of g k)) ∙ rows_filed (live h) g order_kept (number_once (live h) order_kept.distinct) kept.filed k (tree_of g k) refl))
 
   -- a tree that bears a number is that of a live trade
   pub live_if_shown : (k : ℕ) → IsSome (tree_of g k) → is_live_trade (live h) k ≡ true
-  live_if_shown k some = sym (kept.filed.live k) ∙ some
+  live_if_shown k some = let t = some_there (tree_of g k) some in live_at kept.filed k t.0 t.1
 
 -- ---- what was found of the change that a Reverse names
 
@@ -155,7 +137,7 @@ module _ {t : House} {h : List Entry} {g : Grove} {cs : Consents} (kept : IsKept
   pub undone_there : (k : ℕ) (o : Option Undone) (p : List ℕ) → IsUndoneBy (live h) k o p → IsSome o → IsUndoneThere g k o p
   undone_there k None p is found = absurd (cc)
   undone_there k (Some u) p is found =
-      subst (λ (o : Option EntryPart). IsSomeAnd o (λ n. IsPlace g n u.found.trade p)) (sym (kept.filed.placed k ∙ is.place)) (is.there g kept.filed)
+      subst (λ (o : Option EntryPart). IsSomeAnd o (λ n. IsPlace g n u.found.trade p)) (sym (kept.filed.places k ∙ is.place)) (is.there g kept.filed)
 
 -- the node that was found is the one that the change names
 pub found_named : {t : House} {h : List Entry} {k : ℕ} {r : Record} {u : Undone} {p : List ℕ} → IsUndone t h k r → IsUndoneAs (live h) k u p → (d : Entry) → r ≡ numbered_as k d

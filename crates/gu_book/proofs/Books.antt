@@ -1,40 +1,48 @@
 -- What a book keeps stays true behind a growth, and with one accepted entry more.
-use Rattle.std.proofs.Common.{◌≡◌, ℕ, ◌≤◌, ◌<◌, true, ◌∙◌, List, [], ◌∷◌, ◌++◌, length, refl, subst, arith, cond, None, Some, ◌==◌, IfSome}
+use Rattle.std.proofs.Common.{◌≡◌, ℕ, ◌≤◌, ◌<◌, true, ◌∙◌, List, [], ◌∷◌, ◌++◌, length, refl, subst, arith, cond, None, Some, ◌==◌, IfSome, IsSome}
 use Rattle.gu_base.proofs.LiveLaws.{change_is_no_reverse, consent_is_no_reverse}
-use Rattle.gu_depend.proofs.Vocabulary.{House, Initiate, Decline, Reverse, Deed, Entry, Record, Accepted, answer_to, call_of, live, numbered_as, is_change, is_consenting, without, deed_of}
+use Rattle.gu_depend.proofs.Vocabulary.{House, EntryPart, Initiate, Decline, Reverse, Deed, Entry, Record, Accepted, answer_to, call_of, live, numbered_as, is_change, is_consenting, without, deed_of}
 use Rattle.gu_book.proofs.Vocabulary.{AreTermsOf, pair_of, given, Consents, FeeRows, TermsView, IsPut, CanPut, last_entry, Ids, PositionRows, Grove, IsSameGrove, last_place, AreFeesOf, IsSmallDeed}
-use Rattle.gu_book.proofs.Vocabulary.{IsGroveOf, IsNext, SameLots, ArePositionsOf, reversal_in, IsOfTerms, Reversals}
+use Rattle.gu_book.proofs.Vocabulary.{IsGroveOf, SameLots, ArePositionsOf, reversal_in, IsOfTerms, Reversals, IsNamedBy, holding_of}
+use Rattle.gu_book.specs.Found.{LiesThere}
+use Rattle.gu_book.specs.declared.found.Named.{Named}
 use Rattle.gu_fees.specs.Terms.{IsReady}
-use Rattle.gu_book.specs.Index.{AreIdsOf}
+use Rattle.gu_book.specs.Lookups.{AreIdsOf}
 use Rattle.gu_book.specs.Kept.{IsBook}
-use Rattle.gu_book.specs.declared.index.Index.{Index}
-use Rattle.gu_book.proofs.Indexed.{reversals_same, reversals_put}
+use Rattle.gu_book.specs.declared.lookups.Lookups.{Lookups}
+use Rattle.gu_book.proofs.LookedUp.{reversals_same, reversals_put}
 use Rattle.gu_book.proofs.Keeps.{next_kept, kept_alike, kept_change, kept_consents, kept_reverse, live_few, live_more, live_same, live_less, no_later, above_all, none_above, still_before}
 use Rattle.gu_book.proofs.TermsKept.{can_put, dealt_apart, dealt_put, terms_change, terms_filed}
-use Rattle.gu_book.proofs.TradesKept.{idle_free, idle_stands, idle_terms}
+use Rattle.gu_book.proofs.TradesKept.{MayFollow, idle_free, idle_stands, idle_terms}
+use Rattle.gu_book.proofs.PartsAway.{holds_some}
+use Rattle.gu_book.proofs.Leaves.{live_rises}
 use Rattle.gu_book.proofs.Dealing.{deed_small}
 use Rattle.gu_book.proofs.Refused.{accepted_small}
 
-module _ {t : House} {h : List Entry} {g : Grove} {cs : Consents} {index : Index} {fees : FeeRows} {rows : PositionRows} {terms : TermsView} (book : IsBook t h g cs index fees rows terms) where
+module _ {t : House} {h : List Entry} {g : Grove} {cs : Consents} {lookups : Lookups} {fees : FeeRows} {rows : PositionRows} {terms : TermsView} (book : IsBook t h g cs lookups fees rows terms) where
   pub few_live : length (live h) ≤ 1000000
   few_live = let few = book.kept.few in let fewer = live_few h in omega (arith, few, fewer)
 
-  -- trees and ids have got room, accounts have the same lots, and terms say the same
-  pub still_dealt : (trees : Grove) → IsSameGrove g trees → (ids : Ids) → AreIdsOf ids h → (now : PositionRows) → SameLots rows now
+  -- lots stand at a node that was found where the path leads
+  pub whole_there : (n : EntryPart) (m : Named) (p : List ℕ) → IsNamedBy (live h) n (Some m) → LiesThere (live h) (Some m) p → IsSome (holding_of (live h) m.node)
+  whole_there n m p is lies = holds_some book.kept.filed (live_rises h) is.2 (lies g book.kept.filed)
+
+  -- trees and ids have got room, accounts have the same lots, and fees and terms say the same
+  pub still_dealt : (trees : Grove) → IsSameGrove g trees → (ids : Ids) → AreIdsOf ids h → (paid : FeeRows) → AreFeesOf t (live h) paid → (now : PositionRows) → SameLots rows now
       → (dealt : TermsView) → AreTermsOf t (live h) dealt → last_entry dealt ≡ last_entry terms
-      → IsBook t h trees cs (record { ids = ids; reversals = index.reversals }) fees now dealt
-  still_dealt trees same ids known now lots dealt are last = record {
+      → IsBook t h trees cs (record { ids = ids; reversals = lookups.reversals }) paid now dealt
+  still_dealt trees same ids known paid charged now lots dealt are last = record {
     kept = kept_alike book.kept trees same;
-    indexed = record { ids = known; reversals = book.indexed.reversals };
-    charged = book.charged;
+    looked_up = record { ids = known; reversals = book.looked_up.reversals };
+    charged = charged;
     stands = record { lots = λ at side. lots at side ∙ book.stands.lots at side };
     dealt = are;
     dealt_before = let before = book.dealt_before in omega (arith, last, before);
   }
 
   pub still : (trees : Grove) → IsSameGrove g trees → (ids : Ids) → AreIdsOf ids h → (now : PositionRows) → SameLots rows now
-      → IsBook t h trees cs (record { ids = ids; reversals = index.reversals }) fees now terms
-  still trees same ids known now lots = still_dealt trees same ids known now lots terms book.dealt refl
+      → IsBook t h trees cs (record { ids = ids; reversals = lookups.reversals }) fees now terms
+  still trees same ids known now lots = still_dealt trees same ids known fees book.charged now lots terms book.dealt refl
 
   -- ---- one accepted entry more
 
@@ -43,43 +51,45 @@ module _ {t : House} {h : List Entry} {g : Grove} {cs : Consents} {index : Index
     pub above_last : (dealt : TermsView) → last_entry dealt ≡ last_entry terms → last_entry dealt < n
     above_last dealt last = above_all book.kept n e ok (last_entry dealt) (let before = book.dealt_before in omega (arith, last, before))
 
+    -- a change may follow the live changes
+    pub may_follow : is_change e.command ≡ true → MayFollow t (live h) (numbered_as n e) g fees rows
+    may_follow change = record { next = next_kept book.kept n e ok change; few = few_live; within = book.kept.within; charged = book.charged; stands = book.stands }
+
     module _ (ids : Ids) (known : AreIdsOf ids (h ++ e ∷ [])) where
-      -- a change
       module _ (change : is_change e.command ≡ true) where
         pub book_more : (trees : Grove) → IsGroveOf (live h ++ numbered_as n e ∷ []) trees → last_place trees ≤ n
             → (paid : FeeRows) → AreFeesOf t (live h ++ numbered_as n e ∷ []) paid → (now : PositionRows) → ArePositionsOf (live h ++ numbered_as n e ∷ []) now
             → (dealt : TermsView) → AreTermsOf t (live h ++ numbered_as n e ∷ []) dealt → last_entry dealt ≤ n
-            → IsBook t (h ++ e ∷ []) trees cs (record { ids = ids; reversals = index.reversals }) paid now dealt
+            → IsBook t (h ++ e ∷ []) trees cs (record { ids = ids; reversals = lookups.reversals }) paid now dealt
         book_more trees filed placed paid charged now stands dealt are last =
             let more = live_more book.kept n e ok change in
             record {
               kept = kept_change book.kept n e ok change trees filed placed;
-              indexed = record { ids = known; reversals = reversals_same book.indexed.reversals e (λ m. change_is_no_reverse m e.command change) };
+              looked_up = record { ids = known; reversals = reversals_same book.looked_up.reversals e (λ m. change_is_no_reverse m e.command change) };
               charged = subst (λ (l : List Record). AreFeesOf t l paid) more charged;
               stands = subst (λ (l : List Record). ArePositionsOf l now) more stands;
               dealt = subst (λ (l : List Record). AreTermsOf t l dealt) more are;
               dealt_before = none_above book.kept n e ok (last_entry dealt) last;
             }
 
-        -- that deals for nobody
+        -- that costs nothing and deals for nobody
         pub book_apart : (trees : Grove) → IsGroveOf (live h ++ numbered_as n e ∷ []) trees → last_place trees ≤ n
-            → (paid : FeeRows) → AreFeesOf t (live h ++ numbered_as n e ∷ []) paid → (now : PositionRows) → ArePositionsOf (live h ++ numbered_as n e ∷ []) now
-            → pair_of (live h) e.firm e.command ≡ None
-            → IsBook t (h ++ e ∷ []) trees cs (record { ids = ids; reversals = index.reversals }) paid now terms
-        book_apart trees filed placed paid charged now stands none =
-            book_more trees filed placed paid charged now stands terms (dealt_apart (next_kept book.kept n e ok change) terms book.dealt none)
+            → AreFeesOf t (live h ++ numbered_as n e ∷ []) fees → (now : PositionRows) → ArePositionsOf (live h ++ numbered_as n e ∷ []) now → pair_of (live h) e.firm e.command ≡ None
+            → IsBook t (h ++ e ∷ []) trees cs (record { ids = ids; reversals = lookups.reversals }) fees now terms
+        book_apart trees filed placed charged now stands none =
+            book_more trees filed placed fees charged now stands terms (dealt_apart (next_kept book.kept n e ok change) terms book.dealt none)
             (let last = above_last terms refl in omega (arith, last))
 
       -- an Initiate or a Decline
       pub book_consenting : is_consenting e.command ≡ true → (ds : Consents)
           → ((k m : ℕ) → e.command ≡ Initiate k → given ds m ≡ cond (m == k) (given cs m ++ e.firm ∷ []) (given cs m))
           → ((k m : ℕ) → e.command ≡ Decline k → given ds m ≡ cond (m == k) [] (given cs m))
-          → IsBook t (h ++ e ∷ []) g ds (record { ids = ids; reversals = index.reversals }) fees rows terms
+          → IsBook t (h ++ e ∷ []) g ds (record { ids = ids; reversals = lookups.reversals }) fees rows terms
       book_consenting consents ds gives clears =
           let same = live_same book.kept n e ok consents in
           record {
             kept = kept_consents book.kept n e ok consents ds gives clears;
-            indexed = record { ids = known; reversals = reversals_same book.indexed.reversals e (λ m. consent_is_no_reverse m e.command consents) };
+            looked_up = record { ids = known; reversals = reversals_same book.looked_up.reversals e (λ m. consent_is_no_reverse m e.command consents) };
             charged = subst (λ (l : List Record). AreFeesOf t l fees) same book.charged;
             stands = subst (λ (l : List Record). ArePositionsOf l rows) same book.stands;
             dealt = subst (λ (l : List Record). AreTermsOf t l terms) same book.dealt;
@@ -89,7 +99,7 @@ module _ {t : House} {h : List Entry} {g : Grove} {cs : Consents} {index : Index
       -- a Reverse
       pub book_less : (k : ℕ) → e.command ≡ Reverse k → (trees : Grove) → IsGroveOf (without (live h) k) trees → last_place trees ≡ last_place g
           → (ds : Consents) → ((m : ℕ) → given ds m ≡ cond (m == k) [] (given cs m))
-          → (rs : Reversals) → ((m : ℕ) → reversal_in rs m ≡ cond (k == m) (Some n) (reversal_in index.reversals m))
+          → (rs : Reversals) → ((m : ℕ) → reversal_in rs m ≡ cond (k == m) (Some n) (reversal_in lookups.reversals m))
           → (paid : FeeRows) → AreFeesOf t (without (live h) k) paid → (now : PositionRows) → ArePositionsOf (without (live h) k) now
           → (dealt : TermsView) → AreTermsOf t (without (live h) k) dealt → last_entry dealt ≡ last_entry terms
           → IsBook t (h ++ e ∷ []) trees ds (record { ids = ids; reversals = rs }) paid now dealt
@@ -97,7 +107,7 @@ module _ {t : House} {h : List Entry} {g : Grove} {cs : Consents} {index : Index
           let less = live_less book.kept n e ok k reverse in
           record {
             kept = kept_reverse book.kept n e ok k reverse trees filed placed ds cleared;
-            indexed = record { ids = known; reversals = reversals_put book.indexed.reversals t e n k ok reverse rs put };
+            looked_up = record { ids = known; reversals = reversals_put book.looked_up.reversals t e n k ok reverse rs put };
             charged = subst (λ (l : List Record). AreFeesOf t l paid) less charged;
             stands = subst (λ (l : List Record). ArePositionsOf l now) less stands;
             dealt = subst (λ (l : List Record). AreTermsOf t l dealt) less are;
@@ -108,18 +118,18 @@ module _ {t : House} {h : List Entry} {g : Grove} {cs : Consents} {index : Index
 
     module _ (of : IsOfTerms e.command) (giver taker : List ℕ) (d : Deed) (deals : deed_of (live h) giver taker e.firm e.command ≡ Some d)
         (ready : TermsView) (are : AreTermsOf t (live h) ready) (last : last_entry ready ≡ last_entry terms) where
-      next : IsNext t (live h) (numbered_as n e) g
-      next = next_kept book.kept n e ok (terms_change e.command of)
+      may : MayFollow t (live h) (numbered_as n e) g fees rows
+      may = may_follow (terms_change e.command of)
 
       pub may_deal : IsReady ready giver taker → CanPut ready giver taker (record { number = n; deed = d })
       may_deal room =
-          let within = accepted_small t (live h) e.firm e.command next.lawful in
+          let within = accepted_small t (live h) e.firm e.command may.next.lawful in
           let small = subst (λ o. IfSome o IsSmallDeed) deals (deed_small (live h) giver taker e.firm e.command book.kept.within within) in
           can_put few_live book.kept.within are giver taker d small n (above_last ready last) room
 
       pub book_dealt : (ids : Ids) → AreIdsOf ids (h ++ e ∷ []) → (dealt : TermsView) → IsPut ready dealt giver taker (record { number = n; deed = d })
-          → IsBook t (h ++ e ∷ []) g cs (record { ids = ids; reversals = index.reversals }) fees rows dealt
+          → IsBook t (h ++ e ∷ []) g cs (record { ids = ids; reversals = lookups.reversals }) fees rows dealt
       book_dealt ids known dealt put =
           let idle = idle_terms t (live h) e.firm e.command of in
-          book_more ids known (terms_change e.command of) g (terms_filed next of) (no_later book.kept n e ok g book.kept.placed) fees (idle_free next idle fees book.charged)
-          rows (idle_stands next idle rows book.stands) dealt (dealt_put next ready dealt giver taker d are deals put) (let put_last = put.last in omega (arith, put_last))
+          book_more ids known (terms_change e.command of) g (terms_filed may.next of) (no_later book.kept n e ok g book.kept.placed) fees (idle_free may idle)
+          rows (idle_stands may idle) dealt (dealt_put may.next ready dealt giver taker d are deals put) (let put_last = put.last in omega (arith, put_last))

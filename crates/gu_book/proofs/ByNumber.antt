@@ -1,59 +1,64 @@
 -- Live changes are found by their numbers, and gone through in the order of their numbers.
-use Rattle.std.proofs.Common.{◌≡◌, ◌≢◌, ℕ, ◌+◌, ◌<◌, ◌≤◌, Bool, true, false, not, ◌&&◌, ◌||◌, List, [], ◌∷◌, ◌++◌, length, refl, ap, sym, ◌∙◌}
-use Rattle.std.proofs.Common.{subst, arith, cond, inl, inr, Option, append-nil, Some, None, find, filter, nat_le, ◌==◌, map, option_map, All}
-use Rattle.gu_book.proofs.Vocabulary.{option_or, cons_option}
+use Rattle.gu_depend.proofs.Vocabulary.{◌≡◌, ℕ, ◌+◌, ◌<◌, ◌≤◌, Bool, true, false, not, ◌&&◌, ◌||◌, List, [], ◌∷◌, length, refl, ap, sym}
+use Rattle.gu_depend.proofs.Vocabulary.{◌∙◌, subst, arith, cond, inl, inr, Option, All, Decides-eqb, All-head, All-tail, same_Some, EntryPart, numbered_as}
+use Rattle.gu_depend.proofs.Vocabulary.{numbered_from, records, is_change, is_reverse_of, is_reversed, live, RisesFrom, node_of, entry_of, Node, reversal_of, Entry, Record, no_some}
+use Rattle.gu_depend.proofs.Vocabulary.{none_is_some, made_of, found_in}
+use Rattle.std.proofs.Common.{◌≢◌, Some, None, find, filter, nat_le, ◌==◌, option_map}
+use Rattle.gu_book.proofs.Vocabulary.{cons_option}
 use Rattle.std.proofs.lemmas.Bool.{eqb-true, ne_eqb, le-leb, lt-leb, leb-false, leb-true}
-use Rattle.std.proofs.lemmas.Bool.Decides.{Decides-eqb}
-use Rattle.std.proofs.lemmas.List.Elements.{All-head, All-tail}
-use Rattle.std.proofs.lemmas.List.Folds.{find-append}
-use Rattle.std.proofs.lemmas.Option.{same_Some}
-use Rattle.gu_depend.proofs.Vocabulary.{EntryPart, numbered_as, numbered_from, records, is_change, is_reverse_of, is_reversed, live, RisesFrom, node_of, nodes, nodes_of, same_name, entry_of}
-use Rattle.gu_depend.proofs.Vocabulary.{reversal_of, Entry, Record}
-use Rattle.gu_base.proofs.Basics.{or_none, no_some, none_or_some, nothing_here}
+use Rattle.gu_base.proofs.Basics.{none_or_some}
 use Rattle.gu_base.proofs.LiveLaws.{is_live, live_below}
-use Rattle.gu_base.proofs.NodeNames.{made_of, made_entry}
+use Rattle.gu_base.proofs.NodeNames.{made_entry}
+use Rattle.gu_depend.proofs.Finds.{found_once}
+use Rattle.gu_depend.proofs.Names.{Maker, maker, made_number}
+use Rattle.gu_depend.proofs.Replay.{NumbersOnce, number_once}
+use Rattle.gu_depend.proofs.StandsLast.{node_of_maker}
+use Rattle.gu_depend.proofs.Finds.{found_some}
+use Rattle.gu_depend.proofs.StandsUnder.{rises_distinct}
 use Rattle.gu_book.proofs.Leaves.{live_rises}
 
 -- ---- the node of a name is made by the change of its number
 
-other_made : (r : Record) (n : EntryPart) → r.number ≢ n.entry → made_of r n ≡ None
+pub other_made : (r : Record) (n : EntryPart) → r.number ≢ n.entry → made_of r n ≡ None
 other_made r n other = no_some (made_of r n) (λ x e. other (sym (made_entry n r.number r.firm r.command x e)))
-
-node_cons : (r : Record) (l : List Record) (n : EntryPart) → node_of (r ∷ l) n ≡ option_or (made_of r n) (node_of l n)
-node_cons r l n = find-append (λ x. same_name x.name n) (nodes_of r.number r.firm r.command) (nodes l)
 
 unequal : (a b : ℕ) → (a == b) ≡ false → a ≢ b
 unequal a b other e = let z : true ≡ false = sym ((Decides-eqb a b).1 e) ∙ other in absurd (cc)
 
+-- the change that makes a node has its number
+its_maker : (l : List Record) (n : EntryPart) (x : Node) (m : Maker l n x) → (m.change.number == n.entry) ≡ true
+its_maker l n x m = (Decides-eqb m.change.number n.entry).1 (sym (made_number m.change n x m.makes_it))
+
 -- where no change has the number, there is no node of the name
 pub node_none : (l : List Record) (n : EntryPart) → find (λ (d : Record). d.number == n.entry) l ≡ None → node_of l n ≡ None
-node_none [] n none = refl
-node_none (r ∷ l) n none =
-    let p = nothing_here (r.number == n.entry) r (find (λ (d : Record). d.number == n.entry) l) none in
-    node_cons r l n ∙ (ap (λ o. option_or o (node_of l n)) (other_made r n (unequal r.number n.entry p.0)) ∙ node_none l n p.1)
+node_none l n none =
+    no_some (node_of l n) (λ x e.
+    let m = maker l n x e in
+    let d = found_some (λ (d : Record). d.number == n.entry) l m.change m.among (its_maker l n x m) in
+    none_is_some (find (λ (d : Record). d.number == n.entry) l) d.0 none d.1)
+
+-- where one has it, the node is that one's
+pub node_found : (m : ℕ) (l : List Record) (n : EntryPart) (r : Record) → RisesFrom m l → find (λ (d : Record). d.number == n.entry) l ≡ Some r → node_of l n ≡ made_of r n
+node_found k l n r rises found = by_made (made_of r n) refl
+  where
+    once : NumbersOnce l
+    once = number_once l (rises_distinct k l rises)
+
+    by_made : (o : Option Node) → made_of r n ≡ o → node_of l n ≡ o
+    by_made (Some x) e = node_of_maker l r n x once (found_in (λ (d : Record). d.number == n.entry) l r found) e
+    by_made None e =
+        no_some (node_of l n) (λ x h.
+        let m = maker l n x h in
+        let it = same_Some m.change r (sym (found_once (λ (d : Record). d.number == n.entry) l m.change m.among (its_maker l n x m) (once n.entry)) ∙ found) in
+        none_is_some (made_of r n) x e (subst (λ (d : Record). made_of d n ≡ Some x) it m.makes_it))
 
 -- where the numbers rise from above it, none is found
-pub none_below : (m n : ℕ) (l : List Record) → RisesFrom m l → n < m → find (λ (d : Record). d.number == n) l ≡ None
+none_below : (m n : ℕ) (l : List Record) → RisesFrom m l → n < m → find (λ (d : Record). d.number == n) l ≡ None
 none_below m n [] rises low = refl
 none_below m n (r ∷ l) rises low =
     let above : m ≤ r.number = rises.0 in
     ap (λ b. cond b (Some r) (find (λ (d : Record). d.number == n) l)) (ne_eqb r.number n (λ e. omega (arith, above, low, e)))
     ∙ none_below (r.number + 1) n l rises.1 (omega (arith, above, low))
-
-node_by : (x r : Record) (l : List Record) (n : EntryPart) (b : Bool) → (x.number == n.entry) ≡ b → RisesFrom (x.number + 1) l
-    → (find (λ (d : Record). d.number == n.entry) l ≡ Some r → node_of l n ≡ made_of r n)
-    → cond b (Some x) (find (λ (d : Record). d.number == n.entry) l) ≡ Some r → node_of (x ∷ l) n ≡ made_of r n
-node_by x r l n true here rises later e =
-    let same : x.number ≡ n.entry = eqb-true x.number n.entry here in
-    node_cons x l n
-    ∙ (ap (option_or (made_of x n)) (node_none l n (none_below (x.number + 1) n.entry l rises (omega (arith, same))))
-    ∙ (or_none (made_of x n) ∙ ap (λ (d : Record). made_of d n) (same_Some x r e)))
-node_by x r l n false other rises later e = node_cons x l n ∙ (ap (λ o. option_or o (node_of l n)) (other_made x n (unequal x.number n.entry other)) ∙ later e)
-
--- where one has it, the node is that one's
-pub node_found : (m : ℕ) (l : List Record) (n : EntryPart) (r : Record) → RisesFrom m l → find (λ (d : Record). d.number == n.entry) l ≡ Some r → node_of l n ≡ made_of r n
-node_found m [] n r rises e = absurd (cc)
-node_found m (x ∷ l) n r rises e = node_by x r l n (x.number == n.entry) refl rises.1 (node_found (x.number + 1) l n r rises.1) e
 
 -- ---- among those that pass a test
 
@@ -133,65 +138,48 @@ reversed_some h n v named =
 
 -- ---- one after the other
 
--- those of the changes that have at most this number
-abbrev pub up_to : ℕ → List Record → List Record
-up_to n l = filter (λ r. nat_le r.number n) l
+-- what is left behind the changes of at most this number
+abbrev pub past : ℕ → List Record → List Record
+past n [] = []
+past n (r ∷ l) = cond (nat_le r.number n) (past n l) (r ∷ l)
 
-none_up_to : (i m : ℕ) (l : List Record) → RisesFrom m l → i < m → up_to i l ≡ []
-none_up_to i m [] rises low = refl
-none_up_to i m (r ∷ l) rises low =
-    let above : m ≤ r.number = rises.0 in
-    ap (λ b. cond b (r ∷ up_to i l) (up_to i l)) (lt-leb r.number i (omega (arith, above, low))) ∙ none_up_to i (r.number + 1) l rises.1 (omega (arith, above, low))
+pub past_all : (n : ℕ) (l : List Record) → RisesFrom (n + 1) l → past n l ≡ l
+past_all n [] rises = refl
+past_all n (r ∷ l) rises = let above : n + 1 ≤ r.number = rises.0 in ap (λ b. cond b (past n l) (r ∷ l)) (lt-leb r.number n (omega (arith, above)))
 
 step_by : (i : ℕ) (r : Record) (l : List Record) (b c : Bool) → nat_le r.number i ≡ b → (r.number == i + 1) ≡ c → RisesFrom (r.number + 1) l
-    → up_to (i + 1) l ≡ up_to i l ++ cons_option (find (λ (d : Record). d.number == i + 1) l) []
-    → up_to (i + 1) (r ∷ l) ≡ cond b (r ∷ up_to i l) (up_to i l) ++ cons_option (cond c (Some r) (find (λ (d : Record). d.number == i + 1) l)) []
-step_by i r l true true low here rises later =
-    let a : r.number ≤ i = leb-true r.number i low in
-    let b : r.number ≡ i + 1 = eqb-true r.number (i + 1) here in
-    absurd (omega (arith, a, b))
+    → past i l ≡ cons_option (find (λ (d : Record). d.number == i + 1) l) (past (i + 1) l)
+    → cond b (past i l) (r ∷ l) ≡ cons_option (cond c (Some r) (find (λ (d : Record). d.number == i + 1) l)) (past (i + 1) (r ∷ l))
+step_by i r l true true low here rises later = absurd (omega (arith, leb-true r.number i low, eqb-true r.number (i + 1) here))
 step_by i r l true false low other rises later =
-    let a : r.number ≤ i = leb-true r.number i low in
-    ap (λ d. cond d (r ∷ up_to (i + 1) l) (up_to (i + 1) l)) (le-leb r.number (i + 1) (omega (arith, a))) ∙ ap (λ k. r ∷ k) later
+    let a = leb-true r.number i low in
+    later ∙ ap (cons_option (find (λ (d : Record). d.number == i + 1) l)) (sym (ap (λ d. cond d (past (i + 1) l) (r ∷ l)) (le-leb r.number (i + 1) (omega (arith, a)))))
 step_by i r l false true high here rises later =
-    let a : r.number ≡ i + 1 = eqb-true r.number (i + 1) here in
-    ap (λ d. cond d (r ∷ up_to (i + 1) l) (up_to (i + 1) l)) (le-leb r.number (i + 1) (omega (arith, a)))
-    ∙ (ap (λ k. r ∷ k) (none_up_to (i + 1) (r.number + 1) l rises (omega (arith, a))) ∙ sym (ap (λ k. k ++ r ∷ []) (none_up_to i (r.number + 1) l rises (omega (arith, a)))))
+    let a = eqb-true r.number (i + 1) here in
+    ap (λ k. r ∷ k)
+    (sym (past_all (i + 1) l (subst (λ k. RisesFrom (k + 1) l) a rises)) ∙ sym (ap (λ d. cond d (past (i + 1) l) (r ∷ l)) (le-leb r.number (i + 1) (omega (arith, a)))))
 step_by i r l false false high other rises later =
-    let a : i < r.number = leb-false r.number i high in
-    let b = unequal r.number (i + 1) other in
-    ap (λ d. cond d (r ∷ up_to (i + 1) l) (up_to (i + 1) l)) (lt-leb r.number (i + 1) (above a b)) ∙ later
+    let far = above (leb-false r.number i high) (unequal r.number (i + 1) other) in
+    let none = none_below (r.number + 1) (i + 1) l rises (omega (arith, far)) in
+    sym (ap (λ o. cons_option o (past (i + 1) (r ∷ l))) none ∙ ap (λ d. cond d (past (i + 1) l) (r ∷ l)) (lt-leb r.number (i + 1) far))
   where
     above : i < r.number → r.number ≢ i + 1 → i + 1 < r.number
     above a b = grind (arith, a, b)
 
--- the next number brings its change in, if there is one
-pub up_to_next : (m i : ℕ) (l : List Record) → RisesFrom m l → up_to (i + 1) l ≡ up_to i l ++ cons_option (find (λ (d : Record). d.number == i + 1) l) []
-up_to_next m i [] rises = refl
-up_to_next m i (r ∷ l) rises = step_by i r l (nat_le r.number i) (r.number == i + 1) refl refl rises.1 (up_to_next (r.number + 1) i l rises.1)
+-- the change of the next number comes first of what is left, if there is one
+pub past_step : (m i : ℕ) (l : List Record) → RisesFrom m l → past i l ≡ cons_option (find (λ (d : Record). d.number == i + 1) l) (past (i + 1) l)
+past_step m i [] rises = refl
+past_step m i (r ∷ l) rises = step_by i r l (nat_le r.number i) (r.number == i + 1) refl refl rises.1 (past_step (r.number + 1) i l rises.1)
 
-pub up_to_some : (m i : ℕ) (l : List Record) (r : Record) → RisesFrom m l → Some r ≡ find (λ (d : Record). d.number == i + 1) l → up_to (i + 1) l ≡ up_to i l ++ r ∷ []
-up_to_some m i l r rises is = up_to_next m i l rises ∙ ap (λ o. up_to i l ++ cons_option o []) (sym is)
+past_none : (n : ℕ) (l : List Record) → All (λ r. r.number < 1 + n) l → past n l ≡ []
+past_none n [] all = refl
+past_none n (r ∷ l) all =
+    let low : r.number < 1 + n = All-head (λ (r : Record). r.number < 1 + n) r l all in
+    ap (λ b. cond b (past n l) (r ∷ l)) (le-leb r.number n (omega (arith, low))) ∙ past_none n l (All-tail (λ (r : Record). r.number < 1 + n) r l all)
 
-pub up_to_same : (m i : ℕ) (l : List Record) → RisesFrom m l → None ≡ find (λ (d : Record). d.number == i + 1) l → up_to (i + 1) l ≡ up_to i l
-up_to_same m i l rises is = up_to_next m i l rises ∙ (ap (λ o. up_to i l ++ cons_option o []) (sym is) ∙ append-nil (up_to i l))
-
-pub up_to_none : (m : ℕ) (l : List Record) → RisesFrom (m + 1) l → up_to m l ≡ []
-up_to_none m l rises = none_up_to m (m + 1) l rises (omega arith)
-
-up_to_all : (i : ℕ) (l : List Record) → All (λ (r : Record). r.number < 1 + i) l → up_to i l ≡ l
-up_to_all i [] all = refl
-up_to_all i (r ∷ l) all =
-    let low : r.number < 1 + i = All-head (λ (r : Record). r.number < 1 + i) r l all in
-    ap (λ b. cond b (r ∷ up_to i l) (up_to i l)) (le-leb r.number i (omega (arith, low))) ∙ ap (λ k. r ∷ k) (up_to_all i l (All-tail (λ (r : Record). r.number < 1 + i) r l all))
-
--- at the end all are in
-pub up_to_last : (h : List Entry) (l : List Record) → live h ≡ l → up_to (length h) l ≡ l
-up_to_last h l is = subst (λ (l : List Record). up_to (length h) l ≡ l) is (up_to_all (length h) (live h) (live_below h))
-
-pub numbers_more : (l : List Record) (r : Record) → map (λ (d : Record). d.number) (l ++ r ∷ []) ≡ map (λ (d : Record). d.number) l ++ r.number ∷ []
-numbers_more [] r = refl
-numbers_more (d ∷ l) r = ap (λ k. d.number ∷ k) (numbers_more l r)
+-- at the end nothing is
+pub past_last : (h : List Entry) (l : List Record) → live h ≡ l → past (length h) l ≡ []
+past_last h l is = subst (λ (l : List Record). past (length h) l ≡ []) is (past_none (length h) (live h) (live_below h))
 
 pub live_rises_as : (h : List Entry) (l : List Record) → live h ≡ l → RisesFrom 1 l
 live_rises_as h l is = subst (RisesFrom 1) is (live_rises h)

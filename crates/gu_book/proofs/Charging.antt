@@ -5,42 +5,33 @@ use Rattle.gu_book.proofs.Vocabulary.{cons_option, FeeRows, Grove, IsNext, IsSma
 use Rattle.std.proofs.lemmas.List.Elements.{All-nil, All-cons, All-append, All-filter, All-weaker, filter-append}
 use Rattle.std.proofs.lemmas.List.Sums.{sum_by-le, sum_by-append, sum_by-cons, length-filter, count_by-le-length}
 use Rattle.std.proofs.lemmas.Slice.Eq.{bytes_eq-Decides}
-use Rattle.gu_depend.proofs.Vocabulary.{House, most_lots, highest_rate, charges, charge_of, RisesFrom, refusal_of, first_refused, Record, Charge}
-use Rattle.gu_base.proofs.LegalLaws.{replay_push}
+use Rattle.gu_depend.proofs.Vocabulary.{House, most_lots, highest_rate, charges, charge_of, Record, Charge}
 use Rattle.gu_depend.proofs.LastMoves.{moves_its_own}
-use Rattle.gu_depend.proofs.Replay.{number_once}
-use Rattle.gu_depend.proofs.StandsUnder.{rises_distinct}
+use Rattle.gu_book.proofs.Refused.{next_legal}
 use Rattle.gu_fees.specs.Sums.{AreSumsOf, cost}
 use Rattle.gu_book.specs.Charging.{HasRoomFor}
 
 -- ---- one change more
 
--- the charges of a list that one change follows
-charges_push : (t : House) (l : List Record) (r : Record) → first_refused t [] l ≡ None → refusal_of t l r.firm r.command ≡ None → RisesFrom 1 (l ++ r ∷ [])
-    → charges t (l ++ r ∷ []) ≡ charges t l ++ cons_option (charge_of t l r.command) []
-charges_push t l r replayed lawful rises =
-    (moves_its_own t l r (record { once = number_once (l ++ r ∷ []) (rises_distinct 1 (l ++ r ∷ []) rises); replayed = replay_push t [] l r replayed lawful })).charged
-
 small_option : (o : Option Charge) → IfSome o (λ c. c.lots ≤ most_lots) → IfSome o (λ c. c.rate ≤ highest_rate) → All IsSmallCharge (cons_option o [])
 small_option None lots rate = All-nil IsSmallCharge
 small_option (Some c) lots rate = All-cons IsSmallCharge c [] (record { lots = lots; rate = rate }) (All-nil IsSmallCharge)
 
-pub fees_push : {t : House} {l : List Record} {r : Record} {ts : Grove} → IsNext t l r ts → (fees now new : FeeRows) → AreFeesOf t l fees
-    → ((cs : List Charge) → AreSumsOf fees cs → AreSumsOf now cs) → (o : Option Charge) → o ≡ charge_of t l r.command
+pub fees_push : {t : House} {l : List Record} {r : Record} {ts : Grove} → IsNext t l r ts → (fees new : FeeRows) → AreFeesOf t l fees → (o : Option Charge) → o ≡ charge_of t l r.command
     → IfSome o (λ c. c.lots ≤ most_lots) → IfSome o (λ c. c.rate ≤ highest_rate)
-    → ((cs : List Charge) → AreSumsOf now cs → AreSumsOf new (cs ++ cons_option o [])) → AreFeesOf t (l ++ r ∷ []) new
-fees_push {t} {l} {r} next fees now new are same o is lots rate more =
+    → ((cs : List Charge) → AreSumsOf fees cs → AreSumsOf new (cs ++ cons_option o [])) → AreFeesOf t (l ++ r ∷ []) new
+fees_push {t} {l} {r} next fees new are o is lots rate more =
     let all : charges t l ++ cons_option o [] ≡ charges t (l ++ r ∷ []) = ap (λ (o : Option Charge). charges t l ++ cons_option o []) is
-    ∙ sym (charges_push t l r next.replayed next.lawful next.rises) in
+    ∙ sym (moves_its_own t l r (next_legal next)).charged in
     record {
-      sums = subst (λ (cs : List Charge). AreSumsOf new cs) all (more (charges t l) (same (charges t l) are.sums));
+      sums = subst (λ (cs : List Charge). AreSumsOf new cs) all (more (charges t l) are.sums);
       small = subst (λ (cs : List Charge). All IsSmallCharge cs) all (All-append IsSmallCharge (charges t l) (cons_option o []) are.small (small_option o lots rate));
     }
 
 -- a change that costs nothing
 pub fees_stay : {t : House} {l : List Record} {r : Record} {ts : Grove} → IsNext t l r ts → (fees : FeeRows) → AreFeesOf t l fees → None ≡ charge_of t l r.command
     → AreFeesOf t (l ++ r ∷ []) fees
-fees_stay next fees are free = fees_push next fees fees fees are (λ cs sums. sums) None free tt tt (λ cs sums. subst (AreSumsOf fees) (sym (append-nil cs)) sums)
+fees_stay next fees are free = fees_push next fees fees are None free tt tt (λ cs sums. subst (AreSumsOf fees) (sym (append-nil cs)) sums)
 
 pub no_fees : (t : House) (fees : FeeRows) → AreSumsOf fees [] → AreFeesOf t [] fees
 no_fees t fees are = record { sums = are; small = All-nil IsSmallCharge }
@@ -50,14 +41,15 @@ no_fees t fees are = record { sums = are; small = All-nil IsSmallCharge }
 small_cost : (c : Charge) → c.lots ≤ most_lots → c.rate ≤ highest_rate → cost c ≤ 1000000000000
 small_cost c lots rate = mul-le-mul lots rate
 
-fewer_by : (o : Option Charge) (cs : List Charge) (n : ℕ) → length cs ≤ n → length (cons_option o cs) ≤ n + 1
-fewer_by None cs n few = omega (arith, few)
-fewer_by (Some c) cs n few = omega (arith, few)
+fewer_by : {Y : Type 0} (o : Option Y) (ys : List Y) (n : ℕ) → length ys ≤ n → length (cons_option o ys) ≤ n + 1
+fewer_by None ys n few = omega (arith, few)
+fewer_by (Some y) ys n few = omega (arith, few)
 
-fewer_charges : (h : Record → Option Charge) (l : List Record) → length (filter_map h l) ≤ length l
-fewer_charges h [] = omega arith
-fewer_charges h (r ∷ l) =
-    let a = fewer_by (h r) (filter_map h l) (length l) (fewer_charges h l) in
+-- what the elements of a list give is no longer than the list
+pub fewer_given : {X Y : Type 0} (h : X → Option Y) (xs : List X) → length (filter_map h xs) ≤ length xs
+fewer_given h [] = omega arith
+fewer_given h (x ∷ xs) =
+    let a = fewer_by (h x) (filter_map h xs) (length xs) (fewer_given h xs) in
     omega (arith, a)
 
 -- a sum over some of the charges of a list
@@ -68,7 +60,7 @@ bounded t l w takes most few all =
     let a = sum_by-le w most cs (All-filter takes (λ (c : Charge). w c ≤ most) (charges t l) all) in
     let b = length-filter takes (charges t l) in
     let c = count_by-le-length takes (charges t l) in
-    let d = fewer_charges (λ r. charge_of t l r.command) l in
+    let d = fewer_given (λ (r : Record). charge_of t l r.command) l in
     let e : length cs ≤ 1000000 = omega (arith, b, c, d, few) in
     let f : length cs * most ≤ 1000000 * most = mul-le-mul_right most e in
     omega (arith, a, f)

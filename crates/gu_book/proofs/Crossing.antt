@@ -11,7 +11,7 @@ use Rattle.gu_consent.proofs.Consents.TheSendSync as consents
 use Rattle.gu_fees.proofs.fees.Fees.TheSendSync as fees
 use Rattle.gu_fees.proofs.terms.Terms.TheSendSync as terms
 use Rattle.gu_positions.proofs.positions.Positions.TheSendSync as positions
-use Rattle.gu_book.proofs.index.Index.TheSendSync as index
+use Rattle.gu_book.proofs.lookups.Lookups.TheSendSync as lookups
 use Rattle.gu_tree.proofs.head.Head.TheSendSync as head
 use Rattle.gu_tree.proofs.slot.Filed.TheSendSync as filed
 use Rattle.gu_tree.proofs.node.Node.TheLaws.TheKnot as knot
@@ -30,5 +30,5 @@ trees_send : IsSend (Trees.the_row heap.the_row ghosts)
 trees_send = search (tree_send, filed.the_send, crosses, sendable) depth 12
 
 pub book_send : IsSend Book.the_row
-book_send = search (house.the_send, entry.the_send, made.the_send, trees_send, consents.the_field_send, index.the_field_send, fees.the_send, positions.the_send, terms.the_send, crosses, sendable)
+book_send = search (house.the_send, entry.the_send, made.the_send, trees_send, consents.the_field_send, lookups.the_field_send, fees.the_send, positions.the_send, terms.the_send, crosses, sendable)
     depth 20

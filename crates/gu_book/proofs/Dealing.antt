@@ -1,39 +1,25 @@
 -- The terms that a book keeps: what they say of a giver and a taker, and how they follow the changes.
 use Rattle.std.proofs.Common.{◌≡◌, ℕ, ◌+◌, ◌*◌, ◌≤◌, Bool, true, false, ◌&&◌, List, [], ◌∷◌, length, refl, sym, ◌∙◌, ap, subst, arith, cond, Option, All}
 use Rattle.std.proofs.Common.{Contains, Some, None, IfSome, filter, filter_map, sum_by, option_map, option_and_then, bytes_eq, mul-le-mul_right}
-use Rattle.gu_book.proofs.Vocabulary.{cons_option, option_or, AreTermsOf, PairView, FeeRows, TermsView, AreFeesOf, IsSmallDeed, IsWithinLimits, AllWithinLimits}
+use Rattle.gu_book.proofs.Vocabulary.{option_or, AreTermsOf, PairView, FeeRows, TermsView, AreFeesOf, IsSmallDeed, IsWithinLimits, AllWithinLimits}
 use Rattle.std.proofs.lemmas.Option.{same_Some}
-use Rattle.std.proofs.lemmas.List.Elements.{All-nil, All-cons, All-head, All-tail, All-contains, All-contains_itself, All-weaker}
+use Rattle.std.proofs.lemmas.List.Elements.{All-nil, All-cons, All-head, All-tail, All-contains_itself, All-weaker}
 use Rattle.std.proofs.lemmas.List.Sums.{sum_by-le, sum_by-cons}
 use Rattle.gu_depend.proofs.Vocabulary.{most_lots, highest_rate, House, agreement, node_of, charge_of, charge_of_kind, charges, counted, first_refused, use_of_kind, use_of_node, deed_of}
 use Rattle.gu_depend.proofs.Vocabulary.{dealings_in, dealings, terms_under, raised_under, limit_under, used_under, terms_of, limit_of, used_of, Agreement, Dealing, Deed, Makes, Raises, Uses}
 use Rattle.gu_depend.proofs.Vocabulary.{Command, Claim, Agree, Raise, Record, Charge, Kind, Root, Own, Given, Node}
 use Rattle.gu_base.specs.Limits.{highest_limit}
-use Rattle.gu_base.specs.Terms.{made_by_deed, made_in, raised_by_deed, used_by_deed}
-use Rattle.gu_base.proofs.Basics.{none_is_some}
+use Rattle.gu_base.specs.Terms.{dealing_of, made_by_deed, made_in, raised_by_deed, used_by_deed}
 use Rattle.gu_base.proofs.Dealt.{all_sound}
 use Rattle.gu_base.proofs.Sums.{sum_option}
-use Rattle.gu_depend.proofs.Deals.{both_same}
+use Rattle.gu_depend.proofs.Deals.{both_same, dealings_cut, dealt, not_empty, numbered}
+use Rattle.gu_depend.proofs.Finds.{cut_at}
 use Rattle.gu_depend.proofs.Settled.{facts}
 use Rattle.gu_depend.proofs.TermsReadied.{without_row}
 use Rattle.gu_fees.specs.Terms.{row_of}
 use Rattle.gu_book.specs.Charging.{AreUsesOf}
+use Rattle.gu_book.proofs.Charging.{fewer_given}
 use Rattle.gu_book.proofs.Within.{node_within}
-
--- ---- dealings of changes
-
-abbrev numbered : ℕ → Deed → Dealing
-numbered n d = record { number = n; deed = d }
-
-no_cons : (n : ℕ) (o : Option Deed) (rest : List Dealing) → cons_option (option_map (numbered n) o) rest ≡ [] → (o ≡ None) × (rest ≡ [])
-no_cons n None rest e = (refl, e)
-no_cons n (Some d) rest e = absurd (cc)
-
-none_dealt : (l : List Record) (g k : List ℕ) (among : List Record) → dealings_in l among g k ≡ [] → All (λ r. deed_of l g k r.firm r.command ≡ None) among
-none_dealt l g k [] e = All-nil (λ r. deed_of l g k r.firm r.command ≡ None)
-none_dealt l g k (r ∷ among) e =
-    let p = no_cons r.number (deed_of l g k r.firm r.command) (dealings_in l among g k) e in
-    All-cons (λ r. deed_of l g k r.firm r.command ≡ None) r among p.0 (none_dealt l g k among p.1)
 
 -- ---- what is kept of a giver and a taker
 
@@ -79,16 +65,16 @@ of_pair g k c = bytes_eq c.giver g && bytes_eq c.taker k
 abbrev UsesCharged : House → List Record → List ℕ → List ℕ → Record → Type 0
 UsesCharged t l g k r = counted (of_pair g k) (λ c. c.lots) (charge_of t l r.command) ≡ used_told (deed_of l g k r.firm r.command)
 
-used_cons : (n : ℕ) (o : Option Deed) (ds : List Dealing) → used_under (cons_option (option_map (numbered n) o) ds) ≡ used_told o + used_under ds
-used_cons n None ds = omega arith
-used_cons n (Some d) ds = sum_by-cons (λ (d : Dealing). used_by_deed d.deed) (numbered n d) ds
+used_cons : (r : Record) (o : Option Deed) (ds : List Dealing) → used_under (dealt r o ds) ≡ used_told o + used_under ds
+used_cons r None ds = omega arith
+used_cons r (Some d) ds = sum_by-cons (λ (d : Dealing). used_by_deed d.deed) (numbered r d) ds
 
 uses_in : (t : House) (l : List Record) (g k : List ℕ) (among : List Record) → All (UsesCharged t l g k) among
     → sum_by (λ c. c.lots) (filter (of_pair g k) (filter_map (λ r. charge_of t l r.command) among)) ≡ used_under (dealings_in l among g k)
 uses_in t l g k [] each = refl
 uses_in t l g k (r ∷ among) each =
     let a = sum_option (of_pair g k) (λ (c : Charge). c.lots) (charge_of t l r.command) (filter_map (λ r. charge_of t l r.command) among) in
-    let b = used_cons r.number (deed_of l g k r.firm r.command) (dealings_in l among g k) in
+    let b = used_cons r (deed_of l g k r.firm r.command) (dealings_in l among g k) in
     let c = All-head (UsesCharged t l g k) r among each in
     let d = uses_in t l g k among (All-tail (UsesCharged t l g k) r among each) in
     omega (arith, a, b, c, d)
@@ -102,7 +88,9 @@ module _ (t : House) (l : List Record) (none : first_refused t [] l ≡ None) wh
   has_terms : (g k : List ℕ) (r : Record) (d : Deed) → Contains l r → deed_of l g k r.firm r.command ≡ Some d → terms_of t l g k ≡ None → ⊥
   has_terms g k r d there deals absent =
       let empty = (all_sound (agreement t g k) (dealings l g k) ((facts t l none).deals g k)).none absent in
-      none_is_some (deed_of l g k r.firm r.command) d (All-contains (λ (r : Record). deed_of l g k r.firm r.command ≡ None) l r (none_dealt l g k l empty) there) deals
+      let c = cut_at l r there in
+      not_empty (dealings_in l c.before g k) (numbered r d) (dealings_in l c.behind g k)
+      (sym empty ∙ (ap (λ z. dealings_in l z g k) c.is ∙ dealings_cut l c.before r c.behind g k (Some d) deals))
 
   given_charged : (g k x y : List ℕ) (lots : ℕ) (o : Option Agreement) → (o ≡ None → ⊥)
       → counted (of_pair g k) (λ c. c.lots) (option_map (λ (a : Agreement). record { giver = x; taker = y; lots = lots; rate = a.rate }) o) ≡ used_told
@@ -170,26 +158,16 @@ deed_small l g k by _ all within = tt
 abbrev HasSmallDeed : Dealing → Type 0
 HasSmallDeed d = IsSmallDeed d.deed
 
-small_cons : (n : ℕ) (o : Option Deed) (ds : List Dealing) → IfSome o IsSmallDeed → All HasSmallDeed ds → All HasSmallDeed (cons_option (option_map (numbered n) o) ds)
-small_cons n None ds small all = all
-small_cons n (Some d) ds small all = All-cons HasSmallDeed (numbered n d) ds small all
-
-fewer_cons : (n : ℕ) (o : Option Deed) (ds : List Dealing) (m : ℕ) → length ds ≤ m → length (cons_option (option_map (numbered n) o) ds) ≤ m + 1
-fewer_cons n None ds m few = omega (arith, few)
-fewer_cons n (Some d) ds m few = omega (arith, few)
+small_cons : (r : Record) (o : Option Deed) (ds : List Dealing) → IfSome o IsSmallDeed → All HasSmallDeed ds → All HasSmallDeed (dealt r o ds)
+small_cons r None ds small all = all
+small_cons r (Some d) ds small all = All-cons HasSmallDeed (numbered r d) ds small all
 
 small_in : (l : List Record) (g k : List ℕ) → AllWithinLimits l → (among : List Record) → AllWithinLimits among → All HasSmallDeed (dealings_in l among g k)
 small_in l g k all [] within = All-nil HasSmallDeed
 small_in l g k all (r ∷ among) within =
-    small_cons r.number (deed_of l g k r.firm r.command) (dealings_in l among g k)
+    small_cons r (deed_of l g k r.firm r.command) (dealings_in l among g k)
     (deed_small l g k r.firm r.command all (All-head (λ (r : Record). IsWithinLimits r.command) r among within))
     (small_in l g k all among (All-tail (λ (r : Record). IsWithinLimits r.command) r among within))
-
-fewer_in : (l : List Record) (g k : List ℕ) (among : List Record) → length (dealings_in l among g k) ≤ length among
-fewer_in l g k [] = omega arith
-fewer_in l g k (r ∷ among) =
-    let a = fewer_cons r.number (deed_of l g k r.firm r.command) (dealings_in l among g k) (length among) (fewer_in l g k among) in
-    omega (arith, a)
 
 raised_small : (d : Dealing) → HasSmallDeed d → raised_by_deed d.deed ≤ 10000000000000
 raised_small d small = by_deed d.deed small
@@ -212,7 +190,7 @@ pub raised_most : (l : List Record) (g k : List ℕ) → AllWithinLimits l → l
 raised_most l g k all few =
     let a = sum_by-le (λ (d : Dealing). raised_by_deed d.deed) 10000000000000 (dealings l g k)
     (All-weaker HasSmallDeed (λ (d : Dealing). raised_by_deed d.deed ≤ 10000000000000) raised_small (dealings l g k) (small_in l g k all l all)) in
-    let b = fewer_in l g k l in
+    let b = fewer_given (dealing_of l g k) l in
     let c : length (dealings l g k) ≤ 1000000 = omega (arith, b, few) in
     let d : length (dealings l g k) * 10000000000000 ≤ 1000000 * 10000000000000 = mul-le-mul_right 10000000000000 c in
     omega (arith, a, d)
@@ -221,7 +199,7 @@ pub used_most : (l : List Record) (g k : List ℕ) → AllWithinLimits l → len
 used_most l g k all few =
     let a = sum_by-le (λ (d : Dealing). used_by_deed d.deed) 10000000 (dealings l g k)
     (All-weaker HasSmallDeed (λ (d : Dealing). used_by_deed d.deed ≤ 10000000) used_small (dealings l g k) (small_in l g k all l all)) in
-    let b = fewer_in l g k l in
+    let b = fewer_given (dealing_of l g k) l in
     let c : length (dealings l g k) ≤ 1000000 = omega (arith, b, few) in
     let d : length (dealings l g k) * 10000000 ≤ 1000000 * 10000000 = mul-le-mul_right 10000000 c in
     omega (arith, a, d)

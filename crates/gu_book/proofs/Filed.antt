@@ -1,85 +1,39 @@
--- A change that may follow leaves the trees and places filed for the longer list.
-use Rattle.std.proofs.Common.{◌≡◌, ◌≢◌, ℕ, zero, suc, ◌+◌, ◌<◌, ◌≤◌, Bool, true, false, ◌&&◌, ◌||◌, inl, inr, List, [], ◌∷◌, ◌++◌, refl, sym, ◌∙◌}
-use Rattle.std.proofs.Common.{ap, subst, arith, cond, Option}
-use Rattle.std.specs.Prelude.{Some, None, find, ◌==◌, is_some, option_and_then, IsSomeAnd, IfSome, sum_by}
+-- What trees that show a list of changes say of its nodes, and what of them stays where the list has one change more, or one less.
+use Rattle.gu_depend.proofs.Vocabulary.{◌≡◌, ℕ, ◌<◌, ◌≤◌, true, false, ◌&&◌, inl, inr, List, [], ◌∷◌, ◌++◌, refl, sym, ◌∙◌, ap, subst, arith, cond}
+use Rattle.gu_depend.proofs.Vocabulary.{Option, Some, None, find, ◌==◌, option_and_then, false_from_ne_true, or_parts, Decides-eqb, All-head, All-tail, find-append, same_Some, EntryPart}
+use Rattle.gu_depend.proofs.Vocabulary.{House, node_of, nodes_of, same_name, split_of, root_of, Command, Trade, Split, Claim, Refuse, Cancel, Record, Node, Root, Place, none_is_some}
+use Rattle.gu_depend.proofs.Vocabulary.{or_none, made_of, name_is, name_same, splits, decides}
+use Rattle.std.proofs.Common.{◌≢◌}
 use Rattle.std.specs.List.{All}
-use Rattle.std.specs.Option.{option_or}
-use Rattle.std.proofs.lemmas.Bool.Decides.{Decides-eqb}
-use Rattle.std.proofs.lemmas.List.Elements.{All-head, All-tail}
-use Rattle.std.proofs.lemmas.List.Folds.{find-append, list_any-append}
-use Rattle.std.proofs.lemmas.Option.{same_Some}
-use Rattle.gu_depend.proofs.Vocabulary.{EntryPart, House, node_of, nodes_of_parts, same_name, kind_of_part, root_of, Command, Trade, Split, Claim, Refuse, Cancel}
-use Rattle.gu_depend.proofs.Vocabulary.{Record, Node, Part}
-use Rattle.gu_base.proofs.Basics.{or_none, or_false}
-use Rattle.gu_base.proofs.NodeNames.{made, made_of}
-use Rattle.gu_tree.specs.Rose.{Rose, head_of, named, from_list, named_below}
-use Rattle.gu_tree.specs.Paths.{node_at}
-use Rattle.gu_tree.specs.Grove.{Grove, tree_of, tree_in, place_of, last_place, IsPlace, ChangesTree, Places, IsSameGrove}
-use Rattle.gu_tree.specs.Filing.{slot_of, name_in, last_of}
-use Rattle.gu_tree.specs.Shown.{IsTreeOf, named_node}
-use Rattle.gu_tree.specs.ShownAll.{named_place, place_in}
+use Rattle.gu_book.proofs.Vocabulary.{option_or, names, Rose, Roses, leaf, parted, head_of, named, node_at, Grove, tree_of, tree_in, last_place, IsPlace, IsSameGrove, ChangesTree, slot_of}
+use Rattle.gu_book.proofs.Vocabulary.{IsTreeOf, IsNodeOf, ArePartsOf, named_node, change_of, named_place, place_in, Head, IsGroveOf, IsNext, is_trade, is_live_trade}
+use Rattle.std.proofs.lemmas.Bool.{true_from_ne_false}
+use Rattle.gu_base.proofs.Basics.{or_false}
+use Rattle.gu_depend.proofs.Names.{maker, made_number}
+use Rattle.gu_depend.proofs.StandsLast.{any_in}
+use Rattle.gu_tree.specs.Grove.{place_of}
+use Rattle.gu_tree.specs.Filing.{name_in, last_of}
+use Rattle.gu_tree.specs.ShownAll.{IsTreeIn}
+use Rattle.gu_tree.proofs.Alike.{IsAlike, node-alike}
 use Rattle.gu_tree.proofs.Along.{IsAlong, along, path-of}
 use Rattle.gu_tree.proofs.GroveSwaps.{by-cases}
 use Rattle.gu_tree.proofs.Parts.{some_and}
-use Rattle.gu_tree.proofs.Shows.{tree-kept}
-use Rattle.gu_book.specs.Filed.{IsIn, IsGroveOf, IsNext, IsDue, Follows}
-use Rattle.gu_book.specs.TreeRows.{is_trade, is_live_trade}
-use Rattle.gu_book.proofs.Leaves.{other_number, sound_first}
-use Rattle.gu_book.proofs.Orders.{InOrder, in_order, sound_before, earlier}
-use Rattle.gu_book.proofs.Sound.{Sound, From, before, here, node_from}
-use Rattle.std.proofs.lemmas.List.Sums.{sum_by-cons}
-use Rattle.gu_tree.specs.Changes.{part_leaves}
-use Rattle.gu_tree.specs.declared.head.Head.{Head}
-use Rattle.gu_tree.proofs.Splits.{part_head-name}
-
--- ---- how often a name stands among nodes, and among the parts of a tree
-
--- how many of the nodes have the name
-abbrev pub count_of : EntryPart → List Node → ℕ
-count_of n xs = sum_by (λ x. cond (same_name x.name n) 1 0) xs
-
-abbrev one_for : EntryPart → Node → ℕ
-one_for n x = cond (same_name x.name n) 1 0
-
-pub count_cons : (n : EntryPart) (x : Node) (xs : List Node) → count_of n (x ∷ xs) ≡ cond (same_name x.name n) 1 0 + count_of n xs
-count_cons n x xs = sum_by-cons (one_for n) x xs
-
-found_at : (n : EntryPart) (y : Node) (xs : List Node) (x : Node) → (find (λ x. same_name x.name n) xs ≡ Some x → 1 ≤ count_of n xs)
-    → (b : Bool) → cond b (Some y) (find (λ x. same_name x.name n) xs) ≡ Some x → 1 ≤ cond b 1 0 + count_of n xs
-found_at n y xs x later true h = omega arith
-found_at n y xs x later false h = omega (arith, later h)
-
--- a name that is found counts
-pub found_counts : (n : EntryPart) (xs : List Node) (x : Node) → find (λ x. same_name x.name n) xs ≡ Some x → 1 ≤ count_of n xs
-found_counts n [] x h = absurd (cc)
-found_counts n (y ∷ xs) x h =
-    let a = found_at n y xs x (found_counts n xs x) (same_name y.name n) h in
-    let b = count_cons n y xs in
-    omega (arith, a, b)
-
--- the parts of a split have the names of its nodes
-pub parts_named : (n : EntryPart) (e i : ℕ) (h : Head) (m : EntryPart) (by : List ℕ) (ps : List Part)
-    → named_below n (from_list (part_leaves e h i ps)) ≡ count_of n (nodes_of_parts e i m by ps)
-parts_named n e i h m by [] = refl
-parts_named n e i h m by (p ∷ ps) =
-    let a = count_cons n (record { name = record { entry = e; part = i }; lots = p.lots; kind = kind_of_part m by p }) (nodes_of_parts e (i + 1) m by ps) in
-    let b = parts_named n e (i + 1) h m by ps in
-    let c = ap (λ (k : EntryPart). cond {A = ℕ} (same_name k n) 1 0) (part_head-name e i p h) in
-    omega (arith, a, b, c)
+use Rattle.gu_tree.proofs.Shows.{find-kept}
+use Rattle.gu_tree.proofs.ShowsLess.{no-root-part}
+use Rattle.gu_book.specs.Filed.{IsDue, Follows}
+use Rattle.gu_book.proofs.ByNumber.{other_made}
+use Rattle.gu_book.proofs.Leaves.{other_number}
+use Rattle.gu_book.proofs.Orders.{InOrder}
+use Rattle.gu_book.proofs.Sound.{node_push}
 
 -- ---- of two groves
 
 -- groves that look alike file the same
 pub same_filed : (l : List Record) (old new : Grove) → IsSameGrove old new → IsGroveOf l old → IsGroveOf l new
-same_filed l old new same filed =
-    let tree : (k : ℕ) → tree_of old k ≡ tree_of new k = λ k. sym (λ i. tree_in (same.trees i) (slot_of (same.slots i) k)) in
-    let place : (k : ℕ) → place_of new k ≡ place_of old k = λ k. ap (λ s. name_in k (slot_of s k)) same.slots in
-    record {
-      live = λ k. ap is_some (sym (tree k)) ∙ filed.live k;
-      shown = λ k. subst (λ (o : Option Rose). IfSome o (IsTreeOf l k)) (tree k) (filed.shown k);
-      whole = λ n x e. let a = filed.whole n x e in (a.0, subst (λ (o : Option Rose). IsSomeAnd o (λ t. 1 ≤ named n t)) (tree a.0) a.1);
-      placed = λ k. place k ∙ filed.placed k;
-    }
+same_filed l old new same filed = record {
+  trees = λ k. subst (IsTreeIn l k) (sym (λ i. tree_in (same.trees i) (slot_of (same.slots i) k))) (filed.trees k);
+  places = λ k. ap (λ s. name_in k (slot_of s k)) same.slots ∙ filed.places k;
+}
 
 pub same_next : (t : House) (l : List Record) (r : Record) (old new : Grove) → IsSameGrove old new → IsNext t l r old → IsNext t l r new
 same_next t l r old new same next = record {
@@ -102,14 +56,12 @@ due_same r old new same due = (due.0, due.1, same_next due.0 due.1 r old new sam
 
 -- no trees and no places
 pub filed_none : (g : Grove) → ((k : ℕ) → tree_of g k ≡ None) → ((k : ℕ) → place_of g k ≡ None) → IsGroveOf [] g
-filed_none g trees places = record {
-  live = λ k. ap is_some (trees k);
-  shown = λ k. subst (λ (o : Option Rose). IfSome o (IsTreeOf [] k)) (sym (trees k)) tt;
-  whole = λ n x e. let z : None ≡ Some x = e in absurd (cc);
-  placed = places;
-}
+filed_none g trees places = record { trees = λ k. subst (IsTreeIn [] k) (sym (trees k)) refl; places = places }
 
 -- ---- where a node lies
+
+abbrev pub root_name : ℕ → EntryPart
+root_name k = record { entry = k; part = 0 }
 
 pub record Spot (l : List Record) (g : Grove) (trade : ℕ) (p : List ℕ) (n : EntryPart) : Type 0 where
   pub tree : Rose
@@ -121,7 +73,7 @@ pub record Spot (l : List Record) (g : Grove) (trade : ℕ) (p : List ℕ) (n : 
   pub said : IsAlong l trade p node
 
 pub tree_shown : {l : List Record} {g : Grove} → IsGroveOf l g → (k : ℕ) (tree : Rose) → tree_of g k ≡ Some tree → IsTreeOf l k tree
-tree_shown {l} filed k tree e = subst (λ (o : Option Rose). IfSome o (IsTreeOf l k)) e (filed.shown k)
+tree_shown {l} filed k tree e = subst (IsTreeIn l k) e (filed.trees k)
 
 pub spot : {l : List Record} {g : Grove} → IsGroveOf l g → InOrder l → (trade : ℕ) (p : List ℕ) (n : EntryPart) → IsPlace g n trade p → Spot l g trade p n
 spot {l} {g} filed order trade p n place =
@@ -137,74 +89,72 @@ spot {l} {g} filed order trade p n place =
       said = along l order.distinct trade place.tree shown p v.0 v.1;
     }
 
--- a name that a tree has lies at a place
-pub placed_in : {g : Grove} (n : EntryPart) → IsIn g n → (trade : ℕ) × (p : List ℕ) × IsPlace g n trade p
-placed_in {g} n is =
-    let t = some_and (λ t. 1 ≤ named n t) (tree_of g is.0) is.1 in
-    let q = path-of n t.0 t.2 in (
-      is.0,
-      q.0,
-      record {
-        tree = t.0;
-        found = t.1;
-        there = subst (λ (o : Option Rose). IsSomeAnd o (λ u. (head_of u).name ≡ n)) (sym q.2) q.3;
-      },
-    )
-
 -- a node lies in the tree of one trade alone
-pub one_trade : {l : List Record} {g : Grove} → IsGroveOf l g → InOrder l → (n : EntryPart) (trade other : ℕ) (p : List ℕ) (tree : Rose)
-    → Spot l g trade p n → tree_of g other ≡ Some tree → other ≢ trade → named n tree ≡ 0
-one_trade {l} {g} filed order n trade other p tree s found apart = none (named n tree) refl
-  where
-    none : (k : ℕ) → named n tree ≡ k → named n tree ≡ 0
-    none zero e = e
-    none (suc k) e =
-        let q = path-of n tree (omega (arith, e)) in
-        let a = along l order.distinct other tree (tree_shown filed other tree found) q.0 q.1 q.2 in
-        let roots : Some (record { entry = other; part = 0 }) ≡ Some (record { entry = trade; part = 0 }) =
-        sym a.rooted ∙ (ap (root_of l) (q.3 ∙ sym s.called) ∙ s.said.rooted) in
-        absurd (apart (ap (λ (m : EntryPart). m.entry) (same_Some (record { entry = other; part = 0 }) (record { entry = trade; part = 0 }) roots)))
+one_trade : {l : List Record} {g : Grove} → IsGroveOf l g → InOrder l → (n : EntryPart) (trade other : ℕ) (p : List ℕ) (tree : Rose)
+    → Spot l g trade p n → tree_of g other ≡ Some tree → other ≢ trade → 1 ≤ named n tree → ⊥
+one_trade {l} {g} filed order n trade other p tree s found apart one =
+    let q = path-of n tree one in
+    let a = along l order.distinct other tree (tree_shown filed other tree found) q.0 q.1 q.2 in
+    let roots : Some (root_name other) ≡ Some (root_name trade) = sym a.rooted ∙ (ap (root_of l) (q.3 ∙ sym s.called) ∙ s.said.rooted) in
+    apart (ap (λ (m : EntryPart). m.entry) (same_Some (root_name other) (root_name trade) roots))
 
--- ---- one change more
+-- ---- a node and its Split
 
-live_more : (l : List Record) (r : Record) (k : ℕ) → is_live_trade (l ++ r ∷ []) k ≡ (is_live_trade l k || ((r.number == k) && is_trade r.command))
-live_more l r k =
-    list_any-append (λ (r : Record). (r.number == k) && is_trade r.command) l (r ∷ []) ∙ ap (λ b. is_live_trade l k || b) (or_false ((r.number == k) && is_trade r.command))
+-- a node that a Split of the list names has the parts of that Split
+pub record IsParted (l : List Record) (r : Record) (v : Rose) : Type 0 where
+  pub head : Head
+  pub parts : Roses
+  pub is : v ≡ parted head r.number parts
+  pub are : ArePartsOf l (Some head.place) (nodes_of r.number r.firm r.command) parts
 
-pub and_no : (a b : Bool) → b ≡ false → (a && b) ≡ false
-and_no true b e = e
-and_no false b e = refl
+pub parted_by : (l : List Record) (above : Option Place) (x : Node) (r : Record) (v : Rose) → IsNodeOf l above x v → split_of l x.name ≡ Some r → IsParted l r v
+parted_by l above x r (leaf h) is found = absurd (none_is_some (split_of l x.name) r is.1 found)
+parted_by l above x r (parted h n ts) is found =
+    let same : is.1.0 ≡ r = same_Some is.1.0 r (sym is.1.1 ∙ found) in
+    record {
+      head = h;
+      parts = ts;
+      is = ap (λ k. parted h k ts) (sym is.1.2 ∙ ap (λ (d : Record). d.number) same);
+      are = subst (λ (d : Record). ArePartsOf l (Some h.place) (nodes_of d.number d.firm d.command) ts) same is.1.3;
+    }
 
-live_same : (l : List Record) (r : Record) (k : ℕ) → is_trade r.command ≡ false → is_live_trade (l ++ r ∷ []) k ≡ is_live_trade l k
-live_same l r k plain = live_more l r k ∙ (ap (λ b. is_live_trade l k || b) (and_no (r.number == k) (is_trade r.command) plain) ∙ or_false (is_live_trade l k))
+-- one that none names is a leaf
+pub record IsWhole (v : Rose) : Type 0 where
+  pub head : Head
+  pub is : v ≡ leaf head
 
-none_numbered : (k : ℕ) (l : List Record) → All (λ d. d.number < k) l → find (λ d. d.number == k) l ≡ None
-none_numbered k [] low = refl
-none_numbered k (d ∷ l) low =
-    let less : d.number < k = All-head (λ (d : Record). d.number < k) d l low in
-    ap (λ b. cond b (Some d) (find (λ (d : Record). d.number == k) l)) (other_number d.number k (λ e. omega arith))
-    ∙ none_numbered k l (All-tail (λ (d : Record). d.number < k) d l low)
+pub whole_by : (l : List Record) (above : Option Place) (x : Node) (v : Rose) → IsNodeOf l above x v → split_of l x.name ≡ None → IsWhole v
+whole_by l above x (leaf h) is none = record { head = h; is = refl }
+whole_by l above x (parted h n ts) is none = absurd (none_is_some (split_of l x.name) is.1.0 none is.1.1)
 
-place_more : (l : List Record) (r : Record) (k : ℕ)
-    → place_in (l ++ r ∷ []) k ≡ option_and_then (λ (d : Record). named_place d.number d.command) (option_or (find (λ (d : Record). d.number == k) l) (cond (r.number == k) (Some r) None))
-place_more l r k = ap (option_and_then (λ (d : Record). named_place d.number d.command)) (find-append (λ (d : Record). d.number == k) l (r ∷ []))
+-- ---- roots
 
--- the change has its own place
-place_here : (l : List Record) (r : Record) → All (λ d. d.number < r.number) l → place_in (l ++ r ∷ []) r.number ≡ named_place r.number r.command
-place_here l r low =
-    place_more l r r.number
-    ∙ (ap (λ o. option_and_then (λ (d : Record). named_place d.number d.command) (option_or o (cond (r.number == r.number) (Some r) None))) (none_numbered r.number l low)
-    ∙ ap (λ b. option_and_then (λ (d : Record). named_place d.number d.command) (cond b (Some r) None)) ((Decides-eqb r.number r.number).1 refl))
+-- a Trade alone makes a root
+rootless : (k n : ℕ) (by : List ℕ) (c : Command) → is_trade c ≡ false → find (λ x. same_name x.name (root_name k)) (nodes_of n by c) ≡ None
+rootless k n by (Trade _ _ _ _ _) plain = absurd (cc)
+rootless k n by (Split m ps) plain = no-root-part k n 1 m by ps (omega arith)
+rootless k n by _ plain = refl
 
--- and what stood before it keeps its own
-place_there : (l : List Record) (r : Record) (k : ℕ) → r.number ≢ k → place_in (l ++ r ∷ []) k ≡ place_in l k
-place_there l r k other =
-    place_more l r k
-    ∙ (ap (λ b. option_and_then (λ (d : Record). named_place d.number d.command) (option_or (find (λ (d : Record). d.number == k) l) (cond b (Some r) None))) (other_number r.number k other)
-    ∙ ap (option_and_then (λ (d : Record). named_place d.number d.command)) (or_none (find (λ (d : Record). d.number == k) l)))
+pub makes_root : (k : ℕ) (by : List ℕ) (c : Command) → is_trade c ≡ true → (x : Node) × (find (λ x. same_name x.name (root_name k)) (nodes_of k by c) ≡ Some x)
+makes_root k by (Trade firm account instrument side lots) is =
+    let x : Node = record { name = root_name k; lots = lots; kind = Root (record { firm = firm; account = account }) } in
+    (x, ap (λ b. cond b (Some x) None) (name_same (root_name k)))
+makes_root k by _ is = absurd (cc)
+
+-- so a tree is that of a live trade
+pub live_at : {l : List Record} {g : Grove} → IsGroveOf l g → (k : ℕ) (tree : Rose) → tree_of g k ≡ Some tree → is_live_trade l k ≡ true
+live_at {l} filed k tree e =
+    let is = tree_shown filed k tree e in
+    let m = maker l (root_name k) is.root is.found in
+    let same : (m.change.number == k) ≡ true = (Decides-eqb m.change.number k).1 (sym (made_number m.change (root_name k) is.root m.makes_it)) in
+    let trades : is_trade m.change.command ≡ true = true_from_ne_false (is_trade m.change.command) (λ plain. none_is_some (made_of m.change (root_name k)) is.root
+    (rootless k m.change.number m.change.firm m.change.command plain) m.makes_it) in
+    any_in (λ (r : Record). (r.number == k) && is_trade r.command) l m.change m.among (ap (λ b. b && is_trade m.change.command) same ∙ trades)
+
+-- ---- what a command names
 
 -- what names a node is no Trade, and has the node as its place
-pub not_trade : (c : Command) (n : EntryPart) → named_node c ≡ Some n → is_trade c ≡ false
+not_trade : (c : Command) (n : EntryPart) → named_node c ≡ Some n → is_trade c ≡ false
 not_trade (Trade _ _ _ _ _) n e = absurd (cc)
 not_trade _ n e = refl
 
@@ -215,173 +165,132 @@ place_named k (Refuse _) n e = e
 place_named k (Cancel _) n e = e
 place_named k _ n e = absurd (cc)
 
-no_name : (m : EntryPart) → None ≡ Some m → ⊥
-no_name m e = cc
+named_by : (m : EntryPart) (c : Command) → names m c ≡ true → named_node c ≡ Some m
+named_by m (Split a _) is = ap (λ z. Some z) (name_is a m (sym (or_false (same_name a m)) ∙ is))
+named_by m (Claim a _) is = ap (λ z. Some z) (name_is a m is)
+named_by m (Refuse a) is = ap (λ z. Some z) (name_is a m is)
+named_by m (Cancel a) is = ap (λ z. Some z) (name_is a m is)
+named_by m _ is = absurd (cc)
 
-pub if_here : {A : Type 0} (a b : ℕ) (x y : A) → a ≡ b → cond (a == b) x y ≡ x
+pub unnamed_by : (m : EntryPart) (c : Command) → (named_node c ≡ Some m → ⊥) → names m c ≡ false
+unnamed_by m c never = false_from_ne_true (names m c) (λ yes. never (named_by m c yes))
+
+-- what has no place in the trees makes no root and names no node
+placeless_is : (k : ℕ) (c : Command) → named_place k c ≡ None → (is_trade c ≡ false) × (named_node c ≡ None)
+placeless_is k (Trade _ _ _ _ _) e = absurd (cc)
+placeless_is k _ e = (refl, e)
+
+-- ---- one change more
+
+abbrev pub place_of_change : Option Record → Option EntryPart
+place_of_change o = option_and_then (λ (d : Record). named_place d.number d.command) o
+
+pub none_numbered : (k : ℕ) (l : List Record) → All (λ d. d.number < k) l → change_of l k ≡ None
+none_numbered k [] low = refl
+none_numbered k (d ∷ l) low =
+    let less : d.number < k = All-head (λ (d : Record). d.number < k) d l low in
+    ap (λ b. cond b (Some d) (change_of l k)) (other_number d.number k (λ e. omega arith))
+    ∙ none_numbered k l (All-tail (λ (d : Record). d.number < k) d l low)
+
+place_more : (l : List Record) (r : Record) (k : ℕ) → place_in (l ++ r ∷ []) k ≡ place_of_change (option_or (change_of l k) (cond (r.number == k) (Some r) None))
+place_more l r k = ap place_of_change (find-append (λ (d : Record). d.number == k) l (r ∷ []))
+
+-- the change has its own place
+pub place_here : (l : List Record) (r : Record) → change_of l r.number ≡ None → place_in (l ++ r ∷ []) r.number ≡ named_place r.number r.command
+place_here l r new =
+    place_more l r r.number
+    ∙ (ap (λ o. place_of_change (option_or o (cond (r.number == r.number) (Some r) None))) new
+    ∙ ap (λ b. place_of_change (cond b (Some r) None)) ((Decides-eqb r.number r.number).1 refl))
+
+-- and what stood before it keeps its own
+place_there : (l : List Record) (r : Record) (k : ℕ) → k ≢ r.number → place_in (l ++ r ∷ []) k ≡ place_in l k
+place_there l r k other =
+    place_more l r k
+    ∙ (ap (λ b. place_of_change (option_or (change_of l k) (cond b (Some r) None))) (other_number r.number k (λ e. other (sym e)))
+    ∙ ap place_of_change (or_none (change_of l k)))
+
+-- ---- one change more or less
+
+-- but for what the change makes and names, the two lists say the same
+pub record IsBeside (r : Record) (x y : List Record) : Type 0 where
+  pub nodes : (n : EntryPart) → made_of r n ≡ None → node_of y n ≡ node_of x n
+  pub alike : (n : EntryPart) → names n r.command ≡ false → IsAlike x y n
+  pub places : (k : ℕ) → k ≢ r.number → place_in y k ≡ place_in x k
+
+-- as a list and the same with the change behind it do
+pub more_beside : (l : List Record) (r : Record) → IsBeside r l (l ++ r ∷ [])
+more_beside l r = record {
+  nodes = λ n none. node_push l r n ∙ (ap (option_or (node_of l n)) none ∙ or_none (node_of l n));
+  alike = λ n un. let p = or_parts _ _ un in record { splits = find-kept (λ r. splits n r.command) l r p.0; decides = find-kept (λ r. decides n r.command) l r p.1 };
+  places = place_there l r;
+}
+
+if_here : {A : Type 0} (a b : ℕ) (x y : A) → a ≡ b → cond (a == b) x y ≡ x
 if_here a b x y e = ap (λ c. cond c x y) ((Decides-eqb a b).1 e)
 
-pub if_there : {A : Type 0} (a b : ℕ) (x y : A) → a ≢ b → cond (a == b) x y ≡ y
+if_there : {A : Type 0} (a b : ℕ) (x y : A) → a ≢ b → cond (a == b) x y ≡ y
 if_there a b x y e = ap (λ c. cond c x y) (other_number a b e)
 
-module _ {t : House} {l : List Record} {r : Record} {g : Grove} (next : IsNext t l r g) where
-  pub order : InOrder l
-  order = in_order t l next.replayed (earlier 1 l r next.rises).0
+-- what is as it was everywhere is so here
+as_before : {A : Type 0} (f : ℕ → A) (k e : ℕ) → f k ≡ cond (k == e) (f e) (f k)
+as_before f k e = elim (by-cases k e) [
+  | inl same ↦ ap f same ∙ sym (if_here k e (f e) (f k) same)
+  | inr other ↦ sym (if_there k e (f e) (f k) other)
+]
 
-  pub low : All (λ d. d.number < r.number) l
-  low = (earlier 1 l r next.rises).2
+-- the key has this value now, and each other key the one that it had
+abbrev pub Alters : {A : Type 0} → (ℕ → A) → (ℕ → A) → ℕ → A → Type 0
+Alters old new e x = (k : ℕ) → new k ≡ cond (k == e) x (old k)
 
-  bounded : (bound : ℕ) × (1 ≤ bound) × (bound ≤ r.number) × Sound l bound
-  bounded = sound_before t [] l r 1 (omega arith) sound_first next.replayed next.rises
+-- a tree of whose nodes the lists say the same shows the one as it shows the other
+tree_alike : {l m : List Record} (k : ℕ) (o : Option Rose) → node_of m (root_name k) ≡ node_of l (root_name k)
+    → ((t : Rose) → o ≡ Some t → (n : EntryPart) → 1 ≤ named n t → IsAlike l m n) → IsTreeIn l k o → IsTreeIn m k o
+tree_alike k None root alike is = root ∙ is
+tree_alike {l} {m} k (Some t) root alike is = record {
+  root = is.root;
+  found = root ∙ is.found;
+  top = is.top;
+  tree = node-alike l m None is.root t (alike t refl) is.tree;
+}
 
-  -- each node that is there has a lower number than the change
-  pub lower : (n : EntryPart) (x : Node) → node_of l n ≡ Some x → n.entry < r.number
-  lower n x e =
-      let b = bounded in
-      let at : n.entry < b.0 = (b.3.low n x e).1 in
-      let behind : b.0 ≤ r.number = b.2 in
-      omega arith
+module _ {r : Record} {x y : List Record} (b : IsBeside r x y) {g : Grove} (filed : IsGroveOf x g) where
+  -- where one tree and the place of the change have become what the other list says, and the other trees show it too
+  moved : {h : Grove} (trade : ℕ) (tree : Option Rose) (place : Option EntryPart) → Alters (tree_of g) (tree_of h) trade tree → Alters (place_of g) (place_of h) r.number place
+      → IsTreeIn y trade tree → ((k : ℕ) → k ≢ trade → IsTreeIn y k (tree_of g k)) → place_in y r.number ≡ place → IsGroveOf y h
+  moved trade tree place trees places shown others own = record {
+    trees = λ k. elim (by-cases k trade) [
+      | inl same ↦ subst (IsTreeIn y k) (sym (trees k ∙ if_here k trade tree (tree_of g k) same)) (subst (λ j. IsTreeIn y j tree) (sym same) shown)
+      | inr other ↦ subst (IsTreeIn y k) (sym (trees k ∙ if_there k trade tree (tree_of g k) other)) (others k other)
+    ];
+    places = λ k. elim (by-cases k r.number) [
+      | inl same ↦ places k ∙ (if_here k r.number place (place_of g k) same ∙ (sym own ∙ ap (place_in y) (sym same)))
+      | inr other ↦ places k ∙ (if_there k r.number place (place_of g k) other ∙ (filed.places k ∙ sym (b.places k other)))
+    ];
+  }
 
-  -- a tree without the node that the change names
-  kept : (k : ℕ) (tree : Rose) → tree_of g k ≡ Some tree → ((n : EntryPart) → named_node r.command ≡ Some n → named n tree ≡ 0) → IsTreeOf (l ++ r ∷ []) k tree
-  kept k tree found absent = tree-kept l r k tree absent (tree_shown next.filed k tree found)
+  stays : (k : ℕ) → made_of r (root_name k) ≡ None → ((t : Rose) → tree_of g k ≡ Some t → (n : EntryPart) → 1 ≤ named n t → names n r.command ≡ false)
+      → IsTreeIn y k (tree_of g k)
+  stays k none unnamed = tree_alike k (tree_of g k) (b.nodes (root_name k) none) (λ t e n one. b.alike n (unnamed t e n one)) (filed.trees k)
 
-  placed_more : (h : Grove) (n : EntryPart) → Places g h r.number n → named_place r.number r.command ≡ Some n → (k : ℕ) → place_of h k ≡ place_in (l ++ r ∷ []) k
-  placed_more h n places own k = elim (by-cases k r.number) [
-    | inl same ↦ places k ∙ (if_here k r.number (Some n) (place_of g k) same ∙ (sym own ∙ (sym (place_here l r low) ∙ ap (place_in (l ++ r ∷ [])) (sym same))))
-    | inr other ↦ places k ∙ (if_there k r.number (Some n) (place_of g k) other ∙ (next.filed.placed k ∙ sym (place_there l r k (λ e. other (sym e)))))
-  ]
+  -- the tree of the node that it names gives way to another
+  pub changed : {h : Grove} {trade : ℕ} {p : List ℕ} {n : EntryPart} → InOrder x → Spot x g trade p n → named_node r.command ≡ Some n → (new : Rose) (place : Option EntryPart)
+      → ChangesTree g h trade new → Alters (place_of g) (place_of h) r.number place → IsTreeOf y trade new → place_in y r.number ≡ place → IsGroveOf y h
+  changed {trade = trade} {p = p} {n = n} order s is new place trees places shown own =
+      moved trade (Some new) place trees places shown
+      (λ k other. stays k (rootless k r.number r.firm r.command (not_trade r.command n is))
+      (λ t e m one. unnamed_by m r.command (λ it.
+      one_trade filed order n trade k p t s e other (subst (λ z. 1 ≤ named z t) (same_Some m n (sym it ∙ is)) one)))) own
 
-  -- how often a node that the change makes stands among those that it makes
-  made_counts : (n : EntryPart) (x : Node) → made_of r n ≡ Some x → 1 ≤ count_of n (made r)
-  made_counts n x e = found_counts n (made r) x e
+  -- the tree of its own number does
+  pub rooted : {h : Grove} → ((n : EntryPart) → names n r.command ≡ false) → (tree : Option Rose) (place : Option EntryPart)
+      → Alters (tree_of g) (tree_of h) r.number tree → Alters (place_of g) (place_of h) r.number place → IsTreeIn y r.number tree → place_in y r.number ≡ place → IsGroveOf y h
+  rooted unnamed tree place trees places shown own =
+      moved r.number tree place trees places shown (λ k other. stays k (other_made r (root_name k) (λ e. other (sym e))) (λ t e n one. unnamed n)) own
 
-  has_tree : (h : Grove) (k : ℕ) (tree : Rose) (n : EntryPart) → tree_of h k ≡ Some tree → 1 ≤ named n tree → IsIn h n
-  has_tree h k tree n found one = (k, subst (λ (o : Option Rose). IsSomeAnd o (λ t. 1 ≤ named n t)) (sym found) one)
-
-  -- ---- the tree that the change touches
-
-  module _ {trade : ℕ} {p : List ℕ} {n : EntryPart} (s : Spot l g trade p n) (names : named_node r.command ≡ Some n)
-      (h : Grove) (new : Rose) (changes : ChangesTree g h trade new) (places : Places g h r.number n)
-      (shows : IsTreeOf (l ++ r ∷ []) trade new) (count : (m : EntryPart) → named m new ≡ named m s.tree + count_of m (made r)) where
-    here_now : tree_of h trade ≡ Some new
-    here_now = changes trade ∙ if_here trade trade (Some new) (tree_of g trade) refl
-
-    there_now : (k : ℕ) → k ≢ trade → tree_of h k ≡ tree_of g k
-    there_now k other = changes k ∙ if_there k trade (Some new) (tree_of g k) other
-
-    shown_there : (k : ℕ) → k ≢ trade → (o : Option Rose) → tree_of g k ≡ o → IfSome o (IsTreeOf (l ++ r ∷ []) k)
-    shown_there k other None e = tt
-    shown_there k other (Some tree) e =
-        kept k tree e (λ m is. subst (λ (z : EntryPart). named z tree ≡ 0) (same_Some n m (sym names ∙ is)) (one_trade next.filed order n trade k p tree s e other))
-
-    whole_before : (m : EntryPart) → IsIn g m → IsIn h m
-    whole_before m is =
-        let u = some_and (λ u. 1 ≤ named m u) (tree_of g is.0) is.1 in
-        elim (by-cases is.0 trade) [
-          | inl same ↦ (let tree : u.0 ≡ s.tree = same_Some u.0 s.tree (sym u.1 ∙ (ap (tree_of g) same ∙ s.found)) in
-              has_tree h trade new m here_now (omega (arith, count m, u.2, ap (named m) tree)))
-          | inr other ↦ has_tree h is.0 u.0 m (there_now is.0 other ∙ u.1) u.2
-        ]
-
-    whole_after : (m : EntryPart) (x : Node) → From l r m x → IsIn h m
-    whole_after m x (before e) = whole_before m (next.filed.whole m x e)
-    whole_after m x (here e) = has_tree h trade new m here_now (omega (arith, count m, made_counts m x e))
-
-    pub changed : IsGroveOf (l ++ r ∷ []) h
-    changed = record {
-      live = λ k. elim (by-cases k trade) [
-        | inl same ↦ ap is_some (ap (tree_of h) same ∙ here_now)
-            ∙ (ap is_some (sym s.found) ∙ (ap (λ j. is_some (tree_of g j)) (sym same) ∙ (next.filed.live k ∙ sym (live_same l r k (not_trade r.command n names)))))
-        | inr other ↦ ap is_some (there_now k other) ∙ (next.filed.live k ∙ sym (live_same l r k (not_trade r.command n names)))
-      ];
-      shown = λ k. elim (by-cases k trade) [
-        | inl same ↦ subst (λ (o : Option Rose). IfSome o (IsTreeOf (l ++ r ∷ []) k)) (sym (ap (tree_of h) same ∙ here_now)) (subst (λ j. IsTreeOf (l ++ r ∷ []) j new) (sym same) shows)
-        | inr other ↦ subst (λ (o : Option Rose). IfSome o (IsTreeOf (l ++ r ∷ []) k)) (sym (there_now k other)) (shown_there k other (tree_of g k) refl)
-      ];
-      whole = λ m x e. whole_after m x (node_from l r m x e);
-      placed = placed_more h n places (place_named r.number r.command n names);
-    }
-
-  -- ---- a tree more
-
-  module _ (h : Grove) (new : Rose) (trades : is_trade r.command ≡ true) (names : named_node r.command ≡ None)
-      (own : named_place r.number r.command ≡ Some (record { entry = r.number; part = 0 }))
-      (changes : ChangesTree g h r.number new) (places : Places g h r.number (record { entry = r.number; part = 0 }))
-      (shows : IsTreeOf (l ++ r ∷ []) r.number new) (count : (m : EntryPart) → named m new ≡ count_of m (made r)) where
-    new_here : tree_of h r.number ≡ Some new
-    new_here = changes r.number ∙ if_here r.number r.number (Some new) (tree_of g r.number) refl
-
-    new_there : (k : ℕ) → k ≢ r.number → tree_of h k ≡ tree_of g k
-    new_there k other = changes k ∙ if_there k r.number (Some new) (tree_of g k) other
-
-    all_there : (k : ℕ) → (o : Option Rose) → tree_of g k ≡ o → IfSome o (IsTreeOf (l ++ r ∷ []) k)
-    all_there k None e = tt
-    all_there k (Some tree) e = kept k tree e (λ m is. absurd (no_name m (sym names ∙ is)))
-
-    -- no tree has the number of the change yet
-    not_yet : (k : ℕ) (u : Rose) → tree_of g k ≡ Some u → k ≢ r.number
-    not_yet k u e same =
-        let is = tree_shown next.filed k u e in
-        let less : k < r.number = lower (record { entry = k; part = 0 }) is.root is.found in
-        omega arith
-
-    planted_whole : (m : EntryPart) (x : Node) → From l r m x → IsIn h m
-    planted_whole m x (before e) =
-        let is = next.filed.whole m x e in
-        let u = some_and (λ u. 1 ≤ named m u) (tree_of g is.0) is.1 in
-        has_tree h is.0 u.0 m (new_there is.0 (not_yet is.0 u.0 u.1) ∙ u.1) u.2
-    planted_whole m x (here e) = has_tree h r.number new m new_here (omega (arith, count m, made_counts m x e))
-
-    or_yes : (a b : Bool) → b ≡ true → (a || b) ≡ true
-    or_yes true b e = refl
-    or_yes false b e = e
-
-    both : (a b : Bool) → a ≡ true → b ≡ true → (a && b) ≡ true
-    both a b x y = ap (λ c. c && b) x ∙ y
-
-    other_live : (k : ℕ) → k ≢ r.number → is_live_trade (l ++ r ∷ []) k ≡ is_live_trade l k
-    other_live k other =
-        live_more l r k ∙ (ap (λ b. is_live_trade l k || (b && is_trade r.command)) (other_number r.number k (λ e. other (sym e))) ∙ or_false (is_live_trade l k))
-
-    pub planted : IsGroveOf (l ++ r ∷ []) h
-    planted = record {
-      live = λ k. elim (by-cases k r.number) [
-        | inl same ↦ ap is_some (ap (tree_of h) same ∙ new_here)
-            ∙ sym (live_more l r k ∙ or_yes (is_live_trade l k) ((r.number == k) && is_trade r.command) (both (r.number == k) (is_trade r.command) ((Decides-eqb r.number k).1 (sym same)) trades))
-        | inr other ↦ ap is_some (new_there k other) ∙ (next.filed.live k ∙ sym (other_live k other))
-      ];
-      shown = λ k. elim (by-cases k r.number) [
-        | inl same ↦ subst (λ (o : Option Rose). IfSome o (IsTreeOf (l ++ r ∷ []) k)) (sym (ap (tree_of h) same ∙ new_here)) (subst (λ j. IsTreeOf (l ++ r ∷ []) j new) (sym same) shows)
-        | inr other ↦ subst (λ (o : Option Rose). IfSome o (IsTreeOf (l ++ r ∷ []) k)) (sym (new_there k other)) (all_there k (tree_of g k) refl)
-      ];
-      whole = λ m x e. planted_whole m x (node_from l r m x e);
-      placed = placed_more h (record { entry = r.number; part = 0 }) places own;
-    }
-
-  -- ---- a change that makes and names nothing
-
-  module _ (names : named_node r.command ≡ None) (trades : is_trade r.command ≡ false) (own : named_place r.number r.command ≡ None) (makes : made r ≡ []) where
-    nothing_made : (m : EntryPart) (x : Node) → made_of r m ≡ Some x → ⊥
-    nothing_made m x e = let a = made_counts m x e in let b = ap (count_of m) makes in omega (arith, a, b)
-
-    stays_whole : (m : EntryPart) (x : Node) → From l r m x → IsIn g m
-    stays_whole m x (before e) = next.filed.whole m x e
-    stays_whole m x (here e) = absurd (nothing_made m x e)
-
-    stays_shown : (k : ℕ) (o : Option Rose) → tree_of g k ≡ o → IfSome o (IsTreeOf (l ++ r ∷ []) k)
-    stays_shown k None e = tt
-    stays_shown k (Some tree) e = kept k tree e (λ m is. absurd (no_name m (sym names ∙ is)))
-
-    pub stays : IsGroveOf (l ++ r ∷ []) g
-    stays = record {
-      live = λ k. next.filed.live k ∙ sym (live_same l r k trades);
-      shown = λ k. stays_shown k (tree_of g k) refl;
-      whole = λ m x e. stays_whole m x (node_from l r m x e);
-      placed = λ k. elim (by-cases k r.number) [
-        | inl same ↦ next.filed.placed k
-            ∙ (ap (place_in l) same ∙ (ap (option_and_then (λ (d : Record). named_place d.number d.command)) (none_numbered r.number l low)
-            ∙ (sym own ∙ (sym (place_here l r low) ∙ ap (place_in (l ++ r ∷ [])) (sym same)))))
-        | inr other ↦ next.filed.placed k ∙ sym (place_there l r k (λ e. other (sym e)))
-      ];
-    }
+  -- none does, of an Agree or a Raise
+  pub apart : named_place r.number r.command ≡ None → place_in y r.number ≡ place_of g r.number → IsGroveOf y g
+  apart placeless own =
+      let is = placeless_is r.number r.command placeless in
+      let each : (k : ℕ) → IsTreeIn y k (tree_of g k) = λ k. stays k (rootless k r.number r.firm r.command is.0)
+      (λ t e n one. unnamed_by n r.command (none_is_some (named_node r.command) n is.1)) in
+      moved r.number (tree_of g r.number) (place_of g r.number) (λ k. as_before (tree_of g) k r.number) (λ k. as_before (place_of g) k r.number) (each r.number) (λ k other. each k) own

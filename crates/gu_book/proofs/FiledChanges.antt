@@ -1,42 +1,31 @@
 -- What each change makes of the trees and of the places.
-use Rattle.std.proofs.Common.{◌≡◌, ◌≢◌, ℕ, ◌+◌, ◌<◌, ◌≤◌, Bool, true, false, not, ◌&&◌, ◌||◌, List, [], ◌∷◌, ◌++◌, length, refl, sym, ◌∙◌, ap}
-use Rattle.std.proofs.Common.{subst, arith, Option, IsTrue}
-use Rattle.std.specs.Prelude.{Some, None, map, sum_by, nat_le, nat_lt, is_some, is_none, IsSomeAnd, option_map, unwrap_or, bytes_eq}
-use Rattle.std.proofs.lemmas.Bool.Decides.{Decides-eqb}
-use Rattle.std.proofs.lemmas.Option.{same_Some}
-use Rattle.std.proofs.lemmas.Slice.Eq.{bytes_eq-Decides}
-use Rattle.gu_depend.proofs.Vocabulary.{EntryPart, House, knows_account, node_of, nodes_of, decision_of, split_of, is_given, is_offered, place_of, depth_of, row, split_row, claim_row, refuse_row}
-use Rattle.gu_depend.proofs.Vocabulary.{cancel_row, first, unless, is_taker, is_giver, limit_row, limit_by, used_by, refusal_of_part, state_of, taker_of, Part, Side, Command, Trade, Split, Claim}
-use Rattle.gu_depend.proofs.Vocabulary.{Refuse, Cancel, Record, Kind, Given, Node, Place, NotOffered, NotYours, UnknownAccount, State}
-use Rattle.gu_depend.proofs.Vocabulary.{Offered, Cancelled}
+use Rattle.gu_depend.proofs.Vocabulary.{◌≡◌, ℕ, ◌<◌, ◌≤◌, Bool, true, false, not, ◌&&◌, ◌||◌, List, [], ◌∷◌, ◌++◌, length, refl, sym, ◌∙◌, ap}
+use Rattle.gu_depend.proofs.Vocabulary.{subst, arith, Option, Some, None, sum_by, nat_lt, is_some, is_none, option_map, unwrap_or, bytes_eq, Decides-eqb, same_Some, bytes_eq-Decides}
+use Rattle.gu_depend.proofs.Vocabulary.{EntryPart, House, knows_account, node_of, decides, decision_of, split_of, is_given, place_of, depth_of, row, split_row, claim_row, first, is_taker}
+use Rattle.gu_depend.proofs.Vocabulary.{refusal_of_part, state_of, taker_of, Part, Command, Split, Claim, Record, Kind, Given, Node, Place, State, Offered}
+use Rattle.gu_depend.proofs.Vocabulary.{Cancelled, none_is_some, name_same, at_node_none, SplitHolds, claim_passes, decides_well, refusal_parts}
+use Rattle.std.proofs.Common.{◌≢◌, IsTrue}
+use Rattle.std.specs.Prelude.{map, nat_le, IsSomeAnd}
 use Rattle.gu_base.specs.declared.state.State.TheVariants.{Refused}
-use Rattle.gu_base.proofs.Accepted.{first_none, unless_none}
-use Rattle.gu_base.proofs.Basics.{no_some, none_is_some}
-use Rattle.gu_base.proofs.NodeNames.{made}
-use Rattle.gu_base.proofs.Passing.{at_node_none, split_passes, SplitHolds, refusal_parts, part_passes}
-use Rattle.gu_tree.specs.Rose.{Rose, leaf, parted, head_of, lots_of, named}
-use Rattle.gu_tree.specs.Paths.{edit_at, HasAt}
-use Rattle.gu_tree.specs.Changes.{root_head, with_head, CanSplit, own_parts_have_accounts, is_own, split_node, claim_node, claimed_head, give_back_node, given_back_head, IsOffered}
-use Rattle.gu_tree.specs.Grove.{Grove, tree_of, HasTree, ChangesTree, Places}
-use Rattle.gu_tree.specs.Shown.{IsTreeOf, IsNodeOf, IsHeadOf, named_node, ShowsMore, IsUnnamed, IsTradeOf, IsSplitOf, IsClaimOf, GivesBack, IsGivingBackOf}
-use Rattle.gu_tree.specs.ShownAll.{named_place}
-use Rattle.gu_tree.specs.declared.head.Head.{Head}
+use Rattle.gu_base.proofs.Accepted.{first_none}
+use Rattle.gu_base.proofs.Passing.{split_passes, part_passes}
+use Rattle.gu_book.proofs.Vocabulary.{names, Rose, leaf, parted, head_of, edit_at, HasAt, Grove, tree_of, HasTree, ChangesTree, Places, IsTreeOf, IsNodeOf, IsHeadOf, named_node, IsUnnamed}
+use Rattle.gu_book.proofs.Vocabulary.{change_of, named_place, place_in, Head, IsGroveOf, IsNext}
+use Rattle.gu_tree.specs.Rose.{lots_of}
+use Rattle.gu_tree.specs.Changes.{CanSplit, own_parts_have_accounts, is_own, split_node, claim_node, give_back_node, IsOffered}
+use Rattle.gu_tree.specs.Shown.{ShowsMore, IsTradeOf, IsSplitOf, IsClaimOf, GivesBack, IsGivingBackOf}
 use Rattle.gu_tree.proofs.Along.{its-head}
-use Rattle.gu_tree.proofs.Names.{named-edit_at, named-with_head}
 use Rattle.gu_tree.proofs.Parts.{at_fact}
 use Rattle.gu_tree.proofs.ShowsChanges.{decided_state}
-use Rattle.gu_tree.proofs.Splits.{named-split_node}
-use Rattle.gu_book.specs.Filed.{IsGroveOf, IsNext}
-use Rattle.gu_book.specs.TreeRows.{is_trade}
-use Rattle.gu_book.proofs.Filed.{Spot, order, low, lower, changed, planted, stays, count_of, parts_named}
-use Rattle.gu_book.proofs.Orders.{unnamed}
+use Rattle.gu_book.proofs.ByNumber.{node_none}
+use Rattle.gu_book.proofs.Filed.{Spot, root_name, none_numbered, place_of_change, place_here, place_named, more_beside, changed, rooted, apart}
+use Rattle.gu_book.proofs.Orders.{InOrder, in_order, earlier, unnamed}
 
 -- ---- of kinds and states
 
-offered_state : (k : Kind) (d : Option Record) → (is_given k && is_none d) ≡ true → state_of k d ≡ Offered
-offered_state (Given _ _ _) None h = refl
-offered_state (Given _ _ _) (Some r) h = absurd (cc)
-offered_state _ d h = absurd (cc)
+offered_state : (k : Kind) (d : Option Record) → is_given k ≡ true → d ≡ None → state_of k d ≡ Offered
+offered_state (Given m giver taker) d h none = ap (state_of (Given m giver taker)) none
+offered_state _ d h none = absurd (cc)
 
 free_state : (k : Kind) (d : Option Record) → not (is_given k && is_none d) ≡ true → state_of k d ≢ Offered
 free_state (Given _ _ _) None h = absurd (cc)
@@ -46,6 +35,12 @@ free_state _ d h = λ e. cc
 taker_named : (by : List ℕ) (k : Kind) → is_taker by k ≡ true → taker_of k ≡ Some by
 taker_named by (Given _ giver taker) h = ap (λ (f : List ℕ). Some f) ((bytes_eq-Decides taker by).0 h)
 taker_named by _ h = absurd (cc)
+
+-- what gives a part back decides it
+pub back_names : (n : EntryPart) (state : State) (c : Command) → GivesBack n state c → (named_node c ≡ Some n) × (decides n c ≡ true)
+back_names n Refused c e = (ap named_node e, ap (decides n) e ∙ name_same n)
+back_names n Cancelled c e = (ap named_node e, ap (decides n) e ∙ name_same n)
+back_names n _ c e = absurd e
 
 -- ---- the node that the change names
 
@@ -81,107 +76,77 @@ module _ {l : List Record} {g : Grove} {trade : ℕ} {p : List ℕ} {n : EntryPa
   pub said_at : (P : Rose → Type 0) → HasTree g trade (HasAt p P) → P s.node
   said_at P has = at_fact P _ s.node s.at (from_tree (HasAt p P) has)
 
-  -- an offered node
-  offered_head : (x : Node) → node_of l n ≡ Some x → is_offered l x ≡ true → (head_of s.node).state ≡ Offered
-  offered_head x e h =
-      its_head.state ∙ offered_state s.said.node.kind (decision_of l s.said.node.name) (subst (λ (y : Node). is_offered l y ≡ true) (its_node x e) h)
-
-  taken_head : (x : Node) (by : List ℕ) → node_of l n ≡ Some x → is_taker by x.kind ≡ true → (head_of s.node).taker ≡ Some by
-  taken_head x by e h = its_head.taker ∙ taker_named by s.said.node.kind (subst (λ (y : Node). is_taker by y.kind ≡ true) (its_node x e) h)
-
--- ---- a node with another head
+-- ---- the change that may follow
 
 module _ {t : House} {l : List Record} {r : Record} {g : Grove} (next : IsNext t l r g) where
-  edited : {trade : ℕ} {p : List ℕ} {n : EntryPart} (s : Spot l g trade p n) → named_node r.command ≡ Some n
-      → (h : Grove) (f : Rose → Rose) → IsDone g trade p r h f → IsTreeOf (l ++ r ∷ []) trade (edit_at f p s.tree)
-      → ((m : EntryPart) → named m (edit_at f p s.tree) ≡ named m s.tree + count_of m (made r))
-      → IsGroveOf (l ++ r ∷ []) h
-  edited {trade} {p} {n} s names h f done shows count =
-      changed next s names h (edit_at f p s.tree)
+  pub order : InOrder l
+  order = in_order t l next.replayed (earlier 1 l r next.rises).0
+
+  -- its number is new
+  new_number : change_of l r.number ≡ None
+  new_number = none_numbered r.number l (earlier 1 l r next.rises).2
+
+  unmade_yet : (n : EntryPart) → n.entry ≡ r.number → node_of l n ≡ None
+  unmade_yet n own = node_none l n (ap (change_of l) own ∙ new_number)
+
+  unnamed_yet : IsUnnamed l r.number
+  unnamed_yet = unnamed t l r.number next.replayed unmade_yet
+
+  own_place : place_in (l ++ r ∷ []) r.number ≡ named_place r.number r.command
+  own_place = place_here l r new_number
+
+  -- what a clause says of each list that the tree shows it says of this one
+  edited : {trade : ℕ} {p : List ℕ} {n : EntryPart} (s : Spot l g trade p n) → named_node r.command ≡ Some n → (h : Grove) (f : Rose → Rose) → IsDone g trade p r h f
+      → (P : List Record → Record → Rose → Type 0) → P l r s.tree → HasTree g trade (λ u. ShowsMore (λ k q. P k q u) u (edit_at f p u)) → IsGroveOf (l ++ r ∷ []) h
+  edited {trade} {p} {n} s is h f done P holds shows =
+      changed (more_beside l r) next.filed order s is (edit_at f p s.tree) (Some n)
       (from_tree s (λ u. ChangesTree g h trade (edit_at f p u)) done.tree)
       (subst (λ (m : EntryPart). Places g h r.number m) s.called (said_at s (λ v. Places g h r.number (head_of v).name) done.place))
-      shows count
+      (from_tree s (λ u. ShowsMore (λ k q. P k q u) u (edit_at f p u)) shows l trade r holds s.shown) (own_place ∙ place_named r.number r.command n is)
 
-  reheaded : {trade : ℕ} {p : List ℕ} {n : EntryPart} (s : Spot l g trade p n) → named_node r.command ≡ Some n → made r ≡ []
-      → (h : Grove) (f : Head → Head) → ((k : Head) → (f k).name ≡ k.name) → IsDone g trade p r h (λ v. with_head (f (head_of v)) v)
-      → IsTreeOf (l ++ r ∷ []) trade (edit_at (λ v. with_head (f (head_of v)) v) p s.tree)
-      → IsGroveOf (l ++ r ∷ []) h
-  reheaded {trade} {p} {n} s names makes h f same_names done shows =
-      let k : Rose → Rose = λ v. with_head (f (head_of v)) v in
-      edited s names h k done shows
-      (λ m.
-      let b = named-edit_at m k p s.tree s.node s.at in
-      let c = named-with_head m (f (head_of s.node)) s.node (same_names (head_of s.node)) in
-      let d = ap (count_of m) makes in
-      omega (arith, b, c, d))
+  -- ---- decisions
 
-  -- ---- claims
+  -- the part that it decides is offered
+  may_decide : {trade : ℕ} {p : List ℕ} {n : EntryPart} (s : Spot l g trade p n) → decides n r.command ≡ true → HasTree g trade (HasAt p IsOffered)
+  may_decide {n = n} s is =
+      let w = decides_well t l r.firm r.command n (refusal_parts t l r.firm r.command next.lawful).1 is in
+      is_at s IsOffered ((its_head s).state ∙ offered_state s.said.node.kind (decision_of l s.said.node.name)
+      (subst (λ (y : Node). is_given y.kind ≡ true) (its_node s w.node w.there) w.given) (ap (decision_of l) (s.said.named ∙ s.called) ∙ w.undecided))
 
-  claim_lines : (n : EntryPart) (account : List ℕ) → r.command ≡ Claim n account → (x : Node) × (node_of l n ≡ Some x) × (is_offered l x ≡ true) × (is_taker r.firm x.kind ≡ true)
-  claim_lines n account e =
-      let there = at_node_none (claim_row t l r.firm account) (node_of l n) (row_passes next (Claim n account) e) in
-      let last = limit_row (used_by l there.0.kind + there.0.lots) (limit_by t l there.0.kind) ∷ [] in
-      let third = unless (knows_account t r.firm account) UnknownAccount ∷ last in
-      let second = unless (is_taker r.firm there.0.kind) NotYours ∷ third in
-      let a = first_none (unless (is_offered l there.0) NotOffered) second there.1.1 in
-      let b = first_none (unless (is_taker r.firm there.0.kind) NotYours) third a.1 in
-      (there.0, there.1.0, unless_none (is_offered l there.0) NotOffered a.0, unless_none (is_taker r.firm there.0.kind) NotYours b.0)
+  module _ {trade : ℕ} {p : List ℕ} {n : EntryPart} (s : Spot l g trade p n) (account : List ℕ) (e : r.command ≡ Claim n account) where
+    abbrev into : Place
+    into = record { firm = r.firm; account = account }
 
-  module _ {trade : ℕ} {p : List ℕ} {n : EntryPart} (s : Spot l g trade p n) where
-    pub may_claim : (account : List ℕ) → r.command ≡ Claim n account → HasTree g trade (HasAt p IsOffered)
-    may_claim account e = let x = claim_lines n account e in is_at s IsOffered (offered_head s x.0 x.1 x.2)
+    pub may_claim : HasTree g trade (HasAt p IsOffered)
+    may_claim = may_decide s (ap (decides n) e ∙ name_same n)
 
-    pub claimed : (account : List ℕ) → r.command ≡ Claim n account → (h : Grove) → IsDone g trade p r h (claim_node r.number (record { firm = r.firm; account = account }))
-        → HasTree g trade (λ u. ShowsMore (λ k q. HasAt p (λ v. IsClaimOf (head_of v) r.number (record { firm = r.firm; account = account }) q) u) u
-        (edit_at (claim_node r.number (record { firm = r.firm; account = account })) p u))
-        → IsGroveOf (l ++ r ∷ []) h
-    claimed account e h done shows =
-        let x = claim_lines n account e in
-        let place : Place = record { firm = r.firm; account = account } in
-        reheaded s (ap named_node e) (ap (nodes_of r.number r.firm) e) h (claimed_head r.number place) (λ k. refl) done
-        (from_tree s (λ u. ShowsMore (λ k q. HasAt p (λ v. IsClaimOf (head_of v) r.number place q) u) u (edit_at (claim_node r.number place) p u)) shows
-        l trade r
-        (has_at s (λ v. IsClaimOf (head_of v) r.number place r)
-        (record { number = refl; taker = taken_head s x.0 r.firm x.1 x.3; command = e ∙ ap (λ (m : EntryPart). Claim m account) (sym s.called) }))
-        s.shown)
+    claims_it : IsClaimOf (head_of s.node) r.number into r
+    claims_it =
+        let there = at_node_none (claim_row t l r.firm account) (node_of l n) (row_passes next (Claim n account) e) in
+        let taker = (claim_passes t l r.firm account there.0 there.1.1).0.taker in
+        record {
+          number = refl;
+          taker = (its_head s).taker ∙ taker_named r.firm s.said.node.kind (subst (λ (y : Node). is_taker r.firm y.kind ≡ true) (its_node s there.0 there.1.0) taker);
+          command = e ∙ ap (λ (m : EntryPart). Claim m account) (sym s.called);
+        }
 
-  -- ---- what goes back
+    pub claimed : (h : Grove) → IsDone g trade p r h (claim_node r.number into)
+        → HasTree g trade (λ u. ShowsMore (λ k q. HasAt p (λ v. IsClaimOf (head_of v) r.number into q) u) u (edit_at (claim_node r.number into) p u)) → IsGroveOf (l ++ r ∷ []) h
+    claimed h done shows =
+        edited s (ap named_node e) h (claim_node r.number into) done (λ k q u. HasAt p (λ v. IsClaimOf (head_of v) r.number into q) u)
+        (has_at s (λ v. IsClaimOf (head_of v) r.number into r) claims_it) shows
 
-  pub back_names : (n : EntryPart) (state : State) (c : Command) → GivesBack n state c → named_node c ≡ Some n
-  back_names n Refused c e = ap named_node e
-  back_names n Cancelled c e = ap named_node e
-  back_names n _ c e = absurd e
+  module _ {trade : ℕ} {p : List ℕ} {n : EntryPart} (s : Spot l g trade p n) (state : State) (e : GivesBack n state r.command) where
+    pub may_give_back : HasTree g trade (HasAt p IsOffered)
+    may_give_back = may_decide s (back_names n state r.command e).1
 
-  back_makes : (n : EntryPart) (state : State) (c : Command) → GivesBack n state c → nodes_of r.number r.firm c ≡ []
-  back_makes n Refused c e = ap (nodes_of r.number r.firm) e
-  back_makes n Cancelled c e = ap (nodes_of r.number r.firm) e
-  back_makes n _ c e = absurd e
-
-  back_offered : (n : EntryPart) (state : State) → GivesBack n state r.command → (x : Node) × (node_of l n ≡ Some x) × (is_offered l x ≡ true)
-  back_offered n Refused e =
-      let there = at_node_none (refuse_row l r.firm) (node_of l n) (row_passes next (Refuse n) e) in
-      let a = first_none (unless (is_offered l there.0) NotOffered) (unless (is_taker r.firm there.0.kind) NotYours ∷ []) there.1.1 in
-      (there.0, there.1.0, unless_none (is_offered l there.0) NotOffered a.0)
-  back_offered n Cancelled e =
-      let there = at_node_none (cancel_row l r.firm) (node_of l n) (row_passes next (Cancel n) e) in
-      let a = first_none (unless (is_offered l there.0) NotOffered) (unless (is_giver r.firm there.0.kind) NotYours ∷ []) there.1.1 in
-      (there.0, there.1.0, unless_none (is_offered l there.0) NotOffered a.0)
-  back_offered n _ e = absurd e
-
-  module _ {trade : ℕ} {p : List ℕ} {n : EntryPart} (s : Spot l g trade p n) where
-    pub may_give_back : (state : State) → GivesBack n state r.command → HasTree g trade (HasAt p IsOffered)
-    may_give_back state e = let x = back_offered n state e in is_at s IsOffered (offered_head s x.0 x.1 x.2)
-
-    pub given_back : (state : State) → GivesBack n state r.command → (h : Grove) → IsDone g trade p r h (give_back_node r.number state)
+    pub given_back : (h : Grove) → IsDone g trade p r h (give_back_node r.number state)
         → HasTree g trade (λ u. ShowsMore (λ k q. HasAt p (λ v. IsGivingBackOf (head_of v) r.number state q) u) u (edit_at (give_back_node r.number state) p u))
         → IsGroveOf (l ++ r ∷ []) h
-    given_back state e h done shows =
-        reheaded s (back_names n state r.command e) (back_makes n state r.command e) h (given_back_head r.number state) (λ k. refl) done
-        (from_tree s (λ u. ShowsMore (λ k q. HasAt p (λ v. IsGivingBackOf (head_of v) r.number state q) u) u (edit_at (give_back_node r.number state) p u)) shows
-        l trade r
+    given_back h done shows =
+        edited s (back_names n state r.command e).0 h (give_back_node r.number state) done (λ k q u. HasAt p (λ v. IsGivingBackOf (head_of v) r.number state q) u)
         (has_at s (λ v. IsGivingBackOf (head_of v) r.number state r)
-        (record { number = refl; command = subst (λ (m : EntryPart). GivesBack m state r.command) (sym s.called) e }))
-        s.shown)
+        (record { number = refl; command = subst (λ (m : EntryPart). GivesBack m state r.command) (sym s.called) e })) shows
 
 -- ---- splits
 
@@ -219,26 +184,22 @@ less_by : (a b : ℕ) → nat_lt a b ≡ true → a < b
 less_by a b h = grind arith
 
 module _ {t : House} {l : List Record} {r : Record} {g : Grove} (next : IsNext t l r g) where
-  split_lines : (n : EntryPart) (ps : List Part) → r.command ≡ Split n ps → (x : Node) × (node_of l n ≡ Some x) × SplitHolds t l r.firm ps x × (split_of l x.name ≡ None)
-  split_lines n ps e =
-      let there = at_node_none (split_row t l r.firm ps) (node_of l n) (row_passes next (Split n ps) e) in
-      let passes = split_passes t l r.firm ps there.0 there.1.1 in
-      (there.0, there.1.0, passes.0, passes.1)
-
   module _ {trade : ℕ} {p : List ℕ} {n : EntryPart} (s : Spot l g trade p n) (ps : List Part) (e : r.command ≡ Split n ps) where
     -- the lines of the row, of the node that the tree shows
-    passes : SplitHolds t l r.firm ps s.said.node
-    passes = let x = split_lines n ps e in subst (SplitHolds t l r.firm ps) (its_node s x.0 x.1) x.2
+    lines : SplitHolds t l r.firm ps s.said.node × (split_of l s.said.node.name ≡ None)
+    lines =
+        let there = at_node_none (split_row t l r.firm ps) (node_of l n) (row_passes next (Split n ps) e) in
+        subst (λ (x : Node). SplitHolds t l r.firm ps x × (split_of l x.name ≡ None)) (its_node s there.0 there.1.0) (split_passes t l r.firm ps there.0 there.1.1)
 
-    whole : split_of l s.said.node.name ≡ None
-    whole = let x = split_lines n ps e in subst (λ (x : Node). split_of l x.name ≡ None) (its_node s x.0 x.1) x.3
+    abbrev passes : SplitHolds t l r.firm ps s.said.node
+    passes = lines.0
 
     its_owner : (head_of s.node).place.firm ≡ r.firm
     its_owner = owner_is (place_of l s.said.node.name) (head_of s.node).place r.firm (ap (place_of l) s.said.named ∙ s.said.placed) passes.owned
 
     can_be_split : CanSplit ps s.node
     can_be_split =
-        can_split l s.said.above s.said.node s.node ps s.said.shown whole
+        can_split l s.said.above s.said.node s.node ps s.said.shown lines.1
         ((Decides-eqb (sum_by (λ p. p.lots) ps) s.said.node.lots).0 passes.sums ∙ sym (its_head s).lots)
         (subst (λ (x : State). x ≢ Offered) (sym (its_head s).state) (free_state s.said.node.kind (decision_of l s.said.node.name) passes.free))
 
@@ -267,58 +228,22 @@ module _ {t : House} {l : List Record} {r : Record} {g : Grove} (next : IsNext t
         → HasTree g trade (λ u. ShowsMore (λ k q. HasAt p (λ v. IsSplitOf (head_of v) r.number ps q) u × IsUnnamed k r.number) u (edit_at (split_node r.number ps) p u))
         → IsGroveOf (l ++ r ∷ []) h
     split_filed h done shows =
-        edited next s (ap named_node e) h (split_node r.number ps) done
-        (from_tree s (λ u. ShowsMore (λ k q. HasAt p (λ v. IsSplitOf (head_of v) r.number ps q) u × IsUnnamed k r.number) u (edit_at (split_node r.number ps) p u)) shows
-        l trade r (has_at s (λ v. IsSplitOf (head_of v) r.number ps r) splits_it, unnamed 0 r.number l (order next).orderly (low next)) s.shown)
-        (λ m.
-        let b = named-edit_at m (split_node r.number ps) p s.tree s.node s.at in
-        let c = named-split_node r.number ps s.node m can_be_split in
-        let d = parts_named m r.number 1 (head_of s.node) n r.firm ps in
-        let f = ap (λ (c : Command). count_of m (nodes_of r.number r.firm c)) e in
-        omega (arith, b, c, d, f))
+        edited next s (ap named_node e) h (split_node r.number ps) done (λ k q u. HasAt p (λ v. IsSplitOf (head_of v) r.number ps q) u × IsUnnamed k r.number)
+        (has_at s (λ v. IsSplitOf (head_of v) r.number ps r) splits_it, unnamed_yet next) shows
 
 -- ---- trades
 
-module _ {t : House} {l : List Record} {r : Record} {g : Grove} (next : IsNext t l r g) (place : Place) (lots : ℕ) (is : IsTradeOf r.number place lots r) where
-  no_root : node_of l (record { entry = r.number; part = 0 }) ≡ None
-  no_root = no_some (node_of l (record { entry = r.number; part = 0 })) (λ x e. let below : r.number < r.number = lower next (record { entry = r.number; part = 0 }) x e in omega arith)
+-- what the new tree shows is asked of it for this list
+pub trade_filed : {t : House} {l : List Record} {r : Record} {g : Grove} → IsNext t l r g → (place : Place) (lots : ℕ) → IsTradeOf r.number place lots r → (h : Grove) (new : Rose)
+    → ((k : List Record) (q : Record) → IsTradeOf r.number place lots q → IsUnnamed k r.number → node_of k (root_name r.number) ≡ None → IsTreeOf (k ++ q ∷ []) r.number new)
+    → ChangesTree g h r.number new → Places g h r.number (root_name r.number) → IsGroveOf (l ++ r ∷ []) h
+trade_filed {l = l} {r = r} next place lots is h new shows changes places =
+    rooted (more_beside l r) next.filed (λ n. ap (names n) is.command) (Some new) (Some (root_name r.number)) changes places
+    (shows l r is (unnamed_yet next) (unmade_yet next (root_name r.number) refl)) (own_place next ∙ ap (named_place r.number) is.command)
 
-  -- what the new tree shows is asked of it for this list
-  pub trade_filed : (h : Grove) (new : Rose) → new ≡ leaf (root_head r.number place lots)
-      → ((k : List Record) (q : Record) → IsTradeOf r.number place lots q → IsUnnamed k r.number → node_of k (record { entry = r.number; part = 0 }) ≡ None
-      → IsTreeOf (k ++ q ∷ []) r.number new)
-      → ChangesTree g h r.number new → Places g h r.number (record { entry = r.number; part = 0 }) → IsGroveOf (l ++ r ∷ []) h
-  trade_filed h new same shows changes places =
-      planted next h new (ap is_trade is.command) (ap named_node is.command) (ap (named_place r.number) is.command) changes places
-      (shows l r is (unnamed 0 r.number l (order next).orderly (low next)) no_root)
-      (λ m.
-      let a = ap (named m) same in
-      let f = ap (λ (c : Command). count_of m (nodes_of r.number r.firm c)) is.command in
-      omega (arith, a, f))
+-- ---- an Agree or a Raise
 
--- what neither trades nor splits nor decides names and makes nothing
-record IsPlain (k : ℕ) (by : List ℕ) (c : Command) : Type 0 where
-  names : named_node c ≡ None
-  trades : is_trade c ≡ false
-  own : named_place k c ≡ None
-  makes : nodes_of k by c ≡ []
-
-plain_command : (k : ℕ) (by : List ℕ) (c : Command)
-    → ((firm account instrument : List ℕ) (side : Side) (lots : ℕ) → c ≡ Trade firm account instrument side lots → ⊥)
-    → ((n : EntryPart) (ps : List Part) → c ≡ Split n ps → ⊥) → ((n : EntryPart) (account : List ℕ) → c ≡ Claim n account → ⊥)
-    → ((n : EntryPart) → c ≡ Refuse n → ⊥) → ((n : EntryPart) → c ≡ Cancel n → ⊥) → IsPlain k by c
-plain_command k by (Trade a b i s n) trade split claim refuse cancel = absurd (trade a b i s n refl)
-plain_command k by (Split n ps) trade split claim refuse cancel = absurd (split n ps refl)
-plain_command k by (Claim n a) trade split claim refuse cancel = absurd (claim n a refl)
-plain_command k by (Refuse n) trade split claim refuse cancel = absurd (refuse n refl)
-plain_command k by (Cancel n) trade split claim refuse cancel = absurd (cancel n refl)
-plain_command k by _ trade split claim refuse cancel = record { names = refl; trades = refl; own = refl; makes = refl }
-
--- it leaves the trees and the places as they are
-pub left_alone : {t : House} {l : List Record} {r : Record} {g : Grove} → IsNext t l r g
-    → ((firm account instrument : List ℕ) (side : Side) (lots : ℕ) → r.command ≡ Trade firm account instrument side lots → ⊥)
-    → ((n : EntryPart) (ps : List Part) → r.command ≡ Split n ps → ⊥) → ((n : EntryPart) (account : List ℕ) → r.command ≡ Claim n account → ⊥)
-    → ((n : EntryPart) → r.command ≡ Refuse n → ⊥) → ((n : EntryPart) → r.command ≡ Cancel n → ⊥) → IsGroveOf (l ++ r ∷ []) g
-left_alone {r = r} {g = g} next trade split claim refuse cancel =
-    let a = plain_command r.number r.firm r.command trade split claim refuse cancel in
-    stays next a.names a.trades a.own a.makes
+-- what has no place in the trees leaves them as they are
+pub left_alone : {t : House} {l : List Record} {r : Record} {g : Grove} → IsNext t l r g → named_place r.number r.command ≡ None → IsGroveOf (l ++ r ∷ []) g
+left_alone {l = l} {r = r} next placeless =
+    apart (more_beside l r) next.filed placeless (own_place next ∙ (placeless ∙ sym (next.filed.places r.number ∙ ap place_of_change (new_number next))))

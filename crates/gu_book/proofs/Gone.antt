@@ -1,37 +1,116 @@
--- What is left when a change on which nothing stands is taken back at its node.
-use Rattle.std.proofs.Common.{◌≡◌, ℕ, ◌≤◌, true, false, refl, sym, ◌∙◌, ap, subst, arith, Option, List, length, IsTrue}
-use Rattle.std.specs.Prelude.{Some, IsSomeAnd}
-use Rattle.gu_depend.proofs.Vocabulary.{EntryPart, House, decides, without, Command, Trade, Record, Place}
-use Rattle.gu_depend.specs.Under.{names}
-use Rattle.gu_tree.specs.Rose.{Rose, leaf, head_of, named, split_of_node}
-use Rattle.gu_tree.specs.Paths.{node_at, edit_at, HasAt, above}
-use Rattle.gu_tree.specs.Changes.{unsplit_node, offer_node, offer_again_node, IsClaimedLeaf, IsGivenBackLeaf, can_unsplit, is_given_back}
-use Rattle.gu_tree.specs.Grove.{Grove, HasTree, IsSapling, ChangesTree, Takes, TakesTree}
-use Rattle.gu_tree.specs.Shown.{SplitsNode, named_node, ShowsLess, IsOnlySplit, IsOnlyDecision}
-use Rattle.gu_tree.specs.declared.head.Head.{Head}
+-- What the trees say of a change on which nothing stands, and what is left when it is taken back at its node.
+use Rattle.gu_depend.proofs.Vocabulary.{◌≡◌, ℕ, ◌&&◌, true, false, List, [], ◌∷◌, refl, sym, ◌∙◌, ap, subst, Option, All, inl, inr, is_none, Some, None, option_map}
+use Rattle.gu_depend.proofs.Vocabulary.{All-head, All-tail, All-weaker, All-contains, EntryPart, House, node_of, split_of, decision_of, splits, decides, is_given, state_of, state_after}
+use Rattle.gu_depend.proofs.Vocabulary.{without, Command, Trade, Split, Claim, Refuse, Cancel, Record, Kind, Given, Node, Place, Claimed, no_some, none_is_some, made, made_of, name_same}
+use Rattle.gu_depend.proofs.Vocabulary.{node_called, decides_well, found_in, find_passes}
+use Rattle.std.proofs.Common.{IsTrue, ◌⊎◌}
+use Rattle.std.specs.Prelude.{IsSomeAnd}
+use Rattle.gu_book.proofs.Vocabulary.{names, Rose, Roses, leaf, parted, no_parts, part_then, head_of, split_of_node, node_at, edit_at, HasAt, can_unsplit, unsplit_node, is_given_back, Grove}
+use Rattle.gu_book.proofs.Vocabulary.{tree_of, IsPlace, HasTree, ChangesTree, Takes, TakesTree, IsNodeOf, ArePartsOf, SplitsNode, DecidesNode, named_node, IsOnlySplit, IsOnlyDecision, Head}
+use Rattle.gu_book.proofs.Vocabulary.{IsGroveOf, IsFree, is_trade}
+use Rattle.gu_depend.proofs.Finds.{found_once}
+use Rattle.gu_depend.proofs.Grown.{SplitsDecided}
+use Rattle.gu_depend.proofs.LastMoves.{split_kept}
+use Rattle.gu_depend.proofs.Names.{made_number}
+use Rattle.gu_book.proofs.Sound.{made_found}
+use Rattle.gu_depend.proofs.Settled.{named_once}
+use Rattle.gu_depend.proofs.StandsLast.{node_of_maker}
+use Rattle.gu_tree.specs.Paths.{above}
+use Rattle.gu_tree.specs.Changes.{are_undecided_leaves, is_undecided_leaf, offer_node, offer_again_node, IsClaimedLeaf, IsGivenBackLeaf}
+use Rattle.gu_tree.specs.Grove.{place_of, IsSapling}
+use Rattle.gu_tree.specs.Shown.{ShowsLess}
+use Rattle.gu_tree.specs.ShownAll.{IsTreeIn}
 use Rattle.gu_tree.proofs.Edits.{edit_at-same}
-use Rattle.gu_tree.proofs.Names.{named-edit_at}
 use Rattle.gu_tree.proofs.Parts.{some_and, at_fact}
-use Rattle.gu_book.specs.Filed.{IsGroveOf, IsFree}
-use Rattle.gu_book.specs.TreeRows.{is_trade}
-use Rattle.gu_book.proofs.Filed.{Spot}
-use Rattle.gu_book.proofs.FiledChanges.{from_tree, has_at, is_at, said_at}
-use Rattle.gu_book.proofs.FiledLess.{taken_back, uprooted}
-use Rattle.gu_book.proofs.FreeNodes.{Claims, TurnsDown, split_names, claim_names, turned_names, decides_node, splits_bare, its_number, others_above, decided_state, its_leaf}
-use Rattle.gu_book.proofs.FreeNodes.{its_decided, root_leaf}
-use Rattle.gu_book.proofs.Undoing.{only_split, only_decision}
+use Rattle.gu_book.proofs.Filed.{Spot, spot, IsParted, parted_by, IsWhole, whole_by, root_name, makes_root, place_named}
+use Rattle.gu_book.proofs.FiledChanges.{its_head, its_node, from_tree, has_at, is_at, said_at}
+use Rattle.gu_book.proofs.FiledLess.{order, own_place, taken_back, uprooted}
+use Rattle.gu_book.proofs.Undoing.{others, once, finds, before, within, grown, counted, bare, only_split, only_decision}
 
--- a Trade names no node
-unnamed_trade : (c : Command) → is_trade c ≡ true → (n : EntryPart) → names n c ≡ false
-unnamed_trade (Trade _ _ _ _ _) is n = refl
-unnamed_trade _ is n = absurd (cc)
+-- ---- what a command names
+
+split_names : (n : EntryPart) (c : Command) → SplitsNode n c → (named_node c ≡ Some n) × (splits n c ≡ true)
+split_names n (Split m ps) e = (ap (λ k. Some k) e, ap (λ k. splits n (Split k ps)) e ∙ name_same n)
+split_names n _ e = absurd e
+
+-- a decision names its node, and splits none
+pub decision_names : (n : EntryPart) (c : Command) → DecidesNode n c → (named_node c ≡ Some n) × (decides n c ≡ true) × (splits n c ≡ false)
+decision_names n (Claim m account) e = (ap (λ k. Some k) e, ap (λ k. decides n (Claim k account)) e ∙ name_same n, refl)
+decision_names n (Refuse m) e = (ap (λ k. Some k) e, ap (λ k. decides n (Refuse k)) e ∙ name_same n, refl)
+decision_names n (Cancel m) e = (ap (λ k. Some k) e, ap (λ k. decides n (Cancel k)) e ∙ name_same n, refl)
+decision_names n _ e = absurd e
+
+-- a Refuse or a Cancel gives the part back that it names
+pub turned_down : {c : Command} → ((n : EntryPart) × c ≡ Refuse n) ⊎ ((n : EntryPart) × c ≡ Cancel n)
+    → (n : EntryPart) × DecidesNode n c × (is_given_back (state_after c) ≡ true)
+turned_down (inl r) = (r.0, subst (DecidesNode r.0) (sym r.1) refl, ap (λ c. is_given_back (state_after c)) r.1)
+turned_down (inr r) = (r.0, subst (DecidesNode r.0) (sym r.1) refl, ap (λ c. is_given_back (state_after c)) r.1)
+
+-- ---- parts on which nothing stands
+
+abbrev IsBare : List Record → Node → Type 0
+IsBare l x = (split_of l x.name ≡ None) × (decision_of l x.name ≡ None)
+
+bare_part : (l : List Record) (above : Option Place) (x : Node) (v : Rose) → IsNodeOf l above x v → IsBare l x → is_undecided_leaf v ≡ true
+bare_part l above x (leaf h) is bare = ap is_none (is.0.decision ∙ ap (option_map (λ r. r.number)) bare.1)
+bare_part l above x (parted h n ts) is bare = absurd (none_is_some (split_of l x.name) is.1.0 bare.0 is.1.1)
+
+bare_parts : (l : List Record) (above : Option Place) (xs : List Node) (ts : Roses) → ArePartsOf l above xs ts → All (IsBare l) xs → are_undecided_leaves ts ≡ true
+bare_parts l above [] no_parts is bare = refl
+bare_parts l above [] (part_then v ts) is bare = absurd is
+bare_parts l above (x ∷ xs) no_parts is bare = absurd is
+bare_parts l above (x ∷ xs) (part_then v ts) is bare =
+    ap (λ b. b && are_undecided_leaves ts) (bare_part l above x v is.0 (All-head (IsBare l) x xs bare)) ∙ bare_parts l above xs ts is.1 (All-tail (IsBare l) x xs bare)
+
+given_state : (k : Kind) (r : Record) → is_given k ≡ true → state_of k (Some r) ≡ state_after r.command
+given_state (Given _ _ _) r h = refl
+given_state _ r h = absurd (cc)
 
 module _ {t : House} {l : List Record} {r : Record} {g : Grove} (u : IsFree t l r g) where
+  pub its_spot : (trade : ℕ) (p : List ℕ) (n : EntryPart) → named_node r.command ≡ Some n → IsSomeAnd (place_of g r.number) (λ m. IsPlace g m trade p) → Spot l g trade p n
+  its_spot trade p n is at =
+      spot u.filed (order u) trade p n
+      (subst (λ (o : Option EntryPart). IsSomeAnd o (λ m. IsPlace g m trade p)) (own_place u ∙ place_named r.number r.command n is) at)
+
+  -- ---- a Trade
+
+  module _ (trades : is_trade r.command ≡ true) where
+    root_there : (x : Node) × (node_of l (root_name r.number) ≡ Some x)
+    root_there = let x = makes_root r.number r.firm r.command trades in (x.0, node_of_maker l r (root_name r.number) x.0 (once u) u.among x.1)
+
+    pub sapling_there : HasTree g r.number IsSapling
+    sapling_there = sapling (tree_of g r.number) (u.filed.trees r.number)
+      where
+        sapling : (o : Option Rose) → IsTreeIn l r.number o → IsSomeAnd o IsSapling
+        sapling None is = none_is_some (node_of l (root_name r.number)) root_there.0 is root_there.1
+        sapling (Some (leaf h)) is = ap (λ (m : EntryPart). m.part) (is.tree.0.name ∙ node_called l (root_name r.number) is.root is.found)
+        sapling (Some (parted h n ts)) is =
+            let called = node_called l (root_name r.number) is.root is.found in
+            none_is_some (split_of l is.root.name) is.tree.1.0 (ap (split_of l) called ∙ (bare u (root_name r.number) refl).0) is.tree.1.1
+
+    pub root_gone : (h : Grove) → TakesTree g h r.number → Takes g h r.number → IsGroveOf (without l r.number) h
+    root_gone = uprooted u (unnamed r.command trades)
+      where
+        unnamed : (c : Command) → is_trade c ≡ true → (n : EntryPart) → names n c ≡ false
+        unnamed (Trade _ _ _ _ _) is n = refl
+        unnamed _ is n = absurd (cc)
+
   -- ---- a Split
 
   module _ {trade : ℕ} {p : List ℕ} {n : EntryPart} (s : Spot l g trade p n) (is : SplitsNode n r.command) where
+    its_split : split_of l s.said.node.name ≡ Some r
+    its_split =
+        ap (split_of l) (s.said.named ∙ s.called)
+        ∙ found_once (λ (d : Record). splits n d.command) l r u.among (split_names n r.command is).1 ((named_once t l u.replayed).splits_once n)
+
+    its_parts : IsParted l r s.node
+    its_parts = parted_by l s.said.above s.said.node r s.node s.said.shown its_split
+
     pub may_unsplit : HasTree g trade (HasAt p (λ v. IsTrue (can_unsplit v)))
-    may_unsplit = is_at s (λ v. IsTrue (can_unsplit v)) (splits_bare u s is)
+    may_unsplit =
+        is_at s (λ v. IsTrue (can_unsplit v))
+        (ap can_unsplit its_parts.is ∙ bare_parts l (Some its_parts.head.place) (made r) its_parts.parts its_parts.are
+        (All-weaker (λ (x : Node). made_of r x.name ≡ Some x) (IsBare l) (λ x e. bare u x.name (made_number r x.name x e)) (made r) (made_found r)))
 
     pub unsplit_gone : (h : Grove) → HasTree g trade (λ v. ChangesTree g h trade (edit_at unsplit_node p v)) → HasTree g trade (HasAt p (λ w. IsSomeAnd (split_of_node w) (λ q. Takes g h q.0)))
         → HasTree g trade (λ v. ShowsLess (λ l k. HasAt p (λ w. IsOnlySplit l k (head_of w).name) v) v (edit_at unsplit_node p v)) → IsGroveOf (without l r.number) h
@@ -39,44 +118,58 @@ module _ {t : House} {l : List Record} {r : Record} {g : Grove} (u : IsFree t l 
         let only : IsOnlySplit l r.number n = only_split u n is (split_names n r.command is).1 in
         taken_back u s (split_names n r.command is).0 h (edit_at unsplit_node p s.tree)
         (from_tree s (λ v. ChangesTree g h trade (edit_at unsplit_node p v)) tree)
-        (its_number u s is (Takes g h) (said_at s (λ w. IsSomeAnd (split_of_node w) (λ q. Takes g h q.0)) place))
+        (subst (λ (o : Option (ℕ × ℕ)). IsSomeAnd o (λ q. Takes g h q.0)) (ap split_of_node its_parts.is) (said_at s (λ w. IsSomeAnd (split_of_node w) (λ q. Takes g h q.0)) place))
         (from_tree s (λ v. ShowsLess (λ l k. HasAt p (λ w. IsOnlySplit l k (head_of w).name) v) v (edit_at unsplit_node p v)) shows
         l trade r.number (has_at s (λ w. IsOnlySplit l r.number (head_of w).name) (subst (IsOnlySplit l r.number) (sym s.called) only)) s.shown)
-        (λ m other.
-        let a = named-edit_at m unsplit_node p s.tree s.node s.at in
-        let b = others_above u s is m other in
-        omega (arith, a, b))
 
   -- ---- a decision
 
-  module _ {trade : ℕ} {p : List ℕ} {n : EntryPart} (s : Spot l g trade p n) (is : decides n r.command ≡ true) (names_n : named_node r.command ≡ Some n) where
-    pub is_leaf_in : (P : Rose → Type 0) → ((h : Head) → h.state ≡ (head_of s.node).state → P (leaf h)) → HasTree g trade (HasAt p P)
-    is_leaf_in P has = is_at s P (its_leaf u s is names_n P (λ h e. has h (ap (λ (k : Head). k.state) e)))
+  module _ {trade : ℕ} {p : List ℕ} {n : EntryPart} (s : Spot l g trade p n) (is : DecidesNode n r.command) where
+    abbrev its_names : (named_node r.command ≡ Some n) × (decides n r.command ≡ true) × (splits n r.command ≡ false)
+    its_names = decision_names n r.command is
+
+    called : s.said.node.name ≡ n
+    called = s.said.named ∙ s.called
+
+    its_decision : decision_of l n ≡ Some r
+    its_decision = found_once (λ (d : Record). decides n d.command) l r u.among its_names.1 ((named_once t l u.replayed).decisions_once n)
+
+    -- a Split of the part would stand behind the decision
+    never_split : split_of l n ≡ None
+    never_split =
+        sym ((finds u).splits_same n)
+        ∙ (split_kept (before u) n its_names.2
+        ∙ no_some (split_of (others u) n) (λ d e. none_is_some (decision_of (others u) n) r (decides_well t (others u) r.firm r.command n (before u).accepted its_names.1).undecided
+        (All-contains (SplitsDecided l (others u)) (others u) d (grown u).decided (found_in (λ q. splits n q.command) (others u) d e) n (find_passes (λ q. splits n q.command) (others u) d e)
+        ∙ its_decision)))
+
+    whole : IsWhole s.node
+    whole = whole_by l s.said.above s.said.node s.node s.said.shown (ap (split_of l) called ∙ never_split)
+
+    -- the state in which it left the part
+    decided_state : (head_of s.node).state ≡ state_after r.command
+    decided_state =
+        let w = decides_well t (others u) r.firm r.command n (before u).accepted its_names.1 in
+        (its_head s).state ∙ (ap (state_of s.said.node.kind) (ap (decision_of l) called ∙ its_decision)
+        ∙ given_state s.said.node.kind r (subst (λ (y : Node). is_given y.kind ≡ true) (its_node s w.node ((within u).nodes n w.node w.there)) w.given))
+
+    leaf_there : (P : Rose → Type 0) → ((h : Head) → h.state ≡ state_after r.command → P (leaf h)) → HasTree g trade (HasAt p P)
+    leaf_there P has = is_at s P (subst P (sym whole.is) (has whole.head (sym (ap (λ v. (head_of v).state) whole.is) ∙ decided_state)))
 
     -- the part is offered again, in this account
-    pub offered_gone : (h : Grove) (to : Place) → ChangesTree g h trade (edit_at (offer_node to) p s.tree) → HasTree g trade (HasAt p (λ w. IsSomeAnd (head_of w).decision (Takes g h)))
+    offered_gone : (h : Grove) (to : Place) → ChangesTree g h trade (edit_at (offer_node to) p s.tree) → HasTree g trade (HasAt p (λ w. IsSomeAnd (head_of w).decision (Takes g h)))
         → ShowsLess (λ l k. HasAt p (λ w. IsOnlyDecision l k (head_of w).name) s.tree) s.tree (edit_at (offer_node to) p s.tree) → IsGroveOf (without l r.number) h
     offered_gone h to tree place shows =
-        let only : IsOnlyDecision l r.number n = only_decision u n (decides_node n r.command is) is in
-        taken_back u s names_n h (edit_at (offer_node to) p s.tree) tree
-        (subst (λ (o : Option ℕ). IsSomeAnd o (Takes g h)) (its_decided u s is names_n) (said_at s (λ w. IsSomeAnd (head_of w).decision (Takes g h)) place))
+        let only : IsOnlyDecision l r.number n = only_decision u n is its_names.1 in
+        taken_back u s its_names.0 h (edit_at (offer_node to) p s.tree) tree
+        (subst (λ (o : Option ℕ). IsSomeAnd o (Takes g h)) ((its_head s).decision ∙ ap (option_map (λ (d : Record). d.number)) (ap (decision_of l) called ∙ its_decision))
+        (said_at s (λ w. IsSomeAnd (head_of w).decision (Takes g h)) place))
         (shows l trade r.number (has_at s (λ w. IsOnlyDecision l r.number (head_of w).name) (subst (IsOnlyDecision l r.number) (sym s.called) only)) s.shown)
-        (λ m other.
-        let a = named-edit_at m (offer_node to) p s.tree s.node s.at in
-        let b = its_leaf u s is names_n (λ v. named m (offer_node to v) ≡ named m v) (λ k e. refl) in
-        omega (arith, a, b))
 
-  -- ---- a Claim
+    -- ---- a Claim
 
-  module _ {trade : ℕ} {p : List ℕ} {n : EntryPart} (s : Spot l g trade p n) (is : Claims n r.command) where
-    abbrev named_claim : named_node r.command ≡ Some n
-    named_claim = (claim_names n r.command is).0
-
-    abbrev is_claim : decides n r.command ≡ true
-    is_claim = (claim_names n r.command is).1
-
-    pub claimed_there : HasTree g trade (HasAt p IsClaimedLeaf)
-    claimed_there = is_leaf_in s is_claim named_claim IsClaimedLeaf (λ h e. e ∙ (decided_state u s is_claim named_claim ∙ (claim_names n r.command is).2))
+    pub claimed_there : state_after r.command ≡ Claimed → HasTree g trade (HasAt p IsClaimedLeaf)
+    claimed_there claimed = leaf_there IsClaimedLeaf (λ h state. state ∙ claimed)
 
     pub claim_gone : (h : Grove) → HasTree g trade (λ v. HasAt (above p) (λ w. ChangesTree g h trade (edit_at (offer_node (head_of w).place) p v)) v)
         → HasTree g trade (HasAt p (λ w. IsSomeAnd (head_of w).decision (Takes g h)))
@@ -85,42 +178,21 @@ module _ {t : House} {l : List Record} {r : Record} {g : Grove} (u : IsFree t l 
     claim_gone h tree place shows =
         let w = some_and (λ w. ChangesTree g h trade (edit_at (offer_node (head_of w).place) p s.tree)) (node_at (above p) s.tree)
         (from_tree s (λ v. HasAt (above p) (λ w. ChangesTree g h trade (edit_at (offer_node (head_of w).place) p v)) v) tree) in
-        offered_gone s is_claim named_claim h (head_of w.0).place w.2 place
+        offered_gone h (head_of w.0).place w.2 place
         (at_fact (λ w. ShowsLess (λ l k. HasAt p (λ x. IsOnlyDecision l k (head_of x).name) s.tree) s.tree (edit_at (offer_node (head_of w).place) p s.tree)) (node_at (above p) s.tree) w.0 w.1
         (from_tree s (λ v. HasAt (above p) (λ w. ShowsLess (λ l k. HasAt p (λ x. IsOnlyDecision l k (head_of x).name) v) v (edit_at (offer_node (head_of w).place) p v)) v) shows))
 
-  -- ---- a Refuse or a Cancel
+    -- ---- a Refuse or a Cancel
 
-  module _ {trade : ℕ} {p : List ℕ} {n : EntryPart} (s : Spot l g trade p n) (is : TurnsDown n r.command) where
-    abbrev named_turned : named_node r.command ≡ Some n
-    named_turned = (turned_names n r.command is).0
-
-    abbrev is_turned : decides n r.command ≡ true
-    is_turned = (turned_names n r.command is).1
-
-    pub turned_there : HasTree g trade (HasAt p IsGivenBackLeaf)
-    turned_there =
-        is_leaf_in s is_turned named_turned IsGivenBackLeaf (λ h e. ap is_given_back (e ∙ decided_state u s is_turned named_turned) ∙ (turned_names n r.command is).2)
+    pub turned_there : is_given_back (state_after r.command) ≡ true → HasTree g trade (HasAt p IsGivenBackLeaf)
+    turned_there back = leaf_there IsGivenBackLeaf (λ h state. ap is_given_back state ∙ back)
 
     pub turned_gone : (h : Grove) → HasTree g trade (λ v. ChangesTree g h trade (edit_at offer_again_node p v)) → HasTree g trade (HasAt p (λ w. IsSomeAnd (head_of w).decision (Takes g h)))
         → HasTree g trade (λ v. ShowsLess (λ l k. HasAt p (λ w. IsOnlyDecision l k (head_of w).name) v) v (edit_at offer_again_node p v)) → IsGroveOf (without l r.number) h
     turned_gone h tree place shows =
         let same : edit_at offer_again_node p s.tree ≡ edit_at (offer_node (head_of s.node).place) p s.tree =
         edit_at-same offer_again_node (offer_node (head_of s.node).place) p s.tree s.node s.at refl in
-        offered_gone s is_turned named_turned h (head_of s.node).place
+        offered_gone h (head_of s.node).place
         (subst (ChangesTree g h trade) same (from_tree s (λ v. ChangesTree g h trade (edit_at offer_again_node p v)) tree)) place
         (subst (ShowsLess (λ l k. HasAt p (λ w. IsOnlyDecision l k (head_of w).name) s.tree) s.tree) same
         (from_tree s (λ v. ShowsLess (λ l k. HasAt p (λ w. IsOnlyDecision l k (head_of w).name) v) v (edit_at offer_again_node p v)) shows))
-
-  -- ---- a Trade
-
-  module _ (trades : is_trade r.command ≡ true) where
-    pub sapling_there : HasTree g r.number IsSapling
-    sapling_there =
-        let root = root_leaf u trades in
-        subst (λ (o : Option Rose). IsSomeAnd o IsSapling) (sym root.1) (ap (λ (m : EntryPart). m.part) root.2)
-
-    pub root_gone : (h : Grove) → TakesTree g h r.number → Takes g h r.number → IsGroveOf (without l r.number) h
-    root_gone h tree place =
-        let root = root_leaf u trades in
-        uprooted u root.0 root.1 h tree place (unnamed_trade r.command trades)

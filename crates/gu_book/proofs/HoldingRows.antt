@@ -10,36 +10,24 @@ use Rattle.std.proofs.lemmas.List.Sums.{sum_by-cons, sum_by-append}
 -- ---- what a search or a sum over the records does at one record
 
 -- what is left from place i on begins with the element there
-pub drop_here : {A : Type 0} (xs : List A) (i : ℕ) (x : A) → i < length xs → x ≡ get_or xs i x → drop i xs ≡ x ∷ drop (i + 1) xs
+drop_here : {A : Type 0} (xs : List A) (i : ℕ) (x : A) → i < length xs → x ≡ get_or xs i x → drop i xs ≡ x ∷ drop (i + 1) xs
 drop_here xs i x within here = let e = drop-cons xs i x within in rw (← here, ← add-one i) at e
 
 -- what one element more gives
-pub given_more : {X Y : Type 0} (f : X → Option Y) (xs : List X) (i : ℕ) (x : X) → i < length xs → x ≡ get_or xs i x
-    → filter_map f (take (i + 1) xs) ≡ filter_map f (take i xs) ++ cons_option (f x) []
-given_more f xs i x within here =
+pub given_more : {X Y : Type 0} (f : X → Option Y) (xs : List X) (i : ℕ) (x : X) (o : Option Y) → i < length xs → x ≡ get_or xs i x → o ≡ f x
+    → filter_map f (take (i + 1) xs) ≡ filter_map f (take i xs) ++ cons_option o []
+given_more f xs i x o within here is =
     ap (filter_map f) (take_more xs i x within)
-    ∙ (filter_map-append f (take i xs) (get_or xs i x ∷ []) ∙ ap (λ y. filter_map f (take i xs) ++ cons_option (f y) []) (sym here))
-
--- what the elements from place i on give begins with what the one there gives
-pub given_here : {X Y : Type 0} (f : X → Option Y) (xs : List X) (i : ℕ) (x : X) → i < length xs → x ≡ get_or xs i x
-    → filter_map f (drop i xs) ≡ cons_option (f x) (filter_map f (drop (i + 1) xs))
-given_here f xs i x within here = ap (filter_map f) (drop_here xs i x within here)
-
-pub some_here : {X Y : Type 0} (f : X → Option Y) (xs : List X) (i : ℕ) (x : X) (y : Y) → i < length xs → x ≡ get_or xs i x → Some y ≡ f x
-    → filter_map f (drop i xs) ≡ y ∷ filter_map f (drop (i + 1) xs)
-some_here f xs i x y within here is = given_here f xs i x within here ∙ ap (λ o. cons_option o (filter_map f (drop (i + 1) xs))) (sym is)
-
-pub none_here : {X Y : Type 0} (f : X → Option Y) (xs : List X) (i : ℕ) (x : X) → i < length xs → x ≡ get_or xs i x → None ≡ f x
-    → filter_map f (drop i xs) ≡ filter_map f (drop (i + 1) xs)
-none_here f xs i x within here is = given_here f xs i x within here ∙ ap (λ o. cons_option o (filter_map f (drop (i + 1) xs))) (sym is)
-
-pub some_more : {X Y : Type 0} (f : X → Option Y) (xs : List X) (i : ℕ) (x : X) (y : Y) → i < length xs → x ≡ get_or xs i x → Some y ≡ f x
-    → filter_map f (take (i + 1) xs) ≡ filter_map f (take i xs) ++ y ∷ []
-some_more f xs i x y within here is = given_more f xs i x within here ∙ ap (λ o. filter_map f (take i xs) ++ cons_option o []) (sym is)
+    ∙ (filter_map-append f (take i xs) (get_or xs i x ∷ []) ∙ ap (λ y. filter_map f (take i xs) ++ cons_option y []) (ap f (sym here) ∙ sym is))
 
 pub none_more : {X Y : Type 0} (f : X → Option Y) (xs : List X) (i : ℕ) (x : X) → i < length xs → x ≡ get_or xs i x → None ≡ f x
     → filter_map f (take (i + 1) xs) ≡ filter_map f (take i xs)
-none_more f xs i x within here is = given_more f xs i x within here ∙ (ap (λ o. filter_map f (take i xs) ++ cons_option o []) (sym is) ∙ append-nil (filter_map f (take i xs)))
+none_more f xs i x within here is = given_more f xs i x None within here is ∙ append-nil (filter_map f (take i xs))
+
+-- what the elements from place i on give begins with what the one there gives
+pub given_here : {X Y : Type 0} (f : X → Option Y) (xs : List X) (i : ℕ) (x : X) (o : Option Y) → i < length xs → x ≡ get_or xs i x → o ≡ f x
+    → filter_map f (drop i xs) ≡ cons_option o (filter_map f (drop (i + 1) xs))
+given_here f xs i x o within here is = ap (filter_map f) (drop_here xs i x within here) ∙ ap (λ o. cons_option o (filter_map f (drop (i + 1) xs))) (sym is)
 
 -- ---- holdings that go one by one
 

@@ -1,33 +1,35 @@
 -- What a change moves from one account to another.
 use Rattle.std.proofs.Common.{◌≡◌, ℕ, zero, suc, ◌+◌, ◌≤◌, Bool, true, false, not, ◌&&◌, ◌||◌, List, [], ◌∷◌, ◌++◌, length, length-append, refl, sym, ◌∙◌}
-use Rattle.std.proofs.Common.{ap, subst, arith, Option, cond, All, Contains, Some, None, find, filter, filter_map, map, sum_by, count_by, is_some, is_none, ◌==◌, option_and_then, option_map}
+use Rattle.std.proofs.Common.{ap, subst, arith, Option, cond, All, Some, None, find, filter, filter_map, sum_by, is_some, is_none, ◌==◌, option_and_then, option_map}
 use Rattle.std.proofs.Common.{unwrap_or, bytes_eq}
 use Rattle.gu_book.proofs.Vocabulary.{option_or, cons_option, lots_at, names, Key, traded_at, held_at, holding_of, taken_by, part_holding, added_by, counted_at, taken_at, Holding}
 use Rattle.std.proofs.Math.Bool.{and-false, or-true}
 use Rattle.std.proofs.lemmas.Bool.{false_from_ne_true}
-use Rattle.std.proofs.lemmas.List.Elements.{All-weaker, All-contains}
+use Rattle.std.proofs.lemmas.List.Elements.{All-weaker, All-contains, Contains-append_right, filter_agree}
 use Rattle.std.proofs.lemmas.List.Folds.{find-append}
 use Rattle.std.proofs.lemmas.List.Sums.{sum_by-cons}
 use Rattle.std.proofs.lemmas.Option.{same_Some}
 use Rattle.std.proofs.lemmas.Slice.Eq.{bytes_eq-Decides}
 use Rattle.gu_depend.proofs.Vocabulary.{EntryPart, House, deal_in, node_of, nodes, nodes_of_parts, same_name, kind_of_part, parent, split_of, splits, decision_of, decides, claimed_account}
 use Rattle.gu_depend.proofs.Vocabulary.{claim_of, is_given, is_offered, line_within, line_of, place_along, place_of, place_of_kind, root_along, root_of, same_place, is_trade_of, trades_in}
-use Rattle.gu_depend.proofs.Vocabulary.{stands_at, same_side, split_row, claim_row, refuse_row, cancel_row, is_taker, is_giver, same_name-Decides, number_same, Part, Side, Command, Trade, Split}
+use Rattle.gu_depend.proofs.Vocabulary.{stands_at, same_side, split_row, claim_row, refuse_row, cancel_row, is_taker, is_giver, number_same, Part, Side, Command, Trade, Split}
 use Rattle.gu_depend.proofs.Vocabulary.{Claim, Refuse, Cancel, Record, Kind, Root, Own, Given, Node, Place, State, Deal}
-use Rattle.gu_base.proofs.Basics.{or_false, or_none, none_is_some, no_some, nothing_here, bytes_symm}
+use Rattle.gu_base.proofs.Basics.{or_false, or_none, none_is_some, no_some, bytes_symm}
 use Rattle.gu_base.proofs.Lines.{line_more, node_more}
 use Rattle.gu_base.proofs.NodeNames.{name_is, name_same, node_called, made, made_of, part_parent}
 use Rattle.gu_base.proofs.Passing.{at_node_none, split_passes, claim_passes, decision_passes, offered_of}
 use Rattle.gu_base.proofs.Searches.{found_in, find_passes}
 use Rattle.gu_base.proofs.Sums.{sum_agree_on}
 use Rattle.gu_depend.specs.Moves.{named_by}
-use Rattle.gu_depend.proofs.Finds.{counts_none, count_cons, count_append, found_once}
+use Rattle.gu_depend.proofs.Finds.{count_append, found_once}
 use Rattle.gu_depend.proofs.Grown.{NamesThere, line_none, place_same, line_of_grown, above}
 use Rattle.gu_depend.proofs.LastMoves.{IsBefore, trades_kept, split_kept, sum_filter}
 use Rattle.gu_depend.proofs.Replay.{NumbersOnce}
 use Rattle.gu_depend.proofs.Settled.{Settled, SettledAs}
-use Rattle.gu_book.proofs.Leaves.{sum_of_names, found_member, sum_agree, sum_zero, one_takes}
-use Rattle.gu_book.proofs.Sound.{Sound, IsSoundNext, split_push, node_push}
+use Rattle.gu_book.proofs.Leaves.{sum_named, sum_agree, sum_zero}
+use Rattle.gu_book.proofs.Once.{asked, one_found}
+use Rattle.gu_book.proofs.Sound.{Sound, IsSoundNext, split_push, node_push, made_found, splits_here}
+use Rattle.gu_depend.proofs.Names.{made_number}
 
 -- ---- what was traded
 
@@ -35,31 +37,6 @@ use Rattle.gu_book.proofs.Sound.{Sound, IsSoundNext, split_push, node_push}
 abbrev pub told : List ℕ → Side → Option Deal → Bool
 told instrument side None = false
 told instrument side (Some t) = bytes_eq t.instrument instrument && same_side t.side side
-
-abbrev pub asked : {X : Type 0} → (X → Bool) → Option X → Bool
-asked q None = false
-asked q (Some x) = q x
-
-none_of_both : {X : Type 0} (p q : X → Bool) (xs : List X) → find p xs ≡ None → find (λ x. p x && q x) xs ≡ None
-none_of_both p q [] h = refl
-none_of_both p q (x ∷ xs) h =
-    let a = nothing_here (p x) x (find p xs) h in
-    ap (λ b. cond (b && q x) (Some x) (find (λ x. p x && q x) xs)) a.0 ∙ none_of_both p q xs a.1
-
-kept_alone : {X : Type 0} (b : Bool) (x : X) (o : Option X) → o ≡ None → is_some (cond b (Some x) o) ≡ b
-kept_alone true x o e = refl
-kept_alone false x o e = ap is_some e
-
-one_found_at : {X : Type 0} (p q : X → Bool) (x : X) (xs : List X) → (count_by p xs ≤ 1 → is_some (find (λ x. p x && q x) xs) ≡ asked q (find p xs)) → (b : Bool)
-    → cond b 1 0 + count_by p xs ≤ 1
-    → is_some (cond (b && q x) (Some x) (find (λ x. p x && q x) xs)) ≡ asked q (cond b (Some x) (find p xs))
-one_found_at p q x xs rest true once = kept_alone (q x) x (find (λ x. p x && q x) xs) (none_of_both p q xs (counts_none p xs (omega (arith, once))))
-one_found_at p q x xs rest false once = rest (omega (arith, once))
-
--- where at most one passes the first test, both are passed where that one passes the second
-pub one_found : {X : Type 0} (p q : X → Bool) (xs : List X) → count_by p xs ≤ 1 → is_some (find (λ x. p x && q x) xs) ≡ asked q (find p xs)
-one_found p q [] once = refl
-one_found p q (x ∷ xs) once = let a = count_cons p x xs in one_found_at p q x xs (one_found p q xs) (p x) (omega (arith, a, once))
 
 told_by : (instrument : List ℕ) (side : Side) (c : Command) → is_trade_of instrument side c ≡ told instrument side (deal_in c)
 told_by instrument side (Trade _ _ _ _ _) = refl
@@ -131,33 +108,16 @@ pub counts_or : (at : Key) (side : Side) (o : Option Holding) (hs : List Holding
 counts_or at side None hs = omega arith
 counts_or at side (Some h) hs = sum_by-cons (counted_at at side) h hs
 
-same_lots : (l : List Record) (f : Node → ℕ) (n : EntryPart) (x y : Node) → node_of l n ≡ Some y → node_of l x.name ≡ Some x → (b : Bool) → same_name n x.name ≡ b
-    → cond b (f x) 0 ≡ cond b (f y) 0
-same_lots l f n x y found e true is = ap f (same_Some x y (sym e ∙ (sym (ap (node_of l) (name_is n x.name is)) ∙ found)))
-same_lots l f n x y found e false is = refl
-
 -- one node has the name
-sum_named : (l : List Record) (bound : ℕ) → Sound l bound → (n : EntryPart) (x : Node) → node_of l n ≡ Some x → (f : Node → ℕ)
+sum_naming : {l : List Record} {bound : ℕ} → Sound l bound → (n : EntryPart) (x : Node) → node_of l n ≡ Some x → (f : Node → ℕ)
     → sum_by f (filter (λ x. same_name n x.name) (nodes l)) ≡ f x
-sum_named l bound s n y found f =
-    sum_filter f (λ (x : Node). same_name n x.name) (nodes l)
-    ∙ (sum_agree_on (λ (x : Node). cond (same_name n x.name) (f x) 0) (λ (x : Node). cond (same_name n x.name) (f y) 0) (nodes l)
-    (All-weaker (λ (x : Node). node_of l x.name ≡ Some x) (λ (x : Node). cond (same_name n x.name) (f x) 0 ≡ cond (same_name n x.name) (f y) 0)
-    (λ x e. same_lots l f n x y found e (same_name n x.name) refl) (nodes l) s.found)
-    ∙ (sum_of_names (λ m. cond (same_name n m) (f y) 0) (nodes l)
-    ∙ one_takes same_name same_name-Decides n (map (λ x. x.name) (nodes l)) (f y) s.once (found_member n (nodes l) y found)))
+sum_naming {l} s n x found f = sum_filter f (λ (x : Node). same_name n x.name) (nodes l) ∙ sum_named s n x found f
 
 -- a Split names it as a Claim does
 sum_split : (l : List Record) (bound : ℕ) → Sound l bound → (n : EntryPart) (ps : List Part) (x : Node) → node_of l n ≡ Some x → (f : Node → ℕ)
     → sum_by f (filter (λ x. names x.name (Split n ps)) (nodes l)) ≡ f x
 sum_split l bound s n ps x found f =
-    ap (sum_by f) (names_split n ps (nodes l)) ∙ sum_named l bound s n x found f
-  where
-    names_split : (n : EntryPart) (ps : List Part) (xs : List Node) → filter (λ x. names x.name (Split n ps)) xs ≡ filter (λ x. same_name n x.name) xs
-    names_split n ps [] = refl
-    names_split n ps (x ∷ xs) =
-        ap (λ b. cond b (x ∷ filter (λ x. names x.name (Split n ps)) xs) (filter (λ x. names x.name (Split n ps)) xs)) (or_false (same_name n x.name))
-        ∙ ap (λ ys. cond (same_name n x.name) (x ∷ ys) ys) (names_split n ps xs)
+    ap (sum_by f) (filter_agree (λ (x : Node). names x.name (Split n ps)) (λ (x : Node). same_name n x.name) (λ x. or_false (same_name n x.name)) (nodes l)) ∙ sum_naming s n x found f
 
 -- ---- a node that is offered has no Split
 
@@ -209,12 +169,12 @@ undecided_yet l n named none =
 module _ {t : House} {l : List Record} {r : Record} (c : IsCounted t l r) where
   -- the nodes that the change makes are new
   made_here : (x : Node) → made_of r x.name ≡ Some x → node_of (l ++ r ∷ []) x.name ≡ Some x
-  made_here x e = node_push l r x.name ∙ (ap (λ o. option_or o (made_of r x.name)) (c.unmade x.name (c.next.own_number x.name x e)) ∙ e)
+  made_here x e = node_push l r x.name ∙ (ap (λ o. option_or o (made_of r x.name)) (c.unmade x.name (made_number r x.name x e)) ∙ e)
 
   -- and it splits none of them
   whole_here : (n : EntryPart) → n.entry ≡ r.number → split_of (l ++ r ∷ []) n ≡ None
   whole_here n own =
-      let unnamed : splits n r.command ≡ false = false_from_ne_true (splits n r.command) (λ is. let y = c.next.splits_here n is in none_is_some (node_of l n) y.0 (c.unmade n own) y.1) in
+      let unnamed : splits n r.command ≡ false = false_from_ne_true (splits n r.command) (λ is. let y = splits_here c.next n is in none_is_some (node_of l n) y.0 (c.unmade n own) y.1) in
       split_push l r n ∙ (ap (λ o. option_or o (cond (splits n r.command) (Some r) None)) (c.unsplit n own) ∙ ap (λ b. cond b (Some r) None) unnamed)
 
   -- the line of a node above which stands a node of the list
@@ -296,7 +256,8 @@ trade_balances t l k by id firm account instrument side lots status c at i s =
     let line : line_of (l ++ r ∷ []) n ≡ x ∷ [] =
     ap (line_within (length (l ++ r ∷ [])) (l ++ r ∷ [])) found ∙ (ap (λ f. line_within f (l ++ r ∷ []) (Some x)) (pushed_length l r) ∙ root_line (length l) (l ++ r ∷ []) x refl) in
     let stands : place_of (l ++ r ∷ []) n ≡ Some (record { firm = firm; account = account }) = ap (place_along (l ++ r ∷ [])) line in
-    let own : find (λ d. d.number == k) (l ++ r ∷ []) ≡ Some r = found_once (λ (d : Record). d.number == k) (l ++ r ∷ []) r (last_contained l r) (number_same k) (c.last.once k) in
+    let own : find (λ d. d.number == k) (l ++ r ∷ []) ≡ Some r =
+    found_once (λ (d : Record). d.number == k) (l ++ r ∷ []) r (Contains-append_right l (r ∷ []) r (zero, omega arith, refl)) (number_same k) (c.last.once k) in
     let traded : traded_at (l ++ r ∷ []) n ≡ Some (record { instrument = instrument; side = side }) =
     ap (λ o. option_and_then (λ root. option_and_then (λ r. deal_in r.command) (find (λ r. r.number == root.entry) (l ++ r ∷ []))) o) (ap root_along line)
     ∙ ap (option_and_then (λ (r : Record). deal_in r.command)) own in
@@ -309,10 +270,6 @@ trade_balances t l k by id firm account instrument side lots status c at i s =
     let d = sum_by-cons (lots_at (l ++ r ∷ []) at i s) x [] in
     let e = sum_by-cons (counted_at (key_at at i) s) h [] in
     record { there = omega arith; equal = omega (arith, a, b, d, e, count) }
-  where
-    last_contained : (l : List Record) (r : Record) → Contains (l ++ r ∷ []) r
-    last_contained [] r = (zero, omega arith, refl)
-    last_contained (d ∷ l) r = let k = last_contained l r in (suc k.0, omega (arith, k.1), k.2)
 
 -- ---- a Split
 
@@ -373,7 +330,7 @@ split_balances t l k by id m ps status x c there whole at i s =
     let each : All (λ y. lots_at (l ++ r ∷ []) at i s y ≡ taken_at (key_at at i) s (held_at (place_of_kind y.kind None (Some p.0)) w y.lots)) (made r) =
     All-weaker (λ (y : Node). made_of r y.name ≡ Some y) (λ (y : Node). lots_at (l ++ r ∷ []) at i s y ≡ taken_at (key_at at i) s (held_at (place_of_kind y.kind None (Some p.0)) w y.lots))
     (λ y e.
-    let own : y.name.entry ≡ k = c.next.own_number y.name y e in
+    let own : y.name.entry ≡ k = made_number r y.name y e in
     let here = made_here c y e in
     let up = part_parent y.name m k 1 by ps y e in
     let unsplit = whole_here c y.name own in
@@ -382,7 +339,7 @@ split_balances t l k by id m ps status x c there whole at i s =
     lots_held (l ++ r ∷ []) at i s y (place_of_kind y.kind None (Some p.0)) w unsplit
     (place_up c y x m None here up there claims ∙ ap (place_of_kind y.kind None) moved_place)
     (trades_up c i s y x m here up there ∙ trades_told l (once_before c) i s m))
-    (made r) c.next.own_found in
+    (made r) (made_found r) in
     let one = sum_split l c.bound c.sound m ps x there (lots_at l at i s) in
     let gone = sum_split l c.bound c.sound m ps x there (lots_at (l ++ r ∷ []) at i s) in
     let nothing = lots_of_split (l ++ r ∷ []) at i s x r now in
@@ -431,8 +388,8 @@ claim_balances t l k by id m account status x c there given taker undecided at i
     place_up c x over.node up.0 (Some account) (node_more l (r ∷ []) x.name x found) up.1 over.there claims ∙ taken_place by account x.kind (place_of (l ++ r ∷ []) up.0) taker in
     let now : lots_at (l ++ r ∷ []) at i s x ≡ taken_at (key_at at i) s (held_at (Some (record { firm = by; account = account })) w x.lots) =
     lots_held (l ++ r ∷ []) at i s x (Some (record { firm = by; account = account })) w unsplit stands (trades_kept c.last i s x.name x found ∙ trades) in
-    let one = sum_named l c.bound c.sound m x there (lots_at l at i s) in
-    let then_one = sum_named l c.bound c.sound m x there (lots_at (l ++ r ∷ []) at i s) in
+    let one = sum_naming c.sound m x there (lots_at l at i s) in
+    let then_one = sum_naming c.sound m x there (lots_at (l ++ r ∷ []) at i s) in
     let adds = claim_added (key_at at i) s p.0 w m by account x.lots in
     let took = ap (taken_at (key_at at i) s) taken in
     let added = ap (λ o. sum_by (counted_at (key_at at i) s) (added_by by (Claim m account) o)) taken in
@@ -442,8 +399,8 @@ claim_balances t l k by id m account status x c there given taker undecided at i
 
 module _ {t : House} {l : List Record} {r : Record} (c : IsCounted t l r) where
   back_same : (m : EntryPart) (x : Node) → node_of l m ≡ Some x → is_given x.kind ≡ true → decision_of l x.name ≡ None → decides m r.command ≡ true
-      → splits x.name r.command ≡ false → claimed_account r.command ≡ None
-      → (at : Place) (i : List ℕ) (s : Side) → lots_at (l ++ r ∷ []) at i s x ≡ lots_at l at i s x
+      → splits x.name r.command ≡ false → claimed_account r.command ≡ None → (at : Place) (i : List ℕ) (s : Side)
+      → sum_by (lots_at (l ++ r ∷ []) at i s) (filter (λ y. same_name m y.name) (nodes l)) ≡ sum_by (lots_at l at i s) (filter (λ y. same_name m y.name) (nodes l))
   back_same m x there given undecided decides_it unsplits no_claim at i s =
       let k = l ++ r ∷ [] in
       let called : x.name ≡ m = node_called l m x there in
@@ -462,14 +419,11 @@ module _ {t : House} {l : List Record} {r : Record} (c : IsCounted t l r) where
       ap (place_along l) line ∙ ap (λ a. place_of_kind x.kind a (place_of l up.0)) unclaimed in
       let stays : place_of k x.name ≡ place_of l x.name =
       after ∙ (ap (place_of_kind x.kind None) (sym (place_same k l up.0 over.node c.last.grown over.there over.decided)) ∙ sym first) in
+      let same : lots_at k at i s x ≡ lots_at l at i s x =
       ap (λ o. cond (is_none o) (cond (stands_at k at x.name && trades_in k i s x.name) x.lots 0) 0) (split_kept c.last x.name unsplits)
       ∙ (ap (λ o. cond (is_none (split_of l x.name)) (cond (unwrap_or (option_map (same_place at) o) false && trades_in k i s x.name) x.lots 0) 0) stays
-      ∙ ap (λ b. cond (is_none (split_of l x.name)) (cond (stands_at l at x.name && b) x.lots 0) 0) (trades_kept c.last i s x.name x found))
-
-  -- what names one node, and makes none and moves none
-  back_balances : (m : EntryPart) (x : Node) → node_of l m ≡ Some x → (at : Place) (i : List ℕ) (s : Side) → lots_at (l ++ r ∷ []) at i s x ≡ lots_at l at i s x
-      → sum_by (lots_at (l ++ r ∷ []) at i s) (filter (λ y. same_name m y.name) (nodes l)) ≡ sum_by (lots_at l at i s) (filter (λ y. same_name m y.name) (nodes l))
-  back_balances m x there at i s same = sum_named l c.bound c.sound m x there (lots_at (l ++ r ∷ []) at i s) ∙ (same ∙ sym (sum_named l c.bound c.sound m x there (lots_at l at i s)))
+      ∙ ap (λ b. cond (is_none (split_of l x.name)) (cond (stands_at l at x.name && b) x.lots 0) 0) (trades_kept c.last i s x.name x found)) in
+      sum_naming c.sound m x there (lots_at k at i s) ∙ (same ∙ sym (sum_naming c.sound m x there (lots_at l at i s)))
 
 -- ---- what takes nothing out, puts nothing in and makes nothing
 
@@ -482,11 +436,6 @@ stays_balanced at i s l r takes adds makes same =
     let d = ap (sum_by (counted_at (key_at at i) s)) adds in
     let e = ap (sum_by (lots_at (l ++ r ∷ []) at i s)) makes in
     record { there = omega (arith, a); equal = omega (arith, a, b, d, e, same) }
-
--- no change names nothing
-nothing_balances : (at : Place) (i : List ℕ) (s : Side) (l : List Record) (r : Record) → taken_by l r.command ≡ None → added_by r.firm r.command None ≡ [] → made r ≡ []
-    → ((f : Node → ℕ) → sum_by f (named_by l r) ≡ 0) → Balances at i s l r
-nothing_balances at i s l r takes adds makes none = stays_balanced at i s l r takes adds makes (none (lots_at (l ++ r ∷ []) at i s) ∙ sym (none (lots_at l at i s)))
 
 -- ---- each change
 
@@ -504,11 +453,12 @@ balances t l k by id (Refuse m) status c at i s =
     let there = at_node_none (refuse_row l by) (node_of l m) c.last.accepted in
     let passes = decision_passes l there.0 (is_taker by there.0.kind) there.1.1 in
     stays_balanced at i s l (record { number = k; firm = by; id = id; command = Refuse m; status = status }) refl refl refl
-    (back_balances c m there.0 there.1.0 at i s (back_same c m there.0 there.1.0 passes.0 passes.1 (name_same m) refl refl at i s))
+    (back_same c m there.0 there.1.0 passes.0 passes.1 (name_same m) refl refl at i s)
 balances t l k by id (Cancel m) status c at i s =
     let there = at_node_none (cancel_row l by) (node_of l m) c.last.accepted in
     let passes = decision_passes l there.0 (is_giver by there.0.kind) there.1.1 in
     stays_balanced at i s l (record { number = k; firm = by; id = id; command = Cancel m; status = status }) refl refl refl
-    (back_balances c m there.0 there.1.0 at i s (back_same c m there.0 there.1.0 passes.0 passes.1 (name_same m) refl refl at i s))
+    (back_same c m there.0 there.1.0 passes.0 passes.1 (name_same m) refl refl at i s)
 balances t l k by id d status c at i s =
-    nothing_balances at i s l (record { number = k; firm = by; id = id; command = d; status = status }) refl refl refl (λ f. none_kept f (nodes l))
+    let r : Record = record { number = k; firm = by; id = id; command = d; status = status } in
+    stays_balanced at i s l r refl refl refl (none_kept (lots_at (l ++ r ∷ []) at i s) (nodes l) ∙ sym (none_kept (lots_at l at i s) (nodes l)))

@@ -10,8 +10,9 @@ mod Opening
 pub mod HoldingRows
 pub mod Holdings
 pub mod Standings
-pub mod Indexed
+pub mod LookedUp
 pub mod Parties
+mod Once
 pub mod Sound
 pub mod Leaves
 pub mod Placed
@@ -28,7 +29,6 @@ mod Visited
 mod OnePlace
 pub mod Undoing
 pub mod FiledLess
-pub mod FreeNodes
 pub mod Gone
 pub mod Crossing
 mod PartsAway

@@ -1,20 +1,23 @@
 -- In whatever trees a list of changes has, a node lies at one place.
-use Rattle.std.proofs.Common.{◌≡◌, ℕ, zero, suc, true, Option, IsSomeAnd, List, [], ◌∷◌, refl, sym, ◌∙◌, ap, subst, ◌==◌, false, length, find, is_some, option_and_then}
-use Rattle.std.proofs.Common.{Some, None, option_map, unwrap_or, bytes_eq}
-use Rattle.std.proofs.lemmas.Option.{same_Some}
-use Rattle.gu_depend.proofs.Vocabulary.{EntryPart, node_of, nodes_of, deal_in, split_of, parent, House, Record, Place, Node, place_of, depth_of, root_of, owns, Deal}
-use Rattle.gu_book.proofs.Vocabulary.{Rose, Roses, leaf, parted, no_parts, part_then, head_of, split_of_node, node_at, HasAt, Grove, tree_of, tree_in, IsPlace, IsSameGrove, HasTree, slot_of}
+use Rattle.gu_depend.proofs.Vocabulary.{◌≡◌, ℕ, zero, suc, ◌<◌, Bool, true, Option, IsSomeAnd, List, [], ◌∷◌, ◌++◌, refl, sym, ◌∙◌, ap, subst, arith, cond, false}
+use Rattle.gu_depend.proofs.Vocabulary.{length, same_Some, EntryPart, node_of, nodes_of, same_name, deal_in, splits, split_of, parent, House, Command, Trade, Split, Record, Place, Node}
+use Rattle.gu_depend.proofs.Vocabulary.{Root, place_of, depth_of, root_of, owns, Deal, made, name_is, node_called, first_or, refusal_parts, no_some, none_is_some}
+use Rattle.std.proofs.Common.{◌==◌, find, option_and_then, Some, None, option_map, unwrap_or, bytes_eq}
+use Rattle.gu_depend.proofs.Finds.{found_once}
+use Rattle.gu_depend.proofs.Names.{maker, made_by_split}
+use Rattle.gu_depend.proofs.Settled.{named_once}
+use Rattle.gu_book.proofs.Vocabulary.{Rose, Roses, leaf, parted, no_parts, part_then, head_of, split_of_node, node_at, Grove, tree_of, tree_in, IsPlace, IsSameGrove, HasTree, slot_of}
 use Rattle.gu_book.proofs.Vocabulary.{IsNodeOf, ArePartsOf, IsTreeOf, named_node, IsHeadOf, IsGroveOf, IsNext, AreTreesOf, IsFoundAs, IsFoundIn, Head, traded_at, held_at, held_above, Found}
 use Rattle.gu_tree.specs.Paths.{part_at, LeadsTo}
 use Rattle.gu_tree.proofs.Along.{its-head}
-use Rattle.gu_tree.proofs.Parts.{some_and, at_fact, at_there}
+use Rattle.gu_tree.proofs.Parts.{some_and, at_there, node_at-further}
+use Rattle.gu_tree.specs.ShownAll.{IsTreeIn}
 use Rattle.gu_book.specs.Found.{IsNamedIn, LiesThere, IsFoundThere}
 use Rattle.gu_book.specs.declared.found.Named.{Named}
-use Rattle.gu_base.proofs.Passing.{refusal_parts}
-use Rattle.gu_book.proofs.Filed.{Spot, tree_shown, spot, order, placed_in}
-use Rattle.gu_book.proofs.Orders.{names_there, in_order}
-use Rattle.gu_base.proofs.Basics.{no_some}
-use Rattle.gu_book.proofs.FiledChanges.{its_head}
+use Rattle.gu_base.proofs.NodeNames.{part_parent}
+use Rattle.gu_book.proofs.Filed.{Spot, tree_shown, spot, root_name, IsParted, parted_by}
+use Rattle.gu_book.proofs.Orders.{InOrder, names_there, in_order}
+use Rattle.gu_book.proofs.FiledChanges.{its_head, from_tree, order}
 
 -- the path leads to a node of this name
 abbrev Leads : List ℕ → EntryPart → Option Rose → Type 0
@@ -44,16 +47,16 @@ mutual
   parts_alike l a b (x ∷ xs) (part_then t ts) (part_then u us) is other zero p v e = alike l a b x t u is.0 other.0 p v e
   parts_alike l a b (x ∷ xs) (part_then t ts) (part_then u us) is other (suc i) p v e = parts_alike l a b xs ts us is.1 other.1 i p v e
 
-there_too : (o : Option Rose) → is_some o ≡ true → (t : Rose) × (o ≡ Some t)
-there_too None e = absurd (cc)
-there_too (Some t) e = (t, refl)
+-- where some trees have one of a trade, all have
+there_too : {l : List Record} (k : ℕ) (o : Option Rose) → IsTreeIn l k o → (t : Rose) → IsTreeOf l k t → (u : Rose) × (o ≡ Some u)
+there_too {l} k None is t shown = absurd (none_is_some (node_of l (root_name k)) shown.root is shown.found)
+there_too k (Some u) is t shown = (u, refl)
 
 -- what trees of the changes have at a place, all trees of the changes have there
 pub one_place : {l : List Record} {g : Grove} → IsGroveOf l g → (n : EntryPart) (trade : ℕ) (p : List ℕ) → IsPlace g n trade p → (h : Grove) → IsGroveOf l h → IsPlace h n trade p
 one_place {l} {g} filed n trade p place h others =
-    let live : is_some (tree_of h trade) ≡ true = others.live trade ∙ (sym (filed.live trade) ∙ ap is_some place.found) in
-    let u = there_too (tree_of h trade) live in
     let mine : IsTreeOf l trade place.tree = tree_shown filed trade place.tree place.found in
+    let u = there_too trade (tree_of h trade) (others.trees trade) place.tree mine in
     let its : IsTreeOf l trade u.0 = tree_shown others trade u.0 u.1 in
     let v = some_and (λ w. (head_of w).name ≡ n) (node_at p place.tree) place.there in
     let root : its.root ≡ mine.root = same_Some its.root mine.root (sym its.found ∙ mine.found) in
@@ -113,26 +116,96 @@ next_there {t} {l} {r} {g} next new same o p named lies =
 
 -- ---- what the trees say of a node is what the changes say of it
 
--- no tree has a node that no change makes
-pub found_none : {l : List Record} {g : Grove} → AreTreesOf l g → (n : EntryPart) → ((trade : ℕ) (p : List ℕ) → IsPlace g n trade p → ⊥) → node_of l n ≡ None
-found_none {l = l} are n never = no_some (node_of l n) (λ x e. let q = placed_in n (are.filed.whole n x e) in never q.0 q.1 q.2)
+-- a part that is found among the nodes of a Split is one of the parts in the tree
+part_step : (n : EntryPart) (y x : Node) (b : Bool) (rest : Option Node) (t : Rose) (ts : Roses) → same_name y.name n ≡ b → (head_of t).name ≡ y.name
+    → (rest ≡ Some x → (i : ℕ) × (w : Rose) × (part_at i ts ≡ Some w) × ((head_of w).name ≡ n)) → cond b (Some y) rest ≡ Some x
+    → (i : ℕ) × (w : Rose) × (part_at i (part_then t ts) ≡ Some w) × ((head_of w).name ≡ n)
+part_step n y x true rest t ts is called later h = (zero, t, refl, called ∙ name_is y.name n is)
+part_step n y x false rest t ts is called later h = let q = later h in (suc q.0, q.1, q.2, q.3)
+
+part_lies : (l : List Record) (a : Option Place) (n : EntryPart) (xs : List Node) (ts : Roses) (x : Node) → ArePartsOf l a xs ts → find (λ y. same_name y.name n) xs ≡ Some x
+    → (i : ℕ) × (w : Rose) × (part_at i ts ≡ Some w) × ((head_of w).name ≡ n)
+part_lies l a n [] ts x are h = absurd (cc)
+part_lies l a n (y ∷ ys) no_parts x are h = absurd are
+part_lies l a n (y ∷ ys) (part_then t ts) x are h =
+    part_step n y x (same_name y.name n) (find (λ y. same_name y.name n) ys) t ts refl (its-head l a y t are.0).name (part_lies l a n ys ts x are.1) h
+
+-- a node without a parent is a root
+root_made : (n : EntryPart) (k : ℕ) (by : List ℕ) (c : Command) (x : Node) → find (λ x. same_name x.name n) (nodes_of k by c) ≡ Some x → parent x.kind ≡ None → root_name k ≡ n
+root_made n k by (Trade firm account instrument side lots) x h top =
+    first_or n (root_name k) (record { name = root_name k; lots = lots; kind = Root (record { firm = firm; account = account }) }) x None (root_name k ≡ n)
+    (λ is _. name_is (root_name k) n is) (λ none. absurd (cc)) (same_name (root_name k) n) refl h
+root_made n k by (Split m ps) x h top = absurd (none_is_some (parent x.kind) m top (part_parent n m k 1 by ps x h))
+root_made n k by _ x h top = absurd (cc)
+
+abbrev Lies : Grove → EntryPart → Type 0
+Lies g n = (trade : ℕ) × (p : List ℕ) × IsPlace g n trade p
+
+module _ {l : List Record} {g : Grove} (are : AreTreesOf l g) where
+  pub order_of : InOrder l
+  order_of = in_order are.house l are.replayed are.rises
+
+  root_lies : (k : ℕ) (x : Node) → node_of l (root_name k) ≡ Some x → (o : Option Rose) → tree_of g k ≡ o → IsTreeIn l k o → IsPlace g (root_name k) k []
+  root_lies k x found None e is = absurd (none_is_some (node_of l (root_name k)) x is found)
+  root_lies k x found (Some t) e is = record { tree = t; found = e; there = (its-head l None is.root t is.tree).name ∙ node_called l (root_name k) is.root is.found }
+
+  -- a part of a node lies below it
+  part_place : {trade : ℕ} {p : List ℕ} {up : EntryPart} {d : Record} (s : Spot l g trade p up) (v : IsParted l d s.node) (n : EntryPart) (i : ℕ) (w : Rose)
+      → part_at i v.parts ≡ Some w → (head_of w).name ≡ n → IsPlace g n trade (p ++ i ∷ [])
+  part_place {p = p} s v n i w at called = record {
+    tree = s.tree;
+    found = s.found;
+    there = at_there (λ u. (head_of u).name ≡ n) (node_at (p ++ i ∷ []) s.tree) w
+        (node_at-further p (i ∷ []) s.tree s.node s.at ∙ subst (λ u. node_at (i ∷ []) u ≡ Some w) (sym v.is) (ap (option_and_then (node_at [])) at)) called;
+  }
+
+  -- so a node lies below the one above it
+  below : (n up : EntryPart) (x : Node) → node_of l n ≡ Some x → parent x.kind ≡ Some up → Lies g up → Lies g n
+  below n up x found e q =
+      let m = maker l n x found in
+      let s = spot are.filed order_of q.0 q.1 up q.2 in
+      let once = (named_once are.house l are.replayed).splits_once up in
+      let split = found_once (λ (d : Record). splits up d.command) l m.change m.among (made_by_split m.change n up x m.makes_it e) once in
+      let v = parted_by l s.said.above s.said.node m.change s.node s.said.shown (ap (split_of l) (s.said.named ∙ s.called) ∙ split) in
+      let w = part_lies l (Some v.head.place) n (made m.change) v.parts x v.are m.makes_it in
+      (q.0, q.1 ++ w.0 ∷ [], part_place s v n w.0 w.1 w.2 w.3)
+
+  -- each node that a change makes lies in a tree
+  lies_by : (n : EntryPart) (x : Node) → node_of l n ≡ Some x → ((m : EntryPart) (y : Node) → node_of l m ≡ Some y → m.entry < n.entry → Lies g m)
+      → (o : Option EntryPart) → parent x.kind ≡ o → Lies g n
+  lies_by n x found later None top =
+      let m = maker l n x found in
+      let root = root_made n m.change.number m.change.firm m.change.command x m.makes_it top in (
+        m.change.number,
+        [],
+        subst (λ (k : EntryPart). IsPlace g k m.change.number []) root
+            (root_lies m.change.number x (ap (node_of l) root ∙ found) (tree_of g m.change.number) refl (are.filed.trees m.change.number)),
+      )
+  lies_by n x found later (Some up) e =
+      let y = order_of.sound.parents.there n up x found e in
+      below n up x found e (later up y.0 y.1 (order_of.sound.falls.lower n up x y.0 found e y.1))
+
+  lies : (f : ℕ) (n : EntryPart) (x : Node) → node_of l n ≡ Some x → n.entry < f → Lies g n
+  lies zero n x found low = absurd (omega arith)
+  lies (suc f) n x found low = lies_by n x found (λ m y there less. lies f m y there (omega (arith, less, low))) (parent x.kind) refl
+
+  -- so no tree has a node that no change makes
+  pub found_none : (n : EntryPart) → ((trade : ℕ) (p : List ℕ) → IsPlace g n trade p → ⊥) → node_of l n ≡ None
+  found_none n never = no_some (node_of l n) (λ x e. let q = lies (suc n.entry) n x e (omega arith) in never q.0 q.1 q.2)
 
 split_told : (l : List Record) (above : Option Place) (x : Node) (v : Rose) → IsNodeOf l above x v
     → option_map (λ (p : ℕ × ℕ). p.0) (split_of_node v) ≡ option_map (λ (r : Record). r.number) (split_of l x.name)
 split_told l above x (leaf h) is = sym (ap (option_map (λ (r : Record). r.number)) is.1)
 split_told l above x (parted h n ts) is = sym (ap (option_map (λ (r : Record). r.number)) is.1.1 ∙ ap (λ (k : ℕ). Some k) is.1.2)
 
--- the node at a place is found as the changes say
-pub found_as : {l : List Record} {g : Grove} → AreTreesOf l g → (n : EntryPart) (trade : ℕ) (p : List ℕ) (tree : Rose) (f : Found) (o : Option (ℕ × ℕ)) → IsPlace g n trade p
-    → tree_of g trade ≡ Some tree
-    → HasAt p (λ u. head_of u ≡ f.head) tree → length p ≡ f.depth → f.trade ≡ trade → HasAt p (λ u. o ≡ split_of_node u) tree
-    → f.split ≡ option_map (λ (q : ℕ × ℕ). q.0) o → IsFoundIn l n (Some f)
-found_as {l} {g} are n trade p tree f o place found at deep its part split =
-    let s = spot are.filed (in_order are.house l are.replayed are.rises) trade p n place in
-    let same : s.tree ≡ tree = same_Some s.tree tree (sym s.found ∙ found) in
-    let here : node_at p tree ≡ Some s.node = ap (node_at p) (sym same) ∙ s.at in
-    let head : head_of s.node ≡ f.head = at_fact (λ u. head_of u ≡ f.head) (node_at p tree) s.node here at in
-    let parts : o ≡ split_of_node s.node = at_fact (λ u. o ≡ split_of_node u) (node_at p tree) s.node here part in
+-- the node that was looked up at a place is found as the changes say
+pub found_spot : {l : List Record} {g : Grove} → AreTreesOf l g → (n : EntryPart) (trade : ℕ) (p : List ℕ) (u : Rose) (f : Found) (o : Option (ℕ × ℕ)) → IsPlace g n trade p
+    → HasTree g trade (λ t. node_at p t ≡ Some u)
+    → f.head ≡ head_of u → length p ≡ f.depth → f.trade ≡ trade → o ≡ split_of_node u → f.split ≡ option_map (λ (q : ℕ × ℕ). q.0) o → IsFoundIn l n (Some f)
+found_spot {l} {g} are n trade p u f o place at here deep its parts split =
+    let s = spot are.filed (order_of are) trade p n place in
+    let same : s.node ≡ u = same_Some s.node u (sym s.at ∙ from_tree s (λ t. node_at p t ≡ Some u) at) in
+    let head : head_of s.node ≡ f.head = ap head_of same ∙ sym here in
     let is : IsHeadOf l s.said.above s.said.node f.head = subst (λ (h : Head). IsHeadOf l s.said.above s.said.node h) head (its_head s) in (
       s.said.node,
       s.said.named ∙ s.called,
@@ -142,19 +215,10 @@ found_as {l} {g} are n trade p tree f o place found at deep its part split =
         place = ap (place_of l) s.said.named ∙ (s.said.placed ∙ ap (λ (h : Head). Some h.place) head);
         state = is.state;
         deep = ap (depth_of l) s.said.named ∙ (s.said.deep ∙ deep);
-        rooted = ap (root_of l) s.said.named ∙ (s.said.rooted ∙ ap (λ (k : ℕ). let m : EntryPart = record { entry = k; part = 0 } in Some m) (sym its));
-        split = split ∙ (ap (option_map (λ (q : ℕ × ℕ). q.0)) parts ∙ split_told l s.said.above s.said.node s.node s.said.shown);
+        rooted = ap (root_of l) s.said.named ∙ (s.said.rooted ∙ ap (λ (k : ℕ). Some (root_name k)) (sym its));
+        split = split ∙ (ap (option_map (λ (q : ℕ × ℕ). q.0)) (parts ∙ ap split_of_node (sym same)) ∙ split_told l s.said.above s.said.node s.node s.said.shown);
       },
     )
-
--- and so is one that was looked up in the trees
-pub found_spot : {l : List Record} {g : Grove} → AreTreesOf l g → (n : EntryPart) (trade : ℕ) (p : List ℕ) (u : Rose) (f : Found) (o : Option (ℕ × ℕ)) → IsPlace g n trade p
-    → HasTree g trade (λ t. node_at p t ≡ Some u)
-    → f.head ≡ head_of u → length p ≡ f.depth → f.trade ≡ trade → o ≡ split_of_node u → f.split ≡ option_map (λ (q : ℕ × ℕ). q.0) o → IsFoundIn l n (Some f)
-found_spot {l} {g} are n trade p u f o place at head deep its parts split =
-    let t = some_and (λ t. node_at p t ≡ Some u) (tree_of g trade) at in
-    found_as are n trade p t.0 f o place t.1 (at_there (λ w. head_of w ≡ f.head) (node_at p t.0) u t.2 (sym head)) deep its
-    (at_there (λ w. o ≡ split_of_node w) (node_at p t.0) u t.2 parts) split
 
 -- ---- what is asked of what was found
 

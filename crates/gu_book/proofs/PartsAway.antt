@@ -14,7 +14,9 @@ use Rattle.gu_base.proofs.Passing.{at_node_none, split_passes, part_passes, refu
 use Rattle.gu_depend.proofs.Replay.{number_once}
 use Rattle.gu_depend.proofs.StandsUnder.{rises_distinct}
 use Rattle.gu_book.specs.Holdings.{lots_told}
-use Rattle.gu_book.proofs.Holdings.{asked, one_found, counts_or}
+use Rattle.gu_book.proofs.Filed.{live_at}
+use Rattle.gu_book.proofs.Holdings.{counts_or}
+use Rattle.gu_book.proofs.Once.{asked, one_found}
 
 -- ---- sums
 
@@ -84,19 +86,24 @@ few_told whole by (Some a) n true = few_away whole by a n (bytes_eq a whole.key.
 
 -- ---- all parts
 
+-- where each part gives no more lots than its own, all give no more than those of all
+pub few_given : (f : Part → Option Holding) → ((p : Part) → lots_told (f p) ≤ p.lots) → (ps : List Part)
+    → sum_by (λ (h : Holding). h.lots) (filter_map f ps) ≤ sum_by (λ (p : Part). p.lots) ps
+few_given f few [] = omega arith
+few_given f few (p ∷ ps) =
+    let a = lots_or (f p) (filter_map f ps) in
+    let b = few p in
+    let c = few_given f few ps in
+    let d = sum_by-cons (λ (p : Part). p.lots) p ps in
+    omega (arith, a, b, c, d)
+
 -- the lots that go elsewhere
 abbrev pub moved : Holding → List ℕ → List Part → ℕ
 moved whole by ps = sum_by (λ (h : Holding). h.lots) (filter_map (part_away whole by) ps)
 
 -- are no more than those of all parts
 pub moved_few : (whole : Holding) (by : List ℕ) (ps : List Part) → moved whole by ps ≤ sum_by (λ (p : Part). p.lots) ps
-moved_few whole by [] = omega arith
-moved_few whole by (p ∷ ps) =
-    let a = lots_or (part_away whole by p) (filter_map (part_away whole by) ps) in
-    let b = few_told whole by p.account p.lots (bytes_eq p.firm by) in
-    let c = moved_few whole by ps in
-    let d = sum_by-cons (λ (p : Part). p.lots) p ps in
-    omega (arith, a, b, c, d)
+moved_few whole by = few_given (part_away whole by) (λ p. few_told whole by p.account p.lots (bytes_eq p.firm by))
 
 -- what all parts hold, less the lots of the whole, is what goes elsewhere, less so many lots where the whole stood
 pub parts_move : (t : House) (whole : Holding) (by : List ℕ) (ps : List Part) → whole.key.firm ≡ by → first (map (refusal_of_part t by) ps) ≡ None → (at : Key) (side : Side)
@@ -146,7 +153,7 @@ deal_there l k rises live =
 pub holds_some : {l : List Record} {g : Grove} → IsGroveOf l g → RisesFrom 1 l → {x : Node} {f : Found} {p : List ℕ} → IsFoundAs l x f → IsPlace g x.name f.trade p
     → IsSome (holding_of l x)
 holds_some {l} {g} filed rises {x} {f} is place =
-    let d = deal_there l f.trade rises (sym (filed.live f.trade) ∙ ap is_some place.found) in
+    let d = deal_there l f.trade rises (live_at filed f.trade place.tree place.found) in
     let of_root : EntryPart → Option Deal = λ root. option_and_then (λ (r : Record). deal_in r.command) (find (λ (r : Record). r.number == root.entry) l) in
     let traded : traded_at l x.name ≡ Some d.0 = ap (option_and_then of_root) is.rooted ∙ d.1 in
     subst IsSome (sym (ap (λ o. held_at o (traded_at l x.name) x.lots) is.place ∙ ap (λ w. held_at (Some f.head.place) w x.lots) traded)) refl
@@ -173,22 +180,21 @@ split_well t l by n ps lawful =
       sums = eqb-true (sum_by (λ (p : Part). p.lots) ps) there.0.lots holds.sums;
     }
 
--- what is held somewhere is held by the firm that stands there
-held_where : (o : Option Place) (w : Option Deal) (n : ℕ) (h : Holding) → Some h ≡ held_at o w n → (by : List ℕ)
-    → unwrap_or (option_map (λ owner. bytes_eq owner by) (option_map (λ (p : Place). p.firm) o)) false ≡ true
-    → (h.key.firm ≡ by) × (h.lots ≡ n)
-held_where None w n h is by owned = absurd (cc)
-held_where (Some p) None n h is by owned = absurd (cc)
-held_where (Some p) (Some d) n h is by owned =
+-- what is held somewhere has the lots that it is said to have, and is held by the firm that stands there
+pub held_is : (o : Option Place) (w : Option Deal) (n : ℕ) (h : Holding) → Some h ≡ held_at o w n → (h.lots ≡ n) × (option_map (λ (p : Place). p.firm) o ≡ Some h.key.firm)
+held_is None w n h is = absurd (cc)
+held_is (Some p) None n h is = absurd (cc)
+held_is (Some p) (Some d) n h is =
     let same = same_Some h (record { key = record { firm = p.firm; account = p.account; instrument = d.instrument }; side = d.side; lots = n }) is in
-    (ap (λ (h : Holding). h.key.firm) same ∙ (bytes_eq-Decides p.firm by).0 owned, ap (λ (h : Holding). h.lots) same)
+    (ap (λ (h : Holding). h.lots) same, ap (λ (h : Holding). Some h.key.firm) (sym same))
 
 -- the whole stands in an account of the firm that splits it, and has the lots of its parts
 pub whole_well : {t : House} {l : List Record} {by : List ℕ} {n : EntryPart} {ps : List Part} → (w : SplitWell t l by n ps) → (h : Holding) → Some h ≡ holding_of l w.node
     → (h.key.firm ≡ by) × (h.lots ≡ sum_by (λ (p : Part). p.lots) ps)
 whole_well {t} {l} {by} w h is =
-    let held = held_where (place_of l w.node.name) (traded_at l w.node.name) w.node.lots h is by w.owned in
-    (held.0, held.1 ∙ sym w.sums)
+    let held = held_is (place_of l w.node.name) (traded_at l w.node.name) w.node.lots h is in
+    let owner : bytes_eq h.key.firm by ≡ true = sym (ap (λ o. unwrap_or (option_map (λ owner. bytes_eq owner by) o) false) held.1) ∙ w.owned in
+    ((bytes_eq-Decides h.key.firm by).0 owner, held.0 ∙ sym w.sums)
 
 -- what goes elsewhere was put there, and so many lots were taken from where the whole stands: then the rows have moved as the split says
 pub split_moved : (t : House) (whole : Holding) (by : List ℕ) (ps : List Part) → whole.key.firm ≡ by → whole.lots ≡ sum_by (λ (p : Part). p.lots) ps

@@ -1,21 +1,21 @@
 -- A reversal for which all is ready is accepted, and what a refused one names.
 use Rattle.std.proofs.Common.{◌≡◌, ℕ, ◌+◌, Bool, true, false, not, ◌||◌, List, [], ◌∷◌, ◌++◌, length, refl, sym, ◌∙◌, ap, subst, Option, cond, inl, inr}
-use Rattle.std.proofs.Common.{◌⊎◌, Some, None, find, nat_lt, option_map, bytes_eq}
-use Rattle.gu_book.proofs.Vocabulary.{list_any}
+use Rattle.std.proofs.Common.{◌⊎◌, Some, None, IfSome, find, nat_lt, option_map, bytes_eq}
+use Rattle.gu_book.proofs.Vocabulary.{AllByRecursion, list_any}
 use Rattle.std.proofs.lemmas.Bool.{lt-ltb, not-true, and_parts, or_cases, or_parts}
 use Rattle.std.proofs.lemmas.List.Elements.{All-head, All-tail}
 use Rattle.std.proofs.lemmas.Slice.Eq.{bytes_eq-Decides}
 use Rattle.gu_depend.proofs.Vocabulary.{House, knows_firm, numbered_as, numbered_from, records, is_change, is_reverse_of, is_reversed, live, refusal_of, first, unless, bytes_same}
 use Rattle.gu_depend.proofs.Vocabulary.{first_refused, standing_on, parties_of, consents_of, is_among, missing, Call, answer_to, answer_by, accepted_or, entry_of, reversal_of, on_change}
 use Rattle.gu_depend.proofs.Vocabulary.{initiate_rest, reverse_rest, command_refusal, is_same_id, is_same_call, after_all, Initiate, Reverse, Accepted, Entry, Record, Refusal, UnknownFirm}
-use Rattle.gu_depend.proofs.Vocabulary.{UnknownEntry, NotAChange, AlreadyReversed, NotAParty, NeedsConsent, StandsOn, DuplicateId, BookFull, AlreadyConsented, State, ReversalPending, Reversed}
+use Rattle.gu_depend.proofs.Vocabulary.{NotAChange, AlreadyReversed, NotAParty, NeedsConsent, StandsOn, DuplicateId, BookFull, AlreadyConsented, State, ReversalPending, Reversed}
 use Rattle.gu_base.specs.declared.entry.Answer.TheVariants.{Refused}
 use Rattle.gu_base.proofs.LiveLaws.{is_live}
 use Rattle.gu_base.proofs.LegalLaws.{first_refused-cut}
 use Rattle.gu_book.specs.Headline.{IsAcceptedWhereReady, IsConsentAccepted, IsNewestUndone, NamedBy, IsNamed}
 use Rattle.gu_base.proofs.RunLaws.{run_all}
 use Rattle.gu_base.proofs.Numbered.{listed, found_at}
-use Rattle.gu_book.proofs.Indexed.{no_call}
+use Rattle.gu_book.proofs.LookedUp.{no_call}
 use Rattle.gu_book.proofs.Placed.{change_known, firms_known}
 use Rattle.gu_book.proofs.Parties.{AllPass, parties_pass}
 use Rattle.gu_book.proofs.Restored.{newest_is_free}
@@ -113,75 +113,60 @@ refused_by None (Some r) number status o x h = inl (r.number, cc)
 refused_by None None number status None x h = absurd (cc)
 refused_by None None number status (Some y) x h = inr (cc)
 
-first_some : (o : Option Refusal) (rest : List (Option Refusal)) (x : Refusal) → first (o ∷ rest) ≡ Some x → (o ≡ Some x) ⊎ (first rest ≡ Some x)
-first_some None rest x h = inr h
-first_some (Some y) rest x h = inl h
+-- what each refusal has that a line of a row may give, the one has that the row gives
+of_row : (P : Refusal → Type 0) (row : List (Option Refusal)) → AllByRecursion (λ o. IfSome o P) row → IfSome (first row) P
+of_row P [] each = tt
+of_row P (None ∷ row) each = of_row P row each.1
+of_row P (Some x ∷ row) each = each.0
 
-only_some : (o : Option Refusal) (x : Refusal) → first (o ∷ []) ≡ Some x → o ≡ Some x
-only_some None x h = absurd (cc)
-only_some (Some y) x h = h
+of_unless : (P : Refusal → Type 0) (b : Bool) (x : Refusal) → P x → IfSome (unless b x) P
+of_unless P true x has = tt
+of_unless P false x has = has
 
-unless_some : (b : Bool) (r x : Refusal) → unless b r ≡ Some x → r ≡ x
-unless_some true r x h = cc
-unless_some false r x h = cc
+of_mapped : {A : Type 0} (P : Refusal → Type 0) (f : A → Refusal) (o : Option A) → ((a : A) → o ≡ Some a → P (f a)) → IfSome (option_map f o) P
+of_mapped P f None has = tt
+of_mapped P f (Some a) has = has a refl
 
-mapped_some : {A : Type 0} (f : A → Refusal) (o : Option A) (x : Refusal) → option_map f o ≡ Some x → (a : A) × (o ≡ Some a) × (f a ≡ x)
-mapped_some f None x h = absurd (cc)
-mapped_some f (Some a) x h = (a, refl, cc)
-
-some_refusal : (r x : Refusal) → Some r ≡ Some x → r ≡ x
-some_refusal r x h = cc
-
-module _ (t : House) (h : List Entry) (by : List ℕ) (k : ℕ) (x : Refusal) where
-  named_rest : (r : Record) → entry_of h k ≡ Some r → reverse_rest t h r ≡ Some x → NamedBy t h k x
-  named_rest r at e =
+module _ (t : House) (h : List Entry) (by : List ℕ) (k : ℕ) where
+  named_rest : (r : Record) → entry_of h k ≡ Some r → IfSome (reverse_rest t h r) (NamedBy t h k)
+  named_rest r at =
       let number = (found_at k 1 h r at).number in
-      let parties = parties_of t (live h) r.firm r.command in
-      elim (first_some (option_map (λ f. NeedsConsent f) (missing parties (consents_of h r.number))) (option_map (λ n. StandsOn n) (standing_on t (live h) r.number) ∷ []) x e) [
-        | inl lacks ↦ let m = mapped_some (λ f. NeedsConsent f) (missing parties (consents_of h r.number)) x lacks in
-            subst (NamedBy t h k) m.2 (r, at, subst (λ n. missing parties (consents_of h n) ≡ Some m.0) number m.1)
-        | inr stands ↦ let m = mapped_some (λ n. StandsOn n) (standing_on t (live h) r.number) x (only_some (option_map (λ n. StandsOn n) (standing_on t (live h) r.number)) x stands) in
-            subst (NamedBy t h k) m.2 (subst (λ n. standing_on t (live h) n ≡ Some m.0) number m.1)
-      ]
+      let lack = missing (parties_of t (live h) r.firm r.command) (consents_of h r.number) in
+      let on = standing_on t (live h) r.number in
+      of_row (NamedBy t h k) (option_map (λ f. NeedsConsent f) lack ∷ option_map (λ n. StandsOn n) on ∷ []) (
+        of_mapped (NamedBy t h k) (λ f. NeedsConsent f) lack (λ f is. (r, at, subst (λ n. missing (parties_of t (live h) r.firm r.command) (consents_of h n) ≡ Some f) number is)),
+        (of_mapped (NamedBy t h k) (λ n. StandsOn n) on (λ n is. subst (λ m. standing_on t (live h) m ≡ Some n) number is), tt),
+      )
 
-  named_change : (o : Option Record) → entry_of h k ≡ o → on_change t h by (reverse_rest t h) o ≡ Some x → NamedBy t h k x
-  named_change None at e = subst (NamedBy t h k) (some_refusal UnknownEntry x e) tt
-  named_change (Some r) at e =
-      let last = reverse_rest t h r ∷ [] in
-      let third = unless (is_among by (parties_of t (live h) r.firm r.command)) NotAParty ∷ last in
-      let second = option_map (λ v. AlreadyReversed v.number) (reversal_of h r.number) ∷ third in
-      elim (first_some (unless (is_change r.command) NotAChange) second x e) [
-        | inl a ↦ subst (NamedBy t h k) (unless_some (is_change r.command) NotAChange x a) tt
-        | inr e2 ↦ elim (first_some (option_map (λ v. AlreadyReversed v.number) (reversal_of h r.number)) third x e2) [
-          | inl b ↦ let m = mapped_some (λ v. AlreadyReversed v.number) (reversal_of h r.number) x b in subst (NamedBy t h k) m.2 tt
-          | inr e3 ↦ elim (first_some (unless (is_among by (parties_of t (live h) r.firm r.command)) NotAParty) last x e3) [
-            | inl c ↦ subst (NamedBy t h k) (unless_some (is_among by (parties_of t (live h) r.firm r.command)) NotAParty x c) tt
-            | inr e4 ↦ named_rest r at (only_some (reverse_rest t h r) x e4)
-          ]
-        ]
-      ]
+  named_change : (o : Option Record) → entry_of h k ≡ o → IfSome (on_change t h by (reverse_rest t h) o) (NamedBy t h k)
+  named_change None at = tt
+  named_change (Some r) at =
+      let party = is_among by (parties_of t (live h) r.firm r.command) in
+      of_row (NamedBy t h k)
+      (unless (is_change r.command) NotAChange ∷ option_map (λ v. AlreadyReversed v.number) (reversal_of h r.number) ∷ unless party NotAParty ∷ reverse_rest t h r ∷ []) (
+        of_unless (NamedBy t h k) (is_change r.command) NotAChange tt,
+        (of_mapped (NamedBy t h k) (λ v. AlreadyReversed v.number) (reversal_of h r.number) (λ v e. tt), (of_unless (NamedBy t h k) party NotAParty tt, (named_rest r at, tt))),
+      )
 
-  named_command : command_refusal t h by (Reverse k) ≡ Some x → NamedBy t h k x
-  named_command e =
-      elim (first_some (unless (knows_firm t by) UnknownFirm) (on_change t h by (reverse_rest t h) (entry_of h k) ∷ []) x e) [
-        | inl a ↦ subst (NamedBy t h k) (unless_some (knows_firm t by) UnknownFirm x a) tt
-        | inr rest ↦ named_change (entry_of h k) refl (only_some (on_change t h by (reverse_rest t h) (entry_of h k)) x rest)
-      ]
+  named_row : IfSome (first (unless (nat_lt (length h) 1000000) BookFull ∷ command_refusal t h by (Reverse k) ∷ [])) (NamedBy t h k)
+  named_row =
+      let change = on_change t h by (reverse_rest t h) (entry_of h k) in
+      of_row (NamedBy t h k) (unless (nat_lt (length h) 1000000) BookFull ∷ command_refusal t h by (Reverse k) ∷ []) (
+        of_unless (NamedBy t h k) (nat_lt (length h) 1000000) BookFull tt,
+        (
+          of_row (NamedBy t h k) (unless (knows_firm t by) UnknownFirm ∷ change ∷ [])
+              (of_unless (NamedBy t h k) (knows_firm t by) UnknownFirm tt, (named_change (entry_of h k) refl, tt)),
+          tt,
+        ),
+      )
 
-  named_first : first (unless (nat_lt (length h) 1000000) BookFull ∷ command_refusal t h by (Reverse k) ∷ []) ≡ Some x → NamedBy t h k x
-  named_first e =
-      elim (first_some (unless (nat_lt (length h) 1000000) BookFull) (command_refusal t h by (Reverse k) ∷ []) x e) [
-        | inl full ↦ subst (NamedBy t h k) (unless_some (nat_lt (length h) 1000000) BookFull x full) tt
-        | inr rest ↦ named_command (only_some (command_refusal t h by (Reverse k)) x rest)
-      ]
-
-  pub named_at : (id : List ℕ) → answer_to t h (record { firm = by; id = id; command = Reverse k }) ≡ Refused x → NamedBy t h k x
-  named_at id e =
+  pub named_at : (x : Refusal) (id : List ℕ) → answer_to t h (record { firm = by; id = id; command = Reverse k }) ≡ Refused x → NamedBy t h k x
+  named_at x id e =
       let call : Call = record { firm = by; id = id; command = Reverse k } in
       elim (refused_by (find (is_same_call call) (records h)) (find (is_same_id call) (records h)) (length h + 1) Reversed
       (first (unless (nat_lt (length h) 1000000) BookFull ∷ command_refusal t h by (Reverse k) ∷ [])) x e) [
-        | inl dup ↦ subst (NamedBy t h k) dup.1 tt
-        | inr why ↦ named_first why
+        | inl known ↦ subst (NamedBy t h k) known.1 tt
+        | inr why ↦ subst (λ o. IfSome o (NamedBy t h k)) why named_row
       ]
 
 pub named : (t : House) → IsNamed t

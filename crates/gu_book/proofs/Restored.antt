@@ -1,16 +1,17 @@
 -- What a reversal does over any list of calls.
-use Rattle.std.proofs.Common.{◌≡◌, ℕ, ◌+◌, ◌<◌, ◌≤◌, Bool, true, false, not, List, [], ◌∷◌, ◌++◌, length, refl, sym, ◌∙◌, ap, subst, arith, Option, cond}
-use Rattle.std.proofs.Common.{append-nil, append_assoc, inl, inr, ◌⊎◌, Some, None, map, ◌==◌, is_some, All}
+use Rattle.gu_depend.proofs.Vocabulary.{◌≡◌, ℕ, ◌+◌, ◌<◌, ◌≤◌, Bool, true, false, List, [], ◌∷◌, ◌++◌, length, refl, sym, ◌∙◌, ap, subst, arith, Option}
+use Rattle.gu_depend.proofs.Vocabulary.{cond, append-nil, append_assoc, inl, inr, map, All, and_parts, All-head, All-tail, House, numbered_as, is_change, live, RisesFrom, refusal_of}
+use Rattle.gu_depend.proofs.Vocabulary.{first_refused, standing_on, without, Call, answer_to, after, after_by, is_accepted, after_all, call_of, IsRunFrom, Reverse, Answer, Accepted, Entry}
+use Rattle.gu_depend.proofs.Vocabulary.{Record, is_consenting, legal_from_replay, none_refused, replay_front}
+use Rattle.std.proofs.Common.{◌⊎◌, Some, None, is_some}
 use Rattle.std.specs.List.{list_all}
-use Rattle.std.proofs.lemmas.Bool.{ne_eqb, eq-eqb, and_parts}
-use Rattle.std.proofs.lemmas.List.Elements.{All-nil, All-cons, All-head, All-tail, filter-append}
-use Rattle.gu_depend.proofs.Vocabulary.{House, numbered_as, is_change, live, RisesFrom, refusal_of, first_refused, standing_on, without, Call, answer_to, after, after_by, is_accepted, after_all}
-use Rattle.gu_depend.proofs.Vocabulary.{call_of, IsRunFrom, Reverse, Answer, Accepted, Entry, Record, is_consenting}
-use Rattle.gu_base.proofs.LiveLaws.{live_push_change, live_push_reverse, live_push_consent, live_below, without_none, without_last}
-use Rattle.gu_base.proofs.LegalLaws.{legal_from_replay, none_refused, replay_front}
+use Rattle.gu_base.proofs.LiveLaws.{live_push_change, live_push_reverse, live_push_consent, live_below, without_last}
 use Rattle.gu_book.specs.Headline.{IsLawful, Restores, TakesOut, StandsLater}
 use Rattle.gu_base.proofs.RunLaws.{run_all}
-use Rattle.gu_book.proofs.Leaves.{live_rises}
+use Rattle.gu_book.proofs.Leaves.{live_rises, at_least}
+use Rattle.gu_depend.proofs.Replay.{number_once}
+use Rattle.gu_depend.proofs.StandsLast.{gone}
+use Rattle.gu_depend.proofs.StandsUnder.{rises_distinct}
 use Rattle.gu_book.proofs.Orders.{earlier}
 
 pub lawful : (t : House) → IsLawful t
@@ -90,38 +91,10 @@ newest_is_free t calls before r same =
 
 -- ---- what stands on a change is later
 
-all_above : (n k : ℕ) (l : List Record) → k < n → RisesFrom n l → All (λ d. k < d.number) l
-all_above n k [] above rises = All-nil (λ (d : Record). k < d.number)
-all_above n k (d ∷ l) above rises =
-    let behind : n ≤ d.number = rises.0 in
-    All-cons (λ (d : Record). k < d.number) d l (omega arith) (all_above (d.number + 1) k l (omega arith) rises.1)
-
--- the numbers before and behind a record
-around : (n : ℕ) (before after : List Record) (r : Record) → RisesFrom n (before ++ r ∷ after)
-    → (n ≤ r.number) × All (λ d. d.number < r.number) before × All (λ d. r.number < d.number) after
-around n [] after r rises = (rises.0, All-nil (λ (d : Record). d.number < r.number), all_above (r.number + 1) r.number after (omega arith) rises.1)
-around n (b ∷ before) after r rises =
-    let rest = around (b.number + 1) before after r rises.1 in
-    let behind : n ≤ b.number = rises.0 in
-    let later : b.number + 1 ≤ r.number = rest.0 in
-    (omega arith, All-cons (λ (d : Record). d.number < r.number) b before (omega arith) rest.1, rest.2)
-
-without_above : (k : ℕ) (l : List Record) → All (λ r. k < r.number) l → without l k ≡ l
-without_above k [] all = refl
-without_above k (r ∷ l) all =
-    let high : k < r.number = All-head (λ (r : Record). k < r.number) r l all in
-    ap (λ b. cond (not b) (r ∷ without l k) (without l k)) (ne_eqb r.number k (λ e. omega arith)) ∙ ap (λ rs. r ∷ rs) (without_above k l (All-tail (λ (r : Record). k < r.number) r l all))
-
-same_number : (k : ℕ) (r : Record) (l : List Record) → r.number ≡ k → without (r ∷ l) k ≡ without l k
-same_number k r l same = ap (λ b. cond (not b) (r ∷ without l k) (without l k)) (eq-eqb r.number k same)
-
--- the list without one of its changes
-pub without_cut : (before after : List Record) (r : Record) → All (λ d. d.number < r.number) before → All (λ d. r.number < d.number) after
-    → without (before ++ r ∷ after) r.number ≡ before ++ after
-without_cut before after r low high =
-    filter-append (λ (d : Record). not (d.number == r.number)) before (r ∷ after)
-    ∙ (ap (λ l. l ++ without (r ∷ after) r.number) (without_none r.number before low)
-    ∙ ap (λ l. before ++ l) (same_number r.number r after refl ∙ without_above r.number after high))
+-- the numbers behind a record are higher
+rises_behind : (n : ℕ) (before after : List Record) (r : Record) → RisesFrom n (before ++ r ∷ after) → RisesFrom (r.number + 1) after
+rises_behind n [] after r rises = rises.1
+rises_behind n (b ∷ before) after r rises = rises_behind (b.number + 1) before after r rises.1
 
 pub replay_on : (t : House) (done l m : List Record) → first_refused t done l ≡ None → first_refused t done (l ++ m) ≡ first_refused t (done ++ l) m
 replay_on t done [] m h = ap (λ b. first_refused t b m) (sym (append-nil done))
@@ -134,20 +107,22 @@ stops_here : (b : Bool) (n m : ℕ) (rest : Option ℕ) → cond b (Some n) rest
 stops_here true n m rest h = inl (cc)
 stops_here false n m rest h = inr h
 
-refused_above : (t : House) (k : ℕ) (done l : List Record) (n : ℕ) → All (λ d. k < d.number) l → first_refused t done l ≡ Some n → k < n
+refused_above : (t : House) (k : ℕ) (done l : List Record) (n : ℕ) → All (λ d. k ≤ d.number) l → first_refused t done l ≡ Some n → k ≤ n
 refused_above t k done [] n all h = absurd (cc)
 refused_above t k done (d ∷ l) n all h =
-    let here : k < d.number = All-head (λ (d : Record). k < d.number) d l all in
+    let here : k ≤ d.number = All-head (λ (d : Record). k ≤ d.number) d l all in
     elim (stops_here (is_some (refusal_of t done d.firm d.command)) d.number n (first_refused t (done ++ d ∷ []) l) h) [
       | inl same ↦ omega arith
-      | inr later ↦ refused_above t k (done ++ d ∷ []) l n (All-tail (λ (d : Record). k < d.number) d l all) later
+      | inr later ↦ refused_above t k (done ++ d ∷ []) l n (All-tail (λ (d : Record). k ≤ d.number) d l all) later
     ]
 
 pub stands_later : (t : House) → StandsLater t
 stands_later t calls before after r n same stands =
-    let h = after_all t [] calls in
-    let run = run_all t calls in
-    let a = around 1 before after r (subst (λ l. RisesFrom 1 l) same (live_rises h)) in
-    let front = replay_front t [] before (r ∷ after) (subst (λ l. first_refused t [] l ≡ None) same run.replayed) in
-    refused_above t r.number before after n a.2
-    (sym (replay_on t [] before after front) ∙ (ap (first_refused t []) (sym (without_cut before after r a.1 a.2)) ∙ (ap (λ l. first_refused t [] (without l r.number)) (sym same) ∙ stands)))
+    let l : List Record = before ++ r ∷ after in
+    let rises = subst (RisesFrom 1) same (live_rises (after_all t [] calls)) in
+    let none = subst (λ l. first_refused t [] l ≡ None) same (run_all t calls).replayed in
+    let others = gone t before r after (record { once = number_once l (rises_distinct 1 l rises); replayed = none }) in
+    let high = refused_above t (r.number + 1) before after n (at_least (r.number + 1) after (rises_behind 1 before after r rises))
+    (sym (replay_on t [] before after (replay_front t [] before (r ∷ after) none)) ∙ (ap (first_refused t []) (sym others)
+    ∙ (ap (λ l. first_refused t [] (without l r.number)) (sym same) ∙ stands))) in
+    omega (arith, high)

@@ -1,28 +1,26 @@
 -- The running rows of positions, with one change more.
 use Rattle.std.proofs.Common.{◌≡◌, ℕ, ◌+◌, ◌*◌, ◌≤◌, Bool, true, false, not, ◌&&◌, List, [], ◌∷◌, ◌++◌, length, refl, ap, arith, Option, cond, Some, None}
 use Rattle.std.proofs.Common.{filter_map, sum_by, is_none, option_map, bytes_eq, IfSome, mul-le-mul_right}
-use Rattle.gu_book.proofs.Vocabulary.{cons_option, lots_at, names, PositionRows, Key, Grove, IsNext, taken_by, part_holding, added_by, counted_at, taken_at, HaveRoom, HaveMoved, ArePositionsOf}
+use Rattle.gu_book.proofs.Vocabulary.{lots_at, names, PositionRows, Grove, IsNext, taken_by, holding_away, part_holding, added_by, counted_at, taken_at, HaveRoom, HaveMoved, ArePositionsOf}
 use Rattle.gu_book.proofs.Vocabulary.{PartsWithinLimits, IsWithinLimits, AllWithinLimits, Holding}
 use Rattle.std.proofs.lemmas.List.Elements.{All-head, All-tail}
 use Rattle.std.proofs.lemmas.List.Filters.{sum_by-filter_both}
 use Rattle.std.proofs.lemmas.List.Sums.{sum_by-le, sum_by-cons, sum_by-append, sum_by-le-sum_by}
-use Rattle.gu_depend.proofs.Vocabulary.{House, first_refused, EntryPart, nodes, nodes_of, nodes_of_parts, kind_of_part, split_of, position_of, stands_at, trades_in, Part, Side, Command, Trade}
+use Rattle.gu_depend.proofs.Vocabulary.{House, first_refused, nodes, nodes_of, split_of, position_of, stands_at, trades_in, Part, Side, Command, Trade}
 use Rattle.gu_depend.proofs.Vocabulary.{Split, Claim, Record, Root, Node, Place}
-use Rattle.gu_base.proofs.LegalLaws.{replay_push}
 use Rattle.gu_base.proofs.NodeNames.{made}
 use Rattle.gu_depend.proofs.LastMoves.{moves_its_own, is_before, position_is}
-use Rattle.gu_depend.proofs.Replay.{number_once}
 use Rattle.gu_depend.proofs.Settled.{facts}
-use Rattle.gu_depend.proofs.StandsUnder.{rises_distinct}
 use Rattle.gu_positions.specs.Sums.{AreSumsOf}
-use Rattle.gu_book.specs.Holdings.{HasTaken}
+use Rattle.gu_book.specs.Holdings.{HasTaken, lots_told}
+use Rattle.gu_book.proofs.PartsAway.{few_given}
+use Rattle.gu_book.proofs.Leaves.{parts_lots}
 use Rattle.gu_book.proofs.HoldingRows.{is_own_key}
 use Rattle.gu_book.proofs.Holdings.{IsCounted, balances, key_at}
 use Rattle.gu_book.proofs.Orders.{sound_before}
-use Rattle.gu_book.proofs.Sound.{none_yet, next_from_accepted}
-use Rattle.gu_book.proofs.Leaves.{sound_first}
+use Rattle.gu_book.proofs.Sound.{none_yet, next_from_accepted, sound_first}
 use Rattle.gu_book.proofs.Placed.{node_stands}
-use Rattle.gu_book.proofs.Refused.{accepted_small}
+use Rattle.gu_book.proofs.Refused.{accepted_small, next_legal}
 
 -- ---- a change behind others
 
@@ -53,7 +51,7 @@ module _ {t : House} {l : List Record} {r : Record} {ts : Grove} (next : IsNext 
       let s = sound_before t [] l r 1 (omega arith) sound_first next.replayed next.rises in
       let behind : s.0 ≤ r.number = s.2 in
       record {
-        last = is_before t l r (record { once = number_once (l ++ r ∷ []) (rises_distinct 1 (l ++ r ∷ []) next.rises); replayed = replay_push t [] l r next.replayed next.lawful });
+        last = is_before t l r (next_legal next);
         bound = s.0;
         sound = s.3;
         unmade = λ n own. none_yet l s.0 n s.3 (omega (arith, own, behind));
@@ -71,7 +69,7 @@ module _ {t : House} {l : List Record} {r : Record} {ts : Grove} (next : IsNext 
         let place : Place = record { firm = at.firm; account = at.account } in
         let a = are.lots at side in
         let b = moved at side in
-        let d = moved_by counted (replay_push t [] l r next.replayed next.lawful) place at.instrument side in
+        let d = moved_by counted (next_legal next).replayed place at.instrument side in
         let e = ap (taken_at at side) is in
         let f = ap (λ o. sum_by (counted_at at side) (added_by r.firm r.command o)) is in
         omega (arith, a, b, d, e, f);
@@ -95,7 +93,7 @@ module _ {t : House} {l : List Record} {r : Record} {ts : Grove} (next : IsNext 
   has_taken rows now are hs put (Some h) is =
       let a = are.lots h.key h.side in
       let b = put h.key h.side in
-      let c = taken_part (counted next) (replay_push t [] l r next.replayed next.lawful) (record { firm = h.key.firm; account = h.key.account }) h.key.instrument h.side in
+      let c = taken_part (counted next) (next_legal next).replayed (record { firm = h.key.firm; account = h.key.account }) h.key.instrument h.side in
       let d = ap (taken_at h.key h.side) is in
       let e = ap (λ b. cond b h.lots 0) (is_own_key h.key h.side) in
       omega (arith, a, b, c, d, e)
@@ -104,14 +102,6 @@ within_both : (a b : Bool) (n : ℕ) → cond a (cond b n 0) 0 ≤ n
 within_both true true n = omega arith
 within_both true false n = omega arith
 within_both false b n = omega arith
-
-parts_lots : (k i : ℕ) (m : EntryPart) (by : List ℕ) (ps : List Part) → sum_by (λ (x : Node). x.lots) (nodes_of_parts k i m by ps) ≡ sum_by (λ p. p.lots) ps
-parts_lots k i m by [] = refl
-parts_lots k i m by (p ∷ ps) =
-    let a = sum_by-cons (λ (x : Node). x.lots) (record { name = record { entry = k; part = i }; lots = p.lots; kind = kind_of_part m by p }) (nodes_of_parts k (i + 1) m by ps) in
-    let b = sum_by-cons (λ (p : Part). p.lots) p ps in
-    let c = parts_lots k (i + 1) m by ps in
-    omega (arith, a, b, c)
 
 few_lots : (ps : List Part) → PartsWithinLimits ps → sum_by (λ (p : Part). p.lots) ps ≤ 1000000000
 few_lots ps within =
@@ -124,7 +114,7 @@ made_lots : (k : ℕ) (by : List ℕ) (c : Command) → IsWithinLimits c → sum
 made_lots k by (Trade firm account instrument side lots) h =
     let a = sum_by-cons (λ (x : Node). x.lots) (record { name = record { entry = k; part = 0 }; lots = lots; kind = Root (record { firm = firm; account = account }) }) [] in
     omega (arith, a, h)
-made_lots k by (Split m ps) h = let a = parts_lots k 1 m by ps in let b = few_lots ps h in omega (arith, a, b)
+made_lots k by (Split m ps) h = let a = parts_lots m k 1 by ps in let b = few_lots ps h in omega (arith, a, b)
 made_lots k by _ h = omega arith
 
 all_lots : (l : List Record) → AllWithinLimits l → sum_by (λ (x : Node). x.lots) (nodes l) ≤ length l * 1000000000
@@ -143,26 +133,14 @@ position_within l all at instrument side =
     let c = all_lots l all in
     omega (arith, a, b, c)
 
-or_lots : (o : Option Holding) (n : ℕ) (hs : List Holding) → IfSome o (λ h. h.lots ≤ n) → sum_by (λ (h : Holding). h.lots) (cons_option o hs) ≤ n + sum_by (λ (h : Holding). h.lots) hs
-or_lots None n hs most = omega arith
-or_lots (Some h) n hs most = let a = sum_by-cons (λ (h : Holding). h.lots) h hs in omega (arith, a, most)
-
-part_lots : (b : Bool) (key own : Key) (o : Option (List ℕ)) (f : List ℕ → Holding) (whole : Holding) (n : ℕ) → ((a : List ℕ) → (f a).lots ≡ n) → whole.lots ≡ n
-    → IfSome (cond b (option_map f o) (Some whole)) (λ h. h.lots ≤ n)
-part_lots true key own None f whole n all is = tt
-part_lots true key own (Some a) f whole n all is = let e = all a in omega (arith, e)
-part_lots false key own o f whole n all is = omega (arith, is)
+few_held : (whole : Holding) (by : List ℕ) (o : Option (List ℕ)) (n : ℕ) (b : Bool)
+    → lots_told (cond b (option_map (λ account. holding_away whole by account n) o) (Some (record { key = whole.key; side = whole.side; lots = n }))) ≤ n
+few_held whole by None n true = omega arith
+few_held whole by (Some a) n true = omega arith
+few_held whole by o n false = omega arith
 
 added_parts : (whole : Holding) (by : List ℕ) (ps : List Part) → sum_by (λ (h : Holding). h.lots) (filter_map (part_holding whole by) ps) ≤ sum_by (λ (p : Part). p.lots) ps
-added_parts whole by [] = omega arith
-added_parts whole by (p ∷ ps) =
-    let a = or_lots (part_holding whole by p) p.lots (filter_map (part_holding whole by) ps)
-    (part_lots (bytes_eq p.firm by) whole.key whole.key p.account
-    (λ account. record { key = record { firm = by; account = account; instrument = whole.key.instrument }; side = whole.side; lots = p.lots })
-    (record { key = whole.key; side = whole.side; lots = p.lots }) p.lots (λ a. refl) refl) in
-    let b = added_parts whole by ps in
-    let c = sum_by-cons (λ (p : Part). p.lots) p ps in
-    omega (arith, a, b, c)
+added_parts whole by = few_given (part_holding whole by) (λ p. few_held whole by p.account p.lots (bytes_eq p.firm by))
 
 added_lots : (by : List ℕ) (c : Command) (o : Option Holding) → IsWithinLimits c → IfSome o (λ h. h.lots ≤ 10000000) → sum_by (λ (h : Holding). h.lots) (added_by by c o) ≤ 1000000000
 added_lots by (Trade firm account instrument side lots) o h small =

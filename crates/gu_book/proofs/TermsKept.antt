@@ -1,12 +1,11 @@
 -- How the terms that a book keeps follow its changes, and what an Agree or a Raise leaves of all else.
 use Rattle.std.proofs.Common.{◌≡◌, ℕ, ◌≤◌, ◌<◌, Bool, true, false, List, [], ◌∷◌, ◌++◌, length, refl, sym, ◌∙◌, ap, subst, arith, cond, Option, IsSomeAnd}
 use Rattle.std.proofs.Common.{append-nil, Some, None, sum_by, option_and_then, slice_get}
-use Rattle.gu_book.proofs.Vocabulary.{lookup, AreTermsOf, pair_of, names, PairView, FeeRows, is_pair, TermsView, last_entry, CanPut, CanPutAt, IsPut, IsTakenOut, PositionRows, Grove, AreFeesOf}
-use Rattle.gu_book.proofs.Vocabulary.{CanClaim, IsClaimed, IsSmallDeed, IsGroveOf, IsNext, IsFree, ArePositionsOf, counted_at, IsOfTerms, is_return, AllWithinLimits, is_trade, is_of_trees}
+use Rattle.gu_book.proofs.Vocabulary.{lookup, AreTermsOf, pair_of, PairView, FeeRows, is_pair, TermsView, last_entry, CanPut, CanPutAt, IsPut, IsTakenOut, PositionRows, Grove, AreFeesOf}
+use Rattle.gu_book.proofs.Vocabulary.{CanClaim, IsClaimed, IsSmallDeed, IsGroveOf, IsNext, IsFree, ArePositionsOf, counted_at, IsOfTerms, AllWithinLimits, is_of_trees}
 use Rattle.std.proofs.lemmas.List.Elements.{All-contains}
 use Rattle.gu_depend.proofs.Vocabulary.{House, EntryPart, is_change, node_of, is_given, without, use_of_node, deed_of, raised_under, used_under, Deed, Makes, Raises, Uses, Dealing, Pair, Command}
 use Rattle.gu_depend.proofs.Vocabulary.{Trade, Split, Claim, Refuse, Cancel, Agree, Raise, Record, Kind, Given, Node}
-use Rattle.gu_base.proofs.LegalLaws.{replay_push}
 use Rattle.gu_depend.specs.Terms.{pair_of_kind}
 use Rattle.gu_depend.proofs.Deals.{both_same}
 use Rattle.gu_depend.proofs.LastMoves.{IsBefore, is_before}
@@ -18,10 +17,11 @@ use Rattle.gu_depend.proofs.TermsLess.{taken_follows, nobody_follows}
 use Rattle.gu_fees.specs.Pairs.{HasRoomFor}
 use Rattle.gu_fees.specs.Sums.{AreSumsOf}
 use Rattle.gu_fees.specs.Terms.{row_of, IsReady}
-use Rattle.gu_tree.specs.Grove.{place_of}
+use Rattle.gu_tree.specs.ShownAll.{named_place}
 use Rattle.gu_book.specs.Dealing.{HasRoomForClaim}
-use Rattle.gu_book.specs.Kinds.{is_claim, is_of_terms}
+use Rattle.gu_book.specs.Kinds.{is_claim}
 use Rattle.gu_book.proofs.Dealing.{raised_most, used_most}
+use Rattle.gu_book.proofs.Refused.{next_legal}
 use Rattle.gu_book.proofs.FiledChanges.{left_alone}
 use Rattle.gu_book.proofs.TradesKept.{IsIdle, idle_terms}
 use Rattle.gu_book.proofs.FiledLess as less
@@ -48,11 +48,11 @@ terms_paired l by (Agree giver taker _ _) is = (record { giver = giver; taker = 
 terms_paired l by (Raise giver _) is = (record { giver = giver; taker = by }, refl)
 terms_paired l by _ is = absurd (cc)
 
--- and name no node
-terms_unnamed : (c : Command) → IsOfTerms c → (is_trade c ≡ false) × ((n : EntryPart) → names n c ≡ false)
-terms_unnamed (Agree _ _ _ _) of = (refl, λ n. refl)
-terms_unnamed (Raise _ _) of = (refl, λ n. refl)
-terms_unnamed _ of = absurd (cc)
+-- and have no place in the trees
+terms_placeless : (k : ℕ) (c : Command) → IsOfTerms c → named_place k c ≡ None
+terms_placeless k (Agree _ _ _ _) of = refl
+terms_placeless k (Raise _ _) of = refl
+terms_placeless k _ of = absurd (cc)
 
 -- ---- room
 
@@ -85,11 +85,8 @@ can_put_at {v} {d = d} i at can = record {
 -- ---- one change more
 
 module _ {t : House} {l : List Record} {r : Record} {ts : Grove} (next : IsNext t l r ts) where
-  once : NumbersOnce (l ++ r ∷ [])
-  once = number_once (l ++ r ∷ []) (rises_distinct 1 (l ++ r ∷ []) next.rises)
-
   before : IsBefore t l r
-  before = is_before t l r (record { once = once; replayed = replay_push t [] l r next.replayed next.lawful })
+  before = is_before t l r (next_legal next)
 
   -- that deals for nobody
   pub dealt_apart : (v : TermsView) → AreTermsOf t l v → pair_of l r.firm r.command ≡ None → AreTermsOf t (l ++ r ∷ []) v
@@ -115,14 +112,8 @@ module _ {t : House} {l : List Record} {r : Record} {ts : Grove} (next : IsNext 
     claim_dealt v w are put = claimed_by x.kind refl v w are put
 
   -- an Agree and a Raise change no tree
-  module _ (of_terms : IsOfTerms r.command) where
-    other : (c : Command) → is_of_terms c ≡ false → r.command ≡ c → ⊥
-    other c unlike is = let z : true ≡ false = sym of_terms ∙ (ap is_of_terms is ∙ unlike) in cc
-
-    pub terms_filed : IsGroveOf (l ++ r ∷ []) ts
-    terms_filed =
-        left_alone next (λ firm account instrument side lots. other (Trade firm account instrument side lots) refl) (λ n ps. other (Split n ps) refl)
-        (λ n account. other (Claim n account) refl) (λ n. other (Refuse n) refl) (λ n. other (Cancel n) refl)
+  pub terms_filed : IsOfTerms r.command → IsGroveOf (l ++ r ∷ []) ts
+  terms_filed of_terms = left_alone next (terms_placeless r.number r.command of_terms)
 
 -- ---- a claim of a node of some kind
 
@@ -190,8 +181,8 @@ module _ {t : House} {l : List Record} {r : Record} {ts : Grove} (u : IsFree t l
     gone : IsIdle t others r.firm r.command
     gone = idle_terms t others r.firm r.command of
 
-    pub undealt_filed : place_of ts r.number ≡ None → IsGroveOf others ts
-    undealt_filed placeless = let apart = terms_unnamed r.command of in less.left_alone u apart.0 apart.1 placeless
+    pub undealt_filed : IsGroveOf others ts
+    undealt_filed = less.left_alone u (terms_placeless r.number r.command of)
 
     pub undealt_fees : (fees : FeeRows) → AreFeesOf t l fees → AreFeesOf t others fees
     undealt_fees fees are =
@@ -201,10 +192,3 @@ module _ {t : House} {l : List Record} {r : Record} {ts : Grove} (u : IsFree t l
     undealt_stands rows are =
         positions_without u rows rows rows are (λ at side. refl) None gone.takes
         (λ at side. let a = ap (sum_by (counted_at at side)) gone.adds in omega (arith, a))
-
--- ---- what deals for nobody
-
-pub returns_apart : (l : List Record) (by : List ℕ) (c : Command) → is_return c ≡ true → pair_of l by c ≡ None
-returns_apart l by (Refuse _) is = refl
-returns_apart l by (Cancel _) is = refl
-returns_apart l by _ is = absurd (cc)

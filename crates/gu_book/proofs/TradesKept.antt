@@ -1,25 +1,20 @@
 -- What each kind of change leaves of the fees and the positions: a Claim alone costs something; the lots of a Trade go into one row, those of a
 -- Claim from one into another, and of a Split only what goes to other accounts is moved.
-use Rattle.std.proofs.Common.{◌≡◌, ℕ, ◌+◌, ◌<◌, ◌≤◌, ◌^◌, true, ◌&&◌, List, [], ◌∷◌, ◌++◌, length, refl, sym, ◌∙◌, ap, subst, arith, cond, ◌*◌}
+use Rattle.std.proofs.Common.{◌≡◌, ℕ, ◌+◌, ◌<◌, ◌≤◌, ◌^◌, true, List, [], ◌∷◌, ◌++◌, length, refl, sym, ◌∙◌, ap, subst, arith, ◌*◌}
 use Rattle.std.proofs.Common.{Option, Some, None, sum_by, filter_map, option_and_then, IfSome, mul-le-mul_right}
 use Rattle.std.proofs.lemmas.List.Sums.{sum_by-cons}
-use Rattle.gu_depend.proofs.Vocabulary.{House, charge_of, charge_of_node, is_change, place_of, Charge, Deal, Place, node_of, refusal_of, Node, same_side, Part, Side, Command, Trade, Split, Claim}
-use Rattle.gu_depend.proofs.Vocabulary.{Refuse, Cancel, Agree, Raise, Record, EntryPart}
+use Rattle.gu_depend.proofs.Vocabulary.{House, charge_of, charge_of_node, is_change, place_of, Charge, node_of, refusal_of, Node, Part, Command, Trade, Split, Claim, Agree, Raise, Record, EntryPart}
+use Rattle.gu_depend.proofs.Vocabulary.{State}
+use Rattle.gu_base.specs.declared.state.State.TheVariants.{Refused, Cancelled}
+use Rattle.gu_tree.specs.Shown.{GivesBack}
 use Rattle.std.proofs.lemmas.Option.{same_Some}
-use Rattle.gu_book.proofs.Vocabulary.{PositionRows, lots_in, is_key, Key, Grove, AreFeesOf, IsNext, IsOfTerms, is_return, held_at, traded_at, holding_of, taken_by, holding_away, part_away}
+use Rattle.gu_book.proofs.Vocabulary.{PositionRows, lots_in, Grove, AreFeesOf, IsNext, IsOfTerms, SameLots, pair_of, traded_at, holding_of, taken_by, holding_away, part_away}
 use Rattle.gu_book.proofs.Vocabulary.{added_by, counted_at, HaveRoom, HaveMoved, ArePositionsOf, AllWithinLimits, FeeRows, Holding}
 use Rattle.gu_book.proofs.Charging.{fees_stay}
-use Rattle.gu_book.proofs.PartsAway.{at_whole, moved, moved_few, SplitWell, split_well, whole_well, split_moved}
+use Rattle.gu_book.proofs.PartsAway.{at_whole, held_is, moved, moved_few, SplitWell, split_well, whole_well, split_moved}
 use Rattle.gu_book.proofs.Standings.{have_room, has_taken, position_within, positions_moved, positions_push}
 use Rattle.gu_book.proofs.HoldingRows.{put_there, first_there}
 use Rattle.gu_book.proofs.Within.{node_within}
-
--- what is held somewhere has the lots that it is said to have
-held_lots : (o : Option Place) (w : Option Deal) (n : ℕ) (h : Holding) → Some h ≡ held_at o w n → h.lots ≡ n
-held_lots None w n h is = absurd (cc)
-held_lots (Some p) None n h is = absurd (cc)
-held_lots (Some p) (Some d) n h is =
-    ap (λ (h : Holding). h.lots) (same_Some h (record { key = record { firm = p.firm; account = p.account; instrument = d.instrument }; side = d.side; lots = n }) is)
 
 -- a command that costs nothing, takes nothing and adds nothing: one that gives a node back, and one of terms
 pub record IsIdle (t : House) (l : List Record) (by : List ℕ) (c : Command) : Type 0 where
@@ -27,156 +22,165 @@ pub record IsIdle (t : House) (l : List Record) (by : List ℕ) (c : Command) : 
   pub takes : None ≡ taken_by l c
   pub adds : added_by by c None ≡ []
 
-pub idle_return : (t : House) (l : List Record) (by : List ℕ) (c : Command) → is_return c ≡ true → IsIdle t l by c
-idle_return t l by (Refuse _) is = record { costs = refl; takes = refl; adds = refl }
-idle_return t l by (Cancel _) is = record { costs = refl; takes = refl; adds = refl }
-idle_return t l by _ is = absurd (cc)
-
 pub idle_terms : (t : House) (l : List Record) (by : List ℕ) (c : Command) → IsOfTerms c → IsIdle t l by c
 idle_terms t l by (Agree _ _ _ _) is = record { costs = refl; takes = refl; adds = refl }
 idle_terms t l by (Raise _ _) is = record { costs = refl; takes = refl; adds = refl }
 idle_terms t l by _ is = absurd (cc)
 
-pub return_changes : (c : Command) → is_return c ≡ true → is_change c ≡ true
-return_changes (Refuse _) is = refl
-return_changes (Cancel _) is = refl
-return_changes _ is = absurd (cc)
+-- a command that gives a node back is a change, and is for nobody's terms
+pub record GivesNodeBack (t : House) (l : List Record) (by : List ℕ) (c : Command) : Type 0 where
+  pub change : is_change c ≡ true
+  pub idle : IsIdle t l by c
+  pub apart : pair_of l by c ≡ None
 
-module _ {t : House} {l : List Record} {r : Record} {ts : Grove} (next : IsNext t l r ts) where
-  -- ---- a Trade
+pub gives_node_back : (t : House) (l : List Record) (by : List ℕ) (c : Command) (n : EntryPart) (s : State) → GivesBack n s c → GivesNodeBack t l by c
+gives_node_back t l by c n Refused is = subst (GivesNodeBack t l by) (sym is) (record { change = refl; idle = record { costs = refl; takes = refl; adds = refl }; apart = refl })
+gives_node_back t l by c n Cancelled is = subst (GivesNodeBack t l by) (sym is) (record { change = refl; idle = record { costs = refl; takes = refl; adds = refl }; apart = refl })
+gives_node_back t l by c n _ is = absurd is
 
-  module _ (key : Key) (side : Side) (lots : ℕ) (trades : r.command ≡ Trade key.firm key.account key.instrument side lots) where
-    pub trade_free : (fees : FeeRows) → AreFeesOf t l fees → AreFeesOf t (l ++ r ∷ []) fees
-    trade_free fees are = fees_stay next fees are (sym (ap (charge_of t l) trades))
+-- a change that may follow those of a book, whose fees and positions stand in these rows
+pub record MayFollow (t : House) (l : List Record) (r : Record) (ts : Grove) (fees : FeeRows) (rows : PositionRows) : Type 0 where
+  pub next : IsNext t l r ts
+  pub few : length l ≤ 1000000
+  pub within : AllWithinLimits l
+  pub charged : AreFeesOf t l fees
+  pub stands : ArePositionsOf l rows
 
-    abbrev its_lots : Holding
-    its_lots = record { key = key; side = side; lots = lots }
+module _ {t : House} {l : List Record} {r : Record} {ts : Grove} {fees : FeeRows} {rows : PositionRows} (may : MayFollow t l r ts fees rows) where
+  -- ---- a Trade of these lots
 
-    adds : added_by r.firm r.command None ≡ its_lots ∷ []
+  module _ (traded : Holding) (trades : r.command ≡ Trade traded.key.firm traded.key.account traded.key.instrument traded.side traded.lots) where
+    pub trade_free : AreFeesOf t (l ++ r ∷ []) fees
+    trade_free = fees_stay may.next fees may.charged (sym (ap (charge_of t l) trades))
+
+    adds : added_by r.firm r.command None ≡ traded ∷ []
     adds = ap (λ c. added_by r.firm c None) trades
 
     -- the row has room
-    pub trade_fits : length l ≤ 1000000 → AllWithinLimits l → (rows : PositionRows) → ArePositionsOf l rows → lots_in rows key side + lots < 2 ^ 64
-    trade_fits few all rows are =
-        let room = have_room next few all rows are None tt key side in
+    pub trade_fits : lots_in rows traded.key traded.side + traded.lots < 2 ^ 64
+    trade_fits =
+        let room = have_room may.next may.few may.within rows may.stands None tt traded.key traded.side in
         let sum = ap (sum_by (λ (h : Holding). h.lots)) adds in
-        let one = sum_by-cons (λ (h : Holding). h.lots) its_lots [] in
+        let one = sum_by-cons (λ (h : Holding). h.lots) traded [] in
         omega (arith, room, sum, one)
 
     -- and has the lots
-    pub trade_stands : (rows new : PositionRows) → ArePositionsOf l rows → ((at : Key) (s : Side) → lots_in new at s ≡ lots_in rows at s + cond (is_key key at && same_side side s) lots 0)
-        → ArePositionsOf (l ++ r ∷ []) new
-    trade_stands rows new are added =
-        positions_moved next rows new are None (sym (ap (taken_by l) trades))
-        (λ at s.
-        let a = added at s in
-        let b = ap (sum_by (counted_at at s)) adds in
-        let c = sum_by-cons (counted_at at s) its_lots [] in
-        omega (arith, a, b, c))
+    pub trade_stands : (new : PositionRows) → HaveMoved rows new None (traded ∷ []) → ArePositionsOf (l ++ r ∷ []) new
+    trade_stands new put =
+        positions_moved may.next rows new may.stands None (sym (ap (taken_by l) trades)) (subst (λ (hs : List Holding). HaveMoved rows new None hs) (sym adds) put)
+
+  -- ---- what moves nothing
+
+  module _ (idle : IsIdle t l r.firm r.command) where
+    pub idle_free : AreFeesOf t (l ++ r ∷ []) fees
+    idle_free = fees_stay may.next fees may.charged idle.costs
+
+    pub idle_stands : ArePositionsOf (l ++ r ∷ []) rows
+    idle_stands = positions_moved may.next rows rows may.stands None idle.takes (λ at side. let a = ap (sum_by (counted_at at side)) idle.adds in omega (arith, a))
+
+-- a change that may follow and takes the whole of a node, the lots that stand there: a Split or a Claim
+pub record TakesWhole (t : House) (l : List Record) (r : Record) (ts : Grove) (fees : FeeRows) (rows : PositionRows) (n : EntryPart) (x : Node) (whole : Holding) : Type 0 where
+  pub may : MayFollow t l r ts fees rows
+  pub there : node_of l n ≡ Some x
+  pub holds : Some whole ≡ holding_of l x
+
+module _ {t : House} {l : List Record} {r : Record} {ts : Grove} {fees : FeeRows} {rows : PositionRows} {n : EntryPart} {x : Node} {whole : Holding}
+    (of : TakesWhole t l r ts fees rows n x whole) where
+  its_whole : Some whole ≡ option_and_then (holding_of l) (node_of l n)
+  its_whole = of.holds ∙ sym (ap (option_and_then (holding_of l)) of.there)
+
+  -- its node has lots in their range
+  pub few_whole : x.lots ≤ 10000000
+  few_whole = subst (λ (o : Option Node). IfSome o (λ x. x.lots ≤ 10000000)) of.there (node_within l n of.may.within)
 
   -- ---- a Split
 
-  module _ (n : EntryPart) (ps : List Part) (splits : r.command ≡ Split n ps) where
-    pub split_free : (fees : FeeRows) → AreFeesOf t l fees → AreFeesOf t (l ++ r ∷ []) fees
-    split_free fees are = fees_stay next fees are (sym (ap (charge_of t l) splits))
+  module _ (ps : List Part) (splits : r.command ≡ Split n ps) where
+    pub split_free : AreFeesOf t (l ++ r ∷ []) fees
+    split_free = fees_stay of.may.next fees of.may.charged (sym (ap (charge_of t l) splits))
 
     well : SplitWell t l r.firm n ps
-    well = split_well t l r.firm n ps (subst (λ (c : Command). refusal_of t l r.firm c ≡ None) splits next.lawful)
+    well = split_well t l r.firm n ps (subst (λ (c : Command). refusal_of t l r.firm c ≡ None) splits of.may.next.lawful)
 
-    -- with the node that it names, and the lots that stand there
-    module _ (x : Node) (there : node_of l n ≡ Some x) (whole : Holding) (holds : Some whole ≡ holding_of l x) where
-      its_whole : (whole.key.firm ≡ r.firm) × (whole.lots ≡ sum_by (λ (p : Part). p.lots) ps)
-      its_whole = whole_well well whole (holds ∙ ap (holding_of l) (same_Some x well.node (sym there ∙ well.there)))
+    -- the whole stands in an account of the firm that splits it, and has the lots of its parts
+    whole_is : (whole.key.firm ≡ r.firm) × (whole.lots ≡ sum_by (λ (p : Part). p.lots) ps)
+    whole_is = whole_well well whole (of.holds ∙ ap (holding_of l) (same_Some x well.node (sym of.there ∙ well.there)))
 
-      takes : Some whole ≡ taken_by l r.command
-      takes = holds ∙ sym (ap (taken_by l) splits ∙ ap (option_and_then (holding_of l)) there)
+    takes : Some whole ≡ taken_by l r.command
+    takes = its_whole ∙ sym (ap (taken_by l) splits)
 
-      pub split_home : whole.key.firm ≡ r.firm
-      split_home = its_whole.0
+    pub split_home : whole.key.firm ≡ r.firm
+    split_home = whole_is.0
 
-      -- the rows have room for what goes elsewhere
-      pub split_fits : length l ≤ 1000000 → AllWithinLimits l → (rows : PositionRows) → ArePositionsOf l rows → HaveRoom rows (filter_map (part_away whole r.firm) ps)
-      split_fits few all rows are at side =
-          let a = are.lots at side in
-          let b = position_within l all (record { firm = at.firm; account = at.account }) at.instrument side in
-          let c : length l * 1000000000 ≤ 1000000 * 1000000000 = mul-le-mul_right 1000000000 few in
-          let d = moved_few whole r.firm ps in
-          let e : well.node.lots ≤ 10000000 = subst (λ (o : Option Node). IfSome o (λ x. x.lots ≤ 10000000)) well.there (node_within l n all) in
-          let f = well.sums in
-          omega (arith, a, b, c, d, e, f)
+    -- the rows have room for what goes elsewhere
+    pub split_fits : HaveRoom rows (filter_map (part_away whole r.firm) ps)
+    split_fits at side =
+        let a = of.may.stands.lots at side in
+        let b = position_within l of.may.within (record { firm = at.firm; account = at.account }) at.instrument side in
+        let c : length l * 1000000000 ≤ 1000000 * 1000000000 = mul-le-mul_right 1000000000 of.may.few in
+        let d = moved_few whole r.firm ps in
+        let e = well.sums in
+        let f = ap (λ (x : Node). x.lots) (same_Some x well.node (sym of.there ∙ well.there)) in
+        omega (arith, a, b, c, d, e, f, few_whole)
 
+    module _ (mid : PositionRows) (put : HaveMoved rows mid None (filter_map (part_away whole r.firm) ps)) where
       -- so many lots stand where the whole does
-      pub split_takes : (rows mid : PositionRows) → ArePositionsOf l rows → HaveMoved rows mid None (filter_map (part_away whole r.firm) ps)
-          → moved whole r.firm ps ≤ lots_in mid whole.key whole.side
-      split_takes rows mid are put =
-          let a = has_taken next rows mid are (filter_map (part_away whole r.firm) ps) put (Some whole) takes in
+      pub split_takes : moved whole r.firm ps ≤ lots_in mid whole.key whole.side
+      split_takes =
+          let a = has_taken of.may.next rows mid of.may.stands (filter_map (part_away whole r.firm) ps) put (Some whole) takes in
           let b = moved_few whole r.firm ps in
-          let c = its_whole.1 in
+          let c = whole_is.1 in
           omega (arith, a, b, c)
 
-      pub split_stands : (rows mid new : PositionRows) → ArePositionsOf l rows → HaveMoved rows mid None (filter_map (part_away whole r.firm) ps)
-          → HaveMoved mid new (Some (at_whole whole (moved whole r.firm ps))) []
-          → ArePositionsOf (l ++ r ∷ []) new
-      split_stands rows mid new are put taken =
-          positions_moved next rows new are (Some whole) takes
+      pub split_stands : (new : PositionRows) → HaveMoved mid new (Some (at_whole whole (moved whole r.firm ps))) [] → ArePositionsOf (l ++ r ∷ []) new
+      split_stands new taken =
+          positions_moved of.may.next rows new of.may.stands (Some whole) takes
           (subst (λ (hs : List Holding). HaveMoved rows new (Some whole) hs) (sym (ap (λ c. added_by r.firm c (Some whole)) splits))
-          (split_moved t whole r.firm ps its_whole.0 its_whole.1 well.parts rows mid new put taken))
+          (split_moved t whole r.firm ps whole_is.0 whole_is.1 well.parts rows mid new put taken))
 
   -- ---- a Claim
 
-  module _ (n : EntryPart) (account : List ℕ) (claims : r.command ≡ Claim n account) (x : Node) (there : node_of l n ≡ Some x) (whole : Holding) (holds : Some whole ≡ holding_of l x) where
+  module _ (account : List ℕ) (claims : r.command ≡ Claim n account) where
     claim_takes : Some whole ≡ taken_by l r.command
-    claim_takes = holds ∙ sym (ap (taken_by l) claims ∙ ap (option_and_then (holding_of l)) there)
+    claim_takes = its_whole ∙ sym (ap (taken_by l) claims)
 
     -- what it costs
     pub claim_costs : (o : Option Charge) → o ≡ charge_of_node t l x → o ≡ charge_of t l r.command
-    claim_costs o is = is ∙ sym (ap (charge_of t l) claims ∙ ap (option_and_then (charge_of_node t l)) there)
+    claim_costs o is = is ∙ sym (ap (charge_of t l) claims ∙ ap (option_and_then (charge_of_node t l)) of.there)
 
     -- the lots in the account of the claim
-    abbrev pub claimed_lots : Holding
+    abbrev claimed_lots : Holding
     claimed_lots = holding_away whole r.firm account whole.lots
 
     claim_adds : added_by r.firm r.command (Some whole) ≡ claimed_lots ∷ []
     claim_adds = ap (λ c. added_by r.firm c (Some whole)) claims
 
     -- the row has room
-    pub claim_fits : length l ≤ 1000000 → AllWithinLimits l → (rows : PositionRows) → ArePositionsOf l rows → lots_in rows claimed_lots.key whole.side + whole.lots < 2 ^ 64
-    claim_fits few all rows are =
-        let small : x.lots ≤ 10000000 = subst (λ (o : Option Node). IfSome o (λ x. x.lots ≤ 10000000)) there (node_within l n all) in
-        let same = held_lots (place_of l x.name) (traded_at l x.name) x.lots whole holds in
-        let room = have_room next few all rows are (Some whole) (omega (arith, small, same)) claimed_lots.key whole.side in
+    pub claim_fits : lots_in rows claimed_lots.key whole.side + whole.lots < 2 ^ 64
+    claim_fits =
+        let same = (held_is (place_of l x.name) (traded_at l x.name) x.lots whole of.holds).0 in
+        let room = have_room of.may.next of.may.few of.may.within rows of.may.stands (Some whole) (omega (arith, few_whole, same)) claimed_lots.key whole.side in
         let sum = ap (sum_by (λ (h : Holding). h.lots)) claim_adds in
         let one = sum_by-cons (λ (h : Holding). h.lots) claimed_lots [] in
         omega (arith, room, sum, one)
 
-    module _ (rows mid : PositionRows) (are : ArePositionsOf l rows) (put : HaveMoved rows mid None (claimed_lots ∷ [])) where
+    module _ (mid : PositionRows) (put : HaveMoved rows mid None (claimed_lots ∷ [])) where
       -- once they are put they are there
       pub claim_there : whole.lots ≤ lots_in mid claimed_lots.key whole.side
       claim_there = first_there mid claimed_lots [] (put_there rows mid (claimed_lots ∷ []) put)
 
       -- and taken out again they leave what was
-      pub claim_undone : (new : PositionRows) → HaveMoved mid new (Some claimed_lots) [] → ArePositionsOf l new
-      claim_undone new taken = record {
-        lots = λ at side.
-            let a = put at side in
-            let b = taken at side in
-            let c = sum_by-cons (counted_at at side) claimed_lots [] in
-            let d = are.lots at side in
-            omega (arith, a, b, c, d);
-      }
+      pub claim_undone : (new : PositionRows) → HaveMoved mid new (Some claimed_lots) [] → SameLots rows new
+      claim_undone new taken = λ at side.
+          let a = put at side in
+          let b = taken at side in
+          let c = sum_by-cons (counted_at at side) claimed_lots [] in
+          omega (arith, a, b, c)
 
       -- so many stand where the node stood
       pub claim_whole : whole.lots ≤ lots_in mid whole.key whole.side
-      claim_whole = has_taken next rows mid are (claimed_lots ∷ []) put (Some whole) claim_takes
+      claim_whole = has_taken of.may.next rows mid of.may.stands (claimed_lots ∷ []) put (Some whole) claim_takes
 
       pub claim_stands : (new : PositionRows) → HaveMoved mid new (Some whole) [] → ArePositionsOf (l ++ r ∷ []) new
-      claim_stands new taken = positions_push next rows mid new are (Some whole) claim_takes (subst (λ (hs : List Holding). HaveMoved rows mid None hs) (sym claim_adds) put) taken
-
-  -- ---- what moves nothing
-
-  module _ (idle : IsIdle t l r.firm r.command) where
-    pub idle_free : (fees : FeeRows) → AreFeesOf t l fees → AreFeesOf t (l ++ r ∷ []) fees
-    idle_free fees are = fees_stay next fees are idle.costs
-
-    pub idle_stands : (rows : PositionRows) → ArePositionsOf l rows → ArePositionsOf (l ++ r ∷ []) rows
-    idle_stands rows are = positions_moved next rows rows are None idle.takes (λ at side. let a = ap (sum_by (counted_at at side)) idle.adds in omega (arith, a))
+      claim_stands new taken =
+          positions_push of.may.next rows mid new of.may.stands (Some whole) claim_takes (subst (λ (hs : List Holding). HaveMoved rows mid None hs) (sym claim_adds) put) taken

@@ -1,37 +1,32 @@
 -- A live change on which nothing stands can as well stand last: so the fees and positions without it are those with it, less what it moved.
-use Rattle.std.proofs.Common.{◌≡◌, ◌≢◌, ℕ, suc, ◌+◌, ◌*◌, ◌≤◌, true, not, ◌&&◌, ◌||◌, List, [], ◌∷◌, ◌++◌, length, refl, sym, ◌∙◌, ap, subst}
-use Rattle.std.proofs.Common.{arith, Option, All, Contains, IsPermutation, cond, false, Bool, ◌<◌, ◌^◌, Some, None, find, filter, filter_map, sum_by, option_and_then, bytes_eq, ◌==◌}
-use Rattle.std.proofs.Common.{IfSome, map, mul-le-mul_right}
-use Rattle.gu_book.proofs.Vocabulary.{cons_option, Grove, IsFree, names, FeeRows, PositionRows, lots_in, is_key, Rose, named, IsTreeOf, SplitsNode, DecidesNode, IsOnlySplit, IsOnlyDecision}
-use Rattle.gu_book.proofs.Vocabulary.{option_or, IsSmallCharge, AreFeesOf, IsCharged, traded_at, held_at, holding_of, held_above, taken_before, taken_by, added_by, counted_at, taken_at, SameLots}
-use Rattle.gu_book.proofs.Vocabulary.{HaveMoved, HaveThere, HasRoomBack, ArePositionsOf, part_holding, part_away, goes_back, comes_from, HasFewLots, AllWithinLimits, Holding}
-use Rattle.std.proofs.lemmas.Bool.Decides.{Decides-eqb}
-use Rattle.std.proofs.lemmas.List.Elements.{All-nil, All-cons, All-head, All-tail, All-filter, All-contains, filter_passes, All-weaker, All-contains_itself}
-use Rattle.gu_depend.proofs.Vocabulary.{EntryPart, House, most_lots, highest_rate, charges, charge_of, deal_in, node_of, split_of, splits, decides, decision_of, claimed_account, is_given, parent}
-use Rattle.gu_depend.proofs.Vocabulary.{position_of, same_side, line_within, line_of, place_along, place_of_kind, place_of, root_along, root_of, refusal_of, row, split_row, claim_row, first}
-use Rattle.gu_depend.proofs.Vocabulary.{refusal_of_part, first_refused, without, Command, Split, Claim, Part, Side, Record, Charge, Kind, Given, Node, Place, Deal}
-use Rattle.gu_base.proofs.Basics.{no_some, none_is_some, or_none}
-use Rattle.gu_base.proofs.LegalLaws.{none_refused}
-use Rattle.gu_base.proofs.Searches.{found_in, find_passes}
+use Rattle.gu_depend.proofs.Vocabulary.{◌≡◌, ℕ, suc, ◌+◌, ◌≤◌, true, not, ◌&&◌, ◌||◌, List, [], ◌∷◌, ◌++◌, length, refl, sym, ◌∙◌, ap, subst, arith}
+use Rattle.gu_depend.proofs.Vocabulary.{Option, All, Contains, IsPermutation, cond, false, Bool, ◌<◌, map, Decides-eqb, All-tail, All-contains, All-weaker, All-contains_itself}
+use Rattle.gu_depend.proofs.Vocabulary.{filter_map-append, EntryPart, House, most_lots, highest_rate, charges, charge_of, deal_in, node_of, split_of, splits, decides, decision_of}
+use Rattle.gu_depend.proofs.Vocabulary.{claimed_account, is_given, parent, position_of, same_side, line_within, line_of, place_along, place_of_kind, place_of, root_along, root_of}
+use Rattle.gu_depend.proofs.Vocabulary.{refusal_of, first, refusal_of_part, first_refused, without, Command, Split, Claim, Part, Side, Record, Charge, Kind, Given, Node, Place, Deal}
+use Rattle.gu_depend.proofs.Vocabulary.{no_some, none_is_some, none_refused, found_in, find_passes, or_parts, false_from_ne_true, same_Some, name_same, node_called, splits_well}
+use Rattle.gu_depend.proofs.Vocabulary.{decides_well}
+use Rattle.std.proofs.Common.{◌≢◌, ◌*◌, ◌^◌, Some, None, find, filter, filter_map, sum_by, option_and_then, bytes_eq, ◌==◌, IfSome, mul-le-mul_right}
+use Rattle.gu_book.proofs.Vocabulary.{cons_option, Grove, IsFree, names, FeeRows, PositionRows, lots_in, is_key, SplitsNode, DecidesNode, IsOnlySplit, IsOnlyDecision, IsSmallCharge}
+use Rattle.gu_book.proofs.Vocabulary.{AreFeesOf, IsCharged, traded_at, held_at, holding_of, held_above, taken_before, taken_by, added_by, counted_at, taken_at, SameLots, HaveMoved}
+use Rattle.gu_book.proofs.Vocabulary.{HaveThere, HasRoomBack, ArePositionsOf, part_holding, part_away, goes_back, comes_from, HasFewLots, AllWithinLimits, Holding}
+use Rattle.std.proofs.lemmas.List.Elements.{All-nil, All-cons, All-head, All-append, filter_passes}
 use Rattle.gu_depend.specs.Same.{IsSameState}
 use Rattle.gu_depend.proofs.Cuts.{moved_to_end}
-use Rattle.gu_depend.proofs.Finds.{cut_at, count_permuted, found_once, none_before}
-use Rattle.gu_depend.proofs.Grown.{Within, NamesThere, Grown, SplitsDecided, line_of_grown, place_same, above}
+use Rattle.gu_depend.proofs.Deals.{gives_alike}
+use Rattle.gu_depend.proofs.Finds.{Cut, cut_at, count_permuted, found_once}
+use Rattle.gu_depend.proofs.Grown.{Within, NamesThere, Grown, line_of_grown, place_same, above}
 use Rattle.gu_depend.proofs.LastMoves.{IsBefore, is_before, moves_its_own, split_kept, root_found, charge_kept}
-use Rattle.gu_depend.proofs.LastMoves as before_last
 use Rattle.gu_depend.proofs.StandsLast.{gone}
-use Rattle.gu_depend.proofs.Names.{maker, made_number}
+use Rattle.gu_depend.proofs.Names.{at_name, maker, made_number}
 use Rattle.gu_depend.proofs.Replay.{NumbersOnce, number_once, Legal, SameFinds, same_finds}
-use Rattle.gu_depend.proofs.Settled.{named_once, facts}
-use Rattle.gu_depend.proofs.StandsUnder.{rises_distinct, can_go}
+use Rattle.gu_depend.proofs.Settled.{named_once, facts, accepted_there}
+use Rattle.gu_depend.proofs.StandsUnder.{rises_distinct, CanGo, can_go}
 use Rattle.gu_depend.proofs.State.{SameDeals, charge_same}
 use Rattle.gu_fees.specs.Sums.{AreSumsOf}
-use Rattle.gu_tree.proofs.Alike.{IsAlike, node-alike}
-use Rattle.std.proofs.lemmas.Bool.{or_parts, false_from_ne_true}
-use Rattle.std.proofs.lemmas.Option.{same_Some}
-use Rattle.gu_book.proofs.Sound.{node_push, next_from_accepted}
-use Rattle.gu_base.proofs.NodeNames.{made_of, node_called}
-use Rattle.gu_base.proofs.Passing.{at_node_none, claim_passes}
+use Rattle.gu_tree.proofs.Shows.{find-kept}
+use Rattle.std.proofs.Math.Bool.{or-true}
+use Rattle.gu_book.proofs.Sound.{next_from_accepted}
 use Rattle.gu_book.proofs.Holdings.{IsCounted, key_at, decision_kept, given_parent}
 use Rattle.gu_book.proofs.Charging.{is_charged}
 use Rattle.gu_book.proofs.Dealing.{uses_charged}
@@ -43,35 +38,26 @@ use Rattle.gu_book.proofs.Restored.{replay_on}
 use Rattle.gu_book.proofs.Standings.{moved_by, taken_part, position_within}
 use Rattle.gu_book.proofs.PartsAway.{at_whole, moved, moved_few, parts_move, split_well, whole_well}
 use Rattle.gu_book.proofs.Within.{node_within}
+use Rattle.gu_depend.proofs.LastMoves as before_last
 
 -- ---- small charges
 
--- what a change of a list costs is small
-abbrev CostsLittle : House → List Record → Record → Type 0
-CostsLittle t l d = (c : Charge) → charge_of t l d.command ≡ Some c → IsSmallCharge c
+behind_small : (o : Option Charge) (cs : List Charge) → All IsSmallCharge (cons_option o cs) → All IsSmallCharge cs
+behind_small None cs all = all
+behind_small (Some c) cs all = All-tail IsSmallCharge c cs all
 
-each_first : (o : Option Charge) (cs : List Charge) → All IsSmallCharge (cons_option o cs) → ((c : Charge) → o ≡ Some c → IsSmallCharge c) × All IsSmallCharge cs
-each_first None cs all = (λ c e. absurd (cc), all)
-each_first (Some d) cs all = (λ c e. subst IsSmallCharge (same_charge d c e) (All-head IsSmallCharge d cs all), All-tail IsSmallCharge d cs all)
-  where
-    same_charge : (d c : Charge) → Some d ≡ Some c → d ≡ c
-    same_charge d c e = cc
+all_parts : {X : Type 0} (P : X → Type 0) (xs ys : List X) → All P (xs ++ ys) → All P xs × All P ys
+all_parts P [] ys all = (All-nil P, all)
+all_parts P (x ∷ xs) ys all =
+    let p = all_parts P xs ys (All-tail P x (xs ++ ys) all) in (All-cons P x xs (All-head P x (xs ++ ys) all) p.0, p.1)
 
-each_small : (h : Record → Option Charge) (l : List Record) → All IsSmallCharge (filter_map h l) → All (λ d. (c : Charge) → h d ≡ Some c → IsSmallCharge c) l
-each_small h [] all = All-nil (λ d. (c : Charge) → h d ≡ Some c → IsSmallCharge c)
-each_small h (d ∷ l) all =
-    let p = each_first (h d) (filter_map h l) all in
-    All-cons (λ d. (c : Charge) → h d ≡ Some c → IsSmallCharge c) d l p.0 (each_small h l p.1)
-
-all_first : (o : Option Charge) (cs : List Charge) → ((c : Charge) → o ≡ Some c → IsSmallCharge c) → All IsSmallCharge cs → All IsSmallCharge (cons_option o cs)
-all_first None cs first rest = rest
-all_first (Some d) cs first rest = All-cons IsSmallCharge d cs (first d refl) rest
-
-all_small : (h : Record → Option Charge) (l : List Record) → All (λ d. (c : Charge) → h d ≡ Some c → IsSmallCharge c) l → All IsSmallCharge (filter_map h l)
-all_small h [] each = All-nil IsSmallCharge
-all_small h (d ∷ l) each =
-    all_first (h d) (filter_map h l) (All-head (λ d. (c : Charge) → h d ≡ Some c → IsSmallCharge c) d l each)
-    (all_small h l (All-tail (λ d. (c : Charge) → h d ≡ Some c → IsSmallCharge c) d l each))
+-- charges without one of them
+fewer_small : (h : Record → Option Charge) (before : List Record) (r : Record) (behind : List Record)
+    → All IsSmallCharge (filter_map h (before ++ r ∷ behind)) → All IsSmallCharge (filter_map h (before ++ behind))
+fewer_small h before r behind all =
+    let p = all_parts IsSmallCharge (filter_map h before) (cons_option (h r) (filter_map h behind)) (subst (All IsSmallCharge) (filter_map-append h before (r ∷ behind)) all) in
+    subst (All IsSmallCharge) (sym (filter_map-append h before behind))
+    (All-append IsSmallCharge (filter_map h before) (filter_map h behind) p.0 (behind_small (h r) (filter_map h behind) p.1))
 
 not_same : (n k : ℕ) → not (n == k) ≡ true → n ≢ k
 not_same n k other e = let yes : (n == k) ≡ true = (Decides-eqb n k).1 e in let z : not true ≡ true = ap not (sym yes) ∙ other in absurd (cc)
@@ -79,42 +65,55 @@ not_same n k other e = let yes : (n == k) ≡ true = (Decides-eqb n k).1 e in le
 -- ---- the change last
 
 module _ {t : House} {l : List Record} {r : Record} {g : Grove} (u : IsFree t l r g) where
-  abbrev others : List Record
+  abbrev pub others : List Record
   others = without l r.number
 
-  abbrev last : List Record
+  abbrev pub last : List Record
   last = others ++ r ∷ []
 
-  once : NumbersOnce l
+  pub once : NumbersOnce l
   once = number_once l (rises_distinct 1 l u.rises)
 
   list : Legal t l
   list = record { once = once; replayed = u.replayed }
 
+  cut : Cut l r
+  cut = cut_at l r u.among
+
+  others_are : others ≡ cut.before ++ cut.behind
+  others_are = ap (λ z. without z r.number) cut.is ∙ gone t cut.before r cut.behind (subst (Legal t) cut.is list)
+
   -- the same changes, in another order
   same : IsPermutation l last
   same =
-      let c = cut_at l r u.among in
-      let gone_is = gone t c.before r c.behind (subst (Legal t) c.is list) in
-      subst (λ (z : List Record). IsPermutation z (without z r.number ++ r ∷ [])) (sym c.is)
-      (subst (λ (z : List Record). IsPermutation (c.before ++ r ∷ c.behind) (z ++ r ∷ [])) (sym gone_is) (moved_to_end c.before r c.behind))
+      subst (IsPermutation l) (ap (λ z. z ++ r ∷ []) (sym others_are))
+      (subst (λ z. IsPermutation z ((cut.before ++ cut.behind) ++ r ∷ [])) (sym cut.is) (moved_to_end cut.before r cut.behind))
+
+  go : CanGo t l r
+  go = can_go t l r list u.among u.free
 
   legal : first_refused t [] last ≡ None
-  legal = (can_go t l r list u.among u.free).last
+  legal = go.last
+
+  pub grown : Grown l others
+  grown = go.grown
+
+  pub within : Within l others
+  within = grown.within
 
   last_once : NumbersOnce last
   last_once n = let a = count_permuted (λ (d : Record). d.number == n) l last same in let b = once n in omega (arith, a, b)
 
   state : IsSameState t l last
-  state = (can_go t l r list u.among u.free).same
+  state = go.same
 
-  finds : SameFinds l last
+  pub finds : SameFinds l last
   finds = same_finds l last same once (named_once t l u.replayed)
 
   deals : SameDeals t l last
   deals = record { terms = state.terms; limits = state.limits; used = state.used }
 
-  before : IsBefore t others r
+  pub before : IsBefore t others r
   before = is_before t others r (record { once = last_once; replayed = legal })
 
   -- no other change has its number
@@ -128,18 +127,31 @@ module _ {t : House} {l : List Record} {r : Record} {g : Grove} (u : IsFree t l 
       let m = maker others n x e in
       absurd (not_among m.change m.among (sym (made_number m.change n x m.makes_it) ∙ own)))
 
-  unsplit : (n : EntryPart) → n.entry ≡ r.number → split_of others n ≡ None
-  unsplit n own =
-      no_some (split_of others n) (λ d e.
-      let is = find_passes (λ r. splits n r.command) others d e in
-      let y = All-contains (NamesThere others) others d before.grown.named (found_in (λ r. splits n r.command) others d e) n (ap (λ b. b || decides n d.command) is) in
+  -- and none names a node that it makes
+  none_among : (n : EntryPart) → n.entry ≡ r.number → (p : Record → Bool) → ((d : Record) → p d ≡ true → names n d.command ≡ true) → find p others ≡ None
+  none_among n own p named =
+      no_some (find p others) (λ d e.
+      let y = All-contains (NamesThere others) others d grown.named (found_in p others d e) n (named d (find_passes p others d e)) in
       none_is_some (node_of others n) y.0 (unmade n own) y.1)
+
+  unsplit : (n : EntryPart) → n.entry ≡ r.number → split_of others n ≡ None
+  unsplit n own = none_among n own (λ d. splits n d.command) (λ d is. ap (λ b. b || decides n d.command) is)
+
+  -- so nothing stands on such a node
+  pub bare : (n : EntryPart) → n.entry ≡ r.number → (split_of l n ≡ None) × (decision_of l n ≡ None)
+  bare n own =
+      let un = false_from_ne_true (names n r.command) (λ yes. let y = accepted_there t others r.firm r.command before.accepted n yes in none_is_some (node_of others n) y.0 (unmade n own) y.1) in
+      let p = or_parts (splits n r.command) (decides n r.command) un in (
+        sym (finds.splits_same n) ∙ (split_kept before n p.0 ∙ unsplit n own),
+        sym (finds.decisions n) ∙ (find-kept (λ r. decides n r.command) others r p.1
+            ∙ none_among n own (λ d. decides n d.command) (λ d is. ap (λ b. splits n d.command || b) is ∙ or-true (splits n d.command))),
+      )
 
   -- the others don't refuse it
   pub lawful : refusal_of t others r.firm r.command ≡ None
   lawful = (none_refused (refusal_of t others r.firm r.command) r.number None (sym (replay_on t [] others (r ∷ []) u.free) ∙ legal)).0
 
-  counted : IsCounted t others r
+  pub counted : IsCounted t others r
   counted =
       let w : InOrder others = in_order t others u.free (rises_without 1 r.number l u.rises) in
       record {
@@ -155,20 +167,17 @@ module _ {t : House} {l : List Record} {r : Record} {g : Grove} (u : IsFree t l 
 
   -- ---- fees
 
-  pub within : Within l others
-  within = record {
-    nodes = λ n x e. sym (finds.nodes n) ∙ before.grown.within.nodes n x e;
-    decisions = λ n d e. sym (finds.decisions n) ∙ before.grown.within.decisions n d e;
-  }
-
   -- what another change costs can be read off either list
   other_charge : (d : Record) → Contains others d → charge_of t others d.command ≡ charge_of t l d.command
   other_charge d there = charge_kept before d there ∙ charge_same t l last finds deals d.command
 
-  little : All (CostsLittle t l) others → All (CostsLittle t others) others
-  little each =
-      All-weaker (Contains others) (CostsLittle t others)
-      (λ d there c e. All-contains (CostsLittle t l) others d each there c (sym (other_charge d there) ∙ e)) others (All-contains_itself others)
+  others_small : All IsSmallCharge (charges t l) → All IsSmallCharge (charges t others)
+  others_small all =
+      let h : Record → Option Charge = λ d. charge_of t l d.command in
+      let all_kept = subst (λ z. All IsSmallCharge (filter_map h z)) (sym others_are)
+      (fewer_small h cut.before r cut.behind (subst (λ z. All IsSmallCharge (filter_map h z)) cut.is all)) in
+      subst (All IsSmallCharge) (sym (gives_alike (λ d. charge_of t others d.command) h others
+      (All-weaker (Contains others) (λ (d : Record). charge_of t others d.command ≡ h d) other_charge others (All-contains_itself others)))) all_kept
 
   -- and what it costs itself
   pub own_charge : charge_of t l r.command ≡ charge_of t others r.command
@@ -200,20 +209,10 @@ module _ {t : House} {l : List Record} {r : Record} {g : Grove} (u : IsFree t l 
       → ((cs : List Charge) → AreSumsOf fees (cs ++ cons_option o []) → AreSumsOf new cs) → AreFeesOf t others new
   fees_without fees new are o is less = record {
     sums = less (charges t others) (subst (λ (o : Option Charge). AreSumsOf fees (charges t others ++ cons_option o [])) (sym is) (charges_with fees are));
-    small = all_small (λ d. charge_of t others d.command) others
-        (little (All-filter (λ (d : Record). not (d.number == r.number)) (CostsLittle t l) l (each_small (λ d. charge_of t l d.command) l are.small)));
+    small = others_small are.small;
   }
 
   -- ---- what it took
-
-  grown : Grown l others
-  grown = record {
-    within = within;
-    named = before.grown.named;
-    decided = All-weaker (SplitsDecided last others) (SplitsDecided l others) (λ d h n is. h n is ∙ finds.decisions n) others before.grown.decided;
-    short = without_within r.number l;
-    ends = before.grown.ends;
-  }
 
   abbrev of_root : List Record → EntryPart → Option Deal
   of_root m root = option_and_then (λ (d : Record). deal_in d.command) (find (λ (d : Record). d.number == root.entry) m)
@@ -247,35 +246,31 @@ module _ {t : House} {l : List Record} {r : Record} {g : Grove} (u : IsFree t l 
       given_place (Given _ _ _) o h = refl
       given_place _ o h = absurd (cc)
 
+  -- what stands at a node that was there, and stood in its place
+  took : (at : Node → Option Place) (n : EntryPart) (x : Node) → node_of others n ≡ Some x → at x ≡ place_of others x.name
+      → option_and_then (λ y. held_at (at y) (traded_at l y.name) y.lots) (node_of l n) ≡ option_and_then (holding_of others) (node_of others n)
+  took at n x found place =
+      ap (option_and_then (λ y. held_at (at y) (traded_at l y.name) y.lots)) (within.nodes n x found)
+      ∙ (ap (λ o. held_at o (traded_at l x.name) x.lots) place
+      ∙ (ap (λ o. held_at (place_of others x.name) o x.lots) (traded_same x.name x (at_name others n x found)) ∙ sym (ap (option_and_then (holding_of others)) found)))
+
   split_took : (n : EntryPart) (ps : List Part) → r.command ≡ Split n ps → option_and_then (holding_of l) (node_of l n) ≡ option_and_then (holding_of others) (node_of others n)
   split_took n ps e =
-      let there = at_node_none (split_row t others r.firm ps) (node_of others n) (subst (λ (c : Command). row t others r.firm c ≡ None) e before.accepted) in
-      let x = there.0 in
-      let found = there.1.0 in
-      let called : x.name ≡ n = node_called others n x found in
-      let own : node_of others x.name ≡ Some x = ap (node_of others) called ∙ found in
-      let un : decides x.name r.command ≡ false = ap (decides x.name) e in
-      let place : place_of l x.name ≡ place_of others x.name = sym (place_same l others x.name x grown own (decision_kept counted x.name un ∙ finds.decisions x.name)) in
-      ap (option_and_then (holding_of l)) (within.nodes n x found)
-      ∙ (ap (λ o. held_at o (traded_at l x.name) x.lots) place
-      ∙ (ap (λ o. held_at (place_of others x.name) o x.lots) (traded_same x.name x own) ∙ sym (ap (option_and_then (holding_of others)) found)))
+      let w = splits_well t others r.firm r.command n before.accepted (ap (splits n) e ∙ name_same n) in
+      let same_decision = decision_kept counted w.node.name (ap (decides w.node.name) e) ∙ finds.decisions w.node.name in
+      took (λ y. place_of l y.name) n w.node w.there (sym (place_same l others w.node.name w.node grown (at_name others n w.node w.there) same_decision))
 
   claim_took : (n : EntryPart) (account : List ℕ) → r.command ≡ Claim n account → option_and_then (held_above l) (node_of l n) ≡ option_and_then (holding_of others) (node_of others n)
   claim_took n account e =
-      let there = at_node_none (claim_row t others r.firm account) (node_of others n) (subst (λ (c : Command). row t others r.firm c ≡ None) e before.accepted) in
-      let x = there.0 in
-      let found = there.1.0 in
-      let passes = claim_passes t others r.firm account x there.1.1 in
-      let called : x.name ≡ n = node_called others n x found in
-      let own : node_of others x.name ≡ Some x = ap (node_of others) called ∙ found in
-      let up = given_parent x.kind passes.0.given in
+      let w = decides_well t others r.firm r.command n before.accepted (ap (decides n) e ∙ name_same n) in
+      let x = w.node in
+      let own = at_name others n x w.there in
+      let up = given_parent x.kind w.given in
       let over = above l others x.name up.0 x grown own up.1 in
-      let place : option_and_then (place_of l) (parent x.kind) ≡ place_of others x.name =
-      ap (option_and_then (place_of l)) up.1
-      ∙ (sym (place_same l others up.0 over.node grown over.there over.decided) ∙ sym (stands_above x.name up.0 x own up.1 passes.0.given passes.1)) in
-      ap (option_and_then (held_above l)) (within.nodes n x found)
-      ∙ (ap (λ o. held_at o (traded_at l x.name) x.lots) place
-      ∙ (ap (λ o. held_at (place_of others x.name) o x.lots) (traded_same x.name x own) ∙ sym (ap (option_and_then (holding_of others)) found)))
+      let undecided = ap (decision_of others) (node_called others n x w.there) ∙ w.undecided in
+      took (λ y. option_and_then (place_of l) (parent y.kind)) n x w.there
+      (ap (option_and_then (place_of l)) up.1
+      ∙ (sym (place_same l others up.0 over.node grown over.there over.decided) ∙ sym (stands_above x.name up.0 x own up.1 w.given undecided)))
 
   -- what it took is read while it is still there
   pub taken_same : taken_before l r.command ≡ taken_by others r.command
@@ -342,52 +337,24 @@ module _ {t : House} {l : List Record} {r : Record} {g : Grove} (u : IsFree t l 
 
   -- ---- trees
 
-  -- of a node that it doesn't name the others say what all say
-  pub alike : (m : EntryPart) → names m r.command ≡ false → IsAlike l others m
-  alike m un =
-      let p = or_parts (splits m r.command) (decides m r.command) un in
-      record {
-        splits = sym (split_kept before m p.0) ∙ finds.splits_same m;
-        decides = decision_kept counted m p.1 ∙ finds.decisions m;
-      }
-
-  pub node_left : (n : EntryPart) → n.entry ≢ r.number → node_of others n ≡ node_of l n
-  node_left n other =
-      let none : made_of r n ≡ None = no_some (made_of r n) (λ x e. absurd (other (made_number r n x e))) in
-      sym (node_push others r n ∙ (ap (λ o. option_or (node_of others n) o) none ∙ or_none (node_of others n))) ∙ finds.nodes n
-
-  -- a tree that has no node that it names, and isn't its own, is shown by the others
-  pub shown_still : (k : ℕ) (tree : Rose) → k ≢ r.number → ((n : EntryPart) → names n r.command ≡ true → named n tree ≡ 0) → IsTreeOf l k tree → IsTreeOf others k tree
-  shown_still k tree other absent is = record {
-    root = is.root;
-    found = node_left (record { entry = k; part = 0 }) other ∙ is.found;
-    top = is.top;
-    tree = node-alike l others None is.root tree
-        (λ n one. alike n (false_from_ne_true (names n r.command) (λ yes. let none = absent n yes in absurd (omega (arith, none, one))))) is.tree;
-  }
-
   -- what has its number is the change itself
-  pub its_number : (d : Record) → Contains l d → d.number ≡ r.number → d ≡ r
+  its_number : (d : Record) → Contains l d → d.number ≡ r.number → d ≡ r
   its_number d there is =
       let test : Record → Bool = λ q. q.number == r.number in
       same_Some d r (sym (found_once test l d there ((Decides-eqb d.number r.number).1 is) (once r.number)) ∙ found_once test l r u.among ((Decides-eqb r.number r.number).1 refl) (once r.number))
 
-  pub each_number : (P : Record → Type 0) → P r → All (λ d. d.number ≡ r.number → P d) l
+  each_number : (P : Record → Type 0) → P r → All (λ d. d.number ≡ r.number → P d) l
   each_number P is =
       All-weaker (Contains l) (λ (d : Record). d.number ≡ r.number → P d) (λ d there same. subst P (sym (its_number d there same)) is) l (All-contains_itself l)
 
   -- no other Split and no other decision names its node
-  pub alone_split : (n : EntryPart) → splits n r.command ≡ true → split_of others n ≡ None
-  alone_split n is = none_before (λ (d : Record). splits n d.command) others r [] ((named_once t last legal).splits_once n) is
-
-  pub alone_decision : (n : EntryPart) → decides n r.command ≡ true → decision_of others n ≡ None
-  alone_decision n is = none_before (λ (d : Record). decides n d.command) others r [] ((named_once t last legal).decisions_once n) is
-
   pub only_split : (n : EntryPart) → SplitsNode n r.command → splits n r.command ≡ true → IsOnlySplit l r.number n
-  only_split n is named = record { each = each_number (λ (d : Record). SplitsNode n d.command) is; alone = alone_split n named }
+  only_split n is named =
+      record { each = each_number (λ (d : Record). SplitsNode n d.command) is; alone = (splits_well t others r.firm r.command n before.accepted named).whole }
 
   pub only_decision : (n : EntryPart) → DecidesNode n r.command → decides n r.command ≡ true → IsOnlyDecision l r.number n
-  only_decision n is named = record { each = each_number (λ (d : Record). DecidesNode n d.command) is; alone = alone_decision n named }
+  only_decision n is named =
+      record { each = each_number (λ (d : Record). DecidesNode n d.command) is; alone = (decides_well t others r.firm r.command n before.accepted named).undecided }
 
 -- ---- of the lots that a Split moved only those that went to other accounts go back. Then the rows are as if all had been moved back
 

@@ -1,10 +1,9 @@
 -- How many nodes a call visits, from what was seen before it was kept and what it made.
-use Rattle.std.proofs.Common.{◌≡◌, ℕ, ◌+◌, ◌≤◌, true, false, List, length, refl, sym, ◌∙◌, ap, subst, arith, Option, Some, None, is_some, IsSome, IsSomeAnd, option_and_then}
-use Rattle.std.proofs.Common.{option_map, unwrap_or}
-use Rattle.gu_depend.proofs.Vocabulary.{EntryPart, House, live, is_change, node_of, depth_of, refusal_of, answer_to, call_of, Command, Trade, Split, Claim, Refuse, Cancel, Reverse, Accepted, Entry}
-use Rattle.gu_depend.proofs.Vocabulary.{Record}
+use Rattle.gu_depend.proofs.Vocabulary.{◌≡◌, ℕ, ◌+◌, ◌≤◌, true, false, List, length, refl, sym, ◌∙◌, ap, subst, arith, Option, IsSomeAnd, EntryPart, House, live}
+use Rattle.gu_depend.proofs.Vocabulary.{is_change, node_of, depth_of, refusal_of, answer_to, call_of, Command, Trade, Split, Claim, Refuse, Cancel, Reverse, Accepted, Entry, Record}
+use Rattle.gu_depend.proofs.Vocabulary.{refusal_parts}
+use Rattle.std.proofs.Common.{Some, None, is_some, IsSome, option_and_then, option_map, unwrap_or}
 use Rattle.gu_base.proofs.Accepted.{allowed, change_refused}
-use Rattle.gu_base.proofs.Passing.{refusal_parts}
 use Rattle.gu_book.proofs.Vocabulary.{Grove, IsPlace, named_node, named_place, place_in, change_of, AreTreesOf, is_trade, AreVisits, is_of_trees}
 use Rattle.gu_tree.specs.Grove.{place_of}
 use Rattle.gu_book.specs.Visits.{IsMet, depth_meant, parts_in, parts_named, entries_met, changes_trees, nodes_made}
@@ -56,7 +55,7 @@ pub way_to : {l : List Record} {g : Grove} → AreTreesOf l g → (k trade : ℕ
 way_to {l} {g} are k trade p at =
     let m = some_place (λ n. IsPlace g n trade p) (place_of g k) at in
     let s = spot are.filed (in_order are.house l are.replayed are.rises) trade p m.0 m.2 in
-    ap (λ o. unwrap_or (option_map (depth_of l) o) 0) (sym (are.filed.placed k) ∙ m.1) ∙ (ap (depth_of l) (sym s.called) ∙ s.said.deep)
+    ap (λ o. unwrap_or (option_map (depth_of l) o) 0) (sym (are.filed.places k) ∙ m.1) ∙ (ap (depth_of l) (sym s.called) ∙ s.said.deep)
 
 -- the parts of the Split that a Reverse names
 pub parts_of_named : (l : List Record) (k : ℕ) (r : Record) → change_of l k ≡ Some r → parts_named l (Reverse k) ≡ parts_in r.command

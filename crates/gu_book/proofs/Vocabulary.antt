@@ -2,23 +2,23 @@
 pub use Rattle.gu_book.specs.Charging.{AreFeesOf, IsCharged, IsSmallCharge}
 pub use Rattle.gu_book.specs.Conserved.{lots_traded}
 pub use Rattle.gu_book.specs.Dealing.{CanClaim, IsClaimed, IsSmallDeed}
-pub use Rattle.gu_book.specs.Filed.{IsGroveOf, IsFree, IsIn, IsNext}
+pub use Rattle.gu_book.specs.Filed.{IsGroveOf, IsFree, IsNext}
 pub use Rattle.gu_book.specs.Found.{AreTreesOf, IsFoundAs, IsFoundIn, IsNamedBy, IsUndoneBy, IsUndoneThere}
 pub use Rattle.gu_book.specs.Front.{rest_of}
-pub use Rattle.gu_book.specs.Holdings.{ArePositionsOf, HasFewLots, HasRoomBack, HaveMoved, HaveRoom,
-    HaveThere, SameLots, added_by, comes_from, counted_at, goes_back, held_above, held_at, holding_away}
+pub use Rattle.gu_book.specs.Holdings.{ArePositionsOf, HasFewLots, HasRoomBack, HaveMoved, HaveRoom, HaveThere, SameLots, added_by, comes_from, counted_at, goes_back}
+pub use Rattle.gu_book.specs.Holdings.{held_above, held_at, holding_away}
 pub use Rattle.gu_book.specs.Holdings.{holding_of, part_away, part_holding, taken_at, taken_before, taken_by, traded_at}
 pub use Rattle.gu_book.specs.Ids.{NoIdTwice, same_id}
-pub use Rattle.gu_book.specs.Index.{reversal_in}
+pub use Rattle.gu_book.specs.Lookups.{reversal_in}
 pub use Rattle.gu_book.specs.Kept.{IsKept}
-pub use Rattle.gu_book.specs.Kinds.{IsOfTerms, is_return}
+pub use Rattle.gu_book.specs.Kinds.{IsOfTerms}
 pub use Rattle.gu_book.specs.Limits.{AllWithinLimits, IsWithinLimits, PartsWithinLimits}
 pub use Rattle.gu_book.specs.Live.{entry_of_change, record_of}
 pub use Rattle.gu_book.specs.Seen.{BookView, stored}
 pub use Rattle.gu_book.specs.TreeRows.{is_live_trade, is_trade}
 pub use Rattle.gu_book.specs.Visits.{AreVisits, is_of_trees}
 pub use Rattle.gu_book.specs.declared.found.Found.{Found}
-pub use Rattle.gu_book.specs.declared.index.Reversals.{Reversals}
+pub use Rattle.gu_book.specs.declared.lookups.Reversals.{Reversals}
 pub use Rattle.gu_book.specs.declared.rules.holdings.Holding.{Holding}
 pub use Rattle.gu_consent.specs.Given.{given}
 pub use Rattle.gu_consent.specs.declared.Consents.{Consents}

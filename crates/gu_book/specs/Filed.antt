@@ -1,30 +1,16 @@
 -- The trees of the live trades, and the places of the live changes in them.
-use Rattle.std.specs.Prelude.{◌≡◌, ℕ, ◌≤◌, ◌<◌, List, [], ◌∷◌, ◌++◌, Contains, Some, None, is_some, IfSome}
-use Rattle.gu_base.specs.Numbers.{EntryPart}
+use Rattle.std.specs.Prelude.{◌≡◌, ◌<◌, List, [], ◌∷◌, ◌++◌, Contains, None}
 use Rattle.gu_base.specs.House.{House}
 use Rattle.gu_base.specs.History.{RisesFrom}
-use Rattle.gu_base.specs.Nodes.{node_of}
 use Rattle.gu_base.specs.Refusals.{refusal_of}
 use Rattle.gu_base.specs.Standing.{first_refused, standing_on, without}
 use Rattle.gu_base.specs.declared.entry.Record.{Record}
-use Rattle.gu_base.specs.declared.node.Node.{Node}
-use Rattle.gu_tree.specs.Rose.{named}
-use Rattle.gu_tree.specs.Grove.{Grove, tree_of, place_of, last_place, HasTree}
-use Rattle.gu_tree.specs.Shown.{IsTreeOf}
-use Rattle.gu_tree.specs.ShownAll.{place_in}
-use Rattle.gu_book.specs.TreeRows.{is_live_trade}
+use Rattle.gu_tree.specs.Grove.{Grove, last_place}
+use Rattle.gu_tree.specs.ShownAll.{ShowsAll}
 
--- one of the trees has a node of this name
-abbrev pub IsIn : Grove → EntryPart → Type 0
-IsIn g n = (trade : ℕ) × HasTree g trade (λ t. 1 ≤ named n t)
-
--- there is a tree for each live trade and for nothing else, and it shows the trade; all nodes of the changes are in the trees; the live
--- changes have their places, and nothing else has one
-pub record IsGroveOf (l : List Record) (g : Grove) : Type 0 where
-  pub live : (k : ℕ) → is_some (tree_of g k) ≡ is_live_trade l k
-  pub shown : (k : ℕ) → IfSome (tree_of g k) (IsTreeOf l k)
-  pub whole : (n : EntryPart) (x : Node) → node_of l n ≡ Some x → IsIn g n
-  pub placed : (k : ℕ) → place_of g k ≡ place_in l k
+-- the trees and places show the list of changes
+abbrev pub IsGroveOf : List Record → Grove → Type 0
+IsGroveOf l g = ShowsAll l g
 
 -- a change that may follow these, the trees of which are filed, and the places too; no entry so late ever had a place
 pub record IsNext (t : House) (l : List Record) (r : Record) (g : Grove) : Type 0 where

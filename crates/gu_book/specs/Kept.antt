@@ -18,11 +18,11 @@ use Rattle.gu_depend.specs.Terms.{AreTermsOf}
 use Rattle.gu_positions.specs.Rows.{PositionRows}
 use Rattle.gu_base.specs.Consents.{consents_left}
 use Rattle.gu_book.specs.Ids.{NoIdTwice}
-use Rattle.gu_book.specs.Index.{IsIndexOf}
+use Rattle.gu_book.specs.Lookups.{AreLookupsOf}
 use Rattle.gu_book.specs.Limits.{AllWithinLimits}
 use Rattle.gu_consent.specs.Given.{given}
 use Rattle.gu_consent.specs.declared.Consents.{Consents}
-use Rattle.gu_book.specs.declared.index.Index.{Index}
+use Rattle.gu_book.specs.declared.lookups.Lookups.{Lookups}
 
 -- each of these entries is what is accepted after those before it
 abbrev pub AcceptedFrom : House → List Entry → List Entry → Type 0
@@ -42,11 +42,11 @@ pub record IsKept (house : House) (history : List Entry) (trees : Grove) (consen
   pub placed : last_place trees ≤ length history
   pub consented : (n : ℕ) → given consents n ≡ consents_left history n
 
--- all that a book keeps: the same, that its index is one of the history, and its fees, positions and terms are those of the live changes; no
+-- all that a book keeps: the same, that its look-ups are those of the history, and its fees, positions and terms are those of the live changes; no
 -- entry of a giver and a taker is still to come
-pub record IsBook (house : House) (history : List Entry) (trees : Grove) (consents : Consents) (index : Index) (fees : FeeRows) (positions : PositionRows) (terms : TermsView) : Type 0 where
+pub record IsBook (house : House) (history : List Entry) (trees : Grove) (consents : Consents) (lookups : Lookups) (fees : FeeRows) (positions : PositionRows) (terms : TermsView) : Type 0 where
   pub kept : IsKept house history trees consents
-  pub indexed : IsIndexOf index history
+  pub looked_up : AreLookupsOf lookups history
   pub charged : AreFeesOf house (live history) fees
   pub stands : ArePositionsOf (live history) positions
   pub dealt : AreTermsOf house (live history) terms

@@ -1,7 +1,7 @@
 -- Which command it is.
 use Rattle.std.specs.Prelude.{◌≡◌, Bool, true, false}
 use Rattle.gu_base.specs.declared.command.Command.{Command}
-use Rattle.gu_base.specs.declared.command.Command.TheVariants.{Claim, Refuse, Cancel, Agree, Raise}
+use Rattle.gu_base.specs.declared.command.Command.TheVariants.{Claim, Agree, Raise}
 
 abbrev pub is_claim : Command → Bool
 is_claim (Claim _ _) = true
@@ -15,9 +15,3 @@ is_of_terms _ = false
 
 abbrev pub IsOfTerms : Command → Type 0
 IsOfTerms c = is_of_terms c ≡ true
-
--- one that gives a node back to its giver
-abbrev pub is_return : Command → Bool
-is_return (Refuse _) = true
-is_return (Cancel _) = true
-is_return _ = false

@@ -4,8 +4,8 @@ use Rattle.gu_base.specs.History.{numbered_as}
 use Rattle.gu_base.specs.Limits.{most_entries}
 use Rattle.gu_base.specs.declared.entry.Entry.{Entry}
 use Rattle.gu_base.specs.declared.entry.Record.{Record}
-use Rattle.gu_book.specs.Index.{AreReversalsOf}
-use Rattle.gu_book.specs.declared.index.Reversals.{Reversals}
+use Rattle.gu_book.specs.Lookups.{AreReversalsOf}
+use Rattle.gu_book.specs.declared.lookups.Reversals.{Reversals}
 use Rattle.gu_book.specs.declared.live.Change.{Change}
 
 -- the entry

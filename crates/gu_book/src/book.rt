@@ -1,4 +1,4 @@
-//! The book: the house table, the history, and beside it a tree for each live trade, the consents, an index, the fees, the positions and the
+//! The book: the house table, the history, and beside it a tree for each live trade, the consents, the look-ups, the fees, the positions and the
 //! terms.
 ghost use Rattle.std.specs.Prelude.{true, vec_len, vec_capacity, ◌≡◌, ◌==◌, ◌≤◌, ◌<◌, ◌+◌, ◌^◌, ℕ, List, [], ◌∷◌, ◌++◌, length, map, option_map, IsTrue, IfOk, IfErr, OnOk, OnErr, IsSome, IsSomeAnd, slice_get, if◌then◌else◌};
 ghost use Rattle.gu_base.specs.Limits.{most_entries};
@@ -8,36 +8,37 @@ ghost use Rattle.gu_base.specs.History.{is_change, live};
 ghost use Rattle.gu_base.specs.Positions.{position_of};
 ghost use Rattle.gu_base.specs.Fees.{paid_by, received_by};
 ghost use Rattle.gu_base.specs.Terms.{limit_of, terms_of, used_of};
-ghost use Rattle.gu_base.specs.Nodes.{is_split};
+ghost use Rattle.gu_base.specs.Numbers.{EntryPart};
 ghost use Rattle.gu_base.specs.Standing.{IsLegal};
 ghost use Rattle.gu_base.specs.Answers.{Call, answer_to, after, is_accepted};
 ghost use Rattle.gu_base.specs.declared.command.Side.TheVariants.{Buy, Sell};
 ghost use Rattle.gu_base.specs.declared.entry.Answer.TheVariants.{Accepted};
 ghost use Rattle.gu_base.specs.Runs.{IsRunFrom, call_of, opening_calls, opening_history};
-ghost use Rattle.gu_base.specs.declared.command.Command.TheVariants.{Initiate, Decline, Reverse};
+ghost use Rattle.gu_base.specs.declared.command.Command.TheVariants.{Trade, Split, Claim, Initiate, Decline, Reverse};
 ghost use Rattle.gu_consent.specs.Given.{given};
 ghost use Rattle.gu_ids.specs.Chains.{IsHashOf, IsReady};
-ghost use Rattle.gu_tree.specs.Shown.{shown, named_node};
+ghost use Rattle.gu_tree.specs.Shown.{GivesBack, shown, named_node};
 ghost use Rattle.gu_tree.specs.ShownAll.{place_in};
 ghost use Rattle.gu_book.specs.Front.{may_lack};
 ghost use Rattle.gu_book.specs.Ids.{NoIdTwice};
-ghost use Rattle.gu_book.specs.Index.{AreIdsOf};
-ghost use Rattle.gu_book.specs.Kinds.{IsOfTerms, is_claim, is_return};
+ghost use Rattle.gu_book.specs.Lookups.{AreIdsOf};
+ghost use Rattle.gu_book.specs.Kinds.{IsOfTerms};
 ghost use Rattle.gu_book.specs.Found.{IsNamedIn, IsNothing, IsStandingIn, IsUndoneIn, LiesThere};
 ghost use Rattle.gu_book.specs.Live.{entry_of_change};
 ghost use Rattle.gu_book.specs.Seen.{stored};
-ghost use Rattle.gu_book.specs.TreeRows.{is_live_trade, is_trade, tree_rows};
+ghost use Rattle.gu_book.specs.TreeRows.{is_live_trade, tree_rows};
 ghost use Rattle.gu_book.specs.Visits.{AreSeen, AreVisits, is_kept};
 
 use crate::found::{Sought, seek};
-use crate::index::Index;
 use crate::live::{Change, Live};
+use crate::lookups::Lookups;
 use crate::rules::basis::Basis;
+use crate::rules::holdings::Holding;
 use crate::rules::{calls, charges, holdings, terms};
 use crate::{grove, visits};
 use gu_base::{
-    AccountId, Agreement, AllocId, Answer, Command, Entry, FirmId, InstrumentId, Memory, Number,
-    Place, State,
+    AccountId, Agreement, AllocId, Answer, Command, Entry, FirmId, InstrumentId, Memory, NodeName,
+    Number, Parts, Place, State,
 };
 use gu_consent::Consents;
 use gu_fees::{Fees, Terms};
@@ -55,7 +56,7 @@ pub struct Book {
     entries: Vec<Entry>,
     trees: Trees<Global>,
     consents: Consents,
-    index: Index,
+    lookups: Lookups,
     fees: Fees,
     positions: Positions,
     terms: Terms,
@@ -70,7 +71,7 @@ impl Model for Book {
 
     ghost view = { λ b. record { house = b.house; history = b.entries.items; visits = b.visits } };
 
-    ghost invariant = { λ b. IsBook b.house b.entries.items b.trees b.consents b.index b.fees b.positions b.terms };
+    ghost invariant = { λ b. IsBook b.house b.entries.items b.trees b.consents b.lookups b.fees b.positions b.terms };
 }
 
 impl Book {
@@ -83,7 +84,7 @@ impl Book {
             entries: Vec::new(alloc),
             trees: Trees::new(alloc, alloc),
             consents: Consents::new(alloc),
-            index: Index::new(alloc),
+            lookups: Lookups::new(alloc),
             fees: Fees::new(alloc),
             positions: Positions::new(alloc),
             terms: Terms::new(alloc),
@@ -161,7 +162,7 @@ impl Book {
     pub fn live(&self, alloc: Global) -> Result<Vec<Number>, Memory>
         ensures { IfOk result (λ v. v.items ≡ map (λ r. r.number) (live self.now.history)) }
     {
-        Live::of(self.entries.as_slice(), &self.index.reversals).numbers(alloc)
+        Live::of(self.entries.as_slice(), &self.lookups.reversals).numbers(alloc)
     }
 
     /// Answers a call, and keeps it where it is accepted.
@@ -229,7 +230,7 @@ impl Book {
         ensures standing { IsStandingIn self.now.house (live self.now.history) command.now sought.new.standing }
         ensures seen { (by : List ℕ) → AreSeen (live self.now.history) by command.now sought.new.nodes }
     {
-        let changes = Live::of(self.entries.as_slice(), &self.index.reversals);
+        let changes = Live::of(self.entries.as_slice(), &self.lookups.reversals);
         seek(&changes, &self.trees, &self.terms, command, sought);
     }
 
@@ -250,11 +251,11 @@ impl Book {
         let at = Basis {
             house: &self.house,
             entries: &self.entries,
-            changes: Live::of(self.entries.as_slice(), &self.index.reversals),
+            changes: Live::of(self.entries.as_slice(), &self.lookups.reversals),
             named: &sought.named,
             standing: sought.standing,
             terms: &self.terms,
-            index: &self.index,
+            lookups: &self.lookups,
             consents: &self.consents,
         };
         calls::answer(&at, by, id, hash, command)
@@ -277,10 +278,30 @@ impl Book {
         ensures unchanged { OnErr result (self.new ≡ self.old) }
     {
         match made.command {
-            Command::Trade { .. } => self.keep_trade(alloc, made, hash),
-            Command::Split { .. } => self.keep_split(alloc, made, hash, sought),
-            Command::Claim { .. } => self.keep_claim(made, hash, sought),
-            Command::Refuse { .. } | Command::Cancel { .. } => self.keep_return(made, hash, sought),
+            Command::Trade {
+                firm,
+                account,
+                instrument,
+                side,
+                lots,
+            } => {
+                let traded = holdings::traded(firm, account, instrument, *side, *lots);
+                self.keep_trade(alloc, made, hash, &traded)
+            }
+            Command::Split { node, parts } => {
+                self.keep_split(alloc, made, hash, sought, *node, parts)
+            }
+            Command::Claim { node, account } => {
+                self.keep_claim(made, hash, sought, *node, account)
+            }
+            Command::Refuse { node } => {
+                let kept = Command::Refuse { node: *node };
+                self.keep_return(made, hash, sought, kept, State::Refused)
+            }
+            Command::Cancel { node } => {
+                let kept = Command::Cancel { node: *node };
+                self.keep_return(made, hash, sought, kept, State::Cancelled)
+            }
             Command::Initiate { .. } | Command::Decline { .. } => {
                 self.keep_consenting(alloc, made, hash)
             }
@@ -292,51 +313,42 @@ impl Book {
         }
     }
 
-    /// Puts an accepted Trade at the end of the history, its lots where they go, and its tree beside the others.
+    /// Puts an accepted Trade of these lots at the end of the history, its lots where they go, and its tree beside the others.
     #[inline(never)]
-    fn keep_trade(&mut self, alloc: Global, made: &Change<'_>, hash: IdHash) -> Result<(), Memory>
-        requires trade { is_trade made.now.command.now ≡ true }
+    fn keep_trade(
+        &mut self,
+        alloc: Global,
+        made: &Change<'_>,
+        hash: IdHash,
+        traded: &Holding,
+    ) -> Result<(), Memory>
+        requires trade { made.now.command.now ≡ Trade traded.now.key.firm traded.now.key.account traded.now.key.instrument traded.now.side traded.now.lots }
         requires hashed { IsHashOf hash made.now.firm.now made.now.id.now }
         requires accepted { answer_to self.old.house self.old.history (call_of (entry_of_change made.now)) ≡ Accepted made.now.number made.now.status }
         ensures kept { OnOk result (self.new ≡ record self.old { history = self.old.history ++ entry_of_change made.now ∷ [] }) }
         ensures unchanged { OnErr result (self.new ≡ self.old) }
     {
-        let Command::Trade {
-            firm,
-            account,
-            instrument,
-            side,
-            lots,
-        } = made.command
-        else {
-            unreachable!()
-        };
-        make_room(&mut self.entries, &mut self.index.ids)?;
+        make_room(&mut self.entries, &mut self.lookups.ids)?;
         self.trees.ready()?;
-        let key = Key {
-            firm: *firm,
-            account: *account,
-            instrument: *instrument,
-        };
-        self.positions.put(&key, *side, *lots)?;
+        holdings::put(&mut self.positions, traded)?;
         let place = Place {
-            firm: *firm,
-            account: *account,
+            firm: traded.key.firm,
+            account: traded.key.account,
         };
-        grove::plant(&mut self.trees, alloc, made, place, *lots);
+        grove::plant(&mut self.trees, alloc, made, place, traded.lots);
         let kept = Command::Trade {
-            firm: *firm,
-            account: *account,
-            instrument: *instrument,
-            side: *side,
-            lots: *lots,
+            firm: traded.key.firm,
+            account: traded.key.account,
+            instrument: traded.key.instrument,
+            side: traded.side,
+            lots: traded.lots,
         };
-        push(&mut self.entries, &mut self.index.ids, made, hash, kept);
+        push(&mut self.entries, &mut self.lookups.ids, made, hash, kept);
         Ok(())
     }
 
-    /// Puts an accepted Split at the end of the history, the lots of its parts where they go, and the parts below their node. The
-    /// lots are taken out again where the growth of the tree is refused.
+    /// Puts an accepted Split of this node into these parts at the end of the history, the lots of its parts where they go, and the parts below
+    /// their node. The lots are taken out again where the growth of the tree is refused.
     #[inline(never)]
     fn keep_split(
         &mut self,
@@ -344,8 +356,10 @@ impl Book {
         made: &Change<'_>,
         hash: IdHash,
         sought: &Sought,
+        node: NodeName,
+        parts: &Parts,
     ) -> Result<(), Memory>
-        requires split { is_split made.now.command.now ≡ true }
+        requires split { made.now.command.now ≡ Split node parts.now }
         requires named { IsNamedIn (live self.old.history) (named_node made.now.command.now) sought.now.named }
         requires there { LiesThere (live self.old.history) sought.now.named sought.now.path.items }
         requires hashed { IsHashOf hash made.now.firm.now made.now.id.now }
@@ -353,13 +367,10 @@ impl Book {
         ensures kept { OnOk result (self.new ≡ record self.old { history = self.old.history ++ entry_of_change made.now ∷ [] }) }
         ensures unchanged { OnErr result (self.new ≡ self.old) }
     {
-        let Command::Split { node, parts } = made.command else {
-            unreachable!()
-        };
-        make_room(&mut self.entries, &mut self.index.ids)?;
+        make_room(&mut self.entries, &mut self.lookups.ids)?;
         self.trees.ready()?;
         let kept = parts.copy(alloc)?;
-        let changes = Live::of(self.entries.as_slice(), &self.index.reversals);
+        let changes = Live::of(self.entries.as_slice(), &self.lookups.reversals);
         let Some(named) = &sought.named else {
             unreachable!()
         };
@@ -375,19 +386,23 @@ impl Book {
             return Err(e);
         }
         holdings::take_moved(&mut self.positions, &whole, moved);
-        let kept = Command::Split {
-            node: *node,
-            parts: kept,
-        };
-        push(&mut self.entries, &mut self.index.ids, made, hash, kept);
+        let kept = Command::Split { node, parts: kept };
+        push(&mut self.entries, &mut self.lookups.ids, made, hash, kept);
         Ok(())
     }
 
-    /// Puts an accepted Claim at the end of the history, charges it, puts it to the terms, and moves its node with its lots. What it puts is
-    /// taken out again where a later growth is refused; all else changes behind the last growth.
+    /// Puts an accepted Claim of this node into this account at the end of the history, charges it, puts it to the terms, and moves its node with
+    /// its lots. What it puts is taken out again where a later growth is refused; all else changes behind the last growth.
     #[inline(never)]
-    fn keep_claim(&mut self, made: &Change<'_>, hash: IdHash, sought: &Sought) -> Result<(), Memory>
-        requires claim { is_claim made.now.command.now ≡ true }
+    fn keep_claim(
+        &mut self,
+        made: &Change<'_>,
+        hash: IdHash,
+        sought: &Sought,
+        node: NodeName,
+        account: &AccountId,
+    ) -> Result<(), Memory>
+        requires claim { made.now.command.now ≡ Claim node account.now }
         requires named { IsNamedIn (live self.old.history) (named_node made.now.command.now) sought.now.named }
         requires there { LiesThere (live self.old.history) sought.now.named sought.now.path.items }
         requires hashed { IsHashOf hash made.now.firm.now made.now.id.now }
@@ -395,12 +410,9 @@ impl Book {
         ensures kept { OnOk result (self.new ≡ record self.old { history = self.old.history ++ entry_of_change made.now ∷ [] }) }
         ensures unchanged { OnErr result (self.new ≡ self.old) }
     {
-        let Command::Claim { node, account } = made.command else {
-            unreachable!()
-        };
-        make_room(&mut self.entries, &mut self.index.ids)?;
+        make_room(&mut self.entries, &mut self.lookups.ids)?;
         self.trees.ready()?;
-        let changes = Live::of(self.entries.as_slice(), &self.index.reversals);
+        let changes = Live::of(self.entries.as_slice(), &self.lookups.reversals);
         let Some(named) = &sought.named else {
             unreachable!()
         };
@@ -417,22 +429,25 @@ impl Book {
         holdings::take(&mut self.positions, &whole);
         terms::claim(&mut self.terms, place, made.number, &named.node);
         let kept = Command::Claim {
-            node: *node,
+            node,
             account: *account,
         };
-        push(&mut self.entries, &mut self.index.ids, made, hash, kept);
+        push(&mut self.entries, &mut self.lookups.ids, made, hash, kept);
         Ok(())
     }
 
-    /// Puts an accepted Refuse or Cancel at the end of the history, and gives its node back.
+    /// Puts an accepted Refuse or Cancel, `kept`, at the end of the history, and gives its node back: `state` is Refused or Cancelled.
     #[inline(never)]
     fn keep_return(
         &mut self,
         made: &Change<'_>,
         hash: IdHash,
         sought: &Sought,
+        kept: Command,
+        state: State,
     ) -> Result<(), Memory>
-        requires back { is_return made.now.command.now ≡ true }
+        requires back { (n : EntryPart) × GivesBack n state made.now.command.now }
+        requires same { kept ≡ made.now.command.now }
         requires named { IsNamedIn (live self.old.history) (named_node made.now.command.now) sought.now.named }
         requires there { LiesThere (live self.old.history) sought.now.named sought.now.path.items }
         requires hashed { IsHashOf hash made.now.firm.now made.now.id.now }
@@ -440,15 +455,10 @@ impl Book {
         ensures kept { OnOk result (self.new ≡ record self.old { history = self.old.history ++ entry_of_change made.now ∷ [] }) }
         ensures unchanged { OnErr result (self.new ≡ self.old) }
     {
-        make_room(&mut self.entries, &mut self.index.ids)?;
+        make_room(&mut self.entries, &mut self.lookups.ids)?;
         self.trees.ready()?;
-        let (kept, state) = match made.command {
-            Command::Refuse { node } => (Command::Refuse { node: *node }, State::Refused),
-            Command::Cancel { node } => (Command::Cancel { node: *node }, State::Cancelled),
-            _ => unreachable!(),
-        };
         grove::give_back(&mut self.trees, made, sought, state);
-        push(&mut self.entries, &mut self.index.ids, made, hash, kept);
+        push(&mut self.entries, &mut self.lookups.ids, made, hash, kept);
         Ok(())
     }
 
@@ -462,11 +472,11 @@ impl Book {
         ensures unchanged { OnErr result (self.new ≡ self.old) }
     {
         let kept = made.command.copy(alloc)?;
-        make_room(&mut self.entries, &mut self.index.ids)?;
+        make_room(&mut self.entries, &mut self.lookups.ids)?;
         let (giver, taker, deed) = terms::deed_of(made.firm, made.command);
         let place = terms::ready(&mut self.terms, &self.house, &giver, &taker)?;
         self.terms.put_at(place, made.number, deed);
-        push(&mut self.entries, &mut self.index.ids, made, hash, kept);
+        push(&mut self.entries, &mut self.lookups.ids, made, hash, kept);
         Ok(())
     }
 
@@ -484,14 +494,14 @@ impl Book {
         ensures kept { OnOk result (self.new ≡ record self.old { history = self.old.history ++ entry_of_change made.now ∷ [] }) }
         ensures unchanged { OnErr result (self.new ≡ self.old) }
     {
-        make_room(&mut self.entries, &mut self.index.ids)?;
+        make_room(&mut self.entries, &mut self.lookups.ids)?;
         let kept = match made.command {
             Command::Initiate { entry } => Command::Initiate { entry: *entry },
             Command::Decline { entry } => Command::Decline { entry: *entry },
             _ => unreachable!(),
         };
         consent(&mut self.consents, alloc, made)?;
-        push(&mut self.entries, &mut self.index.ids, made, hash, kept);
+        push(&mut self.entries, &mut self.lookups.ids, made, hash, kept);
         Ok(())
     }
 
@@ -513,8 +523,8 @@ impl Book {
         ensures kept { OnOk result (self.new ≡ record self.old { history = self.old.history ++ entry_of_change made.now ∷ [] }) }
         ensures unchanged { OnErr result (self.new ≡ self.old) }
     {
-        make_room(&mut self.entries, &mut self.index.ids)?;
-        let changes = Live::of(self.entries.as_slice(), &self.index.reversals);
+        make_room(&mut self.entries, &mut self.lookups.ids)?;
+        let changes = Live::of(self.entries.as_slice(), &self.lookups.reversals);
         let entry = &self.entries[change.get() as usize - 1];
         let Some(undone) = &sought.undone else {
             unreachable!()
@@ -522,14 +532,14 @@ impl Book {
         let charge = charges::charge_of(&self.house, &self.terms, &changes, &entry.command);
         let back = holdings::goes_back(&changes, &self.trees, entry, undone);
         holdings::ready_back(&mut self.positions, &back)?;
-        self.index.reversals.put(change, made.number)?;
+        self.lookups.reversals.put(change, made.number)?;
         grove::undo(&mut self.trees, change, entry, sought);
         charges::take_back(&mut self.fees, &charge);
         terms::take_out_claim(&mut self.terms, change, entry);
         holdings::move_back(&mut self.positions, entry, &back);
         self.consents.clear(change);
         let kept = Command::Reverse { entry: change };
-        push(&mut self.entries, &mut self.index.ids, made, hash, kept);
+        push(&mut self.entries, &mut self.lookups.ids, made, hash, kept);
         Ok(())
     }
 
@@ -548,12 +558,12 @@ impl Book {
         ensures kept { OnOk result (self.new ≡ record self.old { history = self.old.history ++ entry_of_change made.now ∷ [] }) }
         ensures unchanged { OnErr result (self.new ≡ self.old) }
     {
-        make_room(&mut self.entries, &mut self.index.ids)?;
-        self.index.reversals.put(entry, made.number)?;
+        make_room(&mut self.entries, &mut self.lookups.ids)?;
+        self.lookups.reversals.put(entry, made.number)?;
         self.terms.take_out(entry);
         self.consents.clear(entry);
         let kept = Command::Reverse { entry };
-        push(&mut self.entries, &mut self.index.ids, made, hash, kept);
+        push(&mut self.entries, &mut self.lookups.ids, made, hash, kept);
         Ok(())
     }
 

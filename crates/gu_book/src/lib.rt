@@ -15,7 +15,7 @@
 //!   its live changes would be refused after those before it, that the trees show the live changes, and that the consents are those
 //!   that the history left.
 //! - `laws` has what follows for every book, first the headline in five laws.
-//! - `index` finds the entry of an id and the Reverse of an entry without going over the history, `live` a live change by its number,
+//! - `lookups` finds the entry of an id and the Reverse of an entry without going over the history, `live` a live change by its number,
 //!   `found` what the trees say of what a command names.
 //! - `rules` has each answer; what stands on a change it is told (gu_depend reads that off the trees). `grove` has what a change and its
 //!   Reverse do to the trees; no public contract speaks of them.
@@ -26,9 +26,9 @@
 pub mod book;
 mod found;
 mod grove;
-mod index;
 pub mod laws;
 mod live;
+mod lookups;
 mod rules;
 mod visits;
 

@@ -2,10 +2,10 @@
 ghost use Rattle.std.specs.Prelude.{◌≡◌, ◌≤◌, ◌==◌, length, find, option_map, IfOk, map};
 ghost use Rattle.gu_base.specs.History.{live};
 ghost use Rattle.gu_base.specs.Limits.{most_entries};
-ghost use Rattle.gu_book.specs.Index.{AreReversalsOf};
+ghost use Rattle.gu_book.specs.Lookups.{AreReversalsOf};
 ghost use Rattle.gu_book.specs.Live.{record_of};
 
-use crate::index::Reversals;
+use crate::lookups::Reversals;
 use crate::rules::naming::is_change;
 use gu_base::{AllocId, Command, Entry, FirmId, Memory, Number, State};
 use std::alloc::Global;

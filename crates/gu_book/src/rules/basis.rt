@@ -1,7 +1,7 @@
 //! What an answer is read from.
 use crate::found::Named;
-use crate::index::Index;
 use crate::live::Live;
+use crate::lookups::Lookups;
 use gu_base::{Entry, Number};
 use gu_consent::Consents;
 use gu_fees::Terms;
@@ -17,6 +17,6 @@ pub(crate) struct Basis<'a> {
     pub(crate) named: &'a Option<Named>,
     pub(crate) standing: Option<Number>,
     pub(crate) terms: &'a Terms,
-    pub(crate) index: &'a Index,
+    pub(crate) lookups: &'a Lookups,
     pub(crate) consents: &'a Consents,
 }

@@ -13,7 +13,7 @@ ghost use Rattle.gu_base.specs.declared.refusal.Refusal.TheVariants.{BookFull, D
 ghost use Rattle.gu_book.specs.Found.{IsNamedIn, IsStandingIn};
 ghost use Rattle.gu_book.specs.Front.{IsStandingOn, rest_of};
 ghost use Rattle.gu_book.specs.Ids.{NoIdTwice};
-ghost use Rattle.gu_book.specs.Index.{AreIdsOf, IsIndexOf};
+ghost use Rattle.gu_book.specs.Lookups.{AreIdsOf, AreLookupsOf};
 ghost use Rattle.gu_consent.specs.Given.{given};
 ghost use Rattle.gu_depend.specs.Terms.{AreTermsOf};
 ghost use Rattle.gu_ids.specs.Chains.{IsHashOf};
@@ -88,7 +88,7 @@ fn status_of(by: &FirmId, command: &Command) -> State
 
 /// Why a command that names this entry is refused.
 fn named_refusal(at: &Basis<'_>, by: &FirmId, command: &Command, entry: Number) -> Option<Refusal>
-    requires indexed { IsIndexOf at.now.index.now at.now.entries.now }
+    requires looked_up { AreLookupsOf at.now.lookups.now at.now.entries.now }
     requires few { length at.now.entries.now ≤ most_entries }
     requires live { at.now.changes ≡ live at.now.entries.now }
     requires rises { RisesFrom 1 at.now.changes }
@@ -106,7 +106,7 @@ fn named_refusal(at: &Basis<'_>, by: &FirmId, command: &Command, entry: Number) 
 
 /// Why a command is refused.
 fn command_refusal(at: &Basis<'_>, by: &FirmId, command: &Command) -> Option<Refusal>
-    requires indexed { IsIndexOf at.now.index.now at.now.entries.now }
+    requires looked_up { AreLookupsOf at.now.lookups.now at.now.entries.now }
     requires dealt { AreTermsOf at.now.house.now at.now.changes at.now.terms.now }
     requires few { length at.now.entries.now ≤ most_entries }
     requires live { at.now.changes ≡ live at.now.entries.now }
@@ -126,7 +126,7 @@ fn command_refusal(at: &Basis<'_>, by: &FirmId, command: &Command) -> Option<Ref
 
 /// The answer by the rules, to a call whose id no entry has.
 fn answer_by_rules(at: &Basis<'_>, by: &FirmId, command: &Command) -> Answer
-    requires indexed { IsIndexOf at.now.index.now at.now.entries.now }
+    requires looked_up { AreLookupsOf at.now.lookups.now at.now.entries.now }
     requires dealt { AreTermsOf at.now.house.now at.now.changes at.now.terms.now }
     requires few { length at.now.entries.now ≤ most_entries }
     requires live { at.now.changes ≡ live at.now.entries.now }
@@ -159,7 +159,7 @@ pub(crate) fn answer(
 ) -> Answer
     requires hashed { IsHashOf hash by.now id.now }
     requires once { NoIdTwice at.now.entries.now }
-    requires indexed { IsIndexOf at.now.index.now at.now.entries.now }
+    requires looked_up { AreLookupsOf at.now.lookups.now at.now.entries.now }
     requires dealt { AreTermsOf at.now.house.now at.now.changes at.now.terms.now }
     requires few { length at.now.entries.now ≤ most_entries }
     requires live { at.now.changes ≡ live at.now.entries.now }
@@ -169,7 +169,7 @@ pub(crate) fn answer(
     requires standing { IsStandingIn at.now.house.now at.now.changes command.now at.now.standing }
     ensures { result ≡ answer_to at.now.house.now at.now.entries.now (record { firm = by.now; id = id.now; command = command.now }) }
 {
-    if let Some(answer) = known(&at.index.ids, at.entries, by, id, hash, command) {
+    if let Some(answer) = known(&at.lookups.ids, at.entries, by, id, hash, command) {
         return answer;
     }
     answer_by_rules(at, by, command)

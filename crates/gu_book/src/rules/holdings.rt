@@ -14,7 +14,8 @@ use crate::found::{Named, Undone, find};
 use crate::live::Live;
 use crate::rules::nodes::parent_of;
 use gu_base::{
-    AccountId, Command, Deal, Entry, FirmId, Memory, NodeName, Number, Part, Place, Side,
+    AccountId, Command, Deal, Entry, FirmId, InstrumentId, Memory, NodeName, Number, Part, Place,
+    Side,
 };
 use gu_positions::{Key, Positions};
 use gu_tree::Trees;
@@ -23,9 +24,31 @@ use std::alloc::{AllocError, Global};
 /// Lots of one instrument and side that stand in an account.
 #[derive(Clone, Copy, Debug)]
 pub(crate) struct Holding {
-    key: Key,
+    pub(crate) key: Key,
+    pub(crate) side: Side,
+    pub(crate) lots: u64,
+}
+
+/// The lots of a Trade with these fields.
+#[inline(always)]
+pub(crate) fn traded(
+    firm: &FirmId,
+    account: &AccountId,
+    instrument: &InstrumentId,
     side: Side,
     lots: u64,
+) -> Holding
+    ensures { result ≡ record { key = record { firm = firm.now; account = account.now; instrument = instrument.now }; side = side; lots = lots } }
+{
+    Holding {
+        key: Key {
+            firm: *firm,
+            account: *account,
+            instrument: *instrument,
+        },
+        side,
+        lots,
+    }
 }
 
 /// What was traded by the entry of this number.

@@ -5,7 +5,7 @@ ghost use Rattle.gu_base.specs.History.{numbered_as, is_change, live, RisesFrom}
 ghost use Rattle.gu_base.specs.Consents.{of_node, taker_and_giver, giver_alone, consents_left, parties_of};
 ghost use Rattle.gu_base.specs.Answers.{entry_of, on_change};
 ghost use Rattle.gu_book.specs.Front.{IsStandingOn, own_refusal, rest_of};
-ghost use Rattle.gu_book.specs.Index.{IsIndexOf};
+ghost use Rattle.gu_book.specs.Lookups.{AreLookupsOf};
 ghost use Rattle.gu_consent.specs.Given.{given};
 
 use crate::live::Live;
@@ -128,7 +128,7 @@ fn entry_refusal(
     number: Number,
     e: &Entry,
 ) -> Option<Refusal>
-    requires indexed { IsIndexOf at.now.index.now at.now.entries.now }
+    requires looked_up { AreLookupsOf at.now.lookups.now at.now.entries.now }
     requires few { length at.now.entries.now ≤ most_entries }
     requires live { at.now.changes ≡ live at.now.entries.now }
     requires rises { RisesFrom 1 at.now.changes }
@@ -139,7 +139,7 @@ fn entry_refusal(
     if !is_change(&e.command) {
         return Some(Refusal::NotAChange);
     }
-    if let Some(reversal) = at.index.reversals.number(number) {
+    if let Some(reversal) = at.lookups.reversals.number(number) {
         return Some(Refusal::AlreadyReversed(reversal));
     }
     let (firms, count) = parties_of(at.house, &at.changes, &e.firm, &e.command);
@@ -158,7 +158,7 @@ pub(crate) fn naming_refusal(
     command: &Command,
     number: Number,
 ) -> Option<Refusal>
-    requires indexed { IsIndexOf at.now.index.now at.now.entries.now }
+    requires looked_up { AreLookupsOf at.now.lookups.now at.now.entries.now }
     requires few { length at.now.entries.now ≤ most_entries }
     requires live { at.now.changes ≡ live at.now.entries.now }
     requires rises { RisesFrom 1 at.now.changes }

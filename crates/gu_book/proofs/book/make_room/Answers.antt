@@ -1,4 +1,4 @@
-use Rattle.gu_book.proofs.Indexed.{ids_few}
+use Rattle.gu_book.proofs.LookedUp.{ids_few}
 use Rattle.gu_book.proofs.book.make_room.Goals as goal
 
 pub ready-requires : goal.ready-requires

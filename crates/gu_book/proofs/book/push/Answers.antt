@@ -1,5 +1,5 @@
 use Rattle.gu_book.proofs.Vocabulary.{entry_of_change}
-use Rattle.gu_book.proofs.Indexed.{ids_added, ids_fewer}
+use Rattle.gu_book.proofs.LookedUp.{ids_added, ids_fewer}
 use Rattle.gu_book.proofs.book.push.Goals as goal
 
 pub add-requires-clause-few : goal.add-requires-clause-few

@@ -7,7 +7,6 @@ use Rattle.gu_base.proofs.Numbered.{rises_later}
 use Rattle.gu_book.proofs.Vocabulary.{HasTree, IsPlace, node_at, named_place, place_in, change_of, record_of, is_of_trees}
 use Rattle.gu_tree.specs.Grove.{place_of}
 use Rattle.gu_book.specs.Holdings.{deal_of}
-use Rattle.gu_book.proofs.AllShown.{all_shown}
 use Rattle.gu_book.proofs.OnePlace.{one_place}
 use Rattle.gu_book.proofs.Visited.{placeless, some_place, way_to, parts_of_named}
 use Rattle.gu_book.proofs.found.seek_change.Goals.{After-found_at-found, Then-not-is_of_trees}
@@ -27,7 +26,7 @@ returns-clause-undone c =
     let m = some_place (λ n. IsPlace c.args.trees.now n c.in-Some-named.spot.trade c.named.new.path.items) (place_of c.args.trees.now c.args.number) at in
     record {
       name = m.0;
-      place = sym (are.filed.placed c.args.number) ∙ m.1;
+      place = sym (are.filed.places c.args.number) ∙ m.1;
       found = c.found_at-found.ensures.found l m.0 c.args.trees.now are m.2 tree;
       there = λ h filed. subst (λ (k : ℕ). IsPlace h m.0 k c.named.new.path.items) (sym c.found_at-found.ensures.trade)
           (one_place are.filed m.0 c.in-Some-named.spot.trade c.named.new.path.items m.2 h filed);
@@ -42,7 +41,7 @@ returns-clause-standing c = λ t legal dealt.
     let at : IsSomeAnd (place_of c.args.trees.now c.args.number) (λ n. IsPlace c.args.trees.now n c.in-Some-named.spot.trade c.named.new.path.items) =
     rw c.in-Some-named.is at c.named.ensures.found in
     let tree : HasTree c.args.trees.now c.in-Some-named.spot.trade (λ v. node_at c.named.new.path.items v ≡ Some c.in-Some-named.spot.node.now) = rw c.in-Some-named.is at c.named.ensures.node in
-    c.first_standing_at-sought.ensures t l c.args.trees.now c.named.new.path.items (rises_later 0 1 l (omega arith) are.rises) legal (all_shown are.filed) at tree
+    c.first_standing_at-sought.ensures t l c.args.trees.now c.named.new.path.items (rises_later 0 1 l (omega arith) are.rises) legal are.filed at tree
 
 -- a change that isn't one of trees has no place in them
 without_place : (c : Then-not-is_of_trees) → place_in c.args.changes.now c.args.number ≡ None
@@ -65,10 +64,10 @@ returns-in_default-clause-standing c = λ t legal dealt.
     let l = c.args.changes.now in
     let are = c.requires.trees in
     let none : change_of l c.args.number ≡ None = sym c.change.ensures ∙ ap (option_map record_of) c.in_default.is in
-    let placeless = are.filed.placed c.args.number ∙ ap (option_and_then (λ (r : Record). named_place r.number r.command)) none in
+    let placeless = are.filed.places c.args.number ∙ ap (option_and_then (λ (r : Record). named_place r.number r.command)) none in
     c.requires.nothing.standing
     ∙ (sym (ap (option_and_then (λ (r : Record). deals_under t l r.number r.firm r.command)) none)
-    ∙ nothing_placed c.args.trees.now t l (rises_later 0 1 l (omega arith) are.rises) legal (all_shown are.filed) c.args.number placeless)
+    ∙ nothing_placed c.args.trees.now t l (rises_later 0 1 l (omega arith) are.rises) legal are.filed c.args.number placeless)
 
 pub returns-clause-most : goal.returns-clause-most
 returns-clause-most c = λ t dealt.

@@ -8,14 +8,11 @@ pub unreachable-requires : goal.unreachable-requires
 unreachable-requires c = never_none c.args.trees.now (named_node c.args.made.now.command.now) c.args.sought.now.named c.args.sought.now.path.items c.requires.there c.requires.claim.0
     (ap named_node c.requires.claim.1) c.in_default.is
 
-pub claim-requires-clause-offered : goal.claim-requires-clause-offered
-claim-requires-clause-offered c =
-    let due = c.requires.due in
-    let s = named_spot due.2 c.args.sought.now.named c.args.sought.now.path.items c.requires.there c.requires.claim.0 (ap named_node c.requires.claim.1) c.in-Some.named c.in-Some.is in
-    may_claim due.2 s c.args.account c.requires.claim.1
-
-pub claim-requires-clause-above : goal.claim-requires-clause-above
-claim-requires-clause-above c = let due = c.requires.due in due.2.later
+pub claim-requires : goal.claim-requires
+claim-requires c =
+    let next = c.requires.due.2 in
+    let s = named_spot next c.args.sought.now.named c.args.sought.now.path.items c.requires.there c.requires.claim.0 (ap named_node c.requires.claim.1) c.in-Some.named c.in-Some.is in
+    record { offered = may_claim next s c.args.account c.requires.claim.1; above = next.later; place_room = c.requires.place_room }
 
 pub returns-clause-follows : goal.returns-clause-follows
 returns-clause-follows c = λ t l next.

@@ -18,5 +18,5 @@ pub returns-clause-follows : goal.returns-clause-follows
 returns-clause-follows c = λ t l next.
     let name = ap (λ (t : Rose). (head_of t).name) c.new.ensures.root in
     let entry = ap (λ (t : Rose). (head_of t).name.entry) c.new.ensures.root in
-    trade_filed next c.args.place c.args.lots c.requires.trade c.plant.new.self c.new.result c.new.ensures.root c.new.ensures.shows
+    trade_filed next c.args.place c.args.lots c.requires.trade c.plant.new.self c.new.result c.new.ensures.shows
     (rw entry at c.plant.ensures.tree) (rw name at c.plant.ensures.place)

@@ -20,38 +20,20 @@ here : (c : In-Some) → {t : House} {l : List Record} → IsNext t l (record_of
     → Spot l c.args.trees.now c.in-Some.named.found.trade c.args.sought.now.path.items c.requires.split.0
 here c next = named_spot next c.args.sought.now.named c.args.sought.now.path.items c.requires.there c.requires.split.0 (ap named_node c.requires.split.1) c.in-Some.named c.in-Some.is
 
-pub split-requires-clause-leaf : goal.split-requires-clause-leaf
-split-requires-clause-leaf c =
-    let due = c.requires.due in
-    let s = here (goal.at.split-requires-clause-leaf c).In-Some due.2 in
-    may_split due.2 s c.args.parts.now c.requires.split.1
-
-pub split-requires-clause-accounts : goal.split-requires-clause-accounts
-split-requires-clause-accounts c =
-    let due = c.requires.due in
-    let s = here (goal.at.split-requires-clause-accounts c).In-Some due.2 in
-    has_accounts due.2 s c.args.parts.now c.requires.split.1
-
-pub split-requires-clause-some : goal.split-requires-clause-some
-split-requires-clause-some c =
-    let due = c.requires.due in
-    let s = here (goal.at.split-requires-clause-some c).In-Some due.2 in
-    some_parts due.2 s c.args.parts.now c.requires.split.1
-
-pub split-requires-clause-most : goal.split-requires-clause-most
-split-requires-clause-most c =
-    let due = c.requires.due in
-    let s = here (goal.at.split-requires-clause-most c).In-Some due.2 in
-    few_parts due.2 s c.args.parts.now c.requires.split.1
-
-pub split-requires-clause-shallow : goal.split-requires-clause-shallow
-split-requires-clause-shallow c =
-    let due = c.requires.due in
-    let s = here (goal.at.split-requires-clause-shallow c).In-Some due.2 in
-    not_deep due.2 s c.args.parts.now c.requires.split.1
-
-pub split-requires-clause-above : goal.split-requires-clause-above
-split-requires-clause-above c = let due = c.requires.due in due.2.later
+pub split-requires : goal.split-requires
+split-requires c =
+    let next = c.requires.due.2 in
+    let s = here (goal.at.split-requires c).In-Some next in
+    let is = c.requires.split.1 in
+    record {
+      leaf = may_split next s c.args.parts.now is;
+      accounts = has_accounts next s c.args.parts.now is;
+      some = some_parts next s c.args.parts.now is;
+      most = few_parts next s c.args.parts.now is;
+      shallow = not_deep next s c.args.parts.now is;
+      above = next.later;
+      place_room = c.requires.place_room;
+    }
 
 -- what follows where three things do
 on_ok : {T E P Q R U : Type 0} (o : Result T E) → OnOk o P → OnOk o Q → OnOk o R → (P → Q → R → U) → OnOk o U

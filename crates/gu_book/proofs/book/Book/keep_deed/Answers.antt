@@ -31,5 +31,6 @@ invariant_of-self-2 c =
 pub invariant_of-self-in_err-place : goal.invariant_of-self-in_err-place
 invariant_of-self-in_err-place c =
     simp (c.make_room.ensures.items)
-    (still_dealt c.self.invariant c.self.inside.trees (record { trees = refl; slots = refl }) c.make_room.new.ids c.make_room.ensures.ids c.self.inside.positions (λ at side. refl)
+    (still_dealt c.self.invariant c.self.inside.trees (record { trees = refl; slots = refl }) c.make_room.new.ids c.make_room.ensures.ids
+    c.self.inside.fees c.self.invariant.charged c.self.inside.positions (λ at side. refl)
     c.ready.new.terms (c.in_err-place.ensures.same (live c.self.inside.entries.items) c.self.invariant.dealt) c.in_err-place.ensures.last)

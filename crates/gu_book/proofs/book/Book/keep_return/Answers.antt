@@ -1,43 +1,43 @@
 use Rattle.std.proofs.Common.{refl}
 use Rattle.gu_depend.proofs.Vocabulary.{live}
 use Rattle.gu_book.proofs.Vocabulary.{entry_of_change, record_of}
-use Rattle.gu_book.proofs.Books.{book_apart, still}
+use Rattle.gu_book.proofs.Books.{book_apart, may_follow, still}
 use Rattle.gu_book.proofs.Filed.{due_same, follows_same}
-use Rattle.gu_book.proofs.Keeps.{next_kept}
 use Rattle.gu_book.proofs.OnePlace.{next_there}
-use Rattle.gu_book.proofs.TermsKept.{returns_apart}
-use Rattle.gu_book.proofs.TradesKept.{idle_free, idle_return, idle_stands, return_changes}
+use Rattle.gu_book.proofs.TradesKept.{MayFollow, GivesNodeBack, gives_node_back, idle_free, idle_stands}
+use Rattle.gu_book.proofs.book.Book.keep_return.Goals.{After-ready}
 use Rattle.gu_book.proofs.book.Book.keep_return.Goals as goal
+
+-- it gives its node back
+back : (c : After-ready) → GivesNodeBack c.self.inside.house (live c.self.inside.entries.items) c.args.made.now.firm.now c.args.made.now.command.now
+back c = gives_node_back c.self.inside.house (live c.self.inside.entries.items) c.args.made.now.firm.now c.args.made.now.command.now c.requires.back.0 c.args.state c.requires.back.1
+
+-- and may follow the live changes
+may : (c : After-ready) → MayFollow c.self.inside.house (live c.self.inside.entries.items) (record_of c.args.made.now) c.self.inside.trees c.self.inside.fees c.self.inside.positions
+may c = may_follow c.self.invariant c.args.made.now.number (entry_of_change c.args.made.now) (rw (← c.self.view_is) at c.requires.accepted) (back c).change
 
 pub give_back-requires-clause-due : goal.give_back-requires-clause-due
 give_back-requires-clause-due c =
-    let ok = rw (← c.self.view_is) at c.requires.accepted in
-    let next = next_kept c.self.invariant.kept c.args.made.now.number (entry_of_change c.args.made.now) ok (return_changes c.args.made.now.command.now c.requires.back) in
+    let next = (may (goal.at.give_back-requires-clause-due c).After-ready).next in
     due_same (record_of c.args.made.now) c.self.inside.trees c.ready.new.self c.in_ok-ready.ensures.same (c.self.inside.house, live c.self.inside.entries.items, next)
 
 pub give_back-requires-clause-there : goal.give_back-requires-clause-there
 give_back-requires-clause-there c =
-    let ok = rw (← c.self.view_is) at c.requires.accepted in
-    let next = next_kept c.self.invariant.kept c.args.made.now.number (entry_of_change c.args.made.now) ok (return_changes c.args.made.now.command.now c.requires.back) in
-    next_there next c.ready.new.self c.in_ok-ready.ensures.same c.args.sought.now.named c.args.sought.now.path.items (rw (← c.self.view_is) at c.requires.named)
-    (rw (← c.self.view_is) at c.requires.there)
+    next_there (may (goal.at.give_back-requires-clause-there c).After-ready).next c.ready.new.self c.in_ok-ready.ensures.same c.args.sought.now.named c.args.sought.now.path.items
+    (rw (← c.self.view_is) at c.requires.named) (rw (← c.self.view_is) at c.requires.there)
 
 pub push-requires-clause-accepted : goal.push-requires-clause-accepted
 push-requires-clause-accepted c = (c.self.inside.house, simp (c.make_room.ensures.items) (rw (← c.self.view_is) at c.requires.accepted))
 
 pub invariant_of-self-2 : goal.invariant_of-self-2
 invariant_of-self-2 c =
-    let ok = rw (← c.self.view_is) at c.requires.accepted in
-    let change = return_changes c.args.made.now.command.now c.requires.back in
-    let l = live c.self.inside.entries.items in
-    let e = entry_of_change c.args.made.now in
-    let next = next_kept c.self.invariant.kept c.args.made.now.number e ok change in
-    let idle = idle_return c.self.inside.house l c.args.made.now.firm.now c.args.made.now.command.now c.requires.back in
-    let filed = follows_same (record_of c.args.made.now) c.self.inside.trees c.ready.new.self c.give_back.new.trees c.in_ok-ready.ensures.same c.give_back.ensures.follows c.self.inside.house l next in
+    let w = (goal.at.invariant_of-self-2 c).After-ready in
+    let filed = follows_same (record_of c.args.made.now) c.self.inside.trees c.ready.new.self c.give_back.new.trees
+    c.in_ok-ready.ensures.same c.give_back.ensures.follows c.self.inside.house (live c.self.inside.entries.items) (may w).next in
     simp (c.push.ensures.items, c.make_room.ensures.items)
-    (book_apart c.self.invariant c.args.made.now.number e ok c.push.new.ids (rw c.make_room.ensures.items at c.push.ensures.ids) change c.give_back.new.trees filed c.give_back.ensures.last
-    c.self.inside.fees (idle_free next idle c.self.inside.fees c.self.invariant.charged) c.self.inside.positions (idle_stands next idle c.self.inside.positions c.self.invariant.stands)
-    (returns_apart l c.args.made.now.firm.now c.args.made.now.command.now c.requires.back))
+    (book_apart c.self.invariant c.args.made.now.number (entry_of_change c.args.made.now) (rw (← c.self.view_is) at c.requires.accepted)
+    c.push.new.ids (rw c.make_room.ensures.items at c.push.ensures.ids) (back w).change c.give_back.new.trees filed c.give_back.ensures.last
+    (idle_free (may w) (back w).idle) c.self.inside.positions (idle_stands (may w) (back w).idle) (back w).apart)
 
 pub invariant_of-self-in_err-ready : goal.invariant_of-self-in_err-ready
 invariant_of-self-in_err-ready c =

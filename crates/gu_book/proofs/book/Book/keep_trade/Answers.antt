@@ -1,22 +1,20 @@
 use Rattle.std.proofs.Common.{refl, ap}
 use Rattle.gu_depend.proofs.Vocabulary.{live, is_change}
-use Rattle.gu_book.proofs.Vocabulary.{pair_of, entry_of_change, record_of, Key}
-use Rattle.gu_book.proofs.Books.{book_apart, few_live, still}
+use Rattle.gu_book.proofs.Vocabulary.{pair_of, entry_of_change, record_of}
+use Rattle.gu_book.proofs.Books.{book_apart, may_follow, still}
 use Rattle.gu_book.proofs.Filed.{due_same, follows_same}
-use Rattle.gu_book.proofs.Keeps.{next_kept}
 use Rattle.gu_book.proofs.TradesKept.{trade_free, trade_fits, trade_stands}
 use Rattle.gu_book.proofs.book.Book.keep_trade.Goals as goal
 
 pub put-requires : goal.put-requires
 put-requires c =
-    let next = next_kept c.self.invariant.kept c.args.made.now.number (entry_of_change c.args.made.now) (rw (← c.self.view_is) at c.requires.accepted) (ap is_change c.in-Trade.is) in
-    let key : Key = record { firm = c.in-Trade.firm; account = c.in-Trade.account; instrument = c.in-Trade.instrument } in
-    trade_fits next key c.in-Trade.side c.in-Trade.lots c.in-Trade.is (few_live c.self.invariant) c.self.invariant.kept.within c.self.inside.positions c.self.invariant.stands
+    let may = may_follow c.self.invariant c.args.made.now.number (entry_of_change c.args.made.now) (rw (← c.self.view_is) at c.requires.accepted) (ap is_change c.requires.trade) in
+    trade_fits may c.args.traded.now c.requires.trade
 
 pub plant-requires-clause-due : goal.plant-requires-clause-due
 plant-requires-clause-due c =
-    let next = next_kept c.self.invariant.kept c.args.made.now.number (entry_of_change c.args.made.now) (rw (← c.self.view_is) at c.requires.accepted) (ap is_change c.in-Trade.is) in
-    due_same (record_of c.args.made.now) c.self.inside.trees c.ready.new.self c.in_ok-ready.ensures.same (c.self.inside.house, live c.self.inside.entries.items, next)
+    let may = may_follow c.self.invariant c.args.made.now.number (entry_of_change c.args.made.now) (rw (← c.self.view_is) at c.requires.accepted) (ap is_change c.requires.trade) in
+    due_same (record_of c.args.made.now) c.self.inside.trees c.ready.new.self c.in_ok-ready.ensures.same (c.self.inside.house, live c.self.inside.entries.items, may.next)
 
 pub push-requires-clause-accepted : goal.push-requires-clause-accepted
 push-requires-clause-accepted c = (c.self.inside.house, simp (c.make_room.ensures.items) (rw (← c.self.view_is) at c.requires.accepted))
@@ -29,17 +27,17 @@ invariant_of-self-in_err-ready c =
 pub invariant_of-self-in_err-put : goal.invariant_of-self-in_err-put
 invariant_of-self-in_err-put c =
     simp (c.make_room.ensures.items)
-    (still c.self.invariant c.ready.new.self c.in_ok-ready.ensures.same c.make_room.new.ids c.make_room.ensures.ids c.put.new.self c.in_err-put.ensures.same)
+    (still c.self.invariant c.ready.new.self c.in_ok-ready.ensures.same c.make_room.new.ids c.make_room.ensures.ids c.put.new.positions c.in_err-put.ensures.same)
 
 pub invariant_of-self-2 : goal.invariant_of-self-2
 invariant_of-self-2 c =
-    let next = next_kept c.self.invariant.kept c.args.made.now.number (entry_of_change c.args.made.now) (rw (← c.self.view_is) at c.requires.accepted) (ap is_change c.in-Trade.is) in
-    let key : Key = record { firm = c.in-Trade.firm; account = c.in-Trade.account; instrument = c.in-Trade.instrument } in
+    let ok = rw (← c.self.view_is) at c.requires.accepted in
+    let may = may_follow c.self.invariant c.args.made.now.number (entry_of_change c.args.made.now) ok (ap is_change c.requires.trade) in
     let l = live c.self.inside.entries.items in
-    let filed = follows_same (record_of c.args.made.now) c.self.inside.trees c.ready.new.self c.plant.new.trees c.in_ok-ready.ensures.same c.plant.ensures.follows c.self.inside.house l next in
+    let filed = follows_same (record_of c.args.made.now) c.self.inside.trees c.ready.new.self c.plant.new.trees
+    c.in_ok-ready.ensures.same c.plant.ensures.follows c.self.inside.house l may.next in
     simp (c.push.ensures.items, c.make_room.ensures.items)
-    (book_apart c.self.invariant c.args.made.now.number (entry_of_change c.args.made.now) (rw (← c.self.view_is) at c.requires.accepted)
-    c.push.new.ids (rw c.make_room.ensures.items at c.push.ensures.ids) (ap is_change c.in-Trade.is) c.plant.new.trees filed c.plant.ensures.last
-    c.self.inside.fees (trade_free next key c.in-Trade.side c.in-Trade.lots c.in-Trade.is c.self.inside.fees c.self.invariant.charged)
-    c.put.new.self (trade_stands next key c.in-Trade.side c.in-Trade.lots c.in-Trade.is c.self.inside.positions c.put.new.self c.self.invariant.stands c.in_ok-put.ensures.added)
-    (ap (pair_of l c.args.made.now.firm.now) c.in-Trade.is))
+    (book_apart c.self.invariant c.args.made.now.number (entry_of_change c.args.made.now) ok c.push.new.ids (rw c.make_room.ensures.items at c.push.ensures.ids)
+    (ap is_change c.requires.trade) c.plant.new.trees filed c.plant.ensures.last (trade_free may c.args.traded.now c.requires.trade)
+    c.put.new.positions (trade_stands may c.args.traded.now c.requires.trade c.put.new.positions c.in_ok-put.ensures.put)
+    (ap (pair_of l c.args.made.now.firm.now) c.requires.trade))

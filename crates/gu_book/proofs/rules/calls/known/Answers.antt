@@ -1,6 +1,6 @@
 use Rattle.std.proofs.Common.{◌-◌, ◌<◌, length, sym, ◌∙◌}
 use Rattle.gu_depend.proofs.Vocabulary.{Call}
-use Rattle.gu_book.proofs.Indexed.{stands_within, stands_found, new_answer, known_answer}
+use Rattle.gu_book.proofs.LookedUp.{stands_within, stands_found, new_answer, known_answer}
 use Rattle.gu_book.proofs.rules.calls.known.Goals as goal
 
 pub returns-in_default : goal.returns-in_default

@@ -1,7 +1,7 @@
 use Rattle.std.proofs.Common.{◌≡◌, ℕ, ◌+◌, List, [], ◌∷◌, drop, take, refl, sym, ◌∙◌, ap, subst, arith, None, Some, filter_map, sum_by}
 use Rattle.std.proofs.lemmas.List.Sums.{sum_by-cons, sum_by-append}
 use Rattle.gu_book.proofs.Vocabulary.{Key, holding_away, part_away, HaveRoom, HaveMoved, Holding}
-use Rattle.gu_book.proofs.HoldingRows.{some_here, none_here, some_more, none_more, put_ok, none_gone, one_put, more_put, room_still}
+use Rattle.gu_book.proofs.HoldingRows.{given_here, given_more, none_more, put_ok, none_gone, one_put, more_put, room_still}
 use Rattle.gu_book.proofs.rules.holdings.put_away.Goals.{in-Some+else-is_err, in_default}
 use Rattle.gu_book.proofs.rules.holdings.put_away.Goals as goal
 
@@ -31,8 +31,8 @@ loop-part-preserved c =
     elim c.match-account_away.branch [
       | in-Some+else-is_err w ↦ (
           let h : Holding = holding_away whole by w.in-Some.account.now c.part-item.result.lots in
-          let here = some_here f parts i c.part-item.result h c.loop-part-test.true c.part-item.is w.in-Some.ensures in
-          let more = some_more f parts i c.part-item.result h c.loop-part-test.true c.part-item.is w.in-Some.ensures in
+          let here = given_here f parts i c.part-item.result (Some h) c.loop-part-test.true c.part-item.is w.in-Some.ensures in
+          let more = given_more f parts i c.part-item.result (Some h) c.loop-part-test.true c.part-item.is w.in-Some.ensures in
           let key : Key = record { firm = c.loop-part.key.firm; account = w.in-Some.account.now; instrument = c.loop-part.key.instrument } in
           let same : key ≡ h.key = ap (λ f. let k : Key = record { firm = f; account = w.in-Some.account.now; instrument = c.loop-part.key.instrument } in k) (at.firm ∙ c.requires.home)
           ∙ ap (λ i. let k : Key = record { firm = by; account = w.in-Some.account.now; instrument = i } in k) at.instrument in
@@ -56,7 +56,7 @@ loop-part-preserved c =
           })
           )
       | in_default w ↦ (
-          let here = none_here f parts i c.part-item.result c.loop-part-test.true c.part-item.is w.in_default.ensures in
+          let here = given_here f parts i c.part-item.result None c.loop-part-test.true c.part-item.is w.in_default.ensures in
           let more = none_more f parts i c.part-item.result c.loop-part-test.true c.part-item.is w.in_default.ensures in
           rw (w.positions-is, w.key-is, w.moved-is) (record {
             done = omega (arith, more_done);

@@ -1,6 +1,6 @@
 //! Where in the history the entry of a firm's id stands, and the Reverse of an entry: found without going over the history.
 ghost use Rattle.std.specs.Prelude.{◌≡◌, ◌==◌, [], ℕ, Some, None, if◌then◌else◌, OnOk, OnErr};
-ghost use Rattle.gu_book.specs.Index.{reversal_in, IsIndexOf};
+ghost use Rattle.gu_book.specs.Lookups.{reversal_in, AreLookupsOf};
 
 use gu_base::{Memory, Number};
 use gu_ids::Ids;
@@ -8,19 +8,19 @@ use std::alloc::Global;
 
 /// What is found of a history without going over it.
 #[derive(Drop)]
-pub(crate) struct Index {
+pub(crate) struct Lookups {
     /// The entries, by firm and id.
     pub(crate) ids: Ids,
     /// The Reverses, by the entries that they name.
     pub(crate) reversals: Reversals,
 }
 
-impl Index {
+impl Lookups {
     /// That of no history.
-    pub(crate) fn new(alloc: Global) -> Index
-        ensures { IsIndexOf result [] }
+    pub(crate) fn new(alloc: Global) -> Lookups
+        ensures { AreLookupsOf result [] }
     {
-        Index {
+        Lookups {
             ids: Ids::new(alloc),
             reversals: Reversals::new(alloc),
         }

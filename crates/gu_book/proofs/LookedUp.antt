@@ -1,6 +1,6 @@
 -- What is found of a history without going over it is what a search of it finds, also with one more entry.
 use Rattle.std.proofs.Common.{◌≡◌, ℕ, suc, ◌+◌, ◌-◌, ◌<◌, ◌≤◌, Bool, true, false, ◌&&◌, List, [], ◌∷◌, ◌++◌, length, get_or, refl, sym, ◌∙◌, ap, subst}
-use Rattle.std.proofs.Common.{arith, Option, cond, Some, None, find, bytes_eq, option_map, ◌==◌}
+use Rattle.std.proofs.Common.{arith, Option, cond, Some, None, find, bytes_eq, option_map, option_and_then, ◌==◌, count_by, Contains}
 use Rattle.gu_book.proofs.Vocabulary.{option_or, AllByRecursion, same_id, NoIdTwice, Ids, reversal_in, Reversals}
 use Rattle.std.proofs.lemmas.Bool.{and_parts, eqb-true}
 use Rattle.std.proofs.lemmas.List.Folds.{find-append}
@@ -8,17 +8,22 @@ use Rattle.std.proofs.lemmas.Map.Keys.{IsDistinct-head, IsDistinct-tail}
 use Rattle.std.proofs.lemmas.Slice.Eq.{bytes_eq-Decides}
 use Rattle.gu_depend.proofs.Vocabulary.{House, knows_firm, same_command, numbered_as, numbered_from, records, is_reverse_of, unless, Call, answer_to, answer_by, is_same_id, is_same_call, entry_of}
 use Rattle.gu_depend.proofs.Vocabulary.{reversal_of, on_change, reverse_rest, command_refusal, call_of, Command, Reverse, Answer, Accepted, Repeated, Entry, Record, UnknownFirm, DuplicateId}
-use Rattle.gu_depend.proofs.Vocabulary.{most_entries}
+use Rattle.gu_depend.proofs.Vocabulary.{RisesFrom, most_entries, number_same}
 use Rattle.gu_base.specs.declared.entry.Answer.TheVariants.{Refused}
 use Rattle.gu_base.proofs.Accepted.{first_none, allowed, open_from_none}
-use Rattle.gu_base.proofs.Basics.{bytes_symm, nothing_here}
+use Rattle.gu_base.proofs.Basics.{bytes_symm, mapped_none}
 use Rattle.gu_base.proofs.LiveLaws.{numbered_push}
-use Rattle.gu_base.proofs.Numbered.{found_at}
+use Rattle.gu_base.proofs.Numbered.{found_at, known_entry}
+use Rattle.gu_base.proofs.Searches.{found_in}
+use Rattle.gu_depend.proofs.Finds.{count_cons, found_once}
+use Rattle.gu_depend.proofs.Replay.{number_once}
+use Rattle.gu_depend.proofs.StandsUnder.{rises_distinct}
+use Rattle.gu_book.proofs.Once.{both_found, none_of_both, once_at}
 use Rattle.gu_ids.specs.Chains.{count, AreIdsOf as AreChainsOf}
 use Rattle.gu_ids.specs.Newest.{newest_of}
 use Rattle.gu_ids.proofs.NewestLaws.{newest_push}
 use Rattle.gu_ids.proofs.Walk.{count_is}
-use Rattle.gu_book.specs.Index.{number_of, AreIdsOf, AreReversalsOf}
+use Rattle.gu_book.specs.Lookups.{number_of, AreIdsOf, AreReversalsOf}
 
 -- ---- a search of a history with one more entry
 
@@ -73,63 +78,37 @@ module _ {h : List Entry} {ids : Ids} (are : AreIdsOf ids h) (t : House) (e : En
 
 -- ---- the call that an id names
 
--- where a call's firm and id stand
-pub record Stands (c : Call) (m n : ℕ) (h : List Entry) : Type 0 where
-  pub place : ℕ
-  pub number : n ≡ m + place
-  pub within : place < length h
-  pub same : (e : Entry) → e ≡ get_or h place e → find (is_same_id c) (numbered_from m h) ≡ Some (numbered_as n e)
+rises_numbered : (m : ℕ) (h : List Entry) → RisesFrom m (numbered_from m h)
+rises_numbered m [] = tt
+rises_numbered m (e ∷ h) = (omega arith, rises_numbered (m + 1) h)
 
-stands_by : (c : Call) (m n : ℕ) (d : Entry) (h : List Entry) (b : Bool) → is_same_id c (numbered_as m d) ≡ b
-    → (option_map (λ (r : Record). r.number) (find (is_same_id c) (numbered_from (m + 1) h)) ≡ Some n → Stands c (m + 1) n h)
-    → option_map (λ (r : Record). r.number) (cond b (Some (numbered_as m d)) (find (is_same_id c) (numbered_from (m + 1) h))) ≡ Some n → Stands c m n (d ∷ h)
-stands_by c m n d h true test later e =
-    let number : m ≡ n = cc in
-    record {
-      place = 0;
-      number = omega (arith, number);
-      within = omega arith;
-      same = λ x is. ap (λ b. cond b (Some (numbered_as m d)) (find (is_same_id c) (numbered_from (m + 1) h))) test
-          ∙ (ap (λ y. Some (numbered_as m y)) (sym is) ∙ ap (λ q. Some (numbered_as q x)) number);
-    }
-stands_by c m n d h false test later e =
-    let s = later e in
-    let number = s.number in
-    let within = s.within in
-    record {
-      place = suc s.place;
-      number = omega (arith, number);
-      within = omega (arith, within);
-      same = λ x is. ap (λ b. cond b (Some (numbered_as m d)) (find (is_same_id c) (numbered_from (m + 1) h))) test ∙ s.same x is;
-    }
+-- a record of the history is found by its number
+by_number : (h : List Entry) (r : Record) → Contains (records h) r → entry_of h r.number ≡ Some r
+by_number h r among =
+    found_once (λ (q : Record). q.number == r.number) (records h) r among (number_same r.number) (number_once (records h) (rises_distinct 1 (records h) (rises_numbered 1 h)) r.number)
 
-pub stands : (c : Call) (m n : ℕ) (h : List Entry) → option_map (λ (r : Record). r.number) (find (is_same_id c) (numbered_from m h)) ≡ Some n → Stands c m n h
-stands c m n [] e = absurd (cc)
-stands c m n (d ∷ h) e = stands_by c m n d h (is_same_id c (numbered_as m d)) refl (λ later. stands c (m + 1) n h later) e
+numbered_some : (o : Option Record) (n : ℕ) → option_map (λ (r : Record). r.number) o ≡ Some n → (r : Record) × ((o ≡ Some r) × (r.number ≡ n))
+numbered_some None n e = absurd (cc)
+numbered_some (Some r) n e = (r, (refl, cc))
 
 module _ (h : List Entry) (c : Call) (n : ℕ) (there : number_of h c ≡ Some n) where
+  its_record : (r : Record) × ((find (is_same_id c) (records h) ≡ Some r) × (r.number ≡ n))
+  its_record = numbered_some (find (is_same_id c) (records h)) n there
+
+  its_entry : entry_of h n ≡ Some its_record.0
+  its_entry = subst (λ k. entry_of h k ≡ Some its_record.0) its_record.1.1 (by_number h its_record.0 (found_in (is_same_id c) (records h) its_record.0 its_record.1.0))
+
   -- the entry of the number stands in the history
   pub stands_within : n - 1 < length h
-  stands_within =
-      let s = stands c 1 n h there in
-      let number = s.number in
-      let within = s.within in
-      omega (arith, number, within)
+  stands_within = let at = found_at n 1 h its_record.0 its_entry in let from = at.from in let within = at.within in omega (arith, from, within)
 
   -- and has the id
   pub stands_found : (e : Entry) → e ≡ get_or h (n - 1) e → find (is_same_id c) (records h) ≡ Some (numbered_as n e)
-  stands_found e is =
-      let s = stands c 1 n h there in
-      let number = s.number in
-      let place : n - 1 ≡ s.place = omega (arith, number) in
-      s.same e (is ∙ ap (λ k. get_or h k e) place)
+  stands_found e is = its_record.1.0 ∙ (sym its_entry ∙ known_entry h n e (found_at n 1 h its_record.0 its_entry).from stands_within is)
 
 -- no record has the id: none is of the call itself
 pub no_call : (c : Call) (rs : List Record) → find (is_same_id c) rs ≡ None → find (is_same_call c) rs ≡ None
-no_call c [] e = refl
-no_call c (r ∷ rs) e =
-    let p = nothing_here (is_same_id c r) r (find (is_same_id c) rs) e in
-    ap (λ b. cond (b && same_command r.command c.command) (Some r) (find (is_same_call c) rs)) p.0 ∙ no_call c rs p.1
+no_call c = none_of_both (is_same_id c) (λ (r : Record). same_command r.command c.command)
 
 -- no later entry has the id
 no_later : (c : Call) (m : ℕ) (d : Entry) (h : List Entry) → AllByRecursion (λ y. same_id d y ≡ false) h → d.firm ≡ c.firm → d.id ≡ c.id
@@ -142,31 +121,26 @@ no_later c m d (e ∷ h) apart firm id =
     ∙ (ap (λ b. b && bytes_eq e.id d.id) (bytes_symm e.firm d.firm) ∙ (ap (λ b. bytes_eq d.firm e.firm && b) (bytes_symm e.id d.id) ∙ apart.0))) in
     ap (λ b. cond b (Some (numbered_as m e)) (find (is_same_id c) (numbered_from (m + 1) h))) other ∙ no_later c (m + 1) d h apart.1 firm id
 
-call_by : (c : Call) (m : ℕ) (d : Entry) (h : List Entry) (r : Record) (b : Bool) → is_same_id c (numbered_as m d) ≡ b → NoIdTwice (d ∷ h)
-    → (find (is_same_id c) (numbered_from (m + 1) h) ≡ Some r → find (is_same_call c) (numbered_from (m + 1) h) ≡ cond (same_command r.command c.command) (Some r) None)
-    → cond b (Some (numbered_as m d)) (find (is_same_id c) (numbered_from (m + 1) h)) ≡ Some r
-    → cond (b && same_command d.command c.command) (Some (numbered_as m d)) (find (is_same_call c) (numbered_from (m + 1) h)) ≡ cond (same_command r.command c.command) (Some r) None
-call_by c m d h r true test once later e =
-    let is : numbered_as m d ≡ r = cc in
+ids_once : (c : Call) (m : ℕ) (h : List Entry) → NoIdTwice h → count_by (is_same_id c) (numbered_from m h) ≤ 1
+ids_once c m [] once = omega arith
+ids_once c m (d ∷ h) once =
+    let a = count_cons (is_same_id c) (numbered_as m d) (numbered_from (m + 1) h) in
+    let b = once_at (is_same_id c) (numbered_from (m + 1) h) (is_same_id c (numbered_as m d)) (ids_once c (m + 1) h (IsDistinct-tail same_id d h once)) (λ test.
     let p = and_parts (bytes_eq d.firm c.firm) (bytes_eq d.id c.id) test in
-    let none = no_call c (numbered_from (m + 1) h) (no_later c (m + 1) d h (IsDistinct-head same_id d h once) ((bytes_eq-Decides d.firm c.firm).0 p.0) ((bytes_eq-Decides d.id c.id).0 p.1)) in
-    ap (λ o. cond (same_command d.command c.command) (Some (numbered_as m d)) o) none ∙ ap (λ (q : Record). cond (same_command q.command c.command) (Some q) None) is
-call_by c m d h r false test once later e = later e
+    no_later c (m + 1) d h (IsDistinct-head same_id d h once) ((bytes_eq-Decides d.firm c.firm).0 p.0) ((bytes_eq-Decides d.id c.id).0 p.1)) in
+    omega (arith, a, b)
 
 -- the one entry of the id is of the call itself, or none is
-the_call : (c : Call) (m : ℕ) (h : List Entry) (r : Record) → NoIdTwice h → find (is_same_id c) (numbered_from m h) ≡ Some r
-    → find (is_same_call c) (numbered_from m h) ≡ cond (same_command r.command c.command) (Some r) None
-the_call c m [] r once e = absurd (cc)
-the_call c m (d ∷ h) r once e = call_by c m d h r (is_same_id c (numbered_as m d)) refl once (λ later. the_call c (m + 1) h r (IsDistinct-tail same_id d h once) later) e
-
-no_number : (o : Option Record) → option_map (λ (r : Record). r.number) o ≡ None → o ≡ None
-no_number None e = refl
-no_number (Some r) e = absurd (cc)
+the_call : (c : Call) (h : List Entry) (r : Record) → NoIdTwice h → find (is_same_id c) (records h) ≡ Some r
+    → find (is_same_call c) (records h) ≡ cond (same_command r.command c.command) (Some r) None
+the_call c h r once found =
+    both_found (is_same_id c) (λ (r : Record). same_command r.command c.command) (records h) (ids_once c 1 h once)
+    ∙ ap (option_and_then (λ (r : Record). cond (same_command r.command c.command) (Some r) None)) found
 
 -- the answer to a call whose id no entry has
 pub new_answer : (h : List Entry) (c : Call) → number_of h c ≡ None → (other : Answer) → other ≡ answer_by (find (is_same_call c) (records h)) (find (is_same_id c) (records h)) other
 new_answer h c none other =
-    let n = no_number (find (is_same_id c) (records h)) none in
+    let n = mapped_none (λ (r : Record). r.number) (find (is_same_id c) (records h)) none in
     sym (ap (λ o. answer_by o (find (is_same_id c) (records h)) other) (no_call c (records h) n) ∙ ap (λ o. answer_by None o other) n)
 
 answer_again : (r : Record) (b : Bool) (other : Answer) → cond b (Repeated r.number r.status) (Refused (DuplicateId r.number)) ≡ answer_by (cond b (Some r) None) (Some r) other
@@ -178,7 +152,7 @@ pub known_answer : (h : List Entry) (c : Call) (n : ℕ) (e : Entry) → NoIdTwi
     → cond (same_command e.command c.command) (Repeated n e.status) (Refused (DuplicateId n)) ≡ answer_by (find (is_same_call c) (records h)) (find (is_same_id c) (records h)) other
 known_answer h c n e once found other =
     answer_again (numbered_as n e) (same_command e.command c.command) other
-    ∙ sym (ap (λ o. answer_by o (find (is_same_id c) (records h)) other) (the_call c 1 h (numbered_as n e) once found)
+    ∙ sym (ap (λ o. answer_by o (find (is_same_id c) (records h)) other) (the_call c h (numbered_as n e) once found)
     ∙ ap (λ o. answer_by (cond (same_command e.command c.command) (Some (numbered_as n e)) None) o other) found)
 
 -- ---- reversals

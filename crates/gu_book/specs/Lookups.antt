@@ -7,8 +7,8 @@ use Rattle.gu_base.specs.declared.entry.Entry.{Entry}
 use Rattle.gu_ids.specs.declared.ids.Ids.{Ids}
 use Rattle.gu_ids.specs.Chains.{AreIdsOf as AreChainsOf}
 use Rattle.gu_ids.specs.Newest.{newest_of}
-use Rattle.gu_book.specs.declared.index.Index.{Index}
-use Rattle.gu_book.specs.declared.index.Reversals.{Reversals}
+use Rattle.gu_book.specs.declared.lookups.Lookups.{Lookups}
+use Rattle.gu_book.specs.declared.lookups.Reversals.{Reversals}
 
 -- an entry's number; 0 is none
 abbrev pub number_or_none : ℕ → Option ℕ
@@ -31,6 +31,6 @@ pub record AreIdsOf (ids : Ids) (h : List Entry) : Type 0 where
 pub record AreReversalsOf (reversals : Reversals) (h : List Entry) : Type 0 where
   pub numbers : (n : ℕ) → reversal_in reversals n ≡ option_map (λ r. r.number) (reversal_of h n)
 
-pub record IsIndexOf (index : Index) (h : List Entry) : Type 0 where
-  pub ids : AreIdsOf index.ids h
-  pub reversals : AreReversalsOf index.reversals h
+pub record AreLookupsOf (lookups : Lookups) (h : List Entry) : Type 0 where
+  pub ids : AreIdsOf lookups.ids h
+  pub reversals : AreReversalsOf lookups.reversals h
