@@ -5,6 +5,8 @@
 //! lock: reading, decoding and writing are done without it.
 //! A connection that has no accepted Logon in time is ended.
 ghost use Rattle.std.specs.Prelude.{◌≡◌, true, is_some, OnOk, OnErr};
+ghost use Rattle.gu_desk.specs.Runs.{HasSeen};
+ghost use Rattle.gu_server.specs.Turns.{Replies};
 
 use crate::connection::{Brought, Closed, Connection};
 use gu_base::{AllocId, Answer, Command, FirmId};
@@ -109,7 +111,10 @@ impl<'a, J: Job, R: Wait + Clock, G: Gate> Worker<'a, J, R, G> {
         connection: &mut Connection<'_>,
         firm: &FirmId,
         answer: Option<Answer>,
-    ) -> (Seat<J>, Result<(), Closed>) {
+    ) -> (Seat<J>, Result<(), Closed>)
+        ensures seen { HasSeen J.opening seat.seen result.0.seen }
+        ensures replies { OnOk result.1 (Replies J.opening.house result.0.seen firm.now answer connection.old connection.new) }
+    {
         let (seat, reports) = self
             .desk
             .read_reports(self.rt, self.alloc, seat, firm, connection.looked());
