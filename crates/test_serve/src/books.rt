@@ -5,7 +5,35 @@ use gu_book::Book;
 use gu_parties::House;
 use std::alloc::Global;
 
-/// Enters a trade of the house in ESZ6: a firm has bought these lots, for this account. Whether it is accepted.
+/// A trade of the house in ESZ6: a firm has bought these lots, for this account.
+fn trade(firm: &[u8], account: &[u8], lots: u64) -> Option<Command> {
+    let firm = FirmId::new(firm)?;
+    let account = AccountId::new(account)?;
+    let instrument = InstrumentId::new(b"ESZ6")?;
+    Some(Command::Trade {
+        firm,
+        account,
+        instrument,
+        side: Side::Buy,
+        lots,
+    })
+}
+
+/// Has the house make this call. Whether it is accepted.
+fn is_accepted(alloc: Global, book: &mut Book, id: &[u8], command: &Command) -> bool {
+    let Some(by) = FirmId::new(b"HSE") else {
+        return false;
+    };
+    let Some(id) = AllocId::new(id) else {
+        return false;
+    };
+    match book.apply(alloc, &by, &id, command) {
+        Ok(Answer::Accepted { .. }) => true,
+        _ => false,
+    }
+}
+
+/// Enters a trade of the house. Whether it is accepted.
 fn enter(
     alloc: Global,
     book: &mut Book,
@@ -14,25 +42,9 @@ fn enter(
     account: &[u8],
     lots: u64,
 ) -> bool {
-    let (Some(by), Some(id), Some(firm), Some(account), Some(instrument)) = (
-        FirmId::new(b"HSE"),
-        AllocId::new(id),
-        FirmId::new(firm),
-        AccountId::new(account),
-        InstrumentId::new(b"ESZ6"),
-    ) else {
-        return false;
-    };
-    let command = Command::Trade {
-        firm,
-        account,
-        instrument,
-        side: Side::Buy,
-        lots,
-    };
-    match book.apply(alloc, &by, &id, &command) {
-        Ok(Answer::Accepted { .. }) => true,
-        _ => false,
+    match trade(firm, account, lots) {
+        Some(command) => is_accepted(alloc, book, id, &command),
+        None => false,
     }
 }
 

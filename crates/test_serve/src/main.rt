@@ -24,9 +24,9 @@ mod serving;
 mod telling;
 
 use std::io;
-use std::io::Read;
+use std::io::{ErrorKind, Read};
 use std::net::TcpListener;
-use telling::{tell_behind, tell_one, tell_two};
+use telling::tell_all;
 
 fn main(rt: HostRuntime) -> io::Result<()> {
     let alloc = rt.alloc();
@@ -34,7 +34,9 @@ fn main(rt: HostRuntime) -> io::Result<()> {
     rt.reader().read_to_end(&mut house)?;
     let listener = TcpListener::bind(&rt, "127.0.0.1:0")?;
     let at = listener.local_addr()?;
-    tell_two(&rt, alloc, &listener, at, house.as_slice())?;
-    tell_one(&rt, alloc, &listener, at, house.as_slice())?;
-    tell_behind(&rt, alloc, &listener, at, house.as_slice())
+    if tell_all(&rt, alloc, &listener, at, house.as_slice()) {
+        Ok(())
+    } else {
+        Err(io::Error::from(ErrorKind::InvalidData))
+    }
 }

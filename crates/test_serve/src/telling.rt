@@ -1,8 +1,7 @@
 //! The scenes of each book, one after the other, and what is written of them.
 
 use crate::books::{opened, thousand};
-use crate::peers::wrong;
-use crate::scenes::Scene;
+use crate::scenes::{Kind, Scene};
 use crate::serving::serve_scene;
 use gu_book::Book;
 use std::alloc::Global;
@@ -20,70 +19,63 @@ fn write_told(rt: &impl Print, told: &[u8], entries: usize) -> io::Result<()> {
     }
 }
 
-/// Serves a scene, and writes what came of it. The book comes back.
-fn tell<R: Threads + Wait + Clock + Print + Sync>(
+/// Serves the clients of a scene with this book, and writes what came of it. The book comes back. Whether all went well.
+fn tell<R: Threads + Wait + Clock + Print + Net<Stream = TcpStream> + Sync>(
     rt: &R,
     alloc: Global,
     listener: &TcpListener,
-    book: Book,
-    scene: Scene,
-) -> io::Result<Book> {
-    let (book, told) = serve_scene(rt, alloc, listener, book, scene)?;
-    match write_told(rt, told.as_slice(), book.history().len()) {
-        Ok(()) => Ok(book),
-        Err(e) => {
-            drop(book);
-            Err(e)
-        }
+    at: SocketAddr,
+    book: &mut Option<Book>,
+    kind: Kind,
+) -> bool {
+    let Some(scene) = Scene::new(rt, alloc, at, kind) else {
+        return false;
+    };
+    let Some(given) = book.take() else {
+        drop(scene);
+        return false;
+    };
+    let Some((back, told)) = serve_scene(rt, alloc, listener, given, scene) else {
+        return false;
+    };
+    let written = write_told(rt, told.as_slice(), back.history().len());
+    *book = Some(back);
+    written.is_ok()
+}
+
+/// The scenes of a book, one after the other. Whether all went well.
+fn tell_each<R: Threads + Wait + Clock + Print + Net<Stream = TcpStream> + Sync>(
+    rt: &R,
+    alloc: Global,
+    listener: &TcpListener,
+    at: SocketAddr,
+    mut book: Option<Book>,
+    kinds: &[Kind],
+) -> bool {
+    let mut is_told = true;
+    for kind in kinds {
+        is_told = is_told && tell(rt, alloc, listener, at, &mut book, *kind);
     }
+    drop(book);
+    is_told
 }
 
-/// The scenes of a book with two trades: the gate, and strangers.
-pub(crate) fn tell_two<R: Threads + Wait + Clock + Print + Net<Stream = TcpStream> + Sync>(
+/// The scenes of a book with two trades, of one with a trade, and of one with a thousand. Whether all went well.
+pub(crate) fn tell_all<R: Threads + Wait + Clock + Print + Net<Stream = TcpStream> + Sync>(
     rt: &R,
     alloc: Global,
     listener: &TcpListener,
     at: SocketAddr,
     house: &[u8],
-) -> io::Result<()> {
-    let Some(book) = opened(alloc, house, true) else {
-        return Err(wrong());
-    };
-    let book = tell(rt, alloc, listener, book, Scene::gate(rt, at)?)?;
-    let book = tell(rt, alloc, listener, book, Scene::strangers(rt, at)?)?;
-    drop(book);
-    Ok(())
-}
-
-/// The scenes of a book with one trade: a firm that comes again, and a silent peer.
-pub(crate) fn tell_one<R: Threads + Wait + Clock + Print + Net<Stream = TcpStream> + Sync>(
-    rt: &R,
-    alloc: Global,
-    listener: &TcpListener,
-    at: SocketAddr,
-    house: &[u8],
-) -> io::Result<()> {
-    let Some(book) = opened(alloc, house, false) else {
-        return Err(wrong());
-    };
-    let book = tell(rt, alloc, listener, book, Scene::retry(rt, at)?)?;
-    let book = tell(rt, alloc, listener, book, Scene::silent(rt, alloc, at)?)?;
-    drop(book);
-    Ok(())
-}
-
-/// The scene of a book with a thousand trades: a firm that is behind.
-pub(crate) fn tell_behind<R: Threads + Wait + Clock + Print + Net<Stream = TcpStream> + Sync>(
-    rt: &R,
-    alloc: Global,
-    listener: &TcpListener,
-    at: SocketAddr,
-    house: &[u8],
-) -> io::Result<()> {
-    let Some(book) = thousand(alloc, house) else {
-        return Err(wrong());
-    };
-    let book = tell(rt, alloc, listener, book, Scene::behind(rt, at)?)?;
-    drop(book);
-    Ok(())
+) -> bool {
+    let two = opened(alloc, house, true);
+    if !tell_each(rt, alloc, listener, at, two, &[Kind::Gate, Kind::Strangers]) {
+        return false;
+    }
+    let one = opened(alloc, house, false);
+    if !tell_each(rt, alloc, listener, at, one, &[Kind::Retry, Kind::Silent]) {
+        return false;
+    }
+    let many = thousand(alloc, house);
+    tell_each(rt, alloc, listener, at, many, &[Kind::Behind])
 }
