@@ -17,16 +17,16 @@ none_refused None n rest h = (refl, h)
 none_refused (Some r) n rest h = absurd (cc)
 
 -- where nothing is refused, the replay can be cut anywhere
-pub first_refused-cut : (t : House) (done before : List Record) (r : Record) (after : List Record)
+pub first_refused_cut : (t : House) (done before : List Record) (r : Record) (after : List Record)
     → first_refused t done (before ++ r ∷ after) ≡ None → refusal_of t (done ++ before) r.firm r.command ≡ None
-first_refused-cut t done [] r after h =
+first_refused_cut t done [] r after h =
     subst (λ l. refusal_of t l r.firm r.command ≡ None) (sym (append-nil done)) (none_refused (refusal_of t done r.firm r.command) r.number (first_refused t (done ++ r ∷ []) after) h).0
-first_refused-cut t done (d ∷ before) r after h =
+first_refused_cut t done (d ∷ before) r after h =
     subst (λ l. refusal_of t l r.firm r.command ≡ None) (append_assoc done (d ∷ []) before)
-    (first_refused-cut t (done ++ d ∷ []) before r after (none_refused (refusal_of t done d.firm d.command) d.number (first_refused t (done ++ d ∷ []) (before ++ r ∷ after)) h).1)
+    (first_refused_cut t (done ++ d ∷ []) before r after (none_refused (refusal_of t done d.firm d.command) d.number (first_refused t (done ++ d ∷ []) (before ++ r ∷ after)) h).1)
 
 pub legal_from_replay : (t : House) (l : List Record) → first_refused t [] l ≡ None → IsLegal t l
-legal_from_replay t l h = record { accepted = λ before after r e. first_refused-cut t [] before r after (subst (λ k. first_refused t [] k ≡ None) e h) }
+legal_from_replay t l h = record { accepted = λ before after r e. first_refused_cut t [] before r after (subst (λ k. first_refused t [] k ≡ None) e h) }
 
 replay_from : (t : House) (l : List Record) → IsLegal t l → (done rest : List Record) → l ≡ done ++ rest → first_refused t done rest ≡ None
 replay_from t l legal done [] e = refl

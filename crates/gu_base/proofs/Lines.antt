@@ -51,27 +51,27 @@ abbrev count_up_to : ℕ → List Record → ℕ
 count_up_to n [] = 0
 count_up_to n (r ∷ rs) = up_to n r + count_up_to n rs
 
-count_up_to-length : (n : ℕ) (l : List Record) → count_up_to n l ≤ length l
-count_up_to-length n [] = omega arith
-count_up_to-length n (r ∷ rs) = omega (arith, count_up_to-length n rs)
+count_up_to_length : (n : ℕ) (l : List Record) → count_up_to n l ≤ length l
+count_up_to_length n [] = omega arith
+count_up_to_length n (r ∷ rs) = omega (arith, count_up_to_length n rs)
 
-count_up_to-later : (n k : ℕ) (l : List Record) → n ≤ k → count_up_to n l ≤ count_up_to k l
-count_up_to-later n k [] h = omega arith
-count_up_to-later n k (r ∷ rs) h = omega (arith, count_up_to-later n k rs h)
+count_up_to_later : (n k : ℕ) (l : List Record) → n ≤ k → count_up_to n l ≤ count_up_to k l
+count_up_to_later n k [] h = omega arith
+count_up_to_later n k (r ∷ rs) h = omega (arith, count_up_to_later n k rs h)
 
-up_to-falls-by : (m : ℕ) (s : Record) (l : List Record) (n : EntryPart) (x : Node) → node_of (s ∷ l) n ≡ Some x → m < n.entry → (node_of l n ≡ Some x → count_up_to m l + 1 ≤ count_up_to n.entry l)
+up_to_falls_by : (m : ℕ) (s : Record) (l : List Record) (n : EntryPart) (x : Node) → node_of (s ∷ l) n ≡ Some x → m < n.entry → (node_of l n ≡ Some x → count_up_to m l + 1 ≤ count_up_to n.entry l)
     → (o : Option Node) → find (λ x. same_name x.name n) (nodes_of s.number s.firm s.command) ≡ o → count_up_to m (s ∷ l) + 1 ≤ count_up_to n.entry (s ∷ l)
-up_to-falls-by m s l n x e h rest None q =
+up_to_falls_by m s l n x e h rest None q =
     let found : node_of l n ≡ Some x = ap (λ o. option_or o (node_of l n)) (sym q) ∙ (sym (find-append (λ x. same_name x.name n) (nodes_of s.number s.firm s.command) (nodes l)) ∙ e) in
     omega (arith, rest found)
-up_to-falls-by m s l n x e h rest (Some y) q =
+up_to_falls_by m s l n x e h rest (Some y) q =
     let entry : n.entry ≡ s.number = made_entry n s.number s.firm s.command y q in
-    let later = count_up_to-later m n.entry l (omega (arith, h)) in
+    let later = count_up_to_later m n.entry l (omega (arith, h)) in
     omega (arith, later, entry)
 
-up_to-falls : (m : ℕ) (l : List Record) (n : EntryPart) (x : Node) → node_of l n ≡ Some x → m < n.entry → count_up_to m l + 1 ≤ count_up_to n.entry l
-up_to-falls m [] n x e h = absurd (cc)
-up_to-falls m (s ∷ l) n x e h = up_to-falls-by m s l n x e h (λ found. up_to-falls m l n x found h) (find (λ x. same_name x.name n) (nodes_of s.number s.firm s.command)) refl
+up_to_falls : (m : ℕ) (l : List Record) (n : EntryPart) (x : Node) → node_of l n ≡ Some x → m < n.entry → count_up_to m l + 1 ≤ count_up_to n.entry l
+up_to_falls m [] n x e h = absurd (cc)
+up_to_falls m (s ∷ l) n x e h = up_to_falls_by m s l n x e h (λ found. up_to_falls m l n x found h) (find (λ x. same_name x.name n) (nodes_of s.number s.firm s.command)) refl
 
 -- nodes have positive numbers, and each node above one a lower one
 pub record NumbersFall (l : List Record) : Type 0 where
@@ -84,7 +84,7 @@ few_node : (f g : ℕ) (l : List Record) (fall : NumbersFall l)
     → (o : Option Node) → node_of l m ≡ o → line_within f l o ≡ line_within g l o
 few_node f g l fall same n m x found a b up None e = refl
 few_node f g l fall same n m x found a b up (Some y) e =
-    let fewer = up_to-falls m.entry l n x found (fall.falls.lower n m x y found up e) in
+    let fewer = up_to_falls m.entry l n x found (fall.falls.lower n m x y found up e) in
     same m y e (omega (arith, fewer, a)) (omega (arith, fewer, b))
 
 few_above : (f g : ℕ) (l : List Record) (fall : NumbersFall l)
@@ -95,8 +95,8 @@ few_above f g l fall same n x found a b None up = refl
 few_above f g l fall same n x found a b (Some m) up = few_node f g l fall same n m x found a b up (node_of l m) refl
 
 few : (f g : ℕ) (l : List Record) (fall : NumbersFall l) (n : EntryPart) (x : Node) → node_of l n ≡ Some x → count_up_to n.entry l ≤ f → count_up_to n.entry l ≤ g → line_within f l (Some x) ≡ line_within g l (Some x)
-few zero g l fall n x found a b = let some = up_to-falls 0 l n x found (fall.positive n x found) in absurd (omega (arith, some, a))
-few (suc f) zero l fall n x found a b = let some = up_to-falls 0 l n x found (fall.positive n x found) in absurd (omega (arith, some, b))
+few zero g l fall n x found a b = let some = up_to_falls 0 l n x found (fall.positive n x found) in absurd (omega (arith, some, a))
+few (suc f) zero l fall n x found a b = let some = up_to_falls 0 l n x found (fall.positive n x found) in absurd (omega (arith, some, b))
 few (suc f) (suc g) l fall n x found a b = ap (λ xs. x ∷ xs) (few_above f g l fall (few f g l fall) n x found a b (parent x.kind) refl)
 
 number_node : (f g : ℕ) (l : List Record) (fall : NumbersFall l)
@@ -123,7 +123,7 @@ by_number (suc f) (suc g) l fall n x found a b = ap (λ xs. x ∷ xs) (number_ab
 -- the line of a node, in as many steps as there are changes or more
 pub line_long : (f : ℕ) (l : List Record) (fall : NumbersFall l) (n : EntryPart) (x : Node) → node_of l n ≡ Some x → length l ≤ f → line_of l n ≡ line_within f l (Some x)
 line_long f l fall n x found far =
-    let low = count_up_to-length n.entry l in
+    let low = count_up_to_length n.entry l in
     ap (line_within (length l) l) found ∙ few (length l) f l fall n x found low (omega (arith, low, far))
 
 -- and in as many as its number or more

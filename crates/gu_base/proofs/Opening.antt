@@ -115,15 +115,11 @@ none_told : {A : Type 0} (o : Option A) → is_none o ≡ true → o ≡ None
 none_told None e = refl
 none_told (Some a) e = absurd (cc)
 
-answer_is : (same dup : Option Record) (n : ℕ) (s : State) (room : Bool) (o : Option Refusal) → same ≡ None → dup ≡ None → room ≡ true → o ≡ None
+pub answer_is : (same dup : Option Record) (n : ℕ) (s : State) (room : Bool) (o : Option Refusal) → same ≡ None → dup ≡ None → room ≡ true → o ≡ None
     → answer_by same dup (accepted_or n s (first (unless room BookFull ∷ o ∷ []))) ≡ Accepted n s
-answer_is (Some r) dup n s room o a b c d = absurd (cc)
-answer_is None (Some r) n s room o a b c d = absurd (cc)
-answer_is None None n s false o a b c d = absurd (cc)
-answer_is None None n s true (Some r) a b c d = absurd (cc)
-answer_is None None n s true None a b c d = refl
+answer_is same dup n s room o a b c d = rw (a, b, c, d) refl
 
-knows_itself : (t : House) → knows_firm t t.house ≡ true
+pub knows_itself : (t : House) → knows_firm t t.house ≡ true
 knows_itself t = ap (λ b. b || list_any (bytes_eq t.house) t.firms) ((bytes_eq-Decides t.house t.house).1 refl)
 
 pub opening_accepted : (t : House) (es : List (Pair × Agreement)) (e : Pair × Agreement) → can_be_made t e ≡ true → AllByRecursion (λ d. same_pair d.0 e.0 ≡ false) es → length es < most_entries

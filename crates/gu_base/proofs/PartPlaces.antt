@@ -41,7 +41,7 @@ pub part_past : (n m : EntryPart) (by : List ℕ) (ps : List Part) → 1 ≤ n.p
 part_past n m by ps low past =
     sym (part_there n m by ps low ∙ ap (option_map (λ q. record { name = n; lots = q.lots; kind = kind_of_part m by q })) (slice_get_past ps (n.part - 1) past))
 
-no_low_part : (k i : ℕ) (n m : EntryPart) (by : List ℕ) (ps : List Part) → n.part < i → find (is_named n) (nodes_of_parts k i m by ps) ≡ None
+pub no_low_part : (k i : ℕ) (n m : EntryPart) (by : List ℕ) (ps : List Part) → n.part < i → find (is_named n) (nodes_of_parts k i m by ps) ≡ None
 no_low_part k i n m by [] below = refl
 no_low_part k i n m by (p ∷ ps) below =
     rw (apart i n.part (λ s. omega arith), and-false (eqb k n.entry)) (no_low_part k (i + 1) n m by ps (omega arith))
