@@ -51,7 +51,7 @@ bit_within n i h =
 shifted_low : (b k i : ℕ) → i < k → i < 64 → bit_at (b * 2 ^ k % 2 ^ 64) i ≡ 0
 shifted_low b k i lt few = bit_within (b * 2 ^ k) i few ∙ ap (λ n. bit_at n i) (omega arith) ∙ bit_at_cat_low b k 0 i lt ∙ bit_at-zero i
 
-shifted_high : (b k i : ℕ) → k ≤ i → i < 64 → bit_at (b * 2 ^ k % 2 ^ 64) i ≡ bit_at b (i - k)
+pub shifted_high : (b k i : ℕ) → k ≤ i → i < 64 → bit_at (b * 2 ^ k % 2 ^ 64) i ≡ bit_at b (i - k)
 shifted_high b k i le few = bit_within (b * 2 ^ k) i few ∙ ap (λ n. bit_at n i) (omega arith) ∙ bit_at_cat_high b k 0 i (pow_pos k) le
 
 -- bit i of either, where the first has it or the second
@@ -142,6 +142,36 @@ le_true a b le = grind (arith, nat_tests)
 
 le_false : (a b : ℕ) → b < a → leb a b ≡ false
 le_false a b lt = grind (arith, nat_tests)
+
+-- no SOH stands before a place
+abbrev pub NoneBefore : List ℕ → ℕ → Type 0
+NoneBefore bytes at = (k : ℕ) → k < at → is_soh (get_or bytes k 0) ≡ false
+
+module _ (bytes : List ℕ) (at n marks : ℕ) (h : AreMarks bytes at n marks) (before : NoneBefore bytes at) where
+  -- none of the first m bits is set
+  none_up_to : (m : ℕ) → m ≤ n → ((i : ℕ) → i < m → bit_at marks i ≡ 0) → NoneBefore bytes (at + m)
+  none_up_to m few z k lt = elim (cases_lt k at) [
+    | inl below ↦ before k below
+    | inr above ↦
+        let place : at + (k - at) ≡ k = omega arith in
+        subst (λ (j : ℕ). is_soh (get_or bytes j 0) ≡ false) place (bit_zero _ (sym (h.inside (k - at) (omega arith)) ∙ z (k - at) (omega arith)))
+  ]
+
+  -- no bit is set
+  pub none_marked : marks ≡ 0 → NoneBefore bytes (at + n)
+  none_marked z = none_up_to n (omega arith) (λ i lt. ap (λ k. bit_at k i) z ∙ bit_at-zero i)
+
+  -- the lowest bit that is set
+  pub first_marked : at + n ≤ length bytes → 0 < marks → marks < 2 ^ 64 → at + count_trailing_zeros 64 marks ≡ position_or_len is_soh bytes
+  first_marked room some fits =
+      let t = count_trailing_zeros 64 marks in
+      let place = bit_at-trailing_zeros w64 marks some fits in
+      let inside : t < n = elim (cases_lt t n) [
+        | inl lt ↦ lt
+        | inr past ↦ absurd (omega (arith, place.1, h.outside t past))
+      ] in
+      let here : is_soh (get_or bytes (at + t) 0) ≡ true = bit_one _ (sym (h.inside t inside) ∙ place.1) in
+      sym (position_or_len_is is_soh bytes (at + t) 0 (omega arith) (none_up_to t (omega arith) place.2) (λ _. here))
 
 -- where the lowest bit that is set stands, there is the first SOH
 pub record Lowest (bytes : List ℕ) (at base marks end : ℕ) : Type 0 where

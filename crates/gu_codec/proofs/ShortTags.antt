@@ -1,6 +1,6 @@
 -- Fields with short tags, which are told without a walk over them.
 use Rattle.std.proofs.Common.{◌≡◌, ◌≢◌, ℕ, zero, suc, ◌+◌, ◌-◌, ◌*◌, ◌<◌, ◌≤◌, inl, inr, ◌⊎◌, Bool, true, false, eqb, ltb, List, [], ◌∷◌, length}
-use Rattle.std.proofs.Common.{get_or, take, drop, Some, refl, sym, ap, subst, ◌∙◌, arith, below_more, length-drop}
+use Rattle.std.proofs.Common.{get_or, take, drop, Some, refl, sym, ap, subst, ◌∙◌, arith, length-drop}
 use Rattle.std.specs.Prelude.{◌&&◌, ◌||◌, not}
 use Rattle.std.proofs.lemmas.List.{get_or_past, get_or-take, get_or-drop, drop-drop, nil_from_length}
 use Rattle.std.proofs.lemmas.Bool.{eqb-true, eq-eqb, lt-ltb, and_parts, cases_lt}
@@ -9,28 +9,6 @@ use Rattle.std.specs.List.{position_or_len, before_first}
 use Rattle.gu_base.specs.Names.{is_digit}
 use Rattle.gu_codec.specs.Fields.{tag_after, is_soh, value_at, field_at, are_fields, is_short_front, short_front, ShortBehind, AllShort}
 use Rattle.gu_codec.proofs.FieldSteps.{tag_goes, test_goes, test_ends}
-
-front_behind : (bytes : List ℕ) (k : ℕ)
-    → is_short_front (get_or bytes (k + 1) 0) (get_or bytes (k + 2) 0) (get_or bytes (k + 3) 0) (get_or bytes (k + 4) 0) (get_or bytes (k + 5) 0) ≡ short_front bytes (k + 1)
-front_behind bytes k =
-    let b : k + 2 ≡ k + 1 + 1 = omega arith in
-    let c : k + 3 ≡ k + 1 + 2 = omega arith in
-    let d : k + 4 ≡ k + 1 + 3 = omega arith in
-    let e : k + 5 ≡ k + 1 + 4 = omega arith in
-    rw (b, c, d, e) refl
-
-or_right : (x y : Bool) → x ≡ false → (x || y) ≡ true → y ≡ true
-or_right true y e h = absurd cc
-or_right false y e h = h
-
--- one more place behind which a field may begin, if a SOH stands there
-pub behind_more : (bytes : List ℕ) (n : ℕ) (holds may : Bool)
-    → may ≡ is_short_front (get_or bytes (n + 1) 0) (get_or bytes (n + 2) 0) (get_or bytes (n + 3) 0) (get_or bytes (n + 4) 0) (get_or bytes (n + 5) 0)
-    → (holds ≡ true → ShortBehind bytes n) → (holds && (not (eqb (get_or bytes n 0) 1) || may)) ≡ true → ShortBehind bytes (n + 1)
-behind_more bytes n holds may is before all =
-    let p = and_parts holds (not (eqb (get_or bytes n 0) 1) || may) all in
-    below_more (λ (k : ℕ). get_or bytes k 0 ≡ 1 → short_front bytes (k + 1) ≡ true) n (before p.0)
-    (λ soh. sym (front_behind bytes n) ∙ sym is ∙ or_right (not (eqb (get_or bytes n 0) 1)) may (ap not (eq-eqb (get_or bytes n 0) 1 soh)) p.1)
 
 no_soh : (b : ℕ) → not (eqb b 1) ≡ true → b ≢ 1
 no_soh b e is = let same : eqb b 1 ≡ true = eq-eqb b 1 is in absurd (cc)

@@ -1,5 +1,5 @@
 -- The SOH of some bytes, as the bits of a word.
-use Rattle.std.specs.Prelude.{◌≡◌, ℕ, ◌+◌, ◌<◌, ◌≤◌, false, nat_le, if◌then◌else◌, List, length, slice_index}
+use Rattle.std.specs.Prelude.{◌≡◌, ◌⊎◌, ℕ, ◌+◌, ◌<◌, ◌≤◌, Bool, false, nat_le, if◌then◌else◌, List, length, slice_index}
 use Rattle.std.specs.Int.{bit_at}
 use Rattle.gu_codec.specs.Fields.{is_soh}
 
@@ -19,3 +19,11 @@ pub record IsMarked (bytes : List ℕ) (at base marks : ℕ) : Type 0 where
   pub near : at ≤ base + 64
   pub clear : (k : ℕ) → at ≤ k → k < base → is_soh (slice_index bytes k) ≡ false
   pub bits : (i : ℕ) → i < 64 → bit_at marks i ≡ (if nat_le at (base + i) then soh_bit bytes (base + i) else 0)
+
+-- how many bytes are looked at in a step
+abbrev pub IsWindow : ℕ → Type 0
+IsWindow n = (n ≡ 64) ⊎ (n ≡ 32)
+
+-- a bit for each byte, from the lowest bit on: whether it passes a test
+abbrev pub AreBits : (ℕ → Bool) → List ℕ → ℕ → Type 0
+AreBits test bytes bits = (i : ℕ) → i < length bytes → bit_at bits i ≡ (if test (slice_index bytes i) then 1 else 0)

@@ -36,7 +36,7 @@ fn marks_of_32(bytes: &[u8], at: usize) -> u64
 
 /// The marks of 16 bytes.
 #[inline(always)]
-fn marks_of_16(bytes: &[u8], at: usize) -> u64
+pub(crate) fn marks_of_16(bytes: &[u8], at: usize) -> u64
     requires { at + 16 ≤ length bytes.now }
     ensures { AreMarks bytes.now at 16 result }
 {

@@ -1,6 +1,6 @@
 use Rattle.std.proofs.Common.{◌≡◌, ◌≤◌, ◌+◌, ◌-◌, length, true}
 use Rattle.gu_codec.specs.Fields.{ShortBehind, short_front}
-use Rattle.gu_codec.proofs.fields.are_short.Given as goal
+use Rattle.gu_codec.proofs.fields.are_short_by.Given as goal
 
 abbrev pub invariant-loop-i : goal.invariant-loop-i
 invariant-loop-i l = record {
