@@ -1,55 +1,47 @@
 -- The least number that stands on the parts of a node, and which it is in a list that the tree shows.
-use Rattle.gu_tree.proofs.Vocabulary.{◌≡◌, true, ℕ, ◌+◌, ◌<◌, ◌≤◌, min, Option, Some, None, List, [], ◌∷◌, ◌++◌, length, get_or, take, refl, ap, sym, ◌∙◌, arith}
-use Rattle.gu_tree.proofs.Vocabulary.{append_assoc, append-nil, flat_map, is_none, option_map, and_parts, nodes_of, decision_of, made_by, parts_of, Record, Place, Rose, Roses, leaf, parted, no_parts}
+use Rattle.gu_tree.proofs.Vocabulary.{min, ◌≡◌, true, ℕ, ◌+◌, ◌<◌, ◌≤◌, Option, Some, None, List, [], ◌∷◌, ◌++◌, length, get_or, take, refl, ap, sym, ◌∙◌, arith}
+use Rattle.gu_tree.proofs.Vocabulary.{append_assoc, append-nil, flat_map, option_map, and_parts, nodes_of, decision_of, made_by, parts_of, Record, Place, Rose, Roses, leaf, parted, no_parts}
 use Rattle.gu_tree.proofs.Vocabulary.{part_then, from_list, is_undecided_leaf, are_undecided_leaves, node_at, Head, IsNodeOf, ArePartsOf, numbers_on, least, numbers_at_each, numbers_on_parts}
-use Rattle.gu_tree.proofs.Vocabulary.{EntryPart, nodes_of_parts, splits, Part, Command, Split, height_of}
+use Rattle.gu_tree.proofs.Vocabulary.{EntryPart, nodes_of_parts, splits, Part, Command, Split, height_of, none_told, AllByRecursion, Node}
 use Rattle.std.specs.Option.{option_to_list}
-use Rattle.gu_tree.proofs.Parts.{over-more}
-use Rattle.gu_base.specs.declared.node.Node.{Node}
-use Rattle.gu_tree.specs.NumbersOn.{number_in, least_with, lesser, numbers_at}
+use Rattle.gu_tree.proofs.{Parts.{over_more}, Along.{IsReached, reach}}
+use Rattle.gu_tree.specs.NumbersOn.{number_in, lesser, numbers_at}
 use Rattle.gu_base.proofs.Searches.{find_passes}
-use Rattle.gu_tree.proofs.Along.{Each, IsReached, reach}
 
 -- ---- the least of two lists of numbers
 
-least_with-lesser : (n m : ℕ) (o : Option ℕ) → least_with n (Some (least_with m o)) ≡ least_with (min n m) o
-least_with-lesser n m None = refl
-least_with-lesser n m (Some k) = omega arith
+lesser_assoc : (a b c : Option ℕ) → lesser (lesser a b) c ≡ lesser a (lesser b c)
+lesser_assoc None b c = refl
+lesser_assoc (Some n) None c = refl
+lesser_assoc (Some n) (Some m) None = refl
+lesser_assoc (Some n) (Some m) (Some k) = let e : min (min n m) k ≡ min n (min m k) = omega arith in ap (λ (z : ℕ). Some z) e
 
-lesser-step : (n : ℕ) (a b : Option ℕ) → Some (least_with n (lesser a b)) ≡ lesser (Some (least_with n a)) b
-lesser-step n None b = refl
-lesser-step n (Some m) b = ap (λ k. Some k) (least_with-lesser n m b)
-
-pub least-append : (ns ms : List ℕ) → least (ns ++ ms) ≡ lesser (least ns) (least ms)
-least-append [] ms = refl
-least-append (n ∷ ns) ms = ap (λ o. Some (least_with n o)) (least-append ns ms) ∙ lesser-step n (least ns) (least ms)
+pub least_append : (ns ms : List ℕ) → least (ns ++ ms) ≡ lesser (least ns) (least ms)
+least_append [] ms = refl
+least_append (n ∷ ns) ms = ap (lesser (Some n)) (least_append ns ms) ∙ sym (lesser_assoc (Some n) (least ns) (least ms))
 
 -- ---- the numbers at the first parts of a node
 
 pub least_more : (xs : List Rose) (i : ℕ) (u : Rose) → i < length xs → u ≡ get_or xs i u
     → least (numbers_at_each (from_list (take (i + 1) xs))) ≡ lesser (least (numbers_at_each (from_list (take i xs)))) (least (numbers_at u))
 least_more xs i u h e =
-    ap least (over-more [] (λ a b. a ++ b) (λ _. refl) append-nil append_assoc numbers_at (λ xs. numbers_at_each (from_list xs)) refl (λ x xs. refl) xs i u h e)
-    ∙ least-append (numbers_at_each (from_list (take i xs))) (numbers_at u)
+    ap least (over_more [] (λ a b. a ++ b) (λ _. refl) append-nil append_assoc numbers_at (λ xs. numbers_at_each (from_list xs)) refl (λ x xs. refl) xs i u h e)
+    ∙ least_append (numbers_at_each (from_list (take i xs))) (numbers_at u)
 
 -- ---- where nothing stands on the parts
 
-undecided-numbers : (t : Rose) → is_undecided_leaf t ≡ true → numbers_at t ≡ []
-undecided-numbers (leaf h) is = none h.decision is
-  where
-    none : (o : Option ℕ) → is_none o ≡ true → option_to_list o ≡ []
-    none None e = refl
-    none (Some n) e = absurd (cc)
-undecided-numbers (parted h n ts) is = absurd (cc)
+undecided_numbers : (t : Rose) → is_undecided_leaf t ≡ true → numbers_at t ≡ []
+undecided_numbers (leaf h) is = ap option_to_list (none_told h.decision is)
+undecided_numbers (parted h n ts) is = absurd (cc)
 
-undecided-each : (ts : Roses) → are_undecided_leaves ts ≡ true → numbers_at_each ts ≡ []
-undecided-each no_parts is = refl
-undecided-each (part_then t ts) is =
+undecided_each : (ts : Roses) → are_undecided_leaves ts ≡ true → numbers_at_each ts ≡ []
+undecided_each no_parts is = refl
+undecided_each (part_then t ts) is =
     let b = and_parts (is_undecided_leaf t) (are_undecided_leaves ts) is in
-    rw (undecided-numbers t b.0, undecided-each ts b.1) refl
+    rw (undecided_numbers t b.0, undecided_each ts b.1) refl
 
 pub first_of_none : (t : Rose) (h : Head) (n : ℕ) (xs : List Rose) → parted h n (from_list xs) ≡ t → are_undecided_leaves (from_list xs) ≡ true → None ≡ least (numbers_on_parts t)
-first_of_none t h n xs o is = rw (← o, undecided-each (from_list xs) is) refl
+first_of_none t h n xs o is = rw (← o, undecided_each (from_list xs) is) refl
 
 -- ---- parts are counted from 1
 
@@ -57,49 +49,49 @@ first_of_none t h n xs o is = rw (← o, undecided-each (from_list xs) is) refl
 abbrev pub IsCounted : ℕ → Option Place → Node → Type 0
 IsCounted d above x = 1 ≤ d → 1 ≤ x.name.part
 
-parts-counted : (d : ℕ) (above : Option Place) (k i : ℕ) (up : EntryPart) (by : List ℕ) (ps : List Part) → 1 ≤ i → Each (IsCounted d above) (nodes_of_parts k i up by ps)
-parts-counted d above k i up by [] low = tt
-parts-counted d above k i up by (p ∷ ps) low = (λ _. low, parts-counted d above k (i + 1) up by ps (omega arith))
+parts_counted : (d : ℕ) (above : Option Place) (k i : ℕ) (up : EntryPart) (by : List ℕ) (ps : List Part) → 1 ≤ i → AllByRecursion (IsCounted d above) (nodes_of_parts k i up by ps)
+parts_counted d above k i up by [] low = tt
+parts_counted d above k i up by (p ∷ ps) low = (λ _. low, parts_counted d above k (i + 1) up by ps (omega arith))
 
-split-counted : (d : ℕ) (above : Option Place) (n : EntryPart) (k : ℕ) (by : List ℕ) (c : Command) → splits n c ≡ true → Each (IsCounted d above) (nodes_of k by c)
-split-counted d above n k by (Split up ps) e = parts-counted d above k 1 up by ps (omega arith)
-split-counted d above n k by _ e = absurd (cc)
+split_counted : (d : ℕ) (above : Option Place) (n : EntryPart) (k : ℕ) (by : List ℕ) (c : Command) → splits n c ≡ true → AllByRecursion (IsCounted d above) (nodes_of k by c)
+split_counted d above n k by (Split up ps) e = parts_counted d above k 1 up by ps (omega arith)
+split_counted d above n k by _ e = absurd (cc)
 
 -- ---- in a list that the tree shows
 
-decided-number : (o : Option Record) → option_to_list (option_map (λ r. r.number) o) ≡ number_in o
-decided-number None = refl
-decided-number (Some r) = refl
+decided_number : (o : Option Record) → option_to_list (option_map (λ r. r.number) o) ≡ number_in o
+decided_number None = refl
+decided_number (Some r) = refl
 
 module _ (l : List Record) where
-  node-numbers : (above : Option Place) (x : Node) (t : Rose) → IsNodeOf l above x t → numbers_at t ≡ numbers_on l x.name
-  node-numbers above x (leaf h) is =
+  node_numbers : (above : Option Place) (x : Node) (t : Rose) → IsNodeOf l above x t → numbers_at t ≡ numbers_on l x.name
+  node_numbers above x (leaf h) is =
       ap option_to_list (is.0).decision
-      ∙ (decided-number (decision_of l x.name)
+      ∙ (decided_number (decision_of l x.name)
       ∙ ap (λ o. number_in o ++ number_in (decision_of l x.name)) (sym is.1))
-  node-numbers above x (parted h n ts) is =
+  node_numbers above x (parted h n ts) is =
       ap (λ k. k ∷ option_to_list h.decision) (sym is.1.2)
       ∙ (ap (λ o. is.1.0.number ∷ option_to_list o) (is.0).decision
-      ∙ (ap (λ ns. is.1.0.number ∷ ns) (decided-number (decision_of l x.name))
+      ∙ (ap (λ ns. is.1.0.number ∷ ns) (decided_number (decision_of l x.name))
       ∙ ap (λ o. number_in o ++ number_in (decision_of l x.name)) (sym is.1.1)))
 
-  each-numbers : (above : Option Place) (xs : List Node) (ts : Roses) → ArePartsOf l above xs ts → numbers_at_each ts ≡ flat_map (λ x. numbers_on l x.name) xs
-  each-numbers above [] no_parts is = refl
-  each-numbers above (x ∷ xs) (part_then t ts) is =
-      let first = node-numbers above x t is.0 in
-      let rest = each-numbers above xs ts is.1 in
+  each_numbers : (above : Option Place) (xs : List Node) (ts : Roses) → ArePartsOf l above xs ts → numbers_at_each ts ≡ flat_map (λ x. numbers_on l x.name) xs
+  each_numbers above [] no_parts is = refl
+  each_numbers above (x ∷ xs) (part_then t ts) is =
+      let first = node_numbers above x t is.0 in
+      let rest = each_numbers above xs ts is.1 in
       λ i. first i ++ rest i
-  each-numbers above _ _ is = absurd is
+  each_numbers above _ _ is = absurd is
 
-  pub parts-numbers : (above : Option Place) (x : Node) (t : Rose) → IsNodeOf l above x t → numbers_on_parts t ≡ flat_map (λ x. numbers_on l x.name) (parts_of l x.name)
-  parts-numbers above x (leaf h) is = ap (λ o. flat_map (λ x. numbers_on l x.name) (made_by o)) (sym is.1)
-  parts-numbers above x (parted h n ts) is =
-      each-numbers (Some h.place) (nodes_of is.1.0.number is.1.0.firm is.1.0.command) ts is.1.3
+  pub parts_numbers : (above : Option Place) (x : Node) (t : Rose) → IsNodeOf l above x t → numbers_on_parts t ≡ flat_map (λ x. numbers_on l x.name) (parts_of l x.name)
+  parts_numbers above x (leaf h) is = ap (λ o. flat_map (λ x. numbers_on l x.name) (made_by o)) (sym is.1)
+  parts_numbers above x (parted h n ts) is =
+      each_numbers (Some h.place) (nodes_of is.1.0.number is.1.0.firm is.1.0.command) ts is.1.3
       ∙ ap (λ o. flat_map (λ x. numbers_on l x.name) (made_by o)) (sym is.1.1)
 
   -- what the tree shows at the end of a path
-  pub shown-at : (p : List ℕ) (v : Rose) (root : Node) (t : Rose) → IsNodeOf l None root t → node_at p t ≡ Some v → IsReached l IsCounted (length p) v
-  shown-at p v root t is e =
+  pub shown_at : (p : List ℕ) (v : Rose) (root : Node) (t : Rose) → IsNodeOf l None root t → node_at p t ≡ Some v → IsReached l IsCounted (length p) v
+  shown_at p v root t is e =
       reach l (1 + height_of t) IsCounted
-      (λ d above x h r within here its split. split-counted (d + 1) (Some h.place) x.name r.number r.firm r.command (find_passes (λ r. splits x.name r.command) l r split))
+      (λ d above x h r within here its split. split_counted (d + 1) (Some h.place) x.name r.number r.firm r.command (find_passes (λ r. splits x.name r.command) l r split))
       0 p v (length p) (omega arith) None root t (omega arith) (λ below. absurd (omega (arith, below))) is e

@@ -1,29 +1,23 @@
-use Rattle.std.proofs.Common.{rules, refl, arith}
+use Rattle.std.proofs.Common.{rules, refl}
 use Rattle.gu_tree.specs.Changes.{split_node}
-use Rattle.gu_tree.proofs.Parts.{going, goes-below, goes-has, tried-parted, tried-edit, tried-kept}
+use Rattle.gu_tree.proofs.Parts.{going, goes_below, goes_has, tried_parted, step_kept}
 use Rattle.gu_tree.proofs.node.Node.+split_at.Goals as goal
-
-pub index_mut-requires : goal.index_mut-requires
-index_mut-requires g t c =
-    let e = going _ c.in-Some.ensures.cases.0 (rw c.in-Parted.is at c.self-2.view_is) c.requires.leaf in
-    omega (arith, e.there, c.in-Parted.nodes.ok)
 
 pub split_at-requires : goal.split_at-requires
 split_at-requires g t c κs within =
     let e = going _ c.in-Some.ensures.cases.0 (rw c.in-Parted.is at c.self-2.view_is) c.requires.leaf in
-    (search rules, (search rules, (rw (← goes-below _ e c.index_mut.ensures.value) c.requires.leaf, (c.requires.some, c.requires.most))))
+    (search rules, (search rules, (rw (← goes_below _ e c.index_mut.ensures.value) c.requires.leaf, (c.requires.some, c.requires.most))))
 
 pub invariant_of-self : goal.invariant_of-self
 invariant_of-self g t c =
     let e = going _ c.in-Some.ensures.cases.0 (rw c.in-Parted.is at c.self-2.view_is) c.requires.leaf in
-    tried-parted (split_node c.args.entry c.args.parts.now) _ _ e c.index_mut.ensures.value _ c.split_at.result c.split_at.ensures.node c.split_at.ensures.err c.requires.leaf
+    tried_parted (split_node c.args.entry c.args.parts.now) _ _ c.split_at.result e c.index_mut.ensures.value c.split_at.ensures.node c.split_at.ensures.err
     (λ v. refl) (rw c.in-Parted.is at c.self-2.invariant)
 
-pub returns : goal.returns
-returns g t c =
-    let e = going _ c.in-Some.ensures.cases.0 (rw c.in-Parted.is at c.self-2.view_is) c.requires.leaf in
-    record {
-      name = goes-has _ _ e c.index_mut.ensures.value c.split_at.ensures.name;
-      node = tried-edit (split_node c.args.entry c.args.parts.now) _ _ e c.index_mut.ensures.value c.split_at.result c.split_at.ensures.node;
-      err = tried-kept (split_node c.args.entry c.args.parts.now) _ _ e c.index_mut.ensures.value c.split_at.result c.split_at.ensures.err;
-    }
+pub returns-clause-name : goal.returns-clause-name
+returns-clause-name g t c =
+    goes_has _ _ (going _ c.in-Some.ensures.cases.0 (rw c.in-Parted.is at c.self-2.view_is) c.requires.leaf) c.index_mut.ensures.value c.split_at.ensures.name
+
+pub returns-clause-err : goal.returns-clause-err
+returns-clause-err g t c =
+    step_kept _ _ _ _ _ _ _ c.in-Some.ensures.cases.0 (rw c.in-Parted.is at c.self-2.view_is) _ _ c.split_at.result c.index_mut.ensures.value c.split_at.ensures.err

@@ -1,7 +1,6 @@
-use Rattle.gu_tree.proofs.Vocabulary.{◌≡◌, arith, refl, head_of, node_at, edit_at, offer_node, offered_head, stand_path, IsLeaf}
-use Rattle.gu_tree.proofs.Inverses.{lesser-tree, named-cut}
-use Rattle.gu_tree.proofs.Parts.{some_and, at_there}
-use Rattle.gu_tree.proofs.ShowsLess.{stand-there, has_stand, decided-leaf, decided-moves, taken-shows}
+use Rattle.gu_tree.proofs.Vocabulary.{◌≡◌, arith, refl, head_of, edit_at, offer_node, offered_head, IsLeaf}
+use Rattle.gu_tree.proofs.Edits.{lesser_tree, named_cut, some_and, at_there}
+use Rattle.gu_tree.proofs.ShowsLess.{stand_there, has_stand, decided_leaf, decided_moves, taken_shows}
 use Rattle.gu_tree.proofs.tree.Tree.take_decision.Goals as goal
 
 pub path-requires : goal.path-requires
@@ -12,13 +11,13 @@ path-requires g c =
 pub at-requires : goal.at-requires
 at-requires g c =
     let v = some_and _ _ c.requires.decided in
-    let u = stand-there c.args.stand c.args.path.now.items c.args.self.now v.0 v.1 in
+    let u = stand_there c.args.stand c.args.path.now.items c.args.self.now v.0 v.1 in
     rw (c.path.ensures, c.as_slice-steps.ensures.value, c.self.view_is, u.1) refl
 
 pub offer_at-requires : goal.offer_at-requires
 offer_at-requires g c =
     let v = some_and _ _ c.requires.decided in
-    rw (c.as_slice-steps.ensures.value, c.self.view_is) (at_there IsLeaf _ v.0 v.1 (decided-leaf c.args.stand v.0 v.2))
+    rw (c.as_slice-steps.ensures.value, c.self.view_is) (at_there IsLeaf _ v.0 v.1 (decided_leaf c.args.stand v.0 v.2))
 
 pub returns-clause-node : goal.returns-clause-node
 returns-clause-node g c =
@@ -29,16 +28,15 @@ returns-clause-node g c =
 pub invariant_of-self : goal.invariant_of-self
 invariant_of-self g c =
     let v = some_and _ _ c.requires.decided in
-    let u = some_and (λ x. c.offer_at.new.self ≡ edit_at (offer_node (head_of x).place) c.args.path.now.items c.args.self.now)
-    (node_at (stand_path c.args.stand c.args.path.now.items) c.args.self.now) (returns-clause-node g c) in
-    let h = offered_head (head_of u.0).place (head_of v.0) in
-    lesser-tree (offer_node (head_of u.0).place) c.args.path.now.items c.args.self.now v.0 _ v.1 (omega arith) (λ name. named-cut name h v.0 refl)
-    (λ held. absurd (decided-moves c.args.stand v.0 v.2 held)) u.2 (rw c.self.view_is at c.self.invariant)
+    let place = (head_of c.at.result.now).place in
+    lesser_tree (offer_node place) c.args.path.now.items c.args.self.now v.0 _ v.1 (omega arith) (λ name. named_cut name (offered_head place (head_of v.0)) v.0 refl)
+    (λ held. absurd (decided_moves c.args.stand v.0 v.2 held))
+    (rw (c.as_slice-steps.ensures.value, c.self.view_is, c.head.ensures.head) at c.offer_at.ensures.node) (rw c.self.view_is at c.self.invariant)
 
 pub returns-clause-shows : goal.returns-clause-shows
 returns-clause-shows g c =
     let v = some_and _ _ c.requires.decided in
-    let u = some_and (λ x. c.offer_at.new.self ≡ edit_at (offer_node (head_of x).place) c.args.path.now.items c.args.self.now)
-    (node_at (stand_path c.args.stand c.args.path.now.items) c.args.self.now) (returns-clause-node g c) in
-    taken-shows c.args.stand c.args.path.now.items c.args.self.now v.0 u.0 _
-    (has_stand c.args.stand c.args.path.now.items c.args.self.now v.0 v.1 v.2 (rw c.self.view_is at c.self.invariant).root) v.1 u.1 v.2 (rw c.self.view_is at c.self.invariant).once u.2
+    taken_shows c.args.stand c.args.path.now.items c.args.self.now v.0 c.at.result.now _
+    (has_stand c.args.stand c.args.path.now.items c.args.self.now v.0 v.1 v.2 (rw c.self.view_is at c.self.invariant).root) v.1
+    (rw (c.path.ensures, c.as_slice-steps.ensures.value, c.self.view_is) at c.at.ensures) v.2 (rw c.self.view_is at c.self.invariant).once
+    (rw (c.as_slice-steps.ensures.value, c.self.view_is, c.head.ensures.head) at c.offer_at.ensures.node)

@@ -1,7 +1,5 @@
-use Rattle.gu_tree.proofs.Vocabulary.{arith, refl, head_of, unsplit_node}
-use Rattle.gu_tree.proofs.Inverses.{lesser-tree, named-cut}
-use Rattle.gu_tree.proofs.Parts.{some_and}
-use Rattle.gu_tree.proofs.ShowsLess.{unsplit-shows}
+use Rattle.gu_tree.proofs.{Vocabulary.{arith, refl, head_of, unsplit_node}, Edits.{lesser_tree, named_cut, some_and}}
+use Rattle.gu_tree.proofs.ShowsLess.{unsplit_shows}
 use Rattle.gu_tree.proofs.tree.Tree.take_split.Goals as goal
 
 pub returns-clause-node : goal.returns-clause-node
@@ -10,10 +8,10 @@ returns-clause-node g c = rw (c.as_slice.ensures.value, c.self.view_is) at c.uns
 pub invariant_of-self : goal.invariant_of-self
 invariant_of-self g c =
     let v = some_and _ _ c.requires in
-    lesser-tree unsplit_node c.args.path.now.items c.args.self.now v.0 _ v.1 (omega arith) (λ name. named-cut name (head_of v.0) v.0 refl)
+    lesser_tree unsplit_node c.args.path.now.items c.args.self.now v.0 _ v.1 (omega arith) (λ name. named_cut name (head_of v.0) v.0 refl)
     (λ held. held) (returns-clause-node g c) (rw c.self.view_is at c.self.invariant)
 
 pub returns-clause-shows : goal.returns-clause-shows
 returns-clause-shows g c =
     let v = some_and _ _ c.requires in
-    unsplit-shows c.args.path.now.items c.args.self.now v.0 _ v.1 v.2 (rw c.self.view_is at c.self.invariant).once (returns-clause-node g c)
+    unsplit_shows c.args.path.now.items c.args.self.now v.0 _ v.1 v.2 (rw c.self.view_is at c.self.invariant).once (returns-clause-node g c)

@@ -1,15 +1,7 @@
 use Rattle.gu_tree.proofs.Vocabulary.{◌∙◌, ap, sym, refl, Some, set, decide_node, slot_of, last_of}
-use Rattle.gu_tree.proofs.Parts.{at_there}
-use Rattle.gu_tree.proofs.Slots.{last-with_slot}
-use Rattle.gu_tree.proofs.Groves.{roomier}
-use Rattle.gu_tree.proofs.GroveSwaps.{IsNamed}
-use Rattle.gu_tree.proofs.GroveEdits.{root-slot, grove_of, found, Edits, decided}
-use Rattle.gu_tree.proofs.trees.Trees.decide.Given.{Over}
-use Rattle.gu_tree.proofs.trees.Trees.decide.Goals.{After-file}
+use Rattle.gu_tree.proofs.GroveEdits.{grove_of, found, Edits, decided, at_there, last_with_slot, roomier, IsNamed}
+use Rattle.gu_tree.proofs.{trees.Trees.decide.Given.{Over}, trees.Trees.decide.Goals.{After-file}}
 use Rattle.gu_tree.proofs.trees.Trees.decide.Goals as goal
-
-pub root_of-i-requires-clause-root : goal.root_of-i-requires-clause-root
-root_of-i-requires-clause-root g c = rw c.as_slice.ensures.value (root-slot _ _ c.args.trade _ _ refl (rw (← c.self.view_is) at c.requires.offered))
 
 -- what the call does to the trees
 edited : (g : Over) (c : After-file g) → Edits (grove_of c.self.inside.trees.items c.self.inside.slots.items)
@@ -30,8 +22,8 @@ pub returns : goal.returns
 returns g c =
     let e = edited g (goal.at.returns g c).After-file in
     rw (← c.self.view_is) (record {
-      tree = e.tree;
+      tree = at_there _ _ _ e.found e.changed;
       place = e.place;
-      last = ap last_of c.file.ensures ∙ last-with_slot c.self.inside.slots.items c.args.number _ (rw (← c.self.view_is) at c.requires.above);
+      last = ap last_of c.file.ensures ∙ last_with_slot c.self.inside.slots.items c.args.number _ (rw (← c.self.view_is) at c.requires.above);
       shows = at_there _ _ _ e.found (rw c.decide-node.ensures.node at c.decide-node.ensures.shows);
     })
