@@ -1,15 +1,13 @@
 -- What changes deal under the terms of a giver and a taker.
-use Rattle.gu_depend.proofs.Vocabulary.{◌≡◌, ℕ, ◌+◌, Bool, true, false, not, ◌&&◌, List, [], ◌∷◌, ◌++◌, refl, sym, ◌∙◌, ap, subst, cond, Option, All, append-nil}
-use Rattle.gu_depend.proofs.Vocabulary.{Some, None, filter_map, option_map, option_and_then, bytes_eq, ◌==◌, ◌↔◌, cons_option, and_parts, All-head, All-tail, All-weaker}
-use Rattle.gu_depend.proofs.Vocabulary.{filter_map-append, same_Some, bytes_eq-Decides, EntryPart, House, agreement, node_of, is_given, use_of_kind, use_of_node, deed_of, dealing_of, dealings_in}
-use Rattle.gu_depend.proofs.Vocabulary.{dealings, terms_under, limit_of, used_of, leave_out, first_over, first_under_deed, row, claim_row, raised_row, limit_row, limit_by, used_by, without}
-use Rattle.gu_depend.proofs.Vocabulary.{bytes_same, Agreement, Deed, Makes, Raises, Uses, Dealing, Pair, Command, Claim, Agree, Raise, Record, Kind, Given, Node, no_some, may_use, fits, AllFit}
-use Rattle.gu_depend.proofs.Vocabulary.{first_unfit, name_same, claim_passes, agree_passes, raise_passes, at_node, pair_of_kind, pair_of, deals_under, cond_both}
+use Rattle.gu_depend.proofs.Vocabulary.{◌≡◌, ℕ, ◌+◌, true, ◌&&◌, List, [], ◌∷◌, ◌++◌, refl, sym, ◌∙◌, ap, subst, cond, Option, All, append-nil, Some, None, filter_map}
+use Rattle.gu_depend.proofs.Vocabulary.{option_map, option_and_then, bytes_eq, ◌==◌, ◌↔◌, cons_option, and_parts, All-head, All-tail, All-weaker, filter_map-append, same_Some}
+use Rattle.gu_depend.proofs.Vocabulary.{bytes_eq-Decides, EntryPart, House, agreement, node_of, is_given, use_of_kind, use_of_node, deed_of, dealing_of, dealings_in, dealings, terms_under, limit_of}
+use Rattle.gu_depend.proofs.Vocabulary.{used_of, leave_out, first_over, first_under_deed, row, claim_row, raised_row, limit_row, limit_by, used_by, without, bytes_same, Agreement, Deed, Makes, Raises}
+use Rattle.gu_depend.proofs.Vocabulary.{Uses, Dealing, Pair, Command, Claim, Agree, Raise, Record, Kind, Given, Node, no_some, may_use, fits, AllFit, first_unfit, name_same, claim_passes}
+use Rattle.gu_depend.proofs.Vocabulary.{agree_passes, raise_passes, at_node, pair_of, deals_under, may_raise, unfit_none, fit_without_use, unfit_without_raise, unfit_without_terms}
+use Rattle.gu_depend.proofs.{Vocabulary.{none_unless, none_or_some, inl, inr}, Finds.{by_test, and_then_told}}
 use Rattle.gu_depend.proofs.Grown.{ThereFor, Within, NamesThere, Grown}
 use Rattle.gu_base.proofs.Accepted.{unless_none}
-use Rattle.gu_base.proofs.Dealt.{may_raise, unfit_none, fit_without_use, unfit_without_raise, unfit_without_terms}
-use Rattle.gu_base.proofs.Passing.{none_unless}
-use Rattle.gu_depend.proofs.Finds.{and_then_told}
 use Rattle.std.proofs.lemmas.Option.{cond_some}
 
 -- ---- pairs
@@ -40,8 +38,7 @@ deed_grown l b g k by _ w there = refl
 
 pub gives_alike : {X Y : Type 0} (f h : X → Option Y) (xs : List X) → All (λ x. f x ≡ h x) xs → filter_map f xs ≡ filter_map h xs
 gives_alike f h [] all = refl
-gives_alike f h (x ∷ xs) all =
-    ap (λ o. cons_option o (filter_map f xs)) (All-head (λ x. f x ≡ h x) x xs all) ∙ ap (cons_option (h x)) (gives_alike f h xs (All-tail (λ x. f x ≡ h x) x xs all))
+gives_alike f h (x ∷ xs) all = λ i. cons_option (All-head (λ x. f x ≡ h x) x xs all i) (gives_alike f h xs (All-tail (λ x. f x ≡ h x) x xs all) i)
 
 pub dealings_grown : (l b : List Record) (g k : List ℕ) → Grown l b → dealings b g k ≡ dealings_in l b g k
 dealings_grown l b g k grown =
@@ -96,7 +93,7 @@ deal l by (Claim n account) g k d h = let x = and_then_told (use_of_node g k) (n
     of_kind : (x : Node) → node_of l n ≡ Some x → (kind : Kind) → x.kind ≡ kind → use_of_kind g k x.lots kind ≡ Some d → IsDeal l by (Claim n account) g k d
     of_kind x there (Given m a b) is h =
         given_for (IsDeal l by (Claim n account)) g k a b (Uses x.lots) d h (record {
-          of = ap (option_and_then (λ x. pair_of_kind x.kind)) there ∙ ap pair_of_kind is;
+          of = cc (there, is);
           under = λ t n. refl;
           fit = λ t h.
               let passes = claim_passes t l by account x (subst (λ o. at_node (claim_row t l by account) o ≡ None) there h) in
@@ -111,7 +108,7 @@ pub claim_within : (t : House) (l b : List Record) (n : EntryPart) (by account :
     → (kind : Kind) → x.kind ≡ kind → is_given kind ≡ true → limit_row (used_by b kind + x.lots) (limit_by t b kind) ≡ None
 claim_within t l b n by account x found fit (Given m g k) is given =
     (used_may (used_of b g k + x.lots) (limit_of t b g k)).1
-    (fit g k (Uses x.lots) (ap (option_and_then (use_of_node g k)) found ∙ (ap (use_of_kind g k x.lots) is ∙ ap (λ b. cond b (Some (Uses x.lots)) None) (both_same g k))))
+    (fit g k (Uses x.lots) (cc (found, is, both_same g k)))
 claim_within t l b n by account x found fit _ is given = absurd (cc)
 
 -- ---- whom a change deals with
@@ -151,14 +148,7 @@ unfit_without file xs k ys all left (Uses lots) is = unfit_none file [] (xs ++ y
 -- the dealings but the one of a number are those of the changes without it
 pub left_out : (l : List Record) (g k : List ℕ) (n : ℕ) (b : List Record) → leave_out n (dealings_in l b g k) ≡ dealings_in l (without b n) g k
 left_out l g k n [] = refl
-left_out l g k n (r ∷ b) = at (deed_of l g k r.firm r.command) ∙ along (not (r.number == n)) (left_out l g k n b)
-  where
-    at : (o : Option Deed) → leave_out n (dealt r o (dealings_in l b g k)) ≡ cond (not (r.number == n)) (dealt r o (leave_out n (dealings_in l b g k))) (leave_out n (dealings_in l b g k))
-    at None = cond_both (not (r.number == n)) (leave_out n (dealings_in l b g k)) (leave_out n (dealings_in l b g k)) (λ ds. leave_out n (dealings_in l b g k) ≡ ds) (λ _. refl) (λ _. refl)
-    at (Some d) = refl
-
-    along : (kept : Bool) → leave_out n (dealings_in l b g k) ≡ dealings_in l (without b n) g k
-        → cond kept (dealt r (deed_of l g k r.firm r.command) (leave_out n (dealings_in l b g k))) (leave_out n (dealings_in l b g k))
-        ≡ dealings_in l (cond kept (r ∷ without b n) (without b n)) g k
-    along true rest = ap (dealt r (deed_of l g k r.firm r.command)) rest
-    along false rest = rest
+left_out l g k n (r ∷ b) = let rest = left_out l g k n b in elim (none_or_some (deed_of l g k r.firm r.command)) [
+  | inl none ↦ by_test (r.number == n) (λ is. cc (none, is, rest)) (λ other. cc (none, other, rest))
+  | inr d ↦ by_test (r.number == n) (λ is. cc (d.1, is, rest)) (λ other. cc (d.1, other, rest))
+]

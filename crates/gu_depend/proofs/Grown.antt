@@ -1,12 +1,10 @@
 -- A list of changes that has some of the changes of another, each behind what it stands on: what it says of a node is what the
 -- other says.
-use Rattle.gu_depend.proofs.Vocabulary.{Command, ◌≡◌, ℕ, zero, suc, ◌+◌, ◌<◌, ◌≤◌, true, false, ◌||◌, List, [], ◌∷◌, ◌++◌, length, refl, sym, ◌∙◌, ap}
-use Rattle.gu_depend.proofs.Vocabulary.{subst, arith, append-nil, append_assoc, inl, inr, none_or_some, Option, All, length-append, Some, None, option_and_then, option_map, unwrap_or, bytes_eq}
-use Rattle.gu_depend.proofs.Vocabulary.{option_or, All-nil, All-push, All-weaker, All-contains, EntryPart, node_of, decision_of, claim_of, claimed_account, parent, splits, decides, line_within}
-use Rattle.gu_depend.proofs.Vocabulary.{line_of, place_of_kind, place_along, place_of, depth_of, owns, Record, Node, node_more, node_called, made_of, node_cut, none_is_some, no_some, names}
-use Rattle.std.proofs.Common.{◌-◌}
-use Rattle.gu_depend.proofs.Finds.{find_more}
-use Rattle.gu_depend.proofs.Names.{maker, made_by_split, made_alone}
+use Rattle.gu_depend.proofs.{Vocabulary.claim_of, Finds.find_more, Names.{maker, made_by_split, made_alone}}
+use Rattle.gu_depend.proofs.Vocabulary.{Command, ◌≡◌, ℕ, zero, suc, ◌+◌, ◌<◌, ◌≤◌, true, false, ◌||◌, List, [], ◌∷◌, ◌++◌, length, refl, sym, ◌∙◌, ap, subst}
+use Rattle.gu_depend.proofs.Vocabulary.{arith, append-nil, append_assoc, inl, inr, none_or_some, All, length-append, Some, None, option_and_then, option_map, unwrap_or, bytes_eq, All-nil}
+use Rattle.gu_depend.proofs.Vocabulary.{All-push, All-weaker, All-contains, EntryPart, node_of, decision_of, claimed_account, parent, splits, decides, line_within, line_of, place_of_kind, place_along}
+use Rattle.gu_depend.proofs.Vocabulary.{place_of, depth_of, owns, Record, Node, node_more, node_called, made_of, node_cut, none_is_some, no_some, names, ◌-◌}
 
 -- what is found in the second list is found in the first
 pub record Within (l b : List Record) : Type 0 where
@@ -37,10 +35,6 @@ AllFollow l b (r ∷ rest) = Follows l b r.command × AllFollow l (b ++ r ∷ []
 pub follow_append : (l b xs ys : List Record) → AllFollow l b xs → AllFollow l (b ++ xs) ys → AllFollow l b (xs ++ ys)
 follow_append l b [] ys first second = subst (λ z. AllFollow l z ys) (append-nil b) second
 follow_append l b (r ∷ xs) ys first second = (first.0, follow_append l (b ++ r ∷ []) xs ys first.1 (subst (λ z. AllFollow l z ys) (sym (append_assoc b (r ∷ []) xs)) second))
-
-pub follow_front : (l b xs ys : List Record) → AllFollow l b (xs ++ ys) → AllFollow l b xs
-follow_front l b [] ys all = tt
-follow_front l b (r ∷ xs) ys all = (all.0, follow_front l (b ++ r ∷ []) xs ys all.1)
 
 -- within as many steps as the list is long, each line has come to its end
 abbrev pub LinesEnd : List Record → Type 0
@@ -85,22 +79,18 @@ pub line_none : (f : ℕ) (l : List Record) → line_within f l None ≡ []
 line_none zero l = refl
 line_none (suc f) l = refl
 
-parent_there : (b : List Record) (n m : EntryPart) (x : Node) → All (NamesThere b) b → node_of b n ≡ Some x → parent x.kind ≡ Some m → (y : Node) × (node_of b m ≡ Some y)
-parent_there b n m x named found up =
-    let by = maker b n x found in
-    All-contains (NamesThere b) b by.change named by.among m (splits_names m by.change (made_by_split by.change n m x by.makes_it up))
-
 -- where the nodes of the one list are those of the other, and what it names is there
 module _ (l b : List Record) (nodes : (n : EntryPart) (x : Node) → node_of b n ≡ Some x → node_of l n ≡ Some x) (named : All (NamesThere b) b) where
   -- a node has the same line in both
   line_led : (f : ℕ) (n : EntryPart) (x : Node) → node_of b n ≡ Some x → line_within f b (Some x) ≡ line_within f l (Some x)
   line_led zero n x found = refl
-  line_led (suc f) n x found = ap (λ xs. x ∷ xs) (up (parent x.kind) refl (line_led f))
-    where
-      up : (o : Option EntryPart) → parent x.kind ≡ o → ((m : EntryPart) (y : Node) → node_of b m ≡ Some y → line_within f b (Some y) ≡ line_within f l (Some y))
-          → line_within f b (option_and_then (node_of b) o) ≡ line_within f l (option_and_then (node_of l) o)
-      up None e same = line_none f b ∙ sym (line_none f l)
-      up (Some m) e same = let y = parent_there b n m x named found e in ap (line_within f b) y.1 ∙ (same m y.0 y.1 ∙ sym (ap (line_within f l) (nodes m y.0 y.1)))
+  line_led (suc f) n x found = ap (λ xs. x ∷ xs) (elim (none_or_some (parent x.kind)) [
+    | inl none ↦ cc (none)
+    | inr m ↦ (
+        let by = maker b n x found in
+        let y = All-contains (NamesThere b) b by.change named by.among m.0 (splits_names m.0 by.change (made_by_split by.change n m.0 x by.makes_it m.1)) in
+        cc (m.1, y.1, line_led f m.0 y.0 y.1, nodes m.0 y.0 y.1))
+  ])
 
 -- one change more
 module _ (b : List Record) (r : Record) (named : All (NamesThere b) b) (ends : LinesEnd b) (there : NamesThere b r) where
@@ -117,23 +107,12 @@ module _ (b : List Record) (r : Record) (named : All (NamesThere b) b) (ends : L
   new_ends : (f g : ℕ) (n : EntryPart) (x : Node) → made_of r n ≡ Some x → length b < f → length b < g → line_within f more (Some x) ≡ line_within g more (Some x)
   new_ends zero g n x makes far long = absurd (omega arith)
   new_ends (suc f) zero n x makes far long = absurd (omega arith)
-  new_ends (suc f) (suc g) n x makes far long = ap (λ xs. x ∷ xs) (up (parent x.kind) refl)
-    where
-      up : (o : Option EntryPart) → parent x.kind ≡ o → line_within f more (option_and_then (node_of more) o) ≡ line_within g more (option_and_then (node_of more) o)
-      up None e = line_none f more ∙ sym (line_none g more)
-      up (Some m) e =
-          let y = there m (splits_names m r (made_by_split r n m x makes e)) in
-          let found = node_more b (r ∷ []) m y.0 y.1 in
-          ap (line_within f more) found ∙ (old_ends f g m y.0 y.1 (omega arith) (omega arith) ∙ sym (ap (line_within g more) found))
-
-  ends_push : LinesEnd more
-  ends_push f n x found far =
-      let long : length more ≡ length b + 1 = length-append b (r ∷ []) in
-      let either = sym (node_cut b (r ∷ []) n) ∙ found in
-      elim (none_or_some (node_of b n)) [
-        | inl none ↦ new_ends f (length more) n x (made_alone r n ∙ (sym (ap (λ o. option_or o (node_of (r ∷ []) n)) none) ∙ either)) (omega (arith, long)) (omega (arith, long))
-        | inr y ↦ old_ends f (length more) n x (y.1 ∙ (sym (ap (λ o. option_or o (node_of (r ∷ []) n)) y.1) ∙ either)) (omega (arith, long)) (omega (arith, long))
-      ]
+  new_ends (suc f) (suc g) n x makes far long = ap (λ xs. x ∷ xs) (elim (none_or_some (parent x.kind)) [
+    | inl none ↦ cc (none)
+    | inr m ↦ (
+        let y = there m.0 (splits_names m.0 r (made_by_split r n m.0 x makes m.1)) in
+        cc (m.1, node_more b (r ∷ []) m.0 y.0 y.1, old_ends f g m.0 y.0 y.1 (omega arith) (omega arith)))
+  ])
 
 pub grown_push : (l b : List Record) (r : Record) → Grown l b → Within l (b ++ r ∷ []) → length (b ++ r ∷ []) ≤ length l → Follows l b r.command → Grown l (b ++ r ∷ [])
 grown_push l b r g w short f =
@@ -144,7 +123,13 @@ grown_push l b r g w short f =
       decided = All-push (SplitsDecided l (b ++ r ∷ [])) b r
           (All-weaker (SplitsDecided l b) (SplitsDecided l (b ++ r ∷ [])) (λ d h n is. decided_more l b (r ∷ []) n w (h n is)) b g.decided) own.decided;
       short = short;
-      ends = ends_push b r g.named g.ends f.there;
+      ends = λ s n x found far.
+          let long : length (b ++ r ∷ []) ≡ length b + 1 = length-append b (r ∷ []) in
+          let either = sym (node_cut b (r ∷ []) n) ∙ found in
+          elim (none_or_some (node_of b n)) [
+            | inl none ↦ new_ends b r g.named g.ends f.there s (length (b ++ r ∷ [])) n x (cc (made_alone r n, none, either)) (omega (arith, long)) (omega (arith, long))
+            | inr y ↦ old_ends b r g.named g.ends f.there s (length (b ++ r ∷ [])) n x (cc (y.1, either)) (omega (arith, long)) (omega (arith, long))
+          ];
     }
 
 -- what is above a node: its parent, and the decision of the parent
@@ -161,36 +146,28 @@ above l b n m x g found up =
     record { node = y.0; there = y.1; decided = All-contains (SplitsDecided l b) b by.change g.decided by.among m split }
 
 pub line_of_grown : (l b : List Record) → Grown l b → (n : EntryPart) (x : Node) → node_of b n ≡ Some x → line_of b n ≡ line_of l n
-line_of_grown l b g n x found =
-    ap (line_within (length b) b) found
-    ∙ (sym (g.ends (length l) n x found g.short)
-    ∙ (line_led l b g.within.nodes g.named (length l) n x found
-    ∙ sym (ap (line_within (length l) l) (g.within.nodes n x found))))
+line_of_grown l b g n x found = cc (found, g.within.nodes n x found, g.ends (length l) n x found g.short, line_led l b g.within.nodes g.named (length l) n x found)
 
-place_above : (f : ℕ) (l b : List Record) (g : Grown l b)
-    → ((m : EntryPart) (y : Node) → node_of b m ≡ Some y → decision_of b m ≡ decision_of l m → place_along b (line_within f b (Some y)) ≡ place_along l (line_within f l (Some y)))
-    → (n : EntryPart) (x : Node) → node_of b n ≡ Some x → (o : Option EntryPart) → parent x.kind ≡ o
-    → place_along b (line_within f b (option_and_then (node_of b) o)) ≡ place_along l (line_within f l (option_and_then (node_of l) o))
-place_above f l b g same n x found None e = ap (place_along b) (line_none f b) ∙ sym (ap (place_along l) (line_none f l))
-place_above f l b g same n x found (Some m) e =
-    let y = above l b n m x g found e in
-    ap (λ o. place_along b (line_within f b o)) y.there ∙ (same m y.node y.there y.decided ∙ sym (ap (λ o. place_along l (line_within f l o)) (g.within.nodes m y.node y.there)))
-
--- where its decision is the same, a node stands in the same place
-place_grown : (f : ℕ) (l b : List Record) → Grown l b → (n : EntryPart) (x : Node) → node_of b n ≡ Some x → decision_of b n ≡ decision_of l n
+-- where its claim is the same, a node stands in the same place
+place_grown : (f : ℕ) (l b : List Record) → Grown l b → (n : EntryPart) (x : Node) → node_of b n ≡ Some x → claim_of b n ≡ claim_of l n
     → place_along b (line_within f b (Some x)) ≡ place_along l (line_within f l (Some x))
-place_grown zero l b g n x found decided = refl
-place_grown (suc f) l b g n x found decided =
-    let called = node_called b n x found in
-    let claims = ap (option_and_then (λ r. claimed_account r.command)) (subst (λ (z : EntryPart). decision_of b z ≡ decision_of l z) (sym called) decided) in
-    ap (λ c. place_of_kind x.kind c (place_along b (line_within f b (option_and_then (node_of b) (parent x.kind))))) claims
-    ∙ ap (place_of_kind x.kind (claim_of l x.name)) (place_above f l b g (place_grown f l b g) n x found (parent x.kind) refl)
+place_grown zero l b g n x found claims = refl
+place_grown (suc f) l b g n x found claims =
+    let claimed = subst (λ (z : EntryPart). claim_of b z ≡ claim_of l z) (sym (node_called b n x found)) claims in
+    let up : place_along b (line_within f b (option_and_then (node_of b) (parent x.kind))) ≡ place_along l (line_within f l (option_and_then (node_of l) (parent x.kind))) =
+    elim (none_or_some (parent x.kind)) [
+      | inl none ↦ cc (none)
+      | inr m ↦ (let y = above l b n m.0 x g found m.1 in
+          let same = ap (option_and_then (λ r. claimed_account r.command)) y.decided in
+          cc (m.1, y.there, g.within.nodes m.0 y.node y.there, place_grown f l b g m.0 y.node y.there same))
+    ] in
+    λ i. place_of_kind x.kind (claimed i) (up i)
+
+pub place_claimed : (l b : List Record) (n : EntryPart) (x : Node) → Grown l b → node_of b n ≡ Some x → claim_of b n ≡ claim_of l n → place_of b n ≡ place_of l n
+place_claimed l b n x g found claims = cc (found, g.within.nodes n x found, g.ends (length l) n x found g.short, place_grown (length l) l b g n x found claims)
 
 pub place_same : (l b : List Record) (n : EntryPart) (x : Node) → Grown l b → node_of b n ≡ Some x → decision_of b n ≡ decision_of l n → place_of b n ≡ place_of l n
-place_same l b n x g found decided =
-    ap (λ o. place_along b (line_within (length b) b o)) found
-    ∙ (ap (place_along b) (sym (g.ends (length l) n x found g.short))
-    ∙ (place_grown (length l) l b g n x found decided ∙ sym (ap (λ o. place_along l (line_within (length l) l o)) (g.within.nodes n x found))))
+place_same l b n x g found decided = place_claimed l b n x g found (ap (option_and_then (λ r. claimed_account r.command)) decided)
 
 pub owns_same : (l b : List Record) (by : List ℕ) (n : EntryPart) (x : Node) → Grown l b → node_of b n ≡ Some x → decision_of b n ≡ decision_of l n → owns b by n ≡ owns l by n
 owns_same l b by n x g found decided = ap (λ o. unwrap_or (option_map (λ owner. bytes_eq owner by) (option_map (λ p. p.firm) o)) false) (place_same l b n x g found decided)

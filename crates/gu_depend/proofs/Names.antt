@@ -1,9 +1,8 @@
 -- Names of nodes, and the changes that make them.
-use Rattle.gu_depend.proofs.Vocabulary.{◌≡◌, ℕ, ◌≤◌, Bool, true, false, List, [], ◌∷◌, refl, sym, ◌∙◌, ap, subst, arith, cond, Option, IsPermutation, Contains, Some}
-use Rattle.gu_depend.proofs.Vocabulary.{None, find, count_by, ◌==◌, is_some, option_and_then, option_or, Decides-eqb, find-append, EntryPart, node_of, nodes, nodes_of, same_name, parent}
-use Rattle.gu_depend.proofs.Vocabulary.{splits, Command, Trade, Split, Record, Root, Node, or_none, none_is_some, same_Some, name_same, node_called, made, made_of, first_or, found_in}
-use Rattle.gu_depend.proofs.Finds.{counts_less, some_there, and_then_told, find_permuted}
-use Rattle.gu_base.proofs.NodeNames.{made_entry, part_parent}
+use Rattle.gu_depend.proofs.Vocabulary.{◌≡◌, ℕ, ◌≤◌, Bool, true, List, [], ◌∷◌, refl, sym, ◌∙◌, subst, arith, Contains, Some, find, count_by}
+use Rattle.gu_depend.proofs.Vocabulary.{◌==◌, is_some, option_and_then, Decides-eqb, find-append, EntryPart, node_of, nodes, nodes_of, same_name, parent, splits, Command, Trade, Split, Record}
+use Rattle.gu_depend.proofs.Vocabulary.{Node, or_none, same_Some, name_same, node_called, made, made_of, found_in, made_entry, part_parent, none_or_some, inl, inr}
+use Rattle.gu_depend.proofs.Finds.{by_test, counts_less, some_there, and_then_told}
 
 pub at_name : (l : List Record) (n : EntryPart) (x : Node) → node_of l n ≡ Some x → node_of l x.name ≡ Some x
 at_name l n x h = subst (λ (z : EntryPart). node_of l z ≡ Some x) (sym (node_called l n x h)) h
@@ -17,15 +16,13 @@ makes n r = is_some (made_of r n)
 pub made_alone : (r : Record) (n : EntryPart) → made_of r n ≡ node_of (r ∷ []) n
 made_alone r n = sym (find-append (λ x. same_name x.name n) (made r) [] ∙ or_none (made_of r n))
 
-maker_at : (r : Record) (n : EntryPart) (l : List Record) → node_of l n ≡ option_and_then (λ r. made_of r n) (find (makes n) l)
-    → (o : Option Node) → made_of r n ≡ o → option_or o (node_of l n) ≡ option_and_then (λ r. made_of r n) (cond (is_some o) (Some r) (find (makes n) l))
-maker_at r n l rest None e = rest
-maker_at r n l rest (Some x) e = sym e
-
 -- a node is that of the first change that makes one of its name
 pub node_by_maker : (l : List Record) (n : EntryPart) → node_of l n ≡ option_and_then (λ r. made_of r n) (find (makes n) l)
 node_by_maker [] n = refl
-node_by_maker (r ∷ l) n = find-append (λ x. same_name x.name n) (made r) (nodes l) ∙ maker_at r n l (node_by_maker l n) (made_of r n) refl
+node_by_maker (r ∷ l) n = find-append (λ x. same_name x.name n) (made r) (nodes l) ∙ elim (none_or_some (made_of r n)) [
+  | inl none ↦ cc (none, node_by_maker l n)
+  | inr x ↦ cc (x.1)
+]
 
 -- the change that makes a node that is found
 pub record Maker (l : List Record) (n : EntryPart) (x : Node) : Type 0 where
@@ -42,9 +39,7 @@ made_number r n x h = made_entry n r.number r.firm r.command x h
 
 parent_made : (n m : EntryPart) (k : ℕ) (by : List ℕ) (c : Command) (x : Node) → find (λ x. same_name x.name n) (nodes_of k by c) ≡ Some x → parent x.kind ≡ Some m → splits m c ≡ true
 parent_made n m k by (Trade firm account instrument side lots) x h up =
-    let name : EntryPart = record { entry = k; part = 0 } in
-    first_or n name (record { name = name; lots = lots; kind = Root (record { firm = firm; account = account }) }) x None (false ≡ true)
-    (λ _ e. absurd (none_is_some (parent x.kind) m (sym (ap (λ (z : Node). parent z.kind) e)) up)) (λ none. absurd (cc)) (same_name name n) refl h
+    by_test (same_name (record { entry = k; part = 0 }) n) (λ is. absurd (cc (is, h, up))) (λ other. absurd (cc (other, h)))
 parent_made n m k by (Split o ps) x h up = subst (λ (z : EntryPart). same_name o z ≡ true) (same_Some o m (sym (part_parent n o k 1 by ps x h) ∙ up)) (name_same o)
 parent_made n m k by _ x h up = absurd (cc)
 
@@ -58,7 +53,3 @@ makers_once l n once =
     let a = counts_less (makes n) (λ r. r.number == n.entry) l
     (λ r h. let x = some_there (made_of r n) h in (Decides-eqb r.number n.entry).1 (sym (made_number r n x.0 x.1))) in
     omega (arith, a, once)
-
--- where no number stands twice, a node is the same in whatever order the changes stand
-pub node_permuted : (l o : List Record) (n : EntryPart) → IsPermutation l o → count_by (λ r. r.number == n.entry) l ≤ 1 → node_of o n ≡ node_of l n
-node_permuted l o n same once = node_by_maker o n ∙ (ap (option_and_then (λ r. made_of r n)) (find_permuted (makes n) l o same (makers_once l n once)) ∙ sym (node_by_maker l n))

@@ -1,26 +1,21 @@
--- What stands on a change, read off trees that show the list.
-use Rattle.gu_depend.proofs.Vocabulary.{◌≡◌, ℕ, true, false, List, [], refl, sym, ◌∙◌, ap, subst, arith, Option, Contains, IsSomeAnd, inl, inr, Some, None, find, flat_map}
-use Rattle.gu_depend.proofs.Vocabulary.{option_map, option_and_then, ◌==◌, ◌↔◌, or_cases, Decides-eqb, same_Some, made_by, parts_of, EntryPart, RisesFrom, House, node_of, nodes_of}
-use Rattle.gu_depend.proofs.Vocabulary.{split_of, decision_of, splits, decides, same_name, IsLegal, first_refused, standing_on, without, Part, Command, Trade, Split, Claim, Refuse, Cancel, Agree}
-use Rattle.gu_depend.proofs.Vocabulary.{Raise, Record, Node, legal_from_replay, replay_from_legal, name_same, made_of, found_in, find_passes, change_of, named_place, number_in, numbers_on, least}
-use Rattle.gu_depend.proofs.Vocabulary.{false_from_ne_true, ◌||◌, numbers_under, deals_under, or_right}
-use Rattle.gu_depend.proofs.Finds.{some_with, and_then_told, found_once, not_both}
-use Rattle.std.proofs.Common.{◌≢◌}
-use Rattle.gu_tree.specs.Rose.{Rose, head_of, split_of_node}
-use Rattle.gu_tree.specs.Paths.{node_at, LeadsTo}
+-- What stands on a change, read off trees and terms that show the list, and how many entries stand beside it.
+use Rattle.gu_depend.proofs.Vocabulary.{◌≡◌, ℕ, true, false, List, [], refl, sym, ◌∙◌, ap, subst, arith, Option, Contains, IsSomeAnd, inl, inr, Some, None, find, flat_map, option_map}
+use Rattle.gu_depend.proofs.Vocabulary.{option_and_then, ◌==◌, ◌↔◌, Decides-eqb, same_Some, made_by, parts_of, EntryPart, RisesFrom, House, node_of, nodes_of, split_of}
+use Rattle.gu_depend.proofs.Vocabulary.{decision_of, splits, decides, same_name, IsLegal, first_refused, standing_on, without, Part, Command, Trade, Split, Claim, Refuse, Cancel, Agree, Raise, Record}
+use Rattle.gu_depend.proofs.Vocabulary.{Node, legal_from_replay, replay_from_legal, name_same, found_in, find_passes, change_of, named_place, number_in, numbers_on, least}
+use Rattle.gu_depend.proofs.Vocabulary.{◌||◌, numbers_under, deals_under, or_right, ◌∷◌, cond, length, unwrap_or, slice_get, lookup, nothing_here, find-append, deed_of}
+use Rattle.gu_depend.proofs.Vocabulary.{dealings_in, dealings, Deed, Makes, Raises, Pair, is_pair, PairView, TermsView, pair_at, pair_of, place_of_pair, entries_dealt}
+use Rattle.gu_depend.proofs.Vocabulary.{AreTermsOf, ◌≢◌, place_in, IsTreeIn, ShowsAll, numbers_on_parts, Bool, none_or_some}
+use Rattle.gu_depend.proofs.Finds.{some_with, and_then_told, found_once, filter_all, cut_at, none_before, alike_at, and_then_steps}
+use Rattle.gu_tree.specs.{Rose.{Rose, head_of, split_of_node}, Paths.{node_at, LeadsTo}}
 use Rattle.gu_tree.specs.Grove.{Grove, tree_of, place_of, IsPlace, HasTree}
-use Rattle.gu_tree.specs.ShownAll.{place_in, IsTreeIn, ShowsAll}
-use Rattle.gu_tree.specs.NumbersOn.{numbers_on_parts}
-use Rattle.gu_tree.proofs.Parts.{some_and, at_fact}
-use Rattle.gu_tree.proofs.ShowsLess.{no-root-part}
-use Rattle.gu_tree.proofs.ToldAt.{IsToldAt, told-at}
+use Rattle.gu_tree.proofs.{Parts.{some_and, at_fact}, ShowsLess.no_root_part, ToldAt.{IsToldAt, told_at}}
 use Rattle.gu_depend.specs.Touch.{is_trade_or_decision}
-use Rattle.gu_depend.proofs.Settled.{named_once}
-use Rattle.gu_depend.proofs.Names.{maker, made_number}
-use Rattle.gu_depend.proofs.Replay.{Legal}
-use Rattle.gu_depend.proofs.Cuts.{filter_all}
-use Rattle.gu_depend.proofs.StandsUnder.{legal_rising}
-use Rattle.gu_depend.proofs.LookedUp.{looked_up, least_one, least_in}
+use Rattle.std.proofs.lemmas.Bool.{or_from, ne_eqb}
+use Rattle.gu_depend.proofs.{Settled.named_once, Names.{maker, made_number}, Replay.{Legal, NumbersOnce}}
+use Rattle.gu_depend.proofs.{StandsUnder.{legal_rising, looked_up, least_one, least_in}, TermsFollow.pair_place}
+use Rattle.gu_fees.specs.{Pairs.{deed_at, standing_under}, Terms.{standing_in, entries_in, row_of}}
+use Rattle.gu_depend.proofs.Deals.{numbered, both_same, dealings_cut, deal}
 
 -- ---- a trade, a decision, or neither
 
@@ -28,15 +23,14 @@ of_trade : (k trade : ℕ) (d : Option ℕ) → trade ≡ k → is_trade_or_deci
 of_trade k trade None same = (Decides-eqb trade k).1 same
 of_trade k trade (Some d) same = ap (λ b. b || (d == k)) ((Decides-eqb trade k).1 same)
 
-of_decision : (k trade : ℕ) (d : Option ℕ) → d ≡ Some k → is_trade_or_decision k trade d ≡ true
-of_decision k trade d is = ap (is_trade_or_decision k trade) is ∙ or_right (trade == k) (k == k) ((Decides-eqb k k).1 refl)
-
 of_neither : (k trade : ℕ) (d : Option ℕ) → trade ≢ k → d ≢ Some k → is_trade_or_decision k trade d ≡ false
-of_neither k trade None other undecided = false_from_ne_true (trade == k) (λ h. other ((Decides-eqb trade k).0 h))
-of_neither k trade (Some d) other undecided = false_from_ne_true ((trade == k) || (d == k)) (λ h. elim (or_cases (trade == k) (d == k) h) [
-  | inl same ↦ other ((Decides-eqb trade k).0 same)
-  | inr decided ↦ undecided (ap (λ n. Some n) ((Decides-eqb d k).0 decided))
-])
+of_neither k trade None other undecided = ne_eqb trade k other
+of_neither k trade (Some d) other undecided =
+    or_from (trade == k) (d == k) (ne_eqb trade k other) (ne_eqb d k (λ e. undecided (ap (λ n. Some n) e)))
+
+-- what is read at a node: its Split where the change made or decided it, else what stands first on its parts
+abbrev pub read_at : Rose → Bool → Option ℕ
+read_at v b = cond b (option_map (λ s. s.0) (split_of_node v)) (least (numbers_on_parts v))
 
 -- ---- one change of a number
 
@@ -59,76 +53,49 @@ module _ (t : House) (l : List Record) (list : Legal t l) (k : ℕ) (r : Record)
   split_no_trade : (n : EntryPart) (ps : List Part) → r.command ≡ Split n ps → (trade : ℕ) (root : Node) → node_of l (record { entry = trade; part = 0 }) ≡ Some root
       → trade ≡ k → ⊥
   split_no_trade n ps is trade root found same =
-      let m = maker l (record { entry = trade; part = 0 }) root found in
-      let number : trade ≡ m.change.number = made_number m.change (record { entry = trade; part = 0 }) root m.makes_it in
-      let one = only_change m.change m.among (sym number ∙ same) in
-      let made : made_of r (record { entry = trade; part = 0 }) ≡ Some root = subst (λ (z : Record). made_of z (record { entry = trade; part = 0 }) ≡ Some root) one m.makes_it in
-      let none : made_of r (record { entry = trade; part = 0 }) ≡ None =
-      ap (λ c. find (λ x. same_name x.name (record { entry = trade; part = 0 })) (nodes_of r.number r.firm c)) is ∙ no-root-part trade r.number 1 n r.firm ps (omega arith) in
-      absurd (cc)
+      let name : EntryPart = record { entry = trade; part = 0 } in
+      let m = maker l name root found in
+      let one = only_change m.change m.among (sym (made_number m.change name root m.makes_it) ∙ same) in
+      cc (one, m.makes_it, ap (λ c. find (λ x. same_name x.name name) (nodes_of r.number r.firm c)) is ∙ no_root_part trade r.number 1 n r.firm ps (omega arith))
 
   -- nor a decision
   split_no_decision : (n : EntryPart) (ps : List Part) → r.command ≡ Split n ps → (o : Option Record) → decision_of l n ≡ o → option_map (λ d. d.number) o ≡ Some k → ⊥
   split_no_decision n ps is None e h = absurd (cc)
   split_no_decision n ps is (Some d) e h =
-      let one = only_change d (found_in (λ r. decides n r.command) l d e) (same_Some d.number k h) in
-      let decided : decides n (Split n ps) ≡ true = ap (decides n) (sym is) ∙ (ap (λ (z : Record). decides n z.command) (sym one) ∙ find_passes (λ r. decides n r.command) l d e) in
-      absurd (cc)
+      cc (only_change d (found_in (λ r. decides n r.command) l d e) (same_Some d.number k h), is, find_passes (λ r. decides n r.command) l d e)
 
   module _ (trade : ℕ) (v : Rose) (told : IsToldAt l trade v) where
     split_at : (n : EntryPart) → Some n ≡ Some (head_of v).name → option_map (λ s. s.0) (split_of_node v) ≡ least (number_in (split_of l n))
     split_at n at = told.split ∙ (ap (λ n. option_map (λ r. r.number) (split_of l n)) (sym (same_Some _ _ at)) ∙ sym (least_in (split_of l n)))
 
-    -- a decision is the one of its node
-    its_decision : (n : EntryPart) → decides n r.command ≡ true → Some n ≡ Some (head_of v).name → (head_of v).decision ≡ Some k
-    its_decision n passes at =
-        told.decision
-        ∙ (ap (λ m. option_map (λ d. d.number) (decision_of l m)) (sym (same_Some _ _ at))
-        ∙ (ap (option_map (λ d. d.number)) (found_once (λ r. decides n r.command) l r among passes ((named_once t l list.replayed).decisions_once n))
-        ∙ ap (λ m. Some m) number_is))
+    at_decision : (n : EntryPart) → decides n r.command ≡ true → Some n ≡ Some (head_of v).name
+        → read_at v (is_trade_or_decision k trade (head_of v).decision) ≡ least (number_in (split_of l n))
+    at_decision n passes at =
+        let name : n ≡ (head_of v).name = same_Some _ _ at in
+        let found : decision_of l n ≡ Some r = found_once (λ r. decides n r.command) l r among passes ((named_once t l list.replayed).decisions_once n) in
+        -- it is the decision of its node
+        let own : (head_of v).decision ≡ Some k = cc (told.decision, name, found, number_is) in
+        ap (read_at v) (ap (is_trade_or_decision k trade) own ∙ or_right (trade == k) (k == k) ((Decides-eqb k k).1 refl)) ∙ split_at n at
 
-    -- where the change is the trade of the root, or decided the node, the node's Split stands on it; else it split the node, and what names a part does
-    data StandsAt (c : Command) : Type 0 where
-      on_split : is_trade_or_decision k trade (head_of v).decision ≡ true → option_map (λ s. s.0) (split_of_node v) ≡ least (numbers_under t l r.number r.firm c) → StandsAt c
-      on_parts : is_trade_or_decision k trade (head_of v).decision ≡ false → least (numbers_on_parts v) ≡ least (numbers_under t l r.number r.firm c) → StandsAt c
-
-    at_decision : (n : EntryPart) (c : Command) → decides n r.command ≡ true → Some n ≡ Some (head_of v).name
-        → least (number_in (split_of l n)) ≡ least (numbers_under t l r.number r.firm c) → StandsAt c
-    at_decision n c passes at is = on_split (of_decision k trade (head_of v).decision (its_decision n passes at)) (split_at n at ∙ is)
-
-    stands_at : (c : Command) → r.command ≡ c → named_place r.number c ≡ Some (head_of v).name → StandsAt c
-    stands_at (Trade _ _ _ _ _) is at =
+    -- what is read there is what is looked up for the change
+    read_here : (c : Command) → r.command ≡ c → named_place r.number c ≡ Some (head_of v).name
+        → read_at v (is_trade_or_decision k trade (head_of v).decision) ≡ least (numbers_under t l r.number r.firm c)
+    read_here (Trade _ _ _ _ _) is at =
         let name : record { entry = r.number; part = 0 } ≡ (head_of v).name = same_Some _ _ at in
         let root : (head_of v).name.entry ≡ trade = told.rooted (sym (ap (λ (m : EntryPart). m.part) name)) in
-        on_split (of_trade k trade (head_of v).decision (sym root ∙ (sym (ap (λ (m : EntryPart). m.entry) name) ∙ number_is))) (split_at (record { entry = r.number; part = 0 }) at)
-    stands_at (Split n ps) is at =
+        ap (read_at v) (of_trade k trade (head_of v).decision (sym root ∙ (sym (ap (λ (m : EntryPart). m.entry) name) ∙ number_is))) ∙ split_at (record { entry = r.number; part = 0 }) at
+    read_here (Split n ps) is at =
         let found : split_of l n ≡ Some r = found_once (λ r. splits n r.command) l r among (ap (splits n) is ∙ name_same n) ((named_once t l list.replayed).splits_once n) in
         let undecided = λ (h : (head_of v).decision ≡ Some k). split_no_decision n ps is (decision_of l n) refl
         (ap (λ m. option_map (λ d. d.number) (decision_of l m)) (same_Some _ _ at) ∙ (sym told.decision ∙ h)) in
-        on_parts (of_neither k trade (head_of v).decision (split_no_trade n ps is trade told.root told.has_root) undecided)
-        (ap least (told.parts ∙ ap (flat_map (λ x. numbers_on l x.name)) (sym (ap (parts_of l) (same_Some _ _ at)) ∙ (ap made_by found ∙ ap (nodes_of r.number r.firm) is))))
-    stands_at (Claim n a) is at = at_decision n (Claim n a) (ap (decides n) is ∙ name_same n) at refl
-    stands_at (Refuse n) is at = at_decision n (Refuse n) (ap (decides n) is ∙ name_same n) at refl
-    stands_at (Cancel n) is at = at_decision n (Cancel n) (ap (decides n) is ∙ name_same n) at refl
-    stands_at _ is at = absurd (cc)
+        ap (read_at v) (of_neither k trade (head_of v).decision (split_no_trade n ps is trade told.root told.has_root) undecided)
+        ∙ ap least (told.parts ∙ ap (flat_map (λ x. numbers_on l x.name)) (sym (ap (parts_of l) (same_Some _ _ at)) ∙ (ap made_by found ∙ ap (nodes_of r.number r.firm) is)))
+    read_here (Claim n _) is at = at_decision n (ap (decides n) is ∙ name_same n) at
+    read_here (Refuse n) is at = at_decision n (ap (decides n) is ∙ name_same n) at
+    read_here (Cancel n) is at = at_decision n (ap (decides n) is ∙ name_same n) at
+    read_here _ is at = absurd (cc)
 
 -- ---- the answers
-
--- a node that lies where the trees place the change
-pub record IsFound (g : Grove) (k trade : ℕ) (p : List ℕ) (v : Rose) : Type 0 where
-  pub tree : Rose
-  pub placed : place_of g k ≡ Some (head_of v).name
-  pub found : tree_of g trade ≡ Some tree
-  pub led : node_at p tree ≡ Some v
-
-pub found_at : (g : Grove) (k trade : ℕ) (p : List ℕ) (v : Rose) → IsSomeAnd (place_of g k) (λ n. IsPlace g n trade p)
-    → HasTree g trade (λ t. node_at p t ≡ Some v) → IsFound g k trade p v
-found_at g k trade p v place has =
-    let n = some_with (λ n. IsPlace g n trade p) (place_of g k) place in
-    let t = some_and (λ t. node_at p t ≡ Some v) (tree_of g trade) has in
-    let leads = subst (λ t. LeadsTo p t n.0) (same_Some n.1.1.tree t.0 (sym n.1.1.found ∙ t.1)) n.1.1.there in
-    let named : (head_of v).name ≡ n.0 = at_fact (λ u. (head_of u).name ≡ n.0) (node_at p t.0) v t.2 leads in
-    record { tree = t.0; placed = n.1.0 ∙ ap (λ m. Some m) (sym named); found = t.1; led = t.2 }
 
 module _ (t : House) (l : List Record) (rises : RisesFrom 0 l) (legal : IsLegal t l) where
   abbrev list : Legal t l
@@ -152,31 +119,108 @@ module _ (g : Grove) (t : House) (l : List Record) (rises : RisesFrom 0 l) (lega
   pub nothing_placed : (k : ℕ) → place_of g k ≡ None → option_and_then (λ r. deals_under t l r.number r.firm r.command) (change_of l k) ≡ standing_on t l k
   nothing_placed k none = placeless t l rises legal k (sym (shows.places k) ∙ none)
 
-  module _ (k trade : ℕ) (p : List ℕ) (v : Rose) (f : IsFound g k trade p v) where
-    -- the change, which the trees place where it was found
-    placed : (r : Record) × ((change_of l k ≡ Some r) × (named_place r.number r.command ≡ Some (head_of v).name))
-    placed = and_then_told (λ r. named_place r.number r.command) (change_of l k) (head_of v).name (sym (shows.places k) ∙ f.placed)
-
-    told_here : IsToldAt l trade v
-    told_here = told-at l trade f.tree (subst (IsTreeIn l trade) f.found (shows.trees trade)) p v f.led
-
-    here : StandsAt t l (list t l rises legal) k placed.0 placed.1.0 trade v told_here placed.0.command
-    here = stands_at t l (list t l rises legal) k placed.0 placed.1.0 trade v told_here placed.0.command refl placed.1.1
-
-    -- the Split of the node that a trade made, or that a decision names
-    pub split_found : is_trade_or_decision k trade (head_of v).decision ≡ true → option_map (λ s. s.0) (split_of_node v) ≡ standing_on t l k
-    split_found is_it = elim here [
-      | on_split _ is ↦ is
-      | on_parts not_it _ ↦ absurd (not_both _ is_it not_it)
-    ] ∙ looked_up_here t l (list t l rises legal) k placed.0 placed.1.0 rises
-
-    -- the first on the parts that a Split made
-    pub parts_found : is_trade_or_decision k trade (head_of v).decision ≡ false → least (numbers_on_parts v) ≡ standing_on t l k
-    parts_found not_it = elim here [
-      | on_split is_it _ ↦ absurd (not_both _ is_it not_it)
-      | on_parts _ is ↦ is
-    ] ∙ looked_up_here t l (list t l rises legal) k placed.0 placed.1.0 rises
+  -- and what is read at the node that lies where the trees place the change
+  pub read_as : (k trade : ℕ) (p : List ℕ) (v : Rose) → IsSomeAnd (place_of g k) (λ n. IsPlace g n trade p) → HasTree g trade (λ t. node_at p t ≡ Some v)
+      → (b : Bool) → is_trade_or_decision k trade (head_of v).decision ≡ b → read_at v b ≡ standing_on t l k
+  read_as k trade p v place has b is =
+      let n = some_with (λ n. IsPlace g n trade p) (place_of g k) place in
+      let tree = some_and (λ t. node_at p t ≡ Some v) (tree_of g trade) has in
+      let leads = subst (λ t. LeadsTo p t n.0) (same_Some n.1.1.tree tree.0 (sym n.1.1.found ∙ tree.1)) n.1.1.there in
+      let named : (head_of v).name ≡ n.0 = at_fact (λ u. (head_of u).name ≡ n.0) (node_at p tree.0) v tree.2 leads in
+      let placed : place_of g k ≡ Some (head_of v).name = n.1.0 ∙ ap (λ m. Some m) (sym named) in
+      let r = and_then_told (λ r. named_place r.number r.command) (change_of l k) (head_of v).name (sym (shows.places k) ∙ placed) in
+      let told = told_at l trade tree.0 (subst (IsTreeIn l trade) tree.1 (shows.trees trade)) p v tree.2 in
+      sym (ap (read_at v) is)
+      ∙ (read_here t l (list t l rises legal) k r.0 r.1.0 trade v told r.0.command refl r.1.1 ∙ looked_up_here t l (list t l rises legal) k r.0 r.1.0 rises)
 
 -- none is answered exactly where the others alone are legal
 pub none_where_legal : (t : House) (l : List Record) (k : ℕ) (o : Option ℕ) → o ≡ standing_on t l k → (o ≡ None) ↔ IsLegal t (without l k)
 none_where_legal t l k o is = (λ none. legal_from_replay t (without l k) (sym is ∙ none), λ others. is ∙ replay_from_legal t (without l k) others)
+
+-- ---- the deed of a number
+
+none_numbered : (l : List Record) (g k : List ℕ) (n : ℕ) (b : List Record) → find (λ r. r.number == n) b ≡ None → find (λ d. d.number == n) (dealings_in l b g k) ≡ None
+none_numbered l g k n [] h = refl
+none_numbered l g k n (r ∷ b) h =
+    let q = nothing_here (r.number == n) r (find (λ r. r.number == n) b) h in
+    let rest = none_numbered l g k n b q.1 in
+    elim (none_or_some (deed_of l g k r.firm r.command)) [ inl none ↦ cc (none, rest) | inr d ↦ cc (d.1, q.0, rest) ]
+
+-- ---- read off the terms
+
+abbrev standing_of : ℕ → PairView → Option ℕ
+standing_of n r = standing_under r.file r.dealings n
+
+-- what stands in the row of a place, where there is one
+pub stands_in : (v : TermsView) (n : ℕ) (i : Option ℕ) (o : Option PairView) → o ≡ option_and_then (slice_get v.pairs) i
+    → option_and_then (λ (r : PairView). standing_under r.file r.dealings n) o ≡ option_and_then (λ i. standing_in v.pairs i n) i
+stands_in v n i o is = ap (option_and_then (standing_of n)) is ∙ and_then_steps (slice_get v.pairs) (standing_of n) i
+
+module _ (t : House) (l : List Record) (v : TermsView) (are : AreTermsOf t l v) (once : NumbersOnce l) where
+  -- of a change that deals for these two
+  read_deal : (r : Record) → Contains l r → (g k : List ℕ) (d : Deed) → deed_of l g k r.firm r.command ≡ Some d
+      → option_and_then (λ i. standing_in v.pairs i r.number) (pair_place v l r) ≡ deals_under t l r.number r.firm r.command
+  read_deal r among g k d deals =
+      let is_deal = deal l r.firm r.command g k d deals in
+      let q = are.ready r (record { giver = g; taker = k }) among is_deal.of in
+      let row = are.rows g k q.0 q.1 in
+      -- its deed is found under its number
+      let c = cut_at l r among in
+      let same : (r.number == r.number) ≡ true = (Decides-eqb r.number r.number).1 refl in
+      let before = none_numbered l g k r.number c.before (none_before (λ q. q.number == r.number) c.before r c.behind (subst (λ (z : List Record). NumbersOnce z) c.is once r.number) same) in
+      let cut = ap (λ z. dealings_in l z g k) c.is ∙ dealings_cut l c.before r c.behind g k (Some d) deals in
+      let found : deed_at (dealings l g k) r.number ≡ Some d =
+      cc (cut, find-append (λ e. e.number == r.number) (dealings_in l c.before g k) (numbered r d ∷ dealings_in l c.behind g k), before, same) in
+      let steps = and_then_steps (slice_get v.pairs) (standing_of r.number) (lookup (is_pair g k) v.places) in
+      cc (is_deal.of, steps, q.1, row.0, row.1, found, is_deal.under t r.number)
+
+  read_by : (r : Record) → Contains l r → (c : Command) → r.command ≡ c → named_place r.number c ≡ None
+      → option_and_then (λ i. standing_in v.pairs i r.number) (pair_place v l r) ≡ deals_under t l r.number r.firm c
+  read_by r among (Agree g k rate limit) is none =
+      cc (read_deal r among g k (Makes (record { rate = rate; limit = limit })) (cc (is, both_same g k)), is)
+  read_by r among (Raise g lots) is none = cc (read_deal r among g r.firm (Raises lots) (cc (is, both_same g r.firm)), is)
+  read_by r among (Claim m account) is none = absurd (cc)
+  read_by r among _ is none = cc (is)
+
+  -- what the terms say stands on a number without a place in the trees is what the list says
+  pub read_off : (n : ℕ) → option_and_then (λ r. named_place r.number r.command) (change_of l n) ≡ None
+      → option_and_then (λ i. standing_in v.pairs i n) (pair_at v n) ≡ option_and_then (λ r. deals_under t l r.number r.firm r.command) (change_of l n)
+  read_off n none =
+      ap (option_and_then (λ i. standing_in v.pairs i n)) (are.placed n)
+      ∙ (and_then_steps (pair_place v l) (λ i. standing_in v.pairs i n) (change_of l n)
+      ∙ alike_at (λ r. option_and_then (λ i. standing_in v.pairs i n) (pair_place v l r)) (λ r. deals_under t l r.number r.firm r.command) (change_of l n) (λ r found.
+      let number = (Decides-eqb r.number n).0 (find_passes (λ r. r.number == n) l r found) in
+      ap (λ m. option_and_then (λ i. standing_in v.pairs i m) (pair_place v l r)) (sym number)
+      ∙ read_by r (found_in (λ r. r.number == n) l r found) r.command refl (sym (ap (option_and_then (λ (r : Record). named_place r.number r.command)) found) ∙ none)))
+
+-- ---- how many entries stand beside a change
+
+abbrev count_at : TermsView → Option ℕ → ℕ
+count_at v o = unwrap_or (option_map (λ i. entries_in v.pairs i) o) 0
+
+-- how many are dealt for a pair
+abbrev count_of : List Record → Option Pair → ℕ
+count_of l o = unwrap_or (option_map (λ (p : Pair). length (dealings l p.giver p.taker)) o) 0
+
+counts_through : (v : TermsView) (o : Option ℕ) → count_at v o ≡ unwrap_or (option_map (λ (r : PairView). length r.dealings) (option_and_then (slice_get v.pairs) o)) 0
+counts_through v None = refl
+counts_through v (Some i) = refl
+
+-- and how much
+pub counts_in : (v : TermsView) (i : Option ℕ) (o : Option PairView) → o ≡ option_and_then (slice_get v.pairs) i
+    → unwrap_or (option_map (λ (r : PairView). length r.dealings) o) 0 ≡ unwrap_or (option_map (λ i. entries_in v.pairs i) i) 0
+counts_in v i o is = ap (λ o. unwrap_or (option_map (λ (r : PairView). length r.dealings) o) 0) is ∙ sym (counts_through v i)
+
+module _ (t : House) (l : List Record) (v : TermsView) (are : AreTermsOf t l v) where
+  of_pair : (o : Option Pair) → ((p : Pair) → o ≡ Some p → (q : PairView) × (row_of v p.giver p.taker ≡ Some q)) → count_at v (option_and_then (place_of_pair v) o) ≡ count_of l o
+  of_pair None there = refl
+  of_pair (Some p) there =
+      let q = there p refl in
+      cc (counts_through v (place_of_pair v p), q.1, (are.rows p.giver p.taker q.0 q.1).1)
+
+  pub counted : (n : ℕ) → count_at v (pair_at v n) ≡ entries_dealt l n
+  counted n =
+      let pairs = λ (r : Record). pair_of l r.firm r.command in
+      ap (count_at v) (are.placed n ∙ sym (and_then_steps pairs (place_of_pair v) (change_of l n))) ∙ of_pair (option_and_then pairs (change_of l n)) (λ p e.
+      let r = and_then_told pairs (change_of l n) p e in
+      are.ready r.0 p (found_in (λ r. r.number == n) l r.0 r.1.0) r.1.1)

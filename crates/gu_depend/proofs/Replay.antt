@@ -1,33 +1,22 @@
 -- A lawful order of a legal list is legal.
 use Rattle.gu_depend.proofs.Vocabulary.{find, ◌≡◌, ℕ, ◌+◌, ◌≤◌, Bool, true, false, ◌||◌, List, [], ◌∷◌, ◌++◌, length, refl, sym, ◌∙◌, ap, subst, arith, cond}
-use Rattle.gu_depend.proofs.Vocabulary.{Option, append_assoc, append-nil, IsPermutation, map, Some, None, count_by, is_none, is_some, ◌==◌, filter_map, option_map, option_and_then}
-use Rattle.gu_depend.proofs.Vocabulary.{AllByRecursion, Decides-eqb, EntryPart, House, agreement, node_of, split_of, decision_of, splits, decides, same_name, use_of_node, deed_of, dealings_in}
-use Rattle.gu_depend.proofs.Vocabulary.{dealings, limit_of, refusal_of, row, split_row, claim_row, is_taker, is_giver, first_refused, IsLegal, is_ready, in_lawful_order, IsLawfulOrder, Deed}
-use Rattle.gu_depend.proofs.Vocabulary.{Makes, Raises, Dealing, Command, Trade, Split, Claim, Refuse, Cancel, Agree, Raise, Record, Kind, Node, Refusal, at_node, fits, AllFit, legal_from_replay}
-use Rattle.gu_depend.proofs.Vocabulary.{replay_from_legal, and_parts, HasDistinctNumbers, eqb_symm, name_is, name_same, node_called, All-contains, Contains, first_unfit, inl, inr, none_is_some}
-use Rattle.gu_depend.proofs.Vocabulary.{none_or_some, refusal_parts, same_Some, names, cases_Bool, cond_both}
-use Rattle.gu_depend.proofs.Finds.{some_there, count_cons, count_permuted, find_permuted, none_before, not_both}
-use Rattle.gu_depend.proofs.Grown.{ThereFor, Within, Grown, grown_none, grown_push, owns_same, depth_same, AllFollow, Follows}
-use Rattle.std.proofs.lemmas.List.Sorted.{All-permutation, length_permutation}
-use Rattle.std.proofs.lemmas.Map.Keys.{IsDistinct-head, IsDistinct-tail}
-use Rattle.gu_depend.proofs.Names.{at_name, node_permuted}
+use Rattle.gu_depend.proofs.Vocabulary.{Option, append_assoc, append-nil, IsPermutation, map, Some, None, count_by, is_none, is_some, ◌==◌, AllByRecursion, Decides-eqb, EntryPart, House}
+use Rattle.gu_depend.proofs.Vocabulary.{agreement, node_of, split_of, decision_of, splits, decides, same_name, deed_of, dealings_in, dealings, limit_of, refusal_of, row, split_row, claim_row}
+use Rattle.gu_depend.proofs.Vocabulary.{is_taker, is_giver, first_refused, IsLegal, is_ready, in_lawful_order, IsLawfulOrder, Deed, Makes, Raises, Command, Trade, Split, Claim, Refuse, Cancel, Agree}
+use Rattle.gu_depend.proofs.Vocabulary.{Raise, Record, Kind, Node, Refusal, at_node, fits, AllFit, legal_from_replay, replay_from_legal, and_parts, HasDistinctNumbers, eqb_symm, name_is, name_same}
+use Rattle.gu_depend.proofs.Vocabulary.{node_called, All-contains, Contains, first_unfit, inl, inr, none_is_some, none_or_some, refusal_parts, same_Some, names, cases_Bool, cond_both, All-permutation}
+use Rattle.gu_depend.proofs.Vocabulary.{length_permutation, IsDistinct-head, IsDistinct-tail, or_false, none_at_node, split_accepted, claim_accepted, agree_accepted, raise_accepted, decision_accepted}
+use Rattle.gu_depend.proofs.{Vocabulary.{refusal_none, unfit_none, fit_behind, ◌⊎◌}, Names.{at_name, node_by_maker, makes, makers_once}}
+use Rattle.gu_depend.proofs.Finds.{some_there, count_cons, count_permuted, find_permuted, none_before, not_both, stands_between, none_counts}
+use Rattle.gu_depend.proofs.Grown.{Within, Grown, grown_none, grown_push, owns_same, depth_same, AllFollow, Follows}
 use Rattle.gu_depend.proofs.Settled.{NamedOnce, named_once, SettledAs, SettledAt, IsYours, decision_row, split_moved, Settled, facts, front_within, front_short}
-use Rattle.gu_depend.proofs.Deals.{numbered, dealt, both_same, dealings_grown, dealings_cut, dealings_idle, raised_may, claim_within, at_pair, deal, dealings_append, deed_grown}
-use Rattle.gu_base.proofs.Basics.{or_false}
-use Rattle.gu_base.proofs.Passing.{none_at_node, split_accepted, claim_accepted, agree_accepted, raise_accepted, decision_accepted, refusal_none}
-use Rattle.gu_base.proofs.Dealt.{unfit_none, fit_behind}
-use Rattle.std.proofs.Common.{◌⊎◌}
-use Rattle.gu_depend.proofs.Cuts.{stands_between}
+use Rattle.gu_depend.proofs.Deals.{dealt, both_same, dealings_grown, dealings_cut, dealings_idle, raised_may, claim_within, at_pair, deal, dealings_append, deed_grown}
 
 -- ---- numbers that stand once
 
-none_equal : (n : ℕ) (l : List Record) → AllByRecursion (λ y. (n == y) ≡ false) (map (λ r. r.number) l) → count_by (λ r. r.number == n) l ≡ 0
+none_equal : (n : ℕ) (l : List Record) → AllByRecursion (λ y. (n == y) ≡ false) (map (λ r. r.number) l) → find (λ r. r.number == n) l ≡ None
 none_equal n [] none = refl
-none_equal n (r ∷ l) none =
-    let a = count_cons (λ r. r.number == n) r l in
-    let b = none_equal n l none.1 in
-    let c : cond {A = ℕ} (r.number == n) 1 0 ≡ 0 = ap (λ b. cond {A = ℕ} b 1 0) (eqb_symm r.number n ∙ none.0) in
-    omega (arith, a, b, c)
+none_equal n (r ∷ l) none = ap (λ b. cond b (Some r) (find (λ r. r.number == n) l)) (eqb_symm r.number n ∙ none.0) ∙ none_equal n l none.1
 
 -- each number stands once at most
 abbrev pub NumbersOnce : List Record → Type 0
@@ -37,7 +26,7 @@ pub number_once : (l : List Record) → HasDistinctNumbers l → NumbersOnce l
 number_once [] distinct n = omega arith
 number_once (r ∷ l) distinct n =
     let later = number_once l (IsDistinct-tail (λ a b. a == b) r.number (map (λ r. r.number) l) distinct) n in
-    let none = none_equal r.number l (IsDistinct-head (λ a b. a == b) r.number (map (λ r. r.number) l) distinct) in
+    let none = none_counts (λ d. d.number == r.number) l (none_equal r.number l (IsDistinct-head (λ a b. a == b) r.number (map (λ r. r.number) l) distinct)) in
     cond_both (r.number == n) 1 0 (λ i. count_by (λ r. r.number == n) (r ∷ l) ≡ i + count_by (λ r. r.number == n) l → count_by (λ r. r.number == n) (r ∷ l) ≤ 1)
     (λ is e. let a = subst (λ m. count_by (λ r. r.number == m) l ≡ 0) ((Decides-eqb r.number n).0 is) none in omega (arith, a, e))
     (λ _ e. omega (arith, later, e)) (count_cons (λ r. r.number == n) r l)
@@ -60,7 +49,7 @@ pub record SameFinds (l o : List Record) : Type 0 where
 
 pub same_finds : (l o : List Record) → IsPermutation l o → NumbersOnce l → NamedOnce l → SameFinds l o
 same_finds l o same once s = record {
-  nodes = λ n. node_permuted l o n same (once n.entry);
+  nodes = λ n. cc (node_by_maker o n, find_permuted (makes n) l o same (makers_once l n (once n.entry)), node_by_maker l n);
   splits_same = λ n. find_permuted (λ r. splits n r.command) l o same (s.splits_once n);
   decisions = λ n. find_permuted (λ r. decides n r.command) l o same (s.decisions_once n);
   long = length_permutation l o same;
@@ -77,23 +66,23 @@ order_within l o b rest same e =
 moved : (b : List Record) (m n : EntryPart) → same_name m n ≡ true → is_some (node_of b m) ≡ true → (x : Node) × (node_of b n ≡ Some x)
 moved b m n is h = subst (λ (z : EntryPart). (x : Node) × (node_of b z ≡ Some x)) (name_is m n is) (some_there (node_of b m) h)
 
-ready_there : (l b : List Record) (c : Command) → is_ready l b c ≡ true → ThereFor b c
-ready_there l b (Split m ps) h n is = moved b m n (sym (or_false (same_name m n)) ∙ is) (and_parts (is_some (node_of b m)) (is_none (decision_of l m) || is_some (decision_of b m)) h).0
-ready_there l b (Claim m _) h n is = moved b m n is h
-ready_there l b (Refuse m) h n is = moved b m n is h
-ready_there l b (Cancel m) h n is = moved b m n is h
-ready_there l b _ h n is = absurd (cc)
-
 decided_either : (o p : Option Record) → (is_none p || is_some o) ≡ true → ((d : Record) → o ≡ Some d → p ≡ Some d) → o ≡ p
 decided_either None None h w = refl
 decided_either None (Some d) h w = absurd (cc)
 decided_either (Some d) p h w = sym (w d refl)
 
-ready_decided : (l b : List Record) (c : Command) → Within l b → is_ready l b c ≡ true → (n : EntryPart) → splits n c ≡ true → decision_of b n ≡ decision_of l n
-ready_decided l b (Split m ps) w h n is =
-    let either = (and_parts (is_some (node_of b m)) (is_none (decision_of l m) || is_some (decision_of b m)) h).1 in
-    decided_either (decision_of b n) (decision_of l n) (subst (λ z. (is_none (decision_of l z) || is_some (decision_of b z)) ≡ true) (name_is m n is) either) (w.decisions n)
-ready_decided l b _ w h n is = absurd (cc)
+ready_follows : (l b : List Record) (c : Command) → Within l b → is_ready l b c ≡ true → Follows l b c
+ready_follows l b (Split m ps) w h =
+    let p = and_parts (is_some (node_of b m)) (is_none (decision_of l m) || is_some (decision_of b m)) h in
+    record {
+      there = λ n is. moved b m n (sym (or_false (same_name m n)) ∙ is) p.0;
+      decided = λ n is.
+          decided_either (decision_of b n) (decision_of l n) (subst (λ z. (is_none (decision_of l z) || is_some (decision_of b z)) ≡ true) (name_is m n is) p.1) (w.decisions n);
+    }
+ready_follows l b (Claim m _) w h = record { there = λ n is. moved b m n is h; decided = λ n is. absurd (cc) }
+ready_follows l b (Refuse m) w h = record { there = λ n is. moved b m n is h; decided = λ n is. absurd (cc) }
+ready_follows l b (Cancel m) w h = record { there = λ n is. moved b m n is h; decided = λ n is. absurd (cc) }
+ready_follows l b _ w h = record { there = λ n is. absurd (cc); decided = λ n is. absurd (cc) }
 
 -- what a change finds before it
 record IsDue (t : House) (l b : List Record) (by : List ℕ) (c : Command) : Type 0 where
@@ -148,13 +137,6 @@ accepts t l b by _ s due = refl
 abbrev pub OthersFit : House → List Record → (x y : List ℕ) → List Record → List Record → Type 0
 OthersFit t l x y b rest = (g k : List ℕ) → AllFit (agreement t g k) (dealings_in l b g k) (dealings_in l rest g k) ⊎ ((x ≡ g) × (y ≡ k))
 
-fit_behind_one : (t : House) (l b : List Record) (r : Record) (rest : List Record) (g k : List ℕ) → AllFit (agreement t g k) (dealings_in l b g k) (dealings_in l (r ∷ rest) g k)
-    → AllFit (agreement t g k) (dealings_in l (b ++ r ∷ []) g k) (dealings_in l rest g k)
-fit_behind_one t l b r rest g k all =
-    subst (λ z. AllFit (agreement t g k) z (dealings_in l rest g k)) (sym (dealings_append l b (r ∷ []) g k))
-    (fit_behind (agreement t g k) (dealings_in l b g k) (dealings_in l (r ∷ []) g k) (dealings_in l rest g k)
-    (subst (AllFit (agreement t g k) (dealings_in l b g k)) (dealings_append l (r ∷ []) rest g k) all))
-
 pub refused_here : (o : Option Refusal) (n : ℕ) (rest : Option ℕ) → (o ≡ None → ⊥) → cond (is_some o) (Some n) rest ≡ Some n
 refused_here None n rest refused = absurd (refused refl)
 refused_here (Some r) n rest refused = refl
@@ -170,11 +152,6 @@ module _ (t : House) (l o : List Record) (legal : Legal t l) (same : IsPermutati
   none_yet : (p : Record → Bool) → count_by p l ≤ 1 → (b : List Record) (r : Record) (rest : List Record) → o ≡ b ++ r ∷ rest → p r ≡ true → find p b ≡ None
   none_yet p once b r rest e = let a = count_permuted p l o same in none_before p b r rest (subst (λ (z : List Record). count_by p z ≤ 1) e (omega (arith, a, once)))
 
-  settled_here : (b : List Record) (r : Record) (rest : List Record) → o ≡ b ++ r ∷ rest → Settled t l r
-  settled_here b r rest e =
-      let all = All-permutation (Settled t l) l o same (facts t l legal.replayed).settled in
-      All-contains (Settled t l) o r all (subst (λ (z : List Record). Contains z r) (sym e) (stands_between b r rest))
-
   grown_one : (b : List Record) (r : Record) (rest : List Record) → o ≡ (b ++ r ∷ []) ++ rest → Grown l b → Follows l b r.command → Grown l (b ++ r ∷ [])
   grown_one b r rest e g follows = grown_push l b r g (order_within l o (b ++ r ∷ []) rest finds e) (omega (arith, front_short o (b ++ r ∷ []) rest e, finds.long)) follows
 
@@ -189,7 +166,8 @@ module _ (t : House) (l o : List Record) (legal : Legal t l) (same : IsPermutati
   taken : (b : List Record) (r : Record) (rest : List Record) → o ≡ b ++ r ∷ rest → Grown l b → Follows l b r.command
       → ((g k : List ℕ) (d : Deed) → deed_of l g k r.firm r.command ≡ Some d → fits (agreement t g k) (dealings_in l b g k) d ≡ true) → refusal_of t b r.firm r.command ≡ None
   taken b r rest e g follows fit =
-      let s = settled_here b r rest e in
+      let all = All-permutation (Settled t l) l o same (facts t l legal.replayed).settled in
+      let s = All-contains (Settled t l) o r all (subst (λ (z : List Record). Contains z r) (sym e) (stands_between b r rest)) in
       refusal_none t b r.firm r.command s.known (accepts t l b r.firm r.command s.stands (record {
         grown = g;
         follows = follows;
@@ -198,55 +176,40 @@ module _ (t : House) (l o : List Record) (legal : Legal t l) (same : IsPermutati
         afforded = λ x y d deals. subst (λ z. fits (agreement t x y) z d ≡ true) (sym (dealings_grown l b x y g)) (fit x y d deals);
       }))
 
-  -- and one that doesn't fit is refused
-  unfit_refused : (b : List Record) (r : Record) (g k : List ℕ) (d : Deed) → Grown l b → Follows l b r.command → deed_of l g k r.firm r.command ≡ Some d
-      → fits (agreement t g k) (dealings_in l b g k) d ≡ false → refusal_of t b r.firm r.command ≡ None → ⊥
-  unfit_refused b r g k d grown follows deals unfit accepted =
-      let there = deed_grown l b g k r.firm r.command grown.within follows.there ∙ deals in
-      let fit = (deal b r.firm r.command g k d there).fit t (refusal_parts t b r.firm r.command accepted).1 in
-      not_both (fits (agreement t g k) (dealings_in l b g k) d) (subst (λ z. fits (agreement t g k) z d ≡ true) (dealings_grown l b g k grown) fit) unfit
-
   -- so the first that is refused is the first of these two that doesn't fit, where all others do
   module _ (x y : List ℕ) where
     abbrev unfit : List Record → List Record → Option ℕ
     unfit b rest = first_unfit (agreement t x y) (dealings_in l b x y) (dealings_in l rest x y)
 
-    along_one : (b : List Record) (r : Record) (rest tail : List Record) → o ≡ b ++ r ∷ (rest ++ tail) → Grown l b → Follows l b r.command
-        → OthersFit t l x y b (r ∷ rest) → first_refused t (b ++ r ∷ []) rest ≡ unfit (b ++ r ∷ []) rest → first_refused t b (r ∷ rest) ≡ unfit b (r ∷ rest)
-    along_one b r rest tail e g follows others later = elim (none_or_some (deed_of l x y r.firm r.command)) [
-      | inl none ↦ accepted (λ d deals. absurd (none_is_some (deed_of l x y r.firm r.command) d none deals))
-          ∙ (ap (λ z. first_unfit (agreement t x y) z (dealings_in l rest x y)) (dealings_idle l b r x y none) ∙ sym (ap own none))
-      | inr d ↦ elim (cases_Bool (fits (agreement t x y) ds d.0)) [
-        | inl fit ↦ accepted (λ f deals. subst (λ z. fits (agreement t x y) ds z ≡ true) (same_Some d.0 f (sym d.1 ∙ deals)) fit)
-            ∙ (ap (λ z. first_unfit (agreement t x y) z (dealings_in l rest x y)) (dealings_cut l b r [] x y (Some d.0) d.1) ∙ sym (ap own d.1 ∙ ap (or_stops d.0) fit))
-        | inr unfits ↦ refused_here (refusal_of t b r.firm r.command) r.number (first_refused t (b ++ r ∷ []) rest) (unfit_refused b r x y d.0 g follows d.1 unfits)
-            ∙ sym (ap own d.1 ∙ ap (or_stops d.0) unfits)
-      ]
-    ]
-      where
-        ds : List Dealing
-        ds = dealings_in l b x y
-
-        own : Option Deed → Option ℕ
-        own o = first_unfit (agreement t x y) ds (dealt r o (dealings_in l rest x y))
-
-        or_stops : Deed → Bool → Option ℕ
-        or_stops d test = cond test (first_unfit (agreement t x y) (ds ++ numbered r d ∷ []) (dealings_in l rest x y)) (Some r.number)
-
-        accepted : ((d : Deed) → deed_of l x y r.firm r.command ≡ Some d → fits (agreement t x y) ds d ≡ true) → first_refused t b (r ∷ rest) ≡ unfit (b ++ r ∷ []) rest
-        accepted fit = ap (λ o. cond (is_some o) (Some r.number) (first_refused t (b ++ r ∷ []) rest)) (taken b r (rest ++ tail) e g follows (λ u v d deals. elim (others u v) [
-          | inl all ↦ (subst (λ o. AllFit (agreement t u v) (dealings_in l b u v) (dealt r o (dealings_in l rest u v))) deals all).0
-          | inr here ↦ at_pair (λ u v. deed_of l u v r.firm r.command ≡ Some d → fits (agreement t u v) (dealings_in l b u v) d ≡ true) x y u v here (fit d) deals
-        ])) ∙ later
-
     along : (b rest tail : List Record) → o ≡ b ++ (rest ++ tail) → Grown l b → AllFollow l b rest → OthersFit t l x y b rest → first_refused t b rest ≡ unfit b rest
     along b [] tail e g follow others = refl
     along b (r ∷ rest) tail e g follow others =
         let cut : o ≡ (b ++ r ∷ []) ++ (rest ++ tail) = e ∙ sym (append_assoc b (r ∷ []) (rest ++ tail)) in
-        along_one b r rest tail e g follow.0 others
-        (along (b ++ r ∷ []) rest tail cut (grown_one b r (rest ++ tail) cut g follow.0) follow.1 (λ u v. elim (others u v) [
-          | inl all ↦ inl (fit_behind_one t l b r rest u v all)
+        let later = along (b ++ r ∷ []) rest tail cut (grown_one b r (rest ++ tail) cut g follow.0) follow.1 (λ u v. elim (others u v) [
+          | inl all ↦ inl (subst (λ z. AllFit (agreement t u v) z (dealings_in l rest u v)) (sym (dealings_append l b (r ∷ []) u v))
+              (fit_behind (agreement t u v) (dealings_in l b u v) (dealings_in l (r ∷ []) u v) (dealings_in l rest u v)
+              (subst (AllFit (agreement t u v) (dealings_in l b u v)) (dealings_append l (r ∷ []) rest u v) all)))
           | inr here ↦ inr here
+        ]) in
+        elim (none_or_some (deed_of l x y r.firm r.command)) [
+          | inl none ↦ accepted (λ d deals. absurd (none_is_some (deed_of l x y r.firm r.command) d none deals))
+              ∙ (later ∙ cc (dealings_idle l b r x y none, none))
+          | inr d ↦ elim (cases_Bool (fits (agreement t x y) (dealings_in l b x y) d.0)) [
+            | inl fit ↦ accepted (λ f deals. subst (λ z. fits (agreement t x y) (dealings_in l b x y) z ≡ true) (same_Some d.0 f (sym d.1 ∙ deals)) fit)
+                ∙ (later ∙ cc (dealings_cut l b r [] x y (Some d.0) d.1, d.1, fit))
+            | inr unfits ↦ refused_here (refusal_of t b r.firm r.command) r.number (first_refused t (b ++ r ∷ []) rest) (λ took.
+                let there = deed_grown l b x y r.firm r.command g.within follow.0.there ∙ d.1 in
+                let fit = (deal b r.firm r.command x y d.0 there).fit t (refusal_parts t b r.firm r.command took).1 in
+                not_both (fits (agreement t x y) (dealings_in l b x y) d.0) (subst (λ z. fits (agreement t x y) z d.0 ≡ true) (dealings_grown l b x y g) fit) unfits)
+                ∙ cc (d.1, unfits)
+          ]
+        ]
+      where
+        accepted : ((d : Deed) → deed_of l x y r.firm r.command ≡ Some d → fits (agreement t x y) (dealings_in l b x y) d ≡ true)
+            → first_refused t b (r ∷ rest) ≡ first_refused t (b ++ r ∷ []) rest
+        accepted fit = ap (λ o. cond (is_some o) (Some r.number) (first_refused t (b ++ r ∷ []) rest)) (taken b r (rest ++ tail) e g follow.0 (λ u v d deals. elim (others u v) [
+          | inl all ↦ (subst (λ o. AllFit (agreement t u v) (dealings_in l b u v) (dealt r o (dealings_in l rest u v))) deals all).0
+          | inr here ↦ at_pair (λ u v. deed_of l u v r.firm r.command ≡ Some d → fits (agreement t u v) (dealings_in l b u v) d ≡ true) x y u v here (fit d) deals
         ]))
 
     pub first_along : (front tail : List Record) → o ≡ front ++ tail → AllFollow l [] front → OthersFit t l x y [] front
@@ -256,27 +219,17 @@ module _ (t : House) (l o : List Record) (legal : Legal t l) (same : IsPermutati
   -- and where all fit, none is refused
   pub none_along : (front tail : List Record) → o ≡ front ++ tail → AllFollow l [] front → ((g k : List ℕ) → AllFit (agreement t g k) [] (dealings_in l front g k))
       → first_refused t [] front ≡ None
-  none_along front tail e follow all =
-      first_along [] [] front tail e follow (λ g k. inl (all g k)) ∙ unfit_none (agreement t [] []) [] (dealings_in l front [] []) (all [] [])
+  none_along front tail e follow all = first_along [] [] front tail e follow (λ g k. inl (all g k)) ∙ unfit_none (agreement t [] []) [] (dealings_in l front [] []) (all [] [])
 
   lawful_follow : (b rest : List Record) → o ≡ b ++ rest → in_lawful_order l b rest ≡ true → AllFollow l b rest
   lawful_follow b [] e h = tt
   lawful_follow b (r ∷ rest) e h =
       let p = and_parts (is_ready l b r.command) (in_lawful_order l (b ++ r ∷ []) rest) h in
-      let within = order_within l o b (r ∷ rest) finds e in (
-        record { there = ready_there l b r.command p.0; decided = ready_decided l b r.command within p.0 },
-        lawful_follow (b ++ r ∷ []) rest (e ∙ sym (append_assoc b (r ∷ []) rest)) p.1,
-      )
-
-deed_found : (l o : List Record) → SameFinds l o → (g k by : List ℕ) (c : Command) → deed_of o g k by c ≡ deed_of l g k by c
-deed_found l o f g k by (Claim n account) = ap (option_and_then (use_of_node g k)) (f.nodes n)
-deed_found l o f g k by _ = refl
-
--- lists that find the same deal the same
-pub dealings_found : (l o : List Record) → SameFinds l o → (g k : List ℕ) → dealings o g k ≡ dealings_in l o g k
-dealings_found l o f g k = ap (λ (h : Record → Option Dealing). filter_map h o) (λ i r. option_map (numbered r) (deed_found l o f g k r.firm r.command i))
+      (ready_follows l b r.command (order_within l o b (r ∷ rest) finds e) p.0, lawful_follow (b ++ r ∷ []) rest (e ∙ sym (append_assoc b (r ∷ []) rest)) p.1)
 
 pub order_is_legal : (t : House) (l o : List Record) → Legal t l → IsLawfulOrder l o → IsLegal t o
 order_is_legal t l o legal lawful =
-    legal_from_replay t o (none_along t l o legal lawful.same o [] (sym (append-nil o)) (lawful_follow t l o legal lawful.same [] o refl lawful.after_its_node) (λ g k.
-    subst (AllFit (agreement t g k) []) (sym (lawful.pairs_stand g k) ∙ dealings_found l o (finds t l o legal lawful.same) g k) ((facts t l legal.replayed).deals g k)))
+    let follow = lawful_follow t l o legal lawful.same [] o refl lawful.after_its_node in
+    let grown = grown_along t l o legal lawful.same [] o [] (sym (append-nil o)) follow (grown_none l) in
+    legal_from_replay t o (none_along t l o legal lawful.same o [] (sym (append-nil o)) follow (λ g k.
+    subst (AllFit (agreement t g k) []) (sym (lawful.pairs_stand g k) ∙ dealings_grown l o g k grown) ((facts t l legal.replayed).deals g k)))

@@ -1,17 +1,14 @@
 -- What holds of the changes of a legal list over the whole list, wherever each of them stands.
 use Rattle.gu_depend.proofs.Vocabulary.{◌≡◌, ◌≤◌, true, List, [], ◌∷◌, ◌++◌, sym, subst, arith, append-nil, append_assoc, Some, None, count_by, EntryPart, House, node_of}
 use Rattle.gu_depend.proofs.Vocabulary.{decision_of, is_given, splits, decides, refusal_of, row, first_refused, Record, Node, node_more, refusal_parts, splits_well, decides_well, ℕ, Bool, not}
-use Rattle.gu_depend.proofs.Vocabulary.{◌&&◌, length, length-append, ◌∙◌, ap, Option, All, inl, inr, is_none, nat_lt, All-nil, All-push, knows_firm, agreement, owns, depth_of}
-use Rattle.gu_depend.proofs.Vocabulary.{is_offered, trade_row, split_row, claim_row, Refusal, NotOffered, NotYours, first, unless, is_taker, is_giver, IsLegal, Part, Command, Trade, Split, Claim}
-use Rattle.gu_depend.proofs.Vocabulary.{Refuse, Cancel, Agree, Raise, Kind, deed_of, dealings_in, at_node, legal_from_replay, fits, AllFit, same_Some, at_node_none, SplitHolds, claim_passes}
-use Rattle.gu_depend.proofs.Vocabulary.{agree_passes, raise_passes, node_called, no_some, or_cases, none_or_some}
-use Rattle.gu_depend.proofs.Finds.{once_push, find_more}
-use Rattle.gu_base.proofs.Decisions.{Which, before, here, which}
+use Rattle.gu_depend.proofs.Vocabulary.{◌&&◌, length, length-append, ◌∙◌, ap, Option, All, inl, inr, is_none, nat_lt, All-nil, All-push, knows_firm, agreement, owns, depth_of, is_offered}
+use Rattle.gu_depend.proofs.Vocabulary.{trade_row, split_row, claim_row, Refusal, NotOffered, NotYours, first, unless, is_taker, is_giver, IsLegal, Part, Command, Trade, Split, Claim, Refuse, Cancel}
+use Rattle.gu_depend.proofs.Vocabulary.{Agree, Raise, Kind, deed_of, dealings_in, at_node, legal_from_replay, fits, AllFit, at_node_none, SplitHolds, claim_passes, agree_passes}
+use Rattle.gu_depend.proofs.Vocabulary.{raise_passes, node_called, no_some, or_cases, none_or_some, fit_append, split_passes, ClaimHolds, AgreeHolds, decision_passes}
+use Rattle.gu_depend.proofs.{Finds.{once_push, find_more}, Names.at_name}
+use Rattle.gu_base.proofs.Decisions.{before, here, which}
 use Rattle.gu_depend.proofs.Grown.{ThereFor, Within, Grown, grown_none, grown_push, owns_same, depth_same, Follows}
-use Rattle.gu_depend.proofs.Names.{at_name}
 use Rattle.gu_depend.proofs.Deals.{numbered, deed_grown, dealings_grown, dealings_cut, dealings_idle, deal}
-use Rattle.gu_base.proofs.Dealt.{fit_append}
-use Rattle.gu_base.proofs.Passing.{split_passes, ClaimHolds, AgreeHolds, decision_passes, offered_of}
 
 -- ---- what a list names, and what it finds
 
@@ -20,21 +17,6 @@ pub record NamedOnce (l : List Record) : Type 0 where
   pub given : (n : EntryPart) (r : Record) → decision_of l n ≡ Some r → (x : Node) × ((node_of l n ≡ Some x) × (is_given x.kind ≡ true))
   pub splits_once : (n : EntryPart) → count_by (λ r. splits n r.command) l ≤ 1
   pub decisions_once : (n : EntryPart) → count_by (λ r. decides n r.command) l ≤ 1
-
-given_or : (t : House) (l : List Record) (r : Record) (n : EntryPart) (d : Record) → NamedOnce l → row t l r.firm r.command ≡ None → Which l r n d
-    → (x : Node) × ((node_of (l ++ r ∷ []) n ≡ Some x) × (is_given x.kind ≡ true))
-given_or t l r n d s h (before e) = let x = s.given n d e in (x.0, (node_more l (r ∷ []) n x.0 x.1.0, x.1.1))
-given_or t l r n d s h (here is _) = let w = decides_well t l r.firm r.command n h is in (w.node, (node_more l (r ∷ []) n w.node w.there, w.given))
-
-named_once_push : (t : House) (l : List Record) (r : Record) → NamedOnce l → row t l r.firm r.command ≡ None → NamedOnce (l ++ r ∷ [])
-named_once_push t l r s h = record {
-  given = λ n d e. given_or t l r n d s h (which l r n d e);
-  splits_once = λ n. once_push (λ r. splits n r.command) l r (s.splits_once n) (λ is. (splits_well t l r.firm r.command n h is).whole);
-  decisions_once = λ n. once_push (λ r. decides n r.command) l r (s.decisions_once n) (λ is. (decides_well t l r.firm r.command n h is).undecided);
-}
-
-named_once_none : NamedOnce []
-named_once_none = record { given = λ n r e. absurd (cc); splits_once = λ n. omega arith; decisions_once = λ n. omega arith }
 
 -- what no changes have, and one more that is accepted keeps, each front of a legal list has
 along : (t : House) (l : List Record) (P : List Record → Type 0) → IsLegal t l
@@ -46,8 +28,16 @@ along t l P legal keeps b (r ∷ front) rest e held =
     subst P (append_assoc b (r ∷ []) front) (along t l P legal keeps (b ++ r ∷ []) front rest cut (keeps b r (front ++ rest) cut (legal.accepted b (front ++ rest) r e) held))
 
 pub named_once : (t : House) (l : List Record) → first_refused t [] l ≡ None → NamedOnce l
-named_once t l none =
-    along t l NamedOnce (legal_from_replay t l none) (λ b r rest e h s. named_once_push t b r s (refusal_parts t b r.firm r.command h).1) [] l [] (sym (append-nil l)) named_once_none
+named_once t l none = along t l NamedOnce (legal_from_replay t l none) (λ b r rest e accepted s.
+    let h = (refusal_parts t b r.firm r.command accepted).1 in
+    record {
+      given = λ n d e. elim (which b r n d e) [
+        | before e ↦ (let x = s.given n d e in (x.0, (node_more b (r ∷ []) n x.0 x.1.0, x.1.1)))
+        | here is _ ↦ (let w = decides_well t b r.firm r.command n h is in (w.node, (node_more b (r ∷ []) n w.node w.there, w.given)))
+      ];
+      splits_once = λ n. once_push (λ r. splits n r.command) b r (s.splits_once n) (λ is. (splits_well t b r.firm r.command n h is).whole);
+      decisions_once = λ n. once_push (λ r. decides n r.command) b r (s.decisions_once n) (λ is. (decides_well t b r.firm r.command n h is).undecided);
+    }) [] l [] (sym (append-nil l)) (record { given = λ n r e. absurd (cc); splits_once = λ n. omega arith; decisions_once = λ n. omega arith })
 
 -- a node of the list, of which this holds
 pub record SettledAt (l : List Record) (n : EntryPart) (P : Node → Type 0) : Type 0 where
@@ -75,16 +65,10 @@ pub record Settled (t : House) (l : List Record) (r : Record) : Type 0 where
 
 -- ---- a node that is no longer offered has its decision, if it ever has one
 
--- what is given and not decided is offered
-pub still_offered : (l : List Record) (x : Node) → is_given x.kind ≡ true → decision_of l x.name ≡ None → not (is_offered l x) ≡ true → ⊥
-still_offered l x given none free = let offered : is_offered l x ≡ true = offered_of l x given none in cc
-
 pub free_decided : (l b : List Record) (n : EntryPart) (x : Node) → NamedOnce l → Within l b → node_of b n ≡ Some x → not (is_offered b x) ≡ true → decision_of b n ≡ decision_of l n
 free_decided l b n x s w found free = elim (none_or_some (decision_of b n)) [
   | inl none ↦ none ∙ sym (no_some (decision_of l n) (λ d h.
-      let y = s.given n d h in
-      let one : y.0 ≡ x = same_Some y.0 x (sym y.1.0 ∙ w.nodes n x found) in
-      still_offered b x (subst (λ (z : Node). is_given z.kind ≡ true) one y.1.1) (ap (decision_of b) (node_called b n x found) ∙ none) free))
+      let y = s.given n d h in cc (y.1.0, y.1.1, w.nodes n x found, node_called b n x found, none, free)))
   | inr d ↦ d.1 ∙ sym (w.decisions n d.0 d.1)
 ]
 
@@ -102,12 +86,6 @@ split_moved t l b by ps x owned same deep h = record {
   sums = h.sums;
 }
 
-split_settles : (t : House) (l b : List Record) (by : List ℕ) (ps : List Part) (x : Node) → NamedOnce l → Grown l b → node_of b x.name ≡ Some x → SplitHolds t b by ps x
-    → SplitHolds t l by ps x
-split_settles t l b by ps x s g found h =
-    let same = free_decided l b x.name x s g.within found h.free in
-    split_moved t b l by ps x (sym (owns_same l b by x.name x g found same)) (sym same) (sym (depth_same l b x.name x g found)) h
-
 -- the row of a Refuse or a Cancel, by who may ask for it
 abbrev pub decision_row : List Record → (Kind → Bool) → Node → Option Refusal
 decision_row b yours x = first (unless (is_offered b x) NotOffered ∷ unless (yours x.kind) NotYours ∷ [])
@@ -121,8 +99,11 @@ decision_settles l b n yours g h = settles_at l b n (decision_row b yours) (IsYo
 
 settles : (t : House) (l b : List Record) (by : List ℕ) (c : Command) → NamedOnce l → Grown l b → row t b by c ≡ None → SettledAs t l by c
 settles t l b by (Trade firm account instrument side lots) s g h = h
-settles t l b by (Split n ps) s g h = settles_at l b n (split_row t b by ps) (SplitHolds t l by ps) g h
-    (λ x found passes. split_settles t l b by ps x s g (at_name b n x found) (split_passes t b by ps x passes).0)
+settles t l b by (Split n ps) s g h = settles_at l b n (split_row t b by ps) (SplitHolds t l by ps) g h (λ x found passes.
+    let named = at_name b n x found in
+    let holds = (split_passes t b by ps x passes).0 in
+    let same = free_decided l b x.name x s g.within named holds.free in
+    split_moved t b l by ps x (sym (owns_same l b by x.name x g named same)) (sym same) (sym (depth_same l b x.name x g named)) holds)
 settles t l b by (Claim n account) s g h = settles_at l b n (claim_row t b by account) (ClaimHolds t by account) g h (λ x found passes. (claim_passes t b by account x passes).0)
 settles t l b by (Refuse n) s g h = decision_settles l b n (is_taker by) g h
 settles t l b by (Cancel n) s g h = decision_settles l b n (is_giver by) g h
@@ -148,10 +129,9 @@ accepted_follows t l b by c s w h = record {
 
 -- the second list is a front of the first
 pub front_within : (l b rest : List Record) → l ≡ b ++ rest → Within l b
-front_within l b rest e = record {
-  nodes = λ n x found. subst (λ (z : List Record). node_of z n ≡ Some x) (sym e) (node_more b rest n x found);
-  decisions = λ n r found. subst (λ (z : List Record). decision_of z n ≡ Some r) (sym e) (find_more (λ r. decides n r.command) b rest r found);
-}
+front_within l b rest e =
+    subst (λ (z : List Record). Within z b) (sym e)
+    (record { nodes = λ n x found. node_more b rest n x found; decisions = λ n r found. find_more (λ r. decides n r.command) b rest r found })
 
 pub front_short : (l b rest : List Record) → l ≡ b ++ rest → length b ≤ length l
 front_short l b rest e = omega (arith, length-append b rest, ap length e)
@@ -162,32 +142,23 @@ pub record Facts (t : House) (l b : List Record) : Type 0 where
   pub settled : All (Settled t l) b
   pub deals : (giver taker : List ℕ) → AllFit (agreement t giver taker) [] (dealings_in l b giver taker)
 
--- one more change that is accepted fits
-deals_push : (t : House) (l b : List Record) (r : Record) → Facts t l b → row t b r.firm r.command ≡ None → (g k : List ℕ) → AllFit (agreement t g k) [] (dealings_in l (b ++ r ∷ []) g k)
-deals_push t l b r f h g k = elim (none_or_some (deed_of l g k r.firm r.command)) [
-  | inl none ↦ subst (AllFit (agreement t g k) []) (sym (dealings_idle l b r g k none)) (f.deals g k)
-  | inr d ↦ (
-      let same = deed_grown l b g k r.firm r.command f.grown.within (accepted_there t b r.firm r.command h) ∙ d.1 in
-      let fit = subst (λ z. fits (agreement t g k) z d.0 ≡ true) (dealings_grown l b g k f.grown) ((deal b r.firm r.command g k d.0 same).fit t h) in
-      subst (AllFit (agreement t g k) []) (sym (dealings_cut l b r [] g k (Some d.0) d.1))
-      (fit_append (agreement t g k) [] (dealings_in l b g k) (numbered r d.0 ∷ []) (f.deals g k) (fit, tt)))
-]
-
-facts_push : (t : House) (l b : List Record) (r : Record) (rest : List Record) → NamedOnce l → l ≡ (b ++ r ∷ []) ++ rest → refusal_of t b r.firm r.command ≡ None
-    → Facts t l b → Facts t l (b ++ r ∷ [])
-facts_push t l b r rest s e h f =
+-- what holds of a front of a legal list, over the whole list
+pub front_facts : (t : House) (l front rest : List Record) → l ≡ front ++ rest → first_refused t [] l ≡ None → Facts t l front
+front_facts t l front rest e none = along t l (Facts t l) (legal_from_replay t l none) (λ b r rest e h f.
+    let s = named_once t l none in
     let p = refusal_parts t b r.firm r.command h in
     record {
       grown = grown_push l b r f.grown (front_within l (b ++ r ∷ []) rest e) (front_short l (b ++ r ∷ []) rest e) (accepted_follows t l b r.firm r.command s f.grown.within p.1);
       settled = All-push (Settled t l) b r f.settled (record { known = p.0; stands = settles t l b r.firm r.command s f.grown p.1 });
-      deals = deals_push t l b r f p.1;
-    }
-
--- what holds of a front of a legal list, over the whole list
-pub front_facts : (t : House) (l front rest : List Record) → l ≡ front ++ rest → first_refused t [] l ≡ None → Facts t l front
-front_facts t l front rest e none =
-    along t l (Facts t l) (legal_from_replay t l none) (λ b r rest e h f. facts_push t l b r rest (named_once t l none) e h f) [] front rest e
-    (record { grown = grown_none l; settled = All-nil (Settled t l); deals = λ giver taker. tt })
+      deals = λ g k. elim (none_or_some (deed_of l g k r.firm r.command)) [
+        | inl none ↦ subst (AllFit (agreement t g k) []) (sym (dealings_idle l b r g k none)) (f.deals g k)
+        | inr d ↦ (
+            let same = deed_grown l b g k r.firm r.command f.grown.within (accepted_there t b r.firm r.command p.1) ∙ d.1 in
+            let fit = subst (λ z. fits (agreement t g k) z d.0 ≡ true) (dealings_grown l b g k f.grown) ((deal b r.firm r.command g k d.0 same).fit t p.1) in
+            subst (AllFit (agreement t g k) []) (sym (dealings_cut l b r [] g k (Some d.0) d.1))
+            (fit_append (agreement t g k) [] (dealings_in l b g k) (numbered r d.0 ∷ []) (f.deals g k) (fit, tt)))
+      ];
+    }) [] front rest e (record { grown = grown_none l; settled = All-nil (Settled t l); deals = λ giver taker. tt })
 
 pub facts : (t : House) (l : List Record) → first_refused t [] l ≡ None → Facts t l l
 facts t l none = front_facts t l l [] (sym (append-nil l)) none

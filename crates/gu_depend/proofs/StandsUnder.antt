@@ -1,23 +1,20 @@
--- The first change that would be refused without another is the first that the other stands under.
+-- The first change that would be refused without another is the first that the other stands under; where the numbers rise, the least that is looked up.
 use Rattle.gu_depend.proofs.Vocabulary.{◌≡◌, ℕ, zero, ◌+◌, ◌<◌, ◌≤◌, Bool, true, false, not, ◌||◌, List, [], ◌∷◌, ◌++◌, refl, sym, ◌∙◌, ap, subst, arith}
-use Rattle.gu_depend.proofs.Vocabulary.{cond, Option, Contains, All, IsPermutation, append_assoc, map, inl, inr, Some, None, find, count_by, is_some, option_and_then, option_map, ◌==◌}
-use Rattle.gu_depend.proofs.Vocabulary.{option_or, list_any, AllByRecursion, Decides-eqb, All-nil, All-cons, All-weaker, All-contains, All-contains_itself, Contains-append_right, find-append}
-use Rattle.gu_depend.proofs.Vocabulary.{EntryPart, House, node_of, nodes_of, decision_of, same_name, splits, decides, refusal_of, first_refused, IsLegal, without, standing_on, Refusal, Command}
-use Rattle.gu_depend.proofs.Vocabulary.{Trade, Split, Claim, Refuse, Cancel, Agree, Record, Root, Node, RisesFrom, replay_front, HasDistinctNumbers, same_Some, refusal_parts, name_same, made_of}
-use Rattle.gu_depend.proofs.Vocabulary.{none_is_some, no_some, found_in, find_passes, false_from_ne_true, none_or_some, IsSameState, names, is_under, stands_under, deals_under, first_under}
-use Rattle.gu_depend.proofs.Vocabulary.{IsLeastUnder}
+use Rattle.gu_depend.proofs.Vocabulary.{cond, Option, Contains, All, IsPermutation, append_assoc, map, inl, inr, Some, None, find, count_by, is_some, option_and_then, option_map, ◌==◌, option_or}
+use Rattle.gu_depend.proofs.Vocabulary.{list_any, AllByRecursion, Decides-eqb, All-nil, All-cons, All-weaker, All-contains, All-contains_itself, Contains-append_right, find-append, EntryPart, House}
+use Rattle.gu_depend.proofs.Vocabulary.{node_of, nodes_of, decision_of, same_name, splits, decides, refusal_of, first_refused, IsLegal, without, standing_on, Command, Trade, Split, Claim}
+use Rattle.gu_depend.proofs.Vocabulary.{Refuse, Cancel, Agree, Record, Root, Node, RisesFrom, replay_front, HasDistinctNumbers, same_Some, refusal_parts, name_same, made_of, none_is_some, no_some}
+use Rattle.gu_depend.proofs.Vocabulary.{found_in, find_passes, false_from_ne_true, none_or_some, IsSameState, names, is_under, stands_under, deals_under, first_under, IsLeastUnder, flat_map}
+use Rattle.gu_depend.proofs.Vocabulary.{cons_option, split_of, number_in, numbers_on, least, or_none, numbers_under, All-filter, Contains-append_cases, IsDistinct-cons, IsPermutation-refl}
+use Rattle.gu_depend.proofs.Vocabulary.{list_any_none, min, find_has, least_with, lesser}
 use Rattle.std.specs.List.{IsDistinct}
-use Rattle.std.proofs.lemmas.List.Elements.{All-filter, Contains-append_cases}
-use Rattle.std.proofs.lemmas.Map.Keys.{IsDistinct-cons}
-use Rattle.std.proofs.lemmas.List.Sorted.{IsPermutation-refl}
-use Rattle.gu_depend.proofs.Finds.{found_once, none_before, count_append, count_permuted, by_cut, found_some, not_both}
+use Rattle.gu_depend.proofs.Finds.{by_test, found_once, none_before, count_append, count_permuted, by_cut, found_some, not_both, none_there, stands_between, first_cut, none_passes, moved_to_end}
 use Rattle.gu_depend.proofs.Names.{makes, node_by_maker, makers_once}
 use Rattle.gu_depend.proofs.Settled.{NamedOnce, named_once, front_facts, accepted_follows}
 use Rattle.gu_depend.proofs.Grown.{NamesThere, SplitsDecided, Grown, Follows}
-use Rattle.gu_depend.proofs.Replay.{Legal, legal_list, finds, order_within}
-use Rattle.gu_depend.proofs.Cuts.{stands_between, first_cut, none_passes, moved_to_end}
-use Rattle.gu_depend.proofs.StandsLast.{replay_stops, gone, stands_last, standing_deals, grown_without, follows_at}
-use Rattle.std.proofs.lemmas.List.Folds.{list_any_none}
+use Rattle.gu_depend.proofs.Replay.{Legal, legal_list, finds, order_within, refused_here}
+use Rattle.gu_depend.proofs.StandsLast.{replay_on, gone, stands_last, standing_deals, grown_without, follows_at}
+use Rattle.gu_tree.proofs.FirstOn.{least_append}
 
 -- ---- what a change stands under
 
@@ -93,15 +90,7 @@ module _ (t : House) (p : List Record) (k : Record) (s : List Record) (legal : L
       let among = found_in (stands_under k) p e h in
       not_above e.command (record { there = All-contains (NamesThere p) p e g.named among; decided = All-contains (SplitsDecided l p) p e g.decided among }) (find_passes (stands_under k) p e h)) in
       let itself = false_from_ne_true (stands_under k k) (not_above k.command (follows_at t l p k s legal refl)) in
-      find-append (stands_under k) p (k ∷ s)
-      ∙ (ap (λ o. option_or o (find (stands_under k) (k ∷ s))) none ∙ ap (λ b. cond b (Some k) (find (stands_under k) s)) itself)
-
-  -- and is refused without it
-  refused_under : (by : List ℕ) (c : Command) → is_under k.number k.firm k.command c ≡ true → refusal_of t (p ++ s) by c ≡ None → ⊥
-  refused_under by c h accepted =
-      let same = moved_to_end p k s in
-      let within = order_within l ((p ++ s) ++ k ∷ []) (p ++ s) (k ∷ []) (finds t l ((p ++ s) ++ k ∷ []) legal same) refl in
-      not_without (p ++ s) [] same c (accepted_follows t l (p ++ s) by c sn within (refusal_parts t (p ++ s) by c accepted).1) h
+      find-append (stands_under k) p (k ∷ s) ∙ (λ i. option_or (none i) (cond (itself i) (Some k) (find (stands_under k) s)))
 
 -- ---- the law
 
@@ -114,39 +103,42 @@ standing_by t p k s legal (Some e) found =
     let front = legal_front t (p ++ k ∷ c.before) (e ∷ c.behind) (subst (Legal t) cut legal) in
     let accepted = standing_deals t p k c.before front c.none ∙ deals_none t (p ++ k ∷ c.before) k.number k.firm k.command e.command c.passes in
     ap (first_refused t []) (ap (λ z. p ++ z) c.is ∙ sym (append_assoc p c.before (e ∷ c.behind)))
-    ∙ replay_stops t [] (p ++ c.before) e c.behind accepted (refused_under t p k c.before front e.firm e.command c.passes)
-
-standing_cut : (t : House) (p : List Record) (k : Record) (s : List Record) → Legal t (p ++ k ∷ s) → standing_on t (p ++ k ∷ s) k.number ≡ first_under t (p ++ k ∷ s) k
-standing_cut t p k s legal =
-    ap (first_refused t []) (gone t p k s legal)
-    ∙ (standing_by t p k s legal (find (stands_under k) s) refl
-    ∙ sym (ap (λ o. option_or (option_map (λ (e : Record). e.number) o) (deals_under t (p ++ k ∷ s) k.number k.firm k.command)) (found_behind t p k s legal)))
+    ∙ (replay_on t [] (p ++ c.before) (e ∷ c.behind) accepted
+    ∙ refused_here (refusal_of t (p ++ c.before) e.firm e.command) e.number (first_refused t ((p ++ c.before) ++ e ∷ []) c.behind)
+    (λ took.
+    let l = p ++ k ∷ c.before in
+    let y = p ++ c.before in
+    let same = moved_to_end p k c.before in
+    let within = order_within l (y ++ k ∷ []) y (k ∷ []) (finds t l (y ++ k ∷ []) front same) refl in
+    not_without t p k c.before front y [] same e.command
+    (accepted_follows t l y e.firm e.command (named_once t l front.replayed) within (refusal_parts t y e.firm e.command took).1) c.passes))
 
 pub standing_is_first : (t : House) (l : List Record) (k : Record) → Legal t l → Contains l k → standing_on t l k.number ≡ first_under t l k
-standing_is_first t l k legal among = by_cut (λ l. Legal t l → standing_on t l k.number ≡ first_under t l k) l k among (λ p s legal. standing_cut t p k s legal) legal
+standing_is_first t l k legal among = by_cut (λ l. Legal t l → standing_on t l k.number ≡ first_under t l k) l k among (λ p s legal.
+    cc (gone t p k s legal, standing_by t p k s legal (find (stands_under k) s) refl, found_behind t p k s legal)) legal
 
 -- ---- where nothing stands on a change
 
 -- it can as well stand last, and the others say of their nodes what the whole says
 pub record CanGo (t : House) (l : List Record) (k : Record) : Type 0 where
+  pub permuted : IsPermutation l (without l k.number ++ k ∷ [])
   pub last : first_refused t [] (without l k.number ++ k ∷ []) ≡ None
   pub same : IsSameState t l (without l k.number ++ k ∷ [])
   pub grown : Grown l (without l k.number)
 
-go_cut : (t : House) (p : List Record) (k : Record) (s : List Record) → Legal t (p ++ k ∷ s) → standing_on t (p ++ k ∷ s) k.number ≡ None → CanGo t (p ++ k ∷ s) k
-go_cut t p k s legal free =
-    let under = free_by (find (stands_under k) (p ++ k ∷ s)) (deals_under t (p ++ k ∷ s) k.number k.firm k.command) (sym (standing_cut t p k s legal) ∙ free) in
+pub can_go : (t : House) (l : List Record) (k : Record) → Legal t l → Contains l k → standing_on t l k.number ≡ None → CanGo t l k
+can_go t l k legal among free = by_cut (λ l. Legal t l → standing_on t l k.number ≡ None → CanGo t l k) l k among (λ p s legal free.
+    let first = standing_is_first t (p ++ k ∷ s) k legal (stands_between p k s) in
+    let under = free_by (find (stands_under k) (p ++ k ∷ s)) (deals_under t (p ++ k ∷ s) k.number k.firm k.command) (sym first ∙ free) in
     let behind = sym (found_behind t p k s legal) ∙ under.0 in
     let others = sym (gone t p k s legal) in
     let last = stands_last t p k s legal behind under.1 in
     record {
+      permuted = subst (λ (z : List Record). IsPermutation (p ++ k ∷ s) (z ++ k ∷ [])) others (moved_to_end p k s);
       last = subst (λ (z : List Record). first_refused t [] (z ++ k ∷ []) ≡ None) others last.0;
       same = subst (λ (z : List Record). IsSameState t (p ++ k ∷ s) (z ++ k ∷ [])) others last.1;
       grown = subst (Grown (p ++ k ∷ s)) others (grown_without t p k s legal behind);
-    }
-
-pub can_go : (t : House) (l : List Record) (k : Record) → Legal t l → Contains l k → standing_on t l k.number ≡ None → CanGo t l k
-can_go t l k legal among free = by_cut (λ l. Legal t l → standing_on t l k.number ≡ None → CanGo t l k) l k among (λ p s legal free. go_cut t p k s legal free) legal free
+    }) legal free
 
 -- ---- in the order of the numbers
 
@@ -166,7 +158,7 @@ first_is_least : (p : Record → Bool) (l : List Record) → RisesFrom 0 l → (
 first_is_least p l rises e h d among passes =
     let c = first_cut p l e h in
     elim (Contains-append_cases c.before (e ∷ c.behind) d (subst (λ (z : List Record). Contains z d) c.is among)) [
-      | inl above ↦ absurd (let some = found_some p c.before d above passes in none_is_some (find p c.before) some.0 c.none some.1)
+      | inl above ↦ absurd (none_there p c.before d c.none above passes)
       | inr behind ↦ All-contains (λ (q : Record). e.number ≤ q.number) (e ∷ c.behind) d
           (rises_above e.number (e ∷ c.behind) (rises_behind 0 c.before e c.behind (subst (RisesFrom 0) c.is rises))) behind
     ]
@@ -178,12 +170,9 @@ rises_apart k n (r ∷ l) less rises =
     let apart = false_from_ne_true (k == r.number) (λ h. let e : k ≡ r.number = (Decides-eqb k r.number).0 h in absurd (omega (arith, e, here, less))) in
     (apart, rises_apart k (r.number + 1) l (omega (arith, here, less)) rises.1)
 
-no_numbers : IsDistinct (λ a b. a == b) []
-unfolding IsDistinct
-no_numbers = tt
-
 pub rises_distinct : (n : ℕ) (l : List Record) → RisesFrom n l → HasDistinctNumbers l
-rises_distinct n [] rises = no_numbers
+unfolding IsDistinct
+rises_distinct n [] rises = tt
 rises_distinct n (r ∷ l) rises =
     IsDistinct-cons (λ a b. a == b) r.number (map (λ r. r.number) l) (rises_apart r.number (r.number + 1) l (omega arith) rises.1) (rises_distinct (r.number + 1) l rises.1)
 
@@ -193,41 +182,34 @@ legal_rising t l rises legal = legal_list t l (rises_distinct 0 l rises) legal
 -- the change that is refused first is one of the list
 refused_in : (t : House) (b rest : List Record) (n : ℕ) → first_refused t b rest ≡ Some n → (e : Record) × (Contains rest e × (e.number ≡ n))
 refused_in t b [] n h = absurd (cc)
-refused_in t b (r ∷ rest) n h = at (refusal_of t b r.firm r.command) h (refused_in t (b ++ r ∷ []) rest n)
-  where
-    later : List Record → Type 0
-    later xs = (e : Record) × (Contains xs e × (e.number ≡ n))
-
-    at : (o : Option Refusal) → cond (is_some o) (Some r.number) (first_refused t (b ++ r ∷ []) rest) ≡ Some n
-        → (first_refused t (b ++ r ∷ []) rest ≡ Some n → later rest) → later (r ∷ rest)
-    at None h there = let e = there h in (e.0, (Contains-append_right (r ∷ []) rest e.0 e.1.0, e.1.1))
-    at (Some f) h there = (r, ((zero, omega arith, refl), same_Some r.number n h))
+refused_in t b (r ∷ rest) n h =
+    elim (none_or_some (refusal_of t b r.firm r.command)) [
+      | inl none ↦ (let e = refused_in t (b ++ r ∷ []) rest n (cc (none, h)) in (e.0, (Contains-append_right (r ∷ []) rest e.0 e.1.0, e.1.1)))
+      | inr f ↦ (r, ((zero, omega arith, refl), cc (f.1, h)))
+    ]
 
 pub in_whole : (l : List Record) (k : ℕ) (e : Record) → Contains (without l k) e → Contains l e
 in_whole l k e among = All-contains (Contains l) (without l k) e (All-filter (λ (r : Record). not (r.number == k)) (Contains l) l (All-contains_itself l)) among
 
 module _ (t : House) (l : List Record) (k : Record) (rises : RisesFrom 0 l) where
-  least_deals : find (stands_under k) l ≡ None → (o : Option ℕ) → deals_under t l k.number k.firm k.command ≡ o → standing_on t l k.number ≡ o → IsLeastUnder t l k o
-  least_deals found None e stands = λ c among under. elim under [
-    | inl node ↦ not_both (stands_under k c) node (All-contains (λ e. stands_under k e ≡ false) l c (none_passes (stands_under k) l found) among)
+  least_by : (o : Option Record) → find (stands_under k) l ≡ o → (q : Option ℕ) → deals_under t l k.number k.firm k.command ≡ q
+      → standing_on t l k.number ≡ option_or (option_map (λ e. e.number) o) q → IsLeastUnder t l k (option_or (option_map (λ e. e.number) o) q)
+  least_by None found None e stands = λ c among under. elim under [
+    | inl node ↦ none_there (stands_under k) l c found among node
     | inr deal ↦ none_is_some (deals_under t l k.number k.firm k.command) c.number e deal
   ]
-  least_deals found (Some n) e stands =
+  least_by None found (Some n) e stands =
       let r = refused_in t [] (without l k.number) n stands in (
         r.0,
         in_whole l k.number r.0 r.1.0,
         inr (e ∙ ap (λ z. Some z) (sym r.1.1)),
         r.1.1,
         λ d among under. elim under [
-          | inl node ↦ absurd (not_both (stands_under k d) node (All-contains (λ e. stands_under k e ≡ false) l d (none_passes (stands_under k) l found) among))
+          | inl node ↦ absurd (none_there (stands_under k) l d found among node)
           | inr deal ↦ (let one : n ≡ d.number = same_Some n d.number (sym e ∙ deal) in omega (arith, one))
         ],
       )
-
-  least_by : (o : Option Record) → find (stands_under k) l ≡ o → standing_on t l k.number ≡ option_or (option_map (λ e. e.number) o) (deals_under t l k.number k.firm k.command)
-      → IsLeastUnder t l k (option_or (option_map (λ e. e.number) o) (deals_under t l k.number k.firm k.command))
-  least_by None found stands = least_deals found (deals_under t l k.number k.firm k.command) refl stands
-  least_by (Some e) found stands = (
+  least_by (Some e) found q same stands = (
     e,
     found_in (stands_under k) l e found,
     inl (find_passes (stands_under k) l e found),
@@ -239,4 +221,75 @@ module _ (t : House) (l : List Record) (k : Record) (rises : RisesFrom 0 l) wher
   )
 
 pub standing_is_least : (t : House) (l : List Record) (k : Record) → RisesFrom 0 l → Legal t l → Contains l k → IsLeastUnder t l k (standing_on t l k.number)
-standing_is_least t l k rises legal among = let first = standing_is_first t l k legal among in subst (IsLeastUnder t l k) (sym first) (least_by t l k rises (find (stands_under k) l) refl first)
+standing_is_least t l k rises legal among =
+    let first = standing_is_first t l k legal among in
+    subst (IsLeastUnder t l k) (sym first) (least_by t l k rises (find (stands_under k) l) refl (deals_under t l k.number k.firm k.command) refl first)
+
+-- ---- looked up at the nodes that the other made or decided
+
+-- where the numbers rise, the first that passes is the least
+
+abbrev first_number : (Record → Bool) → List Record → Option ℕ
+first_number p l = option_map (λ e. e.number) (find p l)
+
+none_below : (p : Record → Bool) (n : ℕ) (l : List Record) → RisesFrom (n + 1) l → least_with n (first_number p l) ≡ n
+none_below p n l rises = elim (none_or_some (find p l)) [
+  | inl none ↦ cc (none)
+  | inr e ↦ (
+      let above : n + 1 ≤ e.0.number = find_has (λ (d : Record). n + 1 ≤ d.number) p l e.0 (rises_above (n + 1) l rises) e.1 in
+      let lower : min n e.0.number ≡ n = omega (arith, above) in
+      cc (e.1, lower))
+]
+
+lesser_one : (o : Option ℕ) (n : ℕ) → lesser o (Some n) ≡ Some (least_with n o)
+lesser_one None n = refl
+lesser_one (Some m) n = let same : min m n ≡ min n m = omega arith in ap (λ z. Some z) same
+
+-- the first that passes either of two tests is the lesser of the two firsts
+either_first : (p q : Record → Bool) (n : ℕ) (l : List Record) → RisesFrom n l → first_number (λ e. p e || q e) l ≡ lesser (first_number p l) (first_number q l)
+either_first p q n [] rises = refl
+either_first p q n (r ∷ l) rises =
+    let same : r.number ≡ min r.number r.number = omega arith in
+    let above = λ (p : Record → Bool). none_below p r.number l rises.1 in
+    by_test (p r) (λ a. by_test (q r) (λ b. cc (a, b, same)) (λ b. cc (a, b, above q)))
+    (λ a. by_test (q r) (λ b. cc (a, b, above p, lesser_one (first_number p l) r.number))
+    (λ b. cc (a, b, either_first p q (r.number + 1) l rises.1)))
+
+-- so it is looked up node by node
+
+pub least_in : (o : Option Record) → least (number_in o) ≡ option_map (λ r. r.number) o
+least_in None = refl
+least_in (Some r) = refl
+
+pub least_one : (o : Option ℕ) → least (cons_option o []) ≡ o
+least_one None = refl
+least_one (Some n) = refl
+
+none_passes_never : (l : List Record) → find (λ (e : Record). false) l ≡ None
+none_passes_never l = no_some (find (λ (e : Record). false) l) (λ e h. let never : false ≡ true = find_passes (λ (e : Record). false) l e h in cc)
+
+-- at the parts of a Split
+at_parts : (l : List Record) → RisesFrom 0 l → (xs : List Node) → first_number (λ e. list_any (λ x. names x.name e.command) xs) l ≡ least (flat_map (λ x. numbers_on l x.name) xs)
+at_parts l rises [] = ap (option_map (λ (e : Record). e.number)) (none_passes_never l)
+at_parts l rises (x ∷ xs) =
+    let own = either_first (λ e. splits x.name e.command) (λ e. decides x.name e.command) 0 l rises in
+    let told = least_append (number_in (split_of l x.name)) (number_in (decision_of l x.name)) in
+    let here : first_number (λ e. names x.name e.command) l ≡ least (numbers_on l x.name) = cc (own, told, least_in (split_of l x.name), least_in (decision_of l x.name)) in
+    let both = either_first (λ e. names x.name e.command) (λ e. list_any (λ x. names x.name e.command) xs) 0 l rises in
+    cc (both, here, at_parts l rises xs, least_append (numbers_on l x.name) (flat_map (λ x. numbers_on l x.name) xs))
+
+-- by the command
+by_command : (t : House) (l : List Record) → RisesFrom 0 l → (k : ℕ) (by : List ℕ) (c : Command)
+    → option_or (first_number (λ e. is_under k by c e.command) l) (deals_under t l k by c) ≡ least (numbers_under t l k by c)
+by_command t l rises k by (Trade _ _ _ _ _) = or_none _ ∙ sym (least_in (split_of l (record { entry = k; part = 0 })))
+by_command t l rises k by (Split n ps) = or_none _ ∙ at_parts l rises (nodes_of k by (Split n ps))
+by_command t l rises k by (Claim n _) = or_none _ ∙ sym (least_in (split_of l n))
+by_command t l rises k by (Refuse n) = or_none _ ∙ sym (least_in (split_of l n))
+by_command t l rises k by (Cancel n) = or_none _ ∙ sym (least_in (split_of l n))
+by_command t l rises k by c =
+    ap (λ o. option_or (option_map (λ (e : Record). e.number) o) (deals_under t l k by c)) (none_passes_never l) ∙ sym (least_one (deals_under t l k by c))
+
+-- the least of the numbers is the first change that would be refused
+pub looked_up : (t : House) (l : List Record) → RisesFrom 0 l → Legal t l → (k : Record) → Contains l k
+    → standing_on t l k.number ≡ least (numbers_under t l k.number k.firm k.command)
+looked_up t l rises legal k among = standing_is_first t l k legal among ∙ by_command t l rises k.number k.firm k.command

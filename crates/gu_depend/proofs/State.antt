@@ -1,18 +1,12 @@
 -- Lists that find the same, and have the same changes, leave the same trees, positions and fees.
-use Rattle.gu_depend.proofs.Vocabulary.{and_parts, filter_map, ◌≡◌, ℕ, zero, suc, ◌+◌, ◌≤◌, Bool, false, ◌&&◌, List, [], ◌∷◌, refl, sym, ◌∙◌, ap, arith, Option}
-use Rattle.gu_depend.proofs.Vocabulary.{IsPermutation, Some, None, flat_map, filter, sum_by, count_by, option_and_then, option_map, unwrap_or, is_some, is_none, bytes_eq, ◌==◌, sum_by-cons}
-use Rattle.gu_depend.proofs.Vocabulary.{sum_by-append, sum_by-IsPermutation, EntryPart, House, agreement, node_of, nodes, split_of, claimed_account, parent, line_within, line_of, place_of_kind}
-use Rattle.gu_depend.proofs.Vocabulary.{place_along, place_of, root_along, same_place, is_trade_of, trades_in, stands_at, position_of, dealings, terms_under, limit_under, used_under, terms_of}
-use Rattle.gu_depend.proofs.Vocabulary.{limit_of, used_of, charge_of_kind, charge_of_node, charge_of, charges, counted, Agreement, Kind, Given, row_of, state_of, taker_of, made_by, rows_within}
-use Rattle.gu_depend.proofs.Vocabulary.{rows_from, rows_of, Side, Command, Claim, Record, Charge, Node, Place, made, cond, deed_of, use_of_node, use_of_kind, Uses, name_same, true, IsSameState}
-use Rattle.gu_depend.proofs.Vocabulary.{names}
-use Rattle.gu_depend.proofs.Finds.{counts_less, find_permuted, alike_at}
-use Rattle.gu_base.proofs.Sums.{sum_option, sum_kept}
-use Rattle.std.proofs.Common.{◌*◌}
-use Rattle.gu_depend.proofs.Settled.{NamedOnce}
-use Rattle.gu_depend.proofs.Replay.{SameFinds, same_finds, NumbersOnce}
-use Rattle.gu_depend.specs.Moves.{lots_at}
-use Rattle.gu_depend.proofs.Deals.{both_same}
+use Rattle.gu_depend.proofs.Vocabulary.{and_parts, filter_map, ◌≡◌, ℕ, zero, suc, ◌+◌, Bool, false, ◌&&◌, List, [], ◌∷◌, refl, sym, ◌∙◌, ap, arith, Option}
+use Rattle.gu_depend.proofs.Vocabulary.{IsPermutation, Some, None, flat_map, filter, sum_by, option_and_then, option_map, unwrap_or, is_some, is_none, bytes_eq, ◌==◌, sum_by-cons}
+use Rattle.gu_depend.proofs.Vocabulary.{sum_by-append, sum_by-IsPermutation, EntryPart, House, node_of, nodes, split_of, claimed_account, parent, line_within, line_of, place_of_kind}
+use Rattle.gu_depend.proofs.Vocabulary.{place_along, place_of, root_along, same_place, is_trade_of, trades_in, stands_at, position_of, terms_of}
+use Rattle.gu_depend.proofs.Vocabulary.{limit_of, used_of, charge_of_kind, charge_of_node, charge_of, charges, counted, Agreement, Kind, Given, row_of, made_by, rows_within}
+use Rattle.gu_depend.proofs.Vocabulary.{rows_from, Side, Command, Claim, Record, Charge, Node, Place, made, cond, deed_of, use_of_node, use_of_kind, Uses, name_same, true, IsSameState, names}
+use Rattle.gu_depend.proofs.{Vocabulary.{sum_option, sum_kept, ◌*◌, lots_at}, Settled.NamedOnce, Deals.both_same}
+use Rattle.gu_depend.proofs.{Finds.{counts_less, find_permuted, alike_at}, Replay.{SameFinds, same_finds, NumbersOnce}}
 
 module _ {l o : List Record} (f : SameFinds l o) where
   line_same : (n : ℕ) (x : Option Node) → line_within n o x ≡ line_within n l x
@@ -32,15 +26,7 @@ module _ {l o : List Record} (f : SameFinds l o) where
   place_same n = λ i. along_same (line_of_same n i) i
 
   row_same : (depth : ℕ) (x : Node) → row_of o depth x ≡ row_of l depth x
-  row_same depth x = λ i. record {
-    depth = depth;
-    name = x.name;
-    lots = x.lots;
-    place = place_same x.name i;
-    state = state_of x.kind (f.decisions x.name i);
-    taker = taker_of x.kind;
-    decision = option_map (λ r. r.number) (f.decisions x.name i);
-  }
+  row_same depth x = cc (place_same x.name, f.decisions x.name)
 
   rows_same : (levels depth : ℕ) (x : Node) → rows_within levels o depth x ≡ rows_within levels l depth x
   rows_same zero depth x = λ i. row_same depth x i ∷ []
@@ -50,18 +36,11 @@ module _ {l o : List Record} (f : SameFinds l o) where
   rows_from_same None = refl
   rows_from_same (Some x) = λ i. rows_same (f.long i) 0 x i
 
-  trees_same : (trade : ℕ) → rows_of o trade ≡ rows_of l trade
-  trees_same trade = λ i. rows_from_same (f.nodes (record { entry = trade; part = 0 }) i) i
-
 -- ---- sums over the nodes
 
 pub sum_filter : {X : Type 0} (w : X → ℕ) (p : X → Bool) (xs : List X) → sum_by w (filter p xs) ≡ sum_by (λ x. cond (p x) (w x) 0) xs
 sum_filter w p [] = refl
-sum_filter w p (x ∷ xs) =
-    let a = sum_kept w (p x) x (filter p xs) in
-    let b = sum_filter w p xs in
-    let c = sum_by-cons (λ x. cond (p x) (w x) 0) x xs in
-    omega (arith, a, b, c)
+sum_filter w p (x ∷ xs) = omega (arith, sum_kept w (p x) x (filter p xs), sum_filter w p xs, sum_by-cons (λ x. cond (p x) (w x) 0) x xs)
 
 pub position_is : (l : List Record) (at : Place) (instrument : List ℕ) (side : Side) → position_of l at.firm at.account instrument side ≡ sum_by (lots_at l at instrument side) (nodes l)
 position_is l at instrument side =
@@ -69,38 +48,26 @@ position_is l at instrument side =
     ∙ sum_filter (λ (x : Node). cond (stands_at l at x.name && trades_in l instrument side x.name) x.lots 0) (λ x. is_none (split_of l x.name)) (nodes l)
 
 -- a sum over the nodes is one over the changes
-sum_made : (w : Node → ℕ) (l : List Record) → sum_by w (nodes l) ≡ sum_by (λ r. sum_by w (made r)) l
+pub sum_made : (w : Node → ℕ) (l : List Record) → sum_by w (nodes l) ≡ sum_by (λ r. sum_by w (made r)) l
 sum_made w [] = refl
-sum_made w (r ∷ l) =
-    let a = sum_by-append w (made r) (nodes l) in
-    let b = sum_made w l in
-    let c = sum_by-cons (λ r. sum_by w (made r)) r l in
-    omega (arith, a, b, c)
-
-trade_once : (l : List Record) (instrument : List ℕ) (side : Side) (k : ℕ) → count_by (λ r. r.number == k) l ≤ 1
-    → count_by (λ r. (r.number == k) && is_trade_of instrument side r.command) l ≤ 1
-trade_once l instrument side k once =
-    let a = counts_less (λ (r : Record). (r.number == k) && is_trade_of instrument side r.command) (λ r. r.number == k) l
-    (λ r h. (and_parts (r.number == k) (is_trade_of instrument side r.command) h).0) in
-    omega (arith, a, once)
+sum_made w (r ∷ l) = omega (arith, sum_by-append w (made r) (nodes l), sum_made w l, sum_by-cons (λ r. sum_by w (made r)) r l)
 
 module _ {l o : List Record} (same : IsPermutation l o) (once : NumbersOnce l) (f : SameFinds l o) where
   trades_same : (instrument : List ℕ) (side : Side) (n : EntryPart) → trades_in o instrument side n ≡ trades_in l instrument side n
   trades_same instrument side n = λ i. is_some (option_and_then (λ t.
-      find_permuted (λ r. (r.number == t.entry) && is_trade_of instrument side r.command) l o same (trade_once l instrument side t.entry (once t.entry)) i)
+      let own : Record → Bool = λ r. r.number == t.entry in
+      let trades : Record → Bool = λ r. own r && is_trade_of instrument side r.command in
+      let few = counts_less trades own l (λ r h. (and_parts (own r) (is_trade_of instrument side r.command) h).0) in
+      find_permuted trades l o same (omega (arith, few, once t.entry)) i)
       (root_along (line_of_same f n i)))
-
-  lots_same : (at : Place) (instrument : List ℕ) (side : Side) (x : Node) → lots_at o at instrument side x ≡ lots_at l at instrument side x
-  lots_same at instrument side x = λ i.
-      cond (is_none (f.splits_same x.name i))
-      (cond (unwrap_or (option_map (same_place at) (place_same f x.name i)) false && trades_same instrument side x.name i) x.lots 0) 0
 
   positions_same : (firm account instrument : List ℕ) (side : Side) → position_of o firm account instrument side ≡ position_of l firm account instrument side
   positions_same firm account instrument side =
       let at : Place = record { firm = firm; account = account } in
       let w = lots_at l at instrument side in
       position_is o at instrument side
-      ∙ (ap (λ (w : Node → ℕ). sum_by w (nodes o)) (λ i x. lots_same at instrument side x i)
+      ∙ ((λ i. sum_by (λ x. cond (is_none (f.splits_same x.name i))
+      (cond (unwrap_or (option_map (same_place at) (place_same f x.name i)) false && trades_same instrument side x.name i) x.lots 0) 0) (nodes o))
       ∙ (sum_made w o ∙ (sum_by-IsPermutation (λ r. sum_by w (made r)) l o same ∙ (sym (sum_made w l) ∙ sym (position_is l at instrument side)))))
 
 -- ---- sums over the charges
@@ -110,23 +77,13 @@ pub sum_charged : (takes : Charge → Bool) (counts : Charge → ℕ) (h : Recor
     → sum_by counts (filter takes (filter_map h l)) ≡ sum_by (λ r. counted takes counts (h r)) l
 sum_charged takes counts h [] = refl
 sum_charged takes counts h (r ∷ l) =
-    let a = sum_option takes counts (h r) (filter_map h l) in
-    let b = sum_charged takes counts h l in
-    let c = sum_by-cons (λ r. counted takes counts (h r)) r l in
-    omega (arith, a, b, c)
+    omega (arith, sum_option takes counts (h r) (filter_map h l), sum_charged takes counts h l, sum_by-cons (λ r. counted takes counts (h r)) r l)
 
 -- the terms of each giver and taker are the same, and so are the limits, and what is used
 pub record SameDeals (t : House) (l o : List Record) : Type 0 where
   pub terms : (g k : List ℕ) → terms_of t o g k ≡ terms_of t l g k
   pub limits : (g k : List ℕ) → limit_of t o g k ≡ limit_of t l g k
   pub used : (g k : List ℕ) → used_of o g k ≡ used_of l g k
-
-pub same_deals : (t : House) (l o : List Record) → ((g k : List ℕ) → dealings o g k ≡ dealings l g k) → SameDeals t l o
-same_deals t l o same = record {
-  terms = λ g k. ap (terms_under (agreement t g k)) (same g k);
-  limits = λ g k. ap (limit_under (agreement t g k)) (same g k);
-  used = λ g k. ap used_under (same g k);
-}
 
 -- the terms of those whose lots a change uses are the same in both lists
 abbrev pub SameTermsFor : House → List Record → List Record → List ℕ → Command → Type 0
@@ -164,7 +121,7 @@ pub state_same : (t : House) (l o : List Record) → IsPermutation l o → Numbe
 state_same t l o same once s deals =
     let f = same_finds l o same once s in
     record {
-      trees = trees_same f;
+      trees = λ trade i. rows_from_same f (f.nodes (record { entry = trade; part = 0 }) i) i;
       positions = positions_same same once f;
       paid = λ firm. charges_same t (λ c. bytes_eq c.taker firm) (λ c. c.lots * c.rate) l o same f deals;
       received = λ firm. charges_same t (λ c. bytes_eq c.giver firm) (λ c. c.lots * c.rate) l o same f deals;

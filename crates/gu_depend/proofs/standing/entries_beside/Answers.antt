@@ -1,5 +1,5 @@
 use Rattle.std.proofs.Common.{◌∙◌}
-use Rattle.gu_depend.proofs.ReadTerms.{counted}
+use Rattle.gu_depend.proofs.ReadOff.{counted}
 use Rattle.gu_depend.proofs.standing.entries_beside.Goals as goal
 
 pub returns-clause-value : goal.returns-clause-value

@@ -1,7 +1,5 @@
 use Rattle.std.proofs.Common.{sym, ◌∙◌}
-use Rattle.gu_depend.proofs.ReadOff.{nothing_placed, none_where_legal}
-use Rattle.gu_depend.proofs.ReadTerms.{read_off}
-use Rattle.gu_depend.proofs.StandsUnder.{legal_rising}
+use Rattle.gu_depend.proofs.{ReadOff.{nothing_placed, none_where_legal, read_off}, StandsUnder.legal_rising}
 use Rattle.gu_depend.proofs.standing.first_standing.Goals as goal
 
 pub returns-in-None-clause-first : goal.returns-in-None-clause-first

@@ -1,7 +1,5 @@
-use Rattle.gu_depend.proofs.Vocabulary.{◌∙◌, Some, None, pair_at}
-use Rattle.gu_depend.proofs.ReadOff.{placeless}
-use Rattle.gu_depend.proofs.ReadTerms.{stands_in, counts_in, counted, read_off}
-use Rattle.gu_depend.proofs.StandsUnder.{legal_rising}
+use Rattle.gu_depend.proofs.{Vocabulary.{◌∙◌, Some, None, pair_at}, StandsUnder.legal_rising}
+use Rattle.gu_depend.proofs.ReadOff.{placeless, stands_in, counts_in, counted, read_off}
 use Rattle.gu_depend.proofs.standing.standing_beside.Goals as goal
 
 pub returns-in-Some-clause-first : goal.returns-in-Some-clause-first
