@@ -1,33 +1,20 @@
 -- The filed trees show all live changes, so what stands on a change is read off them.
 use Rattle.gu_depend.proofs.Vocabulary.{Bool, ◌+◌, length, get_or, not, cond, Contains, ◌<◌, ◌≡◌, ℕ, ◌≤◌, true, false, ◌&&◌, List, [], ◌∷◌, refl, sym}
 use Rattle.gu_depend.proofs.Vocabulary.{◌∙◌, ap, subst, arith, Option, map, IsSomeAnd, Decides-eqb, same_Some, House, knows_firm, numbered_as, is_change, is_reversed, live, node_of}
-use Rattle.gu_depend.proofs.Vocabulary.{unless, standing_on, missing, parties_of, consents_of, answer_to, entry_of, on_change, reverse_rest, command_refusal, call_of, Command, Trade, Agree}
-use Rattle.gu_depend.proofs.Vocabulary.{Raise, Reverse, Accepted, Entry, Record, UnknownFirm, NeedsConsent, StandsOn, Row, rows_of, EntryPart, none_is_some, found_in, find_passes}
-use Rattle.gu_depend.proofs.Vocabulary.{false_from_ne_true, and_parts}
+use Rattle.gu_depend.proofs.Vocabulary.{unless, standing_on, answer_to, entry_of, on_change, reverse_rest, command_refusal, call_of, Command, Trade, Agree}
+use Rattle.gu_depend.proofs.Vocabulary.{Raise, Reverse, Accepted, Entry, Record, UnknownFirm, Row, rows_of, EntryPart, found_in, find_passes}
+use Rattle.gu_depend.proofs.{Vocabulary.{false_from_ne_true, and_parts, reversal_of}, Finds.some_there}
 use Rattle.std.proofs.Common.{◌-◌, Some, None, find, ◌==◌, is_some, option_map, IsSome, option_and_then}
-use Rattle.gu_base.proofs.Accepted.{first_none, allowed, open_from_none}
-use Rattle.gu_base.proofs.Basics.{mapped_none}
-use Rattle.gu_base.proofs.Numbered.{found_at, known_entry}
-use Rattle.gu_base.proofs.Consenting.{not_reversed}
+use Rattle.gu_base.proofs.{Accepted.{first_none, allowed, open_from_none}, RunLaws.taken, Consenting.not_reversed}
+use Rattle.gu_base.proofs.{Numbered.{found_at, known_entry}, LiveLaws.is_live}
 use Rattle.gu_book.proofs.Vocabulary.{Rose, Grove, tree_of, IsPlace, named_node, named_place, place_in, Consents, IsGroveOf, IsFree, IsKept, is_trade, is_live_trade, IsFoundIn, IsUndoneBy}
-use Rattle.gu_book.proofs.Vocabulary.{IsUndoneThere, IsOfTerms, is_of_trees}
-use Rattle.gu_tree.specs.Rose.{rows}
-use Rattle.gu_tree.specs.Shown.{shown}
-use Rattle.gu_tree.specs.ShownAll.{IsTreeIn}
-use Rattle.gu_depend.proofs.Finds.{some_there}
-use Rattle.gu_depend.proofs.Replay.{NumbersOnce, number_once}
-use Rattle.gu_depend.proofs.StandsLast.{node_of_maker}
-use Rattle.gu_depend.proofs.StandsUnder.{any_found}
-use Rattle.gu_book.specs.TreeRows.{tree_rows}
-use Rattle.gu_base.proofs.LiveLaws.{is_live}
-use Rattle.gu_book.proofs.ByNumber.{found_live, if_passes}
-use Rattle.gu_book.proofs.Leaves.{live_rises}
-use Rattle.gu_tree.specs.declared.head.Row.{Row as TreeRow}
-use Rattle.gu_tree.proofs.ShowsRows.{rows-shown}
-use Rattle.gu_book.proofs.Filed.{root_name, makes_root, tree_shown, live_at, place_named}
+use Rattle.gu_book.proofs.{Vocabulary.{IsUndoneThere, IsOfTerms, is_of_trees}, ByNumber.{found_live, if_passes}}
+use Rattle.gu_tree.specs.{Rose.rows, Shown.shown, ShownAll.IsTreeIn, declared.head.Row.{Row as TreeRow}}
+use Rattle.gu_depend.proofs.{Replay.{NumbersOnce, number_once}, StandsLast.node_of_maker, StandsUnder.any_found}
+use Rattle.gu_book.specs.{TreeRows.tree_rows, Found.IsUndoneAs, declared.found.Undone.Undone}
+use Rattle.gu_book.proofs.{Leaves.live_rises, Filed.{root_name, makes_root, tree_shown, live_at, place_named}}
+use Rattle.gu_tree.proofs.ShowsRows.{shown_rows}
 use Rattle.gu_book.proofs.Orders.{InOrder, in_order}
-use Rattle.gu_book.specs.Found.{IsUndoneAs}
-use Rattle.gu_book.specs.declared.found.Undone.{Undone}
 
 -- ---- a change whose Reverse is accepted
 
@@ -40,6 +27,7 @@ pub record IsUndone (t : House) (h : List Entry) (k : ℕ) (r : Record) : Type 0
   pub from : 1 ≤ k
   pub within : k < 1 + length h
   pub among : Contains (live h) r
+  pub unreversed : reversal_of h k ≡ None
   pub free : standing_on t (live h) r.number ≡ None
 
 pub undone : (t : House) (h : List Entry) (e : Entry) (n k : ℕ) → answer_to t h (call_of e) ≡ Accepted n e.status → e.command ≡ Reverse k → (r : Record) × IsUndone t h k r
@@ -50,9 +38,6 @@ undone t h e n k ok same =
     let o = open_from_none t h e.firm (reverse_rest t h) (entry_of h k) b.0 in
     let r : Record = o.0 in
     let at = found_at k 1 h r o.1.found in
-    let stands = option_map (λ m. StandsOn m) (standing_on t (live h) r.number) in
-    let c = first_none (option_map (λ f. NeedsConsent f) (missing (parties_of t (live h) r.firm r.command) (consents_of h r.number))) (stands ∷ []) o.1.own in
-    let d = first_none stands [] c.1 in
     let unreversed : is_reversed h r.number ≡ false = not_reversed r.number 1 h o.1.unreversed in
     let passes : (is_change r.command && not (is_reversed h r.number)) ≡ true = ap (λ b. b && not (is_reversed h r.number)) o.1.is ∙ ap not unreversed in
     let there = found_live h k ∙ (ap (if_passes (is_live h)) o.1.found ∙ ap (λ b. cond b (Some r) None) passes) in (
@@ -65,16 +50,15 @@ undone t h e n k ok same =
         within = at.within;
         found = there;
         among = found_in (λ (q : Record). q.number == k) (live h) r there;
-        free = mapped_none (λ m. StandsOn m) (standing_on t (live h) r.number) d.0;
+        unreversed = subst (λ j. reversal_of h j ≡ None) at.number o.1.unreversed;
+        free = subst (λ j. standing_on t (live h) j ≡ None) (sym at.number) (taken t h e.firm k lawful).free;
       },
     )
 
 -- the entry at its place
 pub undone_entry : {t : House} {h : List Entry} {k : ℕ} {r : Record} → IsUndone t h k r → (d : Entry) → d ≡ get_or h (k - 1) d → r ≡ numbered_as k d
 undone_entry {h = h} {k = k} {r = r} u d is =
-    let from = u.from in
-    let within = u.within in
-    same_Some r (numbered_as k d) (sym u.entry ∙ known_entry h k d from (omega (arith, from, within)) is)
+    same_Some r (numbered_as k d) (sym u.entry ∙ known_entry h k d u.from (omega (arith, u.from, u.within)) is)
 
 module _ {t : House} {h : List Entry} {g : Grove} {cs : Consents} (kept : IsKept t h g cs) (e : Entry) (n k : ℕ) (ok : answer_to t h (call_of e) ≡ Accepted n e.status)
     (same : e.command ≡ Reverse k) where
@@ -98,17 +82,15 @@ no_trade l k once none =
     let test : Record → Bool = λ r. (r.number == k) && is_trade r.command in
     let d = any_found test l live in
     let is = and_parts (d.0.number == k) (is_trade d.0.command) (find_passes test l d.0 d.1) in
-    let same = (Decides-eqb d.0.number k).0 is.0 in
     let x = makes_root d.0.number d.0.firm d.0.command is.1 in
-    none_is_some (node_of l (root_name k)) x.0 none
-    (ap (λ j. node_of l (root_name j)) (sym same) ∙ node_of_maker l d.0 (root_name d.0.number) x.0 once (found_in test l d.0 d.1) x.1))
+    cc ((Decides-eqb d.0.number k).0 is.0, none, node_of_maker l d.0 (root_name d.0.number) x.0 once (found_in test l d.0 d.1) x.1))
 
 -- the rows of the tree of a number are those of the live trade, and no tree bears another number
 rows_filed : (l : List Record) (g : Grove) → InOrder l → NumbersOnce l → IsGroveOf l g
-    → (k : ℕ) (o : Option Rose) → tree_of g k ≡ o → option_map (λ t. map shown (rows t)) o ≡ tree_rows l k
+    → (k : ℕ) (o : Option Rose) → tree_of g k ≡ o → option_map (map shown) (option_map rows o) ≡ tree_rows l k
 rows_filed l g order once filed k None e = ap (λ b. cond b (Some (rows_of l k)) None) (sym (no_trade l k once (subst (IsTreeIn l k) e (filed.trees k))))
 rows_filed l g order once filed k (Some t) e =
-    ap (λ (rs : List Row). Some rs) (rows-shown l order.distinct k t (tree_shown filed k t e))
+    ap (λ (rs : List Row). Some rs) (shown_rows l order.distinct k t (tree_shown filed k t e))
     ∙ ap (λ b. cond b (Some (rows_of l k)) None) (sym (live_at filed k t e))
 
 module _ {t : House} {h : List Entry} {g : Grove} {cs : Consents} (kept : IsKept t h g cs) where
@@ -123,8 +105,7 @@ module _ {t : House} {h : List Entry} {g : Grove} {cs : Consents} (kept : IsKept
       → option_map (λ v. map shown (items v)) o ≡ tree_rows (live h) k
   rows_shown items o k e =
       mapped items (map shown) o
-      ∙ (ap (option_map (map shown)) e
-      ∙ (sym (mapped rows (map shown) (tree_of g k)) ∙ rows_filed (live h) g order_kept (number_once (live h) order_kept.distinct) kept.filed k (tree_of g k) refl))
+      ∙ (ap (option_map (map shown)) e ∙ rows_filed (live h) g order_kept (number_once (live h) order_kept.distinct) kept.filed k (tree_of g k) refl)
 
   -- a tree that bears a number is that of a live trade
   pub live_if_shown : (k : ℕ) → IsSome (tree_of g k) → is_live_trade (live h) k ≡ true
@@ -139,13 +120,16 @@ module _ {t : House} {h : List Entry} {g : Grove} {cs : Consents} (kept : IsKept
   undone_there k (Some u) p is found =
       subst (λ (o : Option EntryPart). IsSomeAnd o (λ n. IsPlace g n u.found.trade p)) (sym (kept.filed.places k ∙ is.place)) (is.there g kept.filed)
 
+-- its place is the node that it made or named
+pub undone_place : {t : House} {h : List Entry} {k : ℕ} {r : Record} → IsUndone t h k r → place_in (live h) k ≡ named_place r.number r.command
+undone_place change = ap (option_and_then (λ (r : Record). named_place r.number r.command)) change.found
+
 -- the node that was found is the one that the change names
 pub found_named : {t : House} {h : List Entry} {k : ℕ} {r : Record} {u : Undone} {p : List ℕ} → IsUndone t h k r → IsUndoneAs (live h) k u p → (d : Entry) → r ≡ numbered_as k d
     → (n : EntryPart) → named_node d.command ≡ Some n → IsFoundIn (live h) n (Some u.found)
-found_named {h = h} {k = k} {r = r} {u = u} change is d same n named =
-    let there : place_in (live h) k ≡ Some n =
-    ap (option_and_then (λ (r : Record). named_place r.number r.command)) (change.found ∙ ap (λ (r : Record). Some r) same) ∙ place_named k d.command n named in
-    subst (λ (m : EntryPart). IsFoundIn (live h) m (Some u.found)) (same_Some is.name n (sym is.place ∙ there)) is.found
+found_named {h = h} {k = k} {u = u} change is d same n named =
+    let one : is.name ≡ n = cc (undone_place change, same, place_named k d.command n named, is.place) in
+    subst (λ (m : EntryPart). IsFoundIn (live h) m (Some u.found)) one is.found
 
 -- a command has a place in the trees where it is a change of trees
 pub has_place : (k : ℕ) (c : Command) → is_some (named_place k c) ≡ is_of_trees c
@@ -157,7 +141,7 @@ pub undone_of_trees : {t : House} {h : List Entry} {k : ℕ} {r : Record} → Is
     → is_of_trees r.command ≡ true
 undone_of_trees change None p is some = absurd (cc)
 undone_of_trees {r = r} change (Some u) p is some =
-    sym (has_place r.number r.command) ∙ ap is_some (sym (ap (option_and_then (λ (r : Record). named_place r.number r.command)) change.found) ∙ is.place)
+    sym (has_place r.number r.command) ∙ ap is_some (sym (undone_place change) ∙ is.place)
 
 -- and one that has no place there is an Agree or a Raise
 is_of_terms : (k : ℕ) (c : Command) → is_change c ≡ true → named_place k c ≡ None → IsOfTerms c
@@ -166,5 +150,4 @@ is_of_terms k (Raise _ _) change e = refl
 is_of_terms k _ change e = absurd (cc)
 
 pub undone_of_terms : {t : House} {h : List Entry} {k : ℕ} {r : Record} → IsUndone t h k r → place_in (live h) k ≡ None → IsOfTerms r.command
-undone_of_terms {r = r} change none =
-    is_of_terms r.number r.command change.change (sym (ap (option_and_then (λ (r : Record). named_place r.number r.command)) change.found) ∙ none)
+undone_of_terms {r = r} change none = is_of_terms r.number r.command change.change (sym (undone_place change) ∙ none)

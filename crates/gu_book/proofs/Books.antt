@@ -2,22 +2,16 @@
 use Rattle.std.proofs.Common.{◌≡◌, ℕ, ◌≤◌, ◌<◌, true, ◌∙◌, List, [], ◌∷◌, ◌++◌, length, refl, subst, arith, cond, None, Some, ◌==◌, IfSome, IsSome}
 use Rattle.gu_base.proofs.LiveLaws.{change_is_no_reverse, consent_is_no_reverse}
 use Rattle.gu_depend.proofs.Vocabulary.{House, EntryPart, Initiate, Decline, Reverse, Deed, Entry, Record, Accepted, answer_to, call_of, live, numbered_as, is_change, is_consenting, without, deed_of}
+use Rattle.gu_depend.proofs.Vocabulary.{charge_of}
 use Rattle.gu_book.proofs.Vocabulary.{AreTermsOf, pair_of, given, Consents, FeeRows, TermsView, IsPut, CanPut, last_entry, Ids, PositionRows, Grove, IsSameGrove, last_place, AreFeesOf, IsSmallDeed}
-use Rattle.gu_book.proofs.Vocabulary.{IsGroveOf, SameLots, ArePositionsOf, reversal_in, IsOfTerms, Reversals, IsNamedBy, holding_of}
-use Rattle.gu_book.specs.Found.{LiesThere}
-use Rattle.gu_book.specs.declared.found.Named.{Named}
+use Rattle.gu_book.proofs.Vocabulary.{IsGroveOf, SameLots, ArePositionsOf, reversal_in, IsOfTerms, Reversals, IsKept, IsNamedBy, holding_of}
+use Rattle.gu_book.specs.{Found.LiesThere, declared.found.Named.Named, Lookups.{AreIdsOf, AreReversalsOf}, Kept.IsBook}
 use Rattle.gu_fees.specs.Terms.{IsReady}
-use Rattle.gu_book.specs.Lookups.{AreIdsOf}
-use Rattle.gu_book.specs.Kept.{IsBook}
 use Rattle.gu_book.specs.declared.lookups.Lookups.{Lookups}
-use Rattle.gu_book.proofs.LookedUp.{reversals_same, reversals_put}
-use Rattle.gu_book.proofs.Keeps.{next_kept, kept_alike, kept_change, kept_consents, kept_reverse, live_few, live_more, live_same, live_less, no_later, above_all, none_above, still_before}
-use Rattle.gu_book.proofs.TermsKept.{can_put, dealt_apart, dealt_put, terms_change, terms_filed}
-use Rattle.gu_book.proofs.TradesKept.{MayFollow, idle_free, idle_stands, idle_terms}
-use Rattle.gu_book.proofs.PartsAway.{holds_some}
-use Rattle.gu_book.proofs.Leaves.{live_rises}
-use Rattle.gu_book.proofs.Dealing.{deed_small}
-use Rattle.gu_book.proofs.Refused.{accepted_small}
+use Rattle.gu_book.proofs.{LookedUp.{reversals_same, reversals_put}, Charging.fees_stay, PartsAway.holds_some}
+use Rattle.gu_book.proofs.Keeps.{next_kept, kept_alike, kept_change, kept_consents, kept_reverse, live_few, live_more, live_same, live_less, no_later, next_number}
+use Rattle.gu_book.proofs.{TermsKept.{can_put, dealt_apart, dealt_put, terms_change, terms_filed}, Leaves.live_rises}
+use Rattle.gu_book.proofs.{TradesKept.{MayFollow, idle_stands, idle_terms}, Dealing.deed_small, Refused.accepted_small}
 
 module _ {t : House} {h : List Entry} {g : Grove} {cs : Consents} {lookups : Lookups} {fees : FeeRows} {rows : PositionRows} {terms : TermsView} (book : IsBook t h g cs lookups fees rows terms) where
   pub few_live : length (live h) ≤ 1000000
@@ -49,35 +43,43 @@ module _ {t : House} {h : List Entry} {g : Grove} {cs : Consents} {lookups : Loo
   module _ (n : ℕ) (e : Entry) (ok : answer_to t h (call_of e) ≡ Accepted n e.status) where
     -- no entry of a giver and a taker has so high a number
     pub above_last : (dealt : TermsView) → last_entry dealt ≡ last_entry terms → last_entry dealt < n
-    above_last dealt last = above_all book.kept n e ok (last_entry dealt) (let before = book.dealt_before in omega (arith, last, before))
+    above_last dealt last = let before = book.dealt_before in omega (arith, last, before, (next_number book.kept n e ok).0)
 
     -- a change may follow the live changes
-    pub may_follow : is_change e.command ≡ true → MayFollow t (live h) (numbered_as n e) g fees rows
-    may_follow change = record { next = next_kept book.kept n e ok change; few = few_live; within = book.kept.within; charged = book.charged; stands = book.stands }
+    pub may_follow : is_change e.command ≡ true → MayFollow t (live h) (numbered_as n e) g rows
+    may_follow change = record { next = next_kept book.kept n e ok change; few = few_live; within = book.kept.within; stands = book.stands }
 
     module _ (ids : Ids) (known : AreIdsOf ids (h ++ e ∷ [])) where
+      -- what an accepted entry leaves, of any kind
+      book_next : (l : List Record) → l ≡ live (h ++ e ∷ []) → {trees : Grove} {ds : Consents} → IsKept t (h ++ e ∷ []) trees ds
+          → {rs : Reversals} → AreReversalsOf rs (h ++ e ∷ []) → {paid : FeeRows} → AreFeesOf t l paid → {now : PositionRows} → ArePositionsOf l now
+          → {dealt : TermsView} → AreTermsOf t l dealt → last_entry dealt ≤ n
+          → IsBook t (h ++ e ∷ []) trees ds (record { ids = ids; reversals = rs }) paid now dealt
+      book_next l is kept reversals {paid} charged {now} stands {dealt} are last = record {
+        kept = kept;
+        looked_up = record { ids = known; reversals = reversals };
+        charged = subst (λ (l : List Record). AreFeesOf t l paid) is charged;
+        stands = subst (λ (l : List Record). ArePositionsOf l now) is stands;
+        dealt = subst (λ (l : List Record). AreTermsOf t l dealt) is are;
+        dealt_before = omega (arith, last, (next_number book.kept n e ok).1);
+      }
+
       module _ (change : is_change e.command ≡ true) where
         pub book_more : (trees : Grove) → IsGroveOf (live h ++ numbered_as n e ∷ []) trees → last_place trees ≤ n
             → (paid : FeeRows) → AreFeesOf t (live h ++ numbered_as n e ∷ []) paid → (now : PositionRows) → ArePositionsOf (live h ++ numbered_as n e ∷ []) now
             → (dealt : TermsView) → AreTermsOf t (live h ++ numbered_as n e ∷ []) dealt → last_entry dealt ≤ n
             → IsBook t (h ++ e ∷ []) trees cs (record { ids = ids; reversals = lookups.reversals }) paid now dealt
         book_more trees filed placed paid charged now stands dealt are last =
-            let more = live_more book.kept n e ok change in
-            record {
-              kept = kept_change book.kept n e ok change trees filed placed;
-              looked_up = record { ids = known; reversals = reversals_same book.looked_up.reversals e (λ m. change_is_no_reverse m e.command change) };
-              charged = subst (λ (l : List Record). AreFeesOf t l paid) more charged;
-              stands = subst (λ (l : List Record). ArePositionsOf l now) more stands;
-              dealt = subst (λ (l : List Record). AreTermsOf t l dealt) more are;
-              dealt_before = none_above book.kept n e ok (last_entry dealt) last;
-            }
+            book_next (live h ++ numbered_as n e ∷ []) (live_more book.kept n e ok change) (kept_change book.kept n e ok change trees filed placed)
+            (reversals_same book.looked_up.reversals e (λ m. change_is_no_reverse m e.command change)) charged stands are last
 
         -- that costs nothing and deals for nobody
         pub book_apart : (trees : Grove) → IsGroveOf (live h ++ numbered_as n e ∷ []) trees → last_place trees ≤ n
-            → AreFeesOf t (live h ++ numbered_as n e ∷ []) fees → (now : PositionRows) → ArePositionsOf (live h ++ numbered_as n e ∷ []) now → pair_of (live h) e.firm e.command ≡ None
+            → None ≡ charge_of t (live h) e.command → (now : PositionRows) → ArePositionsOf (live h ++ numbered_as n e ∷ []) now → pair_of (live h) e.firm e.command ≡ None
             → IsBook t (h ++ e ∷ []) trees cs (record { ids = ids; reversals = lookups.reversals }) fees now terms
-        book_apart trees filed placed charged now stands none =
-            book_more trees filed placed fees charged now stands terms (dealt_apart (next_kept book.kept n e ok change) terms book.dealt none)
+        book_apart trees filed placed costs now stands none =
+            let next = next_kept book.kept n e ok change in
+            book_more trees filed placed fees (fees_stay next fees book.charged costs) now stands terms (dealt_apart next terms book.dealt none)
             (let last = above_last terms refl in omega (arith, last))
 
       -- an Initiate or a Decline
@@ -86,15 +88,9 @@ module _ {t : House} {h : List Entry} {g : Grove} {cs : Consents} {lookups : Loo
           → ((k m : ℕ) → e.command ≡ Decline k → given ds m ≡ cond (m == k) [] (given cs m))
           → IsBook t (h ++ e ∷ []) g ds (record { ids = ids; reversals = lookups.reversals }) fees rows terms
       book_consenting consents ds gives clears =
-          let same = live_same book.kept n e ok consents in
-          record {
-            kept = kept_consents book.kept n e ok consents ds gives clears;
-            looked_up = record { ids = known; reversals = reversals_same book.looked_up.reversals e (λ m. consent_is_no_reverse m e.command consents) };
-            charged = subst (λ (l : List Record). AreFeesOf t l fees) same book.charged;
-            stands = subst (λ (l : List Record). ArePositionsOf l rows) same book.stands;
-            dealt = subst (λ (l : List Record). AreTermsOf t l terms) same book.dealt;
-            dealt_before = still_before book.kept n e ok (last_entry terms) book.dealt_before;
-          }
+          book_next (live h) (live_same book.kept n e ok consents) (kept_consents book.kept n e ok consents ds gives clears)
+          (reversals_same book.looked_up.reversals e (λ m. consent_is_no_reverse m e.command consents)) book.charged book.stands book.dealt
+          (let last = above_last terms refl in omega (arith, last))
 
       -- a Reverse
       pub book_less : (k : ℕ) → e.command ≡ Reverse k → (trees : Grove) → IsGroveOf (without (live h) k) trees → last_place trees ≡ last_place g
@@ -104,21 +100,14 @@ module _ {t : House} {h : List Entry} {g : Grove} {cs : Consents} {lookups : Loo
           → (dealt : TermsView) → AreTermsOf t (without (live h) k) dealt → last_entry dealt ≡ last_entry terms
           → IsBook t (h ++ e ∷ []) trees ds (record { ids = ids; reversals = rs }) paid now dealt
       book_less k reverse trees filed placed ds cleared rs put paid charged now stands dealt are last =
-          let less = live_less book.kept n e ok k reverse in
-          record {
-            kept = kept_reverse book.kept n e ok k reverse trees filed placed ds cleared;
-            looked_up = record { ids = known; reversals = reversals_put book.looked_up.reversals t e n k ok reverse rs put };
-            charged = subst (λ (l : List Record). AreFeesOf t l paid) less charged;
-            stands = subst (λ (l : List Record). ArePositionsOf l now) less stands;
-            dealt = subst (λ (l : List Record). AreTermsOf t l dealt) less are;
-            dealt_before = still_before book.kept n e ok (last_entry dealt) (let before = book.dealt_before in omega (arith, last, before));
-          }
+          book_next (without (live h) k) (live_less book.kept n e ok k reverse) (kept_reverse book.kept n e ok k reverse trees filed placed ds cleared)
+          (reversals_put book.looked_up.reversals t e n k ok reverse rs put) charged stands are (let below = above_last dealt last in omega (arith, below))
 
     -- ---- an Agree or a Raise, by what it does to the terms of its giver and taker
 
     module _ (of : IsOfTerms e.command) (giver taker : List ℕ) (d : Deed) (deals : deed_of (live h) giver taker e.firm e.command ≡ Some d)
         (ready : TermsView) (are : AreTermsOf t (live h) ready) (last : last_entry ready ≡ last_entry terms) where
-      may : MayFollow t (live h) (numbered_as n e) g fees rows
+      may : MayFollow t (live h) (numbered_as n e) g rows
       may = may_follow (terms_change e.command of)
 
       pub may_deal : IsReady ready giver taker → CanPut ready giver taker (record { number = n; deed = d })
@@ -131,5 +120,5 @@ module _ {t : House} {h : List Entry} {g : Grove} {cs : Consents} {lookups : Loo
           → IsBook t (h ++ e ∷ []) g cs (record { ids = ids; reversals = lookups.reversals }) fees rows dealt
       book_dealt ids known dealt put =
           let idle = idle_terms t (live h) e.firm e.command of in
-          book_more ids known (terms_change e.command of) g (terms_filed may.next of) (no_later book.kept n e ok g book.kept.placed) fees (idle_free may idle)
+          book_more ids known (terms_change e.command of) g (terms_filed may.next of) (no_later book.kept n e ok g book.kept.placed) fees (fees_stay may.next fees book.charged idle.costs)
           rows (idle_stands may idle) dealt (dealt_put may.next ready dealt giver taker d are deals put) (let put_last = put.last in omega (arith, put_last))

@@ -1,29 +1,24 @@
 -- Live changes are found by their numbers, and gone through in the order of their numbers.
-use Rattle.gu_depend.proofs.Vocabulary.{◌≡◌, ℕ, ◌+◌, ◌<◌, ◌≤◌, Bool, true, false, not, ◌&&◌, ◌||◌, List, [], ◌∷◌, length, refl, ap, sym}
-use Rattle.gu_depend.proofs.Vocabulary.{◌∙◌, subst, arith, cond, inl, inr, Option, All, Decides-eqb, All-head, All-tail, same_Some, EntryPart, numbered_as}
+use Rattle.gu_depend.proofs.Vocabulary.{◌≡◌, ℕ, ◌+◌, ◌≤◌, Bool, true, false, not, ◌&&◌, ◌||◌, List, [], ◌∷◌, ◌++◌, length, get_or, refl, ap, sym}
+use Rattle.gu_depend.proofs.Vocabulary.{◌∙◌, subst, arith, cond, suc, inl, inr, Option, option_and_then, Decides-eqb, same_Some, EntryPart, numbered_as}
 use Rattle.gu_depend.proofs.Vocabulary.{numbered_from, records, is_change, is_reverse_of, is_reversed, live, RisesFrom, node_of, entry_of, Node, reversal_of, Entry, Record, no_some}
-use Rattle.gu_depend.proofs.Vocabulary.{none_is_some, made_of, found_in}
-use Rattle.std.proofs.Common.{◌≢◌, Some, None, find, filter, nat_le, ◌==◌, option_map}
-use Rattle.gu_book.proofs.Vocabulary.{cons_option}
-use Rattle.std.proofs.lemmas.Bool.{eqb-true, ne_eqb, le-leb, lt-leb, leb-false, leb-true}
-use Rattle.gu_base.proofs.Basics.{none_or_some}
-use Rattle.gu_base.proofs.LiveLaws.{is_live, live_below}
-use Rattle.gu_base.proofs.NodeNames.{made_entry}
-use Rattle.gu_depend.proofs.Finds.{found_once}
-use Rattle.gu_depend.proofs.Names.{Maker, maker, made_number}
-use Rattle.gu_depend.proofs.Replay.{NumbersOnce, number_once}
-use Rattle.gu_depend.proofs.StandsLast.{node_of_maker}
-use Rattle.gu_depend.proofs.Finds.{found_some}
-use Rattle.gu_depend.proofs.StandsUnder.{rises_distinct}
-use Rattle.gu_book.proofs.Leaves.{live_rises}
+use Rattle.gu_depend.proofs.Vocabulary.{none_is_some, made_of, found_in, number_same, without}
+use Rattle.std.proofs.Common.{◌≢◌, ◌-◌, Some, None, find, filter, drop, Contains, drop-cons, add-one, ◌==◌, option_map}
+use Rattle.gu_book.proofs.Vocabulary.{cons_option, change_of}
+use Rattle.std.proofs.Math.Bool.{and-false, and-true}
+use Rattle.std.proofs.lemmas.Bool.{and_left, and_right, or_left, or_right, cond_both, eqb-true, ne_eqb}
+use Rattle.std.proofs.lemmas.List.{drop_all}
+use Rattle.std.proofs.lemmas.Option.{slice_get_cases}
+use Rattle.gu_base.proofs.{LiveLaws.{is_live}, NodeNames.{made_entry}, Numbered.{known_entry, unknown_entry}}
+use Rattle.gu_depend.proofs.{Finds.{find_filter}, Finds.{found_once, found_some, none_before}}
+use Rattle.gu_depend.proofs.{Names.{Maker, maker, made_number}, Replay.{NumbersOnce, number_once}}
+use Rattle.gu_depend.proofs.{StandsLast.{node_of_maker}, StandsUnder.{rises_distinct}}
+use Rattle.gu_book.proofs.Once.{both_found}
 
 -- ---- the node of a name is made by the change of its number
 
 pub other_made : (r : Record) (n : EntryPart) → r.number ≢ n.entry → made_of r n ≡ None
 other_made r n other = no_some (made_of r n) (λ x e. other (sym (made_entry n r.number r.firm r.command x e)))
-
-unequal : (a b : ℕ) → (a == b) ≡ false → a ≢ b
-unequal a b other e = let z : true ≡ false = sym ((Decides-eqb a b).1 e) ∙ other in absurd (cc)
 
 -- the change that makes a node has its number
 its_maker : (l : List Record) (n : EntryPart) (x : Node) (m : Maker l n x) → (m.change.number == n.entry) ≡ true
@@ -36,6 +31,23 @@ node_none l n none =
     let m = maker l n x e in
     let d = found_some (λ (d : Record). d.number == n.entry) l m.change m.among (its_maker l n x m) in
     none_is_some (find (λ (d : Record). d.number == n.entry) l) d.0 none d.1)
+
+-- where no number stands twice, a change is found by its own
+pub its_own : (l : List Record) (r : Record) → NumbersOnce l → Contains l r → change_of l r.number ≡ Some r
+its_own l r once among = found_once (λ (d : Record). d.number == r.number) l r among (number_same r.number) (once r.number)
+
+-- and the last one's is no other's
+pub fresh : (l : List Record) (r : Record) → NumbersOnce (l ++ r ∷ []) → change_of l r.number ≡ None
+fresh l r once = none_before (λ (d : Record). d.number == r.number) l r [] (once r.number) (number_same r.number)
+
+-- so none of its nodes is there yet
+pub not_yet : (l : List Record) (r : Record) → NumbersOnce (l ++ r ∷ []) → (n : EntryPart) → n.entry ≡ r.number → node_of l n ≡ None
+not_yet l r once n own = node_none l n (ap (change_of l) own ∙ fresh l r once)
+
+-- in a list without the change of one number those of the others are found as before
+pub change_left : (k j : ℕ) (l : List Record) → k ≢ j → change_of (without l k) j ≡ change_of l j
+change_left k j l other =
+    find_filter (λ (d : Record). d.number == j) (λ (d : Record). not (d.number == k)) true l (λ d same. ap not (ne_eqb d.number k (λ e. other (sym e ∙ eqb-true d.number j same))))
 
 -- where one has it, the node is that one's
 pub node_found : (m : ℕ) (l : List Record) (n : EntryPart) (r : Record) → RisesFrom m l → find (λ (d : Record). d.number == n.entry) l ≡ Some r → node_of l n ≡ made_of r n
@@ -52,38 +64,19 @@ node_found k l n r rises found = by_made (made_of r n) refl
         let it = same_Some m.change r (sym (found_once (λ (d : Record). d.number == n.entry) l m.change m.among (its_maker l n x m) (once n.entry)) ∙ found) in
         none_is_some (made_of r n) x e (subst (λ (d : Record). made_of d n ≡ Some x) it m.makes_it))
 
--- where the numbers rise from above it, none is found
-none_below : (m n : ℕ) (l : List Record) → RisesFrom m l → n < m → find (λ (d : Record). d.number == n) l ≡ None
-none_below m n [] rises low = refl
-none_below m n (r ∷ l) rises low =
-    let above : m ≤ r.number = rises.0 in
-    ap (λ b. cond b (Some r) (find (λ (d : Record). d.number == n) l)) (ne_eqb r.number n (λ e. omega (arith, above, low, e)))
-    ∙ none_below (r.number + 1) n l rises.1 (omega (arith, above, low))
-
 -- ---- among those that pass a test
 
 abbrev pub if_passes : (Record → Bool) → Option Record → Option Record
-if_passes p None = None
-if_passes p (Some r) = cond (p r) (Some r) None
+if_passes p o = option_and_then (λ r. cond (p r) (Some r) None) o
 
-passing_by : (p : Record → Bool) (n : ℕ) (r : Record) (l : List Record) (b c : Bool) → (r.number == n) ≡ b → p r ≡ c
-    → (b ≡ true → find (λ (d : Record). d.number == n) l ≡ None)
-    → find (λ (d : Record). d.number == n) (filter p l) ≡ if_passes p (find (λ (d : Record). d.number == n) l)
-    → find (λ (d : Record). d.number == n) (cond c (r ∷ filter p l) (filter p l)) ≡ if_passes p (cond b (Some r) (find (λ (d : Record). d.number == n) l))
-passing_by p n r l true true same passes none later =
-    ap (λ d. cond d (Some r) (find (λ (d : Record). d.number == n) (filter p l))) same ∙ sym (ap (λ d. cond d (Some r) None) passes)
-passing_by p n r l true false same fails none later = later ∙ (ap (if_passes p) (none refl) ∙ sym (ap (λ d. cond d (Some r) None) fails))
-passing_by p n r l false true other passes none later = ap (λ d. cond d (Some r) (find (λ (d : Record). d.number == n) (filter p l))) other ∙ later
-passing_by p n r l false false other fails none later = later
-
--- the one of a number is the one that all have, if it passes
-passing : (p : Record → Bool) (m n : ℕ) (l : List Record) → RisesFrom m l
-    → find (λ (d : Record). d.number == n) (filter p l) ≡ if_passes p (find (λ (d : Record). d.number == n) l)
-passing p m n [] rises = refl
-passing p m n (r ∷ l) rises =
-    passing_by p n r l (r.number == n) (p r) refl refl
-    (λ same. let is : r.number ≡ n = eqb-true r.number n same in none_below (r.number + 1) n l rises.1 (omega (arith, is)))
-    (passing p (r.number + 1) n l rises.1)
+-- what is found among those that pass one test passes both
+found_kept : {X : Type 0} (p q : X → Bool) (xs : List X) → find p (filter q xs) ≡ find (λ x. p x && q x) xs
+found_kept p q [] = refl
+found_kept p q (x ∷ xs) = at (q x) (found_kept p q xs)
+  where
+    at : (b : Bool) → find p (filter q xs) ≡ find (λ x. p x && q x) xs → find p (cond b (x ∷ filter q xs) (filter q xs)) ≡ cond (p x && b) (Some x) (find (λ x. p x && q x) xs)
+    at true later = ap (λ b. cond b (Some x) (find p (filter q xs))) (sym (and-true (p x))) ∙ ap (cond (p x && true) (Some x)) later
+    at false later = later ∙ ap (λ b. cond b (Some x) (find (λ x. p x && q x) xs)) (sym (and-false (p x)))
 
 -- ---- among the live changes
 
@@ -91,9 +84,14 @@ numbers_rise : (m : ℕ) (h : List Entry) → RisesFrom m (numbered_from m h)
 numbers_rise m [] = tt
 numbers_rise m (e ∷ h) = (omega arith, numbers_rise (m + 1) h)
 
+pub records_once : (h : List Entry) → NumbersOnce (records h)
+records_once h = number_once (records h) (rises_distinct 1 (records h) (numbers_rise 1 h))
+
 module _ (h : List Entry) (n : ℕ) where
   pub found_live : find (λ (d : Record). d.number == n) (live h) ≡ if_passes (is_live h) (entry_of h n)
-  found_live = passing (is_live h) 1 n (records h) (numbers_rise 1 h)
+  found_live =
+      let p : Record → Bool = λ d. d.number == n in
+      found_kept p (is_live h) (records h) ∙ both_found p (is_live h) (records h) (records_once h n)
 
   -- no entry has the number
   pub none_there : entry_of h n ≡ None → None ≡ find (λ (d : Record). d.number == n) (live h)
@@ -105,81 +103,58 @@ module _ (h : List Entry) (n : ℕ) where
 
     -- the entry is no change
     pub none_changed : is_change e.command ≡ false → None ≡ find (λ (d : Record). d.number == n) (live h)
-    none_changed is = sym (found_by false (rw is refl))
+    none_changed is = sym (found_by false (and_left (is_change e.command) (not (is_reversed h n)) is))
 
     -- a Reverse names it
     pub none_reversed : is_reversed h n ≡ true → None ≡ find (λ (d : Record). d.number == n) (live h)
-    none_reversed is = sym (found_by false (rw is (false_and (is_change e.command))))
-      where
-        false_and : (b : Bool) → (b && not true) ≡ false
-        false_and true = refl
-        false_and false = refl
+    none_reversed is = sym (found_by false (and_right (is_change e.command) (not (is_reversed h n)) (ap not is)))
 
     -- it is live
     pub found_there : is_change e.command ≡ true → is_reversed h n ≡ false → Some (numbered_as n e) ≡ find (λ (d : Record). d.number == n) (live h)
     found_there change unnamed = sym (found_by true (rw (change, unnamed) refl))
 
-reversed_by : (b : Bool) (later : Bool) (x r : Record) (rest : Option Record) → (rest ≡ Some r → later ≡ true) → cond b (Some x) rest ≡ Some r → (b || later) ≡ true
-reversed_by true later x r rest more e = refl
-reversed_by false later x r rest more e = more e
-
 -- an entry that has a Reverse is reversed
-pub reversed_found : (n m : ℕ) (h : List Entry) (r : Record) → find (λ (q : Record). is_reverse_of n q.command) (numbered_from m h) ≡ Some r → is_reversed h n ≡ true
+reversed_found : (n m : ℕ) (h : List Entry) (r : Record) → find (λ (q : Record). is_reverse_of n q.command) (numbered_from m h) ≡ Some r → is_reversed h n ≡ true
 reversed_found n m [] r e = absurd (cc)
 reversed_found n m (d ∷ h) r e =
-    reversed_by (is_reverse_of n d.command) (is_reversed h n) (numbered_as m d) r (find (λ (q : Record). is_reverse_of n q.command) (numbered_from (m + 1) h)) (reversed_found n (m + 1) h r) e
+    let named = is_reverse_of n d.command in
+    cond_both named (Some (numbered_as m d)) (find (λ (q : Record). is_reverse_of n q.command) (numbered_from (m + 1) h)) (λ o. o ≡ Some r → (named || is_reversed h n) ≡ true)
+    (λ is _. or_left named (is_reversed h n) is) (λ _ later. or_right named (is_reversed h n) (reversed_found n (m + 1) h r later)) e
+
+pub numbered_some : (o : Option Record) (n : ℕ) → option_map (λ (r : Record). r.number) o ≡ Some n → (r : Record) × ((o ≡ Some r) × (r.number ≡ n))
+numbered_some None n e = absurd (cc)
+numbered_some (Some r) n e = (r, (refl, cc))
 
 pub reversed_some : (h : List Entry) (n v : ℕ) → option_map (λ (r : Record). r.number) (reversal_of h n) ≡ Some v → is_reversed h n ≡ true
-reversed_some h n v named =
-    elim (none_or_some (reversal_of h n)) [
-      | inl none ↦ let z : None ≡ Some v = sym (ap (option_map (λ (r : Record). r.number)) none) ∙ named in absurd (cc)
-      | inr q ↦ reversed_found n 1 h q.0 q.1
-    ]
+reversed_some h n v named = let q = numbered_some (reversal_of h n) v named in reversed_found n 1 h q.0 q.1.0
 
 -- ---- one after the other
 
--- what is left behind the changes of at most this number
-abbrev pub past : ℕ → List Record → List Record
-past n [] = []
-past n (r ∷ l) = cond (nat_le r.number n) (past n l) (r ∷ l)
+-- the live changes behind the first i entries
+abbrev pub left : List Entry → ℕ → List Record
+left h i = filter (is_live h) (numbered_from (i + 1) (drop i h))
 
-pub past_all : (n : ℕ) (l : List Record) → RisesFrom (n + 1) l → past n l ≡ l
-past_all n [] rises = refl
-past_all n (r ∷ l) rises = let above : n + 1 ≤ r.number = rises.0 in ap (λ b. cond b (past n l) (r ∷ l)) (lt-leb r.number n (omega (arith, above)))
+-- behind all entries there are none
+pub left_none : (h : List Entry) (i : ℕ) → length h ≤ i → left h i ≡ []
+left_none h i far = ap (λ es. filter (is_live h) (numbered_from (i + 1) es)) (drop_all i h far)
 
-step_by : (i : ℕ) (r : Record) (l : List Record) (b c : Bool) → nat_le r.number i ≡ b → (r.number == i + 1) ≡ c → RisesFrom (r.number + 1) l
-    → past i l ≡ cons_option (find (λ (d : Record). d.number == i + 1) l) (past (i + 1) l)
-    → cond b (past i l) (r ∷ l) ≡ cons_option (cond c (Some r) (find (λ (d : Record). d.number == i + 1) l)) (past (i + 1) (r ∷ l))
-step_by i r l true true low here rises later = absurd (omega (arith, leb-true r.number i low, eqb-true r.number (i + 1) here))
-step_by i r l true false low other rises later =
-    let a = leb-true r.number i low in
-    later ∙ ap (cons_option (find (λ (d : Record). d.number == i + 1) l)) (sym (ap (λ d. cond d (past (i + 1) l) (r ∷ l)) (le-leb r.number (i + 1) (omega (arith, a)))))
-step_by i r l false true high here rises later =
-    let a = eqb-true r.number (i + 1) here in
-    ap (λ k. r ∷ k)
-    (sym (past_all (i + 1) l (subst (λ k. RisesFrom (k + 1) l) a rises)) ∙ sym (ap (λ d. cond d (past (i + 1) l) (r ∷ l)) (le-leb r.number (i + 1) (omega (arith, a)))))
-step_by i r l false false high other rises later =
-    let far = above (leb-false r.number i high) (unequal r.number (i + 1) other) in
-    let none = none_below (r.number + 1) (i + 1) l rises (omega (arith, far)) in
-    sym (ap (λ o. cons_option o (past (i + 1) (r ∷ l))) none ∙ ap (λ d. cond d (past (i + 1) l) (r ∷ l)) (lt-leb r.number (i + 1) far))
+kept_first : (b : Bool) (r : Record) (rs : List Record) → cond b (r ∷ rs) rs ≡ cons_option (cond b (Some r) None) rs
+kept_first true r rs = refl
+kept_first false r rs = refl
+
+-- the one of the next number comes first of them, if it is live
+pub left_more : (h : List Entry) (i : ℕ) → left h i ≡ cons_option (find (λ (d : Record). d.number == i + 1) (live h)) (left h (i + 1))
+left_more h i = elim (slice_get_cases h i).1 [
+  | inl q ↦ (
+      let r = numbered_as (i + 1) q.0 in
+      let minus : i + 1 - 1 ≡ i = omega arith in
+      let rest : drop i h ≡ q.0 ∷ drop (i + 1) h = drop-cons h i q.0 q.1 ∙ (ap (λ x. x ∷ drop (suc i) h) q.3 ∙ ap (λ k. q.0 ∷ drop k h) (sym (add-one i))) in
+      ap (λ es. filter (is_live h) (numbered_from (i + 1) es)) rest
+      ∙ (kept_first (is_live h r) r (left h (i + 1))
+      ∙ told (Some r) (known_entry h (i + 1) q.0 (omega arith) (omega (arith, q.1)) (sym (ap (λ k. get_or h k q.0) minus ∙ q.3)))))
+  | inr q ↦ left_none h i q.0 ∙ (sym (left_none h (i + 1) (omega (arith, q.0))) ∙ told None (unknown_entry h (i + 1) (omega arith) (omega (arith, q.0))))
+]
   where
-    above : i < r.number → r.number ≢ i + 1 → i + 1 < r.number
-    above a b = grind (arith, a, b)
-
--- the change of the next number comes first of what is left, if there is one
-pub past_step : (m i : ℕ) (l : List Record) → RisesFrom m l → past i l ≡ cons_option (find (λ (d : Record). d.number == i + 1) l) (past (i + 1) l)
-past_step m i [] rises = refl
-past_step m i (r ∷ l) rises = step_by i r l (nat_le r.number i) (r.number == i + 1) refl refl rises.1 (past_step (r.number + 1) i l rises.1)
-
-past_none : (n : ℕ) (l : List Record) → All (λ r. r.number < 1 + n) l → past n l ≡ []
-past_none n [] all = refl
-past_none n (r ∷ l) all =
-    let low : r.number < 1 + n = All-head (λ (r : Record). r.number < 1 + n) r l all in
-    ap (λ b. cond b (past n l) (r ∷ l)) (le-leb r.number n (omega (arith, low))) ∙ past_none n l (All-tail (λ (r : Record). r.number < 1 + n) r l all)
-
--- at the end nothing is
-pub past_last : (h : List Entry) (l : List Record) → live h ≡ l → past (length h) l ≡ []
-past_last h l is = subst (λ (l : List Record). past (length h) l ≡ []) is (past_none (length h) (live h) (live_below h))
-
-pub live_rises_as : (h : List Entry) (l : List Record) → live h ≡ l → RisesFrom 1 l
-live_rises_as h l is = subst (RisesFrom 1) is (live_rises h)
+    told : (o : Option Record) → entry_of h (i + 1) ≡ o
+        → cons_option (if_passes (is_live h) o) (left h (i + 1)) ≡ cons_option (find (λ (d : Record). d.number == i + 1) (live h)) (left h (i + 1))
+    told o e = ap (λ o. cons_option o (left h (i + 1))) (sym (found_live h (i + 1) ∙ ap (if_passes (is_live h)) e))

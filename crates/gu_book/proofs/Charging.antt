@@ -8,7 +8,8 @@ use Rattle.std.proofs.lemmas.Slice.Eq.{bytes_eq-Decides}
 use Rattle.gu_depend.proofs.Vocabulary.{House, most_lots, highest_rate, charges, charge_of, Record, Charge}
 use Rattle.gu_depend.proofs.LastMoves.{moves_its_own}
 use Rattle.gu_book.proofs.Refused.{next_legal}
-use Rattle.gu_fees.specs.Sums.{AreSumsOf, cost}
+use Rattle.gu_fees.specs.{Rows.{paid_in, received_in}, Sums.{AreSumsOf, cost}}
+use Rattle.gu_base.specs.Fees.{paid_by, received_by}
 use Rattle.gu_book.specs.Charging.{HasRoomFor}
 
 -- ---- one change more
@@ -36,6 +37,15 @@ fees_stay next fees are free = fees_push next fees fees are None free tt tt (λ 
 pub no_fees : (t : House) (fees : FeeRows) → AreSumsOf fees [] → AreFeesOf t [] fees
 no_fees t fees are = record { sums = are; small = All-nil IsSmallCharge }
 
+-- what each firm pays and receives
+pub paid_told : {t : House} {l : List Record} {fees : FeeRows} → AreFeesOf t l fees
+    → (firm : List ℕ) → paid_in fees firm ≡ paid_by t l firm
+paid_told are firm = are.sums.paid firm
+
+pub received_told : {t : House} {l : List Record} {fees : FeeRows} → AreFeesOf t l fees
+    → (firm : List ℕ) → received_in fees firm ≡ received_by t l firm
+received_told are firm = are.sums.received firm
+
 -- ---- room
 
 small_cost : (c : Charge) → c.lots ≤ most_lots → c.rate ≤ highest_rate → cost c ≤ 1000000000000
@@ -52,18 +62,21 @@ fewer_given h (x ∷ xs) =
     let a = fewer_by (h x) (filter_map h xs) (length xs) (fewer_given h xs) in
     omega (arith, a)
 
--- a sum over some of the charges of a list
+-- a sum over a million elements at most
+pub sum_most : {X : Type 0} (w : X → ℕ) (most : ℕ) (xs : List X) → All (λ x. w x ≤ most) xs → length xs ≤ 1000000 → sum_by w xs ≤ 1000000 * most
+sum_most w most xs all few =
+    let a = sum_by-le w most xs all in
+    let b : length xs * most ≤ 1000000 * most = mul-le-mul_right most few in
+    omega (arith, a, b)
+
+-- and over some of the charges of a list
 bounded : (t : House) (l : List Record) (w : Charge → ℕ) (takes : Charge → Bool) (most : ℕ) → length l ≤ 1000000 → All (λ c. w c ≤ most) (charges t l)
     → sum_by w (filter takes (charges t l)) ≤ 1000000 * most
 bounded t l w takes most few all =
-    let cs = filter takes (charges t l) in
-    let a = sum_by-le w most cs (All-filter takes (λ (c : Charge). w c ≤ most) (charges t l) all) in
-    let b = length-filter takes (charges t l) in
-    let c = count_by-le-length takes (charges t l) in
-    let d = fewer_given (λ (r : Record). charge_of t l r.command) l in
-    let e : length cs ≤ 1000000 = omega (arith, b, c, d, few) in
-    let f : length cs * most ≤ 1000000 * most = mul-le-mul_right most e in
-    omega (arith, a, f)
+    let a = length-filter takes (charges t l) in
+    let b = count_by-le-length takes (charges t l) in
+    let c = fewer_given (λ (r : Record). charge_of t l r.command) l in
+    sum_most w most (filter takes (charges t l)) (All-filter takes (λ (c : Charge). w c ≤ most) (charges t l) all) (omega (arith, a, b, c, few))
 
 pub has_room : (t : House) (l : List Record) (fees : FeeRows) → AreFeesOf t l fees → length l ≤ 1000000 → (o : Option Charge) → IfSome o (λ c. c.lots ≤ most_lots)
     → IfSome o (λ c. c.rate ≤ highest_rate) → HasRoomFor fees o

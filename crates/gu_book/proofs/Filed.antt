@@ -1,30 +1,18 @@
 -- What trees that show a list of changes say of its nodes, and what of them stays where the list has one change more, or one less.
-use Rattle.gu_depend.proofs.Vocabulary.{◌≡◌, ℕ, ◌<◌, ◌≤◌, true, false, ◌&&◌, inl, inr, List, [], ◌∷◌, ◌++◌, refl, sym, ◌∙◌, ap, subst, arith, cond}
-use Rattle.gu_depend.proofs.Vocabulary.{Option, Some, None, find, ◌==◌, option_and_then, false_from_ne_true, or_parts, Decides-eqb, All-head, All-tail, find-append, same_Some, EntryPart}
-use Rattle.gu_depend.proofs.Vocabulary.{House, node_of, nodes_of, same_name, split_of, root_of, Command, Trade, Split, Claim, Refuse, Cancel, Record, Node, Root, Place, none_is_some}
-use Rattle.gu_depend.proofs.Vocabulary.{or_none, made_of, name_is, name_same, splits, decides}
-use Rattle.std.proofs.Common.{◌≢◌}
-use Rattle.std.specs.List.{All}
+use Rattle.gu_depend.proofs.Vocabulary.{◌≡◌, ℕ, ◌<◌, ◌≤◌, true, false, ◌&&◌, List, [], ◌∷◌, ◌++◌, refl, sym, ◌∙◌, ap, subst, arith, cond}
+use Rattle.gu_depend.proofs.Vocabulary.{Option, Some, None, find, ◌==◌, option_and_then, false_from_ne_true, or_parts, Decides-eqb, same_Some, EntryPart}
+use Rattle.gu_depend.proofs.Vocabulary.{House, node_of, nodes_of, same_name, split_of, root_of, Command, Trade, Split, Record, Node, Root, Place, none_is_some}
+use Rattle.gu_depend.proofs.{Vocabulary.{or_none, made_of, name_is, name_same, splits, decides}, Replay.NumbersOnce}
+use Rattle.std.proofs.{Common.{◌≢◌}, lemmas.Bool.{true_from_ne_false, cond_both, eqb-true, eqb-false, ne_eqb}}
 use Rattle.gu_book.proofs.Vocabulary.{option_or, names, Rose, Roses, leaf, parted, head_of, named, node_at, Grove, tree_of, tree_in, last_place, IsPlace, IsSameGrove, ChangesTree, slot_of}
-use Rattle.gu_book.proofs.Vocabulary.{IsTreeOf, IsNodeOf, ArePartsOf, named_node, change_of, named_place, place_in, Head, IsGroveOf, IsNext, is_trade, is_live_trade}
-use Rattle.std.proofs.lemmas.Bool.{true_from_ne_false}
-use Rattle.gu_base.proofs.Basics.{or_false}
-use Rattle.gu_depend.proofs.Names.{maker, made_number}
-use Rattle.gu_depend.proofs.StandsLast.{any_in}
-use Rattle.gu_tree.specs.Grove.{place_of}
-use Rattle.gu_tree.specs.Filing.{name_in, last_of}
-use Rattle.gu_tree.specs.ShownAll.{IsTreeIn}
-use Rattle.gu_tree.proofs.Alike.{IsAlike, node-alike}
-use Rattle.gu_tree.proofs.Along.{IsAlong, along, path-of}
-use Rattle.gu_tree.proofs.GroveSwaps.{by-cases}
-use Rattle.gu_tree.proofs.Parts.{some_and}
-use Rattle.gu_tree.proofs.Shows.{find-kept}
-use Rattle.gu_tree.proofs.ShowsLess.{no-root-part}
+use Rattle.gu_book.proofs.Vocabulary.{IsTreeOf, IsNodeOf, ArePartsOf, named_node, named_place, place_in, Head, IsGroveOf, IsNext, is_trade, is_live_trade}
+use Rattle.std.proofs.Common.{unwrap_or, option_map, Contains}
+use Rattle.gu_depend.proofs.{Names.{maker, made_number}, StandsLast.any_in}
+use Rattle.gu_tree.specs.{Grove.place_of, Filing.{name_in, last_of}, ShownAll.IsTreeIn}
+use Rattle.gu_tree.proofs.{Alike.{IsAlike, node_alike}, Along.{IsAlong, along, path_of}, Parts.some_and}
+use Rattle.gu_tree.proofs.{Shows.find_kept, ShowsLess.no_root_part}
 use Rattle.gu_book.specs.Filed.{IsDue, Follows}
-use Rattle.gu_book.proofs.ByNumber.{other_made}
-use Rattle.gu_book.proofs.Leaves.{other_number}
-use Rattle.gu_book.proofs.Orders.{InOrder}
-use Rattle.gu_book.proofs.Sound.{node_push}
+use Rattle.gu_book.proofs.{ByNumber.{other_made, its_own}, Orders.{InOrder, names_node}, Sound.node_push}
 
 -- ---- of two groves
 
@@ -89,15 +77,6 @@ spot {l} {g} filed order trade p n place =
       said = along l order.distinct trade place.tree shown p v.0 v.1;
     }
 
--- a node lies in the tree of one trade alone
-one_trade : {l : List Record} {g : Grove} → IsGroveOf l g → InOrder l → (n : EntryPart) (trade other : ℕ) (p : List ℕ) (tree : Rose)
-    → Spot l g trade p n → tree_of g other ≡ Some tree → other ≢ trade → 1 ≤ named n tree → ⊥
-one_trade {l} {g} filed order n trade other p tree s found apart one =
-    let q = path-of n tree one in
-    let a = along l order.distinct other tree (tree_shown filed other tree found) q.0 q.1 q.2 in
-    let roots : Some (root_name other) ≡ Some (root_name trade) = sym a.rooted ∙ (ap (root_of l) (q.3 ∙ sym s.called) ∙ s.said.rooted) in
-    apart (ap (λ (m : EntryPart). m.entry) (same_Some (root_name other) (root_name trade) roots))
-
 -- ---- a node and its Split
 
 -- a node that a Split of the list names has the parts of that Split
@@ -132,7 +111,7 @@ whole_by l above x (parted h n ts) is none = absurd (none_is_some (split_of l x.
 -- a Trade alone makes a root
 rootless : (k n : ℕ) (by : List ℕ) (c : Command) → is_trade c ≡ false → find (λ x. same_name x.name (root_name k)) (nodes_of n by c) ≡ None
 rootless k n by (Trade _ _ _ _ _) plain = absurd (cc)
-rootless k n by (Split m ps) plain = no-root-part k n 1 m by ps (omega arith)
+rootless k n by (Split m ps) plain = no_root_part k n 1 m by ps (omega arith)
 rootless k n by _ plain = refl
 
 pub makes_root : (k : ℕ) (by : List ℕ) (c : Command) → is_trade c ≡ true → (x : Node) × (find (λ x. same_name x.name (root_name k)) (nodes_of k by c) ≡ Some x)
@@ -159,21 +138,15 @@ not_trade (Trade _ _ _ _ _) n e = absurd (cc)
 not_trade _ n e = refl
 
 pub place_named : (k : ℕ) (c : Command) (n : EntryPart) → named_node c ≡ Some n → named_place k c ≡ Some n
-place_named k (Split _ _) n e = e
-place_named k (Claim _ _) n e = e
-place_named k (Refuse _) n e = e
-place_named k (Cancel _) n e = e
-place_named k _ n e = absurd (cc)
+place_named k (Trade _ _ _ _ _) n e = absurd (cc)
+place_named k _ n e = e
 
-named_by : (m : EntryPart) (c : Command) → names m c ≡ true → named_node c ≡ Some m
-named_by m (Split a _) is = ap (λ z. Some z) (name_is a m (sym (or_false (same_name a m)) ∙ is))
-named_by m (Claim a _) is = ap (λ z. Some z) (name_is a m is)
-named_by m (Refuse a) is = ap (λ z. Some z) (name_is a m is)
-named_by m (Cancel a) is = ap (λ z. Some z) (name_is a m is)
-named_by m _ is = absurd (cc)
+told : (m : EntryPart) (o : Option EntryPart) → unwrap_or (option_map (λ n. same_name n m) o) false ≡ true → o ≡ Some m
+told m None is = absurd (cc)
+told m (Some n) is = ap (λ z. Some z) (name_is n m is)
 
 pub unnamed_by : (m : EntryPart) (c : Command) → (named_node c ≡ Some m → ⊥) → names m c ≡ false
-unnamed_by m c never = false_from_ne_true (names m c) (λ yes. never (named_by m c yes))
+unnamed_by m c never = false_from_ne_true (names m c) (λ yes. never (told m (named_node c) (sym (names_node m c) ∙ yes)))
 
 -- what has no place in the trees makes no root and names no node
 placeless_is : (k : ℕ) (c : Command) → named_place k c ≡ None → (is_trade c ≡ false) × (named_node c ≡ None)
@@ -185,29 +158,9 @@ placeless_is k _ e = (refl, e)
 abbrev pub place_of_change : Option Record → Option EntryPart
 place_of_change o = option_and_then (λ (d : Record). named_place d.number d.command) o
 
-pub none_numbered : (k : ℕ) (l : List Record) → All (λ d. d.number < k) l → change_of l k ≡ None
-none_numbered k [] low = refl
-none_numbered k (d ∷ l) low =
-    let less : d.number < k = All-head (λ (d : Record). d.number < k) d l low in
-    ap (λ b. cond b (Some d) (change_of l k)) (other_number d.number k (λ e. omega arith))
-    ∙ none_numbered k l (All-tail (λ (d : Record). d.number < k) d l low)
-
-place_more : (l : List Record) (r : Record) (k : ℕ) → place_in (l ++ r ∷ []) k ≡ place_of_change (option_or (change_of l k) (cond (r.number == k) (Some r) None))
-place_more l r k = ap place_of_change (find-append (λ (d : Record). d.number == k) l (r ∷ []))
-
--- the change has its own place
-pub place_here : (l : List Record) (r : Record) → change_of l r.number ≡ None → place_in (l ++ r ∷ []) r.number ≡ named_place r.number r.command
-place_here l r new =
-    place_more l r r.number
-    ∙ (ap (λ o. place_of_change (option_or o (cond (r.number == r.number) (Some r) None))) new
-    ∙ ap (λ b. place_of_change (cond b (Some r) None)) ((Decides-eqb r.number r.number).1 refl))
-
--- and what stood before it keeps its own
-place_there : (l : List Record) (r : Record) (k : ℕ) → k ≢ r.number → place_in (l ++ r ∷ []) k ≡ place_in l k
-place_there l r k other =
-    place_more l r k
-    ∙ (ap (λ b. place_of_change (option_or (change_of l k) (cond b (Some r) None))) (other_number r.number k (λ e. other (sym e)))
-    ∙ ap place_of_change (or_none (change_of l k)))
+-- a change has its own place
+pub place_of_own : (l : List Record) (r : Record) → NumbersOnce l → Contains l r → place_in l r.number ≡ named_place r.number r.command
+place_of_own l r once among = ap place_of_change (its_own l r once among)
 
 -- ---- one change more or less
 
@@ -221,56 +174,39 @@ pub record IsBeside (r : Record) (x y : List Record) : Type 0 where
 pub more_beside : (l : List Record) (r : Record) → IsBeside r l (l ++ r ∷ [])
 more_beside l r = record {
   nodes = λ n none. node_push l r n ∙ (ap (option_or (node_of l n)) none ∙ or_none (node_of l n));
-  alike = λ n un. let p = or_parts _ _ un in record { splits = find-kept (λ r. splits n r.command) l r p.0; decides = find-kept (λ r. decides n r.command) l r p.1 };
-  places = place_there l r;
+  alike = λ n un. let p = or_parts _ _ un in record { splits = find_kept (λ r. splits n r.command) l r p.0; decides = find_kept (λ r. decides n r.command) l r p.1 };
+  places = λ k other. ap place_of_change (find_kept (λ (d : Record). d.number == k) l r (ne_eqb r.number k (λ e. other (sym e))));
 }
-
-if_here : {A : Type 0} (a b : ℕ) (x y : A) → a ≡ b → cond (a == b) x y ≡ x
-if_here a b x y e = ap (λ c. cond c x y) ((Decides-eqb a b).1 e)
-
-if_there : {A : Type 0} (a b : ℕ) (x y : A) → a ≢ b → cond (a == b) x y ≡ y
-if_there a b x y e = ap (λ c. cond c x y) (other_number a b e)
 
 -- what is as it was everywhere is so here
 as_before : {A : Type 0} (f : ℕ → A) (k e : ℕ) → f k ≡ cond (k == e) (f e) (f k)
-as_before f k e = elim (by-cases k e) [
-  | inl same ↦ ap f same ∙ sym (if_here k e (f e) (f k) same)
-  | inr other ↦ sym (if_there k e (f e) (f k) other)
-]
+as_before f k e = cond_both (k == e) (f e) (f k) (λ z. f k ≡ z) (λ same. ap f (eqb-true k e same)) (λ other. refl)
 
 -- the key has this value now, and each other key the one that it had
 abbrev pub Alters : {A : Type 0} → (ℕ → A) → (ℕ → A) → ℕ → A → Type 0
 Alters old new e x = (k : ℕ) → new k ≡ cond (k == e) x (old k)
-
--- a tree of whose nodes the lists say the same shows the one as it shows the other
-tree_alike : {l m : List Record} (k : ℕ) (o : Option Rose) → node_of m (root_name k) ≡ node_of l (root_name k)
-    → ((t : Rose) → o ≡ Some t → (n : EntryPart) → 1 ≤ named n t → IsAlike l m n) → IsTreeIn l k o → IsTreeIn m k o
-tree_alike k None root alike is = root ∙ is
-tree_alike {l} {m} k (Some t) root alike is = record {
-  root = is.root;
-  found = root ∙ is.found;
-  top = is.top;
-  tree = node-alike l m None is.root t (alike t refl) is.tree;
-}
 
 module _ {r : Record} {x y : List Record} (b : IsBeside r x y) {g : Grove} (filed : IsGroveOf x g) where
   -- where one tree and the place of the change have become what the other list says, and the other trees show it too
   moved : {h : Grove} (trade : ℕ) (tree : Option Rose) (place : Option EntryPart) → Alters (tree_of g) (tree_of h) trade tree → Alters (place_of g) (place_of h) r.number place
       → IsTreeIn y trade tree → ((k : ℕ) → k ≢ trade → IsTreeIn y k (tree_of g k)) → place_in y r.number ≡ place → IsGroveOf y h
   moved trade tree place trees places shown others own = record {
-    trees = λ k. elim (by-cases k trade) [
-      | inl same ↦ subst (IsTreeIn y k) (sym (trees k ∙ if_here k trade tree (tree_of g k) same)) (subst (λ j. IsTreeIn y j tree) (sym same) shown)
-      | inr other ↦ subst (IsTreeIn y k) (sym (trees k ∙ if_there k trade tree (tree_of g k) other)) (others k other)
-    ];
-    places = λ k. elim (by-cases k r.number) [
-      | inl same ↦ places k ∙ (if_here k r.number place (place_of g k) same ∙ (sym own ∙ ap (place_in y) (sym same)))
-      | inr other ↦ places k ∙ (if_there k r.number place (place_of g k) other ∙ (filed.places k ∙ sym (b.places k other)))
-    ];
+    trees = λ k. subst (IsTreeIn y k) (sym (trees k)) (cond_both (k == trade) tree (tree_of g k) (IsTreeIn y k)
+        (λ same. subst (λ j. IsTreeIn y j tree) (sym (eqb-true k trade same)) shown) (λ other. others k (eqb-false k trade other)));
+    places = λ k. places k ∙ cond_both (k == r.number) place (place_of g k) (λ o. o ≡ place_in y k)
+        (λ same. sym own ∙ ap (place_in y) (sym (eqb-true k r.number same))) (λ other. filed.places k ∙ sym (b.places k (eqb-false k r.number other)));
   }
 
+  -- a tree of whose nodes the change names none, and whose root it doesn't make, shows the one as it shows the other
   stays : (k : ℕ) → made_of r (root_name k) ≡ None → ((t : Rose) → tree_of g k ≡ Some t → (n : EntryPart) → 1 ≤ named n t → names n r.command ≡ false)
       → IsTreeIn y k (tree_of g k)
-  stays k none unnamed = tree_alike k (tree_of g k) (b.nodes (root_name k) none) (λ t e n one. b.alike n (unnamed t e n one)) (filed.trees k)
+  stays k none unnamed = alike (tree_of g k) unnamed (filed.trees k)
+    where
+      alike : (o : Option Rose) → ((t : Rose) → o ≡ Some t → (n : EntryPart) → 1 ≤ named n t → names n r.command ≡ false) → IsTreeIn x k o → IsTreeIn y k o
+      alike None un is = b.nodes (root_name k) none ∙ is
+      alike (Some t) un is =
+          let tree = node_alike x y None is.root t (λ n one. b.alike n (un t refl n one)) is.tree in
+          record { root = is.root; found = b.nodes (root_name k) none ∙ is.found; top = is.top; tree = tree }
 
   -- the tree of the node that it names gives way to another
   pub changed : {h : Grove} {trade : ℕ} {p : List ℕ} {n : EntryPart} → InOrder x → Spot x g trade p n → named_node r.command ≡ Some n → (new : Rose) (place : Option EntryPart)
@@ -278,8 +214,12 @@ module _ {r : Record} {x y : List Record} (b : IsBeside r x y) {g : Grove} (file
   changed {trade = trade} {p = p} {n = n} order s is new place trees places shown own =
       moved trade (Some new) place trees places shown
       (λ k other. stays k (rootless k r.number r.firm r.command (not_trade r.command n is))
+      -- since a node lies in the tree of one trade alone
       (λ t e m one. unnamed_by m r.command (λ it.
-      one_trade filed order n trade k p t s e other (subst (λ z. 1 ≤ named z t) (same_Some m n (sym it ∙ is)) one)))) own
+      let q = path_of m t one in
+      let a = along x order.distinct k t (tree_shown filed k t e) q.0 q.1 q.2 in
+      let roots = sym a.rooted ∙ (ap (root_of x) (q.3 ∙ (same_Some m n (sym it ∙ is) ∙ sym s.called)) ∙ s.said.rooted) in
+      other (ap (λ (m : EntryPart). m.entry) (same_Some (root_name k) (root_name trade) roots))))) own
 
   -- the tree of its own number does
   pub rooted : {h : Grove} → ((n : EntryPart) → names n r.command ≡ false) → (tree : Option Rose) (place : Option EntryPart)

@@ -1,25 +1,21 @@
 -- What each change makes of the trees and of the places.
 use Rattle.gu_depend.proofs.Vocabulary.{◌≡◌, ℕ, ◌<◌, ◌≤◌, Bool, true, false, not, ◌&&◌, ◌||◌, List, [], ◌∷◌, ◌++◌, length, refl, sym, ◌∙◌, ap}
-use Rattle.gu_depend.proofs.Vocabulary.{subst, arith, Option, Some, None, sum_by, nat_lt, is_some, is_none, option_map, unwrap_or, bytes_eq, Decides-eqb, same_Some, bytes_eq-Decides}
-use Rattle.gu_depend.proofs.Vocabulary.{EntryPart, House, knows_account, node_of, decides, decision_of, split_of, is_given, place_of, depth_of, row, split_row, claim_row, first, is_taker}
-use Rattle.gu_depend.proofs.Vocabulary.{refusal_of_part, state_of, taker_of, Part, Command, Split, Claim, Record, Kind, Given, Node, Place, State, Offered}
+use Rattle.gu_depend.proofs.Vocabulary.{subst, arith, Option, Some, None, sum_by, is_some, is_none, option_map, unwrap_or, bytes_eq, Decides-eqb, same_Some, bytes_eq-Decides}
+use Rattle.gu_depend.proofs.Vocabulary.{EntryPart, House, knows_account, node_of, decides, decision_of, split_of, is_given, place_of, owns, depth_of, row, split_row, claim_row, is_taker}
+use Rattle.gu_depend.proofs.Vocabulary.{state_of, taker_of, Part, Command, Split, Claim, Record, Kind, Given, Node, Place, State, Offered}
 use Rattle.gu_depend.proofs.Vocabulary.{Cancelled, none_is_some, name_same, at_node_none, SplitHolds, claim_passes, decides_well, refusal_parts}
-use Rattle.std.proofs.Common.{◌≢◌, IsTrue}
-use Rattle.std.specs.Prelude.{map, nat_le, IsSomeAnd}
+use Rattle.std.proofs.{Common.{◌≢◌, IsTrue}, lemmas.Bool.{and_parts, leb-true, ltb-true}}
+use Rattle.std.specs.Prelude.{nat_le}
 use Rattle.gu_base.specs.declared.state.State.TheVariants.{Refused}
-use Rattle.gu_base.proofs.Accepted.{first_none}
+use Rattle.std.proofs.{lemmas.List.Elements.Contains-push, lemmas.List.Sums.list_all-from_AllPass}
 use Rattle.gu_base.proofs.Passing.{split_passes, part_passes}
-use Rattle.gu_book.proofs.Vocabulary.{names, Rose, leaf, parted, head_of, edit_at, HasAt, Grove, tree_of, HasTree, ChangesTree, Places, IsTreeOf, IsNodeOf, IsHeadOf, named_node, IsUnnamed}
-use Rattle.gu_book.proofs.Vocabulary.{change_of, named_place, place_in, Head, IsGroveOf, IsNext}
-use Rattle.gu_tree.specs.Rose.{lots_of}
+use Rattle.gu_book.proofs.Vocabulary.{names, Rose, leaf, parted, head_of, node_at, edit_at, HasAt, Grove, tree_of, HasTree, ChangesTree, Places, IsTreeOf, IsNodeOf, IsHeadOf, named_node, IsUnnamed}
+use Rattle.gu_book.proofs.{Vocabulary.{named_place, place_in, IsGroveOf, IsNext}, ByNumber.{fresh, not_yet}}
+use Rattle.gu_tree.specs.{Rose.lots_of, Shown.{ShowsMore, IsTradeOf, IsSplitOf, IsClaimOf, GivesBack, IsGivingBackOf}}
 use Rattle.gu_tree.specs.Changes.{CanSplit, own_parts_have_accounts, is_own, split_node, claim_node, give_back_node, IsOffered}
-use Rattle.gu_tree.specs.Shown.{ShowsMore, IsTradeOf, IsSplitOf, IsClaimOf, GivesBack, IsGivingBackOf}
-use Rattle.gu_tree.proofs.Along.{its-head}
-use Rattle.gu_tree.proofs.Parts.{at_fact}
-use Rattle.gu_tree.proofs.ShowsChanges.{decided_state}
-use Rattle.gu_book.proofs.ByNumber.{node_none}
-use Rattle.gu_book.proofs.Filed.{Spot, root_name, none_numbered, place_of_change, place_here, place_named, more_beside, changed, rooted, apart}
-use Rattle.gu_book.proofs.Orders.{InOrder, in_order, earlier, unnamed}
+use Rattle.gu_tree.proofs.{Along.own_head, Parts.{at_fact, at_there}, ShowsChanges.decided_state}
+use Rattle.gu_book.proofs.Filed.{Spot, root_name, place_of_change, place_of_own, place_named, more_beside, changed, rooted, apart}
+use Rattle.gu_book.proofs.{Orders.{InOrder, in_order, earlier, unnamed}, Within.parts_pass, Refused.next_legal}
 
 -- ---- of kinds and states
 
@@ -55,22 +51,19 @@ row_passes {t} {l} {r} next c e = subst (λ (c : Command). row t l r.firm c ≡ 
 module _ {l : List Record} {g : Grove} {trade : ℕ} {p : List ℕ} {n : EntryPart} (s : Spot l g trade p n) where
   -- what the tree keeps of the node
   pub its_head : IsHeadOf l s.said.above s.said.node (head_of s.node)
-  its_head = its-head l s.said.above s.said.node s.node s.said.shown
+  its_head = own_head l s.said.above s.said.node s.node s.said.shown
 
   pub its_node : (x : Node) → node_of l n ≡ Some x → x ≡ s.said.node
   its_node x e = same_Some x s.said.node (sym e ∙ (ap (node_of l) (sym s.called) ∙ s.said.found))
-
-  pub at_tree : (P : Rose → Type 0) → P s.tree → HasTree g trade P
-  at_tree P is = subst (λ (o : Option Rose). IsSomeAnd o P) (sym s.found) is
 
   pub from_tree : (P : Rose → Type 0) → HasTree g trade P → P s.tree
   from_tree P has = at_fact P (tree_of g trade) s.tree s.found has
 
   pub has_at : (P : Rose → Type 0) → P s.node → HasAt p P s.tree
-  has_at P is = subst (λ (o : Option Rose). IsSomeAnd o P) (sym s.at) is
+  has_at P is = at_there P (node_at p s.tree) s.node s.at is
 
   pub is_at : (P : Rose → Type 0) → P s.node → HasTree g trade (HasAt p P)
-  is_at P is = at_tree (HasAt p P) (has_at P is)
+  is_at P is = at_there (HasAt p P) (tree_of g trade) s.tree s.found (has_at P is)
 
   -- what a clause says of the node at the path is said of this one
   pub said_at : (P : Rose → Type 0) → HasTree g trade (HasAt p P) → P s.node
@@ -82,18 +75,14 @@ module _ {t : House} {l : List Record} {r : Record} {g : Grove} (next : IsNext t
   pub order : InOrder l
   order = in_order t l next.replayed (earlier 1 l r next.rises).0
 
-  -- its number is new
-  new_number : change_of l r.number ≡ None
-  new_number = none_numbered r.number l (earlier 1 l r next.rises).2
-
   unmade_yet : (n : EntryPart) → n.entry ≡ r.number → node_of l n ≡ None
-  unmade_yet n own = node_none l n (ap (change_of l) own ∙ new_number)
+  unmade_yet = not_yet l r (next_legal next).once
 
   unnamed_yet : IsUnnamed l r.number
   unnamed_yet = unnamed t l r.number next.replayed unmade_yet
 
   own_place : place_in (l ++ r ∷ []) r.number ≡ named_place r.number r.command
-  own_place = place_here l r new_number
+  own_place = place_of_own (l ++ r ∷ []) r (next_legal next).once (Contains-push l r)
 
   -- what a clause says of each list that the tree shows it says of this one
   edited : {trade : ℕ} {p : List ℕ} {n : EntryPart} (s : Spot l g trade p n) → named_node r.command ≡ Some n → (h : Grove) (f : Rose → Rose) → IsDone g trade p r h f
@@ -107,7 +96,7 @@ module _ {t : House} {l : List Record} {r : Record} {g : Grove} (next : IsNext t
   -- ---- decisions
 
   -- the part that it decides is offered
-  may_decide : {trade : ℕ} {p : List ℕ} {n : EntryPart} (s : Spot l g trade p n) → decides n r.command ≡ true → HasTree g trade (HasAt p IsOffered)
+  pub may_decide : {trade : ℕ} {p : List ℕ} {n : EntryPart} (s : Spot l g trade p n) → decides n r.command ≡ true → HasTree g trade (HasAt p IsOffered)
   may_decide {n = n} s is =
       let w = decides_well t l r.firm r.command n (refusal_parts t l r.firm r.command next.lawful).1 is in
       is_at s IsOffered ((its_head s).state ∙ offered_state s.said.node.kind (decision_of l s.said.node.name)
@@ -117,29 +106,19 @@ module _ {t : House} {l : List Record} {r : Record} {g : Grove} (next : IsNext t
     abbrev into : Place
     into = record { firm = r.firm; account = account }
 
-    pub may_claim : HasTree g trade (HasAt p IsOffered)
-    may_claim = may_decide s (ap (decides n) e ∙ name_same n)
-
-    claims_it : IsClaimOf (head_of s.node) r.number into r
-    claims_it =
-        let there = at_node_none (claim_row t l r.firm account) (node_of l n) (row_passes next (Claim n account) e) in
-        let taker = (claim_passes t l r.firm account there.0 there.1.1).0.taker in
-        record {
-          number = refl;
-          taker = (its_head s).taker ∙ taker_named r.firm s.said.node.kind (subst (λ (y : Node). is_taker r.firm y.kind ≡ true) (its_node s there.0 there.1.0) taker);
-          command = e ∙ ap (λ (m : EntryPart). Claim m account) (sym s.called);
-        }
-
     pub claimed : (h : Grove) → IsDone g trade p r h (claim_node r.number into)
         → HasTree g trade (λ u. ShowsMore (λ k q. HasAt p (λ v. IsClaimOf (head_of v) r.number into q) u) u (edit_at (claim_node r.number into) p u)) → IsGroveOf (l ++ r ∷ []) h
     claimed h done shows =
+        let there = at_node_none (claim_row t l r.firm account) (node_of l n) (row_passes next (Claim n account) e) in
+        let taker = (claim_passes t l r.firm account there.0 there.1.1).0.taker in
         edited s (ap named_node e) h (claim_node r.number into) done (λ k q u. HasAt p (λ v. IsClaimOf (head_of v) r.number into q) u)
-        (has_at s (λ v. IsClaimOf (head_of v) r.number into r) claims_it) shows
+        (has_at s (λ v. IsClaimOf (head_of v) r.number into r) (record {
+          number = refl;
+          taker = (its_head s).taker ∙ taker_named r.firm s.said.node.kind (subst (λ (y : Node). is_taker r.firm y.kind ≡ true) (its_node s there.0 there.1.0) taker);
+          command = e ∙ ap (λ (m : EntryPart). Claim m account) (sym s.called);
+        })) shows
 
   module _ {trade : ℕ} {p : List ℕ} {n : EntryPart} (s : Spot l g trade p n) (state : State) (e : GivesBack n state r.command) where
-    pub may_give_back : HasTree g trade (HasAt p IsOffered)
-    may_give_back = may_decide s (back_names n state r.command e).1
-
     pub given_back : (h : Grove) → IsDone g trade p r h (give_back_node r.number state)
         → HasTree g trade (λ u. ShowsMore (λ k q. HasAt p (λ v. IsGivingBackOf (head_of v) r.number state q) u) u (edit_at (give_back_node r.number state) p u))
         → IsGroveOf (l ++ r ∷ []) h
@@ -156,32 +135,14 @@ can_split : (l : List Record) (above : Option Place) (x : Node) (v : Rose) (ps :
 can_split l above x (leaf h) ps shown none sum free = (sum, free)
 can_split l above x (parted h n ts) ps shown none sum free = absurd (none_is_some (split_of l x.name) shown.1.0 none shown.1.1)
 
-owner_is : (o : Option Place) (place : Place) (by : List ℕ) → o ≡ Some place → unwrap_or (option_map (λ owner. bytes_eq owner by) (option_map (λ p. p.firm) o)) false ≡ true
-    → place.firm ≡ by
-owner_is None place by e h = absurd (cc)
-owner_is (Some q) place by e h = ap (λ (z : Place). z.firm) (sym (same_place e)) ∙ (bytes_eq-Decides q.firm by).0 h
-  where
-    same_place : Some q ≡ Some place → q ≡ place
-    same_place e = cc
+-- who stands at a node owns it
+pub owns_at : (l : List Record) (by : List ℕ) (n : EntryPart) (p : Place) → place_of l n ≡ Some p → owns l by n ≡ bytes_eq p.firm by
+owns_at l by n p e = ap (λ o. unwrap_or (option_map (λ owner. bytes_eq owner by) (option_map (λ (p : Place). p.firm) o)) false) e
 
 account_named : (t : House) (by : List ℕ) (o : Option (List ℕ)) (b : Bool) → (not b || unwrap_or (option_map (knows_account t by) o) false) ≡ true → (is_some o || not b) ≡ true
 account_named t by (Some account) b h = refl
 account_named t by None true h = cc
 account_named t by None false h = refl
-
-accounts_named : (t : House) (by : List ℕ) (ps : List Part) (h : Head) → h.place.firm ≡ by → first (map (refusal_of_part t by) ps) ≡ None → own_parts_have_accounts ps h ≡ true
-accounts_named t by [] h owner none = refl
-accounts_named t by (p ∷ ps) h owner none =
-    let a = first_none (refusal_of_part t by p) (map (refusal_of_part t by) ps) none in
-    let b = account_named t by p.account (bytes_eq p.firm by) (part_passes t by p a.0).1 in
-    let c : (is_some p.account || not (is_own h p)) ≡ true = ap (λ (f : List ℕ). is_some p.account || not (bytes_eq p.firm f)) owner ∙ b in
-    ap (λ x. x && own_parts_have_accounts ps h) c ∙ accounts_named t by ps h owner a.1
-
-least : (n : ℕ) → (nat_le 1 n && nat_le n 100) ≡ true → (1 ≤ n) × (n ≤ 100)
-least n h = (grind arith, grind arith)
-
-less_by : (a b : ℕ) → nat_lt a b ≡ true → a < b
-less_by a b h = grind arith
 
 module _ {t : House} {l : List Record} {r : Record} {g : Grove} (next : IsNext t l r g) where
   module _ {trade : ℕ} {p : List ℕ} {n : EntryPart} (s : Spot l g trade p n) (ps : List Part) (e : r.command ≡ Split n ps) where
@@ -195,41 +156,42 @@ module _ {t : House} {l : List Record} {r : Record} {g : Grove} (next : IsNext t
     passes = lines.0
 
     its_owner : (head_of s.node).place.firm ≡ r.firm
-    its_owner = owner_is (place_of l s.said.node.name) (head_of s.node).place r.firm (ap (place_of l) s.said.named ∙ s.said.placed) passes.owned
-
-    can_be_split : CanSplit ps s.node
-    can_be_split =
-        can_split l s.said.above s.said.node s.node ps s.said.shown lines.1
-        ((Decides-eqb (sum_by (λ p. p.lots) ps) s.said.node.lots).0 passes.sums ∙ sym (its_head s).lots)
-        (subst (λ (x : State). x ≢ Offered) (sym (its_head s).state) (free_state s.said.node.kind (decision_of l s.said.node.name) passes.free))
+    its_owner =
+        (bytes_eq-Decides (head_of s.node).place.firm r.firm).0
+        (sym (owns_at l r.firm s.said.node.name (head_of s.node).place (ap (place_of l) s.said.named ∙ s.said.placed)) ∙ passes.owned)
 
     pub may_split : HasTree g trade (HasAt p (CanSplit ps))
-    may_split = is_at s (CanSplit ps) can_be_split
+    may_split =
+        is_at s (CanSplit ps) (can_split l s.said.above s.said.node s.node ps s.said.shown lines.1
+        ((Decides-eqb (sum_by (λ p. p.lots) ps) s.said.node.lots).0 passes.sums ∙ sym (its_head s).lots)
+        (subst (λ (x : State). x ≢ Offered) (sym (its_head s).state) (free_state s.said.node.kind (decision_of l s.said.node.name) passes.free)))
 
     pub has_accounts : HasTree g trade (HasAt p (λ v. IsTrue (own_parts_have_accounts ps (head_of v))))
-    has_accounts = is_at s (λ v. IsTrue (own_parts_have_accounts ps (head_of v))) (accounts_named t r.firm ps (head_of s.node) its_owner passes.parts)
+    has_accounts =
+        let named : Part → Bool = λ p. is_some p.account || not (is_own (head_of s.node) p) in
+        is_at s (λ v. IsTrue (own_parts_have_accounts ps (head_of v))) (list_all-from_AllPass named ps (parts_pass t r.firm (λ p. named p ≡ true) (λ p e.
+        ap (λ (f : List ℕ). is_some p.account || not (bytes_eq p.firm f)) its_owner
+        ∙ account_named t r.firm p.account (bytes_eq p.firm r.firm) (part_passes t r.firm p e).1) ps passes.parts))
 
-    pub some_parts : 1 ≤ length ps
-    some_parts = (least (length ps) passes.count).0
-
-    pub few_parts : length ps ≤ 100
-    few_parts = (least (length ps) passes.count).1
+    pub part_count : (1 ≤ length ps) × (length ps ≤ 100)
+    part_count =
+        let c = and_parts (nat_le 1 (length ps)) (nat_le (length ps) 100) passes.count in (leb-true 1 (length ps) c.0, leb-true (length ps) 100 c.1)
 
     pub not_deep : length p < 64
     not_deep =
         let deep : depth_of l s.said.node.name ≡ length p = ap (depth_of l) s.said.named ∙ s.said.deep in
-        let shallow : depth_of l s.said.node.name < 64 = less_by (depth_of l s.said.node.name) 64 passes.shallow in
+        let shallow = ltb-true (depth_of l s.said.node.name) 64 passes.shallow in
         omega (arith, deep, shallow)
-
-    splits_it : IsSplitOf (head_of s.node) r.number ps r
-    splits_it = record { number = refl; firm = sym its_owner; command = e ∙ ap (λ (m : EntryPart). Split m ps) (sym s.called) }
 
     pub split_filed : (h : Grove) → IsDone g trade p r h (split_node r.number ps)
         → HasTree g trade (λ u. ShowsMore (λ k q. HasAt p (λ v. IsSplitOf (head_of v) r.number ps q) u × IsUnnamed k r.number) u (edit_at (split_node r.number ps) p u))
         → IsGroveOf (l ++ r ∷ []) h
     split_filed h done shows =
-        edited next s (ap named_node e) h (split_node r.number ps) done (λ k q u. HasAt p (λ v. IsSplitOf (head_of v) r.number ps q) u × IsUnnamed k r.number)
-        (has_at s (λ v. IsSplitOf (head_of v) r.number ps r) splits_it, unnamed_yet next) shows
+        edited next s (ap named_node e) h (split_node r.number ps) done (λ k q u. HasAt p (λ v. IsSplitOf (head_of v) r.number ps q) u × IsUnnamed k r.number) (
+          has_at s (λ v. IsSplitOf (head_of v) r.number ps r)
+              (record { number = refl; firm = sym its_owner; command = e ∙ ap (λ (m : EntryPart). Split m ps) (sym s.called) }),
+          unnamed_yet next,
+        ) shows
 
 -- ---- trades
 
@@ -246,4 +208,4 @@ trade_filed {l = l} {r = r} next place lots is h new shows changes places =
 -- what has no place in the trees leaves them as they are
 pub left_alone : {t : House} {l : List Record} {r : Record} {g : Grove} → IsNext t l r g → named_place r.number r.command ≡ None → IsGroveOf (l ++ r ∷ []) g
 left_alone {l = l} {r = r} next placeless =
-    apart (more_beside l r) next.filed placeless (own_place next ∙ (placeless ∙ sym (next.filed.places r.number ∙ ap place_of_change (new_number next))))
+    apart (more_beside l r) next.filed placeless (own_place next ∙ (placeless ∙ sym (next.filed.places r.number ∙ ap place_of_change (fresh l r (next_legal next).once))))

@@ -1,13 +1,10 @@
 -- What the changes other than one on which nothing stands say, and the trees that show them.
-use Rattle.gu_depend.proofs.Vocabulary.{◌≡◌, ℕ, false, List, refl, sym, ◌∙◌, ap, Some, None, ◌==◌, EntryPart, House, without, Record, Decides-eqb}
+use Rattle.gu_depend.proofs.Vocabulary.{not, ◌≡◌, ℕ, false, List, refl, sym, ◌∙◌, ap, Some, None, ◌==◌, EntryPart, House, without, Record}
 use Rattle.gu_book.proofs.Vocabulary.{names, Rose, Grove, ChangesTree, Takes, TakesTree, IsTreeOf, named_node, named_place, place_in, IsGroveOf, IsFree}
-use Rattle.gu_depend.proofs.Cuts.{gone_from}
 use Rattle.gu_tree.specs.Grove.{place_of}
-use Rattle.gu_depend.proofs.Finds.{found_once}
-use Rattle.gu_book.proofs.Filed.{Spot, IsBeside, more_beside, place_of_change, changed, rooted, apart}
-use Rattle.gu_book.proofs.Leaves.{change_left}
-use Rattle.gu_book.proofs.Orders.{InOrder, in_order}
-use Rattle.gu_book.proofs.Undoing.{others, once, finds, unmade}
+use Rattle.gu_depend.proofs.Finds.{find_filter}
+use Rattle.gu_book.proofs.Filed.{Spot, IsBeside, more_beside, place_of_change, changed, rooted, apart, place_of_own}
+use Rattle.gu_book.proofs.{ByNumber.change_left, Orders.{InOrder, in_order}, Undoing.{others, once, finds, unmade}}
 
 module _ {t : House} {l : List Record} {r : Record} {g : Grove} (u : IsFree t l r g) where
   pub order : InOrder l
@@ -24,13 +21,11 @@ module _ {t : House} {l : List Record} {r : Record} {g : Grove} (u : IsFree t l 
       }
 
   place_gone : place_in (others u) r.number ≡ None
-  place_gone = ap place_of_change (gone_from (λ (d : Record). d.number == r.number) l)
+  place_gone = ap place_of_change (find_filter (λ d. d.number == r.number) (λ d. not (d.number == r.number)) false l (λ d is. ap not is))
 
   -- its place is the node that it made or named
   pub own_place : place_of g r.number ≡ named_place r.number r.command
-  own_place =
-      u.filed.places r.number
-      ∙ ap place_of_change (found_once (λ (d : Record). d.number == r.number) l r u.among ((Decides-eqb r.number r.number).1 refl) (once u r.number))
+  own_place = u.filed.places r.number ∙ place_of_own l r (once u) u.among
 
   -- an Agree or a Raise, which has no place in the trees
   pub left_alone : named_place r.number r.command ≡ None → IsGroveOf (without l r.number) g

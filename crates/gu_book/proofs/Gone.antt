@@ -1,31 +1,22 @@
 -- What the trees say of a change on which nothing stands, and what is left when it is taken back at its node.
 use Rattle.gu_depend.proofs.Vocabulary.{◌≡◌, ℕ, ◌&&◌, true, false, List, [], ◌∷◌, refl, sym, ◌∙◌, ap, subst, Option, All, inl, inr, is_none, Some, None, option_map}
 use Rattle.gu_depend.proofs.Vocabulary.{All-head, All-tail, All-weaker, All-contains, EntryPart, House, node_of, split_of, decision_of, splits, decides, is_given, state_of, state_after}
-use Rattle.gu_depend.proofs.Vocabulary.{without, Command, Trade, Split, Claim, Refuse, Cancel, Record, Kind, Given, Node, Place, Claimed, no_some, none_is_some, made, made_of, name_same}
-use Rattle.gu_depend.proofs.Vocabulary.{node_called, decides_well, found_in, find_passes}
+use Rattle.gu_depend.proofs.Vocabulary.{without, Command, Trade, Split, Claim, Refuse, Cancel, Record, Kind, Given, Node, Place, no_some, none_is_some, made, made_of, name_same}
+use Rattle.gu_depend.proofs.{Vocabulary.{node_called, decides_well, found_in, find_passes}, Finds.found_once}
 use Rattle.std.proofs.Common.{IsTrue, ◌⊎◌}
 use Rattle.std.specs.Prelude.{IsSomeAnd}
 use Rattle.gu_book.proofs.Vocabulary.{names, Rose, Roses, leaf, parted, no_parts, part_then, head_of, split_of_node, node_at, edit_at, HasAt, can_unsplit, unsplit_node, is_given_back, Grove}
 use Rattle.gu_book.proofs.Vocabulary.{tree_of, IsPlace, HasTree, ChangesTree, Takes, TakesTree, IsNodeOf, ArePartsOf, SplitsNode, DecidesNode, named_node, IsOnlySplit, IsOnlyDecision, Head}
-use Rattle.gu_book.proofs.Vocabulary.{IsGroveOf, IsFree, is_trade}
-use Rattle.gu_depend.proofs.Finds.{found_once}
-use Rattle.gu_depend.proofs.Grown.{SplitsDecided}
-use Rattle.gu_depend.proofs.LastMoves.{split_kept}
-use Rattle.gu_depend.proofs.Names.{made_number}
-use Rattle.gu_book.proofs.Sound.{made_found}
-use Rattle.gu_depend.proofs.Settled.{named_once}
+use Rattle.gu_book.proofs.{Vocabulary.{IsGroveOf, IsFree, is_trade}, Sound.made_found}
+use Rattle.gu_depend.proofs.{Grown.SplitsDecided, LastMoves.split_kept, Names.made_number, Settled.named_once}
 use Rattle.gu_depend.proofs.StandsLast.{node_of_maker}
-use Rattle.gu_tree.specs.Paths.{above}
-use Rattle.gu_tree.specs.Changes.{are_undecided_leaves, is_undecided_leaf, offer_node, offer_again_node, IsClaimedLeaf, IsGivenBackLeaf}
-use Rattle.gu_tree.specs.Grove.{place_of, IsSapling}
-use Rattle.gu_tree.specs.Shown.{ShowsLess}
-use Rattle.gu_tree.specs.ShownAll.{IsTreeIn}
-use Rattle.gu_tree.proofs.Edits.{edit_at-same}
+use Rattle.gu_tree.specs.{Paths.above, Changes.{are_undecided_leaves, is_undecided_leaf, offer_node, offer_again_node}}
+use Rattle.gu_tree.specs.{Grove.{place_of, IsSapling}, Shown.ShowsLess, ShownAll.IsTreeIn}
 use Rattle.gu_tree.proofs.Parts.{some_and, at_fact}
 use Rattle.gu_book.proofs.Filed.{Spot, spot, IsParted, parted_by, IsWhole, whole_by, root_name, makes_root, place_named}
 use Rattle.gu_book.proofs.FiledChanges.{its_head, its_node, from_tree, has_at, is_at, said_at}
 use Rattle.gu_book.proofs.FiledLess.{order, own_place, taken_back, uprooted}
-use Rattle.gu_book.proofs.Undoing.{others, once, finds, before, within, grown, counted, bare, only_split, only_decision}
+use Rattle.gu_book.proofs.Undoing.{others, once, finds, before, grown, bare, only_split, only_decision}
 
 -- ---- what a command names
 
@@ -98,13 +89,10 @@ module _ {t : House} {l : List Record} {r : Record} {g : Grove} (u : IsFree t l 
   -- ---- a Split
 
   module _ {trade : ℕ} {p : List ℕ} {n : EntryPart} (s : Spot l g trade p n) (is : SplitsNode n r.command) where
-    its_split : split_of l s.said.node.name ≡ Some r
-    its_split =
-        ap (split_of l) (s.said.named ∙ s.called)
-        ∙ found_once (λ (d : Record). splits n d.command) l r u.among (split_names n r.command is).1 ((named_once t l u.replayed).splits_once n)
-
     its_parts : IsParted l r s.node
-    its_parts = parted_by l s.said.above s.said.node r s.node s.said.shown its_split
+    its_parts =
+        parted_by l s.said.above s.said.node r s.node s.said.shown (ap (split_of l) (s.said.named ∙ s.called)
+        ∙ found_once (λ (d : Record). splits n d.command) l r u.among (split_names n r.command is).1 ((named_once t l u.replayed).splits_once n))
 
     pub may_unsplit : HasTree g trade (HasAt p (λ v. IsTrue (can_unsplit v)))
     may_unsplit =
@@ -115,12 +103,11 @@ module _ {t : House} {l : List Record} {r : Record} {g : Grove} (u : IsFree t l 
     pub unsplit_gone : (h : Grove) → HasTree g trade (λ v. ChangesTree g h trade (edit_at unsplit_node p v)) → HasTree g trade (HasAt p (λ w. IsSomeAnd (split_of_node w) (λ q. Takes g h q.0)))
         → HasTree g trade (λ v. ShowsLess (λ l k. HasAt p (λ w. IsOnlySplit l k (head_of w).name) v) v (edit_at unsplit_node p v)) → IsGroveOf (without l r.number) h
     unsplit_gone h tree place shows =
-        let only : IsOnlySplit l r.number n = only_split u n is (split_names n r.command is).1 in
         taken_back u s (split_names n r.command is).0 h (edit_at unsplit_node p s.tree)
         (from_tree s (λ v. ChangesTree g h trade (edit_at unsplit_node p v)) tree)
         (subst (λ (o : Option (ℕ × ℕ)). IsSomeAnd o (λ q. Takes g h q.0)) (ap split_of_node its_parts.is) (said_at s (λ w. IsSomeAnd (split_of_node w) (λ q. Takes g h q.0)) place))
         (from_tree s (λ v. ShowsLess (λ l k. HasAt p (λ w. IsOnlySplit l k (head_of w).name) v) v (edit_at unsplit_node p v)) shows
-        l trade r.number (has_at s (λ w. IsOnlySplit l r.number (head_of w).name) (subst (IsOnlySplit l r.number) (sym s.called) only)) s.shown)
+        l trade r.number (has_at s (λ w. IsOnlySplit l r.number (head_of w).name) (subst (IsOnlySplit l r.number) (sym s.called) (only_split u n is (split_names n r.command is).1))) s.shown)
 
   -- ---- a decision
 
@@ -135,41 +122,35 @@ module _ {t : House} {l : List Record} {r : Record} {g : Grove} (u : IsFree t l 
     its_decision = found_once (λ (d : Record). decides n d.command) l r u.among its_names.1 ((named_once t l u.replayed).decisions_once n)
 
     -- a Split of the part would stand behind the decision
-    never_split : split_of l n ≡ None
-    never_split =
-        sym ((finds u).splits_same n)
+    whole : IsWhole s.node
+    whole =
+        whole_by l s.said.above s.said.node s.node s.said.shown (ap (split_of l) called
+        ∙ (sym ((finds u).splits_same n)
         ∙ (split_kept (before u) n its_names.2
         ∙ no_some (split_of (others u) n) (λ d e. none_is_some (decision_of (others u) n) r (decides_well t (others u) r.firm r.command n (before u).accepted its_names.1).undecided
         (All-contains (SplitsDecided l (others u)) (others u) d (grown u).decided (found_in (λ q. splits n q.command) (others u) d e) n (find_passes (λ q. splits n q.command) (others u) d e)
-        ∙ its_decision)))
-
-    whole : IsWhole s.node
-    whole = whole_by l s.said.above s.said.node s.node s.said.shown (ap (split_of l) called ∙ never_split)
+        ∙ its_decision)))))
 
     -- the state in which it left the part
     decided_state : (head_of s.node).state ≡ state_after r.command
     decided_state =
         let w = decides_well t (others u) r.firm r.command n (before u).accepted its_names.1 in
         (its_head s).state ∙ (ap (state_of s.said.node.kind) (ap (decision_of l) called ∙ its_decision)
-        ∙ given_state s.said.node.kind r (subst (λ (y : Node). is_given y.kind ≡ true) (its_node s w.node ((within u).nodes n w.node w.there)) w.given))
+        ∙ given_state s.said.node.kind r (subst (λ (y : Node). is_given y.kind ≡ true) (its_node s w.node ((grown u).within.nodes n w.node w.there)) w.given))
 
-    leaf_there : (P : Rose → Type 0) → ((h : Head) → h.state ≡ state_after r.command → P (leaf h)) → HasTree g trade (HasAt p P)
+    pub leaf_there : (P : Rose → Type 0) → ((h : Head) → h.state ≡ state_after r.command → P (leaf h)) → HasTree g trade (HasAt p P)
     leaf_there P has = is_at s P (subst P (sym whole.is) (has whole.head (sym (ap (λ v. (head_of v).state) whole.is) ∙ decided_state)))
 
-    -- the part is offered again, in this account
-    offered_gone : (h : Grove) (to : Place) → ChangesTree g h trade (edit_at (offer_node to) p s.tree) → HasTree g trade (HasAt p (λ w. IsSomeAnd (head_of w).decision (Takes g h)))
-        → ShowsLess (λ l k. HasAt p (λ w. IsOnlyDecision l k (head_of w).name) s.tree) s.tree (edit_at (offer_node to) p s.tree) → IsGroveOf (without l r.number) h
-    offered_gone h to tree place shows =
-        let only : IsOnlyDecision l r.number n = only_decision u n is its_names.1 in
-        taken_back u s its_names.0 h (edit_at (offer_node to) p s.tree) tree
+    -- the part is offered again
+    offered_gone : (h : Grove) (f : Rose → Rose) → ChangesTree g h trade (edit_at f p s.tree) → HasTree g trade (HasAt p (λ w. IsSomeAnd (head_of w).decision (Takes g h)))
+        → ShowsLess (λ l k. HasAt p (λ w. IsOnlyDecision l k (head_of w).name) s.tree) s.tree (edit_at f p s.tree) → IsGroveOf (without l r.number) h
+    offered_gone h f tree place shows =
+        taken_back u s its_names.0 h (edit_at f p s.tree) tree
         (subst (λ (o : Option ℕ). IsSomeAnd o (Takes g h)) ((its_head s).decision ∙ ap (option_map (λ (d : Record). d.number)) (ap (decision_of l) called ∙ its_decision))
         (said_at s (λ w. IsSomeAnd (head_of w).decision (Takes g h)) place))
-        (shows l trade r.number (has_at s (λ w. IsOnlyDecision l r.number (head_of w).name) (subst (IsOnlyDecision l r.number) (sym s.called) only)) s.shown)
+        (shows l trade r.number (has_at s (λ w. IsOnlyDecision l r.number (head_of w).name) (subst (IsOnlyDecision l r.number) (sym s.called) (only_decision u n is its_names.1))) s.shown)
 
     -- ---- a Claim
-
-    pub claimed_there : state_after r.command ≡ Claimed → HasTree g trade (HasAt p IsClaimedLeaf)
-    claimed_there claimed = leaf_there IsClaimedLeaf (λ h state. state ∙ claimed)
 
     pub claim_gone : (h : Grove) → HasTree g trade (λ v. HasAt (above p) (λ w. ChangesTree g h trade (edit_at (offer_node (head_of w).place) p v)) v)
         → HasTree g trade (HasAt p (λ w. IsSomeAnd (head_of w).decision (Takes g h)))
@@ -178,21 +159,14 @@ module _ {t : House} {l : List Record} {r : Record} {g : Grove} (u : IsFree t l 
     claim_gone h tree place shows =
         let w = some_and (λ w. ChangesTree g h trade (edit_at (offer_node (head_of w).place) p s.tree)) (node_at (above p) s.tree)
         (from_tree s (λ v. HasAt (above p) (λ w. ChangesTree g h trade (edit_at (offer_node (head_of w).place) p v)) v) tree) in
-        offered_gone h (head_of w.0).place w.2 place
+        offered_gone h (offer_node (head_of w.0).place) w.2 place
         (at_fact (λ w. ShowsLess (λ l k. HasAt p (λ x. IsOnlyDecision l k (head_of x).name) s.tree) s.tree (edit_at (offer_node (head_of w).place) p s.tree)) (node_at (above p) s.tree) w.0 w.1
         (from_tree s (λ v. HasAt (above p) (λ w. ShowsLess (λ l k. HasAt p (λ x. IsOnlyDecision l k (head_of x).name) v) v (edit_at (offer_node (head_of w).place) p v)) v) shows))
 
     -- ---- a Refuse or a Cancel
 
-    pub turned_there : is_given_back (state_after r.command) ≡ true → HasTree g trade (HasAt p IsGivenBackLeaf)
-    turned_there back = leaf_there IsGivenBackLeaf (λ h state. ap is_given_back state ∙ back)
-
     pub turned_gone : (h : Grove) → HasTree g trade (λ v. ChangesTree g h trade (edit_at offer_again_node p v)) → HasTree g trade (HasAt p (λ w. IsSomeAnd (head_of w).decision (Takes g h)))
         → HasTree g trade (λ v. ShowsLess (λ l k. HasAt p (λ w. IsOnlyDecision l k (head_of w).name) v) v (edit_at offer_again_node p v)) → IsGroveOf (without l r.number) h
     turned_gone h tree place shows =
-        let same : edit_at offer_again_node p s.tree ≡ edit_at (offer_node (head_of s.node).place) p s.tree =
-        edit_at-same offer_again_node (offer_node (head_of s.node).place) p s.tree s.node s.at refl in
-        offered_gone h (head_of s.node).place
-        (subst (ChangesTree g h trade) same (from_tree s (λ v. ChangesTree g h trade (edit_at offer_again_node p v)) tree)) place
-        (subst (ShowsLess (λ l k. HasAt p (λ w. IsOnlyDecision l k (head_of w).name) s.tree) s.tree) same
-        (from_tree s (λ v. ShowsLess (λ l k. HasAt p (λ w. IsOnlyDecision l k (head_of w).name) v) v (edit_at offer_again_node p v)) shows))
+        offered_gone h offer_again_node (from_tree s (λ v. ChangesTree g h trade (edit_at offer_again_node p v)) tree) place
+        (from_tree s (λ v. ShowsLess (λ l k. HasAt p (λ w. IsOnlyDecision l k (head_of w).name) v) v (edit_at offer_again_node p v)) shows)

@@ -1,35 +1,31 @@
 -- What a change moves from one account to another.
-use Rattle.std.proofs.Common.{◌≡◌, ℕ, zero, suc, ◌+◌, ◌≤◌, Bool, true, false, not, ◌&&◌, ◌||◌, List, [], ◌∷◌, ◌++◌, length, length-append, refl, sym, ◌∙◌}
+use Rattle.std.proofs.Common.{◌≡◌, ℕ, zero, ◌+◌, ◌≤◌, Bool, true, false, not, ◌&&◌, ◌||◌, List, [], ◌∷◌, ◌++◌, length, refl, sym, ◌∙◌}
 use Rattle.std.proofs.Common.{ap, subst, arith, Option, cond, All, Some, None, find, filter, filter_map, sum_by, is_some, is_none, ◌==◌, option_and_then, option_map}
 use Rattle.std.proofs.Common.{unwrap_or, bytes_eq}
 use Rattle.gu_book.proofs.Vocabulary.{option_or, cons_option, lots_at, names, Key, traded_at, held_at, holding_of, taken_by, part_holding, added_by, counted_at, taken_at, Holding}
 use Rattle.std.proofs.Math.Bool.{and-false, or-true}
-use Rattle.std.proofs.lemmas.Bool.{false_from_ne_true}
+use Rattle.std.proofs.lemmas.Bool.{false_from_ne_true, not-true}
+use Rattle.std.proofs.lemmas.Bool.Decides.{Decides-eqb}
 use Rattle.std.proofs.lemmas.List.Elements.{All-weaker, All-contains, Contains-append_right, filter_agree}
 use Rattle.std.proofs.lemmas.List.Folds.{find-append}
 use Rattle.std.proofs.lemmas.List.Sums.{sum_by-cons}
 use Rattle.std.proofs.lemmas.Option.{same_Some}
 use Rattle.std.proofs.lemmas.Slice.Eq.{bytes_eq-Decides}
 use Rattle.gu_depend.proofs.Vocabulary.{EntryPart, House, deal_in, node_of, nodes, nodes_of_parts, same_name, kind_of_part, parent, split_of, splits, decision_of, decides, claimed_account}
-use Rattle.gu_depend.proofs.Vocabulary.{claim_of, is_given, is_offered, line_within, line_of, place_along, place_of, place_of_kind, root_along, root_of, same_place, is_trade_of, trades_in}
+use Rattle.gu_depend.proofs.Vocabulary.{claim_of, is_given, is_offered, line_of, place_along, place_of, place_of_kind, root_along, root_of, same_place, is_trade_of, trades_in}
 use Rattle.gu_depend.proofs.Vocabulary.{stands_at, same_side, split_row, claim_row, refuse_row, cancel_row, is_taker, is_giver, number_same, Part, Side, Command, Trade, Split}
 use Rattle.gu_depend.proofs.Vocabulary.{Claim, Refuse, Cancel, Record, Kind, Root, Own, Given, Node, Place, State, Deal}
-use Rattle.gu_base.proofs.Basics.{or_false, or_none, none_is_some, no_some, bytes_symm}
-use Rattle.gu_base.proofs.Lines.{line_more, node_more}
+use Rattle.gu_depend.proofs.Finds.{count_append, found_once, not_both}
+use Rattle.gu_depend.proofs.Grown.{NamesThere, line_none, place_same, place_claimed}
+use Rattle.gu_depend.proofs.{LastMoves.{IsBefore, other_trade, trades_kept, split_kept}, Replay.{NumbersOnce}}
+use Rattle.gu_depend.proofs.{Settled.{Settled, SettledAs, accepted_there}, Names.{made_number}}
+use Rattle.gu_base.proofs.{Basics.{or_false, or_none, none_is_some, no_some, bytes_symm}, Lines.{node_more}}
 use Rattle.gu_base.proofs.NodeNames.{name_is, name_same, node_called, made, made_of, part_parent}
 use Rattle.gu_base.proofs.Passing.{at_node_none, split_passes, claim_passes, decision_passes, offered_of}
-use Rattle.gu_base.proofs.Searches.{found_in, find_passes}
-use Rattle.gu_base.proofs.Sums.{sum_agree_on}
+use Rattle.gu_base.proofs.{Searches.{found_in, find_passes}, Sums.{sum_agree_on}}
 use Rattle.gu_depend.specs.Moves.{named_by}
-use Rattle.gu_depend.proofs.Finds.{count_append, found_once}
-use Rattle.gu_depend.proofs.Grown.{NamesThere, line_none, place_same, line_of_grown, above}
-use Rattle.gu_depend.proofs.LastMoves.{IsBefore, trades_kept, split_kept, sum_filter}
-use Rattle.gu_depend.proofs.Replay.{NumbersOnce}
-use Rattle.gu_depend.proofs.Settled.{Settled, SettledAs}
-use Rattle.gu_book.proofs.Leaves.{sum_named, sum_agree, sum_zero}
-use Rattle.gu_book.proofs.Once.{asked, one_found}
-use Rattle.gu_book.proofs.Sound.{Sound, IsSoundNext, split_push, node_push, made_found, splits_here}
-use Rattle.gu_depend.proofs.Names.{made_number}
+use Rattle.gu_book.proofs.{Leaves.{none_kept, sum_named, sum_agree, sum_zero}, Once.{asked, one_found}}
+use Rattle.gu_book.proofs.Sound.{Sound, split_push, node_push, made_found, line_first, line_up, root_up}
 
 -- ---- what was traded
 
@@ -84,10 +80,9 @@ held_counts at instrument side (Some p) (Some t) lots =
 lots_held : (l : List Record) (at : Place) (instrument : List ℕ) (side : Side) (x : Node) (o : Option Place) (t : Option Deal) → split_of l x.name ≡ None → place_of l x.name ≡ o
     → trades_in l instrument side x.name ≡ told instrument side t → lots_at l at instrument side x ≡ taken_at (key_at at instrument) side (held_at o t x.lots)
 lots_held l at instrument side x o t whole stands trades =
-    ap (λ s. cond (is_none s) (cond (stands_at l at x.name && trades_in l instrument side x.name) x.lots 0) 0) whole
-    ∙ (ap (λ p. cond (unwrap_or (option_map (same_place at) p) false && trades_in l instrument side x.name) x.lots 0) stands
-    ∙ (ap (λ b. cond (unwrap_or (option_map (same_place at) o) false && b) x.lots 0) trades
-    ∙ held_counts at instrument side o t x.lots))
+    let same : lots_at l at instrument side x ≡ cond (unwrap_or (option_map (same_place at) o) false && told instrument side t) x.lots 0 =
+    λ j. cond (is_none (whole j)) (cond (unwrap_or (option_map (same_place at) (stands j)) false && trades j) x.lots 0) 0 in
+    same ∙ held_counts at instrument side o t x.lots
 
 pub lots_of_leaf : (l : List Record) → NumbersOnce l → (at : Place) (instrument : List ℕ) (side : Side) (x : Node) → split_of l x.name ≡ None
     → lots_at l at instrument side x ≡ taken_at (key_at at instrument) side (holding_of l x)
@@ -100,24 +95,15 @@ lots_of_split l at instrument side x r e = ap (λ s. cond (is_none s) (cond (sta
 
 -- ---- sums
 
-none_kept : {X : Type 0} (f : X → ℕ) (xs : List X) → sum_by f (filter (λ x. false) xs) ≡ 0
-none_kept f [] = refl
-none_kept f (x ∷ xs) = none_kept f xs
-
 pub counts_or : (at : Key) (side : Side) (o : Option Holding) (hs : List Holding) → sum_by (counted_at at side) (cons_option o hs) ≡ taken_at at side o + sum_by (counted_at at side) hs
 counts_or at side None hs = omega arith
 counts_or at side (Some h) hs = sum_by-cons (counted_at at side) h hs
 
--- one node has the name
-sum_naming : {l : List Record} {bound : ℕ} → Sound l bound → (n : EntryPart) (x : Node) → node_of l n ≡ Some x → (f : Node → ℕ)
-    → sum_by f (filter (λ x. same_name n x.name) (nodes l)) ≡ f x
-sum_naming {l} s n x found f = sum_filter f (λ (x : Node). same_name n x.name) (nodes l) ∙ sum_named s n x found f
-
--- a Split names it as a Claim does
+-- a Split names its node alone, as a Claim does
 sum_split : (l : List Record) (bound : ℕ) → Sound l bound → (n : EntryPart) (ps : List Part) (x : Node) → node_of l n ≡ Some x → (f : Node → ℕ)
     → sum_by f (filter (λ x. names x.name (Split n ps)) (nodes l)) ≡ f x
 sum_split l bound s n ps x found f =
-    ap (sum_by f) (filter_agree (λ (x : Node). names x.name (Split n ps)) (λ (x : Node). same_name n x.name) (λ x. or_false (same_name n x.name)) (nodes l)) ∙ sum_naming s n x found f
+    ap (sum_by f) (filter_agree (λ (x : Node). names x.name (Split n ps)) (λ (x : Node). same_name n x.name) (λ x. or_false (same_name n x.name)) (nodes l)) ∙ sum_named s n x found f
 
 -- ---- a node that is offered has no Split
 
@@ -127,15 +113,11 @@ free_as t l by (Split m ps) n x s is found =
     subst (λ (z : Node). not (is_offered l z) ≡ true) (same_Some s.node x (sym s.there ∙ (ap (node_of l) (name_is m n is) ∙ found))) s.holds.free
 free_as t l by _ n x s is found = absurd (cc)
 
-not_both : (b : Bool) → not b ≡ true → b ≡ true → ⊥
-not_both true a b = cc
-not_both false a b = cc
-
 offered_whole : (t : House) (l : List Record) (n : EntryPart) (x : Node) → All (Settled t l) l → node_of l n ≡ Some x → is_offered l x ≡ true → split_of l n ≡ None
 offered_whole t l n x settled found offered =
     no_some (split_of l n) (λ d e.
     let s = All-contains (Settled t l) l d settled (found_in (λ r. splits n r.command) l d e) in
-    not_both (is_offered l x) (free_as t l d.firm d.command n x s.stands (find_passes (λ r. splits n r.command) l d e) found) offered)
+    not_both (is_offered l x) offered (not-true (is_offered l x) (free_as t l d.firm d.command n x s.stands (find_passes (λ r. splits n r.command) l d e) found)))
 
 pub given_parent : (k : Kind) → is_given k ≡ true → (m : EntryPart) × (parent k ≡ Some m)
 given_parent (Given m _ _) h = (m, refl)
@@ -148,76 +130,44 @@ pub record IsCounted (t : House) (l : List Record) (r : Record) : Type 0 where
   pub last : IsBefore t l r
   pub bound : ℕ
   pub sound : Sound l bound
-  pub unmade : (n : EntryPart) → n.entry ≡ r.number → node_of l n ≡ None
-  pub unsplit : (n : EntryPart) → n.entry ≡ r.number → split_of l n ≡ None
-  pub next : IsSoundNext l r
   pub settled : All (Settled t l) l
   pub stand : (x : Node) → node_of l x.name ≡ Some x → (p : Place) × (place_of l x.name ≡ Some p)
 
--- one suc
-pushed_length : (l : List Record) (r : Record) → length (l ++ r ∷ []) ≡ suc (length l)
-pushed_length l r = omega (arith, length-append l (r ∷ []))
-
--- a node that isn't there is not decided
-undecided_yet : (l : List Record) (n : EntryPart) → All (NamesThere l) l → node_of l n ≡ None → decision_of l n ≡ None
-undecided_yet l n named none =
-    no_some (decision_of l n) (λ d e.
-    let is = find_passes (λ r. decides n r.command) l d e in
-    let y = All-contains (NamesThere l) l d named (found_in (λ r. decides n r.command) l d e) n (ap (λ b. splits n d.command || b) is ∙ or-true (splits n d.command)) in
+-- a node that isn't there is not named
+unnamed_yet : (l : List Record) (n : EntryPart) (p : Record → Bool) → ((d : Record) → p d ≡ true → names n d.command ≡ true) → All (NamesThere l) l → node_of l n ≡ None
+    → find p l ≡ None
+unnamed_yet l n p named there none =
+    no_some (find p l) (λ d e.
+    let y = All-contains (NamesThere l) l d there (found_in p l d e) n (named d (find_passes p l d e)) in
     none_is_some (node_of l n) y.0 none y.1)
 
 module _ {t : House} {l : List Record} {r : Record} (c : IsCounted t l r) where
   -- the nodes that the change makes are new
+  unmade : (n : EntryPart) → n.entry ≡ r.number → node_of l n ≡ None
+  unmade n own = no_some (node_of l n) (λ y found. not_both (r.number == n.entry) ((Decides-eqb r.number n.entry).1 (sym own)) (other_trade c.last n y found))
+
   made_here : (x : Node) → made_of r x.name ≡ Some x → node_of (l ++ r ∷ []) x.name ≡ Some x
-  made_here x e = node_push l r x.name ∙ (ap (λ o. option_or o (made_of r x.name)) (c.unmade x.name (made_number r x.name x e)) ∙ e)
+  made_here x e = node_push l r x.name ∙ (ap (λ o. option_or o (made_of r x.name)) (unmade x.name (made_number r x.name x e)) ∙ e)
 
   -- and it splits none of them
   whole_here : (n : EntryPart) → n.entry ≡ r.number → split_of (l ++ r ∷ []) n ≡ None
   whole_here n own =
-      let unnamed : splits n r.command ≡ false = false_from_ne_true (splits n r.command) (λ is. let y = splits_here c.next n is in none_is_some (node_of l n) y.0 (c.unmade n own) y.1) in
-      split_push l r n ∙ (ap (λ o. option_or o (cond (splits n r.command) (Some r) None)) (c.unsplit n own) ∙ ap (λ b. cond b (Some r) None) unnamed)
+      let unsplit : splits n r.command ≡ false = false_from_ne_true (splits n r.command) (λ is.
+      let y = accepted_there t l r.firm r.command c.last.accepted n (ap (λ b. b || decides n r.command) is) in
+      none_is_some (node_of l n) y.0 (unmade n own) y.1) in
+      split_kept c.last n unsplit ∙ unnamed_yet l n (λ d. splits n d.command) (λ d is. ap (λ b. b || decides n d.command) is) c.last.grown.named (unmade n own)
 
-  -- the line of a node above which stands a node of the list
-  line_up : (x y : Node) (m : EntryPart) → node_of (l ++ r ∷ []) x.name ≡ Some x → parent x.kind ≡ Some m → node_of l m ≡ Some y
-      → line_of (l ++ r ∷ []) x.name ≡ x ∷ line_of (l ++ r ∷ []) m
-  line_up x y m found up there =
-      let k = l ++ r ∷ [] in
-      let there_now = node_more l (r ∷ []) m y there in
-      ap (line_within (length k) k) found
-      ∙ (ap (λ f. line_within f k (Some x)) (pushed_length l r)
-      ∙ ap (λ xs. x ∷ xs)
-      (ap (λ o. line_within (length l) k (option_and_then (node_of k) o)) up
-      ∙ (ap (line_within (length l) k) there_now
-      ∙ (line_more (length l) l (r ∷ []) c.sound.parents m y there
-      ∙ (sym (ap (line_within (length l) l) there)
-      ∙ line_of_grown k l c.last.grown m y there)))))
-
-  -- where it stands then
-  place_up : (x y : Node) (m : EntryPart) (o : Option (List ℕ)) → node_of (l ++ r ∷ []) x.name ≡ Some x → parent x.kind ≡ Some m → node_of l m ≡ Some y
-      → claim_of (l ++ r ∷ []) x.name ≡ o
+  -- where a node stands that has one above it
+  place_up : (x : Node) (m : EntryPart) (o : Option (List ℕ)) → node_of (l ++ r ∷ []) x.name ≡ Some x → parent x.kind ≡ Some m → claim_of (l ++ r ∷ []) x.name ≡ o
       → place_of (l ++ r ∷ []) x.name ≡ place_of_kind x.kind o (place_of (l ++ r ∷ []) m)
-  place_up x y m o found up there claims =
-      ap (place_along (l ++ r ∷ [])) (line_up x y m found up there) ∙ ap (λ a. place_of_kind x.kind a (place_of (l ++ r ∷ []) m)) claims
-
-  -- a line begins with its node
-  line_begins : (m : EntryPart) (y : Node) → node_of l m ≡ Some y → (above : List Node) × (line_of (l ++ r ∷ []) m ≡ y ∷ above)
-  line_begins m y there =
-      let k = l ++ r ∷ [] in (
-        line_within (length l) k (option_and_then (node_of k) (parent y.kind)),
-        ap (line_within (length k) k) (node_more l (r ∷ []) m y there) ∙ ap (λ f. line_within f k (Some y)) (pushed_length l r),
-      )
-
-  -- it is in the tree of the node above
-  root_up : (x y : Node) (m : EntryPart) → node_of (l ++ r ∷ []) x.name ≡ Some x → parent x.kind ≡ Some m → node_of l m ≡ Some y
-      → root_of (l ++ r ∷ []) x.name ≡ root_of (l ++ r ∷ []) m
-  root_up x y m found up there =
-      let b = line_begins m y there in
-      ap root_along (line_up x y m found up there) ∙ (ap (λ xs. root_along (x ∷ xs)) b.1 ∙ sym (ap root_along b.1))
+  place_up x m o found up claims =
+      ap (place_along (l ++ r ∷ [])) (line_up (l ++ r ∷ []) c.last.whole x.name m x found up) ∙ ap (λ a. place_of_kind x.kind a (place_of (l ++ r ∷ []) m)) claims
 
   trades_up : (instrument : List ℕ) (side : Side) (x y : Node) (m : EntryPart) → node_of (l ++ r ∷ []) x.name ≡ Some x → parent x.kind ≡ Some m → node_of l m ≡ Some y
       → trades_in (l ++ r ∷ []) instrument side x.name ≡ trades_in l instrument side m
   trades_up instrument side x y m found up there =
-      ap (λ o. is_some (option_and_then (λ p. find (λ d. (d.number == p.entry) && is_trade_of instrument side d.command) (l ++ r ∷ [])) o)) (root_up x y m found up there)
+      ap (λ o. is_some (option_and_then (λ p. find (λ d. (d.number == p.entry) && is_trade_of instrument side d.command) (l ++ r ∷ [])) o))
+      (root_up (l ++ r ∷ []) c.last.whole x.name m x y found up (node_more l (r ∷ []) m y there))
       ∙ trades_kept c.last instrument side m y there
 
   once_before : NumbersOnce l
@@ -241,9 +191,6 @@ pub record Balances (at : Place) (instrument : List ℕ) (side : Side) (l : List
 
 -- ---- a Trade
 
-root_line : (f : ℕ) (l : List Record) (x : Node) → parent x.kind ≡ None → line_within (suc f) l (Some x) ≡ x ∷ []
-root_line f l x up = ap (λ o. x ∷ line_within f l (option_and_then (node_of l) o)) up ∙ ap (λ xs. x ∷ xs) (line_none f l)
-
 trade_balances : (t : House) (l : List Record) (k : ℕ) (by id firm account instrument : List ℕ) (side : Side) (lots : ℕ) (status : State)
     → IsCounted t l (record { number = k; firm = by; id = id; command = Trade firm account instrument side lots; status = status })
     → (at : Place) (i : List ℕ) (s : Side) → Balances at i s l (record { number = k; firm = by; id = id; command = Trade firm account instrument side lots; status = status })
@@ -254,7 +201,7 @@ trade_balances t l k by id firm account instrument side lots status c at i s =
     let whole = whole_here c n refl in
     let found : node_of (l ++ r ∷ []) n ≡ Some x = made_here c x (ap (λ b. cond b (Some x) None) (name_same n)) in
     let line : line_of (l ++ r ∷ []) n ≡ x ∷ [] =
-    ap (line_within (length (l ++ r ∷ [])) (l ++ r ∷ [])) found ∙ (ap (λ f. line_within f (l ++ r ∷ []) (Some x)) (pushed_length l r) ∙ root_line (length l) (l ++ r ∷ []) x refl) in
+    line_first (l ++ r ∷ []) c.last.whole n x found ∙ ap (λ xs. x ∷ xs) (line_none (length (l ++ r ∷ [])) (l ++ r ∷ [])) in
     let stands : place_of (l ++ r ∷ []) n ≡ Some (record { firm = firm; account = account }) = ap (place_along (l ++ r ∷ [])) line in
     let own : find (λ d. d.number == k) (l ++ r ∷ []) ≡ Some r =
     found_once (λ (d : Record). d.number == k) (l ++ r ∷ []) r (Contains-append_right l (r ∷ []) r (zero, omega arith, refl)) (number_same k) (c.last.once k) in
@@ -321,8 +268,8 @@ split_balances t l k by id m ps status x c there whole at i s =
     let w = traded_at l m in
     let taken : taken_by l (Split m ps) ≡ held_at (Some p.0) w x.lots =
     ap (option_and_then (holding_of l)) there ∙ (ap (λ o. held_at o (traded_at l x.name) x.lots) p.1 ∙ ap (λ n. held_at (Some p.0) (traded_at l n) x.lots) called) in
-    let before : lots_at l at i s x ≡ taken_at (key_at at i) s (held_at (Some p.0) w x.lots) =
-    lots_held l at i s x (Some p.0) w whole p.1 (trades_told l (once_before c) i s x.name ∙ ap (λ n. told i s (traded_at l n)) called) in
+    let before : lots_at l at i s x ≡ taken_at (key_at at i) s (taken_by l (Split m ps)) =
+    lots_of_leaf l (once_before c) at i s x whole ∙ ap (taken_at (key_at at i) s) (sym (ap (option_and_then (holding_of l)) there)) in
     let now : split_of (l ++ r ∷ []) x.name ≡ Some r =
     split_push l r x.name ∙ (ap (λ o. option_or o (cond (splits x.name r.command) (Some r) None)) whole
     ∙ ap (λ b. cond b (Some r) None) (ap (same_name m) called ∙ name_same m)) in
@@ -334,10 +281,11 @@ split_balances t l k by id m ps status x c there whole at i s =
     let here = made_here c y e in
     let up = part_parent y.name m k 1 by ps y e in
     let unsplit = whole_here c y.name own in
-    let undecided = undecided_yet l y.name c.last.grown.named (c.unmade y.name own) in
+    let undecided = unnamed_yet l y.name (λ d. decides y.name d.command) (λ d is. ap (λ b. splits y.name d.command || b) is ∙ or-true (splits y.name d.command)) c.last.grown.named
+    (unmade c y.name own) in
     let claims : claim_of (l ++ r ∷ []) y.name ≡ None = ap (option_and_then (λ d. claimed_account d.command)) (sym (decision_kept c y.name refl) ∙ undecided) in
     lots_held (l ++ r ∷ []) at i s y (place_of_kind y.kind None (Some p.0)) w unsplit
-    (place_up c y x m None here up there claims ∙ ap (place_of_kind y.kind None) moved_place)
+    (place_up c y m None here up claims ∙ ap (place_of_kind y.kind None) moved_place)
     (trades_up c i s y x m here up there ∙ trades_told l (once_before c) i s m))
     (made r) (made_found r) in
     let one = sum_split l c.bound c.sound m ps x there (lots_at l at i s) in
@@ -345,9 +293,8 @@ split_balances t l k by id m ps status x c there whole at i s =
     let nothing = lots_of_split (l ++ r ∷ []) at i s x r now in
     let made_now = sum_agree_on (lots_at (l ++ r ∷ []) at i s) (λ (y : Node). taken_at (key_at at i) s (held_at (place_of_kind y.kind None (Some p.0)) w y.lots)) (made r) each in
     let parts = parts_added (key_at at i) s p.0 w x.lots m k by ps in
-    let took = ap (taken_at (key_at at i) s) taken in
     let added = ap (λ o. sum_by (counted_at (key_at at i) s) (added_by by (Split m ps) o)) taken in
-    record { there = omega (arith, before, one, took); equal = omega (arith, before, one, gone, nothing, made_now, parts, took, added) }
+    record { there = omega (arith, before, one); equal = omega (arith, before, one, gone, nothing, made_now, parts, added) }
 
 -- ---- a Claim
 
@@ -377,53 +324,43 @@ claim_balances t l k by id m account status x c there given taker undecided at i
     let trades : trades_in l i s x.name ≡ told i s w = trades_told l (once_before c) i s x.name ∙ ap (λ n. told i s (traded_at l n)) called in
     let taken : taken_by l (Claim m account) ≡ held_at (Some p.0) w x.lots =
     ap (option_and_then (holding_of l)) there ∙ (ap (λ o. held_at o (traded_at l x.name) x.lots) p.1 ∙ ap (λ n. held_at (Some p.0) (traded_at l n) x.lots) called) in
-    let before : lots_at l at i s x ≡ taken_at (key_at at i) s (held_at (Some p.0) w x.lots) = lots_held l at i s x (Some p.0) w whole p.1 trades in
+    let before : lots_at l at i s x ≡ taken_at (key_at at i) s (taken_by l (Claim m account)) =
+    lots_of_leaf l (once_before c) at i s x whole ∙ ap (taken_at (key_at at i) s) (sym (ap (option_and_then (holding_of l)) there)) in
     let unsplit : split_of (l ++ r ∷ []) x.name ≡ None = split_kept c.last x.name refl ∙ whole in
     let claims : claim_of (l ++ r ∷ []) x.name ≡ Some account =
     ap (option_and_then (λ d. claimed_account d.command)) (decision_push c x.name ∙ (ap (λ o. option_or o (cond (decides x.name r.command) (Some r) None)) undecided
     ∙ ap (λ b. cond b (Some r) None) (ap (same_name m) called ∙ name_same m))) in
     let up = given_parent x.kind given in
-    let over = above (l ++ r ∷ []) l x.name up.0 x c.last.grown found up.1 in
     let stands : place_of (l ++ r ∷ []) x.name ≡ Some (record { firm = by; account = account }) =
-    place_up c x over.node up.0 (Some account) (node_more l (r ∷ []) x.name x found) up.1 over.there claims ∙ taken_place by account x.kind (place_of (l ++ r ∷ []) up.0) taker in
+    place_up c x up.0 (Some account) (node_more l (r ∷ []) x.name x found) up.1 claims ∙ taken_place by account x.kind (place_of (l ++ r ∷ []) up.0) taker in
     let now : lots_at (l ++ r ∷ []) at i s x ≡ taken_at (key_at at i) s (held_at (Some (record { firm = by; account = account })) w x.lots) =
     lots_held (l ++ r ∷ []) at i s x (Some (record { firm = by; account = account })) w unsplit stands (trades_kept c.last i s x.name x found ∙ trades) in
-    let one = sum_naming c.sound m x there (lots_at l at i s) in
-    let then_one = sum_naming c.sound m x there (lots_at (l ++ r ∷ []) at i s) in
+    let one = sum_named c.sound m x there (lots_at l at i s) in
+    let then_one = sum_named c.sound m x there (lots_at (l ++ r ∷ []) at i s) in
     let adds = claim_added (key_at at i) s p.0 w m by account x.lots in
-    let took = ap (taken_at (key_at at i) s) taken in
     let added = ap (λ o. sum_by (counted_at (key_at at i) s) (added_by by (Claim m account) o)) taken in
-    record { there = omega (arith, before, one, took); equal = omega (arith, before, now, one, then_one, adds, took, added) }
+    record { there = omega (arith, before, one); equal = omega (arith, before, now, one, then_one, adds, added) }
 
 -- ---- a Refuse or a Cancel: the node stays where it stands
 
 module _ {t : House} {l : List Record} {r : Record} (c : IsCounted t l r) where
-  back_same : (m : EntryPart) (x : Node) → node_of l m ≡ Some x → is_given x.kind ≡ true → decision_of l x.name ≡ None → decides m r.command ≡ true
+  back_same : (m : EntryPart) (x : Node) → node_of l m ≡ Some x → decision_of l x.name ≡ None → decides m r.command ≡ true
       → splits x.name r.command ≡ false → claimed_account r.command ≡ None → (at : Place) (i : List ℕ) (s : Side)
       → sum_by (lots_at (l ++ r ∷ []) at i s) (filter (λ y. same_name m y.name) (nodes l)) ≡ sum_by (lots_at l at i s) (filter (λ y. same_name m y.name) (nodes l))
-  back_same m x there given undecided decides_it unsplits no_claim at i s =
+  back_same m x there undecided decides_it unsplits no_claim at i s =
       let k = l ++ r ∷ [] in
+      let claimed : Option Record → Option (List ℕ) = option_and_then (λ d. claimed_account d.command) in
       let called : x.name ≡ m = node_called l m x there in
       let found : node_of l x.name ≡ Some x = ap (node_of l) called ∙ there in
-      let up = given_parent x.kind given in
-      let over = above k l x.name up.0 x c.last.grown found up.1 in
-      let claims : claim_of k x.name ≡ None =
-      ap (option_and_then (λ d. claimed_account d.command)) (decision_push c x.name ∙ (ap (λ o. option_or o (cond (decides x.name r.command) (Some r) None)) undecided
-      ∙ ap (λ b. cond b (Some r) None) (ap (λ n. decides n r.command) called ∙ decides_it))) ∙ no_claim in
-      let unclaimed : claim_of l x.name ≡ None = ap (option_and_then (λ d. claimed_account d.command)) undecided in
-      let after : place_of k x.name ≡ place_of_kind x.kind None (place_of k up.0) = place_up c x over.node up.0 None (node_more l (r ∷ []) x.name x found) up.1 over.there claims in
-      let line : line_of l x.name ≡ x ∷ line_of l up.0 =
-      line_of_grown k l c.last.grown x.name x found ∙ (line_up c x over.node up.0 (node_more l (r ∷ []) x.name x found) up.1 over.there
-      ∙ ap (λ xs. x ∷ xs) (sym (line_of_grown k l c.last.grown up.0 over.node over.there))) in
-      let first : place_of l x.name ≡ place_of_kind x.kind None (place_of l up.0) =
-      ap (place_along l) line ∙ ap (λ a. place_of_kind x.kind a (place_of l up.0)) unclaimed in
-      let stays : place_of k x.name ≡ place_of l x.name =
-      after ∙ (ap (place_of_kind x.kind None) (sym (place_same k l up.0 over.node c.last.grown over.there over.decided)) ∙ sym first) in
+      let decision : decision_of k x.name ≡ Some r = decision_push c x.name ∙ (ap (λ o. option_or o (cond (decides x.name r.command) (Some r) None)) undecided
+      ∙ ap (λ b. cond b (Some r) None) (ap (λ n. decides n r.command) called ∙ decides_it)) in
+      let stays : place_of l x.name ≡ place_of k x.name =
+      place_claimed k l x.name x c.last.grown found (ap claimed undecided ∙ sym (ap claimed decision ∙ no_claim)) in
+      let split = split_kept c.last x.name unsplits in
+      let trades = trades_kept c.last i s x.name x found in
       let same : lots_at k at i s x ≡ lots_at l at i s x =
-      ap (λ o. cond (is_none o) (cond (stands_at k at x.name && trades_in k i s x.name) x.lots 0) 0) (split_kept c.last x.name unsplits)
-      ∙ (ap (λ o. cond (is_none (split_of l x.name)) (cond (unwrap_or (option_map (same_place at) o) false && trades_in k i s x.name) x.lots 0) 0) stays
-      ∙ ap (λ b. cond (is_none (split_of l x.name)) (cond (stands_at l at x.name && b) x.lots 0) 0) (trades_kept c.last i s x.name x found)) in
-      sum_naming c.sound m x there (lots_at k at i s) ∙ (same ∙ sym (sum_naming c.sound m x there (lots_at l at i s)))
+      λ j. cond (is_none (split j)) (cond (unwrap_or (option_map (same_place at) (sym stays j)) false && trades j) x.lots 0) 0 in
+      sum_named c.sound m x there (lots_at k at i s) ∙ (same ∙ sym (sum_named c.sound m x there (lots_at l at i s)))
 
 -- ---- what takes nothing out, puts nothing in and makes nothing
 
@@ -453,12 +390,12 @@ balances t l k by id (Refuse m) status c at i s =
     let there = at_node_none (refuse_row l by) (node_of l m) c.last.accepted in
     let passes = decision_passes l there.0 (is_taker by there.0.kind) there.1.1 in
     stays_balanced at i s l (record { number = k; firm = by; id = id; command = Refuse m; status = status }) refl refl refl
-    (back_same c m there.0 there.1.0 passes.0 passes.1 (name_same m) refl refl at i s)
+    (back_same c m there.0 there.1.0 passes.1 (name_same m) refl refl at i s)
 balances t l k by id (Cancel m) status c at i s =
     let there = at_node_none (cancel_row l by) (node_of l m) c.last.accepted in
     let passes = decision_passes l there.0 (is_giver by there.0.kind) there.1.1 in
     stays_balanced at i s l (record { number = k; firm = by; id = id; command = Cancel m; status = status }) refl refl refl
-    (back_same c m there.0 there.1.0 passes.0 passes.1 (name_same m) refl refl at i s)
+    (back_same c m there.0 there.1.0 passes.1 (name_same m) refl refl at i s)
 balances t l k by id d status c at i s =
     let r : Record = record { number = k; firm = by; id = id; command = d; status = status } in
     stays_balanced at i s l r refl refl refl (none_kept (lots_at (l ++ r ∷ []) at i s) (nodes l) ∙ sym (none_kept (lots_at l at i s) (nodes l)))

@@ -1,5 +1,5 @@
 -- One more accepted change leaves true what a book keeps.
-use Rattle.std.proofs.Common.{◌≡◌, ℕ, ◌+◌, ◌<◌, ◌≤◌, true, false, ◌&&◌, ◌||◌, List, [], ◌∷◌, ◌++◌, length, refl, sym, ◌∙◌, ap, subst, arith, cond}
+use Rattle.std.proofs.Common.{◌≡◌, ℕ, ◌+◌, ◌≤◌, true, false, ◌&&◌, ◌||◌, List, [], ◌∷◌, ◌++◌, length, refl, sym, ◌∙◌, ap, subst, arith, cond}
 use Rattle.std.proofs.Common.{append-nil, append_assoc, length-append, None, find, bytes_eq, ◌==◌}
 use Rattle.std.specs.List.{IsDistinct}
 use Rattle.gu_book.proofs.Vocabulary.{list_any, Grove, tree_of, last_place, IsSameGrove, IsGroveOf, IsNext, AreTreesOf, same_id, NoIdTwice, IsKept, IsWithinLimits, AllWithinLimits, given}
@@ -14,17 +14,13 @@ use Rattle.gu_depend.proofs.Vocabulary.{entry_of, reversal_of, on_change, initia
 use Rattle.gu_depend.proofs.Vocabulary.{bytes_same, consents_left, is_consenting}
 use Rattle.gu_base.proofs.LiveLaws.{live_push_change, live_push_reverse, is_live, live_push_consent}
 use Rattle.gu_base.proofs.Basics.{bytes_symm, nothing_here}
-use Rattle.gu_tree.specs.Filing.{last_of}
-use Rattle.gu_tree.specs.Grove.{place_of}
-use Rattle.gu_book.specs.Kept.{AcceptedFrom}
+use Rattle.gu_tree.specs.{Filing.{last_of}, Grove.{place_of}}
+use Rattle.gu_book.specs.Kept.{AcceptedFrom, IsAccepted}
 use Rattle.std.proofs.lemmas.Bool.{and_parts}
 use Rattle.gu_base.proofs.Accepted.{first_none, change_refused, IsAllowed, allowed, open_from_none}
-use Rattle.gu_base.proofs.RunLaws.{IsRun, run_push}
-use Rattle.gu_base.proofs.Numbered.{found_at, length_numbered}
-use Rattle.gu_book.proofs.Filed.{filed_none, same_filed}
-use Rattle.gu_book.proofs.Leaves.{live_rises, without_small}
+use Rattle.gu_base.proofs.{RunLaws.{IsRun, run_push}, Numbered.{found_at, length_numbered}}
 use Rattle.gu_base.proofs.Consenting.{left_change, left_initiate, left_decline, left_reverse, not_reversed}
-use Rattle.gu_book.proofs.Refused.{accepted_small}
+use Rattle.gu_book.proofs.{Filed.{filed_none, same_filed}, Leaves.{live_rises, without_small}, Refused.{accepted_small}}
 
 ids_congr : (x y z : Entry) → same_id x y ≡ true → same_id x z ≡ same_id y z
 ids_congr x y z h =
@@ -55,11 +51,13 @@ accepted_push t before [] e all ok = (subst (λ k. answer_to t k (call_of e) ≡
 accepted_push t before (d ∷ h) e all ok =
     (all.0, accepted_push t (before ++ d ∷ []) h e all.1 (subst (λ k. answer_to t k (call_of e) ≡ Accepted (length k + 1) e.status) (sym (append_assoc before (d ∷ []) h)) ok))
 
+-- a house that accepts an entry is one
+pub is_accepted_in : (t : House) (h : List Entry) (e : Entry) (n : ℕ)
+    → answer_to t h (call_of e) ≡ Accepted n e.status → IsAccepted h e n
+is_accepted_in t h e n ok = record { house = t; answered = ok }
+
 pub live_few : (h : List Entry) → length (live h) ≤ length h
 live_few h = omega (arith, length-filter (is_live h) (records h), count_by-le-length (is_live h) (records h), length_numbered 1 h)
-
-run_kept : (t : House) (h : List Entry) (ts : Grove) (cs : Consents) → IsKept t h ts cs → IsRun t h
-run_kept t h ts cs kept = record { replayed = kept.replayed; behind = kept.behind }
 
 module _ {t : House} {h : List Entry} {ts : Grove} {cs : Consents} (kept : IsKept t h ts cs) (n : ℕ) (e : Entry)
     (ok : answer_to t h (call_of e) ≡ Accepted n e.status) where
@@ -71,7 +69,8 @@ module _ {t : House} {h : List Entry} {ts : Grove} {cs : Consents} (kept : IsKep
       → ((m : ℕ) → given ds m ≡ consents_left (h ++ e ∷ []) m) → IsKept t (h ++ e ∷ []) us ds
   kept_next us ds small filed placed consented =
       let a = shown in
-      let run = run_push (run_kept t h ts cs kept) e n ok in
+      let before : IsRun t h = record { replayed = kept.replayed; behind = kept.behind } in
+      let run = run_push before e n ok in
       let longer = length-append h (e ∷ []) in
       record {
         few = omega (arith, longer, a.room);
@@ -85,19 +84,13 @@ module _ {t : House} {h : List Entry} {ts : Grove} {cs : Consents} (kept : IsKep
         consented = consented;
       }
 
+  -- its number is the next, and that of the last entry then
+  pub next_number : (n ≡ length h + 1) × (length (h ++ e ∷ []) ≡ n)
+  next_number = let number = shown.number in (omega (arith, number), omega (arith, number, length-append h (e ∷ [])))
+
   -- what stays as it was is no later than the history was
   pub no_later : (us : Grove) → last_place us ≤ length h → last_place us ≤ n
   no_later us placed = let number = shown.number in omega (arith, number, placed)
-
-  -- its number is above all before it, and none is above it
-  pub above_all : (m : ℕ) → m ≤ length h → m < n
-  above_all m low = let number = shown.number in omega (arith, number, low)
-
-  pub none_above : (m : ℕ) → m ≤ n → m ≤ length (h ++ e ∷ [])
-  none_above m low = let number = shown.number in omega (arith, length-append h (e ∷ []), number, low)
-
-  pub still_before : (m : ℕ) → m ≤ length h → m ≤ length (h ++ e ∷ [])
-  still_before m low = omega (arith, length-append h (e ∷ []), low)
 
   -- ---- a change
 
@@ -146,21 +139,14 @@ module _ {t : House} {h : List Entry} {ts : Grove} {cs : Consents} (kept : IsKep
       let number = (found_at k 1 h o.0 o.1.found).number in
       not_reversed k 1 h (subst (λ m. reversal_of h m ≡ None) number o.1.unreversed)
 
-  kept_initiate : (k : ℕ) → e.command ≡ Initiate k → (ds : Consents) → ((m : ℕ) → given ds m ≡ cond (m == k) (given cs m ++ e.firm ∷ []) (given cs m))
-      → IsKept t (h ++ e ∷ []) ts ds
-  kept_initiate k same ds more =
-      kept_consenting (ap is_consenting same) ds
-      (λ m. more m ∙ (ap (λ fs. cond (m == k) (fs ++ e.firm ∷ []) fs) (kept.consented m) ∙ left_initiate h e k m same (open_entry k same)))
-
-  kept_decline : (k : ℕ) → e.command ≡ Decline k → (ds : Consents) → ((m : ℕ) → given ds m ≡ cond (m == k) [] (given cs m)) → IsKept t (h ++ e ∷ []) ts ds
-  kept_decline k same ds less =
-      kept_consenting (ap is_consenting same) ds (λ m. less m ∙ (ap (λ fs. cond (m == k) [] fs) (kept.consented m) ∙ left_decline h e k m same))
-
   told_by : (c : Command) → e.command ≡ c → is_consenting c ≡ true → (ds : Consents)
       → ((k m : ℕ) → e.command ≡ Initiate k → given ds m ≡ cond (m == k) (given cs m ++ e.firm ∷ []) (given cs m))
       → ((k m : ℕ) → e.command ≡ Decline k → given ds m ≡ cond (m == k) [] (given cs m)) → IsKept t (h ++ e ∷ []) ts ds
-  told_by (Initiate k) same is ds more less = kept_initiate k same ds (λ m. more k m same)
-  told_by (Decline k) same is ds more less = kept_decline k same ds (λ m. less k m same)
+  told_by (Initiate k) same is ds more less =
+      kept_consenting (ap is_consenting same) ds
+      (λ m. more k m same ∙ (ap (λ fs. cond (m == k) (fs ++ e.firm ∷ []) fs) (kept.consented m) ∙ left_initiate h e k m same (open_entry k same)))
+  told_by (Decline k) same is ds more less =
+      kept_consenting (ap is_consenting same) ds (λ m. less k m same ∙ (ap (λ fs. cond (m == k) [] fs) (kept.consented m) ∙ left_decline h e k m same))
   told_by _ same is ds more less = absurd (cc)
 
   -- a consent is given, or the consents to one reversal are taken back

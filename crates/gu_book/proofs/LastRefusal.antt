@@ -1,7 +1,8 @@
 -- The last refusal of a command that names an entry, by what a book keeps beside its history.
-use Rattle.std.proofs.Common.{◌≡◌, ℕ, Bool, true, false, not, List, [], ◌∷◌, refl, ◌∙◌, ap, Option, Some, None, option_map}
+use Rattle.std.proofs.Common.{◌≡◌, ℕ, Bool, true, not, List, [], ◌∷◌, refl, sym, ◌∙◌, ap, Option, Some, None, option_map}
 use Rattle.gu_depend.proofs.Vocabulary.{House, live, first, unless, parties_of, consents_of, is_among, is_empty, missing, consents_left, reversal_of, Command, Initiate, Decline}
 use Rattle.gu_depend.proofs.Vocabulary.{Reverse, Entry, Record, Refusal, NotAChange, AlreadyReversed, NotAParty, NeedsConsent, StandsOn, AlreadyConsented, NothingPending}
+use Rattle.gu_depend.proofs.Vocabulary.{UnknownFirm, command_refusal, entry_of, knows_firm, on_change}
 use Rattle.gu_base.proofs.Consenting.{not_reversed, left_open}
 use Rattle.gu_book.specs.Front.{IsStandingOn, own_refusal}
 use Rattle.gu_book.proofs.Vocabulary.{rest_of}
@@ -9,11 +10,8 @@ use Rattle.gu_book.proofs.Vocabulary.{rest_of}
 -- where no other refuses, the last one is that of the row
 pub last_of_row : (is : Bool) (reversal : Option Record) (party : Bool) (last : Option Refusal) → is ≡ true → reversal ≡ None → party ≡ true
     → last ≡ first (unless is NotAChange ∷ option_map (λ v. AlreadyReversed v.number) reversal ∷ unless party NotAParty ∷ last ∷ [])
-last_of_row true None true None _ _ _ = refl
-last_of_row true None true (Some x) _ _ _ = refl
-last_of_row false reversal party last is _ _ = absurd (cc)
-last_of_row true (Some v) party last _ none _ = absurd (cc)
-last_of_row true None false last _ _ party = absurd (cc)
+last_of_row is reversal party None a b c = rw (a, b, c) refl
+last_of_row is reversal party (Some x) a b c = rw (a, b, c) refl
 
 module _ (t : House) (h : List Entry) (given : ℕ → List (List ℕ)) (left : (n : ℕ) → given n ≡ consents_left h n) where
   given_open : (n : ℕ) → reversal_of h n ≡ None → given n ≡ consents_of h n
@@ -29,3 +27,24 @@ module _ (t : House) (h : List Entry) (given : ℕ → List (List ℕ)) (left : 
       ap (λ cs. first (option_map (λ f. NeedsConsent f) (missing parties cs) ∷ option_map (λ n. StandsOn n) standing ∷ [])) (given_open r.number unnamed)
       ∙ ap (λ o. first (option_map (λ f. NeedsConsent f) (missing parties (consents_of h r.number)) ∷ option_map (λ n. StandsOn n) o ∷ [])) is
   last_kept by _ r standing is unnamed = refl
+
+-- ---- the row of a command that names an entry
+
+abbrev named_row : House → List Entry → List ℕ → ℕ → Command → Option Refusal
+named_row t h by n c = first (unless (knows_firm t by) UnknownFirm ∷ on_change t h by (rest_of t h by c) (entry_of h n) ∷ [])
+
+by_kind : (t : House) (h : List Entry) (by : List ℕ) (n : ℕ) (c d : Command) → c ≡ d → named_row t h by n d ≡ command_refusal t h by d
+    → command_refusal t h by c ≡ named_row t h by n c
+by_kind t h by n c d is same = ap (command_refusal t h by) is ∙ sym (ap (named_row t h by n) is ∙ same)
+
+pub initiate_row : (t : House) (h : List Entry) (by : List ℕ) (n : ℕ) (c : Command)
+    → c ≡ Initiate n → command_refusal t h by c ≡ named_row t h by n c
+initiate_row t h by n c is = by_kind t h by n c (Initiate n) is refl
+
+pub decline_row : (t : House) (h : List Entry) (by : List ℕ) (n : ℕ) (c : Command)
+    → c ≡ Decline n → command_refusal t h by c ≡ named_row t h by n c
+decline_row t h by n c is = by_kind t h by n c (Decline n) is refl
+
+pub reverse_row : (t : House) (h : List Entry) (by : List ℕ) (n : ℕ) (c : Command)
+    → c ≡ Reverse n → command_refusal t h by c ≡ named_row t h by n c
+reverse_row t h by n c is = by_kind t h by n c (Reverse n) is refl

@@ -34,3 +34,4 @@ pub mod Crossing
 mod PartsAway
 mod Books
 mod TradesKept
+mod Keeping

@@ -1,13 +1,12 @@
 -- What holds of a list in which at most one element passes a test.
-use Rattle.std.proofs.Common.{◌≡◌, ℕ, ◌+◌, ◌≤◌, Bool, true, false, ◌&&◌, List, [], ◌∷◌, sym, ◌∙◌, ap, subst, arith, refl, Option, cond, Some, None}
+use Rattle.std.proofs.Common.{◌≡◌, ℕ, ◌+◌, ◌≤◌, Bool, true, false, ◌&&◌, List, [], ◌∷◌, sym, ◌∙◌, ap, subst, arith, refl, Option, cond, Some, None, inl, inr}
 use Rattle.std.proofs.Common.{find, sum_by, count_by, is_some, option_and_then}
 use Rattle.std.specs.Bool.{Decides}
 use Rattle.std.proofs.lemmas.List.Sums.{sum_by-cons}
 use Rattle.std.proofs.lemmas.Map.Keys.{IsDistinct-head, IsDistinct-tail}
 use Rattle.std.proofs.lemmas.Option.{same_Some}
-use Rattle.gu_base.proofs.Basics.{nothing_here}
-use Rattle.gu_depend.proofs.Finds.{count_cons, counts_none, none_counts}
-use Rattle.gu_depend.proofs.StandsUnder.{any_found}
+use Rattle.gu_base.proofs.Basics.{nothing_here, none_or_some}
+use Rattle.gu_depend.proofs.{Finds.{count_cons, counts_none, none_counts}, StandsUnder.{any_found}}
 use Rattle.gu_book.proofs.Vocabulary.{AllByRecursion, IsDistinct, list_any}
 
 -- one element more in front, that passes only where none behind it does
@@ -77,6 +76,12 @@ sum_once w p (y ∷ xs) x found once =
     let b = count_cons p y xs in
     let c = once_or_later w p y xs x (sum_once w p xs x) (p y) found (omega (arith, b, once)) in
     omega (arith, a, c)
+
+pub sum_found : {X : Type 0} (v : ℕ) (p : X → Bool) (xs : List X) → count_by p xs ≤ 1 → sum_by (λ x. cond (p x) v 0) xs ≡ cond (is_some (find p xs)) v 0
+sum_found v p xs once = elim (none_or_some (find p xs)) [
+  | inl none ↦ none_sum (λ x. v) p xs none ∙ sym (ap (λ o. cond (is_some o) v 0) none)
+  | inr x ↦ sum_once (λ x. v) p xs x.0 x.1 once ∙ sym (ap (λ o. cond (is_some o) v 0) x.1)
+]
 
 -- ---- keys
 

@@ -1,23 +1,17 @@
 -- In whatever trees a list of changes has, a node lies at one place.
-use Rattle.gu_depend.proofs.Vocabulary.{◌≡◌, ℕ, zero, suc, ◌<◌, Bool, true, Option, IsSomeAnd, List, [], ◌∷◌, ◌++◌, refl, sym, ◌∙◌, ap, subst, arith, cond, false}
+use Rattle.gu_depend.proofs.Vocabulary.{◌≡◌, ℕ, zero, suc, ◌<◌, Option, IsSomeAnd, List, [], ◌∷◌, ◌++◌, refl, sym, ◌∙◌, ap, subst, arith}
 use Rattle.gu_depend.proofs.Vocabulary.{length, same_Some, EntryPart, node_of, nodes_of, same_name, deal_in, splits, split_of, parent, House, Command, Trade, Split, Record, Place, Node}
-use Rattle.gu_depend.proofs.Vocabulary.{Root, place_of, depth_of, root_of, owns, Deal, made, name_is, node_called, first_or, refusal_parts, no_some, none_is_some}
-use Rattle.std.proofs.Common.{◌==◌, find, option_and_then, Some, None, option_map, unwrap_or, bytes_eq}
-use Rattle.gu_depend.proofs.Finds.{found_once}
-use Rattle.gu_depend.proofs.Names.{maker, made_by_split}
-use Rattle.gu_depend.proofs.Settled.{named_once}
-use Rattle.gu_book.proofs.Vocabulary.{Rose, Roses, leaf, parted, no_parts, part_then, head_of, split_of_node, node_at, Grove, tree_of, tree_in, IsPlace, IsSameGrove, HasTree, slot_of}
-use Rattle.gu_book.proofs.Vocabulary.{IsNodeOf, ArePartsOf, IsTreeOf, named_node, IsHeadOf, IsGroveOf, IsNext, AreTreesOf, IsFoundAs, IsFoundIn, Head, traded_at, held_at, held_above, Found}
-use Rattle.gu_tree.specs.Paths.{part_at, LeadsTo}
-use Rattle.gu_tree.proofs.Along.{its-head}
-use Rattle.gu_tree.proofs.Parts.{some_and, at_there, node_at-further}
-use Rattle.gu_tree.specs.ShownAll.{IsTreeIn}
-use Rattle.gu_book.specs.Found.{IsNamedIn, LiesThere, IsFoundThere}
-use Rattle.gu_book.specs.declared.found.Named.{Named}
+use Rattle.gu_depend.proofs.Vocabulary.{place_of, depth_of, root_of, Deal, made, name_is, node_called, cond_both, refusal_parts, no_some, none_is_some}
+use Rattle.std.proofs.Common.{◌==◌, find, option_and_then, Some, None, option_map}
+use Rattle.gu_depend.proofs.{Finds.{by_test, found_once}, Names.{maker, made_by_split}, Settled.named_once}
+use Rattle.gu_book.proofs.Vocabulary.{Rose, Roses, leaf, parted, no_parts, part_then, head_of, split_of_node, node_at, Grove, tree_of, IsPlace, IsSameGrove, HasTree}
+use Rattle.gu_book.proofs.Vocabulary.{IsNodeOf, ArePartsOf, IsTreeOf, named_node, IsHeadOf, IsGroveOf, IsNext, AreTreesOf, IsFoundAs, IsFoundIn, Head, held_at, held_above, Found}
+use Rattle.gu_tree.specs.{Paths.{part_at, LeadsTo}, ShownAll.IsTreeIn}
+use Rattle.gu_tree.proofs.{Along.own_head, Parts.{some_and, at_there, node_at_further}, ToldAt.told_at}
+use Rattle.gu_book.specs.{Found.{IsNamedIn, LiesThere, IsFoundThere}, declared.found.Named.Named}
 use Rattle.gu_base.proofs.NodeNames.{part_parent}
-use Rattle.gu_book.proofs.Filed.{Spot, tree_shown, spot, root_name, IsParted, parted_by}
-use Rattle.gu_book.proofs.Orders.{InOrder, names_there, in_order}
-use Rattle.gu_book.proofs.FiledChanges.{its_head, from_tree, order}
+use Rattle.gu_book.proofs.Filed.{same_filed, Spot, tree_shown, spot, root_name, parted_by}
+use Rattle.gu_book.proofs.{Orders.{InOrder, names_there, in_order}, FiledChanges.{its_head, from_tree, order}}
 
 -- the path leads to a node of this name
 abbrev Leads : List ℕ → EntryPart → Option Rose → Type 0
@@ -29,7 +23,7 @@ mutual
       → LeadsTo p u (head_of v).name
   alike l a b x t u is other [] v e =
       let same : t ≡ v = same_Some t v e in
-      (its-head l b x u other).name ∙ (sym (its-head l a x t is).name ∙ ap (λ (w : Rose). (head_of w).name) same)
+      (own_head l b x u other).name ∙ (sym (own_head l a x t is).name ∙ ap (λ (w : Rose). (head_of w).name) same)
   alike l a b x (leaf h) u is other (i ∷ p) v e = absurd (cc)
   alike l a b x (parted h n ts) (leaf k) is other (i ∷ p) v e =
       let z : Some is.1.0 ≡ None = sym is.1.1 ∙ other.1 in absurd (cc)
@@ -41,11 +35,10 @@ mutual
   parts_alike : (l : List Record) (a b : Option Place) (xs : List Node) (ts us : Roses) → ArePartsOf l a xs ts → ArePartsOf l b xs us → (i : ℕ) (p : List ℕ) (v : Rose)
       → option_and_then (node_at p) (part_at i ts) ≡ Some v → Leads p (head_of v).name (part_at i us)
   parts_alike l a b [] no_parts us is other i p v e = absurd (cc)
-  parts_alike l a b [] (part_then t ts) us is other i p v e = absurd is
-  parts_alike l a b (x ∷ xs) no_parts us is other i p v e = absurd is
   parts_alike l a b (x ∷ xs) (part_then t ts) no_parts is other i p v e = absurd other
   parts_alike l a b (x ∷ xs) (part_then t ts) (part_then u us) is other zero p v e = alike l a b x t u is.0 other.0 p v e
   parts_alike l a b (x ∷ xs) (part_then t ts) (part_then u us) is other (suc i) p v e = parts_alike l a b xs ts us is.1 other.1 i p v e
+  parts_alike l a b _ _ us is other i p v e = absurd is
 
 -- where some trees have one of a trade, all have
 there_too : {l : List Record} (k : ℕ) (o : Option Rose) → IsTreeIn l k o → (t : Rose) → IsTreeOf l k t → (u : Rose) × (o ≡ Some u)
@@ -81,25 +74,10 @@ found_there l g None o p filed is lies there = tt
 found_there l g (Some n) None p filed is lies there = let x = there n refl in let z : None ≡ Some x.0 = sym is ∙ x.1 in absurd (cc)
 found_there l g (Some n) (Some m) p filed is lies there = subst (λ (k : EntryPart). IsPlace g k m.found.trade p) is.1 (lies g filed)
 
--- groves that look alike have it there alike
-pub there_alike : (old new : Grove) (k : Option EntryPart) (o : Option Named) (p : List ℕ) → IsSameGrove old new → IsFoundThere old k o p → IsFoundThere new k o p
-there_alike old new None o p same is = tt
-there_alike old new (Some n) None p same is = absurd is
-there_alike old new (Some n) (Some m) p same is = record {
-  tree = is.tree;
-  found = (λ i. tree_in (same.trees i) (slot_of (same.slots i) m.found.trade)) ∙ is.found;
-  there = is.there;
-}
-
--- it is a place of the node that a command names
-pub its_place : {g : Grove} (k : Option EntryPart) (o : Option Named) (p : List ℕ) → IsFoundThere g k o p → (n : EntryPart) → k ≡ Some n → (m : Named) → o ≡ Some m
-    → IsPlace g n m.found.trade p
-its_place {g} k o p is n named m e = rw (named, e) at is
-
--- so that is where the node lies that the next change names
+-- that is where the node lies that the next change names
 pub named_spot : {t : House} {l : List Record} {r : Record} {g : Grove} → IsNext t l r g → (o : Option Named) (p : List ℕ) → IsFoundThere g (named_node r.command) o p
     → (n : EntryPart) → named_node r.command ≡ Some n → (m : Named) → o ≡ Some m → Spot l g m.found.trade p n
-named_spot {r = r} next o p there n named m e = spot next.filed (order next) m.found.trade p n (its_place (named_node r.command) o p there n named m e)
+named_spot {r = r} next o p there n named m e = spot next.filed (order next) m.found.trade p n (rw (named, e) at there)
 
 -- and there is one
 pub never_none : (g : Grove) (k : Option EntryPart) (o : Option Named) (p : List ℕ) → IsFoundThere g k o p → (n : EntryPart) → k ≡ Some n → o ≡ None → ⊥
@@ -110,31 +88,27 @@ pub next_there : {t : House} {l : List Record} {r : Record} {g : Grove} → IsNe
     → IsNamedIn l (named_node r.command) o → LiesThere l o p
     → IsFoundThere new (named_node r.command) o p
 next_there {t} {l} {r} {g} next new same o p named lies =
-    there_alike g new (named_node r.command) o p same
-    (found_there l g (named_node r.command) o p next.filed named lies
-    (λ n names. names_there t l r.firm r.command n (refusal_parts t l r.firm r.command next.lawful).1 names))
+    found_there l new (named_node r.command) o p (same_filed l g new same next.filed) named lies
+    (λ n names. names_there t l r.firm r.command n (refusal_parts t l r.firm r.command next.lawful).1 names)
 
 -- ---- what the trees say of a node is what the changes say of it
 
 -- a part that is found among the nodes of a Split is one of the parts in the tree
-part_step : (n : EntryPart) (y x : Node) (b : Bool) (rest : Option Node) (t : Rose) (ts : Roses) → same_name y.name n ≡ b → (head_of t).name ≡ y.name
-    → (rest ≡ Some x → (i : ℕ) × (w : Rose) × (part_at i ts ≡ Some w) × ((head_of w).name ≡ n)) → cond b (Some y) rest ≡ Some x
-    → (i : ℕ) × (w : Rose) × (part_at i (part_then t ts) ≡ Some w) × ((head_of w).name ≡ n)
-part_step n y x true rest t ts is called later h = (zero, t, refl, called ∙ name_is y.name n is)
-part_step n y x false rest t ts is called later h = let q = later h in (suc q.0, q.1, q.2, q.3)
+abbrev IsPart : EntryPart → Roses → Type 0
+IsPart n ts = (i : ℕ) × (w : Rose) × (part_at i ts ≡ Some w) × ((head_of w).name ≡ n)
 
-part_lies : (l : List Record) (a : Option Place) (n : EntryPart) (xs : List Node) (ts : Roses) (x : Node) → ArePartsOf l a xs ts → find (λ y. same_name y.name n) xs ≡ Some x
-    → (i : ℕ) × (w : Rose) × (part_at i ts ≡ Some w) × ((head_of w).name ≡ n)
+part_lies : (l : List Record) (a : Option Place) (n : EntryPart) (xs : List Node) (ts : Roses) (x : Node) → ArePartsOf l a xs ts → find (λ y. same_name y.name n) xs ≡ Some x → IsPart n ts
 part_lies l a n [] ts x are h = absurd (cc)
 part_lies l a n (y ∷ ys) no_parts x are h = absurd are
 part_lies l a n (y ∷ ys) (part_then t ts) x are h =
-    part_step n y x (same_name y.name n) (find (λ y. same_name y.name n) ys) t ts refl (its-head l a y t are.0).name (part_lies l a n ys ts x are.1) h
+    cond_both (same_name y.name n) (Some y) (find (λ y. same_name y.name n) ys) (λ o. o ≡ Some x → IsPart n (part_then t ts))
+    (λ is _. (zero, t, refl, (own_head l a y t are.0).name ∙ name_is y.name n is))
+    (λ _ later. let q = part_lies l a n ys ts x are.1 later in (suc q.0, q.1, q.2, q.3)) h
 
 -- a node without a parent is a root
 root_made : (n : EntryPart) (k : ℕ) (by : List ℕ) (c : Command) (x : Node) → find (λ x. same_name x.name n) (nodes_of k by c) ≡ Some x → parent x.kind ≡ None → root_name k ≡ n
 root_made n k by (Trade firm account instrument side lots) x h top =
-    first_or n (root_name k) (record { name = root_name k; lots = lots; kind = Root (record { firm = firm; account = account }) }) x None (root_name k ≡ n)
-    (λ is _. name_is (root_name k) n is) (λ none. absurd (cc)) (same_name (root_name k) n) refl h
+    by_test (same_name (root_name k) n) (λ is. name_is (root_name k) n is) (λ other. absurd (cc (other, h)))
 root_made n k by (Split m ps) x h top = absurd (none_is_some (parent x.kind) m top (part_parent n m k 1 by ps x h))
 root_made n k by _ x h top = absurd (cc)
 
@@ -147,19 +121,9 @@ module _ {l : List Record} {g : Grove} (are : AreTreesOf l g) where
 
   root_lies : (k : ℕ) (x : Node) → node_of l (root_name k) ≡ Some x → (o : Option Rose) → tree_of g k ≡ o → IsTreeIn l k o → IsPlace g (root_name k) k []
   root_lies k x found None e is = absurd (none_is_some (node_of l (root_name k)) x is found)
-  root_lies k x found (Some t) e is = record { tree = t; found = e; there = (its-head l None is.root t is.tree).name ∙ node_called l (root_name k) is.root is.found }
+  root_lies k x found (Some t) e is = record { tree = t; found = e; there = (own_head l None is.root t is.tree).name ∙ node_called l (root_name k) is.root is.found }
 
-  -- a part of a node lies below it
-  part_place : {trade : ℕ} {p : List ℕ} {up : EntryPart} {d : Record} (s : Spot l g trade p up) (v : IsParted l d s.node) (n : EntryPart) (i : ℕ) (w : Rose)
-      → part_at i v.parts ≡ Some w → (head_of w).name ≡ n → IsPlace g n trade (p ++ i ∷ [])
-  part_place {p = p} s v n i w at called = record {
-    tree = s.tree;
-    found = s.found;
-    there = at_there (λ u. (head_of u).name ≡ n) (node_at (p ++ i ∷ []) s.tree) w
-        (node_at-further p (i ∷ []) s.tree s.node s.at ∙ subst (λ u. node_at (i ∷ []) u ≡ Some w) (sym v.is) (ap (option_and_then (node_at [])) at)) called;
-  }
-
-  -- so a node lies below the one above it
+  -- a node lies below the one above it
   below : (n up : EntryPart) (x : Node) → node_of l n ≡ Some x → parent x.kind ≡ Some up → Lies g up → Lies g n
   below n up x found e q =
       let m = maker l n x found in
@@ -168,7 +132,8 @@ module _ {l : List Record} {g : Grove} (are : AreTreesOf l g) where
       let split = found_once (λ (d : Record). splits up d.command) l m.change m.among (made_by_split m.change n up x m.makes_it e) once in
       let v = parted_by l s.said.above s.said.node m.change s.node s.said.shown (ap (split_of l) (s.said.named ∙ s.called) ∙ split) in
       let w = part_lies l (Some v.head.place) n (made m.change) v.parts x v.are m.makes_it in
-      (q.0, q.1 ++ w.0 ∷ [], part_place s v n w.0 w.1 w.2 w.3)
+      let led = node_at_further q.1 (w.0 ∷ []) s.tree s.node s.at ∙ subst (λ u. node_at (w.0 ∷ []) u ≡ Some w.1) (sym v.is) (ap (option_and_then (node_at [])) w.2) in
+      (q.0, q.1 ++ w.0 ∷ [], record { tree = s.tree; found = s.found; there = at_there (λ u. (head_of u).name ≡ n) (node_at (q.1 ++ w.0 ∷ []) s.tree) w.1 led w.3 })
 
   -- each node that a change makes lies in a tree
   lies_by : (n : EntryPart) (x : Node) → node_of l n ≡ Some x → ((m : EntryPart) (y : Node) → node_of l m ≡ Some y → m.entry < n.entry → Lies g m)
@@ -193,11 +158,6 @@ module _ {l : List Record} {g : Grove} (are : AreTreesOf l g) where
   pub found_none : (n : EntryPart) → ((trade : ℕ) (p : List ℕ) → IsPlace g n trade p → ⊥) → node_of l n ≡ None
   found_none n never = no_some (node_of l n) (λ x e. let q = lies (suc n.entry) n x e (omega arith) in never q.0 q.1 q.2)
 
-split_told : (l : List Record) (above : Option Place) (x : Node) (v : Rose) → IsNodeOf l above x v
-    → option_map (λ (p : ℕ × ℕ). p.0) (split_of_node v) ≡ option_map (λ (r : Record). r.number) (split_of l x.name)
-split_told l above x (leaf h) is = sym (ap (option_map (λ (r : Record). r.number)) is.1)
-split_told l above x (parted h n ts) is = sym (ap (option_map (λ (r : Record). r.number)) is.1.1 ∙ ap (λ (k : ℕ). Some k) is.1.2)
-
 -- the node that was looked up at a place is found as the changes say
 pub found_spot : {l : List Record} {g : Grove} → AreTreesOf l g → (n : EntryPart) (trade : ℕ) (p : List ℕ) (u : Rose) (f : Found) (o : Option (ℕ × ℕ)) → IsPlace g n trade p
     → HasTree g trade (λ t. node_at p t ≡ Some u)
@@ -216,25 +176,20 @@ found_spot {l} {g} are n trade p u f o place at here deep its parts split =
         state = is.state;
         deep = ap (depth_of l) s.said.named ∙ (s.said.deep ∙ deep);
         rooted = ap (root_of l) s.said.named ∙ (s.said.rooted ∙ ap (λ (k : ℕ). Some (root_name k)) (sym its));
-        split = split ∙ (ap (option_map (λ (q : ℕ × ℕ). q.0)) (parts ∙ ap split_of_node (sym same)) ∙ split_told l s.said.above s.said.node s.node s.said.shown);
+        split = cc (split, parts, same, (told_at l trade s.tree s.shown p s.node s.at).split, s.said.named);
       },
     )
 
 -- ---- what is asked of what was found
 
 module _ {l : List Record} {x : Node} {f : Found} (is : IsFoundAs l x f) where
-  pub owned_as : (by : List ℕ) → owns l by x.name ≡ bytes_eq f.head.place.firm by
-  owned_as by = ap (λ o. unwrap_or (option_map (λ owner. bytes_eq owner by) (option_map (λ (p : Place). p.firm) o)) false) is.place
-
-  -- and where the node above it stands
+  -- where the node above it stands
   pub above_as : (y : Node) (b : Found) (m : EntryPart) → IsFoundAs l y b → y.name ≡ m → parent x.kind ≡ Some m → (w : Option Deal)
       → w ≡ option_and_then (λ (r : Record). deal_in r.command) (find (λ (r : Record). r.number == f.trade) l) → held_at (Some b.head.place) w f.head.lots ≡ held_above l x
   above_as y b m over called up w e =
       let of_root : EntryPart → Option Deal = λ root. option_and_then (λ (r : Record). deal_in r.command) (find (λ (r : Record). r.number == root.entry) l) in
       let place : option_and_then (place_of l) (parent x.kind) ≡ Some b.head.place = ap (option_and_then (place_of l)) up ∙ (ap (place_of l) (sym called) ∙ over.place) in
-      ap (λ w. held_at (Some b.head.place) w f.head.lots) (e ∙ ap (option_and_then of_root) (sym is.rooted))
-      ∙ (ap (λ o. held_at o (traded_at l x.name) f.head.lots) (sym place)
-      ∙ ap (held_at (option_and_then (place_of l) (parent x.kind)) (traded_at l x.name)) is.lots)
+      cc (e, ap (option_and_then of_root) (sym is.rooted), place, is.lots)
 
 -- the node that was found is the one that the changes make
 pub found_node : {l : List Record} {n : EntryPart} {f : Found} → (q : IsFoundIn l n (Some f)) → node_of l n ≡ Some q.0

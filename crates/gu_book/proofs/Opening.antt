@@ -1,10 +1,10 @@
 -- The calls of an opening, made one after the other.
-use Rattle.std.proofs.Common.{◌≡◌, ℕ, suc, ◌+◌, ◌≤◌, ◌<◌, zero, List, [], ◌∷◌, length, drop, refl, sym, ◌∙◌, ap, subst, arith, Option, Some, None, slice_get}
+use Rattle.std.proofs.Common.{◌≡◌, ℕ, suc, ◌+◌, ◌≤◌, ◌<◌, List, [], ◌∷◌, length, drop, refl, sym, ◌∙◌, ap, subst, arith, Option, Some, None, slice_get, get_or}
 use Rattle.std.proofs.Common.{IsSomeAnd}
 use Rattle.std.proofs.Math.Seq.{drop-cons}
 use Rattle.std.proofs.lemmas.List.{drop_all}
-use Rattle.std.proofs.lemmas.Option.{slice_get_within, get_or_from_slice_get}
-use Rattle.gu_depend.proofs.Vocabulary.{House, Call, after, after_all, opening_from, opening_calls, opening_history, Entry, Agreement, Pair}
+use Rattle.std.proofs.lemmas.Option.{slice_get_within, slice_get-get_or, get_or_from_slice_get}
+use Rattle.gu_depend.proofs.Vocabulary.{House, Call, after, after_all, opening_from, opening_calls, opening_history, Reverse, Entry, Agreement, Pair, none_is_some}
 use Rattle.gu_book.specs.Seen.{HouseAndHistory}
 
 -- with one of the calls made, those behind it are left
@@ -20,13 +20,11 @@ call_count : (t : House) (i : ℕ) (es : List (Pair × Agreement)) → length (o
 call_count t i [] = refl
 call_count t i (e ∷ es) = let rest = call_count t (i + 1) es in omega (arith, rest)
 
-before_end : {A : Type 0} (xs : List A) (i : ℕ) → i < length xs → slice_get xs i ≡ None → ⊥
-before_end [] i within absent = omega arith
-before_end (x ∷ xs) zero within absent = cc
-before_end (x ∷ xs) (suc i) within absent = before_end xs i (omega arith) absent
-
 pub call_there : (t : House) (i : ℕ) → i < length t.opening → slice_get (opening_calls t) i ≡ None → ⊥
-call_there t i within = let count = call_count t 1 t.opening in before_end (opening_calls t) i (omega (arith, count, within))
+call_there t i within absent =
+    let count = call_count t 1 t.opening in
+    let none : Call = record { firm = []; id = []; command = Reverse 0 } in
+    none_is_some (slice_get (opening_calls t) i) (get_or (opening_calls t) i none) absent (slice_get-get_or (opening_calls t) i none (omega (arith, count, within)))
 
 -- the calls from this place on make the opening history of the entries that there are
 abbrev pub IsOpenedTo : HouseAndHistory → ℕ → Type 0

@@ -1,22 +1,19 @@
 -- Of what a split moves, the lots of the parts that stay where the whole stood cancel: the others alone have to be moved.
 use Rattle.std.proofs.Common.{◌≡◌, ℕ, ◌+◌, ◌≤◌, Bool, true, false, not, ◌&&◌, ◌||◌, List, [], ◌∷◌, refl, sym, ◌∙◌, ap, subst, arith, Option, cond, Some, None}
-use Rattle.std.proofs.Common.{IsSome, map, find, filter_map, sum_by, is_some, unwrap_or, option_map, option_and_then, bytes_eq, ◌==◌}
-use Rattle.gu_book.proofs.Vocabulary.{cons_option, list_any, PositionRows, is_key, Key, Grove, IsPlace, IsGroveOf, IsFoundAs, traded_at, held_at, holding_of, part_holding, holding_away, part_away}
+use Rattle.std.proofs.Common.{IsSome, map, find, filter_map, sum_by, unwrap_or, option_map, option_and_then, bytes_eq, ◌==◌}
+use Rattle.gu_book.proofs.Vocabulary.{cons_option, PositionRows, is_key, Key, Grove, IsPlace, IsGroveOf, IsFoundAs, traded_at, held_at, holding_of, part_holding, holding_away, part_away}
 use Rattle.gu_book.proofs.Vocabulary.{counted_at, taken_at, HaveMoved, is_trade, is_live_trade, Found, Holding}
-use Rattle.std.proofs.lemmas.Bool.{eqb-true}
+use Rattle.std.proofs.lemmas.Bool.{eqb-true, and_parts}
 use Rattle.std.proofs.lemmas.List.Sums.{sum_by-cons}
 use Rattle.std.proofs.lemmas.Option.{same_Some}
 use Rattle.std.proofs.lemmas.Slice.Eq.{bytes_eq-Decides}
 use Rattle.gu_depend.proofs.Vocabulary.{House, knows_account, RisesFrom, EntryPart, deal_in, node_of, place_of, first, owns, refusal_of, refusal_of_part, split_row, knows_own_account, Part, Side}
 use Rattle.gu_depend.proofs.Vocabulary.{Command, Trade, Split, Record, Deal, Node, Place, same_side}
-use Rattle.gu_base.proofs.Accepted.{first_none}
+use Rattle.gu_depend.proofs.{Replay.{number_once}, StandsUnder.{any_found, rises_distinct}, Finds.{found_once}}
+use Rattle.gu_base.proofs.{Accepted.{first_none}, Searches.{found_in, find_passes}}
 use Rattle.gu_base.proofs.Passing.{at_node_none, split_passes, part_passes, refusal_parts}
-use Rattle.gu_depend.proofs.Replay.{number_once}
-use Rattle.gu_depend.proofs.StandsUnder.{rises_distinct}
 use Rattle.gu_book.specs.Holdings.{lots_told}
-use Rattle.gu_book.proofs.Filed.{live_at}
-use Rattle.gu_book.proofs.Holdings.{counts_or}
-use Rattle.gu_book.proofs.Once.{asked, one_found}
+use Rattle.gu_book.proofs.{Filed.{live_at}, Holdings.{counts_or}, Leaves.{cond_same}}
 
 -- ---- sums
 
@@ -27,10 +24,6 @@ lots_or (Some h) hs = sum_by-cons (λ (h : Holding). h.lots) h hs
 both_counted : (w : Bool) (a b : ℕ) → cond w (a + b) 0 ≡ cond w a 0 + cond w b 0
 both_counted true a b = refl
 both_counted false a b = refl
-
-none_counted : (w : Bool) → ◌≡◌ {A = ℕ} (cond w 0 0) 0
-none_counted true = refl
-none_counted false = refl
 
 -- ---- one part
 
@@ -50,11 +43,8 @@ own_moves whole by a n home at side true e =
     let key : holding_away whole by a n ≡ at_whole whole n =
     ap (λ f. holding_away whole f a n) (sym home) ∙ ap (λ x. holding_away whole whole.key.firm x n) here in
     let same = ap (counted_at at side) key in
-    let nothing = none_counted (is_key whole.key at && same_side whole.side side) in
+    let nothing = cond_same 0 (is_key whole.key at && same_side whole.side side) in
     omega (arith, same, nothing)
-
-given_moves : (whole : Holding) (n : ℕ) (at : Key) (side : Side) → counted_at at side (at_whole whole n) + counted_at at side (at_whole whole 0) ≡ 0 + counted_at at side (at_whole whole n)
-given_moves whole n at side = let nothing = none_counted (is_key whole.key at && same_side whole.side side) in omega (arith, nothing)
 
 abbrev holding_told : (whole : Holding) (by : List ℕ) (o : Option (List ℕ)) (n : ℕ) → Bool → Option Holding
 holding_told whole by o n b = cond b (option_map (λ a. holding_away whole by a n) o) (Some (at_whole whole n))
@@ -66,7 +56,7 @@ moves_told : (t : House) (whole : Holding) (by : List ℕ) (o : Option (List ℕ
     → (not b || unwrap_or (option_map (knows_account t by) o) false) ≡ true
     → taken_at at side (holding_told whole by o n b) + counted_at at side (at_whole whole (lots_told (elsewhere_told whole by o n b)))
     ≡ taken_at at side (elsewhere_told whole by o n b) + counted_at at side (at_whole whole n)
-moves_told t whole by o n home at side false known = given_moves whole n at side
+moves_told t whole by o n home at side false known = let nothing = cond_same 0 (is_key whole.key at && same_side whole.side side) in omega (arith, nothing)
 moves_told t whole by None n home at side true known = absurd (cc)
 moves_told t whole by (Some a) n home at side true known = own_moves whole by a n home at side (bytes_eq a whole.key.account) refl
 
@@ -86,24 +76,19 @@ few_told whole by (Some a) n true = few_away whole by a n (bytes_eq a whole.key.
 
 -- ---- all parts
 
--- where each part gives no more lots than its own, all give no more than those of all
-pub few_given : (f : Part → Option Holding) → ((p : Part) → lots_told (f p) ≤ p.lots) → (ps : List Part)
-    → sum_by (λ (h : Holding). h.lots) (filter_map f ps) ≤ sum_by (λ (p : Part). p.lots) ps
-few_given f few [] = omega arith
-few_given f few (p ∷ ps) =
-    let a = lots_or (f p) (filter_map f ps) in
-    let b = few p in
-    let c = few_given f few ps in
-    let d = sum_by-cons (λ (p : Part). p.lots) p ps in
-    omega (arith, a, b, c, d)
-
 -- the lots that go elsewhere
 abbrev pub moved : Holding → List ℕ → List Part → ℕ
 moved whole by ps = sum_by (λ (h : Holding). h.lots) (filter_map (part_away whole by) ps)
 
 -- are no more than those of all parts
 pub moved_few : (whole : Holding) (by : List ℕ) (ps : List Part) → moved whole by ps ≤ sum_by (λ (p : Part). p.lots) ps
-moved_few whole by = few_given (part_away whole by) (λ p. few_told whole by p.account p.lots (bytes_eq p.firm by))
+moved_few whole by [] = omega arith
+moved_few whole by (p ∷ ps) =
+    let a = lots_or (part_away whole by p) (filter_map (part_away whole by) ps) in
+    let b = few_told whole by p.account p.lots (bytes_eq p.firm by) in
+    let c = moved_few whole by ps in
+    let d = sum_by-cons (λ (p : Part). p.lots) p ps in
+    omega (arith, a, b, c, d)
 
 -- what all parts hold, less the lots of the whole, is what goes elsewhere, less so many lots where the whole stood
 pub parts_move : (t : House) (whole : Holding) (by : List ℕ) (ps : List Part) → whole.key.firm ≡ by → first (map (refusal_of_part t by) ps) ≡ None → (at : Key) (side : Side)
@@ -125,29 +110,22 @@ parts_move t whole by (p ∷ ps) home fine at side =
 
 -- ---- what a node that is named holds
 
-any_here : {X : Type 0} (p : X → Bool) (x : X) (xs : List X) → list_any p xs ≡ is_some (find p xs) → (b : Bool) → (b || list_any p xs) ≡ is_some (cond b (Some x) (find p xs))
-any_here p x xs rest true = refl
-any_here p x xs rest false = rest
-
-any_found : {X : Type 0} (p : X → Bool) (xs : List X) → list_any p xs ≡ is_some (find p xs)
-any_found p [] = refl
-any_found p (x ∷ xs) = any_here p x xs (any_found p xs) (p x)
-
 deal_of : (c : Command) → is_trade c ≡ true → (d : Deal) × (deal_in c ≡ Some d)
 deal_of (Trade _ _ instrument side _) is = (record { instrument = instrument; side = side }, refl)
 deal_of _ is = absurd (cc)
-
-deal_asked : (o : Option Record) → asked (λ (r : Record). is_trade r.command) o ≡ true → (d : Deal) × (option_and_then (λ (r : Record). deal_in r.command) o ≡ Some d)
-deal_asked None is = absurd (cc)
-deal_asked (Some r) is = deal_of r.command is
 
 -- a live trade trades something
 deal_there : (l : List Record) (k : ℕ) → RisesFrom 1 l → is_live_trade l k ≡ true
     → (d : Deal) × (option_and_then (λ (r : Record). deal_in r.command) (find (λ (r : Record). r.number == k) l) ≡ Some d)
 deal_there l k rises live =
-    let once = number_once l (rises_distinct 1 l rises) k in
-    deal_asked (find (λ (r : Record). r.number == k) l)
-    (sym (one_found (λ (r : Record). r.number == k) (λ (r : Record). is_trade r.command) l once) ∙ (sym (any_found (λ (r : Record). (r.number == k) && is_trade r.command) l) ∙ live))
+    let own : Record → Bool = λ r. (r.number == k) && is_trade r.command in
+    let r = any_found own l live in
+    let passes = and_parts (r.0.number == k) (is_trade r.0.command) (find_passes own l r.0 r.1) in
+    let d = deal_of r.0.command passes.1 in (
+      d.0,
+      ap (option_and_then (λ (r : Record). deal_in r.command))
+          (found_once (λ (r : Record). r.number == k) l r.0 (found_in own l r.0 r.1) passes.0 (number_once l (rises_distinct 1 l rises) k)) ∙ d.1,
+    )
 
 -- so each node that was found holds something
 pub holds_some : {l : List Record} {g : Grove} → IsGroveOf l g → RisesFrom 1 l → {x : Node} {f : Found} {p : List ℕ} → IsFoundAs l x f → IsPlace g x.name f.trade p

@@ -1,50 +1,40 @@
 -- A reversal for which all is ready is accepted, and what a refused one names.
-use Rattle.std.proofs.Common.{◌≡◌, ℕ, ◌+◌, Bool, true, false, not, ◌||◌, List, [], ◌∷◌, ◌++◌, length, refl, sym, ◌∙◌, ap, subst, Option, cond, inl, inr}
+use Rattle.std.proofs.Common.{◌≡◌, ℕ, ◌+◌, Bool, true, false, not, List, [], ◌∷◌, ◌++◌, length, refl, sym, ◌∙◌, ap, subst, Option, cond, inl, inr}
 use Rattle.std.proofs.Common.{◌⊎◌, Some, None, IfSome, find, nat_lt, option_map, bytes_eq}
-use Rattle.gu_book.proofs.Vocabulary.{AllByRecursion, list_any}
-use Rattle.std.proofs.lemmas.Bool.{lt-ltb, not-true, and_parts, or_cases, or_parts}
-use Rattle.std.proofs.lemmas.List.Elements.{All-head, All-tail}
+use Rattle.gu_book.proofs.Vocabulary.{AllByRecursion}
+use Rattle.std.proofs.lemmas.Bool.{lt-ltb, not-true, and_parts, or_parts}
 use Rattle.std.proofs.lemmas.Slice.Eq.{bytes_eq-Decides}
-use Rattle.gu_depend.proofs.Vocabulary.{House, knows_firm, numbered_as, numbered_from, records, is_change, is_reverse_of, is_reversed, live, refusal_of, first, unless, bytes_same}
+use Rattle.gu_depend.proofs.Vocabulary.{House, knows_firm, numbered_as, numbered_from, records, is_change, is_reverse_of, is_reversed, live, refusal_of, first, unless}
 use Rattle.gu_depend.proofs.Vocabulary.{first_refused, standing_on, parties_of, consents_of, is_among, missing, Call, answer_to, answer_by, accepted_or, entry_of, reversal_of, on_change}
-use Rattle.gu_depend.proofs.Vocabulary.{initiate_rest, reverse_rest, command_refusal, is_same_id, is_same_call, after_all, Initiate, Reverse, Accepted, Entry, Record, Refusal, UnknownFirm}
-use Rattle.gu_depend.proofs.Vocabulary.{NotAChange, AlreadyReversed, NotAParty, NeedsConsent, StandsOn, DuplicateId, BookFull, AlreadyConsented, State, ReversalPending, Reversed}
+use Rattle.gu_depend.proofs.Vocabulary.{initiate_rest, reverse_rest, command_refusal, is_same_id, is_same_call, after_all, Initiate, Reverse, Entry, Record, Refusal, UnknownFirm}
+use Rattle.gu_depend.proofs.Vocabulary.{NotAChange, AlreadyReversed, NotAParty, NeedsConsent, StandsOn, DuplicateId, BookFull, AlreadyConsented, State, Reversed}
+use Rattle.gu_depend.proofs.StandsUnder.{any_found}
 use Rattle.gu_base.specs.declared.entry.Answer.TheVariants.{Refused}
-use Rattle.gu_base.proofs.LiveLaws.{is_live}
-use Rattle.gu_base.proofs.LegalLaws.{first_refused-cut}
+use Rattle.gu_base.proofs.{LiveLaws.{is_live}, Opening.{answer_is, knows_itself}, Searches.{find_has, find_passes}}
+use Rattle.gu_base.proofs.{LegalLaws.{first_refused_cut}, RunLaws.{run_all}, Numbered.{listed, found_at}}
 use Rattle.gu_book.specs.Headline.{IsAcceptedWhereReady, IsConsentAccepted, IsNewestUndone, NamedBy, IsNamed}
-use Rattle.gu_base.proofs.RunLaws.{run_all}
-use Rattle.gu_base.proofs.Numbered.{listed, found_at}
-use Rattle.gu_book.proofs.LookedUp.{no_call}
-use Rattle.gu_book.proofs.Placed.{change_known, firms_known}
-use Rattle.gu_book.proofs.Parties.{AllPass, parties_pass}
+use Rattle.gu_book.proofs.{LookedUp.{no_call}, Placed.{change_known, firms_known}, Parties.{AllPass, parties_pass}}
 use Rattle.gu_book.proofs.Restored.{newest_is_free}
 
 -- ---- the parties of a live change are firms of the house table
-
-house_known : (t : House) → knows_firm t t.house ≡ true
-house_known t = ap (λ b. b || list_any (bytes_eq t.house) t.firms) (bytes_same t.house)
 
 parties_known : (t : House) (l before : List Record) (r : Record) → first_refused t [] l ≡ None → refusal_of t before r.firm r.command ≡ None
     → AllPass (knows_firm t) (parties_of t l r.firm r.command)
 parties_known t l before r none accepted =
     let known = change_known t before r accepted in
-    parties_pass (knows_firm t) t l r.firm r.command (house_known t) known.by known.named (firms_known t l none)
+    parties_pass (knows_firm t) t l r.firm r.command (knows_itself t) known.by known.named (firms_known t l none)
 
 among_known : (t : House) (by : List ℕ) (firms : List (List ℕ)) → AllPass (knows_firm t) firms → is_among by firms ≡ true → knows_firm t by ≡ true
-among_known t by [] all h = absurd (cc)
-among_known t by (f ∷ firms) all h =
-    elim (or_cases (bytes_eq by f) (is_among by firms) h) [
-      | inl here ↦ subst (λ g. knows_firm t g ≡ true) (sym ((bytes_eq-Decides by f).0 here)) (All-head (λ f. knows_firm t f ≡ true) f firms all)
-      | inr later ↦ among_known t by firms (All-tail (λ f. knows_firm t f ≡ true) f firms all) later
-    ]
+among_known t by firms all h =
+    let f = any_found (bytes_eq by) firms h in
+    subst (λ g. knows_firm t g ≡ true) (sym ((bytes_eq-Decides by f.0).0 (find_passes (bytes_eq by) firms f.0 f.1))) (find_has (λ f. knows_firm t f ≡ true) (bytes_eq by) firms f.0 all f.1)
 
 party_known : (t : House) (calls : List Call) (before after : List Record) (r : Record) (by : List ℕ) → live (after_all t [] calls) ≡ before ++ r ∷ after
     → is_among by (parties_of t (live (after_all t [] calls)) r.firm r.command) ≡ true → knows_firm t by ≡ true
 party_known t calls before after r by same party =
     let l = live (after_all t [] calls) in
     let run = run_all t calls in
-    let lawful = first_refused-cut t [] before r after (subst (λ l. first_refused t [] l ≡ None) same run.replayed) in
+    let lawful = first_refused_cut t [] before r after (subst (λ l. first_refused t [] l ≡ None) same run.replayed) in
     among_known t by (parties_of t l r.firm r.command) (parties_known t l before r run.replayed lawful) party
 
 -- ---- a reversal that nothing refuses
@@ -62,10 +52,6 @@ all_clear : (known is party : Bool) (reversal : Option Record) (lack : Option (L
     ∷ first (option_map (λ f. NeedsConsent f) lack ∷ option_map (λ n. StandsOn n) stands ∷ []) ∷ []) ∷ []) ≡ None
 all_clear known is party reversal lack stands a b c d e f = rw (a, b, c, d, e, f) refl
 
-answered : (same dup : Option Record) (number : ℕ) (status : State) (room : Bool) (o : Option Refusal) → same ≡ None → dup ≡ None → room ≡ true → o ≡ None
-    → answer_by same dup (accepted_or number status (first (unless room BookFull ∷ o ∷ []))) ≡ Accepted number status
-answered same dup number status room o a b c d = rw (a, b, c, d) refl
-
 pub accepted_where_ready : (t : House) → IsAcceptedWhereReady t
 accepted_where_ready t calls before after r by id same ready fresh room =
     let h = after_all t [] calls in
@@ -75,11 +61,8 @@ accepted_where_ready t calls before after r by id same ready fresh room =
     let known = party_known t calls before after r by same ready.party in
     let clear : command_refusal t h by (Reverse r.number) ≡ None =
     ap (λ o. first (unless (knows_firm t by) UnknownFirm ∷ on_change t h by (reverse_rest t h) o ∷ [])) at.found
-    ∙ all_clear (knows_firm t by) (is_change r.command) (is_among by (parties_of t (live h) r.firm r.command)) (reversal_of h r.number)
-    (missing (parties_of t (live h) r.firm r.command) (consents_of h r.number)) (standing_on t (live h) r.number)
-    known passes.0 ready.party (none_reverses r.number 1 h (not-true (is_reversed h r.number) passes.1)) ready.agreed ready.free in
-    answered (find (is_same_call call) (records h)) (find (is_same_id call) (records h)) (length h + 1) Reversed (nat_lt (length h) 1000000) (command_refusal t h by (Reverse r.number))
-    (no_call call (records h) fresh) fresh (lt-ltb (length h) 1000000 room) clear
+    ∙ all_clear _ _ _ _ _ _ known passes.0 ready.party (none_reverses r.number 1 h (not-true (is_reversed h r.number) passes.1)) ready.agreed ready.free in
+    answer_is _ _ _ _ _ _ (no_call call (records h) fresh) fresh (lt-ltb (length h) 1000000 room) clear
 
 initiate_clear : (known is party given : Bool) (reversal : Option Record) → known ≡ true → is ≡ true → party ≡ true → reversal ≡ None → given ≡ false
     → first (unless known UnknownFirm
@@ -95,10 +78,8 @@ consent_accepted t calls before after r by id same party lacks fresh room =
     let known = party_known t calls before after r by same party in
     let clear : command_refusal t h by (Initiate r.number) ≡ None =
     ap (λ o. first (unless (knows_firm t by) UnknownFirm ∷ on_change t h by (initiate_rest h by) o ∷ [])) at.found
-    ∙ initiate_clear (knows_firm t by) (is_change r.command) (is_among by (parties_of t (live h) r.firm r.command)) (is_among by (consents_of h r.number)) (reversal_of h r.number)
-    known passes.0 party (none_reverses r.number 1 h (not-true (is_reversed h r.number) passes.1)) lacks in
-    answered (find (is_same_call call) (records h)) (find (is_same_id call) (records h)) (length h + 1) ReversalPending (nat_lt (length h) 1000000) (command_refusal t h by (Initiate r.number))
-    (no_call call (records h) fresh) fresh (lt-ltb (length h) 1000000 room) clear
+    ∙ initiate_clear _ _ _ _ _ known passes.0 party (none_reverses r.number 1 h (not-true (is_reversed h r.number) passes.1)) lacks in
+    answer_is _ _ _ _ _ _ (no_call call (records h) fresh) fresh (lt-ltb (length h) 1000000 room) clear
 
 pub newest_undone : (t : House) → IsNewestUndone t
 newest_undone t calls before r by id same party agreed fresh room =

@@ -1,18 +1,15 @@
 -- What a reversal does over any list of calls.
-use Rattle.gu_depend.proofs.Vocabulary.{◌≡◌, ℕ, ◌+◌, ◌<◌, ◌≤◌, Bool, true, false, List, [], ◌∷◌, ◌++◌, length, refl, sym, ◌∙◌, ap, subst, arith, Option}
-use Rattle.gu_depend.proofs.Vocabulary.{cond, append-nil, append_assoc, inl, inr, map, All, and_parts, All-head, All-tail, House, numbered_as, is_change, live, RisesFrom, refusal_of}
-use Rattle.gu_depend.proofs.Vocabulary.{first_refused, standing_on, without, Call, answer_to, after, after_by, is_accepted, after_all, call_of, IsRunFrom, Reverse, Answer, Accepted, Entry}
+use Rattle.gu_depend.proofs.Vocabulary.{◌≡◌, ℕ, ◌+◌, ◌<◌, ◌≤◌, true, List, [], ◌∷◌, ◌++◌, length, refl, sym, ◌∙◌, ap, subst, arith}
+use Rattle.gu_depend.proofs.Vocabulary.{cond, cond_both, same_Some, append-nil, append_assoc, map, All, and_parts, All-head, All-tail, House, numbered_as, is_change, live, RisesFrom, refusal_of}
+use Rattle.gu_depend.proofs.Vocabulary.{first_refused, standing_on, without, Call, answer_to, after, after_by, is_accepted, after_all, call_of, IsRunFrom, Answer, Accepted, Entry}
 use Rattle.gu_depend.proofs.Vocabulary.{Record, is_consenting, legal_from_replay, none_refused, replay_front}
-use Rattle.std.proofs.Common.{◌⊎◌, Some, None, is_some}
+use Rattle.std.proofs.Common.{Some, None, is_some}
 use Rattle.std.specs.List.{list_all}
 use Rattle.gu_base.proofs.LiveLaws.{live_push_change, live_push_reverse, live_push_consent, live_below, without_last}
-use Rattle.gu_book.specs.Headline.{IsLawful, Restores, TakesOut, StandsLater}
 use Rattle.gu_base.proofs.RunLaws.{run_all}
-use Rattle.gu_book.proofs.Leaves.{live_rises, at_least}
-use Rattle.gu_depend.proofs.Replay.{number_once}
-use Rattle.gu_depend.proofs.StandsLast.{gone}
-use Rattle.gu_depend.proofs.StandsUnder.{rises_distinct}
-use Rattle.gu_book.proofs.Orders.{earlier}
+use Rattle.gu_book.specs.Headline.{IsLawful, Restores, TakesOut, StandsLater}
+use Rattle.gu_book.proofs.{Leaves.{live_rises}, Orders.{earlier}}
+use Rattle.gu_depend.proofs.{Replay.{number_once}, StandsLast.{gone}, StandsUnder.{rises_above, rises_distinct}}
 
 pub lawful : (t : House) → IsLawful t
 lawful t calls = legal_from_replay t (live (after_all t [] calls)) ((run_all t calls).replayed)
@@ -36,37 +33,32 @@ pub record IsAdded (t : House) (h : List Entry) (c : Call) (e : Entry) : Type 0 
   pub command : e.command ≡ c.command
   pub longer : after t h c ≡ h ++ e ∷ []
 
-added_by : (t : House) (h : List Entry) (c : Call) (a : Answer) → answer_to t h c ≡ a → is_accepted a ≡ true → (e : Entry) × IsAdded t h c e
-added_by t h c (Accepted n s) same ok = (record { firm = c.firm; id = c.id; command = c.command; status = s }, record { command = refl; longer = ap (after_by h c) same })
-added_by t h c _ same ok = absurd (cc)
-
-added : (t : House) (h : List Entry) (c : Call) → is_accepted (answer_to t h c) ≡ true → (e : Entry) × IsAdded t h c e
-added t h c ok = added_by t h c (answer_to t h c) refl ok
-
-taken_out : (t : House) (h : List Entry) (c : Call) (k : ℕ) → c.command ≡ Reverse k → is_accepted (answer_to t h c) ≡ true → live (after t h c) ≡ without (live h) k
-taken_out t h c k same ok =
-    let a = added t h c ok in
-    ap live a.1.longer ∙ live_push_reverse h a.0 k (a.1.command ∙ same)
+added : (t : House) (h : List Entry) (c : Call) (a : Answer) → answer_to t h c ≡ a → is_accepted a ≡ true → (e : Entry) × IsAdded t h c e
+added t h c (Accepted n s) same ok = (record { firm = c.firm; id = c.id; command = c.command; status = s }, record { command = refl; longer = ap (after_by h c) same })
+added t h c _ same ok = absurd (cc)
 
 pub takes_out : (t : House) → TakesOut t
-takes_out t calls reversal k same ok = ap live (after_more t [] calls (reversal ∷ [])) ∙ taken_out t (after_all t [] calls) reversal k same ok
+takes_out t calls reversal k same ok =
+    let h = after_all t [] calls in
+    let a = added t h reversal (answer_to t h reversal) refl ok in
+    ap live (after_more t [] calls (reversal ∷ []) ∙ a.1.longer) ∙ live_push_reverse h a.0 k (a.1.command ∙ same)
 
 -- Initiates and Declines leave the live changes
-consent_step : (t : House) (h : List Entry) (c : Call) (a : Answer) → answer_to t h c ≡ a → is_consenting c.command ≡ true → live (after_by h c a) ≡ live h
-consent_step t h c (Accepted n s) same consent = live_push_consent h (record { firm = c.firm; id = c.id; command = c.command; status = s }) consent
-consent_step t h c _ same consent = refl
+consent_step : (h : List Entry) (c : Call) (a : Answer) → is_consenting c.command ≡ true → live (after_by h c a) ≡ live h
+consent_step h c (Accepted n s) consent = live_push_consent h (record { firm = c.firm; id = c.id; command = c.command; status = s }) consent
+consent_step h c _ consent = refl
 
 consents_keep : (t : House) (h : List Entry) (cs : List Call) → list_all (λ c. is_consenting c.command) cs ≡ true → live (after_all t h cs) ≡ live h
 consents_keep t h [] all = refl
 consents_keep t h (c ∷ cs) all =
     let p = and_parts (is_consenting c.command) (list_all (λ c. is_consenting c.command) cs) all in
-    consents_keep t (after t h c) cs p.1 ∙ consent_step t h c (answer_to t h c) refl p.0
+    consents_keep t (after t h c) cs p.1 ∙ consent_step h c (answer_to t h c) p.0
 
 pub restores : (t : House) → Restores t
 restores t calls between change reversal is ok consents names undone =
     let h = after_all t [] calls in
     let run = run_all t calls in
-    let a = added t h change ok in
+    let a = added t h change (answer_to t h change) refl ok in
     let e = a.0 in
     let more = live_push_change h e (ap is_change a.1.command ∙ is) (run.behind (1 + length h) (omega arith)) in
     let longer : live (after_all t [] (calls ++ change ∷ between)) ≡ live h ++ numbered_as (1 + length h) e ∷ [] =
@@ -103,18 +95,12 @@ replay_on t done (d ∷ l) m h =
     ap (λ o. cond (is_some o) (Some d.number) (first_refused t (done ++ d ∷ []) (l ++ m))) p.0
     ∙ (replay_on t (done ++ d ∷ []) l m p.1 ∙ ap (λ b. first_refused t b m) (append_assoc done (d ∷ []) l))
 
-stops_here : (b : Bool) (n m : ℕ) (rest : Option ℕ) → cond b (Some n) rest ≡ Some m → (n ≡ m) ⊎ (rest ≡ Some m)
-stops_here true n m rest h = inl (cc)
-stops_here false n m rest h = inr h
-
 refused_above : (t : House) (k : ℕ) (done l : List Record) (n : ℕ) → All (λ d. k ≤ d.number) l → first_refused t done l ≡ Some n → k ≤ n
 refused_above t k done [] n all h = absurd (cc)
 refused_above t k done (d ∷ l) n all h =
-    let here : k ≤ d.number = All-head (λ (d : Record). k ≤ d.number) d l all in
-    elim (stops_here (is_some (refusal_of t done d.firm d.command)) d.number n (first_refused t (done ++ d ∷ []) l) h) [
-      | inl same ↦ omega arith
-      | inr later ↦ refused_above t k (done ++ d ∷ []) l n (All-tail (λ (d : Record). k ≤ d.number) d l all) later
-    ]
+    cond_both (is_some (refusal_of t done d.firm d.command)) (Some d.number) (first_refused t (done ++ d ∷ []) l) (λ o. o ≡ Some n → k ≤ n)
+    (λ refused e. subst (λ m. k ≤ m) (same_Some d.number n e) (All-head (λ (d : Record). k ≤ d.number) d l all))
+    (λ accepted later. refused_above t k (done ++ d ∷ []) l n (All-tail (λ (d : Record). k ≤ d.number) d l all) later) h
 
 pub stands_later : (t : House) → StandsLater t
 stands_later t calls before after r n same stands =
@@ -122,7 +108,7 @@ stands_later t calls before after r n same stands =
     let rises = subst (RisesFrom 1) same (live_rises (after_all t [] calls)) in
     let none = subst (λ l. first_refused t [] l ≡ None) same (run_all t calls).replayed in
     let others = gone t before r after (record { once = number_once l (rises_distinct 1 l rises); replayed = none }) in
-    let high = refused_above t (r.number + 1) before after n (at_least (r.number + 1) after (rises_behind 1 before after r rises))
+    let high = refused_above t (r.number + 1) before after n (rises_above (r.number + 1) after (rises_behind 1 before after r rises))
     (sym (replay_on t [] before after (replay_front t [] before (r ∷ after) none)) ∙ (ap (first_refused t []) (sym others)
     ∙ (ap (λ l. first_refused t [] (without l r.number)) (sym same) ∙ stands))) in
     omega (arith, high)

@@ -1,28 +1,33 @@
 -- The running rows of positions, with one change more.
-use Rattle.std.proofs.Common.{◌≡◌, ℕ, ◌+◌, ◌*◌, ◌≤◌, Bool, true, false, not, ◌&&◌, List, [], ◌∷◌, ◌++◌, length, refl, ap, arith, Option, cond, Some, None}
-use Rattle.std.proofs.Common.{filter_map, sum_by, is_none, option_map, bytes_eq, IfSome, mul-le-mul_right}
-use Rattle.gu_book.proofs.Vocabulary.{lots_at, names, PositionRows, Grove, IsNext, taken_by, holding_away, part_holding, added_by, counted_at, taken_at, HaveRoom, HaveMoved, ArePositionsOf}
+use Rattle.std.proofs.Common.{◌≡◌, ℕ, ◌+◌, ◌*◌, ◌≤◌, ◌<◌, ◌^◌, not, ◌&&◌, List, [], ◌∷◌, ◌++◌, length, refl, ap, arith, Option, cond, Some, None}
+use Rattle.std.proofs.Common.{sum_by, is_none, mul-le-mul_right}
+use Rattle.gu_book.proofs.Vocabulary.{lots_at, names, PositionRows, lots_in, Key, Grove, IsNext, taken_by, added_by, counted_at, taken_at, HaveMoved, ArePositionsOf}
 use Rattle.gu_book.proofs.Vocabulary.{PartsWithinLimits, IsWithinLimits, AllWithinLimits, Holding}
-use Rattle.std.proofs.lemmas.List.Elements.{All-head, All-tail}
+use Rattle.std.proofs.lemmas.List.Elements.{All-weaker}
 use Rattle.std.proofs.lemmas.List.Filters.{sum_by-filter_both}
-use Rattle.std.proofs.lemmas.List.Sums.{sum_by-le, sum_by-cons, sum_by-append, sum_by-le-sum_by}
-use Rattle.gu_depend.proofs.Vocabulary.{House, first_refused, nodes, nodes_of, split_of, position_of, stands_at, trades_in, Part, Side, Command, Trade}
-use Rattle.gu_depend.proofs.Vocabulary.{Split, Claim, Record, Root, Node, Place}
+use Rattle.std.proofs.lemmas.List.Sums.{sum_by-le, sum_by-cons, sum_by-le-sum_by}
+use Rattle.gu_depend.proofs.Vocabulary.{House, first_refused, nodes, nodes_of, split_of, position_of, replay_front, RisesFrom, stands_at, trades_in, Part, Side, Command, Trade}
+use Rattle.gu_depend.proofs.Vocabulary.{Split, Record, Root, Node, Place}
+use Rattle.gu_depend.proofs.{LastMoves.{moves_its_own, is_before, position_is}, Replay.{Legal}, Settled.{facts}}
+use Rattle.gu_depend.proofs.State.{sum_made}
 use Rattle.gu_base.proofs.NodeNames.{made}
-use Rattle.gu_depend.proofs.LastMoves.{moves_its_own, is_before, position_is}
-use Rattle.gu_depend.proofs.Settled.{facts}
-use Rattle.gu_positions.specs.Sums.{AreSumsOf}
-use Rattle.gu_book.specs.Holdings.{HasTaken, lots_told}
-use Rattle.gu_book.proofs.PartsAway.{few_given}
-use Rattle.gu_book.proofs.Leaves.{parts_lots}
-use Rattle.gu_book.proofs.HoldingRows.{is_own_key}
-use Rattle.gu_book.proofs.Holdings.{IsCounted, balances, key_at}
-use Rattle.gu_book.proofs.Orders.{sound_before}
-use Rattle.gu_book.proofs.Sound.{none_yet, next_from_accepted, sound_first}
-use Rattle.gu_book.proofs.Placed.{node_stands}
-use Rattle.gu_book.proofs.Refused.{accepted_small, next_legal}
+use Rattle.gu_book.proofs.{Leaves.{parts_lots}, HoldingRows.{at_most, is_own_key}}
+use Rattle.gu_book.proofs.{Holdings.{IsCounted, balances, key_at}, Orders.{earlier, in_order}, Placed.{node_stands}}
+use Rattle.gu_book.proofs.Refused.{next_legal}
 
 -- ---- a change behind others
+
+pub counts_on : {t : House} {l : List Record} {r : Record} → Legal t (l ++ r ∷ []) → RisesFrom 1 l → IsCounted t l r
+counts_on {t} {l} {r} legal rises =
+    let none = replay_front t [] l (r ∷ []) legal.replayed in
+    let o = in_order t l none rises in
+    record {
+      last = is_before t l r legal;
+      bound = o.bound;
+      sound = o.sound;
+      settled = (facts t l none).settled;
+      stand = λ x e. let p = node_stands t l o.bound o.sound none x e in (p.place, p.is);
+    }
 
 module _ {t : House} {l : List Record} {r : Record} (c : IsCounted t l r) (legal : first_refused t [] (l ++ r ∷ []) ≡ None) where
   -- the positions have lost what was taken and have what was added
@@ -47,19 +52,7 @@ module _ {t : House} {l : List Record} {r : Record} (c : IsCounted t l r) (legal
 
 module _ {t : House} {l : List Record} {r : Record} {ts : Grove} (next : IsNext t l r ts) where
   counted : IsCounted t l r
-  counted =
-      let s = sound_before t [] l r 1 (omega arith) sound_first next.replayed next.rises in
-      let behind : s.0 ≤ r.number = s.2 in
-      record {
-        last = is_before t l r (next_legal next);
-        bound = s.0;
-        sound = s.3;
-        unmade = λ n own. none_yet l s.0 n s.3 (omega (arith, own, behind));
-        unsplit = λ n own. s.3.unsplit n (omega (arith, own, behind));
-        next = next_from_accepted t l r (let a : 1 ≤ s.0 = s.1 in let b : s.0 ≤ r.number = s.2 in omega (arith, a, b)) next.lawful;
-        settled = (facts t l next.replayed).settled;
-        stand = λ x e. let p = node_stands t l s.0 s.3 next.replayed x e in (p.place, p.is);
-      }
+  counted = counts_on (next_legal next) (earlier 1 l r next.rises).0
 
   -- rows that have moved as the change says
   pub positions_moved : (rows new : PositionRows) → ArePositionsOf l rows → (o : Option Holding) → o ≡ taken_by l r.command → HaveMoved rows new o (added_by r.firm r.command o)
@@ -75,33 +68,18 @@ module _ {t : House} {l : List Record} {r : Record} {ts : Grove} (next : IsNext 
         omega (arith, a, b, d, e, f);
   }
 
-  -- what was added and then taken
-  pub positions_push : (rows now new : PositionRows) → ArePositionsOf l rows → (o : Option Holding) → o ≡ taken_by l r.command → HaveMoved rows now None (added_by r.firm r.command o)
-      → HaveMoved now new o []
-      → ArePositionsOf (l ++ r ∷ []) new
-  positions_push rows now new are o is put taken =
-      positions_moved rows new are o is (λ at side. let b = put at side in let c = taken at side in omega (arith, b, c))
-
-pub no_positions : (rows : PositionRows) → AreSumsOf rows [] → ArePositionsOf [] rows
-no_positions rows are = record { lots = λ at side. are.lots at side }
-
--- ---- what is there, and what has room
-
-module _ {t : House} {l : List Record} {r : Record} {ts : Grove} (next : IsNext t l r ts) where
-  pub has_taken : (rows now : PositionRows) → ArePositionsOf l rows → (hs : List Holding) → HaveMoved rows now None hs → (o : Option Holding) → o ≡ taken_by l r.command → HasTaken now o
-  has_taken rows now are hs put None is = tt
-  has_taken rows now are hs put (Some h) is =
+  -- what it takes is there
+  pub has_taken : (rows now : PositionRows) → ArePositionsOf l rows → (hs : List Holding) → HaveMoved rows now None hs → (h : Holding) → Some h ≡ taken_by l r.command
+      → h.lots ≤ lots_in now h.key h.side
+  has_taken rows now are hs put h is =
       let a = are.lots h.key h.side in
       let b = put h.key h.side in
-      let c = taken_part (counted next) (next_legal next).replayed (record { firm = h.key.firm; account = h.key.account }) h.key.instrument h.side in
+      let c = taken_part counted (next_legal next).replayed (record { firm = h.key.firm; account = h.key.account }) h.key.instrument h.side in
       let d = ap (taken_at h.key h.side) is in
       let e = ap (λ b. cond b h.lots 0) (is_own_key h.key h.side) in
       omega (arith, a, b, c, d, e)
 
-within_both : (a b : Bool) (n : ℕ) → cond a (cond b n 0) 0 ≤ n
-within_both true true n = omega arith
-within_both true false n = omega arith
-within_both false b n = omega arith
+-- ---- what has room
 
 few_lots : (ps : List Part) → PartsWithinLimits ps → sum_by (λ (p : Part). p.lots) ps ≤ 1000000000
 few_lots ps within =
@@ -118,47 +96,28 @@ made_lots k by (Split m ps) h = let a = parts_lots m k 1 by ps in let b = few_lo
 made_lots k by _ h = omega arith
 
 all_lots : (l : List Record) → AllWithinLimits l → sum_by (λ (x : Node). x.lots) (nodes l) ≤ length l * 1000000000
-all_lots [] all = omega arith
-all_lots (r ∷ l) all =
-    let a = sum_by-append (λ (x : Node). x.lots) (made r) (nodes l) in
-    let b = made_lots r.number r.firm r.command (All-head (λ r. IsWithinLimits r.command) r l all) in
-    let c = all_lots l (All-tail (λ r. IsWithinLimits r.command) r l all) in
-    omega (arith, a, b, c)
+all_lots l all =
+    let a = sum_made (λ (x : Node). x.lots) l in
+    let b = sum_by-le (λ (r : Record). sum_by (λ (x : Node). x.lots) (made r)) 1000000000 l
+    (All-weaker (λ (r : Record). IsWithinLimits r.command) (λ (r : Record). sum_by (λ (x : Node). x.lots) (made r) ≤ 1000000000) (λ r h. made_lots r.number r.firm r.command h) l all) in
+    omega (arith, a, b)
 
 pub position_within : (l : List Record) → AllWithinLimits l → (at : Place) (instrument : List ℕ) (side : Side) → position_of l at.firm at.account instrument side ≤ length l * 1000000000
 position_within l all at instrument side =
     let a = position_is l at instrument side in
     let b = sum_by-le-sum_by (lots_at l at instrument side) (λ (x : Node). x.lots) (nodes l)
-    (λ x. within_both (is_none (split_of l x.name)) (stands_at l at x.name && trades_in l instrument side x.name) x.lots) in
+    (λ x.
+    let leaf = at_most (is_none (split_of l x.name)) (cond (stands_at l at x.name && trades_in l instrument side x.name) x.lots 0) in
+    let here = at_most (stands_at l at x.name && trades_in l instrument side x.name) x.lots in
+    omega (arith, leaf, here)) in
     let c = all_lots l all in
     omega (arith, a, b, c)
 
-few_held : (whole : Holding) (by : List ℕ) (o : Option (List ℕ)) (n : ℕ) (b : Bool)
-    → lots_told (cond b (option_map (λ account. holding_away whole by account n) o) (Some (record { key = whole.key; side = whole.side; lots = n }))) ≤ n
-few_held whole by None n true = omega arith
-few_held whole by (Some a) n true = omega arith
-few_held whole by o n false = omega arith
-
-added_parts : (whole : Holding) (by : List ℕ) (ps : List Part) → sum_by (λ (h : Holding). h.lots) (filter_map (part_holding whole by) ps) ≤ sum_by (λ (p : Part). p.lots) ps
-added_parts whole by = few_given (part_holding whole by) (λ p. few_held whole by p.account p.lots (bytes_eq p.firm by))
-
-added_lots : (by : List ℕ) (c : Command) (o : Option Holding) → IsWithinLimits c → IfSome o (λ h. h.lots ≤ 10000000) → sum_by (λ (h : Holding). h.lots) (added_by by c o) ≤ 1000000000
-added_lots by (Trade firm account instrument side lots) o h small =
-    let a = sum_by-cons (λ (h : Holding). h.lots) (record { key = record { firm = firm; account = account; instrument = instrument }; side = side; lots = lots }) [] in
-    omega (arith, a, h)
-added_lots by (Split m ps) (Some whole) h small = let a = added_parts whole by ps in let b = few_lots ps h in omega (arith, a, b)
-added_lots by (Split m ps) None h small = omega arith
-added_lots by (Claim m account) (Some whole) h small =
-    let a = sum_by-cons (λ (h : Holding). h.lots) (record { key = record { firm = by; account = account; instrument = whole.key.instrument }; side = whole.side; lots = whole.lots }) [] in
-    omega (arith, a, small)
-added_lots by (Claim m account) None h small = omega arith
-added_lots by _ o h small = omega arith
-
-pub have_room : {t : House} {l : List Record} {r : Record} {ts : Grove} → IsNext t l r ts → length l ≤ 1000000 → AllWithinLimits l → (rows : PositionRows) → ArePositionsOf l rows
-    → (o : Option Holding) → IfSome o (λ h. h.lots ≤ 10000000) → HaveRoom rows (added_by r.firm r.command o)
-have_room {t} {l} {r} next few all rows are o small at side =
+-- each row has room for as many lots as an entry may have
+pub row_fits : {l : List Record} {rows : PositionRows} → length l ≤ 1000000 → AllWithinLimits l → ArePositionsOf l rows
+    → (at : Key) (side : Side) (n : ℕ) → n ≤ 10000000 → lots_in rows at side + n < 2 ^ 64
+row_fits {l} few all are at side n small =
     let a = are.lots at side in
-    let c = position_within l all (record { firm = at.firm; account = at.account }) at.instrument side in
-    let d = added_lots r.firm r.command o (accepted_small t l r.firm r.command next.lawful) small in
-    let e : length l * 1000000000 ≤ 1000000 * 1000000000 = mul-le-mul_right 1000000000 few in
-    omega (arith, a, c, d, e)
+    let b = position_within l all (record { firm = at.firm; account = at.account }) at.instrument side in
+    let c : length l * 1000000000 ≤ 1000000 * 1000000000 = mul-le-mul_right 1000000000 few in
+    omega (arith, a, b, c)

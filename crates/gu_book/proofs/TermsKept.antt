@@ -1,28 +1,20 @@
 -- How the terms that a book keeps follow its changes, and what an Agree or a Raise leaves of all else.
-use Rattle.std.proofs.Common.{◌≡◌, ℕ, ◌≤◌, ◌<◌, Bool, true, false, List, [], ◌∷◌, ◌++◌, length, refl, sym, ◌∙◌, ap, subst, arith, cond, Option, IsSomeAnd}
+use Rattle.std.proofs.Common.{◌≡◌, ℕ, ◌≤◌, ◌<◌, inl, inr, true, false, List, [], ◌∷◌, ◌++◌, length, refl, sym, ◌∙◌, ap, subst, arith, cond, Option, IsSomeAnd}
 use Rattle.std.proofs.Common.{append-nil, Some, None, sum_by, option_and_then, slice_get}
 use Rattle.gu_book.proofs.Vocabulary.{lookup, AreTermsOf, pair_of, PairView, FeeRows, is_pair, TermsView, last_entry, CanPut, CanPutAt, IsPut, IsTakenOut, PositionRows, Grove, AreFeesOf}
 use Rattle.gu_book.proofs.Vocabulary.{CanClaim, IsClaimed, IsSmallDeed, IsGroveOf, IsNext, IsFree, ArePositionsOf, counted_at, IsOfTerms, AllWithinLimits, is_of_trees}
+use Rattle.std.proofs.lemmas.Bool.{cases_Bool}
 use Rattle.std.proofs.lemmas.List.Elements.{All-contains}
 use Rattle.gu_depend.proofs.Vocabulary.{House, EntryPart, is_change, node_of, is_given, without, use_of_node, deed_of, raised_under, used_under, Deed, Makes, Raises, Uses, Dealing, Pair, Command}
 use Rattle.gu_depend.proofs.Vocabulary.{Trade, Split, Claim, Refuse, Cancel, Agree, Raise, Record, Kind, Given, Node}
+use Rattle.gu_depend.proofs.{Deals.{both_same}, LastMoves.{IsBefore, is_before}, Replay.{NumbersOnce, number_once}}
+use Rattle.gu_depend.proofs.{Settled.{Settled, SettledAs, facts}, StandsUnder.{rises_distinct}}
+use Rattle.gu_depend.proofs.TermsFollow.{apart_follows, put_follows, taken_follows, nobody_follows}
 use Rattle.gu_depend.specs.Terms.{pair_of_kind}
-use Rattle.gu_depend.proofs.Deals.{both_same}
-use Rattle.gu_depend.proofs.LastMoves.{IsBefore, is_before}
-use Rattle.gu_depend.proofs.Replay.{NumbersOnce, number_once}
-use Rattle.gu_depend.proofs.Settled.{Settled, SettledAs, facts}
-use Rattle.gu_depend.proofs.StandsUnder.{rises_distinct}
-use Rattle.gu_depend.proofs.TermsFollow.{apart_follows, put_follows}
-use Rattle.gu_depend.proofs.TermsLess.{taken_follows, nobody_follows}
-use Rattle.gu_fees.specs.Pairs.{HasRoomFor}
-use Rattle.gu_fees.specs.Sums.{AreSumsOf}
-use Rattle.gu_fees.specs.Terms.{row_of, IsReady}
+use Rattle.gu_fees.specs.{Pairs.{HasRoomFor}, Sums.{AreSumsOf}, Terms.{row_of, IsReady}}
 use Rattle.gu_tree.specs.ShownAll.{named_place}
-use Rattle.gu_book.specs.Dealing.{HasRoomForClaim}
-use Rattle.gu_book.specs.Kinds.{is_claim}
-use Rattle.gu_book.proofs.Dealing.{raised_most, used_most}
-use Rattle.gu_book.proofs.Refused.{next_legal}
-use Rattle.gu_book.proofs.FiledChanges.{left_alone}
+use Rattle.gu_book.specs.{Dealing.{HasRoomForClaim, place_of_kind}, Kinds.{is_claim}}
+use Rattle.gu_book.proofs.{Dealing.{raised_most, used_most}, Refused.{next_legal}, FiledChanges.{left_alone}}
 use Rattle.gu_book.proofs.TradesKept.{IsIdle, idle_terms}
 use Rattle.gu_book.proofs.FiledLess as less
 use Rattle.gu_book.proofs.Undoing.{fees_without, positions_without}
@@ -122,6 +114,25 @@ pub can_claim : {t : House} {l : List Record} {v : TermsView} → length l ≤ 1
 can_claim few all are n lots small above (Given m g k) ready = can_put few all are g k (Uses lots) small n above ready
 can_claim few all are n lots small above _ ready = tt
 
+-- what has a place is a given node
+pub can_at : (v : TermsView) (n lots i : ℕ) (kind : Kind) → Some i ≡ place_of_kind v kind
+    → CanClaim v n lots kind → CanPutAt v i (record { number = n; deed = Uses lots })
+can_at v n lots i (Given _ g k) at can = can_put_at i at can
+can_at v n lots i _ at can = absurd (cc)
+
+pub claimed_at : (v w : TermsView) (n lots i : ℕ) (kind : Kind) → Some i ≡ place_of_kind v kind
+    → ((g k : List ℕ) → lookup (is_pair g k) v.places ≡ Some i → IsPut v w g k (record { number = n; deed = Uses lots }))
+    → IsClaimed v w n lots kind
+claimed_at v w n lots i (Given _ g k) at put = put g k (sym at)
+claimed_at v w n lots i _ at put = absurd (cc)
+
+-- and a node for which there is room has one, if it is given
+pub claimed_nowhere : (v : TermsView) (n lots : ℕ) (kind : Kind) → None ≡ place_of_kind v kind
+    → CanClaim v n lots kind → IsClaimed v v n lots kind
+claimed_nowhere v n lots (Given _ g k) at can =
+    absurd (subst (λ o. IsSomeAnd (option_and_then (slice_get v.pairs) o) (λ (r : PairView). (1 ≤ r.room) × HasRoomFor r.dealings (Uses lots))) (sym at) can.pair)
+claimed_nowhere v n lots _ at can = refl
+
 pub claimed_last : (v w : TermsView) (n lots : ℕ) (kind : Kind) → last_entry v < n → IsClaimed v w n lots kind → last_entry w ≤ n
 claimed_last v w n lots (Given m g k) above put = let e = put.last in omega (arith, e)
 claimed_last v w n lots _ above same = let e = ap last_entry same in omega (arith, above, e)
@@ -146,28 +157,23 @@ module _ {t : House} {l : List Record} {r : Record} {ts : Grove} (u : IsFree t l
   dealt_taken : (v w : TermsView) (p : Pair) → AreTermsOf t l v → pair_of l r.firm r.command ≡ Some p → IsTakenOut v w r.number → AreTermsOf t (without l r.number) w
   dealt_taken v w p are of taken = taken_follows t l r (record { once = numbers; replayed = u.replayed }) u.among u.free v w p are of taken
 
-  by_claim : (v w : TermsView) → AreTermsOf t l v → is_of_trees r.command ≡ true → (is_claim r.command ≡ true → IsTakenOut v w r.number) → (is_claim r.command ≡ false → w ≡ v)
-      → (b : Bool) → is_claim r.command ≡ b → AreTermsOf t (without l r.number) w
-  by_claim v w are of taken same true is =
-      let settled : Settled t l r = All-contains (Settled t l) l r (facts t l u.replayed).settled u.among in
-      let p = claim_paired r.command is settled.stands in
-      dealt_taken v w p.0 are p.1 (taken is)
-  by_claim v w are of taken same false is =
-      subst (AreTermsOf t (without l r.number)) (sym (same is)) (nobody_follows t l r (record { once = numbers; replayed = u.replayed }) u.among u.free v are (trees_apart l r.firm r.command of is))
-
   -- a change of trees
   pub trees_undealt : (v w : TermsView) → AreTermsOf t l v → is_of_trees r.command ≡ true → (is_claim r.command ≡ true → IsTakenOut v w r.number)
-      → (is_claim r.command ≡ false → w ≡ v)
-      → AreTermsOf t (without l r.number) w
-  trees_undealt v w are of taken same = by_claim v w are of taken same (is_claim r.command) refl
-
-  last_by : (v w : TermsView) → (is_claim r.command ≡ true → IsTakenOut v w r.number) → (is_claim r.command ≡ false → w ≡ v) → (b : Bool) → is_claim r.command ≡ b
-      → last_entry w ≡ last_entry v
-  last_by v w taken same true is = (taken is).last
-  last_by v w taken same false is = ap last_entry (same is)
+      → (is_claim r.command ≡ false → w ≡ v) → AreTermsOf t (without l r.number) w
+  trees_undealt v w are of taken same = elim (cases_Bool (is_claim r.command)) [
+    | inl is ↦ (
+        let settled : Settled t l r = All-contains (Settled t l) l r (facts t l u.replayed).settled u.among in
+        let p = claim_paired r.command is settled.stands in
+        dealt_taken v w p.0 are p.1 (taken is))
+    | inr is ↦ subst (AreTermsOf t (without l r.number)) (sym (same is))
+        (nobody_follows t l r (record { once = numbers; replayed = u.replayed }) u.among u.free v are (trees_apart l r.firm r.command of is))
+  ]
 
   pub trees_last : (v w : TermsView) → (is_claim r.command ≡ true → IsTakenOut v w r.number) → (is_claim r.command ≡ false → w ≡ v) → last_entry w ≡ last_entry v
-  trees_last v w taken same = last_by v w taken same (is_claim r.command) refl
+  trees_last v w taken same = elim (cases_Bool (is_claim r.command)) [
+    | inl is ↦ (taken is).last
+    | inr is ↦ ap last_entry (same is)
+  ]
 
   -- an Agree or a Raise
   pub terms_undealt : (v w : TermsView) → AreTermsOf t l v → IsOfTerms r.command → IsTakenOut v w r.number → AreTermsOf t (without l r.number) w

@@ -1,20 +1,18 @@
 -- What each kind of change leaves of the fees and the positions: a Claim alone costs something; the lots of a Trade go into one row, those of a
 -- Claim from one into another, and of a Split only what goes to other accounts is moved.
-use Rattle.std.proofs.Common.{◌≡◌, ℕ, ◌+◌, ◌<◌, ◌≤◌, ◌^◌, true, List, [], ◌∷◌, ◌++◌, length, refl, sym, ◌∙◌, ap, subst, arith, ◌*◌}
-use Rattle.std.proofs.Common.{Option, Some, None, sum_by, filter_map, option_and_then, IfSome, mul-le-mul_right}
+use Rattle.std.proofs.Common.{◌≡◌, ℕ, ◌+◌, ◌<◌, ◌≤◌, ◌^◌, true, List, [], ◌∷◌, ◌++◌, length, refl, sym, ◌∙◌, ap, subst, arith}
+use Rattle.std.proofs.Common.{Option, Some, None, sum_by, filter_map, option_and_then, IfSome}
 use Rattle.std.proofs.lemmas.List.Sums.{sum_by-cons}
 use Rattle.gu_depend.proofs.Vocabulary.{House, charge_of, charge_of_node, is_change, place_of, Charge, node_of, refusal_of, Node, Part, Command, Trade, Split, Claim, Agree, Raise, Record, EntryPart}
 use Rattle.gu_depend.proofs.Vocabulary.{State}
 use Rattle.gu_base.specs.declared.state.State.TheVariants.{Refused, Cancelled}
 use Rattle.gu_tree.specs.Shown.{GivesBack}
 use Rattle.std.proofs.lemmas.Option.{same_Some}
-use Rattle.gu_book.proofs.Vocabulary.{PositionRows, lots_in, Grove, AreFeesOf, IsNext, IsOfTerms, SameLots, pair_of, traded_at, holding_of, taken_by, holding_away, part_away}
-use Rattle.gu_book.proofs.Vocabulary.{added_by, counted_at, HaveRoom, HaveMoved, ArePositionsOf, AllWithinLimits, FeeRows, Holding}
-use Rattle.gu_book.proofs.Charging.{fees_stay}
+use Rattle.gu_book.proofs.Vocabulary.{PositionRows, lots_in, Grove, IsNext, IsOfTerms, pair_of, traded_at, holding_of, taken_by, holding_away, part_away}
+use Rattle.gu_book.proofs.Vocabulary.{added_by, counted_at, HaveRoom, HaveMoved, ArePositionsOf, AllWithinLimits, IsWithinLimits, Holding}
 use Rattle.gu_book.proofs.PartsAway.{at_whole, held_is, moved, moved_few, SplitWell, split_well, whole_well, split_moved}
-use Rattle.gu_book.proofs.Standings.{have_room, has_taken, position_within, positions_moved, positions_push}
-use Rattle.gu_book.proofs.HoldingRows.{put_there, first_there}
-use Rattle.gu_book.proofs.Within.{node_within}
+use Rattle.gu_book.proofs.{Standings.{row_fits, has_taken, positions_moved}, HoldingRows.{put_there, first_there}}
+use Rattle.gu_book.proofs.{Within.{node_within}, Refused.{accepted_small}}
 
 -- a command that costs nothing, takes nothing and adds nothing: one that gives a node back, and one of terms
 pub record IsIdle (t : House) (l : List Record) (by : List ℕ) (c : Command) : Type 0 where
@@ -38,31 +36,25 @@ gives_node_back t l by c n Refused is = subst (GivesNodeBack t l by) (sym is) (r
 gives_node_back t l by c n Cancelled is = subst (GivesNodeBack t l by) (sym is) (record { change = refl; idle = record { costs = refl; takes = refl; adds = refl }; apart = refl })
 gives_node_back t l by c n _ is = absurd is
 
--- a change that may follow those of a book, whose fees and positions stand in these rows
-pub record MayFollow (t : House) (l : List Record) (r : Record) (ts : Grove) (fees : FeeRows) (rows : PositionRows) : Type 0 where
+-- a change that may follow those of a book, whose positions stand in these rows
+pub record MayFollow (t : House) (l : List Record) (r : Record) (ts : Grove) (rows : PositionRows) : Type 0 where
   pub next : IsNext t l r ts
   pub few : length l ≤ 1000000
   pub within : AllWithinLimits l
-  pub charged : AreFeesOf t l fees
   pub stands : ArePositionsOf l rows
 
-module _ {t : House} {l : List Record} {r : Record} {ts : Grove} {fees : FeeRows} {rows : PositionRows} (may : MayFollow t l r ts fees rows) where
+module _ {t : House} {l : List Record} {r : Record} {ts : Grove} {rows : PositionRows} (may : MayFollow t l r ts rows) where
   -- ---- a Trade of these lots
 
   module _ (traded : Holding) (trades : r.command ≡ Trade traded.key.firm traded.key.account traded.key.instrument traded.side traded.lots) where
-    pub trade_free : AreFeesOf t (l ++ r ∷ []) fees
-    trade_free = fees_stay may.next fees may.charged (sym (ap (charge_of t l) trades))
-
     adds : added_by r.firm r.command None ≡ traded ∷ []
     adds = ap (λ c. added_by r.firm c None) trades
 
     -- the row has room
     pub trade_fits : lots_in rows traded.key traded.side + traded.lots < 2 ^ 64
     trade_fits =
-        let room = have_room may.next may.few may.within rows may.stands None tt traded.key traded.side in
-        let sum = ap (sum_by (λ (h : Holding). h.lots)) adds in
-        let one = sum_by-cons (λ (h : Holding). h.lots) traded [] in
-        omega (arith, room, sum, one)
+        row_fits may.few may.within may.stands traded.key traded.side traded.lots
+        (subst IsWithinLimits trades (accepted_small t l r.firm r.command may.next.lawful))
 
     -- and has the lots
     pub trade_stands : (new : PositionRows) → HaveMoved rows new None (traded ∷ []) → ArePositionsOf (l ++ r ∷ []) new
@@ -71,21 +63,17 @@ module _ {t : House} {l : List Record} {r : Record} {ts : Grove} {fees : FeeRows
 
   -- ---- what moves nothing
 
-  module _ (idle : IsIdle t l r.firm r.command) where
-    pub idle_free : AreFeesOf t (l ++ r ∷ []) fees
-    idle_free = fees_stay may.next fees may.charged idle.costs
-
-    pub idle_stands : ArePositionsOf (l ++ r ∷ []) rows
-    idle_stands = positions_moved may.next rows rows may.stands None idle.takes (λ at side. let a = ap (sum_by (counted_at at side)) idle.adds in omega (arith, a))
+  pub idle_stands : IsIdle t l r.firm r.command → ArePositionsOf (l ++ r ∷ []) rows
+  idle_stands idle = positions_moved may.next rows rows may.stands None idle.takes (λ at side. let a = ap (sum_by (counted_at at side)) idle.adds in omega (arith, a))
 
 -- a change that may follow and takes the whole of a node, the lots that stand there: a Split or a Claim
-pub record TakesWhole (t : House) (l : List Record) (r : Record) (ts : Grove) (fees : FeeRows) (rows : PositionRows) (n : EntryPart) (x : Node) (whole : Holding) : Type 0 where
-  pub may : MayFollow t l r ts fees rows
+pub record TakesWhole (t : House) (l : List Record) (r : Record) (ts : Grove) (rows : PositionRows) (n : EntryPart) (x : Node) (whole : Holding) : Type 0 where
+  pub may : MayFollow t l r ts rows
   pub there : node_of l n ≡ Some x
   pub holds : Some whole ≡ holding_of l x
 
-module _ {t : House} {l : List Record} {r : Record} {ts : Grove} {fees : FeeRows} {rows : PositionRows} {n : EntryPart} {x : Node} {whole : Holding}
-    (of : TakesWhole t l r ts fees rows n x whole) where
+module _ {t : House} {l : List Record} {r : Record} {ts : Grove} {rows : PositionRows} {n : EntryPart} {x : Node} {whole : Holding}
+    (of : TakesWhole t l r ts rows n x whole) where
   its_whole : Some whole ≡ option_and_then (holding_of l) (node_of l n)
   its_whole = of.holds ∙ sym (ap (option_and_then (holding_of l)) of.there)
 
@@ -96,38 +84,29 @@ module _ {t : House} {l : List Record} {r : Record} {ts : Grove} {fees : FeeRows
   -- ---- a Split
 
   module _ (ps : List Part) (splits : r.command ≡ Split n ps) where
-    pub split_free : AreFeesOf t (l ++ r ∷ []) fees
-    split_free = fees_stay of.may.next fees of.may.charged (sym (ap (charge_of t l) splits))
-
     well : SplitWell t l r.firm n ps
     well = split_well t l r.firm n ps (subst (λ (c : Command). refusal_of t l r.firm c ≡ None) splits of.may.next.lawful)
 
     -- the whole stands in an account of the firm that splits it, and has the lots of its parts
-    whole_is : (whole.key.firm ≡ r.firm) × (whole.lots ≡ sum_by (λ (p : Part). p.lots) ps)
+    pub whole_is : (whole.key.firm ≡ r.firm) × (whole.lots ≡ sum_by (λ (p : Part). p.lots) ps)
     whole_is = whole_well well whole (of.holds ∙ ap (holding_of l) (same_Some x well.node (sym of.there ∙ well.there)))
 
     takes : Some whole ≡ taken_by l r.command
     takes = its_whole ∙ sym (ap (taken_by l) splits)
 
-    pub split_home : whole.key.firm ≡ r.firm
-    split_home = whole_is.0
-
     -- the rows have room for what goes elsewhere
     pub split_fits : HaveRoom rows (filter_map (part_away whole r.firm) ps)
     split_fits at side =
-        let a = of.may.stands.lots at side in
-        let b = position_within l of.may.within (record { firm = at.firm; account = at.account }) at.instrument side in
-        let c : length l * 1000000000 ≤ 1000000 * 1000000000 = mul-le-mul_right 1000000000 of.may.few in
         let d = moved_few whole r.firm ps in
         let e = well.sums in
         let f = ap (λ (x : Node). x.lots) (same_Some x well.node (sym of.there ∙ well.there)) in
-        omega (arith, a, b, c, d, e, f, few_whole)
+        row_fits of.may.few of.may.within of.may.stands at side (moved whole r.firm ps) (omega (arith, d, e, f, few_whole))
 
     module _ (mid : PositionRows) (put : HaveMoved rows mid None (filter_map (part_away whole r.firm) ps)) where
       -- so many lots stand where the whole does
       pub split_takes : moved whole r.firm ps ≤ lots_in mid whole.key whole.side
       split_takes =
-          let a = has_taken of.may.next rows mid of.may.stands (filter_map (part_away whole r.firm) ps) put (Some whole) takes in
+          let a = has_taken of.may.next rows mid of.may.stands (filter_map (part_away whole r.firm) ps) put whole takes in
           let b = moved_few whole r.firm ps in
           let c = whole_is.1 in
           omega (arith, a, b, c)
@@ -159,28 +138,22 @@ module _ {t : House} {l : List Record} {r : Record} {ts : Grove} {fees : FeeRows
     pub claim_fits : lots_in rows claimed_lots.key whole.side + whole.lots < 2 ^ 64
     claim_fits =
         let same = (held_is (place_of l x.name) (traded_at l x.name) x.lots whole of.holds).0 in
-        let room = have_room of.may.next of.may.few of.may.within rows of.may.stands (Some whole) (omega (arith, few_whole, same)) claimed_lots.key whole.side in
-        let sum = ap (sum_by (λ (h : Holding). h.lots)) claim_adds in
-        let one = sum_by-cons (λ (h : Holding). h.lots) claimed_lots [] in
-        omega (arith, room, sum, one)
+        row_fits of.may.few of.may.within of.may.stands claimed_lots.key whole.side whole.lots (omega (arith, few_whole, same))
 
     module _ (mid : PositionRows) (put : HaveMoved rows mid None (claimed_lots ∷ [])) where
       -- once they are put they are there
       pub claim_there : whole.lots ≤ lots_in mid claimed_lots.key whole.side
       claim_there = first_there mid claimed_lots [] (put_there rows mid (claimed_lots ∷ []) put)
 
-      -- and taken out again they leave what was
-      pub claim_undone : (new : PositionRows) → HaveMoved mid new (Some claimed_lots) [] → SameLots rows new
-      claim_undone new taken = λ at side.
-          let a = put at side in
-          let b = taken at side in
-          let c = sum_by-cons (counted_at at side) claimed_lots [] in
-          omega (arith, a, b, c)
-
       -- so many stand where the node stood
       pub claim_whole : whole.lots ≤ lots_in mid whole.key whole.side
-      claim_whole = has_taken of.may.next rows mid of.may.stands (claimed_lots ∷ []) put (Some whole) claim_takes
+      claim_whole = has_taken of.may.next rows mid of.may.stands (claimed_lots ∷ []) put whole claim_takes
 
-      pub claim_stands : (new : PositionRows) → HaveMoved mid new (Some whole) [] → ArePositionsOf (l ++ r ∷ []) new
+      pub claim_stands : (new : PositionRows) → HaveMoved new mid None (whole ∷ []) → ArePositionsOf (l ++ r ∷ []) new
       claim_stands new taken =
-          positions_push of.may.next rows mid new of.may.stands (Some whole) claim_takes (subst (λ (hs : List Holding). HaveMoved rows mid None hs) (sym claim_adds) put) taken
+          positions_moved of.may.next rows new of.may.stands (Some whole) claim_takes
+          (subst (λ (hs : List Holding). HaveMoved rows new (Some whole) hs) (sym claim_adds) (λ at side.
+          let a = put at side in
+          let b = taken at side in
+          let c = sum_by-cons (counted_at at side) whole [] in
+          omega (arith, a, b, c)))

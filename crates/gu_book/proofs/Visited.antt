@@ -1,19 +1,14 @@
 -- How many nodes a call visits, from what was seen before it was kept and what it made.
 use Rattle.gu_depend.proofs.Vocabulary.{◌≡◌, ℕ, ◌+◌, ◌≤◌, true, false, List, length, refl, sym, ◌∙◌, ap, subst, arith, Option, IsSomeAnd, EntryPart, House, live}
 use Rattle.gu_depend.proofs.Vocabulary.{is_change, node_of, depth_of, refusal_of, answer_to, call_of, Command, Trade, Split, Claim, Refuse, Cancel, Reverse, Accepted, Entry, Record}
-use Rattle.gu_depend.proofs.Vocabulary.{refusal_parts}
-use Rattle.std.proofs.Common.{Some, None, is_some, IsSome, option_and_then, option_map, unwrap_or}
+use Rattle.gu_depend.proofs.Vocabulary.{refusal_parts, no_some}
+use Rattle.std.proofs.Common.{Some, None, is_some, IsSome, option_map, unwrap_or}
 use Rattle.gu_base.proofs.Accepted.{allowed, change_refused}
-use Rattle.gu_book.proofs.Vocabulary.{Grove, IsPlace, named_node, named_place, place_in, change_of, AreTreesOf, is_trade, AreVisits, is_of_trees}
+use Rattle.gu_book.proofs.Vocabulary.{Grove, IsPlace, named_node, named_place, change_of, AreTreesOf, is_trade, AreVisits, is_of_trees}
+use Rattle.gu_book.proofs.{AllShown.{has_place, undone, undone_place}, Filed.{spot}, Orders.{names_there, in_order}}
 use Rattle.gu_tree.specs.Grove.{place_of}
 use Rattle.gu_book.specs.Visits.{IsMet, depth_meant, parts_in, parts_named, entries_met, changes_trees, nodes_made}
-use Rattle.gu_book.proofs.AllShown.{has_place, undone}
-use Rattle.gu_book.proofs.Filed.{spot}
-use Rattle.gu_book.proofs.Orders.{names_there, in_order}
-
-pub some_place : (P : EntryPart → Type 0) (o : Option EntryPart) → IsSomeAnd o P → (n : EntryPart) × (o ≡ Some n) × P n
-some_place P None h = absurd h
-some_place P (Some n) h = (n, refl, h)
+use Rattle.gu_depend.proofs.Finds.{some_with}
 
 -- ---- an accepted call meets what it names
 
@@ -26,18 +21,7 @@ change_met t h e n ok change m named =
 
 -- what is no change of trees has no place there
 pub placeless : (k : ℕ) (c : Command) → is_of_trees c ≡ false → named_place k c ≡ None
-placeless k c other = none_here (named_place k c) (has_place k c ∙ other)
-  where
-    none_here : (o : Option EntryPart) → is_some o ≡ false → o ≡ None
-    none_here None is = refl
-    none_here (Some n) is = absurd (cc)
-
-reverse_met : (t : House) (h : List Entry) (e : Entry) (n k : ℕ) → answer_to t h (call_of e) ≡ Accepted n e.status
-    → e.command ≡ Reverse k → changes_trees (live h) (Reverse k) ≡ true → IsSome (place_in (live h) k)
-reverse_met t h e n k ok same changes =
-    let u = undone t h e n k ok same in
-    let is : is_of_trees u.0.command ≡ true = sym (ap (λ (o : Option Record). unwrap_or (option_map (λ (r : Record). is_of_trees r.command) o) false) u.1.found) ∙ changes in
-    subst (λ (o : Option Record). IsSome (option_and_then (λ (r : Record). named_place r.number r.command) o)) (sym u.1.found) (has_place u.0.number u.0.command ∙ is)
+placeless k c other = no_some (named_place k c) (λ n e. let z : true ≡ false = ap is_some (sym e) ∙ (has_place k c ∙ other) in absurd (cc))
 
 met : (t : House) (h : List Entry) (e : Entry) (n : ℕ) → answer_to t h (call_of e) ≡ Accepted n e.status → (c : Command) → e.command ≡ c → changes_trees (live h) c ≡ true
     → is_trade c ≡ false → IsMet (live h) c
@@ -45,7 +29,10 @@ met t h e n ok (Split m ps) same changes other = change_met t h e n ok (ap is_ch
 met t h e n ok (Claim m a) same changes other = change_met t h e n ok (ap is_change same) m (ap named_node same)
 met t h e n ok (Refuse m) same changes other = change_met t h e n ok (ap is_change same) m (ap named_node same)
 met t h e n ok (Cancel m) same changes other = change_met t h e n ok (ap is_change same) m (ap named_node same)
-met t h e n ok (Reverse k) same changes other = reverse_met t h e n k ok same changes
+met t h e n ok (Reverse k) same changes other =
+    let u = undone t h e n k ok same in
+    let is : is_of_trees u.0.command ≡ true = sym (ap (λ (o : Option Record). unwrap_or (option_map (λ (r : Record). is_of_trees r.command) o) false) u.1.found) ∙ changes in
+    subst IsSome (sym (undone_place u.1)) (has_place u.0.number u.0.command ∙ is)
 met t h e n ok _ same changes other = absurd (cc)
 
 -- ---- what is counted
@@ -53,9 +40,9 @@ met t h e n ok _ same changes other = absurd (cc)
 -- the way to the place of a change
 pub way_to : {l : List Record} {g : Grove} → AreTreesOf l g → (k trade : ℕ) (p : List ℕ) → IsSomeAnd (place_of g k) (λ n. IsPlace g n trade p) → depth_meant l (Reverse k) ≡ length p
 way_to {l} {g} are k trade p at =
-    let m = some_place (λ n. IsPlace g n trade p) (place_of g k) at in
-    let s = spot are.filed (in_order are.house l are.replayed are.rises) trade p m.0 m.2 in
-    ap (λ o. unwrap_or (option_map (depth_of l) o) 0) (sym (are.filed.places k) ∙ m.1) ∙ (ap (depth_of l) (sym s.called) ∙ s.said.deep)
+    let m = some_with (λ n. IsPlace g n trade p) (place_of g k) at in
+    let s = spot are.filed (in_order are.house l are.replayed are.rises) trade p m.0 m.1.1 in
+    ap (λ o. unwrap_or (option_map (depth_of l) o) 0) (sym (are.filed.places k) ∙ m.1.0) ∙ (ap (depth_of l) (sym s.called) ∙ s.said.deep)
 
 -- the parts of the Split that a Reverse names
 pub parts_of_named : (l : List Record) (k : ℕ) (r : Record) → change_of l k ≡ Some r → parts_named l (Reverse k) ≡ parts_in r.command

@@ -107,11 +107,6 @@ abbrev pub taken_at : Key → Side → Option Holding → ℕ
 taken_at at side None = 0
 taken_at at side (Some h) = counted_at at side h
 
--- so much is there, if something is to be taken
-abbrev pub HasTaken : PositionRows → Option Holding → Type 0
-HasTaken rows None = Unit {0}
-HasTaken rows (Some h) = h.lots ≤ lots_in rows h.key h.side
-
 -- each row has room for all of these holdings' lots
 abbrev pub HaveRoom : PositionRows → List Holding → Type 0
 HaveRoom rows hs = (at : Key) (side : Side) → lots_in rows at side + sum_by (λ h. h.lots) hs < 2 ^ 64

@@ -29,6 +29,11 @@ abbrev pub AcceptedFrom : House → List Entry → List Entry → Type 0
 AcceptedFrom t before [] = Unit {0}
 AcceptedFrom t before (e ∷ rest) = (answer_to t before (call_of e) ≡ Accepted (length before + 1) e.status) × AcceptedFrom t (before ++ e ∷ []) rest
 
+-- some house accepts the entry after these, with this number
+pub record IsAccepted (h : List Entry) (e : Entry) (n : ℕ) : Type 0 where
+  pub house : House
+  pub answered : answer_to house h (call_of e) ≡ Accepted n e.status
+
 -- no live change is refused after those before it; the trees and places are those of the live changes; the consents are those of the
 -- history, and none of a change that is reversed; no Reverse names an entry that is still to come, and no place is of one
 pub record IsKept (house : House) (history : List Entry) (trees : Grove) (consents : Consents) : Type 0 where

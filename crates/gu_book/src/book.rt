@@ -3,7 +3,6 @@
 ghost use Rattle.std.specs.Prelude.{true, vec_len, vec_capacity, ◌≡◌, ◌==◌, ◌≤◌, ◌<◌, ◌+◌, ◌^◌, ℕ, List, [], ◌∷◌, ◌++◌, length, map, option_map, IsTrue, IfOk, IfErr, OnOk, OnErr, IsSome, IsSomeAnd, slice_get, if◌then◌else◌};
 ghost use Rattle.gu_base.specs.Limits.{most_entries};
 ghost use Rattle.gu_base.specs.Consents.{is_consenting};
-ghost use Rattle.gu_base.specs.House.{House as HouseTable};
 ghost use Rattle.gu_base.specs.History.{is_change, live};
 ghost use Rattle.gu_base.specs.Positions.{position_of};
 ghost use Rattle.gu_base.specs.Fees.{paid_by, received_by};
@@ -22,6 +21,7 @@ ghost use Rattle.gu_tree.specs.ShownAll.{place_in};
 ghost use Rattle.gu_book.specs.Front.{may_lack};
 ghost use Rattle.gu_book.specs.Ids.{NoIdTwice};
 ghost use Rattle.gu_book.specs.Lookups.{AreIdsOf};
+ghost use Rattle.gu_book.specs.Kept.{IsAccepted};
 ghost use Rattle.gu_book.specs.Kinds.{IsOfTerms};
 ghost use Rattle.gu_book.specs.Found.{IsNamedIn, IsNothing, IsStandingIn, IsUndoneIn, LiesThere};
 ghost use Rattle.gu_book.specs.Live.{entry_of_change};
@@ -121,6 +121,7 @@ impl Book {
     }
 
     /// Makes the opening call at this place.
+    #[tactic(auto, using(crate::proofs::Opening::call_there))]
     fn make_opening_call(&mut self, alloc: Global, place: usize) -> Result<(), Memory>
         requires { place < length self.old.house.opening }
         ensures made { OnOk result (IsSomeAnd (slice_get (opening_calls self.old.house) place) (λ c. stored self.new ≡ record { house = self.old.house; history = after self.old.house self.old.history c })) }
@@ -144,6 +145,7 @@ impl Book {
     }
 
     /// The accepted commands, in order.
+    #[tactic(auto, using(crate::proofs::Keeps::run_from_accepted, gu_base::proofs::LegalLaws::legal_from_replay))]
     pub fn history(&self) -> &[Entry]
         ensures value { result.now ≡ self.now.history }
         ensures fits { length self.now.history ≤ most_entries }
@@ -222,6 +224,7 @@ impl Book {
     }
 
     /// Puts in what a command names, so that the processor fetches it before it is asked whether the id is known.
+    #[tactic(auto, using(gu_base::proofs::LegalLaws::legal_from_replay))]
     fn seek(&self, command: &Command, sought: &mut Sought)
         requires { IsNothing sought.old }
         ensures named { IsNamedIn (live self.now.history) (named_node command.now) sought.new.named }
@@ -235,6 +238,7 @@ impl Book {
     }
 
     /// The answer to a call of whose command this is known. Keeps nothing and takes no memory.
+    #[tactic(auto, using(crate::proofs::Leaves::live_rises))]
     fn answer(
         &self,
         by: &FirmId,
@@ -315,6 +319,7 @@ impl Book {
 
     /// Puts an accepted Trade of these lots at the end of the history, its lots where they go, and its tree beside the others.
     #[inline(never)]
+    #[tactic(auto, using(crate::proofs::Keeping::keeping))]
     fn keep_trade(
         &mut self,
         alloc: Global,
@@ -350,6 +355,7 @@ impl Book {
     /// Puts an accepted Split of this node into these parts at the end of the history, the lots of its parts where they go, and the parts below
     /// their node. The lots are taken out again where the growth of the tree is refused.
     #[inline(never)]
+    #[tactic(auto, using(crate::proofs::Keeping::keeping_moved))]
     fn keep_split(
         &mut self,
         alloc: Global,
@@ -367,9 +373,9 @@ impl Book {
         ensures kept { OnOk result (self.new ≡ record self.old { history = self.old.history ++ entry_of_change made.now ∷ [] }) }
         ensures unchanged { OnErr result (self.new ≡ self.old) }
     {
+        let kept = parts.copy(alloc)?;
         make_room(&mut self.entries, &mut self.lookups.ids)?;
         self.trees.ready()?;
-        let kept = parts.copy(alloc)?;
         let changes = Live::of(self.entries.as_slice(), &self.lookups.reversals);
         let Some(named) = &sought.named else {
             unreachable!()
@@ -394,6 +400,7 @@ impl Book {
     /// Puts an accepted Claim of this node into this account at the end of the history, charges it, puts it to the terms, and moves its node with
     /// its lots. What it puts is taken out again where a later growth is refused; all else changes behind the last growth.
     #[inline(never)]
+    #[tactic(auto, using(crate::proofs::Keeping::keeping_moved))]
     fn keep_claim(
         &mut self,
         made: &Change<'_>,
@@ -438,6 +445,7 @@ impl Book {
 
     /// Puts an accepted Refuse or Cancel, `kept`, at the end of the history, and gives its node back: `state` is Refused or Cancelled.
     #[inline(never)]
+    #[tactic(auto, using(crate::proofs::Keeping::keeping))]
     fn keep_return(
         &mut self,
         made: &Change<'_>,
@@ -464,6 +472,7 @@ impl Book {
 
     /// Puts an accepted Agree or Raise at the end of the history, and what it does beside the other dealings of its giver and taker.
     #[inline(never)]
+    #[tactic(auto, using(crate::proofs::Keeping::keeping))]
     fn keep_deed(&mut self, alloc: Global, made: &Change<'_>, hash: IdHash) -> Result<(), Memory>
         requires of_terms { IsOfTerms made.now.command.now }
         requires hashed { IsHashOf hash made.now.firm.now made.now.id.now }
@@ -482,6 +491,7 @@ impl Book {
 
     /// Puts an accepted Initiate or Decline at the end of the history, and does to the consents what it says.
     #[inline(never)]
+    #[tactic(auto, using(crate::proofs::Keeps::is_accepted_in))]
     fn keep_consenting(
         &mut self,
         alloc: Global,
@@ -508,6 +518,7 @@ impl Book {
     /// Puts an accepted Reverse of a change of trees at the end of the history, takes its change back at its node, and moves back what the change
     /// moved and charged. All growths come before anything changes.
     #[inline(never)]
+    #[tactic(auto, using(crate::proofs::Keeps::is_accepted_in, crate::proofs::Leaves::live_rises, crate::proofs::Keeps::trees_kept))]
     fn keep_reversal(
         &mut self,
         made: &Change<'_>,
@@ -545,6 +556,7 @@ impl Book {
 
     /// Puts an accepted Reverse of an Agree or a Raise at the end of the history, and takes its change out of the terms of its giver and taker.
     #[inline(never)]
+    #[tactic(auto, using(crate::proofs::Keeps::is_accepted_in))]
     fn keep_terms_reversal(
         &mut self,
         made: &Change<'_>,
@@ -598,6 +610,7 @@ impl Book {
     }
 
     /// What a firm pays for the live claims that it made, in hundredths.
+    #[tactic(auto, using(crate::proofs::Charging::paid_told))]
     pub fn paid(&self, firm: &FirmId) -> u64
         ensures { result ≡ paid_by self.now.house (live self.now.history) firm.now }
     {
@@ -605,6 +618,7 @@ impl Book {
     }
 
     /// What a firm receives for the live claims of what it gave up, in hundredths.
+    #[tactic(auto, using(crate::proofs::Charging::received_told))]
     pub fn received(&self, firm: &FirmId) -> u64
         ensures { result ≡ received_by self.now.house (live self.now.history) firm.now }
     {
@@ -612,6 +626,7 @@ impl Book {
     }
 
     /// The lots of the live claims under the agreement of a giver and a taker.
+    #[tactic(auto, using(crate::proofs::Dealing::uses_are))]
     pub fn used(&self, giver: &FirmId, taker: &FirmId) -> u64
         ensures { result ≡ used_of (live self.now.history) giver.now taker.now }
     {
@@ -637,6 +652,7 @@ impl Book {
 /// Makes room for one entry more, and for its id. There mostly is some for the entry, so that growth stands apart from the code that runs
 /// each time.
 #[inline(always)]
+#[tactic(auto, using(crate::proofs::LookedUp::ids_few))]
 fn make_room(entries: &mut Vec<Entry>, ids: &mut Ids) -> Result<(), Memory>
     requires ids { AreIdsOf ids.old entries.old.items }
     requires few { length entries.old.items ≤ most_entries }
@@ -671,7 +687,7 @@ fn push(entries: &mut Vec<Entry>, ids: &mut Ids, made: &Change<'_>, hash: IdHash
     requires ids { AreIdsOf ids.old entries.old.items }
     requires same { command ≡ made.now.command.now }
     requires hashed { IsHashOf hash made.now.firm.now made.now.id.now }
-    requires accepted { (t : HouseTable) × (answer_to t entries.old.items (call_of (entry_of_change made.now)) ≡ Accepted made.now.number made.now.status) }
+    requires accepted { IsAccepted entries.old.items (entry_of_change made.now) made.now.number }
     ensures items { entries.new.items ≡ entries.old.items ++ entry_of_change made.now ∷ [] }
     ensures ids { AreIdsOf ids.new (entries.old.items ++ entry_of_change made.now ∷ []) }
 {

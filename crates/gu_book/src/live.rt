@@ -1,6 +1,7 @@
 //! The live changes, read off the history by their numbers.
 ghost use Rattle.std.specs.Prelude.{◌≡◌, ◌≤◌, ◌==◌, length, find, option_map, IfOk, map};
-ghost use Rattle.gu_base.specs.History.{live};
+ghost use Rattle.gu_base.specs.Answers.{entry_of};
+ghost use Rattle.gu_base.specs.History.{live, numbered_as};
 ghost use Rattle.gu_base.specs.Limits.{most_entries};
 ghost use Rattle.gu_book.specs.Lookups.{AreReversalsOf};
 ghost use Rattle.gu_book.specs.Live.{record_of};
@@ -19,6 +20,19 @@ pub(crate) struct Change<'a> {
     pub(crate) id: &'a AllocId,
     pub(crate) status: State,
     pub(crate) command: &'a Command,
+}
+
+/// The entry of this number, if the history has so many.
+#[inline(always)]
+#[tactic(auto, using(gu_base::proofs::Numbered::positive, gu_base::proofs::Numbered::unknown_entry, gu_base::proofs::Numbered::known_entry))]
+pub(crate) fn entry_at(entries: &[Entry], number: Number) -> Option<&Entry>
+    ensures { option_map (λ e. numbered_as number e.now) result ≡ entry_of entries.now number }
+{
+    let place = number.get() as usize - 1;
+    if place >= entries.len() {
+        return None;
+    }
+    Some(&entries[place])
 }
 
 /// The live changes of a history: its changes that no Reverse names. Nothing is copied; a change is found by its number.
@@ -52,14 +66,13 @@ impl<'a> Live<'a> {
     }
 
     /// The change of this number, if it is live.
+    #[tactic(auto, using(crate::proofs::ByNumber::none_changed, crate::proofs::ByNumber::none_reversed, crate::proofs::ByNumber::reversed_some))]
     pub(crate) fn change(&self, number: Number) -> Option<Change<'a>>
         ensures { option_map record_of result ≡ find (λ r. r.number == number) self.now }
     {
-        let place = number.get() as usize - 1;
-        if place >= self.entries.len() {
+        let Some(entry) = entry_at(self.entries, number) else {
             return None;
-        }
-        let entry = &self.entries[place];
+        };
         if !is_change(&entry.command) {
             return None;
         }
@@ -76,6 +89,7 @@ impl<'a> Live<'a> {
     }
 
     /// The numbers of the changes, in order.
+    #[tactic(auto, using(crate::proofs::ByNumber::left_none))]
     pub(crate) fn numbers(&self, alloc: Global) -> Result<Vec<Number>, Memory>
         ensures { IfOk result (λ v. v.items ≡ map (λ r. r.number) self.now) }
     {

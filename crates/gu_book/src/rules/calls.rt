@@ -42,6 +42,7 @@ fn known_answer(number: Number, e: &Entry, command: &Command) -> Answer
 }
 
 /// The answer to a call whose firm and id stand in the history, whatever the rules say of its command.
+#[tactic(auto, using(crate::proofs::LookedUp::stands_found, crate::proofs::LookedUp::new_answer, crate::proofs::LookedUp::known_answer))]
 fn known(
     ids: &Ids,
     entries: &[Entry],
@@ -105,6 +106,7 @@ fn named_refusal(at: &Basis<'_>, by: &FirmId, command: &Command, entry: Number) 
 }
 
 /// Why a command is refused.
+#[tactic(auto, using(crate::proofs::LastRefusal::initiate_row, crate::proofs::LastRefusal::decline_row, crate::proofs::LastRefusal::reverse_row))]
 fn command_refusal(at: &Basis<'_>, by: &FirmId, command: &Command) -> Option<Refusal>
     requires looked_up { AreLookupsOf at.now.lookups.now at.now.entries.now }
     requires dealt { AreTermsOf at.now.house.now at.now.changes at.now.terms.now }

@@ -161,7 +161,7 @@ pub(crate) fn put(positions: &mut Positions, held: &Holding) -> Result<(), Memor
 #[inline(always)]
 pub(crate) fn take(positions: &mut Positions, held: &Holding)
     requires { held.now.lots ≤ lots_in positions.old held.now.key held.now.side }
-    ensures { HaveMoved positions.old positions.new (Some held.now) [] }
+    ensures { HaveMoved positions.new positions.old None (held.now ∷ []) }
 {
     positions.take(&held.key, held.side, held.lots);
 }

@@ -8,7 +8,7 @@ ghost use Rattle.gu_book.specs.Front.{IsStandingOn, own_refusal, rest_of};
 ghost use Rattle.gu_book.specs.Lookups.{AreLookupsOf};
 ghost use Rattle.gu_consent.specs.Given.{given};
 
-use crate::live::Live;
+use crate::live::{Live, entry_at};
 use crate::rules::basis::Basis;
 use crate::rules::nodes::node_of;
 use gu_base::{Command, Entry, FirmId, Kind, Node, Number, Refusal};
@@ -166,9 +166,8 @@ pub(crate) fn naming_refusal(
     requires standing { IsStandingOn at.now.house.now at.now.changes command.now number at.now.standing }
     ensures { result ≡ on_change at.now.house.now at.now.entries.now by.now (rest_of at.now.house.now at.now.entries.now by.now command.now) (entry_of at.now.entries.now number) }
 {
-    let place = number.get() as usize - 1;
-    if place >= at.entries.len() {
-        return Some(Refusal::UnknownEntry);
+    match entry_at(at.entries, number) {
+        Some(e) => entry_refusal(at, by, command, number, e),
+        None => Some(Refusal::UnknownEntry),
     }
-    entry_refusal(at, by, command, number, &at.entries[place])
 }

@@ -15,6 +15,7 @@ use gu_fees::Terms;
 use gu_parties::House;
 
 /// The terms of a giver and a taker who stand at this place, if they do.
+#[tactic(auto, using(crate::proofs::Dealing::filed_terms, crate::proofs::Dealing::terms_rate))]
 pub(crate) fn terms_at(
     house: &House,
     terms: &Terms,
@@ -47,6 +48,7 @@ pub(crate) fn terms_of(
 }
 
 /// The lots that a taker has used of what a giver gave it, and those that it may use, `None` without terms.
+#[tactic(auto, using(crate::proofs::Dealing::filed_limit, crate::proofs::Dealing::filed_used))]
 pub(crate) fn used_and_limit(
     house: &House,
     terms: &Terms,
@@ -102,6 +104,7 @@ pub(crate) fn ready(
 /// The same for two who have dealt nothing yet, so that the house table is asked once.
 #[cold]
 #[inline(never)]
+#[tactic(auto, using(gu_depend::proofs::TermsFollow::readied_follows))]
 fn ready_first(
     terms: &mut Terms,
     house: &House,
@@ -122,6 +125,7 @@ fn ready_first(
 }
 
 /// For which giver and taker an Agree or a Raise of this firm is, and what it does to their terms.
+#[tactic(auto, using(gu_depend::proofs::Deals::both_same))]
 pub(crate) fn deed_of(by: &FirmId, command: &Command) -> (FirmId, FirmId, Deed)
     requires { IsOfTerms command.now }
     ensures { (l : List RecordData) → deed_of l result.0 result.1 by.now command.now ≡ Some result.2 }
@@ -172,6 +176,7 @@ pub(crate) fn place_of(terms: &Terms, node: &Node) -> Option<usize>
 }
 
 /// Puts the claim of this number to the terms of the giver and the taker of its node, who stand at this place and for whom there has to be room.
+#[tactic(auto, using(crate::proofs::TermsKept::can_at, crate::proofs::TermsKept::claimed_at, crate::proofs::TermsKept::claimed_nowhere))]
 pub(crate) fn claim(terms: &mut Terms, place: Option<usize>, number: Number, node: &Node)
     requires place { place ≡ place_of_kind terms.old node.now.kind }
     requires room { CanClaim terms.old number node.now.lots node.now.kind }

@@ -1,12 +1,11 @@
-use Rattle.gu_book.proofs.Vocabulary.{entry_of_change}
-use Rattle.gu_book.proofs.LookedUp.{ids_added, ids_fewer}
+use Rattle.gu_book.proofs.{Vocabulary.{entry_of_change}, LookedUp.{ids_added, ids_fewer}}
 use Rattle.gu_book.proofs.book.push.Goals as goal
 
 pub add-requires-clause-few : goal.add-requires-clause-few
-add-requires-clause-few c = ids_fewer c.requires.ids c.requires.accepted.0 (entry_of_change c.args.made.now) c.args.made.now.number c.requires.accepted.1
+add-requires-clause-few c = ids_fewer c.requires.ids c.requires.accepted.house (entry_of_change c.args.made.now) c.args.made.now.number c.requires.accepted.answered
 
 pub returns-clause-ids : goal.returns-clause-ids
 returns-clause-ids c =
     let e = entry_of_change c.args.made.now in
-    ids_added c.requires.ids c.requires.accepted.0 e c.args.made.now.number c.requires.accepted.1 c.add.new.self
+    ids_added c.requires.ids c.requires.accepted.house e c.args.made.now.number c.requires.accepted.answered c.add.new.self
     (c.add.ensures c.args.entries.now.items e c.requires.hashed c.requires.ids.chained)

@@ -1,14 +1,12 @@
-use Rattle.std.proofs.Common.{rules, ◌≡◌, ◌∙◌, ℕ, IsSomeAnd, false, sym, ap, subst, arith, Some, None, option_map, option_and_then}
+use Rattle.std.proofs.Common.{rules, ◌≡◌, ◌∙◌, ℕ, false, sym, ap, subst, arith, Some, None, option_map, option_and_then}
 use Rattle.std.proofs.lemmas.Grind.{common_steps}
-use Rattle.gu_depend.proofs.Vocabulary.{Record}
+use Rattle.gu_depend.proofs.{Vocabulary.Record, ReadOff.nothing_placed, Finds.some_with}
 use Rattle.gu_depend.specs.Under.{deals_under}
-use Rattle.gu_depend.proofs.ReadOff.{nothing_placed}
 use Rattle.gu_base.proofs.Numbered.{rises_later}
-use Rattle.gu_book.proofs.Vocabulary.{HasTree, IsPlace, node_at, named_place, place_in, change_of, record_of, is_of_trees}
+use Rattle.gu_book.proofs.Vocabulary.{IsPlace, named_place, place_in, change_of, record_of, is_of_trees}
 use Rattle.gu_tree.specs.Grove.{place_of}
 use Rattle.gu_book.specs.Holdings.{deal_of}
-use Rattle.gu_book.proofs.OnePlace.{one_place}
-use Rattle.gu_book.proofs.Visited.{placeless, some_place, way_to, parts_of_named}
+use Rattle.gu_book.proofs.{OnePlace.one_place, Visited.{placeless, way_to, parts_of_named}}
 use Rattle.gu_book.proofs.found.seek_change.Goals.{After-found_at-found, Then-not-is_of_trees}
 use Rattle.gu_book.proofs.found.seek_change.Goals as goal
 
@@ -20,16 +18,14 @@ pub returns-clause-undone : goal.returns-clause-undone
 returns-clause-undone c =
     let l = c.args.changes.now in
     let are = c.requires.trees in
-    let at : IsSomeAnd (place_of c.args.trees.now c.args.number) (λ n. IsPlace c.args.trees.now n c.in-Some-named.spot.trade c.named.new.path.items) =
-    rw c.in-Some-named.is at c.named.ensures.found in
-    let tree : HasTree c.args.trees.now c.in-Some-named.spot.trade (λ v. node_at c.named.new.path.items v ≡ Some c.in-Some-named.spot.node.now) = rw c.in-Some-named.is at c.named.ensures.node in
-    let m = some_place (λ n. IsPlace c.args.trees.now n c.in-Some-named.spot.trade c.named.new.path.items) (place_of c.args.trees.now c.args.number) at in
+    let m = some_with (λ n. IsPlace c.args.trees.now n c.in-Some-named.spot.trade c.named.new.path.items) (place_of c.args.trees.now c.args.number)
+    (rw c.in-Some-named.is at c.named.ensures.found) in
     record {
       name = m.0;
-      place = sym (are.filed.places c.args.number) ∙ m.1;
-      found = c.found_at-found.ensures.found l m.0 c.args.trees.now are m.2 tree;
+      place = sym (are.filed.places c.args.number) ∙ m.1.0;
+      found = c.found_at-found.ensures.found l m.0 c.args.trees.now are m.1.1 (rw c.in-Some-named.is at c.named.ensures.node);
       there = λ h filed. subst (λ (k : ℕ). IsPlace h m.0 k c.named.new.path.items) (sym c.found_at-found.ensures.trade)
-          (one_place are.filed m.0 c.in-Some-named.spot.trade c.named.new.path.items m.2 h filed);
+          (one_place are.filed m.0 c.in-Some-named.spot.trade c.named.new.path.items m.1.1 h filed);
       deal = c.traded_under.ensures ∙ ap (deal_of l) (sym c.found_at-found.ensures.trade);
     }
 
@@ -38,10 +34,8 @@ pub returns-clause-standing : goal.returns-clause-standing
 returns-clause-standing c = λ t legal dealt.
     let l = c.args.changes.now in
     let are = c.requires.trees in
-    let at : IsSomeAnd (place_of c.args.trees.now c.args.number) (λ n. IsPlace c.args.trees.now n c.in-Some-named.spot.trade c.named.new.path.items) =
-    rw c.in-Some-named.is at c.named.ensures.found in
-    let tree : HasTree c.args.trees.now c.in-Some-named.spot.trade (λ v. node_at c.named.new.path.items v ≡ Some c.in-Some-named.spot.node.now) = rw c.in-Some-named.is at c.named.ensures.node in
-    c.first_standing_at-sought.ensures t l c.args.trees.now c.named.new.path.items (rises_later 0 1 l (omega arith) are.rises) legal are.filed at tree
+    c.first_standing_at-sought.ensures t l c.args.trees.now c.named.new.path.items (rises_later 0 1 l (omega arith) are.rises) legal are.filed
+    (rw c.in-Some-named.is at c.named.ensures.found) (rw c.in-Some-named.is at c.named.ensures.node)
 
 -- a change that isn't one of trees has no place in them
 without_place : (c : Then-not-is_of_trees) → place_in c.args.changes.now c.args.number ≡ None

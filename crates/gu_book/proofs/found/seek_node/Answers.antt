@@ -1,16 +1,14 @@
-use Rattle.std.proofs.Common.{◌≡◌, ◌∙◌, sym, ap, subst, arith, Some}
+use Rattle.std.proofs.{Common.{◌≡◌, ◌∙◌, sym, ap, subst, arith, Some}, lemmas.Option.same_Some}
 use Rattle.gu_depend.proofs.Vocabulary.{depth_of, node_of, Node}
-use Rattle.std.proofs.lemmas.Option.{same_Some}
 use Rattle.gu_base.proofs.Basics.{none_is_some}
-use Rattle.gu_book.proofs.Vocabulary.{IsFoundAs, IsNamedBy}
-use Rattle.gu_book.proofs.OnePlace.{found_none, found_node, lies_there}
+use Rattle.gu_book.proofs.{Vocabulary.{IsFoundAs, IsNamedBy}, OnePlace.{found_none, found_node, lies_there}}
 use Rattle.gu_book.proofs.found.seek_node.Goals.{After-found_at-found}
 use Rattle.gu_book.proofs.found.seek_node.Goals as goal
 
 pub unreachable-requires : goal.unreachable-requires
 unreachable-requires c =
-    let l = c.args.changes.now in
-    none_is_some (node_of l c.args.name) c.in-Some.node (found_none c.requires.trees c.args.name (rw c.in_default-find.is at c.find.ensures.absent)) (sym c.node_of.ensures ∙ c.in-Some.is)
+    none_is_some (node_of c.args.changes.now c.args.name) c.in-Some.node
+    (found_none c.requires.trees c.args.name (rw c.in_default-find.is at c.find.ensures.absent)) (sym c.node_of.ensures ∙ c.in-Some.is)
 
 pub returns-in_default-clause-named : goal.returns-in_default-clause-named
 returns-in_default-clause-named c = rw c.requires.nothing.named (sym c.node_of.ensures ∙ c.in_default.is)
@@ -36,14 +34,11 @@ returns-clause-there c =
     lies_there c.requires.trees.filed c.args.name (record { node = c.in-Some.node; found = c.found_at-found.result }) c.in-Some-find.spot.trade c.find.new.path.items
     is.1 c.found_at-found.ensures.trade (rw c.in-Some-find.is at c.find.ensures.found)
 
+its_depth : (c : After-found_at-found) → depth_of c.args.changes.now c.args.name ≡ c.found_at-found.result.depth
+its_depth c = let is = its_node c in ap (depth_of c.args.changes.now) (sym is.1) ∙ is.2.deep
+
 pub returns-clause-most : goal.returns-clause-most
-returns-clause-most c =
-    let is = its_node (goal.at.returns-clause-most c).After-found_at-found in
-    let deep = ap (depth_of c.args.changes.now) (sym is.1) ∙ is.2.deep in
-    omega (arith, deep)
+returns-clause-most c = let deep = its_depth (goal.at.returns-clause-most c).After-found_at-found in omega (arith, deep)
 
 pub returns-clause-least : goal.returns-clause-least
-returns-clause-least c = λ _.
-    let is = its_node (goal.at.returns-clause-least c).After-found_at-found in
-    let deep = ap (depth_of c.args.changes.now) (sym is.1) ∙ is.2.deep in
-    omega (arith, deep)
+returns-clause-least c = λ _. let deep = its_depth (goal.at.returns-clause-least c).After-found_at-found in omega (arith, deep)

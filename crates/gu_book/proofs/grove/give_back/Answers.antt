@@ -1,6 +1,5 @@
 use Rattle.gu_tree.specs.Shown.{named_node}
-use Rattle.gu_book.proofs.FiledChanges.{back_names, may_give_back, given_back}
-use Rattle.gu_book.proofs.OnePlace.{named_spot, never_none}
+use Rattle.gu_book.proofs.{FiledChanges.{back_names, may_decide, given_back}, OnePlace.{named_spot, never_none}}
 use Rattle.gu_book.proofs.grove.give_back.Goals as goal
 
 pub unreachable-requires : goal.unreachable-requires
@@ -10,9 +9,8 @@ unreachable-requires c = never_none c.args.trees.now (named_node c.args.made.now
 pub give_back-requires-clause-offered : goal.give_back-requires-clause-offered
 give_back-requires-clause-offered c =
     let due = c.requires.due in
-    let names = (back_names c.requires.back.0 c.args.state c.args.made.now.command.now c.requires.back.1).0 in
-    let s = named_spot due.2 c.args.sought.now.named c.args.sought.now.path.items c.requires.there c.requires.back.0 names c.in-Some.named c.in-Some.is in
-    may_give_back due.2 s c.args.state c.requires.back.1
+    let names = back_names c.requires.back.0 c.args.state c.args.made.now.command.now c.requires.back.1 in
+    may_decide due.2 (named_spot due.2 c.args.sought.now.named c.args.sought.now.path.items c.requires.there c.requires.back.0 names.0 c.in-Some.named c.in-Some.is) names.1
 
 pub give_back-requires-clause-above : goal.give_back-requires-clause-above
 give_back-requires-clause-above c = let due = c.requires.due in due.2.later

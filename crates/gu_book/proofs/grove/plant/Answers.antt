@@ -1,6 +1,5 @@
 use Rattle.std.proofs.Common.{◌<◌, refl, ap, arith}
-use Rattle.gu_tree.specs.Rose.{Rose, head_of}
-use Rattle.gu_tree.specs.Grove.{last_place}
+use Rattle.gu_tree.specs.{Rose.{Rose, head_of}, Grove.last_place}
 use Rattle.gu_book.proofs.FiledChanges.{trade_filed}
 use Rattle.gu_book.proofs.grove.plant.Goals as goal
 

@@ -1,14 +1,10 @@
 use Rattle.std.proofs.Common.{ap, List}
 use Rattle.std.specs.Prelude.{OnOk, Result, Ok, Err}
 use Rattle.gu_tree.specs.Shown.{named_node}
-use Rattle.gu_base.specs.House.{House}
-use Rattle.gu_base.specs.declared.entry.Record.{Record}
-use Rattle.gu_book.specs.Filed.{IsNext}
-use Rattle.gu_book.specs.Live.{record_of}
-use Rattle.gu_book.proofs.Filed.{Spot}
-use Rattle.gu_book.proofs.FiledChanges.{may_split, has_accounts, some_parts, few_parts, not_deep, split_filed}
-use Rattle.gu_book.proofs.OnePlace.{named_spot, never_none}
-use Rattle.gu_book.proofs.grove.split.Goals.{In-Some}
+use Rattle.gu_base.specs.{House.House, declared.entry.Record.Record}
+use Rattle.gu_book.specs.{Filed.IsNext, Live.record_of}
+use Rattle.gu_book.proofs.{Filed.Spot, OnePlace.{named_spot, never_none}, grove.split.Goals.In-Some}
+use Rattle.gu_book.proofs.FiledChanges.{may_split, has_accounts, part_count, not_deep, split_filed}
 use Rattle.gu_book.proofs.grove.split.Goals as goal
 
 pub unreachable-requires : goal.unreachable-requires
@@ -28,8 +24,8 @@ split-requires c =
     record {
       leaf = may_split next s c.args.parts.now is;
       accounts = has_accounts next s c.args.parts.now is;
-      some = some_parts next s c.args.parts.now is;
-      most = few_parts next s c.args.parts.now is;
+      some = (part_count next s c.args.parts.now is).0;
+      most = (part_count next s c.args.parts.now is).1;
       shallow = not_deep next s c.args.parts.now is;
       above = next.later;
       place_room = c.requires.place_room;

@@ -13,8 +13,3 @@ pub returns-clause-positions : goal.returns-clause-positions
 returns-clause-positions c =
     let book = c.args.book.now in
     balance.positions_sum book.house (live book.history) (replay_from_legal book.house (live book.history) c.history.ensures.legal) (sums.live_rises book.history)
-
-pub returns-clause-fees : goal.returns-clause-fees
-returns-clause-fees c =
-    let book = c.args.book.now in
-    balance.fees_balance book.house (live book.history) (replay_from_legal book.house (live book.history) c.history.ensures.legal)

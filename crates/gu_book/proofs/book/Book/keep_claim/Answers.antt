@@ -1,17 +1,15 @@
-use Rattle.std.proofs.Common.{◌<◌, refl, ap}
+use Rattle.std.proofs.Common.{◌<◌, ap}
 use Rattle.gu_depend.proofs.Vocabulary.{live, is_change}
 use Rattle.gu_book.proofs.Vocabulary.{last_entry, entry_of_change, record_of}
-use Rattle.gu_book.proofs.Books.{above_last, book_more, few_live, may_follow, still, still_dealt, whole_there}
-use Rattle.gu_book.proofs.Charging.{fees_push, has_room}
-use Rattle.gu_book.proofs.Filed.{due_same, follows_same}
-use Rattle.gu_book.proofs.OnePlace.{next_there}
+use Rattle.gu_book.proofs.Books.{above_last, book_more, few_live, may_follow, whole_there}
+use Rattle.gu_book.proofs.{Charging.{fees_push, has_room}, Filed.{due_same, follows_same}}
 use Rattle.gu_book.proofs.TermsKept.{can_claim, claim_dealt, claimed_last}
-use Rattle.gu_book.proofs.TradesKept.{TakesWhole, few_whole, claim_costs, claim_fits, claim_there, claim_undone, claim_whole, claim_stands}
+use Rattle.gu_book.proofs.TradesKept.{TakesWhole, few_whole, claim_costs, claim_fits, claim_there, claim_whole, claim_stands}
 use Rattle.gu_book.proofs.book.Book.keep_claim.Goals.{After-whole_of-whole}
 use Rattle.gu_book.proofs.book.Book.keep_claim.Goals as goal
 
 -- the claim may follow the live changes, and takes the whole of the node that was found
-taking : (c : After-whole_of-whole) → TakesWhole c.self.inside.house (live c.self.inside.entries.items) (record_of c.args.made.now) c.self.inside.trees c.self.inside.fees
+taking : (c : After-whole_of-whole) → TakesWhole c.self.inside.house (live c.self.inside.entries.items) (record_of c.args.made.now) c.self.inside.trees
     c.self.inside.positions c.args.node c.in-Some.named.node c.whole_of-whole.result
 taking c =
     let is = rw (← c.self.view_is) at c.requires.named in
@@ -61,19 +59,10 @@ claim-requires-clause-due c =
     let of = taking (goal.at.claim-requires-clause-due c).After-whole_of-whole in
     due_same (record_of c.args.made.now) c.self.inside.trees c.ready.new.self c.in_ok-ready.ensures.same (c.self.inside.house, live c.self.inside.entries.items, of.may.next)
 
-pub claim-requires-clause-there : goal.claim-requires-clause-there
-claim-requires-clause-there c =
-    let of = taking (goal.at.claim-requires-clause-there c).After-whole_of-whole in
-    next_there of.may.next c.ready.new.self c.in_ok-ready.ensures.same c.args.sought.now.named c.args.sought.now.path.items
-    (rw (← c.self.view_is) at c.requires.named) (rw (← c.self.view_is) at c.requires.there)
-
 pub take-requires-2 : goal.take-requires-2
 take-requires-2 c =
     let of = taking (goal.at.take-requires-2 c).After-whole_of-whole in
     claim_whole of c.args.account.now c.requires.claim c.put.new.positions (rw c.in_account-claimed.ensures at c.in_ok-put.ensures.put)
-
-pub push-requires-clause-accepted : goal.push-requires-clause-accepted
-push-requires-clause-accepted c = (c.self.inside.house, simp (c.make_room.ensures.items) (rw (← c.self.view_is) at c.requires.accepted))
 
 pub invariant_of-self-2 : goal.invariant_of-self-2
 invariant_of-self-2 c =
@@ -95,33 +84,3 @@ invariant_of-self-2 c =
     (claimed_last c.ready_claim.new.terms c.claim-2.new.terms c.args.made.now.number c.in-Some.named.node.lots c.in-Some.named.node.kind (above w) c.claim-2.ensures))
 
 -- ---- where a growth is refused
-
-pub invariant_of-self-in_err-ready : goal.invariant_of-self-in_err-ready
-invariant_of-self-in_err-ready c =
-    simp (c.make_room.ensures.items)
-    (still c.self.invariant c.ready.new.self c.in_err-ready.ensures.same c.make_room.new.ids c.make_room.ensures.ids c.self.inside.positions (λ at side. refl))
-
-pub invariant_of-self-in_err-place : goal.invariant_of-self-in_err-place
-invariant_of-self-in_err-place c =
-    simp (c.make_room.ensures.items)
-    (still_dealt c.self.invariant c.ready.new.self c.in_ok-ready.ensures.same c.make_room.new.ids c.make_room.ensures.ids
-    c.self.inside.fees c.self.invariant.charged c.self.inside.positions (λ at side. refl)
-    c.ready_claim.new.terms (c.in_err-place.ensures.same (live c.self.inside.entries.items) c.self.invariant.dealt) c.in_err-place.ensures.last)
-
-pub invariant_of-self-in_err-put : goal.invariant_of-self-in_err-put
-invariant_of-self-in_err-put c =
-    simp (c.make_room.ensures.items)
-    (still_dealt c.self.invariant c.ready.new.self c.in_ok-ready.ensures.same c.make_room.new.ids c.make_room.ensures.ids
-    c.self.inside.fees c.self.invariant.charged c.put.new.positions c.in_err-put.ensures.same
-    c.ready_claim.new.terms (c.in_ok-place.ensures.same (live c.self.inside.entries.items) c.self.invariant.dealt) c.in_ok-place.ensures.last)
-
-pub invariant_of-self-in-Err : goal.invariant_of-self-in-Err
-invariant_of-self-in-Err c =
-    let of = taking (goal.at.invariant_of-self-in-Err c).After-whole_of-whole in
-    let put = rw c.in_account-claimed.ensures at c.in_ok-put.ensures.put in
-    let taken = rw c.in_account-claimed.ensures at c.take.ensures in
-    simp (c.make_room.ensures.items)
-    (still_dealt c.self.invariant c.ready.new.self c.in_ok-ready.ensures.same c.make_room.new.ids c.make_room.ensures.ids
-    c.put-2.new.fees (record { sums = c.in-Err.ensures.same _ c.self.invariant.charged.sums; small = c.self.invariant.charged.small })
-    c.take.new.positions (claim_undone of c.args.account.now c.requires.claim c.put.new.positions put c.take.new.positions taken)
-    c.ready_claim.new.terms (c.in_ok-place.ensures.same (live c.self.inside.entries.items) c.self.invariant.dealt) c.in_ok-place.ensures.last)

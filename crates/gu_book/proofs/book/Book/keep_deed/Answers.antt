@@ -1,8 +1,6 @@
-use Rattle.std.proofs.Common.{refl, sym}
+use Rattle.std.proofs.Common.{sym}
 use Rattle.gu_depend.proofs.Vocabulary.{live}
-use Rattle.gu_book.proofs.Vocabulary.{entry_of_change}
-use Rattle.gu_book.proofs.Books.{book_dealt, may_deal, still_dealt}
-use Rattle.gu_book.proofs.TermsKept.{can_put_at}
+use Rattle.gu_book.proofs.{Vocabulary.{entry_of_change}, Books.{book_dealt, may_deal}, TermsKept.{can_put_at}}
 use Rattle.gu_book.proofs.book.Book.keep_deed.Goals as goal
 
 pub put_at-requires : goal.put_at-requires
@@ -14,9 +12,6 @@ put_at-requires c =
     (entry_of_change c.args.made.now) ok c.requires.of_terms c.deed_of-giver.result.0 c.deed_of-giver.result.1 c.deed_of-giver.result.2 (c.deed_of-giver.ensures l)
     c.ready.new.terms (c.in_ok-place.ensures.same l c.self.invariant.dealt) c.in_ok-place.ensures.last c.in_ok-place.ensures.ready)
 
-pub push-requires-clause-accepted : goal.push-requires-clause-accepted
-push-requires-clause-accepted c = (c.self.inside.house, simp (c.make_room.ensures.items) (rw (← c.self.view_is) at c.requires.accepted))
-
 pub invariant_of-self-2 : goal.invariant_of-self-2
 invariant_of-self-2 c =
     let ok = rw (← c.self.view_is) at c.requires.accepted in
@@ -27,10 +22,3 @@ invariant_of-self-2 c =
     (entry_of_change c.args.made.now) ok c.requires.of_terms c.deed_of-giver.result.0 c.deed_of-giver.result.1 c.deed_of-giver.result.2 (c.deed_of-giver.ensures l)
     c.ready.new.terms (c.in_ok-place.ensures.same l c.self.invariant.dealt) c.in_ok-place.ensures.last c.push.new.ids known c.put_at.new.self
     (c.put_at.ensures c.deed_of-giver.result.0 c.deed_of-giver.result.1 (sym c.in_ok-place.ensures.place)))
-
-pub invariant_of-self-in_err-place : goal.invariant_of-self-in_err-place
-invariant_of-self-in_err-place c =
-    simp (c.make_room.ensures.items)
-    (still_dealt c.self.invariant c.self.inside.trees (record { trees = refl; slots = refl }) c.make_room.new.ids c.make_room.ensures.ids
-    c.self.inside.fees c.self.invariant.charged c.self.inside.positions (λ at side. refl)
-    c.ready.new.terms (c.in_err-place.ensures.same (live c.self.inside.entries.items) c.self.invariant.dealt) c.in_err-place.ensures.last)

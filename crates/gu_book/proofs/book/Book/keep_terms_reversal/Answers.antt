@@ -1,13 +1,9 @@
 use Rattle.std.proofs.Common.{◌≡◌, ℕ, refl, subst}
 use Rattle.gu_depend.proofs.Vocabulary.{live, without}
 use Rattle.gu_book.proofs.Vocabulary.{AreTermsOf, IsTakenOut, AreFeesOf, IsGroveOf, ArePositionsOf, entry_of_change}
-use Rattle.gu_book.proofs.AllShown.{undone, undone_number, undone_may_go, undone_of_terms}
-use Rattle.gu_book.proofs.Books.{book_less}
+use Rattle.gu_book.proofs.{AllShown.{undone, undone_number, undone_may_go, undone_of_terms}, Books.{book_less}}
 use Rattle.gu_book.proofs.TermsKept.{terms_undealt, undealt_filed, undealt_fees, undealt_stands}
 use Rattle.gu_book.proofs.book.Book.keep_terms_reversal.Goals as goal
-
-pub push-requires-clause-accepted : goal.push-requires-clause-accepted
-push-requires-clause-accepted c = (c.self.inside.house, simp (c.make_room.ensures.items) (rw (← c.self.view_is) at c.requires.accepted))
 
 pub invariant_of-self-2 : goal.invariant_of-self-2
 invariant_of-self-2 c =

@@ -1,9 +1,7 @@
-use Rattle.std.proofs.Common.{refl, ap}
-use Rattle.gu_depend.proofs.Vocabulary.{live, is_change}
-use Rattle.gu_book.proofs.Vocabulary.{pair_of, entry_of_change, record_of}
-use Rattle.gu_book.proofs.Books.{book_apart, may_follow, still}
-use Rattle.gu_book.proofs.Filed.{due_same, follows_same}
-use Rattle.gu_book.proofs.TradesKept.{trade_free, trade_fits, trade_stands}
+use Rattle.std.proofs.Common.{sym, ap}
+use Rattle.gu_depend.proofs.Vocabulary.{charge_of, live, is_change}
+use Rattle.gu_book.proofs.{Vocabulary.{pair_of, entry_of_change, record_of}, Books.{book_apart, may_follow}}
+use Rattle.gu_book.proofs.{Filed.{due_same, follows_same}, TradesKept.{trade_fits, trade_stands}}
 use Rattle.gu_book.proofs.book.Book.keep_trade.Goals as goal
 
 pub put-requires : goal.put-requires
@@ -16,19 +14,6 @@ plant-requires-clause-due c =
     let may = may_follow c.self.invariant c.args.made.now.number (entry_of_change c.args.made.now) (rw (← c.self.view_is) at c.requires.accepted) (ap is_change c.requires.trade) in
     due_same (record_of c.args.made.now) c.self.inside.trees c.ready.new.self c.in_ok-ready.ensures.same (c.self.inside.house, live c.self.inside.entries.items, may.next)
 
-pub push-requires-clause-accepted : goal.push-requires-clause-accepted
-push-requires-clause-accepted c = (c.self.inside.house, simp (c.make_room.ensures.items) (rw (← c.self.view_is) at c.requires.accepted))
-
-pub invariant_of-self-in_err-ready : goal.invariant_of-self-in_err-ready
-invariant_of-self-in_err-ready c =
-    simp (c.make_room.ensures.items)
-    (still c.self.invariant c.ready.new.self c.in_err-ready.ensures.same c.make_room.new.ids c.make_room.ensures.ids c.self.inside.positions (λ at side. refl))
-
-pub invariant_of-self-in_err-put : goal.invariant_of-self-in_err-put
-invariant_of-self-in_err-put c =
-    simp (c.make_room.ensures.items)
-    (still c.self.invariant c.ready.new.self c.in_ok-ready.ensures.same c.make_room.new.ids c.make_room.ensures.ids c.put.new.positions c.in_err-put.ensures.same)
-
 pub invariant_of-self-2 : goal.invariant_of-self-2
 invariant_of-self-2 c =
     let ok = rw (← c.self.view_is) at c.requires.accepted in
@@ -38,6 +23,6 @@ invariant_of-self-2 c =
     c.in_ok-ready.ensures.same c.plant.ensures.follows c.self.inside.house l may.next in
     simp (c.push.ensures.items, c.make_room.ensures.items)
     (book_apart c.self.invariant c.args.made.now.number (entry_of_change c.args.made.now) ok c.push.new.ids (rw c.make_room.ensures.items at c.push.ensures.ids)
-    (ap is_change c.requires.trade) c.plant.new.trees filed c.plant.ensures.last (trade_free may c.args.traded.now c.requires.trade)
+    (ap is_change c.requires.trade) c.plant.new.trees filed c.plant.ensures.last (sym (ap (charge_of c.self.inside.house l) c.requires.trade))
     c.put.new.positions (trade_stands may c.args.traded.now c.requires.trade c.put.new.positions c.in_ok-put.ensures.put)
     (ap (pair_of l c.args.made.now.firm.now) c.requires.trade))

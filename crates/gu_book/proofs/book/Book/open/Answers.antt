@@ -1,6 +1,5 @@
 use Rattle.std.proofs.Common.{◌∙◌, ap, arith}
-use Rattle.gu_book.proofs.Vocabulary.{BookView, stored}
-use Rattle.gu_book.proofs.Opening.{opened_all, opened_next}
+use Rattle.gu_book.proofs.{Vocabulary.{BookView, stored}, Opening.{opened_all, opened_next}}
 use Rattle.gu_book.proofs.book.Book.open.Goals as goal
 
 pub loop-place-preserved : goal.loop-place-preserved

@@ -1,6 +1,6 @@
 use Rattle.std.proofs.Common.{◌∙◌, sym}
-use Rattle.gu_book.proofs.OnePlace.{owned_as}
+use Rattle.gu_book.proofs.FiledChanges.{owns_at}
 use Rattle.gu_book.proofs.found.Found.is_owned_by.Goals as goal
 
 pub returns : goal.returns
-returns c = λ l x is. c.eq.ensures ∙ sym (owned_as is c.args.firm.now)
+returns c = λ l x is. c.eq.ensures ∙ sym (owns_at l c.args.firm.now x.name c.args.self.now.head.place is.place)

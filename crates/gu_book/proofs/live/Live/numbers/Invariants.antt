@@ -1,6 +1,7 @@
-use Rattle.std.proofs.Common.{◌≡◌, ◌++◌, map}
-use Rattle.gu_book.proofs.ByNumber.{past}
+use Rattle.std.proofs.Common.{◌≡◌, List, ◌++◌, map}
+use Rattle.gu_depend.proofs.Vocabulary.{Entry, live}
+use Rattle.gu_book.proofs.ByNumber.{left}
 use Rattle.gu_book.proofs.live.Live.numbers.Given as goal
 
 abbrev pub invariant-loop-place : goal.invariant-loop-place
-invariant-loop-place l = l.numbers.items ++ map (λ r. r.number) (past l.place l.self) ≡ map (λ r. r.number) l.self
+invariant-loop-place l = (h : List Entry) → live h ≡ l.self → l.numbers.items ++ map (λ r. r.number) (left h l.place) ≡ map (λ r. r.number) l.self

@@ -1,7 +1,6 @@
 use Rattle.std.proofs.Common.{◌<◌, ◌^◌, arith, subst, sum_by}
 use Rattle.gu_depend.proofs.Vocabulary.{Part}
-use Rattle.gu_book.proofs.Vocabulary.{HasFewLots}
-use Rattle.gu_book.proofs.PartsAway.{moved_few}
+use Rattle.gu_book.proofs.{Vocabulary.{HasFewLots}, PartsAway.{moved_few}}
 use Rattle.gu_book.proofs.rules.holdings.goes_back.Goals as goal
 
 pub lots_away-requires : goal.lots_away-requires

@@ -1,7 +1,6 @@
 use Rattle.std.proofs.Common.{◌≡◌, ◌∙◌, sym, ap, Some, option_and_then}
 use Rattle.gu_depend.proofs.Vocabulary.{parent, Node}
-use Rattle.gu_book.proofs.Vocabulary.{held_above}
-use Rattle.gu_book.proofs.OnePlace.{found_node, above_as}
+use Rattle.gu_book.proofs.{Vocabulary.{held_above}, OnePlace.{found_node, above_as}}
 use Rattle.gu_book.proofs.rules.holdings.holding_above.Goals as goal
 
 pub returns-in-Some-find : goal.returns-in-Some-find

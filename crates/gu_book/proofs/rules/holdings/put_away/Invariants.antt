@@ -1,5 +1,6 @@
-use Rattle.std.proofs.Common.{◌≡◌, ◌+◌, ◌<◌, ◌^◌, take, drop, None, filter_map, sum_by}
-use Rattle.gu_book.proofs.Vocabulary.{part_away, HaveRoom, HaveMoved, Holding}
+use Rattle.std.proofs.Common.{◌≡◌, ◌+◌, ◌<◌, ◌^◌, drop, filter_map, sum_by}
+use Rattle.gu_depend.proofs.Vocabulary.{Side}
+use Rattle.gu_book.proofs.Vocabulary.{Key, lots_in, part_away, counted_at, HaveRoom, Holding}
 use Rattle.gu_book.proofs.rules.holdings.put_away.Given as goal
 
 abbrev pub invariant-loop-part : goal.invariant-loop-part
@@ -8,7 +9,9 @@ invariant-loop-part l = record {
   firm : l.key.firm ≡ l.whole.key.firm;
   instrument : l.key.instrument ≡ l.whole.key.instrument;
   room : HaveRoom l.positions (filter_map (part_away l.whole l.by) (drop l.part-index l.parts));
-  put : HaveMoved l.fn.positions l.positions None (filter_map (part_away l.whole l.by) (take l.part-index l.parts));
-  moved : l.moved ≡ sum_by (λ (h : Holding). h.lots) (filter_map (part_away l.whole l.by) (take l.part-index l.parts));
-  fits : l.moved + sum_by (λ (h : Holding). h.lots) (filter_map (part_away l.whole l.by) (drop l.part-index l.parts)) < 2 ^ 64;
+  put : (at : Key) (side : Side) → lots_in l.positions at side + sum_by (counted_at at side) (filter_map (part_away l.whole l.by) (drop l.part-index l.parts))
+      ≡ lots_in l.fn.positions at side + sum_by (counted_at at side) (filter_map (part_away l.whole l.by) l.parts);
+  moved : l.moved + sum_by (λ (h : Holding). h.lots) (filter_map (part_away l.whole l.by) (drop l.part-index l.parts))
+      ≡ sum_by (λ (h : Holding). h.lots) (filter_map (part_away l.whole l.by) l.parts);
+  fits : sum_by (λ (h : Holding). h.lots) (filter_map (part_away l.whole l.by) l.parts) < 2 ^ 64;
 }

@@ -3,8 +3,7 @@ use Rattle.std.proofs.lemmas.Grind.{common_steps}
 use Rattle.gu_depend.proofs.Vocabulary.{Record, live, numbered_as, is_change, reversal_of, is_among, parties_of}
 use Rattle.gu_base.proofs.Basics.{mapped_none}
 use Rattle.gu_book.specs.Front.{IsStandingOn, own_refusal}
-use Rattle.gu_book.proofs.Vocabulary.{given, rest_of}
-use Rattle.gu_book.proofs.LastRefusal.{last_kept, last_of_row}
+use Rattle.gu_book.proofs.{Vocabulary.{given, rest_of}, LastRefusal.{last_kept, last_of_row}}
 use Rattle.gu_book.proofs.rules.naming.entry_refusal.Goals as goal
 
 pub returns : goal.returns

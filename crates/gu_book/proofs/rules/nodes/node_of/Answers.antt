@@ -1,9 +1,8 @@
 use Rattle.std.proofs.Common.{sym, ◌∙◌, ap, ◌≡◌, ◌==◌, option_map, find}
 use Rattle.std.proofs.lemmas.Bool.{eqb-true}
 use Rattle.gu_depend.proofs.Vocabulary.{nodes_of, same_name, Record}
-use Rattle.gu_book.proofs.Vocabulary.{record_of}
+use Rattle.gu_book.proofs.{Vocabulary.{record_of}, ByNumber.{node_found}}
 use Rattle.gu_base.proofs.Searches.{find_passes}
-use Rattle.gu_book.proofs.ByNumber.{node_found, node_none}
 use Rattle.gu_book.proofs.rules.nodes.node_of.Goals as goal
 
 pub returns-in-Some : goal.returns-in-Some
@@ -15,8 +14,3 @@ returns-in-Some c =
     c.made_by.ensures
     ∙ (ap (λ k. find (λ x. same_name x.name n) (nodes_of k made.firm made.command)) (sym its_number)
     ∙ sym (node_found 1 c.args.changes.now n made c.requires found))
-
-pub returns-in-None : goal.returns-in-None
-returns-in-None c =
-    let none = sym (rw c.entry.ensures at c.change.ensures) ∙ ap (option_map record_of) c.in-None.is in
-    sym (node_none c.args.changes.now c.args.name.now none)

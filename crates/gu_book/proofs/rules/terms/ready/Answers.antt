@@ -1,9 +1,7 @@
 use Rattle.std.proofs.Common.{◌≡◌, sym, ◌∙◌, ap, Some}
-use Rattle.gu_book.proofs.Vocabulary.{lookup, is_pair, IsReadied}
-use Rattle.gu_depend.proofs.Vocabulary.{agreement}
-use Rattle.gu_depend.proofs.TermsReadied.{readied_follows}
+use Rattle.gu_book.proofs.{Vocabulary.{lookup, is_pair, IsReadied}, rules.terms.ready.Goals.{After-ready_at}}
+use Rattle.gu_depend.proofs.{Vocabulary.{agreement}, TermsFollow.{readied_follows}}
 use Rattle.gu_fees.specs.Filing.{last_of}
-use Rattle.gu_book.proofs.rules.terms.ready.Goals.{After-ready_at}
 use Rattle.gu_book.proofs.rules.terms.ready.Goals as goal
 
 -- where the two stand
@@ -12,9 +10,6 @@ at c = sym c.place.ensures.value ∙ c.in-Some.is
 
 readied : (c : After-ready_at) → IsReadied c.args.terms.now c.ready_at.new.self c.args.giver.now c.args.taker.now (agreement c.args.house.now c.args.giver.now c.args.taker.now)
 readied c = c.ready_at.ensures.readied c.args.giver.now c.args.taker.now (agreement c.args.house.now c.args.giver.now c.args.taker.now) (at c)
-
-pub returns-clause-ready : goal.returns-clause-ready
-returns-clause-ready c = c.in_ok-ready_at.ensures.ready c.args.giver.now c.args.taker.now (at (goal.at.returns-clause-ready c).After-ready_at)
 
 pub returns-clause-place : goal.returns-clause-place
 returns-clause-place c =
