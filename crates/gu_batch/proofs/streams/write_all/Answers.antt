@@ -1,5 +1,5 @@
 use Rattle.std.proofs.Common.{◌-◌, ◌<◌, length, drop, ◌∙◌, arith, length-drop, length-take}
-use Rattle.gu_batch.proofs.Transfers.{Appends-more}
+use Rattle.gu_batch.proofs.Transfers.{Appends_more}
 use Rattle.gu_batch.proofs.streams.write_all.Goals as goal
 
 pub pieces-preserved-in-Ok : goal.pieces-preserved-in-Ok
@@ -11,6 +11,6 @@ pieces-preserved-in-Ok g c =
     let some : 0 < n = omega (arith, c.if-n-eq0.false) in
     record {
       within = omega (arith, before.within, c.in-Ok.ensures.bound, length-take (length bytes - at) (drop at bytes), length-drop at bytes);
-      written = Appends-more _ _ _ bytes at n before.written c.in-Ok.ensures.bytes;
+      written = Appends_more _ _ _ bytes at n before.written c.in-Ok.ensures.bytes;
       calm = c.in-Ok.ensures.worked some ∙ before.calm;
     }

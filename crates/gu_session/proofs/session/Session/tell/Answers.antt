@@ -5,7 +5,7 @@ use Rattle.gu_session.specs.Keeping.{Kept}
 use Rattle.gu_session.specs.declared.link.Link.{Link}
 use Rattle.gu_session.specs.Steps.{Seen, fits, tells, kept_from, tellings, new, time_of}
 use Rattle.gu_session.specs.Text.{wire}
-use Rattle.gu_session.proofs.Giving.{shut_gives, tells_give, length-tellings, tells_too_many}
+use Rattle.gu_session.proofs.Giving.{shut_gives, tells_give, length_tellings, tells_too_many}
 use Rattle.gu_session.proofs.session.Session.tell.Goals.{After-has_numbers}
 use Rattle.gu_session.proofs.session.Session.tell.Goals as goal
 
@@ -17,7 +17,7 @@ has_room : (c : After-has_numbers) → c.has_numbers.result ≡ nat_le (c.args.s
 has_room c =
     let s = c.args.self.now in
     let link : c.self.inside.link ≡ s.link = ap (λ (t : Seen). t.link) c.self.view_is in
-    let len = length-tellings (time_of c.args.moment) s.link.out s.link.waiting c.args.answer.now c.args.reports.now in
+    let len = length_tellings (time_of c.args.moment) s.link.out s.link.waiting c.args.answer.now c.args.reports.now in
     let answers = rw link at c.answers.ensures in
     let has = rw link at c.has_numbers.ensures in
     grind (arith, nat_tests, len, answers, has)
