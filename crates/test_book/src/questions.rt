@@ -1,15 +1,13 @@
-//! A question, and what the book tells.
+//! A question, and what the book tells. What writes says whether it could.
 
-use gu_base::{AccountId, FirmId, InstrumentId, Pair, Place};
+use gu_base::{AccountId, FirmId, InstrumentId, Number, Pair, Place};
 use gu_book::Book;
 use gu_book::laws::live_changes_alone;
 use gu_tree::Row;
 use std::alloc::Global;
-use std::io;
-use std::io::Eprint;
 use test_days::{first_word, number_of, twice};
 
-fn show_position(rt: &impl Print, book: &Book, words: &[u8]) -> io::Result<()> {
+fn show_position(rt: &HostRuntime, book: &Book, words: &[u8]) -> bool {
     let (firm, rest) = first_word(words);
     let (account, instrument) = first_word(rest);
     match (
@@ -19,88 +17,96 @@ fn show_position(rt: &impl Print, book: &Book, words: &[u8]) -> io::Result<()> {
     ) {
         (Some(firm), Some(account), Some(instrument)) => {
             let (long, short) = book.position(&firm, &account, &instrument);
-            println!(rt; "long {long} short {short}")
+            println!(rt; "long {long} short {short}").is_ok()
         }
-        _ => println!(rt; "what?"),
+        _ => println!(rt; "what?").is_ok(),
     }
 }
 
-fn show_fees(rt: &impl Print, book: &Book, firm: &[u8]) -> io::Result<()> {
+fn show_fees(rt: &HostRuntime, book: &Book, firm: &[u8]) -> bool {
     match FirmId::new(firm) {
         Some(firm) => {
             let paid = book.paid(&firm);
             let received = book.received(&firm);
-            println!(rt; "paid {paid} received {received}")
+            println!(rt; "paid {paid} received {received}").is_ok()
         }
-        None => println!(rt; "what?"),
+        None => println!(rt; "what?").is_ok(),
     }
 }
 
-fn show_used(rt: &impl Print, book: &Book, words: &[u8]) -> io::Result<()> {
+fn show_used(rt: &HostRuntime, book: &Book, words: &[u8]) -> bool {
     let (giver, taker) = first_word(words);
     match (FirmId::new(giver), FirmId::new(taker)) {
         (Some(giver), Some(taker)) => {
             let used = book.used(&giver, &taker);
-            println!(rt; "used {used}")
+            println!(rt; "used {used}").is_ok()
         }
-        _ => println!(rt; "what?"),
+        _ => println!(rt; "what?").is_ok(),
     }
 }
 
-fn show_limit(rt: &impl Print, book: &Book, words: &[u8]) -> io::Result<()> {
+fn show_limit(rt: &HostRuntime, book: &Book, words: &[u8]) -> bool {
     let (giver, taker) = first_word(words);
     let (Some(giver), Some(taker)) = (FirmId::new(giver), FirmId::new(taker)) else {
-        return println!(rt; "what?");
+        return println!(rt; "what?").is_ok();
     };
     match book.limit(&giver, &taker) {
-        Some(limit) => println!(rt; "limit {limit}"),
-        None => println!(rt; "no terms"),
+        Some(limit) => println!(rt; "limit {limit}").is_ok(),
+        None => println!(rt; "no terms").is_ok(),
+    }
+}
+
+/// ` taker FIRM` and ` by NUMBER` where there are any
+fn show_decision(rt: &HostRuntime, taker: Option<FirmId>, decision: Option<Number>) -> bool {
+    if let Some(taker) = taker {
+        if print!(rt; " taker {taker}").is_err() {
+            return false;
+        }
+    }
+    match decision {
+        Some(number) => println!(rt; " by {number}").is_ok(),
+        None => println!(rt;).is_ok(),
     }
 }
 
 /// `DEPTH NAME LOTS FIRM/ACCOUNT STATE`, and then ` taker FIRM` and ` by NUMBER` where there are any
-fn show_row(rt: &impl Print, row: &Row) -> io::Result<()> {
+fn show_row(rt: &HostRuntime, row: &Row) -> bool {
     let head = &row.head;
     let (firm, account) = (head.place.firm, head.place.account);
     print!(rt;
         "{} {} {} {firm}/{account} {:?}",
         row.depth, head.name, head.lots, head.state
-    )?;
-    if let Some(taker) = head.taker {
-        print!(rt; " taker {taker}")?;
+    )
+    .is_ok()
+        && show_decision(rt, head.taker, head.decision)
+}
+
+/// Writes these rows of a trade's tree, or that it isn't live.
+fn show_these(rt: &HostRuntime, rows: &Option<Vec<Row>>) -> bool {
+    let Some(rows) = rows else {
+        return println!(rt; "no live trade").is_ok();
+    };
+    for row in rows {
+        if !show_row(rt, row) {
+            return false;
+        }
     }
-    if let Some(number) = head.decision {
-        print!(rt; " by {number}")?;
-    }
-    println!(rt;)
+    true
 }
 
 /// Writes the rows of a trade's tree.
-fn show_rows(
-    rt: &(impl Print + Eprint),
-    alloc: Global,
-    book: &Book,
-    word: &[u8],
-) -> io::Result<()> {
+fn show_rows(rt: &HostRuntime, alloc: Global, book: &Book, word: &[u8]) -> bool {
     let Some(trade) = number_of(word) else {
-        return println!(rt; "what?");
+        return println!(rt; "what?").is_ok();
     };
-    let Some(rows) = twice(rt, || book.tree_rows(alloc, trade))? else {
-        return println!(rt; "no live trade");
-    };
-    for row in &rows {
-        show_row(rt, row)?;
+    match twice(rt, || book.tree_rows(alloc, trade)) {
+        Ok(rows) => show_these(rt, &rows),
+        Err(_) => false,
     }
-    Ok(())
 }
 
 /// Writes what the live changes alone give of a trade, of an account of its giver, and of the giver and a taker.
-fn show_alone(
-    rt: &(impl Print + Eprint),
-    alloc: Global,
-    book: &Book,
-    words: &[u8],
-) -> io::Result<()> {
+fn show_alone(rt: &HostRuntime, alloc: Global, book: &Book, words: &[u8]) -> bool {
     let (trade, rest) = first_word(words);
     let (giver, rest) = first_word(rest);
     let (account, rest) = first_word(rest);
@@ -112,46 +118,47 @@ fn show_alone(
         InstrumentId::new(instrument),
         FirmId::new(taker),
     ) else {
-        return println!(rt; "what?");
+        return println!(rt; "what?").is_ok();
     };
     let place = Place {
         firm: giver,
         account,
     };
     let pair = Pair { giver, taker };
-    let told = twice(rt, || {
+    match twice(rt, || {
         live_changes_alone(book, alloc, trade, &place, &instrument, &taker, &pair)
-    })?;
-    let (long, short) = told.position;
-    println!(rt;
-        "alone: long {long} short {short}, {taker} paid {} received {}, used {}",
-        told.paid, told.received, told.used
-    )?;
-    let Some(rows) = &told.rows else {
-        return println!(rt; "no live trade");
-    };
-    for row in rows {
-        show_row(rt, row)?;
+    }) {
+        Ok(told) => {
+            let (long, short) = told.position;
+            println!(rt;
+                "alone: long {long} short {short}, {taker} paid {} received {}, used {}",
+                told.paid, told.received, told.used
+            )
+            .is_ok()
+                && show_these(rt, &told.rows)
+        }
+        Err(_) => false,
     }
-    Ok(())
 }
 
 /// Writes the numbers of the live changes.
-fn show_live(rt: &(impl Print + Eprint), alloc: Global, book: &Book) -> io::Result<()> {
-    print!(rt; "live")?;
-    for number in &twice(rt, || book.live(alloc))? {
-        print!(rt; " {number}")?;
+fn show_live(rt: &HostRuntime, alloc: Global, book: &Book) -> bool {
+    let Ok(live) = twice(rt, || book.live(alloc)) else {
+        return false;
+    };
+    if print!(rt; "live").is_err() {
+        return false;
     }
-    println!(rt;)
+    for number in &live {
+        if print!(rt; " {number}").is_err() {
+            return false;
+        }
+    }
+    println!(rt;).is_ok()
 }
 
 /// Writes what a question asks for.
-pub(crate) fn answer(
-    rt: &(impl Print + Eprint),
-    alloc: Global,
-    book: &Book,
-    question: &[u8],
-) -> io::Result<()> {
+pub(crate) fn answer(rt: &HostRuntime, alloc: Global, book: &Book, question: &[u8]) -> bool {
     let (what, rest) = first_word(question);
     if what == b"rows".as_slice() {
         return show_rows(rt, alloc, book, rest);
@@ -176,12 +183,12 @@ pub(crate) fn answer(
     }
     if what == b"visits".as_slice() {
         let visits = book.visits();
-        return println!(rt; "visits {visits}");
+        return println!(rt; "visits {visits}").is_ok();
     }
     if what == b"house".as_slice() {
         let house = book.house().house();
-        return println!(rt; "house {house}");
+        return println!(rt; "house {house}").is_ok();
     }
     let entries = book.history().len();
-    println!(rt; "entries {entries}")
+    println!(rt; "entries {entries}").is_ok()
 }

@@ -5,7 +5,6 @@ use gu_base::{
     AccountId, AllocId, Answer, Command, FirmId, InstrumentId, Memory, Part, Parts, Side,
 };
 use std::alloc::Global;
-use std::io;
 
 /// A call at a book.
 #[derive(Drop)]
@@ -63,7 +62,7 @@ fn part(by: FirmId, word: &[u8]) -> Option<Part> {
 }
 
 /// The parts of these words.
-pub(crate) fn parts(alloc: Global, by: FirmId, words: &[u8]) -> Result<Parts, Memory> {
+fn parts(alloc: Global, by: FirmId, words: &[u8]) -> Result<Parts, Memory> {
     let mut items = Vec::new(alloc);
     for word in words.split(|b| *b == b' ') {
         if let Some(
@@ -110,8 +109,9 @@ fn raised_limit(words: &[u8]) -> Option<Command> {
 }
 
 /// The command of this verb that names an entry.
-fn of_entry(verb: &[u8], word: &[u8]) -> Option<Command> {
-    let entry = number_of(word)?;
+fn of_entry(verb: &[u8], words: &[u8]) -> Option<Command> {
+    let (entry, _) = first_word(words);
+    let entry = number_of(entry)?;
     if verb == b"initiate".as_slice() {
         return Some(Command::Initiate { entry });
     }
@@ -124,8 +124,25 @@ fn of_entry(verb: &[u8], word: &[u8]) -> Option<Command> {
     None
 }
 
-/// The command of this verb and these words, with these parts.
-pub(crate) fn command(verb: &[u8], words: &[u8], parts: Parts) -> Option<Command> {
+/// The command of this verb that decides on a node.
+fn of_node(verb: &[u8], words: &[u8]) -> Option<Command> {
+    let (node, account) = first_word(words);
+    let node = node_of(node)?;
+    if verb == b"refuse".as_slice() {
+        return Some(Command::Refuse { node });
+    }
+    if verb == b"cancel".as_slice() {
+        return Some(Command::Cancel { node });
+    }
+    if verb == b"claim".as_slice() {
+        let account = AccountId::new(account)?;
+        return Some(Command::Claim { node, account });
+    }
+    None
+}
+
+/// The command of this verb and these words, unless it is a split.
+fn command(verb: &[u8], words: &[u8]) -> Option<Command> {
     if verb == b"trade".as_slice() {
         return trade(words);
     }
@@ -135,32 +152,62 @@ pub(crate) fn command(verb: &[u8], words: &[u8], parts: Parts) -> Option<Command
     if verb == b"raise".as_slice() {
         return raised_limit(words);
     }
-    let (name, rest) = first_word(words);
-    if let Some(command) = of_entry(verb, name) {
-        return Some(command);
+    match of_entry(verb, words) {
+        Some(command) => Some(command),
+        None => of_node(verb, words),
     }
-    let node = node_of(name)?;
-    if verb == b"split".as_slice() {
-        return Some(Command::Split { node, parts });
-    }
-    if verb == b"refuse".as_slice() {
-        return Some(Command::Refuse { node });
-    }
-    if verb == b"cancel".as_slice() {
-        return Some(Command::Cancel { node });
-    }
-    let account = AccountId::new(rest)?;
-    Some(Command::Claim { node, account })
 }
 
-/// Writes what the book answered.
-pub fn show_answer(rt: &impl Print, answer: &Answer) -> io::Result<()> {
+/// `NODE LOTS@ACCOUNT LOTS>FIRM ..`
+fn split(alloc: Global, by: FirmId, words: &[u8]) -> Result<Option<Command>, Memory> {
+    let (node, words) = first_word(words);
+    let Some(node) = node_of(node) else {
+        return Ok(None);
+    };
+    match parts(alloc, by, words) {
+        Ok(parts) => Ok(Some(Command::Split { node, parts })),
+        Err(e) => Err(e),
+    }
+}
+
+/// The command of these words of a firm.
+fn read_command(alloc: Global, by: FirmId, words: &[u8]) -> Result<Option<Command>, Memory> {
+    let (verb, rest) = first_word(words);
+    if verb == b"split".as_slice() {
+        split(alloc, by, rest)
+    } else {
+        Ok(command(verb, rest))
+    }
+}
+
+/// The call of a line: `FIRM ID` and a command. `None` where it is none.
+///
+/// # Errors
+///
+/// Where memory is refused.
+pub fn read_call(alloc: Global, line: &[u8]) -> Result<Option<Call>, Memory> {
+    let (firm, rest) = first_word(line);
+    let (id, words) = first_word(rest);
+    let (Some(by), Some(id)) = (FirmId::new(firm), AllocId::new(id)) else {
+        return Ok(None);
+    };
+    match read_command(alloc, by, words) {
+        Ok(Some(command)) => Ok(Some(Call { by, id, command })),
+        Ok(None) => Ok(None),
+        Err(e) => Err(e),
+    }
+}
+
+/// Writes what the book answered. Whether it could be written.
+pub fn show_answer(rt: &HostRuntime, answer: &Answer) -> bool {
     match answer {
-        Answer::Accepted { number, status } => println!(rt; "{number} {status:?}"),
-        Answer::Repeated { number, status } => println!(rt; "repeated {number} {status:?}"),
+        Answer::Accepted { number, status } => println!(rt; "{number} {status:?}").is_ok(),
+        Answer::Repeated { number, status } => {
+            println!(rt; "repeated {number} {status:?}").is_ok()
+        }
         Answer::Refused(refusal) => {
             let text = refusal.text();
-            println!(rt; "{}", text.as_str())
+            println!(rt; "{}", text.as_str()).is_ok()
         }
     }
 }

@@ -16,7 +16,7 @@ mod days;
 mod memory;
 mod words;
 
-pub use calls::{Call, show_answer};
+pub use calls::{Call, read_call, show_answer};
 pub use days::{Player, play, read_input};
 pub use memory::{tell_refused, twice};
 pub use words::{count_of, first_word, number_of, shown};

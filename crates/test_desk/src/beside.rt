@@ -1,8 +1,7 @@
 //! Two workers side by side.
 
-use crate::calls::Call;
 use crate::holding::Turns;
-use crate::working::{Duty, Work, attend};
+use crate::working::{Task, Work, attend};
 use gu_desk::{Desk, Job, Seat};
 use std::alloc::Global;
 use std::io::Eprint;
@@ -19,16 +18,14 @@ pub(crate) fn side_by_side<J: Job + Send + Sync, R: Threads + Wait + Clock + Epr
     alloc: Global,
     desk: &Desk<J>,
     seats: (Seat<J>, Seat<J>),
-    duties: (Duty, Duty),
-    calls: (&Call, &Call),
+    task: &Task,
+    other_task: &Task,
 ) -> Option<(Work<J>, Work<J>)> {
     let turns = Mutex::new(Turns::new());
     let turns = &turns;
     let (first, second) = seats;
-    let (duty, other_duty) = duties;
-    let (call, other_call) = calls;
     thread::scope(thread::scope_env(), rt, move |scope| {
-        let led = match scope.spawn(move || attend(rt, alloc, desk, first, turns, duty, call)) {
+        let led = match scope.spawn(move || attend(rt, alloc, desk, first, turns, task)) {
             Ok(handle) => handle,
             Err(refused) => {
                 tell_refused(rt);
@@ -38,7 +35,7 @@ pub(crate) fn side_by_side<J: Job + Send + Sync, R: Threads + Wait + Clock + Epr
                 }
             }
         };
-        let other = attend(rt, alloc, desk, second, turns, other_duty, other_call);
+        let other = attend(rt, alloc, desk, second, turns, other_task);
         Some((led.join(rt), other))
     })
 }

@@ -1,6 +1,5 @@
 //! What the two workers do.
 
-use crate::calls::Call;
 use crate::holding::{Holds, Turns};
 use gu_base::{Answer, FirmId, Memory};
 use gu_desk::{Desk, Gate, Job, Seat};
@@ -8,14 +7,40 @@ use std::alloc::Global;
 use std::io::Eprint;
 use std::sync::{Mutex, Wait};
 use std::time::Clock;
-use test_days::tell_refused;
+use test_days::{Call, tell_refused};
 
-/// What a worker comes back with: its seat, the answer to its call, and the numbers of the reports to its firm.
+/// What a worker does beside the other.
+#[derive(Clone, Copy, PartialEq)]
+pub(crate) enum Duty {
+    /// Its call is held at the gate until the other lets it go on.
+    IsHeld,
+    /// It calls while the other is held, and then lets it go on.
+    Frees,
+    /// It calls, and then tells the other.
+    Tells,
+    /// It calls when the other has told.
+    IsTold,
+}
+
+/// What a worker calls, and what it does beside the other.
+#[derive(Drop)]
+pub(crate) struct Task {
+    pub(crate) duty: Duty,
+    pub(crate) call: Call,
+}
+
+/// What a worker was answered, and the numbers of the reports to its firm.
+#[derive(Drop)]
+pub(crate) struct Told {
+    pub(crate) answer: Option<Answer>,
+    pub(crate) told: Vec<u32>,
+}
+
+/// What a worker comes back with: its seat, and what it was told.
 #[derive(Drop)]
 pub(crate) struct Work<J: Job> {
     pub(crate) seat: Seat<J>,
-    pub(crate) answer: Option<Answer>,
-    pub(crate) told: Vec<u32>,
+    pub(crate) told: Told,
 }
 
 /// Calls the book, and where no memory is found once more with the seat that came back.
@@ -72,65 +97,45 @@ pub(crate) fn read<J: Job, R: Wait + Eprint>(
     }
 }
 
-/// Calls the book, and reads the firm's reports above a number with the seat that came back.
-fn call_and_read<J: Job, R: Wait + Eprint>(
-    rt: &R,
-    alloc: Global,
-    desk: &Desk<J>,
-    seat: Seat<J>,
-    call: &Call,
-    after: u32,
-) -> Work<J> {
-    let (seat, answer) = ask(rt, alloc, desk, seat, call);
-    let (seat, told) = read(rt, alloc, desk, seat, &call.by, after);
-    Work { seat, answer, told }
-}
-
-/// Asks the gate, calls the book, and reads the firm's reports above 1.
-fn held_work<J: Job, R: Wait + Clock + Eprint>(
-    rt: &R,
-    alloc: Global,
-    desk: &Desk<J>,
-    seat: Seat<J>,
-    gate: &Holds<'_, R>,
-    call: &Call,
-) -> Work<J> {
-    if !gate.before_book(0) {
-        return Work {
-            seat,
-            answer: None,
-            told: Vec::new(alloc),
-        };
+/// Waits until a worker may call. `false` where it isn't let in time.
+fn may_call<R: Wait + Clock>(gate: &Holds<'_, R>, duty: Duty) -> bool {
+    match duty {
+        Duty::IsHeld => gate.before_book(0),
+        Duty::Frees => gate.has_come() && gate.before_book(1),
+        Duty::Tells => true,
+        Duty::IsTold => gate.is_released(),
     }
-    call_and_read(rt, alloc, desk, seat, call, 1)
 }
 
-/// Calls the book, tells the other worker, and reads all the firm's reports.
-fn telling_work<J: Job, R: Wait + Clock + Eprint>(
+/// Behind which number a worker reads its firm's reports.
+fn read_after(duty: Duty) -> u32 {
+    match duty {
+        Duty::IsHeld | Duty::Frees => 1,
+        Duty::Tells | Duty::IsTold => 0,
+    }
+}
+
+/// Calls the book, and reads the firm's reports. One who tells the other does so between the two, and one who frees it behind both.
+fn call_and_read<J: Job, R: Wait + Clock + Eprint>(
     rt: &R,
     alloc: Global,
     desk: &Desk<J>,
     seat: Seat<J>,
     gate: &Holds<'_, R>,
-    call: &Call,
+    task: &Task,
 ) -> Work<J> {
-    let (seat, answer) = ask(rt, alloc, desk, seat, call);
-    gate.release();
-    let (seat, told) = read(rt, alloc, desk, seat, &call.by, 0);
-    Work { seat, answer, told }
-}
-
-/// What a worker does beside the other.
-#[derive(Clone, Copy)]
-pub(crate) enum Duty {
-    /// Its call is held at the gate until the other lets it go on.
-    IsHeld,
-    /// It calls while the other is held, and then lets it go on.
-    Frees,
-    /// It calls, and then tells the other.
-    Tells,
-    /// It calls when the other has told.
-    IsTold,
+    let (seat, answer) = ask(rt, alloc, desk, seat, &task.call);
+    if task.duty == Duty::Tells {
+        gate.release();
+    }
+    let (seat, told) = read(rt, alloc, desk, seat, &task.call.by, read_after(task.duty));
+    if task.duty == Duty::Frees {
+        gate.release();
+    }
+    Work {
+        seat,
+        told: Told { answer, told },
+    }
 }
 
 /// A worker's call and readings.
@@ -140,22 +145,17 @@ pub(crate) fn attend<J: Job, R: Wait + Clock + Eprint>(
     desk: &Desk<J>,
     seat: Seat<J>,
     turns: &Mutex<Turns>,
-    duty: Duty,
-    call: &Call,
+    task: &Task,
 ) -> Work<J> {
     let gate = Holds::new(rt, turns);
-    match duty {
-        Duty::IsHeld => held_work(rt, alloc, desk, seat, &gate, call),
-        Duty::Frees => {
-            gate.has_come();
-            let work = held_work(rt, alloc, desk, seat, &gate, call);
-            gate.release();
-            work
-        }
-        Duty::Tells => telling_work(rt, alloc, desk, seat, &gate, call),
-        Duty::IsTold => {
-            gate.is_released();
-            call_and_read(rt, alloc, desk, seat, call, 0)
-        }
+    if may_call(&gate, task.duty) {
+        return call_and_read(rt, alloc, desk, seat, &gate, task);
+    }
+    Work {
+        seat,
+        told: Told {
+            answer: None,
+            told: Vec::new(alloc),
+        },
     }
 }

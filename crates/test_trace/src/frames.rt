@@ -33,13 +33,13 @@ fn append_frame(
     write_frame(out, &header, body.as_slice())
 }
 
-/// The same bytes with `|` for SOH.
-fn with_bars(alloc: Global, bytes: &[u8]) -> Result<Vec<u8>, Memory> {
-    let mut shown = Vec::new(alloc);
+/// Writes `|` for each SOH.
+fn set_bars(bytes: &mut [u8]) {
     for byte in bytes {
-        shown.push(if *byte == 1 { b'|' } else { *byte })?;
+        if *byte == 1 {
+            *byte = b'|';
+        }
     }
-    Ok(shown)
 }
 
 /// The frames of reports to a firm, a line for each, with `|` for SOH. Their numbers begin behind that of the Logon.
@@ -57,5 +57,6 @@ pub(crate) fn frames(
         out.push(b'\n')?;
         number = number.saturating_add(1);
     }
-    with_bars(alloc, out.as_slice())
+    set_bars(&mut out);
+    Ok(out)
 }

@@ -14,25 +14,30 @@ use calls::make;
 use gu_book::Book;
 use questions::answer;
 use std::alloc::Global;
-use std::io;
-use std::io::Eprint;
+use std::process::ExitCode;
 use test_days::{Call, Player, play, read_input};
 
 /// Calls, and questions of what is told of the day.
 struct Told;
 
-impl<R: Print + Eprint> Player<R> for Told {
-    fn answer(&self, rt: &R, alloc: Global, book: &Book, question: &[u8]) -> io::Result<()> {
+impl Player for Told {
+    fn answer(rt: &HostRuntime, alloc: Global, book: &Book, question: &[u8]) -> bool {
         answer(rt, alloc, book, question)
     }
 
-    fn make(&self, rt: &R, alloc: Global, book: &mut Book, call: &Call) -> io::Result<()> {
+    fn make(rt: &HostRuntime, alloc: Global, book: &mut Book, call: &Call) -> bool {
         make(rt, alloc, book, call)
     }
 }
 
-fn main(rt: HostRuntime) -> io::Result<()> {
+fn main(rt: HostRuntime) -> ExitCode {
     let alloc = rt.alloc();
-    let input = read_input(&rt, alloc)?;
-    play(&rt, alloc, &Told, input.as_slice())
+    let Some(input) = read_input(&rt, alloc) else {
+        return ExitCode::from(1);
+    };
+    if play::<Told>(&rt, alloc, input.as_slice()) {
+        ExitCode::SUCCESS
+    } else {
+        ExitCode::from(1)
+    }
 }

@@ -1,14 +1,12 @@
-//! A question, and what is told.
+//! A question, and what is told. What writes says whether it could.
 
 use crate::frames::frames;
-use gu_base::{FirmId, Number, Report, Target};
+use gu_base::{FirmId, Number, Report, ReportPart, Target};
 use gu_batch::{Counted, write_totals};
 use gu_book::Book;
 use gu_trace::{TraceError, reports, totals, trace};
 use jiff::Timestamp;
 use std::alloc::Global;
-use std::io;
-use std::io::Eprint;
 use test_days::{count_of, first_word, number_of, shown, tell_refused, twice};
 
 /// What stands in `out` before a text is asked for.
@@ -18,29 +16,46 @@ const BEFORE: &[u8] = b"before";
 const SENT: i64 = 1_772_442_030;
 
 /// `PART LOTS FIRM ACCOUNT`, and `-` where a part shows no account
-fn show_parts(rt: &impl Print, report: &Report) -> io::Result<()> {
-    for part in report.parts.as_slice() {
-        print!(rt; "  {} {} {} ", part.name, part.lots, part.firm)?;
-        match part.account {
-            Some(account) => println!(rt; "{account}")?,
-            None => println!(rt; "-")?,
-        }
+fn show_part(rt: &HostRuntime, part: &ReportPart) -> bool {
+    if print!(rt; "  {} {} {} ", part.name, part.lots, part.firm).is_err() {
+        return false;
     }
-    Ok(())
+    match part.account {
+        Some(account) => println!(rt; "{account}").is_ok(),
+        None => println!(rt; "-").is_ok(),
+    }
 }
 
-/// `NUMBER KIND STATUS TRANS TARGET INSTRUMENT SIDE LOTS`, and then its parts
-fn show_report(rt: &impl Print, report: &Report) -> io::Result<()> {
+/// What a report speaks of.
+fn show_target(rt: &HostRuntime, target: Target) -> bool {
+    match target {
+        Target::Node(name) => print!(rt; "{name}").is_ok(),
+        Target::Entry(number) => print!(rt; "entry {number}").is_ok(),
+    }
+}
+
+/// `NUMBER KIND STATUS TRANS TARGET INSTRUMENT SIDE LOTS`
+fn show_head(rt: &HostRuntime, report: &Report) -> bool {
     print!(rt;
         "{} {} {:?} {} ",
         report.number, report.kind, report.status, report.trans
-    )?;
-    match report.target {
-        Target::Node(name) => print!(rt; "{name}")?,
-        Target::Entry(number) => print!(rt; "entry {number}")?,
+    )
+    .is_ok()
+        && show_target(rt, report.target)
+        && println!(rt; " {} {:?} {}", report.instrument, report.side, report.lots).is_ok()
+}
+
+/// A report's head, and then its parts.
+fn show_report(rt: &HostRuntime, report: &Report) -> bool {
+    if !show_head(rt, report) {
+        return false;
     }
-    println!(rt; " {} {:?} {}", report.instrument, report.side, report.lots)?;
-    show_parts(rt, report)
+    for part in report.parts.as_slice() {
+        if !show_part(rt, part) {
+            return false;
+        }
+    }
+    true
 }
 
 /// The firm and the number behind which it asks for reports.
@@ -50,123 +65,146 @@ fn reader_of(words: &[u8]) -> Option<(FirmId, u32)> {
     Some((FirmId::new(firm)?, after))
 }
 
-/// Writes the reports to a firm from a number on.
-fn show_reports(
-    rt: &(impl Print + Eprint),
-    alloc: Global,
-    book: &Book,
-    words: &[u8],
-) -> io::Result<()> {
-    let Some((firm, after)) = reader_of(words) else {
-        return println!(rt; "what?");
-    };
-    let found = twice(rt, || reports(alloc, book, &firm, after))?;
-    println!(rt; "{} reports", found.len())?;
-    for report in &found {
-        show_report(rt, report)?;
+/// Writes these reports.
+fn show_found(rt: &HostRuntime, found: &[Report]) -> bool {
+    if println!(rt; "{} reports", found.len()).is_err() {
+        return false;
     }
-    Ok(())
+    for report in found {
+        if !show_report(rt, report) {
+            return false;
+        }
+    }
+    true
 }
 
-/// Writes the same reports as a session sends them at 09:00:30 on 2 March 2026.
-fn show_frames(
-    rt: &(impl Print + Eprint),
+/// Writes the frames of these reports to a firm, as a session sends them at 09:00:30 on 2 March 2026.
+fn show_sent(rt: &HostRuntime, alloc: Global, book: &Book, firm: FirmId, found: &[Report]) -> bool {
+    let house = book.house().house();
+    let Ok(moment) = Timestamp::from_second(SENT) else {
+        return println!(rt; "what?").is_ok();
+    };
+    match twice(rt, || frames(alloc, house, firm, found, moment)) {
+        Ok(sent) => print!(rt; "{}", shown(sent.as_slice())).is_ok(),
+        Err(_) => false,
+    }
+}
+
+/// Writes the reports to a firm from a number on, or their frames.
+fn show_reports(
+    rt: &HostRuntime,
     alloc: Global,
     book: &Book,
     words: &[u8],
-) -> io::Result<()> {
-    let (Some((firm, after)), Ok(moment)) = (reader_of(words), Timestamp::from_second(SENT)) else {
-        return println!(rt; "what?");
+    as_frames: bool,
+) -> bool {
+    let Some((firm, after)) = reader_of(words) else {
+        return println!(rt; "what?").is_ok();
     };
-    let house = book.house().house();
-    let found = twice(rt, || reports(alloc, book, &firm, after))?;
-    let sent = twice(rt, || frames(alloc, house, firm, found.as_slice(), moment))?;
-    print!(rt; "{}", shown(sent.as_slice()))
+    match twice(rt, || reports(alloc, book, &firm, after)) {
+        Ok(found) => {
+            if as_frames {
+                show_sent(rt, alloc, book, firm, found.as_slice())
+            } else {
+                show_found(rt, found.as_slice())
+            }
+        }
+        Err(_) => false,
+    }
 }
 
 /// Writes a text that stands behind what was there before, or that it doesn't.
-fn show_behind(rt: &impl Print, out: &[u8]) -> io::Result<()> {
+fn show_behind(rt: &HostRuntime, out: &[u8]) -> bool {
     match out.strip_prefix(BEFORE) {
-        Some(text) => print!(rt; "{}", shown(text)),
-        None => println!(rt; "changed what was there"),
+        Some(text) => print!(rt; "{}", shown(text)).is_ok(),
+        None => println!(rt; "changed what was there").is_ok(),
     }
 }
 
-/// Writes the trace of a trade. Where no memory is found it sees that nothing was written, and asks again.
-fn show_trace(
-    rt: &(impl Print + Eprint),
+/// Writes the trace of a trade, behind what is there. Where no memory is found it sees that nothing was written, and asks again.
+fn show_trace_behind(
+    rt: &HostRuntime,
     alloc: Global,
     book: &Book,
     trade: Number,
-) -> io::Result<()> {
-    let mut out = twice(rt, || BEFORE.to_vec(alloc))?;
+    out: &mut Vec<u8>,
+) -> bool {
     for _again in 0..2 {
-        match trace(alloc, book, trade, &mut out) {
-            Ok(()) => return show_behind(rt, &out),
+        match trace(alloc, book, trade, out) {
+            Ok(()) => return show_behind(rt, out.as_slice()),
             Err(TraceError::NoLiveTrade) => {
-                println!(rt; "no live trade")?;
-                return show_behind(rt, &out);
+                return println!(rt; "no live trade").is_ok() && show_behind(rt, out.as_slice());
             }
             Err(TraceError::Memory) => tell_refused(rt),
         }
         if out.as_slice() != BEFORE {
-            return println!(rt; "changed without memory");
+            return println!(rt; "changed without memory").is_ok();
         }
     }
-    println!(rt; "no memory")
+    println!(rt; "no memory").is_ok()
 }
 
-/// Writes the totals. Where no memory is found it sees that nothing was written, and asks again.
-fn show_totals(rt: &(impl Print + Eprint), alloc: Global, book: &Book) -> io::Result<()> {
-    let mut out = twice(rt, || BEFORE.to_vec(alloc))?;
+/// Writes the totals, behind what is there. Where no memory is found it sees that nothing was written, and asks again.
+fn show_totals_behind(rt: &HostRuntime, alloc: Global, book: &Book, out: &mut Vec<u8>) -> bool {
     for _again in 0..2 {
-        match totals(alloc, book, &mut out) {
-            Ok(()) => return show_behind(rt, &out),
+        match totals(alloc, book, out) {
+            Ok(()) => return show_behind(rt, out.as_slice()),
             Err(_) => tell_refused(rt),
         }
         if out.as_slice() != BEFORE {
-            return println!(rt; "changed without memory");
+            return println!(rt; "changed without memory").is_ok();
         }
     }
-    println!(rt; "no memory")
+    println!(rt; "no memory").is_ok()
 }
 
-/// Writes the totals as a server writes them in the end. Where no memory is found it asks again, with a new writer.
-fn show_written(rt: &(impl Print + Eprint), alloc: Global, book: &Book) -> io::Result<()> {
+/// Writes the trace of a trade, and where none is named the totals.
+fn show_text(rt: &HostRuntime, alloc: Global, book: &Book, trade: Option<Number>) -> bool {
+    let Ok(mut out) = twice(rt, || BEFORE.to_vec(alloc)) else {
+        return false;
+    };
+    match trade {
+        Some(trade) => show_trace_behind(rt, alloc, book, trade, &mut out),
+        None => show_totals_behind(rt, alloc, book, &mut out),
+    }
+}
+
+/// The totals as a server writes them in the end, with a writer of its own. `None` where no memory is found.
+fn written(alloc: Global, book: &Book) -> Option<Vec<u8>> {
+    let mut writer = Counted::new(Vec::new(alloc));
+    let is_written = write_totals(alloc, book, &mut writer).is_ok();
+    let text = writer.into_inner();
+    if is_written { Some(text) } else { None }
+}
+
+/// Writes the totals as a server writes them in the end. Where no memory is found it asks again.
+fn show_written(rt: &HostRuntime, alloc: Global, book: &Book) -> bool {
     for _again in 0..2 {
-        let mut writer = Counted::new(Vec::new(alloc));
-        let written = write_totals(alloc, book, &mut writer);
-        let text = writer.into_inner();
-        if written.is_ok() {
-            return print!(rt; "{}", shown(text.as_slice()));
+        match written(alloc, book) {
+            Some(text) => return print!(rt; "{}", shown(text.as_slice())).is_ok(),
+            None => tell_refused(rt),
         }
-        tell_refused(rt);
     }
-    println!(rt; "no memory")
+    println!(rt; "no memory").is_ok()
 }
 
-/// Writes what a question asks for.
-pub(crate) fn answer(
-    rt: &(impl Print + Eprint),
-    alloc: Global,
-    book: &Book,
-    question: &[u8],
-) -> io::Result<()> {
+/// Writes what a question asks for. Whether it could.
+pub(crate) fn answer(rt: &HostRuntime, alloc: Global, book: &Book, question: &[u8]) -> bool {
     let (what, rest) = first_word(question);
     if what == b"reports".as_slice() {
-        return show_reports(rt, alloc, book, rest);
+        return show_reports(rt, alloc, book, rest, false);
     }
     if what == b"frames".as_slice() {
-        return show_frames(rt, alloc, book, rest);
+        return show_reports(rt, alloc, book, rest, true);
     }
     if what == b"totals".as_slice() {
-        return show_totals(rt, alloc, book);
+        return show_text(rt, alloc, book, None);
     }
     if what == b"written".as_slice() {
         return show_written(rt, alloc, book);
     }
     match number_of(rest) {
-        Some(trade) => show_trace(rt, alloc, book, trade),
-        None => println!(rt; "what?"),
+        Some(trade) => show_text(rt, alloc, book, Some(trade)),
+        None => println!(rt; "what?").is_ok(),
     }
 }

@@ -5,15 +5,14 @@ use Rattle.std.proofs.Crossing.{crosses, send as heap_send}
 use Rattle.std.specs.contracts.sync.Mutex as Mutex
 use Rattle.gu_desk.proofs.Crossing.{desk_sync, seat_send}
 use Rattle.test_desk.specs.contracts.holding.Turns as Turns
-use Rattle.test_desk.proofs.calls.Call.TheSendSync as call
 use Rattle.test_desk.proofs.holding.Turns.TheSendSync as turns
-use Rattle.test_desk.proofs.working.Duty.TheSendSync as duty
+use Rattle.test_desk.proofs.working.Task.TheSendSync as task
 use Rattle.test_desk.proofs.beside.fn.side_by_side.scope.Given.{Over}
 use Rattle.test_desk.proofs.beside.fn.side_by_side.scope.Lts.{arg-0-1}
 use Rattle.test_desk.proofs.beside.fn.side_by_side.scope.Goals as goal
 
 -- The first worker may go to another thread, since each thing that it takes along may: in their order the runtime, the allocator, the desk, its seat, what the gate
--- counts, its duty and its call. Written by hand, as `search` doesn't find a row behind a type that is an argument.
+-- counts, and its task. Written by hand, as `search` doesn't find a row behind a type that is an argument.
 led_send : (g : Over) (κs : Lfts 9) → IsSync g.row.R
     → IsSend (param 1 (arg-0-1 g.row.J g.row.R g.J.laws g.R.laws g.J.Job g.J.Job-dict g.J.Ledger g.J.Ledger-dict g.R.Threads g.R.Threads-dict g.R.Wait g.R.Wait-dict g.R.Clock g.R.Clock-dict g.R.Eprint g.R.Eprint-dict κs))
 led_send g κs by =
@@ -24,7 +23,7 @@ led_send g κs by =
     param_send 1 (arg-0-1 g.row.J g.row.R g.J.laws g.R.laws g.J.Job g.J.Job-dict g.J.Ledger g.J.Ledger-dict g.R.Threads g.R.Threads-dict g.R.Wait g.R.Wait-dict g.R.Clock g.R.Clock-dict g.R.Eprint g.R.Eprint-dict κs)
     (record {
       owned = λ d vs vss.
-          (tt, ((tt, by.shared d.0.now d.0.ref_ptr.0 d.0.ref_ptr.1 _), (heap_send.owned d.1 vss.1.0, ((tt, desk.shared d.2.now d.2.ref_ptr.0 d.2.ref_ptr.1 _), (seat.owned d.3 vss.1.1.1.0, ((tt, lock.shared d.4.now d.4.ref_ptr.0 d.4.ref_ptr.1 _), (duty.the_send.owned d.5 vss.1.1.1.1.1.0, ((tt, call.the_sync.shared d.6.now d.6.ref_ptr.0 d.6.ref_ptr.1 _), tt))))))));
+          (tt, ((tt, by.shared d.0.now d.0.ref_ptr.0 d.0.ref_ptr.1 _), (heap_send.owned d.1 vss.1.0, ((tt, desk.shared d.2.now d.2.ref_ptr.0 d.2.ref_ptr.1 _), (seat.owned d.3 vss.1.1.1.0, ((tt, lock.shared d.4.now d.4.ref_ptr.0 d.4.ref_ptr.1 _), ((tt, task.the_sync.shared d.5.now d.5.ref_ptr.0 d.5.ref_ptr.1 _), tt)))))));
       leaving = λ k x w. (tt, (tt, (tt, (tt, tt))));
     })
 
