@@ -9,8 +9,8 @@
 mod written;
 
 use gu_codec::{Feed, FeedError, Fields, Frame, Marked, read_frame, tags};
-use std::alloc::{AllocError, Global};
-use std::io::Read;
+use std::alloc::Global;
+use std::io::{ErrorKind, Input};
 use std::{io, str};
 
 /// Whether a walk by the marks of SOH meets the same fields.
@@ -29,124 +29,177 @@ fn is_marked_alike(fields: Fields<'_>) -> bool {
     marked.is_at_end()
 }
 
-/// Writes the fields of a message, and ends the line.
-fn show_fields(rt: &impl Print, fields: Fields<'_>) -> io::Result<()> {
-    if !is_marked_alike(fields) {
-        print!(rt; " (unlike by marks)")?;
-    }
-    for (tag, value) in fields {
-        print!(rt; " {tag}={}", str::from_utf8(value).unwrap_or("?"))?;
-    }
-    println!(rt; "")
+fn show_field(rt: &impl Print, tag: u32, value: &[u8]) -> bool {
+    print!(rt; " {tag}={}", str::from_utf8(value).unwrap_or("?")).is_ok()
 }
 
-/// Writes an answer; whether another may follow.
-fn show(rt: &impl Print, frame: Frame<'_>) -> io::Result<bool> {
+/// Writes the fields of a message, and ends the line.
+fn show_fields(rt: &impl Print, fields: Fields<'_>) -> bool {
+    if !is_marked_alike(fields) && rt.print(" (unlike by marks)").is_err() {
+        return false;
+    }
+    for (tag, value) in fields {
+        if !show_field(rt, tag, value) {
+            return false;
+        }
+    }
+    rt.println("").is_ok()
+}
+
+/// Writes an answer.
+fn show(rt: &impl Print, frame: Frame<'_>) -> bool {
     match frame {
         Frame::Whole { fields, len } => {
-            print!(rt; "whole {len}")?;
-            show_fields(rt, fields)?;
-            Ok(true)
+            print!(rt; "whole {len}").is_ok() && show_fields(rt, fields)
         }
-        Frame::Garbled { len } => {
-            println!(rt; "garbled {len}")?;
-            Ok(true)
+        Frame::Garbled { len } => println!(rt; "garbled {len}").is_ok(),
+        Frame::Partial => rt.println("partial").is_ok(),
+        Frame::Broken { at } => println!(rt; "broken at {at}").is_ok(),
+    }
+}
+
+/// Whether another answer may follow.
+fn may_follow(frame: &Frame<'_>) -> bool {
+    match frame {
+        Frame::Whole { .. } | Frame::Garbled { .. } => true,
+        _ => false,
+    }
+}
+
+/// Writes the answer that the feed gives next, if it doesn't wait. Whether another may follow.
+fn show_next(rt: &impl Print, feed: &mut Feed) -> bool {
+    match feed.next() {
+        Some(frame) => {
+            let follows = may_follow(&frame);
+            show(rt, frame) && follows
         }
-        Frame::Partial => {
-            println!(rt; "partial")?;
-            Ok(false)
-        }
-        Frame::Broken { at } => {
-            println!(rt; "broken at {at}")?;
-            Ok(false)
-        }
+        None => false,
     }
 }
 
 /// Writes each answer that the feed gives before it waits.
-fn show_held(rt: &impl Print, feed: &mut Feed) -> io::Result<()> {
+fn show_held(rt: &impl Print, feed: &mut Feed) {
     for _ in 0..65_536u32 {
-        match feed.next() {
-            Some(frame) => {
-                if !show(rt, frame)? {
-                    break;
-                }
-            }
-            None => break,
+        if !show_next(rt, feed) {
+            break;
         }
     }
-    Ok(())
+}
+
+/// Pushes a piece, and writes what comes of it.
+fn push(rt: &impl Print, feed: &mut Feed, piece: &[u8]) -> bool {
+    match feed.push(piece) {
+        Ok(()) => {
+            show_held(rt, feed);
+            true
+        }
+        Err(FeedError::Full) => rt.println("full").is_ok(),
+        Err(FeedError::Ended) => rt.println("ended").is_ok(),
+    }
+}
+
+/// Pushes the bytes in pieces of this size, and writes what comes of it, and the room at last.
+fn push_all(rt: &impl Print, feed: &mut Feed, size: usize, bytes: &[u8]) -> bool {
+    for piece in bytes.chunks(size.max(1)) {
+        if !push(rt, feed, piece) {
+            return false;
+        }
+    }
+    println!(rt; "room {}", feed.room()).is_ok()
 }
 
 /// Writes what is read of a stream that comes in pieces of this size.
-fn tell(rt: &impl Print, alloc: Global, size: usize, bytes: &[u8]) -> io::Result<()> {
-    let mut feed = Feed::new(alloc)?;
-    for piece in bytes.chunks(size.max(1)) {
-        match feed.push(piece) {
-            Ok(()) => show_held(rt, &mut feed)?,
-            Err(FeedError::Full) => println!(rt; "full")?,
-            Err(FeedError::Ended) => println!(rt; "ended")?,
-        }
+fn tell(rt: &impl Print, alloc: Global, size: usize, bytes: &[u8]) -> bool {
+    match Feed::new(alloc) {
+        Ok(mut feed) => push_all(rt, &mut feed, size, bytes),
+        Err(_) => false,
     }
-    println!(rt; "room {}", feed.room())
+}
+
+/// Writes which fields stand before the text, if the bytes begin with a frame.
+fn tell_before(rt: &impl Print, bytes: &[u8]) -> bool {
+    match read_frame(bytes) {
+        Frame::Whole { fields, .. } => {
+            rt.print("before the text").is_ok() && show_fields(rt, fields.before(tags::TEXT))
+        }
+        _ => true,
+    }
 }
 
 /// Writes what is read of each front of the bytes, and which fields stand before the text.
-fn tell_fronts(rt: &impl Print, bytes: &[u8]) -> io::Result<()> {
+fn tell_fronts(rt: &impl Print, bytes: &[u8]) -> bool {
     for len in 0..bytes.len() {
-        show(rt, read_frame(&bytes[..len]))?;
-    }
-    show(rt, read_frame(bytes))?;
-    match read_frame(bytes) {
-        Frame::Whole { fields, .. } => {
-            print!(rt; "before the text")?;
-            show_fields(rt, fields.before(tags::TEXT))
+        if !show(rt, read_frame(&bytes[..len])) {
+            return false;
         }
-        _ => Ok(()),
     }
+    show(rt, read_frame(bytes)) && tell_before(rt, bytes)
+}
+
+/// Appends 65,501 times `x`.
+fn append_long(out: &mut Vec<u8>) -> bool {
+    for _ in 0..65_501u32 {
+        if out.push(b'x').is_err() {
+            return false;
+        }
+    }
+    true
 }
 
 /// Appends the bytes that a text stands for.
-fn append_bytes(out: &mut Vec<u8>, text: &[u8]) -> Result<(), AllocError> {
-    for byte in text {
-        match *byte {
-            b'|' => out.push(1)?,
-            b'@' => {
-                for _ in 0..65_501u32 {
-                    out.push(b'x')?;
-                }
-            }
-            other => out.push(other)?,
+fn append_bytes(out: &mut Vec<u8>, text: &str) -> bool {
+    for byte in text.as_bytes() {
+        let is_appended = match *byte {
+            b'|' => out.push(1).is_ok(),
+            b'@' => append_long(out),
+            other => out.push(other).is_ok(),
+        };
+        if !is_appended {
+            return false;
         }
     }
-    Ok(())
+    true
 }
 
-/// The number that a text writes, or 1.
-fn size_of(text: &[u8]) -> usize {
-    match str::from_utf8(text) {
-        Ok(digits) => digits.parse().unwrap_or(1),
-        Err(_) => 1,
+/// Writes what is read of the stream of a line.
+fn tell_stream(rt: &impl Print, alloc: Global, size: usize, text: &str) -> bool {
+    let mut bytes = Vec::new(alloc);
+    if !append_bytes(&mut bytes, text) {
+        return false;
     }
+    if size == 0 {
+        tell_fronts(rt, bytes.as_slice())
+    } else {
+        tell(rt, alloc, size, bytes.as_slice())
+    }
+}
+
+fn tell_line(rt: &impl Print, alloc: Global, line: &str) -> bool {
+    match line.split_once(' ') {
+        Some((size, text)) => tell_stream(rt, alloc, size.parse().unwrap_or(1), text),
+        None => false,
+    }
+}
+
+/// Writes what is read of each stream of the input. Whether all went well.
+fn tell_lines(rt: &(impl Print + Input), alloc: Global) -> bool {
+    for line in rt.lines(alloc) {
+        let is_told = match line {
+            Ok(line) => tell_line(rt, alloc, line.as_str()),
+            Err(_) => false,
+        };
+        if !is_told {
+            return false;
+        }
+    }
+    true
 }
 
 fn main(rt: HostRuntime) -> io::Result<()> {
     let alloc = rt.alloc();
-    let mut input = Vec::new(alloc);
-    rt.reader().read_to_end(&mut input)?;
-    let mut bytes = Vec::new(alloc);
-    for line in input.as_slice().split(|b| *b == b'\n') {
-        let mut words = line.splitn(2, |b| *b == b' ');
-        let size = size_of(words.next().unwrap_or(b""));
-        if let Some(text) = words.next() {
-            bytes.clear();
-            append_bytes(&mut bytes, text)?;
-            if size == 0 {
-                tell_fronts(&rt, &bytes)?;
-            } else {
-                tell(&rt, alloc, size, &bytes)?;
-            }
-        }
+    if tell_lines(&rt, alloc) && written::tell(&rt, alloc) {
+        Ok(())
+    } else {
+        Err(io::Error::from(ErrorKind::InvalidData))
     }
-    written::tell(&rt, alloc)
 }

@@ -6,53 +6,85 @@
 //! message that fails a check the firm that its Reject goes to, and the body. An empty line is copied.
 #![tactic(auto)]
 
-use gu_base::{AllocId, Answer, Command, FirmId, Number, Parts, Refusal, State};
+use gu_base::{AllocId, Answer, Command, FirmId, NodeName, Number, Parts, Refusal, State};
 use gu_codec::{Fields, Frame, read_frame};
 use gu_message::{Inbound, MeaningError, Reject, ack, meaning, reject, reject_target, trade_ack};
 use std::alloc::{AllocError, Global};
+use std::fmt::Display;
 use std::io;
-use std::io::Read;
+use std::io::{ErrorKind, Input};
 use test_bodies::{append_with, framed};
 
 /// The header of a message of AAA behind its type.
-const HEADER: &[u8] = b"|49=AAA|56=HSE|34=7|52=20260302-09:00:01|";
+const HEADER: &str = "|49=AAA|56=HSE|34=7|52=20260302-09:00:01|";
 
-/// Appends the body that a line stands for.
-fn append_body(body: &mut Vec<u8>, line: &[u8]) -> Result<(), AllocError> {
-    match line.iter().position(|b| *b == b' ') {
-        Some(space) if !line.starts_with(b"35=") => {
-            body.extend_from_slice(b"35=")?;
-            append_with(body, &line[..space], b'|', 1)?;
-            append_with(body, HEADER, b'|', 1)?;
-            append_with(body, &line[space + 1..], b'|', 1)
-        }
-        _ => append_with(body, line, b'|', 1),
-    }
-}
-
-/// Writes a body with `|` for SOH.
-fn show(rt: &impl Print, alloc: Global, what: &str, body: &[u8]) -> io::Result<()> {
-    let mut shown = Vec::new(alloc);
-    append_with(&mut shown, body, 1, b'|')?;
-    match str::from_utf8(shown.as_slice()) {
-        Ok(text) => println!(rt; "  {what} {text}"),
-        Err(_) => println!(rt; "  {what} is no text"),
-    }
-}
-
-/// Writes the parts of a split.
-fn show_parts(rt: &impl Print, parts: &Parts) -> io::Result<()> {
-    for part in parts.as_slice() {
-        match part.account {
-            Some(account) => println!(rt; "  {} {}/{account}", part.lots, part.firm)?,
-            None => println!(rt; "  {} to {}", part.lots, part.firm)?,
-        }
+/// Appends texts with SOH for `|`.
+fn append_texts(body: &mut Vec<u8>, texts: &[&str]) -> Result<(), AllocError> {
+    for text in texts {
+        append_with(body, text.as_bytes(), b'|', 1)?;
     }
     Ok(())
 }
 
-/// Writes a command, and gives the status that it has where it is accepted as its first.
-fn show_command(rt: &impl Print, command: &Command) -> io::Result<State> {
+/// Appends the body that a line stands for.
+fn append_body(body: &mut Vec<u8>, line: &str) -> Result<(), AllocError> {
+    match line.split_once(' ') {
+        Some((kind, rest)) if !line.starts_with("35=") => {
+            append_texts(body, &["35=", kind, HEADER, rest])
+        }
+        _ => append_texts(body, &[line]),
+    }
+}
+
+/// The frame of the body that a line stands for.
+fn frame_of(alloc: Global, line: &str) -> Result<Vec<u8>, AllocError> {
+    let mut body = Vec::new(alloc);
+    append_body(&mut body, line)?;
+    framed(alloc, body.as_slice())
+}
+
+/// Writes a body with `|` for SOH.
+fn show(rt: &impl Print, alloc: Global, what: &str, body: &[u8]) -> bool {
+    let mut shown = Vec::new(alloc);
+    if append_with(&mut shown, body, 1, b'|').is_err() {
+        return false;
+    }
+    match str::from_utf8(shown.as_slice()) {
+        Ok(text) => println!(rt; "  {what} {text}").is_ok(),
+        Err(_) => println!(rt; "  {what} is no text").is_ok(),
+    }
+}
+
+/// Writes the parts of a split.
+fn show_parts(rt: &impl Print, parts: &Parts) -> bool {
+    for part in parts.as_slice() {
+        let is_shown = match part.account {
+            Some(account) => println!(rt; "  {} {}/{account}", part.lots, part.firm).is_ok(),
+            None => println!(rt; "  {} to {}", part.lots, part.firm).is_ok(),
+        };
+        if !is_shown {
+            return false;
+        }
+    }
+    true
+}
+
+fn show_split(rt: &impl Print, node: &NodeName, parts: &Parts) -> bool {
+    show_one(rt, "split", node) && show_parts(rt, parts)
+}
+
+/// Writes a command that names one thing.
+fn show_one(rt: &impl Print, verb: &str, name: &impl Display) -> bool {
+    println!(rt; "{verb} {name}").is_ok()
+}
+
+/// Writes a command that names two things.
+fn show_two(rt: &impl Print, verb: &str, one: &impl Display, other: &impl Display) -> bool {
+    println!(rt; "{verb} {one} {other}").is_ok()
+}
+
+/// Writes a command.
+fn show_command(rt: &impl Print, command: &Command) -> bool {
     match command {
         Command::Trade {
             firm,
@@ -60,170 +92,144 @@ fn show_command(rt: &impl Print, command: &Command) -> io::Result<State> {
             instrument,
             side,
             lots,
-        } => {
-            println!(rt; "trade {firm}/{account} {instrument} {side:?} {lots}")?;
-            Ok(State::Held)
-        }
-        Command::Split { node, parts } => {
-            println!(rt; "split {node}")?;
-            show_parts(rt, parts)?;
-            Ok(State::Held)
-        }
-        Command::Claim { node, account } => {
-            println!(rt; "claim {node} {account}")?;
-            Ok(State::Claimed)
-        }
-        Command::Refuse { node } => {
-            println!(rt; "refuse {node}")?;
-            Ok(State::Refused)
-        }
-        Command::Cancel { node } => {
-            println!(rt; "cancel {node}")?;
-            Ok(State::Cancelled)
-        }
+        } => println!(rt; "trade {firm}/{account} {instrument} {side:?} {lots}").is_ok(),
+        Command::Split { node, parts } => show_split(rt, node, parts),
+        Command::Claim { node, account } => show_two(rt, "claim", node, account),
+        Command::Refuse { node } => show_one(rt, "refuse", node),
+        Command::Cancel { node } => show_one(rt, "cancel", node),
         Command::Agree {
             giver,
             taker,
             rate,
             limit,
-        } => {
-            println!(rt; "agree {giver} {taker} rate {rate} limit {limit}")?;
-            Ok(State::Held)
-        }
-        Command::Raise { giver, lots } => {
-            println!(rt; "raise {giver} {lots}")?;
-            Ok(State::Held)
-        }
-        Command::Initiate { entry } => {
-            println!(rt; "initiate {}", entry.get())?;
-            Ok(State::ReversalPending)
-        }
-        Command::Decline { entry } => {
-            println!(rt; "decline {}", entry.get())?;
-            Ok(State::Held)
-        }
-        Command::Reverse { entry } => {
-            println!(rt; "reverse {}", entry.get())?;
-            Ok(State::Reversed)
-        }
+        } => println!(rt; "agree {giver} {taker} rate {rate} limit {limit}").is_ok(),
+        Command::Raise { giver, lots } => show_two(rt, "raise", giver, lots),
+        Command::Initiate { entry } => show_one(rt, "initiate", entry),
+        Command::Decline { entry } => show_one(rt, "decline", entry),
+        Command::Reverse { entry } => show_one(rt, "reverse", entry),
+    }
+}
+
+/// The status that a command has where it is accepted as its first.
+fn status_of(command: &Command) -> State {
+    match command {
+        Command::Claim { .. } => State::Claimed,
+        Command::Refuse { .. } => State::Refused,
+        Command::Cancel { .. } => State::Cancelled,
+        Command::Initiate { .. } => State::ReversalPending,
+        Command::Reverse { .. } => State::Reversed,
+        _ => State::Held,
     }
 }
 
 /// Writes the body of an answer to a call.
-fn show_answer(
-    rt: &impl Print,
-    alloc: Global,
-    trade: bool,
-    id: &AllocId,
-    answer: &Answer,
-) -> io::Result<()> {
+fn show_answer(rt: &impl Print, alloc: Global, trade: bool, id: &AllocId, answer: &Answer) -> bool {
     let mut body = Vec::new(alloc);
     if trade {
-        trade_ack(&mut body, id, answer)?;
-        show(rt, alloc, "AR", body.as_slice())
+        trade_ack(&mut body, id, answer).is_ok() && show(rt, alloc, "AR", body.as_slice())
     } else {
-        ack(&mut body, id, answer)?;
-        show(rt, alloc, "P", body.as_slice())
+        ack(&mut body, id, answer).is_ok() && show(rt, alloc, "P", body.as_slice())
     }
 }
 
-/// Writes a call and two answers to it.
-fn show_call(
-    rt: &impl Print,
-    alloc: Global,
-    trade: bool,
-    id: &AllocId,
-    command: &Command,
-) -> io::Result<()> {
-    let status = show_command(rt, command)?;
-    if let Some(number) = Number::new(3) {
-        show_answer(rt, alloc, trade, id, &Answer::Accepted { number, status })?;
-    }
-    show_answer(rt, alloc, trade, id, &Answer::Refused(Refusal::SumDiffers))
+/// Writes two answers to a call: that it is accepted with this status, and that it is refused.
+fn show_answers(rt: &impl Print, alloc: Global, trade: bool, id: &AllocId, status: State) -> bool {
+    let Some(number) = Number::new(3) else {
+        return false;
+    };
+    show_answer(rt, alloc, trade, id, &Answer::Accepted { number, status })
+        && show_answer(rt, alloc, trade, id, &Answer::Refused(Refusal::SumDiffers))
 }
 
 /// Writes the Reject of a message.
-fn show_reject(
-    rt: &impl Print,
-    alloc: Global,
-    fields: Fields<'_>,
-    fault: Reject,
-) -> io::Result<()> {
-    println!(rt; "reject to {}", reject_target(fields))?;
+fn show_reject(rt: &impl Print, alloc: Global, fields: Fields<'_>, fault: Reject) -> bool {
     let mut body = Vec::new(alloc);
-    reject(&mut body, fields, fault)?;
-    show(rt, alloc, "3", body.as_slice())
+    println!(rt; "reject to {}", reject_target(fields)).is_ok()
+        && reject(&mut body, fields, fault).is_ok()
+        && show(rt, alloc, "3", body.as_slice())
+}
+
+/// Writes what a message asks for.
+fn show_inbound(rt: &impl Print, alloc: Global, inbound: &Inbound) -> bool {
+    match inbound {
+        Inbound::Call {
+            firm,
+            trade,
+            id,
+            command,
+        } => {
+            print!(rt; "{firm} {id}: ").is_ok()
+                && show_command(rt, command)
+                && show_answers(rt, alloc, *trade, id, status_of(command))
+        }
+        Inbound::Logon { heartbeat, reset } => {
+            println!(rt; "logon, a heartbeat each {heartbeat} seconds, reset {reset}").is_ok()
+        }
+        Inbound::Heartbeat => rt.println("heartbeat").is_ok(),
+        Inbound::TestRequest { id } => {
+            rt.println("test request").is_ok() && show(rt, alloc, "112", id.as_bytes())
+        }
+        Inbound::ResendRequest { from, to } => {
+            println!(rt; "resend request from {from} to {to}").is_ok()
+        }
+        Inbound::Reject => rt.println("a reject of the firm").is_ok(),
+        Inbound::SequenceReset { gap_fill, next } => {
+            println!(rt; "sequence reset to {next}, gap fill {gap_fill}").is_ok()
+        }
+        Inbound::Logout => rt.println("logout").is_ok(),
+    }
 }
 
 /// Writes what a message means.
-fn show_meaning(
-    rt: &impl Print,
-    alloc: Global,
-    house: &FirmId,
-    fields: Fields<'_>,
-) -> io::Result<()> {
+fn show_meaning(rt: &impl Print, alloc: Global, house: &FirmId, fields: Fields<'_>) -> bool {
     match &meaning(alloc, fields, house) {
-        Ok(
-            Inbound::Call {
-                firm,
-                trade,
-                id,
-                command,
-            },
-        ) => {
-            print!(rt; "{firm} {id}: ")?;
-            show_call(rt, alloc, *trade, id, command)
-        }
-        Ok(Inbound::Logon { heartbeat, reset }) => {
-            println!(rt; "logon, a heartbeat each {heartbeat} seconds, reset {reset}")
-        }
-        Ok(Inbound::Heartbeat) => println!(rt; "heartbeat"),
-        Ok(Inbound::TestRequest { id }) => {
-            println!(rt; "test request")?;
-            show(rt, alloc, "112", id.as_bytes())
-        }
-        Ok(Inbound::ResendRequest { from, to }) => {
-            println!(rt; "resend request from {from} to {to}")
-        }
-        Ok(Inbound::Reject) => println!(rt; "a reject of the firm"),
-        Ok(Inbound::SequenceReset { gap_fill, next }) => {
-            println!(rt; "sequence reset to {next}, gap fill {gap_fill}")
-        }
-        Ok(Inbound::Logout) => println!(rt; "logout"),
+        Ok(inbound) => show_inbound(rt, alloc, inbound),
         Err(MeaningError::Reject(fault)) => show_reject(rt, alloc, fields, *fault),
-        Err(MeaningError::Memory) => println!(rt; "out of memory"),
+        Err(MeaningError::Memory) => rt.println("out of memory").is_ok(),
     }
 }
 
-/// Writes what the message of a line means.
-fn tell(rt: &impl Print, alloc: Global, house: &FirmId, line: &[u8]) -> io::Result<()> {
-    let mut body = Vec::new(alloc);
-    append_body(&mut body, line)?;
-    let frame = framed(alloc, body.as_slice())?;
-    match read_frame(frame.as_slice()) {
+/// Writes what the message of a frame means.
+fn show_frame(rt: &impl Print, alloc: Global, house: &FirmId, frame: &[u8]) -> bool {
+    match read_frame(frame) {
         Frame::Whole { fields, .. } => show_meaning(rt, alloc, house, fields),
-        _ => println!(rt; "no frame"),
+        _ => rt.println("no frame").is_ok(),
     }
 }
 
-/// Writes what each line means.
-fn tell_all(rt: &impl Print, alloc: Global, house: &FirmId, input: &[u8]) -> io::Result<()> {
-    for line in input.split(|b| *b == b'\n') {
-        if line.is_empty() {
-            println!(rt; "")?;
-        } else {
-            tell(rt, alloc, house, line)?;
+/// Writes what the message of a line means. Whether all went well.
+fn tell(rt: &impl Print, alloc: Global, house: &FirmId, line: &str) -> bool {
+    if line.is_empty() {
+        return rt.println("").is_ok();
+    }
+    match frame_of(alloc, line) {
+        Ok(frame) => show_frame(rt, alloc, house, frame.as_slice()),
+        Err(_) => false,
+    }
+}
+
+/// Writes what each line of the input means. Whether all went well.
+fn tell_all(rt: &(impl Print + Input), alloc: Global, house: &FirmId) -> bool {
+    for line in rt.lines(alloc) {
+        let is_told = match line {
+            Ok(line) => tell(rt, alloc, house, line.as_str()),
+            Err(_) => false,
+        };
+        if !is_told {
+            return false;
         }
     }
-    Ok(())
+    true
 }
 
 fn main(rt: HostRuntime) -> io::Result<()> {
-    let alloc = rt.alloc();
-    let mut input = Vec::new(alloc);
-    rt.reader().read_to_end(&mut input)?;
-    match FirmId::new(b"HSE") {
-        Some(house) => tell_all(&rt, alloc, &house, input.as_slice()),
-        None => Ok(()),
+    let is_told = match FirmId::new(b"HSE") {
+        Some(house) => tell_all(&rt, rt.alloc(), &house),
+        None => false,
+    };
+    if is_told {
+        Ok(())
+    } else {
+        Err(io::Error::from(ErrorKind::InvalidData))
     }
 }

@@ -2,38 +2,55 @@
 
 use gu_base::State;
 use gu_life::{Act, entry_state, next, status_code};
-use std::io;
+
+const STATES: &[State] = &[
+    State::Held,
+    State::Offered,
+    State::Claimed,
+    State::Refused,
+    State::Cancelled,
+    State::ReversalPending,
+    State::Reversed,
+];
+
+const ACTS: &[Act] = &[Act::Claim, Act::Refuse, Act::Cancel, Act::Reverse];
 
 /// Writes what a state becomes by an act.
-fn tell_next(rt: &impl Print, state: State, act: Act) -> io::Result<()> {
+fn tell_next(rt: &impl Print, state: State, act: Act) -> bool {
     match next(state, act) {
-        Some(after) => print!(rt; ", {act:?} {after:?}"),
-        None => print!(rt; ", {act:?} none"),
+        Some(after) => print!(rt; ", {act:?} {after:?}").is_ok(),
+        None => print!(rt; ", {act:?} none").is_ok(),
     }
 }
 
-/// Writes a line for each state: its code, what it becomes by each act, and what its entry shows where its reversal is pending, where it
-/// is reversed and a reversal is pending, and else.
-pub(crate) fn tell(rt: &impl Print) -> io::Result<()> {
-    let states = [
-        State::Held,
-        State::Offered,
-        State::Claimed,
-        State::Refused,
-        State::Cancelled,
-        State::ReversalPending,
-        State::Reversed,
-    ];
-    for state in states {
-        print!(rt; "{state:?} {}", status_code(state))?;
-        tell_next(rt, state, Act::Claim)?;
-        tell_next(rt, state, Act::Refuse)?;
-        tell_next(rt, state, Act::Cancel)?;
-        tell_next(rt, state, Act::Reverse)?;
-        let pending = entry_state(state, true, false);
-        let reversed = entry_state(state, true, true);
-        let own = entry_state(state, false, false);
-        println!(rt; "; shown {pending:?}, {reversed:?}, {own:?}")?;
+/// Writes what a state becomes by each act.
+fn tell_acts(rt: &impl Print, state: State) -> bool {
+    for act in ACTS {
+        if !tell_next(rt, state, *act) {
+            return false;
+        }
     }
-    Ok(())
+    true
+}
+
+/// Writes what an entry of this state shows where its reversal is pending, where it is reversed and a reversal is pending, and else.
+fn tell_shown(rt: &impl Print, state: State) -> bool {
+    let pending = entry_state(state, true, false);
+    let reversed = entry_state(state, true, true);
+    let own = entry_state(state, false, false);
+    println!(rt; "; shown {pending:?}, {reversed:?}, {own:?}").is_ok()
+}
+
+fn tell_code(rt: &impl Print, state: State) -> bool {
+    print!(rt; "{state:?} {}", status_code(state)).is_ok()
+}
+
+/// Writes a line for each state: its code, what it becomes by each act, and what its entry shows. Whether all went well.
+pub(crate) fn tell(rt: &impl Print) -> bool {
+    for state in STATES {
+        if !(tell_code(rt, *state) && tell_acts(rt, *state) && tell_shown(rt, *state)) {
+            return false;
+        }
+    }
+    true
 }

@@ -17,6 +17,7 @@ mod texts;
 use gu_base::{AccountId, AllocId, FirmId, InstrumentId, Lots, NodeName, Number, Rate};
 use std::alloc::{AllocError, Global};
 use std::io;
+use std::io::{ErrorKind, Input};
 
 /// The bytes that a text stands for.
 fn bytes_of(alloc: Global, text: &str) -> Result<Vec<u8>, AllocError> {
@@ -31,51 +32,95 @@ fn bytes_of(alloc: Global, text: &str) -> Result<Vec<u8>, AllocError> {
     Ok(bytes)
 }
 
-fn tell_name(rt: &impl Print, alloc: Global, text: &str) -> io::Result<()> {
-    let bytes = bytes_of(alloc, text)?;
-    let name = bytes.as_slice();
-    let firm = FirmId::new(name).is_some();
-    let account = AccountId::new(name).is_some();
-    let instrument = InstrumentId::new(name).is_some();
-    let id = AllocId::new(name).is_some();
-    println!(rt; "name {text}: firm {firm}, account {account}, instrument {instrument}, id {id}")
+/// Writes texts, each with whether it holds, and ends the line.
+pub(crate) fn show_each(rt: &impl Print, said: &[(&str, bool)]) -> bool {
+    for (text, holds) in said {
+        if print!(rt; "{text}{holds}").is_err() {
+            return false;
+        }
+    }
+    rt.println("").is_ok()
 }
 
-fn tell_number(rt: &impl Print, text: &str) -> io::Result<()> {
-    let value: u32 = text.parse().unwrap_or(0);
-    let number = Number::new(value).is_some();
-    let lots = Lots::new(u64::from(value)).is_some();
-    let rate = Rate::new(u64::from(value)).is_some();
-    println!(rt; "{value}: number {number}, lots {lots}, rate {rate}")
+/// Writes what these bytes may name.
+fn show_names(rt: &impl Print, name: &[u8]) -> bool {
+    show_each(
+        rt,
+        &[
+            (": firm ", FirmId::new(name).is_some()),
+            (", account ", AccountId::new(name).is_some()),
+            (", instrument ", InstrumentId::new(name).is_some()),
+            (", id ", AllocId::new(name).is_some()),
+        ],
+    )
 }
 
-fn tell_node(rt: &impl Print, text: &str) -> io::Result<()> {
-    let (entry, part) = text.split_once(' ').unwrap_or((text, ""));
-    let entry: u32 = entry.parse().unwrap_or(0);
-    let part: u8 = part.parse().unwrap_or(0);
+fn tell_name(rt: &impl Print, alloc: Global, text: &str) -> bool {
+    match bytes_of(alloc, text) {
+        Ok(name) => print!(rt; "name {text}").is_ok() && show_names(rt, name.as_slice()),
+        Err(_) => false,
+    }
+}
+
+/// The number that a text writes, or 0.
+fn number(text: &str) -> u32 {
+    text.parse().unwrap_or(0)
+}
+
+fn tell_number(rt: &impl Print, value: u32) -> bool {
+    let wide = u64::from(value);
+    let said = [
+        (": number ", Number::new(value).is_some()),
+        (", lots ", Lots::new(wide).is_some()),
+        (", rate ", Rate::new(wide).is_some()),
+    ];
+    rt.print(value).is_ok() && show_each(rt, &said)
+}
+
+fn tell_node(rt: &impl Print, entry: u32, part: u8) -> bool {
     match NodeName::new(entry, part) {
-        Some(node) => println!(rt; "part {part} of {entry}: {node}"),
-        None => println!(rt; "part {part} of {entry}: none"),
+        Some(node) => println!(rt; "part {part} of {entry}: {node}").is_ok(),
+        None => println!(rt; "part {part} of {entry}: none").is_ok(),
+    }
+}
+
+/// Writes what a node's words name.
+fn tell_words(rt: &impl Print, text: &str) -> bool {
+    match text.split_once(' ') {
+        Some((entry, part)) => tell_node(rt, number(entry), part.parse().unwrap_or(0)),
+        None => false,
     }
 }
 
 /// Writes what a line asks for.
-fn tell(rt: &impl Print, alloc: Global, line: &str) -> io::Result<()> {
+fn tell(rt: &impl Print, alloc: Global, line: &str) -> bool {
     match line.split_once(' ') {
         Some(("name", text)) => tell_name(rt, alloc, text),
-        Some(("number", text)) => tell_number(rt, text),
-        Some(("node", text)) => tell_node(rt, text),
-        _ => println!(rt; "what? {line}"),
+        Some(("number", text)) => tell_number(rt, number(text)),
+        Some(("node", text)) => tell_words(rt, text),
+        _ => false,
     }
+}
+
+/// Writes what each line of the input asks for.
+fn tell_lines(rt: &(impl Print + Input), alloc: Global) -> bool {
+    for line in rt.lines(alloc) {
+        let is_told = match line {
+            Ok(line) => tell(rt, alloc, line.as_str()),
+            Err(_) => false,
+        };
+        if !is_told {
+            return false;
+        }
+    }
+    true
 }
 
 fn main(rt: HostRuntime) -> io::Result<()> {
     let alloc = rt.alloc();
-    for line in rt.lines(alloc) {
-        let line = line?;
-        tell(&rt, alloc, line.as_str())?;
+    if tell_lines(&rt, alloc) && texts::tell(&rt) && copies::tell(&rt, alloc) && life::tell(&rt) {
+        Ok(())
+    } else {
+        Err(io::Error::from(ErrorKind::InvalidData))
     }
-    texts::tell(&rt, alloc)?;
-    copies::tell(&rt, alloc)?;
-    life::tell(&rt)
 }

@@ -1,11 +1,9 @@
 //! Refusals, with their numbers and alone.
 
 use gu_base::{AccountId, FirmId, NodeName, Number, Refusal};
-use std::alloc::Global;
-use std::io;
 
 /// Writes a few refusals, one with the longest firm and two with the highest number.
-fn tell_refusals(rt: &impl Print, firm: FirmId, last: Number) -> io::Result<()> {
+fn tell_refusals(rt: &impl Print, firm: FirmId, last: Number) -> bool {
     let refusals = [
         Refusal::UnknownFirm,
         Refusal::SumDiffers,
@@ -20,21 +18,27 @@ fn tell_refusals(rt: &impl Print, firm: FirmId, last: Number) -> io::Result<()> 
     ];
     for refusal in refusals {
         let text = refusal.text();
-        println!(rt; "{}", text.as_str())?;
+        if rt.println(text.as_str()).is_err() {
+            return false;
+        }
     }
-    Ok(())
+    true
 }
 
-/// Writes texts of the base.
-pub(crate) fn tell(rt: &impl Print, alloc: Global) -> io::Result<()> {
-    let firm = FirmId::new(b"ABCDEFGHIJKLMNOP");
-    let last = Number::new(1_000_000);
-    if let (Some(firm), Some(last)) = (firm, last) {
-        tell_refusals(rt, firm, last)?;
-    }
-    if let (Some(node), Some(account)) = (NodeName::new(12, 3), AccountId::new(b"A1")) {
-        let text = format!(in alloc; "{node} {account} {}", Refusal::StandsOn(node.entry()))?;
-        println!(rt; "{}", text.as_str())?;
-    }
-    Ok(())
+/// Writes a node, an account and a refusal that names the node's entry.
+fn tell_shown(rt: &impl Print, node: NodeName, account: AccountId) -> bool {
+    let refusal = Refusal::StandsOn(node.entry());
+    println!(rt; "{node} {account} {refusal}").is_ok()
+}
+
+/// Writes texts of the base. Whether all went well.
+pub(crate) fn tell(rt: &impl Print) -> bool {
+    let names = (FirmId::new(b"ABCDEFGHIJKLMNOP"), Number::new(1_000_000));
+    let (Some(firm), Some(last)) = names else {
+        return false;
+    };
+    let (Some(node), Some(account)) = (NodeName::new(12, 3), AccountId::new(b"A1")) else {
+        return false;
+    };
+    tell_refusals(rt, firm, last) && tell_shown(rt, node, account)
 }

@@ -25,10 +25,10 @@ use gu_codec::{Frame, read_frame};
 use gu_parties::House;
 use gu_session::{Actions, Event, Session, is_moment};
 use jiff::Timestamp;
-use showing::{call_line, show, shows_answer, tell_refused};
+use showing::{digits, show, shows_answer, tell_refused};
 use std::alloc::{AllocError, Global};
 use std::io;
-use std::io::{Eprint, Read};
+use std::io::{Eprint, ErrorKind, Read};
 use test_bodies::{append_with, framed};
 
 /// 09:00:00 on 2 March 2026, in milliseconds since 1970.
@@ -38,47 +38,52 @@ const START: i64 = 1_772_442_000_000;
 const HOUSE: &[u8] = b"GIVEUP 1\nHOUSE HSE\nFIRM AAA\nFIRM BBB\nACCOUNT AAA A1\nINSTRUMENT ESZ6\n";
 
 /// The header of a message of AAA, behind its type and behind its number.
-const PARTIES: &[u8] = b"|49=AAA|56=HSE|34=";
+const PARTIES: &str = "|49=AAA|56=HSE|34=";
 
-const TIME: &[u8] = b"|52=20260302-09:00:05|";
+const TIME: &str = "|52=20260302-09:00:05|";
 
 /// The body of a call.
-const SPLIT: &[u8] = b"70=S1|71=0|626=23|72=1.0|78=1|79=A1|80=100|";
+const SPLIT: &str = "70=S1|71=0|626=23|72=1.0|78=1|79=A1|80=100|";
 
 /// The first word of a line, and what stands behind the space.
-fn word<'a>(line: &'a [u8]) -> (&'a [u8], &'a [u8]) {
-    match line.iter().position(|b| *b == b' ') {
-        Some(space) => (&line[..space], &line[space + 1..]),
-        None => (line, b""),
+fn word(line: &str) -> (&str, &str) {
+    match line.split_once(' ') {
+        Some((word, rest)) => (word, rest),
+        None => (line, ""),
     }
 }
 
 /// The number of a word of digits.
-fn number(word: &[u8]) -> u32 {
-    let mut n = 0u32;
-    for b in word {
-        n = n
-            .saturating_mul(10)
-            .saturating_add(u32::from(b.saturating_sub(b'0')));
+fn number(word: &str) -> u32 {
+    word.parse().unwrap_or(0)
+}
+
+/// Appends texts with SOH for `|`.
+fn append(out: &mut Vec<u8>, texts: &[&str]) -> Result<(), AllocError> {
+    for text in texts {
+        append_with(out, text.as_bytes(), b'|', 1)?;
     }
-    n
+    Ok(())
 }
 
-/// Appends a text with SOH for `|`.
-fn append(out: &mut Vec<u8>, text: &[u8]) -> Result<(), AllocError> {
-    append_with(out, text, b'|', 1)
+/// Appends the body of the message that an event is: `<` and its words, `call` and its number, or `<<` and its body.
+fn append_body(out: &mut Vec<u8>, what: &str, rest: &str) -> Result<(), AllocError> {
+    if what == "<" {
+        let (kind, rest) = word(rest);
+        let (number, rest) = word(rest);
+        append(out, &["35=", kind, PARTIES, number, TIME, rest])
+    } else if what == "call" {
+        append(out, &["35=J", PARTIES, rest, TIME, SPLIT])
+    } else {
+        append(out, &[rest])
+    }
 }
 
-/// The body of a message of AAA.
-fn body_of(alloc: Global, kind: &[u8], number: &[u8], rest: &[u8]) -> Result<Vec<u8>, AllocError> {
+/// The frame of that message.
+fn frame_of(alloc: Global, what: &str, rest: &str) -> Result<Vec<u8>, AllocError> {
     let mut body = Vec::new(alloc);
-    append(&mut body, b"35=")?;
-    append(&mut body, kind)?;
-    append(&mut body, PARTIES)?;
-    append(&mut body, number)?;
-    append(&mut body, TIME)?;
-    append(&mut body, rest)?;
-    Ok(body)
+    append_body(&mut body, what, rest)?;
+    framed(alloc, body.as_slice())
 }
 
 /// Steps a session, if the moment is one that it takes.
@@ -101,31 +106,17 @@ fn step(
     }
 }
 
-/// Steps a session with the message of this body.
+/// Steps a session with the message of this frame.
 fn take(
     alloc: Global,
     session: &mut Session<'_>,
-    body: &[u8],
+    frame: &[u8],
     moment: Timestamp,
 ) -> Result<Actions, AllocError> {
-    let frame = framed(alloc, body)?;
-    match read_frame(frame.as_slice()) {
+    match read_frame(frame) {
         Frame::Whole { fields, .. } => step(alloc, session, Event::Message(fields), moment),
         _ => step(alloc, session, Event::Tick, moment),
     }
-}
-
-/// Steps a session with a message of AAA.
-fn message(
-    alloc: Global,
-    session: &mut Session<'_>,
-    kind: &[u8],
-    number: &[u8],
-    rest: &[u8],
-    moment: Timestamp,
-) -> Result<Actions, AllocError> {
-    let body = body_of(alloc, kind, number, rest)?;
-    take(alloc, session, body.as_slice(), moment)
 }
 
 /// A report of a claim.
@@ -168,12 +159,22 @@ fn accepted(entry: u32) -> Option<Answer> {
 }
 
 /// The number behind `with`, or 0.
-fn count_behind(text: &[u8]) -> u32 {
-    let (with, count) = word(text);
-    if with == b"with".as_slice() {
-        number(count)
-    } else {
-        0
+fn count_behind(text: &str) -> u32 {
+    match word(text) {
+        ("with", count) => number(count),
+        _ => 0,
+    }
+}
+
+/// The answer that a text stands for, and what stands behind it.
+fn answer_of(text: &str) -> (Option<Answer>, &str) {
+    match word(text) {
+        ("accepted", rest) => {
+            let (entry, behind) = word(rest);
+            (accepted(number(entry)), behind)
+        }
+        ("refused", rest) => (Some(Answer::Refused(Refusal::SumDiffers)), rest),
+        (_, rest) => (None, rest),
     }
 }
 
@@ -181,46 +182,39 @@ fn count_behind(text: &[u8]) -> u32 {
 fn reply(
     alloc: Global,
     session: &mut Session<'_>,
-    text: &[u8],
+    text: &str,
     moment: Timestamp,
 ) -> Result<Actions, AllocError> {
-    let (what, rest) = word(text);
-    let (answer, behind) = if what == b"accepted".as_slice() {
-        let (entry, behind) = word(rest);
-        (accepted(number(entry)), behind)
-    } else if what == b"refused".as_slice() {
-        (Some(Answer::Refused(Refusal::SumDiffers)), rest)
-    } else {
-        (None, rest)
-    };
+    let (answer, behind) = answer_of(text);
     let told = reports(alloc, count_behind(behind))?;
     step(alloc, session, Event::Reply(answer, told), moment)
 }
 
-/// Steps a session with the event that a text stands for.
+/// Steps a session with the message that an event is.
+fn message(
+    alloc: Global,
+    session: &mut Session<'_>,
+    what: &str,
+    rest: &str,
+    moment: Timestamp,
+) -> Result<Actions, AllocError> {
+    let frame = frame_of(alloc, what, rest)?;
+    take(alloc, session, frame.as_slice(), moment)
+}
+
+/// Steps a session with an event, of its first word and what stands behind it.
 fn attempt(
     alloc: Global,
     session: &mut Session<'_>,
-    text: &[u8],
+    what: &str,
+    rest: &str,
     moment: Timestamp,
 ) -> Result<Actions, AllocError> {
-    let (what, rest) = word(text);
-    if what == b"<".as_slice() {
-        let (kind, rest) = word(rest);
-        let (number, rest) = word(rest);
-        message(alloc, session, kind, number, rest, moment)
-    } else if what == b"<<".as_slice() {
-        let mut body = Vec::new(alloc);
-        append(&mut body, rest)?;
-        take(alloc, session, body.as_slice(), moment)
-    } else if what == b"call".as_slice() {
-        message(alloc, session, b"J", rest, SPLIT, moment)
-    } else if what == b"reply".as_slice() {
-        reply(alloc, session, rest, moment)
-    } else if what == b"end".as_slice() {
-        step(alloc, session, Event::End, moment)
-    } else {
-        step(alloc, session, Event::Tick, moment)
+    match what {
+        "<" | "<<" | "call" => message(alloc, session, what, rest, moment),
+        "reply" => reply(alloc, session, rest, moment),
+        "end" => step(alloc, session, Event::End, moment),
+        _ => step(alloc, session, Event::Tick, moment),
     }
 }
 
@@ -229,15 +223,30 @@ fn attempt_twice(
     rt: &impl Eprint,
     alloc: Global,
     session: &mut Session<'_>,
-    text: &[u8],
+    what: &str,
+    rest: &str,
     moment: Timestamp,
 ) -> Result<Actions, AllocError> {
-    match attempt(alloc, session, text, moment) {
+    match attempt(alloc, session, what, rest, moment) {
         Ok(actions) => Ok(actions),
         Err(_) => {
             tell_refused(rt);
-            attempt(alloc, session, text, moment)
+            attempt(alloc, session, what, rest, moment)
         }
+    }
+}
+
+/// Steps a session with the answer to a call of this number. Whether the firm was sent it with its number.
+fn answered(
+    rt: &impl Eprint,
+    alloc: Global,
+    session: &mut Session<'_>,
+    number: &str,
+    moment: Timestamp,
+) -> bool {
+    match attempt_twice(rt, alloc, session, "reply", "accepted 2", moment) {
+        Ok(actions) => shows_answer(actions.send.as_slice(), number),
+        Err(_) => false,
     }
 }
 
@@ -248,31 +257,34 @@ fn call(
     session: &mut Session<'_>,
     number: u32,
     moment: Timestamp,
-) -> Result<bool, AllocError> {
-    let asked = call_line(rt, alloc, number)?;
-    attempt_twice(rt, alloc, session, asked.as_bytes(), moment)?;
-    let actions = attempt_twice(rt, alloc, session, b"reply accepted 2", moment)?;
-    let (_, digits) = word(asked.as_bytes());
-    Ok(shows_answer(actions.send.as_slice(), digits))
+) -> bool {
+    match digits(rt, alloc, number) {
+        Ok(number) => {
+            attempt_twice(rt, alloc, session, "call", number.as_str(), moment).is_ok()
+                && answered(rt, alloc, session, number.as_str(), moment)
+        }
+        Err(_) => false,
+    }
 }
 
-/// Steps a session with a call of each number from one to another, and with its answer, and writes how many were answered.
+/// Steps a session with a call of each number from one to another, and with its answer, and writes how many were
+/// answered.
 fn calls(
     rt: &(impl Print + Eprint),
     alloc: Global,
     session: &mut Session<'_>,
-    text: &[u8],
+    text: &str,
     moment: Timestamp,
-) -> io::Result<()> {
+) -> bool {
     let (first, last) = word(text);
     let (from, to) = (number(first), number(last));
     let mut answered = 0u32;
     for n in from..to.saturating_add(1) {
-        if call(rt, alloc, session, n, moment)? {
+        if call(rt, alloc, session, n, moment) {
             answered = answered.saturating_add(1);
         }
     }
-    println!(rt; "  {answered} answers, numbered {from} to {to}")
+    println!(rt; "  {answered} answers, numbered {from} to {to}").is_ok()
 }
 
 /// Does what a text asks for, at a moment, and writes what comes of it.
@@ -280,36 +292,59 @@ fn act(
     rt: &(impl Print + Eprint),
     alloc: Global,
     session: &mut Session<'_>,
-    text: &[u8],
+    text: &str,
     moment: Timestamp,
-) -> io::Result<()> {
+) -> bool {
     let (what, rest) = word(text);
-    if what == b"calls".as_slice() {
+    if what == "calls" {
         return calls(rt, alloc, session, rest, moment);
     }
-    let actions = attempt_twice(rt, alloc, session, text, moment)?;
-    show(rt, alloc, session, &actions)
+    match attempt_twice(rt, alloc, session, what, rest, moment) {
+        Ok(actions) => show(rt, alloc, session, &actions),
+        Err(_) => false,
+    }
 }
 
-/// Plays the lines.
-fn play(rt: &(impl Print + Eprint), alloc: Global, house: &House, input: &[u8]) -> io::Result<()> {
+/// The same, so many milliseconds after the start.
+fn act_at(
+    rt: &(impl Print + Eprint),
+    alloc: Global,
+    session: &mut Session<'_>,
+    text: &str,
+    millis: u32,
+) -> bool {
+    match Timestamp::from_millisecond(START + i64::from(millis)) {
+        Ok(moment) => act(rt, alloc, session, text, moment),
+        Err(_) => false,
+    }
+}
+
+/// Plays a line.
+fn play_line<'a>(
+    rt: &(impl Print + Eprint),
+    alloc: Global,
+    house: &'a House,
+    session: &mut Session<'a>,
+    line: &str,
+) -> bool {
+    let (time, event) = word(line);
+    if time == "=" {
+        *session = Session::new(alloc, house);
+        true
+    } else {
+        line.is_empty() || act_at(rt, alloc, session, event, number(time))
+    }
+}
+
+/// Plays the lines. Whether all went well.
+fn play(rt: &(impl Print + Eprint), alloc: Global, house: &House, input: &str) -> bool {
     let mut session = Session::new(alloc, house);
-    for line in input.split(|b| *b == b'\n') {
-        match str::from_utf8(line) {
-            Ok(text) => println!(rt; "{text}")?,
-            Err(_) => println!(rt; "no text")?,
-        }
-        let (time, event) = word(line);
-        if time == b"=".as_slice() {
-            session = Session::new(alloc, house);
-        } else if !line.is_empty() {
-            let since = START + i64::from(number(time));
-            if let Ok(moment) = Timestamp::from_millisecond(since) {
-                act(rt, alloc, &mut session, event, moment)?;
-            }
+    for line in input.split('\n') {
+        if rt.println(line).is_err() || !play_line(rt, alloc, house, &mut session, line) {
+            return false;
         }
     }
-    Ok(())
+    true
 }
 
 /// The house of the cases.
@@ -323,6 +358,17 @@ fn house(rt: &impl Eprint, alloc: Global) -> Option<House> {
     }
 }
 
+/// Plays the lines of the input at the house of the cases. Whether all went well.
+fn play_all(rt: &(impl Print + Eprint), alloc: Global, input: &[u8]) -> bool {
+    let Ok(input) = str::from_utf8(input) else {
+        return false;
+    };
+    match house(rt, alloc) {
+        Some(house) => play(rt, alloc, &house, input),
+        None => false,
+    }
+}
+
 fn main(rt: HostRuntime) -> io::Result<()> {
     let alloc = rt.alloc();
     let mut input = Vec::new(alloc);
@@ -331,8 +377,9 @@ fn main(rt: HostRuntime) -> io::Result<()> {
         tell_refused(&rt);
         rt.reader().read_to_end(&mut input)?;
     }
-    match house(&rt, alloc) {
-        Some(house) => play(&rt, alloc, &house, input.as_slice()),
-        None => Ok(()),
+    if play_all(&rt, alloc, input.as_slice()) {
+        Ok(())
+    } else {
+        Err(io::Error::from(ErrorKind::InvalidData))
     }
 }

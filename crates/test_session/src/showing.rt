@@ -4,83 +4,93 @@ use gu_base::Command;
 use gu_codec::{Frame, read_frame, tags};
 use gu_session::{Actions, Session};
 use std::alloc::{AllocError, Global};
-use std::io;
 use std::io::Eprint;
+use test_bodies::append_with;
 
 /// Says on standard error that a growth was refused and is asked for once more.
 pub fn tell_refused(rt: &impl Eprint) {
-    let _ = eprintln!(rt; "refused, asked again");
+    let _ = rt.eprintln("refused, asked again");
 }
 
-/// The event of a call with this number.
-pub fn call_line(rt: &impl Eprint, alloc: Global, number: u32) -> Result<String, AllocError> {
-    match format!(in alloc; "call {number}") {
-        Ok(line) => Ok(line),
+/// The digits of a number. Where memory lacks, they are asked for once more.
+pub fn digits(rt: &impl Eprint, alloc: Global, number: u32) -> Result<String, AllocError> {
+    match number.to_string(alloc) {
+        Ok(digits) => Ok(digits),
         Err(_) => {
             tell_refused(rt);
-            format!(in alloc; "call {number}")
+            number.to_string(alloc)
         }
     }
 }
 
-/// The fields of a frame's body with `|` for SOH.
-fn shown_body(alloc: Global, frame: &[u8]) -> Result<Vec<u8>, AllocError> {
+/// A body with `|` for SOH.
+fn shown(alloc: Global, body: &[u8]) -> Result<Vec<u8>, AllocError> {
     let mut shown = Vec::new(alloc);
-    if let Frame::Whole { fields, .. } = read_frame(frame) {
-        for (tag, value) in fields {
-            let head = format!(in alloc; "{tag}=")?;
-            shown.extend_from_slice(head.as_bytes())?;
-            shown.extend_from_slice(value)?;
-            shown.push(b'|')?;
-        }
-    }
+    append_with(&mut shown, body, 1, b'|')?;
     Ok(shown)
 }
 
-/// Writes the fields of a frame's body.
-fn show_body(rt: &(impl Print + Eprint), alloc: Global, frame: &[u8]) -> io::Result<()> {
-    let shown = match shown_body(alloc, frame) {
-        Ok(shown) => shown,
+/// The same. Where memory lacks, it is asked for once more.
+fn shown_twice(rt: &impl Eprint, alloc: Global, body: &[u8]) -> Result<Vec<u8>, AllocError> {
+    match shown(alloc, body) {
+        Ok(shown) => Ok(shown),
         Err(_) => {
             tell_refused(rt);
-            shown_body(alloc, frame)?
+            shown(alloc, body)
         }
+    }
+}
+
+/// Writes a frame's body.
+fn show_body(rt: &(impl Print + Eprint), alloc: Global, body: &[u8]) -> bool {
+    let Ok(shown) = shown_twice(rt, alloc, body) else {
+        return false;
     };
     match str::from_utf8(shown.as_slice()) {
-        Ok(text) => println!(rt; "  > {text}"),
-        Err(_) => println!(rt; "  > no text"),
+        Ok(text) => println!(rt; "  > {text}").is_ok(),
+        Err(_) => rt.println("  > no text").is_ok(),
+    }
+}
+
+/// Writes the body of the frame that some bytes begin with. The bytes behind it, `None` where they begin with none.
+fn show_first<'a>(rt: &(impl Print + Eprint), alloc: Global, bytes: &'a [u8]) -> Option<&'a [u8]> {
+    match read_frame(bytes) {
+        Frame::Whole { fields, len } => {
+            if show_body(rt, alloc, fields.value_at(0, fields.left())) {
+                bytes.get(len..)
+            } else {
+                None
+            }
+        }
+        _ => None,
     }
 }
 
 /// Writes the frames of some bytes.
-fn show_frames(rt: &(impl Print + Eprint), alloc: Global, bytes: &[u8]) -> io::Result<()> {
+fn show_frames(rt: &(impl Print + Eprint), alloc: Global, bytes: &[u8]) -> bool {
     let mut rest = bytes;
     for _ in 0..bytes.len() {
-        let Frame::Whole { len, .. } = read_frame(rest) else {
-            break;
-        };
-        show_body(rt, alloc, rest)?;
-        let Some(after) = rest.get(len..) else {
-            break;
-        };
-        rest = after;
+        match show_first(rt, alloc, rest) {
+            Some(behind) => rest = behind,
+            None => break,
+        }
     }
-    if !rest.is_empty() {
-        println!(rt; "  > {} bytes that are no frame", rest.len())?;
-    }
-    Ok(())
+    rest.is_empty() || println!(rt; "  > {} bytes that are no frame", rest.len()).is_ok()
 }
 
 /// Writes a call.
-fn show_call(rt: &impl Print, actions: &Actions) -> io::Result<()> {
-    if let Some((id, command)) = &actions.call {
-        match command {
-            Command::Split { node, .. } => println!(rt; "  call {id} split {node}")?,
-            Command::Trade { .. } => println!(rt; "  call {id} trade")?,
-            _ => println!(rt; "  call {id}")?,
-        }
+fn show_call(rt: &impl Print, actions: &Actions) -> bool {
+    match &actions.call {
+        Some((id, Command::Split { node, .. })) => println!(rt; "  call {id} split {node}").is_ok(),
+        Some((id, Command::Trade { .. })) => println!(rt; "  call {id} trade").is_ok(),
+        Some((id, _)) => println!(rt; "  call {id}").is_ok(),
+        None => true,
     }
-    Ok(())
+}
+
+/// Writes a word where it holds.
+fn show_if(rt: &impl Print, holds: bool, word: &str) -> bool {
+    !holds || println!(rt; "  {word}").is_ok()
 }
 
 /// Writes what a session asks for, and how it stands.
@@ -89,23 +99,16 @@ pub fn show(
     alloc: Global,
     session: &Session<'_>,
     actions: &Actions,
-) -> io::Result<()> {
-    show_frames(rt, alloc, actions.send.as_slice())?;
-    show_call(rt, actions)?;
-    if actions.close {
-        println!(rt; "  close")?;
-    }
-    if session.awaiting() {
-        println!(rt; "  awaiting")?;
-    }
-    if session.closed() {
-        println!(rt; "  closed")?;
-    }
-    Ok(())
+) -> bool {
+    show_frames(rt, alloc, actions.send.as_slice())
+        && show_call(rt, actions)
+        && show_if(rt, actions.close, "close")
+        && show_if(rt, session.awaiting(), "awaiting")
+        && show_if(rt, session.closed(), "closed")
 }
 
 /// Whether some bytes begin with an acknowledgement of this number.
-pub fn shows_answer(bytes: &[u8], number: &[u8]) -> bool {
+pub fn shows_answer(bytes: &[u8], number: &str) -> bool {
     let mut kind = false;
     let mut numbered = false;
     if let Frame::Whole { fields, .. } = read_frame(bytes) {
@@ -113,7 +116,7 @@ pub fn shows_answer(bytes: &[u8], number: &[u8]) -> bool {
             if tag == tags::MSG_TYPE {
                 kind = value == b"P".as_slice();
             } else if tag == tags::MSG_SEQ_NUM {
-                numbered = value == number;
+                numbered = value == number.as_bytes();
             }
         }
     }

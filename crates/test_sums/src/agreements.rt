@@ -1,8 +1,30 @@
 //! What a giver and a taker deal under their terms.
-use gu_base::{Agreement, Deed, FirmId, Memory, Number};
+use crate::show_each;
+use gu_base::{Agreement, Deed, FirmId, Number};
 use gu_fees::Terms;
 use std::alloc::Global;
-use std::io;
+
+/// What is put in, one after the other: the number of each entry, and its deed.
+const PUT: &[(u32, Deed)] = &[
+    (
+        1,
+        Deed::Makes(Agreement {
+            rate: 125,
+            limit: 500,
+        }),
+    ),
+    (3, Deed::Uses(450)),
+    (4, Deed::Raises(100)),
+    (5, Deed::Uses(60)),
+];
+
+/// What is taken out, one after the other, and how the pair is called then.
+const TAKEN: &[(&str, &[u32])] = &[
+    ("without 5", &[5]),
+    ("without 3", &[3]),
+    ("without 6 and 4", &[6, 4]),
+    ("without 1", &[1]),
+];
 
 /// What is seen of a pair: its limit, its rate, and what it has used.
 fn seen(terms: &Terms, giver: &FirmId, taker: &FirmId) -> (Option<u64>, Option<u64>, u64) {
@@ -14,61 +36,62 @@ fn seen(terms: &Terms, giver: &FirmId, taker: &FirmId) -> (Option<u64>, Option<u
 }
 
 /// Makes a pair ready. Where memory lacks, nothing that is seen may have changed, and it is made ready once more.
-fn make_ready(terms: &mut Terms, giver: &FirmId, taker: &FirmId) -> Result<bool, Memory> {
+fn make_ready(terms: &mut Terms, giver: &FirmId, taker: &FirmId) -> bool {
     let before = seen(terms, giver, taker);
     match terms.ready(giver, taker, None) {
-        Ok(()) => Ok(true),
-        Err(_) => {
-            let same = seen(terms, giver, taker) == before;
-            terms.ready(giver, taker, None)?;
-            Ok(same)
-        }
+        Ok(()) => true,
+        Err(_) => { seen(terms, giver, taker) == before && terms.ready(giver, taker, None).is_ok() }
     }
 }
 
 /// Puts an entry in where it may be put, and says whether it was.
-fn put_entry(
-    terms: &mut Terms,
-    giver: &FirmId,
-    taker: &FirmId,
-    entry: u32,
-    deed: Deed,
-) -> Result<bool, Memory> {
-    let Some(entry) = Number::new(entry) else {
-        return Ok(false);
-    };
-    if !make_ready(terms, giver, taker)? || !terms.can_put(giver, taker, entry, deed) {
-        return Ok(false);
+fn put_deed(terms: &mut Terms, giver: &FirmId, taker: &FirmId, entry: Number, deed: Deed) -> bool {
+    if !terms.can_put(giver, taker, entry, deed) {
+        return false;
     }
     match deed {
         Deed::Makes(made) => terms.agree(giver, taker, entry, made),
         Deed::Raises(lots) => terms.raise(giver, taker, entry, lots),
         Deed::Uses(lots) => terms.claim(giver, taker, entry, lots),
     }
-    Ok(true)
+    true
 }
 
-/// The same for a Claim of a pair that stands somewhere, by its place: one look for both steps.
-fn put_claim_there(
-    terms: &mut Terms,
-    giver: &FirmId,
-    taker: &FirmId,
-    entry: u32,
-    lots: u64,
-) -> Result<bool, Memory> {
-    let Some(entry) = Number::new(entry) else {
-        return Ok(false);
-    };
+/// Makes the pair ready and puts an entry in where it may be put, and says whether it was.
+fn put_entry(terms: &mut Terms, giver: &FirmId, taker: &FirmId, entry: u32, deed: Deed) -> bool {
+    match Number::new(entry) {
+        Some(entry) => {
+            make_ready(terms, giver, taker) && put_deed(terms, giver, taker, entry, deed)
+        }
+        None => false,
+    }
+}
+
+/// Puts entries in, one after the other, and says whether all were.
+fn put_entries(terms: &mut Terms, giver: &FirmId, taker: &FirmId, entries: &[(u32, Deed)]) -> bool {
+    for (entry, deed) in entries {
+        if !put_entry(terms, giver, taker, *entry, *deed) {
+            return false;
+        }
+    }
+    true
+}
+
+/// Puts a Claim of 60 lots of a pair in that stands somewhere, by its place: one look for both steps. Says whether it
+/// was put in.
+fn put_claim_there(terms: &mut Terms, giver: &FirmId, taker: &FirmId, entry: Number) -> bool {
     let Some(place) = terms.place(giver, taker) else {
-        return Ok(false);
+        return false;
     };
-    terms.ready_at(place)?;
-    let deed = Deed::Uses(lots);
+    if terms.ready_at(place).is_err() {
+        return false;
+    }
+    let deed = Deed::Uses(60);
     if !terms.can_put_at(place, entry, deed) {
-        return Ok(false);
+        return false;
     }
     terms.put_at(place, entry, deed);
-    Ok(true)
+    true
 }
 
 /// The number of the first entry that stands on this one, 0 where there is none.
@@ -83,72 +106,79 @@ fn standing(terms: &Terms, entry: u32) -> u32 {
 }
 
 /// How many entries the pair of this one has.
-fn beside(terms: &Terms, entry: u32) -> usize {
+fn beside(terms: &Terms, entry: u32) -> u64 {
     match Number::new(entry) {
-        Some(number) => terms.entries_beside(number),
+        Some(number) => terms.entries_beside(number) as u64,
         None => 0,
     }
 }
 
-fn take_out(terms: &mut Terms, entry: u32) {
-    if let Some(number) = Number::new(entry) {
-        terms.take_out(number);
+fn take_out(terms: &mut Terms, entries: &[u32]) {
+    for entry in entries {
+        if let Some(number) = Number::new(*entry) {
+            terms.take_out(number);
+        }
     }
 }
 
-/// Writes the limit of a pair, what it has used, what stands on entries 1 and 4, and how many entries stand beside 1 and 8.
-fn tell_pair(
-    rt: &impl Print,
-    terms: &Terms,
-    when: &str,
-    giver: &FirmId,
-    taker: &FirmId,
-) -> io::Result<()> {
-    println!(rt;
-        "{when}: limit {}, rate {}, used {}; on 1 stands {}, on 4 {}; beside 1 {}, beside 8 {}",
-        terms.limit(giver, taker).unwrap_or(0),
-        terms.rate(giver, taker).unwrap_or(0),
-        terms.used(giver, taker),
-        standing(terms, 1),
-        standing(terms, 4),
-        beside(terms, 1),
-        beside(terms, 8)
-    )
+/// Writes the limit of a pair, what it has used, what stands on entries 1 and 4, and how many entries stand beside 1
+/// and 8.
+fn tell_pair(rt: &impl Print, terms: &Terms, when: &str, giver: &FirmId, taker: &FirmId) -> bool {
+    let said = [
+        (": limit ", terms.limit(giver, taker).unwrap_or(0)),
+        (", rate ", terms.rate(giver, taker).unwrap_or(0)),
+        (", used ", terms.used(giver, taker)),
+        ("; on 1 stands ", u64::from(standing(terms, 1))),
+        (", on 4 ", u64::from(standing(terms, 4))),
+        ("; beside 1 ", beside(terms, 1)),
+        (", beside 8 ", beside(terms, 8)),
+    ];
+    rt.print(when).is_ok() && show_each(rt, &said)
 }
 
-/// Writes what becomes of terms that are made by 1, used by 3 and raised by 4, so that 5 and 6 can use more, and of which 5, 6 and 4 are taken out.
-pub fn tell_terms(
-    rt: &impl Print,
-    alloc: Global,
-    giver: &FirmId,
-    taker: &FirmId,
-) -> io::Result<()> {
+/// Puts the entries in up to 6.
+fn put_all(terms: &mut Terms, giver: &FirmId, taker: &FirmId) -> bool {
+    match Number::new(6) {
+        Some(last) => {
+            put_entries(terms, giver, taker, PUT) && put_claim_there(terms, giver, taker, last)
+        }
+        None => false,
+    }
+}
+
+/// Writes whether what can't be put in is put in.
+fn tell_refused(rt: &impl Print, terms: &mut Terms, giver: &FirmId, taker: &FirmId) -> bool {
+    let again = put_entry(terms, giver, taker, 6, Deed::Uses(1));
+    let many = put_entry(terms, giver, taker, 7, Deed::Uses(u64::MAX));
+    println!(rt; "a number once more: {again}, and too many lots: {many}").is_ok()
+}
+
+/// Takes entries out, and writes what becomes of the pair.
+fn tell_taken(rt: &impl Print, terms: &mut Terms, giver: &FirmId, taker: &FirmId) -> bool {
+    for (when, entries) in TAKEN {
+        take_out(terms, entries);
+        if !tell_pair(rt, terms, when, giver, taker) {
+            return false;
+        }
+    }
+    true
+}
+
+/// Writes what becomes of a pair that is dealt under its terms, and of the pair the other way round.
+fn tell_dealt(rt: &impl Print, terms: &mut Terms, giver: &FirmId, taker: &FirmId) -> bool {
+    put_all(terms, giver, taker)
+        && tell_pair(rt, terms, "raised and used", giver, taker)
+        && tell_refused(rt, terms, giver, taker)
+        && put_entry(terms, taker, giver, 8, Deed::Uses(9))
+        && tell_pair(rt, terms, "the other way round", taker, giver)
+}
+
+/// Writes what becomes of terms that are made by 1, used by 3 and raised by 4, so that 5 and 6 can use more, and of
+/// which 5, 6 and 4 are taken out.
+/// Whether all went well.
+pub fn tell_terms(rt: &impl Print, alloc: Global, giver: &FirmId, taker: &FirmId) -> bool {
     let mut terms = Terms::new(alloc);
-    tell_pair(rt, &terms, "never made ready", giver, taker)?;
-    let made = Agreement {
-        rate: 125,
-        limit: 500,
-    };
-    put_entry(&mut terms, giver, taker, 1, Deed::Makes(made))?;
-    put_entry(&mut terms, giver, taker, 3, Deed::Uses(450))?;
-    put_entry(&mut terms, giver, taker, 4, Deed::Raises(100))?;
-    put_entry(&mut terms, giver, taker, 5, Deed::Uses(60))?;
-    put_claim_there(&mut terms, giver, taker, 6, 60)?;
-    tell_pair(rt, &terms, "raised and used", giver, taker)?;
-    println!(rt;
-        "a number once more: {}, and too many lots: {}",
-        put_entry(&mut terms, giver, taker, 6, Deed::Uses(1))?,
-        put_entry(&mut terms, giver, taker, 7, Deed::Uses(u64::MAX))?
-    )?;
-    put_entry(&mut terms, taker, giver, 8, Deed::Uses(9))?;
-    tell_pair(rt, &terms, "the other way round", taker, giver)?;
-    take_out(&mut terms, 5);
-    tell_pair(rt, &terms, "without 5", giver, taker)?;
-    take_out(&mut terms, 3);
-    tell_pair(rt, &terms, "without 3", giver, taker)?;
-    take_out(&mut terms, 6);
-    take_out(&mut terms, 4);
-    tell_pair(rt, &terms, "without 6 and 4", giver, taker)?;
-    take_out(&mut terms, 1);
-    tell_pair(rt, &terms, "without 1", giver, taker)
+    tell_pair(rt, &terms, "never made ready", giver, taker)
+        && tell_dealt(rt, &mut terms, giver, taker)
+        && tell_taken(rt, &mut terms, giver, taker)
 }
