@@ -1,32 +1,34 @@
 //! Growths of the trees of all trades that are refused in one heap after another, until one has room for a trade, its split and a claim.
 
-use crate::trees::{give_up_parts, taken, trade};
-use gu_base::{NodeName, Number};
+use crate::trees::{Accounts, given_part, root};
+use gu_base::Number;
 use gu_tree::{Row, Trees};
 use linked_list_allocator::LocalHeap;
 use std::alloc::{Allocator, Global};
-use std::io;
 use std::io::Print;
-use test_splits::Outcome;
-use test_splits::trees::{claim, plant, split};
+use test_splits::trees::{decide, plant, split};
+use test_splits::words::{say, say_line};
+use test_splits::{Decision, Outcome};
 
-/// How far a run came in a heap.
-#[derive(Clone, Copy, PartialEq, Eq)]
-enum Reached {
-    Nothing,
+/// A change of the trees, in the order in which they are made: entries 1 to 3.
+#[derive(Clone, Copy)]
+enum Change {
     Trade,
     Split,
     Claim,
-    /// A refused growth changed something.
-    Changed,
 }
 
-/// The rows of the trade, none where it isn't there.
-fn rows<A: Allocator + Clone>(alloc: Global, trees: &Trees<A>) -> io::Result<Vec<Row>> {
-    match trees.tree(Number::at_place(0)) {
-        Some(tree) => Ok(tree.rows(alloc)?),
-        None => Ok(Vec::new(alloc)),
-    }
+/// The changes, each with how many entries have a place before it.
+const CHANGES: [(Change, usize); 3] = [(Change::Trade, 0), (Change::Split, 1), (Change::Claim, 2)];
+
+/// How far a run came in a heap.
+#[derive(Clone, Copy)]
+enum Reached {
+    /// The change that was refused.
+    Refused(Change),
+    All,
+    /// A refused growth changed something.
+    Changed,
 }
 
 /// How many of the entries of the trade, its split and the claim have a place, where each has one if the entry before has.
@@ -39,51 +41,113 @@ fn placed<A: Allocator + Clone>(trees: &Trees<A>) -> usize {
     3
 }
 
-fn told(same: bool, reached: Reached) -> Reached {
-    if same { reached } else { Reached::Changed }
+/// The rows of the trade, none where it isn't there. `None` where there is no memory.
+fn rows<A: Allocator + Clone>(alloc: Global, trees: &Trees<A>) -> Option<Vec<Row>> {
+    match trees.tree(Number::at_place(0)) {
+        Some(tree) => tree.rows(alloc).ok(),
+        None => Some(Vec::new(alloc)),
+    }
 }
 
-/// The trade, its split and the claim in a new heap of this size.
-fn in_heap(alloc: Global, size: usize) -> io::Result<Reached> {
-    let heap = LocalHeap::new(alloc, size)?;
+/// Whether the trade has these rows, none where it isn't there.
+fn has_rows<A: Allocator + Clone>(alloc: Global, trees: &Trees<A>, wanted: &[Row]) -> bool {
+    match rows(alloc, trees) {
+        Some(rows) => rows.as_slice() == wanted,
+        None => false,
+    }
+}
+
+/// Makes a change in the trees of this heap.
+fn make<'a>(
+    heap: &'a LocalHeap,
+    trees: &mut Trees<&'a LocalHeap>,
+    accounts: &Accounts,
+    change: Change,
+) -> Outcome {
+    match change {
+        Change::Trade => plant(trees, heap, Number::at_place(0), accounts.own, 100),
+        Change::Split => {
+            let parts = accounts.give_up_parts();
+            split(trees, root(), Number::at_place(1), &parts)
+        }
+        Change::Claim => {
+            let claim = Decision::Claim(accounts.other);
+            decide(trees, given_part(), Number::at_place(2), claim)
+        }
+    }
+}
+
+/// Makes a change where so many entries have a place. How far that came, `None` where the change was made.
+fn step<'a>(
+    alloc: Global,
+    heap: &'a LocalHeap,
+    trees: &mut Trees<&'a LocalHeap>,
+    accounts: &Accounts,
+    change: Change,
+    before: usize,
+) -> Option<Reached> {
+    let Some(rows) = rows(alloc, trees) else {
+        return Some(Reached::Changed);
+    };
+    if make(heap, trees, accounts, change).is_done() {
+        return None;
+    }
+    if has_rows(alloc, trees, rows.as_slice()) && placed(trees) == before {
+        Some(Reached::Refused(change))
+    } else {
+        Some(Reached::Changed)
+    }
+}
+
+/// Makes the changes in their order. How far that comes.
+fn run<'a>(
+    alloc: Global,
+    heap: &'a LocalHeap,
+    trees: &mut Trees<&'a LocalHeap>,
+    accounts: &Accounts,
+) -> Reached {
+    for (change, before) in CHANGES {
+        if let Some(reached) = step(alloc, heap, trees, accounts, change, before) {
+            return reached;
+        }
+    }
+    if placed(trees) == 3 {
+        Reached::All
+    } else {
+        Reached::Changed
+    }
+}
+
+/// Makes the changes in a new heap of this size. How far that comes.
+fn in_heap(alloc: Global, accounts: &Accounts, size: usize) -> Reached {
+    let Ok(heap) = LocalHeap::new(alloc, size) else {
+        return Reached::Refused(Change::Trade);
+    };
     let mut trees = Trees::new(&heap, &heap);
-    if plant(&mut trees, trade(&heap)?) != Outcome::Done {
-        let same = rows(alloc, &trees)?.is_empty() && placed(&trees) == 0;
-        return Ok(told(same, Reached::Nothing));
-    }
-    let planted = rows(alloc, &trees)?;
-    let root = NodeName::in_entry(Number::at_place(0), 0);
-    let parts = give_up_parts()?;
-    if split(&mut trees, root, Number::at_place(1), &parts) != Outcome::Done {
-        let same = rows(alloc, &trees)?.as_slice() == planted.as_slice() && placed(&trees) == 1;
-        return Ok(told(same, Reached::Trade));
-    }
-    let divided = rows(alloc, &trees)?;
-    let given = NodeName::in_entry(Number::at_place(1), 2);
-    if claim(&mut trees, given, Number::at_place(2), taken()?) != Outcome::Done {
-        let same = rows(alloc, &trees)?.as_slice() == divided.as_slice() && placed(&trees) == 2;
-        return Ok(told(same, Reached::Split));
-    }
-    Ok(told(placed(&trees) == 3, Reached::Claim))
+    run(alloc, &heap, &mut trees, accounts)
 }
 
 /// Writes whether the trade and the split were refused in some heap, that no refusal changed anything, and that a larger heap has room
 /// for all.
-pub(crate) fn tell(rt: &impl Print, alloc: Global) -> io::Result<()> {
+pub(crate) fn tell(rt: &impl Print, alloc: Global, accounts: &Accounts) {
     let mut trade_refused = false;
     let mut split_refused = false;
     for steps in 1..1000 {
-        match in_heap(alloc, 16 * steps)? {
-            Reached::Nothing => trade_refused = true,
-            Reached::Trade => split_refused = true,
-            Reached::Split => (),
-            Reached::Changed => return println!(rt; "a refused growth changed the trees"),
-            Reached::Claim => {
-                return println!(rt;
-                    "among the trees: trade refused {trade_refused}, split refused {split_refused}; then done"
-                );
-            }
+        match in_heap(alloc, accounts, 16 * steps) {
+            Reached::Refused(Change::Trade) => trade_refused = true,
+            Reached::Refused(Change::Split) => split_refused = true,
+            Reached::Refused(Change::Claim) => (),
+            Reached::Changed => return say_line(rt, "a refused growth changed the trees"),
+            Reached::All => return tell_done(rt, trade_refused, split_refused),
         }
     }
-    println!(rt; "never done among the trees")
+    say_line(rt, "never done among the trees")
+}
+
+fn tell_done(rt: &impl Print, trade_refused: bool, split_refused: bool) {
+    say(rt, "among the trees: trade refused ");
+    say(rt, trade_refused);
+    say(rt, ", split refused ");
+    say(rt, split_refused);
+    say_line(rt, "; then done")
 }

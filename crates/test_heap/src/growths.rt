@@ -1,11 +1,12 @@
 //! Calls that grow by an allocator of their own, refused in one heap after another until one has room.
 
-use crate::trees::{split_in_five, split_in_two, trade};
+use crate::trees::{Accounts, has_rows, split_in_five, split_in_two, trade};
+use gu_base::Memory;
 use gu_tree::{Row, Tree};
 use linked_list_allocator::LocalHeap;
-use std::alloc::Global;
-use std::io;
+use std::alloc::{Allocator, Global};
 use std::io::Print;
+use test_splits::words::{say, say_line};
 
 /// A call that takes an allocator of its own.
 #[derive(Clone, Copy)]
@@ -16,13 +17,15 @@ enum Call {
 }
 
 /// What came of a call in a heap.
-#[derive(Clone, Copy, PartialEq, Eq)]
+#[derive(Clone, Copy)]
 enum Growth {
     Refused,
     /// What it gives where memory is ample.
     Given,
     /// Anything else.
     Wrong,
+    /// The call changed the tree.
+    Changed,
 }
 
 fn given(is_wanted: bool) -> Growth {
@@ -33,73 +36,104 @@ fn given(is_wanted: bool) -> Growth {
     }
 }
 
-/// What the call gives where memory is ample: of a copy its rows.
-fn wanted(alloc: Global, tree: &Tree<Global>, call: Call) -> io::Result<Vec<Row>> {
-    let rows = match call {
-        Call::Rows | Call::Copy => tree.rows(alloc)?,
-        Call::Leaves => tree.leaves(alloc)?,
-    };
-    Ok(rows)
+/// What came of a call for rows.
+fn of_rows<A: Allocator>(rows: Result<Vec<Row, A>, Memory>, wanted: &[Row]) -> Growth {
+    match rows {
+        Ok(rows) => given(rows.as_slice() == wanted),
+        Err(_) => Growth::Refused,
+    }
+}
+
+/// What came of a call for a copy.
+fn of_copy<A: Allocator + Clone>(
+    alloc: Global,
+    copy: Result<Tree<A>, Memory>,
+    wanted: &[Row],
+) -> Growth {
+    match copy {
+        Ok(copy) => given(has_rows(alloc, &copy, wanted)),
+        Err(_) => Growth::Refused,
+    }
 }
 
 /// What comes of the call in a new heap of this size.
-fn in_heap(
-    alloc: Global,
-    size: usize,
-    tree: &Tree<Global>,
-    call: Call,
-    wanted: &[Row],
-) -> io::Result<Growth> {
-    let heap = LocalHeap::new(alloc, size)?;
-    let rows = match call {
-        Call::Rows => tree.rows(&heap),
-        Call::Leaves => tree.leaves(&heap),
-        Call::Copy => {
-            let Ok(copy) = tree.copy(&heap) else {
-                return Ok(Growth::Refused);
-            };
-            return Ok(given(copy.rows(alloc)?.as_slice() == wanted));
-        }
+fn in_heap(alloc: Global, size: usize, tree: &Tree<Global>, call: Call, wanted: &[Row]) -> Growth {
+    let Ok(heap) = LocalHeap::new(alloc, size) else {
+        return Growth::Refused;
     };
-    match rows {
-        Ok(rows) => Ok(given(rows.as_slice() == wanted)),
-        Err(_) => Ok(Growth::Refused),
+    match call {
+        Call::Rows => of_rows(tree.rows(&heap), wanted),
+        Call::Leaves => of_rows(tree.leaves(&heap), wanted),
+        Call::Copy => of_copy(alloc, tree.copy(&heap), wanted),
     }
 }
 
-/// Writes in which heaps the call is refused and what it gives in the first that has room.
-fn tell_call(
-    rt: &impl Print,
+/// What comes of the call in the least heap in which it isn't refused, and the size of that heap. `rows` are the tree's.
+fn least(
     alloc: Global,
     tree: &Tree<Global>,
-    name: &str,
     call: Call,
-) -> io::Result<()> {
-    let rows = tree.rows(alloc)?;
-    let wanted = wanted(alloc, tree, call)?;
+    rows: &[Row],
+    wanted: &[Row],
+) -> (Growth, usize) {
     for steps in 1..1000 {
-        let growth = in_heap(alloc, 16 * steps, tree, call, wanted.as_slice())?;
-        if tree.rows(alloc)?.as_slice() != rows.as_slice() {
-            return println!(rt; "{name}: the tree is changed");
+        let size = 16 * steps;
+        let growth = in_heap(alloc, size, tree, call, wanted);
+        if !has_rows(alloc, tree, rows) {
+            return (Growth::Changed, size);
         }
         match growth {
             Growth::Refused => (),
-            Growth::Given => {
-                return println!(rt; "{name}: no memory below {} bytes, then given", 16 * steps);
-            }
-            Growth::Wrong => return println!(rt; "{name}: another tree's"),
+            _ => return (growth, size),
         }
     }
-    println!(rt; "{name}: never given")
+    (Growth::Refused, 0)
+}
+
+/// Writes in which heaps the call was refused, and what it gave in the first that has room.
+fn tell_call(rt: &impl Print, name: &str, (growth, size): (Growth, usize)) {
+    say(rt, name);
+    match growth {
+        Growth::Refused => say_line(rt, ": never given"),
+        Growth::Wrong => say_line(rt, ": another tree's"),
+        Growth::Changed => say_line(rt, ": the tree is changed"),
+        Growth::Given => {
+            say(rt, ": no memory below ");
+            say(rt, size);
+            say_line(rt, " bytes, then given")
+        }
+    }
+}
+
+/// Writes what comes of each call, for the tree of these rows and leaves.
+fn tell_calls(rt: &impl Print, alloc: Global, tree: &Tree<Global>, rows: &[Row], leaves: &[Row]) {
+    tell_call(rt, "rows", least(alloc, tree, Call::Rows, rows, rows));
+    tell_call(rt, "leaves", least(alloc, tree, Call::Leaves, rows, leaves));
+    tell_call(rt, "copy", least(alloc, tree, Call::Copy, rows, rows))
+}
+
+/// Writes what comes of each call, for the tree of these rows.
+fn tell_rows(rt: &impl Print, alloc: Global, tree: &Tree<Global>, rows: &[Row]) {
+    match tree.leaves(alloc) {
+        Ok(leaves) => tell_calls(rt, alloc, tree, rows, leaves.as_slice()),
+        Err(_) => say_line(rt, "no leaves"),
+    }
+}
+
+/// Writes what comes of two splits of the trade, and of each call behind them.
+fn tell_tree(rt: &impl Print, alloc: Global, tree: &mut Tree<Global>, accounts: &Accounts) {
+    say(rt, "where memory is ample: ");
+    say(rt, split_in_two(tree, accounts).text());
+    say(rt, ", ");
+    say_line(rt, split_in_five(tree, accounts).text());
+    match tree.rows(alloc) {
+        Ok(rows) => tell_rows(rt, alloc, tree, rows.as_slice()),
+        Err(_) => say_line(rt, "no rows"),
+    }
 }
 
 /// Writes what comes of each call, for a tree of two splits.
-pub(crate) fn tell(rt: &impl Print, alloc: Global) -> io::Result<()> {
-    let mut tree = trade(alloc)?;
-    let first = split_in_two(&mut tree)?;
-    let second = split_in_five(&mut tree)?;
-    println!(rt; "where memory is ample: {first}, {second}")?;
-    tell_call(rt, alloc, &tree, "rows", Call::Rows)?;
-    tell_call(rt, alloc, &tree, "leaves", Call::Leaves)?;
-    tell_call(rt, alloc, &tree, "copy", Call::Copy)
+pub(crate) fn tell(rt: &impl Print, alloc: Global, accounts: &Accounts) {
+    let mut tree = trade(alloc, accounts);
+    tell_tree(rt, alloc, &mut tree, accounts)
 }

@@ -21,13 +21,22 @@ mod splits;
 mod tight;
 mod trees;
 
-use std::io;
+use std::alloc::Global;
+use std::io::Print;
+use test_splits::words::say_line;
+use trees::Accounts;
 
-fn main(rt: HostRuntime) -> io::Result<()> {
-    let alloc = rt.alloc();
-    splits::tell(&rt, alloc)?;
-    tight::tell(&rt, alloc)?;
-    growths::tell(&rt, alloc)?;
-    rounds::tell(&rt, alloc)?;
-    grove::tell(&rt, alloc)
+fn tell(rt: &impl Print, alloc: Global, accounts: &Accounts) {
+    splits::tell(rt, alloc, accounts);
+    tight::tell(rt, alloc, accounts);
+    growths::tell(rt, alloc, accounts);
+    rounds::tell(rt, alloc, accounts);
+    grove::tell(rt, alloc, accounts);
+}
+
+fn main(rt: HostRuntime) {
+    match Accounts::new() {
+        Some(accounts) => tell(&rt, rt.alloc(), &accounts),
+        None => say_line(&rt, "no accounts"),
+    }
 }

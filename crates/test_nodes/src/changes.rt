@@ -4,13 +4,11 @@ use crate::words::place_of;
 use gu_base::Number;
 use gu_tree::Tree;
 use std::alloc::Global;
-use std::io;
-use std::io::ErrorKind;
 
 /// The trade 1 of these lots into AAA/A1.
-pub(crate) fn trade(alloc: Global, lots: &str) -> io::Result<Tree<Global>> {
+pub(crate) fn trade(alloc: Global, lots: &str) -> Option<Tree<Global>> {
     match (place_of("AAA/A1"), lots.parse::<u64>()) {
-        (Some(place), Ok(lots)) => Ok(Tree::new(alloc, Number::at_place(0), place, lots)),
-        _ => Err(io::Error::from(ErrorKind::InvalidData)),
+        (Some(place), Ok(lots)) => Some(Tree::new(alloc, Number::at_place(0), place, lots)),
+        _ => None,
     }
 }

@@ -1,40 +1,24 @@
-//! The change that a line asks for.
+//! The change of the tree that a line asks for.
 
-use crate::words::{first_word, node_of, number_of, part_of, place_of};
-use gu_base::{Memory, NodeName, Number, Part};
+use crate::shown::show_outcome;
+use crate::words::{decision_of, first_word, node_of, number_of, parts_of, undo_of};
+use gu_base::{NodeName, Number};
 use gu_tree::Tree;
 use std::alloc::Global;
-use test_splits::{Outcome, cancel, claim, offer_again, refuse, split, unclaim, unsplit};
+use std::io::Print;
+use test_splits::{Outcome, decide, split, take_back};
 
-/// The parts of these words.
-pub(crate) fn parts_of(alloc: Global, words: &str) -> Result<Vec<Part>, Memory> {
-    let mut parts = Vec::new(alloc);
-    for word in words.split(' ') {
-        if let Some(
-            Part {
-                lots,
-                firm,
-                account,
-            },
-        ) = part_of(word)
-        {
-            parts.push(Part {
-                lots,
-                firm,
-                account,
-            })?;
-        }
-    }
-    Ok(parts)
-}
-
-/// Takes back what was done at this node.
-fn take_back(tree: &mut Tree<Global>, verb: &str, node: NodeName) -> Outcome {
-    match verb {
-        "unsplit" => unsplit(tree, node),
-        "unclaim" => unclaim(tree, node),
-        "offer" => offer_again(tree, node),
-        _ => Outcome::Unfit,
+/// Splits this node into the parts of these words.
+fn split_into(
+    alloc: Global,
+    tree: &mut Tree<Global>,
+    node: NodeName,
+    entry: Number,
+    words: &str,
+) -> Outcome {
+    match parts_of(alloc, words) {
+        Some(parts) => split(tree, node, entry, parts.as_slice()),
+        None => Outcome::Memory,
     }
 }
 
@@ -46,34 +30,33 @@ fn make(
     node: NodeName,
     entry: Number,
     words: &str,
-) -> Result<Outcome, Memory> {
-    let outcome = match verb {
-        "split" => split(tree, node, entry, parts_of(alloc, words)?.as_slice()),
-        "refuse" => refuse(tree, node, entry),
-        "cancel" => cancel(tree, node, entry),
-        "claim" => match place_of(words) {
-            Some(into) => claim(tree, node, entry, into),
-            None => Outcome::Unfit,
-        },
+) -> Outcome {
+    match (verb, decision_of(verb, words)) {
+        ("split", _) => split_into(alloc, tree, node, entry, words),
+        (_, Some(decision)) => decide(tree, node, entry, decision),
         _ => Outcome::Unfit,
-    };
-    Ok(outcome)
+    }
 }
 
 /// Makes the change of a line, or takes one back.
-pub(crate) fn change(
+fn change(alloc: Global, tree: &mut Tree<Global>, verb: &str, words: &str) -> Outcome {
+    let (node, rest) = first_word(words);
+    let (entry, rest) = first_word(rest);
+    match (node_of(node), number_of(entry), undo_of(verb)) {
+        (Some(node), Some(entry), _) => make(alloc, tree, verb, node, entry, rest),
+        (Some(node), None, Some(undo)) => take_back(tree, node, undo),
+        _ => Outcome::Unfit,
+    }
+}
+
+/// Writes what a change of the tree gives.
+pub(crate) fn tell(
+    rt: &impl Print,
     alloc: Global,
     tree: &mut Tree<Global>,
     verb: &str,
     words: &str,
-) -> Result<Outcome, Memory> {
-    let (node, rest) = first_word(words);
-    let Some(node) = node_of(node) else {
-        return Ok(Outcome::Unfit);
-    };
-    let (entry, rest) = first_word(rest);
-    match number_of(entry) {
-        Some(entry) => make(alloc, tree, verb, node, entry, rest),
-        None => Ok(take_back(tree, verb, node)),
-    }
+) {
+    let outcome = change(alloc, tree, verb, words);
+    show_outcome(rt, verb, first_word(words).0, outcome)
 }

@@ -18,40 +18,69 @@ mod grove;
 mod lines;
 mod places;
 mod questions;
+mod shown;
 mod words;
 
+use changes::trade;
 use gu_tree::{Tree, Trees};
 use std::alloc::Global;
-use std::io;
+use std::io::{Print, Read};
+use std::{io, str};
+use test_splits::words::say_line;
 use words::first_word;
 
+/// Begins with the tree of a new trade.
+fn begin(rt: &impl Print, alloc: Global, tree: &mut Tree<Global>, lots: &str) {
+    match trade(alloc, lots) {
+        Some(new) => *tree = new,
+        None => say_line(rt, "no lots"),
+    }
+}
+
 /// Writes what a line about the tree gives.
-fn tell(rt: &impl Print, alloc: Global, tree: &mut Tree<Global>, line: &str) -> io::Result<()> {
+fn tell(rt: &impl Print, alloc: Global, tree: &mut Tree<Global>, line: &str) {
     let (first, rest) = first_word(line);
     match first {
-        "#" => println!(rt; "{line}"),
+        "#" => say_line(rt, line),
         "?" => questions::answer(rt, alloc, tree, rest),
-        "trade" => {
-            *tree = changes::trade(alloc, rest)?;
-            Ok(())
-        }
-        _ => {
-            let outcome = lines::change(alloc, tree, first, rest)?;
-            println!(rt; "{first} {}: {outcome}", first_word(rest).0)
+        "trade" => begin(rt, alloc, tree, rest),
+        _ => lines::tell(rt, alloc, tree, first, rest),
+    }
+}
+
+/// Writes what each line gives.
+fn tell_lines(
+    rt: &impl Print,
+    alloc: Global,
+    tree: &mut Tree<Global>,
+    trees: &mut Trees<Global>,
+    text: &str,
+) {
+    for line in text.lines() {
+        match line.strip_prefix("in ") {
+            Some(rest) => grove::tell(rt, alloc, trees, rest),
+            None => tell(rt, alloc, tree, line),
         }
     }
 }
 
+/// Writes what each line gives, of a first tree and no trees.
+fn tell_all(rt: &impl Print, alloc: Global, text: &str) {
+    let Some(mut tree) = trade(alloc, "1") else {
+        return say_line(rt, "no tree");
+    };
+    let mut trees = Trees::new(alloc, alloc);
+    tell_lines(rt, alloc, &mut tree, &mut trees, text);
+}
+
 fn main(rt: HostRuntime) -> io::Result<()> {
     let alloc = rt.alloc();
-    let mut tree = changes::trade(alloc, "1")?;
-    let mut trees = Trees::new(alloc, alloc);
-    for line in rt.lines(alloc) {
-        let line = line?;
-        match line.as_str().strip_prefix("in ") {
-            Some(rest) => grove::tell(&rt, alloc, &mut trees, rest)?,
-            None => tell(&rt, alloc, &mut tree, line.as_str())?,
-        }
+    let mut text = Vec::new(alloc);
+    rt.reader().read_to_end(&mut text)?;
+    match str::from_utf8(text.as_slice()) {
+        Ok(text) => tell_all(&rt, alloc, text),
+        Err(_) => say_line(&rt, "no text"),
     }
-    places::tell(&rt, alloc)
+    places::tell(&rt, alloc);
+    Ok(())
 }

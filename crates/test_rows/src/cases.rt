@@ -1,9 +1,9 @@
 //! Cases as lines.
 
-use std::alloc::{AllocError, Global};
+use std::alloc::Global;
 
 /// How a case gives its input and takes its output.
-#[derive(Clone, Copy, Debug)]
+#[derive(Clone, Copy)]
 pub(crate) enum Way {
     Whole,
     Pieces,
@@ -19,13 +19,13 @@ pub(crate) enum Way {
     Totals,
 }
 
-/// A case: its name, its way, whether its house's agreements are opening calls, and its input.
-#[derive(Drop)]
-pub(crate) struct Case {
-    pub(crate) name: String,
+/// A case: its name, its way, whether its house's agreements are opening calls, and the text of its input.
+#[derive(Clone, Copy)]
+pub(crate) struct Case<'a> {
+    pub(crate) name: &'a str,
     pub(crate) way: Way,
     pub(crate) opens: bool,
-    pub(crate) input: Vec<u8>,
+    pub(crate) text: &'a str,
 }
 
 fn way_of(text: &str) -> Option<Way> {
@@ -46,17 +46,19 @@ fn way_of(text: &str) -> Option<Way> {
     }
 }
 
-fn push_times(bytes: &mut Vec<u8>, byte: u8, times: u32) -> Result<(), AllocError> {
+/// Appends a byte so many times. Whether there was memory.
+fn push_times(bytes: &mut Vec<u8>, byte: u8, times: u32) -> bool {
     let byte = if byte == b'|' { 1 } else { byte };
     for _ in 0..times {
-        bytes.push(byte)?;
+        if bytes.push(byte).is_err() {
+            return false;
+        }
     }
-    Ok(())
+    true
 }
 
-/// The bytes that a text of a case stands for.
-fn bytes_of(alloc: Global, text: &str) -> Result<Vec<u8>, AllocError> {
-    let mut bytes = Vec::new(alloc);
+/// Appends the bytes that a text of a case stands for. Whether there was memory.
+fn push_text(bytes: &mut Vec<u8>, text: &str) -> bool {
     let mut times = 1u32;
     let mut counting = false;
     for b in text.as_bytes() {
@@ -71,34 +73,34 @@ fn bytes_of(alloc: Global, text: &str) -> Result<Vec<u8>, AllocError> {
                 .saturating_mul(10)
                 .saturating_add(u32::from(byte % 16));
         } else {
-            push_times(&mut bytes, byte, times)?;
+            if !push_times(bytes, byte, times) {
+                return false;
+            }
             times = 1;
         }
     }
-    Ok(bytes)
+    true
+}
+
+/// The bytes that a text of a case stands for. `None` where there is no memory.
+pub(crate) fn bytes_of(alloc: Global, text: &str) -> Option<Vec<u8>> {
+    let mut bytes = Vec::new(alloc);
+    if push_text(&mut bytes, text) {
+        Some(bytes)
+    } else {
+        None
+    }
 }
 
 /// The case of a line, or none where the line is no case.
-pub(crate) fn read_case(alloc: Global, line: &str) -> Result<Option<Case>, AllocError> {
-    let Some((name, rest)) = line.split_once(';') else {
-        return Ok(None);
-    };
-    let Some((way, input)) = rest.split_once(';') else {
-        return Ok(None);
-    };
-    let (way, opens) = match way.split_once(", ") {
-        Some((way, house)) => (way, house == "opening calls"),
-        None => (way, false),
-    };
-    let Some(way) = way_of(way) else {
-        return Ok(None);
-    };
-    let name = String::from_str(alloc, name)?;
-    let input = bytes_of(alloc, input)?;
-    Ok(Some(Case {
+pub(crate) fn case_of(line: &str) -> Option<Case<'_>> {
+    let (name, rest) = line.split_once(';')?;
+    let (way, text) = rest.split_once(';')?;
+    let (way, house) = way.split_once(", ").unwrap_or((way, ""));
+    Some(Case {
         name,
-        way,
-        opens,
-        input,
-    }))
+        way: way_of(way)?,
+        opens: house == "opening calls",
+        text,
+    })
 }

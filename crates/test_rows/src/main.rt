@@ -21,17 +21,42 @@ mod cases;
 mod streams;
 mod ways;
 
-use crate::cases::read_case;
-use crate::ways::run_case;
-use std::io;
+use crate::cases::{bytes_of, case_of};
+use crate::ways::{Row, run_row, say_line};
+use std::alloc::Global;
+use std::io::{Print, Read};
+use std::{io, str};
+
+/// Runs the case of a line, where it is one, and prints what came of it.
+fn run_line(rt: &impl Print, alloc: Global, line: &str) {
+    let Some(case) = case_of(line) else {
+        return;
+    };
+    let Some(input) = bytes_of(alloc, case.text) else {
+        return say_line(rt, "no memory");
+    };
+    let row = Row {
+        name: case.name,
+        opens: case.opens,
+        input: input.as_slice(),
+    };
+    run_row(rt, alloc, &row, case.way);
+}
+
+/// Runs the case of each line.
+fn run_lines(rt: &impl Print, alloc: Global, text: &str) {
+    for line in text.lines() {
+        run_line(rt, alloc, line);
+    }
+}
 
 fn main(rt: HostRuntime) -> io::Result<()> {
     let alloc = rt.alloc();
-    for line in rt.lines(alloc) {
-        let line = line?;
-        if let Some(case) = read_case(alloc, line.as_str())? {
-            run_case(&rt, alloc, &case)?;
-        }
+    let mut text = Vec::new(alloc);
+    rt.reader().read_to_end(&mut text)?;
+    match str::from_utf8(text.as_slice()) {
+        Ok(text) => run_lines(&rt, alloc, text),
+        Err(_) => say_line(&rt, "no text"),
     }
     Ok(())
 }

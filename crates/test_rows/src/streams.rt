@@ -1,18 +1,51 @@
-//! Readers and writers over memory, of several tempers.
+//! A reader and a writer over memory, of several tempers.
+ghost use Rattle.std.specs.Prelude.{IfOk};
+ghost use Rattle.std.specs.Counts.{IsPrefixLen};
 
 use std::io;
 use std::io::{ErrorKind, Read, Write};
 
-/// Gives its text in pieces of at most `most` bytes, none of which reaches over `cut`. At `end` it fails, or the stream
-/// is at its end.
-#[derive(Drop)]
+/// How often calls are interrupted.
+#[derive(Clone, Copy)]
+pub(crate) enum Interruptions {
+    Never,
+    /// Each once before it is made.
+    Once,
+    Always,
+}
+
+impl Interruptions {
+    /// Whether a call is interrupted, where `was` says it of the one before.
+    fn is_now(self, was: bool) -> bool {
+        match self {
+            Interruptions::Never => false,
+            Interruptions::Once => !was,
+            Interruptions::Always => true,
+        }
+    }
+}
+
+/// What a reader does at its end.
+#[derive(Clone, Copy)]
+pub(crate) enum AtEnd {
+    /// The stream is at its end.
+    Ends,
+    Fails,
+    /// It begins again.
+    Repeats,
+}
+
+/// Gives its text in pieces of at most `most` bytes, none of which reaches over `cut`, up to `end`.
+#[derive(Clone, Copy, Drop)]
 pub(crate) struct Pieces<'a> {
     pub(crate) text: &'a [u8],
     pub(crate) at: usize,
     pub(crate) most: usize,
     pub(crate) cut: usize,
     pub(crate) end: usize,
-    pub(crate) fails: bool,
+    pub(crate) at_end: AtEnd,
+    pub(crate) interruptions: Interruptions,
+    pub(crate) was_interrupted: bool,
 }
 
 /// The whole text, in pieces of so many bytes.
@@ -23,18 +56,17 @@ pub(crate) fn pieces_of<'a>(text: &'a [u8], most: usize) -> Pieces<'a> {
         most,
         cut: text.len(),
         end: text.len(),
-        fails: false,
+        at_end: AtEnd::Ends,
+        interruptions: Interruptions::Never,
+        was_interrupted: false,
     }
 }
 
-impl<'a> Read for Pieces<'a> {
-    fn read(&mut self, buf: &mut [u8]) -> io::Result<usize> {
-        if self.at >= self.end {
-            if self.fails {
-                return Err(io::Error::from(ErrorKind::BrokenPipe));
-            }
-            return Ok(0);
-        }
+impl<'a> Pieces<'a> {
+    /// Gives the next piece, as much as there is room for.
+    fn give(&mut self, buf: &mut [u8]) -> io::Result<usize>
+        ensures { IfOk result (λ n. IsPrefixLen n buf.new) }
+    {
         let next = if self.at < self.cut {
             self.cut
         } else {
@@ -51,86 +83,65 @@ impl<'a> Read for Pieces<'a> {
     }
 }
 
-/// Gives its text a byte a call, over and over.
-#[derive(Drop)]
-pub(crate) struct Endless<'a> {
-    pub(crate) text: &'a [u8],
-    pub(crate) at: usize,
-}
-
-impl<'a> Read for Endless<'a> {
+impl<'a> Read for Pieces<'a> {
     fn read(&mut self, buf: &mut [u8]) -> io::Result<usize> {
-        if self.at >= self.text.len() {
-            self.at = 0;
+        self.was_interrupted = self.interruptions.is_now(self.was_interrupted);
+        if self.was_interrupted {
+            return Err(io::Error::from(ErrorKind::Interrupted));
         }
-        match self.text.get(self.at) {
-            Some(b) if !buf.is_empty() => {
-                buf[0] = *b;
-                self.at = self.at.saturating_add(1);
-                Ok(1)
+        if self.at >= self.end {
+            match self.at_end {
+                AtEnd::Ends => return Ok(0),
+                AtEnd::Fails => return Err(io::Error::from(ErrorKind::BrokenPipe)),
+                AtEnd::Repeats => self.at = 0,
             }
-            _ => Ok(0),
         }
+        self.give(buf)
     }
 }
 
-/// A reader or writer whose calls are interrupted, each once before it is made, or always.
-#[derive(Drop)]
-pub(crate) struct Interrupted<T> {
-    pub(crate) inner: T,
-    pub(crate) always: bool,
-    pub(crate) was: bool,
-}
-
-impl<T> Interrupted<T> {
-    /// Whether this call is interrupted.
-    fn is_now(&mut self) -> bool {
-        self.was = self.always || !self.was;
-        self.was
-    }
-}
-
-impl<T: Read> Read for Interrupted<T> {
-    fn read(&mut self, buf: &mut [u8]) -> io::Result<usize> {
-        if self.is_now() {
-            return Err(io::Error::from(ErrorKind::Interrupted));
-        }
-        self.inner.read(buf)
-    }
-}
-
-impl<T: Write> Write for Interrupted<T> {
-    fn write(&mut self, buf: &[u8]) -> io::Result<usize> {
-        if self.is_now() {
-            return Err(io::Error::from(ErrorKind::Interrupted));
-        }
-        self.inner.write(buf)
-    }
-
-    fn flush(&mut self) -> io::Result<()> {
-        Ok(())
-    }
-}
-
-/// Takes at most `most` bytes a call and `room` bytes in all. Then it fails or, where it is quiet, takes none.
-#[derive(Drop)]
-pub(crate) struct Narrow {
-    pub(crate) held: Vec<u8>,
+/// How a writer takes bytes: at most `most` a call and `room` in all. Then it fails or, where it is quiet, takes none.
+#[derive(Clone, Copy)]
+pub(crate) struct Taking {
     pub(crate) most: usize,
     pub(crate) room: usize,
     pub(crate) quiet: bool,
+    pub(crate) interruptions: Interruptions,
+}
+
+/// Takes all bytes at once.
+pub(crate) fn takes_all() -> Taking {
+    Taking {
+        most: usize::MAX,
+        room: usize::MAX,
+        quiet: false,
+        interruptions: Interruptions::Never,
+    }
+}
+
+/// Takes bytes in its way, and holds them.
+#[derive(Drop)]
+pub(crate) struct Narrow {
+    pub(crate) held: Vec<u8>,
+    pub(crate) taking: Taking,
+    pub(crate) was_interrupted: bool,
 }
 
 impl Write for Narrow {
     fn write(&mut self, buf: &[u8]) -> io::Result<usize> {
-        let room = self.room.saturating_sub(self.held.len());
+        let taking = self.taking;
+        self.was_interrupted = taking.interruptions.is_now(self.was_interrupted);
+        if self.was_interrupted {
+            return Err(io::Error::from(ErrorKind::Interrupted));
+        }
+        let room = taking.room.saturating_sub(self.held.len());
         if room == 0 {
-            if self.quiet {
+            if taking.quiet {
                 return Ok(0);
             }
             return Err(io::Error::from(ErrorKind::BrokenPipe));
         }
-        let count = buf.len().min(self.most).min(room);
+        let count = buf.len().min(taking.most).min(room);
         let (front, _) = buf.split_at(count);
         match self.held.extend_from_slice(front) {
             Ok(()) => Ok(count),

@@ -1,18 +1,18 @@
 //! The changes of a tree's node and their undo, each made where all that it asks for holds, for the programs that change trees (`test_nodes`,
-//! `test_heap`); in `trees` the same among the trees of all trades.
+//! `test_heap`); in `trees` the same among the trees of all trades, and in `words` what the programs write.
 //!
 //! It has no cases of its own: those of the two programs try it.
 #![tactic(auto)]
 
 pub mod trees;
+pub mod words;
 
 use gu_base::{NodeName, Number, Part, Place, State};
 use gu_tree::{MAX_DEPTH, Tree};
 use std::alloc::Allocator;
-use std::fmt;
 
 /// What came of a change.
-#[derive(Clone, Copy, PartialEq, Eq)]
+#[derive(Clone, Copy)]
 pub enum Outcome {
     Done,
     Memory,
@@ -20,15 +20,43 @@ pub enum Outcome {
     Unfit,
 }
 
-impl fmt::Display for Outcome {
-    fn fmt<W: fmt::Write>(&self, f: &mut fmt::Formatter<W>) -> fmt::Result {
-        let text = match self {
+impl Outcome {
+    pub fn text(self) -> &'static str {
+        match self {
             Outcome::Done => "done",
             Outcome::Memory => "no memory",
             Outcome::Unfit => "not allowed",
-        };
-        f.write_str(text)
+        }
     }
+
+    pub fn is_done(self) -> bool {
+        match self {
+            Outcome::Done => true,
+            _ => false,
+        }
+    }
+}
+
+/// What is decided on an offered part.
+#[derive(Clone, Copy)]
+pub enum Decision {
+    /// It moves into this account.
+    Claim(Place),
+    /// Its taker gives it back.
+    Refuse,
+    /// Its giver takes it back.
+    Cancel,
+}
+
+/// A change that is taken back at its node.
+#[derive(Clone, Copy)]
+pub enum Undo {
+    /// The node's Split, where nothing stands on its parts.
+    Split,
+    /// The Claim of a leaf.
+    Claim,
+    /// The Refuse or the Cancel of a leaf.
+    GivingBack,
 }
 
 /// Splits the node of that name.
@@ -57,24 +85,12 @@ pub fn split<A: Allocator + Clone>(
     }
 }
 
-/// Takes the Split of the node of that name back, where nothing stands on its parts.
-pub fn unsplit<A: Allocator + Clone>(tree: &mut Tree<A>, name: NodeName) -> Outcome {
-    let Some(path) = tree.find(name) else {
-        return Outcome::Unfit;
-    };
-    if !tree.can_unsplit(&path) {
-        return Outcome::Unfit;
-    }
-    tree.unsplit(&path);
-    Outcome::Done
-}
-
-/// Moves an offered part into the account of its Claim.
-pub fn claim<A: Allocator + Clone>(
+/// Decides the part of that name, where it is offered.
+pub fn decide<A: Allocator + Clone>(
     tree: &mut Tree<A>,
     name: NodeName,
-    decision: Number,
-    into: Place,
+    entry: Number,
+    decision: Decision,
 ) -> Outcome {
     let Some(path) = tree.find(name) else {
         return Outcome::Unfit;
@@ -83,68 +99,28 @@ pub fn claim<A: Allocator + Clone>(
     if head.state != State::Offered {
         return Outcome::Unfit;
     }
-    tree.claim(&path, decision, into);
-    Outcome::Done
-}
-
-/// Gives an offered part back, by its taker.
-pub fn refuse<A: Allocator + Clone>(
-    tree: &mut Tree<A>,
-    name: NodeName,
-    decision: Number,
-) -> Outcome {
-    let Some(path) = tree.find(name) else {
-        return Outcome::Unfit;
-    };
-    let head = *tree.head(&path);
-    if head.state != State::Offered {
-        return Outcome::Unfit;
+    match decision {
+        Decision::Claim(into) => tree.claim(&path, entry, into),
+        Decision::Refuse => tree.give_back(&path, entry, State::Refused),
+        Decision::Cancel => tree.give_back(&path, entry, State::Cancelled),
     }
-    tree.give_back(&path, decision, State::Refused);
     Outcome::Done
 }
 
-/// Gives an offered part back, by its giver.
-pub fn cancel<A: Allocator + Clone>(
-    tree: &mut Tree<A>,
-    name: NodeName,
-    decision: Number,
-) -> Outcome {
-    let Some(path) = tree.find(name) else {
-        return Outcome::Unfit;
-    };
-    let head = *tree.head(&path);
-    if head.state != State::Offered {
-        return Outcome::Unfit;
-    }
-    tree.give_back(&path, decision, State::Cancelled);
-    Outcome::Done
-}
-
-/// Takes a Claim back, where the node is a claimed leaf.
-pub fn unclaim<A: Allocator + Clone>(tree: &mut Tree<A>, name: NodeName) -> Outcome {
+/// Takes back what was done at the node of that name.
+pub fn take_back<A: Allocator + Clone>(tree: &mut Tree<A>, name: NodeName, undo: Undo) -> Outcome {
     let Some(path) = tree.find(name) else {
         return Outcome::Unfit;
     };
     let head = *tree.head(&path);
     let parted = tree.parted(&path);
-    if parted.is_some() || head.state != State::Claimed {
-        return Outcome::Unfit;
+    match (undo, head.state) {
+        (Undo::Split, _) if tree.can_unsplit(&path) => tree.unsplit(&path),
+        (Undo::Claim, State::Claimed) if parted.is_none() => tree.unclaim(&path),
+        (Undo::GivingBack, State::Refused | State::Cancelled) if parted.is_none() => {
+            tree.offer_again(&path)
+        }
+        _ => return Outcome::Unfit,
     }
-    tree.unclaim(&path);
-    Outcome::Done
-}
-
-/// Takes a Refuse or a Cancel back, where the node is a leaf that was given back.
-pub fn offer_again<A: Allocator + Clone>(tree: &mut Tree<A>, name: NodeName) -> Outcome {
-    let Some(path) = tree.find(name) else {
-        return Outcome::Unfit;
-    };
-    let head = *tree.head(&path);
-    let parted = tree.parted(&path);
-    if parted.is_some() || (head.state != State::Refused && head.state != State::Cancelled) {
-        return Outcome::Unfit;
-    }
-    tree.offer_again(&path);
     Outcome::Done
 }

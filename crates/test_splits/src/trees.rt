@@ -1,21 +1,25 @@
 //! The changes of the trees of all trades and their undo, each made where all that it asks for holds.
 
-use crate::Outcome;
+use crate::{Decision, Outcome, Undo};
 use gu_base::{NodeName, Number, Part, Place, State};
 use gu_tree::{MAX_DEPTH, Path, Tree, Trees};
 use std::alloc::Allocator;
 
-/// Adds the tree of a trade.
-pub fn plant<A: Allocator + Clone>(trees: &mut Trees<A>, tree: Tree<A>) -> Outcome {
-    let root = Path::new();
-    let head = *tree.head(&root);
-    if tree.parted(&root).is_some() || head.name.part() != 0 || !trees.is_new(head.name.entry()) {
+/// Adds the tree of a trade of these lots into this account. It grows by `alloc`.
+pub fn plant<A: Allocator + Clone>(
+    trees: &mut Trees<A>,
+    alloc: A,
+    trade: Number,
+    into: Place,
+    lots: u64,
+) -> Outcome {
+    if !trees.is_new(trade) {
         return Outcome::Unfit;
     }
     if trees.ready().is_err() {
         return Outcome::Memory;
     }
-    trees.plant(tree);
+    trees.plant(Tree::new(alloc, trade, into, lots));
     Outcome::Done
 }
 
@@ -63,12 +67,12 @@ pub fn split<A: Allocator + Clone>(
     }
 }
 
-/// Moves an offered part into the account of its Claim.
-pub fn claim<A: Allocator + Clone>(
+/// Decides the part of that name, where it is offered.
+pub fn decide<A: Allocator + Clone>(
     trees: &mut Trees<A>,
     name: NodeName,
-    decision: Number,
-    into: Place,
+    entry: Number,
+    decision: Decision,
 ) -> Outcome {
     if trees.ready().is_err() {
         return Outcome::Memory;
@@ -78,79 +82,37 @@ pub fn claim<A: Allocator + Clone>(
         return Outcome::Unfit;
     };
     let trade = spot.trade;
-    if spot.node.head().state != State::Offered || !trees.is_new(decision) {
+    if spot.node.head().state != State::Offered || !trees.is_new(entry) {
         return Outcome::Unfit;
     }
-    trees.claim(trade, &path, decision, into);
+    match decision {
+        Decision::Claim(into) => trees.claim(trade, &path, entry, into),
+        Decision::Refuse => trees.give_back(trade, &path, entry, State::Refused),
+        Decision::Cancel => trees.give_back(trade, &path, entry, State::Cancelled),
+    }
     Outcome::Done
 }
 
-/// Gives an offered part back, by its taker where `refused`, else by its giver.
-pub fn give_back<A: Allocator + Clone>(
+/// Takes back what was done at the node of that name.
+pub fn take_back<A: Allocator + Clone>(
     trees: &mut Trees<A>,
     name: NodeName,
-    decision: Number,
-    refused: bool,
+    undo: Undo,
 ) -> Outcome {
-    if trees.ready().is_err() {
-        return Outcome::Memory;
-    }
-    let mut path = Path::new();
-    let Some(spot) = trees.find(name, &mut path) else {
-        return Outcome::Unfit;
-    };
-    let trade = spot.trade;
-    if spot.node.head().state != State::Offered || !trees.is_new(decision) {
-        return Outcome::Unfit;
-    }
-    let state = if refused {
-        State::Refused
-    } else {
-        State::Cancelled
-    };
-    trees.give_back(trade, &path, decision, state);
-    Outcome::Done
-}
-
-/// Takes the Split of the node of that name back, where nothing stands on its parts.
-pub fn unsplit<A: Allocator + Clone>(trees: &mut Trees<A>, name: NodeName) -> Outcome {
-    let mut path = Path::new();
-    let Some(spot) = trees.find(name, &mut path) else {
-        return Outcome::Unfit;
-    };
-    let trade = spot.trade;
-    if !spot.node.can_unsplit() {
-        return Outcome::Unfit;
-    }
-    trees.unsplit(trade, &path);
-    Outcome::Done
-}
-
-/// Takes a Claim back, where the node is a claimed leaf.
-pub fn unclaim<A: Allocator + Clone>(trees: &mut Trees<A>, name: NodeName) -> Outcome {
-    let mut path = Path::new();
-    let Some(spot) = trees.find(name, &mut path) else {
-        return Outcome::Unfit;
-    };
-    let trade = spot.trade;
-    if spot.node.parted().is_some() || spot.node.head().state != State::Claimed {
-        return Outcome::Unfit;
-    }
-    trees.unclaim(trade, &path);
-    Outcome::Done
-}
-
-/// Takes a Refuse or a Cancel back, where the node is a leaf that was given back.
-pub fn offer_again<A: Allocator + Clone>(trees: &mut Trees<A>, name: NodeName) -> Outcome {
     let mut path = Path::new();
     let Some(spot) = trees.find(name, &mut path) else {
         return Outcome::Unfit;
     };
     let trade = spot.trade;
     let state = spot.node.head().state;
-    if spot.node.parted().is_some() || (state != State::Refused && state != State::Cancelled) {
-        return Outcome::Unfit;
+    let parted = spot.node.parted();
+    match (undo, state) {
+        (Undo::Split, _) if spot.node.can_unsplit() => trees.unsplit(trade, &path),
+        (Undo::Claim, State::Claimed) if parted.is_none() => trees.unclaim(trade, &path),
+        (Undo::GivingBack, State::Refused | State::Cancelled) if parted.is_none() => {
+            trees.offer_again(trade, &path)
+        }
+        _ => return Outcome::Unfit,
     }
-    trees.offer_again(trade, &path);
     Outcome::Done
 }
