@@ -1,3 +1,5 @@
+use Rattle.std.proofs.Common.{arith}
+use Rattle.std.proofs.lemmas.Grind.{common_steps}
 use Rattle.std.proofs.Common.{◌≡◌, ◌∙◌, ◌+◌, ℕ, List, ◌∷◌, ◌++◌, length, take, drop, Result, Ok, Err, ap, arith, length-append}
 use Rattle.std.specs.Prelude.{decimal, OnErr}
 use Rattle.std.proofs.lemmas.List.{take_at}
@@ -28,3 +30,6 @@ returns-clause-front c =
     let len : c.header_len.result ≡ length header = c.header_len.ensures.exact ∙ header_len (view c.args.header.now) in
     ap (take c.put_front-at.result) written ∙ c.put_front-at.ensures.text ∙ ap (λ (t : List ℕ). t ++ (opening ++ (decimal (c.header_len.result + c.args.body) ++ 1 ∷ header))) before
     ∙ ap (λ (n : ℕ). c.args.out.now.items ++ (opening ++ (decimal (n + c.args.body) ++ 1 ∷ header))) len
+
+pub returns-clause-len : goal.returns-clause-len
+returns-clause-len c = grind (arith, common_steps)
