@@ -1,0 +1,9 @@
+use Rattle.std.proofs.Common.{arith}
+use Rattle.std.proofs.lemmas.Grind.{common_steps}
+use Rattle.gu_fees.proofs.pair.first_over.Goals as goal
+
+pub returns-then-limit-used : goal.returns-then-limit-used
+returns-then-limit-used c = grind (arith, common_steps)
+
+pub loop-filed-preserved : goal.loop-filed-preserved
+loop-filed-preserved c = grind (arith, common_steps)
