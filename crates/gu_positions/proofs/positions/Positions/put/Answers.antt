@@ -24,3 +24,12 @@ pub returns-in-Some-clause-sums : goal.returns-in-Some-clause-sums
 returns-in-Some-clause-sums c = λ before after are.
     let x : Stake = record { key = c.args.key.now; side = c.args.side; lots = c.args.lots } in
     record { lots = λ at s. more_sum (λ y. y.lots) (λ y. is_key y.key at && same_side y.side s) before x after _ _ (returns-in-Some-clause-added c at s) (are.lots at s) }
+
+pub add-requires : goal.add-requires
+add-requires c = search rules
+
+pub returns-clause-added : goal.returns-clause-added
+returns-clause-added c = search rules
+
+pub returns-clause-sums : goal.returns-clause-sums
+returns-clause-sums c = search rules
