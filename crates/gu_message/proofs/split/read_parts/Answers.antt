@@ -1,4 +1,4 @@
-use Rattle.std.proofs.Common.{◌≡◌, ◌∙◌, ℕ, List, Ok, ap, subst, arith}
+use Rattle.std.proofs.Common.{◌≡◌, ◌∙◌, ℕ, List, Ok, subst, arith}
 use Rattle.std.proofs.lemmas.List.{take_all}
 use Rattle.gu_codec.specs.Fields.{fields_of}
 use Rattle.gu_message.specs.Finding.{entries}
