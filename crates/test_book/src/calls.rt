@@ -3,7 +3,27 @@
 use crate::picture::{Picture, take_picture};
 use gu_book::Book;
 use std::alloc::Global;
-use test_days::{Call, show_answer, tell_refused, twice};
+use test_days::{Call, show_answer, tell_refused};
+
+/// Whether the book tells this. `None` where no memory is found to look.
+fn tells(rt: &HostRuntime, alloc: Global, book: &Book, before: &Picture) -> Option<bool> {
+    match take_picture(rt, alloc, book) {
+        Some(picture) => {
+            let same = picture == *before;
+            drop(picture);
+            Some(same)
+        }
+        None => None,
+    }
+}
+
+/// Makes a call, of which nothing more is asked where no memory is found. Whether all could be written.
+fn make_last(rt: &HostRuntime, alloc: Global, book: &mut Book, call: &Call) -> bool {
+    match book.apply(alloc, &call.by, &call.id, &call.command) {
+        Ok(answer) => show_answer(rt, &answer),
+        Err(_) => rt.println("no memory").is_ok(),
+    }
+}
 
 /// Makes a call once more, of a book that lacked memory and told this before. Whether all could be written.
 fn make_again(
@@ -13,28 +33,39 @@ fn make_again(
     call: &Call,
     before: &Picture,
 ) -> bool {
-    let Ok(after) = twice(rt, || take_picture(alloc, book)) else {
-        return false;
-    };
-    if after != *before {
-        return println!(rt; "changed without memory").is_ok();
+    match tells(rt, alloc, book, before) {
+        Some(true) => make_last(rt, alloc, book, call),
+        Some(false) => rt.println("changed without memory").is_ok(),
+        None => false,
     }
+}
+
+/// Calls a book that tells this. Where no memory is found it sees that the book tells what it told before, and calls again. Whether all could
+/// be written.
+fn make_once(
+    rt: &HostRuntime,
+    alloc: Global,
+    book: &mut Book,
+    call: &Call,
+    before: &Picture,
+) -> bool {
     match book.apply(alloc, &call.by, &call.id, &call.command) {
         Ok(answer) => show_answer(rt, &answer),
-        Err(_) => println!(rt; "no memory").is_ok(),
+        Err(_) => {
+            tell_refused(rt);
+            make_again(rt, alloc, book, call, before)
+        }
     }
 }
 
 /// Calls, and where no memory is found sees that the book tells what it told before, and calls again. Whether all could be written.
 pub(crate) fn make(rt: &HostRuntime, alloc: Global, book: &mut Book, call: &Call) -> bool {
-    let Ok(before) = twice(rt, || take_picture(alloc, book)) else {
-        return false;
-    };
-    match book.apply(alloc, &call.by, &call.id, &call.command) {
-        Ok(answer) => show_answer(rt, &answer),
-        Err(_) => {
-            tell_refused(rt);
-            make_again(rt, alloc, book, call, &before)
+    match take_picture(rt, alloc, book) {
+        Some(before) => {
+            let made = make_once(rt, alloc, book, call, &before);
+            drop(before);
+            made
         }
+        None => false,
     }
 }

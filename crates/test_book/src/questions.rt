@@ -1,11 +1,11 @@
 //! A question, and what the book tells. What writes says whether it could.
 
-use gu_base::{AccountId, FirmId, InstrumentId, Number, Pair, Place};
+use gu_base::{AccountId, FirmId, InstrumentId, Memory, Number, Pair, Place};
 use gu_book::Book;
-use gu_book::laws::live_changes_alone;
+use gu_book::laws::{Told, live_changes_alone};
 use gu_tree::Row;
 use std::alloc::Global;
-use test_days::{first_word, number_of, twice};
+use test_days::{first_word, number_of, tell_refused};
 
 fn show_position(rt: &HostRuntime, book: &Book, words: &[u8]) -> bool {
     let (firm, rest) = first_word(words);
@@ -19,7 +19,7 @@ fn show_position(rt: &HostRuntime, book: &Book, words: &[u8]) -> bool {
             let (long, short) = book.position(&firm, &account, &instrument);
             println!(rt; "long {long} short {short}").is_ok()
         }
-        _ => println!(rt; "what?").is_ok(),
+        _ => rt.println("what?").is_ok(),
     }
 }
 
@@ -30,7 +30,7 @@ fn show_fees(rt: &HostRuntime, book: &Book, firm: &[u8]) -> bool {
             let received = book.received(&firm);
             println!(rt; "paid {paid} received {received}").is_ok()
         }
-        None => println!(rt; "what?").is_ok(),
+        None => rt.println("what?").is_ok(),
     }
 }
 
@@ -41,14 +41,14 @@ fn show_used(rt: &HostRuntime, book: &Book, words: &[u8]) -> bool {
             let used = book.used(&giver, &taker);
             println!(rt; "used {used}").is_ok()
         }
-        _ => println!(rt; "what?").is_ok(),
+        _ => rt.println("what?").is_ok(),
     }
 }
 
 fn show_limit(rt: &HostRuntime, book: &Book, words: &[u8]) -> bool {
     let (giver, taker) = first_word(words);
     let (Some(giver), Some(taker)) = (FirmId::new(giver), FirmId::new(taker)) else {
-        return println!(rt; "what?").is_ok();
+        return rt.println("what?").is_ok();
     };
     match book.limit(&giver, &taker) {
         Some(limit) => println!(rt; "limit {limit}").is_ok(),
@@ -94,67 +94,150 @@ fn show_these(rt: &HostRuntime, rows: &Option<Vec<Row>>) -> bool {
     true
 }
 
+/// The rows of a trade's tree. Where no memory is found they are asked for once more.
+fn rows_of(
+    rt: &HostRuntime,
+    alloc: Global,
+    book: &Book,
+    trade: Number,
+) -> Result<Option<Vec<Row>>, Memory> {
+    match book.tree_rows(alloc, trade) {
+        Ok(rows) => Ok(rows),
+        Err(_) => {
+            tell_refused(rt);
+            book.tree_rows(alloc, trade)
+        }
+    }
+}
+
 /// Writes the rows of a trade's tree.
 fn show_rows(rt: &HostRuntime, alloc: Global, book: &Book, word: &[u8]) -> bool {
     let Some(trade) = number_of(word) else {
-        return println!(rt; "what?").is_ok();
+        return rt.println("what?").is_ok();
     };
-    match twice(rt, || book.tree_rows(alloc, trade)) {
-        Ok(rows) => show_these(rt, &rows),
+    match rows_of(rt, alloc, book, trade) {
+        Ok(rows) => {
+            let shown = show_these(rt, &rows);
+            drop(rows);
+            shown
+        }
         Err(_) => false,
+    }
+}
+
+/// Writes what the live changes alone give.
+fn show_told(rt: &HostRuntime, told: &Told, taker: FirmId) -> bool {
+    let (long, short) = told.position;
+    println!(rt;
+        "alone: long {long} short {short}, {taker} paid {} received {}, used {}",
+        told.paid, told.received, told.used
+    )
+    .is_ok()
+        && show_these(rt, &told.rows)
+}
+
+/// What is asked of the live changes alone: a trade, an account of its giver, an instrument, and the giver and a taker.
+#[derive(Clone, Copy)]
+struct Alone {
+    trade: Number,
+    place: Place,
+    instrument: InstrumentId,
+    pair: Pair,
+}
+
+/// `TRADE GIVER ACCOUNT INSTRUMENT TAKER`
+fn alone_of(words: &[u8]) -> Option<Alone> {
+    let (trade, rest) = first_word(words);
+    let (giver, rest) = first_word(rest);
+    let (account, rest) = first_word(rest);
+    let (instrument, taker) = first_word(rest);
+    let trade = number_of(trade)?;
+    let firm = FirmId::new(giver)?;
+    let account = AccountId::new(account)?;
+    let instrument = InstrumentId::new(instrument)?;
+    let taker = FirmId::new(taker)?;
+    Some(Alone {
+        trade,
+        place: Place { firm, account },
+        instrument,
+        pair: Pair { giver: firm, taker },
+    })
+}
+
+/// What the live changes alone give.
+fn told_alone(alloc: Global, book: &Book, of: &Alone) -> Result<Told, Memory> {
+    let (place, pair) = (&of.place, &of.pair);
+    live_changes_alone(
+        book,
+        alloc,
+        of.trade,
+        place,
+        &of.instrument,
+        &pair.taker,
+        pair,
+    )
+}
+
+/// The same. Where no memory is found it is asked for once more.
+fn told_of(rt: &HostRuntime, alloc: Global, book: &Book, of: &Alone) -> Result<Told, Memory> {
+    match told_alone(alloc, book, of) {
+        Ok(told) => Ok(told),
+        Err(_) => {
+            tell_refused(rt);
+            told_alone(alloc, book, of)
+        }
     }
 }
 
 /// Writes what the live changes alone give of a trade, of an account of its giver, and of the giver and a taker.
 fn show_alone(rt: &HostRuntime, alloc: Global, book: &Book, words: &[u8]) -> bool {
-    let (trade, rest) = first_word(words);
-    let (giver, rest) = first_word(rest);
-    let (account, rest) = first_word(rest);
-    let (instrument, taker) = first_word(rest);
-    let (Some(trade), Some(giver), Some(account), Some(instrument), Some(taker)) = (
-        number_of(trade),
-        FirmId::new(giver),
-        AccountId::new(account),
-        InstrumentId::new(instrument),
-        FirmId::new(taker),
-    ) else {
-        return println!(rt; "what?").is_ok();
+    let Some(of) = alone_of(words) else {
+        return rt.println("what?").is_ok();
     };
-    let place = Place {
-        firm: giver,
-        account,
-    };
-    let pair = Pair { giver, taker };
-    match twice(rt, || {
-        live_changes_alone(book, alloc, trade, &place, &instrument, &taker, &pair)
-    }) {
+    match told_of(rt, alloc, book, &of) {
         Ok(told) => {
-            let (long, short) = told.position;
-            println!(rt;
-                "alone: long {long} short {short}, {taker} paid {} received {}, used {}",
-                told.paid, told.received, told.used
-            )
-            .is_ok()
-                && show_these(rt, &told.rows)
+            let shown = show_told(rt, &told, of.pair.taker);
+            drop(told);
+            shown
         }
         Err(_) => false,
     }
 }
 
-/// Writes the numbers of the live changes.
-fn show_live(rt: &HostRuntime, alloc: Global, book: &Book) -> bool {
-    let Ok(live) = twice(rt, || book.live(alloc)) else {
-        return false;
-    };
+/// Writes these numbers of live changes.
+fn show_numbers(rt: &HostRuntime, live: &[Number]) -> bool {
     if print!(rt; "live").is_err() {
         return false;
     }
-    for number in &live {
+    for number in live {
         if print!(rt; " {number}").is_err() {
             return false;
         }
     }
     println!(rt;).is_ok()
+}
+
+/// The numbers of the live changes. Where no memory is found they are asked for once more.
+fn live_of(rt: &HostRuntime, alloc: Global, book: &Book) -> Result<Vec<Number>, Memory> {
+    match book.live(alloc) {
+        Ok(live) => Ok(live),
+        Err(_) => {
+            tell_refused(rt);
+            book.live(alloc)
+        }
+    }
+}
+
+/// Writes the numbers of the live changes.
+fn show_live(rt: &HostRuntime, alloc: Global, book: &Book) -> bool {
+    match live_of(rt, alloc, book) {
+        Ok(live) => {
+            let shown = show_numbers(rt, live.as_slice());
+            drop(live);
+            shown
+        }
+        Err(_) => false,
+    }
 }
 
 /// Writes what a question asks for.

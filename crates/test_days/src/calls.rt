@@ -1,8 +1,10 @@
 //! The calls that lines of a day make, and how an answer is written.
 
+use crate::memory::tell_refused;
 use crate::words::{count_of, cut, first_word, node_of, number_of};
 use gu_base::{
-    AccountId, AllocId, Answer, Command, FirmId, InstrumentId, Memory, Part, Parts, Side,
+    AccountId, AllocId, Answer, Command, FirmId, InstrumentId, Memory, Number, Part, Parts,
+    Refusal, Side, State,
 };
 use std::alloc::Global;
 
@@ -181,11 +183,7 @@ fn read_command(alloc: Global, by: FirmId, words: &[u8]) -> Result<Option<Comman
 }
 
 /// The call of a line: `FIRM ID` and a command. `None` where it is none.
-///
-/// # Errors
-///
-/// Where memory is refused.
-pub fn read_call(alloc: Global, line: &[u8]) -> Result<Option<Call>, Memory> {
+fn call_of(alloc: Global, line: &[u8]) -> Result<Option<Call>, Memory> {
     let (firm, rest) = first_word(line);
     let (id, words) = first_word(rest);
     let (Some(by), Some(id)) = (FirmId::new(firm), AllocId::new(id)) else {
@@ -198,16 +196,39 @@ pub fn read_call(alloc: Global, line: &[u8]) -> Result<Option<Call>, Memory> {
     }
 }
 
+/// The call of a line: `FIRM ID` and a command. `None` where it is none. Where no memory is found it is read once more.
+///
+/// # Errors
+///
+/// Where memory is refused twice.
+pub fn read_call(rt: &HostRuntime, alloc: Global, line: &[u8]) -> Result<Option<Call>, Memory> {
+    match call_of(alloc, line) {
+        Ok(call) => Ok(call),
+        Err(_) => {
+            tell_refused(rt);
+            call_of(alloc, line)
+        }
+    }
+}
+
+/// `NUMBER STATUS`
+fn show_entry(rt: &HostRuntime, number: Number, status: State) -> bool {
+    println!(rt; "{number} {status:?}").is_ok()
+}
+
+/// Writes why the book refused.
+fn show_refusal(rt: &HostRuntime, refusal: Refusal) -> bool {
+    let text = refusal.text();
+    rt.println(text.as_str()).is_ok()
+}
+
 /// Writes what the book answered. Whether it could be written.
 pub fn show_answer(rt: &HostRuntime, answer: &Answer) -> bool {
-    match answer {
-        Answer::Accepted { number, status } => println!(rt; "{number} {status:?}").is_ok(),
+    match *answer {
+        Answer::Accepted { number, status } => show_entry(rt, number, status),
         Answer::Repeated { number, status } => {
-            println!(rt; "repeated {number} {status:?}").is_ok()
+            rt.print("repeated ").is_ok() && show_entry(rt, number, status)
         }
-        Answer::Refused(refusal) => {
-            let text = refusal.text();
-            println!(rt; "{}", text.as_str()).is_ok()
-        }
+        Answer::Refused(refusal) => show_refusal(rt, refusal),
     }
 }

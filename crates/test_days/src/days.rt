@@ -1,7 +1,7 @@
 //! Whole days, line by line.
 
 use crate::calls::{Call, read_call};
-use crate::memory::{tell_refused, twice};
+use crate::memory::tell_refused;
 use crate::words::{first_word, shown};
 use gu_book::Book;
 use gu_parties::House;
@@ -17,27 +17,53 @@ pub trait Player {
     fn make(rt: &HostRuntime, alloc: Global, book: &mut Book, call: &Call) -> bool;
 }
 
+/// The house of this text. Where no memory is found it is read once more.
+pub fn read_house(rt: &HostRuntime, alloc: Global, text: &[u8]) -> Option<House> {
+    match House::parse(alloc, text) {
+        Ok(house) => Some(house),
+        Err(_) => {
+            tell_refused(rt);
+            House::parse(alloc, text).ok()
+        }
+    }
+}
+
+/// The book of a house after its opening calls, for which memory wasn't found before.
+fn opened_again(alloc: Global, house: House) -> Option<Book> {
+    match Book::open(alloc, house) {
+        Ok(book) => Some(book),
+        Err((house, _)) => {
+            drop(house);
+            None
+        }
+    }
+}
+
 /// The book of a house after its opening calls. Where no memory is found it is opened once more, with the house that came back.
 fn opened(rt: &HostRuntime, alloc: Global, house: House) -> Option<Book> {
     match Book::open(alloc, house) {
         Ok(book) => Some(book),
         Err((house, _)) => {
             tell_refused(rt);
-            Book::open(alloc, house).ok()
+            opened_again(alloc, house)
         }
     }
 }
 
 /// The book after the opening calls of the house of this text.
 fn new_book(rt: &HostRuntime, alloc: Global, text: &str) -> Option<Book> {
-    let house = twice(rt, || House::parse(alloc, text.as_bytes())).ok()?;
+    let house = read_house(rt, alloc, text.as_bytes())?;
     opened(rt, alloc, house)
 }
 
 /// Has the player make the call of a line.
 fn tell_call<P: Player>(rt: &HostRuntime, alloc: Global, book: &mut Book, line: &[u8]) -> bool {
-    match twice(rt, || read_call(alloc, line)) {
-        Ok(Some(call)) => P::make(rt, alloc, book, &call),
+    match read_call(rt, alloc, line) {
+        Ok(Some(call)) => {
+            let made = P::make(rt, alloc, book, &call);
+            drop(call);
+            made
+        }
         Ok(None) => println!(rt; "what? {}", shown(line)).is_ok(),
         Err(_) => false,
     }
@@ -68,7 +94,11 @@ fn tell_day<P: Player>(rt: &HostRuntime, alloc: Global, book: &mut Book, day: &s
 /// Plays a day, at a book of its own.
 fn play_day<P: Player>(rt: &HostRuntime, alloc: Global, house: &str, day: &str) -> bool {
     match new_book(rt, alloc, house) {
-        Some(mut book) => tell_day::<P>(rt, alloc, &mut book, day),
+        Some(mut book) => {
+            let told = tell_day::<P>(rt, alloc, &mut book, day);
+            drop(book);
+            told
+        }
         None => println!(rt; "no house").is_ok(),
     }
 }

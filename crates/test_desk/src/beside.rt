@@ -1,7 +1,7 @@
 //! Two workers side by side.
 
 use crate::holding::Turns;
-use crate::working::{Task, Work, attend};
+use crate::working::{Tasks, Work, attend};
 use gu_desk::{Desk, Job, Seat};
 use std::alloc::Global;
 use std::io::Eprint;
@@ -18,12 +18,12 @@ pub(crate) fn side_by_side<J: Job + Send + Sync, R: Threads + Wait + Clock + Epr
     alloc: Global,
     desk: &Desk<J>,
     seats: (Seat<J>, Seat<J>),
-    task: &Task,
-    other_task: &Task,
+    tasks: &Tasks<'_>,
 ) -> Option<(Work<J>, Work<J>)> {
     let turns = Mutex::new(Turns::new());
     let turns = &turns;
     let (first, second) = seats;
+    let (task, other_task) = (tasks.first, tasks.second);
     thread::scope(thread::scope_env(), rt, move |scope| {
         let led = match scope.spawn(move || attend(rt, alloc, desk, first, turns, task)) {
             Ok(handle) => handle,

@@ -1,16 +1,15 @@
 //! The two cases, and how each is played.
 
 use crate::running::{Outcome, outcome_of};
-use crate::working::{Duty, Task};
+use crate::working::{Duty, Task, Tasks};
 use gu_base::Answer;
 use gu_book::Book;
-use gu_parties::House;
 use std::alloc::Global;
 use std::io::Eprint;
 use std::sync::Wait;
 use std::thread::Threads;
 use std::time::Clock;
-use test_days::{Call, read_call, tell_refused, twice};
+use test_days::{Call, read_call, read_house, tell_refused};
 
 /// A case, its calls as lines of a day: the trades of the house, and what each of two workers calls and does beside the other.
 pub(crate) struct Case<'a> {
@@ -50,22 +49,26 @@ fn is_accepted(rt: &HostRuntime, alloc: Global, book: &mut Book, call: &Call) ->
 
 /// The call of a line.
 fn call_of(rt: &HostRuntime, alloc: Global, line: &[u8]) -> Option<Call> {
-    match twice(rt, || read_call(alloc, line)) {
-        Ok(call) => call,
-        Err(_) => None,
+    read_call(rt, alloc, line).ok()?
+}
+
+/// Makes the call of a line. Whether it is accepted.
+fn is_line_accepted(rt: &HostRuntime, alloc: Global, book: &mut Book, line: &[u8]) -> bool {
+    match call_of(rt, alloc, line) {
+        Some(call) => {
+            let accepted = is_accepted(rt, alloc, book, &call);
+            drop(call);
+            accepted
+        }
+        None => false,
     }
 }
 
 /// Makes the calls of these lines. Whether each is accepted.
 fn are_accepted(rt: &HostRuntime, alloc: Global, book: &mut Book, lines: &[&[u8]]) -> bool {
     for line in lines {
-        match call_of(rt, alloc, line) {
-            Some(call) => {
-                if !is_accepted(rt, alloc, book, &call) {
-                    return false;
-                }
-            }
-            None => return false,
+        if !is_line_accepted(rt, alloc, book, line) {
+            return false;
         }
     }
     true
@@ -73,7 +76,7 @@ fn are_accepted(rt: &HostRuntime, alloc: Global, book: &mut Book, lines: &[&[u8]
 
 /// The book of this house with these trades. None where they aren't all accepted.
 fn opened(rt: &HostRuntime, alloc: Global, text: &[u8], trades: &[&[u8]]) -> Option<Book> {
-    let house = twice(rt, || House::parse(alloc, text)).ok()?;
+    let house = read_house(rt, alloc, text)?;
     let mut book = Book::new(alloc, house);
     if are_accepted(rt, alloc, &mut book, trades) {
         Some(book)
@@ -90,6 +93,38 @@ fn task_of(rt: &HostRuntime, alloc: Global, of: (Duty, &[u8])) -> Option<Task> {
     Some(Task { duty, call })
 }
 
+/// What comes of these tasks over a book of this house with these trades. None where there is no such book, or no desk.
+fn played_by<H: Threads + Wait + Clock + Eprint + Sync>(
+    rt: &HostRuntime,
+    handle: &H,
+    alloc: Global,
+    house: &[u8],
+    trades: &[&[u8]],
+    tasks: &Tasks<'_>,
+) -> Option<Outcome> {
+    let book = opened(rt, alloc, house, trades)?;
+    outcome_of(handle, alloc, book, tasks)
+}
+
+/// What comes of a case with this first task.
+fn played_beside<H: Threads + Wait + Clock + Eprint + Sync>(
+    rt: &HostRuntime,
+    handle: &H,
+    alloc: Global,
+    house: &[u8],
+    case: &Case<'_>,
+    first: &Task,
+) -> Option<Outcome> {
+    let second = task_of(rt, alloc, case.second)?;
+    let tasks = Tasks {
+        first,
+        second: &second,
+    };
+    let outcome = played_by(rt, handle, alloc, house, case.trades, &tasks);
+    drop(second);
+    outcome
+}
+
 /// What comes of a case over a book of this house. None where there is no such book, or no desk.
 pub(crate) fn played<H: Threads + Wait + Clock + Eprint + Sync>(
     rt: &HostRuntime,
@@ -99,7 +134,7 @@ pub(crate) fn played<H: Threads + Wait + Clock + Eprint + Sync>(
     case: &Case<'_>,
 ) -> Option<Outcome> {
     let first = task_of(rt, alloc, case.first)?;
-    let second = task_of(rt, alloc, case.second)?;
-    let book = opened(rt, alloc, house, case.trades)?;
-    outcome_of(handle, alloc, book, &first, &second)
+    let outcome = played_beside(rt, handle, alloc, house, case, &first);
+    drop(first);
+    outcome
 }

@@ -32,7 +32,7 @@ pub(crate) fn close<J: Job>(
     second: Seat<J>,
 ) -> Closed {
     let mut seats = list;
-    let _ = seats.push(first);
+    drop(seats.push(first));
     match desk.close(seats) {
         Ok(book) => {
             drop(book);
@@ -44,7 +44,7 @@ pub(crate) fn close<J: Job>(
         Err(CloseError { desk, seats }) => {
             let mut seats = seats;
             let back = seats.len();
-            let _ = seats.push(second);
+            drop(seats.push(second));
             Closed {
                 back: Some(back),
                 entries: entries_at_close(desk, seats),

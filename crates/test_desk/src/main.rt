@@ -19,13 +19,9 @@ mod running;
 mod telling;
 mod working;
 
-use cases::{Case, HELD, TOLD, played};
+use cases::{HELD, TOLD, played};
 use std::alloc::Global;
-use std::io::Eprint;
 use std::process::ExitCode;
-use std::sync::Wait;
-use std::thread::Threads;
-use std::time::Clock;
 use telling::{tell_held, tell_told};
 use test_days::read_input;
 
@@ -36,7 +32,11 @@ fn main(rt: HostRuntime) -> ExitCode {
     };
     let held = played(&rt, &rt, alloc, house.as_slice(), &HELD);
     let told = played(&rt, &rt, alloc, house.as_slice(), &TOLD);
-    if tell_held(&rt, &held) && tell_told(&rt, &told) {
+    let is_told = tell_held(&rt, &held) && tell_told(&rt, &told);
+    drop(held);
+    drop(told);
+    drop(house);
+    if is_told {
         ExitCode::SUCCESS
     } else {
         ExitCode::from(1)

@@ -4,7 +4,7 @@ ghost use Rattle.std.specs.Prelude.{◌≡◌, ◌+◌};
 
 use crate::beside::side_by_side;
 use crate::closing::{Closed, close};
-use crate::working::{Task, Told, Work, read};
+use crate::working::{Tasks, Told, Work, read};
 use gu_book::Book;
 use gu_desk::{Desk, Ground, Job, Seat};
 use std::alloc::Global;
@@ -31,10 +31,10 @@ fn read_and_close<J: Job, R: Wait + Eprint>(
     desk: Desk<J>,
     list: Vec<Seat<J>>,
     works: (Work<J>, Work<J>),
-    task: &Task,
+    tasks: &Tasks<'_>,
 ) -> Outcome {
     let (first, second) = works;
-    let (seat, again) = read(rt, alloc, &desk, first.seat, &task.call.by, 0);
+    let (seat, again) = read(rt, alloc, &desk, first.seat, &tasks.first.call.by, 0);
     Outcome {
         first: first.told,
         second: second.told,
@@ -43,23 +43,38 @@ fn read_and_close<J: Job, R: Wait + Eprint>(
     }
 }
 
-/// The two workers at this desk, to its close. None where there are no two seats, or no thread.
+/// The two workers at this desk, with the two seats of this list. None where there are no two, or no thread.
 fn work<J: Job + Send + Sync, R: Threads + Wait + Clock + Eprint + Sync>(
+    rt: &R,
+    alloc: Global,
+    desk: &Desk<J>,
+    seats: &mut Vec<Seat<J>>,
+    tasks: &Tasks<'_>,
+) -> Option<(Work<J>, Work<J>)> {
+    let second = seats.pop()?;
+    match seats.pop() {
+        Some(first) => side_by_side(rt, alloc, desk, (first, second), tasks),
+        None => {
+            drop(second);
+            None
+        }
+    }
+}
+
+/// The two workers at this desk, to its close. None where there are no two seats, or no thread.
+fn work_and_close<J: Job + Send + Sync, R: Threads + Wait + Clock + Eprint + Sync>(
     rt: &R,
     alloc: Global,
     desk: Desk<J>,
     seats: Vec<Seat<J>>,
-    task: &Task,
-    other_task: &Task,
+    tasks: &Tasks<'_>,
 ) -> Option<Outcome> {
     let mut seats = seats;
-    let (Some(second), Some(first)) = (seats.pop(), seats.pop()) else {
-        drop(desk);
-        return None;
-    };
-    match side_by_side(rt, alloc, &desk, (first, second), task, other_task) {
-        Some(works) => Some(read_and_close(rt, alloc, desk, seats, works, task)),
+    let works = work(rt, alloc, &desk, &mut seats, tasks);
+    match works {
+        Some(works) => Some(read_and_close(rt, alloc, desk, seats, works, tasks)),
         None => {
+            drop(seats);
             drop(desk);
             None
         }
@@ -71,8 +86,7 @@ fn run<J: Job + Send + Sync, R: Threads + Wait + Clock + Eprint + Sync>(
     rt: &R,
     alloc: Global,
     ground: Ground,
-    task: &Task,
-    other_task: &Task,
+    tasks: &Tasks<'_>,
 ) -> Result<Option<Outcome>, Book>
     requires name { ground.name ≡ J.name }
     requires parts { ground.workers + 1 ≡ J.parts }
@@ -80,7 +94,7 @@ fn run<J: Job + Send + Sync, R: Threads + Wait + Clock + Eprint + Sync>(
     requires opening { ground.opening ≡ J.opening }
 {
     match Desk::<J>::new(alloc, ground) {
-        Ok((desk, seats)) => Ok(work(rt, alloc, desk, seats, task, other_task)),
+        Ok((desk, seats)) => Ok(work_and_close(rt, alloc, desk, seats, tasks)),
         Err((book, _)) => Err(book),
     }
 }
@@ -90,11 +104,10 @@ fn attempt<R: Threads + Wait + Clock + Eprint + Sync>(
     rt: &R,
     alloc: Global,
     book: Book,
-    task: &Task,
-    other_task: &Task,
+    tasks: &Tasks<'_>,
 ) -> Result<Option<Outcome>, Book> {
     match Ground::new(alloc, book, 2) {
-        Ok(ground) => run::<Brand, R>(rt, alloc, ground, task, other_task),
+        Ok(ground) => run::<Brand, R>(rt, alloc, ground, tasks),
         Err((book, _)) => Err(book),
     }
 }
@@ -104,14 +117,13 @@ pub(crate) fn outcome_of<R: Threads + Wait + Clock + Eprint + Sync>(
     rt: &R,
     alloc: Global,
     book: Book,
-    task: &Task,
-    other_task: &Task,
+    tasks: &Tasks<'_>,
 ) -> Option<Outcome> {
-    match attempt(rt, alloc, book, task, other_task) {
+    match attempt(rt, alloc, book, tasks) {
         Ok(outcome) => outcome,
         Err(book) => {
             tell_refused(rt);
-            match attempt(rt, alloc, book, task, other_task) {
+            match attempt(rt, alloc, book, tasks) {
                 Ok(outcome) => outcome,
                 Err(book) => {
                     drop(book);

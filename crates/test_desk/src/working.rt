@@ -1,7 +1,7 @@
 //! What the two workers do.
 
 use crate::holding::{Holds, Turns};
-use gu_base::{Answer, FirmId, Memory};
+use gu_base::{Answer, FirmId, Memory, Report};
 use gu_desk::{Desk, Gate, Job, Seat};
 use std::alloc::Global;
 use std::io::Eprint;
@@ -29,6 +29,13 @@ pub(crate) struct Task {
     pub(crate) call: Call,
 }
 
+/// What the two workers call and do.
+#[derive(Clone, Copy)]
+pub(crate) struct Tasks<'a> {
+    pub(crate) first: &'a Task,
+    pub(crate) second: &'a Task,
+}
+
 /// What a worker was answered, and the numbers of the reports to its firm.
 #[derive(Drop)]
 pub(crate) struct Told {
@@ -43,8 +50,8 @@ pub(crate) struct Work<J: Job> {
     pub(crate) told: Told,
 }
 
-/// Calls the book, and where no memory is found once more with the seat that came back.
-fn ask<J: Job, R: Wait + Eprint>(
+/// Calls the book. No answer where no memory is found.
+fn call_once<J: Job, R: Wait>(
     rt: &R,
     alloc: Global,
     desk: &Desk<J>,
@@ -52,12 +59,49 @@ fn ask<J: Job, R: Wait + Eprint>(
     call: &Call,
 ) -> (Seat<J>, Option<Answer>) {
     let (seat, answer) = desk.call(rt, alloc, seat, &call.by, &call.id, &call.command);
-    if let Ok(answer) = answer {
-        return (seat, Some(answer));
-    }
-    tell_refused(rt);
-    let (seat, answer) = desk.call(rt, alloc, seat, &call.by, &call.id, &call.command);
     (seat, answer.ok())
+}
+
+/// The same, where no memory is found once more with the seat that came back.
+fn ask<J: Job, R: Wait + Eprint>(
+    rt: &R,
+    alloc: Global,
+    desk: &Desk<J>,
+    seat: Seat<J>,
+    call: &Call,
+) -> (Seat<J>, Option<Answer>) {
+    let (seat, answer) = call_once(rt, alloc, desk, seat, call);
+    match answer {
+        Some(answer) => (seat, Some(answer)),
+        None => {
+            tell_refused(rt);
+            call_once(rt, alloc, desk, seat, call)
+        }
+    }
+}
+
+/// Adds the numbers of these reports. Whether memory was found for them.
+fn add_numbers(numbers: &mut Vec<u32>, told: &[Report]) -> bool {
+    for report in told {
+        if numbers.push(report.number.get()).is_err() {
+            return false;
+        }
+    }
+    true
+}
+
+/// The numbers of these reports. None where no memory is found for them, or wasn't for the reports.
+fn numbers_of(alloc: Global, told: Result<Vec<Report>, Memory>) -> Option<Vec<u32>> {
+    let told = told.ok()?;
+    let mut numbers = Vec::new(alloc);
+    let found = add_numbers(&mut numbers, told.as_slice());
+    drop(told);
+    if found {
+        Some(numbers)
+    } else {
+        drop(numbers);
+        None
+    }
 }
 
 /// The numbers of the reports to a firm above a number.
@@ -68,15 +112,12 @@ fn read_once<J: Job, R: Wait>(
     seat: Seat<J>,
     firm: &FirmId,
     after: u32,
-) -> (Seat<J>, Result<Vec<u32>, Memory>) {
+) -> (Seat<J>, Option<Vec<u32>>) {
     let (seat, told) = desk.read_reports(rt, alloc, seat, firm, after);
-    match told {
-        Ok(told) => (seat, told.iter().map(|r| r.number.get()).collect(alloc)),
-        Err(e) => (seat, Err(e)),
-    }
+    (seat, numbers_of(alloc, told))
 }
 
-/// The same, where no memory is found once more with the seat that came back.
+/// The same numbers, where no memory is found once more with the seat that came back.
 pub(crate) fn read<J: Job, R: Wait + Eprint>(
     rt: &R,
     alloc: Global,
@@ -86,14 +127,21 @@ pub(crate) fn read<J: Job, R: Wait + Eprint>(
     after: u32,
 ) -> (Seat<J>, Vec<u32>) {
     let (seat, told) = read_once(rt, alloc, desk, seat, firm, after);
-    if let Ok(told) = told {
-        return (seat, told);
-    }
-    tell_refused(rt);
-    let (seat, told) = read_once(rt, alloc, desk, seat, firm, after);
     match told {
-        Ok(told) => (seat, told),
-        Err(_) => (seat, Vec::new(alloc)),
+        Some(told) => (seat, told),
+        None => {
+            tell_refused(rt);
+            let (seat, told) = read_once(rt, alloc, desk, seat, firm, after);
+            (seat, told_or_none(alloc, told))
+        }
+    }
+}
+
+/// What was told, nothing where no memory was found.
+fn told_or_none(alloc: Global, told: Option<Vec<u32>>) -> Vec<u32> {
+    match told {
+        Some(told) => told,
+        None => Vec::new(alloc),
     }
 }
 

@@ -1,13 +1,13 @@
 //! A question, and what is told. What writes says whether it could.
 
 use crate::frames::frames;
-use gu_base::{FirmId, Number, Report, ReportPart, Target};
+use gu_base::{FirmId, Memory, Number, Report, ReportPart, Target};
 use gu_batch::{Counted, write_totals};
 use gu_book::Book;
 use gu_trace::{TraceError, reports, totals, trace};
 use jiff::Timestamp;
 use std::alloc::Global;
-use test_days::{count_of, first_word, number_of, shown, tell_refused, twice};
+use test_days::{count_of, first_word, number_of, shown, tell_refused};
 
 /// What stands in `out` before a text is asked for.
 const BEFORE: &[u8] = b"before";
@@ -78,14 +78,53 @@ fn show_found(rt: &HostRuntime, found: &[Report]) -> bool {
     true
 }
 
+/// The reports to a firm from a number on. Where no memory is found they are asked for once more.
+fn reports_to(
+    rt: &HostRuntime,
+    alloc: Global,
+    book: &Book,
+    firm: &FirmId,
+    after: u32,
+) -> Result<Vec<Report>, Memory> {
+    match reports(alloc, book, firm, after) {
+        Ok(found) => Ok(found),
+        Err(_) => {
+            tell_refused(rt);
+            reports(alloc, book, firm, after)
+        }
+    }
+}
+
+/// The frames of these reports to a firm. Where no memory is found they are made once more.
+fn frames_to(
+    rt: &HostRuntime,
+    alloc: Global,
+    house: FirmId,
+    firm: FirmId,
+    found: &[Report],
+    moment: Timestamp,
+) -> Result<Vec<u8>, Memory> {
+    match frames(alloc, house, firm, found, moment) {
+        Ok(sent) => Ok(sent),
+        Err(_) => {
+            tell_refused(rt);
+            frames(alloc, house, firm, found, moment)
+        }
+    }
+}
+
 /// Writes the frames of these reports to a firm, as a session sends them at 09:00:30 on 2 March 2026.
 fn show_sent(rt: &HostRuntime, alloc: Global, book: &Book, firm: FirmId, found: &[Report]) -> bool {
     let house = book.house().house();
     let Ok(moment) = Timestamp::from_second(SENT) else {
-        return println!(rt; "what?").is_ok();
+        return rt.println("what?").is_ok();
     };
-    match twice(rt, || frames(alloc, house, firm, found, moment)) {
-        Ok(sent) => print!(rt; "{}", shown(sent.as_slice())).is_ok(),
+    match frames_to(rt, alloc, house, firm, found, moment) {
+        Ok(sent) => {
+            let is_shown = print!(rt; "{}", shown(sent.as_slice())).is_ok();
+            drop(sent);
+            is_shown
+        }
         Err(_) => false,
     }
 }
@@ -99,15 +138,17 @@ fn show_reports(
     as_frames: bool,
 ) -> bool {
     let Some((firm, after)) = reader_of(words) else {
-        return println!(rt; "what?").is_ok();
+        return rt.println("what?").is_ok();
     };
-    match twice(rt, || reports(alloc, book, &firm, after)) {
+    match reports_to(rt, alloc, book, &firm, after) {
         Ok(found) => {
-            if as_frames {
+            let is_shown = if as_frames {
                 show_sent(rt, alloc, book, firm, found.as_slice())
             } else {
                 show_found(rt, found.as_slice())
-            }
+            };
+            drop(found);
+            is_shown
         }
         Err(_) => false,
     }
@@ -141,7 +182,7 @@ fn show_trace_behind(
             return println!(rt; "changed without memory").is_ok();
         }
     }
-    println!(rt; "no memory").is_ok()
+    rt.println("no memory").is_ok()
 }
 
 /// Writes the totals, behind what is there. Where no memory is found it sees that nothing was written, and asks again.
@@ -155,17 +196,32 @@ fn show_totals_behind(rt: &HostRuntime, alloc: Global, book: &Book, out: &mut Ve
             return println!(rt; "changed without memory").is_ok();
         }
     }
-    println!(rt; "no memory").is_ok()
+    rt.println("no memory").is_ok()
+}
+
+/// What stands there before a text is asked for. Where no memory is found it is asked for once more.
+fn text_before(rt: &HostRuntime, alloc: Global) -> Result<Vec<u8>, Memory> {
+    match BEFORE.to_vec(alloc) {
+        Ok(text) => Ok(text),
+        Err(_) => {
+            tell_refused(rt);
+            BEFORE.to_vec(alloc)
+        }
+    }
 }
 
 /// Writes the trace of a trade, and where none is named the totals.
 fn show_text(rt: &HostRuntime, alloc: Global, book: &Book, trade: Option<Number>) -> bool {
-    let Ok(mut out) = twice(rt, || BEFORE.to_vec(alloc)) else {
-        return false;
-    };
-    match trade {
-        Some(trade) => show_trace_behind(rt, alloc, book, trade, &mut out),
-        None => show_totals_behind(rt, alloc, book, &mut out),
+    match text_before(rt, alloc) {
+        Ok(mut out) => {
+            let is_shown = match trade {
+                Some(trade) => show_trace_behind(rt, alloc, book, trade, &mut out),
+                None => show_totals_behind(rt, alloc, book, &mut out),
+            };
+            drop(out);
+            is_shown
+        }
+        Err(_) => false,
     }
 }
 
@@ -174,7 +230,12 @@ fn written(alloc: Global, book: &Book) -> Option<Vec<u8>> {
     let mut writer = Counted::new(Vec::new(alloc));
     let is_written = write_totals(alloc, book, &mut writer).is_ok();
     let text = writer.into_inner();
-    if is_written { Some(text) } else { None }
+    if is_written {
+        Some(text)
+    } else {
+        drop(text);
+        None
+    }
 }
 
 /// Writes the totals as a server writes them in the end. Where no memory is found it asks again.
@@ -185,7 +246,7 @@ fn show_written(rt: &HostRuntime, alloc: Global, book: &Book) -> bool {
             None => tell_refused(rt),
         }
     }
-    println!(rt; "no memory").is_ok()
+    rt.println("no memory").is_ok()
 }
 
 /// Writes what a question asks for. Whether it could.
@@ -205,6 +266,6 @@ pub(crate) fn answer(rt: &HostRuntime, alloc: Global, book: &Book, question: &[u
     }
     match number_of(rest) {
         Some(trade) => show_text(rt, alloc, book, Some(trade)),
-        None => println!(rt; "what?").is_ok(),
+        None => rt.println("what?").is_ok(),
     }
 }
