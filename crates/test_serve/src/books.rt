@@ -5,83 +5,73 @@ use gu_book::Book;
 use gu_parties::House;
 use std::alloc::Global;
 
-/// A trade of the house in ESZ6: a firm has bought these lots, for this account.
-fn trade(firm: &[u8], account: &[u8], lots: u64) -> Option<Command> {
-    let firm = FirmId::new(firm)?;
-    let account = AccountId::new(account)?;
+/// Trades of the house in ESZ6: a firm has bought these lots each time, for this account. Their numbers, of three digits, tell them apart.
+#[derive(Clone, Copy)]
+pub(crate) struct Trades<'a> {
+    pub(crate) firm: &'a [u8],
+    pub(crate) account: &'a [u8],
+    pub(crate) lots: u64,
+    pub(crate) first: u32,
+    pub(crate) last: u32,
+}
+
+/// A trade.
+fn trade_of(trades: &Trades<'_>) -> Option<Command> {
+    let firm = FirmId::new(trades.firm)?;
+    let account = AccountId::new(trades.account)?;
     let instrument = InstrumentId::new(b"ESZ6")?;
     Some(Command::Trade {
         firm,
         account,
         instrument,
         side: Side::Buy,
-        lots,
+        lots: trades.lots,
     })
 }
 
-/// Has the house make this call. Whether it is accepted.
-fn is_accepted(alloc: Global, book: &mut Book, id: &[u8], command: &Command) -> bool {
-    let Some(by) = FirmId::new(b"HSE") else {
-        return false;
-    };
-    let Some(id) = AllocId::new(id) else {
-        return false;
-    };
-    match book.apply(alloc, &by, &id, command) {
-        Ok(Answer::Accepted { .. }) => true,
+/// Has the house enter the trade of this number. Whether it is accepted.
+fn is_accepted(alloc: Global, book: &mut Book, number: u32, trade: &Command) -> bool {
+    let id = [
+        b'T',
+        b'0' + (number / 100 % 10) as u8,
+        b'0' + (number / 10 % 10) as u8,
+        b'0' + (number % 10) as u8,
+    ];
+    match (FirmId::new(b"HSE"), AllocId::new(&id)) {
+        (Some(by), Some(id)) => match book.apply(alloc, &by, &id, trade) {
+            Ok(Answer::Accepted { .. }) => true,
+            _ => false,
+        },
         _ => false,
     }
 }
 
-/// Enters a trade of the house. Whether it is accepted.
-fn enter(
-    alloc: Global,
-    book: &mut Book,
-    id: &[u8],
-    firm: &[u8],
-    account: &[u8],
-    lots: u64,
-) -> bool {
-    match trade(firm, account, lots) {
-        Some(command) => is_accepted(alloc, book, id, &command),
-        None => false,
+/// Enters trades. Whether all are accepted.
+fn are_accepted(alloc: Global, book: &mut Book, trades: &Trades<'_>) -> bool {
+    let Some(trade) = trade_of(trades) else {
+        return false;
+    };
+    let mut is_so = true;
+    for number in trades.first..trades.last {
+        is_so = is_so && is_accepted(alloc, book, number, &trade);
     }
+    is_so
 }
 
-/// The book of this house with a thousand trades of a lot for AAA. None where they aren't all accepted.
-pub(crate) fn thousand(alloc: Global, text: &[u8]) -> Option<Book> {
+/// The book of this house with these trades. None where they aren't all accepted.
+pub(crate) fn opened(alloc: Global, text: &[u8], trades: &[Trades<'_>]) -> Option<Book> {
     let Ok(house) = House::parse(alloc, text) else {
         return None;
     };
     let mut book = Book::new(alloc, house);
-    for number in 0u32..1000 {
-        let id = [
-            b'T',
-            b'0' + (number / 100) as u8,
-            b'0' + (number / 10 % 10) as u8,
-            b'0' + (number % 10) as u8,
-        ];
-        if !enter(alloc, &mut book, &id, b"AAA", b"A1", 1) {
-            drop(book);
-            return None;
-        }
+    let mut is_so = true;
+    for some in trades {
+        is_so = is_so && are_accepted(alloc, &mut book, some);
     }
-    Some(book)
-}
-
-/// The book of this house with a trade of 100 lots for AAA, and where there are two, one of 10 lots for CCC. None where they aren't accepted.
-pub(crate) fn opened(alloc: Global, text: &[u8], two: bool) -> Option<Book> {
-    let Ok(house) = House::parse(alloc, text) else {
-        return None;
-    };
-    let mut book = Book::new(alloc, house);
-    if !enter(alloc, &mut book, b"T1", b"AAA", b"A1", 100) {
+    if is_so {
+        Some(book)
+    } else {
         drop(book);
-        return None;
+        None
     }
-    if two && !enter(alloc, &mut book, b"T2", b"CCC", b"C1", 10) {
-        drop(book);
-        return None;
-    }
-    Some(book)
 }

@@ -2,74 +2,56 @@
 //! `test_days` stands below the desk.
 
 use gu_desk::Gate;
-use std::sync::{Mutex, Wait};
+use std::alloc::Global;
+use std::sync::atomic::{AtomicU64, Ordering};
 use std::thread;
-use std::time::{Clock, Duration};
+use std::time::Duration;
 
-/// How many calls came to the gate, and whether the first may go on.
+/// Holds the first call until it is released, for at most 10,000 turns of a millisecond. What the clients do has the system from here.
 #[derive(Drop)]
-pub(crate) struct Turns {
-    came: u32,
-    released: bool,
+pub(crate) struct Holds<'a> {
+    pub(crate) rt: &'a HostRuntime,
+    pub(crate) alloc: Global,
+    /// How many calls came.
+    came: AtomicU64,
+    /// Whether the first may go on: then it is 1.
+    released: AtomicU64,
 }
 
-impl Turns {
-    pub(crate) fn new() -> Turns {
-        Turns {
-            came: 0,
-            released: false,
+/// Waits until this isn't 0. `false` where it still is at the end.
+fn is_set(rt: &HostRuntime, flag: &AtomicU64) -> bool {
+    for _ in 0..10_000 {
+        if flag.load(Ordering::SeqCst) > 0 {
+            return true;
         }
+        thread::sleep(rt, Duration::from_millis(1));
     }
-
-    /// Counts a call, and says whether it is the first.
-    fn is_first(&mut self) -> bool {
-        self.came = self.came.saturating_add(1);
-        self.came == 1
-    }
+    false
 }
 
-/// Holds the first call until it is released, for at most 10,000 turns of a millisecond.
-#[derive(Drop)]
-pub(crate) struct Holds<'a, R: Wait + Clock> {
-    rt: &'a R,
-    turns: &'a Mutex<Turns>,
-}
-
-impl<'a, R: Wait + Clock> Holds<'a, R> {
-    pub(crate) fn new(rt: &'a R, turns: &'a Mutex<Turns>) -> Holds<'a, R> {
-        Holds { rt, turns }
+impl<'a> Holds<'a> {
+    pub(crate) fn new(rt: &'a HostRuntime, alloc: Global) -> Holds<'a> {
+        Holds {
+            rt,
+            alloc,
+            came: AtomicU64::new(0),
+            released: AtomicU64::new(0),
+        }
     }
 
     /// Waits until the first call came. `false` where it didn't come in time.
     pub(crate) fn has_come(&self) -> bool {
-        for _ in 0..10_000 {
-            if self.turns.lock(self.rt).came > 0 {
-                return true;
-            }
-            thread::sleep(self.rt, Duration::from_millis(1));
-        }
-        false
-    }
-
-    /// Waits until the first call is released. `false` where it wasn't in time.
-    fn is_released(&self) -> bool {
-        for _ in 0..10_000 {
-            if self.turns.lock(self.rt).released {
-                return true;
-            }
-            thread::sleep(self.rt, Duration::from_millis(1));
-        }
-        false
+        is_set(self.rt, &self.came)
     }
 
     /// Lets the first call go on.
     pub(crate) fn release(&self) {
-        self.turns.lock(self.rt).released = true;
+        self.released.store(1, Ordering::SeqCst);
     }
 }
 
-impl<'a, R: Wait + Clock> Gate for Holds<'a, R> {
+impl<'a> Gate for Holds<'a> {
     fn before_book(&self, _worker: u32) -> bool {
-        !self.turns.lock(self.rt).is_first() || self.is_released()
+        self.came.fetch_add(1, Ordering::SeqCst) > 0 || is_set(self.rt, &self.released)
     }
 }

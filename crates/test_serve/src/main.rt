@@ -19,24 +19,30 @@
 mod books;
 mod holding;
 mod peers;
+mod playing;
 mod scenes;
 mod serving;
 mod telling;
 
+use scenes::PLAYS;
+use serving::{Ground, play_scenes};
 use std::io;
-use std::io::{ErrorKind, Read};
+use std::io::Read;
 use std::net::TcpListener;
-use telling::tell_all;
 
 fn main(rt: HostRuntime) -> io::Result<()> {
     let alloc = rt.alloc();
     let mut house = Vec::new(alloc);
     rt.reader().read_to_end(&mut house)?;
     let listener = TcpListener::bind(&rt, "127.0.0.1:0")?;
-    let at = listener.local_addr()?;
-    if tell_all(&rt, alloc, &listener, at, house.as_slice()) {
-        Ok(())
-    } else {
-        Err(io::Error::from(ErrorKind::InvalidData))
+    let ground = Ground {
+        rt: &rt,
+        alloc,
+        at: listener.local_addr()?,
+        listener: &listener,
+    };
+    for play in PLAYS {
+        play_scenes(&rt, &ground, house.as_slice(), play);
     }
+    Ok(())
 }

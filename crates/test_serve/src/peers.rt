@@ -3,99 +3,94 @@
 use gu_base::FirmId;
 use gu_codec::{Header, write_frame};
 use std::alloc::Global;
-use std::io::{ErrorKind, Read, Write};
-use std::net::{Net, SocketAddr, TcpStream};
+use std::io;
+use std::io::{Read, Write};
+use std::net::{SocketAddr, TcpStream};
 use std::time::Duration;
 
 /// What the time of each message says; the session checks its form alone.
 const SENT: &[u8] = b"20260302-09:00:00";
 
-/// The body of a Logon.
-pub(crate) const LOGON: &[u8] = b"98=0\x01108=30\x011137=9\x01";
+/// A message of a firm: its type (35), its number and its body.
+#[derive(Clone, Copy)]
+pub(crate) struct Message<'a> {
+    pub(crate) firm: &'a [u8],
+    pub(crate) kind: &'a [u8],
+    pub(crate) number: u64,
+    pub(crate) body: &'a [u8],
+}
 
-/// Appends a message of a firm. Whether it is one.
-pub(crate) fn add_message(
-    out: &mut Vec<u8>,
-    firm: &[u8],
-    kind: &[u8],
-    number: u64,
-    body: &[u8],
-) -> bool {
-    let (Some(sender), Some(target)) = (FirmId::new(firm), FirmId::new(b"HSE")) else {
-        return false;
+/// Appends a message. What can't be sent is missing from what the program writes, here and below.
+fn add_message(out: &mut Vec<u8>, message: &Message<'_>) {
+    let (Some(sender), Some(target)) = (FirmId::new(message.firm), FirmId::new(b"HSE")) else {
+        return;
     };
     let header = Header {
-        kind,
+        kind: message.kind,
         sender,
         target,
-        number,
+        number: message.number,
         sent: SENT,
         resent: None,
     };
-    if !header.has_texts() || body.len() > 1000 {
-        return false;
-    }
-    write_frame(out, &header, body).is_ok()
-}
-
-/// Connects to a server. Until that accepts the connection it waits in the system's queue.
-pub(crate) fn connect<R: Net<Stream = TcpStream>>(rt: &R, at: SocketAddr) -> Option<TcpStream> {
-    let stream = TcpStream::connect(rt, at).ok()?;
-    match stream.set_read_timeout(Some(Duration::from_secs(20))) {
-        Ok(()) => Some(stream),
-        Err(_) => None,
+    if header.has_texts() && message.body.len() <= 1000 {
+        let _ = write_frame(out, &header, message.body);
     }
 }
 
-/// Sends these bytes in one write. Whether they were taken.
-pub(crate) fn send(stream: &TcpStream, bytes: &[u8]) -> bool {
+/// Sends these bytes in one write.
+pub(crate) fn send(stream: &TcpStream, bytes: &[u8]) {
     let mut to: &TcpStream = stream;
-    to.write_all(bytes).is_ok()
+    let _ = to.write_all(bytes);
 }
 
-/// The field at the front, and what stands behind its end. `None` where it hasn't come whole.
-fn first_field(held: &[u8]) -> Option<(&[u8], &[u8])> {
-    match held.iter().position(|b| *b == 1) {
-        Some(end) => Some((&held[..end], &held[end + 1..])),
-        None => None,
+/// Sends these messages in one write.
+pub(crate) fn send_all(alloc: Global, stream: &TcpStream, messages: &[Message<'_>]) {
+    let mut out = Vec::new(alloc);
+    for message in messages {
+        add_message(&mut out, message);
     }
+    send(stream, out.as_slice());
 }
 
-/// Whether an acknowledgement has come whole: a message of type P, to the end of its checksum.
-fn has_answer(held: &[u8]) -> bool {
-    let mut rest = held;
-    let mut is_answer = false;
-    for _ in 0..held.len() {
-        let Some((field, behind)) = first_field(rest) else {
-            break;
-        };
-        if is_answer && field.starts_with(b"10=") {
-            return true;
+/// So many connections to a server. Until that accepts a connection it waits in the system's queue.
+pub(crate) fn connected(
+    rt: &HostRuntime,
+    alloc: Global,
+    at: SocketAddr,
+    count: u32,
+) -> Vec<TcpStream> {
+    let mut peers = Vec::new(alloc);
+    for _ in 0..count {
+        if let Ok(peer) = TcpStream::connect(rt, at) {
+            let _ = peer.set_read_timeout(Some(Duration::from_secs(20)));
+            let _ = peers.push(peer);
         }
-        is_answer = is_answer || field == b"35=P".as_slice();
-        rest = behind;
     }
-    false
+    peers
 }
 
-/// How many reports begin in what has come.
-pub(crate) fn report_count(held: &[u8]) -> usize {
-    let mut rest = held;
-    let mut reports = 0usize;
-    for _ in 0..held.len() {
-        let Some((field, behind)) = first_field(rest) else {
-            break;
-        };
-        if field == b"35=AS".as_slice() {
-            reports = reports.saturating_add(1);
-        }
-        rest = behind;
+/// Whether what has come ends with a message's end.
+fn is_whole(held: &[u8]) -> bool {
+    match held.len().checked_sub(8) {
+        Some(at) => held[at..].starts_with(b"\x0110="),
+        None => false,
     }
-    reports
+}
+
+/// How often this field stands in what has come.
+pub(crate) fn count_of(held: &[u8], wanted: &[u8]) -> usize {
+    let mut count = 0usize;
+    for field in held.split(|b| *b == 1) {
+        if field == wanted {
+            count = count.saturating_add(1);
+        }
+    }
+    count
 }
 
 /// Appends what a peer is sent next. Whether it was sent a byte.
-pub(crate) fn receive(stream: &TcpStream, held: &mut Vec<u8>) -> bool {
+fn receive(stream: &TcpStream, held: &mut Vec<u8>) -> bool {
     let mut piece = [0u8; 4096];
     let mut from: &TcpStream = stream;
     match from.read(&mut piece) {
@@ -104,58 +99,23 @@ pub(crate) fn receive(stream: &TcpStream, held: &mut Vec<u8>) -> bool {
     }
 }
 
-/// What a peer is sent until an acknowledgement has come, or until it is closed.
-pub(crate) fn received(alloc: Global, stream: &TcpStream) -> Vec<u8> {
+/// What a peer is sent until so many messages with this field have come whole, or until it is closed.
+pub(crate) fn received(alloc: Global, stream: &TcpStream, wanted: &[u8], most: usize) -> Vec<u8> {
     let mut held = Vec::new(alloc);
-    for _ in 0..1000 {
-        if !receive(stream, &mut held) || has_answer(held.as_slice()) {
+    for _ in 0..100_000 {
+        if !receive(stream, &mut held) {
+            break;
+        }
+        if is_whole(held.as_slice()) && count_of(held.as_slice(), wanted) >= most {
             break;
         }
     }
     held
 }
 
-/// Whether a peer is closed before it is sent a byte. `None` where it isn't closed.
-pub(crate) fn is_closed_unanswered(stream: &TcpStream) -> Option<bool> {
+/// Reads a byte of what a peer is sent. Gives how many came: none where it is closed.
+pub(crate) fn read_byte(stream: &TcpStream) -> io::Result<usize> {
     let mut piece = [0u8; 1];
     let mut from: &TcpStream = stream;
-    match from.read(&mut piece) {
-        Ok(count) => Some(count == 0),
-        Err(e) => match e.kind() {
-            // what it sent wasn't all read when it was closed
-            ErrorKind::ConnectionReset => Some(true),
-            _ => None,
-        },
-    }
-}
-
-/// Appends a field as it is shown.
-fn show_field(out: &mut Vec<u8>, field: &[u8]) -> bool {
-    out.extend_from_slice(field).is_ok() && out.push(b'|').is_ok()
-}
-
-/// Appends the messages up to the first acknowledgement, each as a line of its fields but the times (52) and the checksum (10), which hangs on these.
-pub(crate) fn show(out: &mut Vec<u8>, held: &[u8]) -> bool {
-    let mut rest = held;
-    let mut is_answer = false;
-    for _ in 0..held.len() {
-        let Some((field, behind)) = first_field(rest) else {
-            break;
-        };
-        rest = behind;
-        if field.starts_with(b"10=") {
-            if out.push(b'\n').is_err() {
-                return false;
-            }
-            if is_answer {
-                break;
-            }
-        } else if !field.starts_with(b"52=") {
-            is_answer = is_answer || field == b"35=P".as_slice();
-            if !show_field(out, field) {
-                return false;
-            }
-        }
-    }
-    true
+    from.read(&mut piece)
 }

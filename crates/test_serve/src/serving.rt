@@ -1,41 +1,85 @@
-//! A server, and beside it the clients of a scene in a thread of their own.
+//! A server, and beside it its clients in a thread of their own.
+ghost use Rattle.std.specs.Prelude.{IsTrue};
+ghost use Rattle.gu_desk.specs.Views.{is_worker_count};
 
-use crate::holding::{Holds, Turns};
-use crate::scenes::{Scene, play};
+use crate::books::opened;
+use crate::holding::Holds;
+use crate::peers::connected;
+use crate::playing::{play, play_out};
+use crate::scenes::{Play, Scene};
 use gu_book::Book;
-use gu_server::serve_within;
+use gu_server::{ServeLimits, serve_within};
 use std::alloc::Global;
-use std::net::TcpListener;
-use std::sync::{Mutex, Wait};
+use std::net::{SocketAddr, TcpListener};
+use std::sync::Wait;
 use std::thread;
 use std::thread::Threads;
 use std::time::Clock;
 
-/// Serves the clients of a scene. Gives the book that comes back, and what was told of the scene.
-pub(crate) fn serve_scene<R: Threads + Wait + Clock + Sync>(
-    rt: &R,
-    alloc: Global,
-    listener: &TcpListener,
+/// Where the servers listen, and what they and their clients need.
+#[derive(Clone, Copy)]
+pub(crate) struct Ground<'a> {
+    pub(crate) rt: &'a HostRuntime,
+    pub(crate) alloc: Global,
+    pub(crate) listener: &'a TcpListener,
+    pub(crate) at: SocketAddr,
+}
+
+/// Within which limits a scene's server serves its clients.
+fn limits_of(scene: &Scene<'_>) -> ServeLimits
+    ensures { IsTrue (is_worker_count result.workers) }
+{
+    ServeLimits {
+        workers: if scene.has_two_workers { 2 } else { 1 },
+        connections: scene.connections,
+        logon_wait: scene.logon_wait,
+    }
+}
+
+/// Serves the clients of a scene over a handle that may start threads and wait. Gives the book that comes back.
+fn served<R: Threads + Wait + Clock + Sync>(
+    handle: &R,
+    ground: &Ground<'_>,
     book: Book,
-    scene: Scene,
-) -> Option<(Book, Vec<u8>)> {
-    let turns = Mutex::new(Turns::new());
-    let turns = &turns;
-    thread::scope(thread::scope_env(), rt, move |scope| {
-        let holds = Holds::new(rt, turns);
-        let limits = scene.kind().limits();
-        let Ok(clients) = scope.spawn(move || play(rt, alloc, scene, turns)) else {
-            drop(book);
-            return None;
-        };
-        let served = serve_within(rt, alloc, listener, book, limits, &holds);
-        let told = clients.join(rt);
-        match served {
-            Ok(book) => Some((book, told)),
-            Err(_) => {
-                drop(told);
-                None
-            }
-        }
-    })
+    scene: &Scene<'_>,
+) -> Option<Book> {
+    let holds = Holds::new(ground.rt, ground.alloc);
+    let holds = &holds;
+    let mut peers = connected(ground.rt, ground.alloc, ground.at, scene.connections);
+    play(holds, &mut peers, scene.before);
+    let ((), served) = thread::join(
+        handle,
+        move || play_out(holds, peers, scene.steps),
+        move || {
+            let limits = limits_of(scene);
+            serve_within(handle, ground.alloc, ground.listener, book, limits, holds)
+        },
+    );
+    served.ok()
+}
+
+/// Serves the clients of a scene with this book, and writes how long the book is then. None where there is none, or none comes back.
+fn told<R: Threads + Wait + Clock + Sync>(
+    handle: &R,
+    ground: &Ground<'_>,
+    book: Option<Book>,
+    scene: &Scene<'_>,
+) -> Option<Book> {
+    let book = served(handle, ground, book?, scene)?;
+    let _ = println!(ground.rt; "closed: {} entries", book.history().len());
+    Some(book)
+}
+
+/// Serves the clients of the scenes of a play, with the book of this house and what becomes of it.
+pub(crate) fn play_scenes<R: Threads + Wait + Clock + Sync>(
+    handle: &R,
+    ground: &Ground<'_>,
+    house: &[u8],
+    play: &Play<'_>,
+) {
+    let mut book = opened(ground.alloc, house, play.trades);
+    for scene in play.scenes {
+        book = told(handle, ground, book, scene);
+    }
+    drop(book);
 }

@@ -1,81 +1,85 @@
-//! The scenes of each book, one after the other, and what is written of them.
+//! What is written of the clients.
 
-use crate::books::{opened, thousand};
-use crate::scenes::{Kind, Scene};
-use crate::serving::serve_scene;
-use gu_book::Book;
+use crate::peers::{count_of, read_byte, received};
 use std::alloc::Global;
-use std::net::{Net, SocketAddr, TcpListener, TcpStream};
-use std::sync::Wait;
-use std::thread::Threads;
-use std::time::Clock;
-use std::{io, str};
+use std::io;
+use std::io::{ErrorKind, Write};
+use std::net::TcpStream;
+use std::time::Instant;
 
-/// Writes what was told of a scene, and how long the book is then.
-fn write_told(rt: &impl Print, told: &[u8], entries: usize) -> io::Result<()> {
-    match str::from_utf8(told) {
-        Ok(text) => println!(rt; "{text}closed: {entries} entries"),
-        Err(_) => println!(rt; "no text"),
+/// How long a firm that is behind may wait for its thousand reports, in seconds. A server that waits a second for each hundred takes ten.
+const REPORTS_WAIT: u64 = 2;
+
+/// Writes a text.
+pub(crate) fn say(rt: &HostRuntime, text: &[u8]) {
+    let _ = io::writer(rt).write_all(text);
+}
+
+/// Writes a line.
+pub(crate) fn say_line(rt: &HostRuntime, who: &[u8], what: &[u8]) {
+    say(rt, who);
+    say(rt, what);
+    say(rt, b"\n");
+}
+
+/// Writes the messages up to the first acknowledgement, each as a line of its fields but the times (52) and the checksum (10), which hangs on these.
+fn show(rt: &HostRuntime, held: &[u8]) {
+    let mut is_answer = false;
+    for field in held.split(|b| *b == 1) {
+        if field.starts_with(b"10=") {
+            say(rt, b"\n");
+            if is_answer {
+                break;
+            }
+        } else if !field.is_empty() && !field.starts_with(b"52=") {
+            is_answer = is_answer || field == b"35=P".as_slice();
+            say(rt, field);
+            say(rt, b"|");
+        }
     }
 }
 
-/// Serves the clients of a scene with this book, and writes what came of it. The book comes back. Whether all went well.
-fn tell<R: Threads + Wait + Clock + Print + Net<Stream = TcpStream> + Sync>(
-    rt: &R,
-    alloc: Global,
-    listener: &TcpListener,
-    at: SocketAddr,
-    book: &mut Option<Book>,
-    kind: Kind,
-) -> bool {
-    let Some(scene) = Scene::new(rt, alloc, at, kind) else {
-        return false;
-    };
-    let Some(given) = book.take() else {
-        drop(scene);
-        return false;
-    };
-    let Some((back, told)) = serve_scene(rt, alloc, listener, given, scene) else {
-        return false;
-    };
-    let written = write_told(rt, told.as_slice(), back.history().len());
-    *book = Some(back);
-    written.is_ok()
+/// Writes who is sent something, and what it is sent up to an acknowledgement, or until it is closed.
+pub(crate) fn tell(rt: &HostRuntime, alloc: Global, who: &[u8], stream: &TcpStream) {
+    let held = received(alloc, stream, b"35=P", 1);
+    say_line(rt, who, b"");
+    show(rt, held.as_slice());
 }
 
-/// The scenes of a book, one after the other. Whether all went well.
-fn tell_each<R: Threads + Wait + Clock + Print + Net<Stream = TcpStream> + Sync>(
-    rt: &R,
-    alloc: Global,
-    listener: &TcpListener,
-    at: SocketAddr,
-    mut book: Option<Book>,
-    kinds: &[Kind],
-) -> bool {
-    let mut is_told = true;
-    for kind in kinds {
-        is_told = is_told && tell(rt, alloc, listener, at, &mut book, *kind);
-    }
-    drop(book);
-    is_told
+/// Writes who is sent something, and whether it is sent a byte before the server closes the connection.
+pub(crate) fn tell_stranger(rt: &HostRuntime, who: &[u8], stream: &TcpStream) {
+    let what = match read_byte(stream) {
+        Ok(0) => b": nothing, and closed".as_slice(),
+        Ok(_) => b": something".as_slice(),
+        // what it sent wasn't all read when it was closed
+        Err(e) if e.kind() == ErrorKind::ConnectionReset => b": nothing, and closed".as_slice(),
+        Err(_) => b": not closed".as_slice(),
+    };
+    say_line(rt, who, what);
 }
 
-/// The scenes of a book with two trades, of one with a trade, and of one with a thousand. Whether all went well.
-pub(crate) fn tell_all<R: Threads + Wait + Clock + Print + Net<Stream = TcpStream> + Sync>(
-    rt: &R,
-    alloc: Global,
-    listener: &TcpListener,
-    at: SocketAddr,
-    house: &[u8],
-) -> bool {
-    let two = opened(alloc, house, true);
-    if !tell_each(rt, alloc, listener, at, two, &[Kind::Gate, Kind::Strangers]) {
-        return false;
+/// Whether the time for the reports isn't over.
+fn is_in_time(rt: &HostRuntime, began: &Instant) -> bool {
+    match began.elapsed(rt) {
+        Ok(since) => since.as_secs() < REPORTS_WAIT,
+        Err(_) => false,
     }
-    let one = opened(alloc, house, false);
-    if !tell_each(rt, alloc, listener, at, one, &[Kind::Retry, Kind::Silent]) {
+}
+
+/// Whether a thousand reports come before the time for them is over.
+fn has_reports(rt: &HostRuntime, alloc: Global, stream: &TcpStream) -> bool {
+    let Ok(began) = Instant::now(rt) else {
         return false;
+    };
+    let held = received(alloc, stream, b"35=AS", 1000);
+    count_of(held.as_slice(), b"35=AS") >= 1000 && is_in_time(rt, &began)
+}
+
+/// Writes whether a firm that is behind has its thousand reports in time.
+pub(crate) fn tell_reports(rt: &HostRuntime, alloc: Global, who: &[u8], stream: &TcpStream) {
+    if has_reports(rt, alloc, stream) {
+        say_line(rt, who, b": a thousand reports within two seconds");
+    } else {
+        say_line(rt, who, b": too late");
     }
-    let many = thousand(alloc, house);
-    tell_each(rt, alloc, listener, at, many, &[Kind::Behind])
 }
