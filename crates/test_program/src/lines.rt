@@ -2,12 +2,13 @@
 
 use crate::streams::{Kept, Text};
 use gu_server::{Counted, Fault, SystemFiles, run};
-use std::alloc::{AllocError, Global};
+use std::alloc::Global;
+use std::io::Write;
 use std::net::{Net, TcpListener, TcpStream};
 use std::sync::Wait;
 use std::thread::Threads;
 use std::time::Clock;
-use std::{fs, io, str};
+use std::{fs, io};
 
 /// A line of the input.
 #[derive(Clone, Copy)]
@@ -24,16 +25,18 @@ pub(crate) fn read_line(line: &str) -> Option<Line<'_>> {
     Some(Line { stream, how, words })
 }
 
-/// The words of a command line. Between two spaces stands one, and an empty text has none.
-fn words_of(alloc: Global, text: &str) -> Result<Vec<String>, AllocError> {
+/// The words of a command line. Between two spaces stands one, and an empty text has none. What can't be had is missing from what the
+/// program writes, here and below.
+fn words_of(alloc: Global, text: &str) -> Vec<String> {
     let mut words = Vec::new(alloc);
-    if text.is_empty() {
-        return Ok(words);
+    if !text.is_empty() {
+        for word in text.split(' ') {
+            if let Ok(word) = String::from_str(alloc, word) {
+                let _ = words.push(word);
+            }
+        }
     }
-    for word in text.split(' ') {
-        words.push(String::from_str(alloc, word)?)?;
-    }
-    Ok(words)
+    words
 }
 
 /// How a run ended, and what it wrote.
@@ -43,35 +46,32 @@ struct Outcome {
     out: Vec<u8>,
 }
 
-fn run_line<H: Threads + Wait + Clock + Net<Stream = TcpStream, Listener = TcpListener> + Sync>(
+/// Runs the program on these bytes and words.
+fn run_words<H: Threads + Wait + Clock + Net<Stream = TcpStream, Listener = TcpListener> + Sync>(
     rt: &HostRuntime,
     handle: &H,
     alloc: Global,
-    line: &Line<'_>,
-) -> io::Result<Outcome> {
-    let text = fs::read(rt, line.stream)?;
-    let words = words_of(alloc, line.words)?;
-    let fails = line.how == "failing reader";
-    let full = line.how == "full writer";
+    how: &str,
+    stream: &[u8],
+    words: &[String],
+) -> Outcome {
     let mut reader = Counted::new(Text {
-        rest: text.as_slice(),
-        fails,
+        rest: stream,
+        fails: how == "failing reader",
     });
     let mut writer = Counted::new(Kept {
         held: Vec::new(alloc),
-        full,
+        full: how == "full writer",
     });
     let files = SystemFiles::new(rt);
-    let result = run(
-        handle,
-        alloc,
-        &files,
-        &mut reader,
-        &mut writer,
-        words.as_slice(),
-    );
+    let result = run(handle, alloc, &files, &mut reader, &mut writer, words);
     let Kept { held, .. } = writer.into_inner();
-    Ok(Outcome { result, out: held })
+    Outcome { result, out: held }
+}
+
+/// Writes a text.
+fn say(rt: &HostRuntime, text: &[u8]) {
+    let _ = io::writer(rt).write_all(text);
 }
 
 /// What the parser of command lines says goes over several lines.
@@ -82,51 +82,69 @@ fn first_line(text: &str) -> &str {
     }
 }
 
-/// Whether the bytes are those of the file that says what the stream is answered by.
-fn is_as_expected(rt: &HostRuntime, alloc: Global, stream: &str, out: &[u8]) -> io::Result<bool> {
-    let Some((name, _)) = stream.rsplit_once('.') else {
-        return Ok(false);
-    };
-    let path = format!(in alloc; "{name}.out")?;
-    let expected = fs::read(rt, path.as_str())?;
-    Ok(expected.as_slice() == out)
+/// Writes a fault's status, and the first line of its text.
+pub(crate) fn tell_fault(rt: &HostRuntime, alloc: Global, fault: &Fault) {
+    if let Ok(text) = format!(in alloc; "{}: {fault}", fault.status()) {
+        say(rt, first_line(text.as_str()).as_bytes());
+        say(rt, b"\n");
+    }
+}
+
+/// The bytes of the file that says what the stream is answered by.
+fn expected(rt: &HostRuntime, alloc: Global, stream: &str) -> Option<Vec<u8>> {
+    let (name, _) = stream.rsplit_once('.')?;
+    let path = format!(in alloc; "{name}.out").ok()?;
+    fs::read(rt, path.as_str()).ok()
+}
+
+/// Whether these are the bytes by which the stream is answered.
+fn is_as_expected(rt: &HostRuntime, alloc: Global, stream: &str, out: &[u8]) -> bool {
+    match expected(rt, alloc, stream) {
+        Some(expected) => expected.as_slice() == out,
+        None => false,
+    }
 }
 
 /// Writes the text of a trace as it is, and of answers whether they are those of the stream.
-fn tell_out(rt: &HostRuntime, alloc: Global, line: &Line<'_>, out: &[u8]) -> io::Result<()> {
+fn tell_out(rt: &HostRuntime, alloc: Global, line: &Line<'_>, out: &[u8]) {
     if out.is_empty() {
-        return println!(rt; "nothing written");
-    }
-    if line.words.starts_with("trace") {
-        return match str::from_utf8(out) {
-            Ok(text) => print!(rt; "{text}"),
-            Err(_) => println!(rt; "no text"),
-        };
-    }
-    if is_as_expected(rt, alloc, line.stream, out)? {
-        println!(rt; "as expected")
+        say(rt, b"nothing written\n");
+    } else if line.words.starts_with("trace") {
+        say(rt, out);
+    } else if is_as_expected(rt, alloc, line.stream, out) {
+        say(rt, b"as expected\n");
     } else {
-        println!(rt; "something else")
+        say(rt, b"something else\n");
     }
 }
 
-/// Runs a line over a handle that may start threads, wait and listen, writes what came of it, and gives its status.
-pub(crate) fn tell<
-    H: Threads + Wait + Clock + Net<Stream = TcpStream, Listener = TcpListener> + Sync,
->(rt: &HostRuntime, handle: &H, alloc: Global, line: &Line<'_>) -> io::Result<u8> {
-    let outcome = run_line(rt, handle, alloc, line)?;
-    println!(rt; "{}, {}: {}", line.stream, line.how, line.words)?;
+/// Writes how the run of a line ended, and what it wrote. Gives its status.
+fn tell_outcome(rt: &HostRuntime, alloc: Global, line: &Line<'_>, outcome: &Outcome) -> u8 {
+    let _ = println!(rt; "{}, {}: {}", line.stream, line.how, line.words);
     let status = match &outcome.result {
         Ok(()) => {
-            println!(rt; "0: done")?;
+            say(rt, b"0: done\n");
             0
         }
         Err(fault) => {
-            let text = format!(in alloc; "{fault}")?;
-            println!(rt; "{}: {}", fault.status(), first_line(text.as_str()))?;
+            tell_fault(rt, alloc, fault);
             fault.status()
         }
     };
-    tell_out(rt, alloc, line, outcome.out.as_slice())?;
-    Ok(status)
+    tell_out(rt, alloc, line, outcome.out.as_slice());
+    status
+}
+
+/// Runs a line over a handle that may start threads, wait and listen, and writes what came of it. Gives the status of the run, and none where its
+/// stream isn't there.
+pub(crate) fn tell<
+    H: Threads + Wait + Clock + Net<Stream = TcpStream, Listener = TcpListener> + Sync,
+>(rt: &HostRuntime, handle: &H, alloc: Global, line: &Line<'_>) -> Option<u8> {
+    let Ok(stream) = fs::read(rt, line.stream) else {
+        return None;
+    };
+    let words = words_of(alloc, line.words);
+    let (bytes, words) = (stream.as_slice(), words.as_slice());
+    let outcome = run_words(rt, handle, alloc, line.how, bytes, words);
+    Some(tell_outcome(rt, alloc, line, &outcome))
 }

@@ -12,50 +12,48 @@ mod lines;
 mod streams;
 
 use gu_server::{Fault, RunError, ServeError, ServiceError};
-use std::io;
+use lines::{read_line, tell, tell_fault};
+use std::alloc::Global;
 use std::process::ExitCode;
 
-/// Writes a fault's status and text.
-fn tell_text(rt: &HostRuntime, fault: &Fault) -> io::Result<()> {
-    println!(rt; "{}: {fault}", fault.status())
-}
+/// The errors of a run.
+const RUN_ERRORS: &[RunError] = &[
+    RunError::Broken { at: 14 },
+    RunError::Truncated { at: 134 },
+    RunError::Read,
+    RunError::Write,
+    RunError::Memory,
+    RunError::NoLiveTrade { trade: 2 },
+];
 
-/// Writes the text of each error of a run and of a server.
-fn tell_texts(rt: &HostRuntime) -> io::Result<()> {
-    let errors = [
-        RunError::Broken { at: 14 },
-        RunError::Truncated { at: 134 },
-        RunError::Read,
-        RunError::Write,
-        RunError::Memory,
-        RunError::NoLiveTrade { trade: 2 },
-    ];
-    for error in errors {
-        tell_text(rt, &Fault::from(error))?;
+/// The errors of a server.
+const SERVICE_ERRORS: &[ServiceError] = &[
+    ServiceError::Listen,
+    ServiceError::Serve(ServeError::Accept),
+    ServiceError::Serve(ServeError::NoThread),
+    ServiceError::Serve(ServeError::Memory),
+];
+
+/// Writes the status and the text of each error of a run and of a server.
+fn tell_errors(rt: &HostRuntime, alloc: Global) {
+    for error in RUN_ERRORS {
+        tell_fault(rt, alloc, &Fault::from(*error));
     }
-    tell_text(rt, &Fault::from(ServiceError::Listen))?;
-    for error in [ServeError::Accept, ServeError::NoThread, ServeError::Memory] {
-        tell_text(rt, &Fault::from(ServiceError::Serve(error)))?;
+    for error in SERVICE_ERRORS {
+        tell_fault(rt, alloc, &Fault::from(*error));
     }
-    Ok(())
 }
 
 fn main(rt: HostRuntime) -> ExitCode {
     let alloc = rt.alloc();
-    let mut status = 0;
+    let mut status = 100;
     for line in rt.lines(alloc) {
-        let Ok(line) = line else {
-            return ExitCode::from(100);
-        };
-        if let Some(run) = lines::read_line(line.as_str()) {
-            match lines::tell(&rt, &rt, alloc, &run) {
-                Ok(told) => status = told,
-                Err(_) => return ExitCode::from(100),
+        if let Ok(line) = line {
+            if let Some(run) = read_line(line.as_str()) {
+                status = tell(&rt, &rt, alloc, &run).unwrap_or(100);
             }
         }
     }
-    match tell_texts(&rt) {
-        Ok(()) => ExitCode::from(status),
-        Err(_) => ExitCode::from(100),
-    }
+    tell_errors(&rt, alloc);
+    ExitCode::from(status)
 }
