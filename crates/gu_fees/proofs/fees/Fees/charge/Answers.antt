@@ -1,4 +1,4 @@
-use Rattle.std.proofs.Common.{◌&&◌, bytes_eq}
+use Rattle.std.proofs.Common.{◌&&◌, bytes_eq, rules}
 use Rattle.gu_base.specs.declared.node.Charge.{Charge}
 use Rattle.gu_sums.proofs.OneMore.{more_sum}
 use Rattle.gu_fees.specs.Sums.{cost}
@@ -27,3 +27,6 @@ returns-clause-sums c = λ before after are.
       received = λ firm. more_sum cost (λ k. bytes_eq k.giver firm) before x after _ _ (returns-clause-received c firm) (are.received firm);
       used = λ g t. more_sum (λ k. k.lots) (λ k. bytes_eq k.giver g && bytes_eq k.taker t) before x after _ _ (returns-clause-used c g t) (are.used g t);
     }
+
+pub add-requires : goal.add-requires
+add-requires c = search rules

@@ -1,4 +1,4 @@
-use Rattle.std.proofs.Common.{ℕ, ◌≡◌, ◌+◌, ◌&&◌, arith, bytes_eq}
+use Rattle.std.proofs.Common.{ℕ, ◌≡◌, ◌+◌, ◌&&◌, arith, bytes_eq, rules}
 use Rattle.std.specs.Prelude.{OnErr, Result, Ok, Err}
 use Rattle.gu_base.specs.declared.node.Charge.{Charge}
 use Rattle.gu_sums.proofs.OneMore.{more_sum}
@@ -57,3 +57,6 @@ returns-in-Err-put-clause-stays_ready c = rw (← c.self.view_is) (stay_ready _ 
 
 pub returns-clause-stays_ready : goal.returns-clause-stays_ready
 returns-clause-stays_ready c = rw (← c.self.view_is) (stay_ready _ _ c.put.ensures.stays_ready c.put-2.ensures.stays_ready c.put-3.ensures.stays_ready)
+
+pub take-requires-in-Err-put : goal.take-requires-in-Err-put
+take-requires-in-Err-put c = search rules

@@ -1,3 +1,4 @@
+use Rattle.std.proofs.Common.{rules}
 use Rattle.gu_fees.proofs.Ready.{stay_ready}
 use Rattle.gu_fees.proofs.fees.Fees.ready.Goals as goal
 
@@ -27,3 +28,6 @@ returns-clause-used c = λ g t. rw (← c.self.view_is) (c.ready-3.ensures.same 
 
 pub returns-clause-stays_ready : goal.returns-clause-stays_ready
 returns-clause-stays_ready c = rw (← c.self.view_is) (stay_ready _ _ c.ready.ensures.stays_ready c.ready-2.ensures.stays_ready c.ready-3.ensures.stays_ready)
+
+pub returns-clause-ready : goal.returns-clause-ready
+returns-clause-ready c = search rules

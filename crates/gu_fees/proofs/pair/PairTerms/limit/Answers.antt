@@ -1,4 +1,4 @@
-use Rattle.std.proofs.Common.{arith, ◌≤◌, sym}
+use Rattle.std.proofs.Common.{arith, ◌≤◌, sym, rules}
 use Rattle.gu_base.specs.Limits.{highest_limit}
 use Rattle.gu_fees.specs.Pairs.{dealings_kept}
 use Rattle.gu_fees.proofs.Dealings.{low_terms}
@@ -10,3 +10,6 @@ overflow_add-result c =
     let raised = c.self.invariant.kept.raised_is in
     let small = c.self.invariant.kept.small.raised in
     omega (arith, low, raised, small)
+
+pub returns-in-Some : goal.returns-in-Some
+returns-in-Some c = search rules

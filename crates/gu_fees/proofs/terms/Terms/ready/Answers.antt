@@ -1,4 +1,4 @@
-use Rattle.std.proofs.Common.{◌≡◌, ◌<◌, Option, length, sym, ◌∙◌, subst}
+use Rattle.std.proofs.Common.{◌≡◌, ◌<◌, Option, length, sym, ◌∙◌, subst, rules}
 use Rattle.std.specs.Prelude.{None, Some, IfSome, IsSomeAnd, option_and_then, slice_get}
 use Rattle.std.specs.Map.{lookup}
 use Rattle.gu_base.specs.declared.house.Agreement.{Agreement}
@@ -29,3 +29,6 @@ returns-in-Some-clause-err c =
     on_err c.ready_at.result
     (same_after c.args.file _ _ (subst (λ o. IsSomeAnd (option_and_then (slice_get c.args.self.now.pairs) o) (λ r. Unit {0})) (sym at) there)
     (c.ready_at.ensures.readied c.args.giver.now c.args.taker.now c.args.file at).own)
+
+pub add_pair-requires-clause-new : goal.add_pair-requires-clause-new
+add_pair-requires-clause-new c = search rules
