@@ -19,3 +19,6 @@ returns-clause-in_range c =
 
 pub returns-clause-all_in_range : goal.returns-clause-all_in_range
 returns-clause-all_in_range c = subst (λ (t : House). IsTrue (has_terms_in_range t)) c.self.view_is (fixed_in_range (table c.self.inside) c.self.invariant)
+
+pub returns-clause-value : goal.returns-clause-value
+returns-clause-value c = search rules
