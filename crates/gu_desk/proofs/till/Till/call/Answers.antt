@@ -1,4 +1,4 @@
-use Rattle.std.proofs.Common.{arith, ap, sym, subst, ◌∙◌, [], List}
+use Rattle.std.proofs.Common.{arith, ap, sym, subst, ◌∙◌, [], List, rules}
 use Rattle.atomic_table.specs.Table.{Me}
 use Rattle.gu_base.specs.declared.entry.Entry.{Entry}
 use Rattle.gu_book.specs.Seen.{stored}
@@ -51,3 +51,15 @@ returns-clause-later g c =
       (grown g.J.Job.opening old new _ r c.self.invariant.0 e.answered e.kept e.unchanged).0.1,
       begins_with_all new.history old.history c.args.seat.seen (grows r old.history new.history (gains old new _ r e.answered e.kept e.unchanged)) begins,
     )
+
+pub returns-clause-answered : goal.returns-clause-answered
+returns-clause-answered g c = search rules
+
+pub returns-clause-kept : goal.returns-clause-kept
+returns-clause-kept g c = search rules
+
+pub returns-clause-memory : goal.returns-clause-memory
+returns-clause-memory g c = search rules
+
+pub returns-clause-unchanged : goal.returns-clause-unchanged
+returns-clause-unchanged g c = search rules
