@@ -1,3 +1,5 @@
+use Rattle.std.proofs.Common.{arith}
+use Rattle.std.proofs.lemmas.Grind.{common_steps}
 use Rattle.std.proofs.Common.{◌-◌, ◌<◌, length, drop, ◌∙◌, arith, length-drop, length-take}
 use Rattle.gu_batch.proofs.Transfers.{Appends_more}
 use Rattle.gu_batch.proofs.streams.write_all.Goals as goal
@@ -14,3 +16,6 @@ pieces-preserved-in-Ok g c =
       written = Appends_more _ _ _ bytes at n before.written c.in-Ok.ensures.bytes;
       calm = c.in-Ok.ensures.worked some ∙ before.calm;
     }
+
+pub returns-clause-ok : goal.returns-clause-ok
+returns-clause-ok g c = grind (arith, common_steps)

@@ -13,3 +13,6 @@ returns g c =
       appended = written.1;
       right = (c.in-Err.ensures.failed, drop written.0 text, whole ∙ sym (take-append-drop written.0 text));
     }
+
+pub returns-in-Ok : goal.returns-in-Ok
+returns-in-Ok g c = search rules

@@ -1,4 +1,4 @@
-use Rattle.std.proofs.Common.{◌≡◌, ◌∙◌, ◌+◌, List, [], ◌++◌, length, take, drop, subst, rules, refl, arith}
+use Rattle.std.proofs.Common.{◌≡◌, ◌∙◌, ◌+◌, [], ◌++◌, length, take, drop, subst, rules, refl, arith}
 use Rattle.std.proofs.lemmas.List.{take_at}
 use Rattle.gu_codec.specs.Writing.{HeaderText, fields_text, front_text}
 use Rattle.gu_message.specs.Reply.{answer_reply, header_of}
