@@ -1,3 +1,4 @@
+use Rattle.std.proofs.Common.{rules}
 use Rattle.std.proofs.Common.{◌≡◌, ◌++◌, ◌∙◌, ap}
 use Rattle.std.specs.Prelude.{Some, map, flat_map}
 use Rattle.gu_base.specs.History.{live}
@@ -17,3 +18,9 @@ returns-clause-text c =
     ∙ (ap (λ t. t ++ flat_map (λ r. line_of book.house book.history (shown r)) c.deref.result.now) c.new-text.ensures.bytes
     ∙ (ap (flat_map (λ r. line_of book.house book.history (shown r))) c.deref.ensures.value
     ∙ traced book.house book.history c.args.trade c.in-Some.rows.items told))))
+
+pub returns-in_default-clause-text : goal.returns-in_default-clause-text
+returns-in_default-clause-text c = search rules
+
+pub returns-in_default-clause-live : goal.returns-in_default-clause-live
+returns-in_default-clause-live c = search rules
