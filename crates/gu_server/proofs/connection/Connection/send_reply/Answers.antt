@@ -19,3 +19,12 @@ returns-in-Ok-clause-same g c =
 pub returns-in-Err-clause-same : goal.returns-in-Err-clause-same
 returns-in-Err-clause-same g c =
     λ t h f run entries has read. (read ∙ c.nothing_is_passed_over.ensures.same t h f c.args.self.now.told c.args.self.now.looked has, tt)
+
+pub returns-in-Ok-clause-looked : goal.returns-in-Ok-clause-looked
+returns-in-Ok-clause-looked g c = search rules
+
+pub returns-in-Ok-clause-behind : goal.returns-in-Ok-clause-behind
+returns-in-Ok-clause-behind g c = search rules
+
+pub returns-in-Ok-clause-told : goal.returns-in-Ok-clause-told
+returns-in-Ok-clause-told g c = search rules
