@@ -1,18 +1,20 @@
-//! Runs of the program `allocd`, over the files of the system, but with a reader and a writer in memory. Input and output are data: the
-//! files `stdin` and `stdout` beside `src/`; `data/` has the house files and streams.
+//! Runs of the program `allocd`, over the files of the system, but with a reader and a writer in memory; and behind them servers and their
+//! clients. Input and output are data: the files `stdin` and `stdout` beside `src/`; `data/` has the house files and streams.
 //!
 //! A line of standard input is `STREAM;HOW;WORDS`: a file of `data/`, how it is read and written, and the words of the command line.
 //! HOW is `plain`, `failing reader` (it fails behind the stream's last byte) or `full writer` (it takes no byte). Of each line the
 //! program writes how the run ended, with its status and the first line of its text, and whether what it wrote is what the file of the
-//! stream's name with `.out` for `.fix` holds; of a trace, what it wrote. At last it writes the text of each error, and it ends with the status of the
-//! last line's run.
+//! stream's name with `.out` for `.fix` holds; of a trace, what it wrote. Then it writes the text of each error, and what the clients of servers were told
+//! (`servers.rt`). It ends with the status of the last line's run.
 #![tactic(auto)]
 
 mod lines;
+mod servers;
 mod streams;
 
 use gu_server::{Fault, RunError, ServeError, ServiceError};
 use lines::{read_line, tell, tell_fault};
+use servers::play_all;
 use std::alloc::Global;
 use std::process::ExitCode;
 
@@ -55,5 +57,8 @@ fn main(rt: HostRuntime) -> ExitCode {
         }
     }
     tell_errors(&rt, alloc);
+    if play_all(&rt, &rt, alloc).is_err() {
+        status = 100;
+    }
     ExitCode::from(status)
 }

@@ -2,11 +2,11 @@
 ghost use Rattle.std.specs.Prelude.{IsTrue};
 ghost use Rattle.gu_desk.specs.Views.{is_worker_count};
 
-use crate::books::opened;
-use crate::holding::Holds;
-use crate::peers::connected;
-use crate::playing::{play, play_out};
-use crate::scenes::{Play, Scene};
+use crate::servers::books::opened;
+use crate::servers::holding::Holds;
+use crate::servers::peers::connected;
+use crate::servers::playing::{play, play_out};
+use crate::servers::scenes::{Play, Scene};
 use gu_book::Book;
 use gu_server::{ServeLimits, serve_within};
 use std::alloc::Global;

@@ -1,6 +1,6 @@
 //! What is written of the clients.
 
-use crate::peers::{count_of, read_byte, received};
+use crate::servers::peers::{count_of, read_byte, received};
 use std::alloc::Global;
 use std::io;
 use std::io::{ErrorKind, Write};

@@ -1,8 +1,8 @@
 //! What clients do, step by step.
 
-use crate::holding::Holds;
-use crate::peers::{Message, send, send_all};
-use crate::telling::{say_line, tell, tell_reports, tell_stranger};
+use crate::servers::holding::Holds;
+use crate::servers::peers::{Message, send, send_all};
+use crate::servers::telling::{say_line, tell, tell_reports, tell_stranger};
 use std::net::{Shutdown, TcpStream};
 
 /// What is done at a connection, or beside it.

@@ -1,5 +1,4 @@
-//! Servers and their clients over loopback sockets. The house file is standard input; the file `stdout` beside `src/` has what must be printed,
-//! written by hand from the rules.
+//! Servers and their clients over loopback sockets. What must be printed was written by hand from the rules.
 //!
 //! - Two workers, two connections, and a book with two trades of the house, 100 lots for AAA and 10 for CCC. AAA's call is held at the gate; while
 //!   it is, CCC logs on, splits its trade and gets entry 3. Then the gate lets AAA's call pass, and its answer is entry 4. A server of one thread for
@@ -14,7 +13,6 @@
 //!   server that waits a second for each hundred takes ten.
 //!
 //! A message is written as its fields but the times and the checksum, which hangs on these.
-#![tactic(auto)]
 
 mod books;
 mod holding;
@@ -26,23 +24,29 @@ mod telling;
 
 use scenes::PLAYS;
 use serving::{Ground, play_scenes};
-use std::io;
-use std::io::Read;
+use std::alloc::Global;
 use std::net::TcpListener;
+use std::sync::Wait;
+use std::thread::Threads;
+use std::time::Clock;
+use std::{fs, io};
 
-fn main(rt: HostRuntime) -> io::Result<()> {
-    let alloc = rt.alloc();
-    let mut house = Vec::new(alloc);
-    rt.reader().read_to_end(&mut house)?;
-    let listener = TcpListener::bind(&rt, "127.0.0.1:0")?;
+/// Has the clients of all plays served, over a handle that may start threads and wait.
+pub(crate) fn play_all<R: Threads + Wait + Clock + Sync>(
+    rt: &HostRuntime,
+    handle: &R,
+    alloc: Global,
+) -> io::Result<()> {
+    let house = fs::read(rt, "servers.house")?;
+    let listener = TcpListener::bind(rt, "127.0.0.1:0")?;
     let ground = Ground {
-        rt: &rt,
+        rt,
         alloc,
         at: listener.local_addr()?,
         listener: &listener,
     };
     for play in PLAYS {
-        play_scenes(&rt, &ground, house.as_slice(), play);
+        play_scenes(handle, &ground, house.as_slice(), play);
     }
     Ok(())
 }

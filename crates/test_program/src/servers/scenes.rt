@@ -1,8 +1,8 @@
 //! The servers, their books and what their clients do, as data.
 
-use crate::books::Trades;
-use crate::peers::Message;
-use crate::playing::{Deed, Step};
+use crate::servers::books::Trades;
+use crate::servers::peers::Message;
+use crate::servers::playing::{Deed, Step};
 
 /// A server and its clients.
 pub(crate) struct Scene<'a> {
