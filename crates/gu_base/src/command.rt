@@ -10,7 +10,7 @@ use std::alloc::Global;
 use std::marker::Model;
 
 /// The side of a trade (Side 54): its lots are long where they were bought, short where they were sold.
-#[derive(Clone, Copy, Debug, PartialEq, Eq, PartialOrd, Ord, Hash)]
+#[derive(Clone, Copy, Debug, PartialEq, Eq)]
 pub enum Side {
     Buy,
     Sell,
@@ -18,7 +18,7 @@ pub enum Side {
 
 /// One part of a split: own where it names the firm that splits, else given up to the firm that it names.
 /// The account of a part for another firm is ignored.
-#[derive(Clone, Copy, Debug)]
+#[derive(Clone, Copy)]
 pub struct Part {
     /// Its lots (AllocQty 80), as they were asked for: the book refuses what is out of range.
     pub lots: u64,
@@ -29,7 +29,7 @@ pub struct Part {
 }
 
 /// The parts of a split, in order. A clause sees the list of them.
-#[derive(Debug, Drop)]
+#[derive(Drop)]
 pub struct Parts {
     items: Vec<Part>,
 }
@@ -131,7 +131,7 @@ fn same_account(a: &Option<AccountId>, b: &Option<AccountId>) -> bool
 }
 
 /// A command. Trade, Split, Claim, Refuse, Cancel, Agree and Raise are changes; Initiate, Decline and Reverse speak of one.
-#[derive(Debug, Drop)]
+#[derive(Drop)]
 pub enum Command {
     /// A trade of the clearing house for an account of a firm (TradeCaptureReport).
     Trade {

@@ -9,7 +9,7 @@ use crate::state::State;
 ///
 /// Fields lie in the order of the source. The names lie at any address, so the status takes a byte of what is left before
 /// the next multiple of eight, where the command begins; behind the command it would take eight more.
-#[derive(Debug, Drop)]
+#[derive(Drop)]
 pub struct Entry {
     pub firm: FirmId,
     pub id: AllocId,
@@ -18,7 +18,7 @@ pub struct Entry {
 }
 
 /// An entry with its number, as the definitions' lists of changes hold it, from which some entries were left out. No code makes one.
-#[derive(Debug, Drop)]
+#[derive(Drop)]
 pub struct Record {
     pub number: Number,
     pub firm: FirmId,
@@ -28,7 +28,7 @@ pub struct Record {
 }
 
 /// What the book answers to a call.
-#[derive(Clone, Copy, Debug, PartialEq, Eq)]
+#[derive(Clone, Copy, PartialEq, Eq)]
 pub enum Answer {
     /// The command stands in the history as this entry, with this status.
     Accepted { number: Number, status: State },

@@ -3,21 +3,21 @@ use crate::names::{AccountId, FirmId};
 use crate::numbers::Number;
 
 /// An account of a firm.
-#[derive(Clone, Copy, Debug, PartialEq, Eq, Hash)]
+#[derive(Clone, Copy, PartialEq, Eq, Hash)]
 pub struct Account {
     pub firm: FirmId,
     pub name: AccountId,
 }
 
 /// A firm that gives up trades and a firm that takes them.
-#[derive(Clone, Copy, Debug, PartialEq, Eq, Hash)]
+#[derive(Clone, Copy, PartialEq, Eq, Hash)]
 pub struct Pair {
     pub giver: FirmId,
     pub taker: FirmId,
 }
 
 /// The terms of a giver and a taker.
-#[derive(Clone, Copy, Debug, PartialEq, Eq)]
+#[derive(Clone, Copy, PartialEq, Eq)]
 pub struct Agreement {
     /// What a claimed lot costs the taker, in hundredths: 0 to 100,000.
     pub rate: u64,
@@ -31,7 +31,7 @@ impl Agreement {
 }
 
 /// What an entry does to the terms of a giver and a taker.
-#[derive(Clone, Copy, Debug, PartialEq, Eq)]
+#[derive(Clone, Copy, PartialEq, Eq)]
 pub enum Deed {
     /// An Agree makes them.
     Makes(Agreement),
@@ -42,7 +42,7 @@ pub enum Deed {
 }
 
 /// An entry of a giver and a taker: its number, and what it does to their terms.
-#[derive(Clone, Copy, Debug, PartialEq, Eq)]
+#[derive(Clone, Copy, PartialEq, Eq)]
 pub struct Dealing {
     pub number: Number,
     pub deed: Deed,

@@ -7,14 +7,14 @@ use crate::names::{AccountId, FirmId, InstrumentId};
 use crate::numbers::NodeName;
 
 /// The account of a firm in which a node stands.
-#[derive(Clone, Copy, Debug, PartialEq, Eq)]
+#[derive(Clone, Copy, PartialEq, Eq)]
 pub struct Place {
     pub firm: FirmId,
     pub account: AccountId,
 }
 
 /// What kind of node it is: the root of a trade, a part that the splitting firm keeps, or one that it gives up.
-#[derive(Clone, Copy, Debug)]
+#[derive(Clone, Copy)]
 pub enum Kind {
     Root(Place),
     Own {
@@ -61,7 +61,7 @@ impl Kind {
 }
 
 /// A node, as the change that made it says.
-#[derive(Clone, Copy, Debug)]
+#[derive(Clone, Copy)]
 pub struct Node {
     pub name: NodeName,
     /// Its lots, which never change.
@@ -122,7 +122,7 @@ impl Node {
 }
 
 /// What a trade trades: an instrument, on one side.
-#[derive(Clone, Copy, Debug)]
+#[derive(Clone, Copy)]
 pub struct Deal {
     pub instrument: InstrumentId,
     pub side: Side,
@@ -148,7 +148,7 @@ impl Deal {
 }
 
 /// What a claim costs its taker: `lots x rate` hundredths, paid to the giver.
-#[derive(Clone, Copy, Debug)]
+#[derive(Clone, Copy)]
 pub struct Charge {
     pub giver: FirmId,
     pub taker: FirmId,

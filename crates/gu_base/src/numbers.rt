@@ -68,7 +68,7 @@ impl fmt::Display for Number {
 }
 
 /// The lots of a trade or of a part: 1 to 10,000,000.
-#[derive(Clone, Copy, Debug, PartialEq, Eq, PartialOrd, Ord, Hash)]
+#[derive(Clone, Copy, PartialEq, Eq)]
 pub struct Lots {
     lots: u64,
 }
@@ -119,7 +119,7 @@ impl fmt::Display for Lots {
 }
 
 /// What a claimed lot costs, in hundredths: 0 to 100,000.
-#[derive(Clone, Copy, Debug, PartialEq, Eq, PartialOrd, Ord, Hash)]
+#[derive(Clone, Copy, PartialEq, Eq)]
 pub struct Rate {
     hundredths: u64,
 }
@@ -170,7 +170,7 @@ impl fmt::Display for Rate {
 }
 
 /// The name of a node, written `entry.part`: `k.0` is the root of trade k, `k.i` the i-th part of split k, i from 1 to 100.
-#[derive(Clone, Copy, Debug, PartialEq, Eq, PartialOrd, Ord, Hash)]
+#[derive(Clone, Copy, PartialEq, Eq)]
 pub struct NodeName {
     entry: Number,
     part: u8,

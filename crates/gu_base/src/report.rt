@@ -6,14 +6,14 @@ use crate::state::State;
 use std::marker::Model;
 
 /// What an entry speaks of: a change of a node, the other commands of an entry.
-#[derive(Clone, Copy, Debug, PartialEq, Eq, PartialOrd, Ord, Hash)]
+#[derive(Clone, Copy, PartialEq, Eq)]
 pub enum Target {
     Node(NodeName),
     Entry(Number),
 }
 
 /// A part as a report shows it.
-#[derive(Clone, Copy, Debug)]
+#[derive(Clone, Copy)]
 pub struct ReportPart {
     pub name: NodeName,
     /// Its lots (AllocQty 80).
@@ -25,7 +25,7 @@ pub struct ReportPart {
 }
 
 /// The parts that a report shows, in order. A clause sees the list of them.
-#[derive(Debug, Drop)]
+#[derive(Drop)]
 pub struct ReportParts {
     items: Vec<ReportPart>,
 }
@@ -65,7 +65,7 @@ impl ReportParts {
 }
 
 /// What a firm is told of an entry that concerns it.
-#[derive(Debug, Drop)]
+#[derive(Drop)]
 pub struct Report {
     /// The entry (AllocReportID 755).
     pub number: Number,

@@ -1,6 +1,6 @@
 //! How an entry or a node stands.
 /// The status of an entry, or the state of a node.
-#[derive(Clone, Copy, Debug, PartialEq, Eq, Hash)]
+#[derive(Clone, Copy, Debug, PartialEq, Eq)]
 pub enum State {
     /// A trade, a split into own parts, a declined reversal; a root or an own part.
     Held,

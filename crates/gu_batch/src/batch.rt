@@ -47,7 +47,7 @@ const MOST_READS: u32 = 16_777_216;
 const LONGEST_READ: usize = MAX_FRAME_LEN;
 
 /// What a read brought.
-#[derive(Clone, Copy, Debug, PartialEq, Eq)]
+#[derive(Clone, Copy, PartialEq, Eq)]
 pub(crate) enum Came {
     Bytes { count: usize },
     /// The read was interrupted.

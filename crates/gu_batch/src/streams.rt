@@ -56,7 +56,7 @@ pub trait Sink {
 const PATIENCE: u32 = 16_777_216;
 
 /// The calls of a reader or writer.
-#[derive(Clone, Copy, Debug)]
+#[derive(Clone, Copy)]
 struct Counts {
     made: u64,
     failed: u64,
@@ -162,7 +162,7 @@ impl<T: Write> Sink for Counted<T> {
 }
 
 /// Takes whatever is written, and keeps nothing of it.
-#[derive(Clone, Copy, Debug)]
+#[derive(Clone, Copy)]
 pub(crate) struct Nowhere;
 
 impl Sink for Nowhere {
@@ -178,7 +178,7 @@ impl Sink for Nowhere {
 }
 
 /// The writer failed.
-#[derive(Clone, Copy, Debug, PartialEq, Eq)]
+#[derive(Clone, Copy, PartialEq, Eq)]
 pub(crate) struct Failed;
 
 /// Writes all the bytes, or a front of them where the writer failed.

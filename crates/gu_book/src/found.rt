@@ -28,7 +28,7 @@ use gu_tree::{Head, Path, Spot, Trees};
 use std::alloc::Global;
 
 /// What the trees say of a node.
-#[derive(Clone, Copy, Debug)]
+#[derive(Clone, Copy)]
 pub(crate) struct Found {
     /// What its tree keeps of it.
     pub(crate) head: Head,
@@ -95,14 +95,14 @@ pub(crate) fn find(trees: &Trees<Global>, name: NodeName) -> Option<Found>
 }
 
 /// A node that a live change makes, and what the trees say of it.
-#[derive(Clone, Copy, Debug)]
+#[derive(Clone, Copy)]
 pub(crate) struct Named {
     pub(crate) node: Node,
     pub(crate) found: Found,
 }
 
 /// What the trees say of a live change that is to be undone.
-#[derive(Clone, Copy, Debug)]
+#[derive(Clone, Copy)]
 pub(crate) struct Undone {
     /// The node that it made or named.
     pub(crate) found: Found,

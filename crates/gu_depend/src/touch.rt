@@ -2,7 +2,7 @@
 use gu_base::NodeName;
 
 /// What a change made or decided: there stands what stands on it.
-#[derive(Clone, Copy, Debug, PartialEq, Eq)]
+#[derive(Clone, Copy, PartialEq, Eq)]
 pub enum Touched {
     /// A Trade made its root.
     Root,

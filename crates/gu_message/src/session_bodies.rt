@@ -15,7 +15,7 @@ use gu_base::Memory;
 use gu_codec::{Fields, append_field, tags};
 
 /// Why the service ends a session: Text (58) of its Logout (`docs/profile.md`, "The session").
-#[derive(Clone, Copy, Debug, PartialEq, Eq)]
+#[derive(Clone, Copy, PartialEq, Eq)]
 pub enum LogoutText {
     /// `bad header`: SenderCompID (49), TargetCompID (56) or MsgSeqNum (34) is missing or isn't that of the connection.
     BadHeader,

@@ -10,7 +10,7 @@ use std::marker::Model;
 const BYTES: usize = 64;
 
 /// A TestReqID (112): at most 64 bytes, which lie in the value itself. A clause sees the list of its bytes.
-#[derive(Clone, Copy, Debug)]
+#[derive(Clone, Copy)]
 pub struct TestReqId {
     /// The places behind the text hold 0, so that equal texts are equal values.
     cells: [u8; BYTES],

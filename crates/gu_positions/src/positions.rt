@@ -13,7 +13,7 @@ use std::collections::HashMap;
 use std::marker::Model;
 
 /// An instrument in an account of a firm.
-#[derive(Clone, Copy, Debug, PartialEq, Eq, Hash)]
+#[derive(Clone, Copy, PartialEq, Eq, Hash)]
 pub struct Key {
     pub firm: FirmId,
     pub account: AccountId,
@@ -21,7 +21,7 @@ pub struct Key {
 }
 
 /// The lots of an instrument in an account: long those of buy trades, short those of sell trades.
-#[derive(Clone, Copy, Debug)]
+#[derive(Clone, Copy)]
 struct Row {
     long: u64,
     short: u64,

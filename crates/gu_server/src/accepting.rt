@@ -16,7 +16,7 @@ const LACK_WAIT: u64 = 100;
 const MOST_LACKS: u32 = 600;
 
 /// What a server does where accept gives it no connection.
-#[derive(Clone, Copy, Debug, PartialEq, Eq)]
+#[derive(Clone, Copy, PartialEq, Eq)]
 pub(crate) enum AfterFault {
     /// It asks again: the fault was one of the connection that came, or of the network.
     AsksAgain,

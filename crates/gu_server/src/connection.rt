@@ -28,7 +28,7 @@ use std::time::Clock;
 const MOST_REPORTS: usize = 100;
 
 /// The connection is to be closed.
-#[derive(Clone, Copy, Debug, PartialEq, Eq)]
+#[derive(Clone, Copy, PartialEq, Eq)]
 pub(crate) struct Closed;
 
 /// What the bytes held have brought.

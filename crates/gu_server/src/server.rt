@@ -42,7 +42,7 @@ const WAITING: usize = 1;
 const LOGON_WAIT: u64 = 30;
 
 /// How much a server does.
-#[derive(Clone, Copy, Debug)]
+#[derive(Clone, Copy)]
 pub struct ServeLimits {
     /// How many workers share the book, 1 to 16.
     pub workers: u32,

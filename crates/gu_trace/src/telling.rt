@@ -20,7 +20,7 @@ use std::alloc::Global;
 const MOST_REPORTS: usize = 100;
 
 /// What kind of report it is.
-#[derive(Clone, Copy, Debug)]
+#[derive(Clone, Copy)]
 struct Codes {
     /// AllocReportType (794).
     kind: u8,

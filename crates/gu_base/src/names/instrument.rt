@@ -9,7 +9,7 @@ use std::marker::Model;
 use std::{fmt, str};
 
 /// The name of an instrument: 1 to 16 bytes, each 0x21 to 0x7E (Symbol 55).
-#[derive(Clone, Copy, Debug, PartialEq, Eq, PartialOrd, Ord, Hash)]
+#[derive(Clone, Copy, PartialEq, Eq, PartialOrd, Ord, Hash)]
 pub struct InstrumentId {
     text: Cells<NAME_LEN>,
 }

@@ -22,7 +22,7 @@ use gu_tree::Trees;
 use std::alloc::{AllocError, Global};
 
 /// Lots of one instrument and side that stand in an account.
-#[derive(Clone, Copy, Debug)]
+#[derive(Clone, Copy)]
 pub(crate) struct Holding {
     pub(crate) key: Key,
     pub(crate) side: Side,
