@@ -9,7 +9,7 @@
 //!   rows of a tree and lawful orders. They are filters, sums and a replay over flat lists.
 //! - `proofs/Worked.antt` computes small worked histories by these definitions, so that a change of a definition that
 //!   breaks one of them breaks the build.
-//! - Its cases are data of the program `test_names`.
+//! - Its cases are data of the program `test_messages`.
 #![tactic(auto)]
 
 mod cells;

@@ -20,7 +20,7 @@
 //!
 //! What a call asks of its caller, a test of this crate answers: `can_charge`, `can_uncharge`, `can_put`, `can_put_at`; for
 //! `Fees::put` the sums, for `ready_at` whether `row_at` has a row.
-//! Its cases stand in the program `test_sums`.
+//! Its cases stand in the program `test_nodes`.
 #![tactic(auto)]
 
 mod fees;

@@ -8,7 +8,7 @@
 //! is reversed: `entry_state`. The status goes out in FIX field AllocStatus (87)
 //! by the numbers of `status_code`; `docs/profile.md` says which FIX has.
 //! Each function meets its table in `specs/` exactly, and takes no memory.
-//! Its cases stand in the program `test_names`.
+//! Its cases stand in the program `test_messages`.
 #![tactic(auto)]
 
 ghost use Rattle.std.specs.Prelude.{◌≡◌, ◌≤◌};

@@ -7,7 +7,7 @@
 //!   is ready stays ready.
 //! - `put` adds lots, and makes the row where there is none. It and `ready` alone take memory.
 //! - What a call asks of its caller, a test of this crate answers: `can_add`, `can_take`; for `put` the sums that `of` gives.
-//! - Its cases stand in the program `test_sums`.
+//! - Its cases stand in the program `test_nodes`.
 #![tactic(auto)]
 
 mod positions;

@@ -4,7 +4,7 @@
 //! `add` changes a row that is there, `take` takes back no more than is there; neither can fail. `put` adds, and makes the row where
 //! there is none. It and `ready` alone take memory.
 //! The fees of a book are kept in these.
-//! Its cases stand in the program `test_sums`.
+//! Its cases stand in the program `test_nodes`.
 #![tactic(auto)]
 
 mod sums;

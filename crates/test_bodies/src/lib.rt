@@ -4,10 +4,11 @@
 //! It has no cases of its own: those of the two programs try it.
 #![tactic(auto)]
 
-use std::alloc::{AllocError, Global};
+use gu_base::Memory;
+use std::alloc::Global;
 
 /// Appends a text with one byte in place of another, as `|` for SOH.
-pub fn append_with(out: &mut Vec<u8>, text: &[u8], from: u8, to: u8) -> Result<(), AllocError> {
+pub fn append_with(out: &mut Vec<u8>, text: &[u8], from: u8, to: u8) -> Result<(), Memory> {
     for b in text {
         out.push(if *b == from { to } else { *b })?;
     }
@@ -15,7 +16,7 @@ pub fn append_with(out: &mut Vec<u8>, text: &[u8], from: u8, to: u8) -> Result<(
 }
 
 /// The frame with this body, of fields or not.
-pub fn framed(alloc: Global, body: &[u8]) -> Result<Vec<u8>, AllocError> {
+pub fn framed(alloc: Global, body: &[u8]) -> Result<Vec<u8>, Memory> {
     let mut frame = Vec::new(alloc);
     let count = format!(in alloc; "8=FIXT.1.1\x019={}\x01", body.len())?;
     frame.extend_from_slice(count.as_bytes())?;

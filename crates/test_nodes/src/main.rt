@@ -1,4 +1,5 @@
-//! The tree of a trade, and the trees of some, change by change. Input and output are data: the files `stdin` and `stdout` beside `src/`.
+//! The tree of a trade, and the trees of some, change by change, and running sums. Input and output are data: the files `stdin`
+//! and `stdout` beside `src/`.
 //!
 //! A line of standard input is a name for what follows (`# ..`, written again), or
 //! - `trade LOTS`: a new tree, of the trade 1 of so many lots into AAA/A1;
@@ -10,7 +11,7 @@
 //!
 //! Of each change the program writes whether all that it asks for held, and it was made. A row is its depth, the node, its lots, the
 //! account in which it stands, its state, the firm to which it was given, and the entry that decided it. At last it writes what commands of each
-//! kind touch, and the place of a trade in the trees of a book.
+//! kind touch, the place of a trade in the trees of a book, and what becomes of sums, fees, positions and terms.
 #![tactic(auto)]
 
 mod changes;
@@ -19,12 +20,13 @@ mod lines;
 mod places;
 mod questions;
 mod shown;
+mod sums;
 mod words;
 
 use changes::trade;
 use gu_tree::{Tree, Trees};
 use std::alloc::Global;
-use std::io::{Print, Read};
+use std::io::{ErrorKind, Print, Read};
 use std::{io, str};
 use test_splits::words::say_line;
 use words::first_word;
@@ -82,5 +84,9 @@ fn main(rt: HostRuntime) -> io::Result<()> {
         Err(_) => say_line(&rt, "no text"),
     }
     places::tell(&rt, alloc);
-    Ok(())
+    if sums::tell(&rt, alloc) {
+        Ok(())
+    } else {
+        Err(io::Error::from(ErrorKind::InvalidData))
+    }
 }

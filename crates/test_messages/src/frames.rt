@@ -1,17 +1,13 @@
-//! Streams of frames of all kinds, and what is read of each. Input and output are data: the files `stdin` and `stdout` beside `src/`.
+//! Streams of frames of all kinds, and what is read of each.
 //!
-//! Each line of standard input is a stream and how it comes: the size of its pieces, a space, and its bytes, in which `|` stands for SOH
-//! and `@` for 65,501 times `x`. The program pushes piece after piece into a feed and writes each answer that the feed gives
-//! between them, each refusal of a piece, and at last the feed's room. Where the size is 0 it writes what is read of each front of the
-//! bytes, and of all of them, and which fields stand before the text (58). At last it writes three frames that the codec has written.
-#![tactic(auto)]
-
-mod written;
+//! The words of a line are a stream and how it comes: the size of its pieces, a space, and its bytes, in which `|` stands
+//! for SOH and `@` for 65,501 times `x`. Piece after piece is pushed into a feed; each answer that the feed gives between
+//! them is written, each refusal of a piece, and at last the feed's room. Where the size is 0 it is written what is read of
+//! each front of the bytes, and of all of them, and which fields stand before the text (58).
 
 use gu_codec::{Feed, FeedError, Fields, Frame, Marked, read_frame, tags};
 use std::alloc::Global;
-use std::io::{ErrorKind, Input};
-use std::{io, str};
+use std::str;
 
 /// Whether a walk by the marks of SOH meets the same fields.
 fn is_marked_alike(fields: Fields<'_>) -> bool {
@@ -174,32 +170,10 @@ fn tell_stream(rt: &impl Print, alloc: Global, size: usize, text: &str) -> bool 
     }
 }
 
-fn tell_line(rt: &impl Print, alloc: Global, line: &str) -> bool {
-    match line.split_once(' ') {
+/// Writes what is read of the stream of these words. Whether all went well.
+pub(crate) fn tell_words(rt: &impl Print, alloc: Global, words: &str) -> bool {
+    match words.split_once(' ') {
         Some((size, text)) => tell_stream(rt, alloc, size.parse().unwrap_or(1), text),
         None => false,
-    }
-}
-
-/// Writes what is read of each stream of the input. Whether all went well.
-fn tell_lines(rt: &(impl Print + Input), alloc: Global) -> bool {
-    for line in rt.lines(alloc) {
-        let is_told = match line {
-            Ok(line) => tell_line(rt, alloc, line.as_str()),
-            Err(_) => false,
-        };
-        if !is_told {
-            return false;
-        }
-    }
-    true
-}
-
-fn main(rt: HostRuntime) -> io::Result<()> {
-    let alloc = rt.alloc();
-    if tell_lines(&rt, alloc) && written::tell(&rt, alloc) {
-        Ok(())
-    } else {
-        Err(io::Error::from(ErrorKind::InvalidData))
     }
 }

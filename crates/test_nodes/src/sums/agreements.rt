@@ -1,5 +1,5 @@
 //! What a giver and a taker deal under their terms.
-use crate::show_each;
+use crate::sums::show_each;
 use gu_base::{Agreement, Deed, FirmId, Number};
 use gu_fees::Terms;
 use std::alloc::Global;

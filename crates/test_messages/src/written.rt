@@ -3,6 +3,7 @@
 use gu_base::FirmId;
 use gu_codec::{Header, write_frame};
 use std::alloc::Global;
+use test_bodies::append_with;
 
 /// A time of 21 bytes.
 const SENT: &[u8] = b"19700101-00:00:00.000";
@@ -10,10 +11,8 @@ const SENT: &[u8] = b"19700101-00:00:00.000";
 /// Writes the bytes, with `|` for SOH.
 fn show(rt: &impl Print, alloc: Global, bytes: &[u8]) -> bool {
     let mut shown = Vec::new(alloc);
-    for b in bytes {
-        if shown.push(if *b == 1 { b'|' } else { *b }).is_err() {
-            return false;
-        }
+    if append_with(&mut shown, bytes, 1, b'|').is_err() {
+        return false;
     }
     match str::from_utf8(shown.as_slice()) {
         Ok(text) => rt.println(text).is_ok(),

@@ -1,6 +1,6 @@
 //! Copies of commands, and parts that keep their vector.
 
-use crate::show_each;
+use crate::names::show_each;
 use gu_base::{AccountId, Command, FirmId, Memory, NodeName, Part, Parts, ReportPart, ReportParts};
 use std::alloc::Global;
 

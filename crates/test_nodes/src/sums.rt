@@ -1,8 +1,6 @@
-//! Running sums, and the fees, positions and terms that are kept as such. There is no input; the file `stdout` beside `src/` holds what must be
-//! printed.
+//! Running sums, and the fees, positions and terms that are kept as such.
 //!
 //! Memory is ample here, so each row is made ready; then what was added, and what was taken again, is written.
-#![tactic(auto)]
 
 mod agreements;
 
@@ -12,8 +10,7 @@ use gu_fees::Fees;
 use gu_positions::{Key, Positions};
 use gu_sums::Sums;
 use std::alloc::Global;
-use std::io;
-use std::io::ErrorKind;
+use std::io::Print;
 
 /// Writes texts, each with its number, and ends the line.
 pub(crate) fn show_each(rt: &impl Print, said: &[(&str, u64)]) -> bool {
@@ -186,7 +183,7 @@ fn key_of(firm: FirmId) -> Option<Key> {
     })
 }
 
-/// Writes what becomes of each. Whether all went well.
+/// Writes what becomes of each.
 fn tell_each(rt: &impl Print, alloc: Global, firm: &FirmId, other: &FirmId, key: &Key) -> bool {
     tell_sums(rt, alloc)
         && tell_fees(rt, alloc, firm, other)
@@ -196,21 +193,13 @@ fn tell_each(rt: &impl Print, alloc: Global, firm: &FirmId, other: &FirmId, key:
         && tell_terms(rt, alloc, firm, other)
 }
 
-/// The same, of two firms, and of a key of the first.
-fn tell(rt: &impl Print, alloc: Global) -> bool {
+/// The same, of two firms, and of a key of the first. Whether all went well.
+pub(crate) fn tell(rt: &impl Print, alloc: Global) -> bool {
     let (Some(firm), Some(other)) = (FirmId::new(b"AAA"), FirmId::new(b"BBB")) else {
         return false;
     };
     match key_of(firm) {
         Some(key) => tell_each(rt, alloc, &firm, &other, &key),
         None => false,
-    }
-}
-
-fn main(rt: HostRuntime) -> io::Result<()> {
-    if tell(&rt, rt.alloc()) {
-        Ok(())
-    } else {
-        Err(io::Error::from(ErrorKind::InvalidData))
     }
 }
