@@ -13,7 +13,7 @@
 //! - The output of a stream is a function of its bytes (`specs/Output.antt`). It is itself a stream of messages, and read back
 //!   these are the answers, each with exactly its fields (`laws.rt`).
 //!
-//! Its cases are data: whole streams and what comes of them of the program `test_rows`.
+//! Its cases are data: whole streams and what comes of them of the program `test_program`.
 #![tactic(auto)]
 
 mod answering;

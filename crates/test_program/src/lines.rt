@@ -1,6 +1,6 @@
 //! One run of the program.
 
-use crate::streams::{Kept, Text};
+use crate::streams::{AtEnd, Narrow, pieces_of, takes_all, writer_of};
 use gu_server::{Counted, Fault, SystemFiles, run};
 use std::alloc::Global;
 use std::io::Write;
@@ -55,17 +55,20 @@ fn run_words<H: Threads + Wait + Clock + Net<Stream = TcpStream, Listener = TcpL
     stream: &[u8],
     words: &[String],
 ) -> Outcome {
-    let mut reader = Counted::new(Text {
-        rest: stream,
-        fails: how == "failing reader",
-    });
-    let mut writer = Counted::new(Kept {
-        held: Vec::new(alloc),
-        full: how == "full writer",
-    });
+    let mut pieces = pieces_of(stream, usize::MAX);
+    if how == "failing reader" {
+        pieces.at_end = AtEnd::Fails;
+    }
+    let mut taking = takes_all();
+    if how == "full writer" {
+        taking.room = 0;
+        taking.quiet = true;
+    }
+    let mut reader = Counted::new(pieces);
+    let mut writer = Counted::new(writer_of(alloc, taking));
     let files = SystemFiles::new(rt);
     let result = run(handle, alloc, &files, &mut reader, &mut writer, words);
-    let Kept { held, .. } = writer.into_inner();
+    let Narrow { held, .. } = writer.into_inner();
     Outcome { result, out: held }
 }
 

@@ -1,7 +1,8 @@
-//! Runs of the program `allocd`, over the files of the system, but with a reader and a writer in memory; and behind them servers and their
-//! clients. Input and output are data: the files `stdin` and `stdout` beside `src/`; `data/` has the house files and streams.
+//! Batches over memory; runs of the program `allocd`, over the files of the system, but with a reader and a writer in memory; and
+//! behind them servers and their clients. Input and output are data: the files `stdin` and `stdout` beside `src/`; `data/` has the
+//! house files and streams.
 //!
-//! A line of standard input is `STREAM;HOW;WORDS`: a file of `data/`, how it is read and written, and the words of the command line.
+//! A line of standard input that begins with `row ` is a worked row (`rows.rt`). Any other is `STREAM;HOW;WORDS`: a file of `data/`, how it is read and written, and the words of the command line.
 //! HOW is `plain`, `failing reader` (it fails behind the stream's last byte) or `full writer` (it takes no byte). Of each line the
 //! program writes how the run ended, with its status and the first line of its text, and whether what it wrote is what the file of the
 //! stream's name with `.out` for `.fix` holds; of a trace, what it wrote. Then it writes the text of each error, and what the clients of servers were told
@@ -9,6 +10,7 @@
 #![tactic(auto)]
 
 mod lines;
+mod rows;
 mod servers;
 mod streams;
 
@@ -51,7 +53,9 @@ fn main(rt: HostRuntime) -> ExitCode {
     let mut status = 100;
     for line in rt.lines(alloc) {
         if let Ok(line) = line {
-            if let Some(run) = read_line(line.as_str()) {
+            if let Some(row) = line.as_str().strip_prefix("row ") {
+                rows::run_line(&rt, alloc, row);
+            } else if let Some(run) = read_line(line.as_str()) {
                 status = tell(&rt, &rt, alloc, &run).unwrap_or(100);
             }
         }

@@ -1,9 +1,11 @@
 //! The ways to run a case.
 
-use crate::cases::Way;
-use crate::streams::{AtEnd, Interruptions, Narrow, Pieces, Taking, pieces_of, takes_all};
-use gu_batch::{Counted, RunError, run_batch, run_trace};
+use crate::rows::cases::Way;
+use crate::streams::{
+    AtEnd, Interruptions, Narrow, Pieces, Taking, pieces_of, takes_all, writer_of,
+};
 use gu_parties::House;
+use gu_server::{Counted, RunError, run_batch, run_trace};
 use std::alloc::Global;
 use std::fmt::Display;
 use std::io::Print;
@@ -28,12 +30,12 @@ struct Outcome {
 }
 
 /// Writes a value. Where that fails, the program hasn't written what it must.
-fn say<D: Display + Drop>(rt: &impl Print, value: D) {
+fn say<D: Display + Drop>(rt: &HostRuntime, value: D) {
     let _ = rt.print(value);
 }
 
 /// Writes a value and the end of a line.
-pub(crate) fn say_line<D: Display + Drop>(rt: &impl Print, value: D) {
+pub(crate) fn say_line<D: Display + Drop>(rt: &HostRuntime, value: D) {
     let _ = rt.println(value);
 }
 
@@ -55,11 +57,7 @@ fn house(alloc: Global, opens: bool) -> Option<House> {
 fn run(alloc: Global, row: &Row<'_>, pieces: Pieces<'_>, taking: Taking) -> Option<Outcome> {
     let house = house(alloc, row.opens)?;
     let mut reader = Counted::new(pieces);
-    let mut writer = Counted::new(Narrow {
-        held: Vec::new(alloc),
-        taking,
-        was_interrupted: false,
-    });
+    let mut writer = Counted::new(writer_of(alloc, taking));
     let result = run_batch(alloc, &mut reader, &mut writer, house);
     let Narrow { held, .. } = writer.into_inner();
     Some(Outcome { result, out: held })
@@ -69,11 +67,7 @@ fn run(alloc: Global, row: &Row<'_>, pieces: Pieces<'_>, taking: Taking) -> Opti
 fn total(alloc: Global, row: &Row<'_>) -> Option<Outcome> {
     let house = house(alloc, row.opens)?;
     let mut reader = Counted::new(pieces_of(row.input, 4096));
-    let mut writer = Counted::new(Narrow {
-        held: Vec::new(alloc),
-        taking: takes_all(),
-        was_interrupted: false,
-    });
+    let mut writer = Counted::new(writer_of(alloc, takes_all()));
     let result = run_trace(alloc, &mut reader, &mut writer, house, None);
     let Narrow { held, .. } = writer.into_inner();
     Some(Outcome { result, out: held })
@@ -99,7 +93,7 @@ fn shown(alloc: Global, bytes: &[u8]) -> Option<Vec<u8>> {
 }
 
 /// Prints how a batch of a case ended, and what it wrote.
-fn tell(rt: &impl Print, alloc: Global, name: &str, outcome: &Outcome) {
+fn tell(rt: &HostRuntime, alloc: Global, name: &str, outcome: &Outcome) {
     say(rt, name);
     say(rt, ": ");
     match outcome.result {
@@ -115,14 +109,14 @@ fn tell(rt: &impl Print, alloc: Global, name: &str, outcome: &Outcome) {
 }
 
 /// Prints what came of a batch, where it could begin.
-fn tell_run(rt: &impl Print, alloc: Global, name: &str, outcome: Option<Outcome>) {
+fn tell_run(rt: &HostRuntime, alloc: Global, name: &str, outcome: Option<Outcome>) {
     match outcome {
         Some(outcome) => tell(rt, alloc, name, &outcome),
         None => say_line(rt, "no run"),
     }
 }
 
-fn in_pieces(rt: &impl Print, alloc: Global, row: &Row<'_>) {
+fn in_pieces(rt: &HostRuntime, alloc: Global, row: &Row<'_>) {
     for most in [1usize, 7, 134] {
         say(rt, "pieces of ");
         say_line(rt, most);
@@ -154,7 +148,7 @@ fn same_cuts(alloc: Global, row: &Row<'_>, whole: &Outcome) -> u64 {
     same
 }
 
-fn in_two(rt: &impl Print, alloc: Global, row: &Row<'_>) {
+fn in_two(rt: &HostRuntime, alloc: Global, row: &Row<'_>) {
     let Some(whole) = run_whole(alloc, row) else {
         return say_line(rt, "no run");
     };
@@ -167,7 +161,7 @@ fn in_two(rt: &impl Print, alloc: Global, row: &Row<'_>) {
 }
 
 /// Prints what came of a reader that failed after so many bytes.
-fn tell_failed(rt: &impl Print, alloc: Global, row: &Row<'_>, end: usize, outcome: &Outcome) {
+fn tell_failed(rt: &HostRuntime, alloc: Global, row: &Row<'_>, end: usize, outcome: &Outcome) {
     say(rt, "after ");
     say(rt, end);
     say_line(rt, " bytes");
@@ -175,7 +169,7 @@ fn tell_failed(rt: &impl Print, alloc: Global, row: &Row<'_>, end: usize, outcom
 }
 
 /// Prints what comes of a reader that fails after so many bytes, where it isn't `last` bytes of output. Gives how many are written.
-fn fail_after(rt: &impl Print, alloc: Global, row: &Row<'_>, end: usize, last: usize) -> usize {
+fn fail_after(rt: &HostRuntime, alloc: Global, row: &Row<'_>, end: usize, last: usize) -> usize {
     let mut pieces = pieces_of(row.input, 7);
     pieces.end = end;
     pieces.at_end = AtEnd::Fails;
@@ -190,7 +184,7 @@ fn fail_after(rt: &impl Print, alloc: Global, row: &Row<'_>, end: usize, last: u
 }
 
 /// What comes of a reader that fails after so many bytes, wherever that changes.
-fn failing_reader(rt: &impl Print, alloc: Global, row: &Row<'_>) {
+fn failing_reader(rt: &HostRuntime, alloc: Global, row: &Row<'_>) {
     let mut last = usize::MAX;
     for end in 0..=row.input.len() {
         last = fail_after(rt, alloc, row, end, last);
@@ -237,7 +231,7 @@ fn count_fronts(alloc: Global, row: &Row<'_>, most: usize, quiet: bool, whole: &
 }
 
 /// Prints what comes of a writer that takes so many bytes a call, with less room than for the whole, and with just that.
-fn failing_writer(rt: &impl Print, alloc: Global, row: &Row<'_>, most: usize, quiet: bool) {
+fn failing_writer(rt: &HostRuntime, alloc: Global, row: &Row<'_>, most: usize, quiet: bool) {
     let Some(whole) = run_whole(alloc, row) else {
         return say_line(rt, "no run");
     };
@@ -286,7 +280,7 @@ fn run_once(alloc: Global, row: &Row<'_>, way: Way) -> Option<Outcome> {
 }
 
 /// Runs a case in its way, and prints what came of it.
-pub(crate) fn run_row(rt: &impl Print, alloc: Global, row: &Row<'_>, way: Way) {
+pub(crate) fn run_row(rt: &HostRuntime, alloc: Global, row: &Row<'_>, way: Way) {
     match way {
         Way::Pieces => in_pieces(rt, alloc, row),
         Way::InTwo => in_two(rt, alloc, row),
