@@ -8,7 +8,7 @@
 //! - The book is only read.
 //! - The law `nothing_is_passed_over`: what a connection's readings have looked at and told nothing of concerns its firm neither then nor
 //!   later, so the next may begin behind it.
-//! - Its cases are data of the program `test_trace`.
+//! - Its cases are data of the program `test_book`.
 #![tactic(auto)]
 
 mod chain;

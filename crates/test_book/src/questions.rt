@@ -1,5 +1,6 @@
 //! A question, and what the book tells. What writes says whether it could.
 
+use crate::traces;
 use gu_base::{AccountId, FirmId, InstrumentId, Memory, Number, Pair, Place};
 use gu_book::Book;
 use gu_book::laws::{Told, live_changes_alone};
@@ -272,6 +273,9 @@ pub(crate) fn answer(rt: &HostRuntime, alloc: Global, book: &Book, question: &[u
         let house = book.house().house();
         return println!(rt; "house {house}").is_ok();
     }
-    let entries = book.history().len();
-    println!(rt; "entries {entries}").is_ok()
+    if what == b"entries".as_slice() {
+        let entries = book.history().len();
+        return println!(rt; "entries {entries}").is_ok();
+    }
+    traces::answer(rt, alloc, book, what, rest)
 }

@@ -1,5 +1,5 @@
-//! Days of a small house as lines of text, for the programs that play them at a book (`test_book`, `test_trace`), and for the one
-//! that makes single calls of them (`test_desk`).
+//! Days of a small house as lines of text, for the program that plays them at a book (`test_book`), and for the one that makes
+//! single calls of them (`test_desk`).
 //!
 //! An input holds a house file, a line `--`, and then days, with an empty line between two. A line `==` ends them, and another house file
 //! with its days may follow. Each day begins with the book after the opening calls of its house.
@@ -9,15 +9,15 @@
 //! `FIRM ID decline ENTRY`, `FIRM ID reverse ENTRY`.
 //! What finds no memory is asked for a second time, and standard error tells of it. So one refused growth, wherever it falls, changes
 //! nothing that is written on standard output.
-//! It has no cases of its own: those of the three programs try it.
+//! It has no cases of its own: those of the two programs try it.
 #![tactic(auto)]
 
 mod calls;
-mod days;
+mod input;
 mod memory;
 mod words;
 
 pub use calls::{Call, read_call, show_answer};
-pub use days::{Player, play, read_house, read_input};
+pub use input::{read_house, read_input};
 pub use memory::tell_refused;
 pub use words::{count_of, first_word, number_of, shown};

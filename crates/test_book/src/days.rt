@@ -1,32 +1,11 @@
 //! Whole days, line by line.
 
-use crate::calls::{Call, read_call};
-use crate::memory::tell_refused;
-use crate::words::{first_word, shown};
+use crate::calls::make;
+use crate::questions::answer;
 use gu_book::Book;
 use gu_parties::House;
 use std::alloc::Global;
-use std::io::Read;
-
-/// What a program does at a day's book. Both say whether all could be written.
-pub trait Player {
-    /// Writes what a question asks for.
-    fn answer(rt: &HostRuntime, alloc: Global, book: &Book, question: &[u8]) -> bool;
-
-    /// Makes a call, and writes the answer.
-    fn make(rt: &HostRuntime, alloc: Global, book: &mut Book, call: &Call) -> bool;
-}
-
-/// The house of this text. Where no memory is found it is read once more.
-pub fn read_house(rt: &HostRuntime, alloc: Global, text: &[u8]) -> Option<House> {
-    match House::parse(alloc, text) {
-        Ok(house) => Some(house),
-        Err(_) => {
-            tell_refused(rt);
-            House::parse(alloc, text).ok()
-        }
-    }
-}
+use test_days::{first_word, read_call, read_house, shown, tell_refused};
 
 /// The book of a house after its opening calls, for which memory wasn't found before.
 fn opened_again(alloc: Global, house: House) -> Option<Book> {
@@ -56,11 +35,11 @@ fn new_book(rt: &HostRuntime, alloc: Global, text: &str) -> Option<Book> {
     opened(rt, alloc, house)
 }
 
-/// Has the player make the call of a line.
-fn tell_call<P: Player>(rt: &HostRuntime, alloc: Global, book: &mut Book, line: &[u8]) -> bool {
+/// Makes the call of a line.
+fn tell_call(rt: &HostRuntime, alloc: Global, book: &mut Book, line: &[u8]) -> bool {
     match read_call(rt, alloc, line) {
         Ok(Some(call)) => {
-            let made = P::make(rt, alloc, book, &call);
+            let made = make(rt, alloc, book, &call);
             drop(call);
             made
         }
@@ -70,21 +49,21 @@ fn tell_call<P: Player>(rt: &HostRuntime, alloc: Global, book: &mut Book, line: 
 }
 
 /// Writes what a line of a day gives.
-fn tell<P: Player>(rt: &HostRuntime, alloc: Global, book: &mut Book, line: &[u8]) -> bool {
+fn tell(rt: &HostRuntime, alloc: Global, book: &mut Book, line: &[u8]) -> bool {
     let (first, question) = first_word(line);
     if first == b"#".as_slice() {
         return println!(rt; "{}", shown(line)).is_ok();
     }
     if first == b"?".as_slice() {
-        return P::answer(rt, alloc, book, question);
+        return answer(rt, alloc, book, question);
     }
-    tell_call::<P>(rt, alloc, book, line)
+    tell_call(rt, alloc, book, line)
 }
 
 /// Writes what each line of a day gives.
-fn tell_day<P: Player>(rt: &HostRuntime, alloc: Global, book: &mut Book, day: &str) -> bool {
+fn tell_day(rt: &HostRuntime, alloc: Global, book: &mut Book, day: &str) -> bool {
     for line in day.lines() {
-        if !tell::<P>(rt, alloc, book, line.as_bytes()) {
+        if !tell(rt, alloc, book, line.as_bytes()) {
             return false;
         }
     }
@@ -92,10 +71,10 @@ fn tell_day<P: Player>(rt: &HostRuntime, alloc: Global, book: &mut Book, day: &s
 }
 
 /// Plays a day, at a book of its own.
-fn play_day<P: Player>(rt: &HostRuntime, alloc: Global, house: &str, day: &str) -> bool {
+fn play_day(rt: &HostRuntime, alloc: Global, house: &str, day: &str) -> bool {
     match new_book(rt, alloc, house) {
         Some(mut book) => {
-            let told = tell_day::<P>(rt, alloc, &mut book, day);
+            let told = tell_day(rt, alloc, &mut book, day);
             drop(book);
             told
         }
@@ -104,12 +83,12 @@ fn play_day<P: Player>(rt: &HostRuntime, alloc: Global, house: &str, day: &str) 
 }
 
 /// Plays the days of a house.
-fn play_house<P: Player>(rt: &HostRuntime, alloc: Global, text: &str) -> bool {
+fn play_house(rt: &HostRuntime, alloc: Global, text: &str) -> bool {
     let Some((house, days)) = text.split_once("\n--\n") else {
         return println!(rt; "no house").is_ok();
     };
     for day in days.split("\n\n") {
-        if !play_day::<P>(rt, alloc, house, day) {
+        if !play_day(rt, alloc, house, day) {
             return false;
         }
     }
@@ -117,24 +96,11 @@ fn play_house<P: Player>(rt: &HostRuntime, alloc: Global, text: &str) -> bool {
 }
 
 /// Plays the days of an input, and writes what each line gives. `false` where something can't be written, or memory is refused twice.
-pub fn play<P: Player>(rt: &HostRuntime, alloc: Global, input: &[u8]) -> bool {
+pub(crate) fn play(rt: &HostRuntime, alloc: Global, input: &[u8]) -> bool {
     for text in shown(input).split("\n==\n") {
-        if !play_house::<P>(rt, alloc, text) {
+        if !play_house(rt, alloc, text) {
             return false;
         }
     }
     true
-}
-
-/// All of standard input. `None` where it can't be read, or memory is refused twice.
-pub fn read_input(rt: &HostRuntime, alloc: Global) -> Option<Vec<u8>> {
-    let mut input = Vec::new(alloc);
-    // None of what was read is lost where memory is asked for once more.
-    for _again in 0..2 {
-        match rt.reader().read_to_end(&mut input) {
-            Ok(_) => return Some(input),
-            Err(_) => tell_refused(rt),
-        }
-    }
-    None
 }

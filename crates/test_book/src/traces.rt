@@ -1,4 +1,4 @@
-//! A question, and what is told. What writes says whether it could.
+//! Questions of what is told of a day: reports, as lines or in frames, a trace, and totals. What writes says whether it could.
 
 use crate::frames::frames;
 use gu_base::{FirmId, Memory, Number, Report, ReportPart, Target};
@@ -249,9 +249,14 @@ fn show_written(rt: &HostRuntime, alloc: Global, book: &Book) -> bool {
     rt.println("no memory").is_ok()
 }
 
-/// Writes what a question asks for. Whether it could.
-pub(crate) fn answer(rt: &HostRuntime, alloc: Global, book: &Book, question: &[u8]) -> bool {
-    let (what, rest) = first_word(question);
+/// Writes what a question of this first word asks for. Whether it could.
+pub(crate) fn answer(
+    rt: &HostRuntime,
+    alloc: Global,
+    book: &Book,
+    what: &[u8],
+    rest: &[u8],
+) -> bool {
     if what == b"reports".as_slice() {
         return show_reports(rt, alloc, book, rest, false);
     }
