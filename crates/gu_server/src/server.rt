@@ -16,7 +16,7 @@ use std::marker::Brand;
 use std::net::{TcpListener, TcpStream};
 use std::sync::Wait;
 use std::thread;
-use std::thread::{JoinHandle, Scope, Threads};
+use std::thread::{JoinHandle, Threads};
 use std::time::Clock;
 use thiserror::Error;
 
@@ -80,42 +80,7 @@ fn join_all<J: Job, R: Threads>(
     Ok(seats)
 }
 
-/// Starts a worker with this seat, which gets its connections from a channel.
-fn start<'s, E, J: Job + Send + Sync, R: Threads + Wait + Clock + Sync, G: Gate + Sync>(
-    scope: &'s Scope<'s, E>,
-    worker: Worker<'s, J, R, G>,
-    seat: Seat<J>,
-    from: &Receiver<TcpStream>,
-) -> Result<JoinHandle<Seat<J>>, ServeError> {
-    let Ok(streams) = from.clone() else {
-        return Err(ServeError::Memory);
-    };
-    match scope.spawn(move || work(worker, seat, streams)) {
-        Ok(handle) => Ok(handle),
-        Err(_) => Err(ServeError::NoThread),
-    }
-}
-
-/// Starts a worker for each seat, as the first but for its number.
-fn start_all<'s, E, J: Job + Send + Sync, R: Threads + Wait + Clock + Sync, G: Gate + Sync>(
-    scope: &'s Scope<'s, E>,
-    first: &Worker<'s, J, R, G>,
-    seats: Vec<Seat<J>>,
-    from: &Receiver<TcpStream>,
-) -> Result<Vec<JoinHandle<Seat<J>>>, ServeError> {
-    let mut handles = Vec::new(first.alloc);
-    let mut number = 0u32;
-    for seat in seats {
-        let handle = start(scope, first.numbered(number), seat, from)?;
-        if handles.push(handle).is_err() {
-            return Err(ServeError::Memory);
-        }
-        number = number.wrapping_add(1);
-    }
-    Ok(handles)
-}
-
-/// Starts a worker for each seat, accepts the connections, and joins the workers. Gives the seats back.
+/// Starts a worker for each seat, as this one but for its number, accepts the connections, and joins the workers. Gives the seats back.
 fn run_workers<J: Job + Send + Sync, R: Threads + Wait + Clock + Sync, G: Gate + Sync>(
     first: Worker<'_, J, R, G>,
     listener: &TcpListener,
@@ -127,7 +92,21 @@ fn run_workers<J: Job + Send + Sync, R: Threads + Wait + Clock + Sync, G: Gate +
     };
     // Whatever ends the scope, the channel is closed then, and the workers end with their connections.
     thread::scope(thread::scope_env(), first.rt, move |scope| {
-        let handles = start_all(scope, &first, seats, &from)?;
+        let mut handles: Vec<JoinHandle<Seat<J>>> = Vec::new(first.alloc);
+        let mut number = 0u32;
+        for seat in seats {
+            let Ok(streams) = from.clone() else {
+                return Err(ServeError::Memory);
+            };
+            let worker = first.numbered(number);
+            let Ok(handle) = scope.spawn(move || work(worker, seat, streams)) else {
+                return Err(ServeError::NoThread);
+            };
+            if handles.push(handle).is_err() {
+                return Err(ServeError::Memory);
+            }
+            number = number.wrapping_add(1);
+        }
         accept_all(first.rt, listener, &to, connections)?;
         drop(to);
         join_all(first.rt, first.alloc, handles)
