@@ -15,7 +15,7 @@
 //! - `Desk::close` gives the book back against all seats: its history is as long as the opening one and the sum of the shares, and begins with
 //!   what each seat has seen.
 //! - `Desk::call` and `Desk::read_reports` may wait for the lock; nothing else here waits.
-//! - Its cases stand in the program `test_desk`.
+//! - Its cases stand in the program `test_book`.
 #![tactic(auto)]
 
 mod count;

@@ -1,9 +1,10 @@
 //! A call, and that a book which lacks memory tells what it told before.
 
+use crate::lines::{Call, show_answer};
+use crate::memory::tell_refused;
 use crate::picture::{Picture, take_picture};
 use gu_book::Book;
 use std::alloc::Global;
-use test_days::{Call, show_answer, tell_refused};
 
 /// Whether the book tells this. `None` where no memory is found to look.
 fn tells(rt: &HostRuntime, alloc: Global, book: &Book, before: &Picture) -> Option<bool> {

@@ -1,11 +1,22 @@
 //! Whole days, line by line.
 
 use crate::calls::make;
+use crate::desk;
+use crate::input::read_house;
+use crate::lines::read_call;
+use crate::memory::tell_refused;
 use crate::questions::answer;
+use crate::words::{first_word, shown};
 use gu_book::Book;
 use gu_parties::House;
 use std::alloc::Global;
-use test_days::{first_word, read_call, read_house, shown, tell_refused};
+use std::io::Eprint;
+use std::sync::Wait;
+use std::thread::Threads;
+use std::time::Clock;
+
+/// The day whose calls two workers make at desks.
+const DESK: &str = "desk";
 
 /// The book of a house after its opening calls, for which memory wasn't found before.
 fn opened_again(alloc: Global, house: House) -> Option<Book> {
@@ -70,8 +81,17 @@ fn tell_day(rt: &HostRuntime, alloc: Global, book: &mut Book, day: &str) -> bool
     true
 }
 
-/// Plays a day, at a book of its own.
-fn play_day(rt: &HostRuntime, alloc: Global, house: &str, day: &str) -> bool {
+/// Plays a day, at a book of its own, or the two cases of a desk.
+fn play_day<H: Threads + Wait + Clock + Eprint + Sync>(
+    rt: &HostRuntime,
+    handle: &H,
+    alloc: Global,
+    house: &str,
+    day: &str,
+) -> bool {
+    if day.trim_end() == DESK {
+        return desk::tell(rt, handle, alloc, house.as_bytes());
+    }
     match new_book(rt, alloc, house) {
         Some(mut book) => {
             let told = tell_day(rt, alloc, &mut book, day);
@@ -83,12 +103,17 @@ fn play_day(rt: &HostRuntime, alloc: Global, house: &str, day: &str) -> bool {
 }
 
 /// Plays the days of a house.
-fn play_house(rt: &HostRuntime, alloc: Global, text: &str) -> bool {
+fn play_house<H: Threads + Wait + Clock + Eprint + Sync>(
+    rt: &HostRuntime,
+    handle: &H,
+    alloc: Global,
+    text: &str,
+) -> bool {
     let Some((house, days)) = text.split_once("\n--\n") else {
         return println!(rt; "no house").is_ok();
     };
     for day in days.split("\n\n") {
-        if !play_day(rt, alloc, house, day) {
+        if !play_day(rt, handle, alloc, house, day) {
             return false;
         }
     }
@@ -96,9 +121,14 @@ fn play_house(rt: &HostRuntime, alloc: Global, text: &str) -> bool {
 }
 
 /// Plays the days of an input, and writes what each line gives. `false` where something can't be written, or memory is refused twice.
-pub(crate) fn play(rt: &HostRuntime, alloc: Global, input: &[u8]) -> bool {
+pub(crate) fn play<H: Threads + Wait + Clock + Eprint + Sync>(
+    rt: &HostRuntime,
+    handle: &H,
+    alloc: Global,
+    input: &[u8],
+) -> bool {
     for text in shown(input).split("\n==\n") {
-        if !play_house(rt, alloc, text) {
+        if !play_house(rt, handle, alloc, text) {
             return false;
         }
     }

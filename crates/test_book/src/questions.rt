@@ -1,12 +1,13 @@
 //! A question, and what the book tells. What writes says whether it could.
 
+use crate::memory::tell_refused;
 use crate::traces;
+use crate::words::{first_word, number_of};
 use gu_base::{AccountId, FirmId, InstrumentId, Memory, Number, Pair, Place};
 use gu_book::Book;
 use gu_book::laws::{Told, live_changes_alone};
 use gu_tree::Row;
 use std::alloc::Global;
-use test_days::{first_word, number_of, tell_refused};
 
 fn show_position(rt: &HostRuntime, book: &Book, words: &[u8]) -> bool {
     let (firm, rest) = first_word(words);

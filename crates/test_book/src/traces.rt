@@ -1,13 +1,14 @@
 //! Questions of what is told of a day: reports, as lines or in frames, a trace, and totals. What writes says whether it could.
 
 use crate::frames::frames;
+use crate::memory::tell_refused;
+use crate::words::{count_of, first_word, number_of, shown};
 use gu_base::{FirmId, Memory, Number, Report, ReportPart, Target};
 use gu_batch::{Counted, write_totals};
 use gu_book::Book;
 use gu_trace::{TraceError, reports, totals, trace};
 use jiff::Timestamp;
 use std::alloc::Global;
-use test_days::{count_of, first_word, number_of, shown, tell_refused};
 
 /// What stands in `out` before a text is asked for.
 const BEFORE: &[u8] = b"before";

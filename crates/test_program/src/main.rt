@@ -2,11 +2,12 @@
 //! behind them servers and their clients. Input and output are data: the files `stdin` and `stdout` beside `src/`; `data/` has the
 //! house files and streams.
 //!
-//! A line of standard input that begins with `row ` is a worked row (`rows.rt`). Any other is `STREAM;HOW;WORDS`: a file of `data/`, how it is read and written, and the words of the command line.
-//! HOW is `plain`, `failing reader` (it fails behind the stream's last byte) or `full writer` (it takes no byte). Of each line the
-//! program writes how the run ended, with its status and the first line of its text, and whether what it wrote is what the file of the
-//! stream's name with `.out` for `.fix` holds; of a trace, what it wrote. Then it writes the text of each error, and what the clients of servers were told
-//! (`servers.rt`). It ends with the status of the last line's run.
+//! A line of standard input that begins with `row ` is a worked row (`rows.rt`). Any other is `STREAM;HOW;WORDS`: a file of
+//! `data/`, how it is read and written, and the words of the command line. HOW is `plain`, `failing reader` (it fails behind the
+//! stream's last byte) or `full writer` (it takes no byte). Of each line the program writes how the run ended, with its status and
+//! the first line of its text, and whether what it wrote is what the file of the stream's name with `.out` for `.fix` holds; of a
+//! trace, what it wrote. Then it writes the text of each error, and what the clients of servers were told (`servers.rt`). It ends
+//! with the status of the last line's run.
 #![tactic(auto)]
 
 mod lines;

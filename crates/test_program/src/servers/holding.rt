@@ -1,5 +1,4 @@
-//! A gate that holds the first call until it is released. `test_desk` has one of its own: a program gives no module to another, and their library
-//! `test_days` stands below the desk.
+//! A gate that holds the first call until it is released. `test_book` has one of its own: a program gives nothing to another.
 
 use gu_desk::Gate;
 use std::alloc::Global;

@@ -2,9 +2,10 @@
 
 ghost use Rattle.std.specs.Prelude.{◌≡◌, ◌+◌};
 
-use crate::beside::side_by_side;
-use crate::closing::{Closed, close};
-use crate::working::{Tasks, Told, Work, read};
+use crate::desk::beside::side_by_side;
+use crate::desk::closing::{Closed, close};
+use crate::desk::working::{Tasks, Told, Work, read};
+use crate::memory::tell_refused;
 use gu_book::Book;
 use gu_desk::{Desk, Ground, Job, Seat};
 use std::alloc::Global;
@@ -13,7 +14,6 @@ use std::marker::Brand;
 use std::sync::Wait;
 use std::thread::Threads;
 use std::time::Clock;
-use test_days::tell_refused;
 
 /// What the two workers were answered and told, what the first was told in the end, and what the close brought.
 #[derive(Drop)]

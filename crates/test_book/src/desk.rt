@@ -1,4 +1,4 @@
-//! A desk with two seats in two threads. The house file is standard input; the file `stdout` beside `src/` has what must be printed.
+//! A desk with two seats in two threads.
 //!
 //! The book opens with two trades of the house, 100 lots for AAA and 10 for CCC. AAA's worker asks the gate, which holds it. Meanwhile
 //! CCC's worker splits CCC's trade and gets entry 3, so nobody waits for the held worker. Then the gate lets AAA's worker go on: its split
@@ -7,9 +7,7 @@
 //! Then a desk over another book, of one trade of 100 lots for AAA. AAA's worker splits it, gives 40 lots to BBB, and tells the other worker, whose
 //! seat then claims them for BBB. Each reads its firm's reports with the seat that came back: AAA's begin with 1 and 2, and BBB's are 2 and 3,
 //! since a seat that comes back has seen what was accepted before. AAA reads again after the joins, and the desk is closed.
-//! What finds no memory is asked for once more, and standard error tells of it: a ground and a desk give the book back, a call and a
-//! reading the seat. So one refused growth changes nothing of what is written on standard output.
-#![tactic(auto)]
+//! What finds no memory is asked for once more: a ground and a desk give the book back, a call and a reading the seat.
 
 mod beside;
 mod cases;
@@ -21,24 +19,23 @@ mod working;
 
 use cases::{HELD, TOLD, played};
 use std::alloc::Global;
-use std::process::ExitCode;
+use std::io::Eprint;
+use std::sync::Wait;
+use std::thread::Threads;
+use std::time::Clock;
 use telling::{tell_held, tell_told};
-use test_days::read_input;
 
-fn main(rt: HostRuntime) -> ExitCode {
-    let alloc = rt.alloc();
-    let Some(house) = read_input(&rt, alloc) else {
-        return ExitCode::from(1);
-    };
-    let held = played(&rt, &rt, alloc, house.as_slice(), &HELD);
-    let told = played(&rt, &rt, alloc, house.as_slice(), &TOLD);
-    let is_told = tell_held(&rt, &held) && tell_told(&rt, &told);
+/// Plays both cases over books of this house, by a handle that may start threads and wait. Whether all could be written.
+pub(crate) fn tell<H: Threads + Wait + Clock + Eprint + Sync>(
+    rt: &HostRuntime,
+    handle: &H,
+    alloc: Global,
+    house: &[u8],
+) -> bool {
+    let held = played(rt, handle, alloc, house, &HELD);
+    let told = played(rt, handle, alloc, house, &TOLD);
+    let is_told = tell_held(rt, &held) && tell_told(rt, &told);
     drop(held);
     drop(told);
-    drop(house);
-    if is_told {
-        ExitCode::SUCCESS
-    } else {
-        ExitCode::from(1)
-    }
+    is_told
 }

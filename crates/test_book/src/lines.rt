@@ -10,10 +10,10 @@ use std::alloc::Global;
 
 /// A call at a book.
 #[derive(Drop)]
-pub struct Call {
-    pub by: FirmId,
-    pub id: AllocId,
-    pub command: Command,
+pub(crate) struct Call {
+    pub(crate) by: FirmId,
+    pub(crate) id: AllocId,
+    pub(crate) command: Command,
 }
 
 fn side_of(word: &[u8]) -> Side {
@@ -201,7 +201,11 @@ fn call_of(alloc: Global, line: &[u8]) -> Result<Option<Call>, Memory> {
 /// # Errors
 ///
 /// Where memory is refused twice.
-pub fn read_call(rt: &HostRuntime, alloc: Global, line: &[u8]) -> Result<Option<Call>, Memory> {
+pub(crate) fn read_call(
+    rt: &HostRuntime,
+    alloc: Global,
+    line: &[u8],
+) -> Result<Option<Call>, Memory> {
     match call_of(alloc, line) {
         Ok(call) => Ok(call),
         Err(_) => {
@@ -223,7 +227,7 @@ fn show_refusal(rt: &HostRuntime, refusal: Refusal) -> bool {
 }
 
 /// Writes what the book answered. Whether it could be written.
-pub fn show_answer(rt: &HostRuntime, answer: &Answer) -> bool {
+pub(crate) fn show_answer(rt: &HostRuntime, answer: &Answer) -> bool {
     match *answer {
         Answer::Accepted { number, status } => show_entry(rt, number, status),
         Answer::Repeated { number, status } => {

@@ -1,5 +1,5 @@
 use Rattle.std.proofs.Common.{◌+◌}
-use Rattle.test_desk.proofs.running.attempt.Given as goal
+use Rattle.test_book.proofs.desk.running.attempt.Given as goal
 
 -- the ground's own book, table and name
 abbrev pub ghosts-run-J-Job : goal.ghosts-run-J-Job

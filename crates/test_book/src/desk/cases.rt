@@ -1,7 +1,10 @@
 //! The two cases, and how each is played.
 
-use crate::running::{Outcome, outcome_of};
-use crate::working::{Duty, Task, Tasks};
+use crate::desk::running::{Outcome, outcome_of};
+use crate::desk::working::{Duty, Task, Tasks};
+use crate::input::read_house;
+use crate::lines::{Call, read_call};
+use crate::memory::tell_refused;
 use gu_base::Answer;
 use gu_book::Book;
 use std::alloc::Global;
@@ -9,7 +12,6 @@ use std::io::Eprint;
 use std::sync::Wait;
 use std::thread::Threads;
 use std::time::Clock;
-use test_days::{Call, read_call, read_house, tell_refused};
 
 /// A case, its calls as lines of a day: the trades of the house, and what each of two workers calls and does beside the other.
 pub(crate) struct Case<'a> {

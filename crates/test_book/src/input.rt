@@ -6,7 +6,7 @@ use std::alloc::Global;
 use std::io::Read;
 
 /// The house of this text. Where no memory is found it is read once more.
-pub fn read_house(rt: &HostRuntime, alloc: Global, text: &[u8]) -> Option<House> {
+pub(crate) fn read_house(rt: &HostRuntime, alloc: Global, text: &[u8]) -> Option<House> {
     match House::parse(alloc, text) {
         Ok(house) => Some(house),
         Err(_) => {
@@ -17,7 +17,7 @@ pub fn read_house(rt: &HostRuntime, alloc: Global, text: &[u8]) -> Option<House>
 }
 
 /// All of standard input. `None` where it can't be read, or memory is refused twice.
-pub fn read_input(rt: &HostRuntime, alloc: Global) -> Option<Vec<u8>> {
+pub(crate) fn read_input(rt: &HostRuntime, alloc: Global) -> Option<Vec<u8>> {
     let mut input = Vec::new(alloc);
     // None of what was read is lost where memory is asked for once more.
     for _again in 0..2 {

@@ -1,13 +1,14 @@
 //! What the two workers do.
 
-use crate::holding::{Holds, Turns};
+use crate::desk::holding::{Holds, Turns};
+use crate::lines::Call;
+use crate::memory::tell_refused;
 use gu_base::{Answer, FirmId, Memory, Report};
 use gu_desk::{Desk, Gate, Job, Seat};
 use std::alloc::Global;
 use std::io::Eprint;
 use std::sync::{Mutex, Wait};
 use std::time::Clock;
-use test_days::{Call, tell_refused};
 
 /// What a worker does beside the other.
 #[derive(Clone, Copy, PartialEq)]

@@ -1,7 +1,8 @@
 //! Two workers side by side.
 
-use crate::holding::Turns;
-use crate::working::{Tasks, Work, attend};
+use crate::desk::holding::Turns;
+use crate::desk::working::{Tasks, Work, attend};
+use crate::memory::tell_refused;
 use gu_desk::{Desk, Job, Seat};
 use std::alloc::Global;
 use std::io::Eprint;
@@ -9,7 +10,6 @@ use std::sync::{Mutex, Wait};
 use std::thread;
 use std::thread::Threads;
 use std::time::Clock;
-use test_days::tell_refused;
 
 /// The first worker in a thread of its own, and the second beside it. A thread that isn't had is asked for once more, since one after the other
 /// they would wait for each other. None where it isn't had then.

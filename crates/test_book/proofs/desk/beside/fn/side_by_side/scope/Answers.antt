@@ -4,12 +4,12 @@ use denote.Param.Send.{IsSend, IsSync, param_send, sendable}
 use Rattle.std.proofs.Crossing.{crosses, send as heap_send}
 use Rattle.std.specs.contracts.sync.Mutex as Mutex
 use Rattle.gu_desk.proofs.Crossing.{desk_sync, seat_send}
-use Rattle.test_desk.specs.contracts.holding.Turns as Turns
-use Rattle.test_desk.proofs.holding.Turns.TheSendSync as turns
-use Rattle.test_desk.proofs.working.Task.TheSendSync as task
-use Rattle.test_desk.proofs.beside.fn.side_by_side.scope.Given.{Over}
-use Rattle.test_desk.proofs.beside.fn.side_by_side.scope.Lts.{arg-0-1}
-use Rattle.test_desk.proofs.beside.fn.side_by_side.scope.Goals as goal
+use Rattle.test_book.specs.contracts.desk.holding.Turns as Turns
+use Rattle.test_book.proofs.desk.holding.Turns.TheSendSync as turns
+use Rattle.test_book.proofs.desk.working.Task.TheSendSync as task
+use Rattle.test_book.proofs.desk.beside.fn.side_by_side.scope.Given.{Over}
+use Rattle.test_book.proofs.desk.beside.fn.side_by_side.scope.Lts.{arg-0-1}
+use Rattle.test_book.proofs.desk.beside.fn.side_by_side.scope.Goals as goal
 
 -- The first worker may go to another thread, since each thing that it takes along may: in their order the runtime, the allocator, the desk, its seat, what the gate
 -- counts, and its task. Written by hand, as `search` doesn't find a row behind a type that is an argument.

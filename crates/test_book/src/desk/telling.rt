@@ -1,8 +1,8 @@
 //! What is written of each case. What writes says whether it could.
 
-use crate::closing::Closed;
-use crate::running::Outcome;
-use crate::working::Told;
+use crate::desk::closing::Closed;
+use crate::desk::running::Outcome;
+use crate::desk::working::Told;
 use gu_base::Answer;
 
 /// Writes numbers, and ends the line.
