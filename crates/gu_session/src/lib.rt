@@ -7,7 +7,7 @@
 //! - Laws hold for every list of steps (`specs/Runs.antt`): numbers without gaps, calls that rise and are awaited, silence before the Logon and
 //!   after the close, and resends that cover their span once with what was sent.
 //! - No growth depends on a number that a peer names.
-//! Its cases are data of the program `test_session`.
+//! Its cases are data of the program `test_messages`.
 #![tactic(auto)]
 
 mod event;

@@ -5,23 +5,15 @@
 //! means; of a call also the body that acknowledges it as entry 3, and the body that refuses it; of a message that fails a
 //! check the firm that its Reject goes to, and the body. An empty line is copied.
 
+use crate::bodies::{append_texts, append_with, framed};
 use gu_base::{AllocId, Answer, Command, FirmId, NodeName, Number, Parts, Refusal, State};
 use gu_codec::{Fields, Frame, read_frame};
 use gu_message::{Inbound, MeaningError, Reject, ack, meaning, reject, reject_target, trade_ack};
 use std::alloc::{AllocError, Global};
 use std::fmt::Display;
-use test_bodies::{append_with, framed};
 
 /// The header of a message of AAA behind its type.
 const HEADER: &str = "|49=AAA|56=HSE|34=7|52=20260302-09:00:01|";
-
-/// Appends texts with SOH for `|`.
-fn append_texts(body: &mut Vec<u8>, texts: &[&str]) -> Result<(), AllocError> {
-    for text in texts {
-        append_with(body, text.as_bytes(), b'|', 1)?;
-    }
-    Ok(())
-}
 
 /// Appends the body that a line stands for.
 fn append_body(body: &mut Vec<u8>, line: &str) -> Result<(), AllocError> {

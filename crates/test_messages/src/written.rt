@@ -1,9 +1,9 @@
 //! Frames that are written: one behind the other, and one that is sent again.
 
+use crate::bodies::append_with;
 use gu_base::FirmId;
 use gu_codec::{Header, write_frame};
 use std::alloc::Global;
-use test_bodies::append_with;
 
 /// A time of 21 bytes.
 const SENT: &[u8] = b"19700101-00:00:00.000";

@@ -1,19 +1,19 @@
 //! Writing what a session asks for.
 
+use crate::bodies::append_with;
 use gu_base::Command;
 use gu_codec::{Frame, read_frame, tags};
 use gu_session::{Actions, Session};
 use std::alloc::{AllocError, Global};
 use std::io::Eprint;
-use test_bodies::append_with;
 
 /// Says on standard error that a growth was refused and is asked for once more.
-pub fn tell_refused(rt: &impl Eprint) {
+pub(crate) fn tell_refused(rt: &impl Eprint) {
     let _ = rt.eprintln("refused, asked again");
 }
 
 /// The digits of a number. Where memory lacks, they are asked for once more.
-pub fn digits(rt: &impl Eprint, alloc: Global, number: u32) -> Result<String, AllocError> {
+pub(crate) fn digits(rt: &impl Eprint, alloc: Global, number: u32) -> Result<String, AllocError> {
     match number.to_string(alloc) {
         Ok(digits) => Ok(digits),
         Err(_) => {
@@ -94,7 +94,7 @@ fn show_if(rt: &impl Print, holds: bool, word: &str) -> bool {
 }
 
 /// Writes what a session asks for, and how it stands.
-pub fn show(
+pub(crate) fn show(
     rt: &(impl Print + Eprint),
     alloc: Global,
     session: &Session<'_>,
@@ -108,7 +108,7 @@ pub fn show(
 }
 
 /// Whether some bytes begin with an acknowledgement of this number.
-pub fn shows_answer(bytes: &[u8], number: &str) -> bool {
+pub(crate) fn shows_answer(bytes: &[u8], number: &str) -> bool {
     let mut kind = false;
     let mut numbered = false;
     if let Frame::Whole { fields, .. } = read_frame(bytes) {

@@ -1,4 +1,4 @@
-//! Sessions, event by event. Input and output are data: the files `stdin` and `stdout` beside `src/`.
+//! Sessions, event by event.
 //!
 //! A line that begins with `=` opens a new session, and is its title. Any other line is an event: the milliseconds since 09:00:00 on 2 March
 //! 2026, and then
@@ -7,10 +7,8 @@
 //! - `tick`, `end`;
 //! - `reply accepted N`, `reply refused`, `reply none`, each perhaps followed by `with K`: a Reply, with K reports;
 //! - `call N`: a message of a call with this number; `calls A B`: one for each number from A to B, with its answer.
-//! The program writes each line again, and behind an event what the session asks for: the fields of each frame that goes out behind `>`, the
+//! Each line is written again, and behind an event what the session asks for: the fields of each frame that goes out behind `>`, the
 //! call, `close`; and then `awaiting` where a call waits, `closed` where the session is closed. An empty line is copied.
-#![tactic(auto)]
-
 ghost use Rattle.std.specs.Prelude.{IfOk, IfSome};
 ghost use Rattle.std.specs.List.{All};
 ghost use Rattle.gu_message.specs.AllocationReport.{ShowsFewParts};
@@ -18,6 +16,7 @@ ghost use Rattle.gu_session.specs.Text.{ShowFewParts};
 
 mod showing;
 
+use crate::bodies::{append_texts, framed};
 use gu_base::{
     Answer, InstrumentId, NodeName, Number, Refusal, Report, ReportParts, Side, State, Target,
 };
@@ -25,11 +24,10 @@ use gu_codec::{Frame, read_frame};
 use gu_parties::House;
 use gu_session::{Actions, Event, Session, is_moment};
 use jiff::Timestamp;
-use showing::{digits, show, shows_answer, tell_refused};
+pub(crate) use showing::tell_refused;
+use showing::{digits, show, shows_answer};
 use std::alloc::{AllocError, Global};
-use std::io;
-use std::io::{Eprint, ErrorKind, Read};
-use test_bodies::{append_with, framed};
+use std::io::Eprint;
 
 /// 09:00:00 on 2 March 2026, in milliseconds since 1970.
 const START: i64 = 1_772_442_000_000;
@@ -58,24 +56,16 @@ fn number(word: &str) -> u32 {
     word.parse().unwrap_or(0)
 }
 
-/// Appends texts with SOH for `|`.
-fn append(out: &mut Vec<u8>, texts: &[&str]) -> Result<(), AllocError> {
-    for text in texts {
-        append_with(out, text.as_bytes(), b'|', 1)?;
-    }
-    Ok(())
-}
-
 /// Appends the body of the message that an event is: `<` and its words, `call` and its number, or `<<` and its body.
 fn append_body(out: &mut Vec<u8>, what: &str, rest: &str) -> Result<(), AllocError> {
     if what == "<" {
         let (kind, rest) = word(rest);
         let (number, rest) = word(rest);
-        append(out, &["35=", kind, PARTIES, number, TIME, rest])
+        append_texts(out, &["35=", kind, PARTIES, number, TIME, rest])
     } else if what == "call" {
-        append(out, &["35=J", PARTIES, rest, TIME, SPLIT])
+        append_texts(out, &["35=J", PARTIES, rest, TIME, SPLIT])
     } else {
-        append(out, &[rest])
+        append_texts(out, &[rest])
     }
 }
 
@@ -358,28 +348,10 @@ fn house(rt: &impl Eprint, alloc: Global) -> Option<House> {
     }
 }
 
-/// Plays the lines of the input at the house of the cases. Whether all went well.
-fn play_all(rt: &(impl Print + Eprint), alloc: Global, input: &[u8]) -> bool {
-    let Ok(input) = str::from_utf8(input) else {
-        return false;
-    };
+/// Plays lines at the house of the cases. Whether all went well.
+pub(crate) fn play_all(rt: &(impl Print + Eprint), alloc: Global, lines: &str) -> bool {
     match house(rt, alloc) {
-        Some(house) => play(rt, alloc, &house, input),
+        Some(house) => play(rt, alloc, &house, lines),
         None => false,
-    }
-}
-
-fn main(rt: HostRuntime) -> io::Result<()> {
-    let alloc = rt.alloc();
-    let mut input = Vec::new(alloc);
-    if rt.reader().read_to_end(&mut input).is_err() {
-        // None of what was read is lost.
-        tell_refused(&rt);
-        rt.reader().read_to_end(&mut input)?;
-    }
-    if play_all(&rt, alloc, input.as_slice()) {
-        Ok(())
-    } else {
-        Err(io::Error::from(ErrorKind::InvalidData))
     }
 }

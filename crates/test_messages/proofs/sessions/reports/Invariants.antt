@@ -1,6 +1,6 @@
 use Rattle.std.specs.List.{All}
 use Rattle.gu_message.specs.AllocationReport.{ShowsFewParts}
-use Rattle.test_session.proofs.reports.Given as goal
+use Rattle.test_messages.proofs.sessions.reports.Given as goal
 
 -- so far each shows few parts
 abbrev pub invariant-reports : goal.invariant-reports
