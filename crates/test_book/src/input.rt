@@ -1,4 +1,4 @@
-//! What a program is given: a house file, or all of standard input.
+//! What the program is given: a house file, or all of standard input.
 
 use crate::memory::tell_refused;
 use gu_parties::House;
