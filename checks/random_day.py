@@ -116,7 +116,7 @@ class Day:
             lots = left if len(parts) == 5 else self.rng.randint(1, left)
             parts.append(part(lots, self.rng.choice(ACCOUNTS), self.rng.choice(FIRMS) if self.rng.random() < 0.6 else None))
             left -= lots
-        owner = place(node)[0] if self.rng.random() < 0.95 else self.rng.choice(FIRMS)
+        owner = node.place()[0] if self.rng.random() < 0.95 else self.rng.choice(FIRMS)
         self.ask("J", owner, split(self.id(), node.name, parts if self.rng.random() < 0.97 else parts[:-1]))
 
     def decide(self):
@@ -169,11 +169,6 @@ class Day:
             self.send(message("J", firm, name, 1, ["70=x"])[:-4] + b"999\x01", is_answered=False)
 
 
-def place(node):
-    """Firm and account where a node stands."""
-    return node.place(place(node.parent) if node.parent else None)
-
-
 def random_day(program, house, seed, trades):
     """A day with this many accepted trades; its house file is written to the path `house`."""
     day = Day(program, house, seed)
@@ -190,3 +185,53 @@ def large_day(entries):
         yield message("AE", "HSE", "HSE", number, trade(id, "AAA", "A1", "ESZ6", "12"[number % 2], 100))
         yield message("J", "AAA", "HSE", number, split(id, f"{number}.0", [part(60, "A2"), part(40, "X", "BBB")]))
         yield message("J", "BBB", "HSE", number, [f"70={id}", "71=0", "626=18", f"72={number + 1}.2", "78=1", "79=B1"])
+
+
+# Firms of a chain of give-ups, each with names that nobody else has: its account, its ids, and what it deals in.
+CHAIN = ("ALPHA", "BRAVO", "CHARLIE", "DELTA", "ECHO")
+
+
+def chain_house():
+    """A house in which each firm of the chain may give up to the next."""
+    lines = ["GIVEUP 2", "HOUSE HSE"] + [f"FIRM {firm}" for firm in CHAIN] + ["INSTRUMENT ESZ6"]
+    lines += [f"ACCOUNT {firm} {firm.lower()}-acct" for firm in CHAIN]
+    lines += [f"AGREEMENT {giver} {taker} {100 + i} 1000000" for i, (giver, taker) in enumerate(zip(CHAIN, CHAIN[1:]))]
+    return "\n".join(lines) + "\n"
+
+
+def chain_day():
+    """The journal of a day over such a house. ALPHA's 10007 lots go down the chain to DELTA, who offers some of them to
+    ALPHA. A second trade goes to BRAVO, who offers it to ECHO, and both that split and BRAVO's claim are undone."""
+    own = {firm: f"{firm.lower()}-acct" for firm in CHAIN}
+    frames = []
+
+    def id(firm):
+        return f"{firm.lower()}-id-{len(frames)}"
+
+    def ask(firm, kind, *rest):
+        frames.append(message(kind, firm, "HSE", len(frames) + 1, rest))
+
+    def give(firm, node, kept, given, to):
+        ask(firm, "J", *split(id(firm), node, [part(kept, own[firm])] * (kept > 0) + [part(given, "X", to)]))
+
+    def instruct(firm, trans, kind, names, *rest):
+        ask(firm, "J", f"70={id(firm)}", f"71={trans}", f"626={kind}", f"72={names}", *rest)
+
+    def claim(firm, node):
+        instruct(firm, 0, 18, node, "78=1", f"79={own[firm]}")
+
+    ask("HSE", "AE", *trade("trade-id-1", "ALPHA", own["ALPHA"], "ESZ6", 1, 10007))  # 5
+    give("ALPHA", "5.0", 3001, 7006, "BRAVO")  # 6
+    claim("BRAVO", "6.2")  # 7
+    give("BRAVO", "6.2", 2003, 5003, "CHARLIE")  # 8
+    claim("CHARLIE", "8.2")  # 9
+    give("CHARLIE", "8.2", 1009, 3994, "DELTA")  # 10
+    claim("DELTA", "10.2")  # 11
+    give("DELTA", "10.2", 2997, 997, "ALPHA")  # 12
+    ask("HSE", "AE", *trade("trade-id-2", "ALPHA", own["ALPHA"], "ESZ6", 2, 4001))  # 13
+    give("ALPHA", "13.0", 0, 4001, "BRAVO")  # 14
+    claim("BRAVO", "14.1")  # 15
+    give("BRAVO", "14.1", 2, 3999, "ECHO")  # 16
+    for firm, code, entry in (("BRAVO", 20, 16), ("BRAVO", 21, 16), ("BRAVO", 20, 15), ("ALPHA", 20, 15), ("BRAVO", 21, 15)):
+        instruct(firm, 6, code, entry)  # 17 to 21
+    return frames

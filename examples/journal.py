@@ -1,47 +1,89 @@
 """The accepted commands of a day, read from its journal: what examples/book.py stands on.
 
 A journal is a stream of FIX frames with accepted commands alone, in their order, so its n-th command is entry n, counted
-behind the agreements of a house file of version 2. A day's input may hold refused commands too: it is read beside the
-answers that `allocd batch` gave to it, and what they accepted is its journal.
+after the agreements of a house file of version 2. It may end with a line feed; what follows that is the rest of a group
+that wasn't finished. A day's input may hold refused commands too: it is read beside the answers that `allocd batch` gave
+to it, and what they accepted is its journal.
 """
 import re
-import sys
-from dataclasses import dataclass
+
+from tool import Fault, called, content, say
 
 BEGINNING = b"8=FIXT.1.1\x019="
 OPENING = re.compile(rb"8=FIXT\.1\.1\x019=(\d{1,6})\x01")
 TORN_LENGTH = re.compile(rb"8=FIXT\.1\.1\x019=\d{1,6}")
 TRAILER = re.compile(rb"10=(\d{3})\x01")
 BODY = re.compile(rb"35=[^\x01]+\x01(?:[1-9]\d{0,8}=[^\x01]+\x01)*")
+LINE_FEED = 10
 OF_SESSION = {"0", "1", "2", "3", "4", "5", "A"}
 KINDS = {"017": "split", "023": "split", "018": "claim", "019": "refuse", "217": "cancel", "223": "cancel",
          "090": "agree", "091": "raise", "620": "initiate", "621": "reverse", "622": "decline"}
 
 
-class NoJournal(Exception):
+class NoJournal(Fault):
     """What was read isn't the journal of a day of this house."""
 
 
-def frames(stream):
-    """The fields of each frame. A garbled one is passed over; a last one that is torn is left out, and NULs behind it."""
-    stream, at = stream.rstrip(b"\0"), 0
-    while at < len(stream):
-        opening = OPENING.match(stream, at)
-        if not opening:
-            rest = stream[at : at + 32]
-            if BEGINNING.startswith(rest) or TORN_LENGTH.fullmatch(rest):
-                return
-            raise NoJournal(f"no frame begins at byte {at}")
-        end = opening.end() + int(opening[1])
-        trailer = TRAILER.match(stream, end)
-        if not trailer:
-            if end + 7 > len(stream):
-                return
-            raise NoJournal(f"the frame at byte {at} isn't as long as it says")
-        if sum(stream[at:end]) % 256 == int(trailer[1]) and BODY.fullmatch(stream, opening.end(), end):
-            body = stream[opening.end() : end - 1].decode("latin-1")
-            yield [tuple(pair.split("=", 1)) for pair in body.split("\x01")]
-        at = trailer.end()
+class Stream:
+    """The frames of a file, each as its fields. What is passed over is kept in mind, for `tell`: garbled frames, a last
+    frame that isn't whole, and what stands after the line feed at the end."""
+
+    def __init__(self, name, data):
+        self.name, self.data = name, data
+        self.garbled, self.first, self.left_out = 0, 0, ""
+
+    @classmethod
+    def of(cls, path):
+        return cls(called(path), content(path))
+
+    def __iter__(self):
+        data, at = self.data.rstrip(b"\0"), 0
+        while at < len(data):
+            opening = OPENING.match(data, at)
+            if not opening:
+                return self.end(data, at)
+            end = opening.end() + int(opening[1])
+            trailer = TRAILER.match(data, end)
+            if not trailer:
+                return self.torn(data, at, end)
+            if sum(data[at:end]) % 256 == int(trailer[1]) and BODY.fullmatch(data, opening.end(), end):
+                body = data[opening.end() : end - 1].decode("latin-1")
+                yield [tuple(pair.split("=", 1)) for pair in body.split("\x01")]
+            else:
+                self.first = self.first if self.garbled else at
+                self.garbled += 1
+            at = trailer.end()
+
+    def end(self, data, at):
+        """Sees that where no frame begins a file may end: at a line feed, or within the beginning of a frame."""
+        rest = data[at : at + 32]
+        if rest[0] == LINE_FEED and not OPENING.match(data, at + 1):
+            after = len(data) - at - 1
+            self.left_out = f"{after} bytes after the line feed at byte {at} are left out" if after else ""
+        elif BEGINNING.startswith(rest) or TORN_LENGTH.fullmatch(rest):
+            self.torn(data, at, len(data))
+        else:
+            raise NoJournal(f"{self.name}: no frame begins at byte {at}")
+
+    def torn(self, data, at, end):
+        """Sees that a frame which isn't whole is so since the file ends."""
+        if end + 7 <= len(data):
+            raise NoJournal(f"{self.name}: the frame at byte {at} isn't as long as it says")
+        self.left_out = f"the last frame, at byte {at}, isn't whole, and is left out"
+
+    def tell(self):
+        """Tells what was passed over."""
+        if self.garbled:
+            frames = "1 garbled frame is" if self.garbled == 1 else f"{self.garbled} garbled frames are"
+            first = "" if self.garbled == 1 else "the first "
+            say(f"{self.name}: {frames} passed over, {first}at byte {self.first}")
+        if self.left_out:
+            say(f"{self.name}: {self.left_out}")
+
+
+def frames(data):
+    """The fields of each frame of some bytes."""
+    return iter(Stream("bytes", data))
 
 
 def firsts(fields):
@@ -50,16 +92,17 @@ def firsts(fields):
 
 
 def group(fields, count, first):
-    """The entries of a group behind its count: each begins at a field with the group's first tag."""
+    """The entries of a group: each begins at a field with the group's first tag, after the count."""
     tags = [tag for tag, _ in fields]
-    behind = tags.index(count) + 1 if count in tags else len(tags)
-    starts = [i for i in range(behind, len(tags)) if tags[i] == first]
+    after = tags.index(count) + 1 if count in tags else len(tags)
+    starts = [i for i in range(after, len(tags)) if tags[i] == first]
     return [fields[start:end] for start, end in zip(starts, starts[1:] + [len(fields)])]
 
 
 def party(fields, count, first, role):
     """The firm with role 4, a clearing firm, among these parties."""
-    return next((entry[0][1] for entry in group(fields, count, first) if firsts(entry).get(role) == "4"), None)
+    entries = group(fields, count, first)
+    return next((entry[0][1] for entry in entries if firsts(entry).get(role) == "4"), None)
 
 
 def lots_of(text):
@@ -67,52 +110,67 @@ def lots_of(text):
 
 
 def number_of(answer):
-    """The entry that an answer of `allocd batch` tells, or 0 where it refuses."""
-    if answer["35"] == "P" and answer["87"] != "1":
-        return int(answer["793"])
-    if answer["35"] == "AR" and answer["939"] == "0":
-        return int(answer["58"].split()[1])
-    return 0
+    """The entry that an answer of `allocd batch` tells, or 0 where it refuses; None where it isn't such an answer."""
+    try:
+        if answer["35"] == "P" and answer["87"] != "1":
+            return int(answer["793"])
+        if answer["35"] == "AR" and answer["939"] == "0":
+            return int(answer["58"].split()[1])
+        return 0
+    except (KeyError, IndexError, ValueError):
+        return None
+
+
+def answers_to(message, answer):
+    """Whether this may be the answer to that message."""
+    kind = message["35"]
+    if answer["35"] == "3":
+        return answer.get("372") == kind[:8]
+    tag = {("J", "P"): "70", ("AE", "AR"): "571"}.get((kind, answer["35"]))
+    return tag is not None and (answer.get(tag), answer.get("56")) == (message.get(tag), message.get("49"))
 
 
 def accepted(messages, answers, opening):
-    """The messages of a day's input that its answers accepted. All but those of a session have an answer each."""
-    coming, count = iter(answers), opening
-    answer = next(coming, None)
-    for fields in messages:
-        if answer is None:
-            return
-        kind, message = fields[0][1], firsts(fields)
-        if kind in OF_SESSION and (answer["35"], answer.get("372")) != ("3", kind):
-            continue
-        tag = {"P": "70", "AR": "571"}.get(answer["35"])
-        if tag and answer[tag] != message.get(tag):
-            raise NoJournal(f"the answer with number {answer['34']} isn't one to this input")
-        if number_of(answer) == count + 1:
+    """The messages of a day's input that its answers accepted. Each has an answer, but one of a session only a Reject."""
+    asked = [fields for fields in messages if fields[0][1] not in OF_SESSION]
+    given = [it for it in map(firsts, answers) if it["35"] != "3" or it.get("372") not in OF_SESSION]
+    wrong = f"{answers.name} isn't what answers {messages.name}"
+    if len(asked) != len(given):
+        raise NoJournal(f"{wrong}: {counted(len(asked), 'message')}, {counted(len(given), 'answer')}")
+    count, found = opening, []
+    for fields, answer in zip(asked, given):
+        number = number_of(answer) if answers_to(firsts(fields), answer) else None
+        if number is None or number > count + 1:
+            raise NoJournal(f"{wrong}: the answer with number {answer.get('34')} is to another message")
+        if number == count + 1:
             count += 1
-            yield fields
-        answer = next(coming, None)
+            found.append(fields)
+    return found
 
 
-@dataclass(slots=True)
+def counted(n, what):
+    return f"{n} {what}" if n == 1 else f"{n} {what}s"
+
+
 class Entry:
     """An accepted command.
 
-    It names a node, or an entry where it is a consent (initiate), a decline or a reversal. Its detail is of a trade the firm,
-    the account, the instrument, the side and the lots; of a split the lots, the firm and the account of each part; of a claim
-    the account; of an agreement (agree) giver, taker, rate and limit; of a raise the giver and the lots. Its trade is the
-    entry of the trade that it concerns, 0 where it concerns an agreement.
+    It names a node, or an entry where it is a consent (initiate), a decline or a reversal. Its detail is of a trade the
+    firm, the account, the instrument, the side and the lots; of a split the lots, the taker and the account of each part,
+    of which the taker or the account is None; of a claim the account; of an agreement (agree) giver, taker, rate and limit;
+    of a raise the giver and the lots. The book adds the trade that it concerns (0 of an agreement), the node that it made or
+    names, the parts that it made, and the reversal that undid it.
     """
 
-    number: int
-    sent: str
-    firm: str
-    id: str
-    kind: str
-    names: object = None
-    detail: object = None
-    trade: int = 0
-    undone_by: int = 0  # its Reverse
+    __slots__ = ("number", "sent", "firm", "id", "kind", "names", "detail", "trade", "node", "parts", "undone_by")
+
+    def __init__(self, number, sent, firm, id, kind, names=None, detail=None):
+        self.number, self.sent, self.firm, self.id = number, sent, firm, id
+        self.kind, self.names, self.detail = kind, names, detail
+        self.trade, self.node, self.parts, self.undone_by = 0, None, (), 0
+
+    def command(self):
+        return self.kind, self.names, self.detail
 
 
 def entry_of(number, fields):
@@ -121,34 +179,37 @@ def entry_of(number, fields):
     sent, firm = message["52"], message["49"]
     if message["35"] == "AE":
         side = {"1": "buy", "2": "sell"}[message["54"]]
-        detail = (party(fields, "453", "448", "452"), message["1"], message["55"], side, lots_of(message["32"]))
+        account, instrument, lots = message["1"], message["55"], lots_of(message["32"])
+        detail = (party(fields, "453", "448", "452"), account, instrument, side, lots)
         return Entry(number, sent, firm, message["571"], "trade", None, detail)
     kind = KINDS[message["71"] + message["626"]]
     names = int(message["72"]) if message["71"] == "6" else message.get("72")
     detail = None
     if kind == "agree":
+        names = None
         detail = (message["5001"], message["5002"], int(message["5003"]), int(message["5004"]))
     elif kind == "raise":
-        detail = (message["5001"], int(message["5004"]))
+        names, detail = None, (message["5001"], int(message["5004"]))
     elif kind == "split":
-        parts = ((firsts(part), party(part, "539", "524", "538")) for part in group(fields, "78", "79"))
-        detail = [(lots_of(part["80"]), taker or firm, part["79"]) for part, taker in parts]
+        detail = [part_of(part, firm) for part in group(fields, "78", "79")]
     elif kind == "claim":
         detail = group(fields, "78", "79")[0][0][1]
     return Entry(number, sent, firm, message["70"], kind, names, detail)
 
 
+def part_of(part, firm):
+    """The lots of a part, and the firm that it is given to or the account of the firm that splits."""
+    message, taker = firsts(part), party(part, "539", "524", "538")
+    return (lots_of(message["80"]), None, message["79"]) if taker in (None, firm) else (lots_of(message["80"]), taker, None)
+
+
 def commands(day, answers=None, opening=0):
-    """The commands of a journal, or those of a day's input that its answers accepted; `-` is standard input. So many entries
-    came before them."""
-    messages = frames(content(day))
-    if answers:
-        messages = accepted(messages, map(firsts, frames(content(answers))), opening)
-    return (fields for fields in messages if fields[0][1] in ("AE", "J"))
-
-
-def content(path):
-    if path == "-":
-        return sys.stdin.buffer.read()
-    with open(path, "rb") as file:
-        return file.read()
+    """The commands of a journal, or those of a day's input that its answers accepted. So many entries came before them."""
+    messages = Stream.of(day)
+    given = answers and Stream.of(answers)
+    for fields in accepted(messages, given, opening) if given else messages:
+        if fields[0][1] in ("AE", "J"):
+            yield fields
+    for stream in (messages, given):
+        if stream:
+            stream.tell()

@@ -1,0 +1,97 @@
+"""Serves the page of examples/page on 127.0.0.1, to be read only."""
+import gc
+import hashlib
+import os
+import socketserver
+import threading
+from http.server import BaseHTTPRequestHandler
+
+from tool import Fault, say
+
+HEADERS = {
+    "Cache-Control": "no-store",
+    "Referrer-Policy": "no-referrer",
+    "X-Content-Type-Options": "nosniff",
+    "X-Frame-Options": "DENY",
+}
+
+
+class Page:
+    """The page of some files: made anew when it is asked for and one of them has changed."""
+
+    def __init__(self, files, make):
+        self.files, self.make, self.lock, self.kept = files, make, threading.Lock(), (None, b"")
+
+    def mark(self):
+        """What changes when a file does."""
+        try:
+            seen = [os.stat(path) for path in self.files]
+        except OSError as fault:
+            raise Fault(f"{fault.filename}: {fault.strerror}") from None
+        text = repr([(it.st_dev, it.st_ino, it.st_size, it.st_mtime_ns) for it in seen])
+        return f'"{hashlib.sha256(text.encode()).hexdigest()[:32]}"'
+
+    def text(self):
+        """Its mark and its bytes."""
+        with self.lock:
+            mark = self.mark()
+            if self.kept[0] != mark:
+                self.kept = mark, self.make(mark).encode()
+                gc.collect()
+            return self.kept
+
+
+class Server(socketserver.ThreadingTCPServer):
+    allow_reuse_address = daemon_threads = True
+
+
+class Handler(BaseHTTPRequestHandler):
+    """Answers GET and HEAD of `/`. A request for another host's name is refused: a page of the web can't read this one by a name
+    of its own that leads to this machine."""
+
+    server_version, sys_version, timeout = "page", "", 30
+
+    def do_GET(self):
+        self.answer(lambda page: page.text())
+
+    def do_HEAD(self):
+        self.answer(lambda page: (page.mark(), b""))
+
+    def answer(self, what):
+        port = self.server.server_address[1]
+        if self.headers.get("Host") not in (f"127.0.0.1:{port}", f"localhost:{port}"):
+            return self.send(403, "text/plain", b"this is 127.0.0.1 alone\n")
+        if self.path != "/":
+            return self.send(404, "text/plain", b"there is one page, at /\n")
+        try:
+            mark, text = what(self.server.page)
+        except (Fault, OSError) as fault:
+            say(fault)
+            return self.send(500, "text/plain", f"{fault}\n".encode(), Refresh="5")
+        return self.send(200, "text/html", text, ETag=mark)
+
+    def send(self, status, kind, text, **more):
+        self.send_response(status)
+        for name, value in {**HEADERS, "Content-Type": f"{kind}; charset=utf-8", **more}.items():
+            self.send_header(name, value)
+        if self.command == "GET":
+            self.send_header("Content-Length", str(len(text)))
+        self.end_headers()
+        if self.command == "GET":
+            self.wfile.write(text)
+
+    def log_message(self, *_):
+        pass
+
+
+def serve(port, files, make):
+    """Serves until a signal ends it. Files that can't be read at the start are a fault."""
+    page = Page(files, make)
+    page.text()
+    try:
+        server = Server(("127.0.0.1", port), Handler)
+    except OSError as fault:
+        raise Fault(f"127.0.0.1:{port}: {fault.strerror}") from None
+    server.page = page
+    say(f"the page is at http://127.0.0.1:{server.server_address[1]}/")
+    server.serve_forever()
