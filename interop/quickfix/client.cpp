@@ -1,4 +1,5 @@
 // A small client of allocd over QuickFIX: the house enters a trade, AAA splits it and gives a part up, BBB claims it, and the claim is
+// reversed with the consent of both. Then the house makes terms for what BBB gives to AAA, AAA raises its limit, and the raise is
 // reversed with the consent of both. It prints each answer as it comes, and at the end the reports of each firm.
 //
 // client CONFIG
@@ -123,12 +124,33 @@ FIX::Message trade(const char *id, const char *firm, const char *account, const 
   return made;
 }
 
-FIX::Message instruction(const char *id, const char *transaction, const char *type, const char *of) {
+FIX::Message instruction(const char *id, const char *transaction, const char *type) {
   FIX::Message made = message("J");
   made.setField(70, id);
   made.setField(71, transaction);
   made.setField(626, type);
+  return made;
+}
+
+FIX::Message instruction(const char *id, const char *transaction, const char *type, const char *of) {
+  FIX::Message made = instruction(id, transaction, type);
   made.setField(72, of);
+  return made;
+}
+
+FIX::Message agreement(const char *id, const char *giver, const char *taker, const char *rate, const char *limit) {
+  FIX::Message made = instruction(id, "0", "90");
+  made.setField(5001, giver);
+  made.setField(5002, taker);
+  made.setField(5003, rate);
+  made.setField(5004, limit);
+  return made;
+}
+
+FIX::Message raise(const char *id, const char *giver, const char *lots) {
+  FIX::Message made = instruction(id, "0", "91");
+  made.setField(5001, giver);
+  made.setField(5004, lots);
   return made;
 }
 
@@ -161,7 +183,10 @@ bool day(Client &client) {
   return client.hasLoggedOn(3) && client.ask("HSE", trade("T1", "AAA", "A1", "100")) && client.ask("AAA", split)
       && client.ask("BBB", claim) && client.ask("BBB", instruction("I1", "6", "20", "3"))
       && client.ask("BBB", instruction("V1", "6", "21", "3")) && client.ask("AAA", instruction("I1", "6", "20", "3"))
-      && client.ask("BBB", instruction("V2", "6", "21", "3")) && client.tell("HSE", 1) && client.tell("AAA", 6)
+      && client.ask("BBB", instruction("V2", "6", "21", "3")) && client.ask("HSE", agreement("G1", "BBB", "AAA", "50", "1000"))
+      && client.ask("AAA", raise("R1", "BBB", "200")) && client.ask("AAA", instruction("I2", "6", "20", "8"))
+      && client.ask("AAA", instruction("V3", "6", "21", "8")) && client.ask("BBB", instruction("I2", "6", "20", "8"))
+      && client.ask("AAA", instruction("V4", "6", "21", "8")) && client.tell("HSE", 1) && client.tell("AAA", 6)
       && client.tell("BBB", 5);
 }
 
