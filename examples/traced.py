@@ -1,5 +1,6 @@
 """What `allocd trace` writes, read from standard input: what examples/table and examples/picture make of it."""
 import re
+import sys
 
 from journal import NoJournal
 from tool import content
@@ -18,6 +19,8 @@ TOTALS = {
 
 def read():
     """The nodes, and the totals of each kind: names, and two numbers. The first `/` in FIRM/ACCOUNT ends the firm's name."""
+    if sys.stdin.isatty():
+        raise NoJournal("a trace is read from standard input, and this is a terminal: name HOUSE and DAY, or see --help")
     nodes, totals = [], {kind: [] for kind in TOTALS}
     for number, line in enumerate(content("-").decode("latin-1").splitlines(), 1):
         node = NODE.fullmatch(line)
