@@ -33,7 +33,7 @@ def key(top):
 
 
 def trees_of(view):
-    """The trees, those of what was reversed too: what was traded or given, who reversed it, the nodes, and the entries about it."""
+    """The trees, also of what was reversed: what was traded or given, its reversal, the nodes, the entries about it."""
     for top, log in view.pieces().items():
         _, _, instrument, side, _ = view.book.deal(top).detail
         made = view.book.entry(top.made_by)
@@ -51,8 +51,8 @@ def offers_of(view):
 
 
 def consents_of(view):
-    """The changes to whose reversal a consent stands: who gave it, who hasn't, the first entry that stands on it, and whom it
-    concerns."""
+    """The changes to whose reversal a consent stands: who gave it, who hasn't, the first entry that stands on it, and whom
+    it concerns."""
     book = view.book
     for number, firms in book.consents.items():
         change = book.entry(number)
@@ -82,7 +82,7 @@ def shown(view, day, carried, mark):
     book, firm = view.book, view.firm
     entries = list(view.entries())
     fees = view.fees().items()
-    terms = [(pair, it, it.claims()) for pair, it in view.terms().items()]
+    terms = view.terms().items()
     return {
         "house": book.house.name,
         "firm": firm or "",
@@ -95,7 +95,7 @@ def shown(view, day, carried, mark):
         "carried": carried is not None,
         "positions": positions_of(view, carried),
         "fees": [[name, str(paid), str(received), str(received - paid)] for name, (paid, received) in fees],
-        "agreements": [[*pair, it.rate, it.limit, len(claims), it.used, str(it.used * it.rate)] for pair, it, claims in terms],
+        "agreements": [[*pair, it.rate, it.limit, len(it.claims()), it.used, str(it.used * it.rate)] for pair, it in terms],
         "offers": list(offers_of(view)),
         "consents": list(consents_of(view)),
         "agreed": list(agreed_of(view)),
@@ -108,15 +108,16 @@ def digest(text):
 
 
 def page(view, day, carried=None, mark=""):
-    """The page. Its data has no `<`, so nothing in it ends or begins an element. A page that is served has a mark, by which it
-    sees whether there is a newer one."""
+    """The page. Its data has no `<`, so nothing in it ends or begins an element. A page that is served has a mark, by which
+    it sees whether there is a newer one."""
     with open(FRAME, encoding="utf-8") as file:
         frame = file.read()
     style = re.search("<style>(.*?)</style>", frame, re.DOTALL)[1]
     script = re.search('<script type="module">(.*?)</script>', frame, re.DOTALL)[1]
-    policy = f"default-src 'none'; base-uri 'none'; form-action 'none'; style-src {digest(style)}; script-src {digest(script)}"
+    policy = ["default-src 'none'", "base-uri 'none'", "form-action 'none'"]
+    policy += [f"style-src {digest(style)}", f"script-src {digest(script)}"] + ["connect-src 'self'"] * bool(mark)
     filled = {
-        "POLICY": policy + ("; connect-src 'self'" if mark else ""),
+        "POLICY": "; ".join(policy),
         "TITLE": html.escape(f"{view.book.house.name}: " + (f"statement of {view.firm}" if view.firm else "the day")),
         "DAY": json.dumps(shown(view, day, carried, mark), separators=(",", ":")).replace("<", "\\u003c"),
     }

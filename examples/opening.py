@@ -31,8 +31,8 @@ def carried(view, path, plain=False):
 
 
 def opened(view, carried):
-    """Of each account and instrument that has some, in the order of the house file: lots long and short now, at the opening, and
-    those of the day."""
+    """Of each account and instrument that has some, in the order of the house file: lots long and short now, at the
+    opening, and those of the day."""
     days, house = view.positions(), view.book.house
     for place in ((*account, instrument) for account in house.accounts for instrument in house.instruments):
         before, day = carried.get(place, (0, 0)), days.get(place, (0, 0))

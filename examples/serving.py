@@ -4,10 +4,12 @@ import hashlib
 import os
 import socketserver
 import threading
+import time
 from http.server import BaseHTTPRequestHandler
 
 from tool import Fault, say
 
+SLOW, REST = 1.0, 3  # seconds for a page to be a slow one, and how many times as long it rests before it is loaded anew
 HEADERS = {
     "Cache-Control": "no-store",
     "Referrer-Policy": "no-referrer",
@@ -21,6 +23,7 @@ class Page:
 
     def __init__(self, files, make):
         self.files, self.make, self.lock, self.kept = files, make, threading.Lock(), (None, b"")
+        self.rests_until = 0.0
 
     def mark(self):
         """What changes when a file does."""
@@ -36,9 +39,18 @@ class Page:
         with self.lock:
             mark = self.mark()
             if self.kept[0] != mark:
+                before = time.monotonic()
                 self.kept = mark, self.make(mark).encode()
                 gc.collect()
+                took = time.monotonic() - before
+                self.rests_until = time.monotonic() + (REST * took if took > SLOW else 0)
             return self.kept
+
+    def newest(self):
+        """What an open page compares with its own mark. After one that took long this is the same for a while, so that open
+        pages of a large journal that grows leave the processor to others."""
+        mark = self.mark()
+        return self.kept[0] if time.monotonic() < self.rests_until else mark
 
 
 class Server(socketserver.ThreadingTCPServer):
@@ -46,8 +58,8 @@ class Server(socketserver.ThreadingTCPServer):
 
 
 class Handler(BaseHTTPRequestHandler):
-    """Answers GET and HEAD of `/`. A request for another host's name is refused: a page of the web can't read this one by a name
-    of its own that leads to this machine."""
+    """Answers GET and HEAD of `/`. A request for another host's name is refused: a page of the web can't read this one by a
+    name of its own that leads to this machine."""
 
     server_version, sys_version, timeout = "page", "", 30
 
@@ -55,7 +67,7 @@ class Handler(BaseHTTPRequestHandler):
         self.answer(lambda page: page.text())
 
     def do_HEAD(self):
-        self.answer(lambda page: (page.mark(), b""))
+        self.answer(lambda page: (page.newest(), b""))
 
     def answer(self, what):
         port = self.server.server_address[1]

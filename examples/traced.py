@@ -8,7 +8,8 @@ from tool import content
 SHOWN = 60  # bytes of a line that is told
 NODE = re.compile(
     r"(?P<indent>(?:  )*)(?P<name>\d+\.\d+) (?P<lots>\d+) (?P<firm>\S+?)/(?P<account>\S+) "
-    r"(?P<words>(?P<state>held|offered|claimed|refused|cancelled)(?: (?:to|from|by|for) (?P<other>\S+))?(?: fee (?P<fee>\d+))?)"
+    r"(?P<words>(?P<state>held|offered|claimed|refused|cancelled)"
+    r"(?: (?:to|from|by|for) (?P<other>\S+))?(?: fee (?P<fee>\d+))?)"
 )
 TOTALS = {
     "positions": re.compile(r"position (\S+?)/(\S+) (\S+) long (\d+) short (\d+)"),

@@ -45,8 +45,8 @@ class View:
         return self.of(node.firm, node.taker)
 
     def top(self, node):
-        """The highest node of what is seen of the tree around a node that is: a trade's root, or a part that was given to the
-        firm."""
+        """The highest node of what is seen of the tree around a node that is: a trade's root, or a part that was given to
+        the firm."""
         while node.parent and (self.firm is None or node.firm == self.firm):
             node = node.parent
         return node
@@ -91,8 +91,8 @@ class View:
             waiting.extend((depth + 1, part) for part in reversed(self.parts(node)))
 
     def place(self, node):
-        """Firm and account where a node stands, or of one that was undone those of its giver or trade; another firm's account
-        isn't told."""
+        """Firm and account where a node stands, or of one that was undone those of its giver or trade; another firm's
+        account isn't told."""
         firm, account = node.place() if self.is_live(node) else (node.firm, node.account)
         return firm, account if account and self.of(firm) else ""
 
