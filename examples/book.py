@@ -135,6 +135,7 @@ class Book:
         self.entries, self.nodes, self.ids = [], {}, {}
         self.consents = {}  # of an entry: the firms whose consent to its reversal stands
         self.terms = {}  # of giver and taker; those of the house file first
+        self.reckoned = {}  # what was reckoned since the last entry
         for number, detail in enumerate(house.agreements, 1):
             if house.is_opening:
                 self.keep(Entry(number, "", house.name, f"OPEN-{number}", "agree", None, detail))
@@ -170,6 +171,7 @@ class Book:
         getattr(self, "_" + entry.kind)(entry)
         self.ids[entry.firm, entry.id] = entry
         self.entries.append(entry)
+        self.reckoned.clear()
 
     def entry(self, number):
         must(0 < number <= len(self.entries), "15 unknown entry")
@@ -183,8 +185,17 @@ class Book:
         """The roots of the live trades."""
         return (e.node for e in self.entries if e.kind == "trade" and not e.undone_by)
 
+    def once(self, what, reckon):
+        """What is reckoned of the book as it stands, and kept until there is another entry."""
+        if what not in self.reckoned:
+            self.reckoned[what] = reckon()
+        return self.reckoned[what]
+
     def positions(self):
         """Of each account and instrument that has some, in the order of the house file: lots bought and sold."""
+        return self.once("positions", self._positions)
+
+    def _positions(self):
         sums = {}
         for root in self.trades():
             _, _, instrument, side, _ = self.deal(root).detail

@@ -126,6 +126,10 @@ class View:
     def controls(self):
         """What to reconcile with, of the whole book (its firm is '') and of each firm that is seen: live trades, the entries
         that concern it and the last of them, lots bought and sold, hops, and the hundredths that it paid and received."""
+        sums = self.book.once("controls", self._controls)
+        return [[firm, *row] for firm, row in sums.items() if self.of(firm)]
+
+    def _controls(self):
         book = self.book
         sums = {firm: [0] * 8 for firm in ["", *book.house.firms]}
         for root in book.trades():
@@ -142,7 +146,7 @@ class View:
         for firm, (paid, received) in book.fees().items():
             add(sums, ["", firm], 6, paid)
             add(sums, ["", firm], 7, received)
-        return [[firm, *row] for firm, row in sums.items() if self.of(firm)]
+        return sums
 
     def what(self, entry):
         """What an entry does, in words."""
