@@ -12,7 +12,8 @@ def carried(view, path, plain=False):
     """Of each account and instrument in such a CSV that is seen: lots long and short. The house has to have them all."""
     house, found = view.book.house, {}
     accounts, instruments = set(house.accounts), set(house.instruments)
-    rows = csv.DictReader(io.StringIO(content(path).decode("latin-1")))
+    text = content(path).removeprefix(b"\xef\xbb\xbf")  # the mark that a spreadsheet puts at the front
+    rows = csv.DictReader(io.StringIO(text.decode("latin-1")))
     if not set(WANTED) <= set(rows.fieldnames or ()):
         raise NoJournal(f"{called(path)}: line 1 isn't that of positions: {', '.join(WANTED)}")
     for row in rows:

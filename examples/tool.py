@@ -12,6 +12,10 @@ if sys.version_info < (3, 9):
 # An end by Ctrl-C, or by a reader that has gone, is one by the signal, without a word.
 signal.signal(signal.SIGINT, signal.SIG_DFL)
 signal.signal(signal.SIGPIPE, signal.SIG_DFL)
+if sys.stdin is None:  # it was closed: as if nothing came
+    sys.stdin = open(os.devnull)
+if sys.stdout is None:
+    sys.exit(f"{NAME}: standard output is closed")
 told = set()
 
 

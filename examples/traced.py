@@ -36,5 +36,13 @@ def read():
     return nodes, totals
 
 
+def trees():
+    """The nodes of a trace that has some."""
+    nodes, _ = read()
+    if not nodes:
+        raise NoJournal("standard input: there is no tree in it; `allocd trace --trade N` writes one")
+    return nodes
+
+
 def depth_of(node):
     return len(node["indent"]) // 2
