@@ -7,6 +7,8 @@
 //! `test_book`.
 #![tactic(auto)]
 
+mod hash;
 mod ids;
 
-pub use ids::{IdHash, Ids};
+pub use hash::{HashKey, IdHash};
+pub use ids::Ids;
