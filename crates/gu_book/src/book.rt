@@ -114,8 +114,9 @@ impl Book {
         Ok(book)
     }
 
-    /// Finds ids under this key from now on. Takes no memory, and time by the length of the history. Nothing that a contract sees depends on it:
-    /// whoever doesn't know the key can't choose ids that fall together. A book that is new has a key that everyone knows.
+    /// Finds ids under this key from now on. Nothing that a contract sees depends on it, but whoever
+    /// doesn't know it can't choose ids that fall together. Takes time by the length of the history,
+    /// and no memory. A new book has a key that everyone knows.
     pub fn rekey(&mut self, key: HashKey)
         ensures { self.new ≡ self.old }
     {

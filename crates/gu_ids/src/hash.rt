@@ -1,8 +1,10 @@
-//! The hash of a firm and an id: SipHash-1-3 under a key. Its words are the rooms that the texts lie in, so no byte is looked at alone.
-ghost use Rattle.std.specs.Prelude.{◌≡◌, ◌≤◌, ◌<◌, ◌+◌, ◌*◌, ◌/◌, ◌%◌, ◌^◌, ℕ, length};
+//! The hash of a firm and an id: SipHash-1-3 under a key. Its words are read from the rooms that
+//! the texts lie in, so no byte is looked at alone.
+ghost use Rattle.std.specs.Prelude.{◌≡◌, ◌≤◌, ◌<◌, ◌+◌, ◌*◌, ◌%◌, ◌^◌, length};
 ghost use Rattle.std.specs.Hash.DefaultHasher.{read_word};
 ghost use Rattle.gu_base.specs.Limits.{longest_id, longest_name};
-ghost use Rattle.gu_ids.specs.Hashing.{IsHashOf, begun, finished, hash_of, padded, room_of, taken, taken_of, turned, word_at};
+ghost use Rattle.gu_ids.specs.Hashing.{begun, finished, taken, taken_of, turned};
+ghost use Rattle.gu_ids.specs.Hashing.{IsHashOf, hash_of, padded, room_of, word_at};
 
 use gu_base::{AllocId, FirmId};
 use std::hash::{Hash, Hasher};
@@ -10,7 +12,8 @@ use std::hash::{Hash, Hasher};
 /// The bytes of a word.
 const WORD_LEN: usize = 8;
 
-/// The key of the hashes of a book: 128 bits. Whoever doesn't know it can't choose ids that fall together.
+/// The key of the hashes of a book: 128 bits. Whoever doesn't know it can't choose ids that fall
+/// together.
 #[derive(Clone, Copy, PartialEq, Eq)]
 pub struct HashKey {
     low: u64,
@@ -92,7 +95,8 @@ impl Sip {
         }
     }
 
-    /// The hash of the words taken in and of a last one, of `tail`, which has seven bytes, and of this count.
+    /// The hash of the words taken in and of a last one: seven bytes of `tail`, and the lowest byte
+    /// of `count` above them.
     #[inline(always)]
     fn finish(self, tail: u64, count: u64) -> u64
         ensures { result ≡ finished self tail count }
@@ -109,7 +113,8 @@ impl Sip {
     }
 }
 
-/// What `Hash` writes of a name: the words of the room that its text lies in, with zeros after the text.
+/// What `Hash` writes of a name: the words of the room that its text lies in, with zeros after the
+/// text.
 #[derive(Clone, Copy)]
 struct Room {
     words: [u64; 4],
@@ -222,7 +227,8 @@ fn take_long_id(state: Sip, id: &AllocId, count: usize) -> Sip
     taken.take(first_bytes(words[whole], count % WORD_LEN))
 }
 
-/// The hash of this firm and id under a key. A name of at most seven bytes fills no word of its own.
+/// The hash of this firm and id under a key. A name of at most seven bytes fills no word of its
+/// own.
 #[inline(always)]
 #[tactic(auto, unfolding(crate::specs::Hashing::hash_of))]
 fn hash_of(key: HashKey, firm: &FirmId, id: &AllocId) -> u32
@@ -252,9 +258,12 @@ pub(crate) fn hash_anew(key: HashKey, firm: &FirmId, id: &AllocId) -> u32
     hash_of(key, firm, id)
 }
 
-/// The hash of a firm and an id, and the key that it is under. The last byte of the id chooses the place beside the hash of all before it, so
-/// ids that count up lie side by side in the buckets, and the next one is mostly found where the processor already looks. Of the ids that differ
-/// in their last byte alone no two share a bucket where there are 256 or more.
+/// The hash of a firm and an id, and the key that it is under.
+///
+/// The last byte of the id chooses the place beside the hash of all before it, so ids that count up
+/// lie side by side in the buckets, and the next one is mostly found where the processor already
+/// looks. Of the ids that differ in their last byte alone no two share a bucket where there are 256
+/// or more.
 #[derive(Clone, Copy)]
 pub struct IdHash {
     value: u32,
@@ -273,7 +282,8 @@ impl IdHash {
         }
     }
 
-    /// The hash under this key of the firm and the id whose hash this is: one that is under another key is made anew.
+    /// The hash under this key of the firm and the id whose hash this is: one that is under another
+    /// key is made anew.
     #[inline(always)]
     pub(crate) fn under(self, key: HashKey, firm: &FirmId, id: &AllocId) -> u32
         requires { IsHashOf self firm.now id.now }

@@ -1,5 +1,5 @@
 //! The numbers of a history's entries, in chains by hash.
-ghost use Rattle.std.specs.Prelude.{true, ◌≡◌, ◌≤◌, ◌<◌, ◌+◌, ◌*◌, ◌==◌, ◌&&◌, [], ◌∷◌, ◌++◌, ℕ, List, length, replicate, vec_capacity, OnOk};
+ghost use Rattle.std.specs.Prelude.{true, ◌≡◌, ◌≤◌, ◌<◌, ◌*◌, ◌==◌, ◌&&◌, [], ◌∷◌, ◌++◌, ℕ, List, length, replicate, vec_capacity, OnOk};
 ghost use Rattle.gu_base.specs.Limits.{most_entries};
 ghost use Rattle.gu_base.specs.declared.entry.Entry.{Entry};
 ghost use Rattle.gu_ids.specs.Hashing.{hash_of, IsHashOf};
@@ -272,7 +272,8 @@ impl Ids {
         requires ready { IsReady self.old }
         requires few { count self.old < most_entries }
         requires hash { IsHashOf hash firm.now id.now }
-        ensures { (h : List Entry) (e : Entry) → e.firm ≡ firm.now → e.id ≡ id.now → AreIdsOf self.old h → AreIdsOf self.new (h ++ e ∷ []) }
+        ensures { (h : List Entry) (e : Entry) → e.firm ≡ firm.now → e.id ≡ id.now
+            → AreIdsOf self.old h → AreIdsOf self.new (h ++ e ∷ []) }
     {
         self.file(hash.under(self.key, firm, id));
     }
@@ -282,7 +283,8 @@ impl Ids {
     fn file(&mut self, hash: u32)
         requires ready { IsReady self.old }
         requires few { count self.old < most_entries }
-        ensures filed { (h : List Entry) (e : Entry) → hash ≡ hash_of self.old.key e.firm e.id → AreIdsOf self.old h → AreIdsOf self.new (h ++ e ∷ []) }
+        ensures filed { (h : List Entry) (e : Entry) → hash ≡ hash_of self.old.key e.firm e.id
+            → AreIdsOf self.old h → AreIdsOf self.new (h ++ e ∷ []) }
         ensures key { self.new.key ≡ self.old.key }
         ensures room { vec_capacity self.new.links ≡ vec_capacity self.old.links }
         ensures buckets { length self.new.heads.items ≡ length self.old.heads.items }
@@ -308,8 +310,8 @@ impl Ids {
         vacate(&mut self.heads);
     }
 
-    /// Makes the hashes of this history's entries anew, under this key, and links the entries anew. Takes no memory, and time by their
-    /// number.
+    /// Makes the hashes of this history's entries anew, under this key, and links the entries anew.
+    /// Takes time by their number, and no memory.
     pub fn rekey(&mut self, entries: &[Entry], key: HashKey)
         requires ids { AreIdsOf self.old entries.now }
         requires few { length entries.now ≤ most_entries }

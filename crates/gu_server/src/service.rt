@@ -53,8 +53,8 @@ fn listen<R: Net<Stream = TcpStream, Listener = TcpListener>>(
     }
 }
 
-/// Gives the book a key that nobody knows, by the system's randomness. Where the system gives none the book keeps the key that it has: what
-/// it answers is the same.
+/// Gives the book a key that nobody knows, by the system's randomness. Where the system gives none
+/// the book keeps the key that it has, and answers the same.
 fn rekey<R: RandomSource>(rt: &R, book: &mut Book)
     ensures { book.new ≡ book.old }
 {
