@@ -1,6 +1,6 @@
 //! The hash of a firm and an id: SipHash-1-3 under a key. Its words are read from the rooms that
 //! the texts lie in, so no byte is looked at alone.
-ghost use Rattle.std.specs.Prelude.{◌≡◌, ◌≤◌, ◌<◌, ◌+◌, ◌*◌, ◌%◌, ◌^◌, length};
+ghost use Rattle.std.specs.Prelude.{◌≡◌, ◌≤◌, ◌<◌, ◌+◌, ◌*◌, ◌/◌, ◌%◌, ◌^◌, length};
 ghost use Rattle.std.specs.Hash.DefaultHasher.{read_word};
 ghost use Rattle.gu_base.specs.Limits.{longest_id, longest_name};
 ghost use Rattle.gu_ids.specs.Hashing.{begun, finished, taken, taken_of, turned};
@@ -25,9 +25,11 @@ impl HashKey {
     pub const KNOWN: HashKey = HashKey { low: 0, high: 0 };
 
     /// The key of these bits.
-    pub fn new(bits: u128) -> HashKey {
+    pub fn new(bits: u128) -> HashKey
+        ensures { result ≡ record { low = bits % 2 ^ 64; high = bits / 2 ^ 64 } }
+    {
         HashKey {
-            low: (bits & 0xFFFF_FFFF_FFFF_FFFF) as u64,
+            low: (bits % (1 << 64)) as u64,
             high: (bits >> 64) as u64,
         }
     }
