@@ -15,7 +15,8 @@ ghost use Rattle.gu_base.specs.declared.entry.Answer.TheVariants.{Accepted};
 ghost use Rattle.gu_base.specs.Runs.{IsRunFrom, call_of, opening_calls, opening_history};
 ghost use Rattle.gu_base.specs.declared.command.Command.TheVariants.{Trade, Split, Claim, Initiate, Decline, Reverse};
 ghost use Rattle.gu_consent.specs.Given.{given};
-ghost use Rattle.gu_ids.specs.Chains.{IsHashOf, IsReady};
+ghost use Rattle.gu_ids.specs.Chains.{IsReady};
+ghost use Rattle.gu_ids.specs.Hashing.{IsHashOf};
 ghost use Rattle.gu_tree.specs.Shown.{GivesBack, shown, named_node};
 ghost use Rattle.gu_tree.specs.ShownAll.{place_in};
 ghost use Rattle.gu_book.specs.Front.{may_lack};
@@ -42,7 +43,7 @@ use gu_base::{
 };
 use gu_consent::Consents;
 use gu_fees::{Fees, Terms};
-use gu_ids::{IdHash, Ids};
+use gu_ids::{HashKey, IdHash, Ids};
 use gu_parties::House;
 use gu_positions::{Key, Positions};
 use gu_tree::{Row, Trees};
@@ -111,6 +112,15 @@ impl Book {
             }
         }
         Ok(book)
+    }
+
+    /// Finds ids under this key from now on. Nothing that a contract sees depends on it, but whoever
+    /// doesn't know it can't choose ids that fall together. Takes time by the length of the history,
+    /// and no memory. A new book has a key that everyone knows.
+    pub fn rekey(&mut self, key: HashKey)
+        ensures { self.new ≡ self.old }
+    {
+        self.lookups.ids.rekey(&self.entries, key);
     }
 
     /// The house table, without the book.
@@ -187,7 +197,7 @@ impl Book {
     {
         let mut sought = Sought::nothing();
         self.seek(command, &mut sought);
-        let hash = IdHash::of(by, id);
+        let hash = self.lookups.ids.hash_of(by, id);
         let answer = self.answer(by, id, hash, command, &sought);
         self.note(sought.nodes);
         match answer {
@@ -691,7 +701,7 @@ fn push(entries: &mut Vec<Entry>, ids: &mut Ids, made: &Change<'_>, hash: IdHash
     ensures items { entries.new.items ≡ entries.old.items ++ entry_of_change made.now ∷ [] }
     ensures ids { AreIdsOf ids.new (entries.old.items ++ entry_of_change made.now ∷ []) }
 {
-    ids.add(hash);
+    ids.add(hash, made.firm, made.id);
     entries.push_reserved(Entry {
         firm: *made.firm,
         id: *made.id,

@@ -34,3 +34,4 @@ mod visits;
 
 pub use book::Book;
 pub use gu_base::{Answer, Entry};
+pub use gu_ids::HashKey;

@@ -2,4 +2,5 @@ pub mod Linked
 pub mod Links
 pub mod Marked
 pub mod NewestLaws
+pub mod SipSteps
 pub mod Walk

@@ -1,23 +1,12 @@
 -- Chains of entries, one for each bucket: from its newest entry to the one before it in the bucket, and so on.
-use Rattle.std.specs.Prelude.{◌≡◌, ◌≤◌, ◌<◌, ◌-◌, ◌*◌, ◌/◌, ◌^◌, ◌==◌, ℕ, Bool, List, length, map, take, slice_index_or, bit_xor, vec_len, vec_capacity}
-use Rattle.std.specs.Hash.FoldHasher as folding
+use Rattle.std.specs.Prelude.{◌≡◌, ◌≤◌, ◌<◌, ◌*◌, ◌==◌, ℕ, Bool, List, length, map, slice_index_or, vec_len, vec_capacity}
 use Rattle.gu_base.specs.declared.entry.Entry.{Entry}
-use Rattle.gu_ids.specs.declared.ids.IdHash.{IdHash}
 use Rattle.gu_ids.specs.declared.ids.Ids.{Ids}
 use Rattle.gu_ids.specs.declared.ids.Link.{Link}
 use Rattle.gu_ids.specs.declared.ids.Head.{Head}
+use Rattle.gu_ids.specs.Hashing.{hash_of}
 use Rattle.gu_ids.specs.Marks.{bucket_of, marks_of, AreMarked}
 use Rattle.gu_ids.specs.Newest.{newest, is_at}
-
--- the hash of a firm and an id: the upper half of what a hasher makes of all their bytes but the last, and the last beside it
-unfoldable pub hash_of : List ℕ → List ℕ → ℕ
-hash_of firm id =
-    let last = length id - 1 in
-    bit_xor (folding.finish (folding.write (folding.write folding.initial firm) (take last id)) / 2 ^ 32) (slice_index_or id last 0)
-
--- this is the hash of the firm and the id
-abbrev pub IsHashOf : IdHash → List ℕ → List ℕ → Type 0
-IsHashOf hash firm id = hash.value ≡ hash_of firm id
 
 abbrev pub hashes_of : List Link → List ℕ
 hashes_of links = map (λ l. l.hash) links
@@ -39,7 +28,7 @@ pub record AreChains (hashes befores heads : List ℕ) (k : ℕ) : Type 0 where
 
 -- the chains are those of this history
 pub record AreIdsOf (ids : Ids) (h : List Entry) : Type 0 where
-  pub hashes : hashes_of ids.links.items ≡ map (λ e. hash_of e.firm e.id) h
+  pub hashes : hashes_of ids.links.items ≡ map (λ e. hash_of ids.key e.firm e.id) h
   pub chains : AreChains (hashes_of ids.links.items) (befores_of ids.links.items) (newests_of ids.heads.items) (length ids.links.items)
   pub marked : AreMarked (hashes_of ids.links.items) (marks_of ids.heads.items) (length ids.links.items)
   pub few : length ids.links.items ≤ 4 * length ids.heads.items
@@ -55,7 +44,7 @@ pub record IsReady (ids : Ids) : Type 0 where
 
 -- the places of the entries that share the bucket of this firm and id
 abbrev pub chain : Ids → List ℕ → List ℕ → ℕ → Bool
-chain ids firm id = is_in (hashes_of ids.links.items) (length (newests_of ids.heads.items)) (bucket_of (hash_of firm id) (length (newests_of ids.heads.items)))
+chain ids firm id = is_in (hashes_of ids.links.items) (length (newests_of ids.heads.items)) (bucket_of (hash_of ids.key firm id) (length (newests_of ids.heads.items)))
 
 -- where a walk stands at a number: no entry above it has the firm and id, and it is of their chain
 pub record Stands (ids : Ids) (h : List Entry) (firm id : List ℕ) (number : ℕ) : Type 0 where

@@ -1,3 +1,4 @@
 pub mod Chains
+pub mod Hashing
 pub mod Marks
 pub mod Newest

@@ -1,43 +1,18 @@
 //! The numbers of a history's entries, in chains by hash.
-ghost use Rattle.std.specs.Prelude.{true, ◌≡◌, ◌≤◌, ◌<◌, ◌*◌, ◌==◌, ◌&&◌, [], ◌∷◌, ◌++◌, ℕ, List, length, replicate, OnOk};
+ghost use Rattle.std.specs.Prelude.{true, ◌≡◌, ◌≤◌, ◌<◌, ◌*◌, ◌==◌, ◌&&◌, [], ◌∷◌, ◌++◌, ℕ, List, length, replicate, vec_capacity, OnOk};
 ghost use Rattle.gu_base.specs.Limits.{most_entries};
 ghost use Rattle.gu_base.specs.declared.entry.Entry.{Entry};
-ghost use Rattle.gu_ids.specs.Chains.{hash_of, hashes_of, befores_of, newests_of, AreChains, AreIdsOf, IsHashOf, IsReady, Stands, count};
+ghost use Rattle.gu_ids.specs.Hashing.{hash_of, IsHashOf};
+ghost use Rattle.gu_ids.specs.Chains.{hashes_of, befores_of, newests_of, AreChains, AreIdsOf, IsReady, Stands, count};
 ghost use Rattle.gu_ids.specs.Marks.{bucket_of, mark_of, second_mark_of, is_marked, bears, marks_of, AreMarked};
 ghost use Rattle.gu_ids.specs.Newest.{is_of, newest_of};
 
+use crate::hash::{HashKey, IdHash, hash_anew};
 use gu_base::{AllocId, Entry, FirmId, Memory, Number};
 use std::alloc::Global;
-use std::hash::{FoldHasher, Hasher};
 
 /// The buckets of the first growth.
 const FEWEST_BUCKETS: usize = 16;
-
-/// The hash of a firm and an id. The last byte of the id chooses the place beside the hash of all before it, so ids that count up lie side by
-/// side in the buckets, and the next one is mostly found where the processor already looks. Whoever chooses ids can choose ones that fall
-/// together.
-#[derive(Clone, Copy)]
-pub struct IdHash {
-    value: u32,
-}
-
-impl IdHash {
-    /// That of this firm and id.
-    #[tactic(auto, unfolding(crate::specs::Chains::hash_of))]
-    pub fn of(firm: &FirmId, id: &AllocId) -> IdHash
-        ensures { IsHashOf result firm.now id.now }
-    {
-        let bytes = id.as_bytes();
-        let last = bytes.len() - 1;
-        let mut hasher = FoldHasher::default();
-        hasher.write(firm.as_bytes());
-        hasher.write(&bytes[..last]);
-        let upper = (hasher.finish() >> 32) as u32;
-        IdHash {
-            value: upper ^ bytes[last] as u32,
-        }
-    }
-}
 
 /// What is kept of an entry.
 #[derive(Clone, Copy)]
@@ -68,6 +43,8 @@ pub struct Ids {
     links: Vec<Link>,
     /// For each bucket.
     heads: Vec<Head>,
+    /// The key that the hashes are under.
+    key: HashKey,
 }
 
 /// The bucket of a hash among this many, a power of two.
@@ -165,6 +142,7 @@ impl Ids {
         Ids {
             links: Vec::new(alloc),
             heads: Vec::new(alloc),
+            key: HashKey::KNOWN,
         }
     }
 
@@ -184,12 +162,13 @@ impl Ids {
         if self.heads.is_empty() {
             return None;
         }
-        let bucket = bucket_of(hash.value, self.heads.len());
+        let hash = hash.under(self.key, firm, id);
+        let bucket = bucket_of(hash, self.heads.len());
         let head = self.heads[bucket];
-        if !head.bears(hash.value) {
+        if !head.bears(hash) {
             return None;
         }
-        self.walk(entries, firm, id, hash.value, head.newest)
+        self.walk(entries, firm, id, hash, head.newest)
     }
 
     /// The same, by a walk along a chain from the entry of this number on, 0 for none. It stands apart, so that a new id is told by the marks alone:
@@ -206,7 +185,7 @@ impl Ids {
     ) -> Option<Number>
         requires ids { AreIdsOf self.now entries.now }
         requires few { length entries.now ≤ most_entries }
-        requires hash { hash ≡ hash_of firm.now id.now }
+        requires hash { hash ≡ hash_of self.now.key firm.now id.now }
         requires stands { Stands self.now entries.now firm.now id.now newest }
         ensures { result ≡ newest_of entries.now firm.now id.now }
     {
@@ -263,6 +242,7 @@ impl Ids {
         ensures hashes { hashes_of self.new.links.items ≡ hashes_of self.old.links.items }
         ensures buckets { length self.new.heads.items ≡ length self.old.heads.items }
         ensures count { count self.new ≡ count self.old }
+        ensures key { self.new.key ≡ self.old.key }
         ensures chains { AreChains (hashes_of self.new.links.items) (befores_of self.new.links.items) (newests_of self.new.heads.items) (count self.new) }
         ensures marked { AreMarked (hashes_of self.new.links.items) (marks_of self.new.heads.items) (count self.new) }
     {
@@ -279,18 +259,78 @@ impl Ids {
         }
     }
 
-    /// Adds the entry that comes next in the history, whose firm and id have this hash.
-    pub fn add(&mut self, hash: IdHash)
+    /// The hash of this firm and id under the key of these ids.
+    #[inline(always)]
+    pub fn hash_of(&self, firm: &FirmId, id: &AllocId) -> IdHash
+        ensures { IsHashOf result firm.now id.now }
+    {
+        IdHash::of(self.key, firm, id)
+    }
+
+    /// Adds the entry of this firm and id, which have this hash: it comes next in the history.
+    pub fn add(&mut self, hash: IdHash, firm: &FirmId, id: &AllocId)
         requires ready { IsReady self.old }
         requires few { count self.old < most_entries }
-        ensures { (h : List Entry) (e : Entry) → IsHashOf hash e.firm e.id → AreIdsOf self.old h → AreIdsOf self.new (h ++ e ∷ []) }
+        requires hash { IsHashOf hash firm.now id.now }
+        ensures { (h : List Entry) (e : Entry) → e.firm ≡ firm.now → e.id ≡ id.now
+            → AreIdsOf self.old h → AreIdsOf self.new (h ++ e ∷ []) }
     {
-        let bucket = bucket_of(hash.value, self.heads.len());
+        self.file(hash.under(self.key, firm, id));
+    }
+
+    /// Adds the entry that comes next in the history, whose firm and id have this hash under the key.
+    #[inline(always)]
+    fn file(&mut self, hash: u32)
+        requires ready { IsReady self.old }
+        requires few { count self.old < most_entries }
+        ensures filed { (h : List Entry) (e : Entry) → hash ≡ hash_of self.old.key e.firm e.id
+            → AreIdsOf self.old h → AreIdsOf self.new (h ++ e ∷ []) }
+        ensures key { self.new.key ≡ self.old.key }
+        ensures room { vec_capacity self.new.links ≡ vec_capacity self.old.links }
+        ensures buckets { length self.new.heads.items ≡ length self.old.heads.items }
+    {
+        let bucket = bucket_of(hash, self.heads.len());
         let head = self.heads[bucket];
         self.links.push_reserved(Link {
-            hash: hash.value,
+            hash,
             before: head.newest,
         });
-        self.heads[bucket] = head.with(self.links.len() as u32, hash.value);
+        self.heads[bucket] = head.with(self.links.len() as u32, hash);
+    }
+
+    /// Leaves the ids of no history, under this key, and all the room.
+    fn empty(&mut self, key: HashKey)
+        ensures none { AreIdsOf self.new [] }
+        ensures key { self.new.key ≡ key }
+        ensures room { vec_capacity self.new.links ≡ vec_capacity self.old.links }
+        ensures buckets { length self.new.heads.items ≡ length self.old.heads.items }
+    {
+        self.key = key;
+        self.links.clear();
+        vacate(&mut self.heads);
+    }
+
+    /// Makes the hashes of this history's entries anew, under this key, and links the entries anew.
+    /// Takes time by their number, and no memory.
+    pub fn rekey(&mut self, entries: &[Entry], key: HashKey)
+        requires ids { AreIdsOf self.old entries.now }
+        requires few { length entries.now ≤ most_entries }
+        ensures ids { AreIdsOf self.new entries.now }
+        ensures key { self.new.key ≡ key }
+    {
+        self.empty(key);
+        for place in 0..entries.len() {
+            let entry = &entries[place];
+            self.file(hash_anew(key, &entry.firm, &entry.id));
+        }
+    }
+}
+
+/// Leaves all buckets without entries.
+fn vacate(heads: &mut Vec<Head>)
+    ensures { heads.new.items ≡ replicate (length heads.old.items) (record { newest = 0; marks = 0 }) }
+{
+    for bucket in 0..heads.len() {
+        heads[bucket] = Head::NONE;
     }
 }

@@ -1,17 +1,18 @@
 //! The program's server: a book behind a port.
 
-ghost use Rattle.std.specs.Prelude.{IfOk, IsTrue};
+ghost use Rattle.std.specs.Prelude.{◌≡◌, IfOk, IsTrue};
 ghost use Rattle.gu_desk.specs.Views.{is_worker_count};
 ghost use Rattle.gu_book.specs.Seen.{stored};
 ghost use Rattle.gu_server.specs.Program.{IsServed};
 
 use crate::server::{ServeError, serve};
-use gu_book::Book;
+use gu_book::{Book, HashKey};
 use gu_desk::Gate;
 use gu_parties::House;
 use std::alloc::Global;
 use std::io::ErrorKind;
 use std::net::{Ipv4Addr, Net, TcpListener, TcpStream};
+use std::random::RandomSource;
 use std::sync::Wait;
 use std::thread::Threads;
 use std::time::Clock;
@@ -52,6 +53,17 @@ fn listen<R: Net<Stream = TcpStream, Listener = TcpListener>>(
     }
 }
 
+/// Gives the book a key that nobody knows, by the system's randomness. Where the system gives none
+/// the book keeps the key that it has, and answers the same.
+fn rekey<R: RandomSource>(rt: &R, book: &mut Book)
+    ensures { book.new ≡ book.old }
+{
+    let mut bytes = [0; 16];
+    if rt.fill_bytes(&mut bytes).is_ok() {
+        book.rekey(HashKey::new(u128::from_le_bytes(bytes)));
+    }
+}
+
 /// Serves so many connections (0: without end) on a port of 127.0.0.1, by 1 to 16 workers that share the opening book of this house, and
 /// gives the book when all have ended.
 ///
@@ -59,7 +71,12 @@ fn listen<R: Net<Stream = TcpStream, Listener = TcpListener>>(
 ///
 /// `Listen`, and those of `serve`. A book that finds no memory for its opening calls is `Memory`: the port is let go, and nobody was served.
 pub(crate) fn serve_port<
-    R: Threads + Wait + Clock + Net<Stream = TcpStream, Listener = TcpListener> + Sync,
+    R: Threads
+        + Wait
+        + Clock
+        + RandomSource
+        + Net<Stream = TcpStream, Listener = TcpListener>
+        + Sync,
 >(
     rt: &R,
     alloc: Global,
@@ -78,7 +95,7 @@ pub(crate) fn serve_port<
             return Err(error);
         }
     };
-    let book = match Book::open(alloc, house) {
+    let mut book = match Book::open(alloc, house) {
         Ok(book) => book,
         Err((house, _)) => {
             drop(house);
@@ -86,6 +103,7 @@ pub(crate) fn serve_port<
             return Err(ServiceError::Serve(ServeError::Memory));
         }
     };
+    rekey(rt, &mut book);
     let served = serve(rt, alloc, &listener, book, workers, connections, &Open);
     drop(listener);
     match served {

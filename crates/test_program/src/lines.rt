@@ -5,6 +5,7 @@ use gu_server::{Counted, Fault, SystemFiles, run};
 use std::alloc::Global;
 use std::io::Write;
 use std::net::{Net, TcpListener, TcpStream};
+use std::random::RandomSource;
 use std::sync::Wait;
 use std::thread::Threads;
 use std::time::Clock;
@@ -47,7 +48,14 @@ struct Outcome {
 }
 
 /// Runs the program on these bytes and words.
-fn run_words<H: Threads + Wait + Clock + Net<Stream = TcpStream, Listener = TcpListener> + Sync>(
+fn run_words<
+    H: Threads
+        + Wait
+        + Clock
+        + RandomSource
+        + Net<Stream = TcpStream, Listener = TcpListener>
+        + Sync,
+>(
     rt: &HostRuntime,
     handle: &H,
     alloc: Global,
@@ -141,7 +149,12 @@ fn tell_outcome(rt: &HostRuntime, alloc: Global, line: &Line<'_>, outcome: &Outc
 /// Runs a line over a handle that may start threads, wait and listen, and writes what came of it. Gives the status of the run, and none where its
 /// stream isn't there.
 pub(crate) fn tell<
-    H: Threads + Wait + Clock + Net<Stream = TcpStream, Listener = TcpListener> + Sync,
+    H: Threads
+        + Wait
+        + Clock
+        + RandomSource
+        + Net<Stream = TcpStream, Listener = TcpListener>
+        + Sync,
 >(rt: &HostRuntime, handle: &H, alloc: Global, line: &Line<'_>) -> Option<u8> {
     let Ok(stream) = fs::read(rt, line.stream) else {
         return None;

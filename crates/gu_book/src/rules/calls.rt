@@ -16,7 +16,7 @@ ghost use Rattle.gu_book.specs.Ids.{NoIdTwice};
 ghost use Rattle.gu_book.specs.Lookups.{AreIdsOf, AreLookupsOf};
 ghost use Rattle.gu_consent.specs.Given.{given};
 ghost use Rattle.gu_depend.specs.Terms.{AreTermsOf};
-ghost use Rattle.gu_ids.specs.Chains.{IsHashOf};
+ghost use Rattle.gu_ids.specs.Hashing.{IsHashOf};
 ghost use Rattle.gu_tree.specs.Shown.{named_node};
 
 use crate::rules::basis::Basis;

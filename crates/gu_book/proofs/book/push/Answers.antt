@@ -1,3 +1,4 @@
+use Rattle.std.proofs.Common.{refl}
 use Rattle.gu_book.proofs.{Vocabulary.{entry_of_change}, LookedUp.{ids_added, ids_fewer}}
 use Rattle.gu_book.proofs.book.push.Goals as goal
 
@@ -8,4 +9,4 @@ pub returns-clause-ids : goal.returns-clause-ids
 returns-clause-ids c =
     let e = entry_of_change c.args.made.now in
     ids_added c.requires.ids c.requires.accepted.house e c.args.made.now.number c.requires.accepted.answered c.add.new.self
-    (c.add.ensures c.args.entries.now.items e c.requires.hashed c.requires.ids.chained)
+    (c.add.ensures c.args.entries.now.items e refl refl c.requires.ids.chained)

@@ -38,6 +38,7 @@ loop-place-preserved c =
       hashes = stay ∙ at.hashes;
       buckets = length-set heads bucket new ∙ at.buckets;
       count = length-set links place link ∙ at.count;
+      key = at.key;
       chains = links_set links (newests_of heads) place c.index.result.now link c.index.ensures there refl at.chains (omega (arith, is_newest, inside, newests))
           (newest_read heads bucket head c.index-head.ensures inside ∙ ap (λ b. slice_index_or (newests_of heads) b 0) is_newest)
           (newests_of (set heads bucket new)) (place + 1)
@@ -58,6 +59,7 @@ loop-place-init c =
       hashes = refl;
       buckets = omega (arith, c.len-buckets.ensures, c.args.self.now.heads.ok.0);
       count = refl;
+      key = refl;
       chains = record {
         head = λ b inside.
             get_or-map (λ (h : Head). h.newest) heads b none 0 (omega (arith, inside, longer))

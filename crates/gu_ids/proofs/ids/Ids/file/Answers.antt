@@ -3,18 +3,19 @@ use Rattle.std.specs.Prelude.{slice_index_or}
 use Rattle.std.proofs.lemmas.List.{length-set, get_or_push, get_or_append_left}
 use Rattle.gu_base.specs.declared.entry.Entry.{Entry}
 use Rattle.gu_ids.specs.declared.ids.Link.{Link}
-use Rattle.gu_ids.specs.Chains.{hash_of, hashes_of, befores_of, newests_of, AreChains}
+use Rattle.gu_ids.specs.Hashing.{hash_of}
+use Rattle.gu_ids.specs.Chains.{hashes_of, befores_of, newests_of, AreChains}
 use Rattle.gu_ids.specs.Marks.{bucket_of, bears, marks_of, AreMarked}
 use Rattle.gu_ids.proofs.Links.{links_pushed, map_push, length_push, length_map}
 use Rattle.gu_ids.proofs.Marked.{newests_long, marks_long, newest_read, marks_read, newests_set, marks_set, marked_as}
-use Rattle.gu_ids.proofs.ids.Ids.add.Goals as goal
+use Rattle.gu_ids.proofs.ids.Ids.file.Goals as goal
 
-pub returns : goal.returns
-returns c h e hashed are =
+pub returns-clause-filed : goal.returns-clause-filed
+returns-clause-filed c h e hashed are =
     let ids = c.args.self.now in
     let heads = ids.heads.items in
     let head = c.index-head.result.now in
-    let link : Link = record { hash = c.args.hash.value; before = head.newest } in
+    let link : Link = record { hash = c.args.hash; before = head.newest } in
     let full = ids.heads.ok.0 in
     let bucket = c.bucket_of-bucket.result in
     let new = c.with.result in
@@ -36,8 +37,8 @@ returns c h e hashed are =
     let hs_is : hashes_of (ids.links.items ++ link ∷ []) ≡ hs ++ link.hash ∷ [] = map_push (λ (l : Link). l.hash) ids.links.items link in
     record {
       hashes = ap hashes_of c.push_reserved.ensures.items ∙ (hs_is
-          ∙ (ap (λ l. l ++ link.hash ∷ []) are.hashes ∙ (ap (λ x. map (λ (e : Entry). hash_of e.firm e.id) h ++ x ∷ []) hashed
-          ∙ sym (map_push (λ (e : Entry). hash_of e.firm e.id) h e))));
+          ∙ (ap (λ l. l ++ link.hash ∷ []) are.hashes ∙ (ap (λ x. map (λ (e : Entry). hash_of ids.key e.firm e.id) h ++ x ∷ []) hashed
+          ∙ sym (map_push (λ (e : Entry). hash_of ids.key e.firm e.id) h e))));
       chains = subst (λ (l : List Link). AreChains (hashes_of l) (befores_of l) (newests_of (set heads bucket new)) (length l)) (sym c.push_reserved.ensures.items)
           (links_pushed ids.links.items (newests_of heads) link are.chains (omega (arith, is_newest, inside, newests))
           (newest_read heads bucket head c.index-head.ensures inside ∙ ap (λ b. slice_index_or (newests_of heads) b 0) is_newest)
