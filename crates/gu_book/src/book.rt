@@ -208,8 +208,9 @@ impl Book {
     }
 
     /// How many nodes of the trees the last `apply` visited, each counted once: those on the ways to the nodes that it looked at, and the parts
-    /// that it made, took away or asked after. Of a Reverse of an Agree or a Raise it is how many entries their giver and taker have: their Agree,
-    /// Raises and Claims. A call that is refused, repeated or finds no memory changes this number too.
+    /// that it made, took away or asked after. Of a Reverse of a Claim, an Agree or a Raise it
+    /// counts the entries of their giver and taker too: their Agree, Raises and Claims. A call that
+    /// is refused, repeated or finds no memory changes this number too.
     pub fn visits(&self) -> u64
         ensures { result ≡ self.now.visits }
     {
