@@ -8,7 +8,7 @@ ghost use Rattle.gu_base.specs.Positions.{position_of};
 ghost use Rattle.gu_base.specs.Fees.{paid_by, received_by};
 ghost use Rattle.gu_base.specs.Terms.{limit_of, terms_of, used_of};
 ghost use Rattle.gu_base.specs.Numbers.{EntryPart};
-ghost use Rattle.gu_base.specs.Standing.{IsLegal};
+ghost use Rattle.gu_base.specs.Standing.{IsLegal, standing_on};
 ghost use Rattle.gu_base.specs.Answers.{Call, answer_to, after, is_accepted};
 ghost use Rattle.gu_base.specs.declared.command.Side.TheVariants.{Buy, Sell};
 ghost use Rattle.gu_base.specs.declared.entry.Answer.TheVariants.{Accepted};
@@ -41,6 +41,7 @@ use gu_base::{
     Number, Parts, Place, State,
 };
 use gu_consent::Consents;
+use gu_depend::first_standing;
 use gu_fees::{Fees, Terms};
 use gu_ids::{IdHash, Ids};
 use gu_parties::House;
@@ -236,6 +237,19 @@ impl Book {
     {
         let changes = Live::of(self.entries.as_slice(), &self.lookups.reversals);
         seek(&changes, &self.trees, &self.terms, command, sought);
+    }
+
+    /// What the book asks of what stands on a change, and what `first_standing` reads off its trees
+    /// and terms.
+    #[tactic(auto, using(gu_base::proofs::LegalLaws::legal_from_replay))]
+    pub(crate) fn standings(&self, entry: Number) -> (Option<Number>, Option<Number>)
+        ensures asked { result.0 ≡ standing_on self.now.house (live self.now.history) entry }
+        ensures read { result.1 ≡ standing_on self.now.house (live self.now.history) entry }
+    {
+        let mut sought = Sought::nothing();
+        self.seek(&Command::Reverse { entry }, &mut sought);
+        let read = first_standing(&self.trees, &self.terms, entry);
+        (sought.standing, read)
     }
 
     /// The answer to a call of whose command this is known. Keeps nothing and takes no memory.
