@@ -13,17 +13,17 @@
 #![tactic(auto)]
 
 mod cells;
-pub mod command;
-pub mod entry;
+mod command;
+mod entry;
 mod firms;
-pub mod house;
-pub mod memory;
-pub mod names;
-pub mod node;
-pub mod numbers;
-pub mod refusal;
-pub mod report;
-pub mod state;
+mod house;
+mod memory;
+mod names;
+mod node;
+mod numbers;
+mod refusal;
+mod report;
+mod state;
 
 pub use command::{Command, Part, Parts, Side};
 pub use entry::{Answer, Entry, Record};

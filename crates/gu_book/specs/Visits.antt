@@ -1,6 +1,8 @@
 -- How many nodes of the trees a call visits, and how many entries of a giver and a taker.
 -- A visit is a node that the call looks at, makes or takes away, counted once for the call: the nodes on the ways from their roots that it
--- hands to the trees, and the parts that it makes, takes away or asks after. An entry of a giver and a taker that it looks at is a visit too.
+-- hands to the trees, and the parts that it makes, takes away or asks after. An entry of a giver
+-- and a taker that it looks at is a visit too: a Reverse of a Claim, an Agree or a Raise may look
+-- at each, so all of them are counted.
 use Rattle.std.specs.Prelude.{◌≡◌, ◌≤◌, ◌<◌, ◌+◌, ◌^◌, ℕ, Bool, true, false, if◌then◌else◌, List, length, Option, option_and_then, option_map, unwrap_or, IsSome}
 use Rattle.std.specs.Prelude.{IsSomeAnd, Result, Ok, Err}
 use Rattle.gu_base.specs.Numbers.{EntryPart}

@@ -8,7 +8,7 @@ ghost use Rattle.gu_base.specs.Positions.{position_of};
 ghost use Rattle.gu_base.specs.Fees.{paid_by, received_by};
 ghost use Rattle.gu_base.specs.Terms.{limit_of, terms_of, used_of};
 ghost use Rattle.gu_base.specs.Numbers.{EntryPart};
-ghost use Rattle.gu_base.specs.Standing.{IsLegal};
+ghost use Rattle.gu_base.specs.Standing.{IsLegal, standing_on};
 ghost use Rattle.gu_base.specs.Answers.{Call, answer_to, after, is_accepted};
 ghost use Rattle.gu_base.specs.declared.command.Side.TheVariants.{Buy, Sell};
 ghost use Rattle.gu_base.specs.declared.entry.Answer.TheVariants.{Accepted};
@@ -42,6 +42,7 @@ use gu_base::{
     Number, Parts, Place, State,
 };
 use gu_consent::Consents;
+use gu_depend::first_standing;
 use gu_fees::{Fees, Terms};
 use gu_ids::{HashKey, IdHash, Ids};
 use gu_parties::House;
@@ -218,8 +219,9 @@ impl Book {
     }
 
     /// How many nodes of the trees the last `apply` visited, each counted once: those on the ways to the nodes that it looked at, and the parts
-    /// that it made, took away or asked after. Of a Reverse of an Agree or a Raise it is how many entries their giver and taker have: their Agree,
-    /// Raises and Claims. A call that is refused, repeated or finds no memory changes this number too.
+    /// that it made, took away or asked after. Of a Reverse of a Claim, an Agree or a Raise it
+    /// counts the entries of their giver and taker too: their Agree, Raises and Claims. A call that
+    /// is refused, repeated or finds no memory changes this number too.
     pub fn visits(&self) -> u64
         ensures { result ≡ self.now.visits }
     {
@@ -245,6 +247,19 @@ impl Book {
     {
         let changes = Live::of(self.entries.as_slice(), &self.lookups.reversals);
         seek(&changes, &self.trees, &self.terms, command, sought);
+    }
+
+    /// What the book asks of what stands on a change, and what `first_standing` reads off its trees
+    /// and terms.
+    #[tactic(auto, using(gu_base::proofs::LegalLaws::legal_from_replay))]
+    pub(crate) fn standings(&self, entry: Number) -> (Option<Number>, Option<Number>)
+        ensures asked { result.0 ≡ standing_on self.now.house (live self.now.history) entry }
+        ensures read { result.1 ≡ standing_on self.now.house (live self.now.history) entry }
+    {
+        let mut sought = Sought::nothing();
+        self.seek(&Command::Reverse { entry }, &mut sought);
+        let read = first_standing(&self.trees, &self.terms, entry);
+        (sought.standing, read)
     }
 
     /// The answer to a call of whose command this is known. Keeps nothing and takes no memory.

@@ -121,8 +121,9 @@ pub(crate) struct Sought {
     pub(crate) standing: Option<Number>,
     /// From the root of the trade in whose tree the node lies; of no use where there is no node.
     pub(crate) path: Path,
-    /// How many nodes were looked at: those on the way, and the parts of the Split that a Reverse names. Where it names an Agree or a Raise, how
-    /// many entries its giver and taker have.
+    /// How many nodes are looked at: those on the way, and the parts of the Split that a Reverse
+    /// names. Where it names a Claim, also how many entries its giver and taker have, and where an
+    /// Agree or a Raise, these alone.
     pub(crate) nodes: u64,
 }
 
@@ -194,7 +195,7 @@ fn seek_change(
         unreachable!()
     };
     let found = found_at(&spot, &sought.path);
-    sought.nodes = found.depth as u64 + 1 + visits::parts_in(made.command);
+    sought.nodes = found.depth as u64 + 1 + visits::met_beside(terms, number, made.command);
     sought.undone = Some(Undone {
         found,
         deal: traded_under(changes, spot.trade),

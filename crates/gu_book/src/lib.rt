@@ -23,7 +23,7 @@
 //! Its cases, whole days of a small house, are data of the program `test_book`.
 #![tactic(auto)]
 
-pub mod book;
+mod book;
 mod found;
 mod grove;
 pub mod laws;

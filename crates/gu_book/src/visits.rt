@@ -1,8 +1,13 @@
-//! How many nodes of the trees a call visits.
-ghost use Rattle.std.specs.Prelude.{◌≡◌, ◌<◌, ◌^◌};
+//! How many nodes of the trees a call visits, and how many entries of a giver and a taker.
+ghost use Rattle.std.specs.Prelude.{◌≡◌, ◌≤◌, ◌<◌, ◌+◌, ◌^◌, List};
+ghost use Rattle.gu_base.specs.House.{House};
+ghost use Rattle.gu_base.specs.declared.entry.Record.{Record};
 ghost use Rattle.gu_book.specs.Visits.{is_of_trees, parts_in, nodes_made};
+ghost use Rattle.gu_depend.specs.Terms.{AreTermsOf, entries_dealt};
 
-use gu_base::Command;
+use gu_base::{Command, Number};
+use gu_depend::entries_beside;
+use gu_fees::Terms;
 
 /// The parts of a Split.
 pub(crate) fn parts_in(command: &Command) -> u64
@@ -12,6 +17,20 @@ pub(crate) fn parts_in(command: &Command) -> u64
     match command {
         Command::Split { parts, .. } => parts.as_slice().len() as u64,
         _ => 0,
+    }
+}
+
+/// What a Reverse of this change of trees may look at beside the way to its node: the parts of a
+/// Split, and the entries of the giver and the taker of a Claim, from among which it is taken out.
+pub(crate) fn met_beside(terms: &Terms, number: Number, command: &Command) -> u64
+    ensures fits { result < 2 ^ 63 }
+    ensures least { parts_in command.now ≤ result }
+    ensures most { (t : House) (l : List Record) → AreTermsOf t l terms.now
+        → result ≤ parts_in command.now + entries_dealt l number }
+{
+    match command {
+        Command::Claim { .. } => entries_beside(terms, number) as u64,
+        _ => parts_in(command),
     }
 }
 

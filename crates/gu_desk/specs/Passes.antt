@@ -23,7 +23,8 @@ with_laid_in v w = record { seen = v.seen; laid_in = w.seen; is_books = v.is_boo
 abbrev pub Fits : ℕ → List Entry → ℕ → PassView → Type 0
 Fits place h at v = (v.is_books ≡ true → (at ≡ place) × (v.seen ≡ h)) × BeginsWith h v.seen × BeginsWith h v.laid_in
 
--- the rule: there is one history, the word is its length, and each pass fits
+-- the rule: there is one history, the word is its length, and each pass fits. That one pass is the
+-- book's, the rule leaves to the type `Till`, which carries it
 pub record IsCounted (s : State Entry PassView) : Type 0 where
   pub place : ℕ
   pub history : List Entry

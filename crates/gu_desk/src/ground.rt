@@ -38,7 +38,7 @@ impl Model for Ground {
 }
 
 impl Ground {
-    /// Whether a desk may have so many workers: 1 to 16.
+    /// Whether a desk may have so many workers, 1 to 16: the test for the condition of `new`.
     pub fn admits(workers: u32) -> bool
         ensures { result ≡ is_worker_count workers }
     {

@@ -65,7 +65,8 @@ fn add_gained<J: Job>(
 }
 
 impl<J: Job> Till<J> {
-    /// The accepted commands, in order: a history that calls made of the opening book.
+    /// The accepted commands, in order: a history that calls made of the opening book. It has no
+    /// caller, and is there for its clauses as a law is: they hold whenever the lock is free.
     pub fn history(&self) -> &[Entry]
         ensures value { result.now ≡ self.now.history }
         ensures run { IsRunOf J.opening self.now }

@@ -18,8 +18,9 @@
 //!   row of an entry's pair.
 //! - An entry is found by halves. What is taken out leaves a mark, so nothing behind it moves; a pair's marks go where they outnumber its entries.
 //!
-//! What a call asks of its caller, a test of this crate answers: `can_charge`, `can_uncharge`, `can_put`, `can_put_at`; for
-//! `Fees::put` the sums, for `ready_at` whether `row_at` has a row.
+//! What a call asks of its caller, a test of this crate answers: `can_charge`, `can_uncharge`;
+//! `can_put` and `can_put_at`, also that the limit of an agreement is in its range; for `Fees::put`
+//! the sums, for `ready_at` whether `row_at` has a row. For `Terms::ready` it is `has_low_limit`.
 //! Its cases stand in the program `test_nodes`.
 #![tactic(auto)]
 
@@ -29,5 +30,5 @@ mod pair;
 mod terms;
 
 pub use fees::Fees;
-pub use pair::PairTerms;
+pub use pair::{PairTerms, has_low_limit};
 pub use terms::Terms;

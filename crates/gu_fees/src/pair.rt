@@ -11,7 +11,8 @@ use gu_base::{Agreement, Deed, Memory, Number};
 use std::alloc::Global;
 use std::marker::Model;
 
-/// The terms of the house table for a giver and a taker, and their live Agree, Raises and Claims in the order of their numbers.
+/// The terms of the house table for a giver and a taker, and their live Agree, Raises and Claims in
+/// the order of their numbers. `Terms` alone makes and changes one, and lends it to be read.
 #[derive(Drop)]
 pub struct PairTerms {
     file: Option<Agreement>,
@@ -41,7 +42,7 @@ impl Model for PairTerms {
 
 impl PairTerms {
     /// The terms of the house table alone. What is dealt under them will grow by this allocator.
-    pub fn new(alloc: Global, file: Option<Agreement>) -> PairTerms
+    pub(crate) fn new(alloc: Global, file: Option<Agreement>) -> PairTerms
         requires { IfSome file (λ a. a.limit ≤ highest_limit) }
         ensures file { result.file ≡ file }
         ensures dealings { result.dealings ≡ [] }
@@ -62,7 +63,7 @@ impl PairTerms {
     /// # Errors
     ///
     /// `Memory` where a growth was refused.
-    pub fn ready(&mut self) -> Result<(), Memory>
+    pub(crate) fn ready(&mut self) -> Result<(), Memory>
         ensures file { self.new.file ≡ self.old.file }
         ensures dealings { self.new.dealings ≡ self.old.dealings }
         ensures last { self.new.last ≡ self.old.last }
@@ -73,7 +74,7 @@ impl PairTerms {
     }
 
     /// Whether `put` may be called.
-    pub fn can_put(&self, entry: Number, deed: Deed) -> bool
+    pub(crate) fn can_put(&self, entry: Number, deed: Deed) -> bool
         ensures { IsTrue result ↔ ((1 ≤ self.now.room) × (self.now.last < entry) × HasRoomFor self.now.dealings deed) }
     {
         let room = self.deeds.len() < self.deeds.capacity();
@@ -82,7 +83,7 @@ impl PairTerms {
     }
 
     /// Puts an entry behind the others: there is room for it, its number is above theirs, and the sums stay numbers of 64 bits. Takes no memory.
-    pub fn put(&mut self, entry: Number, deed: Deed)
+    pub(crate) fn put(&mut self, entry: Number, deed: Deed)
         requires room { 1 ≤ self.old.room }
         requires above { self.old.last < entry }
         requires fits { HasRoomFor self.old.dealings deed }
@@ -99,7 +100,7 @@ impl PairTerms {
     /// Takes the entry of this number out, if it is there. Takes no memory.
     ///
     /// Its number stays until there are more such numbers than entries.
-    pub fn take_out(&mut self, entry: Number)
+    pub(crate) fn take_out(&mut self, entry: Number)
         ensures file { self.new.file ≡ self.old.file }
         ensures dealings { self.new.dealings ≡ leave_out entry self.old.dealings }
         ensures last { self.new.last ≤ self.old.last }
@@ -166,6 +167,17 @@ impl PairTerms {
             Some(Deed::Uses(_)) => None,
             None => None,
         }
+    }
+}
+
+/// Whether these terms have a limit that terms may have: the test for that condition of
+/// `Terms::ready`.
+pub fn has_low_limit(file: Option<Agreement>) -> bool
+    ensures { IsTrue result ↔ IfSome file (λ a. a.limit ≤ highest_limit) }
+{
+    match file {
+        Some(terms) => terms.limit <= Agreement::MAX_LIMIT,
+        None => true,
     }
 }
 

@@ -129,7 +129,7 @@ impl Terms {
     }
 
     /// Makes room for one more entry of the pair, and its row with these terms of the house table, unless it has one. No terms change, and
-    /// nothing that is dealt.
+    /// nothing that is dealt. The limit of the terms is one that terms may have (`has_low_limit`).
     ///
     /// # Errors
     ///
@@ -197,7 +197,8 @@ impl Terms {
         Ok(())
     }
 
-    /// Whether `put_at` may be called: the pair at this place is ready, the number is above all that were put in, and the sums of the pair stay
+    /// Whether `put_at` may be called: the pair at this place is ready, the number is above all
+    /// that were put in, an agreement has a limit that it may have, and the sums of the pair stay
     /// numbers of 64 bits.
     pub fn can_put_at(&self, place: usize, entry: Number, deed: Deed) -> bool
         ensures { IsTrue result ↔ CanPutAt self.now place (record { number = entry; deed = deed }) }

@@ -149,7 +149,8 @@ pub fn shows_few_parts(report: &Report) -> bool
 /// AllocReportID (755), AllocTransType (71), AllocReportType (794), AllocStatus (87), RefAllocID (72), Symbol (55), Side (54), Quantity (53) and
 /// TradeDate (75), the UTC date of the moment; and where parts are shown NoAllocs (78), and of each AllocAccount (79), AllocQty (80) and the
 /// firm that gets it (539, 524, 525, 538). Quantities are in lots (`docs/profile.md`, "Reports"). The report shows at most 100 parts
-/// (`shows_few_parts`), and the moment is from 1970 on; so the body has at most 65,000 bytes.
+/// (`shows_few_parts`), and the moment is from 1970 on (`is_moment`); so the body has at most
+/// 65,000 bytes.
 ///
 /// # Errors
 ///

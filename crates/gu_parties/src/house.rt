@@ -96,7 +96,9 @@ impl House {
         self.agreements.get(&key).copied()
     }
 
-    /// The rate and the limit of each agreement are in their ranges. Calling this gives its clause as a fact.
+    /// The rate and the limit of each agreement are in their ranges. This is a law for a caller who
+    /// has kept an agreement and asks the table no more: calling it gives its clause as a fact, and
+    /// does nothing.
     #[inline(always)]
     pub fn terms_are_in_range(&self)
         ensures { (giver taker : List ℕ) → IfSome (agreement self.now giver taker) (λ a. (a.rate ≤ highest_rate) × (a.limit ≤ highest_limit)) }

@@ -16,8 +16,8 @@
 #![tactic(auto)]
 
 mod add;
-pub mod fault;
-pub mod house;
+mod fault;
+mod house;
 mod line;
 mod number;
 mod opening;
@@ -25,4 +25,5 @@ mod parse;
 mod words;
 
 pub use fault::{Cause, HouseError};
+pub use gu_base::Agreement;
 pub use house::House;

@@ -22,4 +22,5 @@ mod verdict;
 mod writing;
 
 pub use event::{Actions, Event};
-pub use session::{Session, is_moment};
+pub use gu_message::is_moment;
+pub use session::Session;

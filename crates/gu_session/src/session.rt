@@ -1,6 +1,6 @@
 //! A session.
 
-ghost use Rattle.std.specs.Prelude.{◌≡◌, ◌↔◌, ◌≤◌, ◌≤ℤ◌, ◌+◌, ◌++◌, pos, true, false, IsTrue, OnOk, OnErr, IfOk, Ok, None, Some, is_some, option_map, length};
+ghost use Rattle.std.specs.Prelude.{◌≡◌, ◌≤◌, ◌≤ℤ◌, ◌+◌, ◌++◌, pos, true, false, IsTrue, OnOk, OnErr, IfOk, Ok, None, Some, is_some, option_map, length};
 ghost use Rattle.std.specs.List.{All};
 ghost use Rattle.gu_codec.specs.Answer.{pairs};
 ghost use Rattle.gu_message.specs.AllocationReport.{ShowsFewParts};
@@ -50,13 +50,6 @@ impl<'a> Model for Session<'a> {
     ghost view = { λ s. record { house = s.house.now; link = s.link; kept = s.kept } };
 
     ghost invariant = { λ s. IsTrue (fits s.link) };
-}
-
-/// Whether a moment is one that `step` takes: from 1970 on. A `Timestamp` ends with the year 9999.
-pub fn is_moment(moment: Timestamp) -> bool
-    ensures { IsTrue result ↔ (pos 0 ≤ℤ moment.nanosecond) }
-{
-    moment.as_nanosecond() >= 0
 }
 
 /// The header of a message, and what it means; or the Rejects that answer them.
@@ -181,7 +174,8 @@ impl<'a> Session<'a> {
         }
     }
 
-    /// Takes an event at a moment from 1970 to 9999, and answers what to do, by the table of `docs/profile.md`.
+    /// Takes an event at a moment from 1970 to 9999 (`is_moment`), and answers what to do, by the
+    /// table of `docs/profile.md`.
     ///
     /// After a `Message` whose actions have a call, the call is to be made and its answer handed in by a `Reply` before the
     /// next `Message`. A `Reply` clears the call that waits; where none waits, only its reports are sent. A closed session

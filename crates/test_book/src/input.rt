@@ -1,7 +1,7 @@
 //! What the program is given: a house file, or all of standard input.
 
 use crate::memory::tell_refused;
-use gu_parties::House;
+use gu_parties::{Cause, House};
 use std::alloc::Global;
 use std::io::Read;
 
@@ -9,10 +9,11 @@ use std::io::Read;
 pub(crate) fn read_house(rt: &HostRuntime, alloc: Global, text: &[u8]) -> Option<House> {
     match House::parse(alloc, text) {
         Ok(house) => Some(house),
-        Err(_) => {
+        Err(fault) if fault.cause == Cause::Memory => {
             tell_refused(rt);
             House::parse(alloc, text).ok()
         }
+        Err(_) => None,
     }
 }
 

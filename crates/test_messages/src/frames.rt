@@ -1,9 +1,11 @@
 //! Streams of frames of all kinds, and what is read of each.
 //!
 //! The words of a line are a stream and how it comes: the size of its pieces, a space, and its bytes, in which `|` stands
-//! for SOH and `@` for 65,501 times `x`. Piece after piece is pushed into a feed; each answer that the feed gives between
-//! them is written, each refusal of a piece, and at last the feed's room. Where the size is 0 it is written what is read of
-//! each front of the bytes, and of all of them, and which fields stand before the text (58).
+//! for SOH and `@` for 65,501 times `x`. Piece after piece is pushed into a feed; behind each the
+//! feed's room is written, and then each answer that it gives before the next, one that ends the
+//! stream twice, since it is asked once more; each refusal of a piece, and at last the room. Where
+//! the size is 0 it is written what is read of each front of the bytes, and of all of them, and
+//! which fields stand before the text (58).
 
 use gu_codec::{Feed, FeedError, Fields, Frame, Marked, read_frame, tags};
 use std::alloc::Global;
@@ -73,21 +75,24 @@ fn show_next(rt: &impl Print, feed: &mut Feed) -> bool {
     }
 }
 
-/// Writes each answer that the feed gives before it waits.
+/// Writes each answer that the feed gives before it waits or is broken, and asks once more: a feed
+/// that waits goes on to wait, and a broken one answers the same again.
 fn show_held(rt: &impl Print, feed: &mut Feed) {
     for _ in 0..65_536u32 {
         if !show_next(rt, feed) {
             break;
         }
     }
+    show_next(rt, feed);
 }
 
-/// Pushes a piece, and writes what comes of it.
+/// Pushes a piece, and writes the room that is left and what comes of it.
 fn push(rt: &impl Print, feed: &mut Feed, piece: &[u8]) -> bool {
     match feed.push(piece) {
         Ok(()) => {
+            let is_told = println!(rt; "pushed, room {}", feed.room()).is_ok();
             show_held(rt, feed);
-            true
+            is_told
         }
         Err(FeedError::Full) => rt.println("full").is_ok(),
         Err(FeedError::Ended) => rt.println("ended").is_ok(),

@@ -21,7 +21,7 @@ use gu_base::{
     Answer, InstrumentId, NodeName, Number, Refusal, Report, ReportParts, Side, State, Target,
 };
 use gu_codec::{Frame, read_frame};
-use gu_parties::House;
+use gu_parties::{Cause, House};
 use gu_session::{Actions, Event, Session, is_moment};
 use jiff::Timestamp;
 pub(crate) use showing::tell_refused;
@@ -341,10 +341,11 @@ fn play(rt: &(impl Print + Eprint), alloc: Global, house: &House, input: &str) -
 fn house(rt: &impl Eprint, alloc: Global) -> Option<House> {
     match House::parse(alloc, HOUSE) {
         Ok(house) => Some(house),
-        Err(_) => {
+        Err(fault) if fault.cause == Cause::Memory => {
             tell_refused(rt);
             House::parse(alloc, HOUSE).ok()
         }
+        Err(_) => None,
     }
 }
 

@@ -67,10 +67,10 @@ pub returns-clause-most : goal.returns-clause-most
 returns-clause-most c = λ t dealt.
     let way = way_to c.requires.trees c.args.number c.in-Some-named.spot.trade c.named.new.path.items (rw c.in-Some-named.is at c.named.ensures.found) in
     let parts = parts_of_named c.args.changes.now c.args.number (record_of c.in-Some.made) (its_parts (goal.at.returns-clause-most c).After-found_at-found) in
-    omega (arith, way, parts, c.found_at-found.ensures.deep, c.parts_in.ensures.value)
+    omega (arith, way, parts, c.found_at-found.ensures.deep, c.met_beside.ensures.most t c.args.changes.now dealt)
 
 pub returns-clause-least : goal.returns-clause-least
 returns-clause-least c = λ _.
     let way = way_to c.requires.trees c.args.number c.in-Some-named.spot.trade c.named.new.path.items (rw c.in-Some-named.is at c.named.ensures.found) in
     let parts = parts_of_named c.args.changes.now c.args.number (record_of c.in-Some.made) (its_parts (goal.at.returns-clause-least c).After-found_at-found) in
-    omega (arith, way, parts, c.found_at-found.ensures.deep, c.parts_in.ensures.value)
+    omega (arith, way, parts, c.found_at-found.ensures.deep, c.met_beside.ensures.least)

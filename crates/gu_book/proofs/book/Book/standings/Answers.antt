@@ -1,0 +1,13 @@
+use Rattle.std.proofs.Common.{arith}
+use Rattle.gu_depend.proofs.Vocabulary.{live}
+use Rattle.gu_base.proofs.{LegalLaws.legal_from_replay, Numbered.rises_later}
+use Rattle.gu_book.proofs.Leaves.{live_rises}
+use Rattle.gu_book.proofs.book.Book.standings.Goals as goal
+
+pub returns-clause-read : goal.returns-clause-read
+returns-clause-read c =
+    let t = c.self.inside.house in
+    let h = c.self.inside.entries.items in
+    let kept = c.self.invariant.kept in
+    rw (← c.self.view_is)
+    (c.first_standing-read.ensures.first t (live h) (rises_later 0 1 (live h) (omega arith) (live_rises h)) (legal_from_replay t (live h) kept.replayed) kept.filed c.self.invariant.dealt)
