@@ -13,7 +13,8 @@ use Rattle.gu_desk.specs.declared.count.PassView.{PassView}
 abbrev pub IsOf : TableId → TableId → Type 0
 IsOf table pass = (pass ≡ table) × (table.words ≡ 2)
 
--- the first pass, the book's and the journal's in one, which has seen this history; nothing is durable
+-- the first pass, the book's and the journal's in one, which has seen this history; nothing is
+-- durable
 abbrev pub of_opening : List Entry → PassView
 of_opening h = record { seen = h; laid_in = []; kept = []; is_books = true; is_journals = true }
 
@@ -31,7 +32,8 @@ of_caller h = record { seen = h; laid_in = []; kept = []; is_books = false; is_j
 
 -- what a caller's pass is when it is split off another: it has seen the same
 abbrev pub beside : PassView → PassView
-beside v = record { seen = v.seen; laid_in = []; kept = v.kept; is_books = false; is_journals = false }
+beside v =
+    record { seen = v.seen; laid_in = []; kept = v.kept; is_books = false; is_journals = false }
 
 -- what the first pass is once the journal's is split off it
 abbrev pub without_journal : PassView → PassView
@@ -58,21 +60,23 @@ with_seen_of v w = of_kind v w.seen v.laid_in v.kept
 abbrev pub with_kept : List Entry → PassView → PassView
 with_kept d v = of_kind v v.seen v.laid_in d
 
--- the journal's pass into which a caller's was laid: beside what it knows to be durable it now has what the caller's
--- knew to be
+-- the journal's pass into which a caller's was laid: beside what it knows to be durable it now has
+-- what the caller's knew to be
 abbrev pub with_kept_laid_in : PassView → PassView → PassView
 with_kept_laid_in v w = of_kind v v.seen w.kept v.kept
 
--- a pass at one place, where the book's is at `place` and the journal's at `journal`. The book's has seen all of the
--- history h, the journal's knows of all of d that is durable; each has seen a beginning of h, and knows of one of d.
--- What was laid into a pass begins h, and d where the pass is the journal's
+-- a pass at one place, where the book's is at `place` and the journal's at `journal`. The book's
+-- has seen all of the history h, the journal's knows of all of d that is durable; each has seen a
+-- beginning of h, and knows of one of d. What was laid into a pass begins h, and d where the pass
+-- is the journal's
 abbrev pub Fits : ℕ → ℕ → List Entry → List Entry → ℕ → PassView → Type 0
 Fits place journal h d at v = (v.is_books ≡ true → (at ≡ place) × (v.seen ≡ h))
     × (v.is_journals ≡ true → (at ≡ journal) × (v.kept ≡ d) × BeginsWith d v.laid_in)
     × BeginsWith h v.seen × BeginsWith h v.laid_in × BeginsWith d v.kept
 
--- the rule: there is one history, as long as a history may be, and it begins with what is durable of it; the words
--- are their lengths, and each pass fits
+-- the rule: there is one history, as long as a history may be, and it begins with what is durable
+-- of it; the words are their lengths, and each pass fits. That one pass is the book's and one the
+-- journal's, the rule leaves to the types `Till` and `JournalSeat`, which carry them
 pub record IsCounted (s : State Entry PassView) : Type 0 where
   pub place : ℕ
   pub journal : ℕ
@@ -81,7 +85,8 @@ pub record IsCounted (s : State Entry PassView) : Type 0 where
   pub words : s.words ≡ length history ∷ length durable ∷ []
   pub begins : BeginsWith history durable
   pub few : length history ≤ most_entries
-  pub fits : (at : ℕ) (v : PassView) → get_elem? s.views at ≡ some v → Fits place journal history durable at v
+  pub fits : (at : ℕ) (v : PassView) → get_elem? s.views at ≡ some v
+      → Fits place journal history durable at v
 
 -- a look: the word is the length of what the pass has seen. What was laid into it begins that, and is laid aside
 abbrev pub Looks : Step Entry → Me Entry PassView → ℕ → Me Entry PassView → Type 0
@@ -97,8 +102,8 @@ with_record (some e) v = of_kind v (v.seen ++ e ∷ []) v.laid_in v.kept
 abbrev pub Publishes : Step Entry → Me Entry PassView → ℕ → Me Entry PassView → Type 0
 Publishes s before found after = after ≡ (with_record s.said before.0, before.1)
 
--- a settlement: the word is the length of what is durable, and the pass now knows of it. Where it isn't below the
--- length of what the pass has seen, all that the pass has seen is durable
+-- a settlement: the word is the length of what is durable, and the pass now knows of it. Where it
+-- isn't below the length of what the pass has seen, all that the pass has seen is durable
 abbrev pub Settles : Step Entry → Me Entry PassView → ℕ → Me Entry PassView → Type 0
 Settles s before found after = (found ≡ length after.0.kept) × (found ≤ most_entries)
     × BeginsWith after.0.kept before.0.kept
@@ -109,7 +114,8 @@ Settles s before found after = (found ≡ length after.0.kept) × (found ≤ mos
 abbrev pub Confirms : Step Entry → Me Entry PassView → ℕ → Me Entry PassView → Type 0
 Confirms s before found after = after ≡ (with_kept before.0.seen before.0, before.1)
 
--- a comparison: what was laid into the journal's pass begins what it knows to be durable, and is laid aside
+-- a comparison: what was laid into the journal's pass begins what it knows to be durable, and is
+-- laid aside
 abbrev pub Compares : Step Entry → Me Entry PassView → ℕ → Me Entry PassView → Type 0
 Compares s before found after = BeginsWith before.0.kept before.0.laid_in
     × (after ≡ (of_kind before.0 before.0.seen [] before.0.kept, before.1))

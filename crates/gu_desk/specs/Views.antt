@@ -15,7 +15,8 @@ pub record GroundView : Type 0 where
 pub record DeskView : Type 0 where
   pub seats : ℕ
 
--- how many of the calls that were made with it were accepted, the history that it has seen, and what it knows to be durable
+-- how many of the calls that were made with it were accepted, the history that it has seen, and
+-- what it knows to be durable
 pub record SeatView : Type 0 where
   pub share : ℕ
   pub seen : List Entry

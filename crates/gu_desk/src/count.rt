@@ -1,11 +1,13 @@
 //! The count of the records and of the durable ones, and what is known of them to whom.
 //!
-//! The count is two words of a table: the length of the history, and of the beginning of it that is durable. Beside them, in the proofs
-//! alone, each pass has seen a beginning of the history and knows of a beginning of what is durable: the book's pass has seen all of the
-//! history, the journal's knows of all that is durable, a caller's has seen what stood there when its caller last had an answer. The
-//! table's rule is what a caller later relies on: the passes of one table have seen beginnings of one history, and of two beginnings of
-//! one history the shorter begins the longer. So a number is a receipt: where so many records are durable as a pass has seen, all that it
-//! has seen is. A pass takes no bytes, and each step costs one access of a word.
+//! The count is two words of a table: the length of the history, and of the beginning of it that is
+//! durable. Beside them, in the proofs alone, each pass has seen a beginning of the history and
+//! knows of a beginning of what is durable: the book's pass has seen all of the history, the
+//! journal's knows of all that is durable, a caller's has seen what stood there when its caller
+//! last had an answer. The table's rule is what a caller later relies on: the passes of one table
+//! have seen beginnings of one history, and of two beginnings of one history the shorter begins the
+//! longer. So a number is a receipt: where so many records are durable as a pass has seen, all that
+//! it has seen is. A pass takes no bytes, and each step costs one access of a word.
 ghost use Rattle.std.specs.Prelude.{◌≡◌, ◌≤◌, [], length, IfOk};
 ghost use Rattle.std.specs.Arc.{arc_value};
 ghost use Rattle.gu_base.specs.Limits.{most_entries};
@@ -20,8 +22,9 @@ use std::alloc::Global;
 use std::collections::LinkedList;
 use std::sync::Arc;
 
-/// What a pass knows: the history that it has seen, the one that a pass laid into it had seen, the beginning of the history that it knows
-/// to be durable, and whether it is the book's or the journal's. No code makes one.
+/// What a pass knows: the history that it has seen, the one that a pass laid into it had seen, the
+/// beginning of the history that it knows to be durable, and whether it is the book's or the
+/// journal's. No code makes one.
 pub struct PassView {
     pub seen: LinkedList<Entry>,
     pub laid_in: LinkedList<Entry>,
@@ -30,7 +33,8 @@ pub struct PassView {
     pub is_journals: bool,
 }
 
-/// The rule of the count. The first pass is the book's and the journal's, and has seen the history that the book opens with.
+/// The rule of the count. The first pass is the book's and the journal's, and has seen the history
+/// that the book opens with.
 pub struct CountRule;
 
 impl TableRule<Entry, PassView, Book> for CountRule {
@@ -275,8 +279,8 @@ pub(crate) fn show_journal(count: &Count, pass: &mut Pass, journal: &mut Pass) -
     records
 }
 
-/// How many records are durable, by one load. Where they are as many as the pass has seen, all that it
-/// has seen is durable.
+/// How many records are durable, by one load. Where they are as many as the pass has seen, all that
+/// it has seen is durable.
 pub(crate) fn settle(count: &Count, pass: &mut Pass) -> u32
     requires tables { IsOf (arc_value count.now).shared.table_id pass.old.table_id }
     ensures table { pass.new.table_id ≡ pass.old.table_id }
@@ -302,8 +306,8 @@ pub(crate) fn confirm(count: &Count, pass: &mut Pass, records: u32)
         .store::<Confirmation>(pass, DURABLE, records as u64);
 }
 
-/// Lays a caller's pass into the journal's, and compares: what the caller's knew to be durable is a beginning
-/// of what the journal's knows.
+/// Lays a caller's pass into the journal's, and compares: what the caller's knew to be durable is a
+/// beginning of what the journal's knows.
 pub(crate) fn compare(count: &Count, pass: &mut Pass, caller: Pass)
     requires tables { IsOf (arc_value count.now).shared.table_id pass.old.table_id }
     requires callers_table { caller.table_id ≡ (arc_value count.now).shared.table_id }

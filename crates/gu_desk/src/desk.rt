@@ -1,5 +1,6 @@
 //! The desk that workers share.
-ghost use Rattle.std.specs.Prelude.{◌≡◌, ◌+◌, ◌<◌, ◌≤◌, ◌++◌, [], length, vec_len, IfOk, IfErr, OnOk, OnErr};
+ghost use Rattle.std.specs.Prelude.{◌≡◌, ◌+◌, ◌<◌, ◌≤◌, ◌++◌};
+ghost use Rattle.std.specs.Prelude.{[], length, vec_len, IfOk, IfErr, OnOk, OnErr};
 ghost use Rattle.std.specs.Arc.{arc_value};
 ghost use Rattle.std.specs.List.{All, sum_by};
 ghost use Rattle.gu_base.specs.Limits.{most_entries, most_parts};
@@ -136,8 +137,8 @@ impl<J: Job> Desk<J> {
         }
     }
 
-    /// A desk over the ground's book, a seat for each worker, and the journal's, which has seen the opening
-    /// history. Nothing is durable yet: where a device keeps that history, name it at once.
+    /// A desk over the ground's book, a seat for each worker, and the journal's, which has seen the
+    /// opening history. Nothing is durable yet: where a device keeps that history, name it at once.
     ///
     /// # Errors
     ///
@@ -240,13 +241,13 @@ impl<J: Job> Desk<J> {
         self.till.lock(rt).read(alloc, seat, firm, after)
     }
 
-    /// Copies of the entries above those that are durable, made under the lock, for which it may wait. The
-    /// journal's seat has then seen the history that stands there.
+    /// Copies of the entries above those that are durable, made under the lock, for which it may
+    /// wait. The journal's seat has then seen the history that stands there.
     ///
     /// # Errors
     ///
-    /// `Memory` where a growth was refused, and only where there is an entry above; the seat has seen the
-    /// history then too.
+    /// `Memory` where a growth was refused, and only where there is an entry above; the seat has
+    /// seen the history then too.
     pub fn copy_above<R: Wait>(
         &self,
         rt: &R,
@@ -262,8 +263,8 @@ impl<J: Job> Desk<J> {
         self.till.lock(rt).copy_above(alloc, journal)
     }
 
-    /// Tells all seats and tickets that what the journal's seat has seen is durable, by this device, which
-    /// keeps it. Nothing else makes more of the history durable.
+    /// Tells all seats and tickets that what the journal's seat has seen is durable, by this
+    /// device, which keeps it. Nothing else makes more of the history durable.
     pub fn confirm<K: Keeps>(&self, journal: &mut JournalSeat<J>, by: &K)
         requires { K.keeps by.now journal.old.seen }
         ensures seen { journal.new.seen ≡ journal.old.seen }
@@ -273,8 +274,8 @@ impl<J: Job> Desk<J> {
         journal.confirm(&self.count);
     }
 
-    /// How many entries are durable, by one load and no lock. Where they are as many as the seat has seen,
-    /// what is durable begins with all that it has seen.
+    /// How many entries are durable, by one load and no lock. Where they are as many as the seat
+    /// has seen, what is durable begins with all that it has seen.
     pub fn settle(&self, seat: &mut Seat<J>) -> u32
         ensures share { seat.new.share ≡ seat.old.share }
         ensures seen { seat.new.seen ≡ seat.old.seen }

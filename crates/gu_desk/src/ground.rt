@@ -13,8 +13,8 @@ use std::sync::ledger::Blank;
 /// The most workers of a desk.
 pub(crate) const MOST_WORKERS: u32 = 16;
 
-/// A book, a count of its records with the book's pass and the journal's, and a ledger that no type names
-/// yet. It is of use to one desk alone.
+/// A book, a count of its records with the book's pass and the journal's, and a ledger that no type
+/// names yet. It is of use to one desk alone.
 #[derive(Drop)]
 pub struct Ground {
     pub(crate) book: Book,

@@ -9,9 +9,9 @@ use crate::count::{Count, Pass, compare, confirm, show_journal};
 use crate::seat::Job;
 use std::marker::{Model, PhantomData};
 
-/// The journal's part in a desk, of which there is one. Contracts see the history that it has seen: the one
-/// that stood in the book at its last copy; and what of it is durable: what it had seen when a device was
-/// last named that keeps that.
+/// The journal's part in a desk, of which there is one. Contracts see the history that it has seen:
+/// the one that stood in the book at its last copy; and what of it is durable: what it had seen
+/// when a device was last named that keeps that.
 #[derive(Drop)]
 pub struct JournalSeat<J: Job> {
     pass: Pass,

@@ -30,9 +30,10 @@ impl Job for Brand {
     ghost opening = { no_book };
 }
 
-/// A worker's part in a desk. Contracts see its share, how many of the calls that were made with it were accepted, the history that it has
-/// seen: the one that stood in the book when it last came back, and the beginning of the history that it
-/// knows to be durable: what its last settlement found, and nothing where it came back since.
+/// A worker's part in a desk. Contracts see its share, how many of the calls that were made with it
+/// were accepted, the history that it has seen: the one that stood in the book when it last came
+/// back, and the beginning of the history that it knows to be durable: what its last settlement
+/// found, and nothing where it came back since.
 #[derive(Drop)]
 pub struct Seat<J: Job> {
     pub(crate) share: Share<J>,

@@ -9,10 +9,10 @@ use crate::journal::JournalSeat;
 use crate::seat::Job;
 use std::marker::{Model, PhantomData};
 
-/// What bytes rest on that wait to be sent: the history that a seat had seen when they were made. It takes a
-/// number's room, so that many may wait at different numbers. Contracts see that history, and the beginning
-/// of the desk's that it knows to be durable: what its last settlement found, and before the first what its
-/// seat knew.
+/// What bytes rest on that wait to be sent: the history that a seat had seen when they were made.
+/// It takes a number's room, so that many may wait at different numbers. Contracts see that
+/// history, and the beginning of the desk's that it knows to be durable: what its last settlement
+/// found, and before the first what its seat knew.
 #[derive(Drop)]
 pub struct Ticket<J: Job> {
     pass: Pass,
@@ -56,7 +56,8 @@ impl<J: Job> Ticket<J> {
         }
     }
 
-    /// Whether all that it rests on is durable, by one load and no lock. Then what is durable begins with it.
+    /// Whether all that it rests on is durable, by one load and no lock. Then what is durable
+    /// begins with it.
     pub fn settle(&mut self, desk: &Desk<J>) -> bool
         ensures seen { self.new.seen ≡ self.old.seen }
         ensures found { result ≡ leb (length self.new.seen) (length self.new.kept) }
@@ -66,8 +67,8 @@ impl<J: Job> Ticket<J> {
         self.records <= settle(&desk.count, &mut self.pass)
     }
 
-    /// A law: what a ticket knows to be durable is a beginning of what the journal's seat knows. So nothing is
-    /// known to be durable but what was confirmed.
+    /// A law: what a ticket knows to be durable is a beginning of what the journal's seat knows. So
+    /// nothing is known to be durable but what was confirmed.
     pub fn is_confirmed(self, desk: &Desk<J>, journal: &mut JournalSeat<J>)
         ensures same { journal.new ≡ journal.old }
         ensures begins { BeginsWith journal.old.kept self.kept }

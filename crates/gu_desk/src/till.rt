@@ -1,5 +1,6 @@
 //! What lies behind the lock.
-ghost use Rattle.std.specs.Prelude.{◌≡◌, ◌+◌, ◌<◌, ◌≤◌, ◌++◌, length, map, IfOk, OnOk, OnErr, IsTrue};
+ghost use Rattle.std.specs.Prelude.{◌≡◌, ◌+◌, ◌<◌, ◌≤◌, ◌++◌};
+ghost use Rattle.std.specs.Prelude.{length, map, IfOk, OnOk, OnErr, IsTrue};
 ghost use Rattle.std.specs.List.{All};
 ghost use Rattle.gu_base.specs.Limits.{most_parts};
 ghost use Rattle.gu_base.specs.Answers.{answer_to, after};
@@ -146,13 +147,13 @@ impl<J: Job> Till<J> {
         (seat, told)
     }
 
-    /// Copies of the entries above those that are durable, for the journal's seat, which has then seen the
-    /// history.
+    /// Copies of the entries above those that are durable, for the journal's seat, which has then
+    /// seen the history.
     ///
     /// # Errors
     ///
-    /// `Memory` where a growth was refused, and only where there is an entry above; the seat has seen the
-    /// history then too.
+    /// `Memory` where a growth was refused, and only where there is an entry above; the seat has
+    /// seen the history then too.
     pub fn copy_above(
         &mut self,
         alloc: Global,

@@ -148,8 +148,8 @@ pub(crate) fn played<H: Threads + Wait + Clock + Eprint + Sync>(
     outcome
 }
 
-/// What is kept of a desk over a book of this house, before a call and after it. None where there is no such
-/// book, or no desk.
+/// What is kept of a desk over a book of this house, before a call and after it. None where there
+/// is no such book, or no desk.
 pub(crate) fn kept<H: Wait + Eprint>(
     rt: &HostRuntime,
     handle: &H,

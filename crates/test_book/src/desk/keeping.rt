@@ -1,4 +1,5 @@
-//! A desk with a journal's side: what is durable, and which of two tickets are settled, before and after a copy.
+//! A desk with a journal's side: what is durable, and which of two tickets are settled, before and
+//! after a copy.
 
 ghost use Rattle.std.specs.Prelude.{◌≡◌, ◌+◌, ◌++◌, [], OnOk, OnErr};
 
@@ -47,8 +48,8 @@ pub(crate) struct Looked {
     pub(crate) second: bool,
 }
 
-/// What came of it: how many entries were copied before the call and after it, what was found before the
-/// second copy and after it, and how many entries the book has in the end.
+/// What came of it: how many entries were copied before the call and after it, what was found
+/// before the second copy and after it, and how many entries the book has in the end.
 #[derive(Clone, Copy)]
 pub(crate) struct Keeping {
     pub(crate) opening: usize,
@@ -114,8 +115,8 @@ fn look<J: Job>(
     }
 }
 
-/// Keeps the opening history, makes a call, and keeps what it added. One ticket is from before the call, and
-/// one from after it.
+/// Keeps the opening history, makes a call, and keeps what it added. One ticket is from before the
+/// call, and one from after it.
 fn play<J: Job, R: Wait + Eprint>(
     rt: &R,
     alloc: Global,
@@ -175,7 +176,8 @@ fn play_and_close<J: Job, R: Wait + Eprint>(
     Some(Keeping { entries, ..keeping })
 }
 
-/// The same at a desk of one worker over this ground. The book comes back where there is no memory for the desk.
+/// The same at a desk of one worker over this ground. The book comes back where there is no memory
+/// for the desk.
 fn run<J: Job, R: Wait + Eprint>(
     rt: &R,
     alloc: Global,
@@ -206,7 +208,8 @@ fn attempt<R: Wait + Eprint>(
     }
 }
 
-/// The same, and where there is no memory for the ground or the desk once more with the book that comes back.
+/// The same, and where there is no memory for the ground or the desk once more with the book that
+/// comes back.
 pub(crate) fn keeping_of<R: Wait + Eprint>(
     rt: &R,
     alloc: Global,
