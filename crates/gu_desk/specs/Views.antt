@@ -1,4 +1,4 @@
--- What contracts see of a ground, a desk and a seat.
+-- What contracts see of a ground, a desk, its seats and a ticket.
 use Rattle.std.specs.Prelude.{ℕ, Bool, ◌&&◌, leb, List, []}
 use Rattle.atomic_table.specs.Seated.{TableId}
 use Rattle.gu_base.specs.declared.entry.Entry.{Entry}
@@ -15,10 +15,22 @@ pub record GroundView : Type 0 where
 pub record DeskView : Type 0 where
   pub seats : ℕ
 
--- how many of the calls that were made with it were accepted, and the history that it has seen
+-- how many of the calls that were made with it were accepted, the history that it has seen, and
+-- what it knows to be durable
 pub record SeatView : Type 0 where
   pub share : ℕ
   pub seen : List Entry
+  pub kept : List Entry
+
+-- the history that the journal's seat has seen, and what is durable
+pub record JournalView : Type 0 where
+  pub seen : List Entry
+  pub kept : List Entry
+
+-- the history that a ticket rests on, and what it knows to be durable
+pub record TicketView : Type 0 where
+  pub seen : List Entry
+  pub kept : List Entry
 
 -- the workers that one desk may have at the most
 abbrev pub most_workers : ℕ

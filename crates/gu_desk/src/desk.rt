@@ -1,42 +1,52 @@
 //! The desk that workers share.
-ghost use Rattle.std.specs.Prelude.{◌≡◌, ◌+◌, ◌<◌, ◌≤◌, [], length, vec_len, IfOk, IfErr, OnOk, OnErr};
+ghost use Rattle.std.specs.Prelude.{◌≡◌, ◌+◌, ◌<◌, ◌≤◌, ◌++◌};
+ghost use Rattle.std.specs.Prelude.{[], length, vec_len, IfOk, IfErr, OnOk, OnErr};
+ghost use Rattle.std.specs.Arc.{arc_value};
 ghost use Rattle.std.specs.List.{All, sum_by};
 ghost use Rattle.gu_base.specs.Limits.{most_entries, most_parts};
 ghost use Rattle.gu_book.specs.Seen.{stored};
 ghost use Rattle.gu_book.specs.Ids.{NoIdTwice};
 ghost use Rattle.gu_trace.specs.Reports.{entries_for, most_reports};
 ghost use Rattle.gu_desk.specs.Begins.{BeginsWith};
-ghost use Rattle.gu_desk.specs.Passes.{of_book};
+ghost use Rattle.gu_desk.specs.Passes.{IsOf, of_book};
 ghost use Rattle.gu_desk.specs.Runs.{IsRunOf, IsAnswerOf, IsReadingOf, IsToldOf, IsCallBy, IsReadingAt, HasSeen};
 ghost use Rattle.gu_desk.specs.Shares.{gained};
 
-use crate::count::{Count, Pass};
+use crate::count::{Count, Pass, give_beside, settle};
 use crate::ground::Ground;
+use crate::journal::JournalSeat;
+use crate::keeps::Keeps;
 use crate::seat::{Job, Seat};
+use crate::ticket::Ticket;
 use crate::till::Till;
-use gu_base::{AllocId, Answer, Command, FirmId, Memory, Report};
+use gu_base::{AllocId, Answer, Command, Entry, FirmId, Memory, Report};
 use gu_book::Book;
 use std::alloc::{AllocError, Global};
 use std::marker::Model;
 use std::sync::ledger::Share;
-use std::sync::{Mutex, Wait};
+use std::sync::{Arc, Mutex, Wait};
 
 /// A book that workers share. Contracts see how many seats were given out.
 #[derive(Drop)]
 pub struct Desk<J: Job> {
     till: Mutex<Till<J>>,
+    pub(crate) count: Count,
     workers: u32,
 }
 
 impl<J: Job> Model for Desk<J> {
     ghost use Rattle.std.specs.Prelude.{◌≡◌, ◌+◌, IsTrue};
+    ghost use Rattle.std.specs.Arc.{arc_value};
+    ghost use Rattle.gu_desk.specs.Passes.{IsOf};
     ghost use Rattle.gu_desk.specs.Views.{DeskView, is_worker_count};
 
     ghost Value = { DeskView };
 
     ghost view = { λ d. record { seats = d.workers } };
 
-    ghost invariant = { λ d. (d.workers + 1 ≡ J.parts) × IsTrue (is_worker_count d.workers) };
+    ghost invariant = { λ d. (d.workers + 1 ≡ J.parts)
+        × IsTrue (is_worker_count d.workers)
+        × IsOf (arc_value d.count).shared.table_id J.table };
 }
 
 /// A seat is missing: the desk, and the seats that came.
@@ -56,8 +66,8 @@ fn cut_seats<J: Job>(
 ) -> Result<Vec<Seat<J>>, Memory>
     requires parts { opening.old.parts ≡ workers + 1 }
     requires amount { opening.old.amount ≡ 0 }
-    requires tables { (pass.old.table_id ≡ count.now.shared.table_id) × (count.now.shared.table_id.words ≡ 1) }
-    requires job { count.now.shared.table_id ≡ J.table }
+    requires tables { IsOf (arc_value count.now).shared.table_id pass.old.table_id }
+    requires job { (arc_value count.now).shared.table_id ≡ J.table }
     requires books { pass.old.me ≡ (of_book pass.old.me.0.seen, []) }
     requires fits { length pass.old.me.0.seen ≤ most_entries }
     ensures seats { IfOk result (λ v. vec_len v ≡ workers) }
@@ -84,8 +94,8 @@ fn merge_seats<J: Job>(
     seats: Vec<Seat<J>>,
 ) -> Share<J>
     requires some { 1 ≤ vec_len seats }
-    requires tables { (pass.old.table_id ≡ count.now.shared.table_id) × (count.now.shared.table_id.words ≡ 1) }
-    requires job { count.now.shared.table_id ≡ J.table }
+    requires tables { IsOf (arc_value count.now).shared.table_id pass.old.table_id }
+    requires job { (arc_value count.now).shared.table_id ≡ J.table }
     requires books { pass.old.me ≡ (of_book pass.old.me.0.seen, []) }
     ensures parts { result.parts ≡ opening.parts + vec_len seats }
     ensures amount { result.amount ≡ opening.amount + sum_by (λ s. s.share) seats.items }
@@ -118,18 +128,55 @@ impl<J: Job> Desk<J> {
         ensures once { IfOk result (λ r. All (λ s. NoIdTwice s.seen) r.1.items) }
         ensures unchanged { IfErr result (λ e. stored e.0 ≡ ground.opening) }
     {
+        match Desk::with_journal(alloc, ground) {
+            Ok((desk, seats, journal)) => {
+                drop(journal);
+                Ok((desk, seats))
+            }
+            Err(left) => Err(left),
+        }
+    }
+
+    /// A desk over the ground's book, a seat for each worker, and the journal's, which has seen the
+    /// opening history. Nothing is durable yet: where a device keeps that history, name it at once.
+    ///
+    /// # Errors
+    ///
+    /// The book, and `Memory` where a growth was refused.
+    pub fn with_journal(
+        alloc: Global,
+        ground: Ground,
+    ) -> Result<(Desk<J>, Vec<Seat<J>>, JournalSeat<J>), (Book, Memory)>
+        requires name { ground.name ≡ J.name }
+        requires parts { ground.workers + 1 ≡ J.parts }
+        requires table { ground.table ≡ J.table }
+        requires opening { ground.opening ≡ J.opening }
+        ensures desk { IfOk result (λ r. r.0.seats ≡ ground.workers) }
+        ensures seats { IfOk result (λ r. vec_len r.1 ≡ ground.workers) }
+        ensures shares { IfOk result (λ r. All (λ s. s.share ≡ 0) r.1.items) }
+        ensures seen { IfOk result (λ r. All (λ s. s.seen ≡ ground.opening.history) r.1.items) }
+        ensures once { IfOk result (λ r. All (λ s. NoIdTwice s.seen) r.1.items) }
+        ensures shown { IfOk result (λ r. r.2.seen ≡ ground.opening.history) }
+        ensures kept { IfOk result (λ r. r.2.kept ≡ []) }
+        ensures unchanged { IfErr result (λ e. stored e.0 ≡ ground.opening) }
+    {
         let Ground {
             book,
             workers,
             blank,
             count,
             mut pass,
+            journal,
         } = ground;
+        let Ok(beside) = Arc::try_clone(&count) else {
+            return Err((book, AllocError));
+        };
         let (mut total, mut opening) = blank.open::<J>();
         let Ok(seats) = cut_seats(alloc, &mut opening, &count, &mut pass, workers) else {
             return Err((book, AllocError));
         };
         total.add(&mut opening, book.history().len() as u64);
+        let journal = JournalSeat::new(journal, book.history().len() as u32);
         let till = Till {
             book,
             total,
@@ -139,9 +186,10 @@ impl<J: Job> Desk<J> {
         };
         let desk = Desk {
             till: Mutex::new(till),
+            count: beside,
             workers,
         };
-        Ok((desk, seats))
+        Ok((desk, seats, journal))
     }
 
     /// Answers a call by the book under the lock, for which it may wait, and gives the seat back.
@@ -193,6 +241,60 @@ impl<J: Job> Desk<J> {
         self.till.lock(rt).read(alloc, seat, firm, after)
     }
 
+    /// Copies of the entries above those that are durable, made under the lock, for which it may
+    /// wait. The journal's seat has then seen the history that stands there.
+    ///
+    /// # Errors
+    ///
+    /// `Memory` where a growth was refused, and only where there is an entry above; the seat has
+    /// seen the history then too.
+    pub fn copy_above<R: Wait>(
+        &self,
+        rt: &R,
+        alloc: Global,
+        journal: &mut JournalSeat<J>,
+    ) -> Result<Vec<Entry>, Memory>
+        ensures value { IfOk result (λ v. journal.new.seen ≡ journal.old.kept ++ v.items) }
+        ensures memory { OnErr result (length journal.old.kept < length journal.new.seen) }
+        ensures seen { HasSeen J.opening journal.old.seen journal.new.seen }
+        ensures kept { journal.new.kept ≡ journal.old.kept }
+        ensures once { NoIdTwice journal.new.seen }
+    {
+        self.till.lock(rt).copy_above(alloc, journal)
+    }
+
+    /// Tells all seats and tickets that what the journal's seat has seen is durable, by this
+    /// device, which keeps it. Nothing else makes more of the history durable.
+    pub fn confirm<K: Keeps>(&self, journal: &mut JournalSeat<J>, by: &K)
+        requires { K.keeps by.now journal.old.seen }
+        ensures seen { journal.new.seen ≡ journal.old.seen }
+        ensures kept { journal.new.kept ≡ journal.old.seen }
+    {
+        let _ = by;
+        journal.confirm(&self.count);
+    }
+
+    /// How many entries are durable, by one load and no lock. Where they are as many as the seat
+    /// has seen, what is durable begins with all that it has seen.
+    pub fn settle(&self, seat: &mut Seat<J>) -> u32
+        ensures share { seat.new.share ≡ seat.old.share }
+        ensures seen { seat.new.seen ≡ seat.old.seen }
+        ensures found { result ≡ length seat.new.kept }
+        ensures later { BeginsWith seat.new.kept seat.old.kept }
+        ensures receipt { length seat.new.seen ≤ result → BeginsWith seat.new.kept seat.new.seen }
+    {
+        settle(&self.count, &mut seat.pass)
+    }
+
+    /// A ticket for what rests on all that the seat has seen.
+    pub fn ticket(&self, seat: &mut Seat<J>) -> Ticket<J>
+        ensures seen { result.seen ≡ seat.old.seen }
+        ensures kept { result.kept ≡ seat.old.kept }
+        ensures same { seat.new ≡ seat.old }
+    {
+        Ticket::new(give_beside(&self.count, &mut seat.pass), seat.records)
+    }
+
     /// The book, against all seats.
     ///
     /// # Errors
@@ -209,7 +311,11 @@ impl<J: Job> Desk<J> {
         if seats.len() < self.workers as usize {
             return Err(CloseError { desk: self, seats });
         }
-        let Desk { till, workers: _ } = self;
+        let Desk {
+            till,
+            count: _,
+            workers: _,
+        } = self;
         let Till {
             book,
             mut total,

@@ -3,7 +3,7 @@ ghost use Rattle.std.specs.Prelude.{◌≡◌, IfOk, IfErr, IsTrue};
 ghost use Rattle.gu_book.specs.Seen.{stored};
 ghost use Rattle.gu_desk.specs.Views.{is_worker_count};
 
-use crate::count::{Count, Pass};
+use crate::count::{Count, Pass, open_count};
 use gu_base::Memory;
 use gu_book::Book;
 use std::alloc::{AllocError, Global};
@@ -13,7 +13,8 @@ use std::sync::ledger::Blank;
 /// The most workers of a desk.
 pub(crate) const MOST_WORKERS: u32 = 16;
 
-/// A book, a count of its records with the book's pass, and a ledger that no type names yet. It is of use to one desk alone.
+/// A book, a count of its records with the book's pass and the journal's, and a ledger that no type
+/// names yet. It is of use to one desk alone.
 #[derive(Drop)]
 pub struct Ground {
     pub(crate) book: Book,
@@ -21,20 +22,33 @@ pub struct Ground {
     pub(crate) blank: Blank,
     pub(crate) count: Count,
     pub(crate) pass: Pass,
+    pub(crate) journal: Pass,
 }
 
 impl Model for Ground {
     ghost use Rattle.std.specs.Prelude.{◌≡◌, ◌+◌, ◌≤◌, [], length, IsTrue};
     ghost use Rattle.gu_base.specs.Limits.{most_entries};
     ghost use Rattle.gu_book.specs.Seen.{stored};
-    ghost use Rattle.gu_desk.specs.Passes.{of_book};
+    ghost use Rattle.std.specs.Arc.{arc_value};
+    ghost use Rattle.gu_desk.specs.Passes.{IsOf, of_book, of_journal};
     ghost use Rattle.gu_desk.specs.Views.{GroundView, is_worker_count};
 
     ghost Value = { GroundView };
 
-    ghost view = { λ g. record { name = g.blank.name; workers = g.workers; table = g.count.shared.table_id; opening = stored g.book } };
+    ghost view = { λ g. record {
+      name = g.blank.name;
+      workers = g.workers;
+      table = (arc_value g.count).shared.table_id;
+      opening = stored g.book;
+    } };
 
-    ghost invariant = { λ g. (g.blank.parts ≡ g.workers + 1) × IsTrue (is_worker_count g.workers) × (g.count.shared.table_id.words ≡ 1) × (g.pass.table_id ≡ g.count.shared.table_id) × (g.pass.me ≡ (of_book g.book.history, [])) × (length g.book.history ≤ most_entries) };
+    ghost invariant = { λ g. (g.blank.parts ≡ g.workers + 1)
+        × IsTrue (is_worker_count g.workers)
+        × IsOf (arc_value g.count).shared.table_id g.pass.table_id
+        × (g.journal.table_id ≡ (arc_value g.count).shared.table_id)
+        × (g.pass.me ≡ (of_book g.book.history, []))
+        × (g.journal.me ≡ (of_journal g.book.history [], []))
+        × (length g.book.history ≤ most_entries) };
 }
 
 impl Ground {
@@ -56,8 +70,7 @@ impl Ground {
         ensures workers { IfOk result (λ g. g.workers ≡ workers) }
         ensures unchanged { IfErr result (λ e. e.0 ≡ book) }
     {
-        let length = book.history().len() as u64;
-        let Ok((count, pass)) = Count::of_words(alloc, &[length], &book) else {
+        let Ok((count, pass, journal)) = open_count(alloc, &book) else {
             return Err((book, AllocError));
         };
         Ok(Ground {
@@ -66,6 +79,7 @@ impl Ground {
             blank: Blank::new(workers as u64 + 1),
             count,
             pass,
+            journal,
         })
     }
 }

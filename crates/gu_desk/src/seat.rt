@@ -1,8 +1,9 @@
 //! Which desk it is, and a worker's part in it.
 ghost use Rattle.std.specs.Prelude.{◌≡◌, ◌≤◌, [], length};
+ghost use Rattle.std.specs.Arc.{arc_value};
 ghost use Rattle.gu_base.specs.Limits.{most_entries};
 ghost use Rattle.gu_desk.specs.Begins.{BeginsWith};
-ghost use Rattle.gu_desk.specs.Passes.{of_book};
+ghost use Rattle.gu_desk.specs.Passes.{IsOf, of_book};
 
 use crate::count::{Count, Pass, give_out, lay_in};
 use std::marker::{Brand, Model};
@@ -29,8 +30,10 @@ impl Job for Brand {
     ghost opening = { no_book };
 }
 
-/// A worker's part in a desk. Contracts see its share, how many of the calls that were made with it were accepted, and the history that it has
-/// seen: the one that stood in the book when it last came back.
+/// A worker's part in a desk. Contracts see its share, how many of the calls that were made with it
+/// were accepted, the history that it has seen: the one that stood in the book when it last came
+/// back, and the beginning of the history that it knows to be durable: what its last settlement
+/// found, and nothing where it came back since.
 #[derive(Drop)]
 pub struct Seat<J: Job> {
     pub(crate) share: Share<J>,
@@ -44,7 +47,11 @@ impl<J: Job> Model for Seat<J> {
 
     ghost Value = { SeatView };
 
-    ghost view = { λ s. record { share = s.share.amount; seen = s.pass.me.0.seen } };
+    ghost view = { λ s. record {
+      share = s.share.amount;
+      seen = s.pass.me.0.seen;
+      kept = s.pass.me.0.kept;
+    } };
 
     ghost invariant = { λ s. (s.share.parts ≡ 1) × (s.pass.table_id ≡ J.table) × (s.pass.me.1 ≡ []) × (s.records ≡ length s.pass.me.0.seen) };
 }
@@ -60,8 +67,8 @@ impl<J: Job> Seat<J> {
     /// A seat with this share that has seen what the book's pass has.
     pub(crate) fn new(share: Share<J>, count: &Count, pass: &mut Pass) -> Seat<J>
         requires parts { share.parts ≡ 1 }
-        requires tables { (pass.old.table_id ≡ count.now.shared.table_id) × (count.now.shared.table_id.words ≡ 1) }
-        requires job { count.now.shared.table_id ≡ J.table }
+        requires tables { IsOf (arc_value count.now).shared.table_id pass.old.table_id }
+        requires job { (arc_value count.now).shared.table_id ≡ J.table }
         requires books { pass.old.me ≡ (of_book pass.old.me.0.seen, []) }
         requires fits { length pass.old.me.0.seen ≤ most_entries }
         ensures share { result.share ≡ share.amount }
@@ -79,8 +86,8 @@ impl<J: Job> Seat<J> {
 
     /// Its share. Its pass is laid into the book's, which then knows that the history begins with what the seat had seen.
     pub(crate) fn into_share(self, count: &Count, pass: &mut Pass) -> Share<J>
-        requires tables { (pass.old.table_id ≡ count.now.shared.table_id) × (count.now.shared.table_id.words ≡ 1) }
-        requires job { count.now.shared.table_id ≡ J.table }
+        requires tables { IsOf (arc_value count.now).shared.table_id pass.old.table_id }
+        requires job { (arc_value count.now).shared.table_id ≡ J.table }
         requires books { pass.old.me ≡ (of_book pass.old.me.0.seen, []) }
         ensures parts { result.parts ≡ 1 }
         ensures amount { result.amount ≡ self.share }

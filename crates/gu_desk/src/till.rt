@@ -1,5 +1,6 @@
 //! What lies behind the lock.
-ghost use Rattle.std.specs.Prelude.{◌≡◌, ◌+◌, ◌≤◌, length, map, IfOk, OnOk, OnErr, IsTrue};
+ghost use Rattle.std.specs.Prelude.{◌≡◌, ◌+◌, ◌<◌, ◌≤◌, ◌++◌};
+ghost use Rattle.std.specs.Prelude.{length, map, IfOk, OnOk, OnErr, IsTrue};
 ghost use Rattle.std.specs.List.{All};
 ghost use Rattle.gu_base.specs.Limits.{most_parts};
 ghost use Rattle.gu_base.specs.Answers.{answer_to, after};
@@ -10,7 +11,9 @@ ghost use Rattle.gu_desk.specs.Begins.{BeginsWith};
 ghost use Rattle.gu_desk.specs.Runs.{IsRunOf, HasSeen};
 ghost use Rattle.gu_desk.specs.Shares.{gained};
 
+use crate::copies::copies_above;
 use crate::count::{Count, Pass, publish_accepted};
+use crate::journal::JournalSeat;
 use crate::seat::{Job, Seat};
 use gu_base::{AllocId, Answer, Command, Entry, FirmId, Memory, Report};
 use gu_book::Book;
@@ -38,14 +41,23 @@ impl<J: Job> Model for Till<J> {
     ghost use Rattle.gu_base.specs.Limits.{most_entries};
     ghost use Rattle.gu_book.specs.Ids.{NoIdTwice};
     ghost use Rattle.gu_book.specs.Seen.{HouseAndHistory, stored};
-    ghost use Rattle.gu_desk.specs.Passes.{of_book};
+    ghost use Rattle.std.specs.Arc.{arc_value};
+    ghost use Rattle.gu_desk.specs.Passes.{IsOf, of_book};
     ghost use Rattle.gu_desk.specs.Runs.{IsRunOf};
 
     ghost Value = { HouseAndHistory };
 
     ghost view = { λ t. stored t.book };
 
-    ghost invariant = { λ t. IsRunOf J.opening (stored t.book) × (length t.book.history ≡ t.total.total) × (t.opening.parts ≡ 1) × (t.opening.amount ≡ length J.opening.history) × (t.count.shared.table_id ≡ J.table) × (t.count.shared.table_id.words ≡ 1) × (t.pass.table_id ≡ t.count.shared.table_id) × (t.pass.me ≡ (of_book t.book.history, [])) × NoIdTwice t.book.history × (length t.book.history ≤ most_entries) };
+    ghost invariant = { λ t. IsRunOf J.opening (stored t.book)
+        × (length t.book.history ≡ t.total.total)
+        × (t.opening.parts ≡ 1)
+        × (t.opening.amount ≡ length J.opening.history)
+        × ((arc_value t.count).shared.table_id ≡ J.table)
+        × IsOf (arc_value t.count).shared.table_id t.pass.table_id
+        × (t.pass.me ≡ (of_book t.book.history, []))
+        × NoIdTwice t.book.history
+        × (length t.book.history ≤ most_entries) };
 }
 
 /// Counts an accepted call in the total and in the share of the seat that made it.
@@ -134,5 +146,30 @@ impl<J: Job> Till<J> {
         let told = reports(alloc, &self.book, firm, after);
         let seat = Seat::new(share, &self.count, &mut self.pass);
         (seat, told)
+    }
+
+    /// Copies of the entries above those that are durable, for the journal's seat, which has then
+    /// seen the history.
+    ///
+    /// # Errors
+    ///
+    /// `Memory` where a growth was refused, and only where there is an entry above; the seat has
+    /// seen the history then too.
+    pub fn copy_above(
+        &mut self,
+        alloc: Global,
+        journal: &mut JournalSeat<J>,
+    ) -> Result<Vec<Entry>, Memory>
+        ensures value { IfOk result (λ v. self.old.history ≡ journal.old.kept ++ v.items) }
+        ensures memory { OnErr result (length journal.old.kept < length self.old.history) }
+        ensures same { self.new ≡ self.old }
+        ensures run { IsRunOf J.opening self.old }
+        ensures begins { BeginsWith self.old.history journal.old.seen }
+        ensures seen { journal.new.seen ≡ self.old.history }
+        ensures kept { journal.new.kept ≡ journal.old.kept }
+        ensures once { NoIdTwice self.old.history }
+    {
+        journal.see(&self.count, &mut self.pass);
+        copies_above(alloc, &self.book, journal.kept())
     }
 }

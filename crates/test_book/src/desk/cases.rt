@@ -1,5 +1,6 @@
 //! The two cases, and how each is played.
 
+use crate::desk::keeping::{Keeping, keeping_of};
 use crate::desk::running::{Outcome, outcome_of};
 use crate::desk::working::{Duty, Task, Tasks};
 use crate::input::read_house;
@@ -36,6 +37,12 @@ pub(crate) const TOLD: Case<'static> = Case {
     first: (Duty::Tells, b"AAA S1 split 1.0 60@A1 40>BBB"),
     second: (Duty::IsTold, b"BBB C1 claim 2.2 B1"),
 };
+
+/// A trade of the house, and the call by which AAA splits it.
+const KEPT: (&[&[u8]], &[u8]) = (
+    &[b"HSE T1 trade AAA A1 ESZ6 buy 100"],
+    b"AAA S1 split 1.0 100@A2",
+);
 
 /// Makes a call of the book, where no memory is found once more. Whether it is accepted.
 fn is_accepted(rt: &HostRuntime, alloc: Global, book: &mut Book, call: &Call) -> bool {
@@ -139,4 +146,22 @@ pub(crate) fn played<H: Threads + Wait + Clock + Eprint + Sync>(
     let outcome = played_beside(rt, handle, alloc, house, case, &first);
     drop(first);
     outcome
+}
+
+/// What is kept of a desk over a book of this house, before a call and after it. None where there
+/// is no such book, or no desk.
+pub(crate) fn kept<H: Wait + Eprint>(
+    rt: &HostRuntime,
+    handle: &H,
+    alloc: Global,
+    house: &[u8],
+) -> Option<Keeping> {
+    let (trades, line) = KEPT;
+    let call = call_of(rt, alloc, line)?;
+    let kept = match opened(rt, alloc, house, trades) {
+        Some(book) => keeping_of(handle, alloc, book, &call),
+        None => None,
+    };
+    drop(call);
+    kept
 }

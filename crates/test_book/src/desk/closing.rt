@@ -10,7 +10,7 @@ pub(crate) struct Closed {
 }
 
 /// How many entries the book has, against these seats.
-fn entries_at_close<J: Job>(desk: Desk<J>, seats: Vec<Seat<J>>) -> Option<usize> {
+pub(crate) fn entries_at_close<J: Job>(desk: Desk<J>, seats: Vec<Seat<J>>) -> Option<usize> {
     match desk.close(seats) {
         Ok(book) => {
             let entries = book.history().len();

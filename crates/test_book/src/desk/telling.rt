@@ -1,6 +1,7 @@
 //! What is written of each case. What writes says whether it could.
 
 use crate::desk::closing::Closed;
+use crate::desk::keeping::{Keeping, Looked};
 use crate::desk::running::Outcome;
 use crate::desk::working::Told;
 use gu_base::Answer;
@@ -46,8 +47,8 @@ fn tell_back(rt: &HostRuntime, closed: &Closed) -> bool {
 }
 
 /// Writes how many entries the closed book has.
-fn tell_entries(rt: &HostRuntime, closed: &Closed) -> bool {
-    match closed.entries {
+fn tell_entries(rt: &HostRuntime, entries: Option<usize>) -> bool {
+    match entries {
         Some(entries) => println!(rt; "closed: {entries} entries").is_ok(),
         None => println!(rt; "no book").is_ok(),
     }
@@ -66,7 +67,7 @@ pub(crate) fn tell_held(rt: &HostRuntime, held: &Option<Outcome>) -> bool {
     tell(rt, "CCC", &held.second)
         && tell(rt, "AAA", &held.first)
         && tell_back(rt, &held.closed)
-        && tell_entries(rt, &held.closed)
+        && tell_entries(rt, held.closed.entries)
 }
 
 /// Writes what came of the case in which BBB is told.
@@ -79,5 +80,30 @@ pub(crate) fn tell_told(rt: &HostRuntime, told: &Option<Outcome>) -> bool {
         && tell(rt, "BBB", &told.second)
         && print!(rt; "AAA, told of").is_ok()
         && tell_numbers(rt, told.again.as_slice())
-        && tell_entries(rt, &told.closed)
+        && tell_entries(rt, told.closed.entries)
+}
+
+/// Whether a ticket is settled, in a word.
+fn settled(is_settled: bool) -> &'static str {
+    if is_settled { "settled" } else { "waits" }
+}
+
+/// Writes how many entries were copied, and what the seat and the tickets found.
+fn tell_looked(rt: &HostRuntime, copied: usize, looked: &Looked) -> bool {
+    let (first, second) = (settled(looked.first), settled(looked.second));
+    println!(rt;
+        "copied {copied}: {} durable, {first}, {second}",
+        looked.durable
+    )
+    .is_ok()
+}
+
+/// Writes what came of the case in which a journal keeps.
+pub(crate) fn tell_kept(rt: &HostRuntime, kept: &Option<Keeping>) -> bool {
+    let Some(kept) = kept else {
+        return println!(rt; "no desk").is_ok();
+    };
+    tell_looked(rt, kept.opening, &kept.before)
+        && tell_looked(rt, kept.copied, &kept.after)
+        && tell_entries(rt, kept.entries)
 }

@@ -64,7 +64,7 @@ fn call_once<J: Job, R: Wait>(
 }
 
 /// The same, where no memory is found once more with the seat that came back.
-fn ask<J: Job, R: Wait + Eprint>(
+pub(crate) fn ask<J: Job, R: Wait + Eprint>(
     rt: &R,
     alloc: Global,
     desk: &Desk<J>,

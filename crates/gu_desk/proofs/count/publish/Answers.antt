@@ -1,22 +1,22 @@
-use Rattle.std.proofs.Common.{arith, ◌≡◌, ◌∙◌, ◌+◌, ◌-◌, ◌==◌, List, [], ◌∷◌, ◌++◌, length, ap, sym, subst}
+use Rattle.std.proofs.Common.{rules, ◌≡◌, ◌≤◌, ◌∙◌, [], ◌∷◌, ◌++◌, List, length, ap, sym, subst}
+use Rattle.atomic_table.specs.Table.{Me}
 use mathlib.Core.Option.{some}
-use prog.Atomic.{either}
-use Rattle.atomic_table.specs.Table.{Allows, step, Me}
+use Rattle.gu_base.specs.Limits.{most_entries}
 use Rattle.gu_base.specs.declared.entry.Entry.{Entry}
-use Rattle.gu_desk.specs.Passes.{IsCounted, Publishes, of_book, with_record}
+use Rattle.gu_desk.specs.Passes.{of_book, with_record}
 use Rattle.gu_desk.specs.declared.count.PassView.{PassView}
-use Rattle.gu_desk.proofs.Moves.{publishes, gained_is, last_place}
+use Rattle.gu_desk.proofs.Moves.{publishes_as, gained_is, last_place}
 use Rattle.gu_desk.proofs.count.publish.Goals as goal
 
 pub compare_exchange_with-requires : goal.compare_exchange_with-requires
 compare_exchange_with-requires c =
-    let t = c.requires.tables in
-    let slots = c.args.count.now.shared.table_id.slots in
-    let id = c.args.pass.now.id in
     let h = c.args.pass.now.me.0.seen in
-    let old = length c.args.history.now - 1 in
+    let k = c.args.history.now in
     let e = c.index-history-before.result in
-    (t.0, omega (arith, t.1), subst (λ (m : Me Entry PassView). Allows IsCounted slots id m 0 (λ n. either (n == old) (old + 1) n) (Publishes (step slots 0 old (old + 1) (some e)) m)) (sym c.requires.books) (publishes slots id h old e (last_place h c.args.history.now c.requires.one.0 c.requires.one.1)))
+    let more = c.requires.one.1 in
+    let whole : h ++ e ∷ [] ≡ k = gained_is h k c.requires.one.0 e more c.index-history-before.is in
+    let few = subst (λ (l : List Entry). length l ≤ most_entries) (sym whole) c.requires.fits in
+    (search rules, search rules, publishes_as _ _ _ h _ e c.requires.books (last_place h k c.requires.one.0 more) few)
 
 pub returns-clause-added : goal.returns-clause-added
 returns-clause-added c =

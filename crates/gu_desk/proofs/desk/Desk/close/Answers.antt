@@ -12,4 +12,4 @@ merge_seats-all-requires-clause-some g c = omega (arith, c.if-len-self.false, c.
 
 -- the history is what the book's pass has seen
 pub returns-clause-seen : goal.returns-clause-seen
-returns-clause-seen g c = λ k d low. subst (λ (h : List Entry). BeginsWith h (get_or c.args.seats.items k d).seen) (ap (λ (m : Me Entry PassView). m.0.seen) c.book.invariant.7) (c.merge_seats-all.ensures.begins k d low)
+returns-clause-seen g c = λ k d low. subst (λ (h : List Entry). BeginsWith h (get_or c.args.seats.items k d).seen) (ap (λ (m : Me Entry PassView). m.0.seen) c.book.invariant.6) (c.merge_seats-all.ensures.begins k d low)

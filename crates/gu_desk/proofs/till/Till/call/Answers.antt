@@ -22,8 +22,7 @@ invariant_of-self g c =
       i.2,
       i.3,
       i.4,
-      i.5,
-      out.table ∙ added.table ∙ c.into_share-share.ensures.table ∙ i.6,
+      (out.table ∙ added.table ∙ c.into_share-share.ensures.table ∙ i.5.0, i.5.1),
       out.same ∙ added.added ∙ ap (λ (h : List Entry). (of_book h, [])) c.history.ensures.value,
       c.history.ensures.once,
       c.history.ensures.fits,
@@ -36,7 +35,7 @@ publish_accepted-requires-clause-gains g c =
     let old = stored c.self.inside.book in
     let new = stored c.apply-answer.new.self in
     let r = c.apply-answer.result in
-    let seen = ap (λ (m : Me Entry PassView). m.0.seen) (c.into_share-share.ensures.same ∙ c.self.invariant.7) in
+    let seen = ap (λ (m : Me Entry PassView). m.0.seen) (c.into_share-share.ensures.same ∙ c.self.invariant.6) in
     subst (λ (p : List Entry × List Entry). Gains r p.0 p.1) (λ k. (sym seen k, sym c.history.ensures.value k)) (gains old new _ r e.answered e.kept e.unchanged)
 
 -- the till's history begins with what the seat had seen, and its new one with that
@@ -46,7 +45,7 @@ returns-clause-later g c =
     let old = stored c.self.inside.book in
     let new = stored c.apply-answer.new.self in
     let r = c.apply-answer.result in
-    let seen = ap (λ (m : Me Entry PassView). m.0.seen) c.self.invariant.7 in
+    let seen = ap (λ (m : Me Entry PassView). m.0.seen) c.self.invariant.6 in
     let begins : BeginsWith old.history c.args.seat.seen = subst (λ (h : List Entry). BeginsWith h c.args.seat.seen) seen c.into_share-share.ensures.begins in (
       (grown g.J.Job.opening old new _ r c.self.invariant.0 e.answered e.kept e.unchanged).0.1,
       begins_with_all new.history old.history c.args.seat.seen (grows r old.history new.history (gains old new _ r e.answered e.kept e.unchanged)) begins,

@@ -7,7 +7,7 @@ use Rattle.gu_desk.specs.Views.{GroundView}
 use Rattle.gu_desk.specs.Runs.{IsRunOf}
 use Rattle.gu_desk.specs.declared.count.PassView.{PassView}
 use Rattle.gu_desk.proofs.Running.{run_starts}
-use Rattle.gu_desk.proofs.desk.Desk.new.Goals as goal
+use Rattle.gu_desk.proofs.desk.Desk.with_journal.Goals as goal
 
 pub invariant_of-till : goal.invariant_of-till
 invariant_of-till g c =
@@ -17,22 +17,21 @@ invariant_of-till g c =
     let opening = ap (λ (v : HouseAndHistory). length v.history) same in (
       subst (λ (v : HouseAndHistory). IsRunOf g.J.Job.opening v) (sym same) (refl, run_starts g.J.Job.opening.house g.J.Job.opening.history),
       omega (arith, c.add.ensures.total, c.open-total.ensures.total, history),
-      omega (arith, c.add.ensures.parts, c.in-Ok.ensures.parts),
-      omega (arith, c.add.ensures.amount, c.in-Ok.ensures.amount, history, opening),
+      omega (arith, c.add.ensures.parts, c.in-Ok-cut_seats.ensures.parts),
+      omega (arith, c.add.ensures.amount, c.in-Ok-cut_seats.ensures.amount, history, opening),
       ap (λ (v : GroundView). v.table) c.ground.view_is ∙ c.requires.table,
-      c.ground.invariant.2,
-      c.in-Ok.ensures.table ∙ c.ground.invariant.3,
-      c.in-Ok.ensures.same ∙ c.ground.invariant.4,
+      (c.in-Ok-cut_seats.ensures.table ∙ c.ground.invariant.2.0, c.ground.invariant.2.1),
+      c.in-Ok-cut_seats.ensures.same ∙ c.ground.invariant.4,
       c.history.ensures.once,
-      c.ground.invariant.5,
+      c.ground.invariant.6,
     )
 
 pub cut_seats-requires-clause-fits : goal.cut_seats-requires-clause-fits
-cut_seats-requires-clause-fits g c = omega (arith, c.ground.invariant.5, ap (λ (m : Me Entry PassView). length m.0.seen) c.ground.invariant.4)
+cut_seats-requires-clause-fits g c = omega (arith, c.ground.invariant.6, ap (λ (m : Me Entry PassView). length m.0.seen) c.ground.invariant.4)
 
 -- the book's pass has seen the opening history, and so has each seat
 pub returns-clause-seen : goal.returns-clause-seen
-returns-clause-seen g c = λ k d low. c.in-Ok.ensures.seen k d low ∙ (ap (λ (m : Me Entry PassView). m.0.seen) c.ground.invariant.4 ∙ ap (λ (v : GroundView). v.opening.history) c.ground.view_is)
+returns-clause-seen g c = λ k d low. c.in-Ok-cut_seats.ensures.seen k d low ∙ (ap (λ (m : Me Entry PassView). m.0.seen) c.ground.invariant.4 ∙ ap (λ (v : GroundView). v.opening.history) c.ground.view_is)
 
 pub returns-clause-once : goal.returns-clause-once
-returns-clause-once g c = λ k d low. subst (λ (h : List Entry). NoIdTwice h) (sym (c.in-Ok.ensures.seen k d low ∙ ap (λ (m : Me Entry PassView). m.0.seen) c.ground.invariant.4)) c.history.ensures.once
+returns-clause-once g c = λ k d low. subst (λ (h : List Entry). NoIdTwice h) (sym (c.in-Ok-cut_seats.ensures.seen k d low ∙ ap (λ (m : Me Entry PassView). m.0.seen) c.ground.invariant.4)) c.history.ensures.once
