@@ -21,7 +21,12 @@ digest_text bytes = encode_lower (sha256 bytes)
 -- the header of a message of this type from the house to itself
 abbrev pub own_header : List ℕ → List ℕ → List ℕ → ℕ → Message
 own_header kind house moment number = header_pairs (record {
-  kind = kind; sender = house; target = house; number = number; sent = moment; resent = None
+  kind = kind;
+  sender = house;
+  target = house;
+  number = number;
+  sent = moment;
+  resent = None;
 })
 
 -- what the head has behind its header: a Logon's fields, the form, the digest of the house file
@@ -37,8 +42,12 @@ abbrev pub head_of : List ℕ → List ℕ → ℕ → List ℕ → Message
 head_of house moment number pin =
     own_header (codes "A") house moment number ++ head_fields pin
 
--- The seal of these bytes: a Heartbeat (0) of the house to itself at a moment, with the number of
--- the next entry. TestReqID (112) has the digest of the bytes.
+-- A seal: a Heartbeat (0) of the house to itself at a moment, with the number of the next entry,
+-- and a digest in TestReqID (112).
+abbrev pub seal_with : List ℕ → List ℕ → ℕ → List ℕ → Message
+seal_with house moment number digest =
+    own_header (codes "0") house moment number ++ (tag.test_req_id, encode_lower digest) ∷ []
+
+-- the seal of these bytes
 abbrev pub seal_of : List ℕ → List ℕ → ℕ → List ℕ → Message
-seal_of house moment number bytes =
-    own_header (codes "0") house moment number ++ (tag.test_req_id, digest_text bytes) ∷ []
+seal_of house moment number bytes = seal_with house moment number (sha256 bytes)
