@@ -7,7 +7,7 @@ use Rattle.gu_base.specs.declared.entry.Entry.{Entry}
 use Rattle.gu_batch.specs.Output.{history_of}
 use Rattle.gu_codec.specs.Messages.{Broken}
 use Rattle.gu_store.specs.Store.{IsGroup, frames_in, IsShutBehind, IsLeftOpening, IsLeft, IsLeftTurning, IsLeftMixing}
-use Rattle.gu_store.proofs.Steps.{counts_behind, open_is}
+use Rattle.gu_store.proofs.Groups.{counts_behind, open_is}
 use Rattle.gu_journal.specs.Journal.{IsJournal, IsLeftShut}
 use Rattle.gu_journal.proofs.Frames.{shut_ends}
 use Rattle.gu_journal.proofs.Playing.{history_is}

@@ -55,7 +55,7 @@ module _ (t : House) (named : IsTrue (is_firm_text t.house)) (moment : List ℕ)
     trade = is_trade e.command;
     meaning = call_is t.house moment n (call_of e) (omega (arith, n_is)) (omega (arith, few)) is_moment.timestamp ok;
     accepted = accepted;
-    number = numbered (length h + 1) n _ (sym n_is) refl;
+    number = numbered (length h + 1) n (message_of t.house moment n (call_of e)) (sym n_is) refl;
   }
 
   says_more : (h0 : List Entry) (bytes : List ℕ) (h es : List Entry) (n : ℕ) → Says t h0 bytes h → n ≡ length h + 1 → n + length es ≤ 1000001
@@ -102,3 +102,13 @@ module _ (t : House) (named : IsTrue (is_firm_text t.house)) (moment : List ℕ)
         digest = refl;
       } in
       head_alone (message_text m) m (one_frame m (head_writable t.house moment n pin named (omega (arith, few)) is_moment.text size)) head
+
+-- ---- steps of the code
+
+-- one entry more is written
+pub one_more : (house moment : List ℕ) (n m : ℕ) (e : Entry) (later : List Entry) (old new all : List ℕ) → old ++ entry_frames house moment n (e ∷ later) ≡ all
+    → new ≡ old ++ message_text (message_of house moment n (call_of e)) → m ≡ n + 1 → new ++ entry_frames house moment m later ≡ all
+one_more house moment n m e later old new all so_far is next =
+    let text = message_text (message_of house moment n (call_of e)) in
+    ap (λ (t : List ℕ). t ++ entry_frames house moment m later) is ∙ ap (λ (k : ℕ). (old ++ text) ++ entry_frames house moment k later) next
+    ∙ append_assoc old text (entry_frames house moment (n + 1) later) ∙ so_far

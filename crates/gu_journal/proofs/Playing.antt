@@ -90,3 +90,6 @@ history_is t pin bytes rest h end journal ends =
     let size : 0 + length bytes ≡ length bytes = omega arith in
     let all = splits_then plays.frames 0 bytes rest end plays.split (subst (λ (o : ℕ). Ends o rest (Some end)) (sym size) ends) in
     ap (λ (fs : List Seen). (progress_along (start t) (messages_in fs)).history) (sym (one_stream (bytes ++ rest) plays.frames end all).0) ∙ plays.is.history
+
+pub one_history : (t : House) (pin other bytes : List ℕ) (h k : List Entry) → IsJournal t pin bytes h → IsJournal t other bytes k → h ≡ k
+one_history t pin other bytes h k one two = sym (history_is t pin bytes [] h Clean one refl) ∙ history_is t other bytes [] k Clean two refl

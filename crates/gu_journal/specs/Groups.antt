@@ -46,13 +46,13 @@ pub record IsMoment (moment : List ℕ) : Type 0 where
   pub text : IsText moment
   pub timestamp : is_timestamp moment ≡ true
 
--- The text is the group of these entries, of which the first has this number, as it follows the bytes
--- that the old hasher holds; and the new one holds its frames too.
+-- The text is the group of these entries, of which the first has this number, as it follows the
+-- bytes that the old hasher holds; and the new one holds its frames too.
 pub record IsGroupOf (house moment : List ℕ) (n : ℕ) (es : List Entry) (old new : Sha256)
     (text : List ℕ) : Type 0 where
   pub is_group : IsGroup text
   pub short : length text ≤ 2 ^ 60
-  pub house : IsTrue (is_firm_text house)
+  pub named : IsTrue (is_firm_text house)
   pub sayable : AllByRecursion IsSayableEntry es
   pub few : n + length es ≤ 1000001
   pub group : (bytes : List ℕ) → Holds256 old bytes

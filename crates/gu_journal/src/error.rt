@@ -4,8 +4,8 @@ use std::alloc::AllocError;
 use std::io;
 use thiserror::Error;
 
-/// Why entries weren't kept. Of all but `Disk` nothing was asked of the disk, and the journal is as it
-/// was.
+/// Why entries weren't kept. Of all but `Disk` nothing was asked of the disk, and the journal is as
+/// it was.
 #[derive(Clone, Copy, Debug, Error)]
 pub enum JournalError {
     /// Memory ran out.

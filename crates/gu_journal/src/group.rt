@@ -6,6 +6,7 @@ ghost use Rattle.gu_codec.specs.Writing.{IsText};
 ghost use Rattle.gu_journal.specs.Groups.{entry_frames, IsSayableEntry, IsGroupOf};
 
 use crate::error::JournalError;
+use crate::lawful::firm_is_lawful;
 use crate::sayable::is_sayable;
 use crate::session::write_seal;
 use crate::stamp::Stamp;
@@ -52,11 +53,16 @@ fn has_room(first: u32, count: usize) -> bool
 }
 
 /// Appends the frames of these entries, of which the first has the number of the stamp.
-fn write_entries(room: &mut Room, first: Stamp<'_>, entries: &[Entry]) -> Result<(), JournalError>
-    requires moment { IsText first.moment.now }
+fn write_entries(
+    room: &mut Room,
+    first: Stamp,
+    moment: &[u8],
+    entries: &[Entry],
+) -> Result<(), JournalError>
+    requires moment { IsText moment.now }
     requires few { first.number + length entries.now ≤ 1000001 }
     ensures text { OnOk result (room.new.text.items ≡ room.old.text.items
-        ++ entry_frames first.house first.moment.now first.number entries.now) }
+        ++ entry_frames first.house moment.now first.number entries.now) }
     ensures sayable { OnOk result (AllByRecursion IsSayableEntry entries.now) }
 {
     for i in 0..entries.len() {
@@ -64,47 +70,49 @@ fn write_entries(room: &mut Room, first: Stamp<'_>, entries: &[Entry]) -> Result
         let stamp = Stamp {
             house: first.house,
             number: first.number + i as u32,
-            moment: first.moment,
         };
         if !is_sayable(entry) {
             return Err(JournalError::Unsayable {
                 entry: stamp.number,
             });
         }
-        write_entry(&mut room.text, &mut room.body, stamp, entry)?;
+        write_entry(&mut room.text, &mut room.body, stamp, moment, entry)?;
     }
     Ok(())
 }
 
 /// Writes the group of these entries in place of what was in the room, of which the first has the
-/// number of the stamp. The hasher has taken in all bytes of the file before the group, and takes in
-/// the group's frames.
+/// number of the stamp. The hasher has taken in all bytes of the file before the group, and takes
+/// in the group's frames.
 pub(crate) fn write_group(
     room: &mut Room,
     hasher: &mut Sha256,
-    first: Stamp<'_>,
+    first: Stamp,
+    moment: &[u8],
     entries: &[Entry],
 ) -> Result<(), JournalError>
-    requires moment { IsText first.moment.now }
-    ensures group { OnOk result (IsGroupOf first.house first.moment.now first.number entries.now
-        hasher.old hasher.new room.new.text.items) }
+    requires moment { IsText moment.now }
+    ensures group { OnOk result (IsGroupOf first.house moment.now first.number
+        entries.now hasher.old hasher.new room.new.text.items) }
 {
+    firm_is_lawful(&first.house);
     if !has_room(first.number, entries.len()) {
         return Err(JournalError::Full);
     }
     room.text.clear();
-    write_entries(room, first, entries)?;
+    write_entries(room, first, moment, entries)?;
     hasher.update(room.text.as_slice());
     let seal_at = room.text.len();
     let digest = hasher.clone()?.finalize();
     let stamp = Stamp {
         house: first.house,
         number: first.number + entries.len() as u32,
-        moment: first.moment,
     };
-    write_seal(&mut room.text, &mut room.body, stamp, &digest)?;
+    write_seal(&mut room.text, &mut room.body, stamp, moment, &digest)?;
     hasher.update(&room.text[seal_at..]);
-    room.text.push(SHUT)?;
+    if room.text.push(SHUT).is_err() {
+        return Err(JournalError::Memory);
+    }
     if room.text.len() > MOST_BYTES {
         return Err(JournalError::Full);
     }

@@ -5,6 +5,7 @@ ghost use Rattle.std.specs.List.{list_all};
 ghost use Rattle.gu_base.specs.Runs.{call_of};
 ghost use Rattle.gu_journal.specs.Entries.{is_short, is_sayable_part, is_sayable, IsLawfulCall};
 
+use crate::lawful::entry_is_lawful;
 use gu_base::{Command, Entry, FirmId, Part};
 
 /// A number of lots or hundredths has at most 18 digits.
@@ -20,8 +21,8 @@ fn is_short(quantity: u64) -> bool
     quantity < MOST
 }
 
-/// Whether a part of a split by this firm has an account where it is the firm's own, and none where it
-/// is given.
+/// Whether a part of a split by this firm has an account where it is the firm's own, and none where
+/// it is given.
 fn is_sayable_part(by: FirmId, part: &Part) -> bool
     ensures { result ≡ is_sayable_part by part.now }
 {
@@ -42,21 +43,35 @@ fn are_sayable_parts(by: FirmId, parts: &[Part]) -> bool
     true
 }
 
+/// Whether a message can say this command of a firm.
+fn is_sayable_command(by: FirmId, command: &Command) -> bool
+    ensures { result ≡ is_sayable by command.now }
+{
+    match command {
+        Command::Trade { lots, .. } => is_short(*lots),
+        Command::Split { parts, .. } => {
+            let parts = parts.as_slice();
+            parts.len() <= MOST_PARTS && are_sayable_parts(by, parts)
+        }
+        Command::Agree { rate, limit, .. } => is_short(*rate) && is_short(*limit),
+        Command::Raise { lots, .. } => is_short(*lots),
+        Command::Claim { .. } => true,
+        Command::Refuse { .. } => true,
+        Command::Cancel { .. } => true,
+        Command::Initiate { .. } => true,
+        Command::Decline { .. } => true,
+        Command::Reverse { .. } => true,
+    }
+}
+
 /// Whether a message can say this entry's call.
 ///
-/// Lots, a rate and a limit have at most 18 digits. A split has at most 100 parts, of which an own one
-/// has its account, and a given one has none. What a message means is always such a call.
+/// Lots, a rate and a limit have at most 18 digits. A split has at most 100 parts, of which an own
+/// one has its account, and a given one has none. What a message means is always such a call.
 pub fn is_sayable(entry: &Entry) -> bool
     ensures answer { result ≡ is_sayable entry.now.firm entry.now.command }
     ensures lawful { result ≡ true → IsLawfulCall (call_of entry.now) }
 {
-    match &entry.command {
-        Command::Trade { lots, .. } => is_short(*lots),
-        Command::Split { parts, .. } => {
-            parts.as_slice().len() <= MOST_PARTS && are_sayable_parts(entry.firm, parts.as_slice())
-        }
-        Command::Agree { rate, limit, .. } => is_short(*rate) && is_short(*limit),
-        Command::Raise { lots, .. } => is_short(*lots),
-        _ => true,
-    }
+    entry_is_lawful(entry);
+    is_sayable_command(entry.firm, &entry.command)
 }

@@ -34,15 +34,16 @@ pub(crate) fn hex_digits(digest: &[u8; 32]) -> [u8; 64]
 fn write_own(
     out: &mut Vec<u8>,
     kind: &'static [u8],
-    stamp: Stamp<'_>,
+    stamp: Stamp,
+    moment: &[u8],
     body: &[u8],
 ) -> Result<(), Memory>
     requires kind { IsText kind.now }
-    requires moment { IsText stamp.moment.now }
+    requires moment { IsText moment.now }
     requires body { length body.now ≤ 256 }
     ensures ok { (fs : Message) → body.now ≡ fields_text fs
         → OnOk result (out.new.items ≡ out.old.items ++ message_text
-        (own_header kind.now stamp.house stamp.moment.now stamp.number ++ fs)) }
+        (own_header kind.now stamp.house moment.now stamp.number ++ fs)) }
     ensures err { OnErr result (out.new.items ≡ out.old.items) }
 {
     let header = Header {
@@ -50,14 +51,14 @@ fn write_own(
         sender: stamp.house,
         target: stamp.house,
         number: u64::from(stamp.number),
-        sent: stamp.moment,
+        sent: moment,
         resent: None,
     };
     write_frame(out, &header, body)
 }
 
-/// Appends the frame of the head, with the digest of the house file. `body` is room, of which nothing
-/// is read.
+/// Appends the frame of the head, with the digest of the house file. `body` is room, of which
+/// nothing is read.
 ///
 /// # Errors
 ///
@@ -65,12 +66,13 @@ fn write_own(
 pub(crate) fn write_head(
     out: &mut Vec<u8>,
     body: &mut Vec<u8>,
-    stamp: Stamp<'_>,
+    stamp: Stamp,
+    moment: &[u8],
     pin: &[u8; 32],
 ) -> Result<(), Memory>
-    requires moment { IsText stamp.moment.now }
+    requires moment { IsText moment.now }
     ensures ok { OnOk result (out.new.items ≡ out.old.items ++ message_text
-        (head_of stamp.house stamp.moment.now stamp.number pin.now)) }
+        (head_of stamp.house moment.now stamp.number pin.now)) }
     ensures err { OnErr result (out.new.items ≡ out.old.items) }
 {
     let digits = hex_digits(pin);
@@ -81,7 +83,7 @@ pub(crate) fn write_head(
     append_field(body, tags::DEFAULT_APPL_VER_ID, b"9");
     append_field(body, DEFAULT_CSTM_APPL_VER_ID, FORM);
     append_field(body, tags::TEXT, &digits);
-    write_own(out, msg_types::LOGON, stamp, body)
+    write_own(out, msg_types::LOGON, stamp, moment, body)
 }
 
 /// Appends the frame of a seal, with this digest. `body` is room, of which nothing is read.
@@ -92,17 +94,18 @@ pub(crate) fn write_head(
 pub(crate) fn write_seal(
     out: &mut Vec<u8>,
     body: &mut Vec<u8>,
-    stamp: Stamp<'_>,
+    stamp: Stamp,
+    moment: &[u8],
     digest: &[u8; 32],
 ) -> Result<(), Memory>
-    requires moment { IsText stamp.moment.now }
+    requires moment { IsText moment.now }
     ensures ok { OnOk result (out.new.items ≡ out.old.items ++ message_text
-        (seal_with stamp.house stamp.moment.now stamp.number digest.now)) }
+        (seal_with stamp.house moment.now stamp.number digest.now)) }
     ensures err { OnErr result (out.new.items ≡ out.old.items) }
 {
     let digits = hex_digits(digest);
     body.clear();
     body.reserve(ROOM)?;
     append_field(body, tags::TEST_REQ_ID, &digits);
-    write_own(out, msg_types::HEARTBEAT, stamp, body)
+    write_own(out, msg_types::HEARTBEAT, stamp, moment, body)
 }

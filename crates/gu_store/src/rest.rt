@@ -2,7 +2,7 @@
 
 ghost use Rattle.std.specs.Prelude.{◌≡◌, ◌≤◌, ◌<◌, ◌+◌, ◌^◌, ◌++◌, [], ◌∷◌, List, ℕ, length};
 ghost use Rattle.std.specs.Prelude.{IsTrue, OnOk};
-ghost use Rattle.sqlite_disk.specs.Disk.{Only};
+ghost use Rattle.sqlite_disk.specs.Disk.{Only, CountsFault};
 ghost use Rattle.gu_store.specs.Store.{shut_gate, IsShutBehind};
 
 use sqlite_disk::Disk;
@@ -11,8 +11,8 @@ use std::io;
 /// The byte of a gate that is shut.
 const SHUT: u8 = b'\n';
 
-/// Begins a file: shuts its first gate. It is for a file that has a byte at most, which is all that a
-/// crash leaves of a beginning.
+/// Begins a file: shuts its first gate. It is for a file that has a byte at most, which is all that
+/// a crash leaves of a beginning.
 ///
 /// # Errors
 ///
@@ -21,6 +21,7 @@ pub fn create<D: Disk>(disk: &mut D) -> io::Result<()>
     requires usable { IsTrue (D.Disk.is_usable disk.old) }
     ensures usable { OnOk result (IsTrue (D.Disk.is_usable disk.new)) }
     ensures clean { D.Disk.is_clean disk.new ≡ D.Disk.is_clean disk.old }
+    ensures faults { CountsFault result (D.Disk.faults disk.old) (D.Disk.faults disk.new) }
     ensures file { length (D.Disk.seen disk.old) ≤ 1
         → OnOk result (D.Disk.seen disk.new ≡ shut_gate ∷ []) }
     ensures durable { OnOk result (Only (D.Disk.seen disk.new) (D.Disk.may_leave disk.new)) }
@@ -31,8 +32,8 @@ pub fn create<D: Disk>(disk: &mut D) -> io::Result<()>
     disk.sync()
 }
 
-/// Cuts off what stands behind a shut gate, which is the byte after so many. A crash at any moment of
-/// it leaves what stands before the gate, and the gate shut.
+/// Cuts off what stands behind a shut gate, which is the byte after so many. A crash at any moment
+/// of it leaves what stands before the gate, and the gate shut.
 ///
 /// # Errors
 ///
@@ -42,6 +43,7 @@ pub fn repair<D: Disk>(disk: &mut D, end: usize) -> io::Result<()>
     requires room { end < 2 ^ 63 }
     ensures usable { OnOk result (IsTrue (D.Disk.is_usable disk.new)) }
     ensures clean { D.Disk.is_clean disk.new ≡ D.Disk.is_clean disk.old }
+    ensures faults { CountsFault result (D.Disk.faults disk.old) (D.Disk.faults disk.new) }
     ensures file { (before : List ℕ) → end ≡ length before
         → IsShutBehind before (D.Disk.seen disk.old)
         → OnOk result (D.Disk.seen disk.new ≡ before ++ shut_gate ∷ []) }

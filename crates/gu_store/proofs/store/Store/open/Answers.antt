@@ -1,5 +1,6 @@
 use Rattle.std.proofs.Common.{◌≡◌, ◌<◌, ◌+◌, ◌^◌, ◌∙◌, sym, arith}
-use Rattle.gu_store.proofs.Steps.{from_one, counts, counts_len, opening, opened, mixing_open}
+use Rattle.gu_store.proofs.Groups.{group_len, counts, counts_len}
+use Rattle.gu_store.proofs.Steps.{from_one, opening, opened, mixing_open}
 use Rattle.gu_store.proofs.store.Store.open.Goals as goal
 
 pub returns-in_err-write_at-clause-crash : goal.returns-in_err-write_at-clause-crash
@@ -16,19 +17,19 @@ returns-clause-crash g c before group c' s left =
 
 pub returns-in_err-write_at-clause-mixed : goal.returns-in_err-write_at-clause-mixed
 returns-in_err-write_at-clause-mixed g c all before group c' s left =
-    let small : c.args.self.now.end + 1 < 2 ^ 64 = omega (arith, c.requires.staged, c.requires.room) in
+    let small : c.args.self.now.end + 1 < 2 ^ 64 = omega (arith, s.small, s.end, s.staged_end, group_len group s.is_group) in
     mixing_open before group _ c.args.self.now.end s.end s.file s.is_group c'
     (from_one _ _ _ _ s.durable (c.write_at.ensures.mixed (all _) small) c' left)
 
 pub returns-in_err-sync-clause-mixed : goal.returns-in_err-sync-clause-mixed
 returns-in_err-sync-clause-mixed g c all before group c' s left =
-    let small : c.args.self.now.end + 1 < 2 ^ 64 = omega (arith, c.requires.staged, c.requires.room) in
+    let small : c.args.self.now.end + 1 < 2 ^ 64 = omega (arith, s.small, s.end, s.staged_end, group_len group s.is_group) in
     mixing_open before group _ c.args.self.now.end s.end s.file s.is_group c'
     (from_one _ _ _ _ s.durable (c.write_at.ensures.mixed (all _) small) c' (c.sync.ensures.crash c' left))
 
 pub returns-clause-mixed : goal.returns-clause-mixed
 returns-clause-mixed g c all before group c' s left =
-    let small : c.args.self.now.end + 1 < 2 ^ 64 = omega (arith, c.requires.staged, c.requires.room) in
+    let small : c.args.self.now.end + 1 < 2 ^ 64 = omega (arith, s.small, s.end, s.staged_end, group_len group s.is_group) in
     mixing_open before group _ c.args.self.now.end s.end s.file s.is_group c'
     (from_one _ _ _ _ s.durable (c.write_at.ensures.mixed (all _) small) c' (c.sync.ensures.crash c' left))
 
