@@ -46,3 +46,7 @@ module _ (t : House) (pin bytes group : List ℕ) (h new : List Entry) (g : IsGr
   pub mixing : (c : List ℕ) → IsLeftMixing bytes group c → IsLeftShut t pin h new c
   mixing c (inl shut) = (bytes, shut, inl journal)
   mixing c (inr whole) = (bytes ++ frames_in group, (whole.0, whole.1 ∙ counts_behind group g bytes whole.0), inr longer)
+
+-- what leaves one history leaves it or another
+pub left_more : (t : House) (pin : List ℕ) (h new : List Entry) (c : List ℕ) → IsLeftShut t pin h h c → IsLeftShut t pin h new c
+left_more t pin h new c left = (left.0, left.1, elim left.2 [ inl same ↦ inl same | inr same ↦ inl same ])

@@ -1,8 +1,8 @@
 -- What is written of a group makes a longer journal.
-use Rattle.std.proofs.Common.{◌≡◌, ◌≢◌, ℕ, ◌+◌, ◌-◌, ◌<◌, ◌≤◌, ◌^◌, true, List, [], ◌∷◌, ◌++◌, length, take, Some, refl, sym, ◌∙◌, ap, subst, arith, append_assoc, length-append, IsTrue}
+use Rattle.std.proofs.Common.{◌≡◌, ◌≢◌, ℕ, ◌+◌, ◌-◌, ◌<◌, ◌≤◌, ◌^◌, true, List, [], ◌∷◌, ◌++◌, length, length-drop, take, drop, Some, refl, sym, ◌∙◌, ap, subst, arith, append_assoc, length-append, IsTrue}
 use Rattle.std.specs.Prelude.{decimal}
 use Rattle.std.specs.List.{AllByRecursion}
-use Rattle.std.proofs.lemmas.List.{append-nil, take_at}
+use Rattle.std.proofs.lemmas.List.{append-nil, take_at, take_all, drop_at}
 use Rattle.gu_base.specs.House.{House}
 use Rattle.gu_base.specs.Names.{is_firm_text}
 use Rattle.gu_base.specs.Answers.{answer_to}
@@ -13,8 +13,12 @@ use Rattle.gu_codec.specs.Writing.{IsText, message_text, stream_text}
 use Rattle.gu_message.specs.Timestamp.{is_timestamp}
 use Rattle.gu_store.specs.Store.{IsGroup, frames_in}
 use Rattle.gu_journal.specs.Entries.{is_trade, message_of}
-use Rattle.gu_journal.specs.Session.{head_of, seal_of}
-use Rattle.gu_journal.specs.Groups.{entry_messages, entry_frames, group_frames, head_frame, group_of, IsSayableEntry, IsMoment}
+use Rattle.gu_journal.specs.Session.{head_of, seal_of, seal_with}
+use Rattle.gu_journal.specs.Groups.{entry_messages, entry_frames, group_frames, head_frame, group_of, IsSayableEntry, IsMoment, IsGroupOf}
+use Rattle.gu_codec.specs.Messages.{Message}
+use Rattle.sha2.specs.Hashers.{Holds256}
+use Rattle.sha2.specs.Sha256.{sha256}
+use Rattle.sha2.specs.declared.Sha256.{Sha256}
 use Rattle.gu_journal.specs.Journal.{IsNumbered, IsHead, IsNext, IsSeal, Says, says_none, says_next, IsJournal, head_alone, group_more}
 use Rattle.gu_journal.proofs.Frames.{one_frame, first_eight}
 use Rattle.gu_journal.proofs.Meanings.{call_is, head_is, seal_is}
@@ -22,19 +26,15 @@ use Rattle.gu_journal.proofs.Writable.{call_writable, head_writable, seal_writab
 
 -- ---- as bytes
 
-frames_begin : (house moment : List ℕ) (n : ℕ) (es : List Entry) (bytes : List ℕ) → (rest : List ℕ) × (group_frames house moment n es bytes ≡ 56 ∷ rest)
-frames_begin house moment n [] bytes = first_eight _
-frames_begin house moment n (e ∷ es) bytes =
+frames_begin : (house moment : List ℕ) (n : ℕ) (es : List Entry) (m : Message) → (rest : List ℕ) × (entry_frames house moment n es ++ message_text m ≡ 56 ∷ rest)
+frames_begin house moment n [] m = first_eight m
+frames_begin house moment n (e ∷ es) m =
     let first = first_eight (message_of house moment n (call_of e)) in
     let later = entry_frames house moment (n + 1) es in
-    let seal = message_text (seal_of house moment (n + length (e ∷ es)) (bytes ++ entry_frames house moment n (e ∷ es))) in
-    ((first.0 ++ later) ++ seal, ap (λ (t : List ℕ). (t ++ later) ++ seal) first.1)
+    ((first.0 ++ later) ++ message_text m, ap (λ (t : List ℕ). (t ++ later) ++ message_text m) first.1)
 
 group_from : (frames : List ℕ) → (rest : List ℕ) × (frames ≡ 56 ∷ rest) → IsGroup (group_of frames)
 group_from frames is = record { rest = is.0; parts = ap (λ (f : List ℕ). f ++ 10 ∷ []) is.1 }
-
-pub is_group : (house moment : List ℕ) (n : ℕ) (es : List Entry) (bytes : List ℕ) → IsGroup (group_of (group_frames house moment n es bytes))
-is_group house moment n es bytes = group_from _ (frames_begin house moment n es bytes)
 
 pub frames_are : (frames : List ℕ) → frames_in (group_of frames) ≡ frames
 frames_are frames = take_at frames (10 ∷ []) (length (frames ++ 10 ∷ []) - 1) (omega (arith, length-append frames (10 ∷ [])))
@@ -112,3 +112,40 @@ one_more house moment n m e later old new all so_far is next =
     let text = message_text (message_of house moment n (call_of e)) in
     ap (λ (t : List ℕ). t ++ entry_frames house moment m later) is ∙ ap (λ (k : ℕ). (old ++ text) ++ entry_frames house moment k later) next
     ∙ append_assoc old text (entry_frames house moment (n + 1) later) ∙ so_far
+
+-- the group is written, and the hasher has taken it in
+pub is_group_of : (house moment : List ℕ) (n : ℕ) (es : List Entry) (old one new : Sha256) (frames sealed slice text digest : List ℕ) (at : ℕ)
+    → IsTrue (is_firm_text house) → AllByRecursion IsSayableEntry es → n + length es ≤ 1000001 → length text ≤ 2 ^ 60
+    → frames ≡ entry_frames house moment n es
+    → ((m : List ℕ) → Holds256 old m → Holds256 one (m ++ frames))
+    → ((m : List ℕ) → Holds256 one m → digest ≡ sha256 m)
+    → sealed ≡ frames ++ message_text (seal_with house moment (n + length es) digest)
+    → slice ≡ sealed → at ≡ length frames
+    → ((m : List ℕ) → Holds256 one m → Holds256 new (m ++ take (length slice - at) (drop at slice)))
+    → text ≡ sealed ++ 10 ∷ []
+    → IsGroupOf house moment n es old new text
+is_group_of house moment n es old one new frames sealed slice text digest at named sayable few short frames_is first digest_is sealed_is slice_is at_is second text_is =
+    let next = n + length es in
+    let seal = message_text (seal_with house moment next digest) in
+    let entries = entry_frames house moment n es in
+    let all : slice ≡ frames ++ seal = slice_is ∙ sealed_is in
+    let whole : text ≡ group_of (entries ++ seal) = text_is ∙ ap group_of (sealed_is ∙ ap (λ (f : List ℕ). f ++ seal) frames_is) in
+    let rest : take (length slice - at) (drop at slice) ≡ seal =
+    take_all (length slice - at) (drop at slice) (omega (arith, length-drop at slice))
+    ∙ ap (drop at) all ∙ drop_at frames seal at (sym at_is) in
+    let sealed_of : (bytes : List ℕ) → Holds256 old bytes → entries ++ seal ≡ group_frames house moment n es bytes =
+    λ bytes h. ap (λ (d : List ℕ). entries ++ message_text (seal_with house moment next d))
+    (digest_is (bytes ++ frames) (first bytes h) ∙ ap (λ (f : List ℕ). sha256 (bytes ++ f)) frames_is) in
+    record {
+      is_group = subst IsGroup (sym whole) (group_from (entries ++ seal) (frames_begin house moment n es (seal_with house moment next digest)));
+      short = short;
+      named = named;
+      sayable = sayable;
+      few = few;
+      group = λ bytes h. whole ∙ ap group_of (sealed_of bytes h);
+      hashed = λ bytes h.
+          let joined : (bytes ++ frames) ++ take (length slice - at) (drop at slice) ≡ bytes ++ group_frames house moment n es bytes =
+          ap (λ (r : List ℕ). (bytes ++ frames) ++ r) rest ∙ append_assoc bytes frames seal
+          ∙ ap (λ (f : List ℕ). bytes ++ (f ++ seal)) frames_is ∙ ap (λ (l : List ℕ). bytes ++ l) (sealed_of bytes h) in
+          subst (λ (l : List ℕ). Holds256 new l) joined (second (bytes ++ frames) (first bytes h));
+    }

@@ -1,10 +1,11 @@
 //! The frames of the messages of the session: the head, and the seal of a group.
 
-ghost use Rattle.std.specs.Prelude.{◌≡◌, ◌≤◌, ◌++◌, length, OnOk, OnErr};
+ghost use Rattle.std.specs.Prelude.{◌≡◌, ◌≤◌, ◌+◌, ◌++◌, length, vec_len, vec_capacity};
+ghost use Rattle.std.specs.Prelude.{OnOk, OnErr};
 ghost use Rattle.gu_codec.specs.Writing.{IsText, fields_text, message_text};
 ghost use Rattle.hex.specs.Hex.{encode_lower};
 ghost use Rattle.gu_codec.specs.Messages.{Message};
-ghost use Rattle.gu_journal.specs.Session.{own_header, head_of, seal_with};
+ghost use Rattle.gu_journal.specs.Session.{own_header, head_of, head_fields, seal_with};
 
 use crate::stamp::Stamp;
 use gu_base::Memory;
@@ -57,6 +58,20 @@ fn write_own(
     write_frame(out, &header, body)
 }
 
+/// Appends the head's fields behind its header within the room that is there.
+fn append_head(out: &mut Vec<u8>, pin: &[u8; 32])
+    requires { vec_len out.old + 256 ≤ vec_capacity out.old }
+    ensures items { out.new.items ≡ out.old.items ++ fields_text (head_fields pin.now) }
+    ensures len { vec_len out.new ≤ vec_len out.old + 256 }
+{
+    let digits = hex_digits(pin);
+    append_field(out, tags::ENCRYPT_METHOD, b"0");
+    append_field(out, tags::HEART_BT_INT, b"0");
+    append_field(out, tags::DEFAULT_APPL_VER_ID, b"9");
+    append_field(out, DEFAULT_CSTM_APPL_VER_ID, FORM);
+    append_field(out, tags::TEXT, &digits);
+}
+
 /// Appends the frame of the head, with the digest of the house file. `body` is room, of which
 /// nothing is read.
 ///
@@ -75,14 +90,9 @@ pub(crate) fn write_head(
         (head_of stamp.house moment.now stamp.number pin.now)) }
     ensures err { OnErr result (out.new.items ≡ out.old.items) }
 {
-    let digits = hex_digits(pin);
     body.clear();
     body.reserve(ROOM)?;
-    append_field(body, tags::ENCRYPT_METHOD, b"0");
-    append_field(body, tags::HEART_BT_INT, b"0");
-    append_field(body, tags::DEFAULT_APPL_VER_ID, b"9");
-    append_field(body, DEFAULT_CSTM_APPL_VER_ID, FORM);
-    append_field(body, tags::TEXT, &digits);
+    append_head(body, pin);
     write_own(out, msg_types::LOGON, stamp, moment, body)
 }
 

@@ -21,3 +21,8 @@ loop-i-preserved c =
           c.in_ok-write_entry.ensures.ok (omega arith);
       sayable = all_more IsSayableEntry c.args.entries.now i e later dropped c.loop-i.invariant.sayable sayable;
     }
+
+pub returns-clause-sayable : goal.returns-clause-sayable
+returns-clause-sayable c =
+    let all : length c.args.entries.now ≤ c.loop-i.i = search rules in
+    subst (AllByRecursion IsSayableEntry) (take_all c.loop-i.i c.args.entries.now all) c.loop-i.invariant.sayable

@@ -5,7 +5,7 @@ use Rattle.gu_journal.proofs.group.write_entries.Given as goal
 
 abbrev pub invariant-loop-i : goal.invariant-loop-i
 invariant-loop-i l = record {
-  told : l.room.text.items ++ entry_frames l.first.house l.moment (l.first.number + l.i) (drop l.i l.entries)
-      ≡ l.initial.room.text.items ++ entry_frames l.first.house l.moment l.first.number l.entries;
+  told : l.room.text.items ++ entry_frames l.first.0 l.moment (l.first.1.0 + l.i) (drop l.i l.entries)
+      ≡ l.initial.room.text.items ++ entry_frames l.first.0 l.moment l.first.1.0 l.entries;
   sayable : AllByRecursion IsSayableEntry (take l.i l.entries);
 }

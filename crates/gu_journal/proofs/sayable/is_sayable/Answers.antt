@@ -1,5 +1,5 @@
 use Rattle.std.proofs.Common.{◌≡◌, sym, ◌∙◌}
-use Rattle.gu_journal.proofs.Sayable.{lawful_from}
+use Rattle.gu_journal.proofs.CanBeSaid.{lawful_from}
 use Rattle.gu_journal.proofs.sayable.is_sayable.Goals as goal
 
 pub returns-clause-lawful : goal.returns-clause-lawful
