@@ -1,0 +1,28 @@
+use Rattle.std.proofs.Common.{◌≡◌, ◌+◌, ◌≤◌, ℕ, List, [], ◌∷◌, ◌++◌, length, take, drop, refl, sym, ◌∙◌, ap, subst, arith, rules}
+use Rattle.std.proofs.lemmas.List.{drop_more, take_all}
+use Rattle.std.specs.List.{AllByRecursion}
+use Rattle.gu_base.specs.declared.entry.Entry.{Entry}
+use Rattle.gu_journal.specs.Groups.{entry_frames, IsSayableEntry}
+use Rattle.gu_journal.proofs.Groups.{one_more}
+use Rattle.gu_journal.proofs.Taking.{all_more}
+use Rattle.gu_journal.proofs.group.write_entries.Goals as goal
+
+pub loop-i-preserved : goal.loop-i-preserved
+loop-i-preserved c =
+    let i = c.loop-i.i in
+    let n = c.args.first.number + i in
+    let e = c.index-entries-i.result in
+    let later = drop (i + 1) c.args.entries.now in
+    let dropped : drop i c.args.entries.now ≡ e ∷ later = search (rules, drop_more) in
+    let sayable : IsSayableEntry e = search rules in
+    record {
+      told = one_more c.args.first.house c.args.moment.now n (c.args.first.number + (i + 1)) e later c.loop-i.room.text.items _ _
+          (ap (λ (es : List Entry). c.loop-i.room.text.items ++ entry_frames c.args.first.house c.args.moment.now n es) (sym dropped) ∙ c.loop-i.invariant.told)
+          c.in_ok-write_entry.ensures.ok (omega arith);
+      sayable = all_more IsSayableEntry c.args.entries.now i e later dropped c.loop-i.invariant.sayable sayable;
+    }
+
+pub returns-clause-sayable : goal.returns-clause-sayable
+returns-clause-sayable c =
+    let all : length c.args.entries.now ≤ c.loop-i.i = search rules in
+    subst (AllByRecursion IsSayableEntry) (take_all c.loop-i.i c.args.entries.now all) c.loop-i.invariant.sayable

@@ -1,0 +1,11 @@
+use Rattle.std.proofs.Common.{◌≡◌, ◌+◌, ◌++◌, take, drop}
+use Rattle.std.specs.List.{AllByRecursion}
+use Rattle.gu_journal.specs.Groups.{entry_frames, IsSayableEntry}
+use Rattle.gu_journal.proofs.group.write_entries.Given as goal
+
+abbrev pub invariant-loop-i : goal.invariant-loop-i
+invariant-loop-i l = record {
+  told : l.room.text.items ++ entry_frames l.first.0 l.moment (l.first.1.0 + l.i) (drop l.i l.entries)
+      ≡ l.initial.room.text.items ++ entry_frames l.first.0 l.moment l.first.1.0 l.entries;
+  sayable : AllByRecursion IsSayableEntry (take l.i l.entries);
+}

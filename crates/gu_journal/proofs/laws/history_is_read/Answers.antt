@@ -1,0 +1,5 @@
+use Rattle.gu_journal.proofs.Playing.{history_is}
+use Rattle.gu_journal.proofs.laws.history_is_read.Goals as goal
+
+pub returns : goal.returns
+returns c = λ t pin bytes rest h end. history_is t pin bytes rest h end

@@ -1,0 +1,53 @@
+-- The messages of the session in a journal, which give nothing to a history.
+use Rattle.std.specs.Prelude.{ℕ, List, [], ◌∷◌, ◌++◌, codes, None}
+use Rattle.gu_codec.specs.Messages.{Message}
+use Rattle.gu_codec.specs.Tags as tag
+use Rattle.gu_codec.specs.Writing.{header_pairs}
+use Rattle.hex.specs.Hex.{encode_lower}
+use Rattle.sha2.specs.Sha256.{sha256}
+
+-- DefaultCstmApplVerID (1408), in which the head has the form of the journal
+abbrev pub default_cstm_appl_ver_id : ℕ
+default_cstm_appl_ver_id = 1408
+
+-- the one form of a journal that is written and read
+abbrev pub form : List ℕ
+form = codes "allocd-journal-1"
+
+-- the SHA-256 of some bytes, as 64 hex digits in lower case
+abbrev pub digest_text : List ℕ → List ℕ
+digest_text bytes = encode_lower (sha256 bytes)
+
+-- the header of a message of this type from the house to itself
+abbrev pub own_header : List ℕ → List ℕ → List ℕ → ℕ → Message
+own_header kind house moment number = header_pairs (record {
+  kind = kind;
+  sender = house;
+  target = house;
+  number = number;
+  sent = moment;
+  resent = None;
+})
+
+-- what the head has behind its header: a Logon's fields, the form, the digest of the house file
+abbrev pub head_fields : List ℕ → Message
+head_fields pin =
+    (tag.encrypt_method, codes "0") ∷ (tag.heart_bt_int, codes "0")
+    ∷ (tag.default_appl_ver_id, codes "9") ∷ (default_cstm_appl_ver_id, form)
+    ∷ (tag.text, encode_lower pin) ∷ []
+
+-- The head: a Logon (A) of the house to itself at a moment, with the number of the next entry. The
+-- digest of the house file pins the house.
+abbrev pub head_of : List ℕ → List ℕ → ℕ → List ℕ → Message
+head_of house moment number pin =
+    own_header (codes "A") house moment number ++ head_fields pin
+
+-- A seal: a Heartbeat (0) of the house to itself at a moment, with the number of the next entry,
+-- and a digest in TestReqID (112).
+abbrev pub seal_with : List ℕ → List ℕ → ℕ → List ℕ → Message
+seal_with house moment number digest =
+    own_header (codes "0") house moment number ++ (tag.test_req_id, encode_lower digest) ∷ []
+
+-- the seal of these bytes
+abbrev pub seal_of : List ℕ → List ℕ → ℕ → List ℕ → Message
+seal_of house moment number bytes = seal_with house moment number (sha256 bytes)

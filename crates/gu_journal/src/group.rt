@@ -1,0 +1,120 @@
+//! A group as it is written: the frames of its entries, its seal, and the next gate, shut.
+
+ghost use Rattle.std.specs.Prelude.{◌≡◌, ◌≤◌, ◌<◌, ◌+◌, ◌++◌, length, true, OnOk};
+ghost use Rattle.std.specs.List.{AllByRecursion};
+ghost use Rattle.gu_codec.specs.Writing.{IsText};
+ghost use Rattle.gu_journal.specs.Groups.{entry_frames, IsSayableEntry, IsGroupOf};
+
+use crate::error::JournalError;
+use crate::lawful::firm_is_lawful;
+use crate::sayable::is_sayable;
+use crate::session::write_seal;
+use crate::stamp::Stamp;
+use crate::writing::write_entry;
+use gu_base::Entry;
+use sha2::{Digest, Sha256};
+use std::alloc::Global;
+
+/// The most entries that a history has.
+const MOST_ENTRIES: usize = 1_000_000;
+
+/// The most bytes of a group.
+const MOST_BYTES: usize = 1 << 60;
+
+/// What stands in a gate that is shut.
+const SHUT: u8 = b'\n';
+
+/// Room for a group, which is kept, so that memory is asked for only where more is needed than ever
+/// before.
+#[derive(Drop)]
+pub(crate) struct Room {
+    /// For the group.
+    pub(crate) text: Vec<u8>,
+    /// For the fields of a message.
+    pub(crate) body: Vec<u8>,
+}
+
+impl Room {
+    /// None taken yet.
+    pub(crate) fn new(alloc: Global) -> Room {
+        Room {
+            text: Vec::new(alloc),
+            body: Vec::new(alloc),
+        }
+    }
+}
+
+/// Whether so many entries may follow, of which the first has this number.
+fn has_room(first: u32, count: usize) -> bool
+    ensures { result ≡ true → (0 < first) × (first + count ≤ 1000001) }
+{
+    let first = first as usize;
+    0 < first && first <= MOST_ENTRIES + 1 && count <= MOST_ENTRIES + 1 - first
+}
+
+/// Appends the frames of these entries, of which the first has the number of the stamp.
+fn write_entries(
+    room: &mut Room,
+    first: Stamp,
+    moment: &[u8],
+    entries: &[Entry],
+) -> Result<(), JournalError>
+    requires moment { IsText moment.now }
+    requires few { first.number + length entries.now ≤ 1000001 }
+    ensures text { OnOk result (room.new.text.items ≡ room.old.text.items
+        ++ entry_frames first.house moment.now first.number entries.now) }
+    ensures sayable { OnOk result (AllByRecursion IsSayableEntry entries.now) }
+{
+    for i in 0..entries.len() {
+        let entry = &entries[i];
+        let stamp = Stamp {
+            house: first.house,
+            number: first.number + i as u32,
+        };
+        if !is_sayable(entry) {
+            return Err(JournalError::Unsayable {
+                entry: stamp.number,
+            });
+        }
+        write_entry(&mut room.text, &mut room.body, stamp, moment, entry)?;
+    }
+    Ok(())
+}
+
+/// Writes the group of these entries in place of what was in the room, of which the first has the
+/// number of the stamp. The hasher has taken in all bytes of the file before the group, and takes
+/// in the group's frames.
+pub(crate) fn write_group(
+    room: &mut Room,
+    hasher: &mut Sha256,
+    first: Stamp,
+    moment: &[u8],
+    entries: &[Entry],
+) -> Result<(), JournalError>
+    requires moment { IsText moment.now }
+    ensures group { OnOk result (IsGroupOf first.house moment.now first.number
+        entries.now hasher.old hasher.new room.new.text.items) }
+{
+    firm_is_lawful(&first.house);
+    if !has_room(first.number, entries.len()) {
+        return Err(JournalError::Full);
+    }
+    room.text.clear();
+    write_entries(room, first, moment, entries)?;
+    hasher.update(room.text.as_slice());
+    let seal_at = room.text.len();
+    let digest = hasher.clone()?.finalize();
+    let stamp = Stamp {
+        house: first.house,
+        number: first.number + entries.len() as u32,
+    };
+    write_seal(&mut room.text, &mut room.body, stamp, moment, &digest)?;
+    hasher.update(&room.text[seal_at..]);
+    if room.text.push(SHUT).is_err() {
+        return Err(JournalError::Memory);
+    }
+    if room.text.len() > MOST_BYTES {
+        return Err(JournalError::Full);
+    }
+    Ok(())
+}
