@@ -12,8 +12,7 @@
 //! - One worker, one connection, and a book with a thousand trades for AAA. AAA logs on and says nothing more, and has its reports within two seconds. A
 //!   server that waits a second for each hundred takes ten.
 //!
-//! `serve` serves them all but the silent peer, whose second to log on in is for `serve_within`. A
-//! message is written as its fields but the times and the checksum, which hangs on these.
+//! A message is written as its fields but the times and the checksum, which hangs on these.
 
 mod books;
 mod holding;

@@ -10,9 +10,8 @@ pub(crate) struct Scene<'a> {
     pub(crate) connections: u32,
     /// Whether two workers serve them, or one.
     pub(crate) has_two_workers: bool,
-    /// How long a connection may be without an accepted Logon, in seconds, where `serve_within`
-    /// serves. Without it `serve` does.
-    pub(crate) logon_wait: Option<u64>,
+    /// How long a connection may be without an accepted Logon, in seconds.
+    pub(crate) logon_wait: u64,
     /// What is done before the server runs: what is sent then is read in its first turn.
     pub(crate) before: &'a [Step<'a>],
     /// What is done beside the server.
@@ -137,7 +136,7 @@ const CCC_LOGOUT: Message<'static> = Message {
 const GATE: Scene<'static> = Scene {
     connections: 2,
     has_two_workers: true,
-    logon_wait: None,
+    logon_wait: 30,
     before: &[],
     steps: &[
         (0, Deed::Asks(&[AAA_LOGON, AAA_SPLIT])),
@@ -153,7 +152,7 @@ const GATE: Scene<'static> = Scene {
 const STRANGERS: Scene<'static> = Scene {
     connections: 4,
     has_two_workers: false,
-    logon_wait: None,
+    logon_wait: 30,
     before: &[],
     steps: &[
         (0, Deed::Sends(b"GET / HTTP/1.1\r\n\r\n")),
@@ -172,7 +171,7 @@ const STRANGERS: Scene<'static> = Scene {
 const RETRY: Scene<'static> = Scene {
     connections: 2,
     has_two_workers: false,
-    logon_wait: None,
+    logon_wait: 30,
     before: &[],
     steps: &[
         (0, Deed::Asks(&[AAA_LOGON, AAA_SPLIT_IN_TWO])),
@@ -188,7 +187,7 @@ const RETRY: Scene<'static> = Scene {
 const SILENT: Scene<'static> = Scene {
     connections: 2,
     has_two_workers: true,
-    logon_wait: Some(1),
+    logon_wait: 1,
     before: &[(1, Deed::Asks(&[CCC_LOGON]))],
     steps: &[
         (0, Deed::IsClosed(b"silent")),
@@ -201,7 +200,7 @@ const SILENT: Scene<'static> = Scene {
 const BEHIND: Scene<'static> = Scene {
     connections: 1,
     has_two_workers: false,
-    logon_wait: None,
+    logon_wait: 30,
     before: &[],
     steps: &[
         (0, Deed::Asks(&[AAA_LOGON])),

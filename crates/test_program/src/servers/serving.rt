@@ -8,7 +8,7 @@ use crate::servers::peers::connected;
 use crate::servers::playing::{play, play_out};
 use crate::servers::scenes::{Play, Scene};
 use gu_book::Book;
-use gu_server::{ServeError, ServeLimits, serve, serve_within};
+use gu_server::{ServeLimits, serve_within};
 use std::alloc::Global;
 use std::net::{SocketAddr, TcpListener};
 use std::sync::Wait;
@@ -25,44 +25,18 @@ pub(crate) struct Ground<'a> {
     pub(crate) at: SocketAddr,
 }
 
-/// How many workers serve the clients of a scene.
-fn workers_of(scene: &Scene<'_>) -> u32
-    ensures { IsTrue (is_worker_count result) }
+/// Within which limits a scene's server serves its clients.
+fn limits_of(scene: &Scene<'_>) -> ServeLimits
+    ensures { IsTrue (is_worker_count result.workers) }
 {
-    if scene.has_two_workers { 2 } else { 1 }
+    ServeLimits {
+        workers: if scene.has_two_workers { 2 } else { 1 },
+        connections: scene.connections,
+        logon_wait: scene.logon_wait,
+    }
 }
 
-/// Serves the clients of a scene over a handle that may start threads and wait: by `serve`, and
-/// where the scene has a time to log on in, within it.
-fn serve_scene<R: Threads + Wait + Clock + Sync>(
-    handle: &R,
-    ground: &Ground<'_>,
-    book: Book,
-    scene: &Scene<'_>,
-    holds: &Holds<'_>,
-) -> Result<Book, ServeError> {
-    let workers = workers_of(scene);
-    let connections = scene.connections;
-    let Some(logon_wait) = scene.logon_wait else {
-        return serve(
-            handle,
-            ground.alloc,
-            ground.listener,
-            book,
-            workers,
-            connections,
-            holds,
-        );
-    };
-    let limits = ServeLimits {
-        workers,
-        connections,
-        logon_wait,
-    };
-    serve_within(handle, ground.alloc, ground.listener, book, limits, holds)
-}
-
-/// Serves the clients of a scene, and does beside it what they do. Gives the book that comes back.
+/// Serves the clients of a scene over a handle that may start threads and wait. Gives the book that comes back.
 fn served<R: Threads + Wait + Clock + Sync>(
     handle: &R,
     ground: &Ground<'_>,
@@ -76,7 +50,10 @@ fn served<R: Threads + Wait + Clock + Sync>(
     let ((), served) = thread::join(
         handle,
         move || play_out(holds, peers, scene.steps),
-        move || serve_scene(handle, ground, book, scene, holds),
+        move || {
+            let limits = limits_of(scene);
+            serve_within(handle, ground.alloc, ground.listener, book, limits, holds)
+        },
     );
     served.ok()
 }
