@@ -39,4 +39,3 @@ rest_is group = take_all (length group - 1) (drop 1 group) (omega (arith, length
 
 pub some_rest : (group : List ℕ) → IsGroup group → 0 < length (take (length group - 1) (drop 1 group))
 some_rest group g = omega (arith, ap length (rest_is group), length-drop 1 group, group_len group g)
-
