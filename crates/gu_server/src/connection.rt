@@ -248,6 +248,13 @@ impl<'a> Connection<'a> {
         }
     }
 
+    /// How many bytes the turn sends so far.
+    pub(crate) fn waiting(&self) -> usize
+        ensures { result ≡ length self.now.out.items }
+    {
+        self.out.len()
+    }
+
     /// Writes what the turn sends, in one write. One that is short has waited for the peer as long as it may.
     pub(crate) fn write(&mut self, stream: &TcpStream) -> Result<(), Closed>
         ensures out { self.new.out.items ≡ [] }

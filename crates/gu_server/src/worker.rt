@@ -1,8 +1,9 @@
 //! A worker, and the turns of the connection that it serves.
 //!
 //! A turn reads at most 4,096 bytes, waiting one second for them, or a millisecond where the firm is behind with its reports. It takes the
-//! messages that have come whole through the session, and sends all that comes of them in one write. Only the book is asked under the desk's
-//! lock: reading, decoding and writing are done without it.
+//! messages that have come whole through the session, and sends all that comes of them in one write. Where more than 64 kB wait to be
+//! sent it takes no further message: the next turn takes those before it reads. Only the book is asked under the desk's lock: reading,
+//! decoding and writing are done without it.
 //! A connection that has no accepted Logon in time is ended.
 ghost use Rattle.std.specs.Prelude.{◌≡◌, true, is_some, OnOk, OnErr};
 ghost use Rattle.gu_desk.specs.Runs.{HasSeen};
@@ -23,6 +24,9 @@ use std::time::{Clock, Duration, Instant};
 
 /// The longest read of a turn, in bytes.
 const LONGEST_READ: usize = 4096;
+
+/// How many bytes may wait to be sent for a turn to take a further message.
+const MOST_WAITING: usize = 65_536;
 
 /// How long a read waits, in seconds.
 const READ_WAIT: u64 = 1;
@@ -73,6 +77,17 @@ fn expire<R: Clock>(
         Ok(waited) if waited.as_secs() < most => Ok(()),
         _ => connection.end(rt),
     }
+}
+
+/// What a turn leaves.
+#[derive(Clone, Copy, PartialEq, Eq)]
+enum Left {
+    /// Nothing that is known of.
+    Nothing,
+    /// Perhaps bytes to be read: the read had as many as it might have, or was interrupted.
+    Unread,
+    /// Perhaps messages that have come whole: too much waits to be sent.
+    Untaken,
 }
 
 /// A worker: what it has for all its connections. Its seat goes from hand to hand.
@@ -172,15 +187,19 @@ impl<'a, J: Job, R: Wait + Clock, G: Gate> Worker<'a, J, R, G> {
         }
     }
 
-    /// Takes the messages that have come whole, one after the other, and then a Tick.
+    /// Takes the messages that have come whole, one after the other, and then a Tick; or those before too much waits to be sent.
     fn messages(
         &self,
         seat: Seat<J>,
         connection: &mut Connection<'_>,
-    ) -> (Seat<J>, Result<(), Closed>) {
+        left: Left,
+    ) -> (Seat<J>, Result<Left, Closed>) {
         let mut seat = seat;
         // A frame has a byte at least, so no feed holds more of them.
         for _ in 0..MAX_FRAME_LEN {
+            if connection.waiting() > MOST_WAITING {
+                return (seat, Ok(Left::Untaken));
+            }
             match connection.next(self.rt) {
                 Ok(Brought::Nothing) => break,
                 Ok(Brought::Garbled) => {}
@@ -188,13 +207,16 @@ impl<'a, J: Job, R: Wait + Clock, G: Gate> Worker<'a, J, R, G> {
                     let (back, acted) = self.act(seat, connection, actions);
                     seat = back;
                     if acted.is_err() {
-                        return (seat, acted);
+                        return (seat, Err(Closed));
                     }
                 }
                 Err(e) => return (seat, Err(e)),
             }
         }
-        (seat, connection.quiet(self.rt, Event::Tick))
+        match connection.quiet(self.rt, Event::Tick) {
+            Ok(()) => (seat, Ok(left)),
+            Err(e) => (seat, Err(e)),
+        }
     }
 
     /// A turn in which nothing came: a Tick, and the reports to a firm that has logged on.
@@ -202,36 +224,55 @@ impl<'a, J: Job, R: Wait + Clock, G: Gate> Worker<'a, J, R, G> {
         &self,
         seat: Seat<J>,
         connection: &mut Connection<'_>,
-    ) -> (Seat<J>, Result<(), Closed>) {
+    ) -> (Seat<J>, Result<Left, Closed>) {
         if connection.quiet(self.rt, Event::Tick).is_err() {
             return (seat, Err(Closed));
         }
-        match connection.firm() {
-            Some(firm) => self.reply(seat, connection, &firm, None),
-            None => (seat, Ok(())),
+        let Some(firm) = connection.firm() else {
+            return (seat, Ok(Left::Nothing));
+        };
+        let (seat, told) = self.reply(seat, connection, &firm, None);
+        match told {
+            Ok(()) => (seat, Ok(Left::Nothing)),
+            Err(e) => (seat, Err(e)),
         }
     }
 
-    /// One turn, without its write.
+    /// The last turn: the peer is gone.
+    fn end(
+        &self,
+        seat: Seat<J>,
+        connection: &mut Connection<'_>,
+    ) -> (Seat<J>, Result<Left, Closed>) {
+        let _ = connection.end(self.rt);
+        (seat, Err(Closed))
+    }
+
+    /// One turn, without its write, behind one that left this.
     fn turn(
         &self,
         seat: Seat<J>,
         connection: &mut Connection<'_>,
         stream: &TcpStream,
-    ) -> (Seat<J>, Result<(), Closed>) {
-        let mut piece = [0; LONGEST_READ];
-        let most = connection.room().min(LONGEST_READ);
+        piece: &mut [u8],
+        left: Left,
+    ) -> (Seat<J>, Result<Left, Closed>) {
+        if left == Left::Untaken {
+            return self.messages(seat, connection, Left::Unread);
+        }
+        let most = connection.room().min(piece.len());
         let mut from: &TcpStream = stream;
         match from.read(&mut piece[..most]) {
-            Ok(0) => (seat, connection.end(self.rt)),
+            Ok(0) => self.end(seat, connection),
             Ok(n) => match connection.push(&piece[..n]) {
-                Ok(()) => self.messages(seat, connection),
+                Ok(()) if n == most => self.messages(seat, connection, Left::Unread),
+                Ok(()) => self.messages(seat, connection, Left::Nothing),
                 Err(e) => (seat, Err(e)),
             },
             Err(e) => match e.kind() {
                 ErrorKind::WouldBlock | ErrorKind::TimedOut => self.idle(seat, connection),
-                ErrorKind::Interrupted => (seat, Ok(())),
-                _ => (seat, connection.end(self.rt)),
+                ErrorKind::Interrupted => (seat, Ok(Left::Unread)),
+                _ => self.end(seat, connection),
             },
         }
     }
@@ -248,13 +289,20 @@ impl<'a, J: Job, R: Wait + Clock, G: Gate> Worker<'a, J, R, G> {
             return seat;
         };
         let mut seat = seat;
+        let mut piece = [0; LONGEST_READ];
+        let mut left = Left::Nothing;
         let mut hurried = false;
         for _ in self.rt.forever() {
-            let (back, turned) = self.turn(seat, &mut connection, &stream);
+            let (back, turned) = self.turn(seat, &mut connection, &stream, &mut piece, left);
             seat = back;
-            if connection.write(&stream).is_err()
-                || turned.is_err()
-                || expire(self.rt, &mut connection, taken, self.logon_wait).is_err()
+            if connection.write(&stream).is_err() {
+                break;
+            }
+            match turned {
+                Ok(rest) => left = rest,
+                Err(_) => break,
+            }
+            if expire(self.rt, &mut connection, taken, self.logon_wait).is_err()
                 || keep_pace(&stream, &mut hurried, connection.behind()).is_err()
             {
                 break;
