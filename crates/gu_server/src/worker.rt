@@ -1,9 +1,10 @@
 //! A worker, and the turns of the connection that it serves.
 //!
-//! A turn reads at most 4,096 bytes, waiting one second for them, or a millisecond where the firm is behind with its reports. It takes the
-//! messages that have come whole through the session, and sends all that comes of them in one write. Where more than 64 kB wait to be
-//! sent it takes no further message: the next turn takes those before it reads. Only the book is asked under the desk's lock: reading,
-//! decoding and writing are done without it.
+//! A turn reads at most 4,096 bytes, waiting one second for them, or a millisecond where the firm is
+//! behind with its reports. It takes the messages that have come whole through the session, and
+//! sends all that comes of them in one write. Where more than 64 kB wait to be sent it takes no
+//! further message: the next turn takes those before it reads. Only the book is asked under the
+//! desk's lock: reading, decoding and writing are done without it.
 //! A connection that has no accepted Logon in time is ended.
 ghost use Rattle.std.specs.Prelude.{◌≡◌, true, is_some, OnOk, OnErr};
 ghost use Rattle.gu_desk.specs.Runs.{HasSeen};
@@ -187,7 +188,8 @@ impl<'a, J: Job, R: Wait + Clock, G: Gate> Worker<'a, J, R, G> {
         }
     }
 
-    /// Takes the messages that have come whole, one after the other, and then a Tick; or those before too much waits to be sent.
+    /// Takes the messages that have come whole, one after the other, and then a Tick; or those
+    /// before too much waits to be sent.
     fn messages(
         &self,
         seat: Seat<J>,
