@@ -1,14 +1,15 @@
 -- A command that can be said, and has lawful names, is lawful.
-use Rattle.std.proofs.Common.{◌≡◌, ◌≢◌, ℕ, ◌<◌, ◌≤◌, ◌^◌, Bool, true, false, List, [], ◌∷◌, length, Option, Some, None, IsTrue}
-use Rattle.std.specs.Prelude.{bytes_eq, not, ◌&&◌, nat_lt, nat_le}
+use Rattle.std.proofs.Common.{◌≡◌, ◌≢◌, ℕ, ◌<◌, ◌^◌, Bool, true, false, List, [], ◌∷◌, length, Option, Some, None}
+use Rattle.std.specs.Prelude.{bytes_eq, not, nat_le}
 use Rattle.std.specs.List.{AllByRecursion, list_all}
 use Rattle.std.proofs.lemmas.Bool.{and_parts, leb-true, ltb-true}
 use Rattle.std.proofs.lemmas.Slice.Eq.{bytes_eq-Decides}
-use Rattle.gu_base.specs.Names.{is_firm_text}
 use Rattle.gu_base.specs.declared.command.Part.{Part}
 use Rattle.gu_base.specs.declared.command.Command.{Command}
-use Rattle.gu_base.specs.declared.command.Command.TheVariants.{Trade, Split, Claim, Refuse, Cancel, Agree, Raise, Initiate, Decline, Reverse}
-use Rattle.gu_journal.specs.Entries.{is_short, is_sayable_to, is_sayable_part, is_sayable, HasFewParts, IsNamedTo, IsNamedPart, HasLawfulNames, IsLawfulTo, IsLawfulPart, IsLawfulCommand}
+use Rattle.gu_base.specs.declared.command.Command.TheVariants.{Trade, Split, Claim, Refuse, Cancel, Agree, Raise}
+use Rattle.gu_base.specs.declared.command.Command.TheVariants.{Initiate, Decline, Reverse}
+use Rattle.gu_journal.specs.Entries.{is_short, is_sayable_to, is_sayable_part, is_sayable, HasFewParts, IsNamedTo}
+use Rattle.gu_journal.specs.Entries.{IsNamedPart, HasLawfulNames, IsLawfulTo, IsLawfulPart, IsLawfulCommand}
 
 short_is : (n : ℕ) → is_short n ≡ true → n < 10 ^ 18
 short_is n h = ltb-true n (10 ^ 18) h
@@ -20,7 +21,8 @@ differ a b h = λ e. go (bytes_eq a b) ((bytes_eq-Decides a b).1 e) h
     go true e h = cc h
     go false e h = cc e
 
-to_lawful : (by firm : List ℕ) (lots : ℕ) (account : Option (List ℕ)) → is_sayable_to by firm lots account ≡ true → IsNamedTo firm account → IsLawfulTo by firm lots account
+to_lawful : (by firm : List ℕ) (lots : ℕ) (account : Option (List ℕ)) → is_sayable_to by firm lots account ≡ true
+    → IsNamedTo firm account → IsLawfulTo by firm lots account
 to_lawful by firm lots (Some account) said named =
     let both = and_parts (bytes_eq firm by) (is_short lots) said in
     ((bytes_eq-Decides firm by).0 both.0, named.1, short_is lots both.1)
@@ -28,7 +30,8 @@ to_lawful by firm lots None said named =
     let both = and_parts (not (bytes_eq firm by)) (is_short lots) said in
     (differ firm by both.0, named, short_is lots both.1)
 
-parts_lawful : (by : List ℕ) (ps : List Part) → list_all (is_sayable_part by) ps ≡ true → AllByRecursion IsNamedPart ps → AllByRecursion (IsLawfulPart by) ps
+parts_lawful : (by : List ℕ) (ps : List Part) → list_all (is_sayable_part by) ps ≡ true → AllByRecursion IsNamedPart ps
+    → AllByRecursion (IsLawfulPart by) ps
 parts_lawful by [] said named = tt
 parts_lawful by (p ∷ ps) said named =
     let both = and_parts (is_sayable_part by p) (list_all (is_sayable_part by) ps) said in
@@ -52,7 +55,8 @@ lawful_from by (Reverse entry) said named = named
 
 pub few_parts : (by : List ℕ) (c : Command) → is_sayable by c ≡ true → HasFewParts c
 few_parts by (Trade firm account instrument side lots) said = tt
-few_parts by (Split node parts) said = leb-true (length parts) 100 (and_parts (nat_le (length parts) 100) (list_all (is_sayable_part by) parts) said).0
+few_parts by (Split node parts) said = leb-true (length parts) 100
+    (and_parts (nat_le (length parts) 100) (list_all (is_sayable_part by) parts) said).0
 few_parts by (Claim node account) said = tt
 few_parts by (Refuse node) said = tt
 few_parts by (Cancel node) said = tt

@@ -1,5 +1,6 @@
 -- What a crash leaves of a journal.
-use Rattle.std.proofs.Common.{◌≡◌, ◌≢◌, ◌⊎◌, inl, inr, ℕ, ◌+◌, ◌<◌, ◌≤◌, List, [], ◌∷◌, ◌++◌, length, take, drop, Some, refl, sym, ◌∙◌, ap, subst, arith, append_assoc}
+use Rattle.std.proofs.Common.{◌≡◌, ◌≢◌, ◌⊎◌, inl, inr, ℕ, List, [], ◌∷◌, ◌++◌, length, drop}
+use Rattle.std.proofs.Common.{sym, ◌∙◌, ap, arith}
 use Rattle.std.proofs.lemmas.Bool.{cases_eq}
 use Rattle.std.proofs.lemmas.List.{append-nil}
 use Rattle.gu_base.specs.House.{House}
@@ -18,23 +19,28 @@ ten e = absurd (omega (arith, e))
 module _ (t : House) (pin bytes : List ℕ) (h : List Entry) (journal : IsJournal t pin bytes h) where
   -- behind a gate that isn't open nothing is read
   pub gate_says : (gate : ℕ) (more : List ℕ) → gate ≢ 56 → history_of t (bytes ++ gate ∷ more) ≡ h
-  gate_says gate more shut = history_is t pin bytes (gate ∷ more) h (Broken (length bytes)) journal (shut_ends (length bytes) gate more shut)
+  gate_says gate more shut = history_is t pin bytes (gate ∷ more) h (Broken (length bytes)) journal
+      (shut_ends (length bytes) gate more shut)
 
   pub shut_says : (c : List ℕ) → IsShutBehind bytes c → history_of t c ≡ h
   shut_says c shut = ap (history_of t) shut.1 ∙ gate_says 10 shut.0 ten
 
-module _ (t : House) (pin bytes group : List ℕ) (h new : List Entry) (g : IsGroup group) (journal : IsJournal t pin bytes h) (longer : IsJournal t pin (bytes ++ frames_in group) new) where
-  turning_says : (gate : ℕ) (more c : List ℕ) → c ≡ bytes ++ gate ∷ (drop 1 group ++ more) → (history_of t c ≡ h) ⊎ (history_of t c ≡ new)
+module _ (t : House) (pin bytes group : List ℕ) (h new : List Entry) (g : IsGroup group)
+    (journal : IsJournal t pin bytes h) (longer : IsJournal t pin (bytes ++ frames_in group) new) where
+  turning_says : (gate : ℕ) (more c : List ℕ) → c ≡ bytes ++ gate ∷ (drop 1 group ++ more) → (history_of t c ≡ h)
+      ⊎ (history_of t c ≡ new)
   turning_says gate more c is = elim (cases_eq gate 56) [
     | inr shut ↦ inl (ap (history_of t) is ∙ gate_says t pin bytes h journal gate (drop 1 group ++ more) shut)
     | inl is_open ↦
         let whole : c ≡ bytes ++ (group ++ more) =
-        is ∙ ap (λ (b : ℕ). bytes ++ b ∷ (drop 1 group ++ more)) is_open ∙ ap (λ (l : List ℕ). bytes ++ (l ++ more)) (open_is group g) in
+        is ∙ ap (λ (b : ℕ). bytes ++ b ∷ (drop 1 group ++ more)) is_open
+        ∙ ap (λ (l : List ℕ). bytes ++ (l ++ more)) (open_is group g) in
         inr (shut_says t pin (bytes ++ frames_in group) new longer c (more, whole ∙ counts_behind group g bytes more))
   ]
 
   pub opening : (c : List ℕ) → IsLeftOpening bytes group c → (history_of t c ≡ h) ⊎ (history_of t c ≡ new)
-  opening c left = turning_says left.0 [] c (left.1 ∙ ap (λ (l : List ℕ). bytes ++ left.0 ∷ l) (sym (append-nil (drop 1 group))))
+  opening c left = turning_says left.0 [] c (left.1 ∙ ap (λ (l : List ℕ). bytes ++ left.0 ∷ l)
+      (sym (append-nil (drop 1 group))))
 
   pub turning : (c : List ℕ) → IsLeftTurning bytes group c → (history_of t c ≡ h) ⊎ (history_of t c ≡ new)
   turning c left = turning_says left.0 left.1 c left.2
@@ -45,8 +51,13 @@ module _ (t : House) (pin bytes group : List ℕ) (h new : List Entry) (g : IsGr
 
   pub mixing : (c : List ℕ) → IsLeftMixing bytes group c → IsLeftShut t pin h new c
   mixing c (inl shut) = (bytes, shut, inl journal)
-  mixing c (inr whole) = (bytes ++ frames_in group, (whole.0, whole.1 ∙ counts_behind group g bytes whole.0), inr longer)
+  mixing c (inr whole) = (
+    bytes ++ frames_in group,
+    (whole.0, whole.1 ∙ counts_behind group g bytes whole.0),
+    inr longer,
+  )
 
 -- what leaves one history leaves it or another
-pub left_more : (t : House) (pin : List ℕ) (h new : List Entry) (c : List ℕ) → IsLeftShut t pin h h c → IsLeftShut t pin h new c
+pub left_more : (t : House) (pin : List ℕ) (h new : List Entry) (c : List ℕ) → IsLeftShut t pin h h c
+    → IsLeftShut t pin h new c
 left_more t pin h new c left = (left.0, left.1, elim left.2 [ inl same ↦ inl same | inr same ↦ inl same ])

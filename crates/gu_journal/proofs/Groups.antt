@@ -1,6 +1,6 @@
 -- What is written of a group makes a longer journal.
-use Rattle.std.proofs.Common.{◌≡◌, ◌≢◌, ℕ, ◌+◌, ◌-◌, ◌<◌, ◌≤◌, ◌^◌, true, List, [], ◌∷◌, ◌++◌, length, length-drop, take, drop, Some, refl, sym, ◌∙◌, ap, subst, arith, append_assoc, length-append, IsTrue}
-use Rattle.std.specs.Prelude.{decimal}
+use Rattle.std.proofs.Common.{◌≡◌, ℕ, ◌+◌, ◌-◌, ◌≤◌, List, [], ◌∷◌, ◌++◌, length, length-drop}
+use Rattle.std.proofs.Common.{take, drop, refl, sym, ◌∙◌, ap, subst, arith, append_assoc, length-append, IsTrue}
 use Rattle.std.specs.List.{AllByRecursion}
 use Rattle.std.proofs.lemmas.List.{append-nil, take_at, take_all, drop_at}
 use Rattle.gu_base.specs.House.{House}
@@ -9,24 +9,26 @@ use Rattle.gu_base.specs.Answers.{answer_to}
 use Rattle.gu_base.specs.Runs.{call_of, opening_history, IsRunFrom}
 use Rattle.gu_base.specs.declared.entry.Entry.{Entry}
 use Rattle.gu_base.specs.declared.entry.Answer.TheVariants.{Accepted}
-use Rattle.gu_codec.specs.Writing.{IsText, message_text, stream_text}
-use Rattle.gu_message.specs.Timestamp.{is_timestamp}
+use Rattle.gu_codec.specs.Writing.{message_text}
 use Rattle.gu_store.specs.Store.{IsGroup, frames_in}
 use Rattle.gu_journal.specs.Entries.{is_trade, message_of}
 use Rattle.gu_journal.specs.Session.{head_of, seal_of, seal_with}
-use Rattle.gu_journal.specs.Groups.{entry_messages, entry_frames, group_frames, head_frame, group_of, IsSayableEntry, IsMoment, IsGroupOf}
+use Rattle.gu_journal.specs.Groups.{entry_frames, group_frames, head_frame, group_of, IsSayableEntry}
+use Rattle.gu_journal.specs.Groups.{IsMoment, IsGroupOf}
 use Rattle.gu_codec.specs.Messages.{Message}
 use Rattle.sha2.specs.Hashers.{Holds256}
 use Rattle.sha2.specs.Sha256.{sha256}
 use Rattle.sha2.specs.declared.Sha256.{Sha256}
-use Rattle.gu_journal.specs.Journal.{IsNumbered, IsHead, IsNext, IsSeal, Says, says_none, says_next, IsJournal, head_alone, group_more}
+use Rattle.gu_journal.specs.Journal.{IsNumbered, IsHead, IsNext, IsSeal, Says, says_none, says_next, IsJournal}
+use Rattle.gu_journal.specs.Journal.{head_alone, group_more}
 use Rattle.gu_journal.proofs.Frames.{one_frame, first_eight}
 use Rattle.gu_journal.proofs.Meanings.{call_is, head_is, seal_is}
 use Rattle.gu_journal.proofs.Writable.{call_writable, head_writable, seal_writable}
 
 -- ---- as bytes
 
-frames_begin : (house moment : List ℕ) (n : ℕ) (es : List Entry) (m : Message) → (rest : List ℕ) × (entry_frames house moment n es ++ message_text m ≡ 56 ∷ rest)
+frames_begin : (house moment : List ℕ) (n : ℕ) (es : List Entry) (m : Message) → (rest : List ℕ)
+    × (entry_frames house moment n es ++ message_text m ≡ 56 ∷ rest)
 frames_begin house moment n [] m = first_eight m
 frames_begin house moment n (e ∷ es) m =
     let first = first_eight (message_of house moment n (call_of e)) in
@@ -37,19 +39,22 @@ group_from : (frames : List ℕ) → (rest : List ℕ) × (frames ≡ 56 ∷ res
 group_from frames is = record { rest = is.0; parts = ap (λ (f : List ℕ). f ++ 10 ∷ []) is.1 }
 
 pub frames_are : (frames : List ℕ) → frames_in (group_of frames) ≡ frames
-frames_are frames = take_at frames (10 ∷ []) (length (frames ++ 10 ∷ []) - 1) (omega (arith, length-append frames (10 ∷ [])))
+frames_are frames = take_at frames (10 ∷ []) (length (frames ++ 10 ∷ []) - 1)
+    (omega (arith, length-append frames (10 ∷ [])))
 
 -- ---- as a journal
 
 -- each entry behind these is what the rules accept after those before it
 abbrev Runs : House → List Entry → List Entry → Type 0
-Runs t h es = (before after : List Entry) (e : Entry) → h ++ es ≡ before ++ e ∷ after → length h ≤ length before → answer_to t before (call_of e) ≡ Accepted (length before + 1) e.status
+Runs t h es = (before after : List Entry) (e : Entry) → h ++ es ≡ before ++ e ∷ after → length h ≤ length before
+    → answer_to t before (call_of e) ≡ Accepted (length before + 1) e.status
 
 numbered : (k n : ℕ) (m : List (ℕ × List ℕ)) → k ≡ n → IsNumbered n m → IsNumbered k m
 numbered k n m e is = subst (λ (j : ℕ). IsNumbered j m) (sym e) is
 
 module _ (t : House) (named : IsTrue (is_firm_text t.house)) (moment : List ℕ) (is_moment : IsMoment moment) where
-  next_is : (h : List Entry) (e : Entry) (n : ℕ) → n ≡ length h + 1 → n ≤ 1000001 → IsSayableEntry e → answer_to t h (call_of e) ≡ Accepted (length h + 1) e.status
+  next_is : (h : List Entry) (e : Entry) (n : ℕ) → n ≡ length h + 1 → n ≤ 1000001 → IsSayableEntry e
+      → answer_to t h (call_of e) ≡ Accepted (length h + 1) e.status
       → IsNext t h e (message_of t.house moment n (call_of e))
   next_is h e n n_is few ok accepted = record {
     trade = is_trade e.command;
@@ -58,32 +63,41 @@ module _ (t : House) (named : IsTrue (is_firm_text t.house)) (moment : List ℕ)
     number = numbered (length h + 1) n (message_of t.house moment n (call_of e)) (sym n_is) refl;
   }
 
-  says_more : (h0 : List Entry) (bytes : List ℕ) (h es : List Entry) (n : ℕ) → Says t h0 bytes h → n ≡ length h + 1 → n + length es ≤ 1000001
+  says_more : (h0 : List Entry) (bytes : List ℕ) (h es : List Entry) (n : ℕ) → Says t h0 bytes h → n ≡ length h + 1
+      → n + length es ≤ 1000001
       → AllByRecursion IsSayableEntry es → Runs t h es → Says t h0 (bytes ++ entry_frames t.house moment n es) (h ++ es)
   says_more h0 bytes h [] n says n_is few ok runs =
-      subst (λ (b : List ℕ). Says t h0 b (h ++ [])) (sym (append-nil bytes)) (subst (λ (k : List Entry). Says t h0 bytes k) (sym (append-nil h)) says)
+      subst (λ (b : List ℕ). Says t h0 b (h ++ [])) (sym (append-nil bytes))
+      (subst (λ (k : List Entry). Says t h0 bytes k) (sym (append-nil h)) says)
   says_more h0 bytes h (e ∷ es) n says n_is few ok runs =
       let m = message_of t.house moment n (call_of e) in
       let frame = message_text m in
       let writable = call_writable t.house moment n (call_of e) named (omega (arith, few)) is_moment.text ok.0 in
-      let one = says_next bytes frame h e m says (one_frame m writable) (next_is h e n n_is (omega (arith, few)) ok.0 (runs h es e refl (omega arith))) in
+      let one = says_next bytes frame h e m says (one_frame m writable)
+      (next_is h e n n_is (omega (arith, few)) ok.0 (runs h es e refl (omega arith))) in
       let more : (h ++ e ∷ []) ++ es ≡ h ++ e ∷ es = append_assoc h (e ∷ []) es in
       let longer : length (h ++ e ∷ []) ≡ length h + 1 = omega (arith, length-append h (e ∷ [])) in
-      let all = says_more h0 (bytes ++ frame) (h ++ e ∷ []) es (n + 1) one (omega (arith, n_is, longer)) (omega (arith, few)) ok.1
+      let all = says_more h0 (bytes ++ frame) (h ++ e ∷ []) es (n + 1) one (omega (arith, n_is, longer))
+      (omega (arith, few)) ok.1
       (λ before after x split le. runs before after x (sym more ∙ split) (omega (arith, le, longer))) in
-      subst (λ (b : List ℕ). Says t h0 b (h ++ e ∷ es)) (append_assoc bytes frame (entry_frames t.house moment (n + 1) es))
+      subst (λ (b : List ℕ). Says t h0 b (h ++ e ∷ es)) (append_assoc bytes frame
+      (entry_frames t.house moment (n + 1) es))
       (subst (λ (k : List Entry). Says t h0 ((bytes ++ frame) ++ entry_frames t.house moment (n + 1) es) k) more all)
 
   -- a journal grows by a group
-  pub grows : (pin bytes : List ℕ) (h es : List Entry) (n : ℕ) → IsJournal t pin bytes h → n ≡ length h + 1 → n + length es ≤ 1000001
-      → AllByRecursion IsSayableEntry es → IsRunFrom t h (h ++ es) → IsJournal t pin (bytes ++ group_frames t.house moment n es bytes) (h ++ es)
+  pub grows : (pin bytes : List ℕ) (h es : List Entry) (n : ℕ) → IsJournal t pin bytes h → n ≡ length h + 1
+      → n + length es ≤ 1000001
+      → AllByRecursion IsSayableEntry es → IsRunFrom t h (h ++ es)
+      → IsJournal t pin (bytes ++ group_frames t.house moment n es bytes) (h ++ es)
   grows pin bytes h es n journal n_is few ok run =
       let entries = entry_frames t.house moment n es in
       let next = n + length es in
       let m = seal_of t.house moment next (bytes ++ entries) in
-      let says : Says t h entries (h ++ es) = says_more h [] h es n says_none n_is few ok (λ before after e. run.accepted before after e) in
+      let says : Says t h entries (h ++ es) = says_more h [] h es n says_none n_is few ok
+      (λ before after e. run.accepted before after e) in
       let seal : IsSeal t (bytes ++ entries) (h ++ es) m = record {
-        meaning = seal_is t.house moment next named (omega (arith, n_is)) (omega (arith, few)) is_moment.timestamp (bytes ++ entries);
+        meaning = seal_is t.house moment next named (omega (arith, n_is)) (omega (arith, few)) is_moment.timestamp
+            (bytes ++ entries);
         number = numbered (length (h ++ es) + 1) next m (omega (arith, n_is, length-append h es)) refl;
         digest = refl;
       } in
@@ -92,7 +106,8 @@ module _ (t : House) (named : IsTrue (is_firm_text t.house)) (moment : List ℕ)
       (group_more bytes entries (message_text m) h (h ++ es) m journal says (one_frame m writable) seal)
 
   -- a journal begins with its head
-  pub begins : (pin : List ℕ) (n : ℕ) → length pin ≡ 32 → n ≡ length (opening_history t) + 1 → n ≤ 1000001 → IsJournal t pin (head_frame t.house moment n pin) (opening_history t)
+  pub begins : (pin : List ℕ) (n : ℕ) → length pin ≡ 32 → n ≡ length (opening_history t) + 1 → n ≤ 1000001
+      → IsJournal t pin (head_frame t.house moment n pin) (opening_history t)
   begins pin n size n_is few =
       let m = head_of t.house moment n pin in
       let head : IsHead t pin m = record {
@@ -101,21 +116,26 @@ module _ (t : House) (named : IsTrue (is_firm_text t.house)) (moment : List ℕ)
         version = refl;
         digest = refl;
       } in
-      head_alone (message_text m) m (one_frame m (head_writable t.house moment n pin named (omega (arith, few)) is_moment.text size)) head
+      head_alone (message_text m) m (one_frame m (head_writable t.house moment n pin named
+      (omega (arith, few)) is_moment.text size)) head
 
 -- ---- steps of the code
 
 -- one entry more is written
-pub one_more : (house moment : List ℕ) (n m : ℕ) (e : Entry) (later : List Entry) (old new all : List ℕ) → old ++ entry_frames house moment n (e ∷ later) ≡ all
-    → new ≡ old ++ message_text (message_of house moment n (call_of e)) → m ≡ n + 1 → new ++ entry_frames house moment m later ≡ all
+pub one_more : (house moment : List ℕ) (n m : ℕ) (e : Entry) (later : List Entry) (old new all : List ℕ)
+    → old ++ entry_frames house moment n (e ∷ later) ≡ all
+    → new ≡ old ++ message_text (message_of house moment n (call_of e)) → m ≡ n + 1
+    → new ++ entry_frames house moment m later ≡ all
 one_more house moment n m e later old new all so_far is next =
     let text = message_text (message_of house moment n (call_of e)) in
-    ap (λ (t : List ℕ). t ++ entry_frames house moment m later) is ∙ ap (λ (k : ℕ). (old ++ text) ++ entry_frames house moment k later) next
+    ap (λ (t : List ℕ). t ++ entry_frames house moment m later) is
+    ∙ ap (λ (k : ℕ). (old ++ text) ++ entry_frames house moment k later) next
     ∙ append_assoc old text (entry_frames house moment (n + 1) later) ∙ so_far
 
 -- the group is written, and the hasher has taken it in
-pub is_group_of : (house moment : List ℕ) (n : ℕ) (es : List Entry) (old one new : Sha256) (frames sealed slice text digest : List ℕ) (at : ℕ)
-    → IsTrue (is_firm_text house) → AllByRecursion IsSayableEntry es → n + length es ≤ 1000001 → length text ≤ 2 ^ 60
+pub is_group_of : (house moment : List ℕ) (n : ℕ) (es : List Entry) (old one new : Sha256)
+    (frames sealed slice text digest : List ℕ) (at : ℕ)
+    → IsTrue (is_firm_text house) → AllByRecursion IsSayableEntry es → n + length es ≤ 1000001
     → frames ≡ entry_frames house moment n es
     → ((m : List ℕ) → Holds256 old m → Holds256 one (m ++ frames))
     → ((m : List ℕ) → Holds256 one m → digest ≡ sha256 m)
@@ -124,12 +144,14 @@ pub is_group_of : (house moment : List ℕ) (n : ℕ) (es : List Entry) (old one
     → ((m : List ℕ) → Holds256 one m → Holds256 new (m ++ take (length slice - at) (drop at slice)))
     → text ≡ sealed ++ 10 ∷ []
     → IsGroupOf house moment n es old new text
-is_group_of house moment n es old one new frames sealed slice text digest at named sayable few short frames_is first digest_is sealed_is slice_is at_is second text_is =
+is_group_of house moment n es old one new frames sealed slice text digest at named sayable few frames_is first digest_is
+    sealed_is slice_is at_is second text_is =
     let next = n + length es in
     let seal = message_text (seal_with house moment next digest) in
     let entries = entry_frames house moment n es in
     let all : slice ≡ frames ++ seal = slice_is ∙ sealed_is in
-    let whole : text ≡ group_of (entries ++ seal) = text_is ∙ ap group_of (sealed_is ∙ ap (λ (f : List ℕ). f ++ seal) frames_is) in
+    let whole : text ≡ group_of (entries ++ seal) = text_is ∙ ap group_of (sealed_is
+    ∙ ap (λ (f : List ℕ). f ++ seal) frames_is) in
     let rest : take (length slice - at) (drop at slice) ≡ seal =
     take_all (length slice - at) (drop at slice) (omega (arith, length-drop at slice))
     ∙ ap (drop at) all ∙ drop_at frames seal at (sym at_is) in
@@ -137,14 +159,15 @@ is_group_of house moment n es old one new frames sealed slice text digest at nam
     λ bytes h. ap (λ (d : List ℕ). entries ++ message_text (seal_with house moment next d))
     (digest_is (bytes ++ frames) (first bytes h) ∙ ap (λ (f : List ℕ). sha256 (bytes ++ f)) frames_is) in
     record {
-      is_group = subst IsGroup (sym whole) (group_from (entries ++ seal) (frames_begin house moment n es (seal_with house moment next digest)));
-      short = short;
+      is_group = subst IsGroup (sym whole) (group_from (entries ++ seal)
+          (frames_begin house moment n es (seal_with house moment next digest)));
       named = named;
       sayable = sayable;
       few = few;
       group = λ bytes h. whole ∙ ap group_of (sealed_of bytes h);
       hashed = λ bytes h.
-          let joined : (bytes ++ frames) ++ take (length slice - at) (drop at slice) ≡ bytes ++ group_frames house moment n es bytes =
+          let joined : (bytes ++ frames) ++ take (length slice - at)
+          (drop at slice) ≡ bytes ++ group_frames house moment n es bytes =
           ap (λ (r : List ℕ). (bytes ++ frames) ++ r) rest ∙ append_assoc bytes frames seal
           ∙ ap (λ (f : List ℕ). bytes ++ (f ++ seal)) frames_is ∙ ap (λ (l : List ℕ). bytes ++ l) (sealed_of bytes h) in
           subst (λ (l : List ℕ). Holds256 new l) joined (second (bytes ++ frames) (first bytes h));

@@ -1,95 +1,190 @@
--- What the bytes of a journal say.
-use Rattle.std.proofs.Common.{◌≡◌, ◌≢◌, ℕ, ◌+◌, List, [], ◌∷◌, ◌++◌, length, Some, Ok, refl, sym, ◌∙◌, ap, subst, arith, append_assoc}
+-- What the bytes of a journal say, and what a batch answers to them.
+use Rattle.std.proofs.Common.{◌≡◌, ℕ, suc, ◌+◌, List, [], ◌∷◌, ◌++◌, length, Some, refl, sym, ◌∙◌, ap, subst, arith}
+use Rattle.std.proofs.Common.{append_assoc, length-append}
 use Rattle.std.proofs.lemmas.List.{append-nil}
 use Rattle.std.specs.Prelude.{Result}
 use Rattle.gu_base.specs.House.{House}
 use Rattle.gu_base.specs.Answers.{answer_to, after_by}
 use Rattle.gu_base.specs.Runs.{call_of, opening_history}
 use Rattle.gu_base.specs.declared.entry.Entry.{Entry}
+use Rattle.gu_base.specs.declared.entry.Answer.{Answer}
 use Rattle.gu_codec.specs.Messages.{Message, Seen, End, Clean, Ends, Splits, messages_in}
+use Rattle.gu_codec.specs.Readings.{frames_of}
 use Rattle.gu_codec.proofs.Readings.{one_stream}
 use Rattle.gu_message.specs.Meaning.{meaning_of}
+use Rattle.gu_message.specs.Reply.{Reply, answer_reply, message_of}
 use Rattle.gu_message.specs.declared.fault.Reject.{Reject}
 use Rattle.gu_message.specs.declared.inbound.Inbound.{Inbound}
-use Rattle.gu_batch.specs.Output.{Progress, start, history_by, progress_by, progress_after, progress_along, history_of}
-use Rattle.gu_journal.specs.Journal.{IsOneFrame, IsHead, IsNext, IsSeal, Says, says_none, says_next, IsJournal, head_alone, group_more}
+use Rattle.gu_batch.specs.Output.{Progress, start, stamp, sent, history_by, replies_by, answers_to, progress_after}
+use Rattle.gu_batch.specs.Output.{answers_along, progress_along, answers_of, history_of}
+use Rattle.gu_journal.specs.Accepting.{AcceptsEach, accepts_none, accepts_next}
+use Rattle.gu_journal.specs.Journal.{IsOneFrame, IsHead, IsNext, IsSeal, Says, says_none, says_next}
+use Rattle.gu_journal.specs.Journal.{IsJournal, head_alone, group_more}
 use Rattle.gu_journal.proofs.Frames.{splits_push, splits_then, messages_push}
 
--- a batch that has this house and this history
-record Is (t : House) (h : List Entry) (p : Progress) : Type 0 where
+-- a batch that has this house, this history, and has written that each of its entries is accepted
+record Is (t : House) (h : List Entry) (ms : List Message) (p : Progress) : Type 0 where
   house : p.house ≡ t
   history : p.history ≡ h
+  written : p.written ≡ length ms
+  accepts : AcceptsEach t h ms
 
 -- the message leads from one history to another
 abbrev Leads : House → List Entry → Message → List Entry → Type 0
-Leads t h m new = (p : Progress) → Is t h p → Is t new (progress_after p m)
+Leads t h m new = (p : Progress) (ms : List Message) → Is t h ms p
+    → Is t new (ms ++ answers_to p m) (progress_after p m)
 
 -- the bytes are frames, and a batch that reads them has this history
 record Plays (t : House) (bytes : List ℕ) (h : List Entry) : Type 0 where
   frames : List Seen
   split : Splits 0 bytes frames (Some Clean)
-  is : Is t h (progress_along (start t) (messages_in frames))
+  is : Is t h (answers_along (start t) (messages_in frames)) (progress_along (start t) (messages_in frames))
 
-along_push : (p : Progress) (ms : List Message) (m : Message) → progress_along p (ms ++ m ∷ []) ≡ progress_after (progress_along p ms) m
+along_push : (p : Progress) (ms : List Message) (m : Message)
+    → progress_along p (ms ++ m ∷ []) ≡ progress_after (progress_along p ms) m
 along_push p [] m = refl
 along_push p (n ∷ ms) m = along_push (progress_after p n) ms m
 
+answers_push : (p : Progress) (ms : List Message) (m : Message)
+    → answers_along p (ms ++ m ∷ []) ≡ answers_along p ms ++ answers_to (progress_along p ms) m
+answers_push p [] m = append-nil (answers_to p m)
+answers_push p (n ∷ ms) m =
+    ap (λ (l : List Message). answers_to p n ++ l) (answers_push (progress_after p n) ms m)
+    ∙ sym (append_assoc (answers_to p n) (answers_along (progress_after p n) ms)
+    (answers_to (progress_along (progress_after p n) ms) m))
+
 -- one frame more
-push : (t : House) (bytes frame : List ℕ) (h new : List Entry) (m : Message) → Plays t bytes h → IsOneFrame frame m → Leads t h m new → Plays t (bytes ++ frame) new
+push : (t : House) (bytes frame : List ℕ) (h new : List Entry) (m : Message) → Plays t bytes h → IsOneFrame frame m
+    → Leads t h m new → Plays t (bytes ++ frame) new
 push t bytes frame h new m plays one leads =
     let f : Seen = record { fields = Some m; len = length frame } in
-    let along = ap (progress_along (start t)) (messages_push plays.frames f m refl) ∙ along_push (start t) (messages_in plays.frames) m in
+    let was = messages_in plays.frames in
+    let more : messages_in (plays.frames ++ f ∷ []) ≡ was ++ m ∷ [] = messages_push plays.frames f m refl in
+    let along = ap (progress_along (start t)) more ∙ along_push (start t) was m in
+    let told = ap (answers_along (start t)) more ∙ answers_push (start t) was m in
     record {
       frames = plays.frames ++ f ∷ [];
       split = splits_push plays.frames 0 bytes frame f plays.split one refl;
-      is = subst (λ (p : Progress). Is t new p) (sym along) (leads (progress_along (start t) (messages_in plays.frames)) plays.is);
+      is = subst (λ (p : Progress). Is t new (answers_along (start t) (messages_in (plays.frames ++ f ∷ []))) p)
+          (sym along)
+          (subst (λ (ms : List Message). Is t new ms (progress_after (progress_along (start t) was) m)) (sym told)
+          (leads (progress_along (start t) was) (answers_along (start t) was) plays.is));
     }
 
 -- ---- where a message leads
 
+sent_len : (house : List ℕ) (w : ℕ) (rs : List Reply) → length (sent house w rs) ≡ length rs
+sent_len house w [] = refl
+sent_len house w (r ∷ rs) = ap suc (sent_len house (w + 1) rs)
+
+-- as many messages are written as answer it
+written_on : (p : Progress) (ms : List Message) (m : Message) → p.written ≡ length ms
+    → (progress_after p m).written ≡ length (ms ++ answers_to p m)
+unfolding progress_after answers_to
+written_on p ms m is =
+    let rs = replies_by p m (meaning_of p.house.house m) in
+    omega (arith, is, sent_len p.house.house p.written rs, length-append ms (sent p.house.house p.written rs))
+
+-- a batch with this house and this history, which has written so many messages
+abbrev at : House → List Entry → ℕ → Progress
+at t h w = record { house = t; history = h; written = w }
+
 leads_by : (t : House) (h new : List Entry) (m : Message) (r : Result Inbound Reject) → meaning_of t.house m ≡ r
-    → ((w : ℕ) → history_by (record { house = t; history = h; written = w }) r ≡ new) → Leads t h m new
-unfolding progress_after
-leads_by t h new m r means goes p is =
-    let here : p ≡ record { house = t; history = h; written = p.written } = λ i. record { house = is.house i; history = is.history i; written = p.written } in
+    → ((w : ℕ) → history_by (at t h w) r ≡ new)
+    → ((ms : List Message) → AcceptsEach t h ms
+    → AcceptsEach t new (ms ++ sent t.house (length ms) (replies_by (at t h (length ms)) m r)))
+    → Leads t h m new
+unfolding progress_after answers_to
+leads_by t h new m r means goes told p ms is =
+    let here : p ≡ at t h (length ms) = λ i. record {
+      house = is.house i;
+      history = is.history i;
+      written =
+          is.written i;
+    } in
     record {
       house = is.house;
-      history = ap (λ (q : Progress). (progress_after q m).history) here ∙ ap (history_by (record { house = t; history = h; written = p.written })) means ∙ goes p.written;
+      history = ap (λ (q : Progress). (progress_after q m).history) here
+          ∙ ap (history_by (at t h (length ms))) means ∙ goes (length ms);
+      written = written_on p ms m is.written;
+      accepts = subst (λ (l : List Message). AcceptsEach t new (ms ++ l))
+          (sym (ap (λ (q : Progress). answers_to q m) here
+          ∙ ap (λ (x : Result Inbound Reject). sent t.house (length ms) (replies_by (at t h (length ms)) m x)) means))
+          (told ms is.accepts);
     }
 
+-- a message of the session says nothing, and isn't answered
+silent : (t : House) (h : List Entry) (ms : List Message) → AcceptsEach t h ms → AcceptsEach t h (ms ++ [])
+silent t h ms is = subst (AcceptsEach t h) (sym (append-nil ms)) is
+
 head_leads : (t : House) (pin : List ℕ) (h : List Entry) (m : Message) → IsHead t pin m → Leads t h m h
-head_leads t pin h m is = leads_by t h h m _ is.meaning (λ w. refl)
+head_leads t pin h m is = leads_by t h h m _ is.meaning (λ w. refl) (silent t h)
 
 seal_leads : (t : House) (bytes : List ℕ) (h : List Entry) (m : Message) → IsSeal t bytes h m → Leads t h m h
-seal_leads t bytes h m is = leads_by t h h m _ is.meaning (λ w. refl)
+seal_leads t bytes h m is = leads_by t h h m _ is.meaning (λ w. refl) (silent t h)
 
 next_leads : (t : House) (h : List Entry) (e : Entry) (m : Message) → IsNext t h e m → Leads t h m (h ++ e ∷ [])
-next_leads t h e m is = leads_by t h (h ++ e ∷ []) m _ is.meaning (λ w. ap (after_by h (call_of e)) is.accepted)
+next_leads t h e m is =
+    leads_by t h (h ++ e ∷ []) m _ is.meaning (λ w. ap (after_by h (call_of e)) is.accepted) (λ ms accepts.
+    let answer : Answer → Message = λ a. message_of (stamp t.house (length ms + 1))
+    (answer_reply e.firm is.trade e.id a) in
+    accepts_next h ms e (answer (answer_to t h (call_of e))) accepts (is.trade, ap answer is.accepted))
 
 -- ---- a journal
 
-says_plays : (t : House) (h : List Entry) (before bytes : List ℕ) (new : List Entry) → Plays t before h → Says t h bytes new → Plays t (before ++ bytes) new
+says_plays : (t : House) (h : List Entry) (before bytes : List ℕ) (new : List Entry) → Plays t before h
+    → Says t h bytes new → Plays t (before ++ bytes) new
 says_plays t h before _ _ plays says_none = subst (λ (b : List ℕ). Plays t b h) (sym (append-nil before)) plays
 says_plays t h before _ _ plays (says_next bytes frame new e m says one next) =
     subst (λ (b : List ℕ). Plays t b (new ++ e ∷ [])) (append_assoc before bytes frame)
-    (push t (before ++ bytes) frame new (new ++ e ∷ []) m (says_plays t h before bytes new plays says) one (next_leads t new e m next))
+    (push t (before ++ bytes) frame new (new ++ e ∷ []) m (says_plays t h before bytes new plays says) one
+    (next_leads t new e m next))
 
 nothing_plays : (t : House) → Plays t [] (opening_history t)
-nothing_plays t = record { frames = []; split = refl; is = record { house = refl; history = refl } }
+nothing_plays t = record {
+  frames = [];
+  split = refl;
+  is = record {
+    house = refl;
+    history = refl;
+    written =
+        refl;
+    accepts = accepts_none;
+  };
+}
 
 journal_plays : (t : House) (pin bytes : List ℕ) (h : List Entry) → IsJournal t pin bytes h → Plays t bytes h
 journal_plays t pin _ _ (head_alone frame m one head) =
-    push t [] frame (opening_history t) (opening_history t) m (nothing_plays t) one (head_leads t pin (opening_history t) m head)
+    push t [] frame (opening_history t) (opening_history t) m (nothing_plays t) one
+    (head_leads t pin (opening_history t) m head)
 journal_plays t pin _ _ (group_more bytes entries frame h new m journal says one seal) =
-    push t (bytes ++ entries) frame new new m (says_plays t h bytes entries new (journal_plays t pin bytes h journal) says) one (seal_leads t (bytes ++ entries) new m seal)
+    push t (bytes ++ entries) frame new new m (says_plays t h bytes entries new
+    (journal_plays t pin bytes h journal) says) one (seal_leads t (bytes ++ entries) new m seal)
 
--- a batch reads its history from it, whatever ends the stream behind it
-pub history_is : (t : House) (pin bytes rest : List ℕ) (h : List Entry) (end : End) → IsJournal t pin bytes h → Ends (length bytes) rest (Some end) → history_of t (bytes ++ rest) ≡ h
-history_is t pin bytes rest h end journal ends =
-    let plays = journal_plays t pin bytes h journal in
-    let size : 0 + length bytes ≡ length bytes = omega arith in
-    let all = splits_then plays.frames 0 bytes rest end plays.split (subst (λ (o : ℕ). Ends o rest (Some end)) (sym size) ends) in
-    ap (λ (fs : List Seen). (progress_along (start t) (messages_in fs)).history) (sym (one_stream (bytes ++ rest) plays.frames end all).0) ∙ plays.is.history
+module _ (t : House) (pin bytes rest : List ℕ) (h : List Entry) (end : End) (journal : IsJournal t pin bytes h)
+    (ends : Ends (length bytes) rest (Some end)) where
+  read : (frames : List Seen) → Splits 0 bytes frames (Some Clean) → frames ≡ frames_of (bytes ++ rest)
+  read frames split =
+      let size : 0 + length bytes ≡ length bytes = omega arith in
+      let all = splits_then frames 0 bytes rest end split (subst (λ (o : ℕ). Ends o rest (Some end)) (sym size) ends) in
+      (one_stream (bytes ++ rest) frames end all).0
 
-pub one_history : (t : House) (pin other bytes : List ℕ) (h k : List Entry) → IsJournal t pin bytes h → IsJournal t other bytes k → h ≡ k
-one_history t pin other bytes h k one two = sym (history_is t pin bytes [] h Clean one refl) ∙ history_is t other bytes [] k Clean two refl
+  -- a batch reads its history from it, whatever ends the stream behind it
+  pub history_is : history_of t (bytes ++ rest) ≡ h
+  history_is =
+      let plays = journal_plays t pin bytes h journal in
+      ap (λ (fs : List Seen). (progress_along (start t) (messages_in fs)).history) (sym (read plays.frames plays.split))
+      ∙ plays.is.history
+
+  -- and accepts each entry
+  pub answers_are : AcceptsEach t h (answers_of t (bytes ++ rest))
+  answers_are =
+      let plays = journal_plays t pin bytes h journal in
+      subst (λ (fs : List Seen). AcceptsEach t h (answers_along (start t) (messages_in fs)))
+      (read plays.frames plays.split)
+      plays.is.accepts
+
+pub one_history : (t : House) (pin other bytes : List ℕ) (h k : List Entry) → IsJournal t pin bytes h
+    → IsJournal t other bytes k → h ≡ k
+one_history t pin other bytes h k one two = sym (history_is t pin bytes [] h Clean one refl)
+    ∙ history_is t other bytes [] k Clean two refl

@@ -1,5 +1,5 @@
 -- A group as it is written.
-use Rattle.std.specs.Prelude.{◌≡◌, ◌≤◌, ◌^◌, ℕ, ◌+◌, true, List, [], ◌∷◌, ◌++◌, length, IsTrue}
+use Rattle.std.specs.Prelude.{◌≡◌, ◌≤◌, ℕ, ◌+◌, true, List, [], ◌∷◌, ◌++◌, length, IsTrue}
 use Rattle.std.specs.List.{AllByRecursion}
 use Rattle.gu_base.specs.Names.{is_firm_text}
 use Rattle.gu_base.specs.Runs.{call_of}
@@ -51,7 +51,6 @@ pub record IsMoment (moment : List ℕ) : Type 0 where
 pub record IsGroupOf (house moment : List ℕ) (n : ℕ) (es : List Entry) (old new : Sha256)
     (text : List ℕ) : Type 0 where
   pub is_group : IsGroup text
-  pub short : length text ≤ 2 ^ 60
   pub named : IsTrue (is_firm_text house)
   pub sayable : AllByRecursion IsSayableEntry es
   pub few : n + length es ≤ 1000001

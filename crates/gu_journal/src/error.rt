@@ -1,5 +1,8 @@
 //! Why entries weren't kept.
 
+ghost use Rattle.std.specs.Prelude.{◌≡◌};
+ghost use Rattle.gu_journal.specs.declared.error.JournalError.TheVariants as error;
+
 use std::alloc::AllocError;
 use std::io;
 use thiserror::Error;
@@ -26,12 +29,16 @@ pub enum JournalError {
 }
 
 impl From<AllocError> for JournalError {
+    ghost from_gives = { λ _ e. e ≡ error.Memory };
+
     fn from(_: AllocError) -> JournalError {
         JournalError::Memory
     }
 }
 
 impl From<io::Error> for JournalError {
+    ghost from_gives = { λ x e. e ≡ error.Disk x };
+
     fn from(error: io::Error) -> JournalError {
         JournalError::Disk(error)
     }

@@ -1,8 +1,11 @@
 //! A group as it is written: the frames of its entries, its seal, and the next gate, shut.
 
-ghost use Rattle.std.specs.Prelude.{◌≡◌, ◌≤◌, ◌<◌, ◌+◌, ◌++◌, length, true, OnOk};
+ghost use Rattle.std.specs.Prelude.{◌≡◌, ◌⊎◌, ◌≤◌, ◌<◌, ◌+◌, ◌^◌, ◌++◌, ℕ, length, true, false};
+ghost use Rattle.std.specs.Prelude.{OnOk, IfErr};
 ghost use Rattle.std.specs.List.{AllByRecursion};
 ghost use Rattle.gu_codec.specs.Writing.{IsText};
+ghost use Rattle.sha2.specs.declared.Sha256.{Sha256 as HasherValue};
+ghost use Rattle.gu_journal.specs.Causes.{IsStopped};
 ghost use Rattle.gu_journal.specs.Groups.{entry_frames, IsSayableEntry, IsGroupOf};
 
 use crate::error::JournalError;
@@ -18,11 +21,11 @@ use std::alloc::Global;
 /// The most entries that a history has.
 const MOST_ENTRIES: usize = 1_000_000;
 
-/// The most bytes of a group.
-const MOST_BYTES: usize = 1 << 60;
+/// The most bytes of a group, and of a file without its last group.
+pub(crate) const MOST_BYTES: usize = 1 << 60;
 
 /// What stands in a gate that is shut.
-const SHUT: u8 = b'\n';
+pub(crate) const SHUT: u8 = b'\n';
 
 /// Room for a group, which is kept, so that memory is asked for only where more is needed than ever
 /// before.
@@ -46,7 +49,8 @@ impl Room {
 
 /// Whether so many entries may follow, of which the first has this number.
 fn has_room(first: u32, count: usize) -> bool
-    ensures { result ≡ true → (0 < first) × (first + count ≤ 1000001) }
+    ensures yes { result ≡ true → (0 < first) × (first + count ≤ 1000001) }
+    ensures no { result ≡ false → (first ≡ 0) ⊎ (1000001 < first + count) }
 {
     let first = first as usize;
     0 < first && first <= MOST_ENTRIES + 1 && count <= MOST_ENTRIES + 1 - first
@@ -64,6 +68,8 @@ fn write_entries(
     ensures text { OnOk result (room.new.text.items ≡ room.old.text.items
         ++ entry_frames first.house moment.now first.number entries.now) }
     ensures sayable { OnOk result (AllByRecursion IsSayableEntry entries.now) }
+    ensures cause { IfErr result (λ e. (len : ℕ) (hasher : HasherValue)
+        → IsStopped first.house moment.now len hasher first.number entries.now e) }
 {
     for i in 0..entries.len() {
         let entry = &entries[i];
@@ -84,7 +90,7 @@ fn write_entries(
 /// Writes the group of these entries in place of what was in the room, of which the first has the
 /// number of the stamp. The hasher has taken in all bytes of the file before the group, and takes
 /// in the group's frames.
-pub(crate) fn write_group(
+fn write_frames(
     room: &mut Room,
     hasher: &mut Sha256,
     first: Stamp,
@@ -94,6 +100,8 @@ pub(crate) fn write_group(
     requires moment { IsText moment.now }
     ensures group { OnOk result (IsGroupOf first.house moment.now first.number
         entries.now hasher.old hasher.new room.new.text.items) }
+    ensures cause { IfErr result (λ e. (len : ℕ)
+        → IsStopped first.house moment.now len hasher.old first.number entries.now e) }
 {
     firm_is_lawful(&first.house);
     if !has_room(first.number, entries.len()) {
@@ -113,6 +121,25 @@ pub(crate) fn write_group(
     if room.text.push(SHUT).is_err() {
         return Err(JournalError::Memory);
     }
+    Ok(())
+}
+
+/// The same, of at most 2^60 bytes.
+pub(crate) fn write_group(
+    room: &mut Room,
+    hasher: &mut Sha256,
+    first: Stamp,
+    moment: &[u8],
+    entries: &[Entry],
+) -> Result<(), JournalError>
+    requires moment { IsText moment.now }
+    ensures group { OnOk result (IsGroupOf first.house moment.now first.number
+        entries.now hasher.old hasher.new room.new.text.items) }
+    ensures short { OnOk result (length room.new.text.items ≤ 2 ^ 60) }
+    ensures cause { IfErr result (λ e. (len : ℕ)
+        → IsStopped first.house moment.now len hasher.old first.number entries.now e) }
+{
+    write_frames(room, hasher, first, moment, entries)?;
     if room.text.len() > MOST_BYTES {
         return Err(JournalError::Full);
     }

@@ -19,6 +19,10 @@ pub(crate) const DEFAULT_CSTM_APPL_VER_ID: u32 = 1408;
 /// The one form of a journal that is written and read.
 pub(crate) const FORM: &[u8] = b"allocd-journal-1";
 
+/// The most bytes that the group of a head has: 153 beside two names of 16, a number of 7 digits
+/// and a moment of 24, and the gate.
+pub(crate) const LONGEST_HEAD: usize = 217;
+
 /// The most bytes of the fields behind a header.
 const ROOM: usize = 256;
 

@@ -1,5 +1,6 @@
 -- The parts of a group.
-use Rattle.std.proofs.Common.{◌≡◌, ℕ, ◌+◌, ◌-◌, ◌<◌, List, [], ◌∷◌, ◌++◌, length, take, drop, sym, ◌∙◌, ap, arith, append_assoc, length-append, length-drop}
+use Rattle.std.proofs.Common.{◌≡◌, ℕ, ◌+◌, ◌-◌, ◌<◌, List, [], ◌∷◌, ◌++◌, length, take, drop, sym, ◌∙◌, ap, arith}
+use Rattle.std.proofs.Common.{append_assoc, length-append, length-drop}
 use Rattle.std.proofs.lemmas.List.{take_at, take_all, append-nil}
 use Rattle.gu_store.specs.Store.{IsGroup, frames_in}
 
@@ -21,12 +22,14 @@ module _ (group : List ℕ) (g : IsGroup group) where
       let frames = frames_in group in
       let parts : group ≡ frames ++ 10 ∷ [] = g.parts ∙ ap (λ (f : List ℕ). f ++ 10 ∷ []) (sym frames_are) in
       ap (λ (l : List ℕ). before ++ (l ++ more)) parts
-      ∙ ap (λ (l : List ℕ). before ++ l) (append_assoc frames (10 ∷ []) more) ∙ sym (append_assoc before frames (10 ∷ more))
+      ∙ ap (λ (l : List ℕ). before ++ l) (append_assoc frames (10 ∷ []) more)
+      ∙ sym (append_assoc before frames (10 ∷ more))
 
   pub counts : (before : List ℕ) → before ++ group ≡ (before ++ frames_in group) ++ 10 ∷ []
   counts before = ap (λ (l : List ℕ). before ++ l) (sym (append-nil group)) ∙ counts_behind before []
 
-  pub counts_len : (before : List ℕ) (end : ℕ) → end + 1 ≡ length before + length group → end ≡ length (before ++ frames_in group)
+  pub counts_len : (before : List ℕ) (end : ℕ) → end + 1 ≡ length before + length group
+      → end ≡ length (before ++ frames_in group)
   counts_len before end is = omega (arith, is, frames_len, length-append before (frames_in group))
 
   -- an open gate with the rest behind it is the group

@@ -1,10 +1,12 @@
-use Rattle.std.proofs.Common.{◌≡◌, ◌+◌, ◌≤◌, ℕ, List, [], ◌∷◌, ◌++◌, length, take, drop, refl, sym, ◌∙◌, ap, subst, arith, rules}
+use Rattle.std.proofs.Common.{◌≡◌, ◌+◌, ◌<◌, ◌≤◌, List, ◌∷◌, ◌++◌, length, take, drop, sym, ◌∙◌, ap, subst}
+use Rattle.std.proofs.Common.{arith}
+use Rattle.std.proofs.Common.{rules, length-take, take-append-drop}
 use Rattle.std.proofs.lemmas.List.{drop_more, take_all}
 use Rattle.std.specs.List.{AllByRecursion}
 use Rattle.gu_base.specs.declared.entry.Entry.{Entry}
 use Rattle.gu_journal.specs.Groups.{entry_frames, IsSayableEntry}
 use Rattle.gu_journal.proofs.Groups.{one_more}
-use Rattle.gu_journal.proofs.Taking.{all_more}
+use Rattle.gu_journal.proofs.Firsts.{all_more}
 use Rattle.gu_journal.proofs.group.write_entries.Goals as goal
 
 pub loop-i-preserved : goal.loop-i-preserved
@@ -16,8 +18,10 @@ loop-i-preserved c =
     let dropped : drop i c.args.entries.now ≡ e ∷ later = search (rules, drop_more) in
     let sayable : IsSayableEntry e = search rules in
     record {
-      told = one_more c.args.first.house c.args.moment.now n (c.args.first.number + (i + 1)) e later c.loop-i.room.text.items _ _
-          (ap (λ (es : List Entry). c.loop-i.room.text.items ++ entry_frames c.args.first.house c.args.moment.now n es) (sym dropped) ∙ c.loop-i.invariant.told)
+      told = one_more c.args.first.house c.args.moment.now n
+          (c.args.first.number + (i + 1)) e later c.loop-i.room.text.items _ _
+          (ap (λ (es : List Entry). c.loop-i.room.text.items ++ entry_frames c.args.first.house c.args.moment.now n es)
+          (sym dropped) ∙ c.loop-i.invariant.told)
           c.in_ok-write_entry.ensures.ok (omega arith);
       sayable = all_more IsSayableEntry c.args.entries.now i e later dropped c.loop-i.invariant.sayable sayable;
     }
@@ -26,3 +30,20 @@ pub returns-clause-sayable : goal.returns-clause-sayable
 returns-clause-sayable c =
     let all : length c.args.entries.now ≤ c.loop-i.i = search rules in
     subst (AllByRecursion IsSayableEntry) (take_all c.loop-i.i c.args.entries.now all) c.loop-i.invariant.sayable
+
+-- what can't be said
+pub returns-then-not-is_sayable-clause-cause : goal.returns-then-not-is_sayable-clause-cause
+returns-then-not-is_sayable-clause-cause c len hasher =
+    let i = c.loop-i.i in
+    let es = c.args.entries.now in
+    let e = c.index-entries-i.result in
+    let later = drop (i + 1) es in
+    let dropped : drop i es ≡ e ∷ later = search (rules, drop_more) in
+    let within : i < length es = search rules in (
+      take i es,
+      later,
+      e,
+      sym (take-append-drop i es) ∙ ap (λ (l : List Entry). take i es ++ l) dropped,
+      omega (arith, within, length-take i es),
+      search rules,
+    )

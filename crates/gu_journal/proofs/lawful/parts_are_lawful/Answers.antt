@@ -1,9 +1,9 @@
-use Rattle.std.proofs.Common.{◌≡◌, ◌+◌, ◌≤◌, ◌∷◌, take, drop, length, arith, rules, subst, sym, ap, ◌∙◌}
+use Rattle.std.proofs.Common.{◌≡◌, ◌+◌, ◌≤◌, ◌∷◌, drop, length, rules, subst, sym, ap, ◌∙◌}
 use Rattle.std.specs.List.{AllByRecursion}
 use Rattle.std.proofs.lemmas.List.{take_all, drop_more}
 use Rattle.gu_base.specs.declared.command.Part.{Part}
 use Rattle.gu_journal.specs.Entries.{IsNamedPart}
-use Rattle.gu_journal.proofs.Taking.{all_more}
+use Rattle.gu_journal.proofs.Firsts.{all_more}
 use Rattle.gu_journal.proofs.lawful.parts_are_lawful.Goals as goal
 
 pub loop-part-preserved : goal.loop-part-preserved

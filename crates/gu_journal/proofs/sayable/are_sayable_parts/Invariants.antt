@@ -4,4 +4,5 @@ use Rattle.gu_journal.specs.Entries.{is_sayable_part}
 use Rattle.gu_journal.proofs.sayable.are_sayable_parts.Given as goal
 
 abbrev pub invariant-loop-part : goal.invariant-loop-part
-invariant-loop-part l = list_all (is_sayable_part l.by) (drop l.part-index l.parts) ≡ list_all (is_sayable_part l.by) l.parts
+invariant-loop-part l = list_all (is_sayable_part l.by) (drop l.part-index l.parts) ≡ list_all
+    (is_sayable_part l.by) l.parts

@@ -1,4 +1,4 @@
-use Rattle.std.proofs.Common.{◌≡◌, sym, ◌∙◌}
+use Rattle.std.proofs.Common.{sym, ◌∙◌}
 use Rattle.gu_journal.proofs.CanBeSaid.{lawful_from}
 use Rattle.gu_journal.proofs.sayable.is_sayable.Goals as goal
 

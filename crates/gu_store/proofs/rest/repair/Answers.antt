@@ -9,7 +9,8 @@ returns-in_err-set_len-clause-crash g c before c' end shut only left =
 
 pub returns-clause-crash : goal.returns-clause-crash
 returns-clause-crash g c before c' end shut only left =
-    cutting before _ c.args.end end shut c' (from_one _ _ _ _ only c.set_len.ensures.crash c' (c.sync.ensures.crash c' left))
+    cutting before _ c.args.end end shut c' (from_one _ _ _ _ only c.set_len.ensures.crash c'
+    (c.sync.ensures.crash c' left))
 
 pub returns-clause-file : goal.returns-clause-file
 returns-clause-file g c before end shut = ok _ (c.sync.ensures.seen

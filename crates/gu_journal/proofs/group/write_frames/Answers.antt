@@ -1,0 +1,52 @@
+use Rattle.std.proofs.Common.{◌≡◌, ◌+◌, ◌≤◌, [], ◌∷◌, ◌++◌, List, ℕ, length, sym, ap, subst, ◌∙◌, arith, rules}
+use Rattle.std.proofs.Common.{inl, inr}
+use Rattle.sha2.specs.Hashers.{Holds256}
+use Rattle.sha2.specs.declared.Sha256.{Sha256}
+use Rattle.gu_codec.specs.Writing.{message_text}
+use Rattle.gu_journal.specs.Causes.{IsStopped}
+use Rattle.gu_journal.specs.Groups.{entry_frames}
+use Rattle.gu_journal.specs.Session.{seal_with}
+use Rattle.gu_journal.specs.declared.error.JournalError.{JournalError}
+use Rattle.gu_journal.proofs.Going.{passed_on}
+use Rattle.gu_journal.proofs.Groups.{is_group_of}
+use Rattle.gu_journal.proofs.group.write_frames.Goals as goal
+
+pub returns-clause-group : goal.returns-clause-group
+returns-clause-group c =
+    let house = c.args.first.house in
+    let n = c.args.first.number in
+    let es = c.args.entries.now in
+    let few : n + length es ≤ 1000001 = search rules in
+    let at : c.len-seal_at.result ≡ length c.as_slice.result.now =
+    omega (arith, c.len-seal_at.ensures, c.as_slice.ensures.len) in
+    let text : c.push.new.self.items ≡ c.write_seal.new.out.items ++ 10 ∷ [] = search rules in
+    let cloned : c.update.new.self ≡ c.in_ok-clone.field-0 = sym c.in_ok-clone.ensures.cases in
+    is_group_of house c.args.moment.now n es c.args.hasher.now c.update.new.self c.update-2.new.self
+    c.as_slice.result.now c.write_seal.new.out.items c.deref.result.now c.push.new.self.items c.finalize-digest.result
+    c.len-seal_at.result c.firm_is_lawful.ensures c.in_ok-write_entries.ensures.sayable few
+    (c.as_slice.ensures.value ∙ c.in_ok-write_entries.ensures.text
+    ∙ ap (λ (l : List ℕ). l ++ entry_frames house c.args.moment.now n es) c.clear.ensures.items)
+    c.update.ensures
+    (λ m h. c.finalize-digest.ensures m (subst (λ (s : Sha256). Holds256 s m) cloned h))
+    (c.in_ok-write_seal.ensures.ok
+    ∙ ap (λ (l : List ℕ). l ++ message_text (seal_with house c.args.moment.now
+    (n + length es) c.finalize-digest.result))
+    (sym c.as_slice.ensures.value))
+    c.deref.ensures.value at c.update-2.ensures text
+
+pub returns-then-not-has_room-clause-cause : goal.returns-then-not-has_room-clause-cause
+returns-then-not-has_room-clause-cause c len = elim (c.has_room.ensures.no (search rules)) [
+  | inl none ↦ inl none
+  | inr many ↦ inr (inl many)
+]
+
+pub returns-in_err-write_entries-clause-cause : goal.returns-in_err-write_entries-clause-cause
+returns-in_err-write_entries-clause-cause c =
+    let house = c.args.first.house in
+    let moment = c.args.moment.now in
+    let n = c.args.first.number in
+    let es = c.args.entries.now in
+    let told : (e : JournalError) → ((len : ℕ) (hasher : Sha256) → IsStopped house moment len hasher n es e) → (len : ℕ)
+    → IsStopped house moment len c.args.hasher.now n es e = λ e is len. is len c.args.hasher.now in
+    passed_on c.from_residual.result c.in_err-write_entries.field-0.0 c.from_residual.ensures
+    c.in_err-write_entries.ensures.cause told

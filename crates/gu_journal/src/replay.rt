@@ -1,0 +1,322 @@
+//! Taking the frames of a journal, one after the other.
+
+ghost use Rattle.std.specs.Prelude.{◌≡◌, ◌≤◌, ◌↔◌, ◌+◌, ◌++◌, [], List, ℕ, length, Some, IsTrue};
+ghost use Rattle.std.specs.Prelude.{IfOk, IfErr, OnOk, OnErr, Ok};
+ghost use Rattle.gu_base.specs.House.{House};
+ghost use Rattle.gu_base.specs.Runs.{IsRunFrom};
+ghost use Rattle.gu_base.specs.declared.entry.Entry.{Entry};
+ghost use Rattle.gu_message.specs.declared.inbound.Inbound.{Inbound as Means};
+ghost use Rattle.gu_codec.specs.Answer.{pairs};
+ghost use Rattle.gu_message.specs.Finding.{value_of};
+ghost use Rattle.gu_message.specs.Meaning.{meaning_of};
+ghost use Rattle.hex.specs.Hex.{encode_lower};
+ghost use Rattle.sha2.specs.Hashers.{Holds256};
+ghost use Rattle.gu_journal.specs.Journal.{IsHead, IsNumbered, IsOneFrame};
+ghost use Rattle.gu_journal.specs.Session.{digest_text};
+ghost use Rattle.gu_journal.specs.Recovered.{Replays, IsNextOf};
+ghost use Rattle.gu_journal.specs.Taking.{IsPinned, IsFault, AddsCall, AddsNext, Takes, TakesNone};
+ghost use Rattle.gu_journal.specs.declared.damage.RecoverError.TheVariants.{Damaged};
+ghost use Rattle.gu_journal.specs.declared.replay.Stand.TheVariants.{Fresh, Unsealed};
+
+use crate::damage::{Cause, Damage, HouseDigest, RecoverError};
+use crate::session::{DEFAULT_CSTM_APPL_VER_ID, FORM, hex_digits};
+use gu_base::{AllocId, Answer, Command, FirmId, Memory, Part};
+use gu_book::Book;
+use gu_codec::{Fields, tags};
+use gu_message::{
+    Inbound, Index, MeaningError, SLOTS, Slot, give_back_parts, meaning_into, msg_types, walk,
+};
+use hex::decode_to_slice;
+use itoa::Buffer;
+use sha2::{Digest, Sha256};
+use std::alloc::{AllocError, Global};
+
+/// What stands before the next frame.
+#[derive(Clone, Copy, PartialEq, Eq)]
+pub(crate) enum Stand {
+    /// Nothing: the head has to come.
+    Fresh,
+    /// The head, or a seal.
+    Sealed,
+    /// An entry, whose group isn't sealed yet.
+    Unsealed,
+}
+
+/// What the frames that were taken lead to beside the book, and room that is kept between them.
+#[derive(Drop)]
+pub(crate) struct Replay {
+    /// Has taken in the bytes of these frames.
+    pub(crate) hasher: Sha256,
+    pub(crate) stand: Stand,
+    parts: Vec<Part>,
+    meaning: Inbound,
+}
+
+/// Where a frame stands, and the number that its entry would have.
+#[derive(Clone, Copy)]
+pub(crate) struct Place {
+    pub(crate) at: usize,
+    pub(crate) entry: u32,
+}
+
+impl Place {
+    /// The damage that is found there.
+    #[cold]
+    pub(crate) fn damaged(self, cause: Cause) -> RecoverError
+        ensures { result ≡ Damaged (record { at = self.at; entry = self.entry; cause = cause }) }
+    {
+        RecoverError::Damaged(Damage {
+            at: self.at,
+            entry: self.entry,
+            cause,
+        })
+    }
+}
+
+/// The number of the next entry.
+pub(crate) fn next_number(book: &Book) -> u32
+    ensures number { result ≡ length book.now.history + 1 }
+    ensures few { result ≤ 1000001 }
+    ensures run { IsRunFrom book.now.house [] book.now.history }
+{
+    book.history().len() as u32 + 1
+}
+
+/// Whether MsgSeqNum (34) of a message is this number.
+fn is_numbered(message: &Index<'_, '_>, number: u32) -> bool
+    ensures { IsTrue result ↔ IsNumbered number message.now }
+{
+    let mut digits = Buffer::new();
+    message.is_text(tags::MSG_SEQ_NUM, digits.format(number).as_bytes())
+}
+
+/// Whether a message has this digest, as 64 hex digits in lower case, in a field.
+fn has_digest(message: &Index<'_, '_>, tag: u32, digest: &[u8; 32]) -> bool
+    ensures { IsTrue result ↔ (value_of tag message.now ≡ Some (encode_lower digest.now)) }
+{
+    message.is_text(tag, &hex_digits(digest))
+}
+
+/// The digest of another house file that a head has in Text (58), if it is one.
+fn other_digest(message: &Index<'_, '_>) -> Option<HouseDigest> {
+    let text = message.first(tags::TEXT)?;
+    let mut bytes = [0; 32];
+    match decode_to_slice(text, &mut bytes) {
+        Ok(()) => Some(HouseDigest { bytes }),
+        Err(_) => None,
+    }
+}
+
+/// Whether a message begins a journal of this form and of this house file, as far as its fields
+/// tell.
+fn check_head(message: &Index<'_, '_>, pin: &HouseDigest, place: Place) -> Result<(), RecoverError>
+    ensures ok { OnOk result (IsPinned pin.now.bytes message.now) }
+    ensures err { OnErr result ((t : House) → IsHead t pin.now.bytes message.now → ⊥) }
+{
+    if !message.is_text(DEFAULT_CSTM_APPL_VER_ID, FORM) {
+        return match message.first(DEFAULT_CSTM_APPL_VER_ID) {
+            Some(_) => Err(RecoverError::OtherForm),
+            None => Err(place.damaged(Cause::NoHead)),
+        };
+    }
+    if has_digest(message, tags::TEXT, &pin.bytes) {
+        return Ok(());
+    }
+    match other_digest(message) {
+        Some(journal) => Err(RecoverError::OtherHouse {
+            file: *pin,
+            journal,
+        }),
+        None => Err(place.damaged(Cause::NoHead)),
+    }
+}
+
+/// Has the book answer a call. Tells whether it has become the next entry.
+fn add_call(
+    alloc: Global,
+    book: &mut Book,
+    firm: &FirmId,
+    id: &AllocId,
+    command: &Command,
+) -> Result<bool, Memory>
+    ensures house { OnOk result (book.new.house ≡ book.old.house) }
+    ensures adds { IfOk result (λ is_added. IsTrue is_added
+        → AddsCall book.old.house book.old.history book.new.history
+        (record { firm = firm.now; id = id.now; command = command.now })) }
+    ensures refused { IfOk result (λ is_added. (new : List Entry)
+        → AddsCall book.old.house book.old.history new
+        (record { firm = firm.now; id = id.now; command = command.now }) → IsTrue is_added) }
+{
+    match &book.apply(alloc, firm, id, command) {
+        Ok(Answer::Accepted { .. }) => Ok(true),
+        Ok(_) => Ok(false),
+        Err(_) => Err(AllocError),
+    }
+}
+
+impl Replay {
+    ghost use Rattle.gu_codec.specs.Tags as tag;
+
+    /// Nothing taken yet.
+    pub(crate) fn new(alloc: Global) -> Replay
+        ensures fresh { result.stand ≡ Fresh }
+        ensures empty { Holds256 result.hasher [] }
+    {
+        Replay {
+            hasher: Sha256::new(),
+            stand: Stand::Fresh,
+            parts: Vec::new(alloc),
+            meaning: Inbound::Heartbeat,
+        }
+    }
+
+    /// The hasher, without the rest.
+    pub(crate) fn into_hasher(self) -> Sha256
+        ensures { result ≡ self.hasher }
+    {
+        self.hasher
+    }
+
+    /// Whether a message has the digest of all that was taken in TestReqID (112).
+    fn is_sealed_by(&self, message: &Index<'_, '_>) -> bool
+        ensures { (taken : List ℕ) → Holds256 self.now.hasher taken
+            → (IsTrue result ↔ (value_of tag.test_req_id message.now ≡ Some (digest_text taken))) }
+    {
+        match self.hasher.clone() {
+            Ok(hasher) => has_digest(message, tags::TEST_REQ_ID, &hasher.finalize()),
+            Err(_) => false,
+        }
+    }
+
+    /// Puts what a message means into its place.
+    fn read_meaning(
+        &mut self,
+        alloc: Global,
+        house: &FirmId,
+        message: &Index<'_, '_>,
+        place: Place,
+    ) -> Result<(), RecoverError>
+        ensures means { OnOk result (meaning_of house.now message.now ≡ Ok self.new.meaning) }
+        ensures fault { IfErr result (λ e. IsFault e → (m : Means)
+            → meaning_of house.now message.now ≡ Ok m → ⊥) }
+        ensures hasher { self.new.hasher ≡ self.old.hasher }
+        ensures stand { self.new.stand ≡ self.old.stand }
+    {
+        match meaning_into(alloc, message, house, &mut self.parts, &mut self.meaning) {
+            Ok(()) => Ok(()),
+            Err(MeaningError::Reject(_)) => Err(place.damaged(Cause::NoEntry)),
+            Err(MeaningError::Memory) => Err(RecoverError::Memory),
+        }
+    }
+
+    /// Takes the call that was read as the next entry of the book.
+    fn take_call(
+        &mut self,
+        alloc: Global,
+        book: &mut Book,
+        place: Place,
+    ) -> Result<(), RecoverError>
+        ensures house { OnOk result (book.new.house ≡ book.old.house) }
+        ensures adds { OnOk result (AddsNext book.old.house book.old.history book.new.history
+            self.old.meaning) }
+        ensures fault { IfErr result (λ e. IsFault e → (new : List Entry)
+            → AddsNext book.old.house book.old.history new self.old.meaning → ⊥) }
+        ensures hasher { self.new.hasher ≡ self.old.hasher }
+        ensures stand { OnOk result (self.new.stand ≡ Unsealed) }
+    {
+        let Inbound::Call {
+            firm,
+            id,
+            command,
+            ..
+        } = &self.meaning
+        else {
+            return Err(place.damaged(Cause::NoEntry));
+        };
+        let is_added = add_call(alloc, book, firm, id, command)?;
+        give_back_parts(alloc, &mut self.meaning, &mut self.parts);
+        if !is_added {
+            return Err(place.damaged(Cause::NoEntry));
+        }
+        self.stand = Stand::Unsealed;
+        Ok(())
+    }
+
+    /// Takes a message whose meaning was read.
+    fn take_message(
+        &mut self,
+        alloc: Global,
+        book: &mut Book,
+        message: &Index<'_, '_>,
+        place: Place,
+    ) -> Result<(), RecoverError>
+        requires means { meaning_of book.old.house.house message.now ≡ Ok self.old.meaning }
+        requires numbered { IsNumbered (length book.old.history + 1) message.now }
+        ensures house { OnOk result (book.new.house ≡ book.old.house) }
+        ensures hasher { self.new.hasher ≡ self.old.hasher }
+        ensures takes { (pin taken : List ℕ) → (self.old.stand ≡ Fresh
+            → IsPinned pin message.now) → Holds256 self.old.hasher taken
+            → OnOk result (Takes book.old.house pin taken self.old.stand book.old.history
+            message.now self.new.stand book.new.history) }
+        ensures fault { IfErr result (λ e. IsFault e → (pin taken : List ℕ)
+            → Holds256 self.old.hasher taken
+            → TakesNone book.old.house pin taken self.old.stand book.old.history message.now) }
+    {
+        match (self.stand, &self.meaning) {
+            (
+                Stand::Fresh,
+                Inbound::Logon {
+                    heartbeat: 0,
+                    reset: false,
+                },
+            ) => {}
+            (Stand::Fresh, _) => return Err(place.damaged(Cause::NoHead)),
+            (_, Inbound::Heartbeat) => {
+                if !self.is_sealed_by(message) {
+                    return Err(place.damaged(Cause::OtherDigest));
+                }
+            }
+            _ => return self.take_call(alloc, book, place),
+        }
+        self.stand = Stand::Sealed;
+        Ok(())
+    }
+
+    /// Takes the frame at this byte of the file, which has these fields: the head, an entry or a
+    /// seal.
+    pub(crate) fn take(
+        &mut self,
+        alloc: Global,
+        book: &mut Book,
+        pin: &HouseDigest,
+        fields: Fields<'_>,
+        frame: &[u8],
+        at: usize,
+    ) -> Result<(), RecoverError>
+        requires frame { IsOneFrame frame.now (pairs fields) }
+        ensures takes { (t : House) (taken : List ℕ) → Replays t pin.now.bytes taken self.old
+            book.old
+            → OnOk result (IsNextOf t pin.now.bytes taken frame.now (pairs fields.entry) self.old
+            book.old self.new book.new) }
+        ensures fault { IfErr result (λ e. IsFault e → (t : House) (taken : List ℕ)
+            → Replays t pin.now.bytes taken self.old book.old
+            → TakesNone t pin.now.bytes taken self.old.stand book.old.history (pairs fields.entry)) }
+    {
+        let mut slots = [Slot::none(); SLOTS];
+        let walked = walk(fields, &mut slots);
+        let message = Index::new(fields, &slots, walked);
+        let entry = next_number(book);
+        let place = Place { at, entry };
+        if self.stand == Stand::Fresh {
+            check_head(&message, pin, place)?;
+        }
+        if !is_numbered(&message, entry) {
+            return Err(place.damaged(Cause::OtherNumber));
+        }
+        let house = book.house().house();
+        self.read_meaning(alloc, &house, &message, place)?;
+        self.take_message(alloc, book, &message, place)?;
+        self.hasher.update(frame);
+        Ok(())
+    }
+}
