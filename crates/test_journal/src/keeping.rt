@@ -1,0 +1,140 @@
+//! The entries of a stream are kept in a journal.
+
+ghost use Rattle.std.specs.Prelude.{◌<◌, IsTrue};
+ghost use Rattle.gu_journal.specs.Keeping.{disk_of, IsIdle};
+
+use crate::fault::Fault;
+use crate::reading::{MOMENT, attempt, book_of, number_of, read_file};
+use gu_base::Entry;
+use gu_book::Book;
+use gu_journal::{Journal, Recovered, Unrecovered, open_file};
+use sqlite_disk::{Disk, Unknown};
+
+/// Told how far a keeping is.
+pub(crate) trait Told {
+    /// The entries up to this one are on their way.
+    fn trying(&mut self, last: usize);
+
+    /// The entries up to this one are acknowledged.
+    fn acknowledged(&mut self, last: usize) -> Result<(), Fault>;
+}
+
+/// Commits the entries that follow so many others, a group at a time.
+pub(crate) fn commit_all<D: Disk, T: Told>(
+    journal: &mut Journal<D>,
+    told: &mut T,
+    done: usize,
+    entries: &[Entry],
+    group: usize,
+) -> Result<(), Fault>
+    requires usable { IsTrue (D.Disk.is_usable (disk_of journal.old)) }
+    requires idle { IsIdle journal.old }
+    requires some { 0 < group }
+{
+    let mut last = done;
+    for new in entries.chunks(group) {
+        last = last.saturating_add(new.len());
+        told.trying(last);
+        journal.commit(MOMENT, new)?;
+        told.acknowledged(last)?;
+    }
+    Ok(())
+}
+
+/// The same, each group opened under the sync that the next one needs.
+pub(crate) fn turn_all<D: Disk, T: Told>(
+    journal: &mut Journal<D>,
+    told: &mut T,
+    done: usize,
+    entries: &[Entry],
+    group: usize,
+) -> Result<(), Fault>
+    requires usable { IsTrue (D.Disk.is_usable (disk_of journal.old)) }
+    requires idle { IsIdle journal.old }
+    requires some { 0 < group }
+{
+    let mut groups = entries.chunks(group);
+    let Some(first) = groups.next() else {
+        return Ok(());
+    };
+    journal.stage(MOMENT, first)?;
+    let mut last = done.saturating_add(first.len());
+    for new in groups {
+        told.trying(last);
+        journal.turn(MOMENT, new)?;
+        told.acknowledged(last)?;
+        last = last.saturating_add(new.len());
+    }
+    told.trying(last);
+    journal.open()?;
+    told.acknowledged(last)
+}
+
+/// Writes a line for each acknowledgement, at once.
+#[derive(Drop)]
+struct Printer<'a> {
+    rt: &'a HostRuntime,
+}
+
+impl Told for Printer<'_> {
+    fn trying(&mut self, _last: usize) {}
+
+    fn acknowledged(&mut self, last: usize) -> Result<(), Fault> {
+        println!(self.rt; "acknowledged {last}")?;
+        Ok(())
+    }
+}
+
+/// How a group gets to the disk.
+#[derive(Clone, Copy)]
+pub(crate) enum Way {
+    /// By two syncs of its own.
+    Single,
+    /// Opened under the sync that the next one needs.
+    Pipelined,
+}
+
+/// Recovers the journal on a disk, and keeps there the entries of a book that it doesn't have.
+fn keep_on<D: Disk + Drop>(
+    rt: &HostRuntime,
+    house: &[u8],
+    whole: &Book,
+    disk: D,
+    group: usize,
+    way: Way,
+) -> Result<(), Fault>
+    requires usable { IsTrue (D.Disk.is_usable disk) }
+    requires some { 0 < group }
+{
+    let Recovered { book, mut journal } = match attempt(rt.alloc(), house, disk)? {
+        Ok(found) => found,
+        Err(Unrecovered { error, .. }) => return Err(Fault::Recover(error)),
+    };
+    let done = book.history().len();
+    drop(book);
+    println!(rt; "recovered {done}")?;
+    let Some(entries) = whole.history().get(done..) else {
+        return Err(Fault::Other("the journal has more entries than the stream"));
+    };
+    let mut printer = Printer { rt };
+    match way {
+        Way::Single => commit_all(&mut journal, &mut printer, done, entries, group),
+        Way::Pipelined => turn_all(&mut journal, &mut printer, done, entries, group),
+    }
+}
+
+/// The same with the journal's file, and the book of a stream.
+pub(crate) fn keep(
+    rt: &HostRuntime,
+    house: &str,
+    stream: &str,
+    path: &str,
+    group: &str,
+    way: Way,
+) -> Result<(), Fault> {
+    let file = read_file(rt, house)?;
+    let group = number_of(group)?;
+    let whole = book_of(rt.alloc(), &file, &read_file(rt, stream)?)?;
+    let disk = open_file(rt, path, Unknown)?;
+    keep_on(rt, &file, &whole, disk, group, way)
+}
