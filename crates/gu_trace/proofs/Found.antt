@@ -61,7 +61,8 @@ cut_from k m (d ∷ h) r found = cut_here k m d h r (eqb m k) refl (cut_from k (
 pub cut_at : (k : ℕ) (h : List Entry) (r : Record) → entry_of h k ≡ Some r → IsCut k 1 h r
 cut_at k h r found = cut_from k 1 h r found
 
-numbered_append : (m : ℕ) (h k : List Entry) → numbered_from m (h ++ k) ≡ numbered_from m h ++ numbered_from (m + length h) k
+pub numbered_append : (m : ℕ) (h k : List Entry) → numbered_from m (h ++ k) ≡ numbered_from m h
+    ++ numbered_from (m + length h) k
 numbered_append m [] k = ap (λ n. numbered_from n k) (omega arith)
 numbered_append m (e ∷ h) k =
     ap (λ rs. numbered_as m e ∷ rs) (numbered_append (m + 1) h k ∙ ap (λ n. numbered_from (m + 1) h ++ numbered_from n k) (omega arith))

@@ -9,3 +9,7 @@ pub mod Each
 pub mod Concerned
 pub mod Made
 pub mod Passed
+pub mod Indexed
+pub mod ByNumber
+pub mod RowPut
+pub mod Worked

@@ -124,7 +124,8 @@ same_by low high n c false true x y under none =
     let below : n ≤ low = ltb-false low n x in
     absurd (omega (arith, above, below, under))
 
-kept_same : (a b : Bool) (r : Record) (rs qs : List Record) → a ≡ b → rs ≡ qs → cond a (r ∷ rs) rs ≡ cond b (r ∷ qs) qs
+pub kept_same : (a b : Bool) (r : Record) (rs qs : List Record) → a ≡ b → rs ≡ qs → cond a (r ∷ rs) rs
+    ≡ cond b (r ∷ qs) qs
 kept_same a b r rs qs same others = ap (λ x. cond x (r ∷ rs) rs) same ∙ ap (λ ks. cond b (r ∷ ks) ks) others
 
 same_kept : (house : List ℕ) (h : List Entry) (f : List ℕ) (low high : ℕ) (before rest : List Entry) → low ≤ high → NoneBetween house h f low high → h ≡ before ++ rest
@@ -147,7 +148,7 @@ same_reading house h f low high under none = ap (λ rs. filter_map (λ r. report
 
 -- ---- whom an entry concerns stays
 
-run_before : (t : House) (h k : List Entry) → IsRunFrom t [] (h ++ k) → IsRunFrom t [] h
+pub run_before : (t : House) (h k : List Entry) → IsRunFrom t [] (h ++ k) → IsRunFrom t [] h
 run_before t h k run = record {
   begins = (h, refl);
   accepted = λ before rest e same long. run.accepted before (rest ++ k) e (ap (λ (l : List Entry). l ++ k) same ∙ append_assoc before (e ∷ rest) k) long;
@@ -198,7 +199,8 @@ named_stays t h k f n run opening =
     subst (λ (q : Record). change_concerns t.house (h ++ k) f q.firm q.command ≡ change_concerns t.house h f q.firm q.command) c.is same in
     ap (record_concerns t.house (h ++ k) f) (entry_more h k n r opening.found) ∙ (same' ∙ ap (record_concerns t.house h f) (sym opening.found))
 
-concerns_stay : (t : House) (h k before behind : List Entry) (e : Entry) (f : List ℕ) (c : Command) → IsRunFrom t [] h → h ≡ before ++ e ∷ behind → e.command ≡ c
+pub concerns_stay : (t : House) (h k before behind : List Entry) (e : Entry) (f : List ℕ) (c : Command)
+    → IsRunFrom t [] h → h ≡ before ++ e ∷ behind → e.command ≡ c
     → command_refusal t before e.firm c ≡ None → concerns t.house (h ++ k) f e.firm c ≡ concerns t.house h f e.firm c
 concerns_stay t h k before behind e f (Trade a b i s l) run cut is free = refl
 concerns_stay t h k before behind e f (Split n ps) run cut is free = refl

@@ -8,6 +8,7 @@ use Rattle.gu_base.specs.History.{numbered_as, numbered_from, records}
 use Rattle.gu_base.specs.declared.entry.Entry.{Entry}
 use Rattle.gu_base.specs.declared.entry.Record.{Record}
 use Rattle.gu_base.specs.declared.report.Report.{Report}
+use Rattle.gu_trace.specs.Filling.{told_at, told_from, filled}
 use Rattle.gu_trace.specs.Reports.{told}
 use Rattle.std.proofs.lemmas.Bool.{false_from_ne_true}
 
@@ -65,10 +66,6 @@ step_by f h i o (Some e) there told =
 pub rest_step : (f : Record → Option Report) (h : List Entry) (i : ℕ) (o : Option Report) → TellsOf f h i o → rest f h i ≡ cons_option o (rest f h (i + 1))
 rest_step f h i o told = step_by f h i o (slice_get h i) refl told
 
--- the reports so far, with as many of the others as a reading still has room for
-abbrev pub filled : List Report → List Report → List Report
-filled found others = found ++ take (100 - length found) others
-
 take_one : (n : ℕ) (r : Report) (rs : List Report) → 1 ≤ n → take n (r ∷ rs) ≡ r ∷ take (n - 1) rs
 take_one zero r rs low = absurd (omega arith)
 take_one (suc n) r rs low = let e : n ≡ suc n - 1 = omega arith in ap (λ m. r ∷ take m rs) e
@@ -99,25 +96,44 @@ pub filled_start : (f : Record → Option Report) (h : List Entry) (after : ℕ)
     → filled [] (rest f h after) ≡ take 100 (filter_map f (filter (λ r. nat_lt after r.number) (records h)))
 filled_start f h after = ap (λ rs. take 100 (filter_map f rs)) (sym (behind after h))
 
--- one step of the walk, where nothing is told of the entry, and where something is
-pub walked_past : (f : Record → Option Report) (h : List Entry) (i : ℕ) (found whole : List Report) → TellsOf f h i None
-    → filled found (rest f h i) ≡ whole → filled found (rest f h (i + 1)) ≡ whole
-walked_past f h i found whole tells so_far = ap (filled found) (sym (rest_step f h i None tells)) ∙ so_far
+-- where the reports grow by what is told of an entry
+pub filled_by : (found new others : List Report) (o : Option Report) → new ≡ found ++ cons_option o []
+    → length found < 100 → filled new others ≡ filled found (cons_option o others)
+filled_by found new others None is room = ap (λ xs. filled xs others) (is ∙ append-nil found)
+filled_by found new others (Some r) is room = ap (λ xs. filled xs others) is ∙ sym (filled_more found r others room)
 
-pub walked_on : (f : Record → Option Report) (h : List Entry) (i : ℕ) (found whole : List Report) (r : Report) → TellsOf f h i (Some r) → length found < 100
-    → filled found (rest f h i) ≡ whole → filled (found ++ r ∷ []) (rest f h (i + 1)) ≡ whole
-walked_on f h i found whole r tells room so_far =
-    sym (filled_more found r (rest f h (i + 1)) room) ∙ (ap (filled found) (sym (rest_step f h i (Some r) tells)) ∙ so_far)
+pub longer_by : (found new : List Report) (o : Option Report) → new ≡ found ++ cons_option o [] → length found < 100
+    → length new ≤ 100
+longer_by found new None is room =
+    let long = ap (λ xs. length xs) (is ∙ append-nil found) in
+    omega (arith, long, room)
+longer_by found new (Some r) is room =
+    let long = ap (λ xs. length xs) is in
+    let more = length-append found (r ∷ []) in
+    omega (arith, long, more, room)
+
+no_entry : (h : List Entry) (i : ℕ) → slice_get h i ≡ None → i < length h → ⊥
+no_entry [] i none within = omega (arith, within)
+no_entry (e ∷ h) zero none within = cc
+no_entry (e ∷ h) (suc i) none within = no_entry h i none (omega (arith, within))
+
+tells_by : (house : List ℕ) (h : List Entry) (f : List ℕ) (i : ℕ) (o : Option Entry) → slice_get h i ≡ o → i < length h
+    → TellsOf (told house h f) h i (told_at house h f i)
+tells_by house h f i None there within = absurd (no_entry h i there within)
+tells_by house h f i (Some e) there within = rw there refl
+
+-- one step of the walk
+pub told_step : (house : List ℕ) (h : List Entry) (f : List ℕ) (i : ℕ) (found new whole : List Report) → i < length h
+    → length found < 100 → new ≡ found ++ cons_option (told_at house h f i) []
+    → filled found (told_from house h f i) ≡ whole → (filled new (told_from house h f (i + 1)) ≡ whole)
+    × (length new ≤ 100)
+told_step house h f i found new whole within room is so_far = (
+  filled_by found new (told_from house h f (i + 1)) (told_at house h f i) is room
+      ∙ (sym (ap (filled found) (rest_step (told house h f) h i (told_at house h f i)
+      (tells_by house h f i (slice_get h i) refl within))) ∙ so_far),
+  longer_by found new (told_at house h f i) is room,
+)
 
 -- the first 100 reports of a walk over the entries above a number
 abbrev pub walk : List ℕ → List Entry → List ℕ → ℕ → List Report
 walk house h f after = take 100 (filter_map (told house h f) (filter (λ r. nat_lt after r.number) (records h)))
-
--- behind the last entry all is found, and so it is with a full reading
-pub all_found : (house : List ℕ) (h : List Entry) (f : List ℕ) (after i : ℕ) (found : List Report) → length h ≤ i
-    → filled found (rest (told house h f) h i) ≡ walk house h f after → found ≡ walk house h f after
-all_found house h f after i found past so_far = sym (filled_end found (rest (told house h f) h i) (rest_past (told house h f) h i past)) ∙ so_far
-
-pub full_found : (house : List ℕ) (h : List Entry) (f : List ℕ) (after i : ℕ) (found : List Report) → length found ≡ 100
-    → filled found (rest (told house h f) h i) ≡ walk house h f after → found ≡ walk house h f after
-full_found house h f after i found full so_far = sym (filled_full found (rest (told house h f) h i) full) ∙ so_far

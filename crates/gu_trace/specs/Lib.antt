@@ -1,6 +1,9 @@
 pub mod Deals
 pub mod Concerns
+pub mod Concerned
 pub mod Reports
+pub mod Filling
+pub mod Index
 pub mod Between
 pub mod Trace
 pub mod Totals

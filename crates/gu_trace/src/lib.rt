@@ -2,6 +2,9 @@
 //!
 //! - `reports` gives a firm what is told of the first 100 entries above a number that concern it, each with the fields of an
 //!   AllocationReport. It begins at that number and looks nodes up by their entry, so it doesn't walk over the whole history.
+//! - A `ConcernIndex` files for each firm the numbers of the entries that concern it, so that its
+//!   `reports_by` gives the same without a look at the others. It is kept beside a book that many
+//!   read; the law `an_index_stays`: it goes with its book whatever calls that answers.
 //! - `trace` writes the tree of a live trade, a line for each node with the fee of each claim; `totals` writes positions, fees and
 //!   used agreements in the order of the house file, with the agreements that calls made behind those that are fixed, by their numbers.
 //! - Each is a function of the book's house table and history, which the definitions in `specs/` give; an error leaves `out` as it was.
@@ -13,13 +16,16 @@
 
 mod chain;
 mod concern;
+mod index;
 mod laws;
 mod lookup;
+mod rows;
 mod sums;
 mod telling;
 
 pub use chain::{TraceError, trace};
 pub use gu_base::{Report, ReportPart, ReportParts, Target};
-pub use laws::nothing_is_passed_over;
+pub use index::ConcernIndex;
+pub use laws::{an_index_stays, nothing_is_passed_over};
 pub use sums::totals;
 pub use telling::reports;

@@ -1,10 +1,15 @@
 //! What a firm is told of the entries that concern it.
-ghost use Rattle.std.specs.Prelude.{◌≡◌, ◌≤◌, ◌<◌, ◌+◌, ◌^◌, length, map, sum_by, slice_get, option_map, bytes_eq, ◌||◌, if◌then◌else◌, true, IfOk, IfSome, OnErr};
-ghost use Rattle.std.specs.List.{All};
+ghost use Rattle.std.specs.Prelude.{◌≡◌, ◌≤◌, ◌<◌, ◌+◌, ◌^◌, ◌++◌, ℕ, List, [], length, map, sum_by};
+ghost use Rattle.std.specs.Prelude.{slice_get, option_map, bytes_eq, ◌||◌, if◌then◌else◌, true};
+ghost use Rattle.std.specs.Prelude.{IfOk, IfSome, OnOk, OnErr};
+ghost use Rattle.std.specs.List.{All, cons_option};
 ghost use Rattle.gu_base.specs.History.{numbered_as};
 ghost use Rattle.gu_base.specs.Limits.{most_entries, most_parts};
+ghost use Rattle.gu_base.specs.Runs.{IsRunFrom};
+ghost use Rattle.gu_base.specs.declared.report.Report.{Report as ReportData};
 ghost use Rattle.gu_book.specs.Limits.{IsWithinLimits, PartsWithinLimits};
 ghost use Rattle.gu_trace.specs.Concerns.{concerns};
+ghost use Rattle.gu_trace.specs.Filling.{told_at, told_from, told_of_numbers, filled};
 ghost use Rattle.gu_trace.specs.Reports.{most_reports, report_with, report_part, shown_or_not, parts_shown, claimed_part, no_part, split_report, decision_report, change_report, reversal_report, report_of, told, entries_for, reports_for};
 
 use crate::concern::concerns;
@@ -353,6 +358,79 @@ fn told(
     }
 }
 
+/// Adds what the firm is told of the entry at this place.
+fn tell(
+    alloc: Global,
+    book: &Book,
+    firm: &FirmId,
+    place: usize,
+    found: &mut Vec<Report>,
+) -> Result<(), Memory>
+    requires there { place < length book.now.history }
+    ensures value { OnOk result (found.new.items ≡ found.old.items
+        ++ cons_option (told_at book.now.house.house book.now.history firm.now place) []) }
+    ensures memory { OnErr result ((after : ℕ) → after ≤ place
+        → 1 ≤ length (entries_for book.now.house.house book.now.history firm.now after)) }
+{
+    let house = book.house().house();
+    let outcome = told(alloc, &house, book.history(), firm, place)?;
+    match outcome {
+        Some(report) => found.push(report)?,
+        None => {}
+    }
+    Ok(())
+}
+
+/// Adds what the firm is told of the entries with these numbers, until there are 100 reports.
+pub(crate) fn tell_numbers(
+    alloc: Global,
+    book: &Book,
+    firm: &FirmId,
+    numbers: &[Number],
+    found: &mut Vec<Report>,
+) -> Result<(), Memory>
+    requires room { length found.old.items ≤ most_reports }
+    requires there { All (λ n. n ≤ length book.now.history) numbers.now }
+    ensures value { OnOk result ((others : List ReportData) → filled found.new.items others
+        ≡ filled found.old.items
+        (told_of_numbers book.now.house.house book.now.history firm.now numbers.now ++ others)) }
+    ensures room { OnOk result (length found.new.items ≤ most_reports) }
+    ensures memory { OnErr result ((after : ℕ) → All (λ n. after < n) numbers.now
+        → 1 ≤ length (entries_for book.now.house.house book.now.history firm.now after)) }
+{
+    for number in numbers {
+        if found.len() == MOST_REPORTS {
+            return Ok(());
+        }
+        tell(alloc, book, firm, number.get() as usize - 1, found)?;
+    }
+    Ok(())
+}
+
+/// Adds what the firm is told of the entries from this place on, until there are 100 reports.
+pub(crate) fn tell_from(
+    alloc: Global,
+    book: &Book,
+    firm: &FirmId,
+    from: usize,
+    found: &mut Vec<Report>,
+) -> Result<(), Memory>
+    requires room { length found.old.items ≤ most_reports }
+    ensures value { OnOk result (found.new.items ≡ filled found.old.items
+        (told_from book.now.house.house book.now.history firm.now from)) }
+    ensures run { IsRunFrom book.now.house [] book.now.history }
+    ensures memory { OnErr result ((after : ℕ) → after ≤ from
+        → 1 ≤ length (entries_for book.now.house.house book.now.history firm.now after)) }
+{
+    for place in from..book.history().len() {
+        if found.len() == MOST_REPORTS {
+            return Ok(());
+        }
+        tell(alloc, book, firm, place, found)?;
+    }
+    Ok(())
+}
+
 /// The reports to a firm of the first 100 entries numbered above `after` that concern it, in their order.
 ///
 /// A Trade concerns the house and the firm that it is for; a Split its owner and each firm that it gives a part; a Claim, Refuse or
@@ -370,18 +448,7 @@ pub fn reports(alloc: Global, book: &Book, firm: &FirmId, after: u32) -> Result<
     ensures few { IfOk result (λ v. length v.items ≤ most_reports) }
     ensures short { IfOk result (λ v. All (λ r. length r.parts ≤ most_parts) v.items) }
 {
-    let entries = book.history();
-    let house = book.house().house();
     let mut found = Vec::new(alloc);
-    for place in after as usize..entries.len() {
-        if found.len() == MOST_REPORTS {
-            return Ok(found);
-        }
-        let outcome = told(alloc, &house, entries, firm, place)?;
-        match outcome {
-            Some(report) => found.push(report)?,
-            None => {}
-        }
-    }
+    tell_from(alloc, book, firm, after as usize, &mut found)?;
     Ok(found)
 }
