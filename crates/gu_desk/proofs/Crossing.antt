@@ -19,6 +19,7 @@ use Rattle.gu_base.proofs.entry.Entry.TheSendSync as entry
 use Rattle.gu_base.specs.contracts.entry.Entry as Entry
 use Rattle.gu_book.proofs.Crossing.{book_send}
 use Rattle.gu_book.specs.contracts.book.Book as Book
+use Rattle.gu_trace.proofs.index.ConcernIndex.TheSendSync as index
 use Rattle.gu_desk.specs.contracts.count.CountRuleTableRuleEntryPassViewBook.TheImpl as rule
 use Rattle.gu_desk.specs.contracts.count.CountRule as CountRule
 use Rattle.gu_desk.specs.contracts.count.PassView as PassView
@@ -56,14 +57,31 @@ ticket_send job n l = search (pass_send, sendable) depth 12
 pub seat_send : (job : RattleType) (n : named.Ghosts job.Denot) (l : ledger.Ghosts job.Denot) → IsSend (Seat.the_row job n l)
 seat_send job n l = search (share.the_send, pass_send, sendable) depth 12
 
--- written by hand, field by field, since `search` doesn't find the rows of five fields
+-- written by hand, field by field, since `search` doesn't find the rows of six fields
 till_send : (job : RattleType) (n : named.Ghosts job.Denot) (l : ledger.Ghosts job.Denot) → IsSend (Till.the_row job n l)
 till_send job n l =
     let counted : IsSend (Total.the_row job l) = search (total.the_send, sendable) depth 6 in
     let part : IsSend (Share.the_row job l) = search (share.the_send, sendable) depth 6 in
     record {
-      owned = λ d vs t.
-          ((λ vss. (tt, (book_send.owned t.0.book vss.0, (counted.owned t.0.total vss.1.0, (part.owned t.0.opening vss.1.1.0, (count_send.owned t.0.count vss.1.1.1.0, (pass_send.owned t.0.pass vss.1.1.1.1.0, tt))))))), tt);
+      owned = λ d vs t. (
+        (λ vss. (
+          tt,
+          (
+            book_send.owned t.0.book vss.0,
+            (
+              index.the_send.owned t.0.index vss.1.0,
+              (
+                counted.owned t.0.total vss.1.1.0,
+                (
+                  part.owned t.0.opening vss.1.1.1.0,
+                  (count_send.owned t.0.count vss.1.1.1.1.0, (pass_send.owned t.0.pass vss.1.1.1.1.1.0, tt)),
+                ),
+              ),
+            ),
+          ),
+        )),
+        tt,
+      );
       leaving = λ k t w. tt;
     }
 

@@ -9,7 +9,7 @@ use Rattle.atomic_table.proofs.Lists.{at_set, at_snoc, set_again, exchanged}
 use Rattle.gu_base.specs.Limits.{most_entries}
 use Rattle.gu_base.specs.declared.entry.Entry.{Entry}
 use Rattle.gu_desk.specs.Begins.{BeginsWith}
-use Rattle.gu_desk.specs.Passes.{of_opening, of_book, of_journal, of_caller, beside, of_kind, with_laid_in, with_seen_of, Fits, IsCounted, Looks, Publishes, Settles, Confirms, Compares, with_kept_laid_in, without_journal, journal_of}
+use Rattle.gu_desk.specs.Passes.{of_opening, of_book, of_journal, of_caller, beside, of_kind, with_laid_in, with_seen_of, Fits, IsCounted, Looks, Publishes, Settles, Confirms, Compares, Orders, with_kept_laid_in, without_journal, journal_of}
 use Rattle.gu_desk.specs.declared.count.PassView.{PassView}
 
 no_callers : {A : Type 0} → false ≡ true → A
@@ -303,6 +303,30 @@ compares slots id v is s k _ here _ =
 
 pub compares_as : (slots id : ℕ) (me : Me Entry PassView) (v : PassView) → me ≡ (v, []) → v.is_journals ≡ true → Allows IsCounted slots id me 1 (λ n. n) (Compares (step slots 1 0 0 none) me)
 compares_as slots id me v same is = subst (λ (m : Me Entry PassView). Allows IsCounted slots id m 1 (λ n. n) (Compares (step slots 1 0 0 none) m)) (sym same) (compares slots id v is)
+
+-- order: what a caller's pass has seen and what was laid into it begin one history
+pub orders : (slots id : ℕ) (v : PassView) → v.is_journals ≡ false → Allows IsCounted slots id (v, []) 0 (λ n. n) (Orders (step slots 0 0 0 none) (v, []))
+orders slots id v not s k _ here _ =
+    let mine = k.fits id v here in
+    let w = of_kind v v.seen [] v.kept in (
+      w,
+      keeps,
+      tt,
+      record {
+        place = k.place;
+        journal = k.journal;
+        history = k.history;
+        durable = k.durable;
+        words = ap (λ ws. slice_set ws 0 (slice_index ws 0)) k.words;
+        begins = k.begins;
+        few = k.few;
+        fits = fits_set k.place k.journal k.history k.durable s.views id w (λ j u _ e. k.fits j u e) (mine.0, (λ c. no_callers (sym not ∙ c)), mine.2, begins_empty k.history, mine.4);
+      },
+      ((λ n. both_begin k.history v.laid_in v.seen mine.3 mine.2 n), refl),
+    )
+
+pub orders_as : (slots id : ℕ) (me : Me Entry PassView) (v : PassView) → me ≡ (v, []) → v.is_journals ≡ false → Allows IsCounted slots id me 0 (λ n. n) (Orders (step slots 0 0 0 none) me)
+orders_as slots id me v same not = subst (λ (m : Me Entry PassView). Allows IsCounted slots id m 0 (λ n. n) (Orders (step slots 0 0 0 none) m)) (sym same) (orders slots id v not)
 
 -- the last of a list with one element more
 last_is : (h : List Entry) (e d : Entry) → get_or (h ++ e ∷ []) (length h) d ≡ e

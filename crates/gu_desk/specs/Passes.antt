@@ -119,3 +119,10 @@ Confirms s before found after = after ≡ (with_kept before.0.seen before.0, bef
 abbrev pub Compares : Step Entry → Me Entry PassView → ℕ → Me Entry PassView → Type 0
 Compares s before found after = BeginsWith before.0.kept before.0.laid_in
     × (after ≡ (of_kind before.0 before.0.seen [] before.0.kept, before.1))
+
+-- an ordering: where what was laid into a caller's pass is no longer than what it has seen, it
+-- begins that; it is laid aside
+abbrev pub Orders : Step Entry → Me Entry PassView → ℕ → Me Entry PassView → Type 0
+Orders s before found after = (length before.0.laid_in ≤ length before.0.seen
+    → BeginsWith before.0.seen before.0.laid_in)
+    × (after ≡ (of_kind before.0 before.0.seen [] before.0.kept, before.1))

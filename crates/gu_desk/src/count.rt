@@ -103,7 +103,7 @@ impl Split<PassView> for GiveJournal {
     ghost right = { λ v. journal_of v };
 }
 
-/// A caller's pass laid into the book's, and spent.
+/// A caller's pass laid into the book's or another caller's, and spent.
 pub struct LayIn;
 
 impl Join<PassView> for LayIn {
@@ -146,6 +146,15 @@ impl Play<Entry, PassView> for Comparison {
     ghost use Rattle.gu_desk.specs.Passes.{Compares};
 
     ghost then = { Compares };
+}
+
+/// A look by a caller's pass: what was laid into it begins what it has seen, where it is no longer.
+pub struct Ordering;
+
+impl Play<Entry, PassView> for Ordering {
+    ghost use Rattle.gu_desk.specs.Passes.{Orders};
+
+    ghost then = { Orders };
 }
 
 /// The word that counts the records.
@@ -319,4 +328,20 @@ pub(crate) fn compare(count: &Count, pass: &mut Pass, caller: Pass)
 {
     count.shared.join_seat::<LayKept>(pass, caller);
     count.shared.load::<Comparison>(pass, DURABLE);
+}
+
+/// Where a caller's pass has seen no more records than this one, what it has seen is a beginning of
+/// what this one has.
+pub(crate) fn order(count: &Count, pass: &mut Pass, caller: Pass)
+    requires tables { IsOf (arc_value count.now).shared.table_id pass.old.table_id }
+    requires callers_table { caller.table_id ≡ (arc_value count.now).shared.table_id }
+    requires slots { caller.me.1 ≡ [] }
+    requires fewer { length caller.me.0.seen ≤ length pass.old.me.0.seen }
+    ensures table { pass.new.table_id ≡ pass.old.table_id }
+    ensures same { pass.new.me ≡ pass.old.me }
+    ensures begins { BeginsWith pass.old.me.0.seen caller.me.0.seen }
+{
+    let mut beside = give_beside(count, pass);
+    count.shared.join_seat::<LayIn>(&mut beside, caller);
+    count.shared.load::<Ordering>(&mut beside, RECORDS);
 }

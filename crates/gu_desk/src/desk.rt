@@ -162,6 +162,7 @@ impl<J: Job> Desk<J> {
     {
         let Ground {
             book,
+            index,
             workers,
             blank,
             count,
@@ -179,6 +180,7 @@ impl<J: Job> Desk<J> {
         let journal = JournalSeat::new(journal, book.history().len() as u32);
         let till = Till {
             book,
+            index,
             total,
             opening,
             count,
@@ -318,6 +320,7 @@ impl<J: Job> Desk<J> {
         } = self;
         let Till {
             book,
+            index: _,
             mut total,
             opening,
             count,

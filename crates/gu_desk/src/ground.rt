@@ -6,6 +6,7 @@ ghost use Rattle.gu_desk.specs.Views.{is_worker_count};
 use crate::count::{Count, Pass, open_count};
 use gu_base::Memory;
 use gu_book::Book;
+use gu_trace::ConcernIndex;
 use std::alloc::{AllocError, Global};
 use std::marker::Model;
 use std::sync::ledger::Blank;
@@ -13,11 +14,12 @@ use std::sync::ledger::Blank;
 /// The most workers of a desk.
 pub(crate) const MOST_WORKERS: u32 = 16;
 
-/// A book, a count of its records with the book's pass and the journal's, and a ledger that no type
-/// names yet. It is of use to one desk alone.
+/// A book with its index, a count of its records with the book's pass and the journal's, and a
+/// ledger that no type names yet. It is of use to one desk alone.
 #[derive(Drop)]
 pub struct Ground {
     pub(crate) book: Book,
+    pub(crate) index: ConcernIndex,
     pub(crate) workers: u32,
     pub(crate) blank: Blank,
     pub(crate) count: Count,
@@ -32,6 +34,7 @@ impl Model for Ground {
     ghost use Rattle.std.specs.Arc.{arc_value};
     ghost use Rattle.gu_desk.specs.Passes.{IsOf, of_book, of_journal};
     ghost use Rattle.gu_desk.specs.Views.{GroundView, is_worker_count};
+    ghost use Rattle.gu_trace.specs.Index.{IsIndexOf};
 
     ghost Value = { GroundView };
 
@@ -48,7 +51,8 @@ impl Model for Ground {
         × (g.journal.table_id ≡ (arc_value g.count).shared.table_id)
         × (g.pass.me ≡ (of_book g.book.history, []))
         × (g.journal.me ≡ (of_journal g.book.history [], []))
-        × (length g.book.history ≤ most_entries) };
+        × (length g.book.history ≤ most_entries)
+        × IsIndexOf g.book.house.house g.book.history g.index };
 }
 
 impl Ground {
@@ -59,7 +63,8 @@ impl Ground {
         1 <= workers && workers <= MOST_WORKERS
     }
 
-    /// A ground for a desk of 1 to 16 workers, over this book.
+    /// A ground for a desk of 1 to 16 workers, over this book, whose entries it files by the firms
+    /// that they concern. Where memory lacks for that, readings look at what isn't filed.
     ///
     /// # Errors
     ///
@@ -73,8 +78,11 @@ impl Ground {
         let Ok((count, pass, journal)) = open_count(alloc, &book) else {
             return Err((book, AllocError));
         };
+        let mut index = ConcernIndex::new(alloc);
+        let _ = index.file(alloc, &book);
         Ok(Ground {
             book,
+            index,
             workers,
             blank: Blank::new(workers as u64 + 1),
             count,

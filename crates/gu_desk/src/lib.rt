@@ -6,6 +6,9 @@
 //! - Behind the lock lies a `Till`: the book, the total of the ledger, the count and the book's pass. Its type keeps that the book's history is
 //!   one that calls made of the opening book, that it is as long as the total, and that the book's pass has seen it all. `Till::call` and
 //!   `Till::read` answer what the rules say at the till's own history.
+//! - The till holds an index of the entries by the firms that they concern, so a reading looks at
+//!   no other. The ground files what the book has, before anybody is served, and each call and
+//!   reading what has come since. Where memory lacks for that, a reading looks at what isn't filed.
 //! - `Desk::call` and `Desk::read_reports` take the lock and hand on the till's answer. A seat goes in and comes back: its share is
 //!   greater by one exactly where the answer is Accepted, and it has then seen the history that the call left. The answer is that of the
 //!   rules at a history that begins with what the seat had seen; the reports are those at what it has then seen.

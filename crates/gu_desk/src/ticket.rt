@@ -3,7 +3,7 @@ ghost use Rattle.std.specs.Prelude.{◌≡◌, [], leb, length, IsTrue};
 ghost use Rattle.std.specs.Arc.{arc_value};
 ghost use Rattle.gu_desk.specs.Begins.{BeginsWith};
 
-use crate::count::{Pass, settle};
+use crate::count::{Pass, order, settle};
 use crate::desk::Desk;
 use crate::journal::JournalSeat;
 use crate::seat::Job;
@@ -65,6 +65,21 @@ impl<J: Job> Ticket<J> {
         ensures receipt { IsTrue result → BeginsWith self.new.kept self.new.seen }
     {
         self.records <= settle(&desk.count, &mut self.pass)
+    }
+
+    /// Whether it covers what an older ticket rests on, by one load and no lock: both have seen
+    /// beginnings of one history, so where the older one has seen no more entries, what this one
+    /// has seen begins with what the older one has.
+    pub fn covers(&mut self, desk: &Desk<J>, older: Ticket<J>) -> bool
+        ensures same { self.new ≡ self.old }
+        ensures found { result ≡ leb (length older.seen) (length self.old.seen) }
+        ensures covers { IsTrue result → BeginsWith self.new.seen older.seen }
+    {
+        if older.records > self.records {
+            return false;
+        }
+        order(&desk.count, &mut self.pass, older.pass);
+        true
     }
 
     /// A law: what a ticket knows to be durable is a beginning of what the journal's seat knows. So

@@ -17,19 +17,22 @@ use crate::journal::JournalSeat;
 use crate::seat::{Job, Seat};
 use gu_base::{AllocId, Answer, Command, Entry, FirmId, Memory, Report};
 use gu_book::Book;
-use gu_trace::reports;
+use gu_trace::ConcernIndex;
 use std::alloc::Global;
 use std::marker::Model;
 use std::sync::ledger;
 use std::sync::ledger::Share;
 
-/// The book, the total of all shares, the share of the opening history, the count of the records, and the book's pass. `Desk::new` alone makes one.
+/// The book, its index, the total of all shares, the share of the opening history, the count of
+/// the records, and the book's pass. `Desk::new` alone makes one.
 ///
-/// Contracts see the house table and the history of the book. Whenever the lock is free, its history is one that calls made of the opening book,
-/// and the book's pass has seen it all.
+/// Contracts see the house table and the history of the book. Whenever the lock is free, its
+/// history is one that calls made of the opening book, the book's pass has seen it all, and the
+/// index goes with it.
 #[derive(Drop)]
 pub struct Till<J: Job> {
     pub(crate) book: Book,
+    pub(crate) index: ConcernIndex,
     pub(crate) total: ledger::Book<J>,
     pub(crate) opening: Share<J>,
     pub(crate) count: Count,
@@ -44,6 +47,7 @@ impl<J: Job> Model for Till<J> {
     ghost use Rattle.std.specs.Arc.{arc_value};
     ghost use Rattle.gu_desk.specs.Passes.{IsOf, of_book};
     ghost use Rattle.gu_desk.specs.Runs.{IsRunOf};
+    ghost use Rattle.gu_trace.specs.Index.{IsIndexOf};
 
     ghost Value = { HouseAndHistory };
 
@@ -57,7 +61,8 @@ impl<J: Job> Model for Till<J> {
         × IsOf (arc_value t.count).shared.table_id t.pass.table_id
         × (t.pass.me ≡ (of_book t.book.history, []))
         × NoIdTwice t.book.history
-        × (length t.book.history ≤ most_entries) };
+        × (length t.book.history ≤ most_entries)
+        × IsIndexOf t.book.house.house t.book.history t.index };
 }
 
 /// Counts an accepted call in the total and in the share of the seat that made it.
@@ -114,6 +119,7 @@ impl<J: Job> Till<J> {
         let answer = self.book.apply(alloc, by, id, command);
         add_gained(&mut self.total, &mut share, &answer);
         publish_accepted(&self.count, &mut self.pass, self.book.history(), &answer);
+        let _ = self.index.file(alloc, &self.book);
         let seat = Seat::new(share, &self.count, &mut self.pass);
         (seat, answer)
     }
@@ -143,7 +149,8 @@ impl<J: Job> Till<J> {
         ensures once { NoIdTwice self.old.history }
     {
         let share = seat.into_share(&self.count, &mut self.pass);
-        let told = reports(alloc, &self.book, firm, after);
+        let _ = self.index.file(alloc, &self.book);
+        let told = self.index.reports_by(alloc, &self.book, firm, after);
         let seat = Seat::new(share, &self.count, &mut self.pass);
         (seat, told)
     }

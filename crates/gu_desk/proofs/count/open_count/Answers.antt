@@ -1,8 +1,7 @@
-use Rattle.std.proofs.Common.{rules, ap, sym, subst, length, [], ◌∷◌, List}
-use Rattle.atomic_table.specs.Table.{Me, opening}
+use Rattle.std.proofs.Common.{rules, sym, subst, length, [], ◌∷◌, List}
+use Rattle.atomic_table.specs.Table.{opening}
 use Rattle.gu_base.specs.declared.entry.Entry.{Entry}
 use Rattle.gu_desk.specs.Passes.{IsCounted, of_opening}
-use Rattle.gu_desk.specs.declared.count.PassView.{PassView}
 use Rattle.gu_desk.proofs.Moves.{begins, gives_journal_as}
 use Rattle.gu_desk.proofs.count.open_count.Goals as goal
 

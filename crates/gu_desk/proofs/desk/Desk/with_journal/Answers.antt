@@ -24,6 +24,7 @@ invariant_of-till g c =
       c.in-Ok-cut_seats.ensures.same ∙ c.ground.invariant.4,
       c.history.ensures.once,
       c.ground.invariant.6,
+      c.ground.invariant.7,
     )
 
 pub cut_seats-requires-clause-fits : goal.cut_seats-requires-clause-fits
