@@ -5,7 +5,7 @@
 //! how it is run.
 #![tactic(auto)]
 
-use gu_server::{Counted, Fault, SystemFiles, run, unread_words};
+use gu_server::{Counted, Fault, SystemFiles, SystemJournals, Wary, run, unread_words};
 use std::process::ExitCode;
 use std::{env, io};
 
@@ -31,6 +31,7 @@ fn main(rt: HostRuntime) -> ExitCode {
             &rt,
             rt.alloc(),
             &files,
+            SystemJournals::new(&rt, Wary),
             &mut reader,
             &mut writer,
             words.as_slice(),

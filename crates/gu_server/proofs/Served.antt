@@ -7,6 +7,7 @@ use Rattle.gu_batch.specs.Runs.{Told}
 use Rattle.gu_batch.specs.Traces.{Traces}
 use Rattle.gu_batch.specs.declared.batch.RunError.{RunError}
 use Rattle.gu_server.specs.Lines.{command_in, house_in, trade_in, trade_meant}
+use Rattle.gu_server.specs.Keeping.{Keeps}
 use Rattle.gu_server.specs.Program.{Names, Asks, Serves, HasDone, Does}
 use Rattle.gu_server.specs.declared.fault.Fault.{Fault}
 use Rattle.gu_server.specs.declared.fault.Fault.TheVariants as fault
@@ -32,10 +33,39 @@ tells left made failed contents writes_failed = record { left = left; made = mad
 pub served_by : (words : List Text) (bytes_at : Text → Option (List ℕ)) (l : Option (List ℕ)) (x f : ℕ) (b c : Option (List ℕ)) (v w : ℕ) (r : Result (Unit {0}) Fault)
     → (by : Asks (codes "serve") words bytes_at) → Serves by.house b c v w r → Does words bytes_at (tells l x f b v) (tells l x f c w) r
 served_by words bytes_at l x f b c v w (Ok done) by (book, served, totals) =
-    inr (inr (record { by = by; book = book; served = served; unread = (refl, refl, refl); totals = totals }))
+    inr (inr (inl (record { by = by; book = book; served = served; unread = (refl, refl, refl); totals = totals })))
 served_by words bytes_at l x f b c v w (Err (fault.Service e)) by (same, never) = inl (by, ap (λ y. tells l x f y w) same ∙ ap (λ y. tells l x f b y) never)
 served_by words bytes_at l x f b c v w (Err (fault.Run e)) by (book, served, totals) =
-    inr (e, refl, inr (inr (record { by = by; book = book; served = served; unread = (refl, refl, refl); totals = totals })))
+    inr (e, refl, inr (inr (inl (record { by = by; book = book; served = served; unread = (refl, refl, refl); totals = totals }))))
+served_by words bytes_at l x f b c v w (Err (fault.Journal t)) by h = absurd h
+served_by words bytes_at l x f b c v w (Err (fault.Keep e)) by h = absurd h
 served_by words bytes_at l x f b c v w (Err (fault.Usage t)) by h = absurd h
 served_by words bytes_at l x f b c v w (Err fault.HouseFile) by h = absurd h
 served_by words bytes_at l x f b c v w (Err (fault.HouseLine e)) by h = absurd h
+
+-- the words ask to keep a book, and firms were served by the house table that they name
+pub kept_by : (words : List Text) (bytes_at : Text → Option (List ℕ)) (l : Option (List ℕ)) (x f : ℕ)
+    (b c : Option (List ℕ)) (v w : ℕ) (r : Result (Unit {0}) Fault) → (by : Asks (codes "keep") words bytes_at) → Keeps by.house b c v w r
+    → Does words bytes_at (tells l x f b v) (tells l x f c w) r
+kept_by words bytes_at l x f b c v w (Ok done) by (book, served, totals) =
+    inr (inr (inr (record { by = by; book = book; served = served; unread = (refl, refl, refl); totals = totals })))
+kept_by words bytes_at l x f b c v w (Err (fault.Journal t)) by (same, never) =
+    inl (by, ap (λ y. tells l x f y w) same ∙ ap (λ y. tells l x f b y) never)
+kept_by words bytes_at l x f b c v w (Err (fault.Keep e)) by (same, never) =
+    inl (by, ap (λ y. tells l x f y w) same ∙ ap (λ y. tells l x f b y) never)
+kept_by words bytes_at l x f b c v w (Err (fault.Run e)) by (book, served, totals) =
+    inr (
+      e,
+      refl,
+      inr (inr (inr (record {
+        by = by;
+        book = book;
+        served = served;
+        unread = (refl, refl, refl);
+        totals = totals;
+      }))),
+    )
+kept_by words bytes_at l x f b c v w (Err (fault.Usage t)) by h = absurd h
+kept_by words bytes_at l x f b c v w (Err fault.HouseFile) by h = absurd h
+kept_by words bytes_at l x f b c v w (Err (fault.HouseLine e)) by h = absurd h
+kept_by words bytes_at l x f b c v w (Err (fault.Service e)) by h = absurd h

@@ -1,5 +1,5 @@
 -- What the program does: which house file it reads, what it does to its reader and its writer, and in which order faults are found.
-use Rattle.std.specs.Prelude.{◌≡◌, ℕ, ◌⊎◌, codes, List, [], Option, Some, Result, Ok, Err}
+use Rattle.std.specs.Prelude.{◌≡◌, ℕ, ◌⊎◌, codes, List, Option, Some, Result, Ok, Err}
 use Rattle.clap.specs.Words.{Text}
 use Rattle.gu_base.specs.House.{House}
 use Rattle.gu_base.specs.Runs.{IsRunFrom, opening_history}
@@ -13,7 +13,7 @@ use Rattle.gu_parties.specs.declared.fault.HouseError.{HouseError}
 use Rattle.gu_server.specs.HouseText.{IsTextOf, IsTooLong}
 use Rattle.gu_server.specs.Lines.{command_in, house_in, trade_in, trade_meant}
 use Rattle.gu_server.specs.declared.fault.Fault.{Fault}
-use Rattle.gu_server.specs.declared.fault.Fault.TheVariants.{Usage, HouseFile, HouseLine, Service, Run}
+use Rattle.gu_server.specs.declared.fault.Fault.TheVariants.{Usage, HouseFile, HouseLine, Service, Journal, Keep, Run}
 
 -- the text of the file with these bytes names this house table, or has this fault
 abbrev pub Names : Option (List ℕ) → Result House HouseError → Type 0
@@ -43,6 +43,8 @@ abbrev pub Stops : List Text → (Text → Option (List ℕ)) → Fault → Type
 Stops words bytes_at (Usage text) = Unit {0}
 Stops words bytes_at (Run Memory) = Unit {0}
 Stops words bytes_at (Service error) = Asks (codes "serve") words bytes_at
+Stops words bytes_at (Journal text) = Asks (codes "keep") words bytes_at
+Stops words bytes_at (Keep error) = Asks (codes "keep") words bytes_at
 Stops words bytes_at e = (path : Text) × (house_in words ≡ Some path) × IsHouseFault (bytes_at path) e
 
 -- a batch was run, by the house table that the house file of the words names
@@ -78,11 +80,20 @@ pub record HasServed {A : Type 0} (words : List Text) (bytes_at : Text → Optio
   pub unread : (new.left ≡ old.left) × (new.made ≡ old.made) × (new.reads_failed ≡ old.reads_failed)
   pub totals : WritesTotals book.house book.history old.contents new.contents old.writes_failed new.writes_failed result
 
+-- the same of a book that the journal of the words keeps
+pub record HasKept {A : Type 0} (words : List Text) (bytes_at : Text → Option (List ℕ)) (old new : Told) (result : Result A RunError) : Type 0 where
+  pub by : Asks (codes "keep") words bytes_at
+  pub book : HouseAndHistory
+  pub served : IsServed by.house book
+  pub unread : (new.left ≡ old.left) × (new.made ≡ old.made) × (new.reads_failed ≡ old.reads_failed)
+  pub totals : WritesTotals book.house book.history old.contents new.contents old.writes_failed new.writes_failed result
+
 -- ---- the program
 
 -- what the words ask for was done
 abbrev pub HasDone : {A : Type 0} → List Text → (Text → Option (List ℕ)) → Told → Told → Result A RunError → Type 0
-HasDone words bytes_at old new result = HasRun words bytes_at old new result ⊎ HasTraced words bytes_at old new result ⊎ HasServed words bytes_at old new result
+HasDone words bytes_at old new result = HasRun words bytes_at old new result ⊎ HasTraced words bytes_at old new result
+    ⊎ HasServed words bytes_at old new result ⊎ HasKept words bytes_at old new result
 
 -- a batch, a trace or a server was run to its end, or nothing was touched, or the run ended with an error
 abbrev pub Does : {A : Type 0} → List Text → (Text → Option (List ℕ)) → Told → Told → Result A Fault → Type 0

@@ -40,7 +40,7 @@ fn after_numbered(number: u32) -> AfterFault
 }
 
 /// What a server does behind a fault of accept: it asks again where accept(2) says so, waits where descriptors or buffers lack, and else ends.
-fn after_fault(code: Option<i32>) -> AfterFault
+pub(crate) fn after_fault(code: Option<i32>) -> AfterFault
     ensures { result ≡ outcome_of code }
 {
     match code {

@@ -255,6 +255,22 @@ impl<'a> Connection<'a> {
         self.out.len()
     }
 
+    /// Puts what the turn sends behind what waits to be sent already.
+    pub(crate) fn hand_out(&mut self, to: &mut Vec<u8>) -> Result<(), Closed>
+        ensures ok { OnOk result (to.new.items ≡ to.old.items ++ self.old.out.items) }
+        ensures out { OnOk result (self.new.out.items ≡ []) }
+    {
+        if to.is_empty() {
+            std::mem::swap(&mut self.out, to);
+            return Ok(());
+        }
+        if to.extend_from_slice(self.out.as_slice()).is_err() {
+            return Err(Closed);
+        }
+        self.out.clear();
+        Ok(())
+    }
+
     /// Writes what the turn sends, in one write. One that is short has waited for the peer as long as it may.
     pub(crate) fn write(&mut self, stream: &TcpStream) -> Result<(), Closed>
         ensures out { self.new.out.items ≡ [] }

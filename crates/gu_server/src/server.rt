@@ -162,7 +162,11 @@ fn run_desk<J: Job + Send + Sync, R: Threads + Wait + Clock + Sync, G: Gate + Sy
 }
 
 /// A copy of the house table for all workers, and the ground of their desk.
-fn prepare(alloc: Global, book: Book, workers: u32) -> Result<(House, Ground), ServeError>
+pub(crate) fn prepare(
+    alloc: Global,
+    book: Book,
+    workers: u32,
+) -> Result<(House, Ground), ServeError>
     requires { IsTrue (is_worker_count workers) }
     ensures opening { IfOk result (λ r. r.1.opening ≡ stored book) }
 {

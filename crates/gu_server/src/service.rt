@@ -31,7 +31,7 @@ pub enum ServiceError {
 
 /// Lets all calls pass.
 #[derive(Clone, Copy)]
-struct Open;
+pub(crate) struct Open;
 
 impl Gate for Open {
     fn before_book(&self, _worker: u32) -> bool {
@@ -55,7 +55,7 @@ fn listen<R: Net<Stream = TcpStream, Listener = TcpListener>>(
 
 /// Gives the book a key that nobody knows, by the system's randomness. Where the system gives none
 /// the book keeps the key that it has, and answers the same.
-fn rekey<R: RandomSource>(rt: &R, book: &mut Book)
+pub(crate) fn rekey<R: RandomSource>(rt: &R, book: &mut Book)
     ensures { book.new ≡ book.old }
 {
     let mut bytes = [0; 16];

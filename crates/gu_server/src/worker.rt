@@ -1,12 +1,13 @@
 //! A worker, and the turns of the connection that it serves.
 //!
-//! A turn reads at most 4,096 bytes, waiting one second for them, or a millisecond where the firm is
-//! behind with its reports. It takes the messages that have come whole through the session, and
-//! sends all that comes of them in one write. Where more than 64 kB wait to be sent it takes no
-//! further message: the next turn takes those before it reads. Only the book is asked under the
-//! desk's lock: reading, decoding and writing are done without it.
-//! A connection that has no accepted Logon in time is ended.
+//! A turn reads at most as many bytes as its buffer has: 4,096 in `serve`, where it waits one
+//! second for them, or a millisecond where the firm is behind with its reports. It takes the
+//! messages that have come whole through the session, and sends all that comes of them in one
+//! write. Where more than 64 kB wait to be sent it takes no further message: the next turn takes
+//! those before it reads. Only the book is asked under the desk's lock: reading, decoding and
+//! writing are done without it. A connection that has no accepted Logon in time is ended.
 ghost use Rattle.std.specs.Prelude.{◌≡◌, true, is_some, OnOk, OnErr};
+ghost use Rattle.gu_desk.specs.Begins.{BeginsWith};
 ghost use Rattle.gu_desk.specs.Runs.{HasSeen};
 ghost use Rattle.gu_server.specs.Turns.{Replies};
 
@@ -23,7 +24,7 @@ use std::net::TcpStream;
 use std::sync::Wait;
 use std::time::{Clock, Duration, Instant};
 
-/// The longest read of a turn, in bytes.
+/// The longest read of a turn of `serve`, in bytes.
 const LONGEST_READ: usize = 4096;
 
 /// How many bytes may wait to be sent for a turn to take a further message.
@@ -62,7 +63,7 @@ fn keep_pace(stream: &TcpStream, hurried: &mut bool, behind: bool) -> io::Result
 }
 
 /// Ends a connection that was taken then and has waited for its Logon as long as it may, in seconds.
-fn expire<R: Clock>(
+pub(crate) fn expire<R: Clock>(
     rt: &R,
     connection: &mut Connection<'_>,
     taken: Instant,
@@ -82,7 +83,7 @@ fn expire<R: Clock>(
 
 /// What a turn leaves.
 #[derive(Clone, Copy, PartialEq, Eq)]
-enum Left {
+pub(crate) enum Left {
     /// Nothing that is known of.
     Nothing,
     /// Perhaps bytes to be read: the read had as many as it might have, or was interrupted.
@@ -145,13 +146,16 @@ impl<'a, J: Job, R: Wait + Clock, G: Gate> Worker<'a, J, R, G> {
     }
 
     /// Makes the call of a firm that has logged on, if the gate lets it pass, and sends the answer.
+    #[tactic(auto, using(crate::proofs::Later::itself, crate::proofs::Later::still))]
     fn call(
         &self,
         seat: Seat<J>,
         connection: &mut Connection<'_>,
         id: &AllocId,
         command: &Command,
-    ) -> (Seat<J>, Result<(), Closed>) {
+    ) -> (Seat<J>, Result<(), Closed>)
+        ensures later { BeginsWith result.0.seen seat.seen }
+    {
         let Some(firm) = connection.firm() else {
             return (seat, Err(Closed));
         };
@@ -168,12 +172,15 @@ impl<'a, J: Job, R: Wait + Clock, G: Gate> Worker<'a, J, R, G> {
     }
 
     /// Does what a message's step asks for.
+    #[tactic(auto, using(crate::proofs::Later::itself, crate::proofs::Later::still))]
     fn act(
         &self,
         seat: Seat<J>,
         connection: &mut Connection<'_>,
         actions: Actions,
-    ) -> (Seat<J>, Result<(), Closed>) {
+    ) -> (Seat<J>, Result<(), Closed>)
+        ensures later { BeginsWith result.0.seen seat.seen }
+    {
         if connection.send(&actions).is_err() {
             return (seat, Err(Closed));
         }
@@ -190,12 +197,15 @@ impl<'a, J: Job, R: Wait + Clock, G: Gate> Worker<'a, J, R, G> {
 
     /// Takes the messages that have come whole, one after the other, and then a Tick; or those
     /// before too much waits to be sent.
+    #[tactic(auto, using(crate::proofs::Later::itself, crate::proofs::Later::still))]
     fn messages(
         &self,
         seat: Seat<J>,
         connection: &mut Connection<'_>,
         left: Left,
-    ) -> (Seat<J>, Result<Left, Closed>) {
+    ) -> (Seat<J>, Result<Left, Closed>)
+        ensures later { BeginsWith result.0.seen seat.seen }
+    {
         let mut seat = seat;
         // A frame has a byte at least, so no feed holds more of them.
         for _ in 0..MAX_FRAME_LEN {
@@ -222,11 +232,14 @@ impl<'a, J: Job, R: Wait + Clock, G: Gate> Worker<'a, J, R, G> {
     }
 
     /// A turn in which nothing came: a Tick, and the reports to a firm that has logged on.
+    #[tactic(auto, using(crate::proofs::Later::itself, crate::proofs::Later::still))]
     fn idle(
         &self,
         seat: Seat<J>,
         connection: &mut Connection<'_>,
-    ) -> (Seat<J>, Result<Left, Closed>) {
+    ) -> (Seat<J>, Result<Left, Closed>)
+        ensures later { BeginsWith result.0.seen seat.seen }
+    {
         if connection.quiet(self.rt, Event::Tick).is_err() {
             return (seat, Err(Closed));
         }
@@ -241,24 +254,26 @@ impl<'a, J: Job, R: Wait + Clock, G: Gate> Worker<'a, J, R, G> {
     }
 
     /// The last turn: the peer is gone.
-    fn end(
-        &self,
-        seat: Seat<J>,
-        connection: &mut Connection<'_>,
-    ) -> (Seat<J>, Result<Left, Closed>) {
+    #[tactic(auto, using(crate::proofs::Later::itself, crate::proofs::Later::still))]
+    fn end(&self, seat: Seat<J>, connection: &mut Connection<'_>) -> (Seat<J>, Result<Left, Closed>)
+        ensures later { BeginsWith result.0.seen seat.seen }
+    {
         let _ = connection.end(self.rt);
         (seat, Err(Closed))
     }
 
     /// One turn, without its write, behind one that left this.
-    fn turn(
+    #[tactic(auto, using(crate::proofs::Later::itself, crate::proofs::Later::still))]
+    pub(crate) fn turn(
         &self,
         seat: Seat<J>,
         connection: &mut Connection<'_>,
         stream: &TcpStream,
         piece: &mut [u8],
         left: Left,
-    ) -> (Seat<J>, Result<Left, Closed>) {
+    ) -> (Seat<J>, Result<Left, Closed>)
+        ensures later { BeginsWith result.0.seen seat.seen }
+    {
         if left == Left::Untaken {
             return self.messages(seat, connection, Left::Unread);
         }

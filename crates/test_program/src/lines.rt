@@ -1,8 +1,9 @@
 //! One run of the program.
 
+use crate::journals::Shelf;
 use crate::streams::{AtEnd, Narrow, pieces_of, takes_all, writer_of};
 use gu_server::{Counted, Fault, SystemFiles, run};
-use std::alloc::Global;
+use std::alloc::{AllocError, Global};
 use std::io::Write;
 use std::net::{Net, TcpListener, TcpStream};
 use std::random::RandomSource;
@@ -26,13 +27,22 @@ pub(crate) fn read_line(line: &str) -> Option<Line<'_>> {
     Some(Line { stream, how, words })
 }
 
-/// The words of a command line. Between two spaces stands one, and an empty text has none. What can't be had is missing from what the
-/// program writes, here and below.
-fn words_of(alloc: Global, text: &str) -> Vec<String> {
+/// A word of a command line: `PORT` stands for this port.
+fn word_of(alloc: Global, word: &str, port: u16) -> Result<String, AllocError> {
+    if word == "PORT" {
+        format!(in alloc; "{port}")
+    } else {
+        String::from_str(alloc, word)
+    }
+}
+
+/// The words of a command line, in which `PORT` stands for this port. Between two spaces stands one, and an empty text has none. What can't be
+/// had is missing from what the program writes, here and below.
+pub(crate) fn words_of(alloc: Global, text: &str, port: u16) -> Vec<String> {
     let mut words = Vec::new(alloc);
     if !text.is_empty() {
         for word in text.split(' ') {
-            if let Ok(word) = String::from_str(alloc, word) {
+            if let Ok(word) = word_of(alloc, word, port) {
                 let _ = words.push(word);
             }
         }
@@ -42,13 +52,13 @@ fn words_of(alloc: Global, text: &str) -> Vec<String> {
 
 /// How a run ended, and what it wrote.
 #[derive(Drop)]
-struct Outcome {
-    result: Result<(), Fault>,
-    out: Vec<u8>,
+pub(crate) struct Outcome {
+    pub(crate) result: Result<(), Fault>,
+    pub(crate) out: Vec<u8>,
 }
 
 /// Runs the program on these bytes and words.
-fn run_words<
+pub(crate) fn run_words<
     H: Threads
         + Wait
         + Clock
@@ -75,13 +85,21 @@ fn run_words<
     let mut reader = Counted::new(pieces);
     let mut writer = Counted::new(writer_of(alloc, taking));
     let files = SystemFiles::new(rt);
-    let result = run(handle, alloc, &files, &mut reader, &mut writer, words);
+    let result = run(
+        handle,
+        alloc,
+        &files,
+        Shelf,
+        &mut reader,
+        &mut writer,
+        words,
+    );
     let Narrow { held, .. } = writer.into_inner();
     Outcome { result, out: held }
 }
 
 /// Writes a text.
-fn say(rt: &HostRuntime, text: &[u8]) {
+pub(crate) fn say(rt: &HostRuntime, text: &[u8]) {
     let _ = io::writer(rt).write_all(text);
 }
 
@@ -155,11 +173,11 @@ pub(crate) fn tell<
         + RandomSource
         + Net<Stream = TcpStream, Listener = TcpListener>
         + Sync,
->(rt: &HostRuntime, handle: &H, alloc: Global, line: &Line<'_>) -> Option<u8> {
+>(rt: &HostRuntime, handle: &H, alloc: Global, line: &Line<'_>, port: u16) -> Option<u8> {
     let Ok(stream) = fs::read(rt, line.stream) else {
         return None;
     };
-    let words = words_of(alloc, line.words);
+    let words = words_of(alloc, line.words, port);
     let (bytes, words) = (stream.as_slice(), words.as_slice());
     let outcome = run_words(rt, handle, alloc, line.how, bytes, words);
     Some(tell_outcome(rt, alloc, line, &outcome))

@@ -12,17 +12,21 @@
 //! - One worker, one connection, and a book with a thousand trades for AAA. AAA logs on and says nothing more, and has its reports within two seconds. A
 //!   server that waits a second for each hundred takes ten.
 //!
+//! Then runs of the program that keep a book (`kept.rt`): firms are answered, and a journal takes no more.
+//!
 //! `serve` serves them all but the silent peer, whose second to log on in is for `serve_within`. A
 //! message is written as its fields but the times and the checksum, which hangs on these.
 
 mod books;
 mod holding;
+mod kept;
 mod peers;
 mod playing;
 mod scenes;
 mod serving;
 mod telling;
 
+pub(crate) use kept::play_kept;
 use scenes::PLAYS;
 use serving::{Ground, play_scenes};
 use std::alloc::Global;

@@ -52,7 +52,7 @@ fn act(holds: &Holds<'_>, peer: &TcpStream, deed: Deed<'_>) {
         Deed::Leaves => {}
         Deed::IsHeld => wait(holds),
         Deed::IsFreed => holds.release(),
-        Deed::Hears(who) => tell(holds.rt, holds.alloc, who, peer),
+        Deed::Hears(who) => tell(holds.rt, holds.alloc, who, peer, b"35=P"),
         Deed::IsClosed(who) => tell_stranger(holds.rt, who, peer),
         Deed::CatchesUp(who) => tell_reports(holds.rt, holds.alloc, who, peer),
     }

@@ -66,9 +66,9 @@ const THOUSAND_TRADES: Trades<'static> = Trades {
 };
 
 /// The body of a Logon.
-const LOGON: &[u8] = b"98=0\x01108=30\x011137=9\x01";
+pub(crate) const LOGON: &[u8] = b"98=0\x01108=30\x011137=9\x01";
 
-const AAA_LOGON: Message<'static> = Message {
+pub(crate) const AAA_LOGON: Message<'static> = Message {
     firm: b"AAA",
     kind: b"A",
     number: 1,
@@ -97,7 +97,7 @@ const AAA_LOGOUT: Message<'static> = Message {
 };
 
 /// AAA's trade goes to its other account.
-const AAA_SPLIT: Message<'static> = Message {
+pub(crate) const AAA_SPLIT: Message<'static> = Message {
     firm: b"AAA",
     kind: b"J",
     number: 2,

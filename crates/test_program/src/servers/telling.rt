@@ -22,8 +22,8 @@ pub(crate) fn say_line(rt: &HostRuntime, who: &[u8], what: &[u8]) {
     say(rt, b"\n");
 }
 
-/// Writes the messages up to the first acknowledgement, each as a line of its fields but the times (52) and the checksum (10), which hangs on these.
-fn show(rt: &HostRuntime, held: &[u8]) {
+/// Writes the messages up to the first of this type (35), each as a line of its fields but the times (52) and the checksum (10), which hangs on these.
+fn show(rt: &HostRuntime, held: &[u8], wanted: &[u8]) {
     let mut is_answer = false;
     for field in held.split(|b| *b == 1) {
         if field.starts_with(b"10=") {
@@ -32,18 +32,18 @@ fn show(rt: &HostRuntime, held: &[u8]) {
                 break;
             }
         } else if !field.is_empty() && !field.starts_with(b"52=") {
-            is_answer = is_answer || field == b"35=P".as_slice();
+            is_answer = is_answer || field == wanted;
             say(rt, field);
             say(rt, b"|");
         }
     }
 }
 
-/// Writes who is sent something, and what it is sent up to an acknowledgement, or until it is closed.
-pub(crate) fn tell(rt: &HostRuntime, alloc: Global, who: &[u8], stream: &TcpStream) {
-    let held = received(alloc, stream, b"35=P", 1);
+/// Writes who is sent something, and what it is sent up to a message of this type (35), or until it is closed.
+pub(crate) fn tell(rt: &HostRuntime, alloc: Global, who: &[u8], stream: &TcpStream, wanted: &[u8]) {
+    let held = received(alloc, stream, wanted, 1);
     say_line(rt, who, b"");
-    show(rt, held.as_slice());
+    show(rt, held.as_slice(), wanted);
 }
 
 /// Writes who is sent something, and whether it is sent a byte before the server closes the connection.

@@ -1,5 +1,5 @@
 use Rattle.std.proofs.Common.{inl, rules}
-use Rattle.gu_server.proofs.Served.{ended, traced, served_by}
+use Rattle.gu_server.proofs.Served.{ended, traced, served_by, kept_by}
 use Rattle.gu_server.proofs.program.run.Goals as goal
 
 -- the batch ended with an error, which the fault tells
@@ -36,3 +36,15 @@ pub returns-in_ok-house-in-Ok-Serve-clause-does : goal.returns-in_ok-house-in-Ok
 returns-in_ok-house-in-Ok-Serve-clause-does g c =
     served_by _ _ _ _ _ _ _ _ _ c.serve_and_tell.result
     (record { path = c.as_str-in-Ok-Serve.result.now; is = search rules; asked = search rules; house = c.in_ok-house-in-Ok-Serve.house; named = c.in_ok-house-in-Ok-Serve.ensures }) c.serve_and_tell.ensures
+
+-- firms were served of a book that is kept
+pub returns-in_ok-house-in-Ok-Keep-clause-does : goal.returns-in_ok-house-in-Ok-Keep-clause-does
+returns-in_ok-house-in-Ok-Keep-clause-does g c =
+    kept_by _ _ _ _ _ _ _ _ _ c.keep_and_tell.result
+    (record {
+      path = c.as_str-in-Ok-Keep.result.now;
+      is = search rules;
+      asked = search rules;
+      house = c.in_ok-house-in-Ok-Keep.house;
+      named = c.in_ok-house-in-Ok-Keep.ensures;
+    }) c.keep_and_tell.ensures

@@ -1,0 +1,15 @@
+use Rattle.std.proofs.Common.{sym, ◌∙◌}
+use Rattle.std.proofs.lemmas.Result.{IfOk-weaker}
+use Rattle.gu_server.proofs.Filed.{comes_back}
+use Rattle.gu_server.proofs.laws.what_was_told_comes_back.Goals as goal
+
+-- the file says a history that begins with what was told, and the book has that history
+pub returns-clause-comes_back : goal.returns-clause-comes_back
+returns-clause-comes_back g c =
+    let file = g.E.Disk.seen c.args.found.disk in
+    let told = c.keeps_told.ensures.kept c.requires.honest file c.requires.left in
+    let same = c.requires.house ∙ sym c.keeps_told.ensures.house in
+    IfOk-weaker c.recover.result _ _
+    (λ r book honest. comes_back c.args.found.house c.args.recorder.now.journal.house file r.book.history
+    c.args.told.seen same (book honest) told)
+    c.recover.ensures.book

@@ -1,0 +1,93 @@
+//! How the threads of a server wake each other.
+
+use mio::Waker;
+use std::sync::atomic::{AtomicBool, AtomicU64, Ordering};
+
+/// What a worker is woken by.
+#[derive(Drop)]
+pub(crate) struct Bell {
+    pub(crate) waker: Waker,
+    /// Whether it waits until more is kept.
+    pub(crate) waits: AtomicBool,
+    /// How many connections it has.
+    pub(crate) open: AtomicU64,
+}
+
+/// What the workers and the thread that accepts share.
+#[derive(Drop)]
+pub(crate) struct Bells {
+    pub(crate) workers: Vec<Bell>,
+    pub(crate) acceptor: Waker,
+    /// Whether the server is to end at once.
+    pub(crate) stop: AtomicBool,
+}
+
+impl Bell {
+    pub(crate) fn new(waker: Waker) -> Bell {
+        Bell {
+            waker,
+            waits: AtomicBool::new(false),
+            open: AtomicU64::new(0),
+        }
+    }
+}
+
+impl Bells {
+    /// Wakes the workers that wait until more is kept.
+    pub(crate) fn ring_waiting(&self) {
+        for bell in self.workers.as_slice() {
+            if bell.waits.load(Ordering::SeqCst) {
+                let _ = bell.waker.wake();
+            }
+        }
+    }
+
+    /// Wakes all workers.
+    pub(crate) fn ring_all(&self) {
+        for bell in self.workers.as_slice() {
+            let _ = bell.waker.wake();
+        }
+    }
+
+    /// Ends the server.
+    pub(crate) fn end(&self) {
+        self.stop.store(true, Ordering::SeqCst);
+        let _ = self.acceptor.wake();
+        self.ring_all();
+    }
+
+    /// Whether the server is to end.
+    pub(crate) fn ends(&self) -> bool {
+        self.stop.load(Ordering::SeqCst)
+    }
+
+    /// Counts a connection that is handed to a worker.
+    pub(crate) fn count_one(&self, at: usize) {
+        if let Some(bell) = self.workers.get(at) {
+            bell.open.fetch_add(1, Ordering::SeqCst);
+        }
+    }
+
+    /// Wakes a worker.
+    pub(crate) fn ring(&self, at: usize) {
+        if let Some(bell) = self.workers.get(at) {
+            let _ = bell.waker.wake();
+        }
+    }
+
+    /// The worker that has the fewest connections.
+    pub(crate) fn least(&self) -> usize {
+        let mut least = 0usize;
+        let mut fewest = u64::MAX;
+        let mut at = 0usize;
+        for bell in self.workers.as_slice() {
+            let open = bell.open.load(Ordering::SeqCst);
+            if open < fewest {
+                least = at;
+                fewest = open;
+            }
+            at = at.saturating_add(1);
+        }
+        least
+    }
+}
