@@ -89,7 +89,7 @@ mod by_hand {
             }
         }
 
-        /// The segments behind the first `counter` that begin at `lead`.
+        /// The segments after the first `counter` that begin at `lead`.
         fn entries(&self, counter: u32, lead: u32) -> impl Iterator<Item = Message<'a>> + Clone + use<'a> {
             let at = self.fields.iter().position(|f| f.tag == counter).map_or(self.fields.len(), |i| i + 1);
             let mut rest = &self.fields[at..];
