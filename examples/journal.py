@@ -7,13 +7,12 @@ to it, and what they accepted is its journal.
 """
 import re
 
+from fix import BODY, OPENING, checksum
 from tool import Fault, called, content, say
 
 BEGINNING = b"8=FIXT.1.1\x019="
-OPENING = re.compile(rb"8=FIXT\.1\.1\x019=(\d{1,6})\x01")
 TORN_LENGTH = re.compile(rb"8=FIXT\.1\.1\x019=\d{1,6}")
 TRAILER = re.compile(rb"10=(\d{3})\x01")
-BODY = re.compile(rb"35=[^\x01]+\x01(?:[1-9]\d{0,8}=[^\x01]+\x01)*")
 LINE_FEED = 10
 OF_SESSION = {"0", "1", "2", "3", "4", "5", "A"}
 KINDS = {"017": "split", "023": "split", "018": "claim", "019": "refuse", "217": "cancel", "223": "cancel",
@@ -46,7 +45,7 @@ class Stream:
             trailer = TRAILER.match(data, end)
             if not trailer:
                 return self.torn(data, at, end)
-            if sum(data[at:end]) % 256 == int(trailer[1]) and BODY.fullmatch(data, opening.end(), end):
+            if checksum(data[at:end]) == int(trailer[1]) and BODY.fullmatch(data, opening.end(), end):
                 body = data[opening.end() : end - 1].decode("latin-1")
                 yield [tuple(pair.split("=", 1)) for pair in body.split("\x01")]
             else:
