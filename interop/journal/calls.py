@@ -16,14 +16,14 @@ REJECTED = (b"372=AE", b"372=J")
 DATA = {b"95", b"96", b"212", b"213", b"354", b"355"}
 NAME = re.compile(rb"[!-~]{1,16}")
 FLAGS = (None, b"Y", b"N")
-# What the server sends: length, type, whether it is sent again, and the first three fields behind the header.
+# What the server sends: length, type, whether it is sent again, and the first three fields after the header.
 SENT = re.compile(
     rb"8=FIXT\.1\.1\x019=(\d+)\x0135=([^\x01]+)\x0149=[^\x01]+\x0156=[^\x01]+\x0134=\d+\x01(43=Y\x01)?52=[^\x01]+\x01"
     rb"(?:122=[^\x01]+\x01)?([^\x01]*)\x01([^\x01]*)\x01?([^\x01]*)"
 )
 Call = namedtuple("Call", "number id ticket frame")
 # Whole messages that the server sent: their bytes; the last entry that they show; whether the book refused a call; and of the calls that
-# they accept each entry, the call and its answer. Entries are counted behind those with which the book begins.
+# they accept each entry, the call and its answer. Entries are counted after those with which the book begins.
 Sent = namedtuple("Sent", "data entry refused accepted")
 
 
@@ -41,7 +41,7 @@ class Calls:
         self.came, self.sent, self.waiting = b"", b"", deque()
 
     def take(self, piece):
-        """Takes what the firm sent, and gives what of it is to be passed on: whole frames, up to the one that closes. Behind that the server
+        """Takes what the firm sent, and gives what of it is to be passed on: whole frames, up to the one that closes. After that the server
         reads nothing, and would cut off its own answers if there were something to read."""
         if self.closed:
             return b""
@@ -59,7 +59,7 @@ class Calls:
         return taken
 
     def goes_on(self, frame):
-        """Takes a frame; whether the session goes on behind it. A garbled one is no message."""
+        """Takes a frame; whether the session goes on after it. A garbled one is no message."""
         fields = fields_of(frame)
         if fields:
             self.message(frame, fields)
@@ -118,7 +118,7 @@ class Calls:
                 if call and shown > self.opening:
                     accepted.append((shown - self.opening, call, data[at:end]))
             elif third in REJECTED and self.waiting and self.waiting[0].number == int(first[3:]):
-                # a SequenceReset that is rejected may have the number of a call behind it: so the type has to be a call's
+                # a SequenceReset that is rejected may have the number of a call after it: so the type has to be a call's
                 self.waiting.popleft()
             entry = max(entry, shown - self.opening)
             at = end

@@ -95,7 +95,7 @@ class Keys:
         for (key, commands, _), (_, answers, _) in zip(ins, outs):
             commands, answers = frames_in(commands, key), cut(answers)[0]
             if key != f"in/{number:09d}" or len(commands) != len(answers):
-                raise Lost(f"{self.root}{key} isn't entry {number} and those behind it, each with an answer")
+                raise Lost(f"{self.root}{key} isn't entry {number} and those after it, each with an answer")
             yield number, commands, answers
             number += len(commands)
 

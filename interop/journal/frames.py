@@ -1,12 +1,17 @@
 """FIX frames, as docs/profile.md has them: cut out of a stream, read, and made."""
 import calendar
+import os
 import re
+import sys
+
+# examples/, of which fix.py is: of the repository, or beside this folder where it is installed
+HERE = os.path.dirname(os.path.abspath(__file__))
+sys.path[1:1] = [f"{HERE}/../../examples", f"{HERE}/../examples"]
+from fix import BODY, OPENING, checksum, framed
 
 LONGEST = 65_536
-OPENING = re.compile(rb"8=FIXT\.1\.1\x019=(\d{1,6})\x01")
 BEGINNING = re.compile(rb"8=FIXT\.1\.1\x019=\d{0,6}")
 CLOSING = re.compile(rb"\x0110=\d{3}\x01")
-BODY = re.compile(rb"35=[^\x01]+\x01(?:[1-9]\d{0,8}=[^\x01]+\x01)*")
 FIELD = re.compile(rb"([1-9]\d{0,8})=([^\x01]+)\x01")
 TIME = re.compile(rb"(\d{4})(0[1-9]|1[0-2])(\d\d)-(?:[01]\d|2[0-3]):[0-5]\d:(?:[0-5]\d|60)(?:\.\d{1,12})?")
 
@@ -16,7 +21,7 @@ class Broken(Exception):
 
 
 def cut(data, at=0):
-    """The frames at the front of some bytes, garbled ones too, and the place behind them; Broken where no frame can begin there.
+    """The frames at the front of some bytes, garbled ones too, and the place after them; Broken where no frame can begin there.
     A broken byte inside a frame is told of once its closing should have come."""
     frames = []
     while opening := OPENING.match(data, at):
@@ -39,15 +44,9 @@ def cut(data, at=0):
 def fields_of(frame):
     """The first value of each tag of a frame's body; None of a garbled frame."""
     at = frame.index(b"\x01", 13) + 1
-    if sum(frame[:-7]) & 255 != int(frame[-4:-1]) or not BODY.fullmatch(frame, at, len(frame) - 7):
+    if checksum(frame[:-7]) != int(frame[-4:-1]) or not BODY.fullmatch(frame, at, len(frame) - 7):
         return None
     return dict(reversed(FIELD.findall(frame, at, len(frame) - 7)))
-
-
-def framed(body):
-    """The frame of a body."""
-    text = b"8=FIXT.1.1\x019=%d\x01%b" % (len(body), body)
-    return b"%b10=%03d\x01" % (text, sum(text) & 255)
 
 
 def numbered(frame, number):

@@ -10,7 +10,7 @@ class Lost(Exception):
 
 
 def frames_in(data, what):
-    """The frames of a journal. What begins a last one, which a crash has torn, is left out, with NULs of a file system behind it."""
+    """The frames of a journal. What begins a last one, which a crash has torn, is left out, with NULs of a file system after it."""
     try:
         frames, at = cut(data)
     except Broken as broken:
@@ -25,7 +25,7 @@ def frames_in(data, what):
 
 
 def torn(tail):
-    """Whether bytes are the beginning of a frame with NULs behind it."""
+    """Whether bytes are the beginning of a frame with NULs after it."""
     try:
         return not cut(tail.rstrip(b"\0"))[0]
     except Broken:

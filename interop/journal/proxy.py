@@ -14,11 +14,11 @@ from calls import Calls
 from logs import Lost
 
 PIECE = 65_536
-MOST_HELD = 1 << 18  # bytes for the server behind which no more is read from a firm
-MOST_UNREAD = 1 << 24  # bytes that a firm doesn't read, behind which its connection ends
+MOST_HELD = 1 << 18  # bytes for the server after which no more is read from a firm
+MOST_UNREAD = 1 << 24  # bytes that a firm doesn't read, after which its connection ends
 PATIENCE = 10.0  # seconds in which an entry that was shown has to be known
 READ_WAIT = 30.0  # seconds in which a firm has to read something
-LINGER = 1.0  # seconds in which a call without an answer counts as made, behind the end of its connection
+LINGER = 1.0  # seconds in which a call without an answer counts as made, after the end of its connection
 
 
 def say(words):
@@ -36,7 +36,7 @@ class Half:
             stream.setsockopt(socket.IPPROTO_TCP, socket.TCP_NODELAY, 1)
 
     def push(self, data, end=False):
-        """Sends these bytes, behind those that wait to be sent, and, with `end`, nothing behind them."""
+        """Sends these bytes, after those that wait to be sent, and, with `end`, nothing after them."""
         if not self.out:
             self.moved = time.monotonic()
         self.out += data

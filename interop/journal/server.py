@@ -1,37 +1,29 @@
 """`allocd serve` below the journal: started, and given what the journal has."""
-import os
 import socket
 import subprocess
-import time
 from collections import OrderedDict
 from itertools import groupby
 
 from calls import Calls
 from frames import fields_of, framed, numbered
+from fix import Ended, listening, serving
 from logs import Lost
 
 PIECE = 65_536
 RUN = 64  # commands of one firm that are sent at once
 
 
-def free_port():
-    with socket.socket() as probe:
-        probe.bind(("127.0.0.1", 0))
-        return probe.getsockname()[1]
-
-
 def started(program, house, workers):
-    """The server and its port, once it listens. It ends when this process does."""
-    port = free_port()
-    words = [program, "serve", house, "--port", str(port), "--workers", str(workers)]
-    process = subprocess.Popen(["setpriv", "--pdeathsig", "KILL", *words], stdin=subprocess.DEVNULL)
-    while process.poll() is None:
-        try:
-            socket.create_connection(("127.0.0.1", port)).close()
-            return process, port
-        except ConnectionRefusedError:
-            time.sleep(0.05)
-    raise Lost(f"the server ended with {process.returncode}")
+    """The server and its port, once it listens. It ends when this process does, and not by Ctrl-C."""
+
+    def start(port):
+        words = ["setpriv", "--pdeathsig", "KILL", *serving(program, house, port, workers)]
+        return subprocess.Popen(words, stdin=subprocess.DEVNULL, start_new_session=True)
+
+    try:
+        return listening(start, tries=1)
+    except Ended as fault:
+        raise Lost(str(fault)) from None
 
 
 class Session:
@@ -78,7 +70,7 @@ def runs(frames):
 
 
 def replay(port, house, opening, frames, workers):
-    """Gives the server all entries again; each has to get its number, counted behind those with which the book begins."""
+    """Gives the server all entries again; each has to get its number, counted after those with which the book begins."""
     sessions = OrderedDict()
     try:
         for first, firm, run in runs(frames):
