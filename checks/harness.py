@@ -1,5 +1,5 @@
 """What the harnesses of this folder share: the programs that the gate built, growths that are refused, and the count
-in the end.
+in the end. Frames and servers are those of examples/fix.py.
 
 A harness runs programs that `rt ci` has proved and built, crates/NAME/out/NAME, and proves and builds none. Its
 last line is 'N passed, M failed', and its status is 0 where M is 0.
@@ -11,10 +11,12 @@ import socket
 import subprocess
 import sys
 import tempfile
-import time
 from concurrent.futures import ThreadPoolExecutor
 
 TOP = os.path.dirname(os.path.dirname(os.path.abspath(__file__)))
+sys.path.insert(1, f"{TOP}/examples")
+from fix import Ended, connected, framed, free_port, is_free  # some are for the harnesses
+
 TOLD = re.compile(rb"growths: (\d+), largest (\d+) bytes, refused (\d+)\n\Z")
 
 
@@ -31,33 +33,20 @@ def text(path):
         return it.read()
 
 
-def framed(body):
-    """The frame of a body whose fields end with '|'."""
-    body = body.encode("latin-1").replace(b"|", b"\x01")
-    whole = b"8=FIXT.1.1\x019=%d\x01" % len(body) + body
-    return whole + b"10=%03d\x01" % (sum(whole) % 256)
-
-
 def exchanged(started, send):
     """Has a client send this to a server as soon as it listens, and end what it sends: the server's run, and what the client got until it was
     closed. `started` starts a server of one connection on a port, which may be taken meanwhile: then it is another port's turn."""
     for _ in range(10):
-        with socket.socket() as probe:
-            probe.bind(("127.0.0.1", 0))
-            port = probe.getsockname()[1]
+        port = free_port()
         server, got = started(port), b""
-        while server.poll() is None:
-            try:
-                with socket.create_connection(("127.0.0.1", port), timeout=20) as client:
-                    client.sendall(send)
-                    client.shutdown(socket.SHUT_WR)
-                    while piece := client.recv(65_536):
-                        got += piece
-                break
-            except ConnectionRefusedError:
-                time.sleep(0.01)
-            except OSError:
-                break
+        try:
+            with connected(port, server, 20) as client:
+                client.sendall(send)
+                client.shutdown(socket.SHUT_WR)
+                while piece := client.recv(65_536):
+                    got += piece
+        except (Ended, OSError):
+            pass
         try:
             out, err = server.communicate(timeout=30)
         except subprocess.TimeoutExpired:

@@ -12,6 +12,7 @@ TOP = os.path.dirname(os.path.dirname(os.path.abspath(__file__)))
 sys.dont_write_bytecode = True
 sys.path.insert(0, f"{TOP}/examples")
 from book import Book, House
+from fix import framed
 from journal import firsts, frames, number_of
 
 FIRMS = ["AAA", "<script>", "</script>", "&lt;b>x", "A/B", "/A", "=1+1", "'\"`${x}\\n", "WWWWWWWWWWWWWWWW", "]]>", "constructor"]
@@ -20,16 +21,10 @@ INSTRUMENTS = ["ESZ6", "<!--", "{{DAY}}", "@@@@@@@@@@@@@@@@"]
 IDS = ["T", "<script>x=1</script>", "<b onclick='x=1'>", "</script><script>", "=HYPERLINK(0)", "a  b", " -1", '"><img src=y>', "\\u003c"]
 
 
-def framed(fields):
-    """The frame of a body whose fields end with the byte 0x01."""
-    body = fields.encode("latin-1")
-    frame = b"8=FIXT.1.1\x019=%d\x01" % len(body) + body
-    return frame + b"10=%03d\x01" % (sum(frame) % 256)
-
-
 def message(kind, firm, house, number, rest):
     clock = f"20260302-{9 + number // 3600 % 12:02}:{number // 60 % 60:02}:{number % 60:02}"
-    return framed("\x01".join([f"35={kind}", f"49={firm}", f"56={house}", f"34={number}", f"52={clock}", *rest, ""]))
+    fields = [f"35={kind}", f"49={firm}", f"56={house}", f"34={number}", f"52={clock}", *rest, ""]
+    return framed("\x01".join(fields).encode("latin-1"))
 
 
 def trade(id, firm, account, instrument, side, lots):
