@@ -3,6 +3,7 @@
 It has the rules of docs/book.md, so that a day's input which is taken for a journal is told by its first refused command.
 """
 import re
+from hashlib import sha256
 
 from journal import Entry, NoJournal, commands, entry_of
 from tool import called, content
@@ -145,9 +146,10 @@ class Book:
     @classmethod
     def read(cls, house, day, answers=None):
         """The book of these files."""
-        book = cls(House.parse(content(house).decode("latin-1"), called(house)))
+        file = content(house)
+        book = cls(House.parse(file.decode("latin-1"), called(house)))
         try:
-            for fields in commands(day, answers, len(book.entries)):
+            for fields in commands(day, answers, len(book.entries), sha256(file).hexdigest()):
                 book.accept(fields)
         except ValueError as fault:
             hint = "" if answers else ". A day's input is read with its --answers, a journal with its own house file"

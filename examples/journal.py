@@ -2,9 +2,11 @@
 
 A journal is a stream of FIX frames with accepted commands alone, in their order, so its n-th command is entry n, counted
 after the agreements of a house file of version 2. It may end with a line feed; what follows that is the rest of a group
-that wasn't finished. A day's input may hold refused commands too: it is read beside the answers that `allocd batch` gave
-to it, and what they accepted is its journal.
+that wasn't finished. One of `allocd keep` begins with the digest of its house file, and has seals: both are looked at. A
+day's input may hold refused commands too: it is read beside the answers that `allocd batch` gave to it, and what they
+accepted is its journal.
 """
+import hashlib
 import re
 
 from fix import BODY, OPENING, checksum
@@ -27,13 +29,15 @@ class Stream:
     """The frames of a file, each as its fields. What is passed over is kept in mind, for `tell`: garbled frames, a last
     frame that isn't whole, and what stands after the line feed at the end."""
 
-    def __init__(self, name, data):
-        self.name, self.data = name, data
+    def __init__(self, name, data, house=None):
+        self.name, self.data, self.house = name, data, house
         self.garbled, self.first, self.left_out = 0, 0, ""
+        self.is_kept, self.hasher, self.hashed = False, hashlib.sha256(), 0
 
     @classmethod
-    def of(cls, path):
-        return cls(called(path), content(path))
+    def of(cls, path, house=None):
+        """The frames of a file; a kept book's has to be of the house file with this SHA-256, if one is given."""
+        return cls(called(path), content(path), house)
 
     def __iter__(self):
         data, at = self.data.rstrip(b"\0"), 0
@@ -47,11 +51,26 @@ class Stream:
                 return self.torn(data, at, end)
             if checksum(data[at:end]) == int(trailer[1]) and BODY.fullmatch(data, opening.end(), end):
                 body = data[opening.end() : end - 1].decode("latin-1")
-                yield [tuple(pair.split("=", 1)) for pair in body.split("\x01")]
+                fields = [tuple(pair.split("=", 1)) for pair in body.split("\x01")]
+                self.look(data, at, fields)
+                yield fields
             else:
                 self.first = self.first if self.garbled else at
                 self.garbled += 1
             at = trailer.end()
+
+    def look(self, data, at, fields):
+        """Sees that the journal of a kept book is of this house, and that its seals are of the bytes before them."""
+        if at == 0:
+            head = firsts(fields)
+            self.is_kept = head.get("1408", "").startswith("allocd-journal-")
+            if self.is_kept and self.house not in (None, head.get("58")):
+                raise NoJournal(f"{self.name} is of another house file, with SHA-256 {head.get('58')}")
+        elif self.is_kept and fields[0][1] == "0":
+            self.hasher.update(data[self.hashed : at])
+            self.hashed = at
+            if firsts(fields).get("112") != self.hasher.hexdigest():
+                raise NoJournal(f"{self.name}: the bytes before the seal at byte {at} aren't those that were sealed")
 
     def end(self, data, at):
         """Sees that where no frame begins a file may end: at a line feed, or within the beginning of a frame."""
@@ -202,9 +221,10 @@ def part_of(part, firm):
     return (lots_of(message["80"]), None, message["79"]) if taker in (None, firm) else (lots_of(message["80"]), taker, None)
 
 
-def commands(day, answers=None, opening=0):
-    """The commands of a journal, or those of a day's input that its answers accepted. So many entries came before them."""
-    messages = Stream.of(day)
+def commands(day, answers=None, opening=0, house=None):
+    """The commands of a journal, or those of a day's input that its answers accepted. So many entries came before them. The
+    house is the SHA-256 of its file."""
+    messages = Stream.of(day, house)
     given = answers and Stream.of(answers)
     for fields in accepted(messages, given, opening) if given else messages:
         if fields[0][1] in ("AE", "J"):
