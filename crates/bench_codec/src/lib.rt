@@ -1,7 +1,9 @@
-//! The reader of frames, to be timed from outside: `bench/codec` runs it beside a reader written by hand.
+//! The reader of frames, to be timed from outside: `bench/codec` runs it beside a reader written by
+//! hand.
 //!
-//! Both calls go over the bytes of whole frames, one after the other, and answer a number that depends on every length they
-//! meet, so that no work can be left out and both sides can be seen to have read the same.
+//! Both calls go over the bytes of whole frames, one after the other, and answer a number that
+//! depends on every length they meet, so that no work can be left out and both sides can be seen to
+//! have read the same.
 #![tactic(auto)]
 
 use gu_codec::{Frame, read_frame};

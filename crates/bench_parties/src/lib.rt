@@ -1,7 +1,8 @@
-//! The house file, to be timed from outside: `bench/parties` runs it beside a reader written in Rust over std's `HashMap`.
+//! The house file, to be timed from outside: `bench/parties` runs it beside a reader written in
+//! Rust over std's `HashMap`.
 //!
-//! The call reads a house file and then goes over queries, and answers a number that depends on what it found, so that no work can be
-//! left out and both sides can be seen to have done the same.
+//! The call reads a house file and then goes over queries, and answers a number that depends on
+//! what it found, so that no work can be left out and both sides can be seen to have done the same.
 #![tactic(auto)]
 
 use gu_base::{AccountId, FirmId};
@@ -45,7 +46,8 @@ fn all_found(house: &House, queries: &[u8]) -> u64 {
     mix
 }
 
-/// Reads a house file, and then goes over the queries so many times. Answers 1 where the file has a fault.
+/// Reads a house file, and then goes over the queries so many times. Answers 1 where the file has a
+/// fault.
 #[unsafe(no_mangle)]
 pub extern "C" fn read_and_look_up(alloc: Global, text: &[u8], queries: &[u8], rounds: u32) -> u64 {
     match House::parse(alloc, text) {

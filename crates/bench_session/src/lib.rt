@@ -1,7 +1,8 @@
 //! The session, to be timed from outside: `bench/session` runs it beside a session written by hand.
 //!
-//! The call goes over the bytes of whole frames, one after the other, and answers a number that depends on all that the session asks for, so
-//! that no work can be left out and both sides can be seen to have done the same.
+//! The call goes over the bytes of whole frames, one after the other, and answers a number that
+//! depends on all that the session asks for, so that no work can be left out and both sides can be
+//! seen to have done the same.
 #![tactic(auto)]
 
 ghost use Rattle.std.specs.Prelude.{pos, ◌≤ℤ◌};
@@ -30,7 +31,8 @@ fn mixed_sent(mix: u64, sent: &[u8]) -> u64 {
     mix
 }
 
-/// Steps a session with a message, and where it hands out a call, with the answer. None for want of memory.
+/// Steps a session with a message, and where it hands out a call, with the answer. None for want of
+/// memory.
 fn stepped(
     alloc: Global,
     session: &mut Session<'_>,
@@ -74,7 +76,8 @@ fn played(alloc: Global, house: &House, frames: &[u8]) -> Option<u64> {
     Some(mixed(mix, rest.len() as u64))
 }
 
-/// Reads a house file, and then steps one session of it over the frames. Answers 0 where the file has a fault, and for want of memory.
+/// Reads a house file, and then steps one session of it over the frames. Answers 0 where the file
+/// has a fault, and for want of memory.
 #[unsafe(no_mangle)]
 pub extern "C" fn step_over(alloc: Global, house: &[u8], frames: &[u8]) -> u64 {
     match House::parse(alloc, house) {

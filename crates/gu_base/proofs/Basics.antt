@@ -1,5 +1,6 @@
 -- Small facts about tests, options and filters.
-use Rattle.std.proofs.Common.{◌≡◌, ℕ, Bool, true, false, ◌&&◌, ◌||◌, List, [], ◌∷◌, refl, sym, ap, subst, cond, Option, inl, inr, ◌⊎◌}
+use Rattle.std.proofs.Common.{◌≡◌, ℕ, Bool, true, false, ◌&&◌, ◌||◌, List, [], ◌∷◌, refl, sym, ap, subst, cond, Option}
+use Rattle.std.proofs.Common.{inl, inr, ◌⊎◌}
 use Rattle.std.specs.Prelude.{Some, None, filter, bytes_eq, ◌==◌, IsTrue, option_map}
 use Rattle.std.specs.Option.{option_or}
 use Rattle.std.proofs.lemmas.Bool.Decides.{Decides-eqb, same_from_decides}
@@ -32,22 +33,29 @@ pub still_true : (old new : Bool) → new ≡ old → IsTrue old → IsTrue new
 still_true old new same is = subst (λ b. IsTrue b) (sym same) is
 
 -- what holds of either of two values, each in its case
-pub either_way : {A : Type 0} (P : A → Type 0) (b : Bool) (x y : A) → (b ≡ true → P x) → (b ≡ false → P y) → P (cond b x y)
+pub either_way : {A : Type 0} (P : A → Type 0) (b : Bool) (x y : A) → (b ≡ true → P x) → (b ≡ false → P y)
+    → P (cond b x y)
 either_way P true x y f g = f refl
 either_way P false x y f g = g refl
 
 -- a search that finds nothing passes over its first element
-pub nothing_here : {A : Type 0} (b : Bool) (x : A) (rest : Option A) → cond b (Some x) rest ≡ None → (b ≡ false) × (rest ≡ None)
+pub nothing_here : {A : Type 0} (b : Bool) (x : A) (rest : Option A) → cond b (Some x) rest ≡ None
+    → (b ≡ false) × (rest ≡ None)
 nothing_here true x rest h = absurd (cc)
 nothing_here false x rest h = (refl, h)
 
 pub eqb_symm : (a b : ℕ) → (a == b) ≡ (b == a)
-eqb_symm a b = same_from_decides (a == b) (b == a) (Decides-eqb a b) ((λ h. sym ((Decides-eqb b a).0 h)), (λ e. (Decides-eqb b a).1 (sym e)))
+eqb_symm a b =
+    same_from_decides (a == b) (b == a) (Decides-eqb a b)
+    ((λ h. sym ((Decides-eqb b a).0 h)), (λ e. (Decides-eqb b a).1 (sym e)))
 
 pub bytes_symm : (a b : List ℕ) → bytes_eq a b ≡ bytes_eq b a
-bytes_symm a b = same_from_decides (bytes_eq a b) (bytes_eq b a) (bytes_eq-Decides a b) ((λ h. sym ((bytes_eq-Decides b a).0 h)), (λ e. (bytes_eq-Decides b a).1 (sym e)))
+bytes_symm a b =
+    same_from_decides (bytes_eq a b) (bytes_eq b a) (bytes_eq-Decides a b)
+    ((λ h. sym ((bytes_eq-Decides b a).0 h)), (λ e. (bytes_eq-Decides b a).1 (sym e)))
 
-twice_step : {X : Type 0} (p q : X → Bool) (x : X) (ys zs : List X) → ys ≡ filter q zs → (b : Bool) → cond (b && q x) (x ∷ ys) ys ≡ filter q (cond b (x ∷ zs) zs)
+twice_step : {X : Type 0} (p q : X → Bool) (x : X) (ys zs : List X) → ys ≡ filter q zs → (b : Bool)
+    → cond (b && q x) (x ∷ ys) ys ≡ filter q (cond b (x ∷ zs) zs)
 twice_step p q x ys zs same true = ap (λ rs. cond (q x) (x ∷ rs) rs) same
 twice_step p q x ys zs same false = same
 

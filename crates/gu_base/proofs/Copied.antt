@@ -1,8 +1,10 @@
 -- A text that is copied byte by byte into cells of zeros.
-use Rattle.std.proofs.Common.{◌≡◌, ◌≤◌, ◌<◌, ◌+◌, ◌-◌, ℕ, Bool, true, false, List, length, take, drop, replicate, zero, suc, refl, arith, slice_index_or, slice_set, nat_le}
+use Rattle.std.proofs.Common.{◌≡◌, ◌≤◌, ◌<◌, ◌+◌, ◌-◌, ℕ, Bool, true, false, List, length, take, drop, replicate, zero}
+use Rattle.std.proofs.Common.{suc, refl, arith, slice_index_or, slice_set, nat_le}
 use Rattle.std.specs.Prelude.{Some, None, ◌==◌, if◌then◌else◌}
 use Rattle.std.specs.List.{list_all}
-use Rattle.std.proofs.lemmas.List.{take_more, take_more_set, take_all, length-set, length-replicate, drop-set-lt, drop-replicate}
+use Rattle.std.proofs.lemmas.List.{take_more, take_more_set, take_all, length-set, length-replicate, drop-set-lt}
+use Rattle.std.proofs.lemmas.List.{drop-replicate}
 use Rattle.std.proofs.lemmas.List.Folds.{list_all_more}
 use Rattle.std.proofs.lemmas.Grind.{drop_more_same}
 use Rattle.std.proofs.lemmas.Bool.Decides.{nat_tests}
@@ -21,8 +23,8 @@ none_copied n lowest text = record { len = length-replicate {A = ℕ} n 0; front
 from_told : (lowest b : ℕ) → lowest ≤ b → b ≤ 126 → is_from lowest b ≡ true
 from_told lowest b l h = grind (arith, nat_tests)
 
-pub one_more_copied : (n lowest : ℕ) (text : List ℕ) (i : ℕ) (cells : List ℕ) → IsCopied n lowest text i cells → i < length text → length text ≤ n
-    → lowest ≤ slice_index_or text i 0 → slice_index_or text i 0 ≤ 126
+pub one_more_copied : (n lowest : ℕ) (text : List ℕ) (i : ℕ) (cells : List ℕ) → IsCopied n lowest text i cells
+    → i < length text → length text ≤ n → lowest ≤ slice_index_or text i 0 → slice_index_or text i 0 ≤ 126
     → IsCopied n lowest text (i + 1) (slice_set cells i (slice_index_or text i 0))
 one_more_copied n lowest text i cells h more fits low high =
     let b : ℕ = slice_index_or text i 0 in
@@ -35,7 +37,8 @@ one_more_copied n lowest text i cells h more fits low high =
     }
 
 -- at the end of the text the cells are those of the text
-pub all_copied : (n lowest : ℕ) (text : List ℕ) (i : ℕ) (cells : List ℕ) → IsCopied n lowest text i cells → length text ≤ i → i ≤ length text → length text ≤ n
+pub all_copied : (n lowest : ℕ) (text : List ℕ) (i : ℕ) (cells : List ℕ) → IsCopied n lowest text i cells
+    → length text ≤ i → i ≤ length text → length text ≤ n
     → (length text ≤ n) × (length cells ≡ n) × (drop (length text) cells ≡ replicate (n - length text) 0)
 all_copied n lowest text i cells h end at fits =
     let e : i ≡ length text = omega arith in
@@ -48,7 +51,8 @@ pub not_empty : (n : ℕ) (b : Bool) → b ≡ (n == 0) → b ≡ false → 1 �
 not_empty zero b e f = absurd (cc)
 not_empty (suc n) b e f = omega arith
 
-pub copied_text : (n lowest : ℕ) (text : List ℕ) (i : ℕ) (cells : List ℕ) → IsCopied n lowest text i cells → length text ≤ i → i ≤ length text → 1 ≤ length text → length text ≤ n
+pub copied_text : (n lowest : ℕ) (text : List ℕ) (i : ℕ) (cells : List ℕ) → IsCopied n lowest text i cells
+    → length text ≤ i → i ≤ length text → 1 ≤ length text → length text ≤ n
     → Some (take (length text) cells) ≡ (if is_text_from lowest n text then Some text else None)
 copied_text n lowest text i cells h end at some fits =
     let e : i ≡ length text = omega arith in

@@ -13,13 +13,16 @@ pub data Which (l : List Record) (r : Record) (n : EntryPart) (d : Record) : Typ
   before : decision_of l n ≡ Some d → Which l r n d
   here : decides n r.command ≡ true → r ≡ d → Which l r n d
 
-which_new : (l : List Record) (r : Record) (n : EntryPart) (d : Record) (b : Bool) → decides n r.command ≡ b → cond b (Some r) None ≡ Some d → Which l r n d
+which_new : (l : List Record) (r : Record) (n : EntryPart) (d : Record) (b : Bool) → decides n r.command ≡ b
+    → cond b (Some r) None ≡ Some d → Which l r n d
 which_new l r n d true is h = here is (same_Some r d h)
 which_new l r n d false is h = absurd (cc)
 
-which_of : (l : List Record) (r : Record) (n : EntryPart) (d : Record) (o : Option Record) → decision_of l n ≡ o → option_or o (cond (decides n r.command) (Some r) None) ≡ Some d → Which l r n d
+which_of : (l : List Record) (r : Record) (n : EntryPart) (d : Record) (o : Option Record) → decision_of l n ≡ o
+    → option_or o (cond (decides n r.command) (Some r) None) ≡ Some d → Which l r n d
 which_of l r n d None e h = which_new l r n d (decides n r.command) refl h
 which_of l r n d (Some s) e h = before (e ∙ h)
 
-pub which : (l : List Record) (r : Record) (n : EntryPart) (d : Record) → decision_of (l ++ r ∷ []) n ≡ Some d → Which l r n d
+pub which : (l : List Record) (r : Record) (n : EntryPart) (d : Record) → decision_of (l ++ r ∷ []) n ≡ Some d
+    → Which l r n d
 which l r n d h = which_of l r n d (decision_of l n) refl (sym (find-append (λ r. decides n r.command) l (r ∷ [])) ∙ h)

@@ -14,7 +14,8 @@ printed_ascii b h = grind (arith, nat_tests)
 text_ascii : (b : ℕ) → is_text b ≡ true → b < 128
 text_ascii b h = grind (arith, nat_tests)
 
-all_ascii : (p : ℕ → Bool) → ((b : ℕ) → p b ≡ true → b < 128) → (s : List ℕ) → list_all p s ≡ true → (i : ℕ) → slice_index s i < 128
+all_ascii : (p : ℕ → Bool) → ((b : ℕ) → p b ≡ true → b < 128) → (s : List ℕ) → list_all p s ≡ true → (i : ℕ)
+    → slice_index s i < 128
 all_ascii p ascii [] h i = omega arith
 all_ascii p ascii (b ∷ s) h zero = ascii b (and_parts _ _ h).0
 all_ascii p ascii (b ∷ s) h (suc i) = all_ascii p ascii s (and_parts _ _ h).1 i

@@ -6,14 +6,20 @@ use Rattle.gu_base.specs.Terms.{terms_of, limit_of}
 use Rattle.gu_base.specs.House.{House, knows_firm, knows_account, knows_instrument}
 use Rattle.gu_base.specs.Nodes.{node_of, split_of, decision_of, is_offered, is_given, splits, decides}
 use Rattle.gu_base.specs.Places.{depth_of}
-use Rattle.gu_base.specs.Refusals.{unless, first, at_node, row, refusal_of, refusal_of_part, split_row, claim_row, refuse_row, cancel_row, owns, is_taker, is_giver, limit_row, limit_by, used_by, trade_row, agree_row, raise_row, raised_row, knows_own_account}
+use Rattle.gu_base.specs.Refusals.{unless, first, at_node, row, refusal_of, refusal_of_part, split_row, claim_row}
+use Rattle.gu_base.specs.Refusals.{refuse_row, cancel_row, owns, is_taker, is_giver, limit_row, limit_by, used_by}
+use Rattle.gu_base.specs.Refusals.{trade_row, agree_row, raise_row, raised_row, knows_own_account}
 use Rattle.gu_base.specs.declared.command.Part.{Part}
 use Rattle.gu_base.specs.declared.command.Command.{Command}
-use Rattle.gu_base.specs.declared.command.Command.TheVariants.{Trade, Split, Claim, Refuse, Cancel, Agree, Raise, Initiate, Decline, Reverse}
+use Rattle.gu_base.specs.declared.command.Command.TheVariants.{Trade, Split, Claim, Refuse, Cancel, Agree, Raise}
+use Rattle.gu_base.specs.declared.command.Command.TheVariants.{Initiate, Decline, Reverse}
 use Rattle.gu_base.specs.declared.entry.Record.{Record}
 use Rattle.gu_base.specs.declared.node.Node.{Node}
 use Rattle.gu_base.specs.declared.refusal.Refusal.{Refusal}
-use Rattle.gu_base.specs.declared.refusal.Refusal.TheVariants.{UnknownFirm, UnknownAccount, NotYours, AlreadySplit, StillOffered, NotOffered, SumDiffers, BadPartCount, TooDeep, UnknownInstrument, BadLots, HouseOnly, OwnAgreement, BadTerms, AgreementExists}
+use Rattle.gu_base.specs.declared.refusal.Refusal.TheVariants.{UnknownFirm, UnknownAccount, NotYours, AlreadySplit}
+use Rattle.gu_base.specs.declared.refusal.Refusal.TheVariants.{StillOffered, NotOffered, SumDiffers, BadPartCount}
+use Rattle.gu_base.specs.declared.refusal.Refusal.TheVariants.{TooDeep, UnknownInstrument, BadLots, HouseOnly}
+use Rattle.gu_base.specs.declared.refusal.Refusal.TheVariants.{OwnAgreement, BadTerms, AgreementExists}
 use Rattle.std.proofs.lemmas.Bool.{and_parts}
 use Rattle.gu_base.proofs.Accepted.{first_none, unless_none}
 use Rattle.gu_base.proofs.NodeNames.{name_is, node_called}
@@ -22,11 +28,13 @@ use Rattle.gu_base.proofs.Basics.{mapped_none}
 pub none_unless : (b : Bool) (r : Refusal) → b ≡ true → unless b r ≡ None
 none_unless b r e = ap (λ c. unless c r) e
 
-pub at_node_none : (line : Node → Option Refusal) (o : Option Node) → at_node line o ≡ None → (x : Node) × ((o ≡ Some x) × (line x ≡ None))
+pub at_node_none : (line : Node → Option Refusal) (o : Option Node) → at_node line o ≡ None
+    → (x : Node) × ((o ≡ Some x) × (line x ≡ None))
 at_node_none line None h = absurd (cc)
 at_node_none line (Some x) h = (x, (refl, h))
 
-pub none_at_node : (line : Node → Option Refusal) (o : Option Node) (x : Node) → o ≡ Some x → line x ≡ None → at_node line o ≡ None
+pub none_at_node : (line : Node → Option Refusal) (o : Option Node) (x : Node) → o ≡ Some x → line x ≡ None
+    → at_node line o ≡ None
 none_at_node line o x e h = ap (at_node line) e ∙ h
 
 -- no line of a row refuses
@@ -43,9 +51,13 @@ of_none [] h = refl
 of_none (o ∷ rest) h = ap (λ p. first (p ∷ rest)) h.0 ∙ of_none rest h.1
 
 -- the lines of a part
-pub part_passes : (t : House) (by : List ℕ) (p : Part) → refusal_of_part t by p ≡ None → (knows_firm t p.firm ≡ true) × (knows_own_account t by p ≡ true) × (is_lots p.lots ≡ true)
+pub part_passes : (t : House) (by : List ℕ) (p : Part) → refusal_of_part t by p ≡ None
+    → (knows_firm t p.firm ≡ true) × (knows_own_account t by p ≡ true) × (is_lots p.lots ≡ true)
 part_passes t by p h =
-    let each = none_of (unless (knows_firm t p.firm) UnknownFirm ∷ unless (knows_own_account t by p) UnknownAccount ∷ unless (is_lots p.lots) BadLots ∷ []) h in
+    let each =
+    none_of (unless (knows_firm t p.firm) UnknownFirm ∷ unless (knows_own_account t by p) UnknownAccount
+    ∷ unless (is_lots p.lots) BadLots ∷ [])
+    h in
     (unless_none _ _ each.0, unless_none _ _ each.1.0, unless_none _ _ each.1.1.0)
 
 -- the lines of a Trade's row
@@ -56,10 +68,14 @@ pub record TradePasses (t : House) (by firm account instrument : List ℕ) (lots
   pub instrument_known : knows_instrument t instrument ≡ true
   pub lots_fit : is_lots lots ≡ true
 
-pub trade_passes : (t : House) (by firm account instrument : List ℕ) (lots : ℕ) → trade_row t by firm account instrument lots ≡ None → TradePasses t by firm account instrument lots
+pub trade_passes : (t : House) (by firm account instrument : List ℕ) (lots : ℕ)
+    → trade_row t by firm account instrument lots ≡ None → TradePasses t by firm account instrument lots
 trade_passes t by firm account instrument lots h =
     let last_lines = unless (knows_instrument t instrument) UnknownInstrument ∷ unless (is_lots lots) BadLots ∷ [] in
-    let p = none_of (unless (bytes_eq by t.house) HouseOnly ∷ unless (knows_firm t firm) UnknownFirm ∷ unless (knows_account t firm account) UnknownAccount ∷ last_lines) h in
+    let p =
+    none_of (unless (bytes_eq by t.house) HouseOnly ∷ unless (knows_firm t firm) UnknownFirm
+    ∷ unless (knows_account t firm account) UnknownAccount ∷ last_lines)
+    h in
     record {
       house = unless_none _ _ p.0;
       firm_known = unless_none _ _ p.1.0;
@@ -89,7 +105,8 @@ split_lines t l by ps x =
     ∷ unless (sum_by (λ p. p.lots) ps == x.lots) SumDiffers
     ∷ []
 
-pub split_passes : (t : House) (l : List Record) (by : List ℕ) (ps : List Part) (x : Node) → split_row t l by ps x ≡ None → SplitHolds t l by ps x × (split_of l x.name ≡ None)
+pub split_passes : (t : House) (l : List Record) (by : List ℕ) (ps : List Part) (x : Node)
+    → split_row t l by ps x ≡ None → SplitHolds t l by ps x × (split_of l x.name ≡ None)
 split_passes t l by ps x h =
     let p = none_of (split_lines t l by ps x) h in (
       record {
@@ -103,7 +120,8 @@ split_passes t l by ps x h =
       mapped_none _ _ p.1.0,
     )
 
-pub split_accepted : (t : House) (l : List Record) (by : List ℕ) (ps : List Part) (x : Node) → SplitHolds t l by ps x → split_of l x.name ≡ None → split_row t l by ps x ≡ None
+pub split_accepted : (t : House) (l : List Record) (by : List ℕ) (ps : List Part) (x : Node) → SplitHolds t l by ps x
+    → split_of l x.name ≡ None → split_row t l by ps x ≡ None
 split_accepted t l by ps x h whole =
     of_none (split_lines t l by ps x) (
       none_unless _ _ h.owned,
@@ -126,10 +144,14 @@ pub none_told : {A : Type 0} (o : Option A) → is_none o ≡ true → o ≡ Non
 none_told None e = refl
 none_told (Some r) e = absurd (cc)
 
-given_of : (l : List Record) (x : Node) → is_offered l x ≡ true → (is_given x.kind ≡ true) × (decision_of l x.name ≡ None)
-given_of l x h = let p = and_parts (is_given x.kind) (is_none (decision_of l x.name)) h in (p.0, none_told (decision_of l x.name) p.1)
+given_of : (l : List Record) (x : Node) → is_offered l x ≡ true
+    → (is_given x.kind ≡ true) × (decision_of l x.name ≡ None)
+given_of l x h =
+    let p = and_parts (is_given x.kind) (is_none (decision_of l x.name)) h in
+    (p.0, none_told (decision_of l x.name) p.1)
 
-pub offered_of : (l : List Record) (x : Node) → is_given x.kind ≡ true → decision_of l x.name ≡ None → is_offered l x ≡ true
+pub offered_of : (l : List Record) (x : Node) → is_given x.kind ≡ true → decision_of l x.name ≡ None
+    → is_offered l x ≡ true
 offered_of l x given none = ap (λ b. b && is_none (decision_of l x.name)) given ∙ ap is_none none
 
 -- the lines of a Claim's row
@@ -142,29 +164,34 @@ claim_lines t l by account x =
     ∷ []
 
 pub claim_passes : (t : House) (l : List Record) (by account : List ℕ) (x : Node) → claim_row t l by account x ≡ None
-    → ClaimHolds t by account x × (decision_of l x.name ≡ None) × (limit_row (used_by l x.kind + x.lots) (limit_by t l x.kind) ≡ None)
+    → ClaimHolds t by account x × (decision_of l x.name ≡ None)
+    × (limit_row (used_by l x.kind + x.lots) (limit_by t l x.kind) ≡ None)
 claim_passes t l by account x h =
     let p = none_of (claim_lines t l by account x) h in
     let g = given_of l x (unless_none _ _ p.0) in
     (record { given = g.0; taker = unless_none _ _ p.1.0; known = unless_none _ _ p.1.1.0 }, g.1, p.1.1.1.0)
 
-pub claim_accepted : (t : House) (l : List Record) (by account : List ℕ) (x : Node) → ClaimHolds t by account x → decision_of l x.name ≡ None
-    → limit_row (used_by l x.kind + x.lots) (limit_by t l x.kind) ≡ None → claim_row t l by account x ≡ None
+pub claim_accepted : (t : House) (l : List Record) (by account : List ℕ) (x : Node) → ClaimHolds t by account x
+    → decision_of l x.name ≡ None → limit_row (used_by l x.kind + x.lots) (limit_by t l x.kind) ≡ None
+    → claim_row t l by account x ≡ None
 claim_accepted t l by account x h none within =
-    of_none (claim_lines t l by account x) (none_unless _ _ (offered_of l x h.given none), (none_unless _ _ h.taker, (none_unless _ _ h.known, (within, tt))))
+    of_none (claim_lines t l by account x)
+    (none_unless _ _ (offered_of l x h.given none), (none_unless _ _ h.taker, (none_unless _ _ h.known, (within, tt))))
 
 -- a refusal or a cancel: the node is given, and who asks is its taker or its giver
-pub decision_passes : (l : List Record) (x : Node) (b : Bool) → first (unless (is_offered l x) NotOffered ∷ unless b NotYours ∷ []) ≡ None
+pub decision_passes : (l : List Record) (x : Node) (b : Bool)
+    → first (unless (is_offered l x) NotOffered ∷ unless b NotYours ∷ []) ≡ None
     → (is_given x.kind ≡ true) × (decision_of l x.name ≡ None) × (b ≡ true)
 decision_passes l x b h =
     let p = none_of (unless (is_offered l x) NotOffered ∷ unless b NotYours ∷ []) h in
     let g = given_of l x (unless_none _ _ p.0) in
     (g.0, g.1, unless_none _ _ p.1.0)
 
-pub decision_accepted : (l : List Record) (x : Node) (b : Bool) → is_given x.kind ≡ true → decision_of l x.name ≡ None → b ≡ true
-    → first (unless (is_offered l x) NotOffered ∷ unless b NotYours ∷ []) ≡ None
+pub decision_accepted : (l : List Record) (x : Node) (b : Bool) → is_given x.kind ≡ true → decision_of l x.name ≡ None
+    → b ≡ true → first (unless (is_offered l x) NotOffered ∷ unless b NotYours ∷ []) ≡ None
 decision_accepted l x b given none yours =
-    of_none (unless (is_offered l x) NotOffered ∷ unless b NotYours ∷ []) (none_unless _ _ (offered_of l x given none), (none_unless _ _ yours, tt))
+    of_none (unless (is_offered l x) NotOffered ∷ unless b NotYours ∷ [])
+    (none_unless _ _ (offered_of l x given none), (none_unless _ _ yours, tt))
 
 -- the lines of an Agree's row but the last
 pub record AgreeHolds (t : House) (by giver taker : List ℕ) (rate limit : ℕ) : Type 0 where
@@ -184,7 +211,8 @@ agree_lines t l by giver taker rate limit =
     ∷ unless (is_none (terms_of t l giver taker)) AgreementExists
     ∷ []
 
-pub agree_passes : (t : House) (l : List Record) (by giver taker : List ℕ) (rate limit : ℕ) → agree_row t l by giver taker rate limit ≡ None
+pub agree_passes : (t : House) (l : List Record) (by giver taker : List ℕ) (rate limit : ℕ)
+    → agree_row t l by giver taker rate limit ≡ None
     → AgreeHolds t by giver taker rate limit × (is_none (terms_of t l giver taker) ≡ true)
 agree_passes t l by giver taker rate limit h =
     let p = none_of (agree_lines t l by giver taker rate limit) h in (
@@ -198,30 +226,43 @@ agree_passes t l by giver taker rate limit h =
       unless_none _ _ p.1.1.1.1.1.0,
     )
 
-pub agree_accepted : (t : House) (l : List Record) (by giver taker : List ℕ) (rate limit : ℕ) → AgreeHolds t by giver taker rate limit → is_none (terms_of t l giver taker) ≡ true
+pub agree_accepted : (t : House) (l : List Record) (by giver taker : List ℕ) (rate limit : ℕ)
+    → AgreeHolds t by giver taker rate limit → is_none (terms_of t l giver taker) ≡ true
     → agree_row t l by giver taker rate limit ≡ None
 agree_accepted t l by giver taker rate limit h none =
     of_none (agree_lines t l by giver taker rate limit) (
       none_unless _ _ h.house,
-      (none_unless _ _ h.giver_known, (none_unless _ _ h.taker_known, (none_unless _ _ h.apart, (none_unless _ _ h.in_range, (none_unless _ _ none, tt))))),
+      (
+        none_unless _ _ h.giver_known,
+        (
+          none_unless _ _ h.taker_known,
+          (none_unless _ _ h.apart, (none_unless _ _ h.in_range, (none_unless _ _ none, tt))),
+        ),
+      ),
     )
 
 -- a raise: the giver is known, and the limit can be raised by so much
-pub raise_passes : (t : House) (l : List Record) (by giver : List ℕ) (lots : ℕ) → raise_row t l by giver lots ≡ None → (knows_firm t giver ≡ true) × (raised_row lots (limit_of t l giver by) ≡ None)
+pub raise_passes : (t : House) (l : List Record) (by giver : List ℕ) (lots : ℕ) → raise_row t l by giver lots ≡ None
+    → (knows_firm t giver ≡ true) × (raised_row lots (limit_of t l giver by) ≡ None)
 raise_passes t l by giver lots h =
     let p = none_of (unless (knows_firm t giver) UnknownFirm ∷ raised_row lots (limit_of t l giver by) ∷ []) h in
     (unless_none _ _ p.0, p.1.0)
 
-pub raise_accepted : (t : House) (l : List Record) (by giver : List ℕ) (lots : ℕ) → knows_firm t giver ≡ true → raised_row lots (limit_of t l giver by) ≡ None → raise_row t l by giver lots ≡ None
-raise_accepted t l by giver lots known within = of_none (unless (knows_firm t giver) UnknownFirm ∷ raised_row lots (limit_of t l giver by) ∷ []) (none_unless _ _ known, (within, tt))
+pub raise_accepted : (t : House) (l : List Record) (by giver : List ℕ) (lots : ℕ) → knows_firm t giver ≡ true
+    → raised_row lots (limit_of t l giver by) ≡ None → raise_row t l by giver lots ≡ None
+raise_accepted t l by giver lots known within =
+    of_none (unless (knows_firm t giver) UnknownFirm ∷ raised_row lots (limit_of t l giver by) ∷ [])
+    (none_unless _ _ known, (within, tt))
 
 -- a change that is not refused is called for by a firm of the house table, and its row refuses nothing
-pub refusal_parts : (t : House) (l : List Record) (by : List ℕ) (c : Command) → refusal_of t l by c ≡ None → (knows_firm t by ≡ true) × (row t l by c ≡ None)
+pub refusal_parts : (t : House) (l : List Record) (by : List ℕ) (c : Command) → refusal_of t l by c ≡ None
+    → (knows_firm t by ≡ true) × (row t l by c ≡ None)
 refusal_parts t l by c h =
     let p = none_of (unless (knows_firm t by) UnknownFirm ∷ row t l by c ∷ []) h in
     (unless_none _ _ p.0, p.1.0)
 
-pub refusal_none : (t : House) (l : List Record) (by : List ℕ) (c : Command) → knows_firm t by ≡ true → row t l by c ≡ None → refusal_of t l by c ≡ None
+pub refusal_none : (t : House) (l : List Record) (by : List ℕ) (c : Command) → knows_firm t by ≡ true
+    → row t l by c ≡ None → refusal_of t l by c ≡ None
 refusal_none t l by c known h =
     of_none (unless (knows_firm t by) UnknownFirm ∷ row t l by c ∷ []) (none_unless _ _ known, (h, tt))
 
@@ -234,7 +275,8 @@ pub record SplitsNode (l : List Record) (n : EntryPart) : Type 0 where
   pub whole : split_of l n ≡ None
   pub free : not (is_offered l node) ≡ true
 
-pub splits_well : (t : House) (l : List Record) (by : List ℕ) (c : Command) (n : EntryPart) → row t l by c ≡ None → splits n c ≡ true → SplitsNode l n
+pub splits_well : (t : House) (l : List Record) (by : List ℕ) (c : Command) (n : EntryPart) → row t l by c ≡ None
+    → splits n c ≡ true → SplitsNode l n
 splits_well t l by (Split m ps) n h is =
     let there = at_node_none (split_row t l by ps) (node_of l m) h in
     let passes = split_passes t l by ps there.0 there.1.1 in
@@ -263,7 +305,8 @@ pub record DecidesNode (l : List Record) (n : EntryPart) : Type 0 where
   pub given : is_given node.kind ≡ true
   pub undecided : decision_of l n ≡ None
 
-decides_from : (l : List Record) (m n : EntryPart) (x : Node) → m ≡ n → node_of l m ≡ Some x → is_given x.kind ≡ true → decision_of l x.name ≡ None → DecidesNode l n
+decides_from : (l : List Record) (m n : EntryPart) (x : Node) → m ≡ n → node_of l m ≡ Some x → is_given x.kind ≡ true
+    → decision_of l x.name ≡ None → DecidesNode l n
 decides_from l m n x one found given none = record {
   node = x;
   there = subst (λ (z : EntryPart). node_of l z ≡ Some x) one found;
@@ -271,7 +314,8 @@ decides_from l m n x one found given none = record {
   undecided = subst (λ (z : EntryPart). decision_of l z ≡ None) (node_called l m x found ∙ one) none;
 }
 
-pub decides_well : (t : House) (l : List Record) (by : List ℕ) (c : Command) (n : EntryPart) → row t l by c ≡ None → decides n c ≡ true → DecidesNode l n
+pub decides_well : (t : House) (l : List Record) (by : List ℕ) (c : Command) (n : EntryPart) → row t l by c ≡ None
+    → decides n c ≡ true → DecidesNode l n
 decides_well t l by (Claim m account) n h is =
     let there = at_node_none (claim_row t l by account) (node_of l m) h in
     let passes = claim_passes t l by account there.0 there.1.1 in

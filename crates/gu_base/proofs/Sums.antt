@@ -26,7 +26,8 @@ sum_plus f g (x ∷ xs) =
     omega (arith, a, b, c, d)
 
 -- an element that may be kept adds what it counts, if it is
-pub sum_kept : {X : Type 0} (w : X → ℕ) (b : Bool) (x : X) (rest : List X) → sum_by w (cond b (x ∷ rest) rest) ≡ cond b (w x) 0 + sum_by w rest
+pub sum_kept : {X : Type 0} (w : X → ℕ) (b : Bool) (x : X) (rest : List X)
+    → sum_by w (cond b (x ∷ rest) rest) ≡ cond b (w x) 0 + sum_by w rest
 sum_kept w true x rest = sum_by-cons w x rest
 sum_kept w false x rest = omega arith
 

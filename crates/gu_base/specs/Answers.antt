@@ -1,5 +1,7 @@
 -- The answer to a call, and the history after it.
-use Rattle.std.specs.Prelude.{ℕ, ◌+◌, Bool, true, false, not, ◌&&◌, nat_lt, if◌then◌else◌, List, [], ◌∷◌, ◌++◌, length, find, Option, Some, None, option_map, bytes_eq, ◌==◌}
+use Rattle.std.specs.Prelude.{ℕ, ◌+◌, Bool, true, false, not, ◌&&◌, nat_lt, if◌then◌else◌, List, []}
+use Rattle.std.specs.Prelude.{◌∷◌, ◌++◌, length, find, Option, Some, None, option_map, bytes_eq}
+use Rattle.std.specs.Prelude.{◌==◌}
 use Rattle.std.specs.List.{list_any}
 use Rattle.gu_base.specs.Limits.{most_entries}
 use Rattle.gu_base.specs.Same.{same_command}
@@ -13,11 +15,19 @@ use Rattle.gu_base.specs.declared.entry.Entry.{Entry}
 use Rattle.gu_base.specs.declared.entry.Answer.{Answer}
 use Rattle.gu_base.specs.declared.entry.Answer.TheVariants.{Accepted, Repeated, Refused}
 use Rattle.gu_base.specs.declared.command.Command.{Command}
-use Rattle.gu_base.specs.declared.command.Command.TheVariants.{Trade, Split, Claim, Refuse, Cancel, Agree, Raise, Initiate, Decline, Reverse}
+use Rattle.gu_base.specs.declared.command.Command.TheVariants.{Trade, Split, Claim, Refuse, Cancel}
+use Rattle.gu_base.specs.declared.command.Command.TheVariants.{Agree, Raise, Initiate, Decline}
+use Rattle.gu_base.specs.declared.command.Command.TheVariants.{Reverse}
 use Rattle.gu_base.specs.declared.state.State.{State}
-use Rattle.gu_base.specs.declared.state.State.TheVariants.{Held, Offered, Claimed, Refused as WasRefused, Cancelled, ReversalPending, Reversed}
+use Rattle.gu_base.specs.declared.state.State.TheVariants.{Held, Offered, Claimed}
+use Rattle.gu_base.specs.declared.state.State.TheVariants.{Refused as WasRefused, Cancelled}
+use Rattle.gu_base.specs.declared.state.State.TheVariants.{ReversalPending, Reversed}
 use Rattle.gu_base.specs.declared.refusal.Refusal.{Refusal}
-use Rattle.gu_base.specs.declared.refusal.Refusal.TheVariants.{UnknownFirm, UnknownEntry, NotAChange, AlreadyReversed, NotAParty, NeedsConsent, StandsOn, DuplicateId, BookFull, AlreadyConsented, NothingPending}
+use Rattle.gu_base.specs.declared.refusal.Refusal.TheVariants.{UnknownFirm, UnknownEntry}
+use Rattle.gu_base.specs.declared.refusal.Refusal.TheVariants.{NotAChange, AlreadyReversed}
+use Rattle.gu_base.specs.declared.refusal.Refusal.TheVariants.{NotAParty, NeedsConsent, StandsOn}
+use Rattle.gu_base.specs.declared.refusal.Refusal.TheVariants.{DuplicateId, BookFull}
+use Rattle.gu_base.specs.declared.refusal.Refusal.TheVariants.{AlreadyConsented, NothingPending}
 use Rattle.gu_base.specs.declared.command.Part.{Part}
 
 -- who asks, under which id, for what
@@ -35,7 +45,8 @@ abbrev pub reversal_of : List Entry → ℕ → Option Record
 reversal_of h n = find (λ r. is_reverse_of n r.command) (records h)
 
 -- the refusals that Initiate, Decline and Reverse share, and then those of their own
-abbrev pub on_change : House → List Entry → List ℕ → (Record → Option Refusal) → Option Record → Option Refusal
+abbrev pub on_change : House → List Entry → List ℕ → (Record → Option Refusal) → Option Record
+    → Option Refusal
 on_change t h by rest None = Some UnknownEntry
 on_change t h by rest (Some r) = first (
     unless (is_change r.command) NotAChange
@@ -56,14 +67,21 @@ decline_rest h r = unless (not (is_empty (consents_of h r.number))) NothingPendi
 -- the first party that has not consented, and then the first change that stands on the entry
 abbrev pub reverse_rest : House → List Entry → Record → Option Refusal
 reverse_rest t h r = first (
-    option_map (λ f. NeedsConsent f) (missing (parties_of t (live h) r.firm r.command) (consents_of h r.number))
+    option_map (λ f. NeedsConsent f)
+    (missing (parties_of t (live h) r.firm r.command) (consents_of h r.number))
     ∷ option_map (λ n. StandsOn n) (standing_on t (live h) r.number) ∷ [])
 
 -- why the command itself is refused: a change over the live changes, the others over the history
 abbrev pub command_refusal : House → List Entry → List ℕ → Command → Option Refusal
-command_refusal t h by (Initiate n) = first (unless (knows_firm t by) UnknownFirm ∷ on_change t h by (initiate_rest h by) (entry_of h n) ∷ [])
-command_refusal t h by (Decline n) = first (unless (knows_firm t by) UnknownFirm ∷ on_change t h by (decline_rest h) (entry_of h n) ∷ [])
-command_refusal t h by (Reverse n) = first (unless (knows_firm t by) UnknownFirm ∷ on_change t h by (reverse_rest t h) (entry_of h n) ∷ [])
+command_refusal t h by (Initiate n) =
+    first (unless (knows_firm t by) UnknownFirm
+    ∷ on_change t h by (initiate_rest h by) (entry_of h n) ∷ [])
+command_refusal t h by (Decline n) =
+    first
+    (unless (knows_firm t by) UnknownFirm ∷ on_change t h by (decline_rest h) (entry_of h n) ∷ [])
+command_refusal t h by (Reverse n) =
+    first
+    (unless (knows_firm t by) UnknownFirm ∷ on_change t h by (reverse_rest t h) (entry_of h n) ∷ [])
 command_refusal t h by change = refusal_of t (live h) by change
 
 -- whether some part of a split by this firm goes to another
@@ -103,12 +121,15 @@ answer_by None None other = other
 
 -- the book's answer to a call at a history, in the order of the rules
 abbrev pub answer_to : House → List Entry → Call → Answer
-answer_to t h c = answer_by (find (is_same_call c) (records h)) (find (is_same_id c) (records h))
+answer_to t h c =
+    answer_by (find (is_same_call c) (records h)) (find (is_same_id c) (records h))
     (accepted_or (length h + 1) (status_of c.firm c.command)
-    (first (unless (nat_lt (length h) most_entries) BookFull ∷ command_refusal t h c.firm c.command ∷ [])))
+    (first
+    (unless (nat_lt (length h) most_entries) BookFull ∷ command_refusal t h c.firm c.command ∷ [])))
 
 abbrev pub after_by : List Entry → Call → Answer → List Entry
-after_by h c (Accepted number status) = h ++ record { firm = c.firm; id = c.id; command = c.command; status = status } ∷ []
+after_by h c (Accepted number status) =
+    h ++ record { firm = c.firm; id = c.id; command = c.command; status = status } ∷ []
 after_by h c _ = h
 
 -- the history with the call's record added, where it is accepted

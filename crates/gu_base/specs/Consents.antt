@@ -1,5 +1,6 @@
 -- Who has to consent to a reversal, and who has.
-use Rattle.std.specs.Prelude.{ℕ, Bool, true, false, not, ◌==◌, if◌then◌else◌, List, [], ◌∷◌, map, filter, find, Option, Some, None, bytes_eq}
+use Rattle.std.specs.Prelude.{ℕ, Bool, true, false, not, ◌==◌, if◌then◌else◌, List, [], ◌∷◌, map}
+use Rattle.std.specs.Prelude.{filter, find, Option, Some, None, bytes_eq}
 use Rattle.std.specs.List.{list_any, after_last}
 use Rattle.gu_base.specs.House.{House}
 use Rattle.gu_base.specs.History.{is_reversed}
@@ -10,7 +11,8 @@ use Rattle.gu_base.specs.declared.node.Kind.{Kind}
 use Rattle.gu_base.specs.declared.node.Kind.TheVariants.{Given}
 use Rattle.gu_base.specs.declared.node.Node.{Node}
 use Rattle.gu_base.specs.declared.command.Command.{Command}
-use Rattle.gu_base.specs.declared.command.Command.TheVariants.{Trade, Split, Claim, Refuse, Cancel, Agree, Raise, Initiate, Decline}
+use Rattle.gu_base.specs.declared.command.Command.TheVariants.{Trade, Split, Claim, Refuse, Cancel}
+use Rattle.gu_base.specs.declared.command.Command.TheVariants.{Agree, Raise, Initiate, Decline}
 
 abbrev pub taker_and_giver : Kind → List (List ℕ)
 taker_and_giver (Given _ giver taker) = taker ∷ giver ∷ []
@@ -50,9 +52,12 @@ abbrev pub is_decline_of : ℕ → Command → Bool
 is_decline_of n (Decline entry) = entry == n
 is_decline_of n _ = false
 
--- the firms with an Initiate of the entry after its last Decline, or with any Initiate of it where it was never declined
+-- the firms with an Initiate of the entry after its last Decline, or with any Initiate of it where
+-- it was never declined
 abbrev pub consents_of : List Entry → ℕ → List (List ℕ)
-consents_of h n = map (λ e. e.firm) (filter (λ e. is_initiate_of n e.command) (after_last (λ e. is_decline_of n e.command) h))
+consents_of h n =
+    map (λ e. e.firm)
+    (filter (λ e. is_initiate_of n e.command) (after_last (λ e. is_decline_of n e.command) h))
 
 -- the consents that are left: none once the change is reversed
 abbrev pub consents_left : List Entry → ℕ → List (List ℕ)

@@ -1,5 +1,6 @@
 -- What the claims of a list of changes cost.
-use Rattle.std.specs.Prelude.{ℕ, ◌*◌, Bool, List, filter, filter_map, sum_by, Option, Some, None, option_map, option_and_then, bytes_eq, if◌then◌else◌}
+use Rattle.std.specs.Prelude.{ℕ, ◌*◌, Bool, List, filter, filter_map, sum_by, Option, Some, None}
+use Rattle.std.specs.Prelude.{option_map, option_and_then, bytes_eq, if◌then◌else◌}
 use Rattle.gu_base.specs.House.{House}
 use Rattle.gu_base.specs.Nodes.{node_of}
 use Rattle.gu_base.specs.Terms.{terms_of}
@@ -13,7 +14,9 @@ use Rattle.gu_base.specs.declared.command.Command.TheVariants.{Claim}
 
 -- what a claim of a given part of these lots costs, by the terms of its giver and taker
 abbrev pub charge_of_kind : House → List Record → ℕ → Kind → Option Charge
-charge_of_kind t l lots (Given _ giver taker) = option_map (λ a. record { giver = giver; taker = taker; lots = lots; rate = a.rate }) (terms_of t l giver taker)
+charge_of_kind t l lots (Given _ giver taker) =
+    option_map (λ a. record { giver = giver; taker = taker; lots = lots; rate = a.rate })
+    (terms_of t l giver taker)
 charge_of_kind t l lots _ = None
 
 abbrev pub charge_of_node : House → List Record → Node → Option Charge
@@ -39,4 +42,5 @@ paid_by t l firm = sum_by (λ c. c.lots * c.rate) (filter (λ c. bytes_eq c.take
 
 -- what a firm receives as the giver, in hundredths
 abbrev pub received_by : House → List Record → List ℕ → ℕ
-received_by t l firm = sum_by (λ c. c.lots * c.rate) (filter (λ c. bytes_eq c.giver firm) (charges t l))
+received_by t l firm =
+    sum_by (λ c. c.lots * c.rate) (filter (λ c. bytes_eq c.giver firm) (charges t l))

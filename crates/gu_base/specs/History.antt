@@ -1,14 +1,18 @@
 -- The history, and the changes in it that are live.
-use Rattle.std.specs.Prelude.{ℕ, ◌+◌, ◌≤◌, Bool, true, false, not, ◌&&◌, ◌==◌, List, [], ◌∷◌, filter}
+use Rattle.std.specs.Prelude.{ℕ, ◌+◌, ◌≤◌, Bool, true, false, not, ◌&&◌, ◌==◌, List, [], ◌∷◌}
+use Rattle.std.specs.Prelude.{filter}
 use Rattle.std.specs.List.{list_any}
 use Rattle.gu_base.specs.declared.command.Command.{Command}
-use Rattle.gu_base.specs.declared.command.Command.TheVariants.{Trade, Split, Claim, Refuse, Cancel, Agree, Raise, Initiate, Decline, Reverse}
+use Rattle.gu_base.specs.declared.command.Command.TheVariants.{Trade, Split, Claim, Refuse, Cancel}
+use Rattle.gu_base.specs.declared.command.Command.TheVariants.{Agree, Raise, Initiate, Decline}
+use Rattle.gu_base.specs.declared.command.Command.TheVariants.{Reverse}
 use Rattle.gu_base.specs.declared.entry.Entry.{Entry}
 use Rattle.gu_base.specs.declared.entry.Record.{Record}
 
 -- an entry with its number
 abbrev pub numbered_as : ℕ → Entry → Record
-numbered_as n e = record { number = n; firm = e.firm; id = e.id; command = e.command; status = e.status }
+numbered_as n e =
+    record { number = n; firm = e.firm; id = e.id; command = e.command; status = e.status }
 
 -- the entries with their numbers, from this number on
 abbrev pub numbered_from : ℕ → List Entry → List Record

@@ -1,4 +1,5 @@
--- How large things may be. The code has constants of its own, and what is proved of it fails where one of them differs from these.
+-- How large things may be. The code has constants of its own, and what is proved of it fails where
+-- one of them differs from these.
 use Rattle.std.specs.Prelude.{ℕ}
 
 -- the entries of a history

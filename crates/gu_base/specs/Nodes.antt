@@ -1,5 +1,7 @@
 -- The nodes that a list of changes makes, and which Split or decision names one.
-use Rattle.std.specs.Prelude.{ℕ, ◌+◌, Bool, true, false, ◌&&◌, ◌==◌, if◌then◌else◌, List, [], ◌∷◌, find, flat_map, Option, Some, None, is_none, option_and_then, bytes_eq}
+use Rattle.std.specs.Prelude.{ℕ, ◌+◌, Bool, true, false, ◌&&◌, ◌==◌, if◌then◌else◌, List, [], ◌∷◌}
+use Rattle.std.specs.Prelude.{find, flat_map, Option, Some, None, is_none, option_and_then}
+use Rattle.std.specs.Prelude.{bytes_eq}
 use Rattle.gu_base.specs.Numbers.{EntryPart}
 use Rattle.gu_base.specs.declared.entry.Record.{Record}
 use Rattle.gu_base.specs.declared.node.Kind.{Kind}
@@ -13,7 +15,8 @@ use Rattle.gu_base.specs.declared.command.Command.TheVariants.{Trade, Split, Cla
 abbrev pub same_name : EntryPart → EntryPart → Bool
 same_name a b = (a.entry == b.entry) && (a.part == b.part)
 
--- a part of this parent: own where it names the firm that splits, else given by that firm to the one that it names
+-- a part of this parent: own where it names the firm that splits, else given by that firm to the
+-- one that it names
 abbrev pub kind_of_part : EntryPart → List ℕ → Part → Kind
 kind_of_part parent maker p =
     if bytes_eq p.firm maker then Own parent maker p.account
@@ -23,13 +26,22 @@ kind_of_part parent maker p =
 abbrev pub nodes_of_parts : ℕ → ℕ → EntryPart → List ℕ → List Part → List Node
 nodes_of_parts entry i parent maker [] = []
 nodes_of_parts entry i parent maker (p ∷ ps) =
-    record { name = record { entry = entry; part = i }; lots = p.lots; kind = kind_of_part parent maker p }
+    record {
+      name = record { entry = entry; part = i };
+      lots = p.lots;
+      kind = kind_of_part parent maker p;
+    }
     ∷ nodes_of_parts entry (i + 1) parent maker ps
 
 -- the nodes that a command of this number and firm makes: a trade its root, a split its parts
 abbrev pub nodes_of : ℕ → List ℕ → Command → List Node
 nodes_of k by (Trade firm account instrument side lots) =
-    record { name = record { entry = k; part = 0 }; lots = lots; kind = Root (record { firm = firm; account = account }) } ∷ []
+    record {
+      name = record { entry = k; part = 0 };
+      lots = lots;
+      kind = Root (record { firm = firm; account = account });
+    }
+    ∷ []
 nodes_of k by (Split parent parts) = nodes_of_parts k 1 parent by parts
 nodes_of k by _ = []
 

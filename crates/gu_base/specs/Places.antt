@@ -1,5 +1,6 @@
 -- Where a node stands, who owns it, how deep it lies, and in which trade.
-use Rattle.std.specs.Prelude.{ℕ, zero, suc, ◌-◌, Bool, ◌&&◌, List, [], ◌∷◌, length, Option, Some, None, option_map, option_and_then, bytes_eq}
+use Rattle.std.specs.Prelude.{ℕ, zero, suc, ◌-◌, Bool, ◌&&◌, List, [], ◌∷◌, length, Option, Some}
+use Rattle.std.specs.Prelude.{None, option_map, option_and_then, bytes_eq}
 use Rattle.gu_base.specs.Numbers.{EntryPart}
 use Rattle.gu_base.specs.Nodes.{node_of, claim_of, parent}
 use Rattle.gu_base.specs.declared.entry.Record.{Record}
@@ -15,17 +16,22 @@ same_place a b = bytes_eq a.firm b.firm && bytes_eq a.account b.account
 abbrev pub line_within : ℕ → List Record → Option Node → List Node
 line_within steps l None = []
 line_within zero l (Some x) = []
-line_within (suc steps) l (Some x) = x ∷ line_within steps l (option_and_then (node_of l) (parent x.kind))
+line_within (suc steps) l (Some x) =
+    x ∷ line_within steps l (option_and_then (node_of l) (parent x.kind))
 
--- the line from a node to its root: each step leads to a node of an earlier change, so the list's length is enough steps
+-- the line from a node to its root: each step leads to a node of an earlier change, so the list's
+-- length is enough steps
 abbrev pub line_of : List Record → EntryPart → List Node
 line_of l n = line_within (length l) l (node_of l n)
 
--- a root and an own part stand in their account, a given part where its claim says, or else where its parent stands
+-- a root and an own part stand in their account, a given part where its claim says, or else where
+-- its parent stands
 abbrev pub place_of_kind : Kind → Option (List ℕ) → Option Place → Option Place
 place_of_kind (Root place) claimed above = Some place
-place_of_kind (Own _ firm account) claimed above = option_map (λ a. record { firm = firm; account = a }) account
-place_of_kind (Given _ _ taker) (Some account) above = Some (record { firm = taker; account = account })
+place_of_kind (Own _ firm account) claimed above =
+    option_map (λ a. record { firm = firm; account = a }) account
+place_of_kind (Given _ _ taker) (Some account) above =
+    Some (record { firm = taker; account = account })
 place_of_kind (Given _ _ taker) None above = above
 
 abbrev pub place_along : List Record → List Node → Option Place

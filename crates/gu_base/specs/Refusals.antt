@@ -1,5 +1,7 @@
 -- Why a change is refused over a list of changes: each command's row of the table, in order.
-use Rattle.std.specs.Prelude.{ℕ, ◌+◌, Bool, false, not, ◌&&◌, ◌||◌, ◌==◌, nat_le, nat_lt, if◌then◌else◌, List, [], ◌∷◌, map, length, sum_by, Option, Some, None, is_none, option_map, unwrap_or, bytes_eq}
+use Rattle.std.specs.Prelude.{ℕ, ◌+◌, Bool, false, not, ◌&&◌, ◌||◌, ◌==◌, nat_le, nat_lt}
+use Rattle.std.specs.Prelude.{if◌then◌else◌, List, [], ◌∷◌, map, length, sum_by, Option, Some, None}
+use Rattle.std.specs.Prelude.{is_none, option_map, unwrap_or, bytes_eq}
 use Rattle.gu_base.specs.Limits.{most_parts, deepest, highest_limit}
 use Rattle.gu_base.specs.Numbers.{EntryPart, is_lots, are_terms}
 use Rattle.gu_base.specs.House.{House, knows_firm, knows_account, knows_instrument}
@@ -12,9 +14,18 @@ use Rattle.gu_base.specs.declared.node.Kind.TheVariants.{Given}
 use Rattle.gu_base.specs.declared.node.Node.{Node}
 use Rattle.gu_base.specs.declared.command.Part.{Part}
 use Rattle.gu_base.specs.declared.command.Command.{Command}
-use Rattle.gu_base.specs.declared.command.Command.TheVariants.{Trade, Split, Claim, Refuse, Cancel, Agree, Raise, Initiate, Decline, Reverse}
+use Rattle.gu_base.specs.declared.command.Command.TheVariants.{Trade, Split, Claim, Refuse, Cancel}
+use Rattle.gu_base.specs.declared.command.Command.TheVariants.{Agree, Raise, Initiate, Decline}
+use Rattle.gu_base.specs.declared.command.Command.TheVariants.{Reverse}
 use Rattle.gu_base.specs.declared.refusal.Refusal.{Refusal}
-use Rattle.gu_base.specs.declared.refusal.Refusal.TheVariants.{UnknownFirm, UnknownAccount, UnknownInstrument, UnknownNode, NotYours, AlreadySplit, StillOffered, NotOffered, BadLots, SumDiffers, BadPartCount, NoAgreement, LimitExceeded, TooDeep, HouseOnly, OwnAgreement, BadTerms, AgreementExists}
+use Rattle.gu_base.specs.declared.refusal.Refusal.TheVariants.{UnknownFirm, UnknownAccount}
+use Rattle.gu_base.specs.declared.refusal.Refusal.TheVariants.{UnknownInstrument, UnknownNode}
+use Rattle.gu_base.specs.declared.refusal.Refusal.TheVariants.{NotYours, AlreadySplit, StillOffered}
+use Rattle.gu_base.specs.declared.refusal.Refusal.TheVariants.{NotOffered, BadLots, SumDiffers}
+use Rattle.gu_base.specs.declared.refusal.Refusal.TheVariants.{BadPartCount, NoAgreement}
+use Rattle.gu_base.specs.declared.refusal.Refusal.TheVariants.{LimitExceeded, TooDeep, HouseOnly}
+use Rattle.gu_base.specs.declared.refusal.Refusal.TheVariants.{OwnAgreement, BadTerms}
+use Rattle.gu_base.specs.declared.refusal.Refusal.TheVariants.{AgreementExists}
 
 -- the refusal, unless the test holds
 abbrev pub unless : Bool → Refusal → Option Refusal
@@ -45,7 +56,8 @@ is_taker firm _ = false
 
 -- an own part names an account of its firm; the account of a part for another firm is ignored
 abbrev pub knows_own_account : House → List ℕ → Part → Bool
-knows_own_account t by p = not (bytes_eq p.firm by) || unwrap_or (option_map (knows_account t by) p.account) false
+knows_own_account t by p =
+    not (bytes_eq p.firm by) || unwrap_or (option_map (knows_account t by) p.account) false
 
 abbrev pub refusal_of_part : House → List ℕ → Part → Option Refusal
 refusal_of_part t by p = first (
@@ -93,13 +105,16 @@ claim_row t l by account x = first (
     ∷ limit_row (used_by l x.kind + x.lots) (limit_by t l x.kind) ∷ [])
 
 abbrev pub refuse_row : List Record → List ℕ → Node → Option Refusal
-refuse_row l by x = first (unless (is_offered l x) NotOffered ∷ unless (is_taker by x.kind) NotYours ∷ [])
+refuse_row l by x =
+    first (unless (is_offered l x) NotOffered ∷ unless (is_taker by x.kind) NotYours ∷ [])
 
 abbrev pub cancel_row : List Record → List ℕ → Node → Option Refusal
-cancel_row l by x = first (unless (is_offered l x) NotOffered ∷ unless (is_giver by x.kind) NotYours ∷ [])
+cancel_row l by x =
+    first (unless (is_offered l x) NotOffered ∷ unless (is_giver by x.kind) NotYours ∷ [])
 
 -- terms are made once
-abbrev pub agree_row : House → List Record → List ℕ → (giver taker : List ℕ) → ℕ → ℕ → Option Refusal
+abbrev pub agree_row : House → List Record → List ℕ → (giver taker : List ℕ) → ℕ → ℕ
+    → Option Refusal
 agree_row t l by giver taker rate limit = first (
     unless (bytes_eq by t.house) HouseOnly
     ∷ unless (knows_firm t giver) UnknownFirm
@@ -111,10 +126,12 @@ agree_row t l by giver taker rate limit = first (
 -- the refusal of a raise of a limit
 abbrev pub raised_row : ℕ → Option ℕ → Option Refusal
 raised_row lots None = Some NoAgreement
-raised_row lots (Some limit) = unless (nat_le 1 lots && nat_le (limit + lots) highest_limit) BadTerms
+raised_row lots (Some limit) =
+    unless (nat_le 1 lots && nat_le (limit + lots) highest_limit) BadTerms
 
 abbrev pub raise_row : House → List Record → List ℕ → List ℕ → ℕ → Option Refusal
-raise_row t l by giver lots = first (unless (knows_firm t giver) UnknownFirm ∷ raised_row lots (limit_of t l giver by) ∷ [])
+raise_row t l by giver lots =
+    first (unless (knows_firm t giver) UnknownFirm ∷ raised_row lots (limit_of t l giver by) ∷ [])
 
 -- the row of each change; Initiate, Decline and Reverse have theirs over the history
 abbrev pub row : House → List Record → List ℕ → Command → Option Refusal
@@ -129,6 +146,7 @@ row t l by (Initiate _) = None
 row t l by (Decline _) = None
 row t l by (Reverse _) = None
 
--- why a change is refused, if it is: the calling firm has to be in the house table, then the command's row decides
+-- why a change is refused, if it is: the calling firm has to be in the house table, then the
+-- command's row decides
 abbrev pub refusal_of : House → List Record → List ℕ → Command → Option Refusal
 refusal_of t l by command = first (unless (knows_firm t by) UnknownFirm ∷ row t l by command ∷ [])

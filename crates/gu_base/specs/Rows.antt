@@ -1,5 +1,6 @@
 -- The rows of a trade's tree.
-use Rattle.std.specs.Prelude.{ℕ, zero, suc, ◌+◌, List, [], ◌∷◌, length, flat_map, Option, Some, None, option_map}
+use Rattle.std.specs.Prelude.{ℕ, zero, suc, ◌+◌, List, [], ◌∷◌, length, flat_map, Option, Some}
+use Rattle.std.specs.Prelude.{None, option_map}
 use Rattle.gu_base.specs.Numbers.{EntryPart}
 use Rattle.gu_base.specs.Nodes.{node_of, nodes_of, split_of, decision_of}
 use Rattle.gu_base.specs.Places.{place_of}
@@ -11,7 +12,8 @@ use Rattle.gu_base.specs.declared.node.Node.{Node}
 use Rattle.gu_base.specs.declared.command.Command.{Command}
 use Rattle.gu_base.specs.declared.command.Command.TheVariants.{Claim, Refuse, Cancel}
 use Rattle.gu_base.specs.declared.state.State.{State}
-use Rattle.gu_base.specs.declared.state.State.TheVariants.{Held, Offered, Claimed, Refused, Cancelled}
+use Rattle.gu_base.specs.declared.state.State.TheVariants.{Held, Offered, Claimed, Refused}
+use Rattle.gu_base.specs.declared.state.State.TheVariants.{Cancelled}
 
 -- a node as a tree shows it
 pub record Row : Type 0 where
@@ -63,7 +65,8 @@ parts_of l n = made_by (split_of l n)
 -- a node's row, and then those of its parts, each one deeper, through this many levels
 abbrev pub rows_within : ℕ → List Record → ℕ → Node → List Row
 rows_within zero l depth x = row_of l depth x ∷ []
-rows_within (suc levels) l depth x = row_of l depth x ∷ flat_map (rows_within levels l (depth + 1)) (parts_of l x.name)
+rows_within (suc levels) l depth x =
+    row_of l depth x ∷ flat_map (rows_within levels l (depth + 1)) (parts_of l x.name)
 
 abbrev pub rows_from : List Record → Option Node → List Row
 rows_from l None = []

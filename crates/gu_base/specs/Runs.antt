@@ -21,7 +21,11 @@ answers t h (c ∷ cs) = answer_to t h c ∷ answers t (after t h c) cs
 
 -- the i-th call of the clearing house, which makes an agreement
 abbrev pub opening_call : House → ℕ → Pair × Agreement → Call
-opening_call t i e = record { firm = t.house; id = codes "OPEN-" ++ decimal i; command = Agree e.0.giver e.0.taker e.1.rate e.1.limit }
+opening_call t i e = record {
+  firm = t.house;
+  id = codes "OPEN-" ++ decimal i;
+  command = Agree e.0.giver e.0.taker e.1.rate e.1.limit;
+}
 
 -- the calls that make these agreements one after the other, from the i-th on
 abbrev pub opening_from : House → ℕ → List (Pair × Agreement) → List Call
@@ -40,8 +44,10 @@ opening_history t = after_all t [] (opening_calls t)
 abbrev pub call_of : Entry → Call
 call_of e = record { firm = e.firm; id = e.id; command = e.command }
 
--- a history that begins with the opening one, each entry behind which is what the rules accept after those before it
+-- a history that begins with the opening one, each entry behind which is what the rules accept
+-- after those before it
 pub record IsRunFrom (t : House) (opening h : List Entry) : Type 0 where
   pub begins : (rest : List Entry) × (h ≡ opening ++ rest)
-  pub accepted : (before after : List Entry) (e : Entry) → h ≡ before ++ e ∷ after → length opening ≤ length before
+  pub accepted : (before after : List Entry) (e : Entry) → h ≡ before ++ e ∷ after
+      → length opening ≤ length before
       → answer_to t before (call_of e) ≡ Accepted (length before + 1) e.status

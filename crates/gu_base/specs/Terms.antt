@@ -1,5 +1,6 @@
 -- The terms of a giver and a taker in a list of changes, and what is dealt under them.
-use Rattle.std.specs.Prelude.{ℕ, ◌+◌, Bool, ◌&&◌, List, [], ◌∷◌, filter_map, sum_by, Option, Some, None, is_some, option_map, option_and_then, bytes_eq, if◌then◌else◌}
+use Rattle.std.specs.Prelude.{ℕ, ◌+◌, Bool, ◌&&◌, List, [], ◌∷◌, filter_map, sum_by, Option, Some}
+use Rattle.std.specs.Prelude.{None, is_some, option_map, option_and_then, bytes_eq, if◌then◌else◌}
 use Rattle.std.specs.Option.{option_or}
 use Rattle.gu_base.specs.House.{House, agreement}
 use Rattle.gu_base.specs.Nodes.{node_of}
@@ -16,7 +17,8 @@ use Rattle.gu_base.specs.declared.command.Command.TheVariants.{Claim, Agree, Rai
 
 -- a claim of a given part of these lots uses them, if it is given by this giver to this taker
 abbrev pub use_of_kind : List ℕ → List ℕ → ℕ → Kind → Option Deed
-use_of_kind giver taker lots (Given _ g k) = if bytes_eq g giver && bytes_eq k taker then Some (Uses lots) else None
+use_of_kind giver taker lots (Given _ g k) =
+    if bytes_eq g giver && bytes_eq k taker then Some (Uses lots) else None
 use_of_kind giver taker lots _ = None
 
 abbrev pub use_of_node : List ℕ → List ℕ → Node → Option Deed
@@ -24,16 +26,23 @@ use_of_node giver taker x = use_of_kind giver taker x.lots x.kind
 
 -- what a command of a firm does to the terms of a giver and a taker, if it does anything
 abbrev pub deed_of : List Record → List ℕ → List ℕ → List ℕ → Command → Option Deed
-deed_of l giver taker by (Agree g k rate limit) = if bytes_eq g giver && bytes_eq k taker then Some (Makes (record { rate = rate; limit = limit })) else None
-deed_of l giver taker by (Raise g lots) = if bytes_eq g giver && bytes_eq by taker then Some (Raises lots) else None
+deed_of l giver taker by (Agree g k rate limit) =
+    if bytes_eq g giver && bytes_eq k taker
+    then Some (Makes (record { rate = rate; limit = limit }))
+    else None
+deed_of l giver taker by (Raise g lots) =
+    if bytes_eq g giver && bytes_eq by taker then Some (Raises lots) else None
 deed_of l giver taker by (Claim n _) = option_and_then (use_of_node giver taker) (node_of l n)
 deed_of l giver taker by _ = None
 
 -- the same with the number of the entry
 abbrev pub dealing_of : List Record → List ℕ → List ℕ → Record → Option Dealing
-dealing_of l giver taker r = option_map (λ d. record { number = r.number; deed = d }) (deed_of l giver taker r.firm r.command)
+dealing_of l giver taker r =
+    option_map (λ d. record { number = r.number; deed = d })
+    (deed_of l giver taker r.firm r.command)
 
--- what some changes do to the terms of a giver and a taker, in their order; nodes are looked up in the first list
+-- what some changes do to the terms of a giver and a taker, in their order; nodes are looked up in
+-- the first list
 abbrev pub dealings_in : List Record → List Record → List ℕ → List ℕ → List Dealing
 dealings_in l among giver taker = filter_map (dealing_of l giver taker) among
 

@@ -1,7 +1,9 @@
 //! Texts of bounded length that lie in the value itself.
-ghost use Rattle.std.specs.Prelude.{◌≡◌, ◌≤◌, ◌++◌, ◌∷◌, [], ◌-◌, List, ℕ, length, take, drop, replicate, Some, None, if◌then◌else◌, refl, nat_eq};
+ghost use Rattle.std.specs.Prelude.{◌≡◌, ◌≤◌, ◌++◌, ◌∷◌, [], ◌-◌, List, ℕ, length, take, drop};
+ghost use Rattle.std.specs.Prelude.{replicate, Some, None, if◌then◌else◌, refl, nat_eq};
 ghost use Rattle.std.specs.Ordering.{nat_cmp};
-ghost use Rattle.std.specs.Cmp.Lexicographic.{pointwise, slice_cmp, nat_list_eq_equiv, nat_list_cmp_total, texts_po, texts_ties};
+ghost use Rattle.std.specs.Cmp.Lexicographic.{pointwise, slice_cmp, nat_list_eq_equiv};
+ghost use Rattle.std.specs.Cmp.Lexicographic.{nat_list_cmp_total, texts_po, texts_ties};
 ghost use Rattle.std.specs.Cmp.{on_equiv, on_total, on_po, on_per, partial_equiv_from_equiv};
 ghost use Rattle.std.specs.Cmp.Rules.{hashing};
 ghost use Rattle.std.proofs.Common.{rules};
@@ -17,8 +19,8 @@ const LAST_PRINTED: u8 = 126;
 /// The bytes of a word.
 const WORD_LEN: usize = 8;
 
-/// At most `CAP` bytes in place, which are 255 at most: their count takes one byte more. The places behind them hold 0, so that equal
-/// texts are equal values.
+/// At most `CAP` bytes in place, which are 255 at most: their count takes one byte more. The places
+/// behind them hold 0, so that equal texts are equal values.
 #[derive(Clone, Copy, Debug)]
 pub(crate) struct Cells<const CAP: usize> {
     cells: [u8; CAP],
@@ -26,7 +28,8 @@ pub(crate) struct Cells<const CAP: usize> {
 }
 
 impl<const CAP: usize> Model for Cells<CAP> {
-    ghost use Rattle.std.specs.Prelude.{◌≡◌, ◌≤◌, ◌++◌, ◌-◌, List, ℕ, length, take, drop, replicate};
+    ghost use Rattle.std.specs.Prelude.{◌≡◌, ◌≤◌, ◌++◌, ◌-◌, List, ℕ, length, take, drop};
+    ghost use Rattle.std.specs.Prelude.{replicate};
     ghost use Rattle.std.proofs.Common.{arith, length-take-le};
     ghost use Rattle.gu_base.specs.Cells.{cells_back};
 
@@ -34,7 +37,8 @@ impl<const CAP: usize> Model for Cells<CAP> {
 
     ghost view = { λ s. take s.len s.cells };
 
-    ghost invariant = { λ s. (s.len ≤ CAP) × (length s.cells ≡ CAP) × (drop s.len s.cells ≡ replicate (CAP - s.len) 0) };
+    ghost invariant = { λ s.
+        (s.len ≤ CAP) × (length s.cells ≡ CAP) × (drop s.len s.cells ≡ replicate (CAP - s.len) 0) };
 
     ghost inverse = { λ s. record { cells = s ++ replicate (CAP - length s) 0; len = length s } };
 
@@ -45,8 +49,8 @@ impl<const CAP: usize> Model for Cells<CAP> {
 }
 
 impl<const CAP: usize> Cells<CAP> {
-    /// A copy of `text`, `None` where it has no byte or more than `CAP`, or one that isn't `lowest` to 0x7E. Each byte is looked at
-    /// once, and copied there.
+    /// A copy of `text`, `None` where it has no byte or more than `CAP`, or one that isn't `lowest`
+    /// to 0x7E. Each byte is looked at once, and copied there.
     #[inline(always)]
     pub(crate) fn of_text(text: &[u8], lowest: u8) -> Option<Self>
         requires { CAP ≤ most_cells }
@@ -104,7 +108,8 @@ fn by_words(left: &[u8], right: &[u8]) -> Ordering
         left_rest = left_next;
         right_rest = right_next;
     }
-    // The call below isn't taken in line; where no bytes are left, as of a room of whole words, it isn't made.
+    // The call below isn't taken in line; where no bytes are left, as of a room of whole words, it
+    // isn't made.
     if left_rest.is_empty() && right_rest.is_empty() {
         return Ordering::Equal;
     }
@@ -145,9 +150,10 @@ impl<const CAP: usize> Ord for Cells<CAP> {
 
     ghost matches_eq = { λ s t. texts_ties s t };
 
-    // The whole room is compared, by words of eight bytes, and then the lengths: that is the order of the texts, byte after
-    // byte. The compiler knows the length of a room, and leaves two or four comparisons of words and no loop. It returns
-    // where the rooms differ, since `Ordering::then` would compare the lengths each time.
+    // The whole room is compared, by words of eight bytes, and then the lengths: that is the order
+    // of the texts, byte after byte. The compiler knows the length of a room, and leaves two or
+    // four comparisons of words and no loop. It returns where the rooms differ, since
+    // `Ordering::then` would compare the lengths each time.
     #[inline(always)]
     fn cmp(&self, other: &Self) -> Ordering {
         let order = by_words(&self.cells, &other.cells);
@@ -163,8 +169,9 @@ impl<const CAP: usize> Hash for Cells<CAP> {
 
     ghost respects_eq = { Prim.search (hashing, rules) };
 
-    // The whole room in one write takes one multiplication for sixteen bytes. The hash of a text as a list takes one for its
-    // length and one for each byte, which was a seventh of the instructions of a trade and its split.
+    // The whole room in one write takes one multiplication for sixteen bytes. The hash of a text as
+    // a list takes one for its length and one for each byte, which was a seventh of the
+    // instructions of a trade and its split.
     #[inline(always)]
     fn hash<H: Hasher>(&self, state: &mut H) {
         state.write(&self.cells);

@@ -9,15 +9,16 @@ use crate::numbers::{NodeName, Number};
 use std::alloc::Global;
 use std::marker::Model;
 
-/// The side of a trade (Side 54): its lots are long where they were bought, short where they were sold.
+/// The side of a trade (Side 54): its lots are long where they were bought, short where they were
+/// sold.
 #[derive(Clone, Copy, Debug, PartialEq, Eq)]
 pub enum Side {
     Buy,
     Sell,
 }
 
-/// One part of a split: own where it names the firm that splits, else given up to the firm that it names.
-/// The account of a part for another firm is ignored.
+/// One part of a split: own where it names the firm that splits, else given up to the firm that it
+/// names. The account of a part for another firm is ignored.
 #[derive(Clone, Copy)]
 pub struct Part {
     /// Its lots (AllocQty 80), as they were asked for: the book refuses what is out of range.
@@ -130,7 +131,8 @@ fn same_account(a: &Option<AccountId>, b: &Option<AccountId>) -> bool
     }
 }
 
-/// A command. Trade, Split, Claim, Refuse, Cancel, Agree and Raise are changes; Initiate, Decline and Reverse speak of one.
+/// A command. Trade, Split, Claim, Refuse, Cancel, Agree and Raise are changes; Initiate, Decline
+/// and Reverse speak of one.
 #[derive(Drop)]
 pub enum Command {
     /// A trade of the clearing house for an account of a firm (TradeCaptureReport).
@@ -163,7 +165,8 @@ pub enum Command {
     Agree {
         giver: FirmId,
         taker: FirmId,
-        /// What a claimed lot is to cost the taker, as it was asked for: the book refuses what is out of range.
+        /// What a claimed lot is to cost the taker, as it was asked for: the book refuses what is
+        /// out of range.
         rate: u64,
         /// The lots that may be claimed, as they were asked for.
         limit: u64,

@@ -5,10 +5,12 @@ use crate::numbers::Number;
 use crate::refusal::Refusal;
 use crate::state::State;
 
-/// An accepted command as the history keeps it. Its number is its place in the history, counted from 1.
+/// An accepted command as the history keeps it. Its number is its place in the history, counted
+/// from 1.
 ///
-/// Fields lie in the order of the source. The names lie at any address, so the status takes a byte of what is left before
-/// the next multiple of eight, where the command begins; behind the command it would take eight more.
+/// Fields lie in the order of the source. The names lie at any address, so the status takes a byte
+/// of what is left before the next multiple of eight, where the command begins; behind the command
+/// it would take eight more.
 #[derive(Drop)]
 pub struct Entry {
     pub firm: FirmId,
@@ -17,7 +19,8 @@ pub struct Entry {
     pub command: Command,
 }
 
-/// An entry with its number, as the definitions' lists of changes hold it, from which some entries were left out. No code makes one.
+/// An entry with its number, as the definitions' lists of changes hold it, from which some entries
+/// were left out. No code makes one.
 #[derive(Drop)]
 pub struct Record {
     pub number: Number,

@@ -1,6 +1,8 @@
-//! Nodes of trees, as the changes that made them say, what their trades trade, and what claims of them cost.
+//! Nodes of trees, as the changes that made them say, what their trades trade, and what claims of
+//! them cost.
 ghost use Rattle.std.specs.Prelude.{◌≡◌, find};
-ghost use Rattle.gu_base.specs.Nodes.{deal_in, kind_of_part, nodes_of, nodes_of_parts, parent, same_name};
+ghost use Rattle.gu_base.specs.Nodes.{deal_in, kind_of_part, nodes_of, nodes_of_parts, parent};
+ghost use Rattle.gu_base.specs.Nodes.{same_name};
 
 use crate::command::{Command, Part, Side};
 use crate::names::{AccountId, FirmId, InstrumentId};
@@ -13,7 +15,8 @@ pub struct Place {
     pub account: AccountId,
 }
 
-/// What kind of node it is: the root of a trade, a part that the splitting firm keeps, or one that it gives up.
+/// What kind of node it is: the root of a trade, a part that the splitting firm keeps, or one that
+/// it gives up.
 #[derive(Clone, Copy)]
 pub enum Kind {
     Root(Place),
@@ -72,7 +75,8 @@ pub struct Node {
 impl Node {
     /// The node of this name among the parts of the Split with its entry's number.
     fn made_part(parent: &NodeName, by: &FirmId, parts: &[Part], name: &NodeName) -> Option<Node>
-        ensures { result ≡ find (λ x. same_name x.name name.now) (nodes_of_parts name.now.entry 1 parent.now by.now parts.now) }
+        ensures { result ≡ find (λ x. same_name x.name name.now)
+            (nodes_of_parts name.now.entry 1 parent.now by.now parts.now) }
     {
         if name.part() == 0 {
             return None;
@@ -91,7 +95,8 @@ impl Node {
 
     /// The node of this name among those that the command of its entry makes, which is a firm's.
     pub fn made_by(by: &FirmId, command: &Command, name: &NodeName) -> Option<Node>
-        ensures { result ≡ find (λ x. same_name x.name name.now) (nodes_of name.now.entry by.now command.now) }
+        ensures { result ≡ find (λ x. same_name x.name name.now)
+            (nodes_of name.now.entry by.now command.now) }
     {
         match command {
             Command::Trade {

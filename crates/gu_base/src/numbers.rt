@@ -1,5 +1,6 @@
 //! Numbers in their ranges, and names of nodes. A clause sees each number as a natural number.
-ghost use Rattle.std.specs.Prelude.{◌≡◌, ◌≤◌, ◌<◌, ◌+◌, ◌++◌, IsTrue, Some, None, if◌then◌else◌, decimal, codes};
+ghost use Rattle.std.specs.Prelude.{◌≡◌, ◌≤◌, ◌<◌, ◌+◌, ◌++◌, IsTrue, Some, None, if◌then◌else◌};
+ghost use Rattle.std.specs.Prelude.{decimal, codes};
 ghost use Rattle.gu_base.specs.Limits.{most_entries, most_parts};
 ghost use Rattle.gu_base.specs.Numbers.{is_number, is_lots, is_rate, is_node_name};
 
@@ -169,7 +170,8 @@ impl fmt::Display for Rate {
     }
 }
 
-/// The name of a node, written `entry.part`: `k.0` is the root of trade k, `k.i` the i-th part of split k, i from 1 to 100.
+/// The name of a node, written `entry.part`: `k.0` is the root of trade k, `k.i` the i-th part of
+/// split k, i from 1 to 100.
 #[derive(Clone, Copy, PartialEq, Eq)]
 pub struct NodeName {
     entry: Number,
@@ -196,7 +198,9 @@ impl NodeName {
 
     /// The name of part `part` of entry `entry`, `None` where either is out of range.
     pub fn new(entry: u32, part: u8) -> Option<NodeName>
-        ensures { result ≡ (if is_node_name entry part then Some (record { entry = entry; part = part }) else None) }
+        ensures { result ≡ (if is_node_name entry part
+            then Some (record { entry = entry; part = part })
+            else None) }
     {
         if part > Self::MAX_PART {
             return None;

@@ -10,7 +10,8 @@ use arrayvec::ArrayString;
 use itoa::Buffer;
 use thiserror::Error;
 
-/// Why a command is refused. Its message has the words alone; `Refusal::text` puts the number before them.
+/// Why a command is refused. Its message has the words alone; `Refusal::text` puts the number
+/// before them.
 #[derive(Clone, Copy, Debug, PartialEq, Eq, Error)]
 pub enum Refusal {
     /// The calling firm, or a firm that the command names, is not in the house table.
@@ -91,7 +92,8 @@ pub enum Refusal {
     /// Giver and taker are one firm.
     #[error("own agreement")]
     OwnAgreement,
-    /// A rate is above 100,000, a limit is or would pass 10,000,000,000,000, or a raise is of no lots.
+    /// A rate is above 100,000, a limit is or would pass 10,000,000,000,000, or a raise is of no
+    /// lots.
     #[error("terms out of range")]
     BadTerms,
     /// Giver and taker have terms already.
@@ -204,7 +206,8 @@ impl Refusal {
         }
     }
 
-    /// The number, a space and the words: what Text 58 of a refusal holds, 48 bytes at most. It takes no memory.
+    /// The number, a space and the words: what Text 58 of a refusal holds, 48 bytes at most. It
+    /// takes no memory.
     pub fn text(&self) -> ArrayString<48>
         ensures { result.bytes ≡ refusal_text self.now }
     {

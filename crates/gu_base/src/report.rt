@@ -20,7 +20,8 @@ pub struct ReportPart {
     pub lots: u64,
     /// The firm that gets it (NestedPartyID 524).
     pub firm: FirmId,
-    /// The account of an own part or of a claim (AllocAccount 79). A given part has none in the report of its Split.
+    /// The account of an own part or of a claim (AllocAccount 79). A given part has none in the
+    /// report of its Split.
     pub account: Option<AccountId>,
 }
 

@@ -1,11 +1,13 @@
 -- Words whose bits tell of each byte whether it passes a test.
 use Rattle.std.proofs.Common.{◌≡◌, ◌≢◌, ℕ, suc, ◌+◌, ◌-◌, ◌*◌, ◌/◌, ◌%◌, ◌^◌, ◌<◌, ◌≤◌, min, max, Bool, true, false}
-use Rattle.std.proofs.Common.{cond, eqb, leb, List, map, length, get_or, take, replicate, inl, inr, refl, sym, ap, ◌∙◌, arith, w8, w64}
+use Rattle.std.proofs.Common.{cond, eqb, leb, List, map, length, get_or, take, replicate, inl, inr, refl, sym, ap, ◌∙◌}
+use Rattle.std.proofs.Common.{arith, w8, w64}
 use Rattle.std.specs.Prelude.{◌&&◌, ◌||◌, not}
 use Rattle.std.specs.Int.{bit_at, bit_not}
 use Rattle.std.proofs.lemmas.Bool.{eq-eqb}
 use Rattle.std.proofs.lemmas.List.{length-map, get_or-map, take_all}
-use Rattle.std.proofs.lemmas.Simd.{bitmask_splat, bit_mask_l, mask_l-mod, map-map, zip2_splat, zip2_splat_left, zip2_of_maps}
+use Rattle.std.proofs.lemmas.Simd.{bitmask_splat, bit_mask_l, mask_l-mod, map-map, zip2_splat, zip2_splat_left}
+use Rattle.std.proofs.lemmas.Simd.{zip2_of_maps}
 use Rattle.std.proofs.lemmas.Nat.{and_le_l}
 use Rattle.std.proofs.lemmas.Nat.Bits.{bit_at_and, bit_at_or, bit_at_not, bit_at-suc, bit_at-zero}
 use lib.Bits.{bit_and, bit_or}
@@ -40,22 +42,34 @@ module _ (bytes : List ℕ) (n : ℕ) (few : n ≤ 64) (long : length bytes ≡ 
   long_enough = ap length all_taken ∙ long
 
   tested : (p : ℕ → Bool) (m : ℕ) → m ≡ mask_l (map p (take n bytes)) → AreBits p bytes m
-  tested p m is i lt = ap (λ k. bit_at k i) (is ∙ ap (λ xs. mask_l (map p xs)) all_taken) ∙ bit_mask_l (map p bytes) i ∙ ap (λ b. cond b 1 0) (get_or-map p bytes i 0 false lt)
+  tested p m is i lt =
+      ap (λ k. bit_at k i) (is ∙ ap (λ xs. mask_l (map p xs)) all_taken) ∙ bit_mask_l (map p bytes) i
+      ∙ ap (λ b. cond b 1 0) (get_or-map p bytes i 0 false lt)
 
   -- the bytes that are one byte
-  pub compared : (byte m : ℕ) → m ≡ mask_l (map (top 7) (zip2 (λ a b. cond (eqb a b) 255 0) (take n bytes) (replicate n byte))) % 2 ^ 64 → AreBits (λ b. eqb b byte) bytes m
+  pub compared : (byte m : ℕ)
+      → m ≡ mask_l (map (top 7) (zip2 (λ a b. cond (eqb a b) 255 0) (take n bytes) (replicate n byte))) % 2 ^ 64
+      → AreBits (λ b. eqb b byte) bytes m
   compared byte m e = tested (λ b. eqb b byte) m (e ∙ bitmask_splat w8 eqb (take n bytes) n byte long_enough few)
 
   -- the bytes that are digits
-  pub digits : (m : ℕ) → m ≡ mask_l (map (top 7) (zip2 bit_and (zip2 (λ a b. cond (leb a b) 255 0) (replicate n 48) (take n bytes))
-      (zip2 (λ a b. cond (leb a b) 255 0) (take n bytes) (replicate n 57)))) % 2 ^ 64 → AreBits is_digit bytes m
+  pub digits : (m : ℕ)
+      → m ≡ mask_l (map (top 7)
+      (zip2 bit_and (zip2 (λ a b. cond (leb a b) 255 0) (replicate n 48) (take n bytes))
+      (zip2 (λ a b. cond (leb a b) 255 0) (take n bytes) (replicate n 57))))
+      % 2 ^ 64
+      → AreBits is_digit bytes m
   digits m e =
       let xs = take n bytes in
       let low : ℕ → ℕ = λ v. cond (leb 48 v) 255 0 in
       let high : ℕ → ℕ = λ v. cond (leb v 57) 255 0 in
-      let lanes = zip2_of_maps bit_and low high xs (zip2_splat_left (λ a b. cond (leb a b) 255 0) 48 n xs long_enough) (zip2_splat (λ a b. cond (leb a b) 255 0) xs n 57 long_enough) in
-      let tops = ap (map (top 7)) lanes ∙ map-map (top 7) (λ v. bit_and (low v) (high v)) xs ∙ (λ i. map (λ v. in_range (leb 48 v) (leb v 57) i) xs) in
-      tested is_digit m (e ∙ ap (λ bs. mask_l bs % 2 ^ 64) tops ∙ mask_l-mod (map is_digit xs) 64 (omega (arith, long_enough, few, length-map xs is_digit)))
+      let lanes = zip2_of_maps bit_and low high xs (zip2_splat_left (λ a b. cond (leb a b) 255 0) 48 n xs long_enough)
+      (zip2_splat (λ a b. cond (leb a b) 255 0) xs n 57 long_enough) in
+      let tops = ap (map (top 7)) lanes ∙ map-map (top 7) (λ v. bit_and (low v) (high v)) xs
+      ∙ (λ i. map (λ v. in_range (leb 48 v) (leb v 57) i) xs) in
+      tested is_digit m
+      (e ∙ ap (λ bs. mask_l bs % 2 ^ 64) tops
+      ∙ mask_l-mod (map is_digit xs) 64 (omega (arith, long_enough, few, length-map xs is_digit)))
 
 -- ---- what words of them say
 
@@ -112,9 +126,11 @@ module _ (bytes : List ℕ) (soh digit zero equal : ℕ) where
   byte i = get_or bytes i 0
 
   -- where no field begins behind a SOH, a bit is set
-  pub all_begin : 5 ≤ length bytes → length bytes ≤ 64 → soh < 2 ^ 64 → digit < 2 ^ 64 → zero < 2 ^ 64 → AreBits (λ b. eqb b 1) bytes soh → AreBits is_digit bytes digit
-      → AreBits (λ b. eqb b 48) bytes zero → AreBits (λ b. eqb b 61) bytes equal
-      → bit_and soh (bit_not w64 (fronts / 2)) * 2 ^ (69 - length bytes) % 2 ^ 64 ≡ 0 → ShortBehind bytes (length bytes - 5)
+  pub all_begin : 5 ≤ length bytes → length bytes ≤ 64 → soh < 2 ^ 64 → digit < 2 ^ 64 → zero < 2 ^ 64
+      → AreBits (λ b. eqb b 1) bytes soh → AreBits is_digit bytes digit → AreBits (λ b. eqb b 48) bytes zero
+      → AreBits (λ b. eqb b 61) bytes equal
+      → bit_and soh (bit_not w64 (fronts / 2)) * 2 ^ (69 - length bytes) % 2 ^ 64 ≡ 0
+      → ShortBehind bytes (length bytes - 5)
   all_begin some few small-s small-d small-z s d z e none k lt is =
       let n = length bytes in
       let S : ℕ → Bool = λ i. eqb (byte i) 1 in
@@ -126,31 +142,43 @@ module _ (bytes : List ℕ) (soh digit zero equal : ℕ) where
       let F : ℕ → Bool = λ i. D i && (not (Z i) && T (suc i)) in
       let digits-to : (m : ℕ) → m ≤ n → Tells m digit D = λ m le. fewer n m digit D le d in
       let ends-to : (m : ℕ) → m < n → Tells m ends E = λ m le.
-      both m equal (bit_not w64 (soh / 2)) (λ i. eqb (byte i) 61) (λ i. not (S (suc i))) (fewer n m equal (λ i. eqb (byte i) 61) (omega arith) e)
+      both m equal (bit_not w64 (soh / 2)) (λ i. eqb (byte i) 61) (λ i. not (S (suc i)))
+      (fewer n m equal (λ i. eqb (byte i) 61) (omega arith) e)
       (others m (soh / 2) (λ i. S (suc i)) (omega arith) (omega arith) (behind m n soh S le s)) in
       let one-to : (m : ℕ) → m + 1 < n → Tells m one_before O = λ m le.
       either m ends (bit_and digit (ends / 2)) E (λ i. D i && E (suc i)) (ends-to m (omega arith))
-      (both m digit (ends / 2) D (λ i. E (suc i)) (digits-to m (omega arith)) (behind m (m + 1) ends E (omega arith) (ends-to (m + 1) le))) in
+      (both m digit (ends / 2) D (λ i. E (suc i)) (digits-to m (omega arith))
+      (behind m (m + 1) ends E (omega arith) (ends-to (m + 1) le))) in
       let two-to : (m : ℕ) → m + 2 < n → Tells m two_before T = λ m le.
       either m ends (bit_and digit (one_before / 2)) E (λ i. D i && O (suc i)) (ends-to m (omega arith))
-      (both m digit (one_before / 2) D (λ i. O (suc i)) (digits-to m (omega arith)) (behind m (m + 1) one_before O (omega arith) (one-to (m + 1) (omega arith)))) in
+      (both m digit (one_before / 2) D (λ i. O (suc i)) (digits-to m (omega arith))
+      (behind m (m + 1) one_before O (omega arith) (one-to (m + 1) (omega arith)))) in
       let fronts-to : (m : ℕ) → m + 3 < n → Tells m fronts F = λ m le.
-      both m digit (bit_and (bit_not w64 zero) (two_before / 2)) D (λ i. not (Z i) && T (suc i)) (digits-to m (omega arith))
-      (both m (bit_not w64 zero) (two_before / 2) (λ i. not (Z i)) (λ i. T (suc i)) (others m zero Z (omega arith) small-z (fewer n m zero Z (omega arith) z))
+      both m digit (bit_and (bit_not w64 zero) (two_before / 2)) D (λ i. not (Z i) && T (suc i))
+      (digits-to m (omega arith))
+      (both m (bit_not w64 zero) (two_before / 2) (λ i. not (Z i)) (λ i. T (suc i))
+      (others m zero Z (omega arith) small-z (fewer n m zero Z (omega arith) z))
       (behind m (m + 1) two_before T (omega arith) (two-to (m + 1) (omega arith)))) in
-      let below : fronts / 2 < 2 ^ 64 = omega (arith, small-d, and_le_l digit (bit_and (bit_not w64 zero) (two_before / 2))) in
+      let below : fronts / 2 < 2 ^ 64 =
+      omega (arith, small-d, and_le_l digit (bit_and (bit_not w64 zero) (two_before / 2))) in
       let left = bit_and soh (bit_not w64 (fronts / 2)) in
       let tells : Tells (k + 1) left (λ i. S i && not (F (suc i))) =
       both (k + 1) soh (bit_not w64 (fronts / 2)) S (λ i. not (F (suc i))) (fewer n (k + 1) soh S (omega arith) s)
-      (others (k + 1) (fronts / 2) (λ i. F (suc i)) (omega arith) below (behind (k + 1) (k + 2) fronts F (omega arith) (fronts-to (k + 2) (omega arith)))) in
+      (others (k + 1) (fronts / 2) (λ i. F (suc i)) (omega arith) below
+      (behind (k + 1) (k + 2) fronts F (omega arith) (fronts-to (k + 2) (omega arith)))) in
       let up = 69 - n in
       let back : k + up - up ≡ k = omega arith in
       let moved = shifted_high left up (k + up) (omega arith) (omega arith) in
-      let unset : bit_at left k ≡ 0 = ap (bit_at left) (sym back) ∙ sym moved ∙ ap (λ m. bit_at m (k + up)) none ∙ bit_at-zero (k + up) in
+      let unset : bit_at left k ≡ 0 =
+      ap (bit_at left) (sym back) ∙ sym moved ∙ ap (λ m. bit_at m (k + up)) none ∙ bit_at-zero (k + up) in
       let next : k + 1 ≡ suc k = omega arith in
-      ap (short_front bytes) next ∙ sym (here (suc k)) ∙ unfit (S k) (F (suc k)) (eq-eqb (byte k) 1 is) (sym (tells k (omega arith)) ∙ unset)
+      ap (short_front bytes) next ∙ sym (here (suc k))
+      ∙ unfit (S k) (F (suc k)) (eq-eqb (byte k) 1 is) (sym (tells k (omega arith)) ∙ unset)
     where
-      here : (j : ℕ) → is_short_front (byte j) (byte (suc j)) (byte (suc (suc j))) (byte (suc (suc (suc j)))) (byte (suc (suc (suc (suc j))))) ≡ short_front bytes j
+      here : (j : ℕ)
+          → is_short_front (byte j) (byte (suc j)) (byte (suc (suc j))) (byte (suc (suc (suc j))))
+          (byte (suc (suc (suc (suc j)))))
+          ≡ short_front bytes j
       here j =
           let b : j + 1 ≡ suc j = omega arith in
           let c : j + 2 ≡ suc (suc j) = omega arith in

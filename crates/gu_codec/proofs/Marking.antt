@@ -1,6 +1,7 @@
 -- Marks of SOH: how they are made, what the lowest one says, and what is left without it.
-use Rattle.std.proofs.Common.{◌≡◌, ◌⊎◌, ℕ, zero, suc, ◌+◌, ◌-◌, ◌*◌, ◌/◌, ◌%◌, ◌^◌, ◌<◌, ◌≤◌, Bool, true, false, cond, eqb, leb, List, [], ◌∷◌}
-use Rattle.std.proofs.Common.{map, length, get_or, drop, replicate, refl, sym, ap, subst, ◌∙◌, arith, inl, inr, w8, w64, length-drop, mod-lt}
+use Rattle.std.proofs.Common.{◌≡◌, ◌⊎◌, ℕ, zero, suc, ◌+◌, ◌-◌, ◌*◌, ◌/◌, ◌%◌, ◌^◌, ◌<◌, ◌≤◌, Bool, true, false, cond}
+use Rattle.std.proofs.Common.{eqb, leb, List, [], ◌∷◌, map, length, get_or, drop, replicate, refl, sym, ap, subst, ◌∙◌}
+use Rattle.std.proofs.Common.{arith, inl, inr, w8, w64, length-drop, mod-lt}
 use Rattle.std.specs.Int.{bit_at}
 use Rattle.std.specs.List.{position_or_len}
 use Rattle.std.proofs.lemmas.Bool.{cases_lt, cases_order, eq-eqb, ne_eqb, leb-true}
@@ -9,7 +10,8 @@ use Rattle.std.proofs.lemmas.Simd.{bitmask_splat, bit_mask_l, length-chunk, get_
 use Rattle.std.proofs.lemmas.List.{length-map, get_or_past, get_or-drop}
 use Rattle.std.proofs.lemmas.List.Sums.{position_or_len_is}
 use Rattle.std.proofs.lemmas.Nat.{shr-shr, pow_pos}
-use Rattle.std.proofs.lemmas.Nat.Bits.{bit_at-zero, bit_at_or, bit_at_cat_low, bit_at_cat_high, bit_at_above, bit_at_lowest, bit_at-suc, bit_at-trailing_zeros}
+use Rattle.std.proofs.lemmas.Nat.Bits.{bit_at-zero, bit_at_or, bit_at_cat_low, bit_at_cat_high, bit_at_above}
+use Rattle.std.proofs.lemmas.Nat.Bits.{bit_at_lowest, bit_at-suc, bit_at-trailing_zeros}
 use lib.Bits.{bit_or}
 use lib.Count.{count_trailing_zeros}
 use lib.Pow.{field, mod-mod-pow}
@@ -28,15 +30,18 @@ map_at (x ∷ xs) (suc i) lt = map_at xs i (omega arith)
 
 -- the mask of a load
 pub loaded : (bytes : List ℕ) (at n m : ℕ) → at + n ≤ length bytes → n ≤ 64
-    → m ≡ mask_l (map (top 7) (zip2 (λ a b. cond (eqb a b) 255 0) (chunk at n bytes) (replicate n 1))) % 2 ^ 64 → AreMarks bytes at n m
+    → m ≡ mask_l (map (top 7) (zip2 (λ a b. cond (eqb a b) 255 0) (chunk at n bytes) (replicate n 1))) % 2 ^ 64
+    → AreMarks bytes at n m
 loaded bytes at n m room few e =
     let xs = chunk at n bytes in
     let long = length-chunk at n bytes room in
     let is : m ≡ mask_l (map is_soh xs) = e ∙ bitmask_splat w8 eqb xs n 1 long few in
     let bit = λ (i : ℕ). ap (λ k. bit_at k i) is ∙ bit_mask_l (map is_soh xs) i in
     record {
-      inside = λ i lt. bit i ∙ ap (λ b. cond b 1 0) (map_at xs i (omega arith) ∙ ap is_soh (get_or-chunk at n bytes i 0 lt));
-      outside = λ i le. bit i ∙ ap (λ b. cond b 1 0) (get_or_past (map is_soh xs) i false (omega (arith, length-map xs is_soh)));
+      inside =
+          λ i lt. bit i ∙ ap (λ b. cond b 1 0) (map_at xs i (omega arith) ∙ ap is_soh (get_or-chunk at n bytes i 0 lt));
+      outside = λ i le.
+          bit i ∙ ap (λ b. cond b 1 0) (get_or_past (map is_soh xs) i false (omega (arith, length-map xs is_soh)));
     }
 
 soh_past : (bytes : List ℕ) (k : ℕ) → length bytes ≤ k → soh_bit bytes k ≡ 0
@@ -45,17 +50,23 @@ soh_past bytes k le = ap (λ x. cond (is_soh x) 1 0) (get_or_past bytes k 0 le)
 bit_within : (n i : ℕ) → i < 64 → bit_at (n % 2 ^ 64) i ≡ bit_at n i
 bit_within n i h =
     let e : 63 - i + 1 + i ≡ 64 = omega arith in
-    subst (λ w. bit_at (n % 2 ^ w) i ≡ bit_at n i) e (ap (λ x. x % 2) (field n (63 - i + 1) i) ∙ mod-mod-pow (n / 2 ^ i) (63 - i) 1)
+    subst (λ w. bit_at (n % 2 ^ w) i ≡ bit_at n i) e
+    (ap (λ x. x % 2) (field n (63 - i + 1) i) ∙ mod-mod-pow (n / 2 ^ i) (63 - i) 1)
 
 -- the bits of `b << k`
 shifted_low : (b k i : ℕ) → i < k → i < 64 → bit_at (b * 2 ^ k % 2 ^ 64) i ≡ 0
-shifted_low b k i lt few = bit_within (b * 2 ^ k) i few ∙ ap (λ n. bit_at n i) (omega arith) ∙ bit_at_cat_low b k 0 i lt ∙ bit_at-zero i
+shifted_low b k i lt few =
+    bit_within (b * 2 ^ k) i few ∙ ap (λ n. bit_at n i) (omega arith) ∙ bit_at_cat_low b k 0 i lt ∙ bit_at-zero i
 
 pub shifted_high : (b k i : ℕ) → k ≤ i → i < 64 → bit_at (b * 2 ^ k % 2 ^ 64) i ≡ bit_at b (i - k)
-shifted_high b k i le few = bit_within (b * 2 ^ k) i few ∙ ap (λ n. bit_at n i) (omega arith) ∙ bit_at_cat_high b k 0 i (pow_pos k) le
+shifted_high b k i le few =
+    bit_within (b * 2 ^ k) i few ∙ ap (λ n. bit_at n i) (omega arith) ∙ bit_at_cat_high b k 0 i (pow_pos k) le
 
 -- bit i of either, where the first has it or the second
-one_of : (a s i x : ℕ) → (bit_at a i ≡ x) × (bit_at s i ≡ 0) ⊎ ((bit_at a i ≡ 0) × (bit_at s i ≡ x) ⊎ ((bit_at a i ≡ x) × (bit_at s i ≡ x))) → bit_at (bit_or a s) i ≡ x
+one_of : (a s i x : ℕ)
+    → (bit_at a i ≡ x)
+    × (bit_at s i ≡ 0) ⊎ ((bit_at a i ≡ 0) × (bit_at s i ≡ x) ⊎ ((bit_at a i ≡ x) × (bit_at s i ≡ x)))
+    → bit_at (bit_or a s) i ≡ x
 one_of a s i x (inl h) = omega (arith, bit_at_or a s i, h.0, h.1)
 one_of a s i x (inr (inl h)) = omega (arith, bit_at_or a s i, h.0, h.1)
 one_of a s i x (inr (inr h)) = omega (arith, bit_at_or a s i, h.0, h.1)
@@ -71,14 +82,16 @@ two_marks bytes n k a b i e le few ha hb lt =
       | inr high ↦ elim (cases_lt (i - k) n) [
         | inl there ↦
             let back : k + (i - k) ≡ i = omega arith in
-            let here : bit_at s i ≡ soh_bit bytes i = shifted_high b k i high lt ∙ hb.inside (i - k) there ∙ ap (soh_bit bytes) back in
+            let here : bit_at s i ≡ soh_bit bytes i =
+            shifted_high b k i high lt ∙ hb.inside (i - k) there ∙ ap (soh_bit bytes) back in
             elim (cases_lt i n) [
               | inl both ↦ one_of a s i (soh_bit bytes i) (inr (inr (low both, here)))
               | inr one ↦ one_of a s i (soh_bit bytes i) (inr (inl (ha.outside i one, here)))
             ]
         | inr past ↦
             let none = soh_past bytes i (omega arith) in
-            one_of a s i (soh_bit bytes i) (inr (inl (ha.outside i (omega arith), shifted_high b k i high lt ∙ hb.outside (i - k) past ∙ sym none)))
+            one_of a s i (soh_bit bytes i)
+            (inr (inl (ha.outside i (omega arith), shifted_high b k i high lt ∙ hb.outside (i - k) past ∙ sym none)))
       ]
     ]
 
@@ -88,7 +101,13 @@ pub joined : (bytes : List ℕ) (n k a b : ℕ) → k + n ≡ length bytes → k
 joined bytes n k a b e le few ha hb =
     record {
       inside = λ i lt. two_marks bytes n k a b i e le few ha hb lt ∙ ap (soh_bit bytes) (omega arith);
-      outside = λ i past. omega (arith, bit_at_or a (b * 2 ^ k % 2 ^ 64) i, ha.outside i (omega arith), bit_at_above (b * 2 ^ k % 2 ^ 64) 64 i (mod-lt (b * 2 ^ k) (omega arith)) past);
+      outside = λ i past.
+          omega (
+            arith,
+            bit_at_or a (b * 2 ^ k % 2 ^ 64) i,
+            ha.outside i (omega arith),
+            bit_at_above (b * 2 ^ k % 2 ^ 64) 64 i (mod-lt (b * 2 ^ k) (omega arith)) past,
+          );
     }
 
 -- the last 64 bytes' marks from a place on
@@ -112,8 +131,10 @@ bool_bit false = (omega arith, refl)
 -- one more byte in front
 pub pushed : (bytes : List ℕ) (at b m : ℕ) → b < 2 → b ≡ soh_bit bytes at
     → ((i : ℕ) → bit_at m i ≡ soh_bit bytes (suc at + i)) → (i : ℕ) → bit_at (m * 2 + b) i ≡ soh_bit bytes (at + i)
-pushed bytes at b m small here h zero = bit_at_lowest (m * 2 + b) ∙ (omega arith) ∙ here ∙ ap (soh_bit bytes) (omega arith)
-pushed bytes at b m small here h (suc i) = bit_at-suc (m * 2 + b) i ∙ ap (λ n. bit_at n i) (omega arith) ∙ h i ∙ ap (soh_bit bytes) (omega arith)
+pushed bytes at b m small here h zero =
+    bit_at_lowest (m * 2 + b) ∙ (omega arith) ∙ here ∙ ap (soh_bit bytes) (omega arith)
+pushed bytes at b m small here h (suc i) =
+    bit_at-suc (m * 2 + b) i ∙ ap (λ n. bit_at n i) (omega arith) ∙ h i ∙ ap (soh_bit bytes) (omega arith)
 
 -- ---- what they say
 
@@ -154,7 +175,8 @@ module _ (bytes : List ℕ) (at n marks : ℕ) (h : AreMarks bytes at n marks) (
     | inl below ↦ before k below
     | inr above ↦
         let place : at + (k - at) ≡ k = omega arith in
-        subst (λ (j : ℕ). is_soh (get_or bytes j 0) ≡ false) place (bit_zero _ (sym (h.inside (k - at) (omega arith)) ∙ z (k - at) (omega arith)))
+        subst (λ (j : ℕ). is_soh (get_or bytes j 0) ≡ false) place
+        (bit_zero _ (sym (h.inside (k - at) (omega arith)) ∙ z (k - at) (omega arith)))
   ]
 
   -- no bit is set
@@ -162,7 +184,8 @@ module _ (bytes : List ℕ) (at n marks : ℕ) (h : AreMarks bytes at n marks) (
   none_marked z = none_up_to n (omega arith) (λ i lt. ap (λ k. bit_at k i) z ∙ bit_at-zero i)
 
   -- the lowest bit that is set
-  pub first_marked : at + n ≤ length bytes → 0 < marks → marks < 2 ^ 64 → at + count_trailing_zeros 64 marks ≡ position_or_len is_soh bytes
+  pub first_marked : at + n ≤ length bytes → 0 < marks → marks < 2 ^ 64
+      → at + count_trailing_zeros 64 marks ≡ position_or_len is_soh bytes
   first_marked room some fits =
       let t = count_trailing_zeros 64 marks in
       let place = bit_at-trailing_zeros w64 marks some fits in
@@ -186,44 +209,54 @@ module _ (bytes : List ℕ) (at base marks : ℕ) (h : IsMarked bytes at base ma
   unset i lt le z = bit_zero _ (marked_zero _ _ (le_true at (base + i) le) (sym (h.bits i lt) ∙ z))
 
   -- none of the first bits is set
-  none_to : (n : ℕ) → n ≤ 64 → ((i : ℕ) → i < n → bit_at marks i ≡ 0) → (k : ℕ) → at ≤ k → k < base + n → is_soh (get_or bytes k 0) ≡ false
+  none_to : (n : ℕ) → n ≤ 64 → ((i : ℕ) → i < n → bit_at marks i ≡ 0) → (k : ℕ) → at ≤ k → k < base + n
+      → is_soh (get_or bytes k 0) ≡ false
   none_to n few z k from to = elim (cases_lt k base) [
     | inl before ↦ h.clear k from before
     | inr behind ↦
         let e : base + (k - base) ≡ k = omega arith in
-        subst (λ (j : ℕ). is_soh (get_or bytes j 0) ≡ false) e (unset (k - base) (omega arith) (omega arith) (z (k - base) (omega arith)))
+        subst (λ (j : ℕ). is_soh (get_or bytes j 0) ≡ false) e
+        (unset (k - base) (omega arith) (omega arith) (z (k - base) (omega arith)))
   ]
 
   -- no bit is set, and more bytes are looked at
-  pub further : (more : ℕ) → marks ≡ 0 → base + 64 ≤ length bytes → AreMarks bytes (base + 64) 64 more → IsMarked bytes at (base + 64) more
+  pub further : (more : ℕ) → marks ≡ 0 → base + 64 ≤ length bytes → AreMarks bytes (base + 64) 64 more
+      → IsMarked bytes at (base + 64) more
   further more z le m =
       record {
         within = h.within;
         begins = le;
         near = omega (arith, h.near);
         clear = none_to 64 (omega arith) (λ i lt. ap (λ n. bit_at n i) z ∙ bit_at-zero i);
-        bits = λ i lt. m.inside i lt ∙ sym (ap (λ c. cond c (soh_bit bytes (base + 64 + i)) 0) (le_true at (base + 64 + i) (omega (arith, h.near))));
+        bits = λ i lt. m.inside i lt
+            ∙ sym
+            (ap (λ c. cond c (soh_bit bytes (base + 64 + i)) 0) (le_true at (base + 64 + i) (omega (arith, h.near))));
       }
 
   -- no bit is set, and no more bytes are there
-  pub nothing_left : marks ≡ 0 → length bytes ≤ base + 64 → position_or_len is_soh (drop at bytes) ≡ length (drop at bytes)
+  pub nothing_left : marks ≡ 0 → length bytes ≤ base + 64
+      → position_or_len is_soh (drop at bytes) ≡ length (drop at bytes)
   nothing_left z le =
       let none = none_to 64 (omega arith) (λ i lt. ap (λ n. bit_at n i) z ∙ bit_at-zero i) in
       position_or_len_is is_soh (drop at bytes) (length (drop at bytes)) 0 (omega arith)
-      (λ k lt. ap is_soh (get_or-drop at bytes k 0) ∙ none (at + k) (omega arith) (omega (arith, length-drop at bytes, h.within))) (λ lt. absurd (omega arith))
+      (λ k lt. ap is_soh (get_or-drop at bytes k 0)
+      ∙ none (at + k) (omega arith) (omega (arith, length-drop at bytes, h.within)))
+      (λ lt. absurd (omega arith))
 
   -- the bits without the lowest
   others : (t : ℕ) → ((i : ℕ) → i < t → bit_at marks i ≡ 0) → at ≤ base + t → (i : ℕ) → i < 64
       → cond (eqb i t) 0 (bit_at marks i) ≡ cond (leb (base + t + 1) (base + i)) (soh_bit bytes (base + i)) 0
   others t low from i lt =
-      let gone = λ (le : i ≤ t). sym (ap (λ c. cond c (soh_bit bytes (base + i)) 0) (le_false (base + t + 1) (base + i) (omega arith))) in
+      let gone = λ (le : i ≤ t).
+      sym (ap (λ c. cond c (soh_bit bytes (base + i)) 0) (le_false (base + t + 1) (base + i) (omega arith))) in
       elim (cases_order i t) [
         | inl same ↦ ap (λ c. cond c 0 (bit_at marks i)) (eq-eqb i t same) ∙ gone (omega arith)
         | inr other ↦ elim other [
           | inl below ↦ ap (cond (eqb i t) 0) (low i below) ∙ both_zero (eqb i t) ∙ gone (omega arith)
           | inr above ↦
               ap (λ c. cond c 0 (bit_at marks i)) (ne_eqb i t (λ e. omega (arith, e))) ∙ h.bits i lt
-              ∙ ap (λ c. cond c (soh_bit bytes (base + i)) 0) (le_true at (base + i) (omega arith) ∙ sym (le_true (base + t + 1) (base + i) (omega arith)))
+              ∙ ap (λ c. cond c (soh_bit bytes (base + i)) 0)
+              (le_true at (base + i) (omega arith) ∙ sym (le_true (base + t + 1) (base + i) (omega arith)))
         ]
       ]
 
@@ -244,8 +277,10 @@ module _ (bytes : List ℕ) (at base marks : ℕ) (h : IsMarked bytes at base ma
         inside = inside;
         first =
             position_or_len_is is_soh (drop at bytes) (end - at) 0 (omega (arith, length-drop at bytes))
-            (λ k lt. ap is_soh (get_or-drop at bytes k 0) ∙ none_to t (omega arith) place.2 (at + k) (omega arith) (omega arith))
-            (λ lt. ap is_soh (get_or-drop at bytes (end - at) 0 ∙ ap (λ (j : ℕ). get_or bytes j 0) (omega arith)) ∙ soh);
+            (λ k lt.
+            ap is_soh (get_or-drop at bytes k 0) ∙ none_to t (omega arith) place.2 (at + k) (omega arith) (omega arith))
+            (λ lt.
+            ap is_soh (get_or-drop at bytes (end - at) 0 ∙ ap (λ (j : ℕ). get_or bytes j 0) (omega arith)) ∙ soh);
         left = record {
           within = omega arith;
           begins = h.begins;

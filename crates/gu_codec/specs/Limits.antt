@@ -1,4 +1,5 @@
--- How long frames and streams may be. The code has constants of its own, and what is proved of it fails where one of them differs from these.
+-- How long frames and streams may be. The code has constants of its own, and what is proved of it
+-- fails where one of them differs from these.
 use Rattle.std.specs.Prelude.{ℕ, ◌^◌}
 
 -- the bytes of a frame, and so of what a feed holds

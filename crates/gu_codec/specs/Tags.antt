@@ -1,4 +1,5 @@
--- The tags that the service reads or writes, under their FIX names. The code has constants of its own, so that a wrong one there isn't right by definition.
+-- The tags that the service reads or writes, under their FIX names. The code has constants of its
+-- own, so that a wrong one there isn't right by definition.
 use Rattle.std.specs.Prelude.{ℕ}
 
 -- ---- the header of every message

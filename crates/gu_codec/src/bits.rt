@@ -44,8 +44,8 @@ fn bits_of_digits(bytes: &[u8]) -> u64
     (from_0 & to_9).to_bitmask()
 }
 
-/// Whether a field may begin behind each SOH of 64 or 32 bytes but the last five. Each bit of a word that is shifted down by
-/// one tells of the byte behind its own.
+/// Whether a field may begin behind each SOH of 64 or 32 bytes but the last five. Each bit of a
+/// word that is shifted down by one tells of the byte behind its own.
 #[inline(always)]
 pub fn is_short_behind(bytes: &[u8]) -> bool
     requires { IsWindow (length bytes.now) }

@@ -61,8 +61,8 @@ fn marks_of_few(bytes: &[u8]) -> u64
     marks
 }
 
-/// The marks of the first 64 bytes. Where there are fewer, those of the first 32 or 16 and of as many at the end are
-/// joined.
+/// The marks of the first 64 bytes. Where there are fewer, those of the first 32 or 16 and of as
+/// many at the end are joined.
 #[inline(always)]
 fn first_marks(bytes: &[u8]) -> u64
     ensures { AreMarks bytes.now 0 64 result }
@@ -94,8 +94,9 @@ fn more_marks(bytes: &[u8], at: usize) -> u64
     marks_of_64(bytes, len - 64) >> (64 - (len - at))
 }
 
-/// Marks that aren't 0, and where the bytes begin that they are of: those that are given, or the next ones. They are 0
-/// where no SOH is left. Where the next field begins (`at`) is for the contract alone.
+/// Marks that aren't 0, and where the bytes begin that they are of: those that are given, or the
+/// next ones. They are 0 where no SOH is left. Where the next field begins (`at`) is for the
+/// contract alone.
 #[inline(always)]
 fn advance(bytes: &[u8], at: usize, base: usize, marks: u64) -> (usize, u64)
     requires { IsMarked bytes.now at base marks }
@@ -111,12 +112,13 @@ fn advance(bytes: &[u8], at: usize, base: usize, marks: u64) -> (usize, u64)
     (base, marks)
 }
 
-/// The fields of a body, or those of them that are left, by the marks of their SOH. Contracts see the bytes that are
-/// left.
+/// The fields of a body, or those of them that are left, by the marks of their SOH. Contracts see
+/// the bytes that are left.
 ///
-/// The lowest bit that is set tells where a value ends, however long it is: so a time or an id costs no more than a
-/// digit. `Fields` compares byte by byte with SOH, which is as good for values of one to three bytes, as those of groups
-/// are, and wants nothing made ready. So a message is walked over by its marks once, and its groups by `Fields`.
+/// The lowest bit that is set tells where a value ends, however long it is: so a time or an id
+/// costs no more than a digit. `Fields` compares byte by byte with SOH, which is as good for values
+/// of one to three bytes, as those of groups are, and wants nothing made ready. So a message is
+/// walked over by its marks once, and its groups by `Fields`.
 #[derive(Drop)]
 pub struct Marked<'a> {
     bytes: &'a [u8],
@@ -158,7 +160,8 @@ impl<'a> Marked<'a> {
     /// The next field, as `Fields::step` gives it.
     #[inline(always)]
     pub fn step(&mut self) -> Option<(u32, &'a [u8])>
-        ensures field { option_map (λ item. ((item.0, item.1.now), self.new)) result ≡ field_at self.old }
+        ensures field { option_map (λ item. ((item.0, item.1.now), self.new)) result
+            ≡ field_at self.old }
         ensures stays { IsNone result → self.new ≡ self.old }
     {
         let (base, marks) = advance(self.bytes, self.at, self.base, self.marks);

@@ -57,9 +57,10 @@ fn sum_of_few(bytes: &[u8]) -> u8
 
 /// The sum of the bytes, modulo 256: what CheckSum (10) writes.
 ///
-/// 16 sums stand side by side in one register, and 16 bytes are added in a step. What is left behind the last step is
-/// loaded with the bytes before it, 16 in all, and `KEPT` takes out those that were added already: so no byte is gone
-/// to by itself, as the last ones are where the compiler makes vectors of a plain `for`.
+/// 16 sums stand side by side in one register, and 16 bytes are added in a step. What is left
+/// behind the last step is loaded with the bytes before it, 16 in all, and `KEPT` takes out those
+/// that were added already: so no byte is gone to by itself, as the last ones are where the
+/// compiler makes vectors of a plain `for`.
 #[inline(always)]
 pub fn checksum(bytes: &[u8]) -> u8
     ensures { result ≡ sum bytes.now % 256 }

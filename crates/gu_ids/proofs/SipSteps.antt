@@ -8,6 +8,7 @@ pub round_at : (s : Sip) (tail count : ℕ) → round (hasher_at s tail count) �
 unfolding round
 round_at s tail count = refl
 
-pub write_word_at : (s : Sip) (tail count word : ℕ) → write_word (hasher_at s tail count) word ≡ hasher_at (taken s word) tail count
+pub write_word_at : (s : Sip) (tail count word : ℕ)
+    → write_word (hasher_at s tail count) word ≡ hasher_at (taken s word) tail count
 unfolding write_word round
 write_word_at s tail count word = refl

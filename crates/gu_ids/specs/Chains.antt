@@ -1,5 +1,7 @@
--- Chains of entries, one for each bucket: from its newest entry to the one before it in the bucket, and so on.
-use Rattle.std.specs.Prelude.{◌≡◌, ◌≤◌, ◌<◌, ◌*◌, ◌==◌, ℕ, Bool, List, length, map, slice_index_or, vec_len, vec_capacity}
+-- Chains of entries, one for each bucket: from its newest entry to the one before it in the bucket,
+-- and so on.
+use Rattle.std.specs.Prelude.{◌≡◌, ◌≤◌, ◌<◌, ◌*◌, ◌==◌, ℕ, Bool, List, length, map, slice_index_or}
+use Rattle.std.specs.Prelude.{vec_len, vec_capacity}
 use Rattle.gu_base.specs.declared.entry.Entry.{Entry}
 use Rattle.gu_ids.specs.declared.ids.Ids.{Ids}
 use Rattle.gu_ids.specs.declared.ids.Link.{Link}
@@ -21,16 +23,23 @@ newests_of heads = map (λ h. h.newest) heads
 abbrev pub is_in : List ℕ → ℕ → ℕ → ℕ → Bool
 is_in hashes n b place = bucket_of (slice_index_or hashes place 0) n == b
 
--- each bucket leads to the newest of its entries among the first k, and each of these to the newest one before it in its bucket
+-- each bucket leads to the newest of its entries among the first k, and each of these to the newest
+-- one before it in its bucket
 pub record AreChains (hashes befores heads : List ℕ) (k : ℕ) : Type 0 where
-  pub head : (b : ℕ) → b < length heads → slice_index_or heads b 0 ≡ newest (is_in hashes (length heads) b) k
-  pub before : (j : ℕ) → j < k → slice_index_or befores j 0 ≡ newest (is_in hashes (length heads) (bucket_of (slice_index_or hashes j 0) (length heads))) j
+  pub head : (b : ℕ) → b < length heads
+      → slice_index_or heads b 0 ≡ newest (is_in hashes (length heads) b) k
+  pub before : (j : ℕ) → j < k
+      → slice_index_or befores j 0
+      ≡ newest (is_in hashes (length heads) (bucket_of (slice_index_or hashes j 0) (length heads)))
+      j
 
 -- the chains are those of this history
 pub record AreIdsOf (ids : Ids) (h : List Entry) : Type 0 where
   pub hashes : hashes_of ids.links.items ≡ map (λ e. hash_of ids.key e.firm e.id) h
-  pub chains : AreChains (hashes_of ids.links.items) (befores_of ids.links.items) (newests_of ids.heads.items) (length ids.links.items)
-  pub marked : AreMarked (hashes_of ids.links.items) (marks_of ids.heads.items) (length ids.links.items)
+  pub chains : AreChains (hashes_of ids.links.items) (befores_of ids.links.items)
+      (newests_of ids.heads.items) (length ids.links.items)
+  pub marked : AreMarked (hashes_of ids.links.items) (marks_of ids.heads.items)
+      (length ids.links.items)
   pub few : length ids.links.items ≤ 4 * length ids.heads.items
 
 -- the entries that are kept
@@ -44,7 +53,9 @@ pub record IsReady (ids : Ids) : Type 0 where
 
 -- the places of the entries that share the bucket of this firm and id
 abbrev pub chain : Ids → List ℕ → List ℕ → ℕ → Bool
-chain ids firm id = is_in (hashes_of ids.links.items) (length (newests_of ids.heads.items)) (bucket_of (hash_of ids.key firm id) (length (newests_of ids.heads.items)))
+chain ids firm id =
+    is_in (hashes_of ids.links.items) (length (newests_of ids.heads.items))
+    (bucket_of (hash_of ids.key firm id) (length (newests_of ids.heads.items)))
 
 -- where a walk stands at a number: no entry above it has the firm and id, and it is of their chain
 pub record Stands (ids : Ids) (h : List Entry) (firm id : List ℕ) (number : ℕ) : Type 0 where

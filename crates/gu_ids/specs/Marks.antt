@@ -1,5 +1,6 @@
 -- Marks: which hashes a bucket may have entries of, two of 32 bits for each.
-use Rattle.std.specs.Prelude.{◌≡◌, ◌<◌, ◌-◌, ◌/◌, ◌%◌, ◌^◌, ◌==◌, ◌&&◌, ℕ, Bool, true, List, length, map, slice_index_or, bit_and}
+use Rattle.std.specs.Prelude.{◌≡◌, ◌<◌, ◌-◌, ◌/◌, ◌%◌, ◌^◌, ◌==◌, ◌&&◌, ℕ, Bool, true, List, length}
+use Rattle.std.specs.Prelude.{map, slice_index_or, bit_and}
 use Rattle.std.specs.Int.{bit_at}
 use Rattle.gu_ids.specs.declared.ids.Head.{Head}
 
@@ -28,4 +29,8 @@ marks_of heads = map (λ h. h.marks) heads
 
 -- each of the first k entries has its marks in its bucket
 abbrev pub AreMarked : List ℕ → List ℕ → ℕ → Type 0
-AreMarked hashes marks k = (j : ℕ) → j < k → bears (slice_index_or marks (bucket_of (slice_index_or hashes j 0) (length marks)) 0) (slice_index_or hashes j 0) ≡ true
+AreMarked hashes marks k =
+    (j : ℕ) → j < k
+    → bears (slice_index_or marks (bucket_of (slice_index_or hashes j 0) (length marks)) 0)
+    (slice_index_or hashes j 0)
+    ≡ true

@@ -1,5 +1,6 @@
 -- The newest of the entries that something holds of.
-use Rattle.std.specs.Prelude.{ℕ, zero, suc, Bool, false, ◌&&◌, List, length, map, slice_index_or, Option, Some, None, bytes_eq, if◌then◌else◌}
+use Rattle.std.specs.Prelude.{ℕ, zero, suc, Bool, false, ◌&&◌, List, length, map, slice_index_or}
+use Rattle.std.specs.Prelude.{Option, Some, None, bytes_eq, if◌then◌else◌}
 use Rattle.gu_base.specs.declared.entry.Entry.{Entry}
 
 -- the greatest of the numbers 1 to k with p at its place, which is one less; 0 is none

@@ -1,10 +1,13 @@
 //! The numbers of a history's entries, in chains by hash.
-ghost use Rattle.std.specs.Prelude.{true, ◌≡◌, ◌≤◌, ◌<◌, ◌*◌, ◌==◌, ◌&&◌, [], ◌∷◌, ◌++◌, ℕ, List, length, replicate, vec_capacity, OnOk};
+ghost use Rattle.std.specs.Prelude.{true, ◌≡◌, ◌≤◌, ◌<◌, ◌*◌, ◌==◌, ◌&&◌, [], ◌∷◌, ◌++◌, ℕ, List};
+ghost use Rattle.std.specs.Prelude.{length, replicate, vec_capacity, OnOk};
 ghost use Rattle.gu_base.specs.Limits.{most_entries};
 ghost use Rattle.gu_base.specs.declared.entry.Entry.{Entry};
 ghost use Rattle.gu_ids.specs.Hashing.{hash_of, IsHashOf};
-ghost use Rattle.gu_ids.specs.Chains.{hashes_of, befores_of, newests_of, AreChains, AreIdsOf, IsReady, Stands, count};
-ghost use Rattle.gu_ids.specs.Marks.{bucket_of, mark_of, second_mark_of, is_marked, bears, marks_of, AreMarked};
+ghost use Rattle.gu_ids.specs.Chains.{hashes_of, befores_of, newests_of, AreChains, AreIdsOf};
+ghost use Rattle.gu_ids.specs.Chains.{IsReady, Stands, count};
+ghost use Rattle.gu_ids.specs.Marks.{bucket_of, mark_of, second_mark_of, is_marked, bears};
+ghost use Rattle.gu_ids.specs.Marks.{marks_of, AreMarked};
 ghost use Rattle.gu_ids.specs.Newest.{is_of, newest_of};
 
 use crate::hash::{HashKey, IdHash, hash_anew};
@@ -25,9 +28,10 @@ struct Link {
 
 /// What is kept of a bucket.
 ///
-/// With four entries at most eight of the 32 bits are set, so a new id finds both its marks there by chance in one look-up
-/// of sixteen or fewer. One mark for each entry would tell as well where two entries share a bucket, but then there would be
-/// twice as many heads, and fewer of them in the processor's caches.
+/// With four entries at most eight of the 32 bits are set, so a new id finds both its marks there
+/// by chance in one look-up of sixteen or fewer. One mark for each entry would tell as well where
+/// two entries share a bucket, but then there would be twice as many heads, and fewer of them in
+/// the processor's caches.
 #[derive(Clone, Copy)]
 struct Head {
     /// The number of its newest entry, 0 for none.
@@ -58,7 +62,8 @@ fn bucket_of(hash: u32, buckets: usize) -> usize
     hash as usize & (buckets - 1)
 }
 
-/// Which bit of its bucket's marks is the first mark of a hash: its upper five bits tell, which choose no bucket.
+/// Which bit of its bucket's marks is the first mark of a hash: its upper five bits tell, which
+/// choose no bucket.
 #[inline(always)]
 #[tactic(auto, unfolding(crate::specs::Marks::mark_of))]
 fn mark_of(hash: u32) -> u32
@@ -104,8 +109,9 @@ impl Head {
         marks: 0,
     };
 
-    /// Whether an entry of this hash may be in the bucket: both its marks are there. Most ids that are new are told so, from one place in
-    /// memory and by a branch that nearly always goes one way.
+    /// Whether an entry of this hash may be in the bucket: both its marks are there. Most ids that
+    /// are new are told so, from one place in memory and by a branch that nearly always goes one
+    /// way.
     #[inline(always)]
     fn bears(self, hash: u32) -> bool
         ensures { result ≡ bears self.marks hash }
@@ -127,7 +133,8 @@ impl Head {
     }
 }
 
-/// Whether an entry has this firm and id. Its link is asked first: the entry itself is looked at where the hash is the same.
+/// Whether an entry has this firm and id. Its link is asked first: the entry itself is looked at
+/// where the hash is the same.
 fn is_of(link: Link, hash: u32, entry: &Entry, firm: &FirmId, id: &AllocId) -> bool
     ensures { result ≡ (link.hash == hash && is_of firm.now id.now entry.now) }
 {
@@ -146,7 +153,8 @@ impl Ids {
         }
     }
 
-    /// The number of the newest entry of this firm and id, which have this hash, in the history whose ids these are.
+    /// The number of the newest entry of this firm and id, which have this hash, in the history
+    /// whose ids these are.
     pub fn number(
         &self,
         entries: &[Entry],
@@ -171,8 +179,9 @@ impl Ids {
         self.walk(entries, firm, id, hash, head.newest)
     }
 
-    /// The same, by a walk along a chain from the entry of this number on, 0 for none. It stands apart, so that a new id is told by the marks alone:
-    /// that its bucket is empty too is a branch that can't be foreseen, and what comes behind would wait for it.
+    /// The same, by a walk along a chain from the entry of this number on, 0 for none. It stands
+    /// apart, so that a new id is told by the marks alone: that its bucket is empty too is a branch
+    /// that can't be foreseen, and what comes behind would wait for it.
     #[cold]
     #[inline(never)]
     fn walk(
@@ -201,8 +210,8 @@ impl Ids {
         None
     }
 
-    /// Makes room for one more entry. Where there are four times as many entries as buckets it makes twice as many buckets, and links all
-    /// entries anew.
+    /// Makes room for one more entry. Where there are four times as many entries as buckets it
+    /// makes twice as many buckets, and links all entries anew.
     ///
     /// # Errors
     ///
@@ -219,7 +228,8 @@ impl Ids {
         Ok(())
     }
 
-    /// Makes half as many buckets as there are entries, in place of those that are there, and links all entries anew.
+    /// Makes half as many buckets as there are entries, in place of those that are there, and links
+    /// all entries anew.
     #[cold]
     #[inline(never)]
     fn grow(&mut self) -> Result<(), Memory>
@@ -236,15 +246,18 @@ impl Ids {
 
     /// Links all entries anew, by their hashes. The buckets are new.
     fn link_anew(&mut self)
-        requires new { self.old.heads.items ≡ replicate (length self.old.heads.items) (record { newest = 0; marks = 0 }) }
+        requires new { self.old.heads.items
+            ≡ replicate (length self.old.heads.items) (record { newest = 0; marks = 0 }) }
         requires some { 1 ≤ length self.old.heads.items }
         requires numbered { count self.old ≤ most_entries }
         ensures hashes { hashes_of self.new.links.items ≡ hashes_of self.old.links.items }
         ensures buckets { length self.new.heads.items ≡ length self.old.heads.items }
         ensures count { count self.new ≡ count self.old }
         ensures key { self.new.key ≡ self.old.key }
-        ensures chains { AreChains (hashes_of self.new.links.items) (befores_of self.new.links.items) (newests_of self.new.heads.items) (count self.new) }
-        ensures marked { AreMarked (hashes_of self.new.links.items) (marks_of self.new.heads.items) (count self.new) }
+        ensures chains { AreChains (hashes_of self.new.links.items)
+            (befores_of self.new.links.items) (newests_of self.new.heads.items) (count self.new) }
+        ensures marked { AreMarked (hashes_of self.new.links.items) (marks_of self.new.heads.items)
+            (count self.new) }
     {
         let buckets = self.heads.len();
         for place in 0..self.links.len() {
@@ -278,7 +291,8 @@ impl Ids {
         self.file(hash.under(self.key, firm, id));
     }
 
-    /// Adds the entry that comes next in the history, whose firm and id have this hash under the key.
+    /// Adds the entry that comes next in the history, whose firm and id have this hash under the
+    /// key.
     #[inline(always)]
     fn file(&mut self, hash: u32)
         requires ready { IsReady self.old }
@@ -328,7 +342,8 @@ impl Ids {
 
 /// Leaves all buckets without entries.
 fn vacate(heads: &mut Vec<Head>)
-    ensures { heads.new.items ≡ replicate (length heads.old.items) (record { newest = 0; marks = 0 }) }
+    ensures { heads.new.items
+        ≡ replicate (length heads.old.items) (record { newest = 0; marks = 0 }) }
 {
     for bucket in 0..heads.len() {
         heads[bucket] = Head::NONE;

@@ -1,9 +1,11 @@
 -- The status of an entry.
 use Rattle.std.specs.Prelude.{ℕ, Bool, true, false}
 use Rattle.gu_base.specs.declared.state.State.{State}
-use Rattle.gu_base.specs.declared.state.State.TheVariants.{Held, Offered, Claimed, Refused, Cancelled, ReversalPending, Reversed}
+use Rattle.gu_base.specs.declared.state.State.TheVariants.{Held, Offered, Claimed, Refused}
+use Rattle.gu_base.specs.declared.state.State.TheVariants.{Cancelled, ReversalPending, Reversed}
 
--- the state that an entry shows, by its own, whether its reversal is pending, and whether it is reversed
+-- the state that an entry shows, by its own, whether its reversal is pending, and whether it is
+-- reversed
 abbrev pub shown_state : State → Bool → Bool → State
 shown_state own pending true = Reversed
 shown_state own true false = ReversalPending

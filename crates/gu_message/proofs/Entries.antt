@@ -10,13 +10,16 @@ abbrev pub entries_with : ℕ → Option (List ℕ) → List (ℕ × List ℕ) �
 entries_with tag None fs = entries tag fs
 entries_with tag (Some party) fs = (party, fields_before tag fs) ∷ entries tag fs
 
-pub entry_of : (tag : ℕ) (f : ℕ × List ℕ) (fs : List (ℕ × List ℕ)) → (f.0 == tag) ≡ true → length (entries tag (f ∷ fs)) ≡ 1 + length (entries tag fs)
+pub entry_of : (tag : ℕ) (f : ℕ × List ℕ) (fs : List (ℕ × List ℕ)) → (f.0 == tag) ≡ true
+    → length (entries tag (f ∷ fs)) ≡ 1 + length (entries tag fs)
 entry_of tag f fs e = rw e (omega arith)
 
-pub no_entry : (tag : ℕ) (f : ℕ × List ℕ) (fs : List (ℕ × List ℕ)) → (f.0 == tag) ≡ false → length (entries tag (f ∷ fs)) ≡ length (entries tag fs)
+pub no_entry : (tag : ℕ) (f : ℕ × List ℕ) (fs : List (ℕ × List ℕ)) → (f.0 == tag) ≡ false
+    → length (entries tag (f ∷ fs)) ≡ length (entries tag fs)
 no_entry tag f fs e = rw e refl
 
-one_or_none : (tag : ℕ) (f : ℕ × List ℕ) (fs : List (ℕ × List ℕ)) → length (entries tag fs) ≤ length (entries tag (f ∷ fs))
+one_or_none : (tag : ℕ) (f : ℕ × List ℕ) (fs : List (ℕ × List ℕ))
+    → length (entries tag fs) ≤ length (entries tag (f ∷ fs))
 one_or_none tag f fs = elim (cases_Bool (f.0 == tag)) [
   | inl same ↦ omega (arith, entry_of tag f fs same)
   | inr other ↦ omega (arith, no_entry tag f fs other)
@@ -33,4 +36,5 @@ behind_le tag first (f ∷ fs) = elim (cases_Bool (f.0 == first)) [
 -- one at most, and one behind a field: so it is the one
 pub lone_entry : (tag first : ℕ) (fs : List (ℕ × List ℕ)) → length (entries tag fs) ≤ 1
     → 1 ≤ length (entries tag (behind first fs)) → true ≡ (length (entries tag (behind first fs)) == 1)
-lone_entry tag first fs most least = sym (eq-eqb (length (entries tag (behind first fs))) 1 (omega (arith, most, least, behind_le tag first fs)))
+lone_entry tag first fs most least =
+    sym (eq-eqb (length (entries tag (behind first fs))) 1 (omega (arith, most, least, behind_le tag first fs)))

@@ -4,9 +4,14 @@ use Rattle.std.specs.Prelude.{decimal}
 use Rattle.std.proofs.lemmas.Fmt.{decimal_digit}
 use Rattle.gu_base.specs.Texts.{number_of, head_of, tail_of, refusal_text}
 use Rattle.gu_base.specs.declared.refusal.Refusal.{Refusal}
-use Rattle.gu_base.specs.declared.refusal.Refusal.TheVariants.{UnknownFirm, UnknownAccount, UnknownInstrument, UnknownNode, NotYours, AlreadySplit, StillOffered, NotOffered, BadLots, SumDiffers}
-use Rattle.gu_base.specs.declared.refusal.Refusal.TheVariants.{BadPartCount, NoAgreement, LimitExceeded, TooDeep, UnknownEntry, NotAChange, AlreadyReversed, NotAParty, NeedsConsent, StandsOn}
-use Rattle.gu_base.specs.declared.refusal.Refusal.TheVariants.{DuplicateId, BookFull, HouseOnly, AlreadyConsented, NothingPending, OwnAgreement, BadTerms, AgreementExists}
+use Rattle.gu_base.specs.declared.refusal.Refusal.TheVariants.{UnknownFirm, UnknownAccount, UnknownInstrument}
+use Rattle.gu_base.specs.declared.refusal.Refusal.TheVariants.{UnknownNode, NotYours, AlreadySplit, StillOffered}
+use Rattle.gu_base.specs.declared.refusal.Refusal.TheVariants.{NotOffered, BadLots, SumDiffers, BadPartCount}
+use Rattle.gu_base.specs.declared.refusal.Refusal.TheVariants.{NoAgreement, LimitExceeded, TooDeep, UnknownEntry}
+use Rattle.gu_base.specs.declared.refusal.Refusal.TheVariants.{NotAChange, AlreadyReversed, NotAParty, NeedsConsent}
+use Rattle.gu_base.specs.declared.refusal.Refusal.TheVariants.{StandsOn, DuplicateId, BookFull, HouseOnly}
+use Rattle.gu_base.specs.declared.refusal.Refusal.TheVariants.{AlreadyConsented, NothingPending, OwnAgreement, BadTerms}
+use Rattle.gu_base.specs.declared.refusal.Refusal.TheVariants.{AgreementExists}
 use Rattle.gu_message.specs.Bodies.{words_of}
 use Rattle.gu_message.proofs.Joined.{two_digits}
 

@@ -1,5 +1,6 @@
 -- A message that goes out: what it says, and what its sender adds.
-use Rattle.std.specs.Prelude.{ℕ, ◌≤◌, ◌<◌, ◌^◌, Bool, if◌then◌else◌, codes, List, ◌++◌, length, Option, IfSome, IsTrue}
+use Rattle.std.specs.Prelude.{ℕ, ◌≤◌, ◌<◌, ◌^◌, Bool, if◌then◌else◌, codes, List, ◌++◌, length}
+use Rattle.std.specs.Prelude.{Option, IfSome, IsTrue}
 use Rattle.std.specs.List.{AllByRecursion}
 use Rattle.gu_base.specs.Names.{is_firm_text}
 use Rattle.gu_base.specs.declared.entry.Answer.{Answer}
@@ -17,14 +18,17 @@ pub record Reply : Type 0 where
   pub kind : List ℕ
   pub fields : Message
 
--- the answer to a firm's call: a TradeCaptureReportAck for a trade, else an AllocationInstructionAck
+-- the answer to a firm's call: a TradeCaptureReportAck for a trade, else an
+-- AllocationInstructionAck
 abbrev pub answer_reply : List ℕ → Bool → List ℕ → Answer → Reply
 answer_reply firm trade id answer =
-    if trade then record { target = firm; kind = codes "AR"; fields = trade_ack_fields id answer } else record { target = firm; kind = codes "P"; fields = ack_fields id answer }
+    if trade then record { target = firm; kind = codes "AR"; fields = trade_ack_fields id answer }
+    else record { target = firm; kind = codes "P"; fields = ack_fields id answer }
 
 -- the Reject of a message
 abbrev pub reject_reply : Message → Reject → Reply
-reject_reply message fault = record { target = target_of message; kind = codes "3"; fields = reject_fields message fault }
+reject_reply message fault =
+    record { target = target_of message; kind = codes "3"; fields = reject_fields message fault }
 
 -- ---- sending
 
@@ -36,7 +40,14 @@ pub record Stamp : Type 0 where
   pub resent : Option (List ℕ)
 
 abbrev pub header_of : Stamp → Reply → HeaderText
-header_of s r = record { kind = r.kind; sender = s.sender; target = r.target; number = s.number; sent = s.sent; resent = s.resent }
+header_of s r = record {
+  kind = r.kind;
+  sender = s.sender;
+  target = r.target;
+  number = s.number;
+  sent = s.sent;
+  resent = s.resent;
+}
 
 -- the message that goes out
 abbrev pub message_of : Stamp → Reply → Message

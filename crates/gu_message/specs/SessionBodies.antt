@@ -1,19 +1,24 @@
 -- The bodies of the session's messages, as their fields.
-use Rattle.std.specs.Prelude.{ℕ, Bool, true, false, List, [], ◌∷◌, ◌++◌, codes, decimal, Option, Some, None}
+use Rattle.std.specs.Prelude.{ℕ, Bool, true, false, List, [], ◌∷◌, ◌++◌, codes, decimal, Option}
+use Rattle.std.specs.Prelude.{Some, None}
 use Rattle.gu_codec.specs.Messages.{Message}
 use Rattle.gu_codec.specs.Tags as tag
 use Rattle.gu_message.specs.declared.session_bodies.LogoutText.{LogoutText}
-use Rattle.gu_message.specs.declared.session_bodies.LogoutText.TheVariants.{BadHeader, NumberTooLow, SecondLogon, NoHeartbeat}
+use Rattle.gu_message.specs.declared.session_bodies.LogoutText.TheVariants.{BadHeader, NumberTooLow}
+use Rattle.gu_message.specs.declared.session_bodies.LogoutText.TheVariants.{SecondLogon}
+use Rattle.gu_message.specs.declared.session_bodies.LogoutText.TheVariants.{NoHeartbeat}
 
 -- ResetSeqNumFlag (141), where it was asked for
 abbrev pub reset_fields : Bool → Message
 reset_fields false = []
 reset_fields true = (tag.reset_seq_num_flag, codes "Y") ∷ []
 
--- Logon (A): EncryptMethod (98) `0`, HeartBtInt (108), DefaultApplVerID (1137) `9`, ResetSeqNumFlag (141) where it was asked for
+-- Logon (A): EncryptMethod (98) `0`, HeartBtInt (108), DefaultApplVerID (1137) `9`, ResetSeqNumFlag
+-- (141) where it was asked for
 abbrev pub logon_fields : ℕ → Bool → Message
 logon_fields heartbeat reset =
-    (tag.encrypt_method, codes "0") ∷ (tag.heart_bt_int, decimal heartbeat) ∷ (tag.default_appl_ver_id, codes "9") ∷ reset_fields reset
+    (tag.encrypt_method, codes "0") ∷ (tag.heart_bt_int, decimal heartbeat)
+    ∷ (tag.default_appl_ver_id, codes "9") ∷ reset_fields reset
 
 -- Heartbeat (0): TestReqID (112), where it answers a TestRequest
 abbrev pub heartbeat_fields : Option (List ℕ) → Message

@@ -1,5 +1,6 @@
 -- What the messages of the session mean, by the tags of each type.
-use Rattle.std.specs.Prelude.{ℕ, Bool, true, false, nat_le, nat_lt, bytes_eq, codes, if◌then◌else◌, List, length, Option, Some, None, Result, Ok, Err}
+use Rattle.std.specs.Prelude.{ℕ, Bool, true, false, nat_le, nat_lt, bytes_eq, codes, if◌then◌else◌}
+use Rattle.std.specs.Prelude.{List, length, Option, Some, None, Result, Ok, Err}
 use Rattle.std.specs.Option.{ok_or}
 use Rattle.gu_codec.specs.Tags as tags
 use Rattle.gu_message.specs.declared.fault.Reject.{Reject}
@@ -11,7 +12,9 @@ use Rattle.gu_message.specs.Checks.{◌>>=◌, needed, count_in, bad_value, bad_
 
 -- a flag: `Y` or `N`
 unfoldable pub flag_of : List ℕ → Option Bool
-flag_of t = if bytes_eq t (codes "Y") then Some true else (if bytes_eq t (codes "N") then Some false else None)
+flag_of t =
+    if bytes_eq t (codes "Y") then Some true
+    else (if bytes_eq t (codes "N") then Some false else None)
 
 -- a flag that may be missing, and then counts as `N`
 abbrev pub flag_if : ℕ → Option (List ℕ) → Result Bool Reject
@@ -21,7 +24,8 @@ flag_if tag (Some t) = ok_or (flag_of t) (bad_kind tag)
 abbrev pub flag_in : ℕ → List (ℕ × List ℕ) → Result Bool Reject
 flag_in tag fs = flag_if tag (value_of tag fs)
 
--- Logon (A): EncryptMethod (98) `0`, HeartBtInt (108), DefaultApplVerID (1137) `9`, ResetSeqNumFlag (141)
+-- Logon (A): EncryptMethod (98) `0`, HeartBtInt (108), DefaultApplVerID (1137) `9`, ResetSeqNumFlag
+-- (141)
 unfoldable pub logon_of : List (ℕ × List ℕ) → Result Inbound Reject
 logon_of fs = do
   method ← needed tags.encrypt_method fs

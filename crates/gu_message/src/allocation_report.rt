@@ -1,13 +1,18 @@
 //! AllocationReport (AS): what a firm is told of an entry that concerns it.
 
-ghost use Rattle.std.specs.Prelude.{◌≡◌, ◌↔◌, ◌≤◌, ◌≤ℤ◌, ◌+◌, ◌*◌, ◌++◌, IsTrue, OnOk, OnErr, codes, decimal, length, pos, unsigned_abs, vec_len, vec_capacity};
+ghost use Rattle.std.specs.Prelude.{◌≡◌, ◌↔◌, ◌≤◌, ◌≤ℤ◌, ◌+◌, ◌*◌, ◌++◌, IsTrue, OnOk, OnErr};
+ghost use Rattle.std.specs.Prelude.{codes, decimal, length, pos, unsigned_abs, vec_len};
+ghost use Rattle.std.specs.Prelude.{vec_capacity};
 ghost use Rattle.std.specs.List.{flat_map};
 ghost use Rattle.gu_base.specs.Limits.{most_parts};
 ghost use Rattle.gu_codec.specs.Limits.{longest_body};
 ghost use Rattle.gu_codec.specs.Tags as tag;
 ghost use Rattle.gu_codec.specs.Writing.{field, fields_text};
 ghost use Rattle.gu_message.specs.SendingTime.{sending_time};
-ghost use Rattle.gu_message.specs.AllocationReport.{node_text, target_text, side_text, account_text, part_fields, shown_parts, entry_fields, date_in, report_fields, ShowsFewParts};
+ghost use Rattle.gu_message.specs.AllocationReport.{node_text, target_text, side_text};
+ghost use Rattle.gu_message.specs.AllocationReport.{account_text, part_fields, shown_parts};
+ghost use Rattle.gu_message.specs.AllocationReport.{entry_fields, date_in, report_fields};
+ghost use Rattle.gu_message.specs.AllocationReport.{ShowsFewParts};
 
 use crate::bodies::append_number_field;
 use crate::sending_time::SendingTime;
@@ -93,7 +98,8 @@ fn append_part(out: &mut Vec<u8>, part: &ReportPart)
 /// Appends each part within the room that is there.
 fn append_each(out: &mut Vec<u8>, parts: &[ReportPart])
     requires { vec_len out.old + 256 * length parts.now ≤ vec_capacity out.old }
-    ensures items { out.new.items ≡ out.old.items ++ flat_map (λ p. fields_text (part_fields p)) parts.now }
+    ensures items { out.new.items
+        ≡ out.old.items ++ flat_map (λ p. fields_text (part_fields p)) parts.now }
     ensures len { vec_len out.new ≤ vec_len out.old + 256 * length parts.now }
 {
     for part in parts {
@@ -118,7 +124,8 @@ fn append_parts(out: &mut Vec<u8>, parts: &[ReportPart])
 fn append_entry(out: &mut Vec<u8>, report: &Report, date: &[u8])
     requires room { vec_len out.old + 768 ≤ vec_capacity out.old }
     requires date { length date.now ≤ 8 }
-    ensures items { out.new.items ≡ out.old.items ++ fields_text (entry_fields date.now report.now) }
+    ensures items { out.new.items
+        ≡ out.old.items ++ fields_text (entry_fields date.now report.now) }
     ensures len { vec_len out.new ≤ vec_len out.old + 700 }
     ensures room { vec_capacity out.old ≤ vec_capacity out.new }
 {
@@ -146,11 +153,12 @@ pub fn shows_few_parts(report: &Report) -> bool
 
 /// Appends the body of the AllocationReport (AS) of a report, on the day of this moment.
 ///
-/// AllocReportID (755), AllocTransType (71), AllocReportType (794), AllocStatus (87), RefAllocID (72), Symbol (55), Side (54), Quantity (53) and
-/// TradeDate (75), the UTC date of the moment; and where parts are shown NoAllocs (78), and of each AllocAccount (79), AllocQty (80) and the
-/// firm that gets it (539, 524, 525, 538). Quantities are in lots (`docs/profile.md`, "Reports"). The report shows at most 100 parts
-/// (`shows_few_parts`), and the moment is from 1970 on (`is_moment`); so the body has at most
-/// 65,000 bytes.
+/// AllocReportID (755), AllocTransType (71), AllocReportType (794), AllocStatus (87), RefAllocID
+/// (72), Symbol (55), Side (54), Quantity (53) and TradeDate (75), the UTC date of the moment; and
+/// where parts are shown NoAllocs (78), and of each AllocAccount (79), AllocQty (80) and the firm
+/// that gets it (539, 524, 525, 538). Quantities are in lots (`docs/profile.md`, "Reports"). The
+/// report shows at most 100 parts (`shows_few_parts`), and the moment is from 1970 on
+/// (`is_moment`); so the body has at most 65,000 bytes.
 ///
 /// # Errors
 ///
@@ -158,9 +166,15 @@ pub fn shows_few_parts(report: &Report) -> bool
 pub fn report(out: &mut Vec<u8>, report: &Report, moment: Timestamp) -> Result<(), Memory>
     requires few { ShowsFewParts report.now }
     requires moment { pos 0 ≤ℤ moment.nanosecond }
-    ensures ok { OnOk result (out.new.items ≡ out.old.items ++ fields_text (report_fields (date_in (sending_time (unsigned_abs moment.nanosecond))) report.now)) }
+    ensures ok { OnOk result
+        (out.new.items ≡ out.old.items
+        ++ fields_text
+        (report_fields (date_in (sending_time (unsigned_abs moment.nanosecond))) report.now)) }
     ensures err { OnErr result (out.new.items ≡ out.old.items) }
-    ensures short { OnOk result (length (fields_text (report_fields (date_in (sending_time (unsigned_abs moment.nanosecond))) report.now)) ≤ longest_body) }
+    ensures short { OnOk result
+        (length (fields_text
+        (report_fields (date_in (sending_time (unsigned_abs moment.nanosecond))) report.now))
+        ≤ longest_body) }
 {
     let parts = report.parts.as_slice();
     out.reserve(ENTRY_ROOM + PART_ROOM * parts.len())?;

@@ -5,7 +5,9 @@ ghost use Rattle.gu_codec.specs.Answer.{pairs};
 ghost use Rattle.gu_codec.specs.Tags as tag;
 ghost use Rattle.gu_codec.specs.Writing.{fields_text};
 ghost use Rattle.gu_message.specs.Finding.{value_of, is_text as is_text_of};
-ghost use Rattle.gu_message.specs.SessionBodies.{reset_fields, logon_fields, heartbeat_fields, test_request_fields, resend_request_fields, sequence_reset_fields, logout_text, logout_fields};
+ghost use Rattle.gu_message.specs.SessionBodies.{reset_fields, logon_fields, heartbeat_fields};
+ghost use Rattle.gu_message.specs.SessionBodies.{test_request_fields, resend_request_fields};
+ghost use Rattle.gu_message.specs.SessionBodies.{sequence_reset_fields, logout_text, logout_fields};
 
 use crate::bodies::{ROOM, append_number_field, append_number_text};
 use crate::finding::is_text;
@@ -17,9 +19,11 @@ use gu_codec::{Fields, append_field, tags};
 /// Why the service ends a session: Text (58) of its Logout (`docs/profile.md`, "The session").
 #[derive(Clone, Copy, PartialEq, Eq)]
 pub enum LogoutText {
-    /// `bad header`: SenderCompID (49), TargetCompID (56) or MsgSeqNum (34) is missing or isn't that of the connection.
+    /// `bad header`: SenderCompID (49), TargetCompID (56) or MsgSeqNum (34) is missing or isn't
+    /// that of the connection.
     BadHeader,
-    /// `sequence number too low, expected n`: MsgSeqNum (34) is below `expected`, and PossDupFlag (43) isn't `Y`.
+    /// `sequence number too low, expected n`: MsgSeqNum (34) is below `expected`, and PossDupFlag
+    /// (43) isn't `Y`.
     NumberTooLow { expected: u32 },
     /// `second logon`: a Logon came in a session that is open.
     SecondLogon,
@@ -27,14 +31,15 @@ pub enum LogoutText {
     NoHeartbeat,
 }
 
-/// Appends the body of a Logon (A): EncryptMethod (98) 0, HeartBtInt (108) in seconds, DefaultApplVerID (1137) 9, and where `reset` is true
-/// ResetSeqNumFlag (141) Y.
+/// Appends the body of a Logon (A): EncryptMethod (98) 0, HeartBtInt (108) in seconds,
+/// DefaultApplVerID (1137) 9, and where `reset` is true ResetSeqNumFlag (141) Y.
 ///
 /// # Errors
 ///
 /// `Memory` where the room was refused; `out` is then as it was.
 pub fn logon(out: &mut Vec<u8>, heartbeat: u32, reset: bool) -> Result<(), Memory>
-    ensures ok { OnOk result (out.new.items ≡ out.old.items ++ fields_text (logon_fields heartbeat reset)) }
+    ensures ok { OnOk result
+        (out.new.items ≡ out.old.items ++ fields_text (logon_fields heartbeat reset)) }
     ensures err { OnErr result (out.new.items ≡ out.old.items) }
     ensures short { OnOk result (length (fields_text (logon_fields heartbeat reset)) ≤ 256) }
 {
@@ -48,13 +53,15 @@ pub fn logon(out: &mut Vec<u8>, heartbeat: u32, reset: bool) -> Result<(), Memor
     Ok(())
 }
 
-/// Appends the body of a Heartbeat (0): the TestReqID (112) of the TestRequest that it answers, or nothing where it answers none.
+/// Appends the body of a Heartbeat (0): the TestReqID (112) of the TestRequest that it answers, or
+/// nothing where it answers none.
 ///
 /// # Errors
 ///
 /// `Memory` where the room was refused; `out` is then as it was.
 pub fn heartbeat(out: &mut Vec<u8>, answered: Option<TestReqId>) -> Result<(), Memory>
-    ensures ok { OnOk result (out.new.items ≡ out.old.items ++ fields_text (heartbeat_fields answered)) }
+    ensures ok { OnOk result
+        (out.new.items ≡ out.old.items ++ fields_text (heartbeat_fields answered)) }
     ensures err { OnErr result (out.new.items ≡ out.old.items) }
     ensures short { OnOk result (length (fields_text (heartbeat_fields answered)) ≤ 256) }
 {
@@ -80,13 +87,15 @@ pub fn test_request(out: &mut Vec<u8>) -> Result<(), Memory>
     Ok(())
 }
 
-/// Appends the body of a ResendRequest (2) for all messages from this number on: BeginSeqNo (7), and EndSeqNo (16) 0.
+/// Appends the body of a ResendRequest (2) for all messages from this number on: BeginSeqNo (7),
+/// and EndSeqNo (16) 0.
 ///
 /// # Errors
 ///
 /// `Memory` where the room was refused; `out` is then as it was.
 pub fn resend_request(out: &mut Vec<u8>, from: u32) -> Result<(), Memory>
-    ensures ok { OnOk result (out.new.items ≡ out.old.items ++ fields_text (resend_request_fields from)) }
+    ensures ok { OnOk result
+        (out.new.items ≡ out.old.items ++ fields_text (resend_request_fields from)) }
     ensures err { OnErr result (out.new.items ≡ out.old.items) }
     ensures short { OnOk result (length (fields_text (resend_request_fields from)) ≤ 256) }
 {
@@ -96,13 +105,15 @@ pub fn resend_request(out: &mut Vec<u8>, from: u32) -> Result<(), Memory>
     Ok(())
 }
 
-/// Appends the body of a SequenceReset (4) that fills a gap up to this number, which is the next: GapFillFlag (123) Y and NewSeqNo (36).
+/// Appends the body of a SequenceReset (4) that fills a gap up to this number, which is the next:
+/// GapFillFlag (123) Y and NewSeqNo (36).
 ///
 /// # Errors
 ///
 /// `Memory` where the room was refused; `out` is then as it was.
 pub fn sequence_reset(out: &mut Vec<u8>, next: u32) -> Result<(), Memory>
-    ensures ok { OnOk result (out.new.items ≡ out.old.items ++ fields_text (sequence_reset_fields next)) }
+    ensures ok { OnOk result
+        (out.new.items ≡ out.old.items ++ fields_text (sequence_reset_fields next)) }
     ensures err { OnErr result (out.new.items ≡ out.old.items) }
     ensures short { OnOk result (length (fields_text (sequence_reset_fields next)) ≤ 256) }
 {

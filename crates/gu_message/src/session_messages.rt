@@ -1,8 +1,11 @@
-//! The messages of the session: Logon, Heartbeat, TestRequest, ResendRequest, Reject, SequenceReset and Logout.
+//! The messages of the session: Logon, Heartbeat, TestRequest, ResendRequest, Reject, SequenceReset
+//! and Logout.
 
 ghost use Rattle.std.specs.Prelude.{◌≡◌};
 ghost use Rattle.gu_message.specs.Checks.{count_in as count_in_of};
-ghost use Rattle.gu_message.specs.SessionMessages.{flag_of, flag_in as flag_in_of, logon_of, test_request_of, resend_request_of, sequence_reset_of, session_message_of};
+ghost use Rattle.gu_message.specs.SessionMessages.{flag_of, flag_in as flag_in_of, logon_of};
+ghost use Rattle.gu_message.specs.SessionMessages.{test_request_of, resend_request_of};
+ghost use Rattle.gu_message.specs.SessionMessages.{sequence_reset_of, session_message_of};
 
 use crate::fault::Reject;
 use crate::inbound::Inbound;

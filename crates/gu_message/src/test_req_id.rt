@@ -9,7 +9,8 @@ use std::marker::Model;
 /// A TestReqID (112) has at most so many bytes.
 const BYTES: usize = 64;
 
-/// A TestReqID (112): at most 64 bytes, which lie in the value itself. A clause sees the list of its bytes.
+/// A TestReqID (112): at most 64 bytes, which lie in the value itself. A clause sees the list of
+/// its bytes.
 #[derive(Clone, Copy)]
 pub struct TestReqId {
     /// The places behind the text hold 0, so that equal texts are equal values.
@@ -18,7 +19,8 @@ pub struct TestReqId {
 }
 
 impl Model for TestReqId {
-    ghost use Rattle.std.specs.Prelude.{◌≡◌, ◌≤◌, ◌++◌, ◌-◌, List, ℕ, length, take, drop, replicate};
+    ghost use Rattle.std.specs.Prelude.{◌≡◌, ◌≤◌, ◌++◌, ◌-◌, List, ℕ, length, take, drop};
+    ghost use Rattle.std.specs.Prelude.{replicate};
     ghost use Rattle.std.proofs.Common.{arith, length-take-le};
     ghost use Rattle.gu_base.specs.Cells.{cells_back};
     ghost use Rattle.gu_message.specs.Limits.{longest_test_req_id};
@@ -27,9 +29,13 @@ impl Model for TestReqId {
 
     ghost view = { λ s. take s.len s.cells };
 
-    ghost invariant = { λ s. (s.len ≤ longest_test_req_id) × (length s.cells ≡ longest_test_req_id) × (drop s.len s.cells ≡ replicate (longest_test_req_id - s.len) 0) };
+    ghost invariant = { λ s. (s.len ≤ longest_test_req_id) × (length s.cells ≡ longest_test_req_id)
+        × (drop s.len s.cells ≡ replicate (longest_test_req_id - s.len) 0) };
 
-    ghost inverse = { λ s. record { cells = s ++ replicate (longest_test_req_id - length s) 0; len = length s } };
+    ghost inverse = { λ s. record {
+      cells = s ++ replicate (longest_test_req_id - length s) 0;
+      len = length s;
+    } };
 
     ghost inverse_ok = { λ s h i. record {
       cells = cells_back longest_test_req_id s.len s.cells h.0 h.1 h.2 i;

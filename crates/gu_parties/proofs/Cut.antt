@@ -1,5 +1,6 @@
 -- How a text is cut at its first separator.
-use Rattle.std.proofs.Common.{◌≡◌, ◌≤◌, ◌<◌, ℕ, ◌+◌, ◌-◌, Bool, true, false, List, [], ◌∷◌, length, take, drop, refl, arith, suc, Some, None}
+use Rattle.std.proofs.Common.{◌≡◌, ◌≤◌, ◌<◌, ℕ, ◌+◌, ◌-◌, Bool, true, false, List, [], ◌∷◌, length, take, drop, refl}
+use Rattle.std.proofs.Common.{arith, suc, Some, None}
 use Rattle.std.specs.Prelude.{eqb, position}
 use Rattle.std.specs.List.{position_or_len}
 use Rattle.std.proofs.lemmas.Grind.{common_steps}
@@ -14,7 +15,8 @@ cut_some end s [] i e h = absurd (omega arith)
 cut_some end s (b ∷ bs) i e h = by (eqb b s) refl (cut_some end s bs)
   where
     by : (t : Bool) → eqb b s ≡ t
-        → ((j : ℕ) → position_or_len (λ b. eqb b s) bs ≡ j → j < length bs → pieces end s bs ≡ take j bs ∷ pieces end s (drop (j + 1) bs))
+        → ((j : ℕ) → position_or_len (λ b. eqb b s) bs ≡ j → j < length bs
+        → pieces end s bs ≡ take j bs ∷ pieces end s (drop (j + 1) bs))
         → pieces end s (b ∷ bs) ≡ take i (b ∷ bs) ∷ pieces end s (drop (i + 1) (b ∷ bs))
     by true t rest =
         let at : 0 ≡ i = rw t at e in
@@ -30,7 +32,8 @@ cut_none : (s : ℕ) (bs : List ℕ) → length bs ≤ position_or_len (λ b. eq
 cut_none s [] h = refl
 cut_none s (b ∷ bs) h = by (eqb b s) refl (cut_none s bs)
   where
-    by : (t : Bool) → eqb b s ≡ t → (length bs ≤ position_or_len (λ b. eqb b s) bs → pieces ([] ∷ []) s bs ≡ bs ∷ []) → pieces ([] ∷ []) s (b ∷ bs) ≡ (b ∷ bs) ∷ []
+    by : (t : Bool) → eqb b s ≡ t → (length bs ≤ position_or_len (λ b. eqb b s) bs → pieces ([] ∷ []) s bs ≡ bs ∷ [])
+        → pieces ([] ∷ []) s (b ∷ bs) ≡ (b ∷ bs) ∷ []
     by true t rest = let no : suc (length bs) ≤ 0 = rw t at h in absurd (omega arith)
     by false t rest =
         let within : suc (length bs) ≤ 1 + position_or_len (λ b. eqb b s) bs = rw t at h in
@@ -49,7 +52,8 @@ cut_not s bs e =
     cut_none s bs none
 
 -- a text that isn't empty ends with its last line, with or without LF
-line_none : (s : ℕ) (bs : List ℕ) → 0 < length bs → length bs ≤ position_or_len (λ b. eqb b s) bs → pieces [] s bs ≡ bs ∷ []
+line_none : (s : ℕ) (bs : List ℕ) → 0 < length bs → length bs ≤ position_or_len (λ b. eqb b s) bs
+    → pieces [] s bs ≡ bs ∷ []
 line_none s [] z h = absurd (omega arith)
 line_none s (b ∷ []) z h = by (eqb b s) refl
   where
@@ -58,7 +62,8 @@ line_none s (b ∷ []) z h = by (eqb b s) refl
     by false t = rw t refl
 line_none s (b ∷ c ∷ bs) z h = by (eqb b s) refl (line_none s (c ∷ bs) (omega arith))
   where
-    by : (t : Bool) → eqb b s ≡ t → (length (c ∷ bs) ≤ position_or_len (λ b. eqb b s) (c ∷ bs) → pieces [] s (c ∷ bs) ≡ (c ∷ bs) ∷ [])
+    by : (t : Bool) → eqb b s ≡ t
+        → (length (c ∷ bs) ≤ position_or_len (λ b. eqb b s) (c ∷ bs) → pieces [] s (c ∷ bs) ≡ (c ∷ bs) ∷ [])
         → pieces [] s (b ∷ c ∷ bs) ≡ (b ∷ c ∷ bs) ∷ []
     by true t rest = let no : suc (length (c ∷ bs)) ≤ 0 = rw t at h in absurd (omega arith)
     by false t rest =

@@ -15,10 +15,12 @@ in_range_limits a h = grind (arith, common_steps)
 pub found_in_range : (test : Pair → Bool) (es : List (Pair × Agreement)) → IsTrue (are_in_range es)
     → IfSome (lookup test es) (λ a. (a.rate ≤ highest_rate) × (a.limit ≤ highest_limit))
 found_in_range test [] h = search rules
-found_in_range test (e ∷ es) h = by (test e.0) refl (and_parts (is_in_range e.1) (are_in_range es) h) (found_in_range test es)
+found_in_range test (e ∷ es) h =
+    by (test e.0) refl (and_parts (is_in_range e.1) (are_in_range es) h) (found_in_range test es)
   where
     by : (t : Bool) → test e.0 ≡ t → IsTrue (is_in_range e.1) × IsTrue (are_in_range es)
-        → (IsTrue (are_in_range es) → IfSome (lookup test es) (λ a. (a.rate ≤ highest_rate) × (a.limit ≤ highest_limit)))
+        → (IsTrue (are_in_range es)
+        → IfSome (lookup test es) (λ a. (a.rate ≤ highest_rate) × (a.limit ≤ highest_limit)))
         → IfSome (lookup test (e ∷ es)) (λ a. (a.rate ≤ highest_rate) × (a.limit ≤ highest_limit))
     by true t here rest = rw t (in_range_limits e.1 here.0)
     by false t here rest = rw t (rest here.1)

@@ -12,7 +12,8 @@ pub first_and_rest : (bs : List ℕ) → (w : List ℕ) × ((ws : List (List ℕ
 first_and_rest [] = ([], ([], refl))
 first_and_rest (b ∷ bs) = by (eqb b 32) refl (first_and_rest bs)
   where
-    by : (t : Bool) → eqb b 32 ≡ t → (w : List ℕ) × ((ws : List (List ℕ)) × (words bs ≡ w ∷ ws)) → (w : List ℕ) × ((ws : List (List ℕ)) × (words (b ∷ bs) ≡ w ∷ ws))
+    by : (t : Bool) → eqb b 32 ≡ t → (w : List ℕ) × ((ws : List (List ℕ)) × (words bs ≡ w ∷ ws))
+        → (w : List ℕ) × ((ws : List (List ℕ)) × (words (b ∷ bs) ≡ w ∷ ws))
     by true t p = ([], (words bs, rw t refl))
     by false t p = (b ∷ p.0, (p.1.0, rw (t, p.1.1) refl))
 

@@ -1,5 +1,6 @@
 -- A step over a line does what the definition of the table says of that line.
-use Rattle.std.proofs.Common.{◌≡◌, ℕ, Bool, true, false, List, [], ◌∷◌, ◌++◌, Option, Some, None, Result, Ok, Err, refl, sym, ◌∙◌}
+use Rattle.std.proofs.Common.{◌≡◌, ℕ, Bool, true, false, List, [], ◌∷◌, ◌++◌, Option, Some, None, Result, Ok, Err, refl}
+use Rattle.std.proofs.Common.{sym, ◌∙◌}
 use Rattle.std.specs.Prelude.{bytes_eq, codes, IsOk}
 use Rattle.std.specs.List.{filter_map}
 use Rattle.std.proofs.lemmas.List.{append-nil}
@@ -25,7 +26,8 @@ with_line t ws = record {
 no_instrument : (w : List ℕ) → bytes_eq w (codes "FIRM") ≡ true → bytes_eq w (codes "INSTRUMENT") ≡ false
 no_instrument w e = let same : w ≡ codes "FIRM" = (bytes_eq-Decides w (codes "FIRM")).0 e in rw same refl
 
-of_two : (t : House) (w x : List ℕ) → add_line t (w ∷ x ∷ []) ≡ unless_caused (cause_of t (w ∷ x ∷ [])) (with_line t (w ∷ x ∷ []))
+of_two : (t : House) (w x : List ℕ)
+    → add_line t (w ∷ x ∷ []) ≡ unless_caused (cause_of t (w ∷ x ∷ [])) (with_line t (w ∷ x ∷ []))
 of_two t w x = by (bytes_eq w (codes "FIRM")) refl (bytes_eq w (codes "INSTRUMENT")) refl
   where
     by : (f : Bool) → bytes_eq w (codes "FIRM") ≡ f → (i : Bool) → bytes_eq w (codes "INSTRUMENT") ≡ i
@@ -34,7 +36,8 @@ of_two t w x = by (bytes_eq w (codes "FIRM")) refl (bytes_eq w (codes "INSTRUMEN
     by false f true i = rw (f, i) (simp append-nil)
     by false f false i = rw (f, i) refl
 
-of_three : (t : House) (w x y : List ℕ) → add_line t (w ∷ x ∷ y ∷ []) ≡ unless_caused (cause_of t (w ∷ x ∷ y ∷ [])) (with_line t (w ∷ x ∷ y ∷ []))
+of_three : (t : House) (w x y : List ℕ)
+    → add_line t (w ∷ x ∷ y ∷ []) ≡ unless_caused (cause_of t (w ∷ x ∷ y ∷ [])) (with_line t (w ∷ x ∷ y ∷ []))
 of_three t w x y = by (bytes_eq w (codes "ACCOUNT")) refl
   where
     by : (a : Bool) → bytes_eq w (codes "ACCOUNT") ≡ a
@@ -42,11 +45,14 @@ of_three t w x y = by (bytes_eq w (codes "ACCOUNT")) refl
     by true a = rw a (simp append-nil)
     by false a = rw a refl
 
-of_five : (t : House) (w g k r l : List ℕ) → add_line t (w ∷ g ∷ k ∷ r ∷ l ∷ []) ≡ unless_caused (cause_of t (w ∷ g ∷ k ∷ r ∷ l ∷ [])) (with_line t (w ∷ g ∷ k ∷ r ∷ l ∷ []))
+of_five : (t : House) (w g k r l : List ℕ)
+    → add_line t (w ∷ g ∷ k ∷ r ∷ l ∷ [])
+    ≡ unless_caused (cause_of t (w ∷ g ∷ k ∷ r ∷ l ∷ [])) (with_line t (w ∷ g ∷ k ∷ r ∷ l ∷ []))
 of_five t w g k r l = by (bytes_eq w (codes "AGREEMENT")) refl
   where
     by : (a : Bool) → bytes_eq w (codes "AGREEMENT") ≡ a
-        → add_line t (w ∷ g ∷ k ∷ r ∷ l ∷ []) ≡ unless_caused (cause_of t (w ∷ g ∷ k ∷ r ∷ l ∷ [])) (with_line t (w ∷ g ∷ k ∷ r ∷ l ∷ []))
+        → add_line t (w ∷ g ∷ k ∷ r ∷ l ∷ [])
+        ≡ unless_caused (cause_of t (w ∷ g ∷ k ∷ r ∷ l ∷ [])) (with_line t (w ∷ g ∷ k ∷ r ∷ l ∷ []))
     by true a = rw a (simp append-nil)
     by false a = rw a refl
 
@@ -84,6 +90,13 @@ addable t ws h = by (add_line t ws) refl
     by (Err e) r = let no : false ≡ true = rw r at h in cc
 
 -- one line more
-pub table_more : (house : List ℕ) (done : List (List (List ℕ))) (ws : List (List ℕ)) → table_of house (done ++ ws ∷ []) ≡ with_line (table_of house done) ws
+pub table_more : (house : List ℕ) (done : List (List (List ℕ))) (ws : List (List ℕ))
+    → table_of house (done ++ ws ∷ []) ≡ with_line (table_of house done) ws
 table_more house done ws =
-    rw (filter_map-append firm_of done (ws ∷ []), filter_map-append account_of done (ws ∷ []), filter_map-append instrument_of done (ws ∷ []), filter_map-append agreement_of done (ws ∷ [])) refl
+    rw (
+      filter_map-append firm_of done (ws ∷ []),
+      filter_map-append account_of done (ws ∷ []),
+      filter_map-append instrument_of done (ws ∷ []),
+      filter_map-append agreement_of done (ws ∷ []),
+    )
+    refl

@@ -5,34 +5,37 @@ use Rattle.gu_base.specs.House.{House}
 use Rattle.gu_parties.specs.Words.{lines}
 use Rattle.gu_parties.specs.HouseFile.{house_of_lines}
 use Rattle.gu_parties.specs.declared.fault.Cause.{Cause}
-use Rattle.gu_parties.specs.declared.fault.Cause.TheVariants.{BadVersion, NoHouse, BadLine, BadName, BadNumber, OwnAgreement, UnknownName, NamedTwice}
+use Rattle.gu_parties.specs.declared.fault.Cause.TheVariants.{BadVersion, NoHouse, BadLine, BadName, BadNumber}
+use Rattle.gu_parties.specs.declared.fault.Cause.TheVariants.{OwnAgreement, UnknownName, NamedTwice}
 
 -- what a house file says
 abbrev house_of : List ℕ → Result House (ℕ × Cause)
 house_of text = house_of_lines (lines text)
 
 -- a house, a firm with an account, an instrument, and an agreement; the last line lacks its LF
-lawful : house_of (codes "GIVEUP 1\nHOUSE HSE\nFIRM AAA\nACCOUNT AAA A1\nINSTRUMENT ESZ6\nAGREEMENT HSE AAA 125 500") ≡ Ok (record {
-  house = codes "HSE";
-  firms = codes "AAA" ∷ [];
-  accounts = record { firm = codes "AAA"; name = codes "A1" } ∷ [];
-  instruments = codes "ESZ6" ∷ [];
-  agreements = (record { giver = codes "HSE"; taker = codes "AAA" }, record { rate = 125; limit = 500 }) ∷ [];
-  opening = [];
-})
+lawful : house_of (codes "GIVEUP 1\nHOUSE HSE\nFIRM AAA\nACCOUNT AAA A1\nINSTRUMENT ESZ6\nAGREEMENT HSE AAA 125 500")
+    ≡ Ok (record {
+      house = codes "HSE";
+      firms = codes "AAA" ∷ [];
+      accounts = record { firm = codes "AAA"; name = codes "A1" } ∷ [];
+      instruments = codes "ESZ6" ∷ [];
+      agreements = (record { giver = codes "HSE"; taker = codes "AAA" }, record { rate = 125; limit = 500 }) ∷ [];
+      opening = [];
+    })
 unfolding number_upto
 lawful = refl
 
 -- of version 2, the agreements are those of the opening
-opens : house_of (codes "GIVEUP 2\nHOUSE HSE\nFIRM AAA\nAGREEMENT HSE AAA 125 500\nAGREEMENT AAA HSE 0 0\n") ≡ Ok (record {
-  house = codes "HSE";
-  firms = codes "AAA" ∷ [];
-  accounts = [];
-  instruments = [];
-  agreements = [];
-  opening = (record { giver = codes "HSE"; taker = codes "AAA" }, record { rate = 125; limit = 500 })
-      ∷ (record { giver = codes "AAA"; taker = codes "HSE" }, record { rate = 0; limit = 0 }) ∷ [];
-})
+opens : house_of (codes "GIVEUP 2\nHOUSE HSE\nFIRM AAA\nAGREEMENT HSE AAA 125 500\nAGREEMENT AAA HSE 0 0\n")
+    ≡ Ok (record {
+      house = codes "HSE";
+      firms = codes "AAA" ∷ [];
+      accounts = [];
+      instruments = [];
+      agreements = [];
+      opening = (record { giver = codes "HSE"; taker = codes "AAA" }, record { rate = 125; limit = 500 })
+          ∷ (record { giver = codes "AAA"; taker = codes "HSE" }, record { rate = 0; limit = 0 }) ∷ [];
+    })
 unfolding number_upto
 opens = refl
 
@@ -60,7 +63,8 @@ unknown = refl
 twice : house_of (codes "GIVEUP 1\nHOUSE HSE\nFIRM HSE\n") ≡ Err (3, NamedTwice)
 twice = refl
 
-opens_twice : house_of (codes "GIVEUP 2\nHOUSE HSE\nFIRM A\nAGREEMENT HSE A 1 1\nAGREEMENT HSE A 2 2\n") ≡ Err (5, NamedTwice)
+opens_twice : house_of (codes "GIVEUP 2\nHOUSE HSE\nFIRM A\nAGREEMENT HSE A 1 1\nAGREEMENT HSE A 2 2\n")
+    ≡ Err (5, NamedTwice)
 unfolding number_upto
 opens_twice = refl
 

@@ -1,11 +1,15 @@
--- What is wrong with a line, after the table of the lines before it. A line is the list of its words.
-use Rattle.std.specs.Prelude.{ℕ, Bool, ◌||◌, List, [], ◌∷◌, Option, None, Some, is_some, bytes_eq, codes, if◌then◌else◌}
+-- What is wrong with a line, after the table of the lines before it. A line is the list of its
+-- words.
+use Rattle.std.specs.Prelude.{ℕ, Bool, ◌||◌, List, [], ◌∷◌, Option, None, Some, is_some, bytes_eq}
+use Rattle.std.specs.Prelude.{codes, if◌then◌else◌}
 use Rattle.gu_base.specs.House.{House, knows_firm, knows_account, knows_instrument, agreement}
 use Rattle.gu_base.specs.Names.{is_firm_text}
 use Rattle.gu_parties.specs.Numbers.{rate_of, limit_of}
 use Rattle.gu_parties.specs.Table.{is_fixed, is_opening}
 use Rattle.gu_parties.specs.declared.fault.Cause.{Cause}
-use Rattle.gu_parties.specs.declared.fault.Cause.TheVariants.{BadVersion, NoHouse, BadLine, BadName, BadNumber, OwnAgreement, UnknownName, NamedTwice}
+use Rattle.gu_parties.specs.declared.fault.Cause.TheVariants.{BadVersion, NoHouse, BadLine, BadName}
+use Rattle.gu_parties.specs.declared.fault.Cause.TheVariants.{BadNumber, OwnAgreement, UnknownName}
+use Rattle.gu_parties.specs.declared.fault.Cause.TheVariants.{NamedTwice}
 
 -- the cause, unless the test holds
 abbrev pub unless : Bool → Cause → Option Cause
@@ -59,8 +63,10 @@ cause_of t (w ∷ x ∷ []) =
     if bytes_eq w (codes "FIRM") then firm_cause t x
     else if bytes_eq w (codes "INSTRUMENT") then instrument_cause t x
     else Some BadLine
-cause_of t (w ∷ f ∷ a ∷ []) = if bytes_eq w (codes "ACCOUNT") then account_cause t f a else Some BadLine
-cause_of t (w ∷ giver ∷ taker ∷ r ∷ l ∷ []) = if bytes_eq w (codes "AGREEMENT") then agreement_cause t giver taker r l else Some BadLine
+cause_of t (w ∷ f ∷ a ∷ []) =
+    if bytes_eq w (codes "ACCOUNT") then account_cause t f a else Some BadLine
+cause_of t (w ∷ giver ∷ taker ∷ r ∷ l ∷ []) =
+    if bytes_eq w (codes "AGREEMENT") then agreement_cause t giver taker r l else Some BadLine
 cause_of t _ = Some BadLine
 
 -- of the words behind HOUSE: they are the house's name alone
@@ -72,7 +78,8 @@ name_cause _ = Some BadLine
 abbrev pub house_cause : Option (List (List ℕ)) → Option Cause
 house_cause None = Some NoHouse
 house_cause (Some []) = Some NoHouse
-house_cause (Some (w ∷ rest)) = first (unless (bytes_eq w (codes "HOUSE")) NoHouse ∷ name_cause rest ∷ [])
+house_cause (Some (w ∷ rest)) =
+    first (unless (bytes_eq w (codes "HOUSE")) NoHouse ∷ name_cause rest ∷ [])
 
 -- of line 1, which may be missing
 abbrev pub version_cause : Option (List ℕ) → Option Cause

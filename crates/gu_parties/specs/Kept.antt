@@ -14,7 +14,8 @@ table t = record {
   opening = t.opening.entries;
 }
 
--- the agreements could be made by calls, each of them, whether they are fixed or those of the opening
+-- the agreements could be made by calls, each of them, whether they are fixed or those of the
+-- opening
 pub record HasLawfulAgreements (t : House) : Type 0 where
   pub fixed : HasLawfulOpening (opened t)
   pub made : HasLawfulOpening t

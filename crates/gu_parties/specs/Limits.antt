@@ -1,4 +1,5 @@
--- How large a house file and its numbers may be. The code has constants of its own, and what is proved of it fails where one of them differs from these.
+-- How large a house file and its numbers may be. The code has constants of its own, and what is
+-- proved of it fails where one of them differs from these.
 use Rattle.std.specs.Prelude.{ℕ}
 
 -- the lines of a house file

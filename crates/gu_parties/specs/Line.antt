@@ -5,7 +5,8 @@ use Rattle.gu_parties.specs.Steps.{add_firm, add_account, add_instrument, add_ag
 use Rattle.gu_parties.specs.declared.fault.Cause.{Cause}
 use Rattle.gu_parties.specs.declared.fault.Cause.TheVariants.{BadLine}
 use Rattle.gu_parties.specs.declared.line.HouseLine.{HouseLine}
-use Rattle.gu_parties.specs.declared.line.HouseLine.TheVariants.{Firm, Account, Instrument, Agreement, Other}
+use Rattle.gu_parties.specs.declared.line.HouseLine.TheVariants.{Firm, Account, Instrument}
+use Rattle.gu_parties.specs.declared.line.HouseLine.TheVariants.{Agreement, Other}
 
 -- a line by its first word and its number of words
 abbrev pub says : HouseLine → House → Result House Cause

@@ -1,5 +1,6 @@
 -- The house table that lines name. A line is the list of its words.
-use Rattle.std.specs.Prelude.{ℕ, Bool, List, [], ◌∷◌, Option, None, Some, bytes_eq, codes, if◌then◌else◌}
+use Rattle.std.specs.Prelude.{ℕ, Bool, List, [], ◌∷◌, Option, None, Some, bytes_eq, codes}
+use Rattle.std.specs.Prelude.{if◌then◌else◌}
 use Rattle.std.specs.List.{filter_map}
 use Rattle.gu_base.specs.House.{House}
 use Rattle.gu_base.specs.declared.house.Account.{Account}
@@ -14,7 +15,8 @@ firm_of _ = None
 
 -- the account of a line `ACCOUNT f a`
 abbrev pub account_of : List (List ℕ) → Option Account
-account_of (w ∷ f ∷ a ∷ []) = if bytes_eq w (codes "ACCOUNT") then Some (record { firm = f; name = a }) else None
+account_of (w ∷ f ∷ a ∷ []) =
+    if bytes_eq w (codes "ACCOUNT") then Some (record { firm = f; name = a }) else None
 account_of _ = None
 
 -- the instrument of a line `INSTRUMENT i`
@@ -24,12 +26,14 @@ instrument_of _ = None
 
 -- the agreement of a giver and a taker, where both terms are numbers in range
 abbrev pub terms_of : List ℕ → List ℕ → Option ℕ → Option ℕ → Option (Pair × Agreement)
-terms_of giver taker (Some rate) (Some limit) = Some (record { giver = giver; taker = taker }, record { rate = rate; limit = limit })
+terms_of giver taker (Some rate) (Some limit) =
+    Some (record { giver = giver; taker = taker }, record { rate = rate; limit = limit })
 terms_of giver taker _ _ = None
 
 -- the agreement of a line `AGREEMENT g t r l`
 abbrev pub agreement_of : List (List ℕ) → Option (Pair × Agreement)
-agreement_of (w ∷ g ∷ t ∷ r ∷ l ∷ []) = if bytes_eq w (codes "AGREEMENT") then terms_of g t (rate_of r) (limit_of l) else None
+agreement_of (w ∷ g ∷ t ∷ r ∷ l ∷ []) =
+    if bytes_eq w (codes "AGREEMENT") then terms_of g t (rate_of r) (limit_of l) else None
 agreement_of _ = None
 
 -- the table of a house and these lines: what they name, in their order, each agreement fixed

@@ -1,7 +1,8 @@
 //! What each line of a house file adds to the table.
 ghost use Rattle.std.specs.Prelude.{◌≡◌, [], IsTrue, OnErr};
 ghost use Rattle.gu_parties.specs.Terms.{is_in_range};
-ghost use Rattle.gu_parties.specs.Steps.{add_firm, add_account, add_instrument, add_terms, add_agreement, Does};
+ghost use Rattle.gu_parties.specs.Steps.{add_firm, add_account, add_instrument, add_terms};
+ghost use Rattle.gu_parties.specs.Steps.{add_agreement, Does};
 
 use crate::fault::Cause;
 use crate::house::House;
@@ -103,7 +104,8 @@ impl House {
         limit: &[u8],
     ) -> Result<(), Cause>
         requires none_made { self.old.opening ≡ [] }
-        ensures does { Does self.new result (add_agreement self.old giver.now taker.now rate.now limit.now) }
+        ensures does { Does self.new result
+            (add_agreement self.old giver.now taker.now rate.now limit.now) }
         ensures refused { OnErr result (self.new ≡ self.old) }
     {
         let Some(giver) = FirmId::new(giver) else {

@@ -1,8 +1,9 @@
 //! What is wrong with a house file, and where.
 use thiserror::Error;
 
-/// What is wrong with a line of a house file (`docs/profile.md`, "What is wrong with a file"). A line's causes are looked for in this
-/// order, and its first one counts. Shown, a cause is its words there: `bad line`.
+/// What is wrong with a line of a house file (`docs/profile.md`, "What is wrong with a file"). A
+/// line's causes are looked for in this order, and its first one counts. Shown, a cause is its
+/// words there: `bad line`.
 #[derive(Clone, Copy, Debug, PartialEq, Eq, Error)]
 pub enum Cause {
     /// The line is line 100,001: a house file has at most 100,000 lines.
@@ -20,7 +21,8 @@ pub enum Cause {
     /// A name isn't 1 to 16 bytes, each 0x21 to 0x7E.
     #[error("bad name")]
     BadName,
-    /// A rate isn't a number from 0 to 100,000, or a limit isn't one from 0 to 10,000,000,000,000, written without leading zeros.
+    /// A rate isn't a number from 0 to 100,000, or a limit isn't one from 0 to 10,000,000,000,000,
+    /// written without leading zeros.
     #[error("bad number")]
     BadNumber,
     /// The giver and the taker of an agreement are one firm.
@@ -37,7 +39,8 @@ pub enum Cause {
     Memory,
 }
 
-/// The first line of a house file that has a cause, and its first cause. Shown, it is `house line n: ` and the cause's words.
+/// The first line of a house file that has a cause, and its first cause. Shown, it is
+/// `house line n: ` and the cause's words.
 #[derive(Clone, Copy, Debug, PartialEq, Eq, Error)]
 #[error("house line {line}: {cause}")]
 pub struct HouseError {

@@ -10,8 +10,8 @@ use indexmap::{IndexMap, IndexSet};
 use std::alloc::Global;
 use std::marker::Model;
 
-/// Who takes part, and on which terms (`docs/profile.md`, "The house file"). It is read from a house file by `House::parse`, and never
-/// changes.
+/// Who takes part, and on which terms (`docs/profile.md`, "The house file"). It is read from a
+/// house file by `House::parse`, and never changes.
 ///
 /// The look-ups are by hash, or by place in file order from 0. They take no memory.
 #[derive(Drop)]
@@ -64,7 +64,8 @@ impl House {
         self.house == *firm || self.firms.contains(firm)
     }
 
-    /// Whether a firm has an account: a line `ACCOUNT` names both. Two firms may each have an account of the same name.
+    /// Whether a firm has an account: a line `ACCOUNT` names both. Two firms may each have an
+    /// account of the same name.
     pub fn account(&self, firm: &FirmId, account: &AccountId) -> bool
         ensures { result ≡ knows_account self.now firm.now account.now }
     {
@@ -82,11 +83,13 @@ impl House {
         self.instruments.contains(instrument)
     }
 
-    /// The terms on which `taker` takes what `giver` gives up: a rate of 0 to 100,000 hundredths a lot, and a limit of 0 to
-    /// 10,000,000,000,000 lots. `None` where the file has no agreement of the two in this direction, or is of version 2.
+    /// The terms on which `taker` takes what `giver` gives up: a rate of 0 to 100,000 hundredths a
+    /// lot, and a limit of 0 to 10,000,000,000,000 lots. `None` where the file has no agreement of
+    /// the two in this direction, or is of version 2.
     pub fn agreement(&self, giver: &FirmId, taker: &FirmId) -> Option<Agreement>
         ensures value { result ≡ agreement self.now giver.now taker.now }
-        ensures in_range { IfSome result (λ a. (a.rate ≤ highest_rate) × (a.limit ≤ highest_limit)) }
+        ensures in_range { IfSome result
+            (λ a. (a.rate ≤ highest_rate) × (a.limit ≤ highest_limit)) }
         ensures all_in_range { IsTrue (has_terms_in_range self.now) }
     {
         let key = Pair {
@@ -101,7 +104,9 @@ impl House {
     /// does nothing.
     #[inline(always)]
     pub fn terms_are_in_range(&self)
-        ensures { (giver taker : List ℕ) → IfSome (agreement self.now giver taker) (λ a. (a.rate ≤ highest_rate) × (a.limit ≤ highest_limit)) }
+        ensures { (giver taker : List ℕ)
+            → IfSome (agreement self.now giver taker)
+            (λ a. (a.rate ≤ highest_rate) × (a.limit ≤ highest_limit)) }
     {
         // Opens the table, whose invariant says so.
         let _ = self.agreements.len();
@@ -135,29 +140,33 @@ impl House {
         self.agreements.len()
     }
 
-    /// The firm of the line `FIRM` at this place among those lines, from 0; `None` behind the last. The house has no such place.
+    /// The firm of the line `FIRM` at this place among those lines, from 0; `None` behind the last.
+    /// The house has no such place.
     pub fn firm_at(&self, place: usize) -> Option<FirmId>
         ensures { result ≡ slice_get self.now.firms place }
     {
         self.firms.get_index(place).copied()
     }
 
-    /// The account of the line `ACCOUNT` at this place among those lines, from 0; `None` behind the last.
+    /// The account of the line `ACCOUNT` at this place among those lines, from 0; `None` behind the
+    /// last.
     pub fn account_at(&self, place: usize) -> Option<Account>
         ensures { result ≡ slice_get self.now.accounts place }
     {
         self.accounts.get_index(place).copied()
     }
 
-    /// The instrument of the line `INSTRUMENT` at this place among those lines, from 0; `None` behind the last.
+    /// The instrument of the line `INSTRUMENT` at this place among those lines, from 0; `None`
+    /// behind the last.
     pub fn instrument_at(&self, place: usize) -> Option<InstrumentId>
         ensures { result ≡ slice_get self.now.instruments place }
     {
         self.instruments.get_index(place).copied()
     }
 
-    /// The giver, the taker and the terms, in hundredths a lot and in lots, of the line `AGREEMENT` at this place among those lines, from 0;
-    /// `None` behind the last, and where the file is of version 2.
+    /// The giver, the taker and the terms, in hundredths a lot and in lots, of the line `AGREEMENT`
+    /// at this place among those lines, from 0; `None` behind the last, and where the file is of
+    /// version 2.
     pub fn agreement_at(&self, place: usize) -> Option<(Pair, Agreement)>
         ensures { result ≡ slice_get self.now.agreements place }
     {
@@ -165,7 +174,8 @@ impl House {
         Some((*pair, *agreement))
     }
 
-    /// Puts all but the agreements of this table into another, which has none, in place of what stands there.
+    /// Puts all but the agreements of this table into another, which has none, in place of what
+    /// stands there.
     fn copy_names_into(&self, copy: &mut House) -> Result<(), Memory>
         requires fixed { copy.old.agreements ≡ [] }
         requires made { copy.old.opening ≡ [] }

@@ -1,4 +1,5 @@
-//! The agreements that the clearing house makes by its first calls, where the house file is of version 2.
+//! The agreements that the clearing house makes by its first calls, where the house file is of
+//! version 2.
 ghost use Rattle.std.specs.Prelude.{◌≡◌, ◌++◌, codes, decimal, length, option_map, slice_get};
 ghost use Rattle.gu_base.specs.House.{HasLawfulOpening};
 ghost use Rattle.gu_base.specs.declared.command.Command.TheVariants.{Agree};
@@ -31,7 +32,8 @@ fn opening_id(number: u64) -> AllocId
 /// The id and the command of the opening call of this number, which makes an agreement.
 fn opening_call(number: u64, pair: &Pair, agreement: &Agreement) -> (AllocId, Command)
     ensures id { result.0 ≡ codes "OPEN-" ++ decimal number }
-    ensures command { result.1 ≡ Agree pair.now.giver pair.now.taker agreement.now.rate agreement.now.limit }
+    ensures command { result.1
+        ≡ Agree pair.now.giver pair.now.taker agreement.now.rate agreement.now.limit }
 {
     let id = opening_id(number);
     let command = Command::Agree {
@@ -53,7 +55,8 @@ impl House {
         }
     }
 
-    /// How many opening calls there are: one for each line `AGREEMENT` of a file of version 2, and none where it is of version 1.
+    /// How many opening calls there are: one for each line `AGREEMENT` of a file of version 2, and
+    /// none where it is of version 1.
     pub fn opening_count(&self) -> usize
         ensures count { result ≡ length self.now.opening }
         ensures lawful { HasLawfulOpening self.now }
@@ -61,10 +64,12 @@ impl House {
         self.opening.len()
     }
 
-    /// The id and the command of the opening call at this place, from 0; `None` behind the last. The clearing house makes these calls first, in
-    /// this order: each is the `Agree` of a line `AGREEMENT` of a file of version 2, and its id is `OPEN-1`, `OPEN-2` and so on.
+    /// The id and the command of the opening call at this place, from 0; `None` behind the last.
+    /// The clearing house makes these calls first, in this order: each is the `Agree` of a line
+    /// `AGREEMENT` of a file of version 2, and its id is `OPEN-1`, `OPEN-2` and so on.
     pub fn opening_at(&self, place: usize) -> Option<(AllocId, Command)>
-        ensures call { option_map (λ c. record { firm = self.now.house; id = c.0; command = c.1 }) result ≡ slice_get (opening_calls self.now) place }
+        ensures call { option_map (λ c. record { firm = self.now.house; id = c.0; command = c.1 })
+            result ≡ slice_get (opening_calls self.now) place }
         ensures lawful { HasLawfulOpening self.now }
     {
         if place >= self.opening.len() {

@@ -17,9 +17,11 @@ use std::alloc::Global;
 /// The most lines that a house file may have.
 const MAX_LINES: u32 = 100_000;
 
-/// Whether the agreements of a file with this line 1 are those of the opening; `None` where that is the line 1 of no version.
+/// Whether the agreements of a file with this line 1 are those of the opening; `None` where that is
+/// the line 1 of no version.
 fn version_opens(line: &[u8]) -> Option<bool>
-    ensures { MatchOption result (version_cause (Some line.now) ≡ Some BadVersion) (λ opens. (version_cause (Some line.now) ≡ None) × (opens ≡ is_opening line.now)) }
+    ensures { MatchOption result (version_cause (Some line.now) ≡ Some BadVersion)
+        (λ opens. (version_cause (Some line.now) ≡ None) × (opens ≡ is_opening line.now)) }
 {
     if line == b"GIVEUP 2".as_slice() {
         return Some(true);
@@ -34,7 +36,8 @@ fn version_opens(line: &[u8]) -> Option<bool>
 #[tactic(auto, using(crate::proofs::LongLine::long_names))]
 fn house_named(line: &[u8]) -> Result<FirmId, Cause>
     ensures { MatchResult result
-        (λ house. (house_cause (Some (words line.now)) ≡ None) × (second_word (Some (words line.now)) ≡ house))
+        (λ house. (house_cause (Some (words line.now)) ≡ None)
+        × (second_word (Some (words line.now)) ≡ house))
         (λ cause. house_cause (Some (words line.now)) ≡ Some cause) }
 {
     let (word, rest) = first_word(line);
@@ -80,7 +83,8 @@ fn add_lines(house: &mut House, text: &[u8]) -> Result<(), HouseError>
     Ok(())
 }
 
-/// Reads the lines from line 3 on, behind a line 2 that names this house, of a file whose agreements are those of the opening or are fixed.
+/// Reads the lines from line 3 on, behind a line 2 that names this house, of a file whose
+/// agreements are those of the opening or are fixed.
 fn read_rest(alloc: Global, opens: bool, name: FirmId, text: &[u8]) -> Result<House, HouseError>
     ensures { GivesBehind opens result name (lines text.now) }
 {
@@ -126,12 +130,13 @@ fn read_file(alloc: Global, text: &[u8]) -> Result<House, HouseError>
 }
 
 impl House {
-    /// The table of a house file, whose form `docs/profile.md` describes in "The house file". The text may be any bytes.
+    /// The table of a house file, whose form `docs/profile.md` describes in "The house file". The
+    /// text may be any bytes.
     ///
     /// # Errors
     ///
-    /// The first line that has a cause, with its first cause. That is `Memory` only where a growth was refused, at a line up to which no line
-    /// has another.
+    /// The first line that has a cause, with its first cause. That is `Memory` only where a growth
+    /// was refused, at a line up to which no line has another.
     #[tactic(auto, unfolding(crate::specs::Parsing::Answers))]
     pub fn parse(alloc: Global, text: &[u8]) -> Result<House, HouseError>
         ensures { Answers result text.now }

@@ -1,5 +1,6 @@
 -- Running rows of positions.
-use Rattle.std.specs.Prelude.{ℕ, ◌+◌, ◌<◌, ◌^◌, Bool, ◌&&◌, List, is_some, unwrap_or, bytes_eq, IsTrue}
+use Rattle.std.specs.Prelude.{ℕ, ◌+◌, ◌<◌, ◌^◌, Bool, ◌&&◌, List, is_some, unwrap_or, bytes_eq}
+use Rattle.std.specs.Prelude.{IsTrue}
 use Rattle.std.specs.Map.{lookup}
 use Rattle.gu_base.specs.declared.command.Side.{Side}
 use Rattle.gu_base.specs.declared.command.Side.TheVariants.{Buy, Sell}
@@ -11,7 +12,8 @@ abbrev pub PositionRows : Type 0
 PositionRows = List (Key × Row)
 
 abbrev pub is_key : Key → Key → Bool
-is_key a b = bytes_eq a.firm b.firm && (bytes_eq a.account b.account && bytes_eq a.instrument b.instrument)
+is_key a b =
+    bytes_eq a.firm b.firm && (bytes_eq a.account b.account && bytes_eq a.instrument b.instrument)
 
 -- the lots of one side
 abbrev pub lots_on : Side → Row → ℕ

@@ -13,4 +13,6 @@ pub record Stake : Type 0 where
 
 -- the rows are what these sum to
 pub record AreSumsOf (r : PositionRows) (xs : List Stake) : Type 0 where
-  pub lots : (at : Key) (side : Side) → lots_in r at side ≡ sum_by (λ x. x.lots) (filter (λ x. is_key x.key at && same_side x.side side) xs)
+  pub lots : (at : Key) (side : Side)
+      → lots_in r at side
+      ≡ sum_by (λ x. x.lots) (filter (λ x. is_key x.key at && same_side x.side side) xs)

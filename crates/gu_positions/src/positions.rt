@@ -1,5 +1,6 @@
 //! The positions of a book.
-ghost use Rattle.std.specs.Prelude.{◌≡◌, ◌+◌, ◌<◌, ◌≤◌, ◌^◌, ◌&&◌, ◌++◌, List, [], ◌∷◌, cond, IsTrue, ◌↔◌, OnOk, OnErr};
+ghost use Rattle.std.specs.Prelude.{◌≡◌, ◌+◌, ◌<◌, ◌≤◌, ◌^◌, ◌&&◌, ◌++◌, List, [], ◌∷◌, cond};
+ghost use Rattle.std.specs.Prelude.{IsTrue, ◌↔◌, OnOk, OnErr};
 ghost use Rattle.gu_base.specs.Positions.{same_side};
 ghost use Rattle.gu_base.specs.declared.command.Side.{Side};
 ghost use Rattle.gu_base.specs.declared.command.Side.TheVariants.{Buy, Sell};
@@ -104,10 +105,12 @@ impl Positions {
         }
     }
 
-    /// Makes the row of the account and the instrument. No sum changes, not even where memory is refused.
+    /// Makes the row of the account and the instrument. No sum changes, not even where memory is
+    /// refused.
     pub fn ready(&mut self, key: &Key) -> Result<(), Memory>
         ensures ready { OnOk result (IsReady self.new key.now) }
-        ensures same { (at : Key) (side : Side) → lots_in self.new at side ≡ lots_in self.old at side }
+        ensures same { (at : Key) (side : Side)
+            → lots_in self.new at side ≡ lots_in self.old at side }
         ensures stays_ready { (at : Key) → IsReady self.old at → IsReady self.new at }
     {
         if !self.rows.contains_key(key) {
@@ -121,17 +124,21 @@ impl Positions {
     /// The row has to be ready, and its sum has to stay below 2^64 (`can_add`).
     pub fn add(&mut self, key: &Key, side: Side, lots: u64)
         requires { CanAdd self.old key.now side lots }
-        ensures added { (at : Key) (s : Side) → lots_in self.new at s ≡ lots_in self.old at s + cond (is_key key.now at && same_side side s) lots 0 }
+        ensures added { (at : Key) (s : Side)
+            → lots_in self.new at s
+            ≡ lots_in self.old at s + cond (is_key key.now at && same_side side s) lots 0 }
         ensures stays_ready { (at : Key) → IsReady self.old at → IsReady self.new at }
-        ensures sums { (before after : List Stake) → AreSumsOf self.old (before ++ after) → AreSumsOf self.new (before ++ record { key = key.now; side = side; lots = lots } ∷ after) }
+        ensures sums { (before after : List Stake) → AreSumsOf self.old (before ++ after)
+            → AreSumsOf self.new
+            (before ++ record { key = key.now; side = side; lots = lots } ∷ after) }
     {
         if let Some(row) = self.rows.get_mut(key) {
             *row = row.with(side, lots);
         }
     }
 
-    /// Puts lots into the account, on the side of their trade, and makes its row where there is none. One look finds a row that is
-    /// there.
+    /// Puts lots into the account, on the side of their trade, and makes its row where there is
+    /// none. One look finds a row that is there.
     ///
     /// Its sum has to stay below 2^64.
     ///
@@ -140,10 +147,17 @@ impl Positions {
     /// `Memory` where a row was wanted. No sum has changed then.
     pub fn put(&mut self, key: &Key, side: Side, lots: u64) -> Result<(), Memory>
         requires { lots_in self.old key.now side + lots < 2 ^ 64 }
-        ensures added { OnOk result ((at : Key) (s : Side) → lots_in self.new at s ≡ lots_in self.old at s + cond (is_key key.now at && same_side side s) lots 0) }
-        ensures same { OnErr result ((at : Key) (s : Side) → lots_in self.new at s ≡ lots_in self.old at s) }
+        ensures added { OnOk result
+            ((at : Key) (s : Side)
+            → lots_in self.new at s
+            ≡ lots_in self.old at s + cond (is_key key.now at && same_side side s) lots 0) }
+        ensures same { OnErr result
+            ((at : Key) (s : Side) → lots_in self.new at s ≡ lots_in self.old at s) }
         ensures stays_ready { (at : Key) → IsReady self.old at → IsReady self.new at }
-        ensures sums { OnOk result ((before after : List Stake) → AreSumsOf self.old (before ++ after) → AreSumsOf self.new (before ++ record { key = key.now; side = side; lots = lots } ∷ after)) }
+        ensures sums { OnOk result
+            ((before after : List Stake) → AreSumsOf self.old (before ++ after)
+            → AreSumsOf self.new
+            (before ++ record { key = key.now; side = side; lots = lots } ∷ after)) }
     {
         if let Some(row) = self.rows.get_mut(key) {
             *row = row.with(side, lots);
@@ -159,9 +173,14 @@ impl Positions {
     /// No more may be taken than is there (`can_take`).
     pub fn take(&mut self, key: &Key, side: Side, lots: u64)
         requires { lots ≤ lots_in self.old key.now side }
-        ensures taken { (at : Key) (s : Side) → lots_in self.new at s + cond (is_key key.now at && same_side side s) lots 0 ≡ lots_in self.old at s }
+        ensures taken { (at : Key) (s : Side)
+            → lots_in self.new at s + cond (is_key key.now at && same_side side s) lots 0
+            ≡ lots_in self.old at s }
         ensures stays_ready { (at : Key) → IsReady self.old at → IsReady self.new at }
-        ensures sums { (before after : List Stake) → AreSumsOf self.old (before ++ record { key = key.now; side = side; lots = lots } ∷ after) → AreSumsOf self.new (before ++ after) }
+        ensures sums { (before after : List Stake)
+            → AreSumsOf self.old
+            (before ++ record { key = key.now; side = side; lots = lots } ∷ after)
+            → AreSumsOf self.new (before ++ after) }
     {
         if let Some(row) = self.rows.get_mut(key) {
             *row = row.without(side, lots);

@@ -7,7 +7,8 @@ use std::fmt::Write;
 /// The first line of each version.
 const VERSIONS: &[&str] = &["GIVEUP 1", "GIVEUP 2"];
 
-/// Appends lines that name a firm each, as the lines 3 to 100,000. Whether there was memory for them.
+/// Appends lines that name a firm each, as the lines 3 to 100,000. Whether there was memory for
+/// them.
 fn add_firms(text: &mut String) -> bool {
     for line in 3..100_001u32 {
         if writeln!(text, "FIRM {line}").is_err() {
@@ -34,8 +35,8 @@ fn add_lines(text: &mut String, version: &str) -> bool {
     writeln!(text, "{version}\nHOUSE HSE").is_ok() && add_firms(text)
 }
 
-/// Writes what is told of files whose first line this is. The two lines more are empty ones: bad lines, if they stood
-/// further up.
+/// Writes what is told of files whose first line this is. The two lines more are empty ones: bad
+/// lines, if they stood further up.
 fn tell_version(rt: &impl Print, alloc: Global, version: &str) -> bool {
     let mut text = String::new(alloc);
     add_lines(&mut text, version)

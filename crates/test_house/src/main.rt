@@ -1,9 +1,12 @@
-//! House files of all kinds, and what is told of each. Input and output are data: the files `stdin` and `stdout` beside `src/`.
+//! House files of all kinds, and what is told of each. Input and output are data: the files `stdin`
+//! and `stdout` beside `src/`.
 //!
-//! Standard input holds house files, with a line `--` behind each. A file's text is what stands above that line, without the LF in front of
-//! it: a file that ends with LF has an empty line there. Of each file the program writes its first fault, or the entries of a copy of
-//! its table in their order, if the copy's look-ups are the table's, and then `--`. Behind them it writes what a small house answers, and what
-//! is told of files with as many lines as a house file may have, and more.
+//! Standard input holds house files, with a line `--` behind each. A file's text is what stands
+//! above that line, without the LF in front of it: a file that ends with LF has an empty line
+//! there. Of each file the program writes its first fault, or the entries of a copy of its table in
+//! their order, if the copy's look-ups are the table's, and then `--`. Behind them it writes what a
+//! small house answers, and what is told of files with as many lines as a house file may have, and
+//! more.
 #![tactic(auto)]
 
 mod long;
@@ -21,7 +24,8 @@ use std::io::{ErrorKind, Read};
 /// What ends a file of the input.
 const END: &[u8] = b"\n--\n";
 
-/// Writes what is told of the file that these bytes end, if they end one, and then `--`. Whether they did.
+/// Writes what is told of the file that these bytes end, if they end one, and then `--`. Whether
+/// they did.
 fn tell_ended(rt: &impl Print, alloc: Global, bytes: &[u8]) -> bool {
     match bytes.strip_suffix(END) {
         Some(text) => tell(rt, alloc, text, Wanted::Table) && rt.println("--").is_ok(),

@@ -17,7 +17,8 @@ pub(crate) enum Wanted {
     Fault,
 }
 
-/// Reads a house. Where memory lacks at one of the lines 3 to 6 of a file, which add names, it is read once more.
+/// Reads a house. Where memory lacks at one of the lines 3 to 6 of a file, which add names, it is
+/// read once more.
 fn read(alloc: Global, text: &[u8]) -> Result<House, HouseError> {
     match House::parse(alloc, text) {
         Ok(house) => Ok(house),

@@ -1,5 +1,5 @@
-//! What a house tells: its table, and its answers about what the table has. A text that finds no memory ends there,
-//! and isn't what must be printed.
+//! What a house tells: its table, and its answers about what the table has. A text that finds no
+//! memory ends there, and isn't what must be printed.
 
 use gu_base::{Account, Agreement, AllocId, Command, Pair};
 use gu_parties::House;
@@ -58,7 +58,8 @@ fn add_agreement(out: &mut String, agreement: Option<(Pair, Agreement)>) -> bool
     }
 }
 
-/// Appends a call that the clearing house makes first, if there is one, which makes an agreement. Whether it did.
+/// Appends a call that the clearing house makes first, if there is one, which makes an agreement.
+/// Whether it did.
 fn add_call(out: &mut String, call: Option<(AllocId, Command)>) -> bool {
     match &call {
         Some(

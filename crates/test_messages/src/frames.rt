@@ -1,11 +1,11 @@
 //! Streams of frames of all kinds, and what is read of each.
 //!
-//! The words of a line are a stream and how it comes: the size of its pieces, a space, and its bytes, in which `|` stands
-//! for SOH and `@` for 65,501 times `x`. Piece after piece is pushed into a feed; behind each the
-//! feed's room is written, and then each answer that it gives before the next, one that ends the
-//! stream twice, since it is asked once more; each refusal of a piece, and at last the room. Where
-//! the size is 0 it is written what is read of each front of the bytes, and of all of them, and
-//! which fields stand before the text (58).
+//! The words of a line are a stream and how it comes: the size of its pieces, a space, and its
+//! bytes, in which `|` stands for SOH and `@` for 65,501 times `x`. Piece after piece is pushed
+//! into a feed; behind each the feed's room is written, and then each answer that it gives before
+//! the next, one that ends the stream twice, since it is asked once more; each refusal of a piece,
+//! and at last the room. Where the size is 0 it is written what is read of each front of the bytes,
+//! and of all of them, and which fields stand before the text (58).
 
 use gu_codec::{Feed, FeedError, Fields, Frame, Marked, read_frame, tags};
 use std::alloc::Global;

@@ -33,7 +33,8 @@ fn tell_acts(rt: &impl Print, state: State) -> bool {
     true
 }
 
-/// Writes what an entry of this state shows where its reversal is pending, where it is reversed and a reversal is pending, and else.
+/// Writes what an entry of this state shows where its reversal is pending, where it is reversed and
+/// a reversal is pending, and else.
 fn tell_shown(rt: &impl Print, state: State) -> bool {
     let pending = entry_state(state, true, false);
     let reversed = entry_state(state, true, true);
@@ -45,7 +46,8 @@ fn tell_code(rt: &impl Print, state: State) -> bool {
     print!(rt; "{state:?} {}", status_code(state)).is_ok()
 }
 
-/// Writes a line for each state: its code, what it becomes by each act, and what its entry shows. Whether all went well.
+/// Writes a line for each state: its code, what it becomes by each act, and what its entry shows.
+/// Whether all went well.
 pub(crate) fn tell(rt: &impl Print) -> bool {
     for state in STATES {
         if !(tell_code(rt, *state) && tell_acts(rt, *state) && tell_shown(rt, *state)) {

@@ -1,9 +1,12 @@
-//! Names, frames, messages and sessions. Input and output are data: the files `stdin` and `stdout` beside `src/`.
+//! Names, frames, messages and sessions. Input and output are data: the files `stdin` and `stdout`
+//! beside `src/`.
 //!
-//! The first word of a line of standard input says what it is: `name`, `number` or `node` (`names`), `stream` (`frames`), and of any
-//! other line the message of that body is told (`messages`). Behind the lines stand refusals as they are told, whether copies are what
-//! was copied, for each state its code and what may follow it, and three frames that the codec has written.
-//! What stands behind a line `sessions` are the events of sessions (`sessions`). An input may begin with that line; then they are all.
+//! The first word of a line of standard input says what it is: `name`, `number` or `node`
+//! (`names`), `stream` (`frames`), and of any other line the message of that body is told
+//! (`messages`). Behind the lines stand refusals as they are told, whether copies are what was
+//! copied, for each state its code and what may follow it, and three frames that the codec has
+//! written. What stands behind a line `sessions` are the events of sessions (`sessions`). An input
+//! may begin with that line; then they are all.
 #![tactic(auto)]
 
 mod bodies;

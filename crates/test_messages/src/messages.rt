@@ -1,9 +1,10 @@
 //! Messages of all kinds, and what each means.
 //!
-//! A line is the body of a message to the house HSE, with `|` for SOH. One that begins with a type and a space has the
-//! header of a message of AAA with number 7 put before what stands behind the space. Of each line is written what it
-//! means; of a call also the body that acknowledges it as entry 3, and the body that refuses it; of a message that fails a
-//! check the firm that its Reject goes to, and the body. An empty line is copied.
+//! A line is the body of a message to the house HSE, with `|` for SOH. One that begins with a type
+//! and a space has the header of a message of AAA with number 7 put before what stands behind the
+//! space. Of each line is written what it means; of a call also the body that acknowledges it as
+//! entry 3, and the body that refuses it; of a message that fails a check the firm that its Reject
+//! goes to, and the body. An empty line is copied.
 
 use crate::bodies::{append_texts, append_with, framed};
 use gu_base::{AllocId, Answer, Command, FirmId, NodeName, Number, Parts, Refusal, State};

@@ -1,14 +1,18 @@
 //! Sessions, event by event.
 //!
-//! A line that begins with `=` opens a new session, and is its title. Any other line is an event: the milliseconds since 09:00:00 on 2 March
-//! 2026, and then
-//! - `< TYPE NUMBER BODY`: a message of AAA to HSE with this MsgType (35), MsgSeqNum (34) and body, `|` for SOH;
+//! A line that begins with `=` opens a new session, and is its title. Any other line is an event:
+//! the milliseconds since 09:00:00 on 2 March 2026, and then
+//! - `< TYPE NUMBER BODY`: a message of AAA to HSE with this MsgType (35), MsgSeqNum (34) and body,
+//!   `|` for SOH;
 //! - `<< BODY`: a message with this body, header and all;
 //! - `tick`, `end`;
-//! - `reply accepted N`, `reply refused`, `reply none`, each perhaps followed by `with K`: a Reply, with K reports;
-//! - `call N`: a message of a call with this number; `calls A B`: one for each number from A to B, with its answer.
-//! Each line is written again, and behind an event what the session asks for: the fields of each frame that goes out behind `>`, the
-//! call, `close`; and then `awaiting` where a call waits, `closed` where the session is closed. An empty line is copied.
+//! - `reply accepted N`, `reply refused`, `reply none`, each perhaps followed by `with K`: a Reply,
+//!   with K reports;
+//! - `call N`: a message of a call with this number; `calls A B`: one for each number from A to B,
+//!   with its answer.
+//! Each line is written again, and behind an event what the session asks for: the fields of each
+//! frame that goes out behind `>`, the call, `close`; and then `awaiting` where a call waits,
+//! `closed` where the session is closed. An empty line is copied.
 ghost use Rattle.std.specs.Prelude.{IfOk, IfSome};
 ghost use Rattle.std.specs.List.{All};
 ghost use Rattle.gu_message.specs.AllocationReport.{ShowsFewParts};
@@ -56,7 +60,8 @@ fn number(word: &str) -> u32 {
     word.parse().unwrap_or(0)
 }
 
-/// Appends the body of the message that an event is: `<` and its words, `call` and its number, or `<<` and its body.
+/// Appends the body of the message that an event is: `<` and its words, `call` and its number, or
+/// `<<` and its body.
 fn append_body(out: &mut Vec<u8>, what: &str, rest: &str) -> Result<(), AllocError> {
     if what == "<" {
         let (kind, rest) = word(rest);
@@ -226,7 +231,8 @@ fn attempt_twice(
     }
 }
 
-/// Steps a session with the answer to a call of this number. Whether the firm was sent it with its number.
+/// Steps a session with the answer to a call of this number. Whether the firm was sent it with its
+/// number.
 fn answered(
     rt: &impl Eprint,
     alloc: Global,
@@ -240,7 +246,8 @@ fn answered(
     }
 }
 
-/// Steps a session with a call of this number, and with its answer. Whether it was answered with its number.
+/// Steps a session with a call of this number, and with its answer. Whether it was answered with
+/// its number.
 fn call(
     rt: &impl Eprint,
     alloc: Global,
@@ -257,8 +264,8 @@ fn call(
     }
 }
 
-/// Steps a session with a call of each number from one to another, and with its answer, and writes how many were
-/// answered.
+/// Steps a session with a call of each number from one to another, and with its answer, and writes
+/// how many were answered.
 fn calls(
     rt: &(impl Print + Eprint),
     alloc: Global,

@@ -8,7 +8,8 @@ use crate::names::{LOWEST_IN_NAME, NAME_LEN};
 use std::marker::Model;
 use std::{fmt, str};
 
-/// The name of an account within its firm: 1 to 16 bytes, each 0x21 to 0x7E (Account 1, AllocAccount 79).
+/// The name of an account within its firm: 1 to 16 bytes, each 0x21 to 0x7E (Account 1,
+/// AllocAccount 79).
 #[derive(Clone, Copy, PartialEq, Eq, PartialOrd, Ord, Hash)]
 pub struct AccountId {
     text: Cells<NAME_LEN>,

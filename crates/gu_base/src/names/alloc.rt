@@ -8,7 +8,8 @@ use crate::names::{ID_LEN, LOWEST_IN_ID};
 use std::marker::Model;
 use std::{fmt, str};
 
-/// The id that a firm gives to a command: 1 to 32 bytes, each 0x20 to 0x7E (AllocID 70, TradeReportID 571).
+/// The id that a firm gives to a command: 1 to 32 bytes, each 0x20 to 0x7E (AllocID 70,
+/// TradeReportID 571).
 #[derive(Clone, Copy, PartialEq, Eq, PartialOrd, Ord, Hash)]
 pub struct AllocId {
     text: Cells<ID_LEN>,

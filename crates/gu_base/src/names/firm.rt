@@ -8,7 +8,8 @@ use crate::names::{LOWEST_IN_NAME, NAME_LEN};
 use std::marker::Model;
 use std::{fmt, str};
 
-/// The name of a firm: 1 to 16 bytes, each 0x21 to 0x7E (PartyID 448, SenderCompID 49, NestedPartyID 524).
+/// The name of a firm: 1 to 16 bytes, each 0x21 to 0x7E (PartyID 448, SenderCompID 49,
+/// NestedPartyID 524).
 #[derive(Clone, Copy, Debug, PartialEq, Eq, PartialOrd, Ord, Hash)]
 pub struct FirmId {
     text: Cells<NAME_LEN>,

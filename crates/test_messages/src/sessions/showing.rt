@@ -52,7 +52,8 @@ fn show_body(rt: &(impl Print + Eprint), alloc: Global, body: &[u8]) -> bool {
     }
 }
 
-/// Writes the body of the frame that some bytes begin with. The bytes behind it, `None` where they begin with none.
+/// Writes the body of the frame that some bytes begin with. The bytes behind it, `None` where they
+/// begin with none.
 fn show_first<'a>(rt: &(impl Print + Eprint), alloc: Global, bytes: &'a [u8]) -> Option<&'a [u8]> {
     match read_frame(bytes) {
         Frame::Whole { fields, len } => {

@@ -6,4 +6,6 @@ pub returns-then-bytes-eq64 : goal.returns-then-bytes-eq64
 returns-then-bytes-eq64 c = compared c.args.bytes.now 64 (omega arith) c.if-bytes-eq64.true c.args.byte _ refl
 
 pub returns : goal.returns
-returns c = compared c.args.bytes.now 32 (omega arith) (narrow (length c.args.bytes.now) c.requires c.if-bytes-eq64.false) c.args.byte _ refl
+returns c =
+    compared c.args.bytes.now 32 (omega arith) (narrow (length c.args.bytes.now) c.requires c.if-bytes-eq64.false)
+    c.args.byte _ refl

@@ -7,13 +7,15 @@ use Rattle.gu_codec.proofs.fields.are_any_fields.Goals as goal
 
 pub returns-in_default : goal.returns-in_default
 returns-in_default c =
-    sym (test_stops c.loop-rest.rest.now (some_length _ (c.loop-rest-test.ensures)) (sym (c.in_default.ensures))) ∙ c.loop-rest.invariant
+    sym (test_stops c.loop-rest.rest.now (some_length _ (c.loop-rest-test.ensures)) (sym (c.in_default.ensures)))
+    ∙ c.loop-rest.invariant
 
 pub loop-rest-smaller : goal.loop-rest-smaller
 loop-rest-smaller c = field_shrinks c.loop-rest.rest.now _ c.in-Some.after.now (sym (c.in-Some.ensures))
 
 pub loop-rest-preserved : goal.loop-rest-preserved
-loop-rest-preserved c = sym (test_goes c.loop-rest.rest.now _ c.in-Some.after.now (sym (c.in-Some.ensures))) ∙ c.loop-rest.invariant
+loop-rest-preserved c =
+    sym (test_goes c.loop-rest.rest.now _ c.in-Some.after.now (sym (c.in-Some.ensures))) ∙ c.loop-rest.invariant
 
 pub returns : goal.returns
 returns c =

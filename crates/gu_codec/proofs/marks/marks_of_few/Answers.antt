@@ -13,5 +13,6 @@ loop-i-preserved c =
     record {
       within = omega arith;
       small = omega (arith, b.0, pow-suc 2 (length bytes - i), ap (λ (n : ℕ). 2 ^ n) more, c.loop-i.invariant.small);
-      bits = pushed bytes (i - 1) _ c.loop-i.marks b.0 b.1 (λ j. c.loop-i.invariant.bits j ∙ ap (λ (n : ℕ). soh_bit bytes (n + j)) (sym same));
+      bits = pushed bytes (i - 1) _ c.loop-i.marks b.0 b.1
+          (λ j. c.loop-i.invariant.bits j ∙ ap (λ (n : ℕ). soh_bit bytes (n + j)) (sym same));
     }

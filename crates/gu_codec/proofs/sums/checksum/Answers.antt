@@ -14,5 +14,6 @@ pub returns : goal.returns
 returns c =
     let bytes = c.args.bytes.now in
     let i = c.loop-i.i in
-    let rest : sum c.last_of.result ≡ sum (drop i bytes) = c.last_of.ensures.sum ∙ ap (λ (n : ℕ). sum (drop n bytes)) (omega arith) in
+    let rest : sum c.last_of.result ≡ sum (drop i bytes) =
+    c.last_of.ensures.sum ∙ ap (λ (n : ℕ). sum (drop n bytes)) (omega arith) in
     omega (arith, c.total.ensures, c.added.ensures.sum, c.loop-i.invariant.sum, rest, sum_cut i bytes)

@@ -10,9 +10,11 @@ returns-clause-len c =
     let last = length-chunk (length c.args.bytes.now - 16) 16 c.args.bytes.now (omega arith) in
     let few = length-chunk c.args.left 16 kept (omega arith) in
     length-zip2 bit_and (chunk (length c.args.bytes.now - 16) 16 c.args.bytes.now) _
-    (last ∙ omega (arith, few, ap length (take-take 16 (32 - c.args.left) (drop c.args.left kept) (omega arith)))) ∙ last
+    (last ∙ omega (arith, few, ap length (take-take 16 (32 - c.args.left) (drop c.args.left kept) (omega arith))))
+    ∙ last
 
 pub returns-clause-sum : goal.returns-clause-sum
 returns-clause-sum c =
-    ap (λ ms. sum (zip2 bit_and (chunk (length c.args.bytes.now - 16) 16 c.args.bytes.now) ms)) (take-take 16 (32 - c.args.left) (drop c.args.left kept) (omega arith))
+    ap (λ ms. sum (zip2 bit_and (chunk (length c.args.bytes.now - 16) 16 c.args.bytes.now) ms))
+    (take-take 16 (32 - c.args.left) (drop c.args.left kept) (omega arith))
     ∙ kept_sum c.args.bytes.now c.args.left c.requires.len c.requires.few c.type_inv.bytes

@@ -11,7 +11,8 @@ returns-in-Some c same =
     let bytes = c.args.bytes.now in
     let at = c.args.at in
     let word = c.in-Some.front.now in
-    let front : word ≡ take 8 (drop at bytes) = c.in-Some.ensures.cases.0 ∙ ap (take 8) (take_all (length bytes - at) (drop at bytes) (omega (arith, length-drop at bytes))) in
+    let front : word ≡ take 8 (drop at bytes) = c.in-Some.ensures.cases.0
+    ∙ ap (take 8) (take_all (length bytes - at) (drop at bytes) (omega (arith, length-drop at bytes))) in
     sym front
     ∙ sym (le_bytes_8 word _ (search rules) (word_fits bytes word at c.type_inv.bytes front) c.from_le_bytes.ensures)
     ∙ ap (to_le_bytes w64) (eqb-true _ _ same)

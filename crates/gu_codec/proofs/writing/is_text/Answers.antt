@@ -7,4 +7,5 @@ returns-then-len-le-MAX_TEXT_LEN-clause-yes c e =
     record { value = (value_tested c.args.text.now _ c.soh_at.ensures (omega arith)).0 e; short = omega arith }
 
 pub returns-then-len-le-MAX_TEXT_LEN-clause-no : goal.returns-then-len-le-MAX_TEXT_LEN-clause-no
-returns-then-len-le-MAX_TEXT_LEN-clause-no c h = (value_tested c.args.text.now _ c.soh_at.ensures (omega arith)).1 h.value
+returns-then-len-le-MAX_TEXT_LEN-clause-no c h =
+    (value_tested c.args.text.now _ c.soh_at.ensures (omega arith)).1 h.value

@@ -5,5 +5,6 @@ use Rattle.gu_codec.proofs.writing.put_front.Goals as goal
 
 pub returns-clause-text : goal.returns-clause-text
 returns-clause-text c =
-    front_put (take c.args.start c.args.bytes.now) (decimal c.args.len) (fields_text (header_pairs (view c.args.header.now))) _ _ _
-    c.put-at.ensures.text c.put_number-at.ensures.text c.put_header.ensures.text
+    front_put (take c.args.start c.args.bytes.now) (decimal c.args.len)
+    (fields_text (header_pairs (view c.args.header.now))) _ _ _ c.put-at.ensures.text c.put_number-at.ensures.text
+    c.put_header.ensures.text

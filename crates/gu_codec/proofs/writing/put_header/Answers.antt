@@ -17,6 +17,6 @@ returns-clause-text c =
       c.put-at.ensures.text,
       c.as_bytes.ensures.value,
       c.as_bytes-2.ensures.value,
-    )
-    (header_text (take c.args.at c.args.bytes.now) c.args.header.now.kind.now c.args.header.now.sender c.args.header.now.target
-    (decimal c.args.header.now.number) (fields_text (resend_pairs (option_map (λ t. t.now) c.args.header.now.resent) c.args.header.now.sent.now)))
+    ) (header_text (take c.args.at c.args.bytes.now) c.args.header.now.kind.now c.args.header.now.sender
+    c.args.header.now.target (decimal c.args.header.now.number)
+    (fields_text (resend_pairs (option_map (λ t. t.now) c.args.header.now.resent) c.args.header.now.sent.now)))

@@ -9,5 +9,12 @@ returns-in-None-clause-text c =
 
 pub returns-in-Some-clause-text : goal.returns-in-Some-clause-text
 returns-in-Some-clause-text c =
-    rw (c.put-in-Some.ensures.text, c.put-at-in-Some-4.ensures.text, c.put-at-in-Some-3.ensures.text, c.put-at-in-Some-2.ensures.text, c.put-at-in-Some.ensures.text, c.in-Some.is)
+    rw (
+      c.put-in-Some.ensures.text,
+      c.put-at-in-Some-4.ensures.text,
+      c.put-at-in-Some-3.ensures.text,
+      c.put-at-in-Some-2.ensures.text,
+      c.put-at-in-Some.ensures.text,
+      c.in-Some.is,
+    )
     (resent_text (take c.args.at c.args.bytes.now) c.args.header.now.sent.now c.in-Some.first.now)

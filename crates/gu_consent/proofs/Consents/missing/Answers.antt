@@ -13,4 +13,6 @@ first_missing (f ∷ fs) = refl
 pub returns-in-None : goal.returns-in-None
 returns-in-None c =
     let nothing = rw c.get.ensures.value at c.in-None.ensures.value in
-    c.copied.ensures ∙ (c.first.ensures.value ∙ (first_missing c.args.firms.now ∙ ap (λ o. missing c.args.firms.now (firms firms_in o)) nothing))
+    c.copied.ensures
+    ∙ (c.first.ensures.value
+    ∙ (first_missing c.args.firms.now ∙ ap (λ o. missing c.args.firms.now (firms firms_in o)) nothing))

@@ -16,9 +16,13 @@ loop-place-preserved c =
 pub returns : goal.returns
 returns c =
     let words = c.words_of_id-words.result in
-    let whole : c.loop-place.place ≡ c.args.count / 8 = omega (arith, c.loop-place-test.false, c.loop-place.auto.place-end) in
+    let whole : c.loop-place.place ≡ c.args.count / 8 =
+    omega (arith, c.loop-place-test.false, c.loop-place.auto.place-end) in
     let at = c.args.count / 8 in
     let n = c.args.count % 8 in
-    c.take.ensures ∙ (ap (taken c.loop-place.taken) c.first_bytes.ensures
-    ∙ (ap (λ s. taken s (slice_index_or words at 0 % 2 ^ (8 * n))) (c.loop-place.invariant ∙ ap (λ k. fold taken c.args.state (take k words)) whole)
-    ∙ ap (λ l. taken (fold taken c.args.state (take at l)) (slice_index_or l at 0 % 2 ^ (8 * n))) c.words_of_id-words.ensures))
+    c.take.ensures
+    ∙ (ap (taken c.loop-place.taken) c.first_bytes.ensures
+    ∙ (ap (λ s. taken s (slice_index_or words at 0 % 2 ^ (8 * n)))
+    (c.loop-place.invariant ∙ ap (λ k. fold taken c.args.state (take k words)) whole)
+    ∙ ap (λ l. taken (fold taken c.args.state (take at l)) (slice_index_or l at 0 % 2 ^ (8 * n)))
+    c.words_of_id-words.ensures))

@@ -11,7 +11,8 @@ loop-bucket-preserved c =
     let heads = c.loop-bucket.heads.items in
     let bucket = c.loop-bucket.bucket in
     let next : bucket + 1 ≡ suc bucket = omega arith in
-    let inside : bucket < length heads = (let long = at.long in omega (arith, long, c.loop-bucket-test.true, c.len-bucket-end.ensures, c.args.heads.now.ok.0)) in
+    let inside : bucket < length heads = (let long = at.long in
+    omega (arith, long, c.loop-bucket-test.true, c.len-bucket-end.ensures, c.args.heads.now.ok.0)) in
     record {
       long = length-set heads bucket none ∙ at.long;
       none = ap (λ n. take n (set heads bucket none)) next ∙ (take-suc-set heads bucket none inside
@@ -23,5 +24,8 @@ returns c =
     let none : Head = record { newest = 0; marks = 0 } in
     let at = c.loop-bucket.invariant in
     let heads = c.loop-bucket.heads.items in
-    let all : c.loop-bucket.bucket ≡ length c.args.heads.now.items = omega (arith, c.loop-bucket-test.false, c.loop-bucket.auto.bucket-end, c.len-bucket-end.ensures, c.args.heads.now.ok.0) in
-    sym (take_all c.loop-bucket.bucket heads (let long = at.long in omega (arith, long, all))) ∙ (at.none ∙ ap (λ n. replicate n none) all)
+    let all : c.loop-bucket.bucket ≡ length c.args.heads.now.items =
+    omega
+    (arith, c.loop-bucket-test.false, c.loop-bucket.auto.bucket-end, c.len-bucket-end.ensures, c.args.heads.now.ok.0) in
+    sym (take_all c.loop-bucket.bucket heads (let long = at.long in omega (arith, long, all)))
+    ∙ (at.none ∙ ap (λ n. replicate n none) all)

@@ -14,5 +14,5 @@ returns-clause-text c =
       c.put-at-2.ensures.text,
       c.put-at.ensures.text,
       c.as_bytes.ensures.value,
-    )
-    (instruction_text (take c.args.at c.args.bytes.now) c.args.id.now (decimal c.args.number) (decimal (code_of c.args.status)))
+    ) (instruction_text (take c.args.at c.args.bytes.now) c.args.id.now (decimal c.args.number)
+    (decimal (code_of c.args.status)))

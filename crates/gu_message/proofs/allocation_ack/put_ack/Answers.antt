@@ -3,14 +3,26 @@ use Rattle.gu_message.proofs.AckLengths.{accepted_len, refused_len}
 use Rattle.gu_message.proofs.allocation_ack.put_ack.Goals as goal
 
 pub put_refused-requires : goal.put_refused-requires
-put_refused-requires c = omega (arith, c.requires, refused_len c.args.id.now c.args.answer.now c.in-Refused.refusal c.in-Refused.is)
+put_refused-requires c =
+    omega (arith, c.requires, refused_len c.args.id.now c.args.answer.now c.in-Refused.refusal c.in-Refused.is)
 
 pub put_accepted-requires : goal.put_accepted-requires
-put_accepted-requires c = omega (arith, c.requires, accepted_len c.args.id.now c.args.answer.now c.in-Accepted.number c.in-Accepted.status c.in-Accepted.is)
+put_accepted-requires c =
+    omega (
+      arith,
+      c.requires,
+      accepted_len c.args.id.now c.args.answer.now c.in-Accepted.number c.in-Accepted.status c.in-Accepted.is,
+    )
 
 pub returns-in-Refused-clause-end : goal.returns-in-Refused-clause-end
-returns-in-Refused-clause-end c = omega (arith, c.put_refused.ensures.end, refused_len c.args.id.now c.args.answer.now c.in-Refused.refusal c.in-Refused.is)
+returns-in-Refused-clause-end c =
+    omega
+    (arith, c.put_refused.ensures.end, refused_len c.args.id.now c.args.answer.now c.in-Refused.refusal c.in-Refused.is)
 
 pub returns-in-Accepted-clause-end : goal.returns-in-Accepted-clause-end
 returns-in-Accepted-clause-end c =
-    omega (arith, c.put_accepted.ensures.end, accepted_len c.args.id.now c.args.answer.now c.in-Accepted.number c.in-Accepted.status c.in-Accepted.is)
+    omega (
+      arith,
+      c.put_accepted.ensures.end,
+      accepted_len c.args.id.now c.args.answer.now c.in-Accepted.number c.in-Accepted.status c.in-Accepted.is,
+    )

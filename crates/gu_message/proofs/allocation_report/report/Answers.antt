@@ -14,12 +14,14 @@ returns-clause-short c =
     let date : List ℕ = date_in (sending_time (unsigned_abs c.args.moment.nanosecond)) in
     let dated : c.date.result.now ≡ date = c.date.ensures.value ∙ ap (take 8) c.new-time.ensures in
     let shown : c.as_slice-parts.result.now ≡ r.parts = c.as_slice-parts.ensures in
-    let first = c.append_entry.ensures.items ∙ ap (λ (t : List ℕ). c.reserve.new.self.items ++ fields_text (entry_fields t r)) dated in
-    let then = c.append_parts.ensures.items ∙ ap (λ (t : List ReportPart). c.append_entry.new.out.items ++ fields_text (shown_parts t)) shown in
+    let first = c.append_entry.ensures.items
+    ∙ ap (λ (t : List ℕ). c.reserve.new.self.items ++ fields_text (entry_fields t r)) dated in
+    let then = c.append_parts.ensures.items
+    ∙ ap (λ (t : List ReportPart). c.append_entry.new.out.items ++ fields_text (shown_parts t)) shown in
     let same : length c.as_slice-parts.result.now ≡ length r.parts = ap (λ (t : List ReportPart). length t) shown in
     let few : length c.as_slice-parts.result.now ≤ 100 = omega (arith, same, c.requires.few) in
     let short = both_short c.reserve.new.self.items c.append_entry.new.out.items c.append_parts.new.out.items
-    (fields_text (entry_fields date r)) (fields_text (shown_parts r.parts)) (length c.as_slice-parts.result.now) first then
-    (omega (arith, c.append_entry.ensures.len, c.append_entry.new.out.ok.0, c.reserve.new.self.ok.0))
+    (fields_text (entry_fields date r)) (fields_text (shown_parts r.parts)) (length c.as_slice-parts.result.now) first
+    then (omega (arith, c.append_entry.ensures.len, c.append_entry.new.out.ok.0, c.reserve.new.self.ok.0))
     (omega (arith, c.append_parts.ensures.len, c.append_parts.new.out.ok.0, c.append_entry.new.out.ok.0)) few in
     subst (λ (t : List ℕ). length t ≤ 65000) (sym (text_join (entry_fields date r) (shown_parts r.parts))) short

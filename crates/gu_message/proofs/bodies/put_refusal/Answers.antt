@@ -8,7 +8,15 @@ pub put-at-requires : goal.put-at-requires
 put-at-requires c = omega (arith, c.requires, text_len c.args.refusal.now, ap length c.words.ensures.value)
 
 pub put_named-requires : goal.put_named-requires
-put_named-requires c = omega (arith, c.requires, text_len c.args.refusal.now, ap length c.words.ensures.value, c.put-at.ensures.end, c.put-at.ensures.len)
+put_named-requires c =
+    omega (
+      arith,
+      c.requires,
+      text_len c.args.refusal.now,
+      ap length c.words.ensures.value,
+      c.put-at.ensures.end,
+      c.put-at.ensures.len,
+    )
 
 pub returns-clause-text : goal.returns-clause-text
 returns-clause-text c =
@@ -17,4 +25,6 @@ returns-clause-text c =
     ∙ ap (λ (t : List ℕ). take c.args.at c.args.bytes.now ++ t) (in_parts c.args.refusal.now))
 
 pub returns-clause-end : goal.returns-clause-end
-returns-clause-end c = omega (arith, text_len c.args.refusal.now, ap length c.words.ensures.value, c.put-at.ensures.end, c.put_named.ensures.end)
+returns-clause-end c =
+    omega
+    (arith, text_len c.args.refusal.now, ap length c.words.ensures.value, c.put-at.ensures.end, c.put_named.ensures.end)

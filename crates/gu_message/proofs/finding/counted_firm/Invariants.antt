@@ -8,7 +8,9 @@ use Rattle.gu_message.proofs.finding.counted_firm.Given as goal
 
 abbrev pub invariant-loop-tag : goal.invariant-loop-tag
 invariant-loop-tag l = record {
-  counted : (length (entries l.first_tag (pairs l.tag-iterator)) == l.left) ≡ (length (entries l.first_tag (pairs l.fn.group)) == l.count);
+  counted : (length (entries l.first_tag (pairs l.tag-iterator)) == l.left)
+      ≡ (length (entries l.first_tag (pairs l.fn.group)) == l.count);
   firm : option_map_or (λ v. Some v.now) l.firm
-      (clearing_firm l.role_tag (entries_with l.first_tag (option_map (λ v. v.now) l.party) (pairs l.tag-iterator))) ≡ clearing_firm l.role_tag (entries l.first_tag (pairs l.fn.group));
+      (clearing_firm l.role_tag (entries_with l.first_tag (option_map (λ v. v.now) l.party) (pairs l.tag-iterator)))
+      ≡ clearing_firm l.role_tag (entries l.first_tag (pairs l.fn.group));
 }

@@ -4,7 +4,12 @@ use Rattle.gu_message.proofs.trade_report_ack.trade_ack_len.Goals as goal
 
 pub returns-in-Refused-clause-exact : goal.returns-in-Refused-clause-exact
 returns-in-Refused-clause-exact c =
-    omega (arith, no_trade_len c.args.id.now c.args.answer.now c.in-Refused.refusal c.in-Refused.is, ap length c.as_bytes-len.ensures.value, c.refusal_len.ensures.exact)
+    omega (
+      arith,
+      no_trade_len c.args.id.now c.args.answer.now c.in-Refused.refusal c.in-Refused.is,
+      ap length c.as_bytes-len.ensures.value,
+      c.refusal_len.ensures.exact,
+    )
 
 pub returns-in-Accepted-clause-exact : goal.returns-in-Accepted-clause-exact
 returns-in-Accepted-clause-exact c =

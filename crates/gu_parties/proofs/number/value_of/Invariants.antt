@@ -5,4 +5,6 @@ use Rattle.gu_parties.proofs.number.value_of.Given as goal
 use Rattle.gu_base.specs.Names.{is_digit}
 
 abbrev pub invariant-loop-b : goal.invariant-loop-b
-invariant-loop-b l = (value_from l.value (drop l.b-index l.text) ≡ value_from 0 l.text) × IsTrue (list_all is_digit (drop l.b-index l.text)) × (l.value < 10 ^ l.b-index)
+invariant-loop-b l =
+    (value_from l.value (drop l.b-index l.text) ≡ value_from 0 l.text)
+    × IsTrue (list_all is_digit (drop l.b-index l.text)) × (l.value < 10 ^ l.b-index)

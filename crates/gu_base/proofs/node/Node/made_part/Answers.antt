@@ -20,4 +20,5 @@ returns c =
     let low : 1 ≤ n.part = omega arith in
     let within : n.part - 1 < length c.args.parts.now = omega arith in
     ap (λ k. Some (record { name = n; lots = c.index-parts-place.result.lots; kind = k })) c.of_part.ensures
-    ∙ part_read n c.args.parent.now c.args.by.now c.args.parts.now c.index-parts-place.result low within (rw c.part-2.ensures.value at c.index-parts-place.is)
+    ∙ part_read n c.args.parent.now c.args.by.now c.args.parts.now c.index-parts-place.result low within
+    (rw c.part-2.ensures.value at c.index-parts-place.is)

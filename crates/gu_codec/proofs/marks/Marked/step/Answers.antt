@@ -1,4 +1,5 @@
-use Rattle.std.proofs.Common.{◌≡◌, ◌+◌, ◌-◌, ◌^◌, ◌<◌, ℕ, List, Some, length, take, drop, sym, ap, ◌∙◌, arith, length-drop}
+use Rattle.std.proofs.Common.{◌≡◌, ◌+◌, ◌-◌, ◌^◌, ◌<◌, ℕ, List, Some, length, take, drop, sym, ap, ◌∙◌, arith}
+use Rattle.std.proofs.Common.{length-drop}
 use Rattle.std.specs.List.{position_or_len}
 use Rattle.std.proofs.lemmas.List.{take_all, drop-drop}
 use lib.Count.{count_trailing_zeros}
@@ -12,10 +13,12 @@ use Rattle.gu_codec.proofs.marks.Marked.step.Goals.{After-advance-base}
 abbrev place : After-advance-base → ℕ
 place c = c.advance-base.result.0 + count_trailing_zeros 64 c.advance-base.result.1
 
-first_soh : (c : After-advance-base) → 0 < c.advance-base.result.1 → Lowest c.self.inside.bytes.now c.self.inside.at c.advance-base.result.0 c.advance-base.result.1 (place c)
+first_soh : (c : After-advance-base) → 0 < c.advance-base.result.1
+    → Lowest c.self.inside.bytes.now c.self.inside.at c.advance-base.result.0 c.advance-base.result.1 (place c)
 first_soh c some =
     let fits : c.advance-base.result.1 < 2 ^ 64 = omega arith in
-    lowest c.self.inside.bytes.now c.self.inside.at c.advance-base.result.0 c.advance-base.result.1 c.advance-base.ensures.marked some fits
+    lowest c.self.inside.bytes.now c.self.inside.at c.advance-base.result.0 c.advance-base.result.1
+    c.advance-base.ensures.marked some fits
 
 -- the slice of what is left
 slice_is : (bytes : List ℕ) (at : ℕ) → take (length bytes - at) (drop at bytes) ≡ drop at bytes
@@ -25,7 +28,8 @@ pub returns-then-marks-eq0-clause-field : goal.returns-then-marks-eq0-clause-fie
 returns-then-marks-eq0-clause-field c =
     let bytes = c.self.inside.bytes.now in
     let at = c.self.inside.at in
-    let none = nothing_left bytes at c.advance-base.result.0 c.advance-base.result.1 c.advance-base.ensures.marked c.if-marks-eq0.true (c.advance-base.ensures.all c.if-marks-eq0.true) in
+    let none = nothing_left bytes at c.advance-base.result.0 c.advance-base.result.1 c.advance-base.ensures.marked
+    c.if-marks-eq0.true (c.advance-base.ensures.all c.if-marks-eq0.true) in
     sym (field_unended (drop at bytes) none) ∙ ap field_at c.self.view_is
 
 pub overflow_sub-end : goal.overflow_sub-end
@@ -55,5 +59,7 @@ returns-clause-field c =
     let f : ℕ × List ℕ = (c.in_ok-field.field.0, c.in_ok-field.field.1.now) in
     let sum : at + (end - at + 1) ≡ end + 1 = omega (arith, soh.from) in
     let left : drop (end - at + 1) (take (length bytes - at) (drop at bytes)) ≡ drop (end + 1) bytes =
-    ap (drop (end - at + 1)) (slice_is bytes at) ∙ drop-drop (end - at + 1) at bytes ∙ ap (λ (n : ℕ). drop n bytes) sum in
-    ap (λ (t : List ℕ). Some (f, t)) (sym left) ∙ c.in_ok-field.ensures ∙ ap field_at (slice_is bytes at ∙ c.self.view_is)
+    ap (drop (end - at + 1)) (slice_is bytes at) ∙ drop-drop (end - at + 1) at bytes
+    ∙ ap (λ (n : ℕ). drop n bytes) sum in
+    ap (λ (t : List ℕ). Some (f, t)) (sym left) ∙ c.in_ok-field.ensures
+    ∙ ap field_at (slice_is bytes at ∙ c.self.view_is)

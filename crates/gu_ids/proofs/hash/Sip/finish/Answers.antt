@@ -23,7 +23,8 @@ joined_state s = bit_xor (bit_xor (bit_xor s.v0 s.v1) s.v2) s.v3
 abbrev last_word : ℕ → ℕ → ℕ
 last_word tail count = bit_or ((bit_and count 255 * 2 ^ 56) % 2 ^ 64) tail
 
-steps : (s : Sip) (tail count : ℕ) → finished s tail count ≡ joined_state (turned (turned (turned (closed (taken s (last_word tail count))))))
+steps : (s : Sip) (tail count : ℕ)
+    → finished s tail count ≡ joined_state (turned (turned (turned (closed (taken s (last_word tail count))))))
 unfolding finish
 steps s tail count =
     let all = taken s (last_word tail count) in
@@ -34,5 +35,8 @@ steps s tail count =
 
 pub returns : goal.returns
 returns c =
-    ap joined_state (c.turn-end.ensures ∙ (ap turned c.turn-2.ensures ∙ ap (λ s. turned (turned s)) (c.turn.ensures ∙ ap (λ s. turned (closed s)) c.take-all.ensures)))
+    ap joined_state
+    (c.turn-end.ensures
+    ∙ (ap turned c.turn-2.ensures
+    ∙ ap (λ s. turned (turned s)) (c.turn.ensures ∙ ap (λ s. turned (closed s)) c.take-all.ensures)))
     ∙ sym (steps c.args.self c.args.tail c.args.count)

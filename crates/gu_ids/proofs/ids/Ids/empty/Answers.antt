@@ -22,7 +22,8 @@ returns-clause-none c =
         head = λ b inside.
             get_or-map (λ (h : Head). h.newest) heads b none 0 (omega (arith, inside, long))
             ∙ (ap (λ l. (slice_index_or l b none).newest) c.vacate.ensures
-            ∙ (ap (λ (h : Head). h.newest) (get_or-replicate (length old) b none none (omega (arith, inside, long, same)))
+            ∙ (ap (λ (h : Head). h.newest)
+            (get_or-replicate (length old) b none none (omega (arith, inside, long, same)))
             ∙ sym (ap (newest (is_in (hashes_of c.clear.new.self.items) (length (newests_of heads)) b)) nothing)));
         before = λ j less. absurd (omega (arith, less, nothing));
       };

@@ -22,34 +22,56 @@ returns-clause-filed c h e hashed are =
     let len : c.len.result ≡ length heads = omega (arith, c.len.ensures, full) in
     let newests = newests_long heads in
     let marks = marks_long heads in
-    let is : bucket ≡ bucket_of link.hash (length heads) = c.bucket_of-bucket.ensures.value ∙ ap (bucket_of link.hash) len in
-    let is_newest : bucket ≡ bucket_of link.hash (length (newests_of heads)) = is ∙ ap (bucket_of link.hash) (sym newests) in
+    let is : bucket ≡ bucket_of link.hash (length heads) =
+    c.bucket_of-bucket.ensures.value ∙ ap (bucket_of link.hash) len in
+    let is_newest : bucket ≡ bucket_of link.hash (length (newests_of heads)) =
+    is ∙ ap (bucket_of link.hash) (sym newests) in
     let is_mark : bucket ≡ bucket_of link.hash (length (marks_of heads)) = is ∙ ap (bucket_of link.hash) (sym marks) in
     let inside : bucket < length heads = omega (arith, len, c.bucket_of-bucket.ensures.within) in
     let longer = length_push ids.links.items link in
     let full_links = c.push_reserved.new.self.ok.0 in
     let pushed = ap length c.push_reserved.ensures.items in
-    let number : new.newest ≡ suc (length ids.links.items) = let is = c.with.ensures.newest in omega (arith, is, c.len-2.ensures, full_links, pushed, longer) in
+    let number : new.newest ≡ suc (length ids.links.items) =
+    let is = c.with.ensures.newest in omega (arith, is, c.len-2.ensures, full_links, pushed, longer) in
     let few = c.requires.ready.buckets in
     let same = length-set heads bucket new in
     let hs = hashes_of ids.links.items in
     let hs_long : length hs ≡ length ids.links.items = length_map (λ (l : Link). l.hash) ids.links.items in
-    let hs_is : hashes_of (ids.links.items ++ link ∷ []) ≡ hs ++ link.hash ∷ [] = map_push (λ (l : Link). l.hash) ids.links.items link in
+    let hs_is : hashes_of (ids.links.items ++ link ∷ []) ≡ hs ++ link.hash ∷ [] =
+    map_push (λ (l : Link). l.hash) ids.links.items link in
     record {
-      hashes = ap hashes_of c.push_reserved.ensures.items ∙ (hs_is
-          ∙ (ap (λ l. l ++ link.hash ∷ []) are.hashes ∙ (ap (λ x. map (λ (e : Entry). hash_of ids.key e.firm e.id) h ++ x ∷ []) hashed
+      hashes = ap hashes_of c.push_reserved.ensures.items
+          ∙ (hs_is
+          ∙ (ap (λ l. l ++ link.hash ∷ []) are.hashes
+          ∙ (ap (λ x. map (λ (e : Entry). hash_of ids.key e.firm e.id) h ++ x ∷ []) hashed
           ∙ sym (map_push (λ (e : Entry). hash_of ids.key e.firm e.id) h e))));
-      chains = subst (λ (l : List Link). AreChains (hashes_of l) (befores_of l) (newests_of (set heads bucket new)) (length l)) (sym c.push_reserved.ensures.items)
+      chains =
+          subst
+          (λ (l : List Link). AreChains (hashes_of l) (befores_of l) (newests_of (set heads bucket new)) (length l))
+          (sym c.push_reserved.ensures.items)
           (links_pushed ids.links.items (newests_of heads) link are.chains (omega (arith, is_newest, inside, newests))
-          (newest_read heads bucket head c.index-head.ensures inside ∙ ap (λ b. slice_index_or (newests_of heads) b 0) is_newest)
+          (newest_read heads bucket head c.index-head.ensures inside
+          ∙ ap (λ b. slice_index_or (newests_of heads) b 0) is_newest)
           (newests_of (set heads bucket new)) (length (ids.links.items ++ link ∷ []))
-          (newests_set heads bucket new ∙ (ap (λ n. set (newests_of heads) bucket n) number ∙ ap (λ b. set (newests_of heads) b (suc (length ids.links.items))) is_newest)) longer);
-      marked = subst (λ (l : List Link). AreMarked (hashes_of l) (marks_of (set heads bucket new)) (length l)) (sym c.push_reserved.ensures.items)
-          (marked_as hs (hashes_of (ids.links.items ++ link ∷ [])) (marks_of heads) (length ids.links.items) link.hash new.marks
-          (λ j less. ap (λ x. slice_index_or x j 0) hs_is ∙ get_or_append_left hs (link.hash ∷ []) 0 j (omega (arith, hs_long, less)))
-          (ap (λ x. slice_index_or x (length ids.links.items) 0) hs_is ∙ get_or_push hs link.hash 0 (length ids.links.items) hs_long)
+          (newests_set heads bucket new
+          ∙ (ap (λ n. set (newests_of heads) bucket n) number
+          ∙ ap (λ b. set (newests_of heads) b (suc (length ids.links.items))) is_newest))
+          longer);
+      marked = subst (λ (l : List Link). AreMarked (hashes_of l) (marks_of (set heads bucket new)) (length l))
+          (sym c.push_reserved.ensures.items)
+          (marked_as hs (hashes_of (ids.links.items ++ link ∷ [])) (marks_of heads) (length ids.links.items) link.hash
+          new.marks
+          (λ j less. ap (λ x. slice_index_or x j 0) hs_is
+          ∙ get_or_append_left hs (link.hash ∷ []) 0 j (omega (arith, hs_long, less)))
+          (ap (λ x. slice_index_or x (length ids.links.items) 0) hs_is
+          ∙ get_or_push hs link.hash 0 (length ids.links.items) hs_long)
           (omega (arith, is_mark, inside, marks)) c.with.ensures.own
-          (λ x had. c.with.ensures.others x (ap (λ m. bears m x) (marks_read heads bucket head c.index-head.ensures inside ∙ ap (λ b. slice_index_or (marks_of heads) b 0) is_mark) ∙ had))
+          (λ x had.
+          c.with.ensures.others x
+          (ap (λ m. bears m x)
+          (marks_read heads bucket head c.index-head.ensures inside
+          ∙ ap (λ b. slice_index_or (marks_of heads) b 0) is_mark)
+          ∙ had))
           are.marked (marks_of (set heads bucket new)) (length (ids.links.items ++ link ∷ []))
           (marks_set heads bucket new ∙ ap (λ b. set (marks_of heads) b new.marks) is_mark) longer);
       few = omega (arith, pushed, longer, few, same);

@@ -22,8 +22,10 @@ loop-place-preserved c =
     let newests = newests_long heads in
     let marks = marks_long heads in
     let len : c.len-buckets.result ≡ length heads = sym at.buckets in
-    let is : bucket ≡ bucket_of link.hash (length heads) = c.bucket_of-bucket.ensures.value ∙ ap (bucket_of link.hash) len in
-    let is_newest : bucket ≡ bucket_of link.hash (length (newests_of heads)) = is ∙ ap (bucket_of link.hash) (sym newests) in
+    let is : bucket ≡ bucket_of link.hash (length heads) =
+    c.bucket_of-bucket.ensures.value ∙ ap (bucket_of link.hash) len in
+    let is_newest : bucket ≡ bucket_of link.hash (length (newests_of heads)) =
+    is ∙ ap (bucket_of link.hash) (sym newests) in
     let is_mark : bucket ≡ bucket_of link.hash (length (marks_of heads)) = is ∙ ap (bucket_of link.hash) (sym marks) in
     let inside : bucket < length heads = omega (arith, len, c.bucket_of-bucket.ensures.within) in
     let number : place + 1 ≡ suc place = omega arith in
@@ -33,21 +35,34 @@ loop-place-preserved c =
     let more = c.loop-place-test.true in
     let there : place < length links = omega (arith, more, c.len-place-end.ensures, count, full) in
     let stay = hashes_stay links (newests_of heads) place c.index.result.now link c.index.ensures refl in
-    let hash_there : slice_index_or (hashes_of links) place 0 ≡ link.hash = get_or-map (λ (l : Link). l.hash) links place c.index.result.now 0 there ∙ ap (λ (l : Link). l.hash) (sym c.index.ensures) in
+    let hash_there : slice_index_or (hashes_of links) place 0 ≡ link.hash =
+    get_or-map (λ (l : Link). l.hash) links place c.index.result.now 0 there
+    ∙ ap (λ (l : Link). l.hash) (sym c.index.ensures) in
     record {
       hashes = stay ∙ at.hashes;
       buckets = length-set heads bucket new ∙ at.buckets;
       count = length-set links place link ∙ at.count;
       key = at.key;
-      chains = links_set links (newests_of heads) place c.index.result.now link c.index.ensures there refl at.chains (omega (arith, is_newest, inside, newests))
-          (newest_read heads bucket head c.index-head.ensures inside ∙ ap (λ b. slice_index_or (newests_of heads) b 0) is_newest)
+      chains = links_set links (newests_of heads) place c.index.result.now link c.index.ensures there refl at.chains
+          (omega (arith, is_newest, inside, newests))
+          (newest_read heads bucket head c.index-head.ensures inside
+          ∙ ap (λ b. slice_index_or (newests_of heads) b 0) is_newest)
           (newests_of (set heads bucket new)) (place + 1)
-          (newests_set heads bucket new ∙ (ap (λ n. set (newests_of heads) bucket n) numbered ∙ ap (λ b. set (newests_of heads) b (suc place)) is_newest)) number;
+          (newests_set heads bucket new
+          ∙ (ap (λ n. set (newests_of heads) bucket n) numbered
+          ∙ ap (λ b. set (newests_of heads) b (suc place)) is_newest))
+          number;
       marked = marked_as (hashes_of links) (hashes_of (set links place link)) (marks_of heads) place link.hash new.marks
           (λ j less. ap (λ l. slice_index_or l j 0) stay) (ap (λ l. slice_index_or l place 0) stay ∙ hash_there)
           (omega (arith, is_mark, inside, marks)) c.with.ensures.own
-          (λ x had. c.with.ensures.others x (ap (λ m. bears m x) (marks_read heads bucket head c.index-head.ensures inside ∙ ap (λ b. slice_index_or (marks_of heads) b 0) is_mark) ∙ had))
-          at.marked (marks_of (set heads bucket new)) (place + 1) (marks_set heads bucket new ∙ ap (λ b. set (marks_of heads) b new.marks) is_mark) number;
+          (λ x had.
+          c.with.ensures.others x
+          (ap (λ m. bears m x)
+          (marks_read heads bucket head c.index-head.ensures inside
+          ∙ ap (λ b. slice_index_or (marks_of heads) b 0) is_mark)
+          ∙ had))
+          at.marked (marks_of (set heads bucket new)) (place + 1)
+          (marks_set heads bucket new ∙ ap (λ b. set (marks_of heads) b new.marks) is_mark) number;
     }
 
 pub loop-place-init : goal.loop-place-init
@@ -63,7 +78,9 @@ loop-place-init c =
       chains = record {
         head = λ b inside.
             get_or-map (λ (h : Head). h.newest) heads b none 0 (omega (arith, inside, longer))
-            ∙ (ap (λ l. (slice_index_or l b none).newest) c.requires.new ∙ ap (λ (h : Head). h.newest) (get_or-replicate (length heads) b none none (omega (arith, inside, longer))));
+            ∙ (ap (λ l. (slice_index_or l b none).newest) c.requires.new
+            ∙ ap (λ (h : Head). h.newest)
+            (get_or-replicate (length heads) b none none (omega (arith, inside, longer))));
         before = λ j less. absurd (omega (arith, less));
       };
       marked = λ j less. absurd (omega (arith, less));

@@ -10,6 +10,7 @@ invariant-loop-place l = record {
   buckets : length l.self.heads.items ≡ l.buckets;
   count : count l.self ≡ count l.initial.self;
   key : l.self.key ≡ l.initial.self.key;
-  chains : AreChains (hashes_of l.self.links.items) (befores_of l.self.links.items) (newests_of l.self.heads.items) l.place;
+  chains : AreChains (hashes_of l.self.links.items) (befores_of l.self.links.items) (newests_of l.self.heads.items)
+      l.place;
   marked : AreMarked (hashes_of l.self.links.items) (marks_of l.self.heads.items) l.place;
 }

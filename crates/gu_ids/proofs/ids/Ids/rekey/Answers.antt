@@ -10,10 +10,13 @@ loop-place-preserved c =
     let h = c.args.entries.now in
     let place = c.loop-place.place in
     let e = c.index-entries-place.result in
-    let hashed : c.hash_anew.result ≡ hash_of c.loop-place.self.key e.firm e.id = c.hash_anew.ensures ∙ ap (λ k. hash_of k e.firm e.id) (sym at.key) in
+    let hashed : c.hash_anew.result ≡ hash_of c.loop-place.self.key e.firm e.id =
+    c.hash_anew.ensures ∙ ap (λ k. hash_of k e.firm e.id) (sym at.key) in
     record {
       key = c.file.ensures.key ∙ at.key;
-      ids = subst (AreIdsOf c.file.new.self) (sym (take_more h place e c.loop-place-test.true ∙ ap (λ x. take place h ++ x ∷ []) (sym c.index-entries-place.is)))
+      ids = subst (AreIdsOf c.file.new.self)
+          (sym (take_more h place e c.loop-place-test.true
+          ∙ ap (λ x. take place h ++ x ∷ []) (sym c.index-entries-place.is)))
           (c.file.ensures.filed (take place h) e hashed at.ids);
       room = c.file.ensures.room ∙ at.room;
       buckets = c.file.ensures.buckets ∙ at.buckets;
@@ -22,4 +25,5 @@ loop-place-preserved c =
 pub returns-clause-ids : goal.returns-clause-ids
 returns-clause-ids c =
     let h = c.args.entries.now in
-    subst (AreIdsOf c.loop-place.self) (take_all c.loop-place.place h c.loop-place-test.false) c.loop-place.invariant.ids
+    subst (AreIdsOf c.loop-place.self) (take_all c.loop-place.place h c.loop-place-test.false)
+    c.loop-place.invariant.ids

@@ -30,8 +30,12 @@ returns-then-is_of c =
     let ids = c.args.self.now in
     let k = c.loop-number.number - 1 in
     let on = on_entry (goal.at.returns-then-is_of c).After-index-entries-place in
-    let asked = and_parts (eqb c.index-link.result.now.hash c.args.hash) (is_of c.args.firm.now c.args.id.now c.index-entries-place.result) (sym c.is_of.ensures ∙ c.if-is_of.true) in
-    let here = is_read ids c.args.entries.now c.args.firm.now c.args.id.now c.requires.ids k c.index-entries-place.result c.index-entries-place.is (omega (arith, on.stands.within)) ∙ asked.1 in
+    let asked = and_parts (eqb c.index-link.result.now.hash c.args.hash)
+    (is_of c.args.firm.now c.args.id.now c.index-entries-place.result) (sym c.is_of.ensures ∙ c.if-is_of.true) in
+    let here =
+    is_read ids c.args.entries.now c.args.firm.now c.args.id.now c.requires.ids k c.index-entries-place.result
+    c.index-entries-place.is (omega (arith, on.stands.within))
+    ∙ asked.1 in
     let made : c.at_place.result ≡ suc k = omega (arith, c.at_place.ensures) in
     ap Some made ∙ sym (walk_finds ids c.args.entries.now c.args.firm.now c.args.id.now c.requires.ids k on.stands here)
 
@@ -40,8 +44,10 @@ loop-number-smaller c =
     let ids = c.args.self.now in
     let k = c.loop-number.number - 1 in
     let on = on_entry (goal.at.loop-number-smaller c).After-index-entries-place in
-    let least = walk_sinks ids c.args.entries.now c.args.firm.now c.args.id.now c.requires.ids k on.stands c.index-link.result.now.before
-    (read_before ids c.args.entries.now c.args.firm.now c.args.id.now c.requires.ids k c.index-link.result.now c.index-link.ensures on.there) in
+    let least = walk_sinks ids c.args.entries.now c.args.firm.now c.args.id.now c.requires.ids k on.stands
+    c.index-link.result.now.before
+    (read_before ids c.args.entries.now c.args.firm.now c.args.id.now c.requires.ids k c.index-link.result.now
+    c.index-link.ensures on.there) in
     omega (arith, on.number, least)
 
 pub loop-number-preserved : goal.loop-number-preserved
@@ -49,7 +55,10 @@ loop-number-preserved c =
     let ids = c.args.self.now in
     let k = c.loop-number.number - 1 in
     let on = on_entry (goal.at.loop-number-preserved c).After-index-entries-place in
-    walk_goes_on ids c.args.entries.now c.args.firm.now c.args.id.now c.requires.ids k on.stands c.index-link.result.now.before
-    (read_before ids c.args.entries.now c.args.firm.now c.args.id.now c.requires.ids k c.index-link.result.now c.index-link.ensures on.there)
-    (not_here ids c.args.entries.now c.args.firm.now c.args.id.now c.requires.ids k c.index-link.result.now c.index-entries-place.result c.args.hash c.requires.hash c.index-link.ensures on.there
-    c.index-entries-place.is (sym c.is_of.ensures ∙ c.if-is_of.false))
+    walk_goes_on ids c.args.entries.now c.args.firm.now c.args.id.now c.requires.ids k on.stands
+    c.index-link.result.now.before
+    (read_before ids c.args.entries.now c.args.firm.now c.args.id.now c.requires.ids k c.index-link.result.now
+    c.index-link.ensures on.there)
+    (not_here ids c.args.entries.now c.args.firm.now c.args.id.now c.requires.ids k c.index-link.result.now
+    c.index-entries-place.result c.args.hash c.requires.hash c.index-link.ensures on.there c.index-entries-place.is
+    (sym c.is_of.ensures ∙ c.if-is_of.false))

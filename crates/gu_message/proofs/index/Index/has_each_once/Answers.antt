@@ -7,4 +7,5 @@ use Rattle.gu_message.proofs.index.Index.has_each_once.Goals as goal
 pub returns : goal.returns
 returns c e =
     subst (λ fs. length (entries 54 fs) ≤ 1) c.self.view_is
-    (lone_end c.self.inside.repeated c.self.inside.slots.now (pairs c.self.inside.fields) 54 c.self.invariant.count side_slot e c.self.invariant.lone)
+    (lone_end c.self.inside.repeated c.self.inside.slots.now (pairs c.self.inside.fields) 54 c.self.invariant.count
+    side_slot e c.self.invariant.lone)

@@ -10,7 +10,9 @@ padded : (n : ℕ) (text copied : List ℕ) → copied ≡ text → length text 
 padded n text copied e fits =
     rw e (
       fits,
-      rw (drop-replicate {X = ℕ} (length text) n 0) (omega (arith, length-append text (replicate (n - length text) 0), length-replicate {A = ℕ} (n - length text) 0)),
+      rw (drop-replicate {X = ℕ} (length text) n 0)
+          (omega
+          (arith, length-append text (replicate (n - length text) 0), length-replicate {A = ℕ} (n - length text) 0)),
       rw (drop-append_seam text (drop (length text) (replicate n 0))) (drop-replicate {X = ℕ} (length text) n 0),
     )
 

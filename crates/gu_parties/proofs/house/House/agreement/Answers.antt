@@ -14,11 +14,16 @@ pair_is giver taker p = bytes_eq giver p.giver && bytes_eq taker p.taker
 
 pub returns-clause-in_range : goal.returns-clause-in_range
 returns-clause-in_range c =
-    let value : c.copied.result ≡ lookup (pair_is c.args.giver.now c.args.taker.now) c.self.inside.agreements.entries = search rules in
-    rw value (found_in_range (pair_is c.args.giver.now c.args.taker.now) c.self.inside.agreements.entries (fixed_in_range (table c.self.inside) c.self.invariant))
+    let value : c.copied.result ≡ lookup (pair_is c.args.giver.now c.args.taker.now) c.self.inside.agreements.entries =
+    search rules in
+    rw value
+    (found_in_range (pair_is c.args.giver.now c.args.taker.now) c.self.inside.agreements.entries
+    (fixed_in_range (table c.self.inside) c.self.invariant))
 
 pub returns-clause-all_in_range : goal.returns-clause-all_in_range
-returns-clause-all_in_range c = subst (λ (t : House). IsTrue (has_terms_in_range t)) c.self.view_is (fixed_in_range (table c.self.inside) c.self.invariant)
+returns-clause-all_in_range c =
+    subst (λ (t : House). IsTrue (has_terms_in_range t)) c.self.view_is
+    (fixed_in_range (table c.self.inside) c.self.invariant)
 
 pub returns-clause-value : goal.returns-clause-value
 returns-clause-value c = search rules

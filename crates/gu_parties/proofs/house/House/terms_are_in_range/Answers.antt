@@ -8,4 +8,6 @@ use Rattle.gu_parties.proofs.house.House.terms_are_in_range.Goals as goal
 
 pub returns : goal.returns
 returns c = λ giver taker.
-    rw (← c.self.view_is) (found_in_range (λ (p : Pair). bytes_eq giver p.giver && bytes_eq taker p.taker) c.self.inside.agreements.entries (fixed_in_range (table c.self.inside) c.self.invariant))
+    rw (← c.self.view_is)
+    (found_in_range (λ (p : Pair). bytes_eq giver p.giver && bytes_eq taker p.taker) c.self.inside.agreements.entries
+    (fixed_in_range (table c.self.inside) c.self.invariant))
