@@ -1,10 +1,16 @@
 -- What changes deal under the terms of a giver and a taker.
-use Rattle.gu_depend.proofs.Vocabulary.{◌≡◌, ℕ, ◌+◌, true, ◌&&◌, List, [], ◌∷◌, ◌++◌, refl, sym, ◌∙◌, ap, subst, cond, Option, All, append-nil, Some, None, filter_map}
-use Rattle.gu_depend.proofs.Vocabulary.{option_map, option_and_then, bytes_eq, ◌==◌, ◌↔◌, cons_option, and_parts, All-head, All-tail, All-weaker, filter_map-append, same_Some}
-use Rattle.gu_depend.proofs.Vocabulary.{bytes_eq-Decides, EntryPart, House, agreement, node_of, is_given, use_of_kind, use_of_node, deed_of, dealing_of, dealings_in, dealings, terms_under, limit_of}
-use Rattle.gu_depend.proofs.Vocabulary.{used_of, leave_out, first_over, first_under_deed, row, claim_row, raised_row, limit_row, limit_by, used_by, without, bytes_same, Agreement, Deed, Makes, Raises}
-use Rattle.gu_depend.proofs.Vocabulary.{Uses, Dealing, Pair, Command, Claim, Agree, Raise, Record, Kind, Given, Node, no_some, may_use, fits, AllFit, first_unfit, name_same, claim_passes}
-use Rattle.gu_depend.proofs.Vocabulary.{agree_passes, raise_passes, at_node, pair_of, deals_under, may_raise, unfit_none, fit_without_use, unfit_without_raise, unfit_without_terms}
+use Rattle.gu_depend.proofs.Vocabulary.{◌≡◌, ℕ, ◌+◌, true, ◌&&◌, List, [], ◌∷◌, ◌++◌, refl, sym, ◌∙◌, ap, subst, cond}
+use Rattle.gu_depend.proofs.Vocabulary.{Option, All, append-nil, Some, None, filter_map, option_map, option_and_then}
+use Rattle.gu_depend.proofs.Vocabulary.{bytes_eq, ◌==◌, ◌↔◌, cons_option, and_parts, All-head, All-tail, All-weaker}
+use Rattle.gu_depend.proofs.Vocabulary.{filter_map-append, same_Some, bytes_eq-Decides, EntryPart, House, agreement}
+use Rattle.gu_depend.proofs.Vocabulary.{node_of, is_given, use_of_kind, use_of_node, deed_of, dealing_of, dealings_in}
+use Rattle.gu_depend.proofs.Vocabulary.{dealings, terms_under, limit_of, used_of, leave_out, first_over}
+use Rattle.gu_depend.proofs.Vocabulary.{first_under_deed, row, claim_row, raised_row, limit_row, limit_by, used_by}
+use Rattle.gu_depend.proofs.Vocabulary.{without, bytes_same, Agreement, Deed, Makes, Raises, Uses, Dealing, Pair}
+use Rattle.gu_depend.proofs.Vocabulary.{Command, Claim, Agree, Raise, Record, Kind, Given, Node, no_some, may_use, fits}
+use Rattle.gu_depend.proofs.Vocabulary.{AllFit, first_unfit, name_same, claim_passes, agree_passes, raise_passes}
+use Rattle.gu_depend.proofs.Vocabulary.{at_node, pair_of, deals_under, may_raise, unfit_none, fit_without_use}
+use Rattle.gu_depend.proofs.Vocabulary.{unfit_without_raise, unfit_without_terms}
 use Rattle.gu_depend.proofs.{Vocabulary.{none_unless, none_or_some, inl, inr}, Finds.{by_test, and_then_told}}
 use Rattle.gu_depend.proofs.Grown.{ThereFor, Within, NamesThere, Grown}
 use Rattle.gu_base.proofs.Accepted.{unless_none}
@@ -16,11 +22,13 @@ pub both_same : (g k : List ℕ) → (bytes_eq g g && bytes_eq k k) ≡ true
 both_same g k = ap (λ b. b && bytes_eq k k) (bytes_same g) ∙ bytes_same k
 
 -- what holds of a pair and its deed holds of the two for whom it is given
-pub given_for : (P : List ℕ → List ℕ → Deed → Type 0) (g k x y : List ℕ) (e d : Deed) → cond (bytes_eq x g && bytes_eq y k) (Some e) None ≡ Some d → P x y e → P g k d
+pub given_for : (P : List ℕ → List ℕ → Deed → Type 0) (g k x y : List ℕ) (e d : Deed)
+    → cond (bytes_eq x g && bytes_eq y k) (Some e) None ≡ Some d → P x y e → P g k d
 given_for P g k x y e d h held =
     let c = cond_some (bytes_eq x g && bytes_eq y k) e d h in
     let p = and_parts (bytes_eq x g) (bytes_eq y k) c.0 in
-    subst (P g k) c.1 (subst (λ z. P g z e) ((bytes_eq-Decides y k).0 p.1) (subst (λ z. P z y e) ((bytes_eq-Decides x g).0 p.0) held))
+    subst (P g k) c.1
+    (subst (λ z. P g z e) ((bytes_eq-Decides y k).0 p.1) (subst (λ z. P z y e) ((bytes_eq-Decides x g).0 p.0) held))
 
 -- ---- the deed of a change, in lists of which one has some of the changes of the other
 
@@ -32,13 +40,17 @@ abbrev pub dealt : Record → Option Deed → List Dealing → List Dealing
 dealt r o ds = cons_option (option_map (numbered r) o) ds
 
 -- a change whose node is there deals the same in both lists
-pub deed_grown : (l b : List Record) (g k by : List ℕ) (c : Command) → Within l b → ThereFor b c → deed_of b g k by c ≡ deed_of l g k by c
-deed_grown l b g k by (Claim n account) w there = let x = there n (name_same n) in ap (option_and_then (use_of_node g k)) (x.1 ∙ sym (w.nodes n x.0 x.1))
+pub deed_grown : (l b : List Record) (g k by : List ℕ) (c : Command) → Within l b → ThereFor b c
+    → deed_of b g k by c ≡ deed_of l g k by c
+deed_grown l b g k by (Claim n account) w there =
+    let x = there n (name_same n) in ap (option_and_then (use_of_node g k)) (x.1 ∙ sym (w.nodes n x.0 x.1))
 deed_grown l b g k by _ w there = refl
 
-pub gives_alike : {X Y : Type 0} (f h : X → Option Y) (xs : List X) → All (λ x. f x ≡ h x) xs → filter_map f xs ≡ filter_map h xs
+pub gives_alike : {X Y : Type 0} (f h : X → Option Y) (xs : List X) → All (λ x. f x ≡ h x) xs
+    → filter_map f xs ≡ filter_map h xs
 gives_alike f h [] all = refl
-gives_alike f h (x ∷ xs) all = λ i. cons_option (All-head (λ x. f x ≡ h x) x xs all i) (gives_alike f h xs (All-tail (λ x. f x ≡ h x) x xs all) i)
+gives_alike f h (x ∷ xs) all =
+    λ i. cons_option (All-head (λ x. f x ≡ h x) x xs all i) (gives_alike f h xs (All-tail (λ x. f x ≡ h x) x xs all) i)
 
 pub dealings_grown : (l b : List Record) (g k : List ℕ) → Grown l b → dealings b g k ≡ dealings_in l b g k
 dealings_grown l b g k grown =
@@ -46,16 +58,20 @@ dealings_grown l b g k grown =
     (All-weaker (NamesThere b) (λ (r : Record). dealing_of b g k r ≡ dealing_of l g k r)
     (λ r there. ap (option_map (numbered r)) (deed_grown l b g k r.firm r.command grown.within there)) b grown.named)
 
-pub dealings_append : (l xs ys : List Record) (g k : List ℕ) → dealings_in l (xs ++ ys) g k ≡ dealings_in l xs g k ++ dealings_in l ys g k
+pub dealings_append : (l xs ys : List Record) (g k : List ℕ)
+    → dealings_in l (xs ++ ys) g k ≡ dealings_in l xs g k ++ dealings_in l ys g k
 dealings_append l xs ys g k = filter_map-append (dealing_of l g k) xs ys
 
 -- what is dealt, cut at a change
-pub dealings_cut : (l p : List Record) (r : Record) (s : List Record) (g k : List ℕ) (o : Option Deed) → deed_of l g k r.firm r.command ≡ o
+pub dealings_cut : (l p : List Record) (r : Record) (s : List Record) (g k : List ℕ) (o : Option Deed)
+    → deed_of l g k r.firm r.command ≡ o
     → dealings_in l (p ++ r ∷ s) g k ≡ dealings_in l p g k ++ dealt r o (dealings_in l s g k)
-dealings_cut l p r s g k o e = dealings_append l p (r ∷ s) g k ∙ ap (λ o. dealings_in l p g k ++ dealt r o (dealings_in l s g k)) e
+dealings_cut l p r s g k o e =
+    dealings_append l p (r ∷ s) g k ∙ ap (λ o. dealings_in l p g k ++ dealt r o (dealings_in l s g k)) e
 
 -- a change that deals nothing adds nothing
-pub dealings_idle : (l p : List Record) (r : Record) (g k : List ℕ) → deed_of l g k r.firm r.command ≡ None → dealings_in l (p ++ r ∷ []) g k ≡ dealings_in l p g k
+pub dealings_idle : (l p : List Record) (r : Record) (g k : List ℕ) → deed_of l g k r.firm r.command ≡ None
+    → dealings_in l (p ++ r ∷ []) g k ≡ dealings_in l p g k
 dealings_idle l p r g k e = dealings_cut l p r [] g k None e ∙ append-nil (dealings_in l p g k)
 
 pub not_empty : (before : List Dealing) (d : Dealing) (behind : List Dealing) → [] ≡ before ++ d ∷ behind → ⊥
@@ -81,31 +97,42 @@ pub record IsDeal (l : List Record) (by : List ℕ) (c : Command) (g k : List �
   pub under : (t : House) (n : ℕ) → deals_under t l n by c ≡ first_under_deed (agreement t g k) (dealings l g k) n d
   pub fit : (t : House) → row t l by c ≡ None → fits (agreement t g k) (dealings l g k) d ≡ true
 
-pub deal : (l : List Record) (by : List ℕ) (c : Command) (g k : List ℕ) (d : Deed) → deed_of l g k by c ≡ Some d → IsDeal l by c g k d
+pub deal : (l : List Record) (by : List ℕ) (c : Command) (g k : List ℕ) (d : Deed) → deed_of l g k by c ≡ Some d
+    → IsDeal l by c g k d
 deal l by (Agree x y rate limit) g k d h =
     given_for (IsDeal l by (Agree x y rate limit)) g k x y (Makes (record { rate = rate; limit = limit })) d h
     (record { of = refl; under = λ t n. refl; fit = λ t h. (agree_passes t l by x y rate limit h).1 })
 deal l by (Raise x lots) g k d h =
-    given_for (IsDeal l by (Raise x lots)) g k x by (Raises lots) d h
-    (record { of = refl; under = λ t n. refl; fit = λ t h. (raised_may lots (limit_of t l x by)).0 (raise_passes t l by x lots h).1 })
-deal l by (Claim n account) g k d h = let x = and_then_told (use_of_node g k) (node_of l n) d h in of_kind x.0 x.1.0 x.0.kind refl x.1.1
+    given_for (IsDeal l by (Raise x lots)) g k x by (Raises lots) d h (record {
+      of = refl;
+      under = λ t n. refl;
+      fit = λ t h. (raised_may lots (limit_of t l x by)).0 (raise_passes t l by x lots h).1;
+    })
+deal l by (Claim n account) g k d h =
+    let x = and_then_told (use_of_node g k) (node_of l n) d h in of_kind x.0 x.1.0 x.0.kind refl x.1.1
   where
-    of_kind : (x : Node) → node_of l n ≡ Some x → (kind : Kind) → x.kind ≡ kind → use_of_kind g k x.lots kind ≡ Some d → IsDeal l by (Claim n account) g k d
+    of_kind : (x : Node) → node_of l n ≡ Some x → (kind : Kind) → x.kind ≡ kind → use_of_kind g k x.lots kind ≡ Some d
+        → IsDeal l by (Claim n account) g k d
     of_kind x there (Given m a b) is h =
         given_for (IsDeal l by (Claim n account)) g k a b (Uses x.lots) d h (record {
           of = cc (there, is);
           under = λ t n. refl;
           fit = λ t h.
-              let passes = claim_passes t l by account x (subst (λ o. at_node (claim_row t l by account) o ≡ None) there h) in
-              (used_may (used_of l a b + x.lots) (limit_of t l a b)).0 (subst (λ z. limit_row (used_by l z + x.lots) (limit_by t l z) ≡ None) is passes.2);
+              let passes =
+              claim_passes t l by account x (subst (λ o. at_node (claim_row t l by account) o ≡ None) there h) in
+              (used_may (used_of l a b + x.lots) (limit_of t l a b)).0
+              (subst (λ z. limit_row (used_by l z + x.lots) (limit_by t l z) ≡ None) is passes.2);
         })
     of_kind x there _ is h = absurd (cc)
 deal l by _ g k d h = absurd (cc)
 
 -- and what fits is within the limit
-pub claim_within : (t : House) (l b : List Record) (n : EntryPart) (by account : List ℕ) (x : Node) → node_of l n ≡ Some x
-    → ((g k : List ℕ) (d : Deed) → deed_of l g k by (Claim n account) ≡ Some d → fits (agreement t g k) (dealings b g k) d ≡ true)
-    → (kind : Kind) → x.kind ≡ kind → is_given kind ≡ true → limit_row (used_by b kind + x.lots) (limit_by t b kind) ≡ None
+pub claim_within : (t : House) (l b : List Record) (n : EntryPart) (by account : List ℕ) (x : Node)
+    → node_of l n ≡ Some x
+    → ((g k : List ℕ) (d : Deed) → deed_of l g k by (Claim n account) ≡ Some d
+    → fits (agreement t g k) (dealings b g k) d ≡ true)
+    → (kind : Kind) → x.kind ≡ kind → is_given kind ≡ true
+    → limit_row (used_by b kind + x.lots) (limit_by t b kind) ≡ None
 claim_within t l b n by account x found fit (Given m g k) is given =
     (used_may (used_of b g k + x.lots) (limit_of t b g k)).1
     (fit g k (Uses x.lots) (cc (found, is, both_same g k)))
@@ -114,10 +141,13 @@ claim_within t l b n by account x found fit _ is given = absurd (cc)
 -- ---- whom a change deals with
 
 -- what stands under terms deals for a giver and a taker
-pub deals_some : (t : House) (l : List Record) (n : ℕ) (by : List ℕ) (c : Command) (m : ℕ) → deals_under t l n by c ≡ Some m
-    → (g : List ℕ) × (k : List ℕ) × (d : Deed) × (deed_of l g k by c ≡ Some d)
-deals_some t l n by (Agree x y rate limit) m h = let made = Makes (record { rate = rate; limit = limit }) in (x, y, made, ap (λ b. cond b (Some made) None) (both_same x y))
-deals_some t l n by (Raise x lots) m h = (x, by, Raises lots, ap (λ b. cond b (Some (Raises lots)) None) (both_same x by))
+pub deals_some : (t : House) (l : List Record) (n : ℕ) (by : List ℕ) (c : Command) (m : ℕ)
+    → deals_under t l n by c ≡ Some m → (g : List ℕ) × (k : List ℕ) × (d : Deed) × (deed_of l g k by c ≡ Some d)
+deals_some t l n by (Agree x y rate limit) m h =
+    let made = Makes (record { rate = rate; limit = limit }) in
+    (x, y, made, ap (λ b. cond b (Some made) None) (both_same x y))
+deals_some t l n by (Raise x lots) m h =
+    (x, by, Raises lots, ap (λ b. cond b (Some (Raises lots)) None) (both_same x by))
 deals_some t l n by _ m h = absurd (cc)
 
 -- what holds of one pair holds of the same pair
@@ -128,25 +158,33 @@ pub pair_told : (p q : Pair) → Some p ≡ Some q → (p.giver ≡ q.giver) × 
 pair_told p q e = let one : p ≡ q = same_Some p q e in (ap (λ (z : Pair). z.giver) one, ap (λ (z : Pair). z.taker) one)
 
 -- a change deals for one giver and one taker
-pub same_pair : (l : List Record) (g k x y by : List ℕ) (c : Command) (d f : Deed) → deed_of l g k by c ≡ Some d → deed_of l x y by c ≡ Some f → (g ≡ x) × (k ≡ y)
-same_pair l g k x y by c d f a b = pair_told (record { giver = g; taker = k }) (record { giver = x; taker = y }) (sym (deal l by c g k d a).of ∙ (deal l by c x y f b).of)
+pub same_pair : (l : List Record) (g k x y by : List ℕ) (c : Command) (d f : Deed) → deed_of l g k by c ≡ Some d
+    → deed_of l x y by c ≡ Some f → (g ≡ x) × (k ≡ y)
+same_pair l g k x y by c d f a b =
+    pair_told (record { giver = g; taker = k }) (record { giver = x; taker = y })
+    (sym (deal l by c g k d a).of ∙ (deal l by c x y f b).of)
 
 -- and for the others nothing
-pub undealt : (l : List Record) (x y by : List ℕ) (c : Command) → (pair_of l by c ≡ pair x y → ⊥) → deed_of l x y by c ≡ None
+pub undealt : (l : List Record) (x y by : List ℕ) (c : Command) → (pair_of l by c ≡ pair x y → ⊥)
+    → deed_of l x y by c ≡ None
 undealt l x y by c other = no_some (deed_of l x y by c) (λ d e. other (deal l by c x y d e).of)
 
 -- ---- one left out
 
 -- without one of them, the first that doesn't fit is the first that stands on it
-pub unfit_without : (file : Option Agreement) (xs : List Dealing) (k : Dealing) (ys : List Dealing) → AllFit file [] (xs ++ k ∷ ys) → leave_out k.number (xs ++ k ∷ ys) ≡ xs ++ ys
-    → (e : Deed) → k.deed ≡ e → first_unfit file [] (xs ++ ys) ≡ first_under_deed file (xs ++ k ∷ ys) k.number e
+pub unfit_without : (file : Option Agreement) (xs : List Dealing) (k : Dealing) (ys : List Dealing)
+    → AllFit file [] (xs ++ k ∷ ys) → leave_out k.number (xs ++ k ∷ ys) ≡ xs ++ ys → (e : Deed) → k.deed ≡ e
+    → first_unfit file [] (xs ++ ys) ≡ first_under_deed file (xs ++ k ∷ ys) k.number e
 unfit_without file xs k ys all left (Makes a) is = unfit_without_terms file xs k ys a is all
 unfit_without file xs k ys all left (Raises lots) is =
-    unfit_without_raise file xs k ys lots is all ∙ sym (ap (λ z. option_and_then (λ (a : Agreement). first_over a.limit 0 z) (terms_under file (xs ++ k ∷ ys))) left)
-unfit_without file xs k ys all left (Uses lots) is = unfit_none file [] (xs ++ ys) (fit_without_use file xs k ys lots is all)
+    unfit_without_raise file xs k ys lots is all
+    ∙ sym (ap (λ z. option_and_then (λ (a : Agreement). first_over a.limit 0 z) (terms_under file (xs ++ k ∷ ys))) left)
+unfit_without file xs k ys all left (Uses lots) is =
+    unfit_none file [] (xs ++ ys) (fit_without_use file xs k ys lots is all)
 
 -- the dealings but the one of a number are those of the changes without it
-pub left_out : (l : List Record) (g k : List ℕ) (n : ℕ) (b : List Record) → leave_out n (dealings_in l b g k) ≡ dealings_in l (without b n) g k
+pub left_out : (l : List Record) (g k : List ℕ) (n : ℕ) (b : List Record)
+    → leave_out n (dealings_in l b g k) ≡ dealings_in l (without b n) g k
 left_out l g k n [] = refl
 left_out l g k n (r ∷ b) = let rest = left_out l g k n b in elim (none_or_some (deed_of l g k r.firm r.command)) [
   | inl none ↦ by_test (r.number == n) (λ is. cc (none, is, rest)) (λ other. cc (none, other, rest))

@@ -1,12 +1,19 @@
 -- What stands on a change, read off trees and terms that show the list, and how many entries stand beside it.
-use Rattle.gu_depend.proofs.Vocabulary.{◌≡◌, ℕ, true, false, List, [], refl, sym, ◌∙◌, ap, subst, arith, Option, Contains, IsSomeAnd, inl, inr, Some, None, find, flat_map, option_map}
-use Rattle.gu_depend.proofs.Vocabulary.{option_and_then, ◌==◌, ◌↔◌, Decides-eqb, same_Some, made_by, parts_of, EntryPart, RisesFrom, House, node_of, nodes_of, split_of}
-use Rattle.gu_depend.proofs.Vocabulary.{decision_of, splits, decides, same_name, IsLegal, first_refused, standing_on, without, Part, Command, Trade, Split, Claim, Refuse, Cancel, Agree, Raise, Record}
-use Rattle.gu_depend.proofs.Vocabulary.{Node, legal_from_replay, replay_from_legal, name_same, found_in, find_passes, change_of, named_place, number_in, numbers_on, least}
-use Rattle.gu_depend.proofs.Vocabulary.{◌||◌, numbers_under, deals_under, or_right, ◌∷◌, cond, length, unwrap_or, slice_get, lookup, nothing_here, find-append, deed_of}
-use Rattle.gu_depend.proofs.Vocabulary.{dealings_in, dealings, Deed, Makes, Raises, Pair, is_pair, PairView, TermsView, pair_at, pair_of, place_of_pair, entries_dealt}
-use Rattle.gu_depend.proofs.Vocabulary.{AreTermsOf, ◌≢◌, place_in, IsTreeIn, ShowsAll, numbers_on_parts, Bool, none_or_some}
-use Rattle.gu_depend.proofs.Finds.{some_with, and_then_told, found_once, filter_all, cut_at, none_before, alike_at, and_then_steps}
+use Rattle.gu_depend.proofs.Vocabulary.{◌≡◌, ℕ, true, false, List, [], refl, sym, ◌∙◌, ap, subst, arith, Option}
+use Rattle.gu_depend.proofs.Vocabulary.{Contains, IsSomeAnd, inl, inr, Some, None, find, flat_map, option_map}
+use Rattle.gu_depend.proofs.Vocabulary.{option_and_then, ◌==◌, ◌↔◌, Decides-eqb, same_Some, made_by, parts_of}
+use Rattle.gu_depend.proofs.Vocabulary.{EntryPart, RisesFrom, House, node_of, nodes_of, split_of, decision_of, splits}
+use Rattle.gu_depend.proofs.Vocabulary.{decides, same_name, IsLegal, first_refused, standing_on, without, Part, Command}
+use Rattle.gu_depend.proofs.Vocabulary.{Trade, Split, Claim, Refuse, Cancel, Agree, Raise, Record, Node}
+use Rattle.gu_depend.proofs.Vocabulary.{legal_from_replay, replay_from_legal, name_same, found_in, find_passes}
+use Rattle.gu_depend.proofs.Vocabulary.{change_of, named_place, number_in, numbers_on, least, ◌||◌, numbers_under}
+use Rattle.gu_depend.proofs.Vocabulary.{deals_under, or_right, ◌∷◌, cond, length, unwrap_or, slice_get, lookup}
+use Rattle.gu_depend.proofs.Vocabulary.{nothing_here, find-append, deed_of, dealings_in, dealings, Deed, Makes, Raises}
+use Rattle.gu_depend.proofs.Vocabulary.{Pair, is_pair, PairView, TermsView, pair_at, pair_of, place_of_pair}
+use Rattle.gu_depend.proofs.Vocabulary.{entries_dealt, AreTermsOf, ◌≢◌, place_in, IsTreeIn, ShowsAll, numbers_on_parts}
+use Rattle.gu_depend.proofs.Vocabulary.{Bool, none_or_some}
+use Rattle.gu_depend.proofs.Finds.{some_with, and_then_told, found_once, filter_all, cut_at, none_before, alike_at}
+use Rattle.gu_depend.proofs.Finds.{and_then_steps}
 use Rattle.gu_tree.specs.{Rose.{Rose, head_of, split_of_node}, Paths.{node_at, LeadsTo}}
 use Rattle.gu_tree.specs.Grove.{Grove, tree_of, place_of, IsPlace, HasTree}
 use Rattle.gu_tree.proofs.{Parts.{some_and, at_fact}, ShowsLess.no_root_part, ToldAt.{IsToldAt, told_at}}
@@ -43,39 +50,57 @@ module _ (t : House) (l : List Record) (list : Legal t l) (k : ℕ) (r : Record)
 
   -- what has its number is the change
   only_change : (d : Record) → Contains l d → d.number ≡ k → d ≡ r
-  only_change d in_list is = same_Some d r (sym (found_once (λ r. r.number == k) l d in_list ((Decides-eqb d.number k).1 is) (list.once k)) ∙ there)
+  only_change d in_list is =
+      same_Some d r
+      (sym (found_once (λ r. r.number == k) l d in_list ((Decides-eqb d.number k).1 is) (list.once k)) ∙ there)
 
   -- what is looked up for it is what stands on the number
   looked_up_here : RisesFrom 0 l → least (numbers_under t l r.number r.firm r.command) ≡ standing_on t l k
   looked_up_here rises = sym (looked_up t l rises list r among) ∙ ap (standing_on t l) number_is
 
   -- a Split isn't a trade with a root
-  split_no_trade : (n : EntryPart) (ps : List Part) → r.command ≡ Split n ps → (trade : ℕ) (root : Node) → node_of l (record { entry = trade; part = 0 }) ≡ Some root
-      → trade ≡ k → ⊥
+  split_no_trade : (n : EntryPart) (ps : List Part) → r.command ≡ Split n ps → (trade : ℕ) (root : Node)
+      → node_of l (record { entry = trade; part = 0 }) ≡ Some root → trade ≡ k → ⊥
   split_no_trade n ps is trade root found same =
       let name : EntryPart = record { entry = trade; part = 0 } in
       let m = maker l name root found in
       let one = only_change m.change m.among (sym (made_number m.change name root m.makes_it) ∙ same) in
-      cc (one, m.makes_it, ap (λ c. find (λ x. same_name x.name name) (nodes_of r.number r.firm c)) is ∙ no_root_part trade r.number 1 n r.firm ps (omega arith))
+      cc (
+        one,
+        m.makes_it,
+        ap (λ c. find (λ x. same_name x.name name) (nodes_of r.number r.firm c)) is
+            ∙ no_root_part trade r.number 1 n r.firm ps (omega arith),
+      )
 
   -- nor a decision
-  split_no_decision : (n : EntryPart) (ps : List Part) → r.command ≡ Split n ps → (o : Option Record) → decision_of l n ≡ o → option_map (λ d. d.number) o ≡ Some k → ⊥
+  split_no_decision : (n : EntryPart) (ps : List Part) → r.command ≡ Split n ps → (o : Option Record)
+      → decision_of l n ≡ o → option_map (λ d. d.number) o ≡ Some k → ⊥
   split_no_decision n ps is None e h = absurd (cc)
   split_no_decision n ps is (Some d) e h =
-      cc (only_change d (found_in (λ r. decides n r.command) l d e) (same_Some d.number k h), is, find_passes (λ r. decides n r.command) l d e)
+      cc (
+        only_change d (found_in (λ r. decides n r.command) l d e) (same_Some d.number k h),
+        is,
+        find_passes (λ r. decides n r.command) l d e,
+      )
 
   module _ (trade : ℕ) (v : Rose) (told : IsToldAt l trade v) where
-    split_at : (n : EntryPart) → Some n ≡ Some (head_of v).name → option_map (λ s. s.0) (split_of_node v) ≡ least (number_in (split_of l n))
-    split_at n at = told.split ∙ (ap (λ n. option_map (λ r. r.number) (split_of l n)) (sym (same_Some _ _ at)) ∙ sym (least_in (split_of l n)))
+    split_at : (n : EntryPart) → Some n ≡ Some (head_of v).name
+        → option_map (λ s. s.0) (split_of_node v) ≡ least (number_in (split_of l n))
+    split_at n at =
+        told.split
+        ∙ (ap (λ n. option_map (λ r. r.number) (split_of l n)) (sym (same_Some _ _ at)) ∙ sym (least_in (split_of l n)))
 
     at_decision : (n : EntryPart) → decides n r.command ≡ true → Some n ≡ Some (head_of v).name
         → read_at v (is_trade_or_decision k trade (head_of v).decision) ≡ least (number_in (split_of l n))
     at_decision n passes at =
         let name : n ≡ (head_of v).name = same_Some _ _ at in
-        let found : decision_of l n ≡ Some r = found_once (λ r. decides n r.command) l r among passes ((named_once t l list.replayed).decisions_once n) in
+        let found : decision_of l n ≡ Some r =
+        found_once (λ r. decides n r.command) l r among passes ((named_once t l list.replayed).decisions_once n) in
         -- it is the decision of its node
         let own : (head_of v).decision ≡ Some k = cc (told.decision, name, found, number_is) in
-        ap (read_at v) (ap (is_trade_or_decision k trade) own ∙ or_right (trade == k) (k == k) ((Decides-eqb k k).1 refl)) ∙ split_at n at
+        ap (read_at v)
+        (ap (is_trade_or_decision k trade) own ∙ or_right (trade == k) (k == k) ((Decides-eqb k k).1 refl))
+        ∙ split_at n at
 
     -- what is read there is what is looked up for the change
     read_here : (c : Command) → r.command ≡ c → named_place r.number c ≡ Some (head_of v).name
@@ -83,13 +108,20 @@ module _ (t : House) (l : List Record) (list : Legal t l) (k : ℕ) (r : Record)
     read_here (Trade _ _ _ _ _) is at =
         let name : record { entry = r.number; part = 0 } ≡ (head_of v).name = same_Some _ _ at in
         let root : (head_of v).name.entry ≡ trade = told.rooted (sym (ap (λ (m : EntryPart). m.part) name)) in
-        ap (read_at v) (of_trade k trade (head_of v).decision (sym root ∙ (sym (ap (λ (m : EntryPart). m.entry) name) ∙ number_is))) ∙ split_at (record { entry = r.number; part = 0 }) at
+        ap (read_at v)
+        (of_trade k trade (head_of v).decision (sym root ∙ (sym (ap (λ (m : EntryPart). m.entry) name) ∙ number_is)))
+        ∙ split_at (record { entry = r.number; part = 0 }) at
     read_here (Split n ps) is at =
-        let found : split_of l n ≡ Some r = found_once (λ r. splits n r.command) l r among (ap (splits n) is ∙ name_same n) ((named_once t l list.replayed).splits_once n) in
+        let found : split_of l n ≡ Some r = found_once (λ r. splits n r.command) l r among
+        (ap (splits n) is ∙ name_same n) ((named_once t l list.replayed).splits_once n) in
         let undecided = λ (h : (head_of v).decision ≡ Some k). split_no_decision n ps is (decision_of l n) refl
         (ap (λ m. option_map (λ d. d.number) (decision_of l m)) (same_Some _ _ at) ∙ (sym told.decision ∙ h)) in
-        ap (read_at v) (of_neither k trade (head_of v).decision (split_no_trade n ps is trade told.root told.has_root) undecided)
-        ∙ ap least (told.parts ∙ ap (flat_map (λ x. numbers_on l x.name)) (sym (ap (parts_of l) (same_Some _ _ at)) ∙ (ap made_by found ∙ ap (nodes_of r.number r.firm) is)))
+        ap (read_at v)
+        (of_neither k trade (head_of v).decision (split_no_trade n ps is trade told.root told.has_root) undecided)
+        ∙ ap least
+        (told.parts
+        ∙ ap (flat_map (λ x. numbers_on l x.name))
+        (sym (ap (parts_of l) (same_Some _ _ at)) ∙ (ap made_by found ∙ ap (nodes_of r.number r.firm) is)))
     read_here (Claim n _) is at = at_decision n (ap (decides n) is ∙ name_same n) at
     read_here (Refuse n) is at = at_decision n (ap (decides n) is ∙ name_same n) at
     read_here (Cancel n) is at = at_decision n (ap (decides n) is ∙ name_same n) at
@@ -102,44 +134,56 @@ module _ (t : House) (l : List Record) (rises : RisesFrom 0 l) (legal : IsLegal 
   list = legal_rising t l rises legal
 
   -- what stands on a change without a place, of those whose giver and taker it deals for
-  nothing_named : (k : ℕ) (o : Option Record) → change_of l k ≡ o → option_and_then (λ r. named_place r.number r.command) o ≡ None
+  nothing_named : (k : ℕ) (o : Option Record) → change_of l k ≡ o
+      → option_and_then (λ r. named_place r.number r.command) o ≡ None
       → option_and_then (λ r. deals_under t l r.number r.firm r.command) o ≡ standing_on t l k
   nothing_named k None e none = sym (ap (first_refused t []) (filter_all (λ r. r.number == k) l e) ∙ list.replayed)
   nothing_named k (Some r) e none = deals_alone r.command none ∙ looked_up_here t l list k r e rises
     where
-      deals_alone : (c : Command) → named_place r.number c ≡ None → deals_under t l r.number r.firm c ≡ least (numbers_under t l r.number r.firm c)
-      deals_alone (Agree giver taker rate limit) h = sym (least_one (deals_under t l r.number r.firm (Agree giver taker rate limit)))
+      deals_alone : (c : Command) → named_place r.number c ≡ None
+          → deals_under t l r.number r.firm c ≡ least (numbers_under t l r.number r.firm c)
+      deals_alone (Agree giver taker rate limit) h =
+          sym (least_one (deals_under t l r.number r.firm (Agree giver taker rate limit)))
       deals_alone (Raise giver lots) h = sym (least_one (deals_under t l r.number r.firm (Raise giver lots)))
       deals_alone _ h = cc
 
-  pub placeless : (k : ℕ) → place_in l k ≡ None → option_and_then (λ r. deals_under t l r.number r.firm r.command) (change_of l k) ≡ standing_on t l k
+  pub placeless : (k : ℕ) → place_in l k ≡ None
+      → option_and_then (λ r. deals_under t l r.number r.firm r.command) (change_of l k) ≡ standing_on t l k
   placeless k none = nothing_named k (change_of l k) refl none
 
-module _ (g : Grove) (t : House) (l : List Record) (rises : RisesFrom 0 l) (legal : IsLegal t l) (shows : ShowsAll l g) where
-  pub nothing_placed : (k : ℕ) → place_of g k ≡ None → option_and_then (λ r. deals_under t l r.number r.firm r.command) (change_of l k) ≡ standing_on t l k
+module _ (g : Grove) (t : House) (l : List Record) (rises : RisesFrom 0 l) (legal : IsLegal t l)
+    (shows : ShowsAll l g) where
+  pub nothing_placed : (k : ℕ) → place_of g k ≡ None
+      → option_and_then (λ r. deals_under t l r.number r.firm r.command) (change_of l k) ≡ standing_on t l k
   nothing_placed k none = placeless t l rises legal k (sym (shows.places k) ∙ none)
 
   -- and what is read at the node that lies where the trees place the change
-  pub read_as : (k trade : ℕ) (p : List ℕ) (v : Rose) → IsSomeAnd (place_of g k) (λ n. IsPlace g n trade p) → HasTree g trade (λ t. node_at p t ≡ Some v)
-      → (b : Bool) → is_trade_or_decision k trade (head_of v).decision ≡ b → read_at v b ≡ standing_on t l k
+  pub read_as : (k trade : ℕ) (p : List ℕ) (v : Rose) → IsSomeAnd (place_of g k) (λ n. IsPlace g n trade p)
+      → HasTree g trade (λ t. node_at p t ≡ Some v) → (b : Bool) → is_trade_or_decision k trade (head_of v).decision ≡ b
+      → read_at v b ≡ standing_on t l k
   read_as k trade p v place has b is =
       let n = some_with (λ n. IsPlace g n trade p) (place_of g k) place in
       let tree = some_and (λ t. node_at p t ≡ Some v) (tree_of g trade) has in
       let leads = subst (λ t. LeadsTo p t n.0) (same_Some n.1.1.tree tree.0 (sym n.1.1.found ∙ tree.1)) n.1.1.there in
       let named : (head_of v).name ≡ n.0 = at_fact (λ u. (head_of u).name ≡ n.0) (node_at p tree.0) v tree.2 leads in
       let placed : place_of g k ≡ Some (head_of v).name = n.1.0 ∙ ap (λ m. Some m) (sym named) in
-      let r = and_then_told (λ r. named_place r.number r.command) (change_of l k) (head_of v).name (sym (shows.places k) ∙ placed) in
+      let r = and_then_told (λ r. named_place r.number r.command) (change_of l k) (head_of v).name
+      (sym (shows.places k) ∙ placed) in
       let told = told_at l trade tree.0 (subst (IsTreeIn l trade) tree.1 (shows.trees trade)) p v tree.2 in
       sym (ap (read_at v) is)
-      ∙ (read_here t l (list t l rises legal) k r.0 r.1.0 trade v told r.0.command refl r.1.1 ∙ looked_up_here t l (list t l rises legal) k r.0 r.1.0 rises)
+      ∙ (read_here t l (list t l rises legal) k r.0 r.1.0 trade v told r.0.command refl r.1.1
+      ∙ looked_up_here t l (list t l rises legal) k r.0 r.1.0 rises)
 
 -- none is answered exactly where the others alone are legal
-pub none_where_legal : (t : House) (l : List Record) (k : ℕ) (o : Option ℕ) → o ≡ standing_on t l k → (o ≡ None) ↔ IsLegal t (without l k)
-none_where_legal t l k o is = (λ none. legal_from_replay t (without l k) (sym is ∙ none), λ others. is ∙ replay_from_legal t (without l k) others)
+pub none_where_legal : (t : House) (l : List Record) (k : ℕ) (o : Option ℕ) → o ≡ standing_on t l k
+    → (o ≡ None) ↔ IsLegal t (without l k)
+none_where_legal t l k o is =
+    (λ none. legal_from_replay t (without l k) (sym is ∙ none), λ others. is ∙ replay_from_legal t (without l k) others)
 
 -- ---- the deed of a number
 
-none_numbered : (l : List Record) (g k : List ℕ) (n : ℕ) (b : List Record) → find (λ r. r.number == n) b ≡ None → find (λ d. d.number == n) (dealings_in l b g k) ≡ None
+none_numbered : (l : List Record) (g k : List ℕ) (n : ℕ) (b : List Record) → find (λ r. r.number == n) b ≡ None
+    → find (λ d. d.number == n) (dealings_in l b g k) ≡ None
 none_numbered l g k n [] h = refl
 none_numbered l g k n (r ∷ b) h =
     let q = nothing_here (r.number == n) r (find (λ r. r.number == n) b) h in
@@ -153,13 +197,15 @@ standing_of n r = standing_under r.file r.dealings n
 
 -- what stands in the row of a place, where there is one
 pub stands_in : (v : TermsView) (n : ℕ) (i : Option ℕ) (o : Option PairView) → o ≡ option_and_then (slice_get v.pairs) i
-    → option_and_then (λ (r : PairView). standing_under r.file r.dealings n) o ≡ option_and_then (λ i. standing_in v.pairs i n) i
+    → option_and_then (λ (r : PairView). standing_under r.file r.dealings n) o
+    ≡ option_and_then (λ i. standing_in v.pairs i n) i
 stands_in v n i o is = ap (option_and_then (standing_of n)) is ∙ and_then_steps (slice_get v.pairs) (standing_of n) i
 
 module _ (t : House) (l : List Record) (v : TermsView) (are : AreTermsOf t l v) (once : NumbersOnce l) where
   -- of a change that deals for these two
   read_deal : (r : Record) → Contains l r → (g k : List ℕ) (d : Deed) → deed_of l g k r.firm r.command ≡ Some d
-      → option_and_then (λ i. standing_in v.pairs i r.number) (pair_place v l r) ≡ deals_under t l r.number r.firm r.command
+      → option_and_then (λ i. standing_in v.pairs i r.number) (pair_place v l r)
+      ≡ deals_under t l r.number r.firm r.command
   read_deal r among g k d deals =
       let is_deal = deal l r.firm r.command g k d deals in
       let q = are.ready r (record { giver = g; taker = k }) among is_deal.of in
@@ -167,10 +213,18 @@ module _ (t : House) (l : List Record) (v : TermsView) (are : AreTermsOf t l v) 
       -- its deed is found under its number
       let c = cut_at l r among in
       let same : (r.number == r.number) ≡ true = (Decides-eqb r.number r.number).1 refl in
-      let before = none_numbered l g k r.number c.before (none_before (λ q. q.number == r.number) c.before r c.behind (subst (λ (z : List Record). NumbersOnce z) c.is once r.number) same) in
+      let before = none_numbered l g k r.number c.before
+      (none_before (λ q. q.number == r.number) c.before r c.behind
+      (subst (λ (z : List Record). NumbersOnce z) c.is once r.number) same) in
       let cut = ap (λ z. dealings_in l z g k) c.is ∙ dealings_cut l c.before r c.behind g k (Some d) deals in
       let found : deed_at (dealings l g k) r.number ≡ Some d =
-      cc (cut, find-append (λ e. e.number == r.number) (dealings_in l c.before g k) (numbered r d ∷ dealings_in l c.behind g k), before, same) in
+      cc (
+        cut,
+        find-append (λ e. e.number == r.number) (dealings_in l c.before g k)
+            (numbered r d ∷ dealings_in l c.behind g k),
+        before,
+        same,
+      ) in
       let steps = and_then_steps (slice_get v.pairs) (standing_of r.number) (lookup (is_pair g k) v.places) in
       cc (is_deal.of, steps, q.1, row.0, row.1, found, is_deal.under t r.number)
 
@@ -178,20 +232,24 @@ module _ (t : House) (l : List Record) (v : TermsView) (are : AreTermsOf t l v) 
       → option_and_then (λ i. standing_in v.pairs i r.number) (pair_place v l r) ≡ deals_under t l r.number r.firm c
   read_by r among (Agree g k rate limit) is none =
       cc (read_deal r among g k (Makes (record { rate = rate; limit = limit })) (cc (is, both_same g k)), is)
-  read_by r among (Raise g lots) is none = cc (read_deal r among g r.firm (Raises lots) (cc (is, both_same g r.firm)), is)
+  read_by r among (Raise g lots) is none =
+      cc (read_deal r among g r.firm (Raises lots) (cc (is, both_same g r.firm)), is)
   read_by r among (Claim m account) is none = absurd (cc)
   read_by r among _ is none = cc (is)
 
   -- what the terms say stands on a number without a place in the trees is what the list says
   pub read_off : (n : ℕ) → option_and_then (λ r. named_place r.number r.command) (change_of l n) ≡ None
-      → option_and_then (λ i. standing_in v.pairs i n) (pair_at v n) ≡ option_and_then (λ r. deals_under t l r.number r.firm r.command) (change_of l n)
+      → option_and_then (λ i. standing_in v.pairs i n) (pair_at v n)
+      ≡ option_and_then (λ r. deals_under t l r.number r.firm r.command) (change_of l n)
   read_off n none =
       ap (option_and_then (λ i. standing_in v.pairs i n)) (are.placed n)
       ∙ (and_then_steps (pair_place v l) (λ i. standing_in v.pairs i n) (change_of l n)
-      ∙ alike_at (λ r. option_and_then (λ i. standing_in v.pairs i n) (pair_place v l r)) (λ r. deals_under t l r.number r.firm r.command) (change_of l n) (λ r found.
-      let number = (Decides-eqb r.number n).0 (find_passes (λ r. r.number == n) l r found) in
+      ∙ alike_at (λ r. option_and_then (λ i. standing_in v.pairs i n) (pair_place v l r))
+      (λ r. deals_under t l r.number r.firm r.command) (change_of l n)
+      (λ r found. let number = (Decides-eqb r.number n).0 (find_passes (λ r. r.number == n) l r found) in
       ap (λ m. option_and_then (λ i. standing_in v.pairs i m) (pair_place v l r)) (sym number)
-      ∙ read_by r (found_in (λ r. r.number == n) l r found) r.command refl (sym (ap (option_and_then (λ (r : Record). named_place r.number r.command)) found) ∙ none)))
+      ∙ read_by r (found_in (λ r. r.number == n) l r found) r.command refl
+      (sym (ap (option_and_then (λ (r : Record). named_place r.number r.command)) found) ∙ none)))
 
 -- ---- how many entries stand beside a change
 
@@ -202,17 +260,22 @@ count_at v o = unwrap_or (option_map (λ i. entries_in v.pairs i) o) 0
 abbrev count_of : List Record → Option Pair → ℕ
 count_of l o = unwrap_or (option_map (λ (p : Pair). length (dealings l p.giver p.taker)) o) 0
 
-counts_through : (v : TermsView) (o : Option ℕ) → count_at v o ≡ unwrap_or (option_map (λ (r : PairView). length r.dealings) (option_and_then (slice_get v.pairs) o)) 0
+counts_through : (v : TermsView) (o : Option ℕ)
+    → count_at v o ≡ unwrap_or
+    (option_map (λ (r : PairView). length r.dealings) (option_and_then (slice_get v.pairs) o)) 0
 counts_through v None = refl
 counts_through v (Some i) = refl
 
 -- and how much
 pub counts_in : (v : TermsView) (i : Option ℕ) (o : Option PairView) → o ≡ option_and_then (slice_get v.pairs) i
-    → unwrap_or (option_map (λ (r : PairView). length r.dealings) o) 0 ≡ unwrap_or (option_map (λ i. entries_in v.pairs i) i) 0
-counts_in v i o is = ap (λ o. unwrap_or (option_map (λ (r : PairView). length r.dealings) o) 0) is ∙ sym (counts_through v i)
+    → unwrap_or (option_map (λ (r : PairView). length r.dealings) o) 0
+    ≡ unwrap_or (option_map (λ i. entries_in v.pairs i) i) 0
+counts_in v i o is =
+    ap (λ o. unwrap_or (option_map (λ (r : PairView). length r.dealings) o) 0) is ∙ sym (counts_through v i)
 
 module _ (t : House) (l : List Record) (v : TermsView) (are : AreTermsOf t l v) where
-  of_pair : (o : Option Pair) → ((p : Pair) → o ≡ Some p → (q : PairView) × (row_of v p.giver p.taker ≡ Some q)) → count_at v (option_and_then (place_of_pair v) o) ≡ count_of l o
+  of_pair : (o : Option Pair) → ((p : Pair) → o ≡ Some p → (q : PairView) × (row_of v p.giver p.taker ≡ Some q))
+      → count_at v (option_and_then (place_of_pair v) o) ≡ count_of l o
   of_pair None there = refl
   of_pair (Some p) there =
       let q = there p refl in
@@ -221,6 +284,6 @@ module _ (t : House) (l : List Record) (v : TermsView) (are : AreTermsOf t l v) 
   pub counted : (n : ℕ) → count_at v (pair_at v n) ≡ entries_dealt l n
   counted n =
       let pairs = λ (r : Record). pair_of l r.firm r.command in
-      ap (count_at v) (are.placed n ∙ sym (and_then_steps pairs (place_of_pair v) (change_of l n))) ∙ of_pair (option_and_then pairs (change_of l n)) (λ p e.
-      let r = and_then_told pairs (change_of l n) p e in
+      ap (count_at v) (are.placed n ∙ sym (and_then_steps pairs (place_of_pair v) (change_of l n)))
+      ∙ of_pair (option_and_then pairs (change_of l n)) (λ p e. let r = and_then_told pairs (change_of l n) p e in
       are.ready r.0 p (found_in (λ r. r.number == n) l r.0 r.1.0) r.1.1)

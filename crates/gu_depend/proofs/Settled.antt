@@ -1,10 +1,16 @@
 -- What holds of the changes of a legal list over the whole list, wherever each of them stands.
-use Rattle.gu_depend.proofs.Vocabulary.{◌≡◌, ◌≤◌, true, List, [], ◌∷◌, ◌++◌, sym, subst, arith, append-nil, append_assoc, Some, None, count_by, EntryPart, House, node_of}
-use Rattle.gu_depend.proofs.Vocabulary.{decision_of, is_given, splits, decides, refusal_of, row, first_refused, Record, Node, node_more, refusal_parts, splits_well, decides_well, ℕ, Bool, not}
-use Rattle.gu_depend.proofs.Vocabulary.{◌&&◌, length, length-append, ◌∙◌, ap, Option, All, inl, inr, is_none, nat_lt, All-nil, All-push, knows_firm, agreement, owns, depth_of, is_offered}
-use Rattle.gu_depend.proofs.Vocabulary.{trade_row, split_row, claim_row, Refusal, NotOffered, NotYours, first, unless, is_taker, is_giver, IsLegal, Part, Command, Trade, Split, Claim, Refuse, Cancel}
-use Rattle.gu_depend.proofs.Vocabulary.{Agree, Raise, Kind, deed_of, dealings_in, at_node, legal_from_replay, fits, AllFit, at_node_none, SplitHolds, claim_passes, agree_passes}
-use Rattle.gu_depend.proofs.Vocabulary.{raise_passes, node_called, no_some, or_cases, none_or_some, fit_append, split_passes, ClaimHolds, AgreeHolds, decision_passes}
+use Rattle.gu_depend.proofs.Vocabulary.{◌≡◌, ◌≤◌, true, List, [], ◌∷◌, ◌++◌, sym, subst, arith, append-nil}
+use Rattle.gu_depend.proofs.Vocabulary.{append_assoc, Some, None, count_by, EntryPart, House, node_of, decision_of}
+use Rattle.gu_depend.proofs.Vocabulary.{is_given, splits, decides, refusal_of, row, first_refused, Record, Node}
+use Rattle.gu_depend.proofs.Vocabulary.{node_more, refusal_parts, splits_well, decides_well, ℕ, Bool, not, ◌&&◌, length}
+use Rattle.gu_depend.proofs.Vocabulary.{length-append, ◌∙◌, ap, Option, All, inl, inr, is_none, nat_lt, All-nil}
+use Rattle.gu_depend.proofs.Vocabulary.{All-push, knows_firm, agreement, owns, depth_of, is_offered, trade_row}
+use Rattle.gu_depend.proofs.Vocabulary.{split_row, claim_row, Refusal, NotOffered, NotYours, first, unless, is_taker}
+use Rattle.gu_depend.proofs.Vocabulary.{is_giver, IsLegal, Part, Command, Trade, Split, Claim, Refuse, Cancel, Agree}
+use Rattle.gu_depend.proofs.Vocabulary.{Raise, Kind, deed_of, dealings_in, at_node, legal_from_replay, fits, AllFit}
+use Rattle.gu_depend.proofs.Vocabulary.{at_node_none, SplitHolds, claim_passes, agree_passes, raise_passes, node_called}
+use Rattle.gu_depend.proofs.Vocabulary.{no_some, or_cases, none_or_some, fit_append, split_passes, ClaimHolds}
+use Rattle.gu_depend.proofs.Vocabulary.{AgreeHolds, decision_passes}
 use Rattle.gu_depend.proofs.{Finds.{once_push, find_more}, Names.at_name}
 use Rattle.gu_base.proofs.Decisions.{before, here, which}
 use Rattle.gu_depend.proofs.Grown.{ThereFor, Within, Grown, grown_none, grown_push, owns_same, depth_same, Follows}
@@ -14,18 +20,22 @@ use Rattle.gu_depend.proofs.Deals.{numbered, deed_grown, dealings_grown, dealing
 
 -- a node is split once and decided once at most, and only given ones are decided
 pub record NamedOnce (l : List Record) : Type 0 where
-  pub given : (n : EntryPart) (r : Record) → decision_of l n ≡ Some r → (x : Node) × ((node_of l n ≡ Some x) × (is_given x.kind ≡ true))
+  pub given : (n : EntryPart) (r : Record) → decision_of l n ≡ Some r
+      → (x : Node) × ((node_of l n ≡ Some x) × (is_given x.kind ≡ true))
   pub splits_once : (n : EntryPart) → count_by (λ r. splits n r.command) l ≤ 1
   pub decisions_once : (n : EntryPart) → count_by (λ r. decides n r.command) l ≤ 1
 
 -- what no changes have, and one more that is accepted keeps, each front of a legal list has
 along : (t : House) (l : List Record) (P : List Record → Type 0) → IsLegal t l
-    → ((b : List Record) (r : Record) (rest : List Record) → l ≡ (b ++ r ∷ []) ++ rest → refusal_of t b r.firm r.command ≡ None → P b → P (b ++ r ∷ []))
+    → ((b : List Record) (r : Record) (rest : List Record) → l ≡ (b ++ r ∷ []) ++ rest
+    → refusal_of t b r.firm r.command ≡ None → P b → P (b ++ r ∷ []))
     → (b front rest : List Record) → l ≡ b ++ (front ++ rest) → P b → P (b ++ front)
 along t l P legal keeps b [] rest e held = subst P (sym (append-nil b)) held
 along t l P legal keeps b (r ∷ front) rest e held =
     let cut : l ≡ (b ++ r ∷ []) ++ (front ++ rest) = e ∙ sym (append_assoc b (r ∷ []) (front ++ rest)) in
-    subst P (append_assoc b (r ∷ []) front) (along t l P legal keeps (b ++ r ∷ []) front rest cut (keeps b r (front ++ rest) cut (legal.accepted b (front ++ rest) r e) held))
+    subst P (append_assoc b (r ∷ []) front)
+    (along t l P legal keeps (b ++ r ∷ []) front rest cut
+    (keeps b r (front ++ rest) cut (legal.accepted b (front ++ rest) r e) held))
 
 pub named_once : (t : House) (l : List Record) → first_refused t [] l ≡ None → NamedOnce l
 named_once t l none = along t l NamedOnce (legal_from_replay t l none) (λ b r rest e accepted s.
@@ -33,11 +43,17 @@ named_once t l none = along t l NamedOnce (legal_from_replay t l none) (λ b r r
     record {
       given = λ n d e. elim (which b r n d e) [
         | before e ↦ (let x = s.given n d e in (x.0, (node_more b (r ∷ []) n x.0 x.1.0, x.1.1)))
-        | here is _ ↦ (let w = decides_well t b r.firm r.command n h is in (w.node, (node_more b (r ∷ []) n w.node w.there, w.given)))
+        | here is _ ↦ (let w = decides_well t b r.firm r.command n h is in
+            (w.node, (node_more b (r ∷ []) n w.node w.there, w.given)))
       ];
-      splits_once = λ n. once_push (λ r. splits n r.command) b r (s.splits_once n) (λ is. (splits_well t b r.firm r.command n h is).whole);
-      decisions_once = λ n. once_push (λ r. decides n r.command) b r (s.decisions_once n) (λ is. (decides_well t b r.firm r.command n h is).undecided);
-    }) [] l [] (sym (append-nil l)) (record { given = λ n r e. absurd (cc); splits_once = λ n. omega arith; decisions_once = λ n. omega arith })
+      splits_once = λ n.
+          once_push (λ r. splits n r.command) b r (s.splits_once n)
+          (λ is. (splits_well t b r.firm r.command n h is).whole);
+      decisions_once = λ n.
+          once_push (λ r. decides n r.command) b r (s.decisions_once n)
+          (λ is. (decides_well t b r.firm r.command n h is).undecided);
+    }) [] l [] (sym (append-nil l))
+    (record { given = λ n r e. absurd (cc); splits_once = λ n. omega arith; decisions_once = λ n. omega arith })
 
 -- a node of the list, of which this holds
 pub record SettledAt (l : List Record) (n : EntryPart) (P : Node → Type 0) : Type 0 where
@@ -65,7 +81,8 @@ pub record Settled (t : House) (l : List Record) (r : Record) : Type 0 where
 
 -- ---- a node that is no longer offered has its decision, if it ever has one
 
-pub free_decided : (l b : List Record) (n : EntryPart) (x : Node) → NamedOnce l → Within l b → node_of b n ≡ Some x → not (is_offered b x) ≡ true → decision_of b n ≡ decision_of l n
+pub free_decided : (l b : List Record) (n : EntryPart) (x : Node) → NamedOnce l → Within l b → node_of b n ≡ Some x
+    → not (is_offered b x) ≡ true → decision_of b n ≡ decision_of l n
 free_decided l b n x s w found free = elim (none_or_some (decision_of b n)) [
   | inl none ↦ none ∙ sym (no_some (decision_of l n) (λ d h.
       let y = s.given n d h in cc (y.1.0, y.1.1, w.nodes n x found, node_called b n x found, none, free)))
@@ -75,7 +92,8 @@ free_decided l b n x s w found free = elim (none_or_some (decision_of b n)) [
 -- ---- what is accepted behind some changes is settled over all
 
 -- a Split that holds in the one list holds in the other, where its node is the same in both
-pub split_moved : (t : House) (l b : List Record) (by : List ℕ) (ps : List Part) (x : Node) → owns b by x.name ≡ owns l by x.name → decision_of b x.name ≡ decision_of l x.name
+pub split_moved : (t : House) (l b : List Record) (by : List ℕ) (ps : List Part) (x : Node)
+    → owns b by x.name ≡ owns l by x.name → decision_of b x.name ≡ decision_of l x.name
     → depth_of b x.name ≡ depth_of l x.name → SplitHolds t l by ps x → SplitHolds t b by ps x
 split_moved t l b by ps x owned same deep h = record {
   owned = owned ∙ h.owned;
@@ -90,21 +108,31 @@ split_moved t l b by ps x owned same deep h = record {
 abbrev pub decision_row : List Record → (Kind → Bool) → Node → Option Refusal
 decision_row b yours x = first (unless (is_offered b x) NotOffered ∷ unless (yours x.kind) NotYours ∷ [])
 
-settles_at : (l b : List Record) (n : EntryPart) (line : Node → Option Refusal) (P : Node → Type 0) → Grown l b → at_node line (node_of b n) ≡ None
-    → ((x : Node) → node_of b n ≡ Some x → line x ≡ None → P x) → SettledAt l n P
-settles_at l b n line P g h holds = let x = at_node_none line (node_of b n) h in record { node = x.0; there = g.within.nodes n x.0 x.1.0; holds = holds x.0 x.1.0 x.1.1 }
+settles_at : (l b : List Record) (n : EntryPart) (line : Node → Option Refusal) (P : Node → Type 0) → Grown l b
+    → at_node line (node_of b n) ≡ None → ((x : Node) → node_of b n ≡ Some x → line x ≡ None → P x) → SettledAt l n P
+settles_at l b n line P g h holds =
+    let x = at_node_none line (node_of b n) h in
+    record { node = x.0; there = g.within.nodes n x.0 x.1.0; holds = holds x.0 x.1.0 x.1.1 }
 
-decision_settles : (l b : List Record) (n : EntryPart) (yours : Kind → Bool) → Grown l b → at_node (decision_row b yours) (node_of b n) ≡ None → SettledAt l n (IsYours yours)
-decision_settles l b n yours g h = settles_at l b n (decision_row b yours) (IsYours yours) g h (λ x found passes. let p = decision_passes b x (yours x.kind) passes in (p.0, p.2))
+decision_settles : (l b : List Record) (n : EntryPart) (yours : Kind → Bool) → Grown l b
+    → at_node (decision_row b yours) (node_of b n) ≡ None → SettledAt l n (IsYours yours)
+decision_settles l b n yours g h =
+    settles_at l b n (decision_row b yours) (IsYours yours) g h
+    (λ x found passes. let p = decision_passes b x (yours x.kind) passes in (p.0, p.2))
 
-settles : (t : House) (l b : List Record) (by : List ℕ) (c : Command) → NamedOnce l → Grown l b → row t b by c ≡ None → SettledAs t l by c
+settles : (t : House) (l b : List Record) (by : List ℕ) (c : Command) → NamedOnce l → Grown l b → row t b by c ≡ None
+    → SettledAs t l by c
 settles t l b by (Trade firm account instrument side lots) s g h = h
-settles t l b by (Split n ps) s g h = settles_at l b n (split_row t b by ps) (SplitHolds t l by ps) g h (λ x found passes.
-    let named = at_name b n x found in
+settles t l b by (Split n ps) s g h =
+    settles_at l b n (split_row t b by ps) (SplitHolds t l by ps) g h
+    (λ x found passes. let named = at_name b n x found in
     let holds = (split_passes t b by ps x passes).0 in
     let same = free_decided l b x.name x s g.within named holds.free in
-    split_moved t b l by ps x (sym (owns_same l b by x.name x g named same)) (sym same) (sym (depth_same l b x.name x g named)) holds)
-settles t l b by (Claim n account) s g h = settles_at l b n (claim_row t b by account) (ClaimHolds t by account) g h (λ x found passes. (claim_passes t b by account x passes).0)
+    split_moved t b l by ps x (sym (owns_same l b by x.name x g named same)) (sym same)
+    (sym (depth_same l b x.name x g named)) holds)
+settles t l b by (Claim n account) s g h =
+    settles_at l b n (claim_row t b by account) (ClaimHolds t by account) g h
+    (λ x found passes. (claim_passes t b by account x passes).0)
 settles t l b by (Refuse n) s g h = decision_settles l b n (is_taker by) g h
 settles t l b by (Cancel n) s g h = decision_settles l b n (is_giver by) g h
 settles t l b by (Agree giver taker rate limit) s g h = (agree_passes t b by giver taker rate limit h).0
@@ -121,7 +149,8 @@ accepted_there t b by c h n is = elim (or_cases (splits n c) (decides n c) is) [
 -- ---- along the list
 
 -- so it follows what it stands on
-pub accepted_follows : (t : House) (l b : List Record) (by : List ℕ) (c : Command) → NamedOnce l → Within l b → row t b by c ≡ None → Follows l b c
+pub accepted_follows : (t : House) (l b : List Record) (by : List ℕ) (c : Command) → NamedOnce l → Within l b
+    → row t b by c ≡ None → Follows l b c
 accepted_follows t l b by c s w h = record {
   there = accepted_there t b by c h;
   decided = λ n is. let y = splits_well t b by c n h is in free_decided l b n y.node s w y.there y.free;
@@ -130,8 +159,10 @@ accepted_follows t l b by c s w h = record {
 -- the second list is a front of the first
 pub front_within : (l b rest : List Record) → l ≡ b ++ rest → Within l b
 front_within l b rest e =
-    subst (λ (z : List Record). Within z b) (sym e)
-    (record { nodes = λ n x found. node_more b rest n x found; decisions = λ n r found. find_more (λ r. decides n r.command) b rest r found })
+    subst (λ (z : List Record). Within z b) (sym e) (record {
+      nodes = λ n x found. node_more b rest n x found;
+      decisions = λ n r found. find_more (λ r. decides n r.command) b rest r found;
+    })
 
 pub front_short : (l b rest : List Record) → l ≡ b ++ rest → length b ≤ length l
 front_short l b rest e = omega (arith, length-append b rest, ap length e)
@@ -143,18 +174,23 @@ pub record Facts (t : House) (l b : List Record) : Type 0 where
   pub deals : (giver taker : List ℕ) → AllFit (agreement t giver taker) [] (dealings_in l b giver taker)
 
 -- what holds of a front of a legal list, over the whole list
-pub front_facts : (t : House) (l front rest : List Record) → l ≡ front ++ rest → first_refused t [] l ≡ None → Facts t l front
+pub front_facts : (t : House) (l front rest : List Record) → l ≡ front ++ rest → first_refused t [] l ≡ None
+    → Facts t l front
 front_facts t l front rest e none = along t l (Facts t l) (legal_from_replay t l none) (λ b r rest e h f.
     let s = named_once t l none in
     let p = refusal_parts t b r.firm r.command h in
     record {
-      grown = grown_push l b r f.grown (front_within l (b ++ r ∷ []) rest e) (front_short l (b ++ r ∷ []) rest e) (accepted_follows t l b r.firm r.command s f.grown.within p.1);
-      settled = All-push (Settled t l) b r f.settled (record { known = p.0; stands = settles t l b r.firm r.command s f.grown p.1 });
+      grown = grown_push l b r f.grown (front_within l (b ++ r ∷ []) rest e) (front_short l (b ++ r ∷ []) rest e)
+          (accepted_follows t l b r.firm r.command s f.grown.within p.1);
+      settled = All-push (Settled t l) b r f.settled
+          (record { known = p.0; stands = settles t l b r.firm r.command s f.grown p.1 });
       deals = λ g k. elim (none_or_some (deed_of l g k r.firm r.command)) [
         | inl none ↦ subst (AllFit (agreement t g k) []) (sym (dealings_idle l b r g k none)) (f.deals g k)
         | inr d ↦ (
-            let same = deed_grown l b g k r.firm r.command f.grown.within (accepted_there t b r.firm r.command p.1) ∙ d.1 in
-            let fit = subst (λ z. fits (agreement t g k) z d.0 ≡ true) (dealings_grown l b g k f.grown) ((deal b r.firm r.command g k d.0 same).fit t p.1) in
+            let same =
+            deed_grown l b g k r.firm r.command f.grown.within (accepted_there t b r.firm r.command p.1) ∙ d.1 in
+            let fit = subst (λ z. fits (agreement t g k) z d.0 ≡ true) (dealings_grown l b g k f.grown)
+            ((deal b r.firm r.command g k d.0 same).fit t p.1) in
             subst (AllFit (agreement t g k) []) (sym (dealings_cut l b r [] g k (Some d.0) d.1))
             (fit_append (agreement t g k) [] (dealings_in l b g k) (numbered r d.0 ∷ []) (f.deals g k) (fit, tt)))
       ];

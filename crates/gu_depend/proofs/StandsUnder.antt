@@ -1,14 +1,23 @@
--- The first change that would be refused without another is the first that the other stands under; where the numbers rise, the least that is looked up.
-use Rattle.gu_depend.proofs.Vocabulary.{◌≡◌, ℕ, zero, ◌+◌, ◌<◌, ◌≤◌, Bool, true, false, not, ◌||◌, List, [], ◌∷◌, ◌++◌, refl, sym, ◌∙◌, ap, subst, arith}
-use Rattle.gu_depend.proofs.Vocabulary.{cond, Option, Contains, All, IsPermutation, append_assoc, map, inl, inr, Some, None, find, count_by, is_some, option_and_then, option_map, ◌==◌, option_or}
-use Rattle.gu_depend.proofs.Vocabulary.{list_any, AllByRecursion, Decides-eqb, All-nil, All-cons, All-weaker, All-contains, All-contains_itself, Contains-append_right, find-append, EntryPart, House}
-use Rattle.gu_depend.proofs.Vocabulary.{node_of, nodes_of, decision_of, same_name, splits, decides, refusal_of, first_refused, IsLegal, without, standing_on, Command, Trade, Split, Claim}
-use Rattle.gu_depend.proofs.Vocabulary.{Refuse, Cancel, Agree, Record, Root, Node, RisesFrom, replay_front, HasDistinctNumbers, same_Some, refusal_parts, name_same, made_of, none_is_some, no_some}
-use Rattle.gu_depend.proofs.Vocabulary.{found_in, find_passes, false_from_ne_true, none_or_some, IsSameState, names, is_under, stands_under, deals_under, first_under, IsLeastUnder, flat_map}
-use Rattle.gu_depend.proofs.Vocabulary.{cons_option, split_of, number_in, numbers_on, least, or_none, numbers_under, All-filter, Contains-append_cases, IsDistinct-cons, IsPermutation-refl}
-use Rattle.gu_depend.proofs.Vocabulary.{list_any_none, min, find_has, least_with, lesser}
+-- The first change that would be refused without another is the first that the other stands under; where the numbers
+-- rise, the least that is looked up.
+use Rattle.gu_depend.proofs.Vocabulary.{◌≡◌, ℕ, zero, ◌+◌, ◌<◌, ◌≤◌, Bool, true, false, not, ◌||◌, List, [], ◌∷◌, ◌++◌}
+use Rattle.gu_depend.proofs.Vocabulary.{refl, sym, ◌∙◌, ap, subst, arith, cond, Option, Contains, All, IsPermutation}
+use Rattle.gu_depend.proofs.Vocabulary.{append_assoc, map, inl, inr, Some, None, find, count_by, is_some}
+use Rattle.gu_depend.proofs.Vocabulary.{option_and_then, option_map, ◌==◌, option_or, list_any, AllByRecursion}
+use Rattle.gu_depend.proofs.Vocabulary.{Decides-eqb, All-nil, All-cons, All-weaker, All-contains, All-contains_itself}
+use Rattle.gu_depend.proofs.Vocabulary.{Contains-append_right, find-append, EntryPart, House, node_of, nodes_of}
+use Rattle.gu_depend.proofs.Vocabulary.{decision_of, same_name, splits, decides, refusal_of, first_refused, IsLegal}
+use Rattle.gu_depend.proofs.Vocabulary.{without, standing_on, Command, Trade, Split, Claim, Refuse, Cancel, Agree}
+use Rattle.gu_depend.proofs.Vocabulary.{Record, Root, Node, RisesFrom, replay_front, HasDistinctNumbers, same_Some}
+use Rattle.gu_depend.proofs.Vocabulary.{refusal_parts, name_same, made_of, none_is_some, no_some, found_in, find_passes}
+use Rattle.gu_depend.proofs.Vocabulary.{false_from_ne_true, none_or_some, IsSameState, names, is_under, stands_under}
+use Rattle.gu_depend.proofs.Vocabulary.{deals_under, first_under, IsLeastUnder, flat_map, cons_option, split_of}
+use Rattle.gu_depend.proofs.Vocabulary.{number_in, numbers_on, least, or_none, numbers_under, All-filter}
+use Rattle.gu_depend.proofs.Vocabulary.{Contains-append_cases, IsDistinct-cons, IsPermutation-refl, list_any_none, min}
+use Rattle.gu_depend.proofs.Vocabulary.{find_has, least_with, lesser}
 use Rattle.std.specs.List.{IsDistinct}
-use Rattle.gu_depend.proofs.Finds.{by_test, found_once, none_before, count_append, count_permuted, by_cut, found_some, not_both, none_there, stands_between, first_cut, none_passes, moved_to_end}
+use Rattle.gu_depend.proofs.Finds.{by_test, found_once, none_before, count_append, count_permuted, by_cut, found_some}
+use Rattle.gu_depend.proofs.Finds.{not_both, none_there, stands_between, first_cut, none_passes, moved_to_end}
 use Rattle.gu_depend.proofs.Names.{makes, node_by_maker, makers_once}
 use Rattle.gu_depend.proofs.Settled.{NamedOnce, named_once, front_facts, accepted_follows}
 use Rattle.gu_depend.proofs.Grown.{NamesThere, SplitsDecided, Grown, Follows}
@@ -20,7 +29,8 @@ use Rattle.gu_tree.proofs.FirstOn.{least_append}
 
 -- the command names a node that the change makes, or splits one that it decides
 data Under (k : ℕ) (by : List ℕ) (d c : Command) : Type 0 where
-  part : (n : EntryPart) (x : Node) → names n c ≡ true → find (λ x. same_name x.name n) (nodes_of k by d) ≡ Some x → Under k by d c
+  part : (n : EntryPart) (x : Node) → names n c ≡ true → find (λ x. same_name x.name n) (nodes_of k by d) ≡ Some x
+      → Under k by d c
   decided : (n : EntryPart) → splits n c ≡ true → decides n d ≡ true → Under k by d c
 
 -- one passes where some pass
@@ -46,15 +56,20 @@ under_is k by (Cancel m) c h = decided m h (name_same m)
 under_is k by _ c h = absurd (cc)
 
 legal_front : (t : House) (xs ys : List Record) → Legal t (xs ++ ys) → Legal t xs
-legal_front t xs ys legal = record { once = λ n. omega (arith, count_append (λ r. r.number == n) xs ys, legal.once n); replayed = replay_front t [] xs ys legal.replayed }
+legal_front t xs ys legal = record {
+  once = λ n. omega (arith, count_append (λ r. r.number == n) xs ys, legal.once n);
+  replayed = replay_front t [] xs ys legal.replayed;
+}
 
 -- what stands under a node deals for nobody's terms
-deals_none : (t : House) (l : List Record) (k : ℕ) (by : List ℕ) (d c : Command) → is_under k by d c ≡ true → deals_under t l k by d ≡ None
+deals_none : (t : House) (l : List Record) (k : ℕ) (by : List ℕ) (d c : Command) → is_under k by d c ≡ true
+    → deals_under t l k by d ≡ None
 deals_none t l k by (Agree _ _ _ _) c h = absurd (cc)
 deals_none t l k by _ c h = cc
 
 -- where the first of two is none, so is the second
-free_by : (o : Option Record) (q : Option ℕ) → option_or (option_map (λ (e : Record). e.number) o) q ≡ None → (o ≡ None) × (q ≡ None)
+free_by : (o : Option Record) (q : Option ℕ) → option_or (option_map (λ (e : Record). e.number) o) q ≡ None
+    → (o ≡ None) × (q ≡ None)
 free_by None q h = (refl, h)
 free_by (Some e) q h = absurd (cc)
 
@@ -66,20 +81,25 @@ module _ (t : House) (p : List Record) (k : Record) (s : List Record) (legal : L
   sn = named_once t l legal.replayed
 
   -- where it is missing, a change that it stands under doesn't follow what it stands on itself
-  not_without : (y rest : List Record) → IsPermutation l (y ++ k ∷ rest) → (c : Command) → Follows l y c → is_under k.number k.firm k.command c ≡ true → ⊥
+  not_without : (y rest : List Record) → IsPermutation l (y ++ k ∷ rest) → (c : Command) → Follows l y c
+      → is_under k.number k.firm k.command c ≡ true → ⊥
   not_without y rest same c f h = without (under_is k.number k.firm k.command c h)
     where
       absent : (p : Record → Bool) → count_by p l ≤ 1 → p k ≡ true → find p y ≡ None
-      absent p once passes = none_before p y k rest (omega (arith, count_permuted p l (y ++ k ∷ rest) same, once)) passes
+      absent p once passes =
+          none_before p y k rest (omega (arith, count_permuted p l (y ++ k ∷ rest) same, once)) passes
 
       without : Under k.number k.firm k.command c → ⊥
       without (part n x is made) =
           let there = f.there n is in
-          let gone = node_by_maker y n ∙ ap (option_and_then (λ r. made_of r n)) (absent (makes n) (makers_once l n (legal.once n.entry)) (ap is_some made)) in
+          let gone = node_by_maker y n
+          ∙ ap (option_and_then (λ r. made_of r n))
+          (absent (makes n) (makers_once l n (legal.once n.entry)) (ap is_some made)) in
           none_is_some (node_of y n) there.0 gone there.1
       without (decided n split is) =
           let own = found_once (λ r. decides n r.command) l k (stands_between p k s) is (sn.decisions_once n) in
-          none_is_some (decision_of y n) k (absent (λ r. decides n r.command) (sn.decisions_once n) is) (f.decided n split ∙ own)
+          none_is_some (decision_of y n) k (absent (λ r. decides n r.command) (sn.decisions_once n) is)
+          (f.decided n split ∙ own)
 
   -- so the first that it stands under is behind it
   found_behind : find (stands_under k) l ≡ find (stands_under k) s
@@ -88,34 +108,49 @@ module _ (t : House) (p : List Record) (k : Record) (s : List Record) (legal : L
       let not_above = λ (c : Command) (f : Follows l p c). not_without p s (IsPermutation-refl l) c f in
       let none = no_some (find (stands_under k) p) (λ e h.
       let among = found_in (stands_under k) p e h in
-      not_above e.command (record { there = All-contains (NamesThere p) p e g.named among; decided = All-contains (SplitsDecided l p) p e g.decided among }) (find_passes (stands_under k) p e h)) in
+      not_above e.command
+      (record {
+        there = All-contains (NamesThere p) p e g.named among;
+        decided = All-contains (SplitsDecided l p) p e g.decided among;
+      })
+      (find_passes (stands_under k) p e h)) in
       let itself = false_from_ne_true (stands_under k k) (not_above k.command (follows_at t l p k s legal refl)) in
-      find-append (stands_under k) p (k ∷ s) ∙ (λ i. option_or (none i) (cond (itself i) (Some k) (find (stands_under k) s)))
+      find-append (stands_under k) p (k ∷ s)
+      ∙ (λ i. option_or (none i) (cond (itself i) (Some k) (find (stands_under k) s)))
 
 -- ---- the law
 
-standing_by : (t : House) (p : List Record) (k : Record) (s : List Record) → Legal t (p ++ k ∷ s) → (o : Option Record) → find (stands_under k) s ≡ o
-    → first_refused t [] (p ++ s) ≡ option_or (option_map (λ e. e.number) o) (deals_under t (p ++ k ∷ s) k.number k.firm k.command)
+standing_by : (t : House) (p : List Record) (k : Record) (s : List Record) → Legal t (p ++ k ∷ s) → (o : Option Record)
+    → find (stands_under k) s ≡ o
+    → first_refused t [] (p ++ s)
+    ≡ option_or (option_map (λ e. e.number) o) (deals_under t (p ++ k ∷ s) k.number k.firm k.command)
 standing_by t p k s legal None found = standing_deals t p k s legal found
 standing_by t p k s legal (Some e) found =
     let c = first_cut (stands_under k) s e found in
-    let cut : p ++ k ∷ s ≡ (p ++ k ∷ c.before) ++ e ∷ c.behind = ap (λ z. p ++ k ∷ z) c.is ∙ sym (append_assoc p (k ∷ c.before) (e ∷ c.behind)) in
+    let cut : p ++ k ∷ s ≡ (p ++ k ∷ c.before) ++ e ∷ c.behind =
+    ap (λ z. p ++ k ∷ z) c.is ∙ sym (append_assoc p (k ∷ c.before) (e ∷ c.behind)) in
     let front = legal_front t (p ++ k ∷ c.before) (e ∷ c.behind) (subst (Legal t) cut legal) in
-    let accepted = standing_deals t p k c.before front c.none ∙ deals_none t (p ++ k ∷ c.before) k.number k.firm k.command e.command c.passes in
+    let accepted = standing_deals t p k c.before front c.none
+    ∙ deals_none t (p ++ k ∷ c.before) k.number k.firm k.command e.command c.passes in
     ap (first_refused t []) (ap (λ z. p ++ z) c.is ∙ sym (append_assoc p c.before (e ∷ c.behind)))
     ∙ (replay_on t [] (p ++ c.before) (e ∷ c.behind) accepted
-    ∙ refused_here (refusal_of t (p ++ c.before) e.firm e.command) e.number (first_refused t ((p ++ c.before) ++ e ∷ []) c.behind)
-    (λ took.
-    let l = p ++ k ∷ c.before in
+    ∙ refused_here (refusal_of t (p ++ c.before) e.firm e.command) e.number
+    (first_refused t ((p ++ c.before) ++ e ∷ []) c.behind) (λ took. let l = p ++ k ∷ c.before in
     let y = p ++ c.before in
     let same = moved_to_end p k c.before in
     let within = order_within l (y ++ k ∷ []) y (k ∷ []) (finds t l (y ++ k ∷ []) front same) refl in
     not_without t p k c.before front y [] same e.command
-    (accepted_follows t l y e.firm e.command (named_once t l front.replayed) within (refusal_parts t y e.firm e.command took).1) c.passes))
+    (accepted_follows t l y e.firm e.command (named_once t l front.replayed) within
+    (refusal_parts t y e.firm e.command took).1)
+    c.passes))
 
-pub standing_is_first : (t : House) (l : List Record) (k : Record) → Legal t l → Contains l k → standing_on t l k.number ≡ first_under t l k
-standing_is_first t l k legal among = by_cut (λ l. Legal t l → standing_on t l k.number ≡ first_under t l k) l k among (λ p s legal.
-    cc (gone t p k s legal, standing_by t p k s legal (find (stands_under k) s) refl, found_behind t p k s legal)) legal
+pub standing_is_first : (t : House) (l : List Record) (k : Record) → Legal t l → Contains l k
+    → standing_on t l k.number ≡ first_under t l k
+standing_is_first t l k legal among =
+    by_cut (λ l. Legal t l → standing_on t l k.number ≡ first_under t l k) l k among
+    (λ p s legal.
+    cc (gone t p k s legal, standing_by t p k s legal (find (stands_under k) s) refl, found_behind t p k s legal))
+    legal
 
 -- ---- where nothing stands on a change
 
@@ -126,10 +161,13 @@ pub record CanGo (t : House) (l : List Record) (k : Record) : Type 0 where
   pub same : IsSameState t l (without l k.number ++ k ∷ [])
   pub grown : Grown l (without l k.number)
 
-pub can_go : (t : House) (l : List Record) (k : Record) → Legal t l → Contains l k → standing_on t l k.number ≡ None → CanGo t l k
-can_go t l k legal among free = by_cut (λ l. Legal t l → standing_on t l k.number ≡ None → CanGo t l k) l k among (λ p s legal free.
-    let first = standing_is_first t (p ++ k ∷ s) k legal (stands_between p k s) in
-    let under = free_by (find (stands_under k) (p ++ k ∷ s)) (deals_under t (p ++ k ∷ s) k.number k.firm k.command) (sym first ∙ free) in
+pub can_go : (t : House) (l : List Record) (k : Record) → Legal t l → Contains l k → standing_on t l k.number ≡ None
+    → CanGo t l k
+can_go t l k legal among free =
+    by_cut (λ l. Legal t l → standing_on t l k.number ≡ None → CanGo t l k) l k among
+    (λ p s legal free. let first = standing_is_first t (p ++ k ∷ s) k legal (stands_between p k s) in
+    let under = free_by (find (stands_under k) (p ++ k ∷ s)) (deals_under t (p ++ k ∷ s) k.number k.firm k.command)
+    (sym first ∙ free) in
     let behind = sym (found_behind t p k s legal) ∙ under.0 in
     let others = sym (gone t p k s legal) in
     let last = stands_last t p k s legal behind under.1 in
@@ -147,53 +185,67 @@ rises_above n [] rises = All-nil (λ (d : Record). n ≤ d.number)
 rises_above n (r ∷ l) rises =
     let here : n ≤ r.number = rises.0 in
     All-cons (λ (d : Record). n ≤ d.number) r l here
-    (All-weaker (λ (d : Record). r.number + 1 ≤ d.number) (λ (d : Record). n ≤ d.number) (λ d h. omega (arith, here, h)) l (rises_above (r.number + 1) l rises.1))
+    (All-weaker (λ (d : Record). r.number + 1 ≤ d.number) (λ (d : Record). n ≤ d.number) (λ d h. omega (arith, here, h))
+    l (rises_above (r.number + 1) l rises.1))
 
-rises_behind : (n : ℕ) (xs : List Record) (r : Record) (ys : List Record) → RisesFrom n (xs ++ r ∷ ys) → RisesFrom r.number (r ∷ ys)
+rises_behind : (n : ℕ) (xs : List Record) (r : Record) (ys : List Record) → RisesFrom n (xs ++ r ∷ ys)
+    → RisesFrom r.number (r ∷ ys)
 rises_behind n [] r ys rises = (omega arith, rises.1)
 rises_behind n (x ∷ xs) r ys rises = rises_behind (x.number + 1) xs r ys rises.1
 
 -- the first that passes has the least number
-first_is_least : (p : Record → Bool) (l : List Record) → RisesFrom 0 l → (e : Record) → find p l ≡ Some e → (d : Record) → Contains l d → p d ≡ true → e.number ≤ d.number
+first_is_least : (p : Record → Bool) (l : List Record) → RisesFrom 0 l → (e : Record) → find p l ≡ Some e → (d : Record)
+    → Contains l d → p d ≡ true → e.number ≤ d.number
 first_is_least p l rises e h d among passes =
     let c = first_cut p l e h in
     elim (Contains-append_cases c.before (e ∷ c.behind) d (subst (λ (z : List Record). Contains z d) c.is among)) [
       | inl above ↦ absurd (none_there p c.before d c.none above passes)
-      | inr behind ↦ All-contains (λ (q : Record). e.number ≤ q.number) (e ∷ c.behind) d
-          (rises_above e.number (e ∷ c.behind) (rises_behind 0 c.before e c.behind (subst (RisesFrom 0) c.is rises))) behind
+      | inr behind ↦
+          All-contains (λ (q : Record). e.number ≤ q.number) (e ∷ c.behind) d
+          (rises_above e.number (e ∷ c.behind) (rises_behind 0 c.before e c.behind (subst (RisesFrom 0) c.is rises)))
+          behind
     ]
 
-rises_apart : (k n : ℕ) (l : List Record) → k < n → RisesFrom n l → AllByRecursion (λ y. (k == y) ≡ false) (map (λ r. r.number) l)
+rises_apart : (k n : ℕ) (l : List Record) → k < n → RisesFrom n l
+    → AllByRecursion (λ y. (k == y) ≡ false) (map (λ r. r.number) l)
 rises_apart k n [] less rises = tt
 rises_apart k n (r ∷ l) less rises =
     let here : n ≤ r.number = rises.0 in
-    let apart = false_from_ne_true (k == r.number) (λ h. let e : k ≡ r.number = (Decides-eqb k r.number).0 h in absurd (omega (arith, e, here, less))) in
+    let apart = false_from_ne_true (k == r.number)
+    (λ h. let e : k ≡ r.number = (Decides-eqb k r.number).0 h in absurd (omega (arith, e, here, less))) in
     (apart, rises_apart k (r.number + 1) l (omega (arith, here, less)) rises.1)
 
 pub rises_distinct : (n : ℕ) (l : List Record) → RisesFrom n l → HasDistinctNumbers l
 unfolding IsDistinct
 rises_distinct n [] rises = tt
 rises_distinct n (r ∷ l) rises =
-    IsDistinct-cons (λ a b. a == b) r.number (map (λ r. r.number) l) (rises_apart r.number (r.number + 1) l (omega arith) rises.1) (rises_distinct (r.number + 1) l rises.1)
+    IsDistinct-cons (λ a b. a == b) r.number (map (λ r. r.number) l)
+    (rises_apart r.number (r.number + 1) l (omega arith) rises.1) (rises_distinct (r.number + 1) l rises.1)
 
 pub legal_rising : (t : House) (l : List Record) → RisesFrom 0 l → IsLegal t l → Legal t l
 legal_rising t l rises legal = legal_list t l (rises_distinct 0 l rises) legal
 
 -- the change that is refused first is one of the list
-refused_in : (t : House) (b rest : List Record) (n : ℕ) → first_refused t b rest ≡ Some n → (e : Record) × (Contains rest e × (e.number ≡ n))
+refused_in : (t : House) (b rest : List Record) (n : ℕ) → first_refused t b rest ≡ Some n
+    → (e : Record) × (Contains rest e × (e.number ≡ n))
 refused_in t b [] n h = absurd (cc)
 refused_in t b (r ∷ rest) n h =
     elim (none_or_some (refusal_of t b r.firm r.command)) [
-      | inl none ↦ (let e = refused_in t (b ++ r ∷ []) rest n (cc (none, h)) in (e.0, (Contains-append_right (r ∷ []) rest e.0 e.1.0, e.1.1)))
+      | inl none ↦ (let e = refused_in t (b ++ r ∷ []) rest n (cc (none, h)) in
+          (e.0, (Contains-append_right (r ∷ []) rest e.0 e.1.0, e.1.1)))
       | inr f ↦ (r, ((zero, omega arith, refl), cc (f.1, h)))
     ]
 
 pub in_whole : (l : List Record) (k : ℕ) (e : Record) → Contains (without l k) e → Contains l e
-in_whole l k e among = All-contains (Contains l) (without l k) e (All-filter (λ (r : Record). not (r.number == k)) (Contains l) l (All-contains_itself l)) among
+in_whole l k e among =
+    All-contains (Contains l) (without l k) e
+    (All-filter (λ (r : Record). not (r.number == k)) (Contains l) l (All-contains_itself l)) among
 
 module _ (t : House) (l : List Record) (k : Record) (rises : RisesFrom 0 l) where
-  least_by : (o : Option Record) → find (stands_under k) l ≡ o → (q : Option ℕ) → deals_under t l k.number k.firm k.command ≡ q
-      → standing_on t l k.number ≡ option_or (option_map (λ e. e.number) o) q → IsLeastUnder t l k (option_or (option_map (λ e. e.number) o) q)
+  least_by : (o : Option Record) → find (stands_under k) l ≡ o → (q : Option ℕ)
+      → deals_under t l k.number k.firm k.command ≡ q
+      → standing_on t l k.number ≡ option_or (option_map (λ e. e.number) o) q
+      → IsLeastUnder t l k (option_or (option_map (λ e. e.number) o) q)
   least_by None found None e stands = λ c among under. elim under [
     | inl node ↦ none_there (stands_under k) l c found among node
     | inr deal ↦ none_is_some (deals_under t l k.number k.firm k.command) c.number e deal
@@ -216,14 +268,18 @@ module _ (t : House) (l : List Record) (k : Record) (rises : RisesFrom 0 l) wher
     refl,
     λ d among under. elim under [
       | inl node ↦ first_is_least (stands_under k) l rises e found d among node
-      | inr deal ↦ absurd (none_is_some (deals_under t l k.number k.firm k.command) d.number (deals_none t l k.number k.firm k.command e.command (find_passes (stands_under k) l e found)) deal)
+      | inr deal ↦
+          absurd (none_is_some (deals_under t l k.number k.firm k.command) d.number
+          (deals_none t l k.number k.firm k.command e.command (find_passes (stands_under k) l e found)) deal)
     ],
   )
 
-pub standing_is_least : (t : House) (l : List Record) (k : Record) → RisesFrom 0 l → Legal t l → Contains l k → IsLeastUnder t l k (standing_on t l k.number)
+pub standing_is_least : (t : House) (l : List Record) (k : Record) → RisesFrom 0 l → Legal t l → Contains l k
+    → IsLeastUnder t l k (standing_on t l k.number)
 standing_is_least t l k rises legal among =
     let first = standing_is_first t l k legal among in
-    subst (IsLeastUnder t l k) (sym first) (least_by t l k rises (find (stands_under k) l) refl (deals_under t l k.number k.firm k.command) refl first)
+    subst (IsLeastUnder t l k) (sym first)
+    (least_by t l k rises (find (stands_under k) l) refl (deals_under t l k.number k.firm k.command) refl first)
 
 -- ---- looked up at the nodes that the other made or decided
 
@@ -236,7 +292,8 @@ none_below : (p : Record → Bool) (n : ℕ) (l : List Record) → RisesFrom (n 
 none_below p n l rises = elim (none_or_some (find p l)) [
   | inl none ↦ cc (none)
   | inr e ↦ (
-      let above : n + 1 ≤ e.0.number = find_has (λ (d : Record). n + 1 ≤ d.number) p l e.0 (rises_above (n + 1) l rises) e.1 in
+      let above : n + 1 ≤ e.0.number =
+      find_has (λ (d : Record). n + 1 ≤ d.number) p l e.0 (rises_above (n + 1) l rises) e.1 in
       let lower : min n e.0.number ≡ n = omega (arith, above) in
       cc (e.1, lower))
 ]
@@ -246,7 +303,8 @@ lesser_one None n = refl
 lesser_one (Some m) n = let same : min m n ≡ min n m = omega arith in ap (λ z. Some z) same
 
 -- the first that passes either of two tests is the lesser of the two firsts
-either_first : (p q : Record → Bool) (n : ℕ) (l : List Record) → RisesFrom n l → first_number (λ e. p e || q e) l ≡ lesser (first_number p l) (first_number q l)
+either_first : (p q : Record → Bool) (n : ℕ) (l : List Record) → RisesFrom n l
+    → first_number (λ e. p e || q e) l ≡ lesser (first_number p l) (first_number q l)
 either_first p q n [] rises = refl
 either_first p q n (r ∷ l) rises =
     let same : r.number ≡ min r.number r.number = omega arith in
@@ -266,28 +324,34 @@ least_one None = refl
 least_one (Some n) = refl
 
 none_passes_never : (l : List Record) → find (λ (e : Record). false) l ≡ None
-none_passes_never l = no_some (find (λ (e : Record). false) l) (λ e h. let never : false ≡ true = find_passes (λ (e : Record). false) l e h in cc)
+none_passes_never l =
+    no_some (find (λ (e : Record). false) l)
+    (λ e h. let never : false ≡ true = find_passes (λ (e : Record). false) l e h in cc)
 
 -- at the parts of a Split
-at_parts : (l : List Record) → RisesFrom 0 l → (xs : List Node) → first_number (λ e. list_any (λ x. names x.name e.command) xs) l ≡ least (flat_map (λ x. numbers_on l x.name) xs)
+at_parts : (l : List Record) → RisesFrom 0 l → (xs : List Node)
+    → first_number (λ e. list_any (λ x. names x.name e.command) xs) l ≡ least (flat_map (λ x. numbers_on l x.name) xs)
 at_parts l rises [] = ap (option_map (λ (e : Record). e.number)) (none_passes_never l)
 at_parts l rises (x ∷ xs) =
     let own = either_first (λ e. splits x.name e.command) (λ e. decides x.name e.command) 0 l rises in
     let told = least_append (number_in (split_of l x.name)) (number_in (decision_of l x.name)) in
-    let here : first_number (λ e. names x.name e.command) l ≡ least (numbers_on l x.name) = cc (own, told, least_in (split_of l x.name), least_in (decision_of l x.name)) in
+    let here : first_number (λ e. names x.name e.command) l ≡ least (numbers_on l x.name) =
+    cc (own, told, least_in (split_of l x.name), least_in (decision_of l x.name)) in
     let both = either_first (λ e. names x.name e.command) (λ e. list_any (λ x. names x.name e.command) xs) 0 l rises in
     cc (both, here, at_parts l rises xs, least_append (numbers_on l x.name) (flat_map (λ x. numbers_on l x.name) xs))
 
 -- by the command
 by_command : (t : House) (l : List Record) → RisesFrom 0 l → (k : ℕ) (by : List ℕ) (c : Command)
-    → option_or (first_number (λ e. is_under k by c e.command) l) (deals_under t l k by c) ≡ least (numbers_under t l k by c)
+    → option_or (first_number (λ e. is_under k by c e.command) l) (deals_under t l k by c)
+    ≡ least (numbers_under t l k by c)
 by_command t l rises k by (Trade _ _ _ _ _) = or_none _ ∙ sym (least_in (split_of l (record { entry = k; part = 0 })))
 by_command t l rises k by (Split n ps) = or_none _ ∙ at_parts l rises (nodes_of k by (Split n ps))
 by_command t l rises k by (Claim n _) = or_none _ ∙ sym (least_in (split_of l n))
 by_command t l rises k by (Refuse n) = or_none _ ∙ sym (least_in (split_of l n))
 by_command t l rises k by (Cancel n) = or_none _ ∙ sym (least_in (split_of l n))
 by_command t l rises k by c =
-    ap (λ o. option_or (option_map (λ (e : Record). e.number) o) (deals_under t l k by c)) (none_passes_never l) ∙ sym (least_one (deals_under t l k by c))
+    ap (λ o. option_or (option_map (λ (e : Record). e.number) o) (deals_under t l k by c)) (none_passes_never l)
+    ∙ sym (least_one (deals_under t l k by c))
 
 -- the least of the numbers is the first change that would be refused
 pub looked_up : (t : House) (l : List Record) → RisesFrom 0 l → Legal t l → (k : Record) → Contains l k

@@ -1,10 +1,15 @@
 -- Lists that find the same, and have the same changes, leave the same trees, positions and fees.
-use Rattle.gu_depend.proofs.Vocabulary.{and_parts, filter_map, ◌≡◌, ℕ, zero, suc, ◌+◌, Bool, false, ◌&&◌, List, [], ◌∷◌, refl, sym, ◌∙◌, ap, arith, Option}
-use Rattle.gu_depend.proofs.Vocabulary.{IsPermutation, Some, None, flat_map, filter, sum_by, option_and_then, option_map, unwrap_or, is_some, is_none, bytes_eq, ◌==◌, sum_by-cons}
-use Rattle.gu_depend.proofs.Vocabulary.{sum_by-append, sum_by-IsPermutation, EntryPart, House, node_of, nodes, split_of, claimed_account, parent, line_within, line_of, place_of_kind}
-use Rattle.gu_depend.proofs.Vocabulary.{place_along, place_of, root_along, same_place, is_trade_of, trades_in, stands_at, position_of, terms_of}
-use Rattle.gu_depend.proofs.Vocabulary.{limit_of, used_of, charge_of_kind, charge_of_node, charge_of, charges, counted, Agreement, Kind, Given, row_of, made_by, rows_within}
-use Rattle.gu_depend.proofs.Vocabulary.{rows_from, Side, Command, Claim, Record, Charge, Node, Place, made, cond, deed_of, use_of_node, use_of_kind, Uses, name_same, true, IsSameState, names}
+use Rattle.gu_depend.proofs.Vocabulary.{and_parts, filter_map, ◌≡◌, ℕ, zero, suc, ◌+◌, Bool, false, ◌&&◌, List, [], ◌∷◌}
+use Rattle.gu_depend.proofs.Vocabulary.{refl, sym, ◌∙◌, ap, arith, Option, IsPermutation, Some, None, flat_map, filter}
+use Rattle.gu_depend.proofs.Vocabulary.{sum_by, option_and_then, option_map, unwrap_or, is_some, is_none, bytes_eq}
+use Rattle.gu_depend.proofs.Vocabulary.{◌==◌, sum_by-cons, sum_by-append, sum_by-IsPermutation, EntryPart, House}
+use Rattle.gu_depend.proofs.Vocabulary.{node_of, nodes, split_of, claimed_account, parent, line_within, line_of}
+use Rattle.gu_depend.proofs.Vocabulary.{place_of_kind, place_along, place_of, root_along, same_place, is_trade_of}
+use Rattle.gu_depend.proofs.Vocabulary.{trades_in, stands_at, position_of, terms_of, limit_of, used_of, charge_of_kind}
+use Rattle.gu_depend.proofs.Vocabulary.{charge_of_node, charge_of, charges, counted, Agreement, Kind, Given, row_of}
+use Rattle.gu_depend.proofs.Vocabulary.{made_by, rows_within, rows_from, Side, Command, Claim, Record, Charge, Node}
+use Rattle.gu_depend.proofs.Vocabulary.{Place, made, cond, deed_of, use_of_node, use_of_kind, Uses, name_same, true}
+use Rattle.gu_depend.proofs.Vocabulary.{IsSameState, names}
 use Rattle.gu_depend.proofs.{Vocabulary.{sum_option, sum_kept, ◌*◌, lots_at}, Settled.NamedOnce, Deals.both_same}
 use Rattle.gu_depend.proofs.{Finds.{counts_less, find_permuted, alike_at}, Replay.{SameFinds, same_finds, NumbersOnce}}
 
@@ -20,7 +25,8 @@ module _ {l o : List Record} (f : SameFinds l o) where
 
   along_same : (xs : List Node) → place_along o xs ≡ place_along l xs
   along_same [] = refl
-  along_same (x ∷ xs) = λ i. place_of_kind x.kind (option_and_then (λ r. claimed_account r.command) (f.decisions x.name i)) (along_same xs i)
+  along_same (x ∷ xs) = λ i.
+      place_of_kind x.kind (option_and_then (λ r. claimed_account r.command) (f.decisions x.name i)) (along_same xs i)
 
   place_same : (n : EntryPart) → place_of o n ≡ place_of l n
   place_same n = λ i. along_same (line_of_same n i) i
@@ -30,7 +36,8 @@ module _ {l o : List Record} (f : SameFinds l o) where
 
   rows_same : (levels depth : ℕ) (x : Node) → rows_within levels o depth x ≡ rows_within levels l depth x
   rows_same zero depth x = λ i. row_same depth x i ∷ []
-  rows_same (suc levels) depth x = λ i. row_same depth x i ∷ flat_map (λ y. rows_same levels (depth + 1) y i) (made_by (f.splits_same x.name i))
+  rows_same (suc levels) depth x =
+      λ i. row_same depth x i ∷ flat_map (λ y. rows_same levels (depth + 1) y i) (made_by (f.splits_same x.name i))
 
   rows_from_same : (x : Option Node) → rows_from o x ≡ rows_from l x
   rows_from_same None = refl
@@ -38,22 +45,29 @@ module _ {l o : List Record} (f : SameFinds l o) where
 
 -- ---- sums over the nodes
 
-pub sum_filter : {X : Type 0} (w : X → ℕ) (p : X → Bool) (xs : List X) → sum_by w (filter p xs) ≡ sum_by (λ x. cond (p x) (w x) 0) xs
+pub sum_filter : {X : Type 0} (w : X → ℕ) (p : X → Bool) (xs : List X)
+    → sum_by w (filter p xs) ≡ sum_by (λ x. cond (p x) (w x) 0) xs
 sum_filter w p [] = refl
-sum_filter w p (x ∷ xs) = omega (arith, sum_kept w (p x) x (filter p xs), sum_filter w p xs, sum_by-cons (λ x. cond (p x) (w x) 0) x xs)
+sum_filter w p (x ∷ xs) =
+    omega (arith, sum_kept w (p x) x (filter p xs), sum_filter w p xs, sum_by-cons (λ x. cond (p x) (w x) 0) x xs)
 
-pub position_is : (l : List Record) (at : Place) (instrument : List ℕ) (side : Side) → position_of l at.firm at.account instrument side ≡ sum_by (lots_at l at instrument side) (nodes l)
+pub position_is : (l : List Record) (at : Place) (instrument : List ℕ) (side : Side)
+    → position_of l at.firm at.account instrument side ≡ sum_by (lots_at l at instrument side) (nodes l)
 position_is l at instrument side =
-    sum_filter (λ (x : Node). x.lots) (λ x. stands_at l at x.name && trades_in l instrument side x.name) (filter (λ x. is_none (split_of l x.name)) (nodes l))
-    ∙ sum_filter (λ (x : Node). cond (stands_at l at x.name && trades_in l instrument side x.name) x.lots 0) (λ x. is_none (split_of l x.name)) (nodes l)
+    sum_filter (λ (x : Node). x.lots) (λ x. stands_at l at x.name && trades_in l instrument side x.name)
+    (filter (λ x. is_none (split_of l x.name)) (nodes l))
+    ∙ sum_filter (λ (x : Node). cond (stands_at l at x.name && trades_in l instrument side x.name) x.lots 0)
+    (λ x. is_none (split_of l x.name)) (nodes l)
 
 -- a sum over the nodes is one over the changes
 pub sum_made : (w : Node → ℕ) (l : List Record) → sum_by w (nodes l) ≡ sum_by (λ r. sum_by w (made r)) l
 sum_made w [] = refl
-sum_made w (r ∷ l) = omega (arith, sum_by-append w (made r) (nodes l), sum_made w l, sum_by-cons (λ r. sum_by w (made r)) r l)
+sum_made w (r ∷ l) =
+    omega (arith, sum_by-append w (made r) (nodes l), sum_made w l, sum_by-cons (λ r. sum_by w (made r)) r l)
 
 module _ {l o : List Record} (same : IsPermutation l o) (once : NumbersOnce l) (f : SameFinds l o) where
-  trades_same : (instrument : List ℕ) (side : Side) (n : EntryPart) → trades_in o instrument side n ≡ trades_in l instrument side n
+  trades_same : (instrument : List ℕ) (side : Side) (n : EntryPart)
+      → trades_in o instrument side n ≡ trades_in l instrument side n
   trades_same instrument side n = λ i. is_some (option_and_then (λ t.
       let own : Record → Bool = λ r. r.number == t.entry in
       let trades : Record → Bool = λ r. own r && is_trade_of instrument side r.command in
@@ -61,14 +75,23 @@ module _ {l o : List Record} (same : IsPermutation l o) (once : NumbersOnce l) (
       find_permuted trades l o same (omega (arith, few, once t.entry)) i)
       (root_along (line_of_same f n i)))
 
-  positions_same : (firm account instrument : List ℕ) (side : Side) → position_of o firm account instrument side ≡ position_of l firm account instrument side
+  positions_same : (firm account instrument : List ℕ) (side : Side)
+      → position_of o firm account instrument side ≡ position_of l firm account instrument side
   positions_same firm account instrument side =
       let at : Place = record { firm = firm; account = account } in
       let w = lots_at l at instrument side in
       position_is o at instrument side
-      ∙ ((λ i. sum_by (λ x. cond (is_none (f.splits_same x.name i))
-      (cond (unwrap_or (option_map (same_place at) (place_same f x.name i)) false && trades_same instrument side x.name i) x.lots 0) 0) (nodes o))
-      ∙ (sum_made w o ∙ (sum_by-IsPermutation (λ r. sum_by w (made r)) l o same ∙ (sym (sum_made w l) ∙ sym (position_is l at instrument side)))))
+      ∙ ((λ i.
+      sum_by (λ x.
+      cond (is_none (f.splits_same x.name i))
+      (cond
+      (unwrap_or (option_map (same_place at) (place_same f x.name i)) false && trades_same instrument side x.name i)
+      x.lots 0)
+      0)
+      (nodes o))
+      ∙ (sum_made w o
+      ∙ (sum_by-IsPermutation (λ r. sum_by w (made r)) l o same
+      ∙ (sym (sum_made w l) ∙ sym (position_is l at instrument side)))))
 
 -- ---- sums over the charges
 
@@ -77,7 +100,12 @@ pub sum_charged : (takes : Charge → Bool) (counts : Charge → ℕ) (h : Recor
     → sum_by counts (filter takes (filter_map h l)) ≡ sum_by (λ r. counted takes counts (h r)) l
 sum_charged takes counts h [] = refl
 sum_charged takes counts h (r ∷ l) =
-    omega (arith, sum_option takes counts (h r) (filter_map h l), sum_charged takes counts h l, sum_by-cons (λ r. counted takes counts (h r)) r l)
+    omega (
+      arith,
+      sum_option takes counts (h r) (filter_map h l),
+      sum_charged takes counts h l,
+      sum_by-cons (λ r. counted takes counts (h r)) r l,
+    )
 
 -- the terms of each giver and taker are the same, and so are the limits, and what is used
 pub record SameDeals (t : House) (l o : List Record) : Type 0 where
@@ -87,37 +115,46 @@ pub record SameDeals (t : House) (l o : List Record) : Type 0 where
 
 -- the terms of those whose lots a change uses are the same in both lists
 abbrev pub SameTermsFor : House → List Record → List Record → List ℕ → Command → Type 0
-SameTermsFor t l b by c = (g k : List ℕ) (lots : ℕ) → deed_of b g k by c ≡ Some (Uses lots) → terms_of t b g k ≡ terms_of t l g k
+SameTermsFor t l b by c =
+    (g k : List ℕ) (lots : ℕ) → deed_of b g k by c ≡ Some (Uses lots) → terms_of t b g k ≡ terms_of t l g k
 
-charge_of_given : (t : House) (l b : List Record) (lots : ℕ) (kind : Kind) → ((g k : List ℕ) → use_of_kind g k lots kind ≡ Some (Uses lots) → terms_of t b g k ≡ terms_of t l g k)
+charge_of_given : (t : House) (l b : List Record) (lots : ℕ) (kind : Kind)
+    → ((g k : List ℕ) → use_of_kind g k lots kind ≡ Some (Uses lots) → terms_of t b g k ≡ terms_of t l g k)
     → charge_of_kind t b lots kind ≡ charge_of_kind t l lots kind
 charge_of_given t l b lots (Given m g k) same =
-    ap (option_map (λ (a : Agreement). record { giver = g; taker = k; lots = lots; rate = a.rate })) (same g k (ap (λ b. cond b (Some (Uses lots)) None) (both_same g k)))
+    ap (option_map (λ (a : Agreement). record { giver = g; taker = k; lots = lots; rate = a.rate }))
+    (same g k (ap (λ b. cond b (Some (Uses lots)) None) (both_same g k)))
 charge_of_given t l b lots _ same = refl
 
 -- a change whose node and terms are the same is charged the same
-pub charge_alike : (t : House) (l b : List Record) (by : List ℕ) (c : Command) → ((n : EntryPart) → names n c ≡ true → node_of b n ≡ node_of l n) → SameTermsFor t l b by c
+pub charge_alike : (t : House) (l b : List Record) (by : List ℕ) (c : Command)
+    → ((n : EntryPart) → names n c ≡ true → node_of b n ≡ node_of l n) → SameTermsFor t l b by c
     → charge_of t b c ≡ charge_of t l c
 charge_alike t l b by (Claim n account) nodes same =
-    alike_at (charge_of_node t b) (charge_of_node t l) (node_of b n)
-    (λ x e. charge_of_given t l b x.lots x.kind (λ g k deals. same g k x.lots (ap (option_and_then (use_of_node g k)) e ∙ deals)))
+    alike_at (charge_of_node t b) (charge_of_node t l) (node_of b n) (λ x e.
+    charge_of_given t l b x.lots x.kind
+    (λ g k deals. same g k x.lots (ap (option_and_then (use_of_node g k)) e ∙ deals)))
     ∙ ap (option_and_then (charge_of_node t l)) (nodes n (name_same n))
 charge_alike t l b by _ nodes same = refl
 
-pub charge_same : (t : House) (l o : List Record) → SameFinds l o → SameDeals t l o → (c : Command) → charge_of t o c ≡ charge_of t l c
+pub charge_same : (t : House) (l o : List Record) → SameFinds l o → SameDeals t l o → (c : Command)
+    → charge_of t o c ≡ charge_of t l c
 charge_same t l o f deals c = charge_alike t l o [] c (λ n _. f.nodes n) (λ g k lots _. deals.terms g k)
 
-charges_same : (t : House) (takes : Charge → Bool) (counts : Charge → ℕ) (l o : List Record) → IsPermutation l o → SameFinds l o → SameDeals t l o
+charges_same : (t : House) (takes : Charge → Bool) (counts : Charge → ℕ) (l o : List Record) → IsPermutation l o
+    → SameFinds l o → SameDeals t l o
     → sum_by counts (filter takes (charges t o)) ≡ sum_by counts (filter takes (charges t l))
 charges_same t takes counts l o same f deals =
     sum_charged takes counts (λ r. charge_of t o r.command) o
-    ∙ (ap (λ (g : Record → Option Charge). sum_by (λ r. counted takes counts (g r)) o) (λ i r. charge_same t l o f deals r.command i)
+    ∙ (ap (λ (g : Record → Option Charge). sum_by (λ r. counted takes counts (g r)) o)
+    (λ i r. charge_same t l o f deals r.command i)
     ∙ (sum_by-IsPermutation (λ r. counted takes counts (charge_of t l r.command)) l o same
     ∙ sym (sum_charged takes counts (λ r. charge_of t l r.command) l)))
 
--- every order of a list in which a node is split once and decided once, and no number stands twice, leaves the same, where it leaves the same
--- terms
-pub state_same : (t : House) (l o : List Record) → IsPermutation l o → NumbersOnce l → NamedOnce l → SameDeals t l o → IsSameState t l o
+-- every order of a list in which a node is split once and decided once, and no number stands twice, leaves the same,
+-- where it leaves the same terms
+pub state_same : (t : House) (l o : List Record) → IsPermutation l o → NumbersOnce l → NamedOnce l → SameDeals t l o
+    → IsSameState t l o
 state_same t l o same once s deals =
     let f = same_finds l o same once s in
     record {

@@ -10,6 +10,7 @@ pub enum Touched {
     Parts,
     /// A Claim, a Refuse or a Cancel decided this node.
     Node(NodeName),
-    /// An Agree or a Raise is a change of terms alone; an Initiate, a Decline or a Reverse is no change.
+    /// An Agree or a Raise is a change of terms alone; an Initiate, a Decline or a Reverse is no
+    /// change.
     Nothing,
 }

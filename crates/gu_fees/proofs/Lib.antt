@@ -1,4 +1,3 @@
-pub mod Ready
-pub mod Filings
+pub mod Charges
 pub mod Dealings
 pub mod Places

@@ -1,37 +1,34 @@
 -- The terms of a giver and a taker, as they are kept.
-use Rattle.std.specs.Prelude.{◌≡◌, ℕ, ◌+◌, ◌<◌, ◌≤◌, ◌^◌, List, length, find, filter_map, Option, IfSome, option_map, option_and_then, ◌==◌}
+use Rattle.std.specs.Prelude.{◌≡◌, ℕ, ◌+◌, ◌<◌, ◌≤◌, ◌^◌, List, find, map, Option, IfSome}
+use Rattle.std.specs.Prelude.{option_map, option_and_then, ◌==◌}
 use Rattle.std.specs.List.{All}
 use Rattle.gu_base.specs.Limits.{highest_limit}
-use Rattle.gu_base.specs.Terms.{raised_under, used_under}
+use Rattle.gu_base.specs.Terms.{made_in, raised_under, used_under}
 use Rattle.gu_base.specs.Dealt.{first_under_deed}
 use Rattle.gu_base.specs.declared.house.Agreement.{Agreement}
 use Rattle.gu_base.specs.declared.house.Deed.{Deed}
 use Rattle.gu_base.specs.declared.house.Deed.TheVariants.{Makes, Raises, Uses}
 use Rattle.gu_base.specs.declared.house.Dealing.{Dealing}
-use Rattle.gu_fees.specs.Filing.{IsRising}
-use Rattle.gu_fees.specs.declared.filing.Filed.{Filed}
 
--- the terms of the house table, what is dealt in the order of the numbers, how many more entries take no memory, and the last number that was
--- filed and is still there, taken out or not
+-- the terms of the house table, what is dealt in the order of the numbers, how many more entries
+-- take no memory, and the last number of an entry that was filed
 pub record PairView : Type 0 where
   pub file : Option Agreement
   pub dealings : List Dealing
   pub room : ℕ
   pub last : ℕ
 
--- what is dealt by what is filed
-abbrev pub dealing_in : Filed Deed → Option Dealing
-dealing_in f = option_map (λ d. record { number = f.entry; deed = d }) f.kept
-
-abbrev pub dealings_kept : List (Filed Deed) → List Dealing
-dealings_kept fs = filter_map dealing_in fs
+-- what is dealt by deeds with their numbers
+abbrev pub dealings_of : List (ℕ × Deed) → List Dealing
+dealings_of kept = map (λ k. record { number = k.0; deed = k.1 }) kept
 
 -- terms have a limit that terms may have
 abbrev pub HasLowLimit : Deed → Type 0
 HasLowLimit (Makes a) = a.limit ≤ highest_limit
 HasLowLimit _ = Unit {0}
 
--- the limits are what limits may be, and a limit with all raises, and what is used, are numbers of 64 bits
+-- the limits are what limits may be, and a limit with all raises, and what is used, are numbers of
+-- 64 bits
 pub record IsSmall (file : Option Agreement) (ds : List Dealing) : Type 0 where
   pub file_low : IfSome file (λ a. a.limit ≤ highest_limit)
   pub made_low : All (λ d. HasLowLimit d.deed) ds
@@ -47,13 +44,13 @@ HasRoomOn raised used (Uses lots) = used + lots < 2 ^ 64
 abbrev pub HasRoomFor : List Dealing → Deed → Type 0
 HasRoomFor ds d = HasRoomOn (raised_under ds) (used_under ds) d
 
--- what is filed for a pair, with its sums and how many were taken out
-pub record IsKept (file : Option Agreement) (fs : List (Filed Deed)) (raised used gone : ℕ) : Type 0 where
-  pub rising : IsRising fs
-  pub raised_is : raised ≡ raised_under (dealings_kept fs)
-  pub used_is : used ≡ used_under (dealings_kept fs)
-  pub gone_is : gone + length (dealings_kept fs) ≡ length fs
-  pub small : IsSmall file (dealings_kept fs)
+-- the terms that an Agree made, and the sums, are those of what is dealt
+pub record IsKept (file made : Option Agreement) (ds : List Dealing) (raised used : ℕ) : Type 0
+  where
+    pub made_is : made ≡ made_in ds
+    pub raised_is : raised ≡ raised_under ds
+    pub used_is : used ≡ used_under ds
+    pub small : IsSmall file ds
 
 -- the deed of this number
 abbrev pub deed_at : List Dealing → ℕ → Option Deed

@@ -10,5 +10,7 @@ cost c = c.lots * c.rate
 -- the rows are what these charges sum to
 pub record AreSumsOf (r : FeeRows) (cs : List Charge) : Type 0 where
   pub paid : (firm : List ℕ) → paid_in r firm ≡ sum_by cost (filter (λ c. bytes_eq c.taker firm) cs)
-  pub received : (firm : List ℕ) → received_in r firm ≡ sum_by cost (filter (λ c. bytes_eq c.giver firm) cs)
-  pub used : (giver taker : List ℕ) → used_in r giver taker ≡ sum_by (λ c. c.lots) (filter (λ c. bytes_eq c.giver giver && bytes_eq c.taker taker) cs)
+  pub received : (firm : List ℕ) → received_in r firm
+      ≡ sum_by cost (filter (λ c. bytes_eq c.giver firm) cs)
+  pub used : (giver taker : List ℕ) → used_in r giver taker
+      ≡ sum_by (λ c. c.lots) (filter (λ c. bytes_eq c.giver giver && bytes_eq c.taker taker) cs)

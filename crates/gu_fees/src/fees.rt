@@ -1,7 +1,9 @@
 //! The fees of a book.
-ghost use Rattle.std.specs.Prelude.{◌≡◌, ◌+◌, ◌*◌, ◌&&◌, ◌++◌, ℕ, List, [], ◌∷◌, cond, bytes_eq, OnOk, OnErr, IsTrue, ◌↔◌};
+ghost use Rattle.std.specs.Prelude.{◌≡◌, ◌+◌, ◌*◌, ◌&&◌, ◌++◌, ℕ, List, [], ◌∷◌, cond, bytes_eq};
+ghost use Rattle.std.specs.Prelude.{OnOk, OnErr, IsTrue, ◌↔◌};
 ghost use Rattle.gu_base.specs.declared.node.Charge.{Charge};
-ghost use Rattle.gu_fees.specs.Rows.{paid_in, received_in, used_in, IsReady, HasRoom, CanCharge, CanUncharge};
+ghost use Rattle.gu_fees.specs.Rows.{paid_in, received_in, used_in, IsReady, HasRoom, CanCharge};
+ghost use Rattle.gu_fees.specs.Rows.{CanUncharge};
 ghost use Rattle.gu_fees.specs.Sums.{AreSumsOf};
 
 use gu_base::{FirmId, Memory, Pair};
@@ -9,7 +11,8 @@ use gu_sums::Sums;
 use std::alloc::Global;
 use std::marker::Model;
 
-/// What each firm has paid and received, in hundredths, and how many lots each giver and taker have used.
+/// What each firm has paid and received, in hundredths, and how many lots each giver and taker have
+/// used.
 #[derive(Drop)]
 pub struct Fees {
     paid: Sums<FirmId>,
@@ -37,7 +40,8 @@ impl Fees {
         }
     }
 
-    /// Makes the rows that a charge of this giver and taker changes. No sum changes, not even where memory is refused.
+    /// Makes the rows that a charge of this giver and taker changes. No sum changes, not even where
+    /// memory is refused.
     pub fn ready(&mut self, giver: &FirmId, taker: &FirmId) -> Result<(), Memory>
         ensures ready { OnOk result (IsReady self.new giver.now taker.now) }
         ensures paid { (firm : List ℕ) → paid_in self.new firm ≡ paid_in self.old firm }
@@ -54,16 +58,26 @@ impl Fees {
         self.used.ready(&pair)
     }
 
-    /// Adds a claim: `lots x rate` hundredths that the taker pays to the giver, and the lots that the two have used.
+    /// Adds a claim: `lots x rate` hundredths that the taker pays to the giver, and the lots that
+    /// the two have used.
     ///
     /// The rows have to be ready, and each sum has to stay below 2^64 (`can_charge`).
     pub fn charge(&mut self, giver: &FirmId, taker: &FirmId, lots: u64, rate: u64)
         requires { CanCharge self.old giver.now taker.now lots rate }
-        ensures paid { (firm : List ℕ) → paid_in self.new firm ≡ paid_in self.old firm + cond (bytes_eq taker.now firm) (lots * rate) 0 }
-        ensures received { (firm : List ℕ) → received_in self.new firm ≡ received_in self.old firm + cond (bytes_eq giver.now firm) (lots * rate) 0 }
-        ensures used { (g t : List ℕ) → used_in self.new g t ≡ used_in self.old g t + cond (bytes_eq giver.now g && bytes_eq taker.now t) lots 0 }
+        ensures paid { (firm : List ℕ) → paid_in self.new firm ≡ paid_in self.old firm
+            + cond (bytes_eq taker.now firm) (lots * rate) 0 }
+        ensures received { (firm : List ℕ) → received_in self.new firm ≡ received_in self.old firm
+            + cond (bytes_eq giver.now firm) (lots * rate) 0 }
+        ensures used { (g t : List ℕ) → used_in self.new g t ≡ used_in self.old g t
+            + cond (bytes_eq giver.now g && bytes_eq taker.now t) lots 0 }
         ensures stays_ready { (g t : List ℕ) → IsReady self.old g t → IsReady self.new g t }
-        ensures sums { (before after : List Charge) → AreSumsOf self.old (before ++ after) → AreSumsOf self.new (before ++ record { giver = giver.now; taker = taker.now; lots = lots; rate = rate } ∷ after) }
+        ensures sums { (before after : List Charge) → AreSumsOf self.old (before ++ after)
+            → AreSumsOf self.new (before ++ record {
+              giver = giver.now;
+              taker = taker.now;
+              lots = lots;
+              rate = rate;
+            } ∷ after) }
     {
         let pair = Pair {
             giver: *giver,
@@ -75,7 +89,8 @@ impl Fees {
         self.used.add(&pair, lots);
     }
 
-    /// Adds a claim as `charge` does, and makes its rows where there are none. One look finds a row that is there.
+    /// Adds a claim as `charge` does, and makes its rows where there are none. One look finds a row
+    /// that is there.
     ///
     /// Each sum has to stay below 2^64.
     ///
@@ -90,10 +105,20 @@ impl Fees {
         rate: u64,
     ) -> Result<(), Memory>
         requires { HasRoom self.old giver.now taker.now lots rate }
-        ensures sums { OnOk result ((before after : List Charge) → AreSumsOf self.old (before ++ after) → AreSumsOf self.new (before ++ record { giver = giver.now; taker = taker.now; lots = lots; rate = rate } ∷ after)) }
-        ensures same_paid { OnErr result ((firm : List ℕ) → paid_in self.new firm ≡ paid_in self.old firm) }
-        ensures same_received { OnErr result ((firm : List ℕ) → received_in self.new firm ≡ received_in self.old firm) }
-        ensures same_used { OnErr result ((g t : List ℕ) → used_in self.new g t ≡ used_in self.old g t) }
+        ensures sums { OnOk result ((before after : List Charge)
+            → AreSumsOf self.old (before ++ after)
+            → AreSumsOf self.new (before ++ record {
+              giver = giver.now;
+              taker = taker.now;
+              lots = lots;
+              rate = rate;
+            } ∷ after)) }
+        ensures same_paid { OnErr result ((firm : List ℕ)
+            → paid_in self.new firm ≡ paid_in self.old firm) }
+        ensures same_received { OnErr result ((firm : List ℕ)
+            → received_in self.new firm ≡ received_in self.old firm) }
+        ensures same_used { OnErr result ((g t : List ℕ)
+            → used_in self.new g t ≡ used_in self.old g t) }
         ensures stays_ready { (g t : List ℕ) → IsReady self.old g t → IsReady self.new g t }
     {
         let pair = Pair {
@@ -119,11 +144,20 @@ impl Fees {
     /// No more may be taken than is there (`can_uncharge`).
     pub fn uncharge(&mut self, giver: &FirmId, taker: &FirmId, lots: u64, rate: u64)
         requires { CanUncharge self.old giver.now taker.now lots rate }
-        ensures paid { (firm : List ℕ) → paid_in self.new firm + cond (bytes_eq taker.now firm) (lots * rate) 0 ≡ paid_in self.old firm }
-        ensures received { (firm : List ℕ) → received_in self.new firm + cond (bytes_eq giver.now firm) (lots * rate) 0 ≡ received_in self.old firm }
-        ensures used { (g t : List ℕ) → used_in self.new g t + cond (bytes_eq giver.now g && bytes_eq taker.now t) lots 0 ≡ used_in self.old g t }
+        ensures paid { (firm : List ℕ) → paid_in self.new firm
+            + cond (bytes_eq taker.now firm) (lots * rate) 0 ≡ paid_in self.old firm }
+        ensures received { (firm : List ℕ) → received_in self.new firm
+            + cond (bytes_eq giver.now firm) (lots * rate) 0 ≡ received_in self.old firm }
+        ensures used { (g t : List ℕ) → used_in self.new g t
+            + cond (bytes_eq giver.now g && bytes_eq taker.now t) lots 0 ≡ used_in self.old g t }
         ensures stays_ready { (g t : List ℕ) → IsReady self.old g t → IsReady self.new g t }
-        ensures sums { (before after : List Charge) → AreSumsOf self.old (before ++ record { giver = giver.now; taker = taker.now; lots = lots; rate = rate } ∷ after) → AreSumsOf self.new (before ++ after) }
+        ensures sums { (before after : List Charge)
+            → AreSumsOf self.old (before ++ record {
+              giver = giver.now;
+              taker = taker.now;
+              lots = lots;
+              rate = rate;
+            } ∷ after) → AreSumsOf self.new (before ++ after) }
     {
         let pair = Pair {
             giver: *giver,

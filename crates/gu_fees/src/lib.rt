@@ -1,22 +1,28 @@
-//! What firms have paid and received for claims, as running rows, and the terms of each giver and taker with what they deal under them.
+//! What firms have paid and received for claims, as running rows, and the terms of each giver and
+//! taker with what they deal under them.
 //!
 //! `Fees` is the sums:
-//! - `charge` adds a claim and `uncharge` takes one away. Each finds three rows by hash, takes no memory and can't fail.
-//! - `paid`, `received` and `used` are the sums of what was charged, less what was uncharged (`AreSumsOf`).
+//! - `charge` adds a claim and `uncharge` takes one away. Each finds three rows by hash, takes no
+//!   memory and can't fail.
+//! - `paid`, `received` and `used` are the sums of what was charged, less what was uncharged
+//!   (`AreSumsOf`).
 //! - `ready` makes the rows that a charge changes. It changes no sum: a row of zero and no row
 //!   are seen as the same. A row that is ready stays ready.
 //! - `put` adds a claim, and makes the rows where there are none. It and `ready` alone take memory.
 //!
 //! `Terms` is the Agree, the Raises and the Claims of each pair, in the order of their numbers:
-//! - `agree`, `raise` and `claim` put an entry behind those of its pair, and `take_out` takes one out. They take no memory and can't fail.
-//! - `terms`, `rate`, `limit` and `used` are what the pair's entries come to, over the terms of the house table that its first `ready` was given
-//!   (`terms_under`, `limit_under`, `used_under`). They walk over no Raise and no Claim.
+//! - `agree`, `raise` and `claim` put an entry behind those of its pair, and `take_out` takes one
+//!   out. They take no memory and can't fail.
+//! - `terms`, `rate`, `limit` and `used` are what the pair's entries come to, over the terms of the
+//!   house table that its first `ready` was given (`terms_under`, `limit_under`, `used_under`).
+//!   They walk over no Raise and no Claim.
 //! - `entries_beside` is how many entries the pair of an entry has. It walks over none.
-//! - `first_standing` is the first entry of the pair that stands on another. It walks over the pair's entries once.
+//! - `first_standing` is the first entry of the pair that stands on another. It walks over the
+//!   pair's entries once.
 //! - `ready` makes room for one more entry of a pair. It and `ready_at` alone take memory.
-//! - `place` is where a pair stands, found by hash; `row_at`, `ready_at` and `put_at` go on from there without another look. `row_beside` is the
-//!   row of an entry's pair.
-//! - An entry is found by halves. What is taken out leaves a mark, so nothing behind it moves; a pair's marks go where they outnumber its entries.
+//! - `place` is where a pair stands, found by hash; `row_at`, `ready_at` and `put_at` go on from
+//!   there without another look. `row_beside` is the row of an entry's pair.
+//! - The entries lie in gu_sums' `Filing`: what is taken out moves nothing.
 //!
 //! What a call asks of its caller, a test of this crate answers: `can_charge`, `can_uncharge`;
 //! `can_put` and `can_put_at`, also that the limit of an agreement is in its range; for `Fees::put`
@@ -25,7 +31,6 @@
 #![tactic(auto)]
 
 mod fees;
-mod filing;
 mod pair;
 mod terms;
 

@@ -1,13 +1,16 @@
 //! The terms of one giver and one taker, and what they deal under them.
-ghost use Rattle.std.specs.Prelude.{◌≡◌, ◌+◌, ◌≤◌, ◌<◌, ◌^◌, ◌++◌, ◌∷◌, [], length, None, OnOk, IfSome, IsTrue, ◌↔◌};
+ghost use Rattle.std.specs.Prelude.{◌≡◌, ◌+◌, ◌≤◌, ◌<◌, ◌^◌, ◌++◌, ◌∷◌, [], length, None, OnOk};
+ghost use Rattle.std.specs.Prelude.{IfSome, IsTrue, ◌↔◌};
 ghost use Rattle.std.specs.Option.{option_or};
 ghost use Rattle.gu_base.specs.Limits.{highest_limit};
-ghost use Rattle.gu_base.specs.Terms.{made_by_deed, made_in, terms_under, raised_by_deed, raised_under, limit_under, used_by_deed, used_under};
+ghost use Rattle.gu_base.specs.Terms.{made_by_deed, made_in, terms_under, raised_by_deed};
+ghost use Rattle.gu_base.specs.Terms.{raised_under, limit_under, used_by_deed, used_under};
 ghost use Rattle.gu_base.specs.Dealt.{leave_out, first_over, first_under_terms};
-ghost use Rattle.gu_fees.specs.Pairs.{HasRoomOn, HasRoomFor, dealings_kept, standing_under};
+ghost use Rattle.gu_sums.specs.Filed.{kept_in};
+ghost use Rattle.gu_fees.specs.Pairs.{HasRoomOn, HasRoomFor, dealings_of, standing_under};
 
-use crate::filing::{Filed, append, clear, kept_at, last_of, sweep};
 use gu_base::{Agreement, Deed, Memory, Number};
+use gu_sums::{Filed, Filing};
 use std::alloc::Global;
 use std::marker::Model;
 
@@ -18,9 +21,7 @@ pub struct PairTerms {
     file: Option<Agreement>,
     /// The terms that the first Agree made, so that nobody walks to it.
     made: Option<Agreement>,
-    deeds: Vec<Filed<Deed>>,
-    /// How many of the numbers in `deeds` are of entries that were taken out.
-    gone: usize,
+    deeds: Filing<Deed, Global>,
     /// The lots of the Raises.
     raised: u64,
     /// The lots of the Claims.
@@ -28,16 +29,20 @@ pub struct PairTerms {
 }
 
 impl Model for PairTerms {
-    ghost use Rattle.std.specs.Prelude.{◌≡◌, ◌-◌, vec_len, vec_capacity};
-    ghost use Rattle.gu_base.specs.Terms.{made_in};
-    ghost use Rattle.gu_fees.specs.Filing.{last_of};
-    ghost use Rattle.gu_fees.specs.Pairs.{PairView, IsKept, dealings_kept};
+    ghost use Rattle.gu_sums.specs.Filing.{last_of};
+    ghost use Rattle.gu_fees.specs.Pairs.{PairView, IsKept, dealings_of};
 
     ghost Value = { PairView };
 
-    ghost view = { λ p. record { file = p.file; dealings = dealings_kept p.deeds.items; room = vec_capacity p.deeds - vec_len p.deeds; last = last_of p.deeds.items } };
+    ghost view = { λ p. record {
+      file = p.file;
+      dealings = dealings_of p.deeds.filed.kept;
+      room = p.deeds.room;
+      last = last_of p.deeds.filed;
+    } };
 
-    ghost invariant = { λ p. record { kept : IsKept p.file p.deeds.items p.raised p.used p.gone; made : p.made ≡ made_in (dealings_kept p.deeds.items) } };
+    ghost invariant = { λ p.
+        IsKept p.file p.made (dealings_of p.deeds.filed.kept) p.raised p.used };
 }
 
 impl PairTerms {
@@ -51,8 +56,7 @@ impl PairTerms {
         PairTerms {
             file,
             made: None,
-            deeds: Vec::new(alloc),
-            gone: 0,
+            deeds: Filing::new(alloc),
             raised: 0,
             used: 0,
         }
@@ -69,53 +73,52 @@ impl PairTerms {
         ensures last { self.new.last ≡ self.old.last }
         ensures room { OnOk result (1 ≤ self.new.room) }
     {
-        self.deeds.reserve(1)?;
-        Ok(())
+        self.deeds.ready()
     }
 
     /// Whether `put` may be called.
     pub(crate) fn can_put(&self, entry: Number, deed: Deed) -> bool
-        ensures { IsTrue result ↔ ((1 ≤ self.now.room) × (self.now.last < entry) × HasRoomFor self.now.dealings deed) }
+        ensures { IsTrue result ↔ ((1 ≤ self.now.room) × (self.now.last < entry)
+            × HasRoomFor self.now.dealings deed) }
     {
-        let room = self.deeds.len() < self.deeds.capacity();
-        let above = last_of(self.deeds.as_slice()) < entry.get();
+        let room = self.deeds.has_room();
+        let above = self.deeds.last() < entry.get();
         room && above && has_room(self.raised, self.used, deed)
     }
 
-    /// Puts an entry behind the others: there is room for it, its number is above theirs, and the sums stay numbers of 64 bits. Takes no memory.
+    /// Puts an entry behind the others: there is room for it, its number is above theirs, and the
+    /// sums stay numbers of 64 bits. Takes no memory.
     pub(crate) fn put(&mut self, entry: Number, deed: Deed)
         requires room { 1 ≤ self.old.room }
         requires above { self.old.last < entry }
         requires fits { HasRoomFor self.old.dealings deed }
         ensures file { self.new.file ≡ self.old.file }
-        ensures dealings { self.new.dealings ≡ self.old.dealings ++ record { number = entry; deed = deed } ∷ [] }
+        ensures dealings { self.new.dealings ≡ self.old.dealings ++ record {
+          number =
+              entry;
+          deed = deed;
+        } ∷ [] }
         ensures last { self.new.last ≡ entry }
     {
         self.made = made_with(self.made, deed);
         self.raised += raised_by(deed);
         self.used += used_by(deed);
-        append(&mut self.deeds, entry, deed);
+        self.deeds.file(entry, deed);
     }
 
     /// Takes the entry of this number out, if it is there. Takes no memory.
-    ///
-    /// Its number stays until there are more such numbers than entries.
     pub(crate) fn take_out(&mut self, entry: Number)
         ensures file { self.new.file ≡ self.old.file }
         ensures dealings { self.new.dealings ≡ leave_out entry self.old.dealings }
         ensures last { self.new.last ≤ self.old.last }
     {
-        let Some(deed) = clear(&mut self.deeds, entry) else {
+        let Some(deed) = self.deeds.take(entry) else {
             return;
         };
-        self.made = made_without(self.made, deed, self.deeds.as_slice());
+        self.made = made_without(self.made, deed, self.deeds.all());
         self.raised -= raised_by(deed);
         self.used -= used_by(deed);
-        self.gone += 1;
-        if self.gone > self.deeds.len() / 2 {
-            sweep(&mut self.deeds);
-            self.gone = 0;
-        }
+        self.deeds.sweep();
     }
 
     /// The terms: those of the house table, or else those of the Agree.
@@ -150,18 +153,18 @@ impl PairTerms {
         ensures value { result ≡ length self.now.dealings }
         ensures fits { result < 2 ^ 63 }
     {
-        self.deeds.len() - self.gone
+        self.deeds.count()
     }
 
-    /// The first entry that stands on the one of this number: an Agree stands under the first Raise or Claim, a Raise under the first Claim that
-    /// passes the limit without it.
+    /// The first entry that stands on the one of this number: an Agree stands under the first Raise
+    /// or Claim, a Raise under the first Claim that passes the limit without it.
     pub fn first_standing(&self, entry: Number) -> Option<Number>
         ensures { result ≡ standing_under self.now.file self.now.dealings entry }
     {
-        match kept_at(self.deeds.as_slice(), entry) {
-            Some(Deed::Makes(_)) => first_under_terms(self.deeds.as_slice()),
+        match self.deeds.get(entry) {
+            Some(Deed::Makes(_)) => first_under_terms(self.deeds.all()),
             Some(Deed::Raises(_)) => match self.terms() {
-                Some(terms) => first_over(terms.limit, self.deeds.as_slice(), entry),
+                Some(terms) => first_over(terms.limit, self.deeds.all(), entry),
                 None => None,
             },
             Some(Deed::Uses(_)) => None,
@@ -223,10 +226,11 @@ fn made_with(made: Option<Agreement>, deed: Deed) -> Option<Agreement>
     }
 }
 
-/// The terms that the first Agree makes, where this deed was taken out of those that made these. It walks only where that was an Agree.
+/// The terms that the first Agree makes, where this deed was taken out of those that made these. It
+/// walks only where that was an Agree.
 fn made_without(before: Option<Agreement>, deed: Deed, deeds: &[Filed<Deed>]) -> Option<Agreement>
-    requires { made_by_deed deed ≡ None → before ≡ made_in (dealings_kept deeds.now) }
-    ensures { result ≡ made_in (dealings_kept deeds.now) }
+    requires { made_by_deed deed ≡ None → before ≡ made_in (dealings_of (kept_in deeds.now)) }
+    ensures { result ≡ made_in (dealings_of (kept_in deeds.now)) }
 {
     match deed {
         Deed::Makes(_) => made(deeds),
@@ -236,7 +240,7 @@ fn made_without(before: Option<Agreement>, deed: Deed, deeds: &[Filed<Deed>]) ->
 
 /// The terms that the first Agree made.
 fn made(deeds: &[Filed<Deed>]) -> Option<Agreement>
-    ensures { result ≡ made_in (dealings_kept deeds.now) }
+    ensures { result ≡ made_in (dealings_of (kept_in deeds.now)) }
 {
     for filed in deeds {
         if let Some(Deed::Makes(terms)) = &filed.kept {
@@ -248,33 +252,34 @@ fn made(deeds: &[Filed<Deed>]) -> Option<Agreement>
 
 /// The first Raise or Claim.
 fn first_under_terms(deeds: &[Filed<Deed>]) -> Option<Number>
-    ensures { result ≡ first_under_terms (dealings_kept deeds.now) }
+    ensures { result ≡ first_under_terms (dealings_of (kept_in deeds.now)) }
 {
     for filed in deeds {
         match &filed.kept {
             None | Some(Deed::Makes(_)) => {}
-            _ => return Some(filed.entry),
+            _ => return Some(filed.number),
         }
     }
     None
 }
 
-/// The first Claim that passes the limit without the entry of this number; `limit` is that of the terms alone.
+/// The first Claim that passes the limit without the entry of this number; `limit` is that of the
+/// terms alone.
 fn first_over(limit: u64, deeds: &[Filed<Deed>], entry: Number) -> Option<Number>
-    requires limit { limit + raised_under (dealings_kept deeds.now) < 2 ^ 64 }
-    requires used { used_under (dealings_kept deeds.now) < 2 ^ 64 }
-    ensures { result ≡ first_over limit 0 (leave_out entry (dealings_kept deeds.now)) }
+    requires limit { limit + raised_under (dealings_of (kept_in deeds.now)) < 2 ^ 64 }
+    requires used { used_under (dealings_of (kept_in deeds.now)) < 2 ^ 64 }
+    ensures { result ≡ first_over limit 0 (leave_out entry (dealings_of (kept_in deeds.now))) }
 {
     let mut limit = limit;
     let mut used: u64 = 0;
     for filed in deeds {
         if let Some(deed) = filed.kept
-            && filed.entry != entry
+            && filed.number != entry
         {
             limit += raised_by(deed);
             used += used_by(deed);
             if limit < used {
-                return Some(filed.entry);
+                return Some(filed.number);
             }
         }
     }

@@ -1,5 +1,8 @@
 //! The terms of all givers and takers.
-ghost use Rattle.std.specs.Prelude.{◌≡◌, ◌≤◌, ◌<◌, ◌^◌, ◌&&◌, ◌++◌, ◌∷◌, ℕ, List, Option, Some, None, false, [], option_map, option_and_then, bytes_eq, OnOk, OnErr, IfSome, IsSomeAnd, IsTrue, ◌↔◌, unwrap_or, option_copied, slice_get, length, ◌==◌};
+ghost use Rattle.std.specs.Prelude.{◌≡◌, ◌≤◌, ◌<◌, ◌^◌, ◌&&◌, ◌++◌, ◌∷◌, ℕ, List, Option, Some};
+ghost use Rattle.std.specs.Prelude.{None, false, [], option_map, option_and_then, bytes_eq, OnOk};
+ghost use Rattle.std.specs.Prelude.{OnErr, IfSome, IsSomeAnd, IsTrue, ◌↔◌, unwrap_or};
+ghost use Rattle.std.specs.Prelude.{option_copied, slice_get, length, ◌==◌};
 ghost use Rattle.std.specs.Map.{lookup};
 ghost use Rattle.gu_base.specs.Limits.{highest_limit};
 ghost use Rattle.gu_base.specs.Terms.{terms_under, limit_under, used_under};
@@ -7,11 +10,12 @@ ghost use Rattle.gu_base.specs.Dealt.{leave_out};
 ghost use Rattle.gu_base.specs.declared.house.Agreement.{Agreement as AgreementData};
 ghost use Rattle.gu_fees.specs.Rows.{is_pair};
 ghost use Rattle.gu_fees.specs.Pairs.{HasRoomFor};
-ghost use Rattle.gu_fees.specs.Terms.{row_of, pair_at, last_entry, entries_in, standing_in, CanPut, CanPutAt, IsPut, IsTakenOut, IsReadied, IsReady, IsSameRow};
+ghost use Rattle.gu_fees.specs.Terms.{row_of, pair_at, last_entry, entries_in, standing_in, CanPut};
+ghost use Rattle.gu_fees.specs.Terms.{CanPutAt, IsPut, IsTakenOut, IsReadied, IsReady, IsSameRow};
 
-use crate::filing::{Filed, append, clear, kept_at, last_of};
 use crate::pair::PairTerms;
 use gu_base::{Agreement, Deed, FirmId, Memory, Number, Pair};
+use gu_sums::Filing;
 use std::alloc::Global;
 use std::collections::HashMap;
 use std::marker::Model;
@@ -23,18 +27,25 @@ pub struct Terms {
     places: HashMap<Pair, usize>,
     pairs: Vec<PairTerms>,
     /// Under the number of each entry where its pair stands.
-    entries: Vec<Filed<usize>>,
+    entries: Filing<usize, Global>,
 }
 
 impl Model for Terms {
-    ghost use Rattle.std.specs.Prelude.{◌-◌, vec_len, vec_capacity};
-    ghost use Rattle.gu_fees.specs.Terms.{TermsView, AreApart, AreFiled};
+    ghost use Rattle.gu_fees.specs.Terms.{TermsView, AreApart, AreBelow};
 
     ghost Value = { TermsView };
 
-    ghost view = { λ t. record { places = t.places.entries; pairs = t.pairs.items; entries = t.entries.items; room = vec_capacity t.entries - vec_len t.entries } };
+    ghost view = { λ t. record {
+      places = t.places.entries;
+      pairs = t.pairs.items;
+      entries = t.entries.filed;
+      room = t.entries.room;
+    } };
 
-    ghost invariant = { λ t. record { apart : AreApart t.places.entries t.pairs.items; filed : AreFiled t.pairs.items t.entries.items } };
+    ghost invariant = { λ t. record {
+      apart : AreApart t.places.entries t.pairs.items;
+      below : AreBelow t.pairs.items t.entries.filed;
+    } };
 }
 
 impl Terms {
@@ -48,11 +59,12 @@ impl Terms {
             alloc,
             places: HashMap::new(alloc),
             pairs: Vec::new(alloc),
-            entries: Vec::new(alloc),
+            entries: Filing::new(alloc),
         }
     }
 
-    /// Where the pair stands, `None` where it was never made ready. It stays there: nothing that is done to the terms moves it.
+    /// Where the pair stands, `None` where it was never made ready. It stays there: nothing that is
+    /// done to the terms moves it.
     pub fn place(&self, giver: &FirmId, taker: &FirmId) -> Option<usize>
         ensures value { result ≡ lookup (is_pair giver.now taker.now) self.now.places }
         ensures there { IfSome result (λ i. i < length self.now.pairs) }
@@ -83,14 +95,16 @@ impl Terms {
 
     /// The row of the pair that this entry is of, `None` where no entry of this number was put in.
     pub fn row_beside(&self, entry: Number) -> Option<&PairTerms>
-        ensures { option_copied result ≡ option_and_then (slice_get self.now.pairs) (pair_at self.now entry) }
+        ensures { option_copied result ≡ option_and_then (slice_get self.now.pairs)
+            (pair_at self.now entry) }
     {
-        self.row_at(kept_at(self.entries.as_slice(), entry))
+        self.row_at(self.entries.get(entry))
     }
 
     /// The terms of the pair, `None` where it has none or was never made ready.
     pub fn terms(&self, giver: &FirmId, taker: &FirmId) -> Option<Agreement>
-        ensures { result ≡ option_and_then (λ r. terms_under r.file r.dealings) (row_of self.now giver.now taker.now) }
+        ensures { result ≡ option_and_then (λ r. terms_under r.file r.dealings)
+            (row_of self.now giver.now taker.now) }
     {
         match self.row(giver, taker) {
             Some(row) => row.terms(),
@@ -98,9 +112,12 @@ impl Terms {
         }
     }
 
-    /// What a claimed lot costs the taker, `None` where the pair has no terms or was never made ready.
+    /// What a claimed lot costs the taker, `None` where the pair has no terms or was never made
+    /// ready.
     pub fn rate(&self, giver: &FirmId, taker: &FirmId) -> Option<u64>
-        ensures { result ≡ option_and_then (λ r. option_map (λ a. a.rate) (terms_under r.file r.dealings)) (row_of self.now giver.now taker.now) }
+        ensures { result ≡ option_and_then (λ r.
+            option_map (λ a. a.rate) (terms_under r.file r.dealings))
+            (row_of self.now giver.now taker.now) }
     {
         match self.terms(giver, taker) {
             Some(terms) => Some(terms.rate),
@@ -110,7 +127,8 @@ impl Terms {
 
     /// The lots that the pair may use, `None` where it has no terms or was never made ready.
     pub fn limit(&self, giver: &FirmId, taker: &FirmId) -> Option<u64>
-        ensures { result ≡ option_and_then (λ r. limit_under r.file r.dealings) (row_of self.now giver.now taker.now) }
+        ensures { result ≡ option_and_then (λ r. limit_under r.file r.dealings)
+            (row_of self.now giver.now taker.now) }
     {
         match self.row(giver, taker) {
             Some(row) => row.limit(),
@@ -120,7 +138,8 @@ impl Terms {
 
     /// The lots that the pair has used, 0 where it was never made ready.
     pub fn used(&self, giver: &FirmId, taker: &FirmId) -> u64
-        ensures { result ≡ unwrap_or (option_map (λ r. used_under r.dealings) (row_of self.now giver.now taker.now)) 0 }
+        ensures { result ≡ unwrap_or (option_map (λ r. used_under r.dealings)
+            (row_of self.now giver.now taker.now)) 0 }
     {
         match self.row(giver, taker) {
             Some(row) => row.used(),
@@ -128,8 +147,9 @@ impl Terms {
         }
     }
 
-    /// Makes room for one more entry of the pair, and its row with these terms of the house table, unless it has one. No terms change, and
-    /// nothing that is dealt. The limit of the terms is one that terms may have (`has_low_limit`).
+    /// Makes room for one more entry of the pair, and its row with these terms of the house table,
+    /// unless it has one. No terms change, and nothing that is dealt. The limit of the terms is one
+    /// that terms may have (`has_low_limit`).
     ///
     /// # Errors
     ///
@@ -143,28 +163,33 @@ impl Terms {
         requires { IfSome file (λ a. a.limit ≤ highest_limit) }
         ensures readied { IsReadied self.old self.new giver.now taker.now file }
         ensures ready { OnOk result (IsReady self.new giver.now taker.now) }
-        ensures err { OnErr result (IsSameRow (row_of self.old giver.now taker.now) (row_of self.new giver.now taker.now)) }
+        ensures err { OnErr result (IsSameRow (row_of self.old giver.now taker.now)
+            (row_of self.new giver.now taker.now)) }
     {
         match self.place(giver, taker) {
             Some(i) => self.ready_at(i),
             None => {
-                self.entries.reserve(1)?;
+                self.entries.ready()?;
                 self.add_pair(giver, taker, file)
             }
         }
     }
 
-    /// Makes room for one more entry of the pair at this place. No terms change, and nothing that is dealt.
+    /// Makes room for one more entry of the pair at this place. No terms change, and nothing that
+    /// is dealt.
     ///
     /// # Errors
     ///
     /// `Memory` where a growth was refused.
     pub fn ready_at(&mut self, place: usize) -> Result<(), Memory>
         requires { place < length self.old.pairs }
-        ensures readied { (g k : List ℕ) (file : Option AgreementData) → lookup (is_pair g k) self.old.places ≡ Some place → IsReadied self.old self.new g k file }
-        ensures ready { OnOk result ((g k : List ℕ) → lookup (is_pair g k) self.old.places ≡ Some place → IsReady self.new g k) }
+        ensures readied { (g k : List ℕ) (file : Option AgreementData)
+            → lookup (is_pair g k) self.old.places ≡ Some place
+            → IsReadied self.old self.new g k file }
+        ensures ready { OnOk result ((g k : List ℕ)
+            → lookup (is_pair g k) self.old.places ≡ Some place → IsReady self.new g k) }
     {
-        self.entries.reserve(1)?;
+        self.entries.ready()?;
         self.pairs[place].ready()
     }
 
@@ -177,10 +202,13 @@ impl Terms {
     ) -> Result<(), Memory>
         requires low { IfSome file (λ a. a.limit ≤ highest_limit) }
         requires new { lookup (is_pair giver.now taker.now) self.old.places ≡ None }
-        ensures own { OnOk result (IsSomeAnd (row_of self.new giver.now taker.now) (λ r. (r.file ≡ file) × (r.dealings ≡ []) × (1 ≤ r.room))) }
+        ensures own { OnOk result (IsSomeAnd (row_of self.new giver.now taker.now)
+            (λ r. (r.file ≡ file) × (r.dealings ≡ []) × (1 ≤ r.room))) }
         ensures err { OnErr result (row_of self.new giver.now taker.now ≡ None) }
-        ensures others { (g k : List ℕ) → (bytes_eq giver.now g && bytes_eq taker.now k) ≡ false → row_of self.new g k ≡ row_of self.old g k }
-        ensures places { (g k : List ℕ) (i : ℕ) → lookup (is_pair g k) self.old.places ≡ Some i → lookup (is_pair g k) self.new.places ≡ Some i }
+        ensures others { (g k : List ℕ) → (bytes_eq giver.now g && bytes_eq taker.now k) ≡ false
+            → row_of self.new g k ≡ row_of self.old g k }
+        ensures places { (g k : List ℕ) (i : ℕ) → lookup (is_pair g k) self.old.places ≡ Some i
+            → lookup (is_pair g k) self.new.places ≡ Some i }
         ensures entries { self.new.entries ≡ self.old.entries }
         ensures room { self.new.room ≡ self.old.room }
     {
@@ -203,8 +231,8 @@ impl Terms {
     pub fn can_put_at(&self, place: usize, entry: Number, deed: Deed) -> bool
         ensures { IsTrue result ↔ CanPutAt self.now place (record { number = entry; deed = deed }) }
     {
-        let room = self.entries.len() < self.entries.capacity();
-        let above = last_of(self.entries.as_slice()) < entry.get();
+        let room = self.entries.has_room();
+        let above = self.entries.last() < entry.get();
         match self.pairs.get(place) {
             Some(row) => room && above && row.can_put(entry, deed),
             None => false,
@@ -213,7 +241,10 @@ impl Terms {
 
     /// The same for `agree`, `raise` or `claim`.
     pub fn can_put(&self, giver: &FirmId, taker: &FirmId, entry: Number, deed: Deed) -> bool
-        ensures { IsTrue result ↔ CanPut self.now giver.now taker.now (record { number = entry; deed = deed }) }
+        ensures { IsTrue result ↔ CanPut self.now giver.now taker.now (record {
+          number = entry;
+          deed = deed;
+        }) }
     {
         match self.place(giver, taker) {
             Some(i) => self.can_put_at(i, entry, deed),
@@ -224,16 +255,20 @@ impl Terms {
     /// Puts an entry of the pair in that stands at this place and is ready. Takes no memory.
     pub fn put_at(&mut self, place: usize, entry: Number, deed: Deed)
         requires { CanPutAt self.old place (record { number = entry; deed = deed }) }
-        ensures { (g k : List ℕ) → lookup (is_pair g k) self.old.places ≡ Some place → IsPut self.old self.new g k (record { number = entry; deed = deed }) }
+        ensures { (g k : List ℕ) → lookup (is_pair g k) self.old.places ≡ Some place
+            → IsPut self.old self.new g k (record { number = entry; deed = deed }) }
     {
         put_into(&mut self.pairs, place, entry, deed);
-        append(&mut self.entries, entry, place);
+        self.entries.file(entry, place);
     }
 
     /// Puts an entry of the pair in, which is ready. Takes no memory.
     fn put(&mut self, giver: &FirmId, taker: &FirmId, entry: Number, deed: Deed)
         requires { CanPut self.old giver.now taker.now (record { number = entry; deed = deed }) }
-        ensures { IsPut self.old self.new giver.now taker.now (record { number = entry; deed = deed }) }
+        ensures { IsPut self.old self.new giver.now taker.now (record {
+          number = entry;
+          deed = deed;
+        }) }
     {
         if let Some(i) = self.place(giver, taker) {
             self.put_at(i, entry, deed);
@@ -242,24 +277,42 @@ impl Terms {
 
     /// Puts the Agree of this number in: the pair has these terms. Takes no memory.
     pub fn agree(&mut self, giver: &FirmId, taker: &FirmId, entry: Number, terms: Agreement)
-        requires { CanPut self.old giver.now taker.now (record { number = entry; deed = Deed.Makes terms }) }
-        ensures { IsPut self.old self.new giver.now taker.now (record { number = entry; deed = Deed.Makes terms }) }
+        requires { CanPut self.old giver.now taker.now (record {
+          number = entry;
+          deed = Deed.Makes terms;
+        }) }
+        ensures { IsPut self.old self.new giver.now taker.now (record {
+          number = entry;
+          deed = Deed.Makes terms;
+        }) }
     {
         self.put(giver, taker, entry, Deed::Makes(terms));
     }
 
     /// Puts the Raise of this number in: the limit of the pair is so much higher. Takes no memory.
     pub fn raise(&mut self, giver: &FirmId, taker: &FirmId, entry: Number, lots: u64)
-        requires { CanPut self.old giver.now taker.now (record { number = entry; deed = Deed.Raises lots }) }
-        ensures { IsPut self.old self.new giver.now taker.now (record { number = entry; deed = Deed.Raises lots }) }
+        requires { CanPut self.old giver.now taker.now (record {
+          number = entry;
+          deed = Deed.Raises lots;
+        }) }
+        ensures { IsPut self.old self.new giver.now taker.now (record {
+          number = entry;
+          deed = Deed.Raises lots;
+        }) }
     {
         self.put(giver, taker, entry, Deed::Raises(lots));
     }
 
     /// Puts the Claim of this number in: the pair has used so much more. Takes no memory.
     pub fn claim(&mut self, giver: &FirmId, taker: &FirmId, entry: Number, lots: u64)
-        requires { CanPut self.old giver.now taker.now (record { number = entry; deed = Deed.Uses lots }) }
-        ensures { IsPut self.old self.new giver.now taker.now (record { number = entry; deed = Deed.Uses lots }) }
+        requires { CanPut self.old giver.now taker.now (record {
+          number = entry;
+          deed = Deed.Uses lots;
+        }) }
+        ensures { IsPut self.old self.new giver.now taker.now (record {
+          number = entry;
+          deed = Deed.Uses lots;
+        }) }
     {
         self.put(giver, taker, entry, Deed::Uses(lots));
     }
@@ -268,14 +321,16 @@ impl Terms {
     pub fn take_out(&mut self, entry: Number)
         ensures { IsTakenOut self.old self.new entry }
     {
-        if let Some(i) = clear(&mut self.entries, entry) {
+        if let Some(i) = self.entries.take(entry) {
             take_from(&mut self.pairs, i, entry);
         }
     }
 
-    /// How many entries the giver and the taker of this one have, itself with them; 0 where no entry of this number was put in. It walks over none.
+    /// How many entries the giver and the taker of this one have, itself with them; 0 where no
+    /// entry of this number was put in. It walks over none.
     pub fn entries_beside(&self, entry: Number) -> usize
-        ensures value { result ≡ unwrap_or (option_map (λ i. entries_in self.now.pairs i) (pair_at self.now entry)) 0 }
+        ensures value { result ≡ unwrap_or (option_map (λ i. entries_in self.now.pairs i)
+            (pair_at self.now entry)) 0 }
         ensures fits { result < 2 ^ 63 }
     {
         match self.row_beside(entry) {
@@ -284,9 +339,11 @@ impl Terms {
         }
     }
 
-    /// The first entry that stands on the one of this number, of those of its giver and taker; `None` where no entry of this number was put in.
+    /// The first entry that stands on the one of this number, of those of its giver and taker;
+    /// `None` where no entry of this number was put in.
     pub fn first_standing(&self, entry: Number) -> Option<Number>
-        ensures { result ≡ option_and_then (λ i. standing_in self.now.pairs i entry) (pair_at self.now entry) }
+        ensures { result ≡ option_and_then (λ i. standing_in self.now.pairs i entry)
+            (pair_at self.now entry) }
     {
         match self.row_beside(entry) {
             Some(row) => row.first_standing(entry),
@@ -297,11 +354,15 @@ impl Terms {
 
 /// Puts the entry into the pair at this place, which is ready.
 fn put_into(pairs: &mut Vec<PairTerms>, i: usize, entry: Number, deed: Deed)
-    requires { IsSomeAnd (slice_get pairs.old.items i) (λ r. (1 ≤ r.room) × (r.last < entry) × HasRoomFor r.dealings deed) }
+    requires { IsSomeAnd (slice_get pairs.old.items i) (λ r. (1 ≤ r.room) × (r.last < entry)
+        × HasRoomFor r.dealings deed) }
     ensures len { length pairs.new.items ≡ length pairs.old.items }
-    ensures own { IsSomeAnd (slice_get pairs.old.items i) (λ r. IsSomeAnd (slice_get pairs.new.items i) (λ q. (q.file ≡ r.file) × (q.dealings ≡ r.dealings ++ record { number = entry; deed = deed } ∷ []))) }
+    ensures own { IsSomeAnd (slice_get pairs.old.items i)
+        (λ r. IsSomeAnd (slice_get pairs.new.items i) (λ q. (q.file ≡ r.file)
+        × (q.dealings ≡ r.dealings ++ record { number = entry; deed = deed } ∷ []))) }
     ensures last { IfSome (slice_get pairs.new.items i) (λ q. q.last ≡ entry) }
-    ensures others { (j : ℕ) → (j == i) ≡ false → slice_get pairs.new.items j ≡ slice_get pairs.old.items j }
+    ensures others { (j : ℕ) → (j == i) ≡ false
+        → slice_get pairs.new.items j ≡ slice_get pairs.old.items j }
 {
     pairs[i].put(entry, deed);
 }
@@ -309,9 +370,13 @@ fn put_into(pairs: &mut Vec<PairTerms>, i: usize, entry: Number, deed: Deed)
 /// Takes the entry out of the pair at this place, if there is one.
 fn take_from(pairs: &mut Vec<PairTerms>, i: usize, entry: Number)
     ensures len { length pairs.new.items ≡ length pairs.old.items }
-    ensures own { IfSome (slice_get pairs.old.items i) (λ r. IsSomeAnd (slice_get pairs.new.items i) (λ q. (q.file ≡ r.file) × (q.dealings ≡ leave_out entry r.dealings))) }
-    ensures last { IfSome (slice_get pairs.old.items i) (λ r. IfSome (slice_get pairs.new.items i) (λ q. q.last ≤ r.last)) }
-    ensures others { (j : ℕ) → (j == i) ≡ false → slice_get pairs.new.items j ≡ slice_get pairs.old.items j }
+    ensures own { IfSome (slice_get pairs.old.items i)
+        (λ r. IsSomeAnd (slice_get pairs.new.items i) (λ q. (q.file ≡ r.file)
+        × (q.dealings ≡ leave_out entry r.dealings))) }
+    ensures last { IfSome (slice_get pairs.old.items i)
+        (λ r. IfSome (slice_get pairs.new.items i) (λ q. q.last ≤ r.last)) }
+    ensures others { (j : ℕ) → (j == i) ≡ false
+        → slice_get pairs.new.items j ≡ slice_get pairs.old.items j }
 {
     if i < pairs.len() {
         pairs[i].take_out(entry);

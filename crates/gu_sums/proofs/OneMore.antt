@@ -14,14 +14,17 @@ pub sum_one_more : {X : Type 0} (w : X → ℕ) (takes : X → Bool) (before : L
     → sum_by w (filter takes (before ++ x ∷ after)) ≡ sum_by w (filter takes (before ++ after)) + cond (takes x) (w x) 0
 sum_one_more w takes [] x after = omega (arith, sum_kept w (takes x) x (filter takes after))
 sum_one_more w takes (y ∷ before) x after =
-    both w (takes y) y (filter takes (before ++ x ∷ after)) (filter takes (before ++ after)) (cond (takes x) (w x) 0) (sum_one_more w takes before x after)
+    both w (takes y) y (filter takes (before ++ x ∷ after)) (filter takes (before ++ after)) (cond (takes x) (w x) 0)
+    (sum_one_more w takes before x after)
 
 -- what a number that grew by it is the sum of
-pub more_sum : {X : Type 0} (w : X → ℕ) (takes : X → Bool) (before : List X) (x : X) (after : List X) (old new : ℕ) → new ≡ old + cond (takes x) (w x) 0
+pub more_sum : {X : Type 0} (w : X → ℕ) (takes : X → Bool) (before : List X) (x : X) (after : List X) (old new : ℕ)
+    → new ≡ old + cond (takes x) (w x) 0
     → old ≡ sum_by w (filter takes (before ++ after)) → new ≡ sum_by w (filter takes (before ++ x ∷ after))
 more_sum w takes before x after old new grown is = omega (arith, grown, is, sum_one_more w takes before x after)
 
 -- what a number that shrank by it is the sum of
-pub less_sum : {X : Type 0} (w : X → ℕ) (takes : X → Bool) (before : List X) (x : X) (after : List X) (old new : ℕ) → new + cond (takes x) (w x) 0 ≡ old
+pub less_sum : {X : Type 0} (w : X → ℕ) (takes : X → Bool) (before : List X) (x : X) (after : List X) (old new : ℕ)
+    → new + cond (takes x) (w x) 0 ≡ old
     → old ≡ sum_by w (filter takes (before ++ x ∷ after)) → new ≡ sum_by w (filter takes (before ++ after))
 less_sum w takes before x after old new shrunk is = omega (arith, shrunk, is, sum_one_more w takes before x after)

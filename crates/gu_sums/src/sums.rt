@@ -55,7 +55,8 @@ impl<K: Eq + Hash> Sums<K> {
     /// Adds to the number at a key that has a row, and room for so much (`can_add`).
     pub fn add(&mut self, key: &K, by: u64)
         requires { CanAdd (K.eq key.now) self.old by }
-        ensures added { (q : K) → number_at (K.eq q) self.new ≡ number_at (K.eq q) self.old + cond (K.eq key.now q) by 0 }
+        ensures added { (q : K) → number_at (K.eq q) self.new ≡ number_at (K.eq q) self.old
+            + cond (K.eq key.now q) by 0 }
         ensures stays_ready { (q : K) → has_row (K.eq q) self.new ≡ has_row (K.eq q) self.old }
     {
         if let Some(number) = self.rows.get_mut(key) {
@@ -66,7 +67,8 @@ impl<K: Eq + Hash> Sums<K> {
     /// Takes from the number at a key no more than is there.
     pub fn take(&mut self, key: &K, by: u64)
         requires { by ≤ number_at (K.eq key.now) self.old }
-        ensures taken { (q : K) → number_at (K.eq q) self.new + cond (K.eq key.now q) by 0 ≡ number_at (K.eq q) self.old }
+        ensures taken { (q : K) → number_at (K.eq q) self.new + cond (K.eq key.now q) by 0
+            ≡ number_at (K.eq q) self.old }
         ensures stays_ready { (q : K) → has_row (K.eq q) self.new ≡ has_row (K.eq q) self.old }
     {
         if let Some(number) = self.rows.get_mut(key) {
@@ -80,7 +82,8 @@ impl<K: Eq + Hash + Copy + Drop> Sums<K> {
     pub fn ready(&mut self, key: &K) -> Result<(), Memory>
         ensures ready { OnOk result (IsTrue (has_row (K.eq key.now) self.new)) }
         ensures same { (q : K) → number_at (K.eq q) self.new ≡ number_at (K.eq q) self.old }
-        ensures stays_ready { (q : K) → IsTrue (has_row (K.eq q) self.old) → IsTrue (has_row (K.eq q) self.new) }
+        ensures stays_ready { (q : K) → IsTrue (has_row (K.eq q) self.old)
+            → IsTrue (has_row (K.eq q) self.new) }
     {
         if !self.rows.contains_key(key) {
             self.rows.insert(*key, 0)?;
@@ -88,16 +91,20 @@ impl<K: Eq + Hash + Copy + Drop> Sums<K> {
         Ok(())
     }
 
-    /// Adds to the number at a key, and makes its row where there is none. One look finds a row that is there.
+    /// Adds to the number at a key, and makes its row where there is none. One look finds a row
+    /// that is there.
     ///
     /// # Errors
     ///
     /// `Memory` where a row was wanted. No number has changed then.
     pub fn put(&mut self, key: &K, by: u64) -> Result<(), Memory>
         requires { number_at (K.eq key.now) self.old + by < 2 ^ 64 }
-        ensures added { OnOk result ((q : K) → number_at (K.eq q) self.new ≡ number_at (K.eq q) self.old + cond (K.eq key.now q) by 0) }
-        ensures same { OnErr result ((q : K) → number_at (K.eq q) self.new ≡ number_at (K.eq q) self.old) }
-        ensures stays_ready { (q : K) → IsTrue (has_row (K.eq q) self.old) → IsTrue (has_row (K.eq q) self.new) }
+        ensures added { OnOk result ((q : K) → number_at (K.eq q) self.new
+            ≡ number_at (K.eq q) self.old + cond (K.eq key.now q) by 0) }
+        ensures same { OnErr result ((q : K) → number_at (K.eq q) self.new
+            ≡ number_at (K.eq q) self.old) }
+        ensures stays_ready { (q : K) → IsTrue (has_row (K.eq q) self.old)
+            → IsTrue (has_row (K.eq q) self.new) }
     {
         if let Some(sum) = self.rows.get_mut(key) {
             *sum += by;

@@ -13,7 +13,8 @@ use Rattle.gu_tree.specs.Grove.{Grove, tree_of, place_of}
 abbrev pub change_of : List Record → ℕ → Option Record
 change_of l k = find (λ r. r.number == k) l
 
--- the node that a change of this number made or named: a Trade its root, a Split or a decision the node that it names
+-- the node that a change of this number made or named: a Trade its root, a Split or a decision the
+-- node that it names
 abbrev pub named_place : ℕ → Command → Option EntryPart
 named_place k (Trade _ _ _ _ _) = Some (record { entry = k; part = 0 })
 named_place k command = named_node command
@@ -27,8 +28,8 @@ abbrev pub IsTreeIn : List Record → ℕ → Option Rose → Type 0
 IsTreeIn l trade None = node_of l (record { entry = trade; part = 0 }) ≡ None
 IsTreeIn l trade (Some t) = IsTreeOf l trade t
 
--- each trade of the list has a tree, which shows it, and each change has the node that it made or named as its place; there are
--- no other trees and no other places
+-- each trade of the list has a tree, which shows it, and each change has the node that it made or
+-- named as its place; there are no other trees and no other places
 pub record ShowsAll (l : List Record) (g : Grove) : Type 0 where
   pub trees : (trade : ℕ) → IsTreeIn l trade (tree_of g trade)
   pub places : (entry : ℕ) → place_of g entry ≡ place_in l entry

@@ -1,4 +1,5 @@
-//! Growths of the trees of all trades that are refused in one heap after another, until one has room for a trade, its split and a claim.
+//! Growths of the trees of all trades that are refused in one heap after another, until one has
+//! room for a trade, its split and a claim.
 
 use crate::trees::{Accounts, given_part, root};
 use gu_base::Number;
@@ -31,7 +32,8 @@ enum Reached {
     Changed,
 }
 
-/// How many of the entries of the trade, its split and the claim have a place, where each has one if the entry before has.
+/// How many of the entries of the trade, its split and the claim have a place, where each has one
+/// if the entry before has.
 fn placed<A: Allocator + Clone>(trees: &Trees<A>) -> usize {
     for place in 0..3 {
         if trees.place(Number::at_place(place)).is_none() {
@@ -77,7 +79,8 @@ fn make<'a>(
     }
 }
 
-/// Makes a change where so many entries have a place. How far that came, `None` where the change was made.
+/// Makes a change where so many entries have a place. How far that came, `None` where the change
+/// was made.
 fn step<'a>(
     alloc: Global,
     heap: &'a LocalHeap,
@@ -127,8 +130,8 @@ fn in_heap(alloc: Global, accounts: &Accounts, size: usize) -> Reached {
     run(alloc, &heap, &mut trees, accounts)
 }
 
-/// Writes whether the trade and the split were refused in some heap, that no refusal changed anything, and that a larger heap has room
-/// for all.
+/// Writes whether the trade and the split were refused in some heap, that no refusal changed
+/// anything, and that a larger heap has room for all.
 pub(crate) fn tell(rt: &impl Print, alloc: Global, accounts: &Accounts) {
     let mut trade_refused = false;
     let mut split_refused = false;

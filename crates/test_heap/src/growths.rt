@@ -1,4 +1,5 @@
-//! Calls that grow by an allocator of their own, refused in one heap after another until one has room.
+//! Calls that grow by an allocator of their own, refused in one heap after another until one has
+//! room.
 
 use crate::trees::{Accounts, has_rows, split_in_five, split_in_two, trade};
 use gu_base::Memory;
@@ -68,7 +69,8 @@ fn in_heap(alloc: Global, size: usize, tree: &Tree<Global>, call: Call, wanted: 
     }
 }
 
-/// What comes of the call in the least heap in which it isn't refused, and the size of that heap. `rows` are the tree's.
+/// What comes of the call in the least heap in which it isn't refused, and the size of that heap.
+/// `rows` are the tree's.
 fn least(
     alloc: Global,
     tree: &Tree<Global>,

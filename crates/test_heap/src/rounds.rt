@@ -11,7 +11,8 @@ use test_splits::{Undo, take_back};
 /// How often the splits are made and taken back.
 const ROUNDS: u32 = 10;
 
-/// Splits the trade and its part of 60 lots, and takes both Splits back: whether all of it was done.
+/// Splits the trade and its part of 60 lots, and takes both Splits back: whether all of it was
+/// done.
 fn is_round<A: Allocator + Clone>(tree: &mut Tree<A>, accounts: &Accounts) -> bool {
     split_in_two(tree, accounts).is_done()
         && split_in_five(tree, accounts).is_done()
@@ -49,7 +50,8 @@ fn tell_rounds(rt: &impl Print, size: usize, done: u32) {
     say_line(rt, " rounds")
 }
 
-/// Writes the least heap in which a round is done, and how many are done there: all, since what a round takes, it leaves to the next.
+/// Writes the least heap in which a round is done, and how many are done there: all, since what a
+/// round takes, it leaves to the next.
 pub(crate) fn tell(rt: &impl Print, alloc: Global, accounts: &Accounts) {
     for steps in 1..1000 {
         let size = 16 * steps;

@@ -1,4 +1,5 @@
-//! A copy that finds no room, and changes that need none, in heaps that have room for a split into two parts.
+//! A copy that finds no room, and changes that need none, in heaps that have room for a split into
+//! two parts.
 
 use crate::splits::least_heap;
 use crate::trees::{Accounts, give_up, given_part, has_rows, root, split_in_hundred, trade};
@@ -48,7 +49,8 @@ fn make<A: Allocator + Clone>(tree: &mut Tree<A>, accounts: &Accounts, change: C
     }
 }
 
-/// Whether a new heap of this size takes a copy of the tree, and whether it is used as before once the copy is dropped.
+/// Whether a new heap of this size takes a copy of the tree, and whether it is used as before once
+/// the copy is dropped.
 fn copy_into_heap(alloc: Global, tree: &Tree<Global>, size: usize) -> (bool, bool) {
     let Ok(heap) = LocalHeap::new(alloc, size) else {
         return (false, false);
@@ -110,7 +112,8 @@ fn tell_each<A: Allocator + Clone>(
     }
 }
 
-/// Writes what comes of a split that gives up a part, of the changes behind it, and how many rows are left.
+/// Writes what comes of a split that gives up a part, of the changes behind it, and how many rows
+/// are left.
 fn tell_changes<A: Allocator + Clone>(
     rt: &impl Print,
     alloc: Global,
@@ -137,7 +140,8 @@ fn tell_in_heap(rt: &impl Print, alloc: Global, accounts: &Accounts, size: usize
     tell_changes(rt, alloc, &heap, &mut tree, accounts)
 }
 
-/// Writes what comes of the copy and of the changes in heaps of the least size for a split into two.
+/// Writes what comes of the copy and of the changes in heaps of the least size for a split into
+/// two.
 pub(crate) fn tell(rt: &impl Print, alloc: Global, accounts: &Accounts) {
     let Some(size) = least_heap(alloc, accounts) else {
         return say_line(rt, "no heap takes a split into 2");

@@ -12,8 +12,8 @@ use test_splits::Outcome;
 use test_splits::trees::{decide, plant, split, take_back, uproot};
 use test_splits::words::say_line;
 
-/// Writes the place of an entry that has one: the entry, the node that it named, how deep that lies in which trade, and the first change
-/// that stands on the entry.
+/// Writes the place of an entry that has one: the entry, the node that it named, how deep that lies
+/// in which trade, and the first change that stands on the entry.
 fn show_place(
     rt: &impl Print,
     trees: &Trees<Global>,

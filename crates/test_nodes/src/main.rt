@@ -1,17 +1,21 @@
-//! The tree of a trade, and the trees of some, change by change, and running sums. Input and output are data: the files `stdin`
-//! and `stdout` beside `src/`.
+//! The tree of a trade, and the trees of some, change by change, and running sums. Input and output
+//! are data: the files `stdin` and `stdout` beside `src/`.
 //!
 //! A line of standard input is a name for what follows (`# ..`, written again), or
 //! - `trade LOTS`: a new tree, of the trade 1 of so many lots into AAA/A1;
-//! - a change: `split NODE ENTRY LOTS/FIRM/ACCOUNT ..`, `claim NODE ENTRY FIRM/ACCOUNT`, `refuse NODE ENTRY`, `cancel NODE ENTRY`;
+//! - a change: `split NODE ENTRY LOTS/FIRM/ACCOUNT ..`, `claim NODE ENTRY FIRM/ACCOUNT`,
+//!   `refuse NODE ENTRY`, `cancel NODE ENTRY`;
 //! - a change that is taken back at its node: `unsplit NODE`, `unclaim NODE`, `offer NODE`;
 //! - a question: `? rows`, `? leaves`, `? copy`, `? node NODE`, `? entry ENTRY`;
-//! - `in ..`: one of these changes among the trees of all trades; `in plant ENTRY LOTS`, a tree more, and `in uproot ENTRY`; `in places`, the
-//!   node that each entry up to 12 has as its place, and what stands on the entry.
+//! - `in ..`: one of these changes among the trees of all trades; `in plant ENTRY LOTS`, a tree
+//!   more, and `in uproot ENTRY`; `in places`, the node that each entry up to 12 has as its place,
+//!   and what stands on the entry.
 //!
-//! Of each change the program writes whether all that it asks for held, and it was made. A row is its depth, the node, its lots, the
-//! account in which it stands, its state, the firm to which it was given, and the entry that decided it. At last it writes what commands of each
-//! kind touch, the place of a trade in the trees of a book, and what becomes of sums, fees, positions and terms.
+//! Of each change the program writes whether all that it asks for held, and it was made. A row is
+//! its depth, the node, its lots, the account in which it stands, its state, the firm to which it
+//! was given, and the entry that decided it. At last it writes what commands of each kind touch,
+//! the place of a trade in the trees of a book, and what becomes of sums, fees, positions and
+//! terms.
 #![tactic(auto)]
 
 mod changes;

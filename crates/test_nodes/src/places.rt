@@ -1,4 +1,5 @@
-//! What a change touches, the place of a trade in the trees of a book, and what stands on an agreement.
+//! What a change touches, the place of a trade in the trees of a book, and what stands on an
+//! agreement.
 
 use crate::shown::show;
 use crate::words::place_of;
@@ -119,7 +120,8 @@ fn put(terms: &mut Terms, giver: &FirmId, taker: &FirmId, entry: Number, deed: D
     true
 }
 
-/// Puts an agreement of no lots in, a raise by 10, and a claim of 5 that needs the raise: entries 1 to 3. Whether they could be.
+/// Puts an agreement of no lots in, a raise by 10, and a claim of 5 that needs the raise: entries 1
+/// to 3. Whether they could be.
 fn put_three(terms: &mut Terms, giver: &FirmId, taker: &FirmId) -> bool {
     let made = Agreement { rate: 50, limit: 0 };
     put(terms, giver, taker, Number::at_place(0), Deed::Makes(made))
@@ -127,7 +129,8 @@ fn put_three(terms: &mut Terms, giver: &FirmId, taker: &FirmId) -> bool {
         && put(terms, giver, taker, Number::at_place(2), Deed::Uses(5))
 }
 
-/// Writes what stands on an agreement, on a raise, and on a claim that needs the raise, and then without the claim.
+/// Writes what stands on an agreement, on a raise, and on a claim that needs the raise, and then
+/// without the claim.
 fn tell_standing(
     rt: &impl Print,
     trees: &Trees<Global>,
@@ -161,7 +164,8 @@ fn tell_agreed(rt: &impl Print, alloc: Global, giver: &FirmId, taker: &FirmId) {
     tell_standing(rt, &trees, &mut terms, giver, taker)
 }
 
-/// Writes what each kind of command touches, then the place of a trade, and what stands on an agreement.
+/// Writes what each kind of command touches, then the place of a trade, and what stands on an
+/// agreement.
 pub(crate) fn tell(rt: &impl Print, alloc: Global) {
     let (Some(into), Some(node), Some(instrument), Some(taker)) = (
         place_of("AAA/A1"),

@@ -1,6 +1,7 @@
 //! Running sums, and the fees, positions and terms that are kept as such.
 //!
-//! Memory is ample here, so each row is made ready; then what was added, and what was taken again, is written.
+//! Memory is ample here, so each row is made ready; then what was added, and what was taken again,
+//! is written.
 
 mod agreements;
 

@@ -1,5 +1,6 @@
-//! The changes of a tree's node and their undo, each made where all that it asks for holds, for the programs that change trees (`test_nodes`,
-//! `test_heap`); in `trees` the same among the trees of all trades, and in `words` what the programs write.
+//! The changes of a tree's node and their undo, each made where all that it asks for holds, for the
+//! programs that change trees (`test_nodes`, `test_heap`); in `trees` the same among the trees of
+//! all trades, and in `words` what the programs write.
 //!
 //! It has no cases of its own: those of the two programs try it.
 #![tactic(auto)]

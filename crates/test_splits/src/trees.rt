@@ -1,4 +1,5 @@
-//! The changes of the trees of all trades and their undo, each made where all that it asks for holds.
+//! The changes of the trees of all trades and their undo, each made where all that it asks for
+//! holds.
 
 use crate::{Decision, Outcome, Undo};
 use gu_base::{NodeName, Number, Part, Place, State};

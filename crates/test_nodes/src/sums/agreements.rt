@@ -35,7 +35,8 @@ fn seen(terms: &Terms, giver: &FirmId, taker: &FirmId) -> (Option<u64>, Option<u
     )
 }
 
-/// Makes a pair ready. Where memory lacks, nothing that is seen may have changed, and it is made ready once more.
+/// Makes a pair ready. Where memory lacks, nothing that is seen may have changed, and it is made
+/// ready once more.
 fn make_ready(terms: &mut Terms, giver: &FirmId, taker: &FirmId) -> bool {
     let before = seen(terms, giver, taker);
     match terms.ready(giver, taker, None) {
@@ -77,8 +78,8 @@ fn put_entries(terms: &mut Terms, giver: &FirmId, taker: &FirmId, entries: &[(u3
     true
 }
 
-/// Puts a Claim of 60 lots of a pair in that stands somewhere, by its place: one look for both steps. Says whether it
-/// was put in.
+/// Puts a Claim of 60 lots of a pair in that stands somewhere, by its place: one look for both
+/// steps. Says whether it was put in.
 fn put_claim_there(terms: &mut Terms, giver: &FirmId, taker: &FirmId, entry: Number) -> bool {
     let Some(place) = terms.place(giver, taker) else {
         return false;
@@ -121,8 +122,8 @@ fn take_out(terms: &mut Terms, entries: &[u32]) {
     }
 }
 
-/// Writes the limit of a pair, what it has used, what stands on entries 1 and 4, and how many entries stand beside 1
-/// and 8.
+/// Writes the limit of a pair, what it has used, what stands on entries 1 and 4, and how many
+/// entries stand beside 1 and 8.
 fn tell_pair(rt: &impl Print, terms: &Terms, when: &str, giver: &FirmId, taker: &FirmId) -> bool {
     let said = [
         (": limit ", terms.limit(giver, taker).unwrap_or(0)),
@@ -164,7 +165,8 @@ fn tell_taken(rt: &impl Print, terms: &mut Terms, giver: &FirmId, taker: &FirmId
     true
 }
 
-/// Writes what becomes of a pair that is dealt under its terms, and of the pair the other way round.
+/// Writes what becomes of a pair that is dealt under its terms, and of the pair the other way
+/// round.
 fn tell_dealt(rt: &impl Print, terms: &mut Terms, giver: &FirmId, taker: &FirmId) -> bool {
     put_all(terms, giver, taker)
         && tell_pair(rt, terms, "raised and used", giver, taker)
@@ -173,8 +175,8 @@ fn tell_dealt(rt: &impl Print, terms: &mut Terms, giver: &FirmId, taker: &FirmId
         && tell_pair(rt, terms, "the other way round", taker, giver)
 }
 
-/// Writes what becomes of terms that are made by 1, used by 3 and raised by 4, so that 5 and 6 can use more, and of
-/// which 5, 6 and 4 are taken out.
+/// Writes what becomes of terms that are made by 1, used by 3 and raised by 4, so that 5 and 6 can
+/// use more, and of which 5, 6 and 4 are taken out.
 /// Whether all went well.
 pub fn tell_terms(rt: &impl Print, alloc: Global, giver: &FirmId, taker: &FirmId) -> bool {
     let mut terms = Terms::new(alloc);

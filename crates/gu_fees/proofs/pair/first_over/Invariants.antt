@@ -1,12 +1,14 @@
 use Rattle.std.proofs.Common.{◌≡◌, ◌+◌, ◌<◌, ◌^◌, drop}
 use Rattle.gu_base.specs.Terms.{raised_under, used_under}
 use Rattle.gu_base.specs.Dealt.{leave_out, first_over}
-use Rattle.gu_fees.specs.Pairs.{dealings_kept}
+use Rattle.gu_sums.specs.Filed.{kept_in}
+use Rattle.gu_fees.specs.Pairs.{dealings_of}
 use Rattle.gu_fees.proofs.pair.first_over.Given as goal
 
 abbrev pub invariant-loop-filed : goal.invariant-loop-filed
 invariant-loop-filed l = record {
-  same : first_over l.limit l.used (leave_out l.entry (dealings_kept (drop l.filed-index l.deeds))) ≡ first_over l.initial.limit 0 (leave_out l.entry (dealings_kept l.deeds));
-  limit : l.limit + raised_under (dealings_kept (drop l.filed-index l.deeds)) < 2 ^ 64;
-  used : l.used + used_under (dealings_kept (drop l.filed-index l.deeds)) < 2 ^ 64;
+  same : first_over l.limit l.used (leave_out l.entry (dealings_of (kept_in (drop l.filed-index l.deeds))))
+      ≡ first_over l.initial.limit 0 (leave_out l.entry (dealings_of (kept_in l.deeds)));
+  limit : l.limit + raised_under (dealings_of (kept_in (drop l.filed-index l.deeds))) < 2 ^ 64;
+  used : l.used + used_under (dealings_of (kept_in (drop l.filed-index l.deeds))) < 2 ^ 64;
 }

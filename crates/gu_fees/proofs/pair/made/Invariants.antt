@@ -1,7 +1,9 @@
 use Rattle.std.proofs.Common.{◌≡◌, drop}
 use Rattle.gu_base.specs.Terms.{made_in}
-use Rattle.gu_fees.specs.Pairs.{dealings_kept}
+use Rattle.gu_sums.specs.Filed.{kept_in}
+use Rattle.gu_fees.specs.Pairs.{dealings_of}
 use Rattle.gu_fees.proofs.pair.made.Given as goal
 
 abbrev pub invariant-loop-filed : goal.invariant-loop-filed
-invariant-loop-filed l = made_in (dealings_kept (drop l.filed-index l.deeds)) ≡ made_in (dealings_kept l.deeds)
+invariant-loop-filed l =
+    made_in (dealings_of (kept_in (drop l.filed-index l.deeds))) ≡ made_in (dealings_of (kept_in l.deeds))

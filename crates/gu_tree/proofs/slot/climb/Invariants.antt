@@ -4,12 +4,12 @@ use Rattle.gu_tree.proofs.Groves.{IsOnWay}
 use Rattle.gu_tree.proofs.slot.climb.Given as goal
 
 abbrev pub invariant-loop-first : goal.invariant-loop-first
-invariant-loop-first l =
+invariant-loop-first g l =
     record {
-      way : IsOnWay l.slots l.fn.node l.node (turned (drop l.first l.steps));
+      way : IsOnWay l.slots.filed l.fn.node l.node (turned (drop l.first l.steps));
       cells : length l.steps ≡ 64;
       within : l.first ≤ 64;
     }
 
 abbrev pub decreases-loop-first : goal.decreases-loop-first
-decreases-loop-first l = l.node.entry
+decreases-loop-first g l = l.node.entry

@@ -1,10 +1,8 @@
-use Rattle.std.proofs.Common.{ℕ, ◌≡◌, ◌+◌, ◌&&◌, arith, bytes_eq, rules}
+use Rattle.std.proofs.Common.{ℕ, ◌≡◌, ◌+◌, arith, rules}
 use Rattle.std.specs.Prelude.{OnErr, Result, Ok, Err}
 use Rattle.gu_base.specs.declared.node.Charge.{Charge}
-use Rattle.gu_sums.proofs.OneMore.{more_sum}
-use Rattle.gu_fees.specs.Sums.{cost}
 use Rattle.gu_base.proofs.Basics.{still_true}
-use Rattle.gu_fees.proofs.Ready.{stay_ready}
+use Rattle.gu_fees.proofs.Charges.{stay_ready, sums_more}
 use Rattle.gu_fees.proofs.fees.Fees.put.Goals as goal
 
 -- what was added and taken out again changes nothing
@@ -16,47 +14,57 @@ on_err (Ok x) p = tt
 on_err (Err e) p = p
 
 pub returns-in_err-put-clause-same_paid : goal.returns-in_err-put-clause-same_paid
-returns-in_err-put-clause-same_paid c = on_err c.from_residual.result (rw (← c.self.view_is) (λ firm. c.in_err-put.ensures.same firm))
+returns-in_err-put-clause-same_paid c =
+    on_err c.from_residual.result (rw (← c.self.view_is) (λ firm. c.in_err-put.ensures.same firm))
 
 pub returns-in-Err-clause-same_paid : goal.returns-in-Err-clause-same_paid
-returns-in-Err-clause-same_paid c = rw (← c.self.view_is) (λ firm. back _ _ _ _ (c.in_ok-put.ensures.added firm) (c.take.ensures.taken firm))
+returns-in-Err-clause-same_paid c =
+    rw (← c.self.view_is) (λ firm. back _ _ _ _ (c.in_ok-put.ensures.added firm) (c.take.ensures.taken firm))
 
 pub returns-in-Err-clause-same_received : goal.returns-in-Err-clause-same_received
 returns-in-Err-clause-same_received c = rw (← c.self.view_is) (λ firm. c.in-Err.ensures.same firm)
 
 pub returns-in-Err-put-clause-same_paid : goal.returns-in-Err-put-clause-same_paid
-returns-in-Err-put-clause-same_paid c = rw (← c.self.view_is) (λ firm. back _ _ _ _ (c.in_ok-put.ensures.added firm) (c.take-in-Err-put-2.ensures.taken firm))
+returns-in-Err-put-clause-same_paid c = rw (← c.self.view_is)
+    (λ firm. back _ _ _ _ (c.in_ok-put.ensures.added firm) (c.take-in-Err-put-2.ensures.taken firm))
 
 pub returns-in-Err-put-clause-same_received : goal.returns-in-Err-put-clause-same_received
-returns-in-Err-put-clause-same_received c = rw (← c.self.view_is) (λ firm. back _ _ _ _ (c.in_default.ensures.added firm) (c.take-in-Err-put.ensures.taken firm))
+returns-in-Err-put-clause-same_received c = rw (← c.self.view_is)
+    (λ firm. back _ _ _ _ (c.in_default.ensures.added firm) (c.take-in-Err-put.ensures.taken firm))
 
 pub returns-in-Err-put-clause-same_used : goal.returns-in-Err-put-clause-same_used
-returns-in-Err-put-clause-same_used c = rw (← c.self.view_is) (λ g t. c.in-Err-put.ensures.same (record { giver = g; taker = t }))
+returns-in-Err-put-clause-same_used c =
+    rw (← c.self.view_is) (λ g t. c.in-Err-put.ensures.same (record { giver = g; taker = t }))
 
 pub returns-clause-sums : goal.returns-clause-sums
-returns-clause-sums c = λ before after are.
-    let x : Charge = record { giver = c.args.giver.now; taker = c.args.taker.now; lots = c.args.lots; rate = c.args.rate } in
-    let was = rw (← c.self.view_is) at are in
-    record {
-      paid = λ firm. more_sum cost (λ k. bytes_eq k.taker firm) before x after _ _ (c.in_ok-put.ensures.added firm) (was.paid firm);
-      received = λ firm. more_sum cost (λ k. bytes_eq k.giver firm) before x after _ _ (c.in_default.ensures.added firm) (was.received firm);
-      used = λ g t. more_sum (λ k. k.lots) (λ k. bytes_eq k.giver g && bytes_eq k.taker t) before x after _ _ (c.in_default-put.ensures.added (record { giver = g; taker = t })) (was.used g t);
-    }
+returns-clause-sums c = λ before after.
+    let x : Charge = record {
+      giver = c.args.giver.now;
+      taker = c.args.taker.now;
+      lots = c.args.lots;
+      rate = c.args.rate;
+    } in
+    rw (← c.self.view_is) (sums_more _ _ x before after c.in_ok-put.ensures.added c.in_default.ensures.added
+    c.in_default-put.ensures.added)
 
 pub returns-in_err-put-clause-stays_ready : goal.returns-in_err-put-clause-stays_ready
-returns-in_err-put-clause-stays_ready c = rw (← c.self.view_is) (stay_ready _ _ c.put.ensures.stays_ready (λ q is. is) (λ q is. is))
+returns-in_err-put-clause-stays_ready c =
+    rw (← c.self.view_is) (stay_ready _ _ c.put.ensures.stays_ready (λ q is. is) (λ q is. is))
 
 pub returns-in-Err-clause-stays_ready : goal.returns-in-Err-clause-stays_ready
 returns-in-Err-clause-stays_ready c = rw (← c.self.view_is) (stay_ready _ _
-    (λ q is. still_true _ _ (c.take.ensures.stays_ready q) (c.put.ensures.stays_ready q is)) c.put-2.ensures.stays_ready (λ q is. is))
+    (λ q is. still_true _ _ (c.take.ensures.stays_ready q) (c.put.ensures.stays_ready q is)) c.put-2.ensures.stays_ready
+    (λ q is. is))
 
 pub returns-in-Err-put-clause-stays_ready : goal.returns-in-Err-put-clause-stays_ready
 returns-in-Err-put-clause-stays_ready c = rw (← c.self.view_is) (stay_ready _ _
     (λ q is. still_true _ _ (c.take-in-Err-put-2.ensures.stays_ready q) (c.put.ensures.stays_ready q is))
-    (λ q is. still_true _ _ (c.take-in-Err-put.ensures.stays_ready q) (c.put-2.ensures.stays_ready q is)) c.put-3.ensures.stays_ready)
+    (λ q is. still_true _ _ (c.take-in-Err-put.ensures.stays_ready q) (c.put-2.ensures.stays_ready q is))
+    c.put-3.ensures.stays_ready)
 
 pub returns-clause-stays_ready : goal.returns-clause-stays_ready
-returns-clause-stays_ready c = rw (← c.self.view_is) (stay_ready _ _ c.put.ensures.stays_ready c.put-2.ensures.stays_ready c.put-3.ensures.stays_ready)
+returns-clause-stays_ready c = rw (← c.self.view_is) (stay_ready _ _ c.put.ensures.stays_ready
+    c.put-2.ensures.stays_ready c.put-3.ensures.stays_ready)
 
 pub take-requires-in-Err-put : goal.take-requires-in-Err-put
 take-requires-in-Err-put c = search rules

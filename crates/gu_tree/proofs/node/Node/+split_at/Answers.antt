@@ -5,19 +5,30 @@ use Rattle.gu_tree.proofs.node.Node.+split_at.Goals as goal
 
 pub split_at-requires : goal.split_at-requires
 split_at-requires g t c κs within =
-    let e = going _ c.in-Some.ensures.cases.0 (rw c.in-Parted.is at c.self-2.view_is) c.requires.leaf in
-    (search rules, (search rules, (rw (← goes_below _ e c.index_mut.ensures.value) c.requires.leaf, (c.requires.some, c.requires.most))))
+    let e = going _ c.in-Some.ensures.cases.0 (rw c.in-Parted.is at c.self-2.view_is) c.requires.leaf in (
+      search rules,
+      (
+        search rules,
+        (
+          rw (← goes_below _ e c.index_mut.ensures.value) c.requires.leaf,
+          (c.requires.some, c.requires.most),
+        ),
+      ),
+    )
 
 pub invariant_of-self : goal.invariant_of-self
 invariant_of-self g t c =
     let e = going _ c.in-Some.ensures.cases.0 (rw c.in-Parted.is at c.self-2.view_is) c.requires.leaf in
-    tried_parted (split_node c.args.entry c.args.parts.now) _ _ c.split_at.result e c.index_mut.ensures.value c.split_at.ensures.node c.split_at.ensures.err
+    tried_parted (split_node c.args.entry c.args.parts.now) _ _ c.split_at.result e c.index_mut.ensures.value
+    c.split_at.ensures.node c.split_at.ensures.err
     (λ v. refl) (rw c.in-Parted.is at c.self-2.invariant)
 
 pub returns-clause-name : goal.returns-clause-name
 returns-clause-name g t c =
-    goes_has _ _ (going _ c.in-Some.ensures.cases.0 (rw c.in-Parted.is at c.self-2.view_is) c.requires.leaf) c.index_mut.ensures.value c.split_at.ensures.name
+    goes_has _ _ (going _ c.in-Some.ensures.cases.0 (rw c.in-Parted.is at c.self-2.view_is) c.requires.leaf)
+    c.index_mut.ensures.value c.split_at.ensures.name
 
 pub returns-clause-err : goal.returns-clause-err
 returns-clause-err g t c =
-    step_kept _ _ _ _ _ _ _ c.in-Some.ensures.cases.0 (rw c.in-Parted.is at c.self-2.view_is) _ _ c.split_at.result c.index_mut.ensures.value c.split_at.ensures.err
+    step_kept _ _ _ _ _ _ _ c.in-Some.ensures.cases.0 (rw c.in-Parted.is at c.self-2.view_is) _ _ c.split_at.result
+    c.index_mut.ensures.value c.split_at.ensures.err

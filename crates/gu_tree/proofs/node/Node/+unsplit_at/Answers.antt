@@ -6,4 +6,5 @@ use Rattle.gu_tree.proofs.node.Node.+unsplit_at.Goals as goal
 pub invariant_of-self-2 : goal.invariant_of-self-2
 invariant_of-self-2 g t c =
     let e = going _ c.in-Some.ensures.cases.0 (rw c.in-Parted-kind.is at c.self.view_is) c.requires in
-    goes_parted unsplit_node _ _ e c.index_mut.ensures.value c.unsplit_at.ensures.node (λ v. refl) (rw c.in-Parted-kind.is at c.self.invariant)
+    goes_parted unsplit_node _ _ e c.index_mut.ensures.value c.unsplit_at.ensures.node (λ v. refl)
+    (rw c.in-Parted-kind.is at c.self.invariant)

@@ -12,11 +12,13 @@ returns-in_default g c =
 pub returns-then-place-len : goal.returns-then-place-len
 returns-then-place-len g c =
     let step = drop-cons c.args.path.now c.loop-i.i-index 0 c.loop-i-test.true in
-    let none = at_beyond c.in-Parted.parts.items step (rw c.in-Parted.is at c.node.view_is) (omega (arith, c.len.ensures, c.if-place-len.true, c.in-Parted.parts.ok)) in
+    let none = at_beyond c.in-Parted.parts.items step (rw c.in-Parted.is at c.node.view_is)
+    (omega (arith, c.len.ensures, c.if-place-len.true, c.in-Parted.parts.ok)) in
     ap is_some (sym none ∙ c.loop-i.invariant)
 
 pub loop-i-preserved : goal.loop-i-preserved
 loop-i-preserved g c =
     let step = drop-cons c.args.path.now c.loop-i.i-index 0 c.loop-i-test.true in
-    let e = goes_there step (rw c.in-Parted.is at c.node.view_is) (omega (arith, c.len.ensures, c.if-place-len.false, c.in-Parted.parts.ok)) in
+    let e = goes_there step (rw c.in-Parted.is at c.node.view_is)
+    (omega (arith, c.len.ensures, c.if-place-len.false, c.in-Parted.parts.ok)) in
     rw add-one (sym (goes_below _ e c.index-node.ensures) ∙ c.loop-i.invariant)

@@ -1,5 +1,9 @@
-use Rattle.gu_tree.proofs.{Vocabulary.{IsTrue, head_of, own_parts_have_accounts}, Parts.{at_fact, some_and}}
-use Rattle.gu_tree.proofs.{ShowsChanges.{split_shows}, Splits.{split_tree}}
+use Rattle.gu_tree.proofs.{
+  Vocabulary.{IsTrue, head_of, own_parts_have_accounts},
+  Parts.{at_fact, some_and},
+  ShowsChanges.{split_shows},
+  Splits.{split_tree},
+}
 use Rattle.gu_tree.proofs.tree.Tree.make_split.Goals as goal
 
 pub returns-clause-node : goal.returns-clause-node
@@ -8,10 +12,12 @@ returns-clause-node g c = rw (c.as_slice.ensures.value, c.self.view_is) at c.in_
 pub invariant_of-self-2 : goal.invariant_of-self-2
 invariant_of-self-2 g c =
     let v = some_and _ _ c.requires.leaf in
-    split_tree _ _ v.0 _ c.args.entry c.args.parts.now v.1 v.2 c.requires.shallow c.requires.fresh (returns-clause-node g c) (rw c.self.view_is at c.self.invariant)
+    split_tree _ _ v.0 _ c.args.entry c.args.parts.now v.1 v.2 c.requires.shallow c.requires.fresh
+    (returns-clause-node g c) (rw c.self.view_is at c.self.invariant)
 
 pub returns-clause-shows : goal.returns-clause-shows
 returns-clause-shows g c =
     let v = some_and _ _ c.requires.leaf in
     split_shows c.args.path.now.items c.args.self.now v.0 _ c.args.entry c.args.parts.now v.1 v.2
-    (at_fact (λ t. IsTrue (own_parts_have_accounts c.args.parts.now (head_of t))) _ _ v.1 c.requires.accounts) c.requires.fresh (rw c.self.view_is at c.self.invariant).once (returns-clause-node g c)
+    (at_fact (λ t. IsTrue (own_parts_have_accounts c.args.parts.now (head_of t))) _ _ v.1 c.requires.accounts)
+    c.requires.fresh (rw c.self.view_is at c.self.invariant).once (returns-clause-node g c)

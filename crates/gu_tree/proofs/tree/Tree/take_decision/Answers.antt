@@ -6,7 +6,8 @@ use Rattle.gu_tree.proofs.tree.Tree.take_decision.Goals as goal
 pub path-requires : goal.path-requires
 path-requires g c =
     let v = some_and _ _ c.requires.decided in
-    rw c.as_slice-steps.ensures.value (has_stand c.args.stand c.args.path.now.items c.args.self.now v.0 v.1 v.2 (rw c.self.view_is at c.self.invariant).root)
+    rw c.as_slice-steps.ensures.value (has_stand c.args.stand c.args.path.now.items c.args.self.now v.0 v.1 v.2
+    (rw c.self.view_is at c.self.invariant).root)
 
 pub at-requires : goal.at-requires
 at-requires g c =
@@ -21,7 +22,8 @@ offer_at-requires g c =
 
 pub returns-clause-node : goal.returns-clause-node
 returns-clause-node g c =
-    at_there (λ u. c.offer_at.new.self ≡ edit_at (offer_node (head_of u).place) c.args.path.now.items c.args.self.now) _ c.at.result.now
+    at_there (λ u. c.offer_at.new.self ≡ edit_at (offer_node (head_of u).place) c.args.path.now.items c.args.self.now) _
+    c.at.result.now
     (rw (c.path.ensures, c.as_slice-steps.ensures.value, c.self.view_is) at c.at.ensures)
     (rw (c.as_slice-steps.ensures.value, c.self.view_is, c.head.ensures.head) at c.offer_at.ensures.node)
 
@@ -29,14 +31,18 @@ pub invariant_of-self : goal.invariant_of-self
 invariant_of-self g c =
     let v = some_and _ _ c.requires.decided in
     let place = (head_of c.at.result.now).place in
-    lesser_tree (offer_node place) c.args.path.now.items c.args.self.now v.0 _ v.1 (omega arith) (λ name. named_cut name (offered_head place (head_of v.0)) v.0 refl)
+    lesser_tree (offer_node place) c.args.path.now.items c.args.self.now v.0 _ v.1 (omega arith)
+    (λ name. named_cut name (offered_head place (head_of v.0)) v.0 refl)
     (λ held. absurd (decided_moves c.args.stand v.0 v.2 held))
-    (rw (c.as_slice-steps.ensures.value, c.self.view_is, c.head.ensures.head) at c.offer_at.ensures.node) (rw c.self.view_is at c.self.invariant)
+    (rw (c.as_slice-steps.ensures.value, c.self.view_is, c.head.ensures.head) at c.offer_at.ensures.node)
+    (rw c.self.view_is at c.self.invariant)
 
 pub returns-clause-shows : goal.returns-clause-shows
 returns-clause-shows g c =
     let v = some_and _ _ c.requires.decided in
     taken_shows c.args.stand c.args.path.now.items c.args.self.now v.0 c.at.result.now _
-    (has_stand c.args.stand c.args.path.now.items c.args.self.now v.0 v.1 v.2 (rw c.self.view_is at c.self.invariant).root) v.1
-    (rw (c.path.ensures, c.as_slice-steps.ensures.value, c.self.view_is) at c.at.ensures) v.2 (rw c.self.view_is at c.self.invariant).once
+    (has_stand c.args.stand c.args.path.now.items c.args.self.now v.0 v.1 v.2
+    (rw c.self.view_is at c.self.invariant).root) v.1
+    (rw (c.path.ensures, c.as_slice-steps.ensures.value, c.self.view_is) at c.at.ensures) v.2
+    (rw c.self.view_is at c.self.invariant).once
     (rw (c.as_slice-steps.ensures.value, c.self.view_is, c.head.ensures.head) at c.offer_at.ensures.node)

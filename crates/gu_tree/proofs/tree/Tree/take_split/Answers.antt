@@ -8,10 +8,12 @@ returns-clause-node g c = rw (c.as_slice.ensures.value, c.self.view_is) at c.uns
 pub invariant_of-self : goal.invariant_of-self
 invariant_of-self g c =
     let v = some_and _ _ c.requires in
-    lesser_tree unsplit_node c.args.path.now.items c.args.self.now v.0 _ v.1 (omega arith) (λ name. named_cut name (head_of v.0) v.0 refl)
+    lesser_tree unsplit_node c.args.path.now.items c.args.self.now v.0 _ v.1 (omega arith)
+    (λ name. named_cut name (head_of v.0) v.0 refl)
     (λ held. held) (returns-clause-node g c) (rw c.self.view_is at c.self.invariant)
 
 pub returns-clause-shows : goal.returns-clause-shows
 returns-clause-shows g c =
     let v = some_and _ _ c.requires in
-    unsplit_shows c.args.path.now.items c.args.self.now v.0 _ v.1 v.2 (rw c.self.view_is at c.self.invariant).once (returns-clause-node g c)
+    unsplit_shows c.args.path.now.items c.args.self.now v.0 _ v.1 v.2 (rw c.self.view_is at c.self.invariant).once
+    (returns-clause-node g c)

@@ -1,19 +1,20 @@
-use Rattle.gu_tree.proofs.Vocabulary.{◌∙◌, ap, sym, refl, Some, set, decide_node, slot_of, last_of}
-use Rattle.gu_tree.proofs.GroveEdits.{grove_of, found, Edits, decided, at_there, last_with_slot, roomier, IsNamed}
+use Rattle.gu_tree.proofs.Vocabulary.{refl, Some, set, decide_node}
+use Rattle.gu_tree.proofs.GroveEdits.{grove_of, found, Edits, decided, at_there, roomier, IsNamed}
 use Rattle.gu_tree.proofs.{trees.Trees.decide.Given.{Over}, trees.Trees.decide.Goals.{After-file}}
 use Rattle.gu_tree.proofs.trees.Trees.decide.Goals as goal
 
 -- what the call does to the trees
-edited : (g : Over) (c : After-file g) → Edits (grove_of c.self.inside.trees.items c.self.inside.slots.items)
-    (grove_of (set c.self.inside.trees.items c.root_of-i.result (Some c.decide-node.new.self)) c.file.new.slots.items)
+edited : (g : Over) (c : After-file g) → Edits (grove_of c.self.inside.trees.items c.self.inside.slots.filed)
+    (grove_of (set c.self.inside.trees.items c.root_of-i.result (Some c.decide-node.new.self)) c.file.new.self.filed)
     c.args.trade c.in-Some.tree c.args.path.now.items (decide_node c.args.number c.args.decision.now) c.args.number
 edited g c =
     let is = roomier _ 0 0 c.self.invariant in
-    let slot = ap (λ s. slot_of s c.args.trade) (sym c.as_slice.ensures.value) ∙ c.root_of-i.ensures in
+    let slot = c.root_of-i.ensures in
     decided c.args.decision.now is
     (found (IsNamed c.decide-node.result) is slot c.index_mut.ensures.value c.in-Some.is c.decide-node.ensures.name)
-    c.decide-node.ensures.short c.decide-node.ensures.leaf (rw (← c.self.view_is) at c.requires.offered) c.requires.settles
-    (rw (← c.self.view_is) at c.requires.above) c.decide-node.ensures.node refl c.file.ensures
+    c.decide-node.ensures.short c.decide-node.ensures.leaf (rw (← c.self.view_is) at c.requires.offered)
+    c.requires.settles
+    (rw (← c.self.view_is) at c.requires.above) c.decide-node.ensures.node refl (rw c.node.ensures at c.file.ensures)
 
 pub invariant_of-self : goal.invariant_of-self
 invariant_of-self g c = roomier _ _ _ (edited g (goal.at.invariant_of-self g c).After-file).grove
@@ -24,6 +25,6 @@ returns g c =
     rw (← c.self.view_is) (record {
       tree = at_there _ _ _ e.found e.changed;
       place = e.place;
-      last = ap last_of c.file.ensures ∙ last_with_slot c.self.inside.slots.items c.args.number _ (rw (← c.self.view_is) at c.requires.above);
+      last = c.file.ensures.last;
       shows = at_there _ _ _ e.found (rw c.decide-node.ensures.node at c.decide-node.ensures.shows);
     })

@@ -1,8 +1,8 @@
 use Rattle.std.proofs.Common.{rules}
 use Rattle.std.specs.Prelude.{is_some}
 use Rattle.std.proofs.lemmas.Fn.{filter_same}
-use Rattle.gu_fees.specs.declared.filing.Filed.{Filed}
-use Rattle.gu_fees.proofs.filing.sweep.Goals as goal
+use Rattle.gu_sums.specs.declared.filing.Filed.{Filed}
+use Rattle.gu_sums.proofs.filing.sweep.Goals as goal
 
 pub returns : goal.returns
 returns g c = filter_same _ (λ (f : Filed _). is_some f.kept) _ (λ x b f' k. search rules) _ _ c.retain.ensures.filtered

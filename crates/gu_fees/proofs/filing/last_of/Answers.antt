@@ -1,6 +1,0 @@
-use Rattle.std.proofs.Common.{sym, ◌∙◌}
-use Rattle.gu_fees.proofs.Filings.{last_is}
-use Rattle.gu_fees.proofs.filing.last_of.Goals as goal
-
-pub returns-in-Some : goal.returns-in-Some
-returns-in-Some g c = c.get.ensures.value ∙ sym (last_is c.args.filed.now c.in-Some.one.now (sym c.in-Some.ensures.value))
