@@ -1,18 +1,25 @@
 -- The filed trees show all live changes, so what stands on a change is read off them.
-use Rattle.gu_depend.proofs.Vocabulary.{Bool, ◌+◌, length, get_or, not, cond, Contains, ◌<◌, ◌≡◌, ℕ, ◌≤◌, true, false, ◌&&◌, List, [], ◌∷◌, refl, sym}
-use Rattle.gu_depend.proofs.Vocabulary.{◌∙◌, ap, subst, arith, Option, map, IsSomeAnd, Decides-eqb, same_Some, House, knows_firm, numbered_as, is_change, is_reversed, live, node_of}
-use Rattle.gu_depend.proofs.Vocabulary.{unless, standing_on, answer_to, entry_of, on_change, reverse_rest, command_refusal, call_of, Command, Trade, Agree}
-use Rattle.gu_depend.proofs.Vocabulary.{Raise, Reverse, Accepted, Entry, Record, UnknownFirm, Row, rows_of, EntryPart, found_in, find_passes}
+use Rattle.gu_depend.proofs.Vocabulary.{Bool, ◌+◌, length, get_or, not, cond, Contains, ◌<◌, ◌≡◌, ℕ, ◌≤◌, true, false}
+use Rattle.gu_depend.proofs.Vocabulary.{◌&&◌, List, [], ◌∷◌, refl, sym, ◌∙◌, ap, subst, arith, Option, map, IsSomeAnd}
+use Rattle.gu_depend.proofs.Vocabulary.{Decides-eqb, same_Some, House, knows_firm, numbered_as, is_change, is_reversed}
+use Rattle.gu_depend.proofs.Vocabulary.{live, node_of, unless, standing_on, answer_to, entry_of, on_change}
+use Rattle.gu_depend.proofs.Vocabulary.{reverse_rest, command_refusal, call_of, Command, Trade, Split, Claim, Refuse}
+use Rattle.gu_depend.proofs.Vocabulary.{Cancel, Agree, Part, Side, Raise, Reverse, Accepted, Entry, Record, UnknownFirm}
+use Rattle.gu_depend.proofs.Vocabulary.{Row, rows_of, EntryPart, found_in, find_passes}
 use Rattle.gu_depend.proofs.{Vocabulary.{false_from_ne_true, and_parts, reversal_of}, Finds.some_there}
-use Rattle.std.proofs.Common.{◌-◌, Some, None, find, ◌==◌, is_some, option_map, IsSome, option_and_then}
+use Rattle.std.proofs.Common.{◌-◌, ◌≢◌, Some, None, find, ◌==◌, is_some, option_map, IsSome}
 use Rattle.gu_base.proofs.{Accepted.{first_none, allowed, open_from_none}, RunLaws.taken, Consenting.not_reversed}
 use Rattle.gu_base.proofs.{Numbered.{found_at, known_entry}, LiveLaws.is_live}
-use Rattle.gu_book.proofs.Vocabulary.{Rose, Grove, tree_of, IsPlace, named_node, named_place, place_in, Consents, IsGroveOf, IsFree, IsKept, is_trade, is_live_trade, IsFoundIn, IsUndoneBy}
+use Rattle.gu_book.proofs.Vocabulary.{Rose, Grove, tree_of, IsPlace, named_node, named_place, place_in, AreTreesOf}
+use Rattle.gu_book.proofs.Vocabulary.{IsGroveOf, IsFree, is_trade, is_live_trade, IsFoundIn}
 use Rattle.gu_book.proofs.{Vocabulary.{IsUndoneThere, IsOfTerms, is_of_trees}, ByNumber.{found_live, if_passes}}
 use Rattle.gu_tree.specs.{Rose.rows, Shown.shown, ShownAll.IsTreeIn, declared.head.Row.{Row as TreeRow}}
-use Rattle.gu_depend.proofs.{Replay.{NumbersOnce, number_once}, StandsLast.node_of_maker, StandsUnder.any_found}
+use Rattle.gu_depend.proofs.{Replay.{NumbersOnce, number_once}, StandsLast.node_of_maker}
+use Rattle.gu_depend.proofs.{StandsUnder.{any_found, rises_distinct}}
+use Rattle.gu_base.specs.Standing.{first_refused}
 use Rattle.gu_book.specs.{TreeRows.tree_rows, Found.IsUndoneAs, declared.found.Undone.Undone}
-use Rattle.gu_book.proofs.{Leaves.live_rises, Filed.{root_name, makes_root, tree_shown, live_at, place_named}}
+use Rattle.gu_book.proofs.{Leaves.live_rises}
+use Rattle.gu_book.proofs.{Filed.{root_name, makes_root, tree_shown, live_at, place_named, place_of_own}}
 use Rattle.gu_tree.proofs.ShowsRows.{shown_rows}
 use Rattle.gu_book.proofs.Orders.{InOrder, in_order}
 
@@ -30,16 +37,19 @@ pub record IsUndone (t : House) (h : List Entry) (k : ℕ) (r : Record) : Type 0
   pub unreversed : reversal_of h k ≡ None
   pub free : standing_on t (live h) r.number ≡ None
 
-pub undone : (t : House) (h : List Entry) (e : Entry) (n k : ℕ) → answer_to t h (call_of e) ≡ Accepted n e.status → e.command ≡ Reverse k → (r : Record) × IsUndone t h k r
+pub undone : (t : House) (h : List Entry) (e : Entry) (n k : ℕ) → answer_to t h (call_of e) ≡ Accepted n e.status
+    → e.command ≡ Reverse k → (r : Record) × IsUndone t h k r
 undone t h e n k ok same =
     let lawful = subst (λ (c : Command). command_refusal t h e.firm c ≡ None) same (allowed t h e n ok).lawful in
-    let a = first_none (unless (knows_firm t e.firm) UnknownFirm) (on_change t h e.firm (reverse_rest t h) (entry_of h k) ∷ []) lawful in
+    let a = first_none (unless (knows_firm t e.firm) UnknownFirm)
+    (on_change t h e.firm (reverse_rest t h) (entry_of h k) ∷ []) lawful in
     let b = first_none (on_change t h e.firm (reverse_rest t h) (entry_of h k)) [] a.1 in
     let o = open_from_none t h e.firm (reverse_rest t h) (entry_of h k) b.0 in
     let r : Record = o.0 in
     let at = found_at k 1 h r o.1.found in
     let unreversed : is_reversed h r.number ≡ false = not_reversed r.number 1 h o.1.unreversed in
-    let passes : (is_change r.command && not (is_reversed h r.number)) ≡ true = ap (λ b. b && not (is_reversed h r.number)) o.1.is ∙ ap not unreversed in
+    let passes : (is_change r.command && not (is_reversed h r.number)) ≡ true =
+    ap (λ b. b && not (is_reversed h r.number)) o.1.is ∙ ap not unreversed in
     let there = found_live h k ∙ (ap (if_passes (is_live h)) o.1.found ∙ ap (λ b. cond b (Some r) None) passes) in (
       r,
       record {
@@ -56,22 +66,16 @@ undone t h e n k ok same =
     )
 
 -- the entry at its place
-pub undone_entry : {t : House} {h : List Entry} {k : ℕ} {r : Record} → IsUndone t h k r → (d : Entry) → d ≡ get_or h (k - 1) d → r ≡ numbered_as k d
+pub undone_entry : {t : House} {h : List Entry} {k : ℕ} {r : Record} → IsUndone t h k r → (d : Entry)
+    → d ≡ get_or h (k - 1) d → r ≡ numbered_as k d
 undone_entry {h = h} {k = k} {r = r} u d is =
     same_Some r (numbered_as k d) (sym u.entry ∙ known_entry h k d u.from (omega (arith, u.from, u.within)) is)
 
-module _ {t : House} {h : List Entry} {g : Grove} {cs : Consents} (kept : IsKept t h g cs) (e : Entry) (n k : ℕ) (ok : answer_to t h (call_of e) ≡ Accepted n e.status)
-    (same : e.command ≡ Reverse k) where
-  pub undone_number : (undone t h e n k ok same).0.number ≡ k
-  undone_number = (undone t h e n k ok same).1.number
-
-  -- so it may go from the trees
-  pub undone_may_go : IsFree t (live h) (undone t h e n k ok same).0 g
-  undone_may_go = let u = undone t h e n k ok same in record { filed = kept.filed; replayed = kept.replayed; rises = live_rises h; among = u.1.among; free = u.1.free }
-
-  -- the same of the change by its entry
-  pub undone_goes : (d : Entry) → d ≡ get_or h (k - 1) d → IsFree t (live h) (numbered_as k d) g
-  undone_goes d is = subst (λ (r : Record). IsFree t (live h) r g) (undone_entry (undone t h e n k ok same).1 d is) undone_may_go
+-- so it may go from the trees
+pub undone_goes : {t : House} {h : List Entry} {g : Grove} {k : ℕ} {r : Record} → first_refused t [] (live h) ≡ None
+    → IsGroveOf (live h) g → IsUndone t h k r → IsFree t (live h) r g
+undone_goes {h = h} replayed filed u =
+    record { filed = filed; replayed = replayed; rises = live_rises h; among = u.among; free = u.free }
 
 -- ---- what a book answers by its trees is what its live changes say
 
@@ -83,71 +87,88 @@ no_trade l k once none =
     let d = any_found test l live in
     let is = and_parts (d.0.number == k) (is_trade d.0.command) (find_passes test l d.0 d.1) in
     let x = makes_root d.0.number d.0.firm d.0.command is.1 in
-    cc ((Decides-eqb d.0.number k).0 is.0, none, node_of_maker l d.0 (root_name d.0.number) x.0 once (found_in test l d.0 d.1) x.1))
+    cc (
+      (Decides-eqb d.0.number k).0 is.0,
+      none,
+      node_of_maker l d.0 (root_name d.0.number) x.0 once (found_in test l d.0 d.1) x.1,
+    ))
 
 -- the rows of the tree of a number are those of the live trade, and no tree bears another number
 rows_filed : (l : List Record) (g : Grove) → InOrder l → NumbersOnce l → IsGroveOf l g
     → (k : ℕ) (o : Option Rose) → tree_of g k ≡ o → option_map (map shown) (option_map rows o) ≡ tree_rows l k
-rows_filed l g order once filed k None e = ap (λ b. cond b (Some (rows_of l k)) None) (sym (no_trade l k once (subst (IsTreeIn l k) e (filed.trees k))))
+rows_filed l g order once filed k None e =
+    ap (λ b. cond b (Some (rows_of l k)) None) (sym (no_trade l k once (subst (IsTreeIn l k) e (filed.trees k))))
 rows_filed l g order once filed k (Some t) e =
     ap (λ (rs : List Row). Some rs) (shown_rows l order.distinct k t (tree_shown filed k t e))
     ∙ ap (λ b. cond b (Some (rows_of l k)) None) (sym (live_at filed k t e))
 
-module _ {t : House} {h : List Entry} {g : Grove} {cs : Consents} (kept : IsKept t h g cs) where
-  order_kept : InOrder (live h)
-  order_kept = in_order t (live h) kept.replayed (live_rises h)
+mapped : {A B C : Type 0} (f : A → B) (g : B → C) (o : Option A)
+    → option_map (λ a. g (f a)) o ≡ option_map g (option_map f o)
+mapped f g None = refl
+mapped f g (Some a) = refl
 
-  mapped : {A B C : Type 0} (f : A → B) (g : B → C) (o : Option A) → option_map (λ a. g (f a)) o ≡ option_map g (option_map f o)
-  mapped f g None = refl
-  mapped f g (Some a) = refl
+module _ {l : List Record} {g : Grove} (are : AreTreesOf l g) where
+  order : InOrder l
+  order = in_order are.house l are.replayed are.rises
 
-  pub rows_shown : {V : Type 0} (items : V → List TreeRow) (o : Option V) (k : ℕ) → option_map items o ≡ option_map rows (tree_of g k)
-      → option_map (λ v. map shown (items v)) o ≡ tree_rows (live h) k
+  pub rows_shown : {V : Type 0} (items : V → List TreeRow) (o : Option V) (k : ℕ)
+      → option_map items o ≡ option_map rows (tree_of g k) → option_map (λ v. map shown (items v)) o ≡ tree_rows l k
   rows_shown items o k e =
       mapped items (map shown) o
-      ∙ (ap (option_map (map shown)) e ∙ rows_filed (live h) g order_kept (number_once (live h) order_kept.distinct) kept.filed k (tree_of g k) refl)
+      ∙ (ap (option_map (map shown)) e
+      ∙ rows_filed l g order (number_once l order.distinct) are.filed k (tree_of g k) refl)
 
   -- a tree that bears a number is that of a live trade
-  pub live_if_shown : (k : ℕ) → IsSome (tree_of g k) → is_live_trade (live h) k ≡ true
-  live_if_shown k some = let t = some_there (tree_of g k) some in live_at kept.filed k t.0 t.1
+  pub live_if_shown : (k : ℕ) → IsSome (tree_of g k) → is_live_trade l k ≡ true
+  live_if_shown k some = let t = some_there (tree_of g k) some in live_at are.filed k t.0 t.1
 
 -- ---- what was found of the change that a Reverse names
-
-module _ {t : House} {h : List Entry} {g : Grove} {cs : Consents} (kept : IsKept t h g cs) where
-  -- a change that was found lies where its path leads
-  pub undone_there : (k : ℕ) (o : Option Undone) (p : List ℕ) → IsUndoneBy (live h) k o p → IsSome o → IsUndoneThere g k o p
-  undone_there k None p is found = absurd (cc)
-  undone_there k (Some u) p is found =
-      subst (λ (o : Option EntryPart). IsSomeAnd o (λ n. IsPlace g n u.found.trade p)) (sym (kept.filed.places k ∙ is.place)) (is.there g kept.filed)
-
--- its place is the node that it made or named
-pub undone_place : {t : House} {h : List Entry} {k : ℕ} {r : Record} → IsUndone t h k r → place_in (live h) k ≡ named_place r.number r.command
-undone_place change = ap (option_and_then (λ (r : Record). named_place r.number r.command)) change.found
-
--- the node that was found is the one that the change names
-pub found_named : {t : House} {h : List Entry} {k : ℕ} {r : Record} {u : Undone} {p : List ℕ} → IsUndone t h k r → IsUndoneAs (live h) k u p → (d : Entry) → r ≡ numbered_as k d
-    → (n : EntryPart) → named_node d.command ≡ Some n → IsFoundIn (live h) n (Some u.found)
-found_named {h = h} {k = k} {u = u} change is d same n named =
-    let one : is.name ≡ n = cc (undone_place change, same, place_named k d.command n named, is.place) in
-    subst (λ (m : EntryPart). IsFoundIn (live h) m (Some u.found)) one is.found
 
 -- a command has a place in the trees where it is a change of trees
 pub has_place : (k : ℕ) (c : Command) → is_some (named_place k c) ≡ is_of_trees c
 has_place k (Trade _ _ _ _ _) = refl
 has_place k _ = refl
 
--- one that was found there is a change of trees
-pub undone_of_trees : {t : House} {h : List Entry} {k : ℕ} {r : Record} → IsUndone t h k r → (o : Option Undone) (p : List ℕ) → IsUndoneBy (live h) k o p → IsSome o
-    → is_of_trees r.command ≡ true
-undone_of_trees change None p is some = absurd (cc)
-undone_of_trees {r = r} change (Some u) p is some =
-    sym (has_place r.number r.command) ∙ ap is_some (sym (undone_place change) ∙ is.place)
+-- and is then one of five
+pub of_trees_is : (c : Command) → is_of_trees c ≡ true → ((f a i : List ℕ) (s : Side) (n : ℕ) → c ≢ Trade f a i s n)
+    → ((n : EntryPart) (ps : List Part) → c ≢ Split n ps) → ((n : EntryPart) (a : List ℕ) → c ≢ Claim n a)
+    → ((n : EntryPart) → c ≢ Refuse n) → ((n : EntryPart) → c ≢ Cancel n) → ⊥
+of_trees_is (Trade f a i s n) of trade split claim refuse cancel = trade f a i s n refl
+of_trees_is (Split n ps) of trade split claim refuse cancel = split n ps refl
+of_trees_is (Claim n a) of trade split claim refuse cancel = claim n a refl
+of_trees_is (Refuse n) of trade split claim refuse cancel = refuse n refl
+of_trees_is (Cancel n) of trade split claim refuse cancel = cancel n refl
+of_trees_is _ of trade split claim refuse cancel = absurd (cc)
 
--- and one that has no place there is an Agree or a Raise
+-- a change that has none is an Agree or a Raise
 is_of_terms : (k : ℕ) (c : Command) → is_change c ≡ true → named_place k c ≡ None → IsOfTerms c
 is_of_terms k (Agree _ _ _ _) change e = refl
 is_of_terms k (Raise _ _) change e = refl
 is_of_terms k _ change e = absurd (cc)
 
-pub undone_of_terms : {t : House} {h : List Entry} {k : ℕ} {r : Record} → IsUndone t h k r → place_in (live h) k ≡ None → IsOfTerms r.command
-undone_of_terms {r = r} change none = is_of_terms r.number r.command change.change (sym (undone_place change) ∙ none)
+-- a change that was found lies where its path leads
+pub undone_there : {l : List Record} {g : Grove} {k : ℕ} {u : Undone} {p : List ℕ}
+    → IsGroveOf l g → IsUndoneAs l k u p → IsUndoneThere g k u p
+undone_there {g = g} {k = k} {u = u} {p = p} filed is =
+    subst (λ (o : Option EntryPart). IsSomeAnd o (λ n. IsPlace g n u.found.trade p)) (sym (filed.places k ∙ is.place))
+    (is.there g filed)
+
+module _ {t : House} {l : List Record} {r : Record} {g : Grove} (go : IsFree t l r g) where
+  -- its place is the node that it made or named
+  own_place : place_in l r.number ≡ named_place r.number r.command
+  own_place = place_of_own l r (number_once l (rises_distinct 1 l go.rises)) go.among
+
+  -- the node that was found is the one that the change names
+  pub found_named : {u : Undone} {p : List ℕ} → IsUndoneAs l r.number u p → (n : EntryPart)
+      → named_node r.command ≡ Some n → IsFoundIn l n (Some u.found)
+  found_named {u} is n named =
+      subst (λ (m : EntryPart). IsFoundIn l m (Some u.found))
+      (cc (own_place, place_named r.number r.command n named, is.place)) is.found
+
+  -- one that was found is a change of trees
+  pub undone_of_trees : {u : Undone} {p : List ℕ} → IsUndoneAs l r.number u p → is_of_trees r.command ≡ true
+  undone_of_trees is = sym (has_place r.number r.command) ∙ ap is_some (sym own_place ∙ is.place)
+
+  -- and one that has no place there is an Agree or a Raise
+  pub undone_of_terms : is_change r.command ≡ true → place_in l r.number ≡ None → IsOfTerms r.command
+  undone_of_terms change none = is_of_terms r.number r.command change (sym own_place ∙ none)

@@ -1,8 +1,10 @@
 -- Live changes are found by their numbers, and gone through in the order of their numbers.
-use Rattle.gu_depend.proofs.Vocabulary.{◌≡◌, ℕ, ◌+◌, ◌≤◌, Bool, true, false, not, ◌&&◌, ◌||◌, List, [], ◌∷◌, ◌++◌, length, get_or, refl, ap, sym}
-use Rattle.gu_depend.proofs.Vocabulary.{◌∙◌, subst, arith, cond, suc, inl, inr, Option, option_and_then, Decides-eqb, same_Some, EntryPart, numbered_as}
-use Rattle.gu_depend.proofs.Vocabulary.{numbered_from, records, is_change, is_reverse_of, is_reversed, live, RisesFrom, node_of, entry_of, Node, reversal_of, Entry, Record, no_some}
-use Rattle.gu_depend.proofs.Vocabulary.{none_is_some, made_of, found_in, number_same, without}
+use Rattle.gu_depend.proofs.Vocabulary.{◌≡◌, ℕ, ◌+◌, ◌≤◌, Bool, true, false, not, ◌&&◌, ◌||◌, List, [], ◌∷◌, ◌++◌}
+use Rattle.gu_depend.proofs.Vocabulary.{length, get_or, refl, ap, sym, ◌∙◌, subst, arith, cond, suc, inl, inr, Option}
+use Rattle.gu_depend.proofs.Vocabulary.{option_and_then, Decides-eqb, same_Some, EntryPart, numbered_as, numbered_from}
+use Rattle.gu_depend.proofs.Vocabulary.{records, is_change, is_reverse_of, is_reversed, live, RisesFrom, node_of}
+use Rattle.gu_depend.proofs.Vocabulary.{entry_of, Node, reversal_of, Entry, Record, no_some, none_is_some, made_of}
+use Rattle.gu_depend.proofs.Vocabulary.{found_in, number_same, without}
 use Rattle.std.proofs.Common.{◌≢◌, ◌-◌, Some, None, find, filter, drop, Contains, drop-cons, add-one, ◌==◌, option_map}
 use Rattle.gu_book.proofs.Vocabulary.{cons_option, change_of}
 use Rattle.std.proofs.Math.Bool.{and-false, and-true}
@@ -25,7 +27,8 @@ its_maker : (l : List Record) (n : EntryPart) (x : Node) (m : Maker l n x) → (
 its_maker l n x m = (Decides-eqb m.change.number n.entry).1 (sym (made_number m.change n x m.makes_it))
 
 -- where no change has the number, there is no node of the name
-pub node_none : (l : List Record) (n : EntryPart) → find (λ (d : Record). d.number == n.entry) l ≡ None → node_of l n ≡ None
+pub node_none : (l : List Record) (n : EntryPart) → find (λ (d : Record). d.number == n.entry) l ≡ None
+    → node_of l n ≡ None
 node_none l n none =
     no_some (node_of l n) (λ x e.
     let m = maker l n x e in
@@ -34,23 +37,27 @@ node_none l n none =
 
 -- where no number stands twice, a change is found by its own
 pub its_own : (l : List Record) (r : Record) → NumbersOnce l → Contains l r → change_of l r.number ≡ Some r
-its_own l r once among = found_once (λ (d : Record). d.number == r.number) l r among (number_same r.number) (once r.number)
+its_own l r once among =
+    found_once (λ (d : Record). d.number == r.number) l r among (number_same r.number) (once r.number)
 
 -- and the last one's is no other's
 pub fresh : (l : List Record) (r : Record) → NumbersOnce (l ++ r ∷ []) → change_of l r.number ≡ None
 fresh l r once = none_before (λ (d : Record). d.number == r.number) l r [] (once r.number) (number_same r.number)
 
 -- so none of its nodes is there yet
-pub not_yet : (l : List Record) (r : Record) → NumbersOnce (l ++ r ∷ []) → (n : EntryPart) → n.entry ≡ r.number → node_of l n ≡ None
+pub not_yet : (l : List Record) (r : Record) → NumbersOnce (l ++ r ∷ []) → (n : EntryPart) → n.entry ≡ r.number
+    → node_of l n ≡ None
 not_yet l r once n own = node_none l n (ap (change_of l) own ∙ fresh l r once)
 
 -- in a list without the change of one number those of the others are found as before
 pub change_left : (k j : ℕ) (l : List Record) → k ≢ j → change_of (without l k) j ≡ change_of l j
 change_left k j l other =
-    find_filter (λ (d : Record). d.number == j) (λ (d : Record). not (d.number == k)) true l (λ d same. ap not (ne_eqb d.number k (λ e. other (sym e ∙ eqb-true d.number j same))))
+    find_filter (λ (d : Record). d.number == j) (λ (d : Record). not (d.number == k)) true l
+    (λ d same. ap not (ne_eqb d.number k (λ e. other (sym e ∙ eqb-true d.number j same))))
 
 -- where one has it, the node is that one's
-pub node_found : (m : ℕ) (l : List Record) (n : EntryPart) (r : Record) → RisesFrom m l → find (λ (d : Record). d.number == n.entry) l ≡ Some r → node_of l n ≡ made_of r n
+pub node_found : (m : ℕ) (l : List Record) (n : EntryPart) (r : Record) → RisesFrom m l
+    → find (λ (d : Record). d.number == n.entry) l ≡ Some r → node_of l n ≡ made_of r n
 node_found k l n r rises found = by_made (made_of r n) refl
   where
     once : NumbersOnce l
@@ -61,7 +68,9 @@ node_found k l n r rises found = by_made (made_of r n) refl
     by_made None e =
         no_some (node_of l n) (λ x h.
         let m = maker l n x h in
-        let it = same_Some m.change r (sym (found_once (λ (d : Record). d.number == n.entry) l m.change m.among (its_maker l n x m) (once n.entry)) ∙ found) in
+        let it = same_Some m.change r
+        (sym (found_once (λ (d : Record). d.number == n.entry) l m.change m.among (its_maker l n x m) (once n.entry))
+        ∙ found) in
         none_is_some (made_of r n) x e (subst (λ (d : Record). made_of d n ≡ Some x) it m.makes_it))
 
 -- ---- among those that pass a test
@@ -74,8 +83,10 @@ found_kept : {X : Type 0} (p q : X → Bool) (xs : List X) → find p (filter q 
 found_kept p q [] = refl
 found_kept p q (x ∷ xs) = at (q x) (found_kept p q xs)
   where
-    at : (b : Bool) → find p (filter q xs) ≡ find (λ x. p x && q x) xs → find p (cond b (x ∷ filter q xs) (filter q xs)) ≡ cond (p x && b) (Some x) (find (λ x. p x && q x) xs)
-    at true later = ap (λ b. cond b (Some x) (find p (filter q xs))) (sym (and-true (p x))) ∙ ap (cond (p x && true) (Some x)) later
+    at : (b : Bool) → find p (filter q xs) ≡ find (λ x. p x && q x) xs
+        → find p (cond b (x ∷ filter q xs) (filter q xs)) ≡ cond (p x && b) (Some x) (find (λ x. p x && q x) xs)
+    at true later =
+        ap (λ b. cond b (Some x) (find p (filter q xs))) (sym (and-true (p x))) ∙ ap (cond (p x && true) (Some x)) later
     at false later = later ∙ ap (λ b. cond b (Some x) (find (λ x. p x && q x) xs)) (sym (and-false (p x)))
 
 -- ---- among the live changes
@@ -98,7 +109,8 @@ module _ (h : List Entry) (n : ℕ) where
   none_there none = sym (found_live ∙ ap (if_passes (is_live h)) none)
 
   module _ (e : Entry) (there : entry_of h n ≡ Some (numbered_as n e)) where
-    found_by : (b : Bool) → is_live h (numbered_as n e) ≡ b → find (λ (d : Record). d.number == n) (live h) ≡ cond b (Some (numbered_as n e)) None
+    found_by : (b : Bool) → is_live h (numbered_as n e) ≡ b
+        → find (λ (d : Record). d.number == n) (live h) ≡ cond b (Some (numbered_as n e)) None
     found_by b is = found_live ∙ (ap (if_passes (is_live h)) there ∙ ap (λ d. cond d (Some (numbered_as n e)) None) is)
 
     -- the entry is no change
@@ -110,22 +122,28 @@ module _ (h : List Entry) (n : ℕ) where
     none_reversed is = sym (found_by false (and_right (is_change e.command) (not (is_reversed h n)) (ap not is)))
 
     -- it is live
-    pub found_there : is_change e.command ≡ true → is_reversed h n ≡ false → Some (numbered_as n e) ≡ find (λ (d : Record). d.number == n) (live h)
+    pub found_there : is_change e.command ≡ true → is_reversed h n ≡ false
+        → Some (numbered_as n e) ≡ find (λ (d : Record). d.number == n) (live h)
     found_there change unnamed = sym (found_by true (rw (change, unnamed) refl))
 
 -- an entry that has a Reverse is reversed
-reversed_found : (n m : ℕ) (h : List Entry) (r : Record) → find (λ (q : Record). is_reverse_of n q.command) (numbered_from m h) ≡ Some r → is_reversed h n ≡ true
+reversed_found : (n m : ℕ) (h : List Entry) (r : Record)
+    → find (λ (q : Record). is_reverse_of n q.command) (numbered_from m h) ≡ Some r → is_reversed h n ≡ true
 reversed_found n m [] r e = absurd (cc)
 reversed_found n m (d ∷ h) r e =
     let named = is_reverse_of n d.command in
-    cond_both named (Some (numbered_as m d)) (find (λ (q : Record). is_reverse_of n q.command) (numbered_from (m + 1) h)) (λ o. o ≡ Some r → (named || is_reversed h n) ≡ true)
-    (λ is _. or_left named (is_reversed h n) is) (λ _ later. or_right named (is_reversed h n) (reversed_found n (m + 1) h r later)) e
+    cond_both named (Some (numbered_as m d))
+    (find (λ (q : Record). is_reverse_of n q.command) (numbered_from (m + 1) h))
+    (λ o. o ≡ Some r → (named || is_reversed h n) ≡ true) (λ is _. or_left named (is_reversed h n) is)
+    (λ _ later. or_right named (is_reversed h n) (reversed_found n (m + 1) h r later)) e
 
-pub numbered_some : (o : Option Record) (n : ℕ) → option_map (λ (r : Record). r.number) o ≡ Some n → (r : Record) × ((o ≡ Some r) × (r.number ≡ n))
+pub numbered_some : (o : Option Record) (n : ℕ) → option_map (λ (r : Record). r.number) o ≡ Some n
+    → (r : Record) × ((o ≡ Some r) × (r.number ≡ n))
 numbered_some None n e = absurd (cc)
 numbered_some (Some r) n e = (r, (refl, cc))
 
-pub reversed_some : (h : List Entry) (n v : ℕ) → option_map (λ (r : Record). r.number) (reversal_of h n) ≡ Some v → is_reversed h n ≡ true
+pub reversed_some : (h : List Entry) (n v : ℕ) → option_map (λ (r : Record). r.number) (reversal_of h n) ≡ Some v
+    → is_reversed h n ≡ true
 reversed_some h n v named = let q = numbered_some (reversal_of h n) v named in reversed_found n 1 h q.0 q.1.0
 
 -- ---- one after the other
@@ -143,18 +161,25 @@ kept_first true r rs = refl
 kept_first false r rs = refl
 
 -- the one of the next number comes first of them, if it is live
-pub left_more : (h : List Entry) (i : ℕ) → left h i ≡ cons_option (find (λ (d : Record). d.number == i + 1) (live h)) (left h (i + 1))
+pub left_more : (h : List Entry) (i : ℕ)
+    → left h i ≡ cons_option (find (λ (d : Record). d.number == i + 1) (live h)) (left h (i + 1))
 left_more h i = elim (slice_get_cases h i).1 [
   | inl q ↦ (
       let r = numbered_as (i + 1) q.0 in
       let minus : i + 1 - 1 ≡ i = omega arith in
-      let rest : drop i h ≡ q.0 ∷ drop (i + 1) h = drop-cons h i q.0 q.1 ∙ (ap (λ x. x ∷ drop (suc i) h) q.3 ∙ ap (λ k. q.0 ∷ drop k h) (sym (add-one i))) in
+      let rest : drop i h ≡ q.0 ∷ drop (i + 1) h =
+      drop-cons h i q.0 q.1 ∙ (ap (λ x. x ∷ drop (suc i) h) q.3 ∙ ap (λ k. q.0 ∷ drop k h) (sym (add-one i))) in
       ap (λ es. filter (is_live h) (numbered_from (i + 1) es)) rest
       ∙ (kept_first (is_live h r) r (left h (i + 1))
-      ∙ told (Some r) (known_entry h (i + 1) q.0 (omega arith) (omega (arith, q.1)) (sym (ap (λ k. get_or h k q.0) minus ∙ q.3)))))
-  | inr q ↦ left_none h i q.0 ∙ (sym (left_none h (i + 1) (omega (arith, q.0))) ∙ told None (unknown_entry h (i + 1) (omega arith) (omega (arith, q.0))))
+      ∙ told (Some r)
+      (known_entry h (i + 1) q.0 (omega arith) (omega (arith, q.1)) (sym (ap (λ k. get_or h k q.0) minus ∙ q.3)))))
+  | inr q ↦
+      left_none h i q.0
+      ∙ (sym (left_none h (i + 1) (omega (arith, q.0)))
+      ∙ told None (unknown_entry h (i + 1) (omega arith) (omega (arith, q.0))))
 ]
   where
     told : (o : Option Record) → entry_of h (i + 1) ≡ o
-        → cons_option (if_passes (is_live h) o) (left h (i + 1)) ≡ cons_option (find (λ (d : Record). d.number == i + 1) (live h)) (left h (i + 1))
+        → cons_option (if_passes (is_live h) o) (left h (i + 1))
+        ≡ cons_option (find (λ (d : Record). d.number == i + 1) (live h)) (left h (i + 1))
     told o e = ap (λ o. cons_option o (left h (i + 1))) (sym (found_live h (i + 1) ∙ ap (if_passes (is_live h)) e))

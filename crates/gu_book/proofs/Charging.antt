@@ -1,6 +1,7 @@
 -- The running sums of what the live claims cost, with one change more.
-use Rattle.std.proofs.Common.{◌≡◌, ℕ, ◌+◌, ◌*◌, ◌≤◌, Bool, true, cond, refl, List, [], ◌∷◌, ◌++◌, length, sym, ◌∙◌, ap, subst, arith, Option, append-nil, Some}
-use Rattle.std.proofs.Common.{None, filter, filter_map, sum_by, bytes_eq, ◌&&◌, IfSome, All, mul-le-mul, mul-le-mul_right}
+use Rattle.std.proofs.Common.{◌≡◌, ℕ, ◌+◌, ◌*◌, ◌≤◌, Bool, true, cond, refl, List, [], ◌∷◌, ◌++◌, length, sym, ◌∙◌, ap}
+use Rattle.std.proofs.Common.{subst, arith, Option, append-nil, Some, None, filter, filter_map, sum_by, bytes_eq, ◌&&◌}
+use Rattle.std.proofs.Common.{IfSome, All, mul-le-mul, mul-le-mul_right}
 use Rattle.gu_book.proofs.Vocabulary.{cons_option, FeeRows, Grove, IsNext, IsSmallCharge, AreFeesOf, IsCharged}
 use Rattle.std.proofs.lemmas.List.Elements.{All-nil, All-cons, All-append, All-filter, All-weaker, filter-append}
 use Rattle.std.proofs.lemmas.List.Sums.{sum_by-le, sum_by-append, sum_by-cons, length-filter, count_by-le-length}
@@ -14,25 +15,31 @@ use Rattle.gu_book.specs.Charging.{HasRoomFor}
 
 -- ---- one change more
 
-small_option : (o : Option Charge) → IfSome o (λ c. c.lots ≤ most_lots) → IfSome o (λ c. c.rate ≤ highest_rate) → All IsSmallCharge (cons_option o [])
+small_option : (o : Option Charge) → IfSome o (λ c. c.lots ≤ most_lots) → IfSome o (λ c. c.rate ≤ highest_rate)
+    → All IsSmallCharge (cons_option o [])
 small_option None lots rate = All-nil IsSmallCharge
-small_option (Some c) lots rate = All-cons IsSmallCharge c [] (record { lots = lots; rate = rate }) (All-nil IsSmallCharge)
+small_option (Some c) lots rate =
+    All-cons IsSmallCharge c [] (record { lots = lots; rate = rate }) (All-nil IsSmallCharge)
 
-pub fees_push : {t : House} {l : List Record} {r : Record} {ts : Grove} → IsNext t l r ts → (fees new : FeeRows) → AreFeesOf t l fees → (o : Option Charge) → o ≡ charge_of t l r.command
-    → IfSome o (λ c. c.lots ≤ most_lots) → IfSome o (λ c. c.rate ≤ highest_rate)
+pub fees_push : {t : House} {l : List Record} {r : Record} {ts : Grove} → IsNext t l r ts → (fees new : FeeRows)
+    → AreFeesOf t l fees → (o : Option Charge) → o ≡ charge_of t l r.command → IfSome o (λ c. c.lots ≤ most_lots)
+    → IfSome o (λ c. c.rate ≤ highest_rate)
     → ((cs : List Charge) → AreSumsOf fees cs → AreSumsOf new (cs ++ cons_option o [])) → AreFeesOf t (l ++ r ∷ []) new
 fees_push {t} {l} {r} next fees new are o is lots rate more =
-    let all : charges t l ++ cons_option o [] ≡ charges t (l ++ r ∷ []) = ap (λ (o : Option Charge). charges t l ++ cons_option o []) is
+    let all : charges t l ++ cons_option o [] ≡ charges t (l ++ r ∷ []) =
+    ap (λ (o : Option Charge). charges t l ++ cons_option o []) is
     ∙ sym (moves_its_own t l r (next_legal next)).charged in
     record {
       sums = subst (λ (cs : List Charge). AreSumsOf new cs) all (more (charges t l) are.sums);
-      small = subst (λ (cs : List Charge). All IsSmallCharge cs) all (All-append IsSmallCharge (charges t l) (cons_option o []) are.small (small_option o lots rate));
+      small = subst (λ (cs : List Charge). All IsSmallCharge cs) all
+          (All-append IsSmallCharge (charges t l) (cons_option o []) are.small (small_option o lots rate));
     }
 
 -- a change that costs nothing
-pub fees_stay : {t : House} {l : List Record} {r : Record} {ts : Grove} → IsNext t l r ts → (fees : FeeRows) → AreFeesOf t l fees → None ≡ charge_of t l r.command
-    → AreFeesOf t (l ++ r ∷ []) fees
-fees_stay next fees are free = fees_push next fees fees are None free tt tt (λ cs sums. subst (AreSumsOf fees) (sym (append-nil cs)) sums)
+pub fees_stay : {t : House} {l : List Record} {r : Record} {ts : Grove} → IsNext t l r ts → (fees : FeeRows)
+    → AreFeesOf t l fees → None ≡ charge_of t l r.command → AreFeesOf t (l ++ r ∷ []) fees
+fees_stay next fees are free =
+    fees_push next fees fees are None free tt tt (λ cs sums. subst (AreSumsOf fees) (sym (append-nil cs)) sums)
 
 pub no_fees : (t : House) (fees : FeeRows) → AreSumsOf fees [] → AreFeesOf t [] fees
 no_fees t fees are = record { sums = are; small = All-nil IsSmallCharge }
@@ -63,27 +70,31 @@ fewer_given h (x ∷ xs) =
     omega (arith, a)
 
 -- a sum over a million elements at most
-pub sum_most : {X : Type 0} (w : X → ℕ) (most : ℕ) (xs : List X) → All (λ x. w x ≤ most) xs → length xs ≤ 1000000 → sum_by w xs ≤ 1000000 * most
+pub sum_most : {X : Type 0} (w : X → ℕ) (most : ℕ) (xs : List X) → All (λ x. w x ≤ most) xs → length xs ≤ 1000000
+    → sum_by w xs ≤ 1000000 * most
 sum_most w most xs all few =
     let a = sum_by-le w most xs all in
     let b : length xs * most ≤ 1000000 * most = mul-le-mul_right most few in
     omega (arith, a, b)
 
 -- and over some of the charges of a list
-bounded : (t : House) (l : List Record) (w : Charge → ℕ) (takes : Charge → Bool) (most : ℕ) → length l ≤ 1000000 → All (λ c. w c ≤ most) (charges t l)
-    → sum_by w (filter takes (charges t l)) ≤ 1000000 * most
+bounded : (t : House) (l : List Record) (w : Charge → ℕ) (takes : Charge → Bool) (most : ℕ) → length l ≤ 1000000
+    → All (λ c. w c ≤ most) (charges t l) → sum_by w (filter takes (charges t l)) ≤ 1000000 * most
 bounded t l w takes most few all =
     let a = length-filter takes (charges t l) in
     let b = count_by-le-length takes (charges t l) in
     let c = fewer_given (λ (r : Record). charge_of t l r.command) l in
-    sum_most w most (filter takes (charges t l)) (All-filter takes (λ (c : Charge). w c ≤ most) (charges t l) all) (omega (arith, a, b, c, few))
+    sum_most w most (filter takes (charges t l)) (All-filter takes (λ (c : Charge). w c ≤ most) (charges t l) all)
+    (omega (arith, a, b, c, few))
 
-pub has_room : (t : House) (l : List Record) (fees : FeeRows) → AreFeesOf t l fees → length l ≤ 1000000 → (o : Option Charge) → IfSome o (λ c. c.lots ≤ most_lots)
-    → IfSome o (λ c. c.rate ≤ highest_rate) → HasRoomFor fees o
+pub has_room : (t : House) (l : List Record) (fees : FeeRows) → AreFeesOf t l fees → length l ≤ 1000000
+    → (o : Option Charge) → IfSome o (λ c. c.lots ≤ most_lots) → IfSome o (λ c. c.rate ≤ highest_rate)
+    → HasRoomFor fees o
 has_room t l fees are few None lots rate = tt
 has_room t l fees are few (Some c) lots rate =
     let sums = are.sums in
-    let costs = All-weaker IsSmallCharge (λ (c : Charge). cost c ≤ 1000000000000) (λ c s. small_cost c s.lots s.rate) (charges t l) are.small in
+    let costs = All-weaker IsSmallCharge (λ (c : Charge). cost c ≤ 1000000000000) (λ c s. small_cost c s.lots s.rate)
+    (charges t l) are.small in
     let each = All-weaker IsSmallCharge (λ (c : Charge). c.lots ≤ 10000000) (λ c s. s.lots) (charges t l) are.small in
     let own = small_cost c lots rate in
     let paid = sums.paid c.taker in
@@ -91,7 +102,8 @@ has_room t l fees are few (Some c) lots rate =
     let received = sums.received c.giver in
     let received_most = bounded t l cost (λ d. bytes_eq d.giver c.giver) 1000000000000 few costs in
     let used = sums.used c.giver c.taker in
-    let used_most = bounded t l (λ d. d.lots) (λ d. bytes_eq d.giver c.giver && bytes_eq d.taker c.taker) 10000000 few each in
+    let used_most =
+    bounded t l (λ d. d.lots) (λ d. bytes_eq d.giver c.giver && bytes_eq d.taker c.taker) 10000000 few each in
     record {
       paid = omega (arith, own, paid, paid_most);
       received = omega (arith, own, received, received_most);
@@ -100,7 +112,8 @@ has_room t l fees are few (Some c) lots rate =
 
 -- ---- what is there
 
-own_part : (w : Charge → ℕ) (takes : Charge → Bool) (cs : List Charge) (c : Charge) → takes c ≡ true → w c ≤ sum_by w (filter takes (cs ++ c ∷ []))
+own_part : (w : Charge → ℕ) (takes : Charge → Bool) (cs : List Charge) (c : Charge) → takes c ≡ true
+    → w c ≤ sum_by w (filter takes (cs ++ c ∷ []))
 own_part w takes cs c own =
     let a = ap (sum_by w) (filter-append takes cs (c ∷ [])) in
     let b = sum_by-append w (filter takes cs) (filter takes (c ∷ [])) in
@@ -109,8 +122,8 @@ own_part w takes cs c own =
     omega (arith, a, b, d, e)
 
 -- a charge that the sums have can be taken out
-pub is_charged : (fees : FeeRows) (cs : List Charge) (o : Option Charge) → AreSumsOf fees (cs ++ cons_option o []) → IfSome o (λ c. c.lots ≤ most_lots)
-    → IfSome o (λ c. c.rate ≤ highest_rate) → IsCharged fees o
+pub is_charged : (fees : FeeRows) (cs : List Charge) (o : Option Charge) → AreSumsOf fees (cs ++ cons_option o [])
+    → IfSome o (λ c. c.lots ≤ most_lots) → IfSome o (λ c. c.rate ≤ highest_rate) → IsCharged fees o
 is_charged fees cs None sums lots rate = tt
 is_charged fees cs (Some c) sums lots rate =
     let small = small_cost c lots rate in
@@ -118,8 +131,11 @@ is_charged fees cs (Some c) sums lots rate =
     let taker : bytes_eq c.taker c.taker ≡ true = (bytes_eq-Decides c.taker c.taker).1 refl in
     record {
       fits = omega (arith, small);
-      paid = subst (λ n. cost c ≤ n) (sym (sums.paid c.taker)) (own_part cost (λ d. bytes_eq d.taker c.taker) cs c taker);
-      received = subst (λ n. cost c ≤ n) (sym (sums.received c.giver)) (own_part cost (λ d. bytes_eq d.giver c.giver) cs c giver);
+      paid =
+          subst (λ n. cost c ≤ n) (sym (sums.paid c.taker)) (own_part cost (λ d. bytes_eq d.taker c.taker) cs c taker);
+      received = subst (λ n. cost c ≤ n) (sym (sums.received c.giver))
+          (own_part cost (λ d. bytes_eq d.giver c.giver) cs c giver);
       used = subst (λ n. c.lots ≤ n) (sym (sums.used c.giver c.taker))
-          (own_part (λ d. d.lots) (λ d. bytes_eq d.giver c.giver && bytes_eq d.taker c.taker) cs c (ap (λ b. b && bytes_eq c.taker c.taker) giver ∙ taker));
+          (own_part (λ d. d.lots) (λ d. bytes_eq d.giver c.giver && bytes_eq d.taker c.taker) cs c
+          (ap (λ b. b && bytes_eq c.taker c.taker) giver ∙ taker));
     }

@@ -12,8 +12,9 @@ use Rattle.gu_fees.proofs.fees.Fees.TheSendSync as fees
 use Rattle.gu_fees.proofs.terms.Terms.TheSendSync as terms
 use Rattle.gu_positions.proofs.positions.Positions.TheSendSync as positions
 use Rattle.gu_book.proofs.lookups.Lookups.TheSendSync as lookups
+use Rattle.gu_sums.proofs.filing.Filing.TheSendSync as filing
 use Rattle.gu_tree.proofs.head.Head.TheSendSync as head
-use Rattle.gu_tree.proofs.slot.Filed.TheSendSync as filed
+use Rattle.gu_tree.proofs.slot.Named.TheSendSync as named
 use Rattle.gu_tree.proofs.node.Node.TheLaws.TheKnot as knot
 use Rattle.gu_tree.specs.contracts.node.Node as Node
 use Rattle.gu_tree.specs.contracts.tree.Tree as Tree
@@ -27,8 +28,21 @@ tree_send : IsSend (Tree.the_row heap.the_row ghosts)
 tree_send = search (node_send, crosses, sendable) depth 12
 
 trees_send : IsSend (Trees.the_row heap.the_row ghosts)
-trees_send = search (tree_send, filed.the_send, crosses, sendable) depth 12
+trees_send = search (tree_send, named.the_send, filing.the_send, crosses, sendable) depth 14
 
 pub book_send : IsSend Book.the_row
-book_send = search (house.the_send, entry.the_send, made.the_send, trees_send, consents.the_field_send, lookups.the_field_send, fees.the_send, positions.the_send, terms.the_send, crosses, sendable)
+book_send =
+    search (
+      house.the_send,
+      entry.the_send,
+      made.the_send,
+      trees_send,
+      consents.the_field_send,
+      lookups.the_field_send,
+      fees.the_send,
+      positions.the_send,
+      terms.the_send,
+      crosses,
+      sendable,
+    )
     depth 20

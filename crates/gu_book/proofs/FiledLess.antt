@@ -1,6 +1,8 @@
 -- What the changes other than one on which nothing stands say, and the trees that show them.
-use Rattle.gu_depend.proofs.Vocabulary.{not, ◌≡◌, ℕ, false, List, refl, sym, ◌∙◌, ap, Some, None, ◌==◌, EntryPart, House, without, Record}
-use Rattle.gu_book.proofs.Vocabulary.{names, Rose, Grove, ChangesTree, Takes, TakesTree, IsTreeOf, named_node, named_place, place_in, IsGroveOf, IsFree}
+use Rattle.gu_depend.proofs.Vocabulary.{not, ◌≡◌, ℕ, false, List, refl, sym, ◌∙◌, ap, Some, None, ◌==◌, EntryPart}
+use Rattle.gu_depend.proofs.Vocabulary.{House, without, Record}
+use Rattle.gu_book.proofs.Vocabulary.{names, Rose, Grove, ChangesTree, Takes, TakesTree, IsTreeOf, named_node}
+use Rattle.gu_book.proofs.Vocabulary.{named_place, place_in, IsGroveOf, IsFree}
 use Rattle.gu_tree.specs.Grove.{place_of}
 use Rattle.gu_depend.proofs.Finds.{find_filter}
 use Rattle.gu_book.proofs.Filed.{Spot, IsBeside, more_beside, place_of_change, changed, rooted, apart, place_of_own}
@@ -16,12 +18,16 @@ module _ {t : House} {l : List Record} {r : Record} {g : Grove} (u : IsFree t l 
       let last = more_beside (others u) r in
       record {
         nodes = λ n none. sym (last.nodes n none) ∙ (finds u).nodes n;
-        alike = λ n un. let a = last.alike n un in record { splits = sym a.splits ∙ (finds u).splits_same n; decides = sym a.decides ∙ (finds u).decisions n };
+        alike = λ n un.
+            let a = last.alike n un in
+            record { splits = sym a.splits ∙ (finds u).splits_same n; decides = sym a.decides ∙ (finds u).decisions n };
         places = λ k other. ap place_of_change (change_left r.number k l (λ e. other (sym e)));
       }
 
   place_gone : place_in (others u) r.number ≡ None
-  place_gone = ap place_of_change (find_filter (λ d. d.number == r.number) (λ d. not (d.number == r.number)) false l (λ d is. ap not is))
+  place_gone =
+      ap place_of_change
+      (find_filter (λ d. d.number == r.number) (λ d. not (d.number == r.number)) false l (λ d is. ap not is))
 
   -- its place is the node that it made or named
   pub own_place : place_of g r.number ≡ named_place r.number r.command
@@ -32,10 +38,14 @@ module _ {t : House} {l : List Record} {r : Record} {g : Grove} (u : IsFree t l 
   left_alone placeless = apart less_beside u.filed placeless (place_gone ∙ sym (own_place ∙ placeless))
 
   -- a Split or a decision, taken back at its node
-  pub taken_back : {trade : ℕ} {p : List ℕ} {n : EntryPart} → Spot l g trade p n → named_node r.command ≡ Some n → (h : Grove) (new : Rose)
-      → ChangesTree g h trade new → Takes g h r.number → IsTreeOf (without l r.number) trade new → IsGroveOf (without l r.number) h
+  pub taken_back : {trade : ℕ} {p : List ℕ} {n : EntryPart} → Spot l g trade p n → named_node r.command ≡ Some n
+      → (h : Grove) (new : Rose) → ChangesTree g h trade new → Takes g h r.number
+      → IsTreeOf (without l r.number) trade new → IsGroveOf (without l r.number) h
   taken_back s is h new tree place shows = changed less_beside u.filed order s is new None tree place shows place_gone
 
   -- a Trade, whose tree goes
-  pub uprooted : ((n : EntryPart) → names n r.command ≡ false) → (h : Grove) → TakesTree g h r.number → Takes g h r.number → IsGroveOf (without l r.number) h
-  uprooted unnamed h tree place = rooted less_beside u.filed unnamed None None tree place (unmade u (record { entry = r.number; part = 0 }) refl) place_gone
+  pub uprooted : ((n : EntryPart) → names n r.command ≡ false) → (h : Grove) → TakesTree g h r.number
+      → Takes g h r.number → IsGroveOf (without l r.number) h
+  uprooted unnamed h tree place =
+      rooted less_beside u.filed unnamed None None tree place (unmade u (record { entry = r.number; part = 0 }) refl)
+      place_gone

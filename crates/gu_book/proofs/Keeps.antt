@@ -1,26 +1,28 @@
 -- One more accepted change leaves true what a book keeps.
-use Rattle.std.proofs.Common.{◌≡◌, ℕ, ◌+◌, ◌≤◌, true, false, ◌&&◌, ◌||◌, List, [], ◌∷◌, ◌++◌, length, refl, sym, ◌∙◌, ap, subst, arith, cond}
-use Rattle.std.proofs.Common.{append-nil, append_assoc, length-append, None, find, bytes_eq, ◌==◌}
+use Rattle.std.proofs.Common.{◌≡◌, ℕ, ◌+◌, ◌≤◌, true, false, ◌&&◌, ◌||◌, List, [], ◌∷◌, ◌++◌, length, refl, sym, ◌∙◌}
+use Rattle.std.proofs.Common.{ap, subst, arith, cond, append-nil, append_assoc, length-append, None, find, bytes_eq}
+use Rattle.std.proofs.Common.{◌==◌}
 use Rattle.std.specs.List.{IsDistinct}
-use Rattle.gu_book.proofs.Vocabulary.{list_any, Grove, tree_of, last_place, IsSameGrove, IsGroveOf, IsNext, AreTreesOf, same_id, NoIdTwice, IsKept, IsWithinLimits, AllWithinLimits, given}
+use Rattle.gu_book.proofs.Vocabulary.{list_any, same_id, NoIdTwice, IsKept, IsWithinLimits, AllWithinLimits, given}
 use Rattle.gu_book.proofs.Vocabulary.{Consents}
 use Rattle.std.specs.Cmp.{IsEquivalence}
 use Rattle.std.proofs.lemmas.List.Elements.{All-nil, All-push}
 use Rattle.std.proofs.lemmas.List.Sums.{length-filter, count_by-le-length}
 use Rattle.std.proofs.lemmas.Map.Keys.{IsDistinct-push}
 use Rattle.std.proofs.lemmas.Slice.Eq.{bytes_eq-Decides}
-use Rattle.gu_depend.proofs.Vocabulary.{House, knows_firm, numbered_as, numbered_from, records, is_change, is_reversed, live, RisesFrom, refusal_of, unless, without, answer_to, command_refusal}
-use Rattle.gu_depend.proofs.Vocabulary.{entry_of, reversal_of, on_change, initiate_rest, is_same_id, call_of, IsRunFrom, Command, Initiate, Decline, Reverse, Accepted, Entry, Record, UnknownFirm}
-use Rattle.gu_depend.proofs.Vocabulary.{bytes_same, consents_left, is_consenting}
+use Rattle.gu_depend.proofs.Vocabulary.{House, knows_firm, numbered_as, numbered_from, records, is_change, is_reversed}
+use Rattle.gu_depend.proofs.Vocabulary.{live, refusal_of, unless, without, answer_to, command_refusal, entry_of}
+use Rattle.gu_depend.proofs.Vocabulary.{reversal_of, on_change, initiate_rest, is_same_id, call_of, IsRunFrom, Command}
+use Rattle.gu_depend.proofs.Vocabulary.{Initiate, Decline, Reverse, Accepted, Entry, UnknownFirm, bytes_same}
+use Rattle.gu_depend.proofs.Vocabulary.{consents_left, is_consenting}
 use Rattle.gu_base.proofs.LiveLaws.{live_push_change, live_push_reverse, is_live, live_push_consent}
 use Rattle.gu_base.proofs.Basics.{bytes_symm, nothing_here}
-use Rattle.gu_tree.specs.{Filing.{last_of}, Grove.{place_of}}
 use Rattle.gu_book.specs.Kept.{AcceptedFrom, IsAccepted}
 use Rattle.std.proofs.lemmas.Bool.{and_parts}
 use Rattle.gu_base.proofs.Accepted.{first_none, change_refused, IsAllowed, allowed, open_from_none}
 use Rattle.gu_base.proofs.{RunLaws.{IsRun, run_push}, Numbered.{found_at, length_numbered}}
 use Rattle.gu_base.proofs.Consenting.{left_change, left_initiate, left_decline, left_reverse, not_reversed}
-use Rattle.gu_book.proofs.{Filed.{filed_none, same_filed}, Leaves.{live_rises, without_small}, Refused.{accepted_small}}
+use Rattle.gu_book.proofs.{Leaves.{without_small}, Refused.{accepted_small}}
 
 ids_congr : (x y z : Entry) → same_id x y ≡ true → same_id x z ≡ same_id y z
 ids_congr x y z h =
@@ -30,7 +32,9 @@ ids_congr x y z h =
     ap (λ w. bytes_eq w z.firm && bytes_eq x.id z.id) f ∙ ap (λ w. bytes_eq y.firm z.firm && bytes_eq w z.id) g
 
 ids_symm : (x y : Entry) → same_id x y ≡ same_id y x
-ids_symm x y = ap (λ b. b && bytes_eq x.id y.id) (bytes_symm x.firm y.firm) ∙ ap (λ b. bytes_eq y.firm x.firm && b) (bytes_symm x.id y.id)
+ids_symm x y =
+    ap (λ b. b && bytes_eq x.id y.id) (bytes_symm x.firm y.firm)
+    ∙ ap (λ b. bytes_eq y.firm x.firm && b) (bytes_symm x.id y.id)
 
 ids_laws : IsEquivalence same_id
 ids_laws = record {
@@ -39,17 +43,25 @@ ids_laws = record {
   congr = ids_congr;
 }
 
-id_is_new : (n : ℕ) (e : Entry) (h : List Entry) → find (is_same_id (call_of e)) (numbered_from n h) ≡ None → list_any (same_id e) h ≡ false
+id_is_new : (n : ℕ) (e : Entry) (h : List Entry) → find (is_same_id (call_of e)) (numbered_from n h) ≡ None
+    → list_any (same_id e) h ≡ false
 id_is_new n e [] none = refl
 id_is_new n e (d ∷ h) none =
-    let p = nothing_here (same_id d e) (numbered_as n d) (find (is_same_id (call_of e)) (numbered_from (n + 1) h)) none in
+    let p =
+    nothing_here (same_id d e) (numbered_as n d) (find (is_same_id (call_of e)) (numbered_from (n + 1) h)) none in
     ap (λ b. b || list_any (same_id e) h) (ids_symm e d ∙ p.0) ∙ id_is_new (n + 1) e h p.1
 
 accepted_push : (t : House) (before h : List Entry) (e : Entry) → AcceptedFrom t before h
-    → answer_to t (before ++ h) (call_of e) ≡ Accepted (length (before ++ h) + 1) e.status → AcceptedFrom t before (h ++ e ∷ [])
-accepted_push t before [] e all ok = (subst (λ k. answer_to t k (call_of e) ≡ Accepted (length k + 1) e.status) (append-nil before) ok, tt)
-accepted_push t before (d ∷ h) e all ok =
-    (all.0, accepted_push t (before ++ d ∷ []) h e all.1 (subst (λ k. answer_to t k (call_of e) ≡ Accepted (length k + 1) e.status) (sym (append_assoc before (d ∷ []) h)) ok))
+    → answer_to t (before ++ h) (call_of e) ≡ Accepted (length (before ++ h) + 1) e.status
+    → AcceptedFrom t before (h ++ e ∷ [])
+accepted_push t before [] e all ok =
+    (subst (λ k. answer_to t k (call_of e) ≡ Accepted (length k + 1) e.status) (append-nil before) ok, tt)
+accepted_push t before (d ∷ h) e all ok = (
+  all.0,
+  accepted_push t (before ++ d ∷ []) h e all.1
+      (subst (λ k. answer_to t k (call_of e) ≡ Accepted (length k + 1) e.status)
+      (sym (append_assoc before (d ∷ []) h)) ok),
+)
 
 -- a house that accepts an entry is one
 pub is_accepted_in : (t : House) (h : List Entry) (e : Entry) (n : ℕ)
@@ -57,40 +69,35 @@ pub is_accepted_in : (t : House) (h : List Entry) (e : Entry) (n : ℕ)
 is_accepted_in t h e n ok = record { house = t; answered = ok }
 
 pub live_few : (h : List Entry) → length (live h) ≤ length h
-live_few h = omega (arith, length-filter (is_live h) (records h), count_by-le-length (is_live h) (records h), length_numbered 1 h)
+live_few h =
+    omega
+    (arith, length-filter (is_live h) (records h), count_by-le-length (is_live h) (records h), length_numbered 1 h)
 
-module _ {t : House} {h : List Entry} {ts : Grove} {cs : Consents} (kept : IsKept t h ts cs) (n : ℕ) (e : Entry)
+module _ {t : House} {h : List Entry} {cs : Consents} (kept : IsKept t h cs) (n : ℕ) (e : Entry)
     (ok : answer_to t h (call_of e) ≡ Accepted n e.status) where
   shown : IsAllowed t h e n
   shown = allowed t h e n ok
 
   -- what an accepted call leaves true, of any kind
-  kept_next : (us : Grove) (ds : Consents) → AllWithinLimits (live (h ++ e ∷ [])) → IsGroveOf (live (h ++ e ∷ [])) us → last_place us ≤ n
-      → ((m : ℕ) → given ds m ≡ consents_left (h ++ e ∷ []) m) → IsKept t (h ++ e ∷ []) us ds
-  kept_next us ds small filed placed consented =
+  kept_next : (ds : Consents) → AllWithinLimits (live (h ++ e ∷ []))
+      → ((m : ℕ) → given ds m ≡ consents_left (h ++ e ∷ []) m) → IsKept t (h ++ e ∷ []) ds
+  kept_next ds small consented =
       let a = shown in
       let before : IsRun t h = record { replayed = kept.replayed; behind = kept.behind } in
       let run = run_push before e n ok in
-      let longer = length-append h (e ∷ []) in
       record {
-        few = omega (arith, longer, a.room);
+        few = omega (arith, length-append h (e ∷ []), a.room);
         behind = run.behind;
         replayed = run.replayed;
         within = small;
         accepted = accepted_push t [] h e kept.accepted (ok ∙ ap (λ m. Accepted m e.status) a.number);
         once = IsDistinct-push ids_laws h e kept.once (id_is_new 1 e h a.id);
-        filed = filed;
-        placed = omega (arith, longer, a.number, placed);
         consented = consented;
       }
 
   -- its number is the next, and that of the last entry then
   pub next_number : (n ≡ length h + 1) × (length (h ++ e ∷ []) ≡ n)
   next_number = let number = shown.number in (omega (arith, number), omega (arith, number, length-append h (e ∷ [])))
-
-  -- what stays as it was is no later than the history was
-  pub no_later : (us : Grove) → last_place us ≤ length h → last_place us ≤ n
-  no_later us placed = let number = shown.number in omega (arith, number, placed)
 
   -- ---- a change
 
@@ -99,26 +106,18 @@ module _ {t : House} {h : List Entry} {ts : Grove} {cs : Consents} (kept : IsKep
     live_more =
         let number = shown.number in
         let numbered : n ≡ 1 + length h = omega (arith, number) in
-        ap (λ m. live h ++ numbered_as m e ∷ []) numbered ∙ sym (live_push_change h e change (kept.behind (1 + length h) (omega arith)))
+        ap (λ m. live h ++ numbered_as m e ∷ []) numbered
+        ∙ sym (live_push_change h e change (kept.behind (1 + length h) (omega arith)))
 
-    lawful : refusal_of t (live h) e.firm e.command ≡ None
+    pub lawful : refusal_of t (live h) e.firm e.command ≡ None
     lawful = sym (change_refused t h e.firm e.command change) ∙ shown.lawful
 
-    -- an accepted change may follow the live changes
-    pub next_kept : IsNext t (live h) (numbered_as n e) ts
-    next_kept = record {
-      filed = kept.filed;
-      later = let placed = kept.placed in let number = shown.number in omega (arith, number, placed);
-      replayed = kept.replayed;
-      lawful = lawful;
-      rises = subst (RisesFrom 1) (sym live_more) (live_rises (h ++ e ∷ []));
-    }
-
-    pub kept_change : (us : Grove) → IsGroveOf (live h ++ numbered_as n e ∷ []) us → last_place us ≤ n → IsKept t (h ++ e ∷ []) us cs
-    kept_change us filed placed =
-        kept_next us cs
-        (subst AllWithinLimits live_more (All-push (λ r. IsWithinLimits r.command) (live h) (numbered_as n e) kept.within (accepted_small t (live h) e.firm e.command lawful)))
-        (subst (λ (l : List Record). IsGroveOf l us) live_more filed) placed
+    pub kept_change : IsKept t (h ++ e ∷ []) cs
+    kept_change =
+        kept_next cs
+        (subst AllWithinLimits live_more
+        (All-push (λ r. IsWithinLimits r.command) (live h) (numbered_as n e) kept.within
+        (accepted_small t (live h) e.firm e.command lawful)))
         (λ m. kept.consented m ∙ left_change h e m e.command refl change)
 
   -- ---- an Initiate or a Decline
@@ -126,14 +125,15 @@ module _ {t : House} {h : List Entry} {ts : Grove} {cs : Consents} (kept : IsKep
   pub live_same : is_consenting e.command ≡ true → live h ≡ live (h ++ e ∷ [])
   live_same consent = sym (live_push_consent h e consent)
 
-  kept_consenting : is_consenting e.command ≡ true → (ds : Consents) → ((m : ℕ) → given ds m ≡ consents_left (h ++ e ∷ []) m) → IsKept t (h ++ e ∷ []) ts ds
-  kept_consenting consent ds consented =
-      kept_next ts ds (subst AllWithinLimits (live_same consent) kept.within) (subst (λ (l : List Record). IsGroveOf l ts) (live_same consent) kept.filed) (no_later ts kept.placed) consented
+  kept_consenting : is_consenting e.command ≡ true → (ds : Consents)
+      → ((m : ℕ) → given ds m ≡ consents_left (h ++ e ∷ []) m) → IsKept t (h ++ e ∷ []) ds
+  kept_consenting consent ds consented = kept_next ds (subst AllWithinLimits (live_same consent) kept.within) consented
 
   open_entry : (k : ℕ) → e.command ≡ Initiate k → is_reversed h k ≡ false
   open_entry k same =
       let lawful = subst (λ (c : Command). command_refusal t h e.firm c ≡ None) same shown.lawful in
-      let a = first_none (unless (knows_firm t e.firm) UnknownFirm) (on_change t h e.firm (initiate_rest h e.firm) (entry_of h k) ∷ []) lawful in
+      let a = first_none (unless (knows_firm t e.firm) UnknownFirm)
+      (on_change t h e.firm (initiate_rest h e.firm) (entry_of h k) ∷ []) lawful in
       let b = first_none (on_change t h e.firm (initiate_rest h e.firm) (entry_of h k)) [] a.1 in
       let o = open_from_none t h e.firm (initiate_rest h e.firm) (entry_of h k) b.0 in
       let number = (found_at k 1 h o.0 o.1.found).number in
@@ -141,18 +141,20 @@ module _ {t : House} {h : List Entry} {ts : Grove} {cs : Consents} (kept : IsKep
 
   told_by : (c : Command) → e.command ≡ c → is_consenting c ≡ true → (ds : Consents)
       → ((k m : ℕ) → e.command ≡ Initiate k → given ds m ≡ cond (m == k) (given cs m ++ e.firm ∷ []) (given cs m))
-      → ((k m : ℕ) → e.command ≡ Decline k → given ds m ≡ cond (m == k) [] (given cs m)) → IsKept t (h ++ e ∷ []) ts ds
+      → ((k m : ℕ) → e.command ≡ Decline k → given ds m ≡ cond (m == k) [] (given cs m)) → IsKept t (h ++ e ∷ []) ds
   told_by (Initiate k) same is ds more less =
-      kept_consenting (ap is_consenting same) ds
-      (λ m. more k m same ∙ (ap (λ fs. cond (m == k) (fs ++ e.firm ∷ []) fs) (kept.consented m) ∙ left_initiate h e k m same (open_entry k same)))
+      kept_consenting (ap is_consenting same) ds (λ m. more k m same
+      ∙ (ap (λ fs. cond (m == k) (fs ++ e.firm ∷ []) fs) (kept.consented m)
+      ∙ left_initiate h e k m same (open_entry k same)))
   told_by (Decline k) same is ds more less =
-      kept_consenting (ap is_consenting same) ds (λ m. less k m same ∙ (ap (λ fs. cond (m == k) [] fs) (kept.consented m) ∙ left_decline h e k m same))
+      kept_consenting (ap is_consenting same) ds
+      (λ m. less k m same ∙ (ap (λ fs. cond (m == k) [] fs) (kept.consented m) ∙ left_decline h e k m same))
   told_by _ same is ds more less = absurd (cc)
 
   -- a consent is given, or the consents to one reversal are taken back
   pub kept_consents : is_consenting e.command ≡ true → (ds : Consents)
       → ((k m : ℕ) → e.command ≡ Initiate k → given ds m ≡ cond (m == k) (given cs m ++ e.firm ∷ []) (given cs m))
-      → ((k m : ℕ) → e.command ≡ Decline k → given ds m ≡ cond (m == k) [] (given cs m)) → IsKept t (h ++ e ∷ []) ts ds
+      → ((k m : ℕ) → e.command ≡ Decline k → given ds m ≡ cond (m == k) [] (given cs m)) → IsKept t (h ++ e ∷ []) ds
   kept_consents is = told_by e.command refl is
 
   -- ---- a Reverse
@@ -160,58 +162,40 @@ module _ {t : House} {h : List Entry} {ts : Grove} {cs : Consents} (kept : IsKep
   pub live_less : (k : ℕ) → e.command ≡ Reverse k → without (live h) k ≡ live (h ++ e ∷ [])
   live_less k same = sym (live_push_reverse h e k same)
 
-  pub kept_reverse : (k : ℕ) → e.command ≡ Reverse k → (us : Grove) → IsGroveOf (without (live h) k) us → last_place us ≡ last_place ts
-      → (ds : Consents) → ((m : ℕ) → given ds m ≡ cond (m == k) [] (given cs m)) → IsKept t (h ++ e ∷ []) us ds
-  kept_reverse k same us filed placed ds less =
-      kept_next us ds (subst AllWithinLimits (live_less k same) (without_small k (live h) kept.within)) (subst (λ (l : List Record). IsGroveOf l us) (live_less k same) filed)
-      (no_later us (let before = kept.placed in omega (arith, placed, before)))
+  pub kept_reverse : (k : ℕ) → e.command ≡ Reverse k → (ds : Consents)
+      → ((m : ℕ) → given ds m ≡ cond (m == k) [] (given cs m)) → IsKept t (h ++ e ∷ []) ds
+  kept_reverse k same ds less =
+      kept_next ds (subst AllWithinLimits (live_less k same) (without_small k (live h) kept.within))
       (λ m. less m ∙ (ap (λ fs. cond (m == k) [] fs) (kept.consented m) ∙ left_reverse h e k m same))
-
--- the trees alone have changed, and nothing that is seen of them
-pub kept_alike : {t : House} {h : List Entry} {old : Grove} {cs : Consents} → IsKept t h old cs → (new : Grove) → IsSameGrove old new → IsKept t h new cs
-kept_alike {h = h} {old = old} kept new same = record {
-  few = kept.few;
-  behind = kept.behind;
-  replayed = kept.replayed;
-  within = kept.within;
-  accepted = kept.accepted;
-  once = kept.once;
-  filed = same_filed (live h) old new same kept.filed;
-  placed = let placed = kept.placed in let last : last_place new ≡ last_place old = ap last_of same.slots in omega (arith, placed, last);
-  consented = kept.consented;
-}
-
--- the trees are those of the live changes
-pub trees_kept : {t : House} {h : List Entry} {ts : Grove} {cs : Consents} → IsKept t h ts cs → AreTreesOf (live h) ts
-trees_kept {t} {h} kept = record { house = t; filed = kept.filed; replayed = kept.replayed; rises = live_rises h }
 
 nothing_twice : NoIdTwice []
 unfolding IsDistinct
 nothing_twice = tt
 
-pub kept_none : (t : House) (cs : Consents) → ((n : ℕ) → given cs n ≡ []) → (g : Grove) → ((k : ℕ) → tree_of g k ≡ None) → ((k : ℕ) → place_of g k ≡ None)
-    → last_place g ≡ 0 → IsKept t [] g cs
-kept_none t cs none g trees places last = record {
+pub kept_none : (t : House) (cs : Consents) → ((n : ℕ) → given cs n ≡ []) → IsKept t [] cs
+kept_none t cs none = record {
   few = omega arith;
   behind = λ n high. refl;
   replayed = refl;
   within = All-nil (λ r. IsWithinLimits r.command);
   accepted = tt;
   once = nothing_twice;
-  filed = filed_none g trees places;
-  placed = omega (arith, last);
   consented = none;
 }
 
 -- entries that were accepted in turn can be cut anywhere
-accepted_cut : (t : House) (done before : List Entry) (e : Entry) (after : List Entry) → AcceptedFrom t done (before ++ e ∷ after)
+accepted_cut : (t : House) (done before : List Entry) (e : Entry) (after : List Entry)
+    → AcceptedFrom t done (before ++ e ∷ after)
     → answer_to t (done ++ before) (call_of e) ≡ Accepted (length (done ++ before) + 1) e.status
-accepted_cut t done [] e after all = subst (λ k. answer_to t k (call_of e) ≡ Accepted (length k + 1) e.status) (sym (append-nil done)) all.0
+accepted_cut t done [] e after all =
+    subst (λ k. answer_to t k (call_of e) ≡ Accepted (length k + 1) e.status) (sym (append-nil done)) all.0
 accepted_cut t done (d ∷ before) e after all =
-    subst (λ k. answer_to t k (call_of e) ≡ Accepted (length k + 1) e.status) (append_assoc done (d ∷ []) before) (accepted_cut t (done ++ d ∷ []) before e after all.1)
+    subst (λ k. answer_to t k (call_of e) ≡ Accepted (length k + 1) e.status) (append_assoc done (d ∷ []) before)
+    (accepted_cut t (done ++ d ∷ []) before e after all.1)
 
 pub run_from_accepted : (t : House) (h : List Entry) → AcceptedFrom t [] h → IsRunFrom t [] h
 run_from_accepted t h all = record {
   begins = (h, refl);
-  accepted = λ before after e same _. accepted_cut t [] before e after (subst (λ (k : List Entry). AcceptedFrom t [] k) same all);
+  accepted = λ before after e same _.
+      accepted_cut t [] before e after (subst (λ (k : List Entry). AcceptedFrom t [] k) same all);
 }

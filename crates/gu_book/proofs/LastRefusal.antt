@@ -1,15 +1,20 @@
 -- The last refusal of a command that names an entry, by what a book keeps beside its history.
-use Rattle.std.proofs.Common.{◌≡◌, ℕ, Bool, true, not, List, [], ◌∷◌, refl, sym, ◌∙◌, ap, Option, Some, None, option_map}
-use Rattle.gu_depend.proofs.Vocabulary.{House, live, first, unless, parties_of, consents_of, is_among, is_empty, missing, consents_left, reversal_of, Command, Initiate, Decline}
-use Rattle.gu_depend.proofs.Vocabulary.{Reverse, Entry, Record, Refusal, NotAChange, AlreadyReversed, NotAParty, NeedsConsent, StandsOn, AlreadyConsented, NothingPending}
-use Rattle.gu_depend.proofs.Vocabulary.{UnknownFirm, command_refusal, entry_of, knows_firm, on_change}
+use Rattle.std.proofs.Common.{◌≡◌, ℕ, Bool, true, not, List, [], ◌∷◌, refl, sym, ◌∙◌, ap, Option, Some, None}
+use Rattle.std.proofs.Common.{option_map}
+use Rattle.gu_depend.proofs.Vocabulary.{House, live, first, unless, parties_of, consents_of, is_among, is_empty}
+use Rattle.gu_depend.proofs.Vocabulary.{missing, consents_left, reversal_of, Command, Initiate, Decline, Reverse, Entry}
+use Rattle.gu_depend.proofs.Vocabulary.{Record, Refusal, NotAChange, AlreadyReversed, NotAParty, NeedsConsent, StandsOn}
+use Rattle.gu_depend.proofs.Vocabulary.{AlreadyConsented, NothingPending, UnknownFirm, command_refusal, entry_of}
+use Rattle.gu_depend.proofs.Vocabulary.{knows_firm, on_change}
 use Rattle.gu_base.proofs.Consenting.{not_reversed, left_open}
 use Rattle.gu_book.specs.Front.{IsStandingOn, own_refusal}
 use Rattle.gu_book.proofs.Vocabulary.{rest_of}
 
 -- where no other refuses, the last one is that of the row
-pub last_of_row : (is : Bool) (reversal : Option Record) (party : Bool) (last : Option Refusal) → is ≡ true → reversal ≡ None → party ≡ true
-    → last ≡ first (unless is NotAChange ∷ option_map (λ v. AlreadyReversed v.number) reversal ∷ unless party NotAParty ∷ last ∷ [])
+pub last_of_row : (is : Bool) (reversal : Option Record) (party : Bool) (last : Option Refusal) → is ≡ true
+    → reversal ≡ None → party ≡ true
+    → last ≡ first
+    (unless is NotAChange ∷ option_map (λ v. AlreadyReversed v.number) reversal ∷ unless party NotAParty ∷ last ∷ [])
 last_of_row is reversal party None a b c = rw (a, b, c) refl
 last_of_row is reversal party (Some x) a b c = rw (a, b, c) refl
 
@@ -18,23 +23,32 @@ module _ (t : House) (h : List Entry) (given : ℕ → List (List ℕ)) (left : 
   given_open n unnamed = left n ∙ left_open h n (not_reversed n 1 h unnamed)
 
   -- of an entry that no Reverse names, it is that of the rules
-  pub last_kept : (by : List ℕ) (c : Command) (r : Record) (standing : Option ℕ) → IsStandingOn t (live h) c r.number standing → reversal_of h r.number ≡ None
+  pub last_kept : (by : List ℕ) (c : Command) (r : Record) (standing : Option ℕ)
+      → IsStandingOn t (live h) c r.number standing → reversal_of h r.number ≡ None
       → own_refusal (given r.number) (parties_of t (live h) r.firm r.command) standing by c ≡ rest_of t h by c r
-  last_kept by (Initiate _) r standing is unnamed = ap (λ cs. unless (not (is_among by cs)) AlreadyConsented) (given_open r.number unnamed)
-  last_kept by (Decline _) r standing is unnamed = ap (λ cs. unless (not (is_empty cs)) NothingPending) (given_open r.number unnamed)
+  last_kept by (Initiate _) r standing is unnamed =
+      ap (λ cs. unless (not (is_among by cs)) AlreadyConsented) (given_open r.number unnamed)
+  last_kept by (Decline _) r standing is unnamed =
+      ap (λ cs. unless (not (is_empty cs)) NothingPending) (given_open r.number unnamed)
   last_kept by (Reverse _) r standing is unnamed =
       let parties = parties_of t (live h) r.firm r.command in
-      ap (λ cs. first (option_map (λ f. NeedsConsent f) (missing parties cs) ∷ option_map (λ n. StandsOn n) standing ∷ [])) (given_open r.number unnamed)
-      ∙ ap (λ o. first (option_map (λ f. NeedsConsent f) (missing parties (consents_of h r.number)) ∷ option_map (λ n. StandsOn n) o ∷ [])) is
+      ap
+      (λ cs. first (option_map (λ f. NeedsConsent f) (missing parties cs) ∷ option_map (λ n. StandsOn n) standing ∷ []))
+      (given_open r.number unnamed)
+      ∙ ap (λ o.
+      first (option_map (λ f. NeedsConsent f) (missing parties (consents_of h r.number))
+      ∷ option_map (λ n. StandsOn n) o ∷ []))
+      is
   last_kept by _ r standing is unnamed = refl
 
 -- ---- the row of a command that names an entry
 
 abbrev named_row : House → List Entry → List ℕ → ℕ → Command → Option Refusal
-named_row t h by n c = first (unless (knows_firm t by) UnknownFirm ∷ on_change t h by (rest_of t h by c) (entry_of h n) ∷ [])
+named_row t h by n c =
+    first (unless (knows_firm t by) UnknownFirm ∷ on_change t h by (rest_of t h by c) (entry_of h n) ∷ [])
 
-by_kind : (t : House) (h : List Entry) (by : List ℕ) (n : ℕ) (c d : Command) → c ≡ d → named_row t h by n d ≡ command_refusal t h by d
-    → command_refusal t h by c ≡ named_row t h by n c
+by_kind : (t : House) (h : List Entry) (by : List ℕ) (n : ℕ) (c d : Command) → c ≡ d
+    → named_row t h by n d ≡ command_refusal t h by d → command_refusal t h by c ≡ named_row t h by n c
 by_kind t h by n c d is same = ap (command_refusal t h by) is ∙ sym (ap (named_row t h by n) is ∙ same)
 
 pub initiate_row : (t : House) (h : List Entry) (by : List ℕ) (n : ℕ) (c : Command)

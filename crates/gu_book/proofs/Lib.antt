@@ -32,6 +32,6 @@ pub mod FiledLess
 pub mod Gone
 pub mod Crossing
 mod PartsAway
+mod LiveStates
 mod Books
 mod TradesKept
-mod Keeping

@@ -1,11 +1,13 @@
 -- What is found of a history without going over it is what a search of it finds, also with one more entry.
-use Rattle.std.proofs.Common.{◌≡◌, ℕ, suc, ◌+◌, ◌-◌, ◌<◌, ◌≤◌, Bool, true, false, ◌&&◌, List, [], ◌∷◌, ◌++◌, length, get_or, refl, sym, ◌∙◌, ap, subst}
-use Rattle.std.proofs.Common.{arith, cond, Some, None, find, bytes_eq, option_map, option_and_then, ◌==◌, count_by}
+use Rattle.std.proofs.Common.{◌≡◌, ℕ, suc, ◌+◌, ◌-◌, ◌<◌, ◌≤◌, Bool, true, false, ◌&&◌, List, [], ◌∷◌, ◌++◌, length}
+use Rattle.std.proofs.Common.{get_or, refl, sym, ◌∙◌, ap, subst, arith, cond, Some, None, find, bytes_eq, option_map}
+use Rattle.std.proofs.Common.{option_and_then, ◌==◌, count_by}
 use Rattle.gu_book.proofs.Vocabulary.{AllByRecursion, same_id, NoIdTwice, Ids, reversal_in, Reversals}
 use Rattle.std.proofs.{lemmas.Bool.{and_parts, eqb-true}, lemmas.List.Folds.find-append}
 use Rattle.std.proofs.{lemmas.Map.Keys.{IsDistinct-head, IsDistinct-tail}, lemmas.Slice.Eq.bytes_eq-Decides}
-use Rattle.gu_depend.proofs.Vocabulary.{House, same_command, numbered_as, numbered_from, records, is_reverse_of, Call, answer_to, answer_by, is_same_id, is_same_call, entry_of}
-use Rattle.gu_depend.proofs.Vocabulary.{reversal_of, call_of, Reverse, Answer, Accepted, Repeated, Entry, Record, DuplicateId}
+use Rattle.gu_depend.proofs.Vocabulary.{House, same_command, numbered_as, numbered_from, records, is_reverse_of, Call}
+use Rattle.gu_depend.proofs.Vocabulary.{answer_to, answer_by, is_same_id, is_same_call, entry_of, reversal_of, call_of}
+use Rattle.gu_depend.proofs.Vocabulary.{Reverse, Answer, Accepted, Repeated, Entry, Record, DuplicateId}
 use Rattle.gu_depend.proofs.{Vocabulary.most_entries, Finds.{by_test, count_cons}}
 use Rattle.gu_base.specs.declared.entry.Answer.TheVariants.{Refused}
 use Rattle.gu_base.proofs.{Accepted.allowed, Basics.{bytes_symm, mapped_none, or_none}, LiveLaws.numbered_push}
@@ -19,8 +21,10 @@ use Rattle.gu_book.specs.Lookups.{number_of, AreIdsOf, AreReversalsOf}
 -- ---- a search of a history with one more entry
 
 -- the number that a search finds, one entry later
-number_push : (p : Record → Bool) (h : List Entry) (e : Entry) (n : ℕ) → n ≡ length h + 1 → (p (numbered_as (1 + length h) e) ≡ true → find p (records h) ≡ None)
-    → option_map (λ (r : Record). r.number) (find p (records (h ++ e ∷ []))) ≡ cond (p (numbered_as (1 + length h) e)) (Some n) (option_map (λ (r : Record). r.number) (find p (records h)))
+number_push : (p : Record → Bool) (h : List Entry) (e : Entry) (n : ℕ) → n ≡ length h + 1
+    → (p (numbered_as (1 + length h) e) ≡ true → find p (records h) ≡ None)
+    → option_map (λ (r : Record). r.number) (find p (records (h ++ e ∷ [])))
+    ≡ cond (p (numbered_as (1 + length h) e)) (Some n) (option_map (λ (r : Record). r.number) (find p (records h)))
 number_push p h e n number none =
     let new = numbered_as (1 + length h) e in
     let last : 1 + length h ≡ n = omega (arith, number) in
@@ -29,7 +33,8 @@ number_push p h e n number none =
 
 -- ---- ids
 
-module _ {h : List Entry} {ids : Ids} (are : AreIdsOf ids h) (t : House) (e : Entry) (n : ℕ) (ok : answer_to t h (call_of e) ≡ Accepted n e.status) where
+module _ {h : List Entry} {ids : Ids} (are : AreIdsOf ids h) (t : House) (e : Entry) (n : ℕ)
+    (ok : answer_to t h (call_of e) ≡ Accepted n e.status) where
   -- there is a number for an accepted entry
   pub ids_fewer : count ids < most_entries
   ids_fewer = let many = count_is ids h are.chained in let room = (allowed t h e n ok).room in omega (arith, many, room)
@@ -65,45 +70,58 @@ module _ (h : List Entry) (c : Call) (n : ℕ) (there : number_of h c ≡ Some n
 
   -- the entry of the number stands in the history
   pub stands_within : n - 1 < length h
-  stands_within = let at = found_at n 1 h its_record.0 its_entry in let from = at.from in let within = at.within in omega (arith, from, within)
+  stands_within =
+      let at = found_at n 1 h its_record.0 its_entry in
+      let from = at.from in
+      let within = at.within in
+      omega (arith, from, within)
 
   -- and has the id
   pub stands_found : (e : Entry) → e ≡ get_or h (n - 1) e → find (is_same_id c) (records h) ≡ Some (numbered_as n e)
-  stands_found e is = its_record.1.0 ∙ (sym its_entry ∙ known_entry h n e (found_at n 1 h its_record.0 its_entry).from stands_within is)
+  stands_found e is =
+      its_record.1.0 ∙ (sym its_entry ∙ known_entry h n e (found_at n 1 h its_record.0 its_entry).from stands_within is)
 
 -- no record has the id: none is of the call itself
 pub no_call : (c : Call) (rs : List Record) → find (is_same_id c) rs ≡ None → find (is_same_call c) rs ≡ None
 no_call c = none_of_both (is_same_id c) (λ (r : Record). same_command r.command c.command)
 
 -- no later entry has the id
-no_later : (c : Call) (m : ℕ) (d : Entry) (h : List Entry) → AllByRecursion (λ y. same_id d y ≡ false) h → d.firm ≡ c.firm → d.id ≡ c.id
-    → find (is_same_id c) (numbered_from m h) ≡ None
+no_later : (c : Call) (m : ℕ) (d : Entry) (h : List Entry) → AllByRecursion (λ y. same_id d y ≡ false) h
+    → d.firm ≡ c.firm → d.id ≡ c.id → find (is_same_id c) (numbered_from m h) ≡ None
 no_later c m d [] apart firm id = refl
 no_later c m d (e ∷ h) apart firm id =
     let other : (bytes_eq e.firm c.firm && bytes_eq e.id c.id) ≡ false =
     cc (firm, id, bytes_symm e.firm d.firm, bytes_symm e.id d.id, apart.0) in
-    ap (λ b. cond b (Some (numbered_as m e)) (find (is_same_id c) (numbered_from (m + 1) h))) other ∙ no_later c (m + 1) d h apart.1 firm id
+    ap (λ b. cond b (Some (numbered_as m e)) (find (is_same_id c) (numbered_from (m + 1) h))) other
+    ∙ no_later c (m + 1) d h apart.1 firm id
 
 ids_once : (c : Call) (m : ℕ) (h : List Entry) → NoIdTwice h → count_by (is_same_id c) (numbered_from m h) ≤ 1
 ids_once c m [] once = omega arith
 ids_once c m (d ∷ h) once =
     let a = count_cons (is_same_id c) (numbered_as m d) (numbered_from (m + 1) h) in
-    let b = once_at (is_same_id c) (numbered_from (m + 1) h) (is_same_id c (numbered_as m d)) (ids_once c (m + 1) h (IsDistinct-tail same_id d h once)) (λ test.
-    let p = and_parts (bytes_eq d.firm c.firm) (bytes_eq d.id c.id) test in
-    no_later c (m + 1) d h (IsDistinct-head same_id d h once) ((bytes_eq-Decides d.firm c.firm).0 p.0) ((bytes_eq-Decides d.id c.id).0 p.1)) in
+    let b = once_at (is_same_id c) (numbered_from (m + 1) h) (is_same_id c (numbered_as m d))
+    (ids_once c (m + 1) h (IsDistinct-tail same_id d h once))
+    (λ test. let p = and_parts (bytes_eq d.firm c.firm) (bytes_eq d.id c.id) test in
+    no_later c (m + 1) d h (IsDistinct-head same_id d h once) ((bytes_eq-Decides d.firm c.firm).0 p.0)
+    ((bytes_eq-Decides d.id c.id).0 p.1)) in
     omega (arith, a, b)
 
 -- the answer to a call whose id no entry has
-pub new_answer : (h : List Entry) (c : Call) → number_of h c ≡ None → (other : Answer) → other ≡ answer_by (find (is_same_call c) (records h)) (find (is_same_id c) (records h)) other
+pub new_answer : (h : List Entry) (c : Call) → number_of h c ≡ None → (other : Answer)
+    → other ≡ answer_by (find (is_same_call c) (records h)) (find (is_same_id c) (records h)) other
 new_answer h c none other =
-    let n = mapped_none (λ (r : Record). r.number) (find (is_same_id c) (records h)) none in cc (n, no_call c (records h) n)
+    let n = mapped_none (λ (r : Record). r.number) (find (is_same_id c) (records h)) none in
+    cc (n, no_call c (records h) n)
 
 -- the answer to a call whose id this entry has
-pub known_answer : (h : List Entry) (c : Call) (n : ℕ) (e : Entry) → NoIdTwice h → find (is_same_id c) (records h) ≡ Some (numbered_as n e) → (other : Answer)
-    → cond (same_command e.command c.command) (Repeated n e.status) (Refused (DuplicateId n)) ≡ answer_by (find (is_same_call c) (records h)) (find (is_same_id c) (records h)) other
+pub known_answer : (h : List Entry) (c : Call) (n : ℕ) (e : Entry) → NoIdTwice h
+    → find (is_same_id c) (records h) ≡ Some (numbered_as n e) → (other : Answer)
+    → cond (same_command e.command c.command) (Repeated n e.status) (Refused (DuplicateId n))
+    ≡ answer_by (find (is_same_call c) (records h)) (find (is_same_id c) (records h)) other
 known_answer h c n e once found other =
     -- the one entry of the id is of the call itself, or none is
-    let the_call = both_found (is_same_id c) (λ (r : Record). same_command r.command c.command) (records h) (ids_once c 1 h once)
+    let the_call =
+    both_found (is_same_id c) (λ (r : Record). same_command r.command c.command) (records h) (ids_once c 1 h once)
     ∙ ap (option_and_then (λ (r : Record). cond (same_command r.command c.command) (Some r) None)) found in
     by_test (same_command e.command c.command) (λ is. cc (is, the_call, found)) (λ apart. cc (apart, the_call, found))
 
@@ -114,12 +132,14 @@ module _ {h : List Entry} {rs : Reversals} (are : AreReversalsOf rs h) where
   pub reversals_same : (e : Entry) → ((m : ℕ) → is_reverse_of m e.command ≡ false) → AreReversalsOf rs (h ++ e ∷ [])
   reversals_same e none = record {
     numbers = λ m.
-        let push = number_push (λ (r : Record). is_reverse_of m r.command) h e (length h + 1) refl (λ is. absurd (let f = none m in cc)) in
+        let push = number_push (λ (r : Record). is_reverse_of m r.command) h e (length h + 1) refl
+        (λ is. absurd (let f = none m in cc)) in
         cc (are.numbers m, push, none m);
   }
 
   -- an accepted Reverse, put in
-  pub reversals_put : (t : House) (e : Entry) (n k : ℕ) → answer_to t h (call_of e) ≡ Accepted n e.status → e.command ≡ Reverse k → (new : Reversals)
+  pub reversals_put : (t : House) (e : Entry) (n k : ℕ) → answer_to t h (call_of e) ≡ Accepted n e.status
+      → e.command ≡ Reverse k → (new : Reversals)
       → ((m : ℕ) → reversal_in new m ≡ cond (k == m) (Some n) (reversal_in rs m)) → AreReversalsOf new (h ++ e ∷ [])
   reversals_put t e n k ok reverse new is_put =
       let none = (undone t h e n k ok reverse).1.unreversed in

@@ -1,14 +1,16 @@
 -- The calls of an opening, made one after the other.
-use Rattle.std.proofs.Common.{◌≡◌, ℕ, suc, ◌+◌, ◌≤◌, ◌<◌, List, [], ◌∷◌, length, drop, refl, sym, ◌∙◌, ap, subst, arith, Option, Some, None, slice_get, get_or}
-use Rattle.std.proofs.Common.{IsSomeAnd}
+use Rattle.std.proofs.Common.{◌≡◌, ℕ, suc, ◌+◌, ◌≤◌, ◌<◌, List, [], ◌∷◌, length, drop, refl, sym, ◌∙◌, ap, subst, arith}
+use Rattle.std.proofs.Common.{Option, Some, None, slice_get, get_or, IsSomeAnd}
 use Rattle.std.proofs.Math.Seq.{drop-cons}
 use Rattle.std.proofs.lemmas.List.{drop_all}
 use Rattle.std.proofs.lemmas.Option.{slice_get_within, slice_get-get_or, get_or_from_slice_get}
-use Rattle.gu_depend.proofs.Vocabulary.{House, Call, after, after_all, opening_from, opening_calls, opening_history, Reverse, Entry, Agreement, Pair, none_is_some}
+use Rattle.gu_depend.proofs.Vocabulary.{House, Call, after, after_all, opening_from, opening_calls, opening_history}
+use Rattle.gu_depend.proofs.Vocabulary.{Reverse, Entry, Agreement, Pair, none_is_some}
 use Rattle.gu_book.specs.Seen.{HouseAndHistory}
 
 -- with one of the calls made, those behind it are left
-call_made : (t : House) (h : List Entry) (cs : List Call) (i : ℕ) (c : Call) → slice_get cs i ≡ Some c → after_all t h (drop i cs) ≡ after_all t (after t h c) (drop (i + 1) cs)
+call_made : (t : House) (h : List Entry) (cs : List Call) (i : ℕ) (c : Call) → slice_get cs i ≡ Some c
+    → after_all t h (drop i cs) ≡ after_all t (after t h c) (drop (i + 1) cs)
 call_made t h cs i c e =
     let one : suc i ≡ i + 1 = omega arith in
     ap (after_all t h)
@@ -24,22 +26,27 @@ pub call_there : (t : House) (i : ℕ) → i < length t.opening → slice_get (o
 call_there t i within absent =
     let count = call_count t 1 t.opening in
     let none : Call = record { firm = []; id = []; command = Reverse 0 } in
-    none_is_some (slice_get (opening_calls t) i) (get_or (opening_calls t) i none) absent (slice_get-get_or (opening_calls t) i none (omega (arith, count, within)))
+    none_is_some (slice_get (opening_calls t) i) (get_or (opening_calls t) i none) absent
+    (slice_get-get_or (opening_calls t) i none (omega (arith, count, within)))
 
 -- the calls from this place on make the opening history of the entries that there are
 abbrev pub IsOpenedTo : HouseAndHistory → ℕ → Type 0
 IsOpenedTo b i = after_all b.house b.history (drop i (opening_calls b.house)) ≡ opening_history b.house
 
 next_of : (b d : HouseAndHistory) (i : ℕ) (o : Option Call) → slice_get (opening_calls b.house) i ≡ o
-    → IsSomeAnd o (λ c. d ≡ record { house = b.house; history = after b.house b.history c }) → IsOpenedTo b i → (d.house ≡ b.house) × IsOpenedTo d (i + 1)
+    → IsSomeAnd o (λ c. d ≡ record { house = b.house; history = after b.house b.history c }) → IsOpenedTo b i
+    → (d.house ≡ b.house) × IsOpenedTo d (i + 1)
 next_of b d i None e made so_far = absurd made
 next_of b d i (Some c) e made so_far = (
   ap (λ (x : HouseAndHistory). x.house) made,
-  subst (λ (x : HouseAndHistory). IsOpenedTo x (i + 1)) (sym made) (sym (call_made b.house b.history (opening_calls b.house) i c e) ∙ so_far),
+  subst (λ (x : HouseAndHistory). IsOpenedTo x (i + 1)) (sym made)
+      (sym (call_made b.house b.history (opening_calls b.house) i c e) ∙ so_far),
 )
 
 -- with the call at this place made
-pub opened_next : (b d : HouseAndHistory) (i : ℕ) → IsSomeAnd (slice_get (opening_calls b.house) i) (λ c. d ≡ record { house = b.house; history = after b.house b.history c })
+pub opened_next : (b d : HouseAndHistory) (i : ℕ)
+    → IsSomeAnd (slice_get (opening_calls b.house) i)
+    (λ c. d ≡ record { house = b.house; history = after b.house b.history c })
     → IsOpenedTo b i → (d.house ≡ b.house) × IsOpenedTo d (i + 1)
 opened_next b d i = next_of b d i (slice_get (opening_calls b.house) i) refl
 
@@ -47,7 +54,8 @@ abbrev holding : House → List Entry → HouseAndHistory
 holding t h = record { house = t; history = h }
 
 -- with the last call made
-pub opened_all : (t : House) (b : HouseAndHistory) (i : ℕ) → b.house ≡ t → IsOpenedTo b i → length t.opening ≤ i → b ≡ record { house = t; history = opening_history t }
+pub opened_all : (t : House) (b : HouseAndHistory) (i : ℕ) → b.house ≡ t → IsOpenedTo b i → length t.opening ≤ i
+    → b ≡ record { house = t; history = opening_history t }
 opened_all t b i same so_far past =
     let count = call_count b.house 1 b.house.opening in
     let last : length b.house.opening ≤ i = subst (λ (x : House). length x.opening ≤ i) (sym same) past in

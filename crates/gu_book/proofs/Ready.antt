@@ -1,13 +1,18 @@
 -- A reversal for which all is ready is accepted, and what a refused one names.
-use Rattle.std.proofs.Common.{◌≡◌, ℕ, ◌+◌, Bool, true, false, not, List, [], ◌∷◌, ◌++◌, length, refl, sym, ◌∙◌, ap, subst, Option, cond, inl, inr}
-use Rattle.std.proofs.Common.{◌⊎◌, Some, None, IfSome, find, nat_lt, option_map, bytes_eq}
+use Rattle.std.proofs.Common.{◌≡◌, ℕ, ◌+◌, Bool, true, false, not, List, [], ◌∷◌, ◌++◌, length, refl, sym, ◌∙◌, ap}
+use Rattle.std.proofs.Common.{subst, Option, cond, inl, inr, ◌⊎◌, Some, None, IfSome, find, nat_lt, option_map}
+use Rattle.std.proofs.Common.{bytes_eq}
 use Rattle.gu_book.proofs.Vocabulary.{AllByRecursion}
 use Rattle.std.proofs.lemmas.Bool.{lt-ltb, not-true, and_parts, or_parts}
 use Rattle.std.proofs.lemmas.Slice.Eq.{bytes_eq-Decides}
-use Rattle.gu_depend.proofs.Vocabulary.{House, knows_firm, numbered_as, numbered_from, records, is_change, is_reverse_of, is_reversed, live, refusal_of, first, unless}
-use Rattle.gu_depend.proofs.Vocabulary.{first_refused, standing_on, parties_of, consents_of, is_among, missing, Call, answer_to, answer_by, accepted_or, entry_of, reversal_of, on_change}
-use Rattle.gu_depend.proofs.Vocabulary.{initiate_rest, reverse_rest, command_refusal, is_same_id, is_same_call, after_all, Initiate, Reverse, Entry, Record, Refusal, UnknownFirm}
-use Rattle.gu_depend.proofs.Vocabulary.{NotAChange, AlreadyReversed, NotAParty, NeedsConsent, StandsOn, DuplicateId, BookFull, AlreadyConsented, State, Reversed}
+use Rattle.gu_depend.proofs.Vocabulary.{House, knows_firm, numbered_as, numbered_from, records, is_change}
+use Rattle.gu_depend.proofs.Vocabulary.{is_reverse_of, is_reversed, live, refusal_of, first, unless, first_refused}
+use Rattle.gu_depend.proofs.Vocabulary.{standing_on, parties_of, consents_of, is_among, missing, Call, answer_to}
+use Rattle.gu_depend.proofs.Vocabulary.{answer_by, accepted_or, entry_of, reversal_of, on_change, initiate_rest}
+use Rattle.gu_depend.proofs.Vocabulary.{reverse_rest, command_refusal, is_same_id, is_same_call, after_all, Initiate}
+use Rattle.gu_depend.proofs.Vocabulary.{Reverse, Entry, Record, Refusal, UnknownFirm, NotAChange, AlreadyReversed}
+use Rattle.gu_depend.proofs.Vocabulary.{NotAParty, NeedsConsent, StandsOn, DuplicateId, BookFull, AlreadyConsented}
+use Rattle.gu_depend.proofs.Vocabulary.{State, Reversed}
 use Rattle.gu_depend.proofs.StandsUnder.{any_found}
 use Rattle.gu_base.specs.declared.entry.Answer.TheVariants.{Refused}
 use Rattle.gu_base.proofs.{LiveLaws.{is_live}, Opening.{answer_is, knows_itself}, Searches.{find_has, find_passes}}
@@ -18,18 +23,21 @@ use Rattle.gu_book.proofs.Restored.{newest_is_free}
 
 -- ---- the parties of a live change are firms of the house table
 
-parties_known : (t : House) (l before : List Record) (r : Record) → first_refused t [] l ≡ None → refusal_of t before r.firm r.command ≡ None
-    → AllPass (knows_firm t) (parties_of t l r.firm r.command)
+parties_known : (t : House) (l before : List Record) (r : Record) → first_refused t [] l ≡ None
+    → refusal_of t before r.firm r.command ≡ None → AllPass (knows_firm t) (parties_of t l r.firm r.command)
 parties_known t l before r none accepted =
     let known = change_known t before r accepted in
     parties_pass (knows_firm t) t l r.firm r.command (knows_itself t) known.by known.named (firms_known t l none)
 
-among_known : (t : House) (by : List ℕ) (firms : List (List ℕ)) → AllPass (knows_firm t) firms → is_among by firms ≡ true → knows_firm t by ≡ true
+among_known : (t : House) (by : List ℕ) (firms : List (List ℕ)) → AllPass (knows_firm t) firms
+    → is_among by firms ≡ true → knows_firm t by ≡ true
 among_known t by firms all h =
     let f = any_found (bytes_eq by) firms h in
-    subst (λ g. knows_firm t g ≡ true) (sym ((bytes_eq-Decides by f.0).0 (find_passes (bytes_eq by) firms f.0 f.1))) (find_has (λ f. knows_firm t f ≡ true) (bytes_eq by) firms f.0 all f.1)
+    subst (λ g. knows_firm t g ≡ true) (sym ((bytes_eq-Decides by f.0).0 (find_passes (bytes_eq by) firms f.0 f.1)))
+    (find_has (λ f. knows_firm t f ≡ true) (bytes_eq by) firms f.0 all f.1)
 
-party_known : (t : House) (calls : List Call) (before after : List Record) (r : Record) (by : List ℕ) → live (after_all t [] calls) ≡ before ++ r ∷ after
+party_known : (t : House) (calls : List Call) (before after : List Record) (r : Record) (by : List ℕ)
+    → live (after_all t [] calls) ≡ before ++ r ∷ after
     → is_among by (parties_of t (live (after_all t [] calls)) r.firm r.command) ≡ true → knows_firm t by ≡ true
 party_known t calls before after r by same party =
     let l = live (after_all t [] calls) in
@@ -39,11 +47,13 @@ party_known t calls before after r by same party =
 
 -- ---- a reversal that nothing refuses
 
-none_reverses : (n m : ℕ) (h : List Entry) → is_reversed h n ≡ false → find (λ r. is_reverse_of n r.command) (numbered_from m h) ≡ None
+none_reverses : (n m : ℕ) (h : List Entry) → is_reversed h n ≡ false
+    → find (λ r. is_reverse_of n r.command) (numbered_from m h) ≡ None
 none_reverses n m [] e = refl
 none_reverses n m (d ∷ h) e =
     let p = or_parts (is_reverse_of n d.command) (is_reversed h n) e in
-    ap (λ b. cond b (Some (numbered_as m d)) (find (λ r. is_reverse_of n r.command) (numbered_from (m + 1) h))) p.0 ∙ none_reverses n (m + 1) h p.1
+    ap (λ b. cond b (Some (numbered_as m d)) (find (λ r. is_reverse_of n r.command) (numbered_from (m + 1) h))) p.0
+    ∙ none_reverses n (m + 1) h p.1
 
 all_clear : (known is party : Bool) (reversal : Option Record) (lack : Option (List ℕ)) (stands : Option ℕ)
     → known ≡ true → is ≡ true → party ≡ true → reversal ≡ None → lack ≡ None → stands ≡ None
@@ -61,12 +71,16 @@ accepted_where_ready t calls before after r by id same ready fresh room =
     let known = party_known t calls before after r by same ready.party in
     let clear : command_refusal t h by (Reverse r.number) ≡ None =
     ap (λ o. first (unless (knows_firm t by) UnknownFirm ∷ on_change t h by (reverse_rest t h) o ∷ [])) at.found
-    ∙ all_clear _ _ _ _ _ _ known passes.0 ready.party (none_reverses r.number 1 h (not-true (is_reversed h r.number) passes.1)) ready.agreed ready.free in
+    ∙ all_clear _ _ _ _ _ _ known passes.0 ready.party
+    (none_reverses r.number 1 h (not-true (is_reversed h r.number) passes.1)) ready.agreed ready.free in
     answer_is _ _ _ _ _ _ (no_call call (records h) fresh) fresh (lt-ltb (length h) 1000000 room) clear
 
-initiate_clear : (known is party given : Bool) (reversal : Option Record) → known ≡ true → is ≡ true → party ≡ true → reversal ≡ None → given ≡ false
+initiate_clear : (known is party given : Bool) (reversal : Option Record) → known ≡ true → is ≡ true → party ≡ true
+    → reversal ≡ None → given ≡ false
     → first (unless known UnknownFirm
-    ∷ first (unless is NotAChange ∷ option_map (λ v. AlreadyReversed v.number) reversal ∷ unless party NotAParty ∷ unless (not given) AlreadyConsented ∷ []) ∷ []) ≡ None
+    ∷ first (unless is NotAChange ∷ option_map (λ v. AlreadyReversed v.number) reversal ∷ unless party NotAParty
+    ∷ unless (not given) AlreadyConsented ∷ [])
+    ∷ []) ≡ None
 initiate_clear known is party given reversal a b c d e = rw (a, b, c, d, e) refl
 
 pub consent_accepted : (t : House) → IsConsentAccepted t
@@ -78,24 +92,27 @@ consent_accepted t calls before after r by id same party lacks fresh room =
     let known = party_known t calls before after r by same party in
     let clear : command_refusal t h by (Initiate r.number) ≡ None =
     ap (λ o. first (unless (knows_firm t by) UnknownFirm ∷ on_change t h by (initiate_rest h by) o ∷ [])) at.found
-    ∙ initiate_clear _ _ _ _ _ known passes.0 party (none_reverses r.number 1 h (not-true (is_reversed h r.number) passes.1)) lacks in
+    ∙ initiate_clear _ _ _ _ _ known passes.0 party
+    (none_reverses r.number 1 h (not-true (is_reversed h r.number) passes.1)) lacks in
     answer_is _ _ _ _ _ _ (no_call call (records h) fresh) fresh (lt-ltb (length h) 1000000 room) clear
 
 pub newest_undone : (t : House) → IsNewestUndone t
 newest_undone t calls before r by id same party agreed fresh room =
-    accepted_where_ready t calls before [] r by id same (record { party = party; agreed = agreed; free = newest_is_free t calls before r same }) fresh room
+    accepted_where_ready t calls before [] r by id same
+    (record { party = party; agreed = agreed; free = newest_is_free t calls before r same }) fresh room
 
 -- ---- what a refused reversal names
 
-refused_by : (same dup : Option Record) (number : ℕ) (status : State) (o : Option Refusal) (x : Refusal) → answer_by same dup (accepted_or number status o) ≡ Refused x
-    → ((n : ℕ) × (DuplicateId n ≡ x)) ⊎ (o ≡ Some x)
+refused_by : (same dup : Option Record) (number : ℕ) (status : State) (o : Option Refusal) (x : Refusal)
+    → answer_by same dup (accepted_or number status o) ≡ Refused x → ((n : ℕ) × (DuplicateId n ≡ x)) ⊎ (o ≡ Some x)
 refused_by (Some r) dup number status o x h = absurd (cc)
 refused_by None (Some r) number status o x h = inl (r.number, cc)
 refused_by None None number status None x h = absurd (cc)
 refused_by None None number status (Some y) x h = inr (cc)
 
 -- what each refusal has that a line of a row may give, the one has that the row gives
-of_row : (P : Refusal → Type 0) (row : List (Option Refusal)) → AllByRecursion (λ o. IfSome o P) row → IfSome (first row) P
+of_row : (P : Refusal → Type 0) (row : List (Option Refusal)) → AllByRecursion (λ o. IfSome o P) row
+    → IfSome (first row) P
 of_row P [] each = tt
 of_row P (None ∷ row) each = of_row P row each.1
 of_row P (Some x ∷ row) each = each.0
@@ -104,7 +121,8 @@ of_unless : (P : Refusal → Type 0) (b : Bool) (x : Refusal) → P x → IfSome
 of_unless P true x has = tt
 of_unless P false x has = has
 
-of_mapped : {A : Type 0} (P : Refusal → Type 0) (f : A → Refusal) (o : Option A) → ((a : A) → o ≡ Some a → P (f a)) → IfSome (option_map f o) P
+of_mapped : {A : Type 0} (P : Refusal → Type 0) (f : A → Refusal) (o : Option A) → ((a : A) → o ≡ Some a → P (f a))
+    → IfSome (option_map f o) P
 of_mapped P f None has = tt
 of_mapped P f (Some a) has = has a refl
 
@@ -115,8 +133,16 @@ module _ (t : House) (h : List Entry) (by : List ℕ) (k : ℕ) where
       let lack = missing (parties_of t (live h) r.firm r.command) (consents_of h r.number) in
       let on = standing_on t (live h) r.number in
       of_row (NamedBy t h k) (option_map (λ f. NeedsConsent f) lack ∷ option_map (λ n. StandsOn n) on ∷ []) (
-        of_mapped (NamedBy t h k) (λ f. NeedsConsent f) lack (λ f is. (r, at, subst (λ n. missing (parties_of t (live h) r.firm r.command) (consents_of h n) ≡ Some f) number is)),
-        (of_mapped (NamedBy t h k) (λ n. StandsOn n) on (λ n is. subst (λ m. standing_on t (live h) m ≡ Some n) number is), tt),
+        of_mapped (NamedBy t h k) (λ f. NeedsConsent f) lack (λ f is. (
+          r,
+          at,
+          subst (λ n. missing (parties_of t (live h) r.firm r.command) (consents_of h n) ≡ Some f) number is,
+        )),
+        (
+          of_mapped (NamedBy t h k) (λ n. StandsOn n) on
+              (λ n is. subst (λ m. standing_on t (live h) m ≡ Some n) number is),
+          tt,
+        ),
       )
 
   named_change : (o : Option Record) → entry_of h k ≡ o → IfSome (on_change t h by (reverse_rest t h) o) (NamedBy t h k)
@@ -124,12 +150,17 @@ module _ (t : House) (h : List Entry) (by : List ℕ) (k : ℕ) where
   named_change (Some r) at =
       let party = is_among by (parties_of t (live h) r.firm r.command) in
       of_row (NamedBy t h k)
-      (unless (is_change r.command) NotAChange ∷ option_map (λ v. AlreadyReversed v.number) (reversal_of h r.number) ∷ unless party NotAParty ∷ reverse_rest t h r ∷ []) (
+      (unless (is_change r.command) NotAChange ∷ option_map (λ v. AlreadyReversed v.number) (reversal_of h r.number)
+      ∷ unless party NotAParty ∷ reverse_rest t h r ∷ []) (
         of_unless (NamedBy t h k) (is_change r.command) NotAChange tt,
-        (of_mapped (NamedBy t h k) (λ v. AlreadyReversed v.number) (reversal_of h r.number) (λ v e. tt), (of_unless (NamedBy t h k) party NotAParty tt, (named_rest r at, tt))),
+        (
+          of_mapped (NamedBy t h k) (λ v. AlreadyReversed v.number) (reversal_of h r.number) (λ v e. tt),
+          (of_unless (NamedBy t h k) party NotAParty tt, (named_rest r at, tt)),
+        ),
       )
 
-  named_row : IfSome (first (unless (nat_lt (length h) 1000000) BookFull ∷ command_refusal t h by (Reverse k) ∷ [])) (NamedBy t h k)
+  named_row : IfSome (first (unless (nat_lt (length h) 1000000) BookFull ∷ command_refusal t h by (Reverse k) ∷ []))
+      (NamedBy t h k)
   named_row =
       let change = on_change t h by (reverse_rest t h) (entry_of h k) in
       of_row (NamedBy t h k) (unless (nat_lt (length h) 1000000) BookFull ∷ command_refusal t h by (Reverse k) ∷ []) (
@@ -141,11 +172,12 @@ module _ (t : House) (h : List Entry) (by : List ℕ) (k : ℕ) where
         ),
       )
 
-  pub named_at : (x : Refusal) (id : List ℕ) → answer_to t h (record { firm = by; id = id; command = Reverse k }) ≡ Refused x → NamedBy t h k x
+  pub named_at : (x : Refusal) (id : List ℕ)
+      → answer_to t h (record { firm = by; id = id; command = Reverse k }) ≡ Refused x → NamedBy t h k x
   named_at x id e =
       let call : Call = record { firm = by; id = id; command = Reverse k } in
-      elim (refused_by (find (is_same_call call) (records h)) (find (is_same_id call) (records h)) (length h + 1) Reversed
-      (first (unless (nat_lt (length h) 1000000) BookFull ∷ command_refusal t h by (Reverse k) ∷ [])) x e) [
+      elim (refused_by (find (is_same_call call) (records h)) (find (is_same_id call) (records h)) (length h + 1)
+      Reversed (first (unless (nat_lt (length h) 1000000) BookFull ∷ command_refusal t h by (Reverse k) ∷ [])) x e) [
         | inl known ↦ subst (NamedBy t h k) known.1 tt
         | inr why ↦ subst (λ o. IfSome o (NamedBy t h k)) why named_row
       ]

@@ -1,7 +1,9 @@
 -- What a reversal does over any list of calls.
-use Rattle.gu_depend.proofs.Vocabulary.{◌≡◌, ℕ, ◌+◌, ◌<◌, ◌≤◌, true, List, [], ◌∷◌, ◌++◌, length, refl, sym, ◌∙◌, ap, subst, arith}
-use Rattle.gu_depend.proofs.Vocabulary.{cond, cond_both, same_Some, append-nil, append_assoc, map, All, and_parts, All-head, All-tail, House, numbered_as, is_change, live, RisesFrom, refusal_of}
-use Rattle.gu_depend.proofs.Vocabulary.{first_refused, standing_on, without, Call, answer_to, after, after_by, is_accepted, after_all, call_of, IsRunFrom, Answer, Accepted, Entry}
+use Rattle.gu_depend.proofs.Vocabulary.{◌≡◌, ℕ, ◌+◌, ◌<◌, ◌≤◌, true, List, [], ◌∷◌, ◌++◌, length, refl, sym, ◌∙◌, ap}
+use Rattle.gu_depend.proofs.Vocabulary.{subst, arith, cond, cond_both, same_Some, append-nil, append_assoc, map, All}
+use Rattle.gu_depend.proofs.Vocabulary.{and_parts, All-head, All-tail, House, numbered_as, is_change, live, RisesFrom}
+use Rattle.gu_depend.proofs.Vocabulary.{refusal_of, first_refused, standing_on, without, Call, answer_to, after}
+use Rattle.gu_depend.proofs.Vocabulary.{after_by, is_accepted, after_all, call_of, IsRunFrom, Answer, Accepted, Entry}
 use Rattle.gu_depend.proofs.Vocabulary.{Record, is_consenting, legal_from_replay, none_refused, replay_front}
 use Rattle.std.proofs.Common.{Some, None, is_some}
 use Rattle.std.specs.List.{list_all}
@@ -15,16 +17,19 @@ pub lawful : (t : House) → IsLawful t
 lawful t calls = legal_from_replay t (live (after_all t [] calls)) ((run_all t calls).replayed)
 
 -- a history that calls made is made again by the calls that its entries keep
-remade : (t : House) (h : List Entry) → IsRunFrom t [] h → (before rest : List Entry) → h ≡ before ++ rest → after_all t before (map call_of rest) ≡ h
+remade : (t : House) (h : List Entry) → IsRunFrom t [] h → (before rest : List Entry) → h ≡ before ++ rest
+    → after_all t before (map call_of rest) ≡ h
 remade t h run before [] e = sym (e ∙ append-nil before)
 remade t h run before (x ∷ rest) e =
-    ap (λ k. after_all t (after_by before (call_of x) k) (map call_of rest)) (run.accepted before rest x e (omega arith))
+    ap (λ k. after_all t (after_by before (call_of x) k) (map call_of rest))
+    (run.accepted before rest x e (omega arith))
     ∙ remade t h run (before ++ x ∷ []) rest (e ∙ sym (append_assoc before (x ∷ []) rest))
 
 pub made_again : (t : House) (h : List Entry) → IsRunFrom t [] h → after_all t [] (map call_of h) ≡ h
 made_again t h run = remade t h run [] h refl
 
-after_more : (t : House) (h : List Entry) (cs ds : List Call) → after_all t h (cs ++ ds) ≡ after_all t (after_all t h cs) ds
+after_more : (t : House) (h : List Entry) (cs ds : List Call)
+    → after_all t h (cs ++ ds) ≡ after_all t (after_all t h cs) ds
 after_more t h [] ds = refl
 after_more t h (c ∷ cs) ds = after_more t (after t h c) cs ds
 
@@ -33,8 +38,12 @@ pub record IsAdded (t : House) (h : List Entry) (c : Call) (e : Entry) : Type 0 
   pub command : e.command ≡ c.command
   pub longer : after t h c ≡ h ++ e ∷ []
 
-added : (t : House) (h : List Entry) (c : Call) (a : Answer) → answer_to t h c ≡ a → is_accepted a ≡ true → (e : Entry) × IsAdded t h c e
-added t h c (Accepted n s) same ok = (record { firm = c.firm; id = c.id; command = c.command; status = s }, record { command = refl; longer = ap (after_by h c) same })
+added : (t : House) (h : List Entry) (c : Call) (a : Answer) → answer_to t h c ≡ a → is_accepted a ≡ true
+    → (e : Entry) × IsAdded t h c e
+added t h c (Accepted n s) same ok = (
+  record { firm = c.firm; id = c.id; command = c.command; status = s },
+  record { command = refl; longer = ap (after_by h c) same },
+)
 added t h c _ same ok = absurd (cc)
 
 pub takes_out : (t : House) → TakesOut t
@@ -44,11 +53,14 @@ takes_out t calls reversal k same ok =
     ap live (after_more t [] calls (reversal ∷ []) ∙ a.1.longer) ∙ live_push_reverse h a.0 k (a.1.command ∙ same)
 
 -- Initiates and Declines leave the live changes
-consent_step : (h : List Entry) (c : Call) (a : Answer) → is_consenting c.command ≡ true → live (after_by h c a) ≡ live h
-consent_step h c (Accepted n s) consent = live_push_consent h (record { firm = c.firm; id = c.id; command = c.command; status = s }) consent
+consent_step : (h : List Entry) (c : Call) (a : Answer) → is_consenting c.command ≡ true
+    → live (after_by h c a) ≡ live h
+consent_step h c (Accepted n s) consent =
+    live_push_consent h (record { firm = c.firm; id = c.id; command = c.command; status = s }) consent
 consent_step h c _ consent = refl
 
-consents_keep : (t : House) (h : List Entry) (cs : List Call) → list_all (λ c. is_consenting c.command) cs ≡ true → live (after_all t h cs) ≡ live h
+consents_keep : (t : House) (h : List Entry) (cs : List Call) → list_all (λ c. is_consenting c.command) cs ≡ true
+    → live (after_all t h cs) ≡ live h
 consents_keep t h [] all = refl
 consents_keep t h (c ∷ cs) all =
     let p = and_parts (is_consenting c.command) (list_all (λ c. is_consenting c.command) cs) all in
@@ -62,14 +74,17 @@ restores t calls between change reversal is ok consents names undone =
     let e = a.0 in
     let more = live_push_change h e (ap is_change a.1.command ∙ is) (run.behind (1 + length h) (omega arith)) in
     let longer : live (after_all t [] (calls ++ change ∷ between)) ≡ live h ++ numbered_as (1 + length h) e ∷ [] =
-    ap live (after_more t [] calls (change ∷ between)) ∙ (consents_keep t (after t h change) between consents ∙ (ap live a.1.longer ∙ more)) in
+    ap live (after_more t [] calls (change ∷ between))
+    ∙ (consents_keep t (after t h change) between consents ∙ (ap live a.1.longer ∙ more)) in
     takes_out t (calls ++ change ∷ between) reversal (length h + 1) names undone
     ∙ (ap (λ l. without l (length h + 1)) longer
-    ∙ without_last (length h + 1) (live h) (numbered_as (1 + length h) e) (omega arith) (subst (λ k. All (λ (r : Record). r.number < k) (live h)) (omega arith) (live_below h)))
+    ∙ without_last (length h + 1) (live h) (numbered_as (1 + length h) e) (omega arith)
+    (subst (λ k. All (λ (r : Record). r.number < k) (live h)) (omega arith) (live_below h)))
 
 -- nothing stands on the newest of the live changes
 abbrev pub NewestIsFree : House → Type 0
-NewestIsFree t = (calls : List Call) (before : List Record) (r : Record) → live (after_all t [] calls) ≡ before ++ r ∷ []
+NewestIsFree t =
+    (calls : List Call) (before : List Record) (r : Record) → live (after_all t [] calls) ≡ before ++ r ∷ []
     → standing_on t (live (after_all t [] calls)) r.number ≡ None
 
 pub newest_is_free : (t : House) → NewestIsFree t
@@ -84,21 +99,25 @@ newest_is_free t calls before r same =
 -- ---- what stands on a change is later
 
 -- the numbers behind a record are higher
-rises_behind : (n : ℕ) (before after : List Record) (r : Record) → RisesFrom n (before ++ r ∷ after) → RisesFrom (r.number + 1) after
+rises_behind : (n : ℕ) (before after : List Record) (r : Record) → RisesFrom n (before ++ r ∷ after)
+    → RisesFrom (r.number + 1) after
 rises_behind n [] after r rises = rises.1
 rises_behind n (b ∷ before) after r rises = rises_behind (b.number + 1) before after r rises.1
 
-pub replay_on : (t : House) (done l m : List Record) → first_refused t done l ≡ None → first_refused t done (l ++ m) ≡ first_refused t (done ++ l) m
+pub replay_on : (t : House) (done l m : List Record) → first_refused t done l ≡ None
+    → first_refused t done (l ++ m) ≡ first_refused t (done ++ l) m
 replay_on t done [] m h = ap (λ b. first_refused t b m) (sym (append-nil done))
 replay_on t done (d ∷ l) m h =
     let p = none_refused (refusal_of t done d.firm d.command) d.number (first_refused t (done ++ d ∷ []) l) h in
     ap (λ o. cond (is_some o) (Some d.number) (first_refused t (done ++ d ∷ []) (l ++ m))) p.0
     ∙ (replay_on t (done ++ d ∷ []) l m p.1 ∙ ap (λ b. first_refused t b m) (append_assoc done (d ∷ []) l))
 
-refused_above : (t : House) (k : ℕ) (done l : List Record) (n : ℕ) → All (λ d. k ≤ d.number) l → first_refused t done l ≡ Some n → k ≤ n
+refused_above : (t : House) (k : ℕ) (done l : List Record) (n : ℕ) → All (λ d. k ≤ d.number) l
+    → first_refused t done l ≡ Some n → k ≤ n
 refused_above t k done [] n all h = absurd (cc)
 refused_above t k done (d ∷ l) n all h =
-    cond_both (is_some (refusal_of t done d.firm d.command)) (Some d.number) (first_refused t (done ++ d ∷ []) l) (λ o. o ≡ Some n → k ≤ n)
+    cond_both (is_some (refusal_of t done d.firm d.command)) (Some d.number) (first_refused t (done ++ d ∷ []) l)
+    (λ o. o ≡ Some n → k ≤ n)
     (λ refused e. subst (λ m. k ≤ m) (same_Some d.number n e) (All-head (λ (d : Record). k ≤ d.number) d l all))
     (λ accepted later. refused_above t k (done ++ d ∷ []) l n (All-tail (λ (d : Record). k ≤ d.number) d l all) later) h
 
@@ -108,7 +127,9 @@ stands_later t calls before after r n same stands =
     let rises = subst (RisesFrom 1) same (live_rises (after_all t [] calls)) in
     let none = subst (λ l. first_refused t [] l ≡ None) same (run_all t calls).replayed in
     let others = gone t before r after (record { once = number_once l (rises_distinct 1 l rises); replayed = none }) in
-    let high = refused_above t (r.number + 1) before after n (rises_above (r.number + 1) after (rises_behind 1 before after r rises))
-    (sym (replay_on t [] before after (replay_front t [] before (r ∷ after) none)) ∙ (ap (first_refused t []) (sym others)
+    let high = refused_above t (r.number + 1) before after n
+    (rises_above (r.number + 1) after (rises_behind 1 before after r rises))
+    (sym (replay_on t [] before after (replay_front t [] before (r ∷ after) none))
+    ∙ (ap (first_refused t []) (sym others)
     ∙ (ap (λ l. first_refused t [] (without l r.number)) (sym same) ∙ stands))) in
     omega (arith, high)

@@ -1,13 +1,15 @@
 -- The running rows of positions, with one change more.
-use Rattle.std.proofs.Common.{◌≡◌, ℕ, ◌+◌, ◌*◌, ◌≤◌, ◌<◌, ◌^◌, not, ◌&&◌, List, [], ◌∷◌, ◌++◌, length, refl, ap, arith, Option, cond, Some, None}
-use Rattle.std.proofs.Common.{sum_by, is_none, mul-le-mul_right}
-use Rattle.gu_book.proofs.Vocabulary.{lots_at, names, PositionRows, lots_in, Key, Grove, IsNext, taken_by, added_by, counted_at, taken_at, HaveMoved, ArePositionsOf}
-use Rattle.gu_book.proofs.Vocabulary.{PartsWithinLimits, IsWithinLimits, AllWithinLimits, Holding}
+use Rattle.std.proofs.Common.{◌≡◌, ℕ, ◌+◌, ◌*◌, ◌≤◌, ◌<◌, ◌^◌, not, ◌&&◌, List, [], ◌∷◌, ◌++◌, length, refl, ap, arith}
+use Rattle.std.proofs.Common.{Option, cond, Some, None, sum_by, is_none, mul-le-mul_right}
+use Rattle.gu_book.proofs.Vocabulary.{lots_at, names, PositionRows, lots_in, Key, Grove, IsNext, taken_by, added_by}
+use Rattle.gu_book.proofs.Vocabulary.{counted_at, taken_at, HaveMoved, ArePositionsOf, PartsWithinLimits}
+use Rattle.gu_book.proofs.Vocabulary.{IsWithinLimits, AllWithinLimits, Holding}
 use Rattle.std.proofs.lemmas.List.Elements.{All-weaker}
 use Rattle.std.proofs.lemmas.List.Filters.{sum_by-filter_both}
 use Rattle.std.proofs.lemmas.List.Sums.{sum_by-le, sum_by-cons, sum_by-le-sum_by}
-use Rattle.gu_depend.proofs.Vocabulary.{House, first_refused, nodes, nodes_of, split_of, position_of, replay_front, RisesFrom, stands_at, trades_in, Part, Side, Command, Trade}
-use Rattle.gu_depend.proofs.Vocabulary.{Split, Record, Root, Node, Place}
+use Rattle.gu_depend.proofs.Vocabulary.{House, first_refused, nodes, nodes_of, split_of, position_of, replay_front}
+use Rattle.gu_depend.proofs.Vocabulary.{RisesFrom, stands_at, trades_in, Part, Side, Command, Trade, Split, Record}
+use Rattle.gu_depend.proofs.Vocabulary.{Root, Node, Place}
 use Rattle.gu_depend.proofs.{LastMoves.{moves_its_own, is_before, position_is}, Replay.{Legal}, Settled.{facts}}
 use Rattle.gu_depend.proofs.State.{sum_made}
 use Rattle.gu_base.proofs.NodeNames.{made}
@@ -29,13 +31,17 @@ counts_on {t} {l} {r} legal rises =
       stand = λ x e. let p = node_stands t l o.bound o.sound none x e in (p.place, p.is);
     }
 
-module _ {t : House} {l : List Record} {r : Record} (c : IsCounted t l r) (legal : first_refused t [] (l ++ r ∷ []) ≡ None) where
+module _ {t : House} {l : List Record} {r : Record} (c : IsCounted t l r)
+    (legal : first_refused t [] (l ++ r ∷ []) ≡ None) where
   -- the positions have lost what was taken and have what was added
   pub moved_by : (at : Place) (instrument : List ℕ) (side : Side)
-      → position_of (l ++ r ∷ []) at.firm at.account instrument side + taken_at (key_at at instrument) side (taken_by l r.command)
-      ≡ position_of l at.firm at.account instrument side + sum_by (counted_at (key_at at instrument) side) (added_by r.firm r.command (taken_by l r.command))
+      → position_of (l ++ r ∷ []) at.firm at.account instrument side
+      + taken_at (key_at at instrument) side (taken_by l r.command)
+      ≡ position_of l at.firm at.account instrument side
+      + sum_by (counted_at (key_at at instrument) side) (added_by r.firm r.command (taken_by l r.command))
   moved_by at instrument side =
-      let moved = (moves_its_own t l r (record { once = c.last.once; replayed = legal })).positions at instrument side in
+      let moved =
+      (moves_its_own t l r (record { once = c.last.once; replayed = legal })).positions at instrument side in
       let even = (balances t l r.number r.firm r.id r.command r.status c at instrument side).equal in
       omega (arith, moved, even)
 
@@ -45,7 +51,8 @@ module _ {t : House} {l : List Record} {r : Record} (c : IsCounted t l r) (legal
   taken_part at instrument side =
       let even = (balances t l r.number r.firm r.id r.command r.status c at instrument side).there in
       let whole = position_is l at instrument side in
-      let both = sum_by-filter_both (λ (x : Node). names x.name r.command) (λ (x : Node). not (names x.name r.command)) (λ x. refl) (lots_at l at instrument side) (nodes l) in
+      let both = sum_by-filter_both (λ (x : Node). names x.name r.command) (λ (x : Node). not (names x.name r.command))
+      (λ x. refl) (lots_at l at instrument side) (nodes l) in
       omega (arith, even, whole, both)
 
 -- ---- one that may follow
@@ -55,8 +62,8 @@ module _ {t : House} {l : List Record} {r : Record} {ts : Grove} (next : IsNext 
   counted = counts_on (next_legal next) (earlier 1 l r next.rises).0
 
   -- rows that have moved as the change says
-  pub positions_moved : (rows new : PositionRows) → ArePositionsOf l rows → (o : Option Holding) → o ≡ taken_by l r.command → HaveMoved rows new o (added_by r.firm r.command o)
-      → ArePositionsOf (l ++ r ∷ []) new
+  pub positions_moved : (rows new : PositionRows) → ArePositionsOf l rows → (o : Option Holding)
+      → o ≡ taken_by l r.command → HaveMoved rows new o (added_by r.firm r.command o) → ArePositionsOf (l ++ r ∷ []) new
   positions_moved rows new are o is moved = record {
     lots = λ at side.
         let place : Place = record { firm = at.firm; account = at.account } in
@@ -69,12 +76,13 @@ module _ {t : House} {l : List Record} {r : Record} {ts : Grove} (next : IsNext 
   }
 
   -- what it takes is there
-  pub has_taken : (rows now : PositionRows) → ArePositionsOf l rows → (hs : List Holding) → HaveMoved rows now None hs → (h : Holding) → Some h ≡ taken_by l r.command
-      → h.lots ≤ lots_in now h.key h.side
+  pub has_taken : (rows now : PositionRows) → ArePositionsOf l rows → (hs : List Holding) → HaveMoved rows now None hs
+      → (h : Holding) → Some h ≡ taken_by l r.command → h.lots ≤ lots_in now h.key h.side
   has_taken rows now are hs put h is =
       let a = are.lots h.key h.side in
       let b = put h.key h.side in
-      let c = taken_part counted (next_legal next).replayed (record { firm = h.key.firm; account = h.key.account }) h.key.instrument h.side in
+      let c = taken_part counted (next_legal next).replayed (record { firm = h.key.firm; account = h.key.account })
+      h.key.instrument h.side in
       let d = ap (taken_at h.key h.side) is in
       let e = ap (λ b. cond b h.lots 0) (is_own_key h.key h.side) in
       omega (arith, a, b, c, d, e)
@@ -88,9 +96,16 @@ few_lots ps within =
     let b : length ps * 10000000 ≤ 100 * 10000000 = mul-le-mul_right 10000000 few in
     omega (arith, a, b)
 
-made_lots : (k : ℕ) (by : List ℕ) (c : Command) → IsWithinLimits c → sum_by (λ (x : Node). x.lots) (nodes_of k by c) ≤ 1000000000
+made_lots : (k : ℕ) (by : List ℕ) (c : Command) → IsWithinLimits c
+    → sum_by (λ (x : Node). x.lots) (nodes_of k by c) ≤ 1000000000
 made_lots k by (Trade firm account instrument side lots) h =
-    let a = sum_by-cons (λ (x : Node). x.lots) (record { name = record { entry = k; part = 0 }; lots = lots; kind = Root (record { firm = firm; account = account }) }) [] in
+    let a = sum_by-cons (λ (x : Node). x.lots)
+    (record {
+      name = record { entry = k; part = 0 };
+      lots = lots;
+      kind = Root (record { firm = firm; account = account });
+    })
+    [] in
     omega (arith, a, h)
 made_lots k by (Split m ps) h = let a = parts_lots m k 1 by ps in let b = few_lots ps h in omega (arith, a, b)
 made_lots k by _ h = omega arith
@@ -99,15 +114,19 @@ all_lots : (l : List Record) → AllWithinLimits l → sum_by (λ (x : Node). x.
 all_lots l all =
     let a = sum_made (λ (x : Node). x.lots) l in
     let b = sum_by-le (λ (r : Record). sum_by (λ (x : Node). x.lots) (made r)) 1000000000 l
-    (All-weaker (λ (r : Record). IsWithinLimits r.command) (λ (r : Record). sum_by (λ (x : Node). x.lots) (made r) ≤ 1000000000) (λ r h. made_lots r.number r.firm r.command h) l all) in
+    (All-weaker (λ (r : Record). IsWithinLimits r.command)
+    (λ (r : Record). sum_by (λ (x : Node). x.lots) (made r) ≤ 1000000000) (λ r h. made_lots r.number r.firm r.command h)
+    l all) in
     omega (arith, a, b)
 
-pub position_within : (l : List Record) → AllWithinLimits l → (at : Place) (instrument : List ℕ) (side : Side) → position_of l at.firm at.account instrument side ≤ length l * 1000000000
+pub position_within : (l : List Record) → AllWithinLimits l → (at : Place) (instrument : List ℕ) (side : Side)
+    → position_of l at.firm at.account instrument side ≤ length l * 1000000000
 position_within l all at instrument side =
     let a = position_is l at instrument side in
     let b = sum_by-le-sum_by (lots_at l at instrument side) (λ (x : Node). x.lots) (nodes l)
     (λ x.
-    let leaf = at_most (is_none (split_of l x.name)) (cond (stands_at l at x.name && trades_in l instrument side x.name) x.lots 0) in
+    let leaf = at_most (is_none (split_of l x.name))
+    (cond (stands_at l at x.name && trades_in l instrument side x.name) x.lots 0) in
     let here = at_most (stands_at l at x.name && trades_in l instrument side x.name) x.lots in
     omega (arith, leaf, here)) in
     let c = all_lots l all in

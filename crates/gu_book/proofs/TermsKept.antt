@@ -1,11 +1,14 @@
 -- How the terms that a book keeps follow its changes, and what an Agree or a Raise leaves of all else.
-use Rattle.std.proofs.Common.{◌≡◌, ℕ, ◌≤◌, ◌<◌, inl, inr, true, false, List, [], ◌∷◌, ◌++◌, length, refl, sym, ◌∙◌, ap, subst, arith, cond, Option, IsSomeAnd}
-use Rattle.std.proofs.Common.{append-nil, Some, None, sum_by, option_and_then, slice_get}
-use Rattle.gu_book.proofs.Vocabulary.{lookup, AreTermsOf, pair_of, PairView, FeeRows, is_pair, TermsView, last_entry, CanPut, CanPutAt, IsPut, IsTakenOut, PositionRows, Grove, AreFeesOf}
-use Rattle.gu_book.proofs.Vocabulary.{CanClaim, IsClaimed, IsSmallDeed, IsGroveOf, IsNext, IsFree, ArePositionsOf, counted_at, IsOfTerms, AllWithinLimits, is_of_trees}
-use Rattle.std.proofs.lemmas.Bool.{cases_Bool}
+use Rattle.std.proofs.Common.{◌≡◌, ℕ, ◌≤◌, ◌<◌, true, false, List, [], ◌∷◌, ◌++◌, length, refl, sym, ◌∙◌, ap, subst}
+use Rattle.std.proofs.Common.{arith, cond, Option, IsSomeAnd, append-nil, Some, None, sum_by, option_and_then}
+use Rattle.std.proofs.Common.{slice_get}
+use Rattle.gu_book.proofs.Vocabulary.{lookup, AreTermsOf, pair_of, PairView, FeeRows, is_pair, TermsView, last_entry}
+use Rattle.gu_book.proofs.Vocabulary.{CanPut, CanPutAt, IsPut, IsTakenOut, PositionRows, Grove, AreFeesOf, CanClaim}
+use Rattle.gu_book.proofs.Vocabulary.{IsClaimed, IsSmallDeed, IsGroveOf, IsNext, IsFree, ArePositionsOf, counted_at}
+use Rattle.gu_book.proofs.Vocabulary.{IsOfTerms, AllWithinLimits, is_of_trees}
 use Rattle.std.proofs.lemmas.List.Elements.{All-contains}
-use Rattle.gu_depend.proofs.Vocabulary.{House, EntryPart, is_change, node_of, is_given, without, use_of_node, deed_of, raised_under, used_under, Deed, Makes, Raises, Uses, Dealing, Pair, Command}
+use Rattle.gu_depend.proofs.Vocabulary.{House, EntryPart, charge_of, node_of, is_given, without, use_of_node, deed_of}
+use Rattle.gu_depend.proofs.Vocabulary.{raised_under, used_under, Deed, Makes, Raises, Uses, Dealing, Pair, Command}
 use Rattle.gu_depend.proofs.Vocabulary.{Trade, Split, Claim, Refuse, Cancel, Agree, Raise, Record, Kind, Given, Node}
 use Rattle.gu_depend.proofs.{Deals.{both_same}, LastMoves.{IsBefore, is_before}, Replay.{NumbersOnce, number_once}}
 use Rattle.gu_depend.proofs.{Settled.{Settled, SettledAs, facts}, StandsUnder.{rises_distinct}}
@@ -15,26 +18,22 @@ use Rattle.gu_fees.specs.{Pairs.{HasRoomFor}, Sums.{AreSumsOf}, Terms.{row_of, I
 use Rattle.gu_tree.specs.ShownAll.{named_place}
 use Rattle.gu_book.specs.{Dealing.{HasRoomForClaim, place_of_kind}, Kinds.{is_claim}}
 use Rattle.gu_book.proofs.{Dealing.{raised_most, used_most}, Refused.{next_legal}, FiledChanges.{left_alone}}
-use Rattle.gu_book.proofs.TradesKept.{IsIdle, idle_terms}
+use Rattle.gu_book.proofs.TradesKept.{IsIdle}
 use Rattle.gu_book.proofs.FiledLess as less
 use Rattle.gu_book.proofs.Undoing.{fees_without, positions_without}
 
 -- ---- which changes deal
 
 -- a change of trees that is no Claim deals for nobody
-pub trees_apart : (l : List Record) (by : List ℕ) (c : Command) → is_of_trees c ≡ true → is_claim c ≡ false → pair_of l by c ≡ None
+pub trees_apart : (l : List Record) (by : List ℕ) (c : Command) → is_of_trees c ≡ true → is_claim c ≡ false
+    → pair_of l by c ≡ None
 trees_apart l by (Trade _ _ _ _ _) of other = refl
 trees_apart l by (Split _ _) of other = refl
 trees_apart l by (Refuse _) of other = refl
 trees_apart l by (Cancel _) of other = refl
 trees_apart l by _ of other = absurd (cc)
 
--- an Agree and a Raise are changes, and deal for two firms
-pub terms_change : (c : Command) → IsOfTerms c → is_change c ≡ true
-terms_change (Agree _ _ _ _) of = refl
-terms_change (Raise _ _) of = refl
-terms_change _ of = absurd (cc)
-
+-- an Agree and a Raise deal for two firms
 pub terms_paired : (l : List Record) (by : List ℕ) (c : Command) → IsOfTerms c → (p : Pair) × (pair_of l by c ≡ Some p)
 terms_paired l by (Agree giver taker _ _) is = (record { giver = giver; taker = taker }, refl)
 terms_paired l by (Raise giver _) is = (record { giver = giver; taker = by }, refl)
@@ -48,30 +47,40 @@ terms_placeless k _ of = absurd (cc)
 
 -- ---- room
 
-has_room : (d : Deed) → IsSmallDeed d → (ds : List Dealing) → raised_under ds ≤ 10000000000000000000 → used_under ds ≤ 10000000000000 → HasRoomFor ds d
+has_room : (d : Deed) → IsSmallDeed d → (ds : List Dealing) → raised_under ds ≤ 10000000000000000000
+    → used_under ds ≤ 10000000000000 → HasRoomFor ds d
 has_room (Makes a) small ds raised used = small.limit_fits
 has_room (Raises lots) small ds raised used = let few : lots ≤ 10000000000000 = small in omega (arith, few, raised)
 has_room (Uses lots) small ds raised used = let few : lots ≤ 10000000 = small in omega (arith, few, used)
 
-module _ {t : House} {l : List Record} {v : TermsView} (few : length l ≤ 1000000) (all : AllWithinLimits l) (are : AreTermsOf t l v) (g k : List ℕ) (d : Deed) (small : IsSmallDeed d) where
-  room_by : (o : Option PairView) → row_of v g k ≡ o → IsSomeAnd o (λ r. 1 ≤ r.room) → IsSomeAnd o (λ r. (1 ≤ r.room) × HasRoomFor r.dealings d)
+module _ {t : House} {l : List Record} {v : TermsView} (few : length l ≤ 1000000) (all : AllWithinLimits l)
+    (are : AreTermsOf t l v) (g k : List ℕ) (d : Deed) (small : IsSmallDeed d) where
+  room_by : (o : Option PairView) → row_of v g k ≡ o → IsSomeAnd o (λ r. 1 ≤ r.room)
+      → IsSomeAnd o (λ r. (1 ≤ r.room) × HasRoomFor r.dealings d)
   room_by None e h = absurd h
   room_by (Some q) e h =
       let told = (are.rows g k q e).1 in
       let raised = raised_most l g k all few in
-      let used = used_most l g k all few in
-      (h, has_room d small q.dealings (omega (arith, ap raised_under told, raised)) (omega (arith, ap used_under told, used)))
+      let used = used_most l g k all few in (
+        h,
+        has_room d small q.dealings (omega (arith, ap raised_under told, raised))
+            (omega (arith, ap used_under told, used)),
+      )
 
   -- a small deed may be put where there is room for an entry
   pub can_put : (n : ℕ) → last_entry v < n → IsReady v g k → CanPut v g k (record { number = n; deed = d })
   can_put n above ready = record { room = ready.room; above = above; pair = room_by (row_of v g k) refl ready.pair }
 
 -- at the place of the two
-pub can_put_at : {v : TermsView} {g k : List ℕ} {d : Dealing} (i : ℕ) → Some i ≡ lookup (is_pair g k) v.places → CanPut v g k d → CanPutAt v i d
+pub can_put_at : {v : TermsView} {g k : List ℕ} {d : Dealing} (i : ℕ) → Some i ≡ lookup (is_pair g k) v.places
+    → CanPut v g k d → CanPutAt v i d
 can_put_at {v} {d = d} i at can = record {
   room = can.room;
   above = can.above;
-  pair = subst (λ o. IsSomeAnd (option_and_then (slice_get v.pairs) o) (λ (r : PairView). (1 ≤ r.room) × HasRoomFor r.dealings d.deed)) (sym at) can.pair;
+  pair =
+      subst (λ o.
+      IsSomeAnd (option_and_then (slice_get v.pairs) o) (λ (r : PairView). (1 ≤ r.room) × HasRoomFor r.dealings d.deed))
+      (sym at) can.pair;
 }
 
 -- ---- one change more
@@ -81,26 +90,35 @@ module _ {t : House} {l : List Record} {r : Record} {ts : Grove} (next : IsNext 
   before = is_before t l r (next_legal next)
 
   -- that deals for nobody
-  pub dealt_apart : (v : TermsView) → AreTermsOf t l v → pair_of l r.firm r.command ≡ None → AreTermsOf t (l ++ r ∷ []) v
+  pub dealt_apart : (v : TermsView) → AreTermsOf t l v → pair_of l r.firm r.command ≡ None
+      → AreTermsOf t (l ++ r ∷ []) v
   dealt_apart v are none = apart_follows t l r before v are none
 
   -- that was put to the terms of a giver and a taker
-  pub dealt_put : (v w : TermsView) (g k : List ℕ) (d : Deed) → AreTermsOf t l v → deed_of l g k r.firm r.command ≡ Some d → IsPut v w g k (record { number = r.number; deed = d })
+  pub dealt_put : (v w : TermsView) (g k : List ℕ) (d : Deed) → AreTermsOf t l v
+      → deed_of l g k r.firm r.command ≡ Some d → IsPut v w g k (record { number = r.number; deed = d })
       → AreTermsOf t (l ++ r ∷ []) w
   dealt_put v w g k d are deals put = put_follows t l r before v w g k d are deals put
 
-  module _ (n : EntryPart) (account : List ℕ) (claims : r.command ≡ Claim n account) (x : Node) (there : node_of l n ≡ Some x) where
-    claimed_by : (kind : Kind) → x.kind ≡ kind → (v w : TermsView) → AreTermsOf t l v → IsClaimed v w r.number x.lots kind → AreTermsOf t (l ++ r ∷ []) w
+  module _ (n : EntryPart) (account : List ℕ) (claims : r.command ≡ Claim n account) (x : Node)
+      (there : node_of l n ≡ Some x) where
+    claimed_by : (kind : Kind) → x.kind ≡ kind → (v w : TermsView) → AreTermsOf t l v
+        → IsClaimed v w r.number x.lots kind → AreTermsOf t (l ++ r ∷ []) w
     claimed_by (Given m g k) is v w are put =
         dealt_put v w g k (Uses x.lots) are
         (ap (deed_of l g k r.firm) claims
         ∙ (ap (option_and_then (use_of_node g k)) there
-        ∙ (ap (λ (kind : Kind). use_of_node g k (record { name = x.name; lots = x.lots; kind = kind })) is ∙ ap (λ b. cond b (Some (Uses x.lots)) None) (both_same g k)))) put
+        ∙ (ap (λ (kind : Kind). use_of_node g k (record { name = x.name; lots = x.lots; kind = kind })) is
+        ∙ ap (λ b. cond b (Some (Uses x.lots)) None) (both_same g k))))
+        put
     claimed_by _ is v w are same =
         subst (AreTermsOf t (l ++ r ∷ [])) (sym same)
-        (dealt_apart v are (ap (pair_of l r.firm) claims ∙ (ap (option_and_then (λ (x : Node). pair_of_kind x.kind)) there ∙ ap pair_of_kind is)))
+        (dealt_apart v are
+        (ap (pair_of l r.firm) claims
+        ∙ (ap (option_and_then (λ (x : Node). pair_of_kind x.kind)) there ∙ ap pair_of_kind is)))
 
-    pub claim_dealt : (v w : TermsView) → AreTermsOf t l v → IsClaimed v w r.number x.lots x.kind → AreTermsOf t (l ++ r ∷ []) w
+    pub claim_dealt : (v w : TermsView) → AreTermsOf t l v → IsClaimed v w r.number x.lots x.kind
+        → AreTermsOf t (l ++ r ∷ []) w
     claim_dealt v w are put = claimed_by x.kind refl v w are put
 
   -- an Agree and a Raise change no tree
@@ -109,8 +127,9 @@ module _ {t : House} {l : List Record} {r : Record} {ts : Grove} (next : IsNext 
 
 -- ---- a claim of a node of some kind
 
-pub can_claim : {t : House} {l : List Record} {v : TermsView} → length l ≤ 1000000 → AllWithinLimits l → AreTermsOf t l v → (n lots : ℕ) → lots ≤ 10000000 → last_entry v < n
-    → (kind : Kind) → HasRoomForClaim v kind → CanClaim v n lots kind
+pub can_claim : {t : House} {l : List Record} {v : TermsView} → length l ≤ 1000000 → AllWithinLimits l
+    → AreTermsOf t l v → (n lots : ℕ) → lots ≤ 10000000 → last_entry v < n → (kind : Kind) → HasRoomForClaim v kind
+    → CanClaim v n lots kind
 can_claim few all are n lots small above (Given m g k) ready = can_put few all are g k (Uses lots) small n above ready
 can_claim few all are n lots small above _ ready = tt
 
@@ -121,7 +140,8 @@ can_at v n lots i (Given _ g k) at can = can_put_at i at can
 can_at v n lots i _ at can = absurd (cc)
 
 pub claimed_at : (v w : TermsView) (n lots i : ℕ) (kind : Kind) → Some i ≡ place_of_kind v kind
-    → ((g k : List ℕ) → lookup (is_pair g k) v.places ≡ Some i → IsPut v w g k (record { number = n; deed = Uses lots }))
+    → ((g k : List ℕ) → lookup (is_pair g k) v.places ≡ Some i
+    → IsPut v w g k (record { number = n; deed = Uses lots }))
     → IsClaimed v w n lots kind
 claimed_at v w n lots i (Given _ g k) at put = put g k (sym at)
 claimed_at v w n lots i _ at put = absurd (cc)
@@ -130,10 +150,14 @@ claimed_at v w n lots i _ at put = absurd (cc)
 pub claimed_nowhere : (v : TermsView) (n lots : ℕ) (kind : Kind) → None ≡ place_of_kind v kind
     → CanClaim v n lots kind → IsClaimed v v n lots kind
 claimed_nowhere v n lots (Given _ g k) at can =
-    absurd (subst (λ o. IsSomeAnd (option_and_then (slice_get v.pairs) o) (λ (r : PairView). (1 ≤ r.room) × HasRoomFor r.dealings (Uses lots))) (sym at) can.pair)
+    absurd (subst (λ o.
+    IsSomeAnd (option_and_then (slice_get v.pairs) o)
+    (λ (r : PairView). (1 ≤ r.room) × HasRoomFor r.dealings (Uses lots)))
+    (sym at) can.pair)
 claimed_nowhere v n lots _ at can = refl
 
-pub claimed_last : (v w : TermsView) (n lots : ℕ) (kind : Kind) → last_entry v < n → IsClaimed v w n lots kind → last_entry w ≤ n
+pub claimed_last : (v w : TermsView) (n lots : ℕ) (kind : Kind) → last_entry v < n → IsClaimed v w n lots kind
+    → last_entry w ≤ n
 claimed_last v w n lots (Given m g k) above put = let e = put.last in omega (arith, e)
 claimed_last v w n lots _ above same = let e = ap last_entry same in omega (arith, above, e)
 
@@ -154,47 +178,44 @@ module _ {t : House} {l : List Record} {r : Record} {ts : Grove} (u : IsFree t l
   claim_paired _ is s = absurd (cc)
 
   -- taken out of the terms of its giver and taker
-  dealt_taken : (v w : TermsView) (p : Pair) → AreTermsOf t l v → pair_of l r.firm r.command ≡ Some p → IsTakenOut v w r.number → AreTermsOf t (without l r.number) w
-  dealt_taken v w p are of taken = taken_follows t l r (record { once = numbers; replayed = u.replayed }) u.among u.free v w p are of taken
+  dealt_taken : (v w : TermsView) (p : Pair) → AreTermsOf t l v → pair_of l r.firm r.command ≡ Some p
+      → IsTakenOut v w r.number → AreTermsOf t (without l r.number) w
+  dealt_taken v w p are of taken =
+      taken_follows t l r (record { once = numbers; replayed = u.replayed }) u.among u.free v w p are of taken
 
-  -- a change of trees
-  pub trees_undealt : (v w : TermsView) → AreTermsOf t l v → is_of_trees r.command ≡ true → (is_claim r.command ≡ true → IsTakenOut v w r.number)
-      → (is_claim r.command ≡ false → w ≡ v) → AreTermsOf t (without l r.number) w
-  trees_undealt v w are of taken same = elim (cases_Bool (is_claim r.command)) [
-    | inl is ↦ (
-        let settled : Settled t l r = All-contains (Settled t l) l r (facts t l u.replayed).settled u.among in
-        let p = claim_paired r.command is settled.stands in
-        dealt_taken v w p.0 are p.1 (taken is))
-    | inr is ↦ subst (AreTermsOf t (without l r.number)) (sym (same is))
-        (nobody_follows t l r (record { once = numbers; replayed = u.replayed }) u.among u.free v are (trees_apart l r.firm r.command of is))
-  ]
+  -- a Claim
+  pub claim_undealt : (v w : TermsView) → AreTermsOf t l v → is_claim r.command ≡ true → IsTakenOut v w r.number
+      → AreTermsOf t (without l r.number) w
+  claim_undealt v w are is taken =
+      let settled : Settled t l r = All-contains (Settled t l) l r (facts t l u.replayed).settled u.among in
+      let paired = claim_paired r.command is settled.stands in
+      dealt_taken v w paired.0 are paired.1 taken
 
-  pub trees_last : (v w : TermsView) → (is_claim r.command ≡ true → IsTakenOut v w r.number) → (is_claim r.command ≡ false → w ≡ v) → last_entry w ≡ last_entry v
-  trees_last v w taken same = elim (cases_Bool (is_claim r.command)) [
-    | inl is ↦ (taken is).last
-    | inr is ↦ ap last_entry (same is)
-  ]
+  -- another change of trees
+  pub apart_undealt : (v : TermsView) → AreTermsOf t l v → is_of_trees r.command ≡ true → is_claim r.command ≡ false
+      → AreTermsOf t (without l r.number) v
+  apart_undealt v are of_trees other =
+      nobody_follows t l r (record { once = numbers; replayed = u.replayed }) u.among u.free v are
+      (trees_apart l r.firm r.command of_trees other)
 
   -- an Agree or a Raise
-  pub terms_undealt : (v w : TermsView) → AreTermsOf t l v → IsOfTerms r.command → IsTakenOut v w r.number → AreTermsOf t (without l r.number) w
+  pub terms_undealt : (v w : TermsView) → AreTermsOf t l v → IsOfTerms r.command → IsTakenOut v w r.number
+      → AreTermsOf t (without l r.number) w
   terms_undealt v w are of taken = let p = terms_paired l r.firm r.command of in dealt_taken v w p.0 are p.1 taken
 
-  -- an Agree or a Raise that goes leaves trees, fees and positions as they are
-  module _ (of : IsOfTerms r.command) where
-    abbrev others : List Record
-    others = without l r.number
+  -- an Agree or a Raise that goes leaves the trees as they are
+  pub undealt_filed : IsOfTerms r.command → IsGroveOf (without l r.number) ts
+  undealt_filed of = less.left_alone u (terms_placeless r.number r.command of)
 
-    gone : IsIdle t others r.firm r.command
-    gone = idle_terms t others r.firm r.command of
+  -- what costs nothing leaves the fees as they are
+  pub fees_left : None ≡ charge_of t (without l r.number) r.command → (fees : FeeRows) → AreFeesOf t l fees
+      → AreFeesOf t (without l r.number) fees
+  fees_left costs fees are =
+      fees_without u fees fees are None costs (λ cs sums. subst (AreSumsOf fees) (append-nil cs) sums)
 
-    pub undealt_filed : IsGroveOf others ts
-    undealt_filed = less.left_alone u (terms_placeless r.number r.command of)
-
-    pub undealt_fees : (fees : FeeRows) → AreFeesOf t l fees → AreFeesOf t others fees
-    undealt_fees fees are =
-        fees_without u fees fees are None gone.costs (λ cs sums. subst (AreSumsOf fees) (append-nil cs) sums)
-
-    pub undealt_stands : (rows : PositionRows) → ArePositionsOf l rows → ArePositionsOf others rows
-    undealt_stands rows are =
-        positions_without u rows rows rows are (λ at side. refl) None gone.takes
-        (λ at side. let a = ap (sum_by (counted_at at side)) gone.adds in omega (arith, a))
+  -- and what moves nothing the positions
+  pub positions_left : IsIdle t (without l r.number) r.firm r.command → (rows : PositionRows) → ArePositionsOf l rows
+      → ArePositionsOf (without l r.number) rows
+  positions_left idle rows are =
+      positions_without u rows rows rows are (λ at side. refl) None idle.takes
+      (λ at side. let a = ap (sum_by (counted_at at side)) idle.adds in omega (arith, a))

@@ -1,16 +1,20 @@
--- What each kind of change leaves of the fees and the positions: a Claim alone costs something; the lots of a Trade go into one row, those of a
--- Claim from one into another, and of a Split only what goes to other accounts is moved.
-use Rattle.std.proofs.Common.{◌≡◌, ℕ, ◌+◌, ◌<◌, ◌≤◌, ◌^◌, true, List, [], ◌∷◌, ◌++◌, length, refl, sym, ◌∙◌, ap, subst, arith}
-use Rattle.std.proofs.Common.{Option, Some, None, sum_by, filter_map, option_and_then, IfSome}
+-- What each kind of change leaves of the fees and the positions: a Claim alone costs something; the lots of a Trade go
+-- into one row, those of a Claim from one into another, and of a Split only what goes to other accounts is moved.
+use Rattle.std.proofs.Common.{◌≡◌, ℕ, ◌+◌, ◌<◌, ◌≤◌, ◌^◌, true, false, List, [], ◌∷◌, ◌++◌, length, refl, sym, ◌∙◌, ap}
+use Rattle.std.proofs.Common.{subst, arith, Option, Some, None, sum_by, filter_map, option_and_then, IfSome}
 use Rattle.std.proofs.lemmas.List.Sums.{sum_by-cons}
-use Rattle.gu_depend.proofs.Vocabulary.{House, charge_of, charge_of_node, is_change, place_of, Charge, node_of, refusal_of, Node, Part, Command, Trade, Split, Claim, Agree, Raise, Record, EntryPart}
-use Rattle.gu_depend.proofs.Vocabulary.{State}
+use Rattle.gu_depend.proofs.Vocabulary.{House, charge_of, charge_of_node, is_change, place_of, Charge, node_of}
+use Rattle.gu_depend.proofs.Vocabulary.{refusal_of, Node, Part, Command, Trade, Split, Claim, Agree, Raise, Record}
+use Rattle.gu_depend.proofs.Vocabulary.{EntryPart, State, Refuse, Cancel, state_after}
 use Rattle.gu_base.specs.declared.state.State.TheVariants.{Refused, Cancelled}
-use Rattle.gu_tree.specs.Shown.{GivesBack}
+use Rattle.gu_tree.specs.{Changes.{is_given_back}, Shown.{DecidesNode, GivesBack}}
+use Rattle.gu_book.specs.Kinds.{is_claim}
 use Rattle.std.proofs.lemmas.Option.{same_Some}
-use Rattle.gu_book.proofs.Vocabulary.{PositionRows, lots_in, Grove, IsNext, IsOfTerms, pair_of, traded_at, holding_of, taken_by, holding_away, part_away}
-use Rattle.gu_book.proofs.Vocabulary.{added_by, counted_at, HaveRoom, HaveMoved, ArePositionsOf, AllWithinLimits, IsWithinLimits, Holding}
-use Rattle.gu_book.proofs.PartsAway.{at_whole, held_is, moved, moved_few, SplitWell, split_well, whole_well, split_moved}
+use Rattle.gu_book.proofs.Vocabulary.{PositionRows, lots_in, Grove, IsNext, IsOfTerms, pair_of, traded_at, holding_of}
+use Rattle.gu_book.proofs.Vocabulary.{taken_by, holding_away, part_away, added_by, counted_at, HaveRoom, HaveMoved}
+use Rattle.gu_book.proofs.Vocabulary.{ArePositionsOf, AllWithinLimits, IsWithinLimits, Holding}
+use Rattle.gu_book.proofs.PartsAway.{at_whole, held_is, moved, moved_few, SplitWell, split_well, whole_well}
+use Rattle.gu_book.proofs.PartsAway.{split_moved}
 use Rattle.gu_book.proofs.{Standings.{row_fits, has_taken, positions_moved}, HoldingRows.{put_there, first_there}}
 use Rattle.gu_book.proofs.{Within.{node_within}, Refused.{accepted_small}}
 
@@ -25,15 +29,35 @@ idle_terms t l by (Agree _ _ _ _) is = record { costs = refl; takes = refl; adds
 idle_terms t l by (Raise _ _) is = record { costs = refl; takes = refl; adds = refl }
 idle_terms t l by _ is = absurd (cc)
 
+-- a decision that gives its node back
+pub idle_return : (t : House) (l : List Record) (by : List ℕ) (n : EntryPart) (c : Command) → DecidesNode n c
+    → is_given_back (state_after c) ≡ true → IsIdle t l by c
+idle_return t l by n (Refuse _) decides back = record { costs = refl; takes = refl; adds = refl }
+idle_return t l by n (Cancel _) decides back = record { costs = refl; takes = refl; adds = refl }
+idle_return t l by n (Claim _ _) decides back = absurd (cc)
+idle_return t l by n _ decides back = absurd decides
+
+pub return_other : (n : EntryPart) (c : Command) → DecidesNode n c → is_given_back (state_after c) ≡ true
+    → is_claim c ≡ false
+return_other n (Refuse _) decides back = refl
+return_other n (Cancel _) decides back = refl
+return_other n (Claim _ _) decides back = absurd (cc)
+return_other n _ decides back = absurd decides
+
 -- a command that gives a node back is a change, and is for nobody's terms
 pub record GivesNodeBack (t : House) (l : List Record) (by : List ℕ) (c : Command) : Type 0 where
   pub change : is_change c ≡ true
   pub idle : IsIdle t l by c
   pub apart : pair_of l by c ≡ None
 
-pub gives_node_back : (t : House) (l : List Record) (by : List ℕ) (c : Command) (n : EntryPart) (s : State) → GivesBack n s c → GivesNodeBack t l by c
-gives_node_back t l by c n Refused is = subst (GivesNodeBack t l by) (sym is) (record { change = refl; idle = record { costs = refl; takes = refl; adds = refl }; apart = refl })
-gives_node_back t l by c n Cancelled is = subst (GivesNodeBack t l by) (sym is) (record { change = refl; idle = record { costs = refl; takes = refl; adds = refl }; apart = refl })
+pub gives_node_back : (t : House) (l : List Record) (by : List ℕ) (c : Command) (n : EntryPart) (s : State)
+    → GivesBack n s c → GivesNodeBack t l by c
+gives_node_back t l by c n Refused is =
+    subst (GivesNodeBack t l by) (sym is)
+    (record { change = refl; idle = record { costs = refl; takes = refl; adds = refl }; apart = refl })
+gives_node_back t l by c n Cancelled is =
+    subst (GivesNodeBack t l by) (sym is)
+    (record { change = refl; idle = record { costs = refl; takes = refl; adds = refl }; apart = refl })
 gives_node_back t l by c n _ is = absurd is
 
 -- a change that may follow those of a book, whose positions stand in these rows
@@ -43,37 +67,44 @@ pub record MayFollow (t : House) (l : List Record) (r : Record) (ts : Grove) (ro
   pub within : AllWithinLimits l
   pub stands : ArePositionsOf l rows
 
-module _ {t : House} {l : List Record} {r : Record} {ts : Grove} {rows : PositionRows} (may : MayFollow t l r ts rows) where
+module _ {t : House} {l : List Record} {r : Record} {ts : Grove} {rows : PositionRows}
+    (may : MayFollow t l r ts rows) where
   -- ---- a Trade of these lots
 
-  module _ (traded : Holding) (trades : r.command ≡ Trade traded.key.firm traded.key.account traded.key.instrument traded.side traded.lots) where
-    adds : added_by r.firm r.command None ≡ traded ∷ []
-    adds = ap (λ c. added_by r.firm c None) trades
+  module _ (traded : Holding)
+      (trades : r.command ≡ Trade traded.key.firm traded.key.account traded.key.instrument traded.side traded.lots)
+    where
+      adds : added_by r.firm r.command None ≡ traded ∷ []
+      adds = ap (λ c. added_by r.firm c None) trades
 
-    -- the row has room
-    pub trade_fits : lots_in rows traded.key traded.side + traded.lots < 2 ^ 64
-    trade_fits =
-        row_fits may.few may.within may.stands traded.key traded.side traded.lots
-        (subst IsWithinLimits trades (accepted_small t l r.firm r.command may.next.lawful))
+      -- the row has room
+      pub trade_fits : lots_in rows traded.key traded.side + traded.lots < 2 ^ 64
+      trade_fits =
+          row_fits may.few may.within may.stands traded.key traded.side traded.lots
+          (subst IsWithinLimits trades (accepted_small t l r.firm r.command may.next.lawful))
 
-    -- and has the lots
-    pub trade_stands : (new : PositionRows) → HaveMoved rows new None (traded ∷ []) → ArePositionsOf (l ++ r ∷ []) new
-    trade_stands new put =
-        positions_moved may.next rows new may.stands None (sym (ap (taken_by l) trades)) (subst (λ (hs : List Holding). HaveMoved rows new None hs) (sym adds) put)
+      -- and has the lots
+      pub trade_stands : (new : PositionRows) → HaveMoved rows new None (traded ∷ []) → ArePositionsOf (l ++ r ∷ []) new
+      trade_stands new put =
+          positions_moved may.next rows new may.stands None (sym (ap (taken_by l) trades))
+          (subst (λ (hs : List Holding). HaveMoved rows new None hs) (sym adds) put)
 
   -- ---- what moves nothing
 
   pub idle_stands : IsIdle t l r.firm r.command → ArePositionsOf (l ++ r ∷ []) rows
-  idle_stands idle = positions_moved may.next rows rows may.stands None idle.takes (λ at side. let a = ap (sum_by (counted_at at side)) idle.adds in omega (arith, a))
+  idle_stands idle =
+      positions_moved may.next rows rows may.stands None idle.takes
+      (λ at side. let a = ap (sum_by (counted_at at side)) idle.adds in omega (arith, a))
 
 -- a change that may follow and takes the whole of a node, the lots that stand there: a Split or a Claim
-pub record TakesWhole (t : House) (l : List Record) (r : Record) (ts : Grove) (rows : PositionRows) (n : EntryPart) (x : Node) (whole : Holding) : Type 0 where
+pub record TakesWhole (t : House) (l : List Record) (r : Record) (ts : Grove) (rows : PositionRows) (n : EntryPart)
+    (x : Node) (whole : Holding) : Type 0 where
   pub may : MayFollow t l r ts rows
   pub there : node_of l n ≡ Some x
   pub holds : Some whole ≡ holding_of l x
 
-module _ {t : House} {l : List Record} {r : Record} {ts : Grove} {rows : PositionRows} {n : EntryPart} {x : Node} {whole : Holding}
-    (of : TakesWhole t l r ts rows n x whole) where
+module _ {t : House} {l : List Record} {r : Record} {ts : Grove} {rows : PositionRows} {n : EntryPart} {x : Node}
+    {whole : Holding} (of : TakesWhole t l r ts rows n x whole) where
   its_whole : Some whole ≡ option_and_then (holding_of l) (node_of l n)
   its_whole = of.holds ∙ sym (ap (option_and_then (holding_of l)) of.there)
 
@@ -85,7 +116,8 @@ module _ {t : House} {l : List Record} {r : Record} {ts : Grove} {rows : Positio
 
   module _ (ps : List Part) (splits : r.command ≡ Split n ps) where
     well : SplitWell t l r.firm n ps
-    well = split_well t l r.firm n ps (subst (λ (c : Command). refusal_of t l r.firm c ≡ None) splits of.may.next.lawful)
+    well =
+        split_well t l r.firm n ps (subst (λ (c : Command). refusal_of t l r.firm c ≡ None) splits of.may.next.lawful)
 
     -- the whole stands in an account of the firm that splits it, and has the lots of its parts
     pub whole_is : (whole.key.firm ≡ r.firm) × (whole.lots ≡ sum_by (λ (p : Part). p.lots) ps)
@@ -100,21 +132,25 @@ module _ {t : House} {l : List Record} {r : Record} {ts : Grove} {rows : Positio
         let d = moved_few whole r.firm ps in
         let e = well.sums in
         let f = ap (λ (x : Node). x.lots) (same_Some x well.node (sym of.there ∙ well.there)) in
-        row_fits of.may.few of.may.within of.may.stands at side (moved whole r.firm ps) (omega (arith, d, e, f, few_whole))
+        row_fits of.may.few of.may.within of.may.stands at side (moved whole r.firm ps)
+        (omega (arith, d, e, f, few_whole))
 
     module _ (mid : PositionRows) (put : HaveMoved rows mid None (filter_map (part_away whole r.firm) ps)) where
       -- so many lots stand where the whole does
       pub split_takes : moved whole r.firm ps ≤ lots_in mid whole.key whole.side
       split_takes =
-          let a = has_taken of.may.next rows mid of.may.stands (filter_map (part_away whole r.firm) ps) put whole takes in
+          let a =
+          has_taken of.may.next rows mid of.may.stands (filter_map (part_away whole r.firm) ps) put whole takes in
           let b = moved_few whole r.firm ps in
           let c = whole_is.1 in
           omega (arith, a, b, c)
 
-      pub split_stands : (new : PositionRows) → HaveMoved mid new (Some (at_whole whole (moved whole r.firm ps))) [] → ArePositionsOf (l ++ r ∷ []) new
+      pub split_stands : (new : PositionRows) → HaveMoved mid new (Some (at_whole whole (moved whole r.firm ps))) []
+          → ArePositionsOf (l ++ r ∷ []) new
       split_stands new taken =
           positions_moved of.may.next rows new of.may.stands (Some whole) takes
-          (subst (λ (hs : List Holding). HaveMoved rows new (Some whole) hs) (sym (ap (λ c. added_by r.firm c (Some whole)) splits))
+          (subst (λ (hs : List Holding). HaveMoved rows new (Some whole) hs)
+          (sym (ap (λ c. added_by r.firm c (Some whole)) splits))
           (split_moved t whole r.firm ps whole_is.0 whole_is.1 well.parts rows mid new put taken))
 
   -- ---- a Claim
@@ -138,7 +174,8 @@ module _ {t : House} {l : List Record} {r : Record} {ts : Grove} {rows : Positio
     pub claim_fits : lots_in rows claimed_lots.key whole.side + whole.lots < 2 ^ 64
     claim_fits =
         let same = (held_is (place_of l x.name) (traded_at l x.name) x.lots whole of.holds).0 in
-        row_fits of.may.few of.may.within of.may.stands claimed_lots.key whole.side whole.lots (omega (arith, few_whole, same))
+        row_fits of.may.few of.may.within of.may.stands claimed_lots.key whole.side whole.lots
+        (omega (arith, few_whole, same))
 
     module _ (mid : PositionRows) (put : HaveMoved rows mid None (claimed_lots ∷ [])) where
       -- once they are put they are there

@@ -22,15 +22,18 @@ HasRoomForClaim v _ = Unit {0}
 
 -- the claim of this number of so many lots may be put to their terms
 abbrev pub CanClaim : TermsView → ℕ → ℕ → Kind → Type 0
-CanClaim v number lots (Given _ giver taker) = CanPut v giver taker (record { number = number; deed = Uses lots })
+CanClaim v number lots (Given _ giver taker) =
+    CanPut v giver taker (record { number = number; deed = Uses lots })
 CanClaim v number lots _ = Unit {0}
 
 -- and was put there
 abbrev pub IsClaimed : TermsView → TermsView → ℕ → ℕ → Kind → Type 0
-IsClaimed old new number lots (Given _ giver taker) = IsPut old new giver taker (record { number = number; deed = Uses lots })
+IsClaimed old new number lots (Given _ giver taker) =
+    IsPut old new giver taker (record { number = number; deed = Uses lots })
 IsClaimed old new number lots _ = new ≡ old
 
--- terms within their limits, a raise of at most 10,000,000,000,000 lots, a claim of at most 10,000,000
+-- terms within their limits, a raise of at most 10,000,000,000,000 lots, a claim of at most
+-- 10,000,000
 abbrev pub IsSmallDeed : Deed → Type 0
 IsSmallDeed (Makes terms) = TermsWithinLimits terms.rate terms.limit
 IsSmallDeed (Raises lots) = lots ≤ highest_limit

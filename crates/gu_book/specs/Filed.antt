@@ -12,7 +12,8 @@ use Rattle.gu_tree.specs.ShownAll.{ShowsAll}
 abbrev pub IsGroveOf : List Record → Grove → Type 0
 IsGroveOf l g = ShowsAll l g
 
--- a change that may follow these, the trees of which are filed, and the places too; no entry so late ever had a place
+-- a change that may follow these, the trees of which are filed, and the places too; no entry so
+-- late ever had a place
 pub record IsNext (t : House) (l : List Record) (r : Record) (g : Grove) : Type 0 where
   pub filed : IsGroveOf l g
   pub later : last_place g < r.number
@@ -42,4 +43,5 @@ MayGo r g = (t : House) × (l : List Record) × IsFree t l r g
 
 -- whatever list the change may go from, the new trees are those of the others
 abbrev pub IsGone : Record → Grove → Grove → Type 0
-IsGone r old new = (t : House) (l : List Record) → IsFree t l r old → IsGroveOf (without l r.number) new
+IsGone r old new =
+    (t : House) (l : List Record) → IsFree t l r old → IsGroveOf (without l r.number) new

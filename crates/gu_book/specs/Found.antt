@@ -45,7 +45,8 @@ IsFoundIn l n (Some f) = (x : Node) × (x.name ≡ n) × IsFoundAs l x f
 -- the node of this name and what was found of it, if the changes make one
 abbrev pub IsNamedBy : List Record → EntryPart → Option Named → Type 0
 IsNamedBy l n None = node_of l n ≡ None
-IsNamedBy l n (Some m) = (node_of l n ≡ Some m.node) × (m.node.name ≡ n) × IsFoundAs l m.node m.found
+IsNamedBy l n (Some m) =
+    (node_of l n ≡ Some m.node) × (m.node.name ≡ n) × IsFoundAs l m.node m.found
 
 -- that of the node which a command names, if it names one
 abbrev pub IsNamedIn : List Record → Option EntryPart → Option Named → Type 0
@@ -63,8 +64,8 @@ IsFoundThere g None o p = Unit {0}
 IsFoundThere g (Some n) None p = ⊥
 IsFoundThere g (Some n) (Some m) p = IsPlace g n m.found.trade p
 
--- of the live change of this number: what was found of the node that it made or named, to which the path leads in whatever trees these changes have,
--- and what is traded there
+-- of the live change of this number: what was found of the node that it made or named, to which the
+-- path leads in whatever trees these changes have, and what is traded there
 pub record IsUndoneAs (l : List Record) (k : ℕ) (u : Undone) (p : List ℕ) : Type 0 where
   pub name : EntryPart
   pub place : place_in l k ≡ Some name
@@ -87,10 +88,9 @@ abbrev pub IsStandingIn : House → List Record → Command → Option ℕ → T
 IsStandingIn t l (Reverse k) o = o ≡ standing_on t l k
 IsStandingIn t l c o = o ≡ None
 
--- something was found, and these trees have the node of the change of this number where the path leads
-abbrev pub IsUndoneThere : Grove → ℕ → Option Undone → List ℕ → Type 0
-IsUndoneThere g k None p = ⊥
-IsUndoneThere g k (Some u) p = IsSomeAnd (place_kept g k) (λ n. IsPlace g n u.found.trade p)
+-- these trees have the node of the change of this number where the path leads
+abbrev pub IsUndoneThere : Grove → ℕ → Undone → List ℕ → Type 0
+IsUndoneThere g k u p = IsSomeAnd (place_kept g k) (λ n. IsPlace g n u.found.trade p)
 
 -- nothing was looked up yet
 pub record IsNothing (s : Sought) : Type 0 where

@@ -10,7 +10,8 @@ use Rattle.gu_book.specs.declared.live.Change.{Change}
 
 -- the entry
 abbrev pub entry_of_change : Change → Entry
-entry_of_change c = record { firm = c.firm.now; id = c.id.now; status = c.status; command = c.command.now }
+entry_of_change c =
+    record { firm = c.firm.now; id = c.id.now; status = c.status; command = c.command.now }
 
 -- the entry with its number
 abbrev pub record_of : Change → Record

@@ -1,5 +1,6 @@
 -- What is found of a history without going over it.
-use Rattle.std.specs.Prelude.{◌≡◌, ℕ, List, Option, Some, None, find, option_map, slice_index_or, if◌then◌else◌}
+use Rattle.std.specs.Prelude.{◌≡◌, ◌<◌, ℕ, length, List, Option, Some, None, find, option_map}
+use Rattle.std.specs.Prelude.{slice_index_or, if◌then◌else◌}
 use Rattle.gu_base.specs.Numbers.{is_number}
 use Rattle.gu_base.specs.History.{records}
 use Rattle.gu_base.specs.Answers.{Call, is_same_id, reversal_of}
@@ -17,6 +18,10 @@ number_or_none n = if is_number n then Some n else None
 -- the number that is kept at an entry
 abbrev pub reversal_in : Reversals → ℕ → Option ℕ
 reversal_in reversals entry = number_or_none (slice_index_or reversals.numbers.items entry 0)
+
+-- there is room for a number at an entry
+abbrev pub HasRoomAt : Reversals → ℕ → Type 0
+HasRoomAt reversals entry = entry < length reversals.numbers.items
 
 -- the number of the first entry of the call's firm and id
 abbrev pub number_of : List Entry → Call → Option ℕ

@@ -1,9 +1,10 @@
 -- How many nodes of the trees a call visits, and how many entries of a giver and a taker.
--- A visit is a node that the call looks at, makes or takes away, counted once for the call: the nodes on the ways from their roots that it
--- hands to the trees, and the parts that it makes, takes away or asks after. An entry of a giver
--- and a taker that it looks at is a visit too: a Reverse of a Claim, an Agree or a Raise may look
--- at each, so all of them are counted.
-use Rattle.std.specs.Prelude.{◌≡◌, ◌≤◌, ◌<◌, ◌+◌, ◌^◌, ℕ, Bool, true, false, if◌then◌else◌, List, length, Option, option_and_then, option_map, unwrap_or, IsSome}
+-- A visit is a node that the call looks at, makes or takes away, counted once for the call: the
+-- nodes on the ways from their roots that it hands to the trees, and the parts that it makes, takes
+-- away or asks after. An entry of a giver and a taker that it looks at is a visit too: a Reverse of
+-- a Claim, an Agree or a Raise may look at each, so all of them are counted.
+use Rattle.std.specs.Prelude.{◌≡◌, ◌≤◌, ◌<◌, ◌+◌, ◌^◌, ℕ, Bool, true, false, if◌then◌else◌, List}
+use Rattle.std.specs.Prelude.{length, Option, option_and_then, option_map, unwrap_or, IsSome}
 use Rattle.std.specs.Prelude.{IsSomeAnd, Result, Ok, Err}
 use Rattle.gu_base.specs.Numbers.{EntryPart}
 use Rattle.gu_base.specs.Nodes.{node_of}
@@ -13,13 +14,15 @@ use Rattle.gu_base.specs.Terms.{dealings}
 use Rattle.gu_depend.specs.Terms.{pair_of}
 use Rattle.gu_base.specs.declared.house.Pair.{Pair}
 use Rattle.gu_base.specs.declared.command.Command.{Command}
-use Rattle.gu_base.specs.declared.command.Command.TheVariants.{Trade, Split, Claim, Refuse, Cancel, Initiate, Decline, Reverse}
+use Rattle.gu_base.specs.declared.command.Command.TheVariants.{Trade, Split, Claim, Refuse, Cancel}
+use Rattle.gu_base.specs.declared.command.Command.TheVariants.{Initiate, Decline, Reverse}
 use Rattle.gu_base.specs.declared.entry.Answer.{Answer}
 use Rattle.gu_base.specs.declared.entry.Record.{Record}
 use Rattle.gu_tree.specs.Shown.{named_node}
 use Rattle.gu_tree.specs.ShownAll.{change_of, place_in}
 
--- the node that a command names; where it names an entry, the one that this entry made or named, of a Trade its root
+-- the node that a command names; where it names an entry, the one that this entry made or named, of
+-- a Trade its root
 abbrev pub node_meant : List Record → Command → Option EntryPart
 node_meant l (Initiate k) = place_in l k
 node_meant l (Decline k) = place_in l k
@@ -53,7 +56,8 @@ pair_meant l by c = pair_of l by c
 
 -- their Agree, Raises and Claims; 0 where there are no such two
 abbrev pub entries_met : List Record → List ℕ → Command → ℕ
-entries_met l by c = unwrap_or (option_map (λ p. length (dealings l p.giver p.taker)) (pair_meant l by c)) 0
+entries_met l by c =
+    unwrap_or (option_map (λ p. length (dealings l p.giver p.taker)) (pair_meant l by c)) 0
 
 -- a change of trees
 abbrev pub is_of_trees : Command → Bool
@@ -66,7 +70,8 @@ is_of_trees _ = false
 
 -- such a change, or the Reverse of one
 abbrev pub changes_trees : List Record → Command → Bool
-changes_trees l (Reverse k) = unwrap_or (option_map (λ r. is_of_trees r.command) (change_of l k)) false
+changes_trees l (Reverse k) =
+    unwrap_or (option_map (λ r. is_of_trees r.command) (change_of l k)) false
 changes_trees l c = is_of_trees c
 
 -- whether a call was kept
@@ -74,11 +79,13 @@ abbrev pub is_kept : {E : Type 0} → Result Answer E → Bool
 is_kept (Ok a) = is_accepted a
 is_kept (Err e) = false
 
--- a call of a firm visits at most two nodes more than its node lies deep and the parts are many, and the entries of its giver and taker; and one
--- more at least, where it changes the trees
-pub record AreVisits (l : List Record) (by : List ℕ) (c : Command) (kept : Bool) (visits : ℕ) : Type 0 where
+-- a call of a firm visits at most two nodes more than its node lies deep and the parts are many,
+-- and the entries of its giver and taker; and one more at least, where it changes the trees
+pub record AreVisits (l : List Record) (by : List ℕ) (c : Command) (kept : Bool) (visits : ℕ) : Type
+    0 where
   pub most : visits ≤ depth_meant l c + parts_met l c kept + entries_met l by c + 2
-  pub least : kept ≡ true → changes_trees l c ≡ true → depth_meant l c + parts_met l c true + 1 ≤ visits
+  pub least : kept ≡ true → changes_trees l c ≡ true
+      → depth_meant l c + parts_met l c true + 1 ≤ visits
 
 -- ---- what the code counts
 

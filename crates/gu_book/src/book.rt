@@ -1,53 +1,55 @@
-//! The book: the house table, the history, and beside it a tree for each live trade, the consents, the look-ups, the fees, the positions and the
-//! terms.
-ghost use Rattle.std.specs.Prelude.{true, vec_len, vec_capacity, ◌≡◌, ◌==◌, ◌≤◌, ◌<◌, ◌+◌, ◌^◌, ℕ, List, [], ◌∷◌, ◌++◌, length, map, option_map, IsTrue, IfOk, IfErr, OnOk, OnErr, IsSome, IsSomeAnd, slice_get, if◌then◌else◌};
+//! The book: the house table, the history, and beside it what is kept of the live changes, the
+//! consents and the look-ups.
+ghost use Rattle.std.specs.Prelude.{true, vec_len, vec_capacity, ◌≡◌, ◌==◌, ◌≤◌, ◌<◌};
+ghost use Rattle.std.specs.Prelude.{ℕ, List, [], ◌∷◌, ◌++◌, length, map, option_map, slice_get};
+ghost use Rattle.std.specs.Prelude.{IsTrue, IfOk, IfErr, OnOk, OnErr, IsSomeAnd, if◌then◌else◌};
 ghost use Rattle.gu_base.specs.Limits.{most_entries};
 ghost use Rattle.gu_base.specs.Consents.{is_consenting};
 ghost use Rattle.gu_base.specs.History.{is_change, live};
 ghost use Rattle.gu_base.specs.Positions.{position_of};
 ghost use Rattle.gu_base.specs.Fees.{paid_by, received_by};
 ghost use Rattle.gu_base.specs.Terms.{limit_of, terms_of, used_of};
-ghost use Rattle.gu_base.specs.Numbers.{EntryPart};
 ghost use Rattle.gu_base.specs.Standing.{IsLegal, standing_on};
-ghost use Rattle.gu_base.specs.Answers.{Call, answer_to, after, is_accepted};
+ghost use Rattle.gu_base.specs.Answers.{answer_to, after};
 ghost use Rattle.gu_base.specs.declared.command.Side.TheVariants.{Buy, Sell};
-ghost use Rattle.gu_base.specs.declared.entry.Answer.TheVariants.{Accepted};
-ghost use Rattle.gu_base.specs.Runs.{IsRunFrom, call_of, opening_calls, opening_history};
-ghost use Rattle.gu_base.specs.declared.command.Command.TheVariants.{Trade, Split, Claim, Initiate, Decline, Reverse};
+ghost use Rattle.gu_base.specs.Runs.{IsRunFrom, opening_calls, opening_history};
+ghost use Rattle.gu_base.specs.declared.command.Command.TheVariants.{Initiate, Decline, Reverse};
+ghost use Rattle.gu_base.specs.declared.command.Command.TheVariants.{Split};
+ghost use Rattle.gu_base.specs.declared.command.Part.{Part as PartData};
+ghost use Rattle.gu_base.specs.Numbers.{EntryPart};
 ghost use Rattle.gu_consent.specs.Given.{given};
 ghost use Rattle.gu_ids.specs.Chains.{IsReady};
 ghost use Rattle.gu_ids.specs.Hashing.{IsHashOf};
-ghost use Rattle.gu_tree.specs.Shown.{GivesBack, shown, named_node};
-ghost use Rattle.gu_tree.specs.ShownAll.{place_in};
+ghost use Rattle.gu_tree.specs.Shown.{shown, named_node};
 ghost use Rattle.gu_book.specs.Front.{may_lack};
 ghost use Rattle.gu_book.specs.Ids.{NoIdTwice};
 ghost use Rattle.gu_book.specs.Lookups.{AreIdsOf};
-ghost use Rattle.gu_book.specs.Kept.{IsAccepted};
-ghost use Rattle.gu_book.specs.Kinds.{IsOfTerms};
-ghost use Rattle.gu_book.specs.Found.{IsNamedIn, IsNothing, IsStandingIn, IsUndoneIn, LiesThere};
+ghost use Rattle.gu_book.specs.Kept.{IsAccepted, IsAcceptedBy, with_entry};
+ghost use Rattle.gu_book.specs.Found.{IsNamedIn, IsNothing, IsStandingIn};
+ghost use Rattle.gu_book.specs.Found.{IsUndoneBy, IsUndoneIn, LiesThere};
 ghost use Rattle.gu_book.specs.Live.{entry_of_change};
 ghost use Rattle.gu_book.specs.Seen.{stored};
 ghost use Rattle.gu_book.specs.TreeRows.{is_live_trade, tree_rows};
 ghost use Rattle.gu_book.specs.Visits.{AreSeen, AreVisits, is_kept};
 
+use crate::copies::{copy_of, parts_of};
 use crate::found::{Sought, seek};
 use crate::live::{Change, Live};
+use crate::live_state::{Addition, LiveState, Removal};
 use crate::lookups::Lookups;
 use crate::rules::basis::Basis;
-use crate::rules::holdings::Holding;
-use crate::rules::{calls, charges, holdings, terms};
+use crate::rules::{calls, terms};
 use crate::{grove, visits};
 use gu_base::{
-    AccountId, Agreement, AllocId, Answer, Command, Entry, FirmId, InstrumentId, Memory, NodeName,
-    Number, Parts, Place, State,
+    AccountId, Agreement, AllocId, Answer, Command, Entry, FirmId, InstrumentId, Memory, Number,
+    Parts,
 };
 use gu_consent::Consents;
 use gu_depend::first_standing;
-use gu_fees::{Fees, Terms};
 use gu_ids::{HashKey, IdHash, Ids};
 use gu_parties::House;
-use gu_positions::{Key, Positions};
-use gu_tree::{Row, Trees};
+use gu_positions::Key;
+use gu_tree::Row;
 use std::alloc::Global;
 use std::marker::Model;
 
@@ -56,12 +58,9 @@ use std::marker::Model;
 pub struct Book {
     house: House,
     entries: Vec<Entry>,
-    trees: Trees<Global>,
+    state: LiveState,
     consents: Consents,
     lookups: Lookups,
-    fees: Fees,
-    positions: Positions,
-    terms: Terms,
     visits: u64,
 }
 
@@ -73,7 +72,7 @@ impl Model for Book {
 
     ghost view = { λ b. record { house = b.house; history = b.entries.items; visits = b.visits } };
 
-    ghost invariant = { λ b. IsBook b.house b.entries.items b.trees b.consents b.lookups b.fees b.positions b.terms };
+    ghost invariant = { λ b. IsBook b.house b.entries.items b.consents b.lookups b.state };
 }
 
 impl Book {
@@ -84,24 +83,26 @@ impl Book {
         Book {
             house,
             entries: Vec::new(alloc),
-            trees: Trees::new(alloc, alloc),
+            state: LiveState::new(alloc),
             consents: Consents::new(alloc),
             lookups: Lookups::new(alloc),
-            fees: Fees::new(alloc),
-            positions: Positions::new(alloc),
-            terms: Terms::new(alloc),
             visits: 0,
         }
     }
 
-    /// The book of a house behind its opening calls, by which the clearing house makes the agreements of a house file of version 2. A file of
-    /// version 1 has none of these, and its book is `new`.
+    /// The book of a house behind its opening calls, by which the clearing house makes the
+    /// agreements of a house file of version 2. A file of version 1 has none of these, and its book
+    /// is `new`.
     ///
     /// # Errors
     ///
-    /// The house, and `Memory`, where a growth was refused: never where there are no opening calls, since then there are no growths.
+    /// The house, and `Memory`, where a growth was refused: never where there are no opening calls,
+    /// since then there are no growths.
     pub fn open(alloc: Global, house: House) -> Result<Book, (House, Memory)>
-        ensures opened { IfOk result (λ b. stored b ≡ record { house = house; history = opening_history house }) }
+        ensures opened { IfOk result (λ b. stored b ≡ record {
+          house = house;
+          history = opening_history house;
+        }) }
         ensures memory { OnErr result (1 ≤ length house.opening) }
         ensures given_back { IfErr result (λ e. e.0 ≡ house) }
     {
@@ -115,9 +116,9 @@ impl Book {
         Ok(book)
     }
 
-    /// Finds ids under this key from now on. Nothing that a contract sees depends on it, but whoever
-    /// doesn't know it can't choose ids that fall together. Takes time by the length of the history,
-    /// and no memory. A new book has a key that everyone knows.
+    /// Finds ids under this key from now on. Nothing that a contract sees depends on it, but
+    /// whoever doesn't know it can't choose ids that fall together. Takes time by the length of the
+    /// history, and no memory. A new book has a key that everyone knows.
     pub fn rekey(&mut self, key: HashKey)
         ensures { self.new ≡ self.old }
     {
@@ -135,7 +136,11 @@ impl Book {
     #[tactic(auto, using(crate::proofs::Opening::call_there))]
     fn make_opening_call(&mut self, alloc: Global, place: usize) -> Result<(), Memory>
         requires { place < length self.old.house.opening }
-        ensures made { OnOk result (IsSomeAnd (slice_get (opening_calls self.old.house) place) (λ c. stored self.new ≡ record { house = self.old.house; history = after self.old.house self.old.history c })) }
+        ensures made { OnOk result (IsSomeAnd (slice_get (opening_calls self.old.house) place)
+            (λ c. stored self.new ≡ record {
+              house = self.old.house;
+              history = after self.old.house self.old.history c;
+            })) }
         ensures unchanged { OnErr result (stored self.new ≡ stored self.old) }
     {
         let Some((id, command)) = self.house.opening_at(place) else {
@@ -190,11 +195,29 @@ impl Book {
         id: &AllocId,
         command: &Command,
     ) -> Result<Answer, Memory>
-        ensures answered { IfOk result (λ a. a ≡ answer_to self.old.house self.old.history (record { firm = by.now; id = id.now; command = command.now })) }
-        ensures kept { OnOk result (stored self.new ≡ record { house = self.old.house; history = after self.old.house self.old.history (record { firm = by.now; id = id.now; command = command.now }) }) }
-        ensures memory { OnErr result (IsTrue (may_lack (answer_to self.old.house self.old.history (record { firm = by.now; id = id.now; command = command.now })))) }
+        ensures answered { IfOk result (λ a. a
+            ≡ answer_to self.old.house self.old.history (record {
+              firm = by.now;
+              id = id.now;
+              command = command.now;
+            })) }
+        ensures kept { OnOk result (stored self.new ≡ record {
+          house = self.old.house;
+          history = after self.old.house self.old.history (record {
+            firm = by.now;
+            id = id.now;
+            command = command.now;
+          });
+        }) }
+        ensures memory { OnErr result (IsTrue
+            (may_lack (answer_to self.old.house self.old.history (record {
+              firm = by.now;
+              id = id.now;
+              command = command.now;
+            })))) }
         ensures unchanged { OnErr result (stored self.new ≡ stored self.old) }
-        ensures visits { AreVisits (live self.old.history) by.now command.now (is_kept result) self.new.visits }
+        ensures visits { AreVisits (live self.old.history) by.now command.now (is_kept result)
+            self.new.visits }
     {
         let mut sought = Sought::nothing();
         self.seek(command, &mut sought);
@@ -218,10 +241,11 @@ impl Book {
         }
     }
 
-    /// How many nodes of the trees the last `apply` visited, each counted once: those on the ways to the nodes that it looked at, and the parts
-    /// that it made, took away or asked after. Of a Reverse of a Claim, an Agree or a Raise it
-    /// counts the entries of their giver and taker too: their Agree, Raises and Claims. A call that
-    /// is refused, repeated or finds no memory changes this number too.
+    /// How many nodes of the trees the last `apply` visited, each counted once: those on the ways
+    /// to the nodes that it looked at, and the parts that it made, took away or asked after. Of a
+    /// Reverse of a Claim, an Agree or a Raise it counts the entries of their giver and taker too:
+    /// their Agree, Raises and Claims. A call that is refused, repeated or finds no memory changes
+    /// this number too.
     pub fn visits(&self) -> u64
         ensures { result ≡ self.now.visits }
     {
@@ -235,18 +259,23 @@ impl Book {
         self.visits = visits;
     }
 
-    /// Puts in what a command names, so that the processor fetches it before it is asked whether the id is known.
+    /// Puts in what a command names, so that the processor fetches it before it is asked whether
+    /// the id is known.
     #[tactic(auto, using(gu_base::proofs::LegalLaws::legal_from_replay))]
     fn seek(&self, command: &Command, sought: &mut Sought)
         requires { IsNothing sought.old }
-        ensures named { IsNamedIn (live self.now.history) (named_node command.now) sought.new.named }
-        ensures undone { IsUndoneIn (live self.now.history) command.now sought.new.undone sought.new.path.items }
+        ensures named { IsNamedIn (live self.now.history) (named_node command.now)
+            sought.new.named }
+        ensures undone { IsUndoneIn (live self.now.history) command.now sought.new.undone
+            sought.new.path.items }
         ensures there { LiesThere (live self.now.history) sought.new.named sought.new.path.items }
-        ensures standing { IsStandingIn self.now.house (live self.now.history) command.now sought.new.standing }
-        ensures seen { (by : List ℕ) → AreSeen (live self.now.history) by command.now sought.new.nodes }
+        ensures standing { IsStandingIn self.now.house (live self.now.history) command.now
+            sought.new.standing }
+        ensures seen { (by : List ℕ) → AreSeen (live self.now.history) by command.now
+            sought.new.nodes }
     {
         let changes = Live::of(self.entries.as_slice(), &self.lookups.reversals);
-        seek(&changes, &self.trees, &self.terms, command, sought);
+        seek(&changes, &self.state, command, sought);
     }
 
     /// What the book asks of what stands on a change, and what `first_standing` reads off its trees
@@ -258,7 +287,7 @@ impl Book {
     {
         let mut sought = Sought::nothing();
         self.seek(&Command::Reverse { entry }, &mut sought);
-        let read = first_standing(&self.trees, &self.terms, entry);
+        let read = first_standing(&self.state.trees, &self.state.terms, entry);
         (sought.standing, read)
     }
 
@@ -273,9 +302,15 @@ impl Book {
         sought: &Sought,
     ) -> Answer
         requires hashed { IsHashOf hash by.now id.now }
-        requires named { IsNamedIn (live self.now.history) (named_node command.now) sought.now.named }
-        requires standing { IsStandingIn self.now.house (live self.now.history) command.now sought.now.standing }
-        ensures { result ≡ answer_to self.now.house self.now.history (record { firm = by.now; id = id.now; command = command.now }) }
+        requires named { IsNamedIn (live self.now.history) (named_node command.now)
+            sought.now.named }
+        requires standing { IsStandingIn self.now.house (live self.now.history) command.now
+            sought.now.standing }
+        ensures { result ≡ answer_to self.now.house self.now.history (record {
+          firm = by.now;
+          id = id.now;
+          command = command.now;
+        }) }
     {
         let at = Basis {
             house: &self.house,
@@ -283,14 +318,14 @@ impl Book {
             changes: Live::of(self.entries.as_slice(), &self.lookups.reversals),
             named: &sought.named,
             standing: sought.standing,
-            terms: &self.terms,
+            terms: &self.state.terms,
             lookups: &self.lookups,
             consents: &self.consents,
         };
         calls::answer(&at, by, id, hash, command)
     }
 
-    /// Keeps an accepted call: each kind in a function of its own, so that each runs through no more code and no larger a frame than it needs.
+    /// Keeps an accepted call at the end of the history. All growths come before anything changes.
     fn carry_out(
         &mut self,
         alloc: Global,
@@ -298,223 +333,56 @@ impl Book {
         hash: IdHash,
         sought: &Sought,
     ) -> Result<(), Memory>
-        requires named { IsNamedIn (live self.old.history) (named_node made.now.command.now) sought.now.named }
-        requires undone { IsUndoneIn (live self.old.history) made.now.command.now sought.now.undone sought.now.path.items }
-        requires there { LiesThere (live self.old.history) sought.now.named sought.now.path.items }
         requires hashed { IsHashOf hash made.now.firm.now made.now.id.now }
-        requires accepted { answer_to self.old.house self.old.history (call_of (entry_of_change made.now)) ≡ Accepted made.now.number made.now.status }
-        ensures kept { OnOk result (self.new ≡ record self.old { history = self.old.history ++ entry_of_change made.now ∷ [] }) }
+        requires accepted { IsAcceptedBy self.old made.now }
+        requires named { IsNamedIn (live self.old.history) (named_node made.now.command.now)
+            sought.now.named }
+        requires undone { IsUndoneIn (live self.old.history) made.now.command.now sought.now.undone
+            sought.now.path.items }
+        requires there { LiesThere (live self.old.history) sought.now.named sought.now.path.items }
+        ensures kept { OnOk result (self.new ≡ with_entry self.old made.now) }
         ensures unchanged { OnErr result (self.new ≡ self.old) }
     {
         match made.command {
-            Command::Trade {
-                firm,
-                account,
-                instrument,
-                side,
-                lots,
-            } => {
-                let traded = holdings::traded(firm, account, instrument, *side, *lots);
-                self.keep_trade(alloc, made, hash, &traded)
-            }
-            Command::Split { node, parts } => {
-                self.keep_split(alloc, made, hash, sought, *node, parts)
-            }
-            Command::Claim { node, account } => {
-                self.keep_claim(made, hash, sought, *node, account)
-            }
-            Command::Refuse { node } => {
-                let kept = Command::Refuse { node: *node };
-                self.keep_return(made, hash, sought, kept, State::Refused)
-            }
-            Command::Cancel { node } => {
-                let kept = Command::Cancel { node: *node };
-                self.keep_return(made, hash, sought, kept, State::Cancelled)
-            }
             Command::Initiate { .. } | Command::Decline { .. } => {
                 self.keep_consenting(alloc, made, hash)
             }
-            Command::Agree { .. } | Command::Raise { .. } => self.keep_deed(alloc, made, hash),
-            Command::Reverse { entry } => match &sought.undone {
-                Some(_) => self.keep_reversal(made, hash, *entry, sought),
-                None => self.keep_terms_reversal(made, hash, *entry),
-            },
+            Command::Reverse { entry } => self.keep_reversal(made, hash, *entry, sought),
+            _ => self.keep_change(alloc, made, hash, sought),
         }
     }
 
-    /// Puts an accepted Trade of these lots at the end of the history, its lots where they go, and its tree beside the others.
-    #[inline(never)]
-    #[tactic(auto, using(crate::proofs::Keeping::keeping))]
-    fn keep_trade(
+    /// Keeps an accepted change, and adds it to what is kept of the live ones.
+    fn keep_change<'c>(
         &mut self,
         alloc: Global,
-        made: &Change<'_>,
+        made: &'c Change<'c>,
         hash: IdHash,
-        traded: &Holding,
+        sought: &'c Sought,
     ) -> Result<(), Memory>
-        requires trade { made.now.command.now ≡ Trade traded.now.key.firm traded.now.key.account traded.now.key.instrument traded.now.side traded.now.lots }
+        requires change { is_change made.now.command.now ≡ true }
         requires hashed { IsHashOf hash made.now.firm.now made.now.id.now }
-        requires accepted { answer_to self.old.house self.old.history (call_of (entry_of_change made.now)) ≡ Accepted made.now.number made.now.status }
-        ensures kept { OnOk result (self.new ≡ record self.old { history = self.old.history ++ entry_of_change made.now ∷ [] }) }
-        ensures unchanged { OnErr result (self.new ≡ self.old) }
-    {
-        make_room(&mut self.entries, &mut self.lookups.ids)?;
-        self.trees.ready()?;
-        holdings::put(&mut self.positions, traded)?;
-        let place = Place {
-            firm: traded.key.firm,
-            account: traded.key.account,
-        };
-        grove::plant(&mut self.trees, alloc, made, place, traded.lots);
-        let kept = Command::Trade {
-            firm: traded.key.firm,
-            account: traded.key.account,
-            instrument: traded.key.instrument,
-            side: traded.side,
-            lots: traded.lots,
-        };
-        push(&mut self.entries, &mut self.lookups.ids, made, hash, kept);
-        Ok(())
-    }
-
-    /// Puts an accepted Split of this node into these parts at the end of the history, the lots of its parts where they go, and the parts below
-    /// their node. The lots are taken out again where the growth of the tree is refused.
-    #[inline(never)]
-    #[tactic(auto, using(crate::proofs::Keeping::keeping_moved))]
-    fn keep_split(
-        &mut self,
-        alloc: Global,
-        made: &Change<'_>,
-        hash: IdHash,
-        sought: &Sought,
-        node: NodeName,
-        parts: &Parts,
-    ) -> Result<(), Memory>
-        requires split { made.now.command.now ≡ Split node parts.now }
-        requires named { IsNamedIn (live self.old.history) (named_node made.now.command.now) sought.now.named }
+        requires accepted { IsAcceptedBy self.old made.now }
+        requires named { IsNamedIn (live self.old.history) (named_node made.now.command.now)
+            sought.now.named }
         requires there { LiesThere (live self.old.history) sought.now.named sought.now.path.items }
-        requires hashed { IsHashOf hash made.now.firm.now made.now.id.now }
-        requires accepted { answer_to self.old.house self.old.history (call_of (entry_of_change made.now)) ≡ Accepted made.now.number made.now.status }
-        ensures kept { OnOk result (self.new ≡ record self.old { history = self.old.history ++ entry_of_change made.now ∷ [] }) }
+        ensures kept { OnOk result (self.new ≡ with_entry self.old made.now) }
         ensures unchanged { OnErr result (self.new ≡ self.old) }
     {
-        let kept = parts.copy(alloc)?;
+        let parts = parts_of(alloc, made.command)?;
         make_room(&mut self.entries, &mut self.lookups.ids)?;
-        self.trees.ready()?;
-        let changes = Live::of(self.entries.as_slice(), &self.lookups.reversals);
-        let Some(named) = &sought.named else {
-            unreachable!()
+        let addition = Addition {
+            house: &self.house,
+            changes: Live::of(self.entries.as_slice(), &self.lookups.reversals),
+            made,
+            sought,
         };
-        let whole = holdings::whole_of(&changes, named);
-        let moved = holdings::put_all_away(
-            &mut self.positions,
-            &whole,
-            made.firm,
-            parts.as_slice(),
-        )?;
-        if let Err(e) = grove::split(&mut self.trees, made, sought, parts.as_slice()) {
-            holdings::take_away(&mut self.positions, &whole, made.firm, parts.as_slice());
-            return Err(e);
-        }
-        holdings::take_moved(&mut self.positions, &whole, moved);
-        let kept = Command::Split { node, parts: kept };
-        push(&mut self.entries, &mut self.lookups.ids, made, hash, kept);
+        self.state.add(alloc, &addition)?;
+        push_change(&mut self.entries, &mut self.lookups.ids, made, hash, parts);
         Ok(())
     }
 
-    /// Puts an accepted Claim of this node into this account at the end of the history, charges it, puts it to the terms, and moves its node with
-    /// its lots. What it puts is taken out again where a later growth is refused; all else changes behind the last growth.
-    #[inline(never)]
-    #[tactic(auto, using(crate::proofs::Keeping::keeping_moved))]
-    fn keep_claim(
-        &mut self,
-        made: &Change<'_>,
-        hash: IdHash,
-        sought: &Sought,
-        node: NodeName,
-        account: &AccountId,
-    ) -> Result<(), Memory>
-        requires claim { made.now.command.now ≡ Claim node account.now }
-        requires named { IsNamedIn (live self.old.history) (named_node made.now.command.now) sought.now.named }
-        requires there { LiesThere (live self.old.history) sought.now.named sought.now.path.items }
-        requires hashed { IsHashOf hash made.now.firm.now made.now.id.now }
-        requires accepted { answer_to self.old.house self.old.history (call_of (entry_of_change made.now)) ≡ Accepted made.now.number made.now.status }
-        ensures kept { OnOk result (self.new ≡ record self.old { history = self.old.history ++ entry_of_change made.now ∷ [] }) }
-        ensures unchanged { OnErr result (self.new ≡ self.old) }
-    {
-        make_room(&mut self.entries, &mut self.lookups.ids)?;
-        self.trees.ready()?;
-        let changes = Live::of(self.entries.as_slice(), &self.lookups.reversals);
-        let Some(named) = &sought.named else {
-            unreachable!()
-        };
-        let place = terms::ready_claim(&mut self.terms, &self.house, &named.node)?;
-        let whole = holdings::whole_of(&changes, named);
-        let charge = charges::node_charge(&self.house, &self.terms, place, &named.node);
-        let claimed = holdings::in_account(&whole, made.firm, account);
-        holdings::put(&mut self.positions, &claimed)?;
-        if let Err(e) = charges::put(&mut self.fees, &charge) {
-            holdings::take(&mut self.positions, &claimed);
-            return Err(e);
-        }
-        grove::claim(&mut self.trees, made, sought, *account);
-        holdings::take(&mut self.positions, &whole);
-        terms::claim(&mut self.terms, place, made.number, &named.node);
-        let kept = Command::Claim {
-            node,
-            account: *account,
-        };
-        push(&mut self.entries, &mut self.lookups.ids, made, hash, kept);
-        Ok(())
-    }
-
-    /// Puts an accepted Refuse or Cancel, `kept`, at the end of the history, and gives its node back: `state` is Refused or Cancelled.
-    #[inline(never)]
-    #[tactic(auto, using(crate::proofs::Keeping::keeping))]
-    fn keep_return(
-        &mut self,
-        made: &Change<'_>,
-        hash: IdHash,
-        sought: &Sought,
-        kept: Command,
-        state: State,
-    ) -> Result<(), Memory>
-        requires back { (n : EntryPart) × GivesBack n state made.now.command.now }
-        requires same { kept ≡ made.now.command.now }
-        requires named { IsNamedIn (live self.old.history) (named_node made.now.command.now) sought.now.named }
-        requires there { LiesThere (live self.old.history) sought.now.named sought.now.path.items }
-        requires hashed { IsHashOf hash made.now.firm.now made.now.id.now }
-        requires accepted { answer_to self.old.house self.old.history (call_of (entry_of_change made.now)) ≡ Accepted made.now.number made.now.status }
-        ensures kept { OnOk result (self.new ≡ record self.old { history = self.old.history ++ entry_of_change made.now ∷ [] }) }
-        ensures unchanged { OnErr result (self.new ≡ self.old) }
-    {
-        make_room(&mut self.entries, &mut self.lookups.ids)?;
-        self.trees.ready()?;
-        grove::give_back(&mut self.trees, made, sought, state);
-        push(&mut self.entries, &mut self.lookups.ids, made, hash, kept);
-        Ok(())
-    }
-
-    /// Puts an accepted Agree or Raise at the end of the history, and what it does beside the other dealings of its giver and taker.
-    #[inline(never)]
-    #[tactic(auto, using(crate::proofs::Keeping::keeping))]
-    fn keep_deed(&mut self, alloc: Global, made: &Change<'_>, hash: IdHash) -> Result<(), Memory>
-        requires of_terms { IsOfTerms made.now.command.now }
-        requires hashed { IsHashOf hash made.now.firm.now made.now.id.now }
-        requires accepted { answer_to self.old.house self.old.history (call_of (entry_of_change made.now)) ≡ Accepted made.now.number made.now.status }
-        ensures kept { OnOk result (self.new ≡ record self.old { history = self.old.history ++ entry_of_change made.now ∷ [] }) }
-        ensures unchanged { OnErr result (self.new ≡ self.old) }
-    {
-        let kept = made.command.copy(alloc)?;
-        make_room(&mut self.entries, &mut self.lookups.ids)?;
-        let (giver, taker, deed) = terms::deed_of(made.firm, made.command);
-        let place = terms::ready(&mut self.terms, &self.house, &giver, &taker)?;
-        self.terms.put_at(place, made.number, deed);
-        push(&mut self.entries, &mut self.lookups.ids, made, hash, kept);
-        Ok(())
-    }
-
-    /// Puts an accepted Initiate or Decline at the end of the history, and does to the consents what it says.
+    /// Keeps an accepted Initiate or Decline, and does to the consents what it says.
     #[inline(never)]
     #[tactic(auto, using(crate::proofs::Keeps::is_accepted_in))]
     fn keep_consenting(
@@ -525,8 +393,8 @@ impl Book {
     ) -> Result<(), Memory>
         requires consenting { is_consenting made.now.command.now ≡ true }
         requires hashed { IsHashOf hash made.now.firm.now made.now.id.now }
-        requires accepted { answer_to self.old.house self.old.history (call_of (entry_of_change made.now)) ≡ Accepted made.now.number made.now.status }
-        ensures kept { OnOk result (self.new ≡ record self.old { history = self.old.history ++ entry_of_change made.now ∷ [] }) }
+        requires accepted { IsAcceptedBy self.old made.now }
+        ensures kept { OnOk result (self.new ≡ with_entry self.old made.now) }
         ensures unchanged { OnErr result (self.new ≡ self.old) }
     {
         make_room(&mut self.entries, &mut self.lookups.ids)?;
@@ -540,94 +408,69 @@ impl Book {
         Ok(())
     }
 
-    /// Puts an accepted Reverse of a change of trees at the end of the history, takes its change back at its node, and moves back what the change
-    /// moved and charged. All growths come before anything changes.
+    /// Keeps an accepted Reverse, and takes its change out of what is kept of the live ones.
     #[inline(never)]
-    #[tactic(auto, using(crate::proofs::Keeps::is_accepted_in, crate::proofs::Leaves::live_rises, crate::proofs::Keeps::trees_kept))]
-    fn keep_reversal(
+    #[tactic(auto, using(crate::proofs::Keeps::is_accepted_in))]
+    fn keep_reversal<'c>(
         &mut self,
-        made: &Change<'_>,
+        made: &'c Change<'c>,
         hash: IdHash,
         change: Number,
-        sought: &Sought,
+        sought: &'c Sought,
     ) -> Result<(), Memory>
         requires names { made.now.command.now ≡ Reverse change }
-        requires found { IsSome sought.now.undone }
-        requires undone { IsUndoneIn (live self.old.history) made.now.command.now sought.now.undone sought.now.path.items }
+        requires undone { IsUndoneBy (live self.old.history) change sought.now.undone
+            sought.now.path.items }
         requires hashed { IsHashOf hash made.now.firm.now made.now.id.now }
-        requires accepted { answer_to self.old.house self.old.history (call_of (entry_of_change made.now)) ≡ Accepted made.now.number made.now.status }
-        ensures kept { OnOk result (self.new ≡ record self.old { history = self.old.history ++ entry_of_change made.now ∷ [] }) }
+        requires accepted { IsAcceptedBy self.old made.now }
+        ensures kept { OnOk result (self.new ≡ with_entry self.old made.now) }
         ensures unchanged { OnErr result (self.new ≡ self.old) }
     {
         make_room(&mut self.entries, &mut self.lookups.ids)?;
-        let changes = Live::of(self.entries.as_slice(), &self.lookups.reversals);
-        let entry = &self.entries[change.get() as usize - 1];
-        let Some(undone) = &sought.undone else {
-            unreachable!()
+        self.lookups.reversals.ready(change)?;
+        let removal = Removal {
+            house: &self.house,
+            changes: Live::of(self.entries.as_slice(), &self.lookups.reversals),
+            number: change,
+            entry: &self.entries[change.get() as usize - 1],
+            sought,
         };
-        let charge = charges::charge_of(&self.house, &self.terms, &changes, &entry.command);
-        let back = holdings::goes_back(&changes, &self.trees, entry, undone);
-        holdings::ready_back(&mut self.positions, &back)?;
-        self.lookups.reversals.put(change, made.number)?;
-        grove::undo(&mut self.trees, change, entry, sought);
-        charges::take_back(&mut self.fees, &charge);
-        terms::take_out_claim(&mut self.terms, change, entry);
-        holdings::move_back(&mut self.positions, entry, &back);
+        self.state.remove(&removal)?;
+        self.lookups.reversals.put(change, made.number);
         self.consents.clear(change);
         let kept = Command::Reverse { entry: change };
         push(&mut self.entries, &mut self.lookups.ids, made, hash, kept);
         Ok(())
     }
 
-    /// Puts an accepted Reverse of an Agree or a Raise at the end of the history, and takes its change out of the terms of its giver and taker.
-    #[inline(never)]
-    #[tactic(auto, using(crate::proofs::Keeps::is_accepted_in))]
-    fn keep_terms_reversal(
-        &mut self,
-        made: &Change<'_>,
-        hash: IdHash,
-        entry: Number,
-    ) -> Result<(), Memory>
-        requires names { made.now.command.now ≡ Reverse entry }
-        requires placeless { place_in (live self.old.history) entry ≡ None }
-        requires hashed { IsHashOf hash made.now.firm.now made.now.id.now }
-        requires accepted { answer_to self.old.house self.old.history (call_of (entry_of_change made.now)) ≡ Accepted made.now.number made.now.status }
-        ensures kept { OnOk result (self.new ≡ record self.old { history = self.old.history ++ entry_of_change made.now ∷ [] }) }
-        ensures unchanged { OnErr result (self.new ≡ self.old) }
-    {
-        make_room(&mut self.entries, &mut self.lookups.ids)?;
-        self.lookups.reversals.put(entry, made.number)?;
-        self.terms.take_out(entry);
-        self.consents.clear(entry);
-        let kept = Command::Reverse { entry };
-        push(&mut self.entries, &mut self.lookups.ids, made, hash, kept);
-        Ok(())
-    }
-
-    /// The rows of a live trade's tree: a node, then its parts in order. `None` where the number is of no live Trade.
+    /// The rows of a live trade's tree: a node, then its parts in order. `None` where the number is
+    /// of no live Trade.
     ///
     /// # Errors
     ///
     /// `Memory` where a growth was refused, of a live trade alone.
     pub fn tree_rows(&self, alloc: Global, trade: Number) -> Result<Option<Vec<Row>>, Memory>
-        ensures rows { IfOk result (λ o. option_map (λ v. map shown v.items) o ≡ tree_rows (live self.now.history) trade) }
+        ensures rows { IfOk result (λ o. option_map (λ v. map shown v.items) o
+            ≡ tree_rows (live self.now.history) trade) }
         ensures memory { OnErr result (IsTrue (is_live_trade (live self.now.history) trade)) }
     {
-        grove::rows(&self.trees, alloc, trade)
+        grove::rows(&self.state.trees, alloc, trade)
     }
 
-    /// The lots that stand in an account in an instrument: those of buy trades, and those of sell trades. They are those of
-    /// the leaves of the trees.
+    /// The lots that stand in an account in an instrument: those of buy trades, and those of sell
+    /// trades. They are those of the leaves of the trees.
     pub fn position(
         &self,
         firm: &FirmId,
         account: &AccountId,
         instrument: &InstrumentId,
     ) -> (u64, u64)
-        ensures long { result.0 ≡ position_of (live self.now.history) firm.now account.now instrument.now Buy }
-        ensures short { result.1 ≡ position_of (live self.now.history) firm.now account.now instrument.now Sell }
+        ensures long { result.0 ≡ position_of (live self.now.history) firm.now account.now
+            instrument.now Buy }
+        ensures short { result.1 ≡ position_of (live self.now.history) firm.now account.now
+            instrument.now Sell }
     {
-        self.positions.of(&Key {
+        self.state.positions.of(&Key {
             firm: *firm,
             account: *account,
             instrument: *instrument,
@@ -639,7 +482,7 @@ impl Book {
     pub fn paid(&self, firm: &FirmId) -> u64
         ensures { result ≡ paid_by self.now.house (live self.now.history) firm.now }
     {
-        self.fees.paid(firm)
+        self.state.fees.paid(firm)
     }
 
     /// What a firm receives for the live claims of what it gave up, in hundredths.
@@ -647,7 +490,7 @@ impl Book {
     pub fn received(&self, firm: &FirmId) -> u64
         ensures { result ≡ received_by self.now.house (live self.now.history) firm.now }
     {
-        self.fees.received(firm)
+        self.state.fees.received(firm)
     }
 
     /// The lots of the live claims under the agreement of a giver and a taker.
@@ -655,27 +498,29 @@ impl Book {
     pub fn used(&self, giver: &FirmId, taker: &FirmId) -> u64
         ensures { result ≡ used_of (live self.now.history) giver.now taker.now }
     {
-        self.fees.used(giver, taker)
+        self.state.fees.used(giver, taker)
     }
 
-    /// The lots of live claims that the giver allows the taker, `None` where they have no terms: the limit of their agreement, and their Raises.
+    /// The lots of live claims that the giver allows the taker, `None` where they have no terms:
+    /// the limit of their agreement, and their Raises.
     pub fn limit(&self, giver: &FirmId, taker: &FirmId) -> Option<u64>
         ensures { result ≡ limit_of self.now.house (live self.now.history) giver.now taker.now }
     {
-        terms::limit_of(&self.house, &self.terms, giver, taker)
+        terms::limit_of(&self.house, &self.state.terms, giver, taker)
     }
 
-    /// The terms of a giver and a taker, `None` where they have none: those of the house table, or else those of their live Agree. The limit is
-    /// that of the agreement alone; `limit` adds the Raises.
+    /// The terms of a giver and a taker, `None` where they have none: those of the house table, or
+    /// else those of their live Agree. The limit is that of the agreement alone; `limit` adds the
+    /// Raises.
     pub fn terms(&self, giver: &FirmId, taker: &FirmId) -> Option<Agreement>
         ensures { result ≡ terms_of self.now.house (live self.now.history) giver.now taker.now }
     {
-        terms::terms_of(&self.house, &self.terms, giver, taker)
+        terms::terms_of(&self.house, &self.state.terms, giver, taker)
     }
 }
 
-/// Makes room for one entry more, and for its id. There mostly is some for the entry, so that growth stands apart from the code that runs
-/// each time.
+/// Makes room for one entry more, and for its id. There mostly is some for the entry, so that
+/// growth stands apart from the code that runs each time.
 #[inline(always)]
 #[tactic(auto, using(crate::proofs::LookedUp::ids_few))]
 fn make_room(entries: &mut Vec<Entry>, ids: &mut Ids) -> Result<(), Memory>
@@ -703,8 +548,8 @@ fn grow(entries: &mut Vec<Entry>) -> Result<(), Memory>
     Ok(())
 }
 
-/// Puts the entry of an accepted call at the end of the history, and its id; there has to be room for both. The entry is put together where it
-/// then lies.
+/// Puts the entry of an accepted call at the end of the history, and its id; there has to be room
+/// for both.
 #[inline(always)]
 fn push(entries: &mut Vec<Entry>, ids: &mut Ids, made: &Change<'_>, hash: IdHash, command: Command)
     requires room { vec_len entries.old < vec_capacity entries.old }
@@ -717,6 +562,60 @@ fn push(entries: &mut Vec<Entry>, ids: &mut Ids, made: &Change<'_>, hash: IdHash
     ensures ids { AreIdsOf ids.new (entries.old.items ++ entry_of_change made.now ∷ []) }
 {
     ids.add(hash, made.firm, made.id);
+    put_last(entries, made, command);
+}
+
+/// The same of an accepted change. A Split gets these parts, which have to be equal to its own.
+#[inline(always)]
+fn push_change(
+    entries: &mut Vec<Entry>,
+    ids: &mut Ids,
+    made: &Change<'_>,
+    hash: IdHash,
+    parts: Parts,
+)
+    requires change { is_change made.now.command.now ≡ true }
+    requires parts { (n : EntryPart) (its : List PartData) → made.now.command.now ≡ Split n its
+        → parts ≡ its }
+    requires room { vec_len entries.old < vec_capacity entries.old }
+    requires ready { IsReady ids.old }
+    requires ids { AreIdsOf ids.old entries.old.items }
+    requires hashed { IsHashOf hash made.now.firm.now made.now.id.now }
+    requires accepted { IsAccepted entries.old.items (entry_of_change made.now) made.now.number }
+    ensures items { entries.new.items ≡ entries.old.items ++ entry_of_change made.now ∷ [] }
+    ensures ids { AreIdsOf ids.new (entries.old.items ++ entry_of_change made.now ∷ []) }
+{
+    ids.add(hash, made.firm, made.id);
+    put_change(entries, made, parts);
+}
+
+/// Puts the entry of a change at the end of the history. A Trade and a Split, of which most books
+/// are, have code of their own, which copies no more than they have.
+#[inline(always)]
+fn put_change(entries: &mut Vec<Entry>, made: &Change<'_>, parts: Parts)
+    requires change { is_change made.now.command.now ≡ true }
+    requires parts { (n : EntryPart) (its : List PartData) → made.now.command.now ≡ Split n its
+        → parts ≡ its }
+    requires room { vec_len entries.old < vec_capacity entries.old }
+    ensures { entries.new.items ≡ entries.old.items ++ entry_of_change made.now ∷ [] }
+{
+    match made.command {
+        Command::Trade { .. } => put_last(entries, made, copy_of(made.command)),
+        Command::Split { node, .. } => {
+            let kept = Command::Split { node: *node, parts };
+            put_last(entries, made, kept);
+        }
+        _ => put_last(entries, made, copy_of(made.command)),
+    }
+}
+
+/// Puts an entry with this command at the end of the history, put together where it then lies.
+#[inline(always)]
+fn put_last(entries: &mut Vec<Entry>, made: &Change<'_>, command: Command)
+    requires room { vec_len entries.old < vec_capacity entries.old }
+    requires same { command ≡ made.now.command.now }
+    ensures { entries.new.items ≡ entries.old.items ++ entry_of_change made.now ∷ [] }
+{
     entries.push_reserved(Entry {
         firm: *made.firm,
         id: *made.id,
@@ -728,8 +627,11 @@ fn push(entries: &mut Vec<Entry>, ids: &mut Ids, made: &Change<'_>, hash: IdHash
 /// Adds the consent that an accepted Initiate gives, or clears those that a Decline takes back.
 fn consent(consents: &mut Consents, alloc: Global, made: &Change<'_>) -> Result<(), Memory>
     requires consenting { is_consenting made.now.command.now ≡ true }
-    ensures gives { OnOk result ((k m : ℕ) → made.now.command.now ≡ Initiate k → given consents.new m ≡ (if m == k then given consents.old m ++ made.now.firm.now ∷ [] else given consents.old m)) }
-    ensures clears { OnOk result ((k m : ℕ) → made.now.command.now ≡ Decline k → given consents.new m ≡ (if m == k then [] else given consents.old m)) }
+    ensures gives { OnOk result ((k m : ℕ) → made.now.command.now ≡ Initiate k
+        → given consents.new m ≡ (if m == k then given consents.old m ++ made.now.firm.now
+        ∷ [] else given consents.old m)) }
+    ensures clears { OnOk result ((k m : ℕ) → made.now.command.now ≡ Decline k
+        → given consents.new m ≡ (if m == k then [] else given consents.old m)) }
     ensures unchanged { OnErr result ((m : ℕ) → given consents.new m ≡ given consents.old m) }
 {
     match made.command {

@@ -9,7 +9,8 @@ ghost use Rattle.gu_base.specs.Standing.{IsLegal, standing_on};
 ghost use Rattle.gu_base.specs.declared.command.Command.TheVariants.{Reverse};
 ghost use Rattle.gu_base.specs.declared.entry.Record.{Record as RecordData};
 ghost use Rattle.gu_base.specs.declared.node.Node.{Node as NodeData};
-ghost use Rattle.gu_book.specs.Found.{AreTreesOf, IsFoundAs, IsFoundIn, IsNamedBy, IsNamedIn, IsNothing, IsStandingIn, IsUndoneBy, IsUndoneIn, LiesThere};
+ghost use Rattle.gu_book.specs.Found.{AreTreesOf, IsFoundAs, IsFoundIn, IsNamedBy, IsNamedIn};
+ghost use Rattle.gu_book.specs.Found.{IsNothing, IsStandingIn, IsUndoneBy, IsUndoneIn, LiesThere};
 ghost use Rattle.gu_book.specs.Visits.{AreSeen, depth_meant, parts_named};
 ghost use Rattle.gu_depend.specs.Terms.{AreTermsOf, entries_dealt};
 ghost use Rattle.gu_tree.specs.Grove.{Grove, HasTree, IsPlace};
@@ -18,6 +19,7 @@ ghost use Rattle.gu_tree.specs.Shown.{named_node};
 ghost use Rattle.gu_tree.specs.ShownAll.{place_in};
 
 use crate::live::Live;
+use crate::live_state::LiveState;
 use crate::rules::holdings::traded_under;
 use crate::rules::nodes::node_of;
 use crate::visits;
@@ -43,14 +45,16 @@ pub(crate) struct Found {
 impl Found {
     /// Whether the firm owns the node.
     pub(crate) fn is_owned_by(&self, firm: &FirmId) -> bool
-        ensures { (l : List RecordData) (x : NodeData) → IsFoundAs l x self.now → result ≡ owns l firm.now x.name }
+        ensures { (l : List RecordData) (x : NodeData) → IsFoundAs l x self.now
+            → result ≡ owns l firm.now x.name }
     {
         self.head.place.firm == *firm
     }
 
     /// Whether the node is given and not decided.
     pub(crate) fn is_offered(&self) -> bool
-        ensures { (l : List RecordData) (x : NodeData) → IsFoundAs l x self.now → result ≡ is_offered l x }
+        ensures { (l : List RecordData) (x : NodeData) → IsFoundAs l x self.now
+            → result ≡ is_offered l x }
     {
         match self.head.state {
             State::Offered => true,
@@ -66,8 +70,10 @@ impl Found {
 
 /// What the trees say of the node that was looked up, to which this path leads.
 fn found_at(spot: &Spot<'_, Global>, path: &Path) -> Found
-    ensures found { (l : List RecordData) (n : EntryPart) (g : Grove) → AreTreesOf l g → IsPlace g n spot.now.trade path.now.items
-        → HasTree g spot.now.trade (λ t. node_at path.now.items t ≡ Some spot.now.node.now) → IsFoundIn l n (Some result) }
+    ensures found { (l : List RecordData) (n : EntryPart) (g : Grove) → AreTreesOf l g
+        → IsPlace g n spot.now.trade path.now.items
+        → HasTree g spot.now.trade (λ t. node_at path.now.items t ≡ Some spot.now.node.now)
+        → IsFoundIn l n (Some result) }
     ensures trade { result.trade ≡ spot.now.trade }
     ensures deep { result.depth ≡ length path.now.items }
 {
@@ -110,12 +116,14 @@ pub(crate) struct Undone {
     pub(crate) deal: Option<Deal>,
 }
 
-/// What the trees and the terms say of what a command names, so that nothing is looked up and climbed to again.
+/// What the trees and the terms say of what a command names, so that nothing is looked up and
+/// climbed to again.
 #[derive(Drop)]
 pub(crate) struct Sought {
     /// The node that it names, if a live change makes it.
     pub(crate) named: Option<Named>,
-    /// The change that a Reverse names, if it is live and has a place in the trees: an Agree and a Raise have none.
+    /// The change that a Reverse names, if it is live and has a place in the trees: an Agree and a
+    /// Raise have none.
     pub(crate) undone: Option<Undone>,
     /// The first change that stands on the one which a Reverse names.
     pub(crate) standing: Option<Number>,
@@ -152,7 +160,8 @@ fn seek_node(changes: &Live<'_>, trees: &Trees<Global>, name: NodeName, sought: 
     ensures standing { sought.new.standing ≡ None }
     ensures few { sought.new.nodes ≤ 2 ^ 32 }
     ensures most { sought.new.nodes ≤ depth_of changes.now name + 1 }
-    ensures least { IsSome (node_of changes.now name) → depth_of changes.now name + 1 ≤ sought.new.nodes }
+    ensures least { IsSome (node_of changes.now name)
+        → depth_of changes.now name + 1 ≤ sought.new.nodes }
 {
     let Some(node) = node_of(changes, &name) else {
         return;
@@ -177,25 +186,30 @@ fn seek_change(
     requires nothing { IsNothing sought.old }
     ensures undone { IsUndoneBy changes.now number sought.new.undone sought.new.path.items }
     ensures named { sought.new.named ≡ None }
-    ensures standing { (t : House) → IsLegal t changes.now → AreTermsOf t changes.now terms.now → sought.new.standing ≡ standing_on t changes.now number }
+    ensures standing { (t : House) → IsLegal t changes.now → AreTermsOf t changes.now terms.now
+        → sought.new.standing ≡ standing_on t changes.now number }
     ensures few { sought.new.nodes < 2 ^ 64 }
-    ensures most { (t : House) → AreTermsOf t changes.now terms.now → sought.new.nodes ≤ depth_meant changes.now (Reverse number) + parts_named changes.now (Reverse number) + entries_dealt changes.now number + 1 }
-    ensures least { IsSome (place_in changes.now number) → depth_meant changes.now (Reverse number) + parts_named changes.now (Reverse number) + 1 ≤ sought.new.nodes }
+    ensures most { (t : House) → AreTermsOf t changes.now terms.now
+        → sought.new.nodes ≤ depth_meant changes.now (Reverse number)
+        + parts_named changes.now (Reverse number) + entries_dealt changes.now number + 1 }
+    ensures least { IsSome (place_in changes.now number)
+        → depth_meant changes.now (Reverse number) + parts_named changes.now (Reverse number) + 1
+        ≤ sought.new.nodes }
 {
     let Some(made) = changes.change(number) else {
         return;
     };
-    if !visits::is_of_trees(made.command) {
+    let Some(met) = visits::met_beside(terms, number, made.command) else {
         let (standing, count) = standing_beside(terms, number);
         sought.nodes = count as u64;
         sought.standing = standing;
         return;
-    }
+    };
     let Some(spot) = trees.named(number, &mut sought.path) else {
         unreachable!()
     };
     let found = found_at(&spot, &sought.path);
-    sought.nodes = found.depth as u64 + 1 + visits::met_beside(terms, number, made.command);
+    sought.nodes = found.depth as u64 + 1 + met;
     sought.undone = Some(Undone {
         found,
         deal: traded_under(changes, spot.trade),
@@ -204,27 +218,30 @@ fn seek_change(
 }
 
 /// Puts in what a command names.
-pub(crate) fn seek(
-    changes: &Live<'_>,
-    trees: &Trees<Global>,
-    terms: &Terms,
-    command: &Command,
-    sought: &mut Sought,
-)
-    requires trees { AreTreesOf changes.now trees.now }
+pub(crate) fn seek(changes: &Live<'_>, state: &LiveState, command: &Command, sought: &mut Sought)
+    requires trees { AreTreesOf changes.now state.now.trees }
     requires nothing { IsNothing sought.old }
     ensures named { IsNamedIn changes.now (named_node command.now) sought.new.named }
     ensures undone { IsUndoneIn changes.now command.now sought.new.undone sought.new.path.items }
     ensures there { LiesThere changes.now sought.new.named sought.new.path.items }
-    ensures standing { (t : House) → IsLegal t changes.now → AreTermsOf t changes.now terms.now → IsStandingIn t changes.now command.now sought.new.standing }
-    ensures seen { (t : House) (by : List ℕ) → AreTermsOf t changes.now terms.now → AreSeen changes.now by command.now sought.new.nodes }
+    ensures standing { (t : House) → IsLegal t changes.now
+        → AreTermsOf t changes.now state.now.terms
+        → IsStandingIn t changes.now command.now sought.new.standing }
+    ensures seen { (t : House) (by : List ℕ) → AreTermsOf t changes.now state.now.terms
+        → AreSeen changes.now by command.now sought.new.nodes }
 {
     match command {
-        Command::Split { node, .. } => seek_node(changes, trees, *node, sought),
-        Command::Claim { node, .. } => seek_node(changes, trees, *node, sought),
-        Command::Refuse { node } => seek_node(changes, trees, *node, sought),
-        Command::Cancel { node } => seek_node(changes, trees, *node, sought),
-        Command::Reverse { entry } => seek_change(changes, trees, terms, *entry, sought),
+        Command::Split { node, .. } => seek_node(changes, &state.trees, *node, sought),
+        Command::Claim { node, .. } => seek_node(changes, &state.trees, *node, sought),
+        Command::Refuse { node } => seek_node(changes, &state.trees, *node, sought),
+        Command::Cancel { node } => seek_node(changes, &state.trees, *node, sought),
+        Command::Reverse { entry } => seek_change(
+            changes,
+            &state.trees,
+            &state.terms,
+            *entry,
+            sought,
+        ),
         _ => {}
     }
 }

@@ -35,7 +35,8 @@ pub(crate) fn entry_at(entries: &[Entry], number: Number) -> Option<&Entry>
     Some(&entries[place])
 }
 
-/// The live changes of a history: its changes that no Reverse names. Nothing is copied; a change is found by its number.
+/// The live changes of a history: its changes that no Reverse names. Nothing is copied; a change is
+/// found by its number.
 #[derive(Drop)]
 pub(crate) struct Live<'a> {
     entries: &'a [Entry],

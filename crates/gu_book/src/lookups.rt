@@ -1,6 +1,7 @@
-//! Where in the history the entry of a firm's id stands, and the Reverse of an entry: found without going over the history.
-ghost use Rattle.std.specs.Prelude.{◌≡◌, ◌==◌, [], ℕ, Some, None, if◌then◌else◌, OnOk, OnErr};
-ghost use Rattle.gu_book.specs.Lookups.{reversal_in, AreLookupsOf};
+//! Where in the history the entry of a firm's id stands, and the Reverse of an entry: found without
+//! going over the history.
+ghost use Rattle.std.specs.Prelude.{◌≡◌, ◌==◌, [], ℕ, Some, None, if◌then◌else◌, OnOk};
+ghost use Rattle.gu_book.specs.Lookups.{reversal_in, AreLookupsOf, HasRoomAt};
 
 use gu_base::{Memory, Number};
 use gu_ids::Ids;
@@ -27,8 +28,9 @@ impl Lookups {
     }
 }
 
-/// The number of the Reverse of each entry of a history that has one. It lies at the entry's own place, so a look-up is one look, however many
-/// there are; the list is no longer than the last of these entries.
+/// The number of the Reverse of each entry of a history that has one. It lies at the entry's own
+/// place, so a look-up is one look, however many there are; the list is no longer than the last of
+/// these entries.
 #[derive(Drop)]
 pub(crate) struct Reversals {
     /// 0 at an entry without one.
@@ -55,16 +57,24 @@ impl Reversals {
         }
     }
 
-    /// Puts the number of the Reverse of an entry in.
-    pub(crate) fn put(&mut self, entry: Number, number: Number) -> Result<(), Memory>
-        ensures put { OnOk result ((n : ℕ) → reversal_in self.new n ≡ (if entry == n then Some number else reversal_in self.old n)) }
-        ensures unchanged { OnErr result ((n : ℕ) → reversal_in self.new n ≡ reversal_in self.old n) }
+    /// Makes room for the number of the Reverse of an entry.
+    pub(crate) fn ready(&mut self, entry: Number) -> Result<(), Memory>
+        ensures room { OnOk result (HasRoomAt self.new entry) }
+        ensures same { (n : ℕ) → reversal_in self.new n ≡ reversal_in self.old n }
     {
         let place = entry.get() as usize;
         if place >= self.numbers.len() {
             self.numbers.resize(place + 1, 0)?;
         }
-        self.numbers[place] = number.get();
         Ok(())
+    }
+
+    /// Puts the number of the Reverse of an entry in; there has to be room for it.
+    pub(crate) fn put(&mut self, entry: Number, number: Number)
+        requires { HasRoomAt self.old entry }
+        ensures { (n : ℕ) → reversal_in self.new n
+            ≡ (if entry == n then Some number else reversal_in self.old n) }
+    {
+        self.numbers[entry.get() as usize] = number.get();
     }
 }

@@ -1,4 +1,5 @@
-//! Why a call is refused, what it costs and what it moves: a node is found in the trees, and a change by its number.
+//! Why a call is refused, what it costs and what it moves: a node is found in the trees, and a
+//! change by its number.
 pub(crate) mod basis;
 pub(crate) mod calls;
 pub(crate) mod charges;

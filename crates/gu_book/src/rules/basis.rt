@@ -6,9 +6,10 @@ use gu_base::{Entry, Number};
 use gu_consent::Consents;
 use gu_fees::Terms;
 use gu_parties::House;
+use std::marker::Model;
 
-/// The house table, the history, its live changes, the node that the command names, what stands on the change that it names, and what is kept
-/// beside them.
+/// The house table, the history, its live changes, the node that the command names, what stands on
+/// the change that it names, and what is kept beside them.
 #[derive(Drop)]
 pub(crate) struct Basis<'a> {
     pub(crate) house: &'a House,
@@ -19,4 +20,20 @@ pub(crate) struct Basis<'a> {
     pub(crate) terms: &'a Terms,
     pub(crate) lookups: &'a Lookups,
     pub(crate) consents: &'a Consents,
+}
+
+impl<'a> Model for Basis<'a> {
+    ghost use Rattle.gu_book.specs.Basis.{BasisView, IsBasis};
+
+    ghost Value = { BasisView };
+
+    ghost view = { λ b. record {
+      house = b.house.now;
+      history = b.entries.now;
+      named = b.named.now;
+      standing = b.standing;
+    } };
+
+    ghost invariant = { λ b. IsBasis b.house.now b.entries.now b.changes b.terms.now b.lookups.now
+        b.consents.now };
 }

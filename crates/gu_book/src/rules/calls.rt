@@ -1,21 +1,21 @@
 //! The answer to a call.
-ghost use Rattle.std.specs.Prelude.{◌≡◌, ◌≤◌, ◌+◌, ℕ, [], ◌∷◌, length, find, nat_lt, unwrap_or, if◌then◌else◌};
+ghost use Rattle.std.specs.Prelude.{◌≡◌, ◌≤◌, ◌+◌, [], ◌∷◌, length, find, nat_lt, unwrap_or};
+ghost use Rattle.std.specs.Prelude.{if◌then◌else◌};
 ghost use Rattle.gu_base.specs.Limits.{most_entries};
 ghost use Rattle.gu_base.specs.Same.{same_command};
-ghost use Rattle.gu_base.specs.History.{records, live, RisesFrom};
-ghost use Rattle.gu_base.specs.Answers.{accepted_or, answer_by, answer_to, command_refusal, entry_of, is_same_call, is_same_id, on_change, status_of};
+ghost use Rattle.gu_base.specs.History.{records, live};
+ghost use Rattle.gu_base.specs.Answers.{accepted_or, answer_by, answer_to, command_refusal};
+ghost use Rattle.gu_base.specs.Answers.{entry_of, is_same_call, is_same_id, on_change, status_of};
 ghost use Rattle.gu_base.specs.House.{knows_firm};
-ghost use Rattle.gu_base.specs.Consents.{consents_left};
 ghost use Rattle.gu_base.specs.Refusals.{first, unless};
 ghost use Rattle.gu_base.specs.declared.entry.Answer.{Answer};
 ghost use Rattle.gu_base.specs.declared.entry.Answer.TheVariants.{Repeated, Refused};
-ghost use Rattle.gu_base.specs.declared.refusal.Refusal.TheVariants.{BookFull, DuplicateId, UnknownFirm};
+ghost use Rattle.gu_base.specs.declared.refusal.Refusal.TheVariants.{BookFull, DuplicateId};
+ghost use Rattle.gu_base.specs.declared.refusal.Refusal.TheVariants.{UnknownFirm};
 ghost use Rattle.gu_book.specs.Found.{IsNamedIn, IsStandingIn};
 ghost use Rattle.gu_book.specs.Front.{IsStandingOn, rest_of};
 ghost use Rattle.gu_book.specs.Ids.{NoIdTwice};
-ghost use Rattle.gu_book.specs.Lookups.{AreIdsOf, AreLookupsOf};
-ghost use Rattle.gu_consent.specs.Given.{given};
-ghost use Rattle.gu_depend.specs.Terms.{AreTermsOf};
+ghost use Rattle.gu_book.specs.Lookups.{AreIdsOf};
 ghost use Rattle.gu_ids.specs.Hashing.{IsHashOf};
 ghost use Rattle.gu_tree.specs.Shown.{named_node};
 
@@ -29,7 +29,8 @@ use gu_ids::{IdHash, Ids};
 #[cold]
 #[inline(never)]
 fn known_answer(number: Number, e: &Entry, command: &Command) -> Answer
-    ensures { result ≡ (if same_command e.now.command command.now then Repeated number e.now.status else Refused (DuplicateId number)) }
+    ensures { result ≡ (if same_command e.now.command command.now then Repeated number e.now.status
+        else Refused (DuplicateId number)) }
 {
     if e.command == *command {
         Answer::Repeated {
@@ -41,7 +42,8 @@ fn known_answer(number: Number, e: &Entry, command: &Command) -> Answer
     }
 }
 
-/// The answer to a call whose firm and id stand in the history, whatever the rules say of its command.
+/// The answer to a call whose firm and id stand in the history, whatever the rules say of its
+/// command.
 #[tactic(auto, using(crate::proofs::LookedUp::stands_found, crate::proofs::LookedUp::new_answer, crate::proofs::LookedUp::known_answer))]
 fn known(
     ids: &Ids,
@@ -55,7 +57,14 @@ fn known(
     requires once { NoIdTwice entries.now }
     requires ids { AreIdsOf ids.now entries.now }
     requires few { length entries.now ≤ most_entries }
-    ensures { (other : Answer) → unwrap_or result other ≡ answer_by (find (is_same_call (record { firm = by.now; id = id.now; command = command.now })) (records entries.now)) (find (is_same_id (record { firm = by.now; id = id.now; command = command.now })) (records entries.now)) other }
+    ensures { (other : Answer) → unwrap_or result other
+        ≡ answer_by (find (is_same_call (record {
+          firm = by.now;
+          id = id.now;
+          command = command.now;
+        })) (records entries.now))
+        (find (is_same_id (record { firm = by.now; id = id.now; command = command.now }))
+        (records entries.now)) other }
 {
     let Some(number) = ids.number(entries, by, id, hash) else {
         return None;
@@ -89,15 +98,15 @@ fn status_of(by: &FirmId, command: &Command) -> State
 
 /// Why a command that names this entry is refused.
 fn named_refusal(at: &Basis<'_>, by: &FirmId, command: &Command, entry: Number) -> Option<Refusal>
-    requires looked_up { AreLookupsOf at.now.lookups.now at.now.entries.now }
-    requires few { length at.now.entries.now ≤ most_entries }
-    requires live { at.now.changes ≡ live at.now.entries.now }
-    requires rises { RisesFrom 1 at.now.changes }
-    requires consented { (n : ℕ) → given at.now.consents.now n ≡ consents_left at.now.entries.now n }
-    requires standing { IsStandingOn at.now.house.now at.now.changes command.now entry at.now.standing }
-    ensures { result ≡ first (unless (knows_firm at.now.house.now by.now) UnknownFirm ∷ on_change at.now.house.now at.now.entries.now by.now (rest_of at.now.house.now at.now.entries.now by.now command.now) (entry_of at.now.entries.now entry) ∷ []) }
+    requires standing { IsStandingOn at.now.house (live at.now.history) command.now entry
+        at.now.standing }
+    ensures { result ≡ first (unless (knows_firm at.now.house by.now) UnknownFirm
+        ∷ on_change at.now.house at.now.history by.now
+        (rest_of at.now.house at.now.history by.now command.now)
+        (entry_of at.now.history entry) ∷ []) }
 {
-    // Asked first, though an unknown firm is told first: so the entry is fetched while the bucket of the id still is.
+    // Asked first, though an unknown firm is told first: so the entry is fetched while the bucket
+    // of the id still is.
     let refusal = naming_refusal(at, by, command, entry);
     if !at.house.firm(by) {
         return Some(Refusal::UnknownFirm);
@@ -108,15 +117,10 @@ fn named_refusal(at: &Basis<'_>, by: &FirmId, command: &Command, entry: Number) 
 /// Why a command is refused.
 #[tactic(auto, using(crate::proofs::LastRefusal::initiate_row, crate::proofs::LastRefusal::decline_row, crate::proofs::LastRefusal::reverse_row))]
 fn command_refusal(at: &Basis<'_>, by: &FirmId, command: &Command) -> Option<Refusal>
-    requires looked_up { AreLookupsOf at.now.lookups.now at.now.entries.now }
-    requires dealt { AreTermsOf at.now.house.now at.now.changes at.now.terms.now }
-    requires few { length at.now.entries.now ≤ most_entries }
-    requires live { at.now.changes ≡ live at.now.entries.now }
-    requires rises { RisesFrom 1 at.now.changes }
-    requires named { IsNamedIn at.now.changes (named_node command.now) at.now.named.now }
-    requires consented { (n : ℕ) → given at.now.consents.now n ≡ consents_left at.now.entries.now n }
-    requires standing { IsStandingIn at.now.house.now at.now.changes command.now at.now.standing }
-    ensures { result ≡ command_refusal at.now.house.now at.now.entries.now by.now command.now }
+    requires named { IsNamedIn (live at.now.history) (named_node command.now) at.now.named }
+    requires standing { IsStandingIn at.now.house (live at.now.history) command.now
+        at.now.standing }
+    ensures { result ≡ command_refusal at.now.house at.now.history by.now command.now }
 {
     match command {
         Command::Initiate { entry } => named_refusal(at, by, command, *entry),
@@ -128,16 +132,12 @@ fn command_refusal(at: &Basis<'_>, by: &FirmId, command: &Command) -> Option<Ref
 
 /// The answer by the rules, to a call whose id no entry has.
 fn answer_by_rules(at: &Basis<'_>, by: &FirmId, command: &Command) -> Answer
-    requires looked_up { AreLookupsOf at.now.lookups.now at.now.entries.now }
-    requires dealt { AreTermsOf at.now.house.now at.now.changes at.now.terms.now }
-    requires few { length at.now.entries.now ≤ most_entries }
-    requires live { at.now.changes ≡ live at.now.entries.now }
-    requires rises { RisesFrom 1 at.now.changes }
-    requires named { IsNamedIn at.now.changes (named_node command.now) at.now.named.now }
-    requires consented { (n : ℕ) → given at.now.consents.now n ≡ consents_left at.now.entries.now n }
-    requires standing { IsStandingIn at.now.house.now at.now.changes command.now at.now.standing }
-    ensures { result ≡ accepted_or (length at.now.entries.now + 1) (status_of by.now command.now)
-        (first (unless (nat_lt (length at.now.entries.now) most_entries) BookFull ∷ command_refusal at.now.house.now at.now.entries.now by.now command.now ∷ [])) }
+    requires named { IsNamedIn (live at.now.history) (named_node command.now) at.now.named }
+    requires standing { IsStandingIn at.now.house (live at.now.history) command.now
+        at.now.standing }
+    ensures { result ≡ accepted_or (length at.now.history + 1) (status_of by.now command.now)
+        (first (unless (nat_lt (length at.now.history) most_entries) BookFull
+        ∷ command_refusal at.now.house at.now.history by.now command.now ∷ [])) }
 {
     if at.entries.len() >= Number::MAX as usize {
         return Answer::Refused(Refusal::BookFull);
@@ -160,16 +160,14 @@ pub(crate) fn answer(
     command: &Command,
 ) -> Answer
     requires hashed { IsHashOf hash by.now id.now }
-    requires once { NoIdTwice at.now.entries.now }
-    requires looked_up { AreLookupsOf at.now.lookups.now at.now.entries.now }
-    requires dealt { AreTermsOf at.now.house.now at.now.changes at.now.terms.now }
-    requires few { length at.now.entries.now ≤ most_entries }
-    requires live { at.now.changes ≡ live at.now.entries.now }
-    requires rises { RisesFrom 1 at.now.changes }
-    requires named { IsNamedIn at.now.changes (named_node command.now) at.now.named.now }
-    requires consented { (n : ℕ) → given at.now.consents.now n ≡ consents_left at.now.entries.now n }
-    requires standing { IsStandingIn at.now.house.now at.now.changes command.now at.now.standing }
-    ensures { result ≡ answer_to at.now.house.now at.now.entries.now (record { firm = by.now; id = id.now; command = command.now }) }
+    requires named { IsNamedIn (live at.now.history) (named_node command.now) at.now.named }
+    requires standing { IsStandingIn at.now.house (live at.now.history) command.now
+        at.now.standing }
+    ensures { result ≡ answer_to at.now.house at.now.history (record {
+      firm = by.now;
+      id = id.now;
+      command = command.now;
+    }) }
 {
     if let Some(answer) = known(&at.lookups.ids, at.entries, by, id, hash, command) {
         return answer;

@@ -1,11 +1,16 @@
 //! The lots that stand in an account, and which of them a change moves.
-ghost use Rattle.std.specs.Prelude.{◌≡◌, ◌≤◌, ◌<◌, ◌+◌, ◌^◌, ◌==◌, List, [], ◌∷◌, length, take, filter_map, sum_by, Some, None, option_and_then, option_map, IfSome, IsSome, IfOk, OnOk, OnErr};
-ghost use Rattle.std.specs.List.{cons_option};
+ghost use Rattle.std.specs.Prelude.{◌≡◌, ◌≤◌, ◌<◌, ◌+◌, ◌^◌, ◌==◌, List, [], ◌∷◌, length, take};
+ghost use Rattle.std.specs.Prelude.{filter_map, sum_by, Some, None, option_and_then, option_map};
+ghost use Rattle.std.specs.Prelude.{IsSome, IfOk, OnOk, OnErr};
 ghost use Rattle.gu_base.specs.Nodes.{node_of};
+ghost use Rattle.gu_base.specs.declared.command.Command.TheVariants.{Split, Claim};
 ghost use Rattle.gu_base.specs.declared.entry.Record.{Record as RecordData};
 ghost use Rattle.gu_base.specs.Numbers.{EntryPart};
 ghost use Rattle.gu_book.specs.Found.{AreTreesOf, IsFoundAs, IsFoundIn};
-ghost use Rattle.gu_book.specs.Holdings.{deal_of, held_at, holding_of, held_above, taken_before, holding_away, part_away, lots_told, goes_back, comes_from, HasFewLots, HaveRoom, SameLots, HaveMoved, HaveThere, IsReadyBack, HasRoomBack};
+ghost use Rattle.gu_book.specs.Holdings.{deal_of, held_at, holding_of, held_above, taken_before};
+ghost use Rattle.gu_book.specs.Holdings.{holding_away, part_away, lots_told, goes_back, comes_from};
+ghost use Rattle.gu_book.specs.Holdings.{HasFewLots, HaveRoom, SameLots, HaveMoved, HaveThere};
+ghost use Rattle.gu_book.specs.Holdings.{IsReadyBack, HasRoomBack};
 ghost use Rattle.gu_positions.specs.Rows.{IsReady, lots_in};
 ghost use Rattle.gu_tree.specs.Shown.{named_node};
 ghost use Rattle.gu_positions.specs.declared.positions.Key.{Key as KeyData};
@@ -14,8 +19,7 @@ use crate::found::{Named, Undone, find};
 use crate::live::Live;
 use crate::rules::nodes::parent_of;
 use gu_base::{
-    AccountId, Command, Deal, Entry, FirmId, InstrumentId, Memory, NodeName, Number, Part, Place,
-    Side,
+    AccountId, Deal, Entry, FirmId, InstrumentId, Memory, NodeName, Number, Part, Place, Side,
 };
 use gu_positions::{Key, Positions};
 use gu_tree::Trees;
@@ -38,7 +42,15 @@ pub(crate) fn traded(
     side: Side,
     lots: u64,
 ) -> Holding
-    ensures { result ≡ record { key = record { firm = firm.now; account = account.now; instrument = instrument.now }; side = side; lots = lots } }
+    ensures { result ≡ record {
+      key = record {
+        firm = firm.now;
+        account = account.now;
+        instrument = instrument.now;
+      };
+      side = side;
+      lots = lots;
+    } }
 {
     Holding {
         key: Key {
@@ -103,15 +115,17 @@ pub(crate) fn whole_of(changes: &Live<'_>, named: &Named) -> Holding
 
 /// The lots of the node of a change that is to be undone, where it stands.
 fn holding_found(undone: &Undone) -> Option<Holding>
-    ensures { (l : List RecordData) (n : EntryPart) → IsFoundIn l n (Some undone.now.found) → undone.now.deal ≡ deal_of l undone.now.found.trade
+    ensures { (l : List RecordData) (n : EntryPart) → IsFoundIn l n (Some undone.now.found)
+        → undone.now.deal ≡ deal_of l undone.now.found.trade
         → result ≡ option_and_then (holding_of l) (node_of l n) }
 {
     let found = &undone.found;
     held_at(&found.head.place, &undone.deal, found.head.lots)
 }
 
-/// The lots of the node of this name, whose change is to be undone, with the node above it.
-fn holding_above(
+/// The lots of the node of this name, whose change is to be undone, where the node above it stands:
+/// a Claim took them from there.
+pub(crate) fn holding_above(
     changes: &Live<'_>,
     trees: &Trees<Global>,
     name: NodeName,
@@ -166,10 +180,12 @@ pub(crate) fn take(positions: &mut Positions, held: &Holding)
     positions.take(&held.key, held.side, held.lots);
 }
 
-/// What a part of the whole holds in another account than the one in which the whole stood, and which one.
+/// What a part of the whole holds in another account than the one in which the whole stood, and
+/// which one.
 #[inline(always)]
 fn account_away<'a>(whole: &Holding, by: &FirmId, part: &'a Part) -> Option<&'a AccountId>
-    ensures { option_map (λ a. holding_away whole.now by.now a.now part.now.lots) result ≡ part_away whole.now by.now part.now }
+    ensures { option_map (λ a. holding_away whole.now by.now a.now part.now.lots) result
+        ≡ part_away whole.now by.now part.now }
 {
     if part.firm != *by {
         return None;
@@ -186,15 +202,18 @@ fn account_away<'a>(whole: &Holding, by: &FirmId, part: &'a Part) -> Option<&'a 
     }
 }
 
-/// Puts the lots of the parts that go to other accounts than the whole's into these, up to the first part for whose row memory is refused. How
-/// many parts it went over, and how many lots it put.
+/// Puts the lots of the parts that go to other accounts than the whole's into these, up to the
+/// first part for whose row memory is refused. How many parts it went over, and how many lots it
+/// put.
 #[inline(always)]
 fn put_away(positions: &mut Positions, whole: &Holding, by: &FirmId, parts: &[Part]) -> (usize, u64)
     requires home { whole.now.key.firm ≡ by.now }
     requires room { HaveRoom positions.old (filter_map (part_away whole.now by.now) parts.now) }
     ensures within { result.0 ≤ length parts.now }
-    ensures put { HaveMoved positions.old positions.new None (filter_map (part_away whole.now by.now) (take result.0 parts.now)) }
-    ensures moved { result.1 ≡ sum_by (λ h. h.lots) (filter_map (part_away whole.now by.now) (take result.0 parts.now)) }
+    ensures put { HaveMoved positions.old positions.new None
+        (filter_map (part_away whole.now by.now) (take result.0 parts.now)) }
+    ensures moved { result.1 ≡ sum_by (λ h. h.lots)
+        (filter_map (part_away whole.now by.now) (take result.0 parts.now)) }
 {
     let mut key = whole.key;
     let mut done = 0;
@@ -216,7 +235,8 @@ fn put_away(positions: &mut Positions, whole: &Holding, by: &FirmId, parts: &[Pa
 #[inline(never)]
 pub(crate) fn take_away(positions: &mut Positions, whole: &Holding, by: &FirmId, parts: &[Part])
     requires { HaveThere positions.old (filter_map (part_away whole.now by.now) parts.now) }
-    ensures gone { HaveMoved positions.new positions.old None (filter_map (part_away whole.now by.now) parts.now) }
+    ensures gone { HaveMoved positions.new positions.old None
+        (filter_map (part_away whole.now by.now) parts.now) }
     ensures stays_ready { (at : KeyData) → IsReady positions.old at → IsReady positions.new at }
 {
     for part in parts {
@@ -231,8 +251,8 @@ pub(crate) fn take_away(positions: &mut Positions, whole: &Holding, by: &FirmId,
     }
 }
 
-/// Puts the lots of all parts that go to other accounts than the whole's into these, or those of none where memory is refused. How many lots
-/// these are.
+/// Puts the lots of all parts that go to other accounts than the whole's into these, or those of
+/// none where memory is refused. How many lots these are.
 #[inline(always)]
 pub(crate) fn put_all_away(
     positions: &mut Positions,
@@ -242,8 +262,10 @@ pub(crate) fn put_all_away(
 ) -> Result<u64, Memory>
     requires home { whole.now.key.firm ≡ by.now }
     requires room { HaveRoom positions.old (filter_map (part_away whole.now by.now) parts.now) }
-    ensures put { OnOk result (HaveMoved positions.old positions.new None (filter_map (part_away whole.now by.now) parts.now)) }
-    ensures moved { IfOk result (λ moved. moved ≡ sum_by (λ h. h.lots) (filter_map (part_away whole.now by.now) parts.now)) }
+    ensures put { OnOk result (HaveMoved positions.old positions.new None
+        (filter_map (part_away whole.now by.now) parts.now)) }
+    ensures moved { IfOk result (λ moved. moved
+        ≡ sum_by (λ h. h.lots) (filter_map (part_away whole.now by.now) parts.now)) }
     ensures same { OnErr result (SameLots positions.old positions.new) }
 {
     let (done, moved) = put_away(positions, whole, by, parts);
@@ -288,35 +310,35 @@ fn lots_away(whole: &Holding, by: &FirmId, parts: &[Part]) -> u64
     away
 }
 
-/// What goes back where it came from when this live change is undone, read while it still stands at the node that was found. A Split took the
-/// lots of its node from where that stands, and those of the parts that stayed there don't move; a Claim took them from where the node above stands.
-pub(crate) fn goes_back(
+/// What goes back where it came from when a live Split into these parts is undone, read while it
+/// still stands at the node that was found. It took the lots of its node from where that stands,
+/// and those of the parts that stayed there don't move.
+pub(crate) fn parts_back(
     changes: &Live<'_>,
-    trees: &Trees<Global>,
     entry: &Entry,
+    parts: &[Part],
     undone: &Undone,
 ) -> Option<Holding>
-    requires trees { AreTreesOf changes.now trees.now }
-    requires found { (n : EntryPart) → named_node entry.now.command ≡ Some n → IsFoundIn changes.now n (Some undone.now.found) }
+    requires split { (n : EntryPart) × (entry.now.command ≡ Split n parts.now) }
+    requires found { (n : EntryPart) → named_node entry.now.command ≡ Some n
+        → IsFoundIn changes.now n (Some undone.now.found) }
     requires deal { undone.now.deal ≡ deal_of changes.now undone.now.found.trade }
     requires few { HasFewLots entry.now.command }
-    ensures { result ≡ goes_back entry.now.firm entry.now.command (taken_before changes.now entry.now.command) }
+    ensures { result ≡ goes_back entry.now.firm entry.now.command
+        (taken_before changes.now entry.now.command) }
 {
-    match &entry.command {
-        Command::Split { parts, .. } => match holding_found(undone) {
-            None => None,
-            Some(whole) => Some(Holding {
-                key: whole.key,
-                side: whole.side,
-                lots: lots_away(&whole, &entry.firm, parts.as_slice()),
-            }),
-        },
-        Command::Claim { node, .. } => holding_above(changes, trees, *node, undone),
-        _ => None,
+    match holding_found(undone) {
+        None => None,
+        Some(whole) => Some(Holding {
+            key: whole.key,
+            side: whole.side,
+            lots: lots_away(&whole, &entry.firm, parts),
+        }),
     }
 }
 
-/// Makes the row to which lots go back, if some do. No lots change, not even where memory is refused.
+/// Makes the row to which lots go back, if some do. No lots change, not even where memory is
+/// refused.
 pub(crate) fn ready_back(positions: &mut Positions, back: &Option<Holding>) -> Result<(), Memory>
     ensures ready { OnOk result (IsReadyBack positions.new back.now) }
     ensures same { SameLots positions.old positions.new }
@@ -329,57 +351,66 @@ pub(crate) fn ready_back(positions: &mut Positions, back: &Option<Holding>) -> R
     Ok(())
 }
 
-/// Takes the lots that go back out of the accounts into which the change put them, and those that a Trade brought out of its own.
-fn take_from(positions: &mut Positions, entry: &Entry, back: &Option<Holding>)
-    requires { HaveThere positions.old (comes_from entry.now.firm entry.now.command back.now) }
-    ensures gone { HaveMoved positions.new positions.old None (comes_from entry.now.firm entry.now.command back.now) }
-    ensures stays_ready { (at : KeyData) → IsReady positions.old at → IsReady positions.new at }
+/// Puts lots back where they came from. Where there are some, the row has to be ready and to have
+/// room.
+fn put_back(positions: &mut Positions, back: &Holding)
+    requires ready { IsReadyBack positions.old (Some back.now) }
+    requires room { HasRoomBack positions.old (Some back.now) [] }
+    ensures { HaveMoved positions.new positions.old (Some back.now) [] }
 {
-    match &entry.command {
-        Command::Trade {
-            firm,
-            account,
-            instrument,
-            side,
-            lots,
-        } => {
-            let key = Key {
-                firm: *firm,
-                account: *account,
-                instrument: *instrument,
-            };
-            positions.take(&key, *side, *lots);
-        }
-        Command::Split { parts, .. } => {
-            if let Some(whole) = back {
-                take_away(positions, whole, &entry.firm, parts.as_slice());
-            }
-        }
-        Command::Claim { account, .. } => {
-            if let Some(whole) = back {
-                let key = Key {
-                    firm: entry.firm,
-                    account: *account,
-                    instrument: whole.key.instrument,
-                };
-                positions.take(&key, whole.side, whole.lots);
-            }
-        }
-        _ => {}
+    if back.lots > 0 {
+        positions.add(&back.key, back.side, back.lots);
     }
 }
 
-/// Moves back what this change moved. The row to which lots go back has to be ready and to have room.
-pub(crate) fn move_back(positions: &mut Positions, entry: &Entry, back: &Option<Holding>)
-    requires there { HaveThere positions.old (comes_from entry.now.firm entry.now.command back.now) }
+/// Moves the lots that a Split into these parts moved back. The row to which they go has to be
+/// ready and to have room.
+pub(crate) fn move_parts_back(
+    positions: &mut Positions,
+    entry: &Entry,
+    parts: &[Part],
+    back: &Option<Holding>,
+)
+    requires split { (n : EntryPart) × (entry.now.command ≡ Split n parts.now) }
+    requires there { HaveThere positions.old (comes_from entry.now.firm entry.now.command
+        back.now) }
     requires ready { IsReadyBack positions.old back.now }
-    requires room { HasRoomBack positions.old back.now (comes_from entry.now.firm entry.now.command back.now) }
-    ensures { HaveMoved positions.new positions.old back.now (comes_from entry.now.firm entry.now.command back.now) }
+    requires room { HasRoomBack positions.old back.now
+        (comes_from entry.now.firm entry.now.command back.now) }
+    ensures { HaveMoved positions.new positions.old back.now
+        (comes_from entry.now.firm entry.now.command back.now) }
 {
-    take_from(positions, entry, back);
-    if let Some(h) = back {
-        if h.lots > 0 {
-            positions.add(&h.key, h.side, h.lots);
-        }
-    }
+    let Some(whole) = back else {
+        return;
+    };
+    take_away(positions, whole, &entry.firm, parts);
+    put_back(positions, whole);
+}
+
+/// The same of a Claim into this account.
+pub(crate) fn move_claim_back(
+    positions: &mut Positions,
+    entry: &Entry,
+    account: &AccountId,
+    back: &Option<Holding>,
+)
+    requires claim { (n : EntryPart) × (entry.now.command ≡ Claim n account.now) }
+    requires there { HaveThere positions.old (comes_from entry.now.firm entry.now.command
+        back.now) }
+    requires ready { IsReadyBack positions.old back.now }
+    requires room { HasRoomBack positions.old back.now
+        (comes_from entry.now.firm entry.now.command back.now) }
+    ensures { HaveMoved positions.new positions.old back.now
+        (comes_from entry.now.firm entry.now.command back.now) }
+{
+    let Some(whole) = back else {
+        return;
+    };
+    let key = Key {
+        firm: entry.firm,
+        account: *account,
+        instrument: whole.key.instrument,
+    };
+    positions.take(&key, whole.side, whole.lots);
+    put_back(positions, whole);
 }

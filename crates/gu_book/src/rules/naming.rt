@@ -1,11 +1,10 @@
 //! Why an Initiate, a Decline or a Reverse is refused.
-ghost use Rattle.std.specs.Prelude.{◌≡◌, ◌≤◌, ◌+◌, ℕ, length, take, option_map, Some, None};
-ghost use Rattle.gu_base.specs.Limits.{most_entries};
+ghost use Rattle.std.specs.Prelude.{◌≡◌, ◌≤◌, take, Some, None};
 ghost use Rattle.gu_base.specs.History.{numbered_as, is_change, live, RisesFrom};
-ghost use Rattle.gu_base.specs.Consents.{of_node, taker_and_giver, giver_alone, consents_left, parties_of};
+ghost use Rattle.gu_base.specs.Consents.{of_node, taker_and_giver, giver_alone};
+ghost use Rattle.gu_base.specs.Consents.{parties_of};
 ghost use Rattle.gu_base.specs.Answers.{entry_of, on_change};
 ghost use Rattle.gu_book.specs.Front.{IsStandingOn, own_refusal, rest_of};
-ghost use Rattle.gu_book.specs.Lookups.{AreLookupsOf};
 ghost use Rattle.gu_consent.specs.Given.{given};
 
 use crate::live::{Live, entry_at};
@@ -95,7 +94,8 @@ fn own_refusal(
     by: &FirmId,
     command: &Command,
 ) -> Option<Refusal>
-    ensures { result ≡ own_refusal (given consents.now number) parties.now standing by.now command.now }
+    ensures { result ≡ own_refusal (given consents.now number) parties.now standing by.now
+        command.now }
 {
     match command {
         Command::Initiate { .. } => match consents.missing(number, &[*by]) {
@@ -128,13 +128,11 @@ fn entry_refusal(
     number: Number,
     e: &Entry,
 ) -> Option<Refusal>
-    requires looked_up { AreLookupsOf at.now.lookups.now at.now.entries.now }
-    requires few { length at.now.entries.now ≤ most_entries }
-    requires live { at.now.changes ≡ live at.now.entries.now }
-    requires rises { RisesFrom 1 at.now.changes }
-    requires consented { (n : ℕ) → given at.now.consents.now n ≡ consents_left at.now.entries.now n }
-    requires standing { IsStandingOn at.now.house.now at.now.changes command.now number at.now.standing }
-    ensures { result ≡ on_change at.now.house.now at.now.entries.now by.now (rest_of at.now.house.now at.now.entries.now by.now command.now) (Some (numbered_as number e.now)) }
+    requires standing { IsStandingOn at.now.house (live at.now.history) command.now number
+        at.now.standing }
+    ensures { result ≡ on_change at.now.house at.now.history by.now
+        (rest_of at.now.house at.now.history by.now command.now)
+        (Some (numbered_as number e.now)) }
 {
     if !is_change(&e.command) {
         return Some(Refusal::NotAChange);
@@ -158,13 +156,11 @@ pub(crate) fn naming_refusal(
     command: &Command,
     number: Number,
 ) -> Option<Refusal>
-    requires looked_up { AreLookupsOf at.now.lookups.now at.now.entries.now }
-    requires few { length at.now.entries.now ≤ most_entries }
-    requires live { at.now.changes ≡ live at.now.entries.now }
-    requires rises { RisesFrom 1 at.now.changes }
-    requires consented { (n : ℕ) → given at.now.consents.now n ≡ consents_left at.now.entries.now n }
-    requires standing { IsStandingOn at.now.house.now at.now.changes command.now number at.now.standing }
-    ensures { result ≡ on_change at.now.house.now at.now.entries.now by.now (rest_of at.now.house.now at.now.entries.now by.now command.now) (entry_of at.now.entries.now number) }
+    requires standing { IsStandingOn at.now.house (live at.now.history) command.now number
+        at.now.standing }
+    ensures { result ≡ on_change at.now.house at.now.history by.now
+        (rest_of at.now.house at.now.history by.now command.now)
+        (entry_of at.now.history number) }
 {
     match entry_at(at.entries, number) {
         Some(e) => entry_refusal(at, by, command, number, e),

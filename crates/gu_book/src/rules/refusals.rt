@@ -1,11 +1,16 @@
 //! Why a change is refused.
-ghost use Rattle.std.specs.Prelude.{◌≡◌, ◌+◌, ◌≤◌, true, length, List, map, nat_le, sum_by, bytes_eq, Option, Some, None, IfSome};
+ghost use Rattle.std.specs.Prelude.{◌≡◌, ◌+◌, ◌≤◌, true, length, List, map, nat_le, sum_by};
+ghost use Rattle.std.specs.Prelude.{bytes_eq, Some, None, IfSome};
 ghost use Rattle.gu_base.specs.House.{knows_firm, knows_account};
+ghost use Rattle.gu_base.specs.History.{live};
 ghost use Rattle.gu_base.specs.Limits.{most_parts};
 ghost use Rattle.gu_base.specs.Nodes.{is_offered};
 ghost use Rattle.gu_base.specs.declared.entry.Record.{Record as RecordData};
 ghost use Rattle.gu_base.specs.declared.node.Node.{Node as NodeData};
-ghost use Rattle.gu_base.specs.Refusals.{trade_row, knows_own_account, refusal_of_part, first, split_row, is_giver, is_taker, limit_row, limit_by, used_by, claim_row, refuse_row, cancel_row, agree_row, raised_row, raise_row, row, refusal_of};
+ghost use Rattle.gu_base.specs.Refusals.{trade_row, knows_own_account, refusal_of_part, first};
+ghost use Rattle.gu_base.specs.Refusals.{split_row, is_giver, is_taker, limit_row, limit_by};
+ghost use Rattle.gu_base.specs.Refusals.{used_by, claim_row, refuse_row, cancel_row, agree_row};
+ghost use Rattle.gu_base.specs.Refusals.{raised_row, raise_row, row, refusal_of};
 ghost use Rattle.gu_base.specs.Numbers.{is_lots, are_terms};
 ghost use Rattle.gu_depend.specs.Terms.{AreTermsOf};
 ghost use Rattle.gu_book.specs.Found.{IsFoundAs, IsNamedIn};
@@ -68,7 +73,8 @@ fn own_account<'a>(by: &FirmId, part: &'a Part) -> Option<&'a AccountId>
     }
 }
 
-/// Whether an own part names an account of its firm, one of which may be known, so that it isn't looked up again.
+/// Whether an own part names an account of its firm, one of which may be known, so that it isn't
+/// looked up again.
 fn knows_own_account(house: &House, by: &FirmId, part: &Part, known: Option<&AccountId>) -> bool
     requires { IfSome known (λ a. knows_account house.now by.now a.now ≡ true) }
     ensures { result ≡ knows_own_account house.now by.now part.now }
@@ -85,7 +91,8 @@ fn knows_own_account(house: &House, by: &FirmId, part: &Part, known: Option<&Acc
     }
 }
 
-/// Why a part is refused of the split of a firm that is known, so that it isn't looked up again for each of its own parts.
+/// Why a part is refused of the split of a firm that is known, so that it isn't looked up again for
+/// each of its own parts.
 fn part_refusal(
     house: &House,
     by: &FirmId,
@@ -140,7 +147,8 @@ fn parts_sum(parts: &[Part]) -> u128
 #[inline(never)]
 fn split_refusal(house: &House, by: &FirmId, parts: &[Part], found: &Found) -> Option<Refusal>
     requires { knows_firm house.now by.now ≡ true }
-    ensures { (l : List RecordData) (x : NodeData) → IsFoundAs l x found.now → result ≡ split_row house.now l by.now parts.now x }
+    ensures { (l : List RecordData) (x : NodeData) → IsFoundAs l x found.now
+        → result ≡ split_row house.now l by.now parts.now x }
 {
     if !found.is_owned_by(by) {
         return Some(Refusal::NotYours);
@@ -214,7 +222,9 @@ fn limit_refusal(used: u64, lots: u64, limit: Option<u64>) -> Option<Refusal>
 
 /// Why the terms of a node refuse a claim of it.
 fn terms_refusal(house: &House, terms: &Terms, node: &Node) -> Option<Refusal>
-    ensures { (l : List RecordData) → AreTermsOf house.now l terms.now → result ≡ limit_row (used_by l node.now.kind + node.now.lots) (limit_by house.now l node.now.kind) }
+    ensures { (l : List RecordData) → AreTermsOf house.now l terms.now
+        → result ≡ limit_row (used_by l node.now.kind + node.now.lots)
+        (limit_by house.now l node.now.kind) }
 {
     match &node.kind {
         Kind::Given { giver, taker, .. } => {
@@ -235,7 +245,9 @@ fn claim_refusal(
     node: &Node,
     offered: bool,
 ) -> Option<Refusal>
-    ensures { (l : List RecordData) → AreTermsOf house.now l terms.now → offered ≡ is_offered l node.now → result ≡ claim_row house.now l by.now account.now node.now }
+    ensures { (l : List RecordData) → AreTermsOf house.now l terms.now
+        → offered ≡ is_offered l node.now → result
+        ≡ claim_row house.now l by.now account.now node.now }
 {
     if !offered {
         Some(Refusal::NotOffered)
@@ -250,7 +262,8 @@ fn claim_refusal(
 
 /// Why a taker's refusal of this node, which is offered or isn't, is refused.
 fn refuse_refusal(by: &FirmId, node: &Node, offered: bool) -> Option<Refusal>
-    ensures { (l : List RecordData) → offered ≡ is_offered l node.now → result ≡ refuse_row l by.now node.now }
+    ensures { (l : List RecordData) → offered ≡ is_offered l node.now
+        → result ≡ refuse_row l by.now node.now }
 {
     if !offered {
         Some(Refusal::NotOffered)
@@ -263,7 +276,8 @@ fn refuse_refusal(by: &FirmId, node: &Node, offered: bool) -> Option<Refusal>
 
 /// Why a giver's cancelling of this node, which is offered or isn't, is refused.
 fn cancel_refusal(by: &FirmId, node: &Node, offered: bool) -> Option<Refusal>
-    ensures { (l : List RecordData) → offered ≡ is_offered l node.now → result ≡ cancel_row l by.now node.now }
+    ensures { (l : List RecordData) → offered ≡ is_offered l node.now
+        → result ≡ cancel_row l by.now node.now }
 {
     if !offered {
         Some(Refusal::NotOffered)
@@ -292,7 +306,8 @@ fn agree_refusal(
     rate: u64,
     limit: u64,
 ) -> Option<Refusal>
-    ensures { (l : List RecordData) → AreTermsOf house.now l terms.now → result ≡ agree_row house.now l by.now giver.now taker.now rate limit }
+    ensures { (l : List RecordData) → AreTermsOf house.now l terms.now
+        → result ≡ agree_row house.now l by.now giver.now taker.now rate limit }
 {
     if *by != house.house() {
         Some(Refusal::HouseOnly)
@@ -336,7 +351,8 @@ fn raise_refusal(
     giver: &FirmId,
     lots: u64,
 ) -> Option<Refusal>
-    ensures { (l : List RecordData) → AreTermsOf house.now l terms.now → result ≡ raise_row house.now l by.now giver.now lots }
+    ensures { (l : List RecordData) → AreTermsOf house.now l terms.now
+        → result ≡ raise_row house.now l by.now giver.now lots }
 {
     if house.firm(giver) {
         raised_refusal(lots, limit_of(house, terms, giver, by))
@@ -347,10 +363,9 @@ fn raise_refusal(
 
 /// Why a change is refused by its own row.
 fn row_refusal(at: &Basis<'_>, by: &FirmId, command: &Command) -> Option<Refusal>
-    requires dealt { AreTermsOf at.now.house.now at.now.changes at.now.terms.now }
-    requires named { IsNamedIn at.now.changes (named_node command.now) at.now.named.now }
-    requires known { knows_firm at.now.house.now by.now ≡ true }
-    ensures { result ≡ row at.now.house.now at.now.changes by.now command.now }
+    requires named { IsNamedIn (live at.now.history) (named_node command.now) at.now.named }
+    requires known { knows_firm at.now.house by.now ≡ true }
+    ensures { result ≡ row at.now.house (live at.now.history) by.now command.now }
 {
     match command {
         Command::Trade {
@@ -398,9 +413,8 @@ fn row_refusal(at: &Basis<'_>, by: &FirmId, command: &Command) -> Option<Refusal
 
 /// Why a change is refused.
 pub(crate) fn change_refusal(at: &Basis<'_>, by: &FirmId, command: &Command) -> Option<Refusal>
-    requires dealt { AreTermsOf at.now.house.now at.now.changes at.now.terms.now }
-    requires named { IsNamedIn at.now.changes (named_node command.now) at.now.named.now }
-    ensures { result ≡ refusal_of at.now.house.now at.now.changes by.now command.now }
+    requires named { IsNamedIn (live at.now.history) (named_node command.now) at.now.named }
+    ensures { result ≡ refusal_of at.now.house (live at.now.history) by.now command.now }
 {
     if !at.house.firm(by) {
         return Some(Refusal::UnknownFirm);

@@ -1,16 +1,18 @@
-//! The terms of givers and takers: those that are kept, and where none are kept those of the house table.
-ghost use Rattle.std.specs.Prelude.{◌≡◌, List, Some, IfSome, IfOk, OnOk, option_map, true, false, ◌≤◌};
+//! The terms of givers and takers: those that are kept, and where none are kept those of the house
+//! table.
+ghost use Rattle.std.specs.Prelude.{◌≡◌, List, Some, IfSome, IfOk, OnOk, option_map};
+ghost use Rattle.std.specs.Prelude.{◌≤◌};
 ghost use Rattle.gu_base.specs.House.{agreement};
 ghost use Rattle.gu_base.specs.Limits.{highest_rate};
 ghost use Rattle.gu_base.specs.Terms.{deed_of, terms_of, limit_of, used_of};
 ghost use Rattle.gu_base.specs.declared.entry.Record.{Record as RecordData};
 ghost use Rattle.gu_book.specs.Dealing.{CanClaim, HasRoomForClaim, IsClaimed, place_of_kind};
-ghost use Rattle.gu_book.specs.Kinds.{IsOfTerms, is_claim};
+ghost use Rattle.gu_book.specs.Kinds.{IsOfTerms};
 ghost use Rattle.gu_book.specs.Limits.{AllWithinLimits};
 ghost use Rattle.gu_depend.specs.Terms.{AreTermsOf, place_of_pair};
-ghost use Rattle.gu_fees.specs.Terms.{IsReady, IsTakenOut, last_entry};
+ghost use Rattle.gu_fees.specs.Terms.{IsReady, last_entry};
 
-use gu_base::{Agreement, Command, Deed, Entry, FirmId, Kind, Memory, Node, Number};
+use gu_base::{Agreement, Command, Deed, FirmId, Kind, Memory, Node, Number};
 use gu_fees::Terms;
 use gu_parties::House;
 
@@ -24,8 +26,10 @@ pub(crate) fn terms_at(
     taker: &FirmId,
 ) -> Option<Agreement>
     requires { place ≡ place_of_pair terms.now (record { giver = giver.now; taker = taker.now }) }
-    ensures value { (l : List RecordData) → AreTermsOf house.now l terms.now → result ≡ terms_of house.now l giver.now taker.now }
-    ensures rate { (l : List RecordData) → AreTermsOf house.now l terms.now → AllWithinLimits l → IfSome result (λ a. a.rate ≤ highest_rate) }
+    ensures value { (l : List RecordData) → AreTermsOf house.now l terms.now
+        → result ≡ terms_of house.now l giver.now taker.now }
+    ensures rate { (l : List RecordData) → AreTermsOf house.now l terms.now → AllWithinLimits l
+        → IfSome result (λ a. a.rate ≤ highest_rate) }
 {
     house.terms_are_in_range();
     match terms.row_at(place) {
@@ -41,13 +45,16 @@ pub(crate) fn terms_of(
     giver: &FirmId,
     taker: &FirmId,
 ) -> Option<Agreement>
-    ensures value { (l : List RecordData) → AreTermsOf house.now l terms.now → result ≡ terms_of house.now l giver.now taker.now }
-    ensures rate { (l : List RecordData) → AreTermsOf house.now l terms.now → AllWithinLimits l → IfSome result (λ a. a.rate ≤ highest_rate) }
+    ensures value { (l : List RecordData) → AreTermsOf house.now l terms.now
+        → result ≡ terms_of house.now l giver.now taker.now }
+    ensures rate { (l : List RecordData) → AreTermsOf house.now l terms.now → AllWithinLimits l
+        → IfSome result (λ a. a.rate ≤ highest_rate) }
 {
     terms_at(house, terms, terms.place(giver, taker), giver, taker)
 }
 
-/// The lots that a taker has used of what a giver gave it, and those that it may use, `None` without terms.
+/// The lots that a taker has used of what a giver gave it, and those that it may use, `None`
+/// without terms.
 #[tactic(auto, using(crate::proofs::Dealing::filed_limit, crate::proofs::Dealing::filed_used))]
 pub(crate) fn used_and_limit(
     house: &House,
@@ -55,8 +62,10 @@ pub(crate) fn used_and_limit(
     giver: &FirmId,
     taker: &FirmId,
 ) -> (u64, Option<u64>)
-    ensures used { (l : List RecordData) → AreTermsOf house.now l terms.now → result.0 ≡ used_of l giver.now taker.now }
-    ensures limit { (l : List RecordData) → AreTermsOf house.now l terms.now → result.1 ≡ limit_of house.now l giver.now taker.now }
+    ensures used { (l : List RecordData) → AreTermsOf house.now l terms.now
+        → result.0 ≡ used_of l giver.now taker.now }
+    ensures limit { (l : List RecordData) → AreTermsOf house.now l terms.now
+        → result.1 ≡ limit_of house.now l giver.now taker.now }
 {
     match terms.row(giver, taker) {
         Some(row) => (row.used(), row.limit()),
@@ -76,13 +85,15 @@ fn filed_limit(house: &House, giver: &FirmId, taker: &FirmId) -> Option<u64>
 
 /// The lots that a giver allows a taker, `None` without terms.
 pub(crate) fn limit_of(house: &House, terms: &Terms, giver: &FirmId, taker: &FirmId) -> Option<u64>
-    ensures { (l : List RecordData) → AreTermsOf house.now l terms.now → result ≡ limit_of house.now l giver.now taker.now }
+    ensures { (l : List RecordData) → AreTermsOf house.now l terms.now
+        → result ≡ limit_of house.now l giver.now taker.now }
 {
     let (_, limit) = used_and_limit(house, terms, giver, taker);
     limit
 }
 
-/// Makes room for one entry more of a giver and a taker, and says where they stand. No terms change, not even where memory is refused.
+/// Makes room for one entry more of a giver and a taker, and says where they stand. No terms
+/// change, not even where memory is refused.
 pub(crate) fn ready(
     terms: &mut Terms,
     house: &House,
@@ -90,8 +101,12 @@ pub(crate) fn ready(
     taker: &FirmId,
 ) -> Result<usize, Memory>
     ensures ready { OnOk result (IsReady terms.new giver.now taker.now) }
-    ensures place { IfOk result (λ i. Some i ≡ place_of_pair terms.new (record { giver = giver.now; taker = taker.now })) }
-    ensures same { (l : List RecordData) → AreTermsOf house.now l terms.old → AreTermsOf house.now l terms.new }
+    ensures place { IfOk result (λ i. Some i ≡ place_of_pair terms.new (record {
+      giver = giver.now;
+      taker = taker.now;
+    })) }
+    ensures same { (l : List RecordData) → AreTermsOf house.now l terms.old
+        → AreTermsOf house.now l terms.new }
     ensures last { last_entry terms.new ≡ last_entry terms.old }
 {
     let Some(place) = terms.place(giver, taker) else {
@@ -112,8 +127,12 @@ fn ready_first(
     taker: &FirmId,
 ) -> Result<usize, Memory>
     ensures ready { OnOk result (IsReady terms.new giver.now taker.now) }
-    ensures place { IfOk result (λ i. Some i ≡ place_of_pair terms.new (record { giver = giver.now; taker = taker.now })) }
-    ensures same { (l : List RecordData) → AreTermsOf house.now l terms.old → AreTermsOf house.now l terms.new }
+    ensures place { IfOk result (λ i. Some i ≡ place_of_pair terms.new (record {
+      giver = giver.now;
+      taker = taker.now;
+    })) }
+    ensures same { (l : List RecordData) → AreTermsOf house.now l terms.old
+        → AreTermsOf house.now l terms.new }
     ensures last { last_entry terms.new ≡ last_entry terms.old }
 {
     let file = house.agreement(giver, taker);
@@ -128,7 +147,8 @@ fn ready_first(
 #[tactic(auto, using(gu_depend::proofs::Deals::both_same))]
 pub(crate) fn deed_of(by: &FirmId, command: &Command) -> (FirmId, FirmId, Deed)
     requires { IsOfTerms command.now }
-    ensures { (l : List RecordData) → deed_of l result.0 result.1 by.now command.now ≡ Some result.2 }
+    ensures { (l : List RecordData) → deed_of l result.0 result.1 by.now command.now
+        ≡ Some result.2 }
 {
     match command {
         Command::Agree {
@@ -156,7 +176,8 @@ pub(crate) fn ready_claim(
 ) -> Result<Option<usize>, Memory>
     ensures ready { OnOk result (HasRoomForClaim terms.new node.now.kind) }
     ensures place { IfOk result (λ o. o ≡ place_of_kind terms.new node.now.kind) }
-    ensures same { (l : List RecordData) → AreTermsOf house.now l terms.old → AreTermsOf house.now l terms.new }
+    ensures same { (l : List RecordData) → AreTermsOf house.now l terms.old
+        → AreTermsOf house.now l terms.new }
     ensures last { last_entry terms.new ≡ last_entry terms.old }
 {
     match &node.kind {
@@ -175,7 +196,8 @@ pub(crate) fn place_of(terms: &Terms, node: &Node) -> Option<usize>
     }
 }
 
-/// Puts the claim of this number to the terms of the giver and the taker of its node, who stand at this place and for whom there has to be room.
+/// Puts the claim of this number to the terms of the giver and the taker of its node, who stand at
+/// this place and for whom there has to be room.
 #[tactic(auto, using(crate::proofs::TermsKept::can_at, crate::proofs::TermsKept::claimed_at, crate::proofs::TermsKept::claimed_nowhere))]
 pub(crate) fn claim(terms: &mut Terms, place: Option<usize>, number: Number, node: &Node)
     requires place { place ≡ place_of_kind terms.old node.now.kind }
@@ -184,15 +206,5 @@ pub(crate) fn claim(terms: &mut Terms, place: Option<usize>, number: Number, nod
 {
     if let Some(i) = place {
         terms.put_at(i, number, Deed::Uses(node.lots));
-    }
-}
-
-/// Takes the change of this number out of the terms of its giver and taker, if it is a Claim; no other change of trees has such.
-pub(crate) fn take_out_claim(terms: &mut Terms, number: Number, entry: &Entry)
-    ensures claim { is_claim entry.now.command ≡ true → IsTakenOut terms.old terms.new number }
-    ensures other { is_claim entry.now.command ≡ false → terms.new ≡ terms.old }
-{
-    if let Command::Claim { .. } = &entry.command {
-        terms.take_out(number);
     }
 }

@@ -8,13 +8,16 @@ use Rattle.gu_book.proofs.FiledChanges.{may_split, has_accounts, part_count, not
 use Rattle.gu_book.proofs.grove.split.Goals as goal
 
 pub unreachable-requires : goal.unreachable-requires
-unreachable-requires c = never_none c.args.trees.now (named_node c.args.made.now.command.now) c.args.sought.now.named c.args.sought.now.path.items c.requires.there c.requires.split.0
-    (ap named_node c.requires.split.1) c.in_default.is
+unreachable-requires c =
+    never_none c.args.trees.now (named_node c.args.made.now.command.now) c.args.sought.now.named
+    c.args.sought.now.path.items c.requires.there c.requires.split.0 (ap named_node c.requires.split.1) c.in_default.is
 
 -- where the node lies that the split names
 here : (c : In-Some) → {t : House} {l : List Record} → IsNext t l (record_of c.args.made.now) c.args.trees.now
     → Spot l c.args.trees.now c.in-Some.named.found.trade c.args.sought.now.path.items c.requires.split.0
-here c next = named_spot next c.args.sought.now.named c.args.sought.now.path.items c.requires.there c.requires.split.0 (ap named_node c.requires.split.1) c.in-Some.named c.in-Some.is
+here c next =
+    named_spot next c.args.sought.now.named c.args.sought.now.path.items c.requires.there c.requires.split.0
+    (ap named_node c.requires.split.1) c.in-Some.named c.in-Some.is
 
 pub split-requires : goal.split-requires
 split-requires c =
@@ -40,4 +43,5 @@ pub returns-clause-follows : goal.returns-clause-follows
 returns-clause-follows c =
     on_ok c.split.result c.split.ensures.tree c.split.ensures.place c.split.ensures.shows (λ tree place shows t l next.
     let s = here (goal.at.returns-clause-follows c).In-Some next in
-    split_filed next s c.args.parts.now c.requires.split.1 c.split.new.self (record { tree = tree; place = place }) shows)
+    split_filed next s c.args.parts.now c.requires.split.1 c.split.new.self (record { tree = tree; place = place })
+    shows)

@@ -7,9 +7,11 @@ use Rattle.gu_book.proofs.laws.lots_and_fees_are_conserved.Goals as goal
 pub returns-clause-leaves : goal.returns-clause-leaves
 returns-clause-leaves c =
     let book = c.args.book.now in
-    sums.leaves_sum book.house (live book.history) (replay_from_legal book.house (live book.history) c.history.ensures.legal) (sums.live_rises book.history)
+    sums.leaves_sum book.house (live book.history)
+    (replay_from_legal book.house (live book.history) c.history.ensures.legal) (sums.live_rises book.history)
 
 pub returns-clause-positions : goal.returns-clause-positions
 returns-clause-positions c =
     let book = c.args.book.now in
-    balance.positions_sum book.house (live book.history) (replay_from_legal book.house (live book.history) c.history.ensures.legal) (sums.live_rises book.history)
+    balance.positions_sum book.house (live book.history)
+    (replay_from_legal book.house (live book.history) c.history.ensures.legal) (sums.live_rises book.history)

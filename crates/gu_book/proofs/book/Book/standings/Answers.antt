@@ -10,4 +10,5 @@ returns-clause-read c =
     let h = c.self.inside.entries.items in
     let kept = c.self.invariant.kept in
     rw (← c.self.view_is)
-    (c.first_standing-read.ensures.first t (live h) (rises_later 0 1 (live h) (omega arith) (live_rises h)) (legal_from_replay t (live h) kept.replayed) kept.filed c.self.invariant.dealt)
+    (c.first_standing-read.ensures.first t (live h) (rises_later 0 1 (live h) (omega arith) (live_rises h))
+    (legal_from_replay t (live h) kept.replayed) c.self.invariant.state.filed c.self.invariant.state.dealt)

@@ -16,4 +16,5 @@ returns-in-None c =
     let unnamed = mapped_none (λ (r : Record). r.number) (reversal_of h c.args.number)
     (sym (c.self.invariant.reversals.numbers c.args.number) ∙ (sym c.number.ensures ∙ c.in-None.is)) in
     rw (← c.self.view_is)
-    (found_there h c.args.number c.in-Some.entry.now there (sym c.if-not-is_change.ensures) (not_reversed c.args.number 1 h unnamed))
+    (found_there h c.args.number c.in-Some.entry.now there (sym c.if-not-is_change.ensures)
+    (not_reversed c.args.number 1 h unnamed))

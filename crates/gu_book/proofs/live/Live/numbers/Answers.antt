@@ -1,13 +1,18 @@
-use Rattle.std.proofs.Common.{◌≡◌, ℕ, ◌+◌, List, [], ◌∷◌, ◌++◌, map, sym, ◌∙◌, ap, append_assoc, Option, Some, None, find, option_map, ◌==◌}
+use Rattle.std.proofs.Common.{◌≡◌, ℕ, ◌+◌, List, [], ◌∷◌, ◌++◌, map, sym, ◌∙◌, ap, append_assoc, Option, Some, None}
+use Rattle.std.proofs.Common.{find, option_map, ◌==◌}
 use Rattle.gu_depend.proofs.Vocabulary.{Entry, Record, live, cons_option}
 use Rattle.gu_book.proofs.{Vocabulary.{record_of}, ByNumber.{left, left_more}}
 use Rattle.gu_book.proofs.live.Live.numbers.Goals as goal
 use Rattle.gu_book.proofs.live.Live.numbers.Goals.{in-Some+in_ok-push, in_default}
 
 -- with the change of the next number, if there is one, fewer are left
-next : (h : List Entry) (i : ℕ) (o : Option Record) (ns all : List ℕ) → find (λ (d : Record). d.number == i + 1) (live h) ≡ o
-    → ns ++ map (λ (r : Record). r.number) (left h i) ≡ all → ns ++ map (λ (r : Record). r.number) (cons_option o (left h (i + 1))) ≡ all
-next h i o ns all found so_far = ap (λ rs. ns ++ map (λ (r : Record). r.number) rs) (sym (left_more h i ∙ ap (λ o. cons_option o (left h (i + 1))) found)) ∙ so_far
+next : (h : List Entry) (i : ℕ) (o : Option Record) (ns all : List ℕ)
+    → find (λ (d : Record). d.number == i + 1) (live h) ≡ o → ns ++ map (λ (r : Record). r.number) (left h i) ≡ all
+    → ns ++ map (λ (r : Record). r.number) (cons_option o (left h (i + 1))) ≡ all
+next h i o ns all found so_far =
+    ap (λ rs. ns ++ map (λ (r : Record). r.number) rs)
+    (sym (left_more h i ∙ ap (λ o. cons_option o (left h (i + 1))) found))
+    ∙ so_far
 
 pub loop-place-preserved : goal.loop-place-preserved
 loop-place-preserved c = λ h is.
@@ -21,7 +26,10 @@ loop-place-preserved c = λ h is.
           rw w.numbers-is
           (ap (λ ns. ns ++ map (λ (r : Record). r.number) (left h (i + 1))) w.in_ok-push.ensures.items
           ∙ (append_assoc numbers (made.number ∷ []) (map (λ (r : Record). r.number) (left h (i + 1)))
-          ∙ next h i (Some made) numbers all (found ∙ ap (option_map record_of) w.in-Some.is) (c.loop-place.invariant h is)))
+          ∙ next h i (Some made) numbers all (found ∙ ap (option_map record_of) w.in-Some.is)
+          (c.loop-place.invariant h is)))
           )
-      | in_default w ↦ rw w.numbers-is (next h i None numbers all (found ∙ ap (option_map record_of) w.in_default.is) (c.loop-place.invariant h is))
+      | in_default w ↦
+          rw w.numbers-is
+          (next h i None numbers all (found ∙ ap (option_map record_of) w.in_default.is) (c.loop-place.invariant h is))
     ]

@@ -8,6 +8,8 @@ returns-in-Some-find c =
     let q = c.requires.found in
     let b = c.in-Some-find.ensures c.args.changes.now c.requires.trees in
     let up : parent q.0.kind ≡ Some c.in-Some.parent =
-    sym (ap (option_and_then (λ (x : Node). parent x.kind)) (found_node q)) ∙ (sym c.parent_of.ensures ∙ c.in-Some.is) in
+    sym (ap (option_and_then (λ (x : Node). parent x.kind)) (found_node q))
+    ∙ (sym c.parent_of.ensures ∙ c.in-Some.is) in
     c.held_at.ensures
-    ∙ (above_as q.2 b.0 c.in-Some-find.above c.in-Some.parent b.2 b.1 up c.args.undone.now.deal c.requires.deal ∙ sym (ap (option_and_then (held_above c.args.changes.now)) (found_node q)))
+    ∙ (above_as q.2 b.0 c.in-Some-find.above c.in-Some.parent b.2 b.1 up c.args.undone.now.deal c.requires.deal
+    ∙ sym (ap (option_and_then (held_above c.args.changes.now)) (found_node q)))

@@ -18,7 +18,8 @@ returns-then-is_err-clause-put c = λ at side.
     let f = part_away c.args.whole.now c.args.by.now in
     let same = put_err c.put.result (sym c.is_err.ensures.value) c.if-is_err.true c.put.ensures.same at side in
     let cut = given_cut f (counted_at at side) c.loop-part.done c.args.parts.now in
-    let here = ap (λ i. sum_by (counted_at at side) (filter_map f (drop i c.args.parts.now))) c.loop-part.invariant.done in
+    let here =
+    ap (λ i. sum_by (counted_at at side) (filter_map f (drop i c.args.parts.now))) c.loop-part.invariant.done in
     let put = c.loop-part.invariant.put at side in
     omega (arith, same, cut, here, put)
 

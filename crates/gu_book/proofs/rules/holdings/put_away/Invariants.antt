@@ -9,7 +9,9 @@ invariant-loop-part l = record {
   firm : l.key.firm ≡ l.whole.key.firm;
   instrument : l.key.instrument ≡ l.whole.key.instrument;
   room : HaveRoom l.positions (filter_map (part_away l.whole l.by) (drop l.part-index l.parts));
-  put : (at : Key) (side : Side) → lots_in l.positions at side + sum_by (counted_at at side) (filter_map (part_away l.whole l.by) (drop l.part-index l.parts))
+  put : (at : Key) (side : Side)
+      → lots_in l.positions at side
+      + sum_by (counted_at at side) (filter_map (part_away l.whole l.by) (drop l.part-index l.parts))
       ≡ lots_in l.fn.positions at side + sum_by (counted_at at side) (filter_map (part_away l.whole l.by) l.parts);
   moved : l.moved + sum_by (λ (h : Holding). h.lots) (filter_map (part_away l.whole l.by) (drop l.part-index l.parts))
       ≡ sum_by (λ (h : Holding). h.lots) (filter_map (part_away l.whole l.by) l.parts);

@@ -8,7 +8,8 @@ take-requires c =
     let i = c.loop-part.part-index in
     let f = part_away c.args.whole.now c.args.by.now in
     let h : Holding = holding_away c.args.whole.now c.args.by.now c.in-Some.account.now c.part-item.result.lots in
-    let here = given_here f c.args.parts.now i c.part-item.result (Some h) c.loop-part-test.true c.part-item.is c.in-Some.ensures in
+    let here = given_here f c.args.parts.now i c.part-item.result (Some h) c.loop-part-test.true c.part-item.is
+    c.in-Some.ensures in
     let there : HaveThere c.loop-part.positions (filter_map f (drop i c.args.parts.now)) = λ at side.
     let all = c.requires at side in
     let gone = c.loop-part.invariant.gone at side in

@@ -10,7 +10,8 @@ returns-in-Some c =
     let n = c.args.name.now in
     let made = record_of c.in-Some.made in
     let found = sym (rw c.entry.ensures at c.change.ensures) ∙ ap (option_map record_of) c.in-Some.is in
-    let its_number : made.number ≡ n.entry = eqb-true made.number n.entry (find_passes (λ (d : Record). d.number == n.entry) c.args.changes.now made found) in
+    let its_number : made.number ≡ n.entry =
+    eqb-true made.number n.entry (find_passes (λ (d : Record). d.number == n.entry) c.args.changes.now made found) in
     c.made_by.ensures
     ∙ (ap (λ k. find (λ x. same_name x.name n) (nodes_of k made.firm made.command)) (sym its_number)
     ∙ sym (node_found 1 c.args.changes.now n made c.requires found))

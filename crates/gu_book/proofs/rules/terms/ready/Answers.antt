@@ -1,15 +1,19 @@
-use Rattle.std.proofs.Common.{◌≡◌, sym, ◌∙◌, ap, Some}
+use Rattle.std.proofs.Common.{◌≡◌, sym, ◌∙◌, Some, refl}
 use Rattle.gu_book.proofs.{Vocabulary.{lookup, is_pair, IsReadied}, rules.terms.ready.Goals.{After-ready_at}}
 use Rattle.gu_depend.proofs.{Vocabulary.{agreement}, TermsFollow.{readied_follows}}
-use Rattle.gu_fees.specs.Filing.{last_of}
 use Rattle.gu_book.proofs.rules.terms.ready.Goals as goal
 
 -- where the two stand
-at : (c : After-ready_at) → lookup (is_pair c.args.giver.now c.args.taker.now) c.args.terms.now.places ≡ Some c.in-Some.place
+at : (c : After-ready_at)
+    → lookup (is_pair c.args.giver.now c.args.taker.now) c.args.terms.now.places ≡ Some c.in-Some.place
 at c = sym c.place.ensures.value ∙ c.in-Some.is
 
-readied : (c : After-ready_at) → IsReadied c.args.terms.now c.ready_at.new.self c.args.giver.now c.args.taker.now (agreement c.args.house.now c.args.giver.now c.args.taker.now)
-readied c = c.ready_at.ensures.readied c.args.giver.now c.args.taker.now (agreement c.args.house.now c.args.giver.now c.args.taker.now) (at c)
+readied : (c : After-ready_at)
+    → IsReadied c.args.terms.now c.ready_at.new.self c.args.giver.now c.args.taker.now
+    (agreement c.args.house.now c.args.giver.now c.args.taker.now)
+readied c =
+    c.ready_at.ensures.readied c.args.giver.now c.args.taker.now
+    (agreement c.args.house.now c.args.giver.now c.args.taker.now) (at c)
 
 pub returns-clause-place : goal.returns-clause-place
 returns-clause-place c =
@@ -17,14 +21,19 @@ returns-clause-place c =
     sym ((readied w).places c.args.giver.now c.args.taker.now c.in-Some.place (at w))
 
 pub returns-clause-same : goal.returns-clause-same
-returns-clause-same c = λ l are. readied_follows c.args.house.now l c.args.terms.now are c.ready_at.new.self c.args.giver.now c.args.taker.now (readied (goal.at.returns-clause-same c).After-ready_at)
+returns-clause-same c = λ l are.
+    readied_follows c.args.house.now l c.args.terms.now are c.ready_at.new.self c.args.giver.now c.args.taker.now
+    (readied (goal.at.returns-clause-same c).After-ready_at)
 
 pub returns-in_err-ready_at-clause-same : goal.returns-in_err-ready_at-clause-same
 returns-in_err-ready_at-clause-same c =
-    λ l are. readied_follows c.args.house.now l c.args.terms.now are c.ready_at.new.self c.args.giver.now c.args.taker.now (readied (goal.at.returns-in_err-ready_at-clause-same c).After-ready_at)
+    λ l are.
+    readied_follows c.args.house.now l c.args.terms.now are c.ready_at.new.self c.args.giver.now c.args.taker.now
+    (readied (goal.at.returns-in_err-ready_at-clause-same c).After-ready_at)
 
 pub returns-clause-last : goal.returns-clause-last
-returns-clause-last c = ap last_of (readied (goal.at.returns-clause-last c).After-ready_at).entries
+returns-clause-last c = rw (readied (goal.at.returns-clause-last c).After-ready_at).entries refl
 
 pub returns-in_err-ready_at-clause-last : goal.returns-in_err-ready_at-clause-last
-returns-in_err-ready_at-clause-last c = ap last_of (readied (goal.at.returns-in_err-ready_at-clause-last c).After-ready_at).entries
+returns-in_err-ready_at-clause-last c =
+    rw (readied (goal.at.returns-in_err-ready_at-clause-last c).After-ready_at).entries refl

@@ -1,0 +1,204 @@
+-- What is kept of the live changes follows them: behind a growth, with one change more, and with one less.
+use Rattle.std.proofs.Common.{◌≡◌, ℕ, ◌+◌, ◌<◌, ◌≤◌, true, false, List, [], ◌∷◌, ◌++◌, subst, sym, refl, arith}
+use Rattle.std.proofs.Common.{Option, None, Some, IfSome, IsSome, option_and_then, ap, ◌∙◌}
+use Rattle.gu_depend.proofs.Vocabulary.{House, Record, Command, Trade, Claim, Deed, EntryPart, charge_of, deed_of}
+use Rattle.gu_depend.proofs.Vocabulary.{node_of, without}
+use Rattle.gu_book.proofs.Vocabulary.{AreFeesOf, ArePositionsOf, AreTermsOf, CanPut, IsGroveOf, IsNext, IsOfTerms}
+use Rattle.gu_book.proofs.Vocabulary.{IsPut, IsSmallDeed, AreTreesOf, Holding, IsNamedBy, IsTakenOut, TermsView}
+use Rattle.gu_book.proofs.Vocabulary.{holding_of, is_of_trees, last_entry, last_place, named_node, pair_of, place_in}
+use Rattle.gu_book.proofs.Vocabulary.{record_of}
+use Rattle.gu_fees.specs.Terms.{IsReady}
+use Rattle.gu_book.specs.{LiveState.{Becomes, CanAdd, CanFollow, CanGo, IsStateOf}, Found.LiesThere}
+use Rattle.gu_book.specs.{declared.found.Named.Named}
+use Rattle.gu_book.specs.declared.live_state.{Addition.Addition, LiveState.LiveState}
+use Rattle.gu_book.proofs.{Charging.fees_stay, Dealing.deed_small, Refused.accepted_small}
+use Rattle.gu_book.proofs.{TermsKept.{can_put, dealt_apart, dealt_put, terms_filed}}
+use Rattle.gu_book.proofs.{TradesKept.{MayFollow, idle_stands, idle_terms}}
+use Rattle.gu_book.proofs.Vocabulary.{HasRoomBack, HaveMoved, HaveThere, PositionRows, SameLots, added_by, comes_from}
+use Rattle.gu_book.proofs.Vocabulary.{goes_back, held_above, lots_in, taken_before, taken_by}
+use Rattle.gu_book.proofs.HoldingRows.{first_there}
+use Rattle.gu_book.proofs.Undoing.{GoesBack, added_there, moves_back, positions_without, room_back, taken_same}
+use Rattle.gu_book.specs.Kinds.{is_claim}
+use Rattle.gu_book.proofs.{AllShown.undone_of_terms, Orders.earlier, PartsAway.holds_some, TradesKept.TakesWhole}
+use Rattle.gu_book.proofs.TermsKept.{apart_undealt, fees_left, positions_left, terms_undealt, undealt_filed}
+
+module _ {t : House} {l : List Record} {r : Record} {s : LiveState} (can : CanFollow t l r s) where
+  pub next_of : IsNext t l r s.trees
+  next_of = record {
+    filed = can.state.filed;
+    later = can.state.placed;
+    replayed = can.list.replayed;
+    lawful = can.lawful;
+    rises = can.rises;
+  }
+
+  pub may_of : MayFollow t l r s.trees s.positions
+  may_of = record { next = next_of; few = can.list.few; within = can.list.within; stands = can.state.stands }
+
+  -- no entry of a giver and a taker has so high a number
+  pub above : (dealt : TermsView) → last_entry dealt ≡ last_entry s.terms → last_entry dealt < r.number
+  above dealt last = let before = can.state.dealt_before in omega (arith, last, before)
+
+  -- one change more
+  pub state_more : (new : LiveState) → IsGroveOf (l ++ r ∷ []) new.trees → last_place new.trees ≤ r.number
+      → AreFeesOf t (l ++ r ∷ []) new.fees → ArePositionsOf (l ++ r ∷ []) new.positions
+      → AreTermsOf t (l ++ r ∷ []) new.terms → last_entry new.terms ≤ r.number
+      → IsStateOf t (l ++ r ∷ []) (r.number + 1) new
+  state_more new filed placed charged stands dealt last = record {
+    filed = filed;
+    charged = charged;
+    stands = stands;
+    dealt = dealt;
+    placed = omega (arith, placed);
+    dealt_before = omega (arith, last);
+  }
+
+  -- that costs nothing and deals for nobody
+  pub state_apart : (new : LiveState) → new.fees ≡ s.fees → new.terms ≡ s.terms → IsGroveOf (l ++ r ∷ []) new.trees
+      → last_place new.trees ≤ r.number → None ≡ charge_of t l r.command → ArePositionsOf (l ++ r ∷ []) new.positions
+      → pair_of l r.firm r.command ≡ None → IsStateOf t (l ++ r ∷ []) (r.number + 1) new
+  state_apart new paid deals filed placed costs stands none =
+      state_more new filed placed (rw paid (fees_stay next_of s.fees can.state.charged costs)) stands
+      (rw deals (dealt_apart next_of s.terms can.state.dealt none))
+      (let before = can.state.dealt_before in rw deals (omega (arith, before)))
+
+  -- an Agree or a Raise, by what it does to the terms of its giver and taker
+  module _ (of : IsOfTerms r.command) (giver taker : List ℕ) (d : Deed)
+      (deals : deed_of l giver taker r.firm r.command ≡ Some d) (ready : TermsView) (are : AreTermsOf t l ready)
+      (last : last_entry ready ≡ last_entry s.terms) where
+    pub may_deal : IsReady ready giver taker → CanPut ready giver taker (record { number = r.number; deed = d })
+    may_deal room =
+        let within = accepted_small t l r.firm r.command can.lawful in
+        let small =
+        subst (λ o. IfSome o IsSmallDeed) deals (deed_small l giver taker r.firm r.command can.list.within within) in
+        can_put can.list.few can.list.within are giver taker d small r.number (above ready last) room
+
+    pub state_dealt : (dealt : TermsView) → IsPut ready dealt giver taker (record { number = r.number; deed = d })
+        → IsStateOf t (l ++ r ∷ []) (r.number + 1) (record s { terms = dealt })
+    state_dealt dealt put =
+        let idle = idle_terms t l r.firm r.command of in
+        let placed = can.state.placed in
+        state_more (record s { terms = dealt }) (terms_filed next_of of) (omega (arith, placed))
+        (fees_stay next_of s.fees can.state.charged idle.costs) (idle_stands may_of idle)
+        (dealt_put next_of ready dealt giver taker d are deals put) (let put_last = put.last in omega (arith, put_last))
+
+-- ---- the node of a change that is to be added
+
+module _ {add : Addition} {s : LiveState} (can : CanAdd add s) (m : Named) (is : add.sought.now.named ≡ Some m)
+    (n : EntryPart) (names : named_node add.made.now.command.now ≡ Some n) where
+  named_by : IsNamedBy add.changes n (Some m)
+  named_by = rw (names, is) at can.named
+
+  lies : LiesThere add.changes (Some m) add.sought.now.path.items
+  lies = rw is at can.there
+
+  -- lots stand there
+  pub whole_there : IsSome (holding_of add.changes m.node)
+  whole_there =
+      holds_some can.follows.state.filed (earlier 1 add.changes (record_of add.made.now) can.follows.rises).0 named_by.2
+      (lies s.trees can.follows.state.filed)
+
+  pub takes_whole : (whole : Holding) → Some whole ≡ holding_of add.changes m.node
+      → TakesWhole add.house.now add.changes (record_of add.made.now) s.trees s.positions n m.node whole
+  takes_whole whole holds = record { may = may_of can.follows; there = named_by.0; holds = holds }
+
+-- ---- one change less
+
+-- a Claim alone costs something
+uncharged : (t : House) (l : List Record) (c : Command) → is_claim c ≡ false → None ≡ charge_of t l c
+uncharged t l (Claim _ _) other = absurd (cc)
+uncharged t l _ other = refl
+
+module _ {t : House} {l : List Record} {r : Record} {s : LiveState} (can : CanGo t l r s) where
+  pub trees_of : AreTreesOf l s.trees
+  trees_of = record { house = t; filed = can.free.filed; replayed = can.list.replayed; rises = can.free.rises }
+
+  -- an Agree or a Raise
+  pub terms_gone : place_in l r.number ≡ None → (dealt : TermsView) → IsTakenOut s.terms dealt r.number
+      → Becomes t l (without l r.number) s (record s { terms = dealt })
+  terms_gone none dealt taken next is =
+      let of = undone_of_terms can.free can.change none in
+      let idle = idle_terms t (without l r.number) r.firm r.command of in
+      record {
+        filed = undealt_filed can.free of;
+        charged = fees_left can.free idle.costs s.fees is.charged;
+        stands = positions_left can.free idle s.positions is.stands;
+        dealt = terms_undealt can.free s.terms dealt is.dealt of taken;
+        placed = is.placed;
+        dealt_before = let before = is.dealt_before in let last = taken.last in omega (arith, before, last);
+      }
+
+  -- a change of trees that is no Claim costs nothing and deals for nobody
+  pub apart_gone : (new : LiveState) → new.fees ≡ s.fees → new.terms ≡ s.terms → is_of_trees r.command ≡ true
+      → is_claim r.command ≡ false → IsGroveOf (without l r.number) new.trees
+      → last_place new.trees ≡ last_place s.trees
+      → (ArePositionsOf l s.positions → ArePositionsOf (without l r.number) new.positions)
+      → Becomes t l (without l r.number) s new
+  apart_gone new paid deals of_trees other filed last stands next is =
+      let placed = is.placed in
+      let before = is.dealt_before in
+      record {
+        filed = filed;
+        charged = rw paid (fees_left can.free (uncharged t (without l r.number) r.command other) s.fees is.charged);
+        stands = stands is.stands;
+        dealt = rw deals (apart_undealt can.free s.terms is.dealt of_trees other);
+        placed = omega (arith, placed, last);
+        dealt_before = rw deals before;
+      }
+
+  -- what it took, where it stands; `back` is what goes back of that
+  module _ (back : Option Holding) (goes : back ≡ goes_back r.firm r.command (taken_before l r.command))
+      (ready : PositionRows) (same : SameLots s.positions ready) where
+    moves : GoesBack r.firm r.command (taken_before l r.command)
+    moves = moves_back can.free (taken_before l r.command) (taken_same can.free)
+
+    -- it is there
+    pub back_there : HaveThere ready (comes_from r.firm r.command back)
+    back_there =
+        subst (λ (o : Option Holding). HaveThere ready (comes_from r.firm r.command o)) (sym goes)
+        (moves.there ready
+        (added_there can.free s.positions ready can.state.stands same (taken_before l r.command) (taken_same can.free)))
+
+    -- has room where it goes
+    pub back_room : HasRoomBack ready back (comes_from r.firm r.command back)
+    back_room =
+        subst (λ (o : Option Holding). HasRoomBack ready o (comes_from r.firm r.command o)) (sym goes)
+        (moves.room ready
+        (room_back can.free can.list.few can.list.within s.positions ready can.state.stands same
+        (taken_before l r.command) (taken_same can.free)))
+
+    -- and when it is back, the positions are those without it
+    pub back_stands : (new : PositionRows) → HaveMoved new ready back (comes_from r.firm r.command back)
+        → ArePositionsOf l s.positions → ArePositionsOf (without l r.number) new
+    back_stands new moved are =
+        let whole = subst (λ (o : Option Holding). HaveMoved new ready o (comes_from r.firm r.command o)) goes moved in
+        positions_without can.free s.positions ready new are same (taken_before l r.command) (taken_same can.free)
+        (moves.moved ready new whole)
+
+  -- of a Claim, what stands where the node above does
+  pub claim_goes_back : (n : EntryPart) (account : List ℕ) → r.command ≡ Claim n account → {back : Option Holding}
+      → back ≡ option_and_then (held_above l) (node_of l n)
+      → back ≡ goes_back r.firm r.command (taken_before l r.command)
+  claim_goes_back n account claims is = is ∙ sym (ap (λ c. goes_back r.firm c (taken_before l c)) claims)
+
+  -- a Trade's lots are in its account, and go from there
+  module _ (traded : Holding)
+      (trades : r.command ≡ Trade traded.key.firm traded.key.account traded.key.instrument traded.side traded.lots)
+    where
+      adds : added_by r.firm r.command None ≡ traded ∷ []
+      adds = ap (λ c. added_by r.firm c None) trades
+
+      takes : None ≡ taken_by (without l r.number) r.command
+      takes = sym (ap (taken_by (without l r.number)) trades)
+
+      pub trade_there : traded.lots ≤ lots_in s.positions traded.key traded.side
+      trade_there =
+          first_there s.positions traded []
+          (subst (HaveThere s.positions) adds
+          (added_there can.free s.positions s.positions can.state.stands (λ at side. refl) None takes))
+
+      pub trade_gone : (new : PositionRows) → HaveMoved new s.positions None (traded ∷ [])
+          → ArePositionsOf l s.positions → ArePositionsOf (without l r.number) new
+      trade_gone new taken are =
+          positions_without can.free s.positions s.positions new are (λ at side. refl) None takes
+          (subst (λ (hs : List Holding). HaveMoved new s.positions None hs) (sym adds) taken)

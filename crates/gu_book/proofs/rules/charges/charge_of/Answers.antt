@@ -1,5 +1,0 @@
-use Rattle.gu_book.proofs.Within.{node_within}
-use Rattle.gu_book.proofs.rules.charges.charge_of.Goals as goal
-
-pub node_charge-requires-clause-few : goal.node_charge-requires-clause-few
-node_charge-requires-clause-few c = let small = node_within c.args.changes.now c.in-Claim.node c.requires.within in rw (← c.in-Some.ensures) at small
