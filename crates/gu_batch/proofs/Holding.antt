@@ -1,6 +1,6 @@
 -- Frames taken from bytes that are held while more may come.
-use Rattle.std.proofs.Common.{◌≡◌, ℕ, ◌+◌, ◌<◌, ◌≤◌, ◌^◌, inl, inr, List, [], ◌++◌, length, drop, Option, Some, None, Result, Ok, Err, refl, sym, subst, append_assoc}
-use Rattle.std.proofs.Common.{append-nil, arith, length-drop}
+use Rattle.std.proofs.Common.{◌≡◌, ℕ, ◌+◌, ◌<◌, ◌≤◌, ◌^◌, inl, inr, List, [], ◌++◌, length, drop, Option, Some, None}
+use Rattle.std.proofs.Common.{Result, Ok, Err, refl, sym, subst, append_assoc, append-nil, arith, length-drop}
 use Rattle.std.specs.Prelude.{option_map}
 use Rattle.std.proofs.lemmas.Bool.{cases_Bool}
 use Rattle.std.proofs.lemmas.List.{drop-append-le}
@@ -18,7 +18,8 @@ use Rattle.gu_message.specs.Meaning.{meaning_of}
 use Rattle.gu_message.specs.declared.fault.Reject.{Reject}
 use Rattle.gu_message.specs.declared.inbound.Inbound.{Inbound}
 use Rattle.gu_message.specs.declared.inbound.Inbound.TheVariants as inbound
-use Rattle.gu_batch.specs.Output.{Progress, progress_by, answers_to, answers_to_body, progress_after, progress_behind, Answers, Plays}
+use Rattle.gu_batch.specs.Output.{Progress, progress_by, answers_to, answers_to_body, progress_after, progress_behind}
+use Rattle.gu_batch.specs.Output.{Answers, Plays}
 use Rattle.gu_batch.specs.Held.{LeadsTo}
 use Rattle.gu_batch.proofs.Outputs.{step_good, step_garbled, play_good, play_garbled}
 
@@ -42,7 +43,8 @@ after_written p m = by_meaning (meaning_of p.house.house m)
 pub answer_of : (f h : Stream) (r q : Option Frame) → f.broken ≡ None → NextAnswers f (option_map settled r)
     → h ≡ next_after f r → r ≡ q → NextOf None f (option_map settled q) × (h ≡ next_after f q)
 answer_of f h r q e a k w = (
-  subst (λ (o : Option Frame). NextOf None f (option_map settled o)) w (subst (λ (b : Option ℕ). NextOf b f (option_map settled r)) e a),
+  subst (λ (o : Option Frame). NextOf None f (option_map settled o)) w
+      (subst (λ (b : Option ℕ). NextOf b f (option_map settled r)) e a),
   subst (λ (o : Option Frame). h ≡ next_after f o) w k,
 )
 
@@ -58,18 +60,23 @@ leads_good p q f g h out fields len l a e =
       counted = λ k. omega (arith, l.counted k, after_written q (pairs fields), frame_len g.held a.0 len a.1);
       goes = λ later end more k.
           let on : Answers (progress_after q (pairs fields)) (g.passed + len) (drop len (g.held ++ later)) end more =
-          subst (λ (b : List ℕ). Answers (progress_after q (pairs fields)) (g.passed + len) b end more) (sym (drop-append-le len g.held later a.1.within)) k in
+          subst (λ (b : List ℕ). Answers (progress_after q (pairs fields)) (g.passed + len) b end more)
+          (sym (drop-append-le len g.held later a.1.within)) k in
           let one = l.goes later end (stream_text (answers_to q (pairs fields)) ++ more)
-          (step_good q g.passed (g.held ++ later) (pairs fields) len end more (begins_stays g.held later (record { fields = Some (pairs fields); len = len }) seen) on) in
-          subst (Answers p f.passed (f.held ++ later) end) (sym (append_assoc out (stream_text (answers_to q (pairs fields))) more)) one;
+          (step_good q g.passed (g.held ++ later) (pairs fields) len end more
+          (begins_stays g.held later (record { fields = Some (pairs fields); len = len }) seen) on) in
+          subst (Answers p f.passed (f.held ++ later) end)
+          (sym (append_assoc out (stream_text (answers_to q (pairs fields))) more)) one;
       plays = λ later end behind k.
           l.plays later end behind
-          (play_good q behind g.passed (g.held ++ later) (pairs fields) len end (begins_stays g.held later (record { fields = Some (pairs fields); len = len }) seen)
-          (subst (λ (b : List ℕ). Plays (progress_after q (pairs fields)) (g.passed + len) b end behind) (sym (drop-append-le len g.held later a.1.within)) k));
+          (play_good q behind g.passed (g.held ++ later) (pairs fields) len end
+          (begins_stays g.held later (record { fields = Some (pairs fields); len = len }) seen)
+          (subst (λ (b : List ℕ). Plays (progress_after q (pairs fields)) (g.passed + len) b end behind)
+          (sym (drop-append-le len g.held later a.1.within)) k));
     })
 
-pub leads_garbled : (p q : Progress) (f g h : Stream) (out : List ℕ) (len : ℕ)
-    → LeadsTo p f q g out → NextOf None g (Some (Garbled len)) → h ≡ next_after g (Some (Garbled len)) → LeadsTo p f q h out
+pub leads_garbled : (p q : Progress) (f g h : Stream) (out : List ℕ) (len : ℕ) → LeadsTo p f q g out
+    → NextOf None g (Some (Garbled len)) → h ≡ next_after g (Some (Garbled len)) → LeadsTo p f q h out
 leads_garbled p q f g h out len l a e =
     let seen : Begins g.held (record { fields = None; len = len }) = a in
     rw e (record {
@@ -77,42 +84,62 @@ leads_garbled p q f g h out len l a e =
       same = omega (arith, l.same, a.1.within, length-drop len g.held);
       counted = λ k. omega (arith, l.counted k);
       goes = λ later end more k.
-          l.goes later end more (step_garbled q g.passed (g.held ++ later) len end more (begins_stays g.held later (record { fields = None; len = len }) seen)
-          (subst (λ (b : List ℕ). Answers q (g.passed + len) b end more) (sym (drop-append-le len g.held later a.1.within)) k));
+          l.goes later end more
+          (step_garbled q g.passed (g.held ++ later) len end more
+          (begins_stays g.held later (record { fields = None; len = len }) seen)
+          (subst (λ (b : List ℕ). Answers q (g.passed + len) b end more)
+          (sym (drop-append-le len g.held later a.1.within)) k));
       plays = λ later end behind k.
-          l.plays later end behind (play_garbled q behind g.passed (g.held ++ later) len end (begins_stays g.held later (record { fields = None; len = len }) seen)
-          (subst (λ (b : List ℕ). Plays q (g.passed + len) b end behind) (sym (drop-append-le len g.held later a.1.within)) k));
+          l.plays later end behind
+          (play_garbled q behind g.passed (g.held ++ later) len end
+          (begins_stays g.held later (record { fields = None; len = len }) seen)
+          (subst (λ (b : List ℕ). Plays q (g.passed + len) b end behind)
+          (sym (drop-append-le len g.held later a.1.within)) k));
     })
 
 -- a frame whose body wasn't looked at
-pub leads_sealed : (p q : Progress) (f g h : Stream) (out : List ℕ) (fields : Fields) (len : ℕ)
-    → LeadsTo p f q g out → NextOf None g (Some (settled (Whole fields len))) → h ≡ next_after g (Some (Whole fields len))
+pub leads_sealed : (p q : Progress) (f g h : Stream) (out : List ℕ) (fields : Fields) (len : ℕ) → LeadsTo p f q g out
+    → NextOf None g (Some (settled (Whole fields len))) → h ≡ next_after g (Some (Whole fields len))
     → LeadsTo p f (progress_behind q fields) h (out ++ stream_text (answers_to_body q fields))
 leads_sealed p q f g h out fields len l a e = elim (cases_Bool (are_fields fields.rest.now)) [
-  | inl y ↦ let good : NextOf None g (Some (Whole fields len)) = rw y at a in rw y (leads_good p q f g h out fields len l good e)
+  | inl y ↦
+      let good : NextOf None g (Some (Whole fields len)) = rw y at a in
+      rw y (leads_good p q f g h out fields len l good e)
   | inr n ↦
       let garbled : NextOf None g (Some (Garbled len)) = rw n at a in
       rw n (subst (LeadsTo p f q h) (sym (append-nil out)) (leads_garbled p q f g h out len l garbled e))
 ]
 
 -- and how long it is
-pub sealed_len : (g : Stream) (fields : Fields) (len : ℕ) → NextOf None g (Some (settled (Whole fields len))) → (0 < len) × (len ≤ length g.held)
+pub sealed_len : (g : Stream) (fields : Fields) (len : ℕ) → NextOf None g (Some (settled (Whole fields len)))
+    → (0 < len) × (len ≤ length g.held)
 sealed_len g fields len a = elim (cases_Bool (are_fields fields.rest.now)) [
-  | inl y ↦ let good : NextOf None g (Some (Whole fields len)) = rw y at a in let l = frame_len g.held good.0 len good.1 in (omega (arith, l), good.1.within)
-  | inr n ↦ let garbled : NextOf None g (Some (Garbled len)) = rw n at a in let l = frame_len g.held garbled.0 len garbled.1 in (omega (arith, l), garbled.1.within)
+  | inl y ↦
+      let good : NextOf None g (Some (Whole fields len)) = rw y at a in
+      let l = frame_len g.held good.0 len good.1 in
+      (omega (arith, l), good.1.within)
+  | inr n ↦
+      let garbled : NextOf None g (Some (Garbled len)) = rw n at a in
+      let l = frame_len g.held garbled.0 len garbled.1 in
+      (omega (arith, l), garbled.1.within)
 ]
 
-pub leads_to : (p q : Progress) (f g : Stream) (out later : List ℕ) (end : Option End) → LeadsTo p f q g out → Ends g.passed (g.held ++ later) end
-    → Answers p f.passed (f.held ++ later) end out
-leads_to p q f g out later end l h = subst (Answers p f.passed (f.held ++ later) end) (append-nil out) (l.goes later end [] ([], h, refl))
+pub leads_to : (p q : Progress) (f g : Stream) (out later : List ℕ) (end : Option End) → LeadsTo p f q g out
+    → Ends g.passed (g.held ++ later) end → Answers p f.passed (f.held ++ later) end out
+leads_to p q f g out later end l h =
+    subst (Answers p f.passed (f.held ++ later) end) (append-nil out) (l.goes later end [] ([], h, refl))
 
-pub leads_broken : (p q : Progress) (f g : Stream) (out : List ℕ) (at : ℕ) → LeadsTo p f q g out → NextOf None g (Some (Broken at))
-    → (later : List ℕ) → Answers p f.passed (f.held ++ later) (Some (BrokenAt at)) out
-leads_broken p q f g out at l a later = leads_to p q f g out later (Some (BrokenAt at)) l (a.0, a.1, broken_stays g.held later a.0 a.2)
+pub leads_broken : (p q : Progress) (f g : Stream) (out : List ℕ) (at : ℕ) → LeadsTo p f q g out
+    → NextOf None g (Some (Broken at)) → (later : List ℕ)
+    → Answers p f.passed (f.held ++ later) (Some (BrokenAt at)) out
+leads_broken p q f g out at l a later =
+    leads_to p q f g out later (Some (BrokenAt at)) l (a.0, a.1, broken_stays g.held later a.0 a.2)
 
-pub leads_begun : (p q : Progress) (f g : Stream) (out : List ℕ) → LeadsTo p f q g out → (later : List ℕ) → Answers p f.passed (f.held ++ later) None out
+pub leads_begun : (p q : Progress) (f g : Stream) (out : List ℕ) → LeadsTo p f q g out → (later : List ℕ)
+    → Answers p f.passed (f.held ++ later) None out
 leads_begun p q f g out l later = leads_to p q f g out later None l tt
 
 -- there is a number for one message more
-pub may_count : (p q : Progress) (f g : Stream) (out : List ℕ) → LeadsTo p f q g out → p.written ≤ f.passed → f.passed + length f.held < 2 ^ 63 → q.written + 1 < 2 ^ 64
+pub may_count : (p q : Progress) (f g : Stream) (out : List ℕ) → LeadsTo p f q g out → p.written ≤ f.passed
+    → f.passed + length f.held < 2 ^ 63 → q.written + 1 < 2 ^ 64
 may_count p q f g out l counted short = let c = l.counted counted in let e = l.same in omega (arith, c, e, short)

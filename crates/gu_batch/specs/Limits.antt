@@ -1,4 +1,5 @@
--- How much a batch reads. The code has constants of its own, and what is proved of it fails where one of them differs from these.
+-- How much a batch reads. The code has constants of its own, and what is proved of it fails where
+-- one of them differs from these.
 use Rattle.std.specs.Prelude.{ℕ}
 
 -- the reads of a batch

@@ -1,5 +1,6 @@
 -- What a batch does to its reader and its writer.
-use Rattle.std.specs.Prelude.{◌≡◌, ◌≢◌, ℕ, ◌+◌, ◌^◌, ◌<◌, ◌≤◌, ◌⊎◌, List, [], ◌++◌, length, take, Option, None, Result, Ok, Err, IfOk}
+use Rattle.std.specs.Prelude.{◌≡◌, ◌≢◌, ℕ, ◌+◌, ◌^◌, ◌<◌, ◌≤◌, ◌⊎◌, List, [], ◌++◌, length, take}
+use Rattle.std.specs.Prelude.{Option, None, Result, Ok, Err, IfOk}
 use Rattle.std.specs.Io.KnownBytes.{Consumes, Appends, IsAtEnd}
 use Rattle.gu_codec.specs.Grammar.{IsFront}
 use Rattle.gu_codec.specs.Stream.{Stream}
@@ -29,19 +30,29 @@ pub record Told : Type 0 where
 
 -- these bytes were read and this text was written, which is right for this error
 abbrev pub IsRightFor : House → Told → Told → List ℕ → List ℕ → RunError → Type 0
-IsRightFor house old new bytes out (error.Broken at) = (end_of bytes ≡ Broken at) × (out ≡ output_of house bytes)
-IsRightFor house old new bytes out (error.Truncated at) = IsAtEnd new.left × (end_of bytes ≡ Truncated at) × (out ≡ output_of house bytes)
-IsRightFor house old new bytes out error.Read = (Fails old.reads_failed new.reads_failed ⊎ IsAtLimit old.made new.made) × (out ≡ output_of house bytes)
-IsRightFor house old new bytes out error.Write = Fails old.writes_failed new.writes_failed × (rest : List ℕ) × (output_of house bytes ≡ out ++ rest)
-IsRightFor house old new bytes out error.Memory = (n : ℕ) × (out ≡ texts (start house) (take n (messages_of bytes)))
+IsRightFor house old new bytes out (error.Broken at) =
+    (end_of bytes ≡ Broken at) × (out ≡ output_of house bytes)
+IsRightFor house old new bytes out (error.Truncated at) =
+    IsAtEnd new.left × (end_of bytes ≡ Truncated at) × (out ≡ output_of house bytes)
+IsRightFor house old new bytes out error.Read =
+    (Fails old.reads_failed new.reads_failed ⊎ IsAtLimit old.made new.made)
+    × (out ≡ output_of house bytes)
+IsRightFor house old new bytes out error.Write =
+    Fails old.writes_failed new.writes_failed × (rest : List ℕ)
+    × (output_of house bytes ≡ out ++ rest)
+IsRightFor house old new bytes out error.Memory =
+    (n : ℕ) × (out ≡ texts (start house) (take n (messages_of bytes)))
 IsRightFor house old new bytes out (error.NoLiveTrade trade) = ⊥
 
-abbrev pub IsRight : {A : Type 0} → House → Told → Told → List ℕ → List ℕ → Result A RunError → Type 0
-IsRight house old new bytes out (Ok x) = IsAtEnd new.left × (end_of bytes ≡ Clean) × (out ≡ output_of house bytes)
+abbrev pub IsRight : {A : Type 0} → House → Told → Told → List ℕ → List ℕ → Result A RunError
+    → Type 0
+IsRight house old new bytes out (Ok x) =
+    IsAtEnd new.left × (end_of bytes ≡ Clean) × (out ≡ output_of house bytes)
 IsRight house old new bytes out (Err e) = IsRightFor house old new bytes out e
 
 -- the bytes that were read, and the text that was written
-pub record Runs {A : Type 0} (house : House) (old new : Told) (result : Result A RunError) : Type 0 where
+pub record Runs {A : Type 0} (house : House) (old new : Told) (result : Result A RunError)
+    : Type 0 where
   pub bytes : List ℕ
   pub out : List ℕ
   pub consumed : Consumes old.left new.left bytes
@@ -49,7 +60,8 @@ pub record Runs {A : Type 0} (house : House) (old new : Told) (result : Result A
   pub right : IsRight house old new bytes out result
 
 -- the same, and how far it came
-pub record RunsTo (house : House) (old new : Told) (result : Result Progress RunError) : Type 0 where
+pub record RunsTo (house : House) (old new : Told) (result : Result Progress RunError)
+    : Type 0 where
   pub bytes : List ℕ
   pub out : List ℕ
   pub consumed : Consumes old.left new.left bytes
@@ -71,7 +83,8 @@ CameAs piece left old new came.End = (piece ≡ []) × IsAtEnd left × (old ≡ 
 CameAs piece left old new came.Fault = (piece ≡ []) × Fails old new
 
 -- one read into the feed
-pub record Fills (old new : Option (List ℕ)) (failed_before failed : ℕ) (feed_before feed : Stream) (result : Came) : Type 0 where
+pub record Fills (old new : Option (List ℕ)) (failed_before failed : ℕ) (feed_before feed : Stream)
+    (result : Came) : Type 0 where
   pub piece : List ℕ
   pub few : length piece ≤ longest_read
   pub consumed : Consumes old new piece
@@ -83,19 +96,24 @@ pub record Fills (old new : Option (List ℕ)) (failed_before failed : ℕ) (fee
 
 -- a fault of the frames held, or of the writer, which has taken a front of the text
 abbrev pub PieceFails : Progress → Stream → List ℕ → ℕ → ℕ → RunError → Type 0
-PieceFails p f out old new error.Write = Fails old new × (rest : List ℕ) × ((later : List ℕ) → Answers p f.passed (f.held ++ later) None (out ++ rest))
+PieceFails p f out old new error.Write =
+    Fails old new × (rest : List ℕ)
+    × ((later : List ℕ) → Answers p f.passed (f.held ++ later) None (out ++ rest))
 PieceFails p f out old new (error.Broken at) = HeldFails p f out (error.Broken at)
 PieceFails p f out old new error.Memory = HeldFails p f out error.Memory
 PieceFails p f out old new (error.Truncated at) = ⊥
 PieceFails p f out old new error.Read = ⊥
 PieceFails p f out old new (error.NoLiveTrade trade) = ⊥
 
-abbrev pub PieceRight : {A : Type 0} → Progress → Stream → Progress → Stream → List ℕ → ℕ → ℕ → Result A RunError → Type 0
+abbrev pub PieceRight : {A : Type 0} → Progress → Stream → Progress → Stream → List ℕ → ℕ → ℕ
+    → Result A RunError → Type 0
 PieceRight p f q g out old new (Ok x) = LeadsTo p f q g out × IsFront g.held
 PieceRight p f q g out old new (Err e) = PieceFails p f out old new e
 
 -- the frames held were answered, and the answers written
-pub record Answered {A : Type 0} (p : Progress) (f : Stream) (q : Progress) (g : Stream) (old new : Option (List ℕ)) (failed_before failed : ℕ) (result : Result A RunError) : Type 0 where
+pub record Answered {A : Type 0} (p : Progress) (f : Stream) (q : Progress) (g : Stream)
+    (old new : Option (List ℕ)) (failed_before failed : ℕ) (result : Result A RunError)
+    : Type 0 where
   pub out : List ℕ
   pub appended : Appends old new out
   pub right : PieceRight p f q g out failed_before failed result

@@ -22,7 +22,8 @@ use gu_parties::House;
 use std::alloc::{AllocError, Global};
 use std::marker::Model;
 
-/// SendingTime (52) of each message that a batch writes, so that its output depends on its input alone.
+/// SendingTime (52) of each message that a batch writes, so that its output depends on its input
+/// alone.
 const BATCH_TIME: &[u8] = b"19700101-00:00:00.000";
 
 /// A firm's call of the book, which has another answer where it came as a trade report.
@@ -38,7 +39,8 @@ impl Call<'_> {
     /// MsgType (35) of the message that answers the call.
     #[inline(always)]
     fn answer_kind(&self) -> &'static [u8]
-        ensures kind { (a : AnswerData) → result.now ≡ (answer_reply self.now.firm.now self.now.trade self.now.id.now a).kind }
+        ensures kind { (a : AnswerData)
+            → result.now ≡ (answer_reply self.now.firm.now self.now.trade self.now.id.now a).kind }
         ensures text { IsText result.now }
     {
         if self.trade {
@@ -51,7 +53,9 @@ impl Call<'_> {
     /// How many bytes the body of that message has, 256 at most.
     #[inline(always)]
     fn answer_len(&self, answer: &Answer) -> usize
-        ensures exact { result ≡ length (fields_text (answer_reply self.now.firm.now self.now.trade self.now.id.now answer.now).fields) }
+        ensures exact { result
+            ≡ length (fields_text
+            (answer_reply self.now.firm.now self.now.trade self.now.id.now answer.now).fields) }
         ensures few { result ≤ 256 }
     {
         if self.trade {
@@ -64,9 +68,17 @@ impl Call<'_> {
     /// Puts that body at a place among bytes. Tells where it ends.
     #[inline(always)]
     fn put_answer(&self, bytes: &mut [u8], at: usize, answer: &Answer) -> usize
-        requires { at + length (fields_text (answer_reply self.now.firm.now self.now.trade self.now.id.now answer.now).fields) ≤ length bytes.old }
-        ensures text { take result bytes.new ≡ take at bytes.old ++ fields_text (answer_reply self.now.firm.now self.now.trade self.now.id.now answer.now).fields }
-        ensures end { result ≡ at + length (fields_text (answer_reply self.now.firm.now self.now.trade self.now.id.now answer.now).fields) }
+        requires { at + length
+            (fields_text
+            (answer_reply self.now.firm.now self.now.trade self.now.id.now answer.now).fields)
+            ≤ length bytes.old }
+        ensures text { take result bytes.new
+            ≡ take at bytes.old
+            ++ fields_text
+            (answer_reply self.now.firm.now self.now.trade self.now.id.now answer.now).fields }
+        ensures end { result
+            ≡ at + length (fields_text
+            (answer_reply self.now.firm.now self.now.trade self.now.id.now answer.now).fields) }
         ensures len { length bytes.new ≡ length bytes.old }
     {
         if self.trade {
@@ -77,7 +89,8 @@ impl Call<'_> {
     }
 }
 
-/// Room that is taken anew for each message and kept between them, so that memory is asked for only where more is needed than ever before.
+/// Room that is taken anew for each message and kept between them, so that memory is asked for only
+/// where more is needed than ever before.
 #[derive(Drop)]
 pub(crate) struct Room {
     /// For the body of a Reject.
@@ -111,12 +124,17 @@ impl Model for Answering {
 
     ghost Value = { Progress };
 
-    ghost view = { λ a. record { house = a.book.house; history = a.book.history; written = a.written } };
+    ghost view = { λ a. record {
+      house = a.book.house;
+      history = a.book.history;
+      written = a.written;
+    } };
 }
 
 impl Answering {
     ghost use Rattle.std.specs.Prelude.{IfOk};
-    ghost use Rattle.gu_batch.specs.Output.{start, stamp, call_of, answers_to, answers_to_body, progress_after, progress_behind};
+    ghost use Rattle.gu_batch.specs.Output.{start, stamp, call_of, answers_to, answers_to_body};
+    ghost use Rattle.gu_batch.specs.Output.{progress_after, progress_behind};
 
     /// Nothing answered yet, over the opening book of this house.
     pub(crate) fn open(alloc: Global, house: House) -> Result<Answering, Memory>
@@ -160,8 +178,14 @@ impl Answering {
         requires kind { IsText kind.now }
         requires body { length body.now ≤ longest_body }
         requires counted { self.old.written + 1 < 2 ^ 64 }
-        ensures ok { (fs : Message) → body.now ≡ fields_text fs → OnOk result (out.new.items ≡ out.old.items ++ message_text (message_of (stamp self.old.house.house (self.old.written + 1)) (record { target = target.now; kind = kind.now; fields = fs }))) }
-        ensures after { OnOk result (self.new ≡ record self.old { written = self.old.written + 1 }) }
+        ensures ok { (fs : Message) → body.now ≡ fields_text fs
+            → OnOk result
+            (out.new.items ≡ out.old.items
+            ++ message_text
+            (message_of (stamp self.old.house.house (self.old.written + 1))
+            (record { target = target.now; kind = kind.now; fields = fs }))) }
+        ensures after { OnOk result
+            (self.new ≡ record self.old { written = self.old.written + 1 }) }
         ensures err { OnErr result (out.new.items ≡ out.old.items) }
     {
         let header = Header {
@@ -177,7 +201,8 @@ impl Answering {
         Ok(())
     }
 
-    /// Appends the message that answers a call, with the next number: its body is put where it goes out. An `Err` appends nothing.
+    /// Appends the message that answers a call, with the next number: its body is put where it goes
+    /// out. An `Err` appends nothing.
     #[inline(always)]
     fn send_answer(
         &mut self,
@@ -186,8 +211,13 @@ impl Answering {
         out: &mut Vec<u8>,
     ) -> Result<(), Memory>
         requires { self.old.written + 1 < 2 ^ 64 }
-        ensures ok { OnOk result (out.new.items ≡ out.old.items ++ message_text (message_of (stamp self.old.house.house (self.old.written + 1)) (answer_reply call.now.firm.now call.now.trade call.now.id.now answer.now))) }
-        ensures after { OnOk result (self.new ≡ record self.old { written = self.old.written + 1 }) }
+        ensures ok { OnOk result
+            (out.new.items ≡ out.old.items
+            ++ message_text
+            (message_of (stamp self.old.house.house (self.old.written + 1))
+            (answer_reply call.now.firm.now call.now.trade call.now.id.now answer.now))) }
+        ensures after { OnOk result
+            (self.new ≡ record self.old { written = self.old.written + 1 }) }
         ensures err { OnErr result (out.new.items ≡ out.old.items) }
     {
         let header = Header {
@@ -215,8 +245,21 @@ impl Answering {
         out: &mut Vec<u8>,
     ) -> Result<(), Memory>
         requires { self.old.written + 1 < 2 ^ 64 }
-        ensures ok { let asked = call_of call.now.firm.now call.now.id.now call.now.command.now in OnOk result (out.new.items ≡ out.old.items ++ message_text (message_of (stamp self.old.house.house (self.old.written + 1)) (answer_reply call.now.firm.now call.now.trade call.now.id.now (answer_to self.old.house self.old.history asked)))) }
-        ensures after { let asked = call_of call.now.firm.now call.now.id.now call.now.command.now in OnOk result (self.new ≡ record { house = self.old.house; history = after self.old.house self.old.history asked; written = self.old.written + 1 }) }
+        ensures ok { let asked = call_of call.now.firm.now call.now.id.now call.now.command.now in
+            OnOk result
+            (out.new.items ≡ out.old.items
+            ++ message_text
+            (message_of (stamp self.old.house.house (self.old.written + 1))
+            (answer_reply call.now.firm.now call.now.trade call.now.id.now
+            (answer_to self.old.house self.old.history asked)))) }
+        ensures after { let asked =
+            call_of call.now.firm.now call.now.id.now call.now.command.now in
+            OnOk result
+            (self.new ≡ record {
+              house = self.old.house;
+              history = after self.old.house self.old.history asked;
+              written = self.old.written + 1;
+            }) }
         ensures err { OnErr result (out.new.items ≡ out.old.items) }
     {
         match &self.book.apply(alloc, call.firm, call.id, call.command) {
@@ -250,8 +293,13 @@ impl Answering {
         out: &mut Vec<u8>,
     ) -> Result<(), Memory>
         requires { self.old.written + 1 < 2 ^ 64 }
-        ensures ok { OnOk result (out.new.items ≡ out.old.items ++ message_text (message_of (stamp self.old.house.house (self.old.written + 1)) (reject_reply (pairs fields.entry) fault))) }
-        ensures after { OnOk result (self.new ≡ record self.old { written = self.old.written + 1 }) }
+        ensures ok { OnOk result
+            (out.new.items ≡ out.old.items
+            ++ message_text
+            (message_of (stamp self.old.house.house (self.old.written + 1))
+            (reject_reply (pairs fields.entry) fault))) }
+        ensures after { OnOk result
+            (self.new ≡ record self.old { written = self.old.written + 1 }) }
         ensures err { OnErr result (out.new.items ≡ out.old.items) }
     {
         body.clear();
@@ -259,7 +307,8 @@ impl Answering {
         self.send(out, &reject_target(fields), msg_types::REJECT, body)
     }
 
-    /// Appends the answer to a message that was read into the room's meaning. An `Err` appends nothing.
+    /// Appends the answer to a message that was read into the room's meaning. An `Err` appends
+    /// nothing.
     #[tactic(auto, unfolding(crate::specs::Output::answers_to, crate::specs::Output::progress_after))]
     fn answer_meaning(
         &mut self,
@@ -270,8 +319,11 @@ impl Answering {
         out: &mut Vec<u8>,
     ) -> Result<(), Memory>
         requires counted { self.old.written + 1 < 2 ^ 64 }
-        requires gives { GivesBy IsSplit (λ _. room.old.meaning) read (meaning_of self.old.house.house (pairs fields)) }
-        ensures ok { OnOk result (out.new.items ≡ out.old.items ++ stream_text (answers_to self.old (pairs fields.entry))) }
+        requires gives { GivesBy IsSplit (λ _. room.old.meaning) read
+            (meaning_of self.old.house.house (pairs fields)) }
+        ensures ok { OnOk result
+            (out.new.items ≡ out.old.items
+            ++ stream_text (answers_to self.old (pairs fields.entry))) }
         ensures after { OnOk result (self.new ≡ progress_after self.old (pairs fields.entry)) }
         ensures err { OnErr result (out.new.items ≡ out.old.items) }
     {
@@ -305,8 +357,8 @@ impl Answering {
         }
     }
 
-    /// Appends the answer to a message whose body wasn't looked at: nothing, where that isn't fields to its end. An `Err` appends
-    /// nothing either, and the batch ends with it.
+    /// Appends the answer to a message whose body wasn't looked at: nothing, where that isn't
+    /// fields to its end. An `Err` appends nothing either, and the batch ends with it.
     pub(crate) fn answer(
         &mut self,
         alloc: Global,
@@ -315,7 +367,8 @@ impl Answering {
         out: &mut Vec<u8>,
     ) -> Result<(), Memory>
         requires { self.old.written + 1 < 2 ^ 64 }
-        ensures ok { OnOk result (out.new.items ≡ out.old.items ++ stream_text (answers_to_body self.old fields.entry)) }
+        ensures ok { OnOk result
+            (out.new.items ≡ out.old.items ++ stream_text (answers_to_body self.old fields.entry)) }
         ensures after { OnOk result (self.new ≡ progress_behind self.old fields.entry) }
         ensures err { OnErr result (out.new.items ≡ out.old.items) }
     {

@@ -1,4 +1,5 @@
-//! The batch: bytes in, answers out. What a trace tells is read and answered in the same way (`tracing.rt`).
+//! The batch: bytes in, answers out. What a trace tells is read and answered in the same way
+//! (`tracing.rt`).
 
 ghost use Rattle.std.specs.Prelude.{◌≡◌, ◌+◌, ◌<◌, ◌≤◌, ◌^◌, None, length};
 ghost use Rattle.gu_codec.specs.Limits.{longest_frame, longest_stream};
@@ -56,12 +57,14 @@ pub(crate) enum Came {
     Fault,
 }
 
-/// One read of as much as the feed has room for, by way of this buffer, into the feed. What an earlier read left in the buffer isn't looked at.
+/// One read of as much as the feed has room for, by way of this buffer, into the feed. What an
+/// earlier read left in the buffer isn't looked at.
 fn fill<R: Source>(reader: &mut R, feed: &mut Feed, buf: &mut [u8; LONGEST_READ]) -> Came
     requires unbroken { feed.old.broken ≡ None }
     requires room { length feed.old.held < longest_frame }
     requires short { feed.old.passed + length feed.old.held + longest_read ≤ longest_stream }
-    ensures fills { Fills (R.remaining reader.old) (R.remaining reader.new) (R.failed reader.old) (R.failed reader.new) feed.old feed.new result }
+    ensures fills { Fills (R.remaining reader.old) (R.remaining reader.new) (R.failed reader.old)
+        (R.failed reader.new) feed.old feed.new result }
     ensures made { CountsOne (R.made reader.old) (R.made reader.new) }
 {
     let most = feed.room().min(buf.len());
@@ -93,7 +96,8 @@ fn answer_read<W: Sink>(
     requires unbroken { feed.old.broken ≡ None }
     requires numbered { answering.old.written ≤ feed.old.passed }
     requires short { feed.old.passed + length feed.old.held < 2 ^ 63 }
-    ensures { Answered answering.old feed.old answering.new feed.new (W.contents writer.old) (W.contents writer.new) (W.failed writer.old) (W.failed writer.new) result }
+    ensures { Answered answering.old feed.old answering.new feed.new (W.contents writer.old)
+        (W.contents writer.new) (W.failed writer.old) (W.failed writer.new) result }
 {
     out.clear();
     let answered = answer_frames(alloc, feed, answering, room, out);
@@ -116,7 +120,8 @@ fn end_of(feed: &Feed, total: usize) -> Result<(), RunError>
     }
 }
 
-/// Answers the messages of a stream as they come, over the opening book. Whatever was answered before a fault was written.
+/// Answers the messages of a stream as they come, over the opening book. Whatever was answered
+/// before a fault was written.
 fn answer_reads<R: Source, W: Sink>(
     alloc: Global,
     reader: &mut R,
@@ -125,8 +130,20 @@ fn answer_reads<R: Source, W: Sink>(
 ) -> Result<(), RunError>
     requires fresh { answering.old ≡ start answering.old.house }
     ensures { RunsTo answering.old.house
-        (record { left = R.remaining reader.old; made = R.made reader.old; reads_failed = R.failed reader.old; contents = W.contents writer.old; writes_failed = W.failed writer.old })
-        (record { left = R.remaining reader.new; made = R.made reader.new; reads_failed = R.failed reader.new; contents = W.contents writer.new; writes_failed = W.failed writer.new })
+        (record {
+          left = R.remaining reader.old;
+          made = R.made reader.old;
+          reads_failed = R.failed reader.old;
+          contents = W.contents writer.old;
+          writes_failed = W.failed writer.old;
+        })
+        (record {
+          left = R.remaining reader.new;
+          made = R.made reader.new;
+          reads_failed = R.failed reader.new;
+          contents = W.contents writer.new;
+          writes_failed = W.failed writer.new;
+        })
         (and_progress result answering.new) }
 {
     let Ok(mut feed) = Feed::new(alloc) else {
@@ -153,8 +170,9 @@ fn answer_reads<R: Source, W: Sink>(
     Err(RunError::Read)
 }
 
-/// Answers the messages of a stream as they come, over the opening book of this house, and gives the book behind them. Whatever was answered
-/// before a fault was written. A book that finds no memory for its opening calls is `Memory`: nothing was read then.
+/// Answers the messages of a stream as they come, over the opening book of this house, and gives
+/// the book behind them. Whatever was answered before a fault was written. A book that finds no
+/// memory for its opening calls is `Memory`: nothing was read then.
 pub(crate) fn answer_stream<R: Source, W: Sink>(
     alloc: Global,
     reader: &mut R,
@@ -162,25 +180,41 @@ pub(crate) fn answer_stream<R: Source, W: Sink>(
     house: House,
 ) -> Result<Answering, RunError>
     ensures { RunsTo house
-        (record { left = R.remaining reader.old; made = R.made reader.old; reads_failed = R.failed reader.old; contents = W.contents writer.old; writes_failed = W.failed writer.old })
-        (record { left = R.remaining reader.new; made = R.made reader.new; reads_failed = R.failed reader.new; contents = W.contents writer.new; writes_failed = W.failed writer.new })
+        (record {
+          left = R.remaining reader.old;
+          made = R.made reader.old;
+          reads_failed = R.failed reader.old;
+          contents = W.contents writer.old;
+          writes_failed = W.failed writer.old;
+        })
+        (record {
+          left = R.remaining reader.new;
+          made = R.made reader.new;
+          reads_failed = R.failed reader.new;
+          contents = W.contents writer.new;
+          writes_failed = W.failed writer.new;
+        })
         result }
 {
-    let Ok(opened) = Answering::open(alloc, house) else {
-        return Err(RunError::Memory);
+    let mut answering = match Answering::open(alloc, house) {
+        Ok(opened) => opened,
+        Err(_) => return Err(RunError::Memory),
     };
-    let mut answering = opened;
     match answer_reads(alloc, reader, writer, &mut answering) {
         Ok(()) => Ok(answering),
-        Err(e) => Err(e),
+        Err(e) => {
+            drop(answering);
+            Err(e)
+        }
     }
 }
 
-/// Answers the messages of a stream as they come, over the book behind the opening calls of this house. Whatever was answered before a fault
-/// was written.
+/// Answers the messages of a stream as they come, over the book behind the opening calls of this
+/// house. Whatever was answered before a fault was written.
 ///
-/// Where the stream ended well its book is left as it is, and not taken apart node by node: a process that ran a batch ends behind it, and
-/// the system then takes all its memory back at once. So each call keeps the memory of its book.
+/// Where the stream ended well its book is left as it is, and not taken apart node by node: a
+/// process that ran a batch ends behind it, and the system then takes all its memory back at once.
+/// So each call keeps the memory of its book.
 pub fn run_batch<R: Source, W: Sink>(
     alloc: Global,
     reader: &mut R,
@@ -188,8 +222,20 @@ pub fn run_batch<R: Source, W: Sink>(
     house: House,
 ) -> Result<(), RunError>
     ensures { Runs house
-        (record { left = R.remaining reader.old; made = R.made reader.old; reads_failed = R.failed reader.old; contents = W.contents writer.old; writes_failed = W.failed writer.old })
-        (record { left = R.remaining reader.new; made = R.made reader.new; reads_failed = R.failed reader.new; contents = W.contents writer.new; writes_failed = W.failed writer.new })
+        (record {
+          left = R.remaining reader.old;
+          made = R.made reader.old;
+          reads_failed = R.failed reader.old;
+          contents = W.contents writer.old;
+          writes_failed = W.failed writer.old;
+        })
+        (record {
+          left = R.remaining reader.new;
+          made = R.made reader.new;
+          reads_failed = R.failed reader.new;
+          contents = W.contents writer.new;
+          writes_failed = W.failed writer.new;
+        })
         result }
 {
     let answering = answer_stream(alloc, reader, writer, house)?;

@@ -8,7 +8,8 @@ use crate::batch::RunError;
 use gu_codec::{Feed, Frame};
 use std::alloc::Global;
 
-/// Appends the answers to the messages that are held whole. An `Err` is `Broken` or `Memory`, behind the answers before it.
+/// Appends the answers to the messages that are held whole. An `Err` is `Broken` or `Memory`,
+/// behind the answers before it.
 pub(crate) fn answer_frames(
     alloc: Global,
     feed: &mut Feed,

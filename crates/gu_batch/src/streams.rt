@@ -1,6 +1,7 @@
 //! Readers and writers that tell their bytes and count their calls.
 
-ghost use Rattle.std.specs.Prelude.{◌≡◌, ℕ, ◌-◌, ◌<◌, ◌≤◌, List, Option, None, length, take, IfOk, IfErr, OnOk, OnErr};
+ghost use Rattle.std.specs.Prelude.{◌≡◌, ℕ, ◌-◌, ◌<◌, ◌≤◌, List, Option, None, length, take, IfOk};
+ghost use Rattle.std.specs.Prelude.{IfErr, OnOk, OnErr};
 ghost use Rattle.std.specs.Io.{ReadsAtMost, WritesAtMost};
 ghost use Rattle.std.specs.Io.KnownBytes.{ReadConsumes, WriteAppends, Appends};
 ghost use Rattle.gu_batch.specs.Counts.{CountsOne, Fails, IsToldBy};
@@ -8,8 +9,8 @@ ghost use Rattle.gu_batch.specs.Counts.{CountsOne, Fails, IsToldBy};
 use std::io;
 use std::io::{ErrorKind, Read, Write};
 
-/// A reader that counts its calls, so that a contract can say that one failed for good. An interrupted call isn't a failure: it can be
-/// made again, as often as the reader is patient.
+/// A reader that counts its calls, so that a contract can say that one failed for good. An
+/// interrupted call isn't a failure: it can be made again, as often as the reader is patient.
 pub trait Source {
     /// The bytes that reads will give from here on, where they are known.
     ghost remaining: { Self → Option (List ℕ) };
@@ -29,10 +30,13 @@ pub trait Source {
         ensures made { CountsOne (made self.old) (made self.new) }
         ensures worked { OnOk result (failed self.new ≡ failed self.old) }
         ensures patient { OnOk result (patience self.new ≡ patience self.old) }
-        ensures failed { IfErr result (IsToldBy (failed self.old) (failed self.new) (patience self.old) (patience self.new)) };
+        ensures failed { IfErr result
+            (IsToldBy (failed self.old) (failed self.new) (patience self.old)
+            (patience self.new)) };
 }
 
-/// A writer that counts its failed calls. A write that takes none of the bytes that it was given counts as one, an interrupted write doesn't.
+/// A writer that counts its failed calls. A write that takes none of the bytes that it was given
+/// counts as one, an interrupted write doesn't.
 pub trait Sink {
     /// The bytes that it holds, where they are known.
     ghost contents: { Self → Option (List ℕ) };
@@ -47,9 +51,12 @@ pub trait Sink {
         ensures bound { WritesAtMost result buf.now }
         ensures bytes { WriteAppends (contents self.old) (contents self.new) result buf.now }
         ensures worked { IfOk result (λ n. 0 < n → failed self.new ≡ failed self.old) }
-        ensures stuck { IfOk result (λ n. n ≡ 0 → 0 < length buf.now → Fails (failed self.old) (failed self.new)) }
+        ensures stuck { IfOk result
+            (λ n. n ≡ 0 → 0 < length buf.now → Fails (failed self.old) (failed self.new)) }
         ensures patient { OnOk result (patience self.new ≡ patience self.old) }
-        ensures failed { IfErr result (IsToldBy (failed self.old) (failed self.new) (patience self.old) (patience self.new)) };
+        ensures failed { IfErr result
+            (IsToldBy (failed self.old) (failed self.new) (patience self.old)
+            (patience self.new)) };
 }
 
 /// How many interruptions a counted reader or writer bears before it tells one as a failure.
@@ -73,9 +80,11 @@ impl Counts {
         self.failed = self.failed.saturating_add(1);
     }
 
-    /// What is told of a call that came back with this error: an interruption as long as there is patience, and else a failure.
+    /// What is told of a call that came back with this error: an interruption as long as there is
+    /// patience, and else a failure.
     fn told(&mut self, error: io::Error) -> io::Error
-        ensures told { IsToldBy self.old.failed self.new.failed self.old.patience self.new.patience result }
+        ensures told { IsToldBy self.old.failed self.new.failed self.old.patience self.new.patience
+            result }
         ensures made { self.new.made ≡ self.old.made }
     {
         if error.kind() != ErrorKind::Interrupted {
@@ -184,7 +193,8 @@ pub(crate) struct Failed;
 /// Writes all the bytes, or a front of them where the writer failed.
 pub(crate) fn write_all<W: Sink>(writer: &mut W, bytes: &[u8]) -> Result<(), Failed>
     ensures ok { OnOk result (Appends (W.contents writer.old) (W.contents writer.new) bytes.now) }
-    ensures err { OnErr result ((n : ℕ) × Appends (W.contents writer.old) (W.contents writer.new) (take n bytes.now)) }
+    ensures err { OnErr result
+        ((n : ℕ) × Appends (W.contents writer.old) (W.contents writer.new) (take n bytes.now)) }
     ensures failed { OnErr result (Fails (W.failed writer.old) (W.failed writer.new)) }
     ensures grows { W.failed writer.old ≤ W.failed writer.new }
 {

@@ -1,5 +1,5 @@
--- Threads may share a desk, and a seat, the journal's seat and a ticket may go to another thread, whatever their job: what they own says the
--- same to each.
+-- Threads may share a desk, and a seat, the journal's seat and a ticket may go to another thread, whatever their job:
+-- what they own says the same to each.
 use denote.RattleType.{RattleType}
 use denote.Param.Send.{IsSend, IsSync, sendable}
 use Rattle.std.proofs.Crossing.{crosses, frees, send as heap_send, sync as heap_sync, Arc-send, Arc-sync}
@@ -37,10 +37,14 @@ abbrev words : RattleType
 words = Table.the_row Entry.the_row PassView.the_row Book.the_row CountRule.the_row heap.the_row rule.ghosts ghosts
 
 words_send : IsSend words
-words_send = table.the_send Entry.the_row PassView.the_row Book.the_row CountRule.the_row heap.the_row rule.ghosts ghosts entry.the_send heap_send frees
+words_send =
+    table.the_send Entry.the_row PassView.the_row Book.the_row CountRule.the_row heap.the_row rule.ghosts ghosts
+    entry.the_send heap_send frees
 
 words_sync : IsSync words
-words_sync = table.the_sync Entry.the_row PassView.the_row Book.the_row CountRule.the_row heap.the_row rule.ghosts ghosts entry.the_send heap_send heap_sync frees
+words_sync =
+    table.the_sync Entry.the_row PassView.the_row Book.the_row CountRule.the_row heap.the_row rule.ghosts ghosts
+    entry.the_send heap_send heap_sync frees
 
 count_send : IsSend (Arc.the_row words heap.the_row ghosts)
 count_send = Arc-send words words_send words_sync
@@ -48,17 +52,21 @@ count_send = Arc-send words words_send words_sync
 count_sync : IsSync (Arc.the_row words heap.the_row ghosts)
 count_sync = Arc-sync words words_send words_sync
 
-pub journal_send : (job : RattleType) (n : named.Ghosts job.Denot) (l : ledger.Ghosts job.Denot) → IsSend (JournalSeat.the_row job n l)
+pub journal_send : (job : RattleType) (n : named.Ghosts job.Denot) (l : ledger.Ghosts job.Denot)
+    → IsSend (JournalSeat.the_row job n l)
 journal_send job n l = search (pass_send, sendable) depth 12
 
-pub ticket_send : (job : RattleType) (n : named.Ghosts job.Denot) (l : ledger.Ghosts job.Denot) → IsSend (Ticket.the_row job n l)
+pub ticket_send : (job : RattleType) (n : named.Ghosts job.Denot) (l : ledger.Ghosts job.Denot)
+    → IsSend (Ticket.the_row job n l)
 ticket_send job n l = search (pass_send, sendable) depth 12
 
-pub seat_send : (job : RattleType) (n : named.Ghosts job.Denot) (l : ledger.Ghosts job.Denot) → IsSend (Seat.the_row job n l)
+pub seat_send : (job : RattleType) (n : named.Ghosts job.Denot) (l : ledger.Ghosts job.Denot)
+    → IsSend (Seat.the_row job n l)
 seat_send job n l = search (share.the_send, pass_send, sendable) depth 12
 
 -- written by hand, field by field, since `search` doesn't find the rows of six fields
-till_send : (job : RattleType) (n : named.Ghosts job.Denot) (l : ledger.Ghosts job.Denot) → IsSend (Till.the_row job n l)
+till_send : (job : RattleType) (n : named.Ghosts job.Denot) (l : ledger.Ghosts job.Denot)
+    → IsSend (Till.the_row job n l)
 till_send job n l =
     let counted : IsSend (Total.the_row job l) = search (total.the_send, sendable) depth 6 in
     let part : IsSend (Share.the_row job l) = search (share.the_send, sendable) depth 6 in
@@ -85,5 +93,6 @@ till_send job n l =
       leaving = λ k t w. tt;
     }
 
-pub desk_sync : (job : RattleType) (n : named.Ghosts job.Denot) (l : ledger.Ghosts job.Denot) → IsSync (Desk.the_row job n l)
+pub desk_sync : (job : RattleType) (n : named.Ghosts job.Denot) (l : ledger.Ghosts job.Denot)
+    → IsSync (Desk.the_row job n l)
 desk_sync job n l = search (till_send, count_sync, crosses, sendable) depth 12

@@ -46,9 +46,16 @@ journal_of v = of_journal v.seen v.kept
 -- a pass of the same kind, the book's, the journal's or a caller's, that knows this
 abbrev pub of_kind : PassView → List Entry → List Entry → List Entry → PassView
 of_kind v h laid d =
-    record { seen = h; laid_in = laid; kept = d; is_books = v.is_books; is_journals = v.is_journals }
+    record {
+      seen = h;
+      laid_in = laid;
+      kept = d;
+      is_books = v.is_books;
+      is_journals = v.is_journals;
+    }
 
--- a pass into which a caller's was laid: beside its own history it now has the one that the caller's had seen
+-- a pass into which a caller's was laid: beside its own history it now has the one that the
+-- caller's had seen
 abbrev pub with_laid_in : PassView → PassView → PassView
 with_laid_in v w = of_kind v v.seen w.seen v.kept
 
@@ -88,9 +95,11 @@ pub record IsCounted (s : State Entry PassView) : Type 0 where
   pub fits : (at : ℕ) (v : PassView) → get_elem? s.views at ≡ some v
       → Fits place journal history durable at v
 
--- a look: the word is the length of what the pass has seen. What was laid into it begins that, and is laid aside
+-- a look: the word is the length of what the pass has seen. What was laid into it begins that, and
+-- is laid aside
 abbrev pub Looks : Step Entry → Me Entry PassView → ℕ → Me Entry PassView → Type 0
-Looks s before found after = (found ≡ length before.0.seen) × BeginsWith before.0.seen before.0.laid_in
+Looks s before found after =
+    (found ≡ length before.0.seen) × BeginsWith before.0.seen before.0.laid_in
     × (after ≡ (of_kind before.0 before.0.seen [] before.0.kept, before.1))
 
 -- a pass behind whose history a record was put

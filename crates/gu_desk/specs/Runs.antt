@@ -16,29 +16,44 @@ use Rattle.gu_trace.specs.Reports.{entries_for, reports_for}
 abbrev pub IsRunOf : HouseAndHistory → HouseAndHistory → Type 0
 IsRunOf opening b = (b.house ≡ opening.house) × IsRunFrom opening.house opening.history b.history
 
--- the answer is that of the rules at a book that calls made of the opening one; want of memory comes only where the rules allow it there
+-- the answer is that of the rules at a book that calls made of the opening one; want of memory
+-- comes only where the rules allow it there
 abbrev pub IsAnswerOf : {E : Type 0} → HouseAndHistory → Call → Result Answer E → Type 0
-IsAnswerOf opening c r = (b : HouseAndHistory) × IsRunOf opening b × MatchResult r (λ a. a ≡ answer_to b.house b.history c) (λ _. IsTrue (may_lack (answer_to b.house b.history c)))
+IsAnswerOf opening c r =
+    (b : HouseAndHistory) × IsRunOf opening b
+    × MatchResult r (λ a. a ≡ answer_to b.house b.history c)
+    (λ _. IsTrue (may_lack (answer_to b.house b.history c)))
 
--- these are the reports to the firm above a number, one of each entry that concerns it, at this history
+-- these are the reports to the firm above a number, one of each entry that concerns it, at this
+-- history
 abbrev pub IsReadingAt : House → List Entry → List ℕ → ℕ → List Report → Type 0
-IsReadingAt t h firm after told = (told ≡ reports_for t.house h firm after)
-    × (map (λ (p : Report). p.number) told ≡ map (λ (r : Record). r.number) (entries_for t.house h firm after))
+IsReadingAt t h firm after told =
+    (told ≡ reports_for t.house h firm after)
+    × (map (λ (p : Report). p.number) told
+    ≡ map (λ (r : Record). r.number) (entries_for t.house h firm after))
 
 -- the same at a book that calls made of the opening one
 abbrev pub IsReadingOf : HouseAndHistory → List ℕ → ℕ → List Report → Type 0
-IsReadingOf opening firm after told = (b : HouseAndHistory) × IsRunOf opening b × IsReadingAt b.house b.history firm after told
+IsReadingOf opening firm after told =
+    (b : HouseAndHistory) × IsRunOf opening b × IsReadingAt b.house b.history firm after told
 
 -- some entry above a number concerns the firm, at a book that calls made of the opening one
 abbrev pub IsToldOf : HouseAndHistory → List ℕ → ℕ → Type 0
-IsToldOf opening firm after = (b : HouseAndHistory) × IsRunOf opening b × (1 ≤ length (entries_for b.house.house b.history firm after))
+IsToldOf opening firm after =
+    (b : HouseAndHistory) × IsRunOf opening b
+    × (1 ≤ length (entries_for b.house.house b.history firm after))
 
--- a call with a seat that had seen this: the answer is that of the rules at a book that calls made of the opening one, whose history begins with what
--- the seat had seen. The seat has then seen the history after the call; where memory lacked, that history itself
-abbrev pub IsCallBy : {E : Type 0} → HouseAndHistory → List Entry → Call → Result Answer E → List Entry → Type 0
-IsCallBy opening seen c r now = (b : HouseAndHistory) × IsRunOf opening b × BeginsWith b.history seen
-    × MatchResult r (λ a. (a ≡ answer_to b.house b.history c) × (now ≡ after b.house b.history c)) (λ _. IsTrue (may_lack (answer_to b.house b.history c)) × (now ≡ b.history))
+-- a call with a seat that had seen this: the answer is that of the rules at a book that calls made
+-- of the opening one, whose history begins with what the seat had seen. The seat has then seen the
+-- history after the call; where memory lacked, that history itself
+abbrev pub IsCallBy : {E : Type 0} → HouseAndHistory → List Entry → Call → Result Answer E
+    → List Entry → Type 0
+IsCallBy opening seen c r now =
+    (b : HouseAndHistory) × IsRunOf opening b × BeginsWith b.history seen
+    × MatchResult r (λ a. (a ≡ answer_to b.house b.history c) × (now ≡ after b.house b.history c))
+    (λ _. IsTrue (may_lack (answer_to b.house b.history c)) × (now ≡ b.history))
 
--- a seat that had seen this has now seen that: a history that calls made of the opening one, and that begins with what it had seen
+-- a seat that had seen this has now seen that: a history that calls made of the opening one, and
+-- that begins with what it had seen
 abbrev pub HasSeen : HouseAndHistory → List Entry → List Entry → Type 0
 HasSeen opening seen now = IsRunFrom opening.house opening.history now × BeginsWith now seen

@@ -4,7 +4,8 @@ use Rattle.atomic_table.specs.Seated.{TableId}
 use Rattle.gu_base.specs.declared.entry.Entry.{Entry}
 use Rattle.gu_book.specs.Seen.{HouseAndHistory}
 
--- the name of its ledger, how many workers its desk has, the table that counts its records, and the house table and history of its book
+-- the name of its ledger, how many workers its desk has, the table that counts its records, and the
+-- house table and history of its book
 pub record GroundView : Type 0 where
   pub name : ℕ
   pub workers : ℕ
@@ -42,8 +43,26 @@ is_worker_count n = leb 1 n && leb n most_workers
 
 -- the book of nobody, for a job that is no desk's
 abbrev pub no_book : HouseAndHistory
-no_book = record { house = record { house = []; firms = []; accounts = []; instruments = []; agreements = []; opening = [] }; history = [] }
+no_book = record {
+  house = record {
+    house = [];
+    firms = [];
+    accounts = [];
+    instruments = [];
+    agreements = [];
+    opening = [];
+  };
+  history = [];
+}
 
 -- the table of nobody
 abbrev pub no_table : TableId
-no_table = record { words = 0; slots = 0; views_name = 0; atom = 0; block = 0; offset = 0; slot_names = [] }
+no_table = record {
+  words = 0;
+  slots = 0;
+  views_name = 0;
+  atom = 0;
+  block = 0;
+  offset = 0;
+  slot_names = [];
+}

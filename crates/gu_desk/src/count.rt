@@ -45,7 +45,8 @@ impl TableRule<Entry, PassView, Book> for CountRule {
     ghost first = { λ opening. of_opening opening.history };
 }
 
-/// A look at the count by the book's pass: it finds how many records that pass has seen, and what was laid into it begins the history.
+/// A look at the count by the book's pass: it finds how many records that pass has seen, and what
+/// was laid into it begins the history.
 pub struct Look;
 
 impl Play<Entry, PassView> for Look {
@@ -189,7 +190,8 @@ pub(crate) fn open_count(alloc: Global, book: &Book) -> Result<(Count, Pass, Pas
     Ok((Arc::new(alloc, words)?, pass, journal))
 }
 
-/// Lays a caller's pass into the book's, and looks: what the caller had seen is a beginning of the history.
+/// Lays a caller's pass into the book's, and looks: what the caller had seen is a beginning of the
+/// history.
 pub(crate) fn lay_in(count: &Count, pass: &mut Pass, caller: Pass)
     requires tables { IsOf (arc_value count.now).shared.table_id pass.old.table_id }
     requires callers_table { caller.table_id ≡ (arc_value count.now).shared.table_id }
@@ -222,7 +224,8 @@ fn publish(count: &Count, pass: &mut Pass, history: &[Entry])
     );
 }
 
-/// Puts the record of an accepted call behind what the book's pass has seen: it stands at the end of the history.
+/// Puts the record of an accepted call behind what the book's pass has seen: it stands at the end
+/// of the history.
 pub(crate) fn publish_accepted(
     count: &Count,
     pass: &mut Pass,
@@ -249,7 +252,8 @@ pub(crate) fn give_out(count: &Count, pass: &mut Pass) -> (u32, Pass)
     ensures table { pass.new.table_id ≡ pass.old.table_id }
     ensures same { pass.new.me ≡ pass.old.me }
     ensures records { result.0 ≡ length pass.old.me.0.seen }
-    ensures new { (result.1.table_id ≡ pass.old.table_id) × (result.1.me ≡ (of_caller pass.old.me.0.seen, [])) }
+    ensures new { (result.1.table_id ≡ pass.old.table_id)
+        × (result.1.me ≡ (of_caller pass.old.me.0.seen, [])) }
 {
     let records = count.shared.load::<Look>(pass, RECORDS);
     (records as u32, count.shared.split_seat::<GiveOut>(pass))
@@ -273,7 +277,8 @@ pub(crate) fn show_journal(count: &Count, pass: &mut Pass, journal: &mut Pass) -
     requires journals_table { journal.old.table_id ≡ (arc_value count.now).shared.table_id }
     requires books { pass.old.me ≡ (of_book pass.old.me.0.seen, []) }
     requires fits { length pass.old.me.0.seen ≤ most_entries }
-    requires journals { journal.old.me ≡ (of_journal journal.old.me.0.seen journal.old.me.0.kept, []) }
+    requires journals { journal.old.me
+        ≡ (of_journal journal.old.me.0.seen journal.old.me.0.kept, []) }
     ensures table { pass.new.table_id ≡ pass.old.table_id }
     ensures same { pass.new.me ≡ pass.old.me }
     ensures records { result ≡ length pass.old.me.0.seen }
@@ -296,7 +301,8 @@ pub(crate) fn settle(count: &Count, pass: &mut Pass) -> u32
     ensures same { pass.new.me ≡ (with_kept pass.new.me.0.kept pass.old.me.0, pass.old.me.1) }
     ensures found { result ≡ length pass.new.me.0.kept }
     ensures later { BeginsWith pass.new.me.0.kept pass.old.me.0.kept }
-    ensures receipt { length pass.old.me.0.seen ≤ result → BeginsWith pass.new.me.0.kept pass.old.me.0.seen }
+    ensures receipt { length pass.old.me.0.seen ≤ result
+        → BeginsWith pass.new.me.0.kept pass.old.me.0.seen }
 {
     count.shared.load::<Settlement>(pass, DURABLE) as u32
 }

@@ -9,7 +9,8 @@ ghost use Rattle.gu_book.specs.Ids.{NoIdTwice};
 ghost use Rattle.gu_trace.specs.Reports.{entries_for, most_reports};
 ghost use Rattle.gu_desk.specs.Begins.{BeginsWith};
 ghost use Rattle.gu_desk.specs.Passes.{IsOf, of_book};
-ghost use Rattle.gu_desk.specs.Runs.{IsRunOf, IsAnswerOf, IsReadingOf, IsToldOf, IsCallBy, IsReadingAt, HasSeen};
+ghost use Rattle.gu_desk.specs.Runs.{IsRunOf, IsAnswerOf, IsReadingOf, IsToldOf, IsCallBy};
+ghost use Rattle.gu_desk.specs.Runs.{IsReadingAt, HasSeen};
 ghost use Rattle.gu_desk.specs.Shares.{gained};
 
 use crate::count::{Count, Pass, give_beside, settle};
@@ -56,7 +57,8 @@ pub struct CloseError<J: Job> {
     pub seats: Vec<Seat<J>>,
 }
 
-/// A seat for each worker, with a part of the opening share and nothing counted, that has seen what the book's pass has. One part is left.
+/// A seat for each worker, with a part of the opening share and nothing counted, that has seen what
+/// the book's pass has. One part is left.
 fn cut_seats<J: Job>(
     alloc: Global,
     opening: &mut Share<J>,
@@ -198,7 +200,8 @@ impl<J: Job> Desk<J> {
     ///
     /// # Errors
     ///
-    /// `Memory` where a growth was refused, as `Book::apply` says; the book and the share are unchanged.
+    /// `Memory` where a growth was refused, as `Book::apply` says; the book and the share are
+    /// unchanged.
     pub fn call<R: Wait>(
         &self,
         rt: &R,
@@ -209,19 +212,23 @@ impl<J: Job> Desk<J> {
         command: &Command,
     ) -> (Seat<J>, Result<Answer, Memory>)
         ensures share { result.0.share ≡ seat.share + gained result.1 }
-        ensures answered { IsAnswerOf J.opening (record { firm = by.now; id = id.now; command = command.now }) result.1 }
-        ensures seen { IsCallBy J.opening seat.seen (record { firm = by.now; id = id.now; command = command.now }) result.1 result.0.seen }
+        ensures answered { IsAnswerOf J.opening
+            (record { firm = by.now; id = id.now; command = command.now }) result.1 }
+        ensures seen { IsCallBy J.opening seat.seen
+            (record { firm = by.now; id = id.now; command = command.now }) result.1 result.0.seen }
         ensures later { HasSeen J.opening seat.seen result.0.seen }
         ensures once { NoIdTwice result.0.seen }
     {
         self.till.lock(rt).call(alloc, seat, by, id, command)
     }
 
-    /// The first 100 reports to the firm above a number, read under the lock, for which it may wait, and the seat again.
+    /// The first 100 reports to the firm above a number, read under the lock, for which it may
+    /// wait, and the seat again.
     ///
     /// # Errors
     ///
-    /// `Memory` where a growth was refused, and only where an entry above the number concerns the firm.
+    /// `Memory` where a growth was refused, and only where an entry above the number concerns the
+    /// firm.
     pub fn read_reports<R: Wait>(
         &self,
         rt: &R,
@@ -236,8 +243,10 @@ impl<J: Job> Desk<J> {
         ensures few { IfOk result.1 (λ v. length v.items ≤ most_reports) }
         ensures short { IfOk result.1 (λ v. All (λ r. length r.parts ≤ most_parts) v.items) }
         ensures seen { HasSeen J.opening seat.seen result.0.seen }
-        ensures told { IfOk result.1 (λ v. IsReadingAt J.opening.house result.0.seen firm.now after v.items) }
-        ensures lacked { OnErr result.1 (1 ≤ length (entries_for J.opening.house.house result.0.seen firm.now after)) }
+        ensures told { IfOk result.1
+            (λ v. IsReadingAt J.opening.house result.0.seen firm.now after v.items) }
+        ensures lacked { OnErr result.1
+            (1 ≤ length (entries_for J.opening.house.house result.0.seen firm.now after)) }
         ensures once { NoIdTwice result.0.seen }
     {
         self.till.lock(rt).read(alloc, seat, firm, after)
@@ -303,7 +312,8 @@ impl<J: Job> Desk<J> {
     ///
     /// The desk and the seats that came, where fewer came than were given out.
     pub fn close(self, seats: Vec<Seat<J>>) -> Result<Book, CloseError<J>>
-        ensures length { IfOk result (λ b. length b.history ≡ length J.opening.history + sum_by (λ s. s.share) seats.items) }
+        ensures length { IfOk result
+            (λ b. length b.history ≡ length J.opening.history + sum_by (λ s. s.share) seats.items) }
         ensures run { IfOk result (λ b. IsRunOf J.opening (stored b)) }
         ensures seen { IfOk result (λ b. All (λ s. BeginsWith b.history s.seen) seats.items) }
         ensures missing { IfErr result (λ e. vec_len seats < self.seats) }

@@ -1,17 +1,21 @@
-//! The shared desk: one book behind one lock, and seats that count what was accepted and carry the history that they have seen.
+//! The shared desk: one book behind one lock, and seats that count what was accepted and carry the
+//! history that they have seen.
 //!
-//! - `Ground` is a book with a count of its records and a ledger that no type names yet; `Desk::new` makes of it a desk and a seat for each
-//!   worker. Both, and what lies behind the lock, are generic in a `Job`, which stands for one ground: a seat of another desk is of another
-//!   type.
-//! - Behind the lock lies a `Till`: the book, the total of the ledger, the count and the book's pass. Its type keeps that the book's history is
-//!   one that calls made of the opening book, that it is as long as the total, and that the book's pass has seen it all. `Till::call` and
+//! - `Ground` is a book with a count of its records and a ledger that no type names yet;
+//!   `Desk::new` makes of it a desk and a seat for each worker. Both, and what lies behind the
+//!   lock, are generic in a `Job`, which stands for one ground: a seat of another desk is of
+//!   another type.
+//! - Behind the lock lies a `Till`: the book, the total of the ledger, the count and the book's
+//!   pass. Its type keeps that the book's history is one that calls made of the opening book, that
+//!   it is as long as the total, and that the book's pass has seen it all. `Till::call` and
 //!   `Till::read` answer what the rules say at the till's own history.
 //! - The till holds an index of the entries by the firms that they concern, so a reading looks at
 //!   no other. The ground files what the book has, before anybody is served, and each call and
 //!   reading what has come since. Where memory lacks for that, a reading looks at what isn't filed.
-//! - `Desk::call` and `Desk::read_reports` take the lock and hand on the till's answer. A seat goes in and comes back: its share is
-//!   greater by one exactly where the answer is Accepted, and it has then seen the history that the call left. The answer is that of the
-//!   rules at a history that begins with what the seat had seen; the reports are those at what it has then seen.
+//! - `Desk::call` and `Desk::read_reports` take the lock and hand on the till's answer. A seat goes
+//!   in and comes back: its share is greater by one exactly where the answer is Accepted, and it
+//!   has then seen the history that the call left. The answer is that of the rules at a history
+//!   that begins with what the seat had seen; the reports are those at what it has then seen.
 //! - The count is two words of an atomic table: how many records there are, and how many of them
 //!   are durable. Its rule (`specs/Passes.antt`) ties the passes of all seats to one history: the
 //!   book's pass has seen it whole, each other a beginning of it; the journal's pass knows of all
@@ -25,8 +29,8 @@
 //! - `Desk::settle` and `Ticket::settle` are one load each, without the lock: where as many entries
 //!   are durable as a seat or a ticket has seen, what is durable begins with all that it has seen.
 //!   That is the receipt. A `Ticket` is a pass that is split off a seat, for bytes that wait.
-//! - `Desk::close` gives the book back against all seats: its history is as long as the opening one and the sum of the shares, and begins with
-//!   what each seat has seen.
+//! - `Desk::close` gives the book back against all seats: its history is as long as the opening one
+//!   and the sum of the shares, and begins with what each seat has seen.
 //! - `Desk::call`, `Desk::read_reports` and `Desk::copy_above` may wait for the lock; nothing else
 //!   here waits.
 //! - Its cases stand in the program `test_book`.

@@ -9,10 +9,11 @@ use crate::count::{Count, Pass, give_out, lay_in};
 use std::marker::{Brand, Model};
 use std::sync::ledger::{Ledger, Share};
 
-/// The name of one desk: its ledger, the table that counts its records, and the book that it opened with.
+/// The name of one desk: its ledger, the table that counts its records, and the book that it opened
+/// with.
 ///
-/// Code that runs a desk is generic in it and asks that the ground has the job's name and table; it is called with `Brand`, and each ground
-/// then has a name of its own.
+/// Code that runs a desk is generic in it and asks that the ground has the job's name and table; it
+/// is called with `Brand`, and each ground then has a name of its own.
 pub trait Job: Ledger {
     ghost use Rattle.atomic_table.specs.Seated.{TableId};
     ghost use Rattle.gu_book.specs.Seen.{HouseAndHistory};
@@ -53,7 +54,8 @@ impl<J: Job> Model for Seat<J> {
       kept = s.pass.me.0.kept;
     } };
 
-    ghost invariant = { λ s. (s.share.parts ≡ 1) × (s.pass.table_id ≡ J.table) × (s.pass.me.1 ≡ []) × (s.records ≡ length s.pass.me.0.seen) };
+    ghost invariant = { λ s. (s.share.parts ≡ 1) × (s.pass.table_id ≡ J.table) × (s.pass.me.1 ≡ [])
+        × (s.records ≡ length s.pass.me.0.seen) };
 }
 
 impl<J: Job> Seat<J> {
@@ -84,7 +86,8 @@ impl<J: Job> Seat<J> {
         }
     }
 
-    /// Its share. Its pass is laid into the book's, which then knows that the history begins with what the seat had seen.
+    /// Its share. Its pass is laid into the book's, which then knows that the history begins with
+    /// what the seat had seen.
     pub(crate) fn into_share(self, count: &Count, pass: &mut Pass) -> Share<J>
         requires tables { IsOf (arc_value count.now).shared.table_id pass.old.table_id }
         requires job { (arc_value count.now).shared.table_id ≡ J.table }

@@ -95,7 +95,8 @@ impl<J: Job> Till<J> {
     ///
     /// # Errors
     ///
-    /// `Memory` where a growth was refused, as `Book::apply` says; the book and the share are unchanged.
+    /// `Memory` where a growth was refused, as `Book::apply` says; the book and the share are
+    /// unchanged.
     pub fn call(
         &mut self,
         alloc: Global,
@@ -104,9 +105,19 @@ impl<J: Job> Till<J> {
         id: &AllocId,
         command: &Command,
     ) -> (Seat<J>, Result<Answer, Memory>)
-        ensures answered { IfOk result.1 (λ a. a ≡ answer_to self.old.house self.old.history (record { firm = by.now; id = id.now; command = command.now })) }
-        ensures kept { OnOk result.1 (self.new ≡ record { house = self.old.house; history = after self.old.house self.old.history (record { firm = by.now; id = id.now; command = command.now }) }) }
-        ensures memory { OnErr result.1 (IsTrue (may_lack (answer_to self.old.house self.old.history (record { firm = by.now; id = id.now; command = command.now })))) }
+        ensures answered { IfOk result.1 (λ a. a
+            ≡ answer_to self.old.house self.old.history
+            (record { firm = by.now; id = id.now; command = command.now })) }
+        ensures kept { OnOk result.1
+            (self.new ≡ record {
+              house = self.old.house;
+              history = after self.old.house self.old.history
+                  (record { firm = by.now; id = id.now; command = command.now });
+            }) }
+        ensures memory { OnErr result.1
+            (IsTrue (may_lack
+            (answer_to self.old.house self.old.history
+            (record { firm = by.now; id = id.now; command = command.now })))) }
         ensures unchanged { OnErr result.1 (self.new ≡ self.old) }
         ensures share { result.0.share ≡ seat.share + gained result.1 }
         ensures run { IsRunOf J.opening self.old }
@@ -128,7 +139,8 @@ impl<J: Job> Till<J> {
     ///
     /// # Errors
     ///
-    /// `Memory` where a growth was refused, and only where an entry above the number concerns the firm.
+    /// `Memory` where a growth was refused, and only where an entry above the number concerns the
+    /// firm.
     pub fn read(
         &mut self,
         alloc: Global,
@@ -136,9 +148,13 @@ impl<J: Job> Till<J> {
         firm: &FirmId,
         after: u32,
     ) -> (Seat<J>, Result<Vec<Report>, Memory>)
-        ensures value { IfOk result.1 (λ v. v.items ≡ reports_for self.old.house.house self.old.history firm.now after) }
-        ensures each { IfOk result.1 (λ v. map (λ r. r.number) v.items ≡ map (λ r. r.number) (entries_for self.old.house.house self.old.history firm.now after)) }
-        ensures memory { OnErr result.1 (1 ≤ length (entries_for self.old.house.house self.old.history firm.now after)) }
+        ensures value { IfOk result.1
+            (λ v. v.items ≡ reports_for self.old.house.house self.old.history firm.now after) }
+        ensures each { IfOk result.1 (λ v. map (λ r. r.number) v.items
+            ≡ map (λ r. r.number)
+            (entries_for self.old.house.house self.old.history firm.now after)) }
+        ensures memory { OnErr result.1
+            (1 ≤ length (entries_for self.old.house.house self.old.history firm.now after)) }
         ensures few { IfOk result.1 (λ v. length v.items ≤ most_reports) }
         ensures short { IfOk result.1 (λ v. All (λ r. length r.parts ≤ most_parts) v.items) }
         ensures same { self.new ≡ self.old }

@@ -1,5 +1,6 @@
 -- In a history of a run each node that a change names is there, and going up from it leads to a Trade.
-use Rattle.std.proofs.Common.{◌≡◌, ℕ, zero, suc, ◌+◌, ◌<◌, ◌≤◌, Bool, true, false, List, [], ◌∷◌, ◌++◌, refl, sym, ◌∙◌, ap, subst, arith, Option, cond, eqb, length}
+use Rattle.std.proofs.Common.{◌≡◌, ℕ, zero, suc, ◌+◌, ◌<◌, ◌≤◌, Bool, true, false, List, [], ◌∷◌, ◌++◌, refl, sym, ◌∙◌}
+use Rattle.std.proofs.Common.{ap, subst, arith, Option, cond, eqb, length}
 use Rattle.std.specs.Prelude.{Some, None, find, filter, option_and_then, ◌==◌}
 use Rattle.std.specs.Option.{option_or}
 use Rattle.std.proofs.lemmas.Bool.Decides.{Decides-eqb}
@@ -13,7 +14,8 @@ use Rattle.gu_base.specs.Places.{line_within, root_along, root_of}
 use Rattle.gu_base.specs.Answers.{entry_of}
 use Rattle.gu_base.specs.Runs.{IsRunFrom}
 use Rattle.gu_base.specs.declared.command.Command.{Command}
-use Rattle.gu_base.specs.declared.command.Command.TheVariants.{Trade, Split, Claim, Refuse, Cancel, Agree, Raise, Initiate, Decline, Reverse}
+use Rattle.gu_base.specs.declared.command.Command.TheVariants.{Trade, Split, Claim, Refuse, Cancel, Agree, Raise}
+use Rattle.gu_base.specs.declared.command.Command.TheVariants.{Initiate, Decline, Reverse}
 use Rattle.gu_base.specs.declared.entry.Entry.{Entry}
 use Rattle.gu_base.specs.declared.entry.Record.{Record}
 use Rattle.gu_base.specs.declared.node.Kind.TheVariants.{Root}
@@ -44,16 +46,32 @@ pub record IsCut (k m : ℕ) (h : List Entry) (r : Record) : Type 0 where
 
 cut_here : (k m : ℕ) (d : Entry) (h : List Entry) (r : Record) (b : Bool) → eqb m k ≡ b
     → (find (λ q. q.number == k) (numbered_from (m + 1) h) ≡ Some r → IsCut k (m + 1) h r)
-    → cond b (Some (numbered_as m d)) (find (λ q. q.number == k) (numbered_from (m + 1) h)) ≡ Some r → IsCut k m (d ∷ h) r
+    → cond b (Some (numbered_as m d)) (find (λ q. q.number == k) (numbered_from (m + 1) h)) ≡ Some r
+    → IsCut k m (d ∷ h) r
 cut_here k m d h r true test later found =
     let same : m ≡ k = (Decides-eqb m k).0 test in
-    record { before = []; entry = d; behind = h; cut = refl; is = ap (λ n. numbered_as n d) (sym same) ∙ same_Some (numbered_as m d) r found; place = omega (arith, same) }
+    record {
+      before = [];
+      entry = d;
+      behind = h;
+      cut = refl;
+      is = ap (λ n. numbered_as n d) (sym same) ∙ same_Some (numbered_as m d) r found;
+      place = omega (arith, same);
+    }
 cut_here k m d h r false test later found =
     let c = later found in
     let at : m + 1 + length c.before ≡ k = c.place in
-    record { before = d ∷ c.before; entry = c.entry; behind = c.behind; cut = ap (λ es. d ∷ es) c.cut; is = c.is; place = omega (arith, at) }
+    record {
+      before = d ∷ c.before;
+      entry = c.entry;
+      behind = c.behind;
+      cut = ap (λ es. d ∷ es) c.cut;
+      is = c.is;
+      place = omega (arith, at);
+    }
 
-cut_from : (k m : ℕ) (h : List Entry) (r : Record) → find (λ q. q.number == k) (numbered_from m h) ≡ Some r → IsCut k m h r
+cut_from : (k m : ℕ) (h : List Entry) (r : Record) → find (λ q. q.number == k) (numbered_from m h) ≡ Some r
+    → IsCut k m h r
 cut_from k m [] r found = absurd (cc)
 cut_from k m (d ∷ h) r found = cut_here k m d h r (eqb m k) refl (cut_from k (m + 1) h r) found
 
@@ -65,7 +83,8 @@ pub numbered_append : (m : ℕ) (h k : List Entry) → numbered_from m (h ++ k) 
     ++ numbered_from (m + length h) k
 numbered_append m [] k = ap (λ n. numbered_from n k) (omega arith)
 numbered_append m (e ∷ h) k =
-    ap (λ rs. numbered_as m e ∷ rs) (numbered_append (m + 1) h k ∙ ap (λ n. numbered_from (m + 1) h ++ numbered_from n k) (omega arith))
+    ap (λ rs. numbered_as m e ∷ rs)
+    (numbered_append (m + 1) h k ∙ ap (λ n. numbered_from (m + 1) h ++ numbered_from n k) (omega arith))
 
 -- what is found in the first entries is found in all of them
 pub entry_more : (h k : List Entry) (n : ℕ) (r : Record) → entry_of h n ≡ Some r → entry_of (h ++ k) n ≡ Some r
@@ -75,8 +94,10 @@ entry_more h k n r found =
     ∙ ap (λ o. option_or o (find (λ q. q.number == n) (numbered_from (1 + length h) k))) found)
 
 -- the same of a node
-pub node_later : (h k : List Entry) (n : EntryPart) (x : Node) → node_of (records h) n ≡ Some x → node_of (records (h ++ k)) n ≡ Some x
-node_later h k n x found = ap (λ l. node_of l n) (numbered_append 1 h k) ∙ node_more (records h) (numbered_from (1 + length h) k) n x found
+pub node_later : (h k : List Entry) (n : EntryPart) (x : Node) → node_of (records h) n ≡ Some x
+    → node_of (records (h ++ k)) n ≡ Some x
+node_later h k n x found =
+    ap (λ l. node_of l n) (numbered_append 1 h k) ∙ node_more (records h) (numbered_from (1 + length h) k) n x found
 
 -- ---- nodes of some changes among all of them
 
@@ -100,13 +121,16 @@ first_made r l n = find-append (λ x. same_name x.name n) (nodes_of r.number r.f
 kept_or_not : (p : Record → Bool) (r : Record) (l : List Record) (n : EntryPart) (x : Node) (b : Bool)
     → ((y : Node) → node_of (filter p l) n ≡ Some y → IsThere (node_of l n))
     → node_of (cond b (r ∷ filter p l) (filter p l)) n ≡ Some x → IsThere (option_or (made_by r n) (node_of l n))
-kept_or_not p r l n x true later found = or_some (made_by r n) (node_of (filter p l) n) (node_of l n) x (sym (first_made r (filter p l) n) ∙ found) (later x)
+kept_or_not p r l n x true later found =
+    or_some (made_by r n) (node_of (filter p l) n) (node_of l n) x (sym (first_made r (filter p l) n) ∙ found) (later x)
 kept_or_not p r l n x false later found = some_or (made_by r n) (node_of l n) (later x found)
 
 -- where some of the changes make a node of this name, so do all of them together
-unfiltered : (p : Record → Bool) (l : List Record) (n : EntryPart) (x : Node) → node_of (filter p l) n ≡ Some x → IsThere (node_of l n)
+unfiltered : (p : Record → Bool) (l : List Record) (n : EntryPart) (x : Node) → node_of (filter p l) n ≡ Some x
+    → IsThere (node_of l n)
 unfiltered p [] n x found = absurd (cc)
-unfiltered p (r ∷ l) n x found = subst IsThere (sym (first_made r l n)) (kept_or_not p r l n x (p r) (λ y there. unfiltered p l n y there) found)
+unfiltered p (r ∷ l) n x found =
+    subst IsThere (sym (first_made r l n)) (kept_or_not p r l n x (p r) (λ y there. unfiltered p l n y there) found)
 
 -- ---- the nodes that changes name
 
@@ -128,7 +152,8 @@ pub record IsMade (h : List Entry) (n : EntryPart) (x : Node) : Type 0 where
   pub found : entry_of h n.entry ≡ Some by
   pub made : find (λ y. same_name y.name n) (nodes_of n.entry by.firm by.command) ≡ Some x
 
-made_at : (h : List Entry) (n : EntryPart) (x : Node) (o : Option Record) → entry_of h n.entry ≡ o → made_in n o ≡ Some x → IsMade h n x
+made_at : (h : List Entry) (n : EntryPart) (x : Node) (o : Option Record) → entry_of h n.entry ≡ o
+    → made_in n o ≡ Some x → IsMade h n x
 made_at h n x None there made = absurd (cc)
 made_at h n x (Some r) there made = record { by = r; found = there; made = made }
 
@@ -142,12 +167,13 @@ pub record IsNamed (h before : List Entry) (n : EntryPart) : Type 0 where
   pub earlier : n.entry ≤ length before
 
 -- a change of a run names a node that is there, and made before it
-pub named_there : (t : House) (h before behind : List Entry) (e : Entry) (n : EntryPart) → IsRunFrom t [] h → h ≡ before ++ e ∷ behind → named_node e.command ≡ Some n
-    → IsNamed h before n
+pub named_there : (t : House) (h before behind : List Entry) (e : Entry) (n : EntryPart) → IsRunFrom t [] h
+    → h ≡ before ++ e ∷ behind → named_node e.command ≡ Some n → IsNamed h before n
 named_there t h before behind e n run cut names =
     let free = allowed t before e (length before + 1) (run.accepted before behind e cut (omega arith)) in
     let lawful = sym (change_refused t before e.firm e.command (naming_changes e.command n names)) ∙ free.lawful in
-    let alive = names_there t (live before) e.firm e.command n (refusal_parts t (live before) e.firm e.command lawful).1 names in
+    let alive =
+    names_there t (live before) e.firm e.command n (refusal_parts t (live before) e.firm e.command lawful).1 names in
     let first = unfiltered (is_live before) (records before) n alive.0 alive.1 in
     let made = is_made before n first.0 first.1 in
     let at = found_at n.entry 1 before made.by made.found in
@@ -171,36 +197,54 @@ record EndsAtTrade (h : List Entry) (above : List Node) : Type 0 where
   trades : deal_at h root ≡ Some deal
 
 one_more : (h : List Entry) (x : Node) (above : List Node) → EndsAtTrade h above → EndsAtTrade h (x ∷ above)
-one_more h x above top = record { root = top.root; deal = top.deal; ends = root_above x above ∙ ap (λ o. option_or o (Some x.name)) top.ends; trades = top.trades }
+one_more h x above top = record {
+  root = top.root;
+  deal = top.deal;
+  ends = root_above x above ∙ ap (λ o. option_or o (Some x.name)) top.ends;
+  trades = top.trades;
+}
 
-root_kind : (n : EntryPart) (y x : Node) → parent y.kind ≡ None → cond (same_name y.name n) (Some y) None ≡ Some x → parent x.kind ≡ None
+root_kind : (n : EntryPart) (y x : Node) → parent y.kind ≡ None → cond (same_name y.name n) (Some y) None ≡ Some x
+    → parent x.kind ≡ None
 root_kind n y x none found =
-    first_or n y.name y x None (parent x.kind ≡ None) (λ is same. ap (λ (z : Node). parent z.kind) (sym same) ∙ none) (λ nothing. absurd (cc)) (same_name y.name n) refl found
+    first_or n y.name y x None (parent x.kind ≡ None) (λ is same. ap (λ (z : Node). parent z.kind) (sym same) ∙ none)
+    (λ nothing. absurd (cc)) (same_name y.name n) refl found
 
 -- by the command that made a node
-by_command : (t : House) (h : List Entry) (s : ℕ) (n : EntryPart) (x : Node) (r : Record) (c : Command) → IsRunFrom t [] h
-    → node_of (records h) n ≡ Some x → n.entry ≤ suc s → entry_of h n.entry ≡ Some r → r.command ≡ c
+by_command : (t : House) (h : List Entry) (s : ℕ) (n : EntryPart) (x : Node) (r : Record) (c : Command)
+    → IsRunFrom t [] h → node_of (records h) n ≡ Some x → n.entry ≤ suc s → entry_of h n.entry ≡ Some r → r.command ≡ c
     → find (λ y. same_name y.name n) (nodes_of n.entry r.firm c) ≡ Some x
-    → ((m : EntryPart) (y : Node) → node_of (records h) m ≡ Some y → m.entry ≤ s → EndsAtTrade h (line_within s (records h) (Some y)))
+    → ((m : EntryPart) (y : Node) → node_of (records h) m ≡ Some y → m.entry ≤ s
+    → EndsAtTrade h (line_within s (records h) (Some y)))
     → EndsAtTrade h (line_within (suc s) (records h) (Some x))
 by_command t h s n x r (Trade firm account instrument side lots) run found low there is made up =
-    let none : parent x.kind ≡ None = root_kind n (record { name = record { entry = n.entry; part = 0 }; lots = lots; kind = Root (record { firm = firm; account = account }) }) x refl made in
+    let none : parent x.kind ≡ None = root_kind n
+    (record {
+      name = record { entry = n.entry; part = 0 };
+      lots = lots;
+      kind = Root (record { firm = firm; account = account });
+    })
+    x refl made in
     let called : x.name ≡ n = node_called (records h) n x found in
     record {
       root = x.name;
       deal = record { instrument = instrument; side = side };
       ends = ap (λ p. root_along (x ∷ line_within s (records h) (option_and_then (node_of (records h)) p))) none;
-      trades = ap (λ (m : EntryPart). deal_at h m) called ∙ (ap (λ o. option_and_then (λ q. deal_in q.command) o) there ∙ ap deal_in is);
+      trades = ap (λ (m : EntryPart). deal_at h m) called
+          ∙ (ap (λ o. option_and_then (λ q. deal_in q.command) o) there ∙ ap deal_in is);
     }
 by_command t h s n x r (Split m ps) run found low there is made up =
     let above : parent x.kind ≡ Some m = part_parent n m n.entry 1 r.firm ps x made in
     let c = cut_at n.entry h r there in
-    let splits : named_node c.entry.command ≡ Some m = ap (λ (q : Record). named_node q.command) c.is ∙ ap named_node is in
+    let splits : named_node c.entry.command ≡ Some m =
+    ap (λ (q : Record). named_node q.command) c.is ∙ ap named_node is in
     let named = named_there t h c.before c.behind c.entry m run c.cut splits in
     let place : 1 + length c.before ≡ n.entry = c.place in
     let earlier : m.entry ≤ length c.before = named.earlier in
-    subst (λ (o : Option Node). EndsAtTrade h (x ∷ line_within s (records h) o)) (sym (ap (option_and_then (node_of (records h))) above ∙ named.there))
-    (one_more h x (line_within s (records h) (Some named.node)) (up m named.node named.there (omega (arith, place, earlier, low))))
+    subst (λ (o : Option Node). EndsAtTrade h (x ∷ line_within s (records h) o))
+    (sym (ap (option_and_then (node_of (records h))) above ∙ named.there))
+    (one_more h x (line_within s (records h) (Some named.node))
+    (up m named.node named.there (omega (arith, place, earlier, low))))
 by_command t h s n x r (Claim _ _) run found low there is made up = absurd (cc)
 by_command t h s n x r (Refuse _) run found low there is made up = absurd (cc)
 by_command t h s n x r (Cancel _) run found low there is made up = absurd (cc)
@@ -210,8 +254,8 @@ by_command t h s n x r (Initiate _) run found low there is made up = absurd (cc)
 by_command t h s n x r (Decline _) run found low there is made up = absurd (cc)
 by_command t h s n x r (Reverse _) run found low there is made up = absurd (cc)
 
-ends_from : (t : House) (h : List Entry) → IsRunFrom t [] h → (s : ℕ) (n : EntryPart) (x : Node) → node_of (records h) n ≡ Some x → n.entry ≤ s
-    → EndsAtTrade h (line_within s (records h) (Some x))
+ends_from : (t : House) (h : List Entry) → IsRunFrom t [] h → (s : ℕ) (n : EntryPart) (x : Node)
+    → node_of (records h) n ≡ Some x → n.entry ≤ s → EndsAtTrade h (line_within s (records h) (Some x))
 ends_from t h run zero n x found low =
     let made = is_made h n x found in
     let at = found_at n.entry 1 h made.by made.found in
@@ -219,15 +263,18 @@ ends_from t h run zero n x found low =
     absurd (omega (arith, high, low))
 ends_from t h run (suc s) n x found low =
     let made = is_made h n x found in
-    by_command t h s n x made.by made.by.command run found low made.found refl made.made (λ m y there below. ends_from t h run s m y there below)
+    by_command t h s n x made.by made.by.command run found low made.found refl made.made
+    (λ m y there below. ends_from t h run s m y there below)
 
 -- each node of a run has a trade
-pub has_deal : (t : House) (h : List Entry) (n : EntryPart) (x : Node) → IsRunFrom t [] h → node_of (records h) n ≡ Some x → (d : Deal) × (deal_of h n ≡ Some d)
+pub has_deal : (t : House) (h : List Entry) (n : EntryPart) (x : Node) → IsRunFrom t [] h
+    → node_of (records h) n ≡ Some x → (d : Deal) × (deal_of h n ≡ Some d)
 has_deal t h n x run found =
     let made = is_made h n x found in
     let at = found_at n.entry 1 h made.by made.found in
     let within : n.entry < 1 + length h = at.within in
     let long = as_long h in
     let top = ends_from t h run (length (records h)) n x found (omega (arith, within, long)) in
-    let root : root_of (records h) n ≡ Some top.root = ap (λ o. root_along (line_within (length (records h)) (records h) o)) found ∙ top.ends in
+    let root : root_of (records h) n ≡ Some top.root =
+    ap (λ o. root_along (line_within (length (records h)) (records h) o)) found ∙ top.ends in
     (top.deal, ap (option_and_then (deal_at h)) root ∙ top.trades)

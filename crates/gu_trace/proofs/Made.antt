@@ -17,13 +17,16 @@ made_line_of t l (Some r) = made_line t l r.command
 abbrev pub made_at : House → List Entry → ℕ → List ℕ
 made_at t h n = made_line_of t (live h) (entry_of h n)
 
-made_along : (t : House) (h : List Entry) (before after : List Record) → live h ≡ before ++ after → flat_map (made_at t h) (map (λ r. r.number) after) ≡ flat_map (λ r. made_line t (live h) r.command) after
+made_along : (t : House) (h : List Entry) (before after : List Record) → live h ≡ before ++ after
+    → flat_map (made_at t h) (map (λ r. r.number) after) ≡ flat_map (λ r. made_line t (live h) r.command) after
 made_along t h before [] is = refl
 made_along t h before (r ∷ after) is =
     let found = (listed (λ r. is_change r.command && not (is_reversed h r.number)) 1 h r before after is).found in
     ap (λ o. made_line_of t (live h) o ++ flat_map (made_at t h) (map (λ r. r.number) after)) found
-    ∙ ap (λ ts. made_line t (live h) r.command ++ ts) (made_along t h (before ++ r ∷ []) after (is ∙ sym (append_assoc before (r ∷ []) after)))
+    ∙ ap (λ ts. made_line t (live h) r.command ++ ts)
+    (made_along t h (before ++ r ∷ []) after (is ∙ sym (append_assoc before (r ∷ []) after)))
 
 -- the lines by the numbers of the live changes are those of the live changes
-pub made_all : (t : House) (h : List Entry) → flat_map (made_at t h) (map (λ r. r.number) (live h)) ≡ flat_map (λ r. made_line t (live h) r.command) (live h)
+pub made_all : (t : House) (h : List Entry)
+    → flat_map (made_at t h) (map (λ r. r.number) (live h)) ≡ flat_map (λ r. made_line t (live h) r.command) (live h)
 made_all t h = made_along t h [] (live h) refl

@@ -1,5 +1,6 @@
 -- The text of a trade's tree.
-use Rattle.std.specs.Prelude.{ℕ, zero, suc, ◌*◌, List, [], ◌∷◌, ◌++◌, codes, decimal, flat_map, Option, Some, None, option_map, unwrap_or}
+use Rattle.std.specs.Prelude.{ℕ, zero, suc, ◌*◌, List, [], ◌∷◌, ◌++◌, codes, decimal, flat_map}
+use Rattle.std.specs.Prelude.{Option, Some, None, option_map, unwrap_or}
 use Rattle.gu_base.specs.Numbers.{EntryPart}
 use Rattle.gu_base.specs.House.{House}
 use Rattle.gu_base.specs.History.{live}
@@ -9,7 +10,8 @@ use Rattle.gu_base.specs.Rows.{Row, rows_of}
 use Rattle.gu_base.specs.declared.entry.Entry.{Entry}
 use Rattle.gu_base.specs.declared.node.Place.{Place}
 use Rattle.gu_base.specs.declared.state.State.{State}
-use Rattle.gu_base.specs.declared.state.State.TheVariants.{Held, Offered, Claimed, Refused, Cancelled, ReversalPending, Reversed}
+use Rattle.gu_base.specs.declared.state.State.TheVariants.{Held, Offered, Claimed, Refused}
+use Rattle.gu_base.specs.declared.state.State.TheVariants.{Cancelled, ReversalPending, Reversed}
 
 -- two spaces for each level of depth
 abbrev pub indent : ℕ → List ℕ
@@ -34,7 +36,8 @@ giver_of h n = option_map (λ r. r.firm) (entry_of h n.entry)
 
 -- what the claim of these lots costs, in hundredths, by the live terms of the giver and the taker
 abbrev pub fee_of : House → List Entry → ℕ → List ℕ → List ℕ → ℕ
-fee_of t h lots giver taker = lots * unwrap_or (option_map (λ a. a.rate) (terms_of t (live h) giver taker)) 0
+fee_of t h lots giver taker =
+    lots * unwrap_or (option_map (λ a. a.rate) (terms_of t (live h) giver taker)) 0
 
 -- `claimed from GIVER fee `
 abbrev pub giver_words : List ℕ → List ℕ
@@ -62,7 +65,10 @@ words_for t h lots giver taker Reversed = []
 -- `name lots firm/account words`, with LF
 abbrev pub line_of : House → List Entry → Row → List ℕ
 line_of t h r =
-    indent r.depth ++ (node_words r.name r.lots ++ (place_words r.place ++ (words_for t h r.lots (giver_of h r.name) r.taker r.state ++ 10 ∷ [])))
+    indent r.depth
+    ++ (node_words r.name r.lots
+    ++ (place_words r.place
+    ++ (words_for t h r.lots (giver_of h r.name) r.taker r.state ++ 10 ∷ [])))
 
 -- a line for each row of the tree of a live trade
 abbrev pub trace_text : House → List Entry → ℕ → List ℕ

@@ -1,10 +1,13 @@
 //! The trace of a trade: its tree in text.
-ghost use Rattle.std.specs.Prelude.{◌≡◌, ◌++◌, [], ◌∷◌, true, false, decimal, flat_map, unwrap_or, OnOk, OnErr, string_bytes};
+ghost use Rattle.std.specs.Prelude.{◌≡◌, ◌++◌, [], ◌∷◌, true, false, decimal, flat_map, unwrap_or};
+ghost use Rattle.std.specs.Prelude.{OnOk, OnErr, string_bytes};
 ghost use Rattle.gu_base.specs.History.{live};
 ghost use Rattle.gu_tree.specs.Shown.{shown};
 ghost use Rattle.gu_book.specs.TreeRows.{is_live_trade};
 ghost use Rattle.gu_trace.specs.declared.chain.TraceError.TheVariants as errors;
-ghost use Rattle.gu_trace.specs.Trace.{indent, fee_of, giver_words, fee_words, giver_of, claimed_words, node_words, place_words, words_for, line_of, trace_text};
+ghost use Rattle.gu_trace.specs.Trace.{indent, fee_of, giver_words, fee_words, giver_of};
+ghost use Rattle.gu_trace.specs.Trace.{claimed_words, node_words, place_words, words_for, line_of};
+ghost use Rattle.gu_trace.specs.Trace.{trace_text};
 
 use crate::lookup::entry_at;
 use gu_base::{FirmId, Memory, NodeName, Number, Place, State};
@@ -49,7 +52,8 @@ fn append_indent(text: &mut String, depth: u8) -> Result<(), Memory>
 
 /// Appends a taker behind these words.
 fn append_taker(text: &mut String, words: &str, taker: &Option<FirmId>) -> Result<(), Memory>
-    ensures { OnOk result (string_bytes text.new ≡ string_bytes text.old ++ (words.now ++ unwrap_or taker.now [])) }
+    ensures { OnOk result
+        (string_bytes text.new ≡ string_bytes text.old ++ (words.now ++ unwrap_or taker.now [])) }
 {
     text.push_str(words)?;
     match taker {
@@ -85,7 +89,8 @@ fn append_digits(text: &mut String, number: u128) -> Result<(), Memory>
 
 /// Appends a giver and a fee.
 fn append_fee(text: &mut String, giver: &FirmId, fee: u128) -> Result<(), Memory>
-    ensures { OnOk result (string_bytes text.new ≡ string_bytes text.old ++ fee_words giver.now fee) }
+    ensures { OnOk result
+        (string_bytes text.new ≡ string_bytes text.old ++ fee_words giver.now fee) }
 {
     append_giver(text, giver)?;
     append_digits(text, fee)
@@ -93,7 +98,11 @@ fn append_fee(text: &mut String, giver: &FirmId, fee: u128) -> Result<(), Memory
 
 /// Appends from whom a node was claimed, and what the claim costs its taker in hundredths.
 fn append_claim(text: &mut String, book: &Book, head: &Head) -> Result<(), Memory>
-    ensures { OnOk result (string_bytes text.new ≡ string_bytes text.old ++ claimed_words book.now.house book.now.history head.now.lots (giver_of book.now.history head.now.name) head.now.taker) }
+    ensures { OnOk result
+        (string_bytes text.new
+        ≡ string_bytes text.old
+        ++ claimed_words book.now.house book.now.history head.now.lots
+        (giver_of book.now.history head.now.name) head.now.taker) }
 {
     let Some(split) = entry_at(book.history(), head.name.entry()) else {
         return Ok(());
@@ -107,7 +116,11 @@ fn append_claim(text: &mut String, book: &Book, head: &Head) -> Result<(), Memor
 
 /// Appends the words for a node's state.
 fn append_words(text: &mut String, book: &Book, head: &Head) -> Result<(), Memory>
-    ensures { OnOk result (string_bytes text.new ≡ string_bytes text.old ++ words_for book.now.house book.now.history head.now.lots (giver_of book.now.history head.now.name) head.now.taker head.now.state) }
+    ensures { OnOk result
+        (string_bytes text.new
+        ≡ string_bytes text.old
+        ++ words_for book.now.house book.now.history head.now.lots
+        (giver_of book.now.history head.now.name) head.now.taker head.now.state) }
 {
     match head.state {
         State::Held => text.push_str("held"),
@@ -128,7 +141,8 @@ fn append_node(text: &mut String, name: NodeName, lots: u64) -> Result<(), Memor
 
 /// Appends where a node stands.
 fn append_place(text: &mut String, place: &Place) -> Result<(), Memory>
-    ensures { OnOk result (string_bytes text.new ≡ string_bytes text.old ++ place_words (Some place.now)) }
+    ensures { OnOk result
+        (string_bytes text.new ≡ string_bytes text.old ++ place_words (Some place.now)) }
 {
     write!(text, "{}/{} ", place.firm, place.account)
 }
@@ -142,7 +156,9 @@ fn append_end(text: &mut String) -> Result<(), Memory>
 
 /// Appends the line of a row.
 fn append_line(text: &mut String, book: &Book, row: &Row) -> Result<(), Memory>
-    ensures { OnOk result (string_bytes text.new ≡ string_bytes text.old ++ line_of book.now.house book.now.history (shown row.now)) }
+    ensures { OnOk result
+        (string_bytes text.new
+        ≡ string_bytes text.old ++ line_of book.now.house book.now.history (shown row.now)) }
 {
     let head = &row.head;
     append_indent(text, row.depth)?;
@@ -154,7 +170,10 @@ fn append_line(text: &mut String, book: &Book, row: &Row) -> Result<(), Memory>
 
 /// Appends the lines of the rows.
 fn append_lines(text: &mut String, book: &Book, rows: &[Row]) -> Result<(), Memory>
-    ensures { OnOk result (string_bytes text.new ≡ string_bytes text.old ++ flat_map (λ r. line_of book.now.house book.now.history (shown r)) rows.now) }
+    ensures { OnOk result
+        (string_bytes text.new
+        ≡ string_bytes text.old
+        ++ flat_map (λ r. line_of book.now.house book.now.history (shown r)) rows.now) }
 {
     for row in rows {
         append_line(text, book, row)?;
@@ -162,18 +181,22 @@ fn append_lines(text: &mut String, book: &Book, rows: &[Row]) -> Result<(), Memo
     Ok(())
 }
 
-/// Appends the trace of a live trade: a line for each node of its tree, with the account in which it stands and its state, and the
-/// fee of each claim in hundredths. A node's parts stand below it, two spaces further in.
+/// Appends the trace of a live trade: a line for each node of its tree, with the account in which
+/// it stands and its state, and the fee of each claim in hundredths. A node's parts stand below it,
+/// two spaces further in.
 ///
 /// # Errors
 ///
-/// `NoLiveTrade` exactly where the number is of no live trade, `Memory` where a growth was refused, of a live trade alone. Both leave
-/// `out` as it was.
+/// `NoLiveTrade` exactly where the number is of no live trade, `Memory` where a growth was refused,
+/// of a live trade alone. Both leave `out` as it was.
 pub fn trace(alloc: Global, book: &Book, trade: Number, out: &mut Vec<u8>) -> Result<(), TraceError>
-    ensures text { OnOk result (out.new.items ≡ out.old.items ++ trace_text book.now.house book.now.history trade) }
+    ensures text { OnOk result
+        (out.new.items ≡ out.old.items ++ trace_text book.now.house book.now.history trade) }
     ensures live { OnOk result (is_live_trade (live book.now.history) trade ≡ true) }
-    ensures none { result ≡ Err errors.NoLiveTrade → is_live_trade (live book.now.history) trade ≡ false }
-    ensures memory { result ≡ Err errors.Memory → is_live_trade (live book.now.history) trade ≡ true }
+    ensures none { result ≡ Err errors.NoLiveTrade
+        → is_live_trade (live book.now.history) trade ≡ false }
+    ensures memory { result ≡ Err errors.Memory
+        → is_live_trade (live book.now.history) trade ≡ true }
     ensures unchanged { OnErr result (out.new.items ≡ out.old.items) }
 {
     let Some(rows) = book.tree_rows(alloc, trade)? else {

@@ -61,7 +61,8 @@ fn change_concerns(
 
 /// Whether the change of this number concerns the firm.
 fn entry_concerns(house: &FirmId, entries: &[Entry], firm: &FirmId, number: Number) -> bool
-    ensures { result ≡ record_concerns house.now entries.now firm.now (entry_of entries.now number) }
+    ensures { result ≡ record_concerns house.now entries.now firm.now
+        (entry_of entries.now number) }
 {
     match entry_at(entries, number) {
         None => false,
@@ -69,8 +70,8 @@ fn entry_concerns(house: &FirmId, entries: &[Entry], firm: &FirmId, number: Numb
     }
 }
 
-/// Whether an entry of the firm `by` concerns the firm. An Initiate, Decline or Reverse concerns those whom the change that it names
-/// concerns.
+/// Whether an entry of the firm `by` concerns the firm. An Initiate, Decline or Reverse concerns
+/// those whom the change that it names concerns.
 pub(crate) fn concerns(
     house: &FirmId,
     entries: &[Entry],

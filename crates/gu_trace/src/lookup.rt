@@ -1,4 +1,5 @@
-//! Entries, nodes and trades, looked up by number. The k-th entry of a history has the number k, so nothing is searched for.
+//! Entries, nodes and trades, looked up by number. The k-th entry of a history has the number k, so
+//! nothing is searched for.
 ghost use Rattle.std.specs.Prelude.{◌≡◌, option_map};
 ghost use Rattle.gu_base.specs.History.{numbered_as, records};
 ghost use Rattle.gu_base.specs.Nodes.{node_of};

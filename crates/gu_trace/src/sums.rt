@@ -1,7 +1,9 @@
 //! The totals of the day in text: positions, fees and used agreements.
 ghost use Rattle.std.specs.Prelude.{◌≡◌, ◌++◌, [], flat_map, OnOk, OnErr, string_bytes};
 ghost use Rattle.gu_base.specs.History.{live};
-ghost use Rattle.gu_trace.specs.Totals.{account_words, lots_words, position_line, position_in, fees_of, use_of, fixed_line, made_line, positions_text, fees_text, totals_text};
+ghost use Rattle.gu_trace.specs.Totals.{account_words, lots_words, position_line, position_in};
+ghost use Rattle.gu_trace.specs.Totals.{fees_of, use_of, fixed_line, made_line, positions_text};
+ghost use Rattle.gu_trace.specs.Totals.{fees_text, totals_text};
 
 use crate::lookup::entry_at;
 use gu_base::{Account, Command, FirmId, InstrumentId, Memory};
@@ -11,7 +13,9 @@ use std::fmt::Write;
 
 /// Appends the account of a position.
 fn append_account_words(text: &mut String, account: &Account) -> Result<(), Memory>
-    ensures { OnOk result (string_bytes text.new ≡ string_bytes text.old ++ account_words account.now.firm account.now.name) }
+    ensures { OnOk result
+        (string_bytes text.new
+        ≡ string_bytes text.old ++ account_words account.now.firm account.now.name) }
 {
     write!(text, "position {}/{} ", account.firm, account.name)
 }
@@ -23,7 +27,8 @@ fn append_lots(
     long: u64,
     short: u64,
 ) -> Result<(), Memory>
-    ensures { OnOk result (string_bytes text.new ≡ string_bytes text.old ++ lots_words instrument.now long short) }
+    ensures { OnOk result
+        (string_bytes text.new ≡ string_bytes text.old ++ lots_words instrument.now long short) }
 {
     writeln!(text, "{instrument} long {long} short {short}")
 }
@@ -36,7 +41,10 @@ fn append_position_line(
     long: u64,
     short: u64,
 ) -> Result<(), Memory>
-    ensures { OnOk result (string_bytes text.new ≡ string_bytes text.old ++ position_line account.now.firm account.now.name instrument.now long short) }
+    ensures { OnOk result
+        (string_bytes text.new
+        ≡ string_bytes text.old
+        ++ position_line account.now.firm account.now.name instrument.now long short) }
 {
     append_account_words(text, account)?;
     append_lots(text, instrument, long, short)
@@ -49,7 +57,9 @@ fn append_position(
     account: &Account,
     instrument: &InstrumentId,
 ) -> Result<(), Memory>
-    ensures { OnOk result (string_bytes text.new ≡ string_bytes text.old ++ position_in (live book.now.history) account.now instrument.now) }
+    ensures { OnOk result
+        (string_bytes text.new
+        ≡ string_bytes text.old ++ position_in (live book.now.history) account.now instrument.now) }
 {
     let (long, short) = book.position(&account.firm, &account.name, instrument);
     if long == 0 && short == 0 {
@@ -60,7 +70,10 @@ fn append_position(
 
 /// Appends the positions of an account, in the order of the instruments.
 fn append_account(text: &mut String, book: &Book, account: &Account) -> Result<(), Memory>
-    ensures { OnOk result (string_bytes text.new ≡ string_bytes text.old ++ flat_map (position_in (live book.now.history) account.now) book.now.house.instruments) }
+    ensures { OnOk result
+        (string_bytes text.new
+        ≡ string_bytes text.old
+        ++ flat_map (position_in (live book.now.history) account.now) book.now.house.instruments) }
 {
     let house = book.house();
     for place in 0..house.instrument_count() {
@@ -74,7 +87,9 @@ fn append_account(text: &mut String, book: &Book, account: &Account) -> Result<(
 
 /// Appends all positions, in the order of the accounts.
 fn append_positions(text: &mut String, book: &Book) -> Result<(), Memory>
-    ensures { OnOk result (string_bytes text.new ≡ string_bytes text.old ++ positions_text book.now.house (live book.now.history)) }
+    ensures { OnOk result
+        (string_bytes text.new
+        ≡ string_bytes text.old ++ positions_text book.now.house (live book.now.history)) }
 {
     let house = book.house();
     for place in 0..house.account_count() {
@@ -88,7 +103,9 @@ fn append_positions(text: &mut String, book: &Book) -> Result<(), Memory>
 
 /// Appends the line of a firm's fees, unless it neither pays nor receives.
 fn append_firm(text: &mut String, book: &Book, firm: &FirmId) -> Result<(), Memory>
-    ensures { OnOk result (string_bytes text.new ≡ string_bytes text.old ++ fees_of book.now.house (live book.now.history) firm.now) }
+    ensures { OnOk result
+        (string_bytes text.new
+        ≡ string_bytes text.old ++ fees_of book.now.house (live book.now.history) firm.now) }
 {
     let paid = book.paid(firm);
     let received = book.received(firm);
@@ -100,7 +117,9 @@ fn append_firm(text: &mut String, book: &Book, firm: &FirmId) -> Result<(), Memo
 
 /// Appends the fees of all firms, the house first.
 fn append_fees(text: &mut String, book: &Book) -> Result<(), Memory>
-    ensures { OnOk result (string_bytes text.new ≡ string_bytes text.old ++ fees_text book.now.house (live book.now.history)) }
+    ensures { OnOk result
+        (string_bytes text.new
+        ≡ string_bytes text.old ++ fees_text book.now.house (live book.now.history)) }
 {
     let house = book.house();
     append_firm(text, book, &house.house())?;
@@ -115,7 +134,10 @@ fn append_fees(text: &mut String, book: &Book) -> Result<(), Memory>
 
 /// Appends what a giver and a taker have used, with their limit, unless they have used nothing.
 fn append_use(text: &mut String, book: &Book, giver: &FirmId, taker: &FirmId) -> Result<(), Memory>
-    ensures { OnOk result (string_bytes text.new ≡ string_bytes text.old ++ use_of book.now.house (live book.now.history) giver.now taker.now) }
+    ensures { OnOk result
+        (string_bytes text.new
+        ≡ string_bytes text.old
+        ++ use_of book.now.house (live book.now.history) giver.now taker.now) }
 {
     let used = book.used(giver, taker);
     if used == 0 {
@@ -127,7 +149,10 @@ fn append_use(text: &mut String, book: &Book, giver: &FirmId, taker: &FirmId) ->
 
 /// Appends what is used of each agreement that is fixed.
 fn append_fixed(text: &mut String, book: &Book) -> Result<(), Memory>
-    ensures { OnOk result (string_bytes text.new ≡ string_bytes text.old ++ flat_map (fixed_line book.now.house (live book.now.history)) book.now.house.agreements) }
+    ensures { OnOk result
+        (string_bytes text.new
+        ≡ string_bytes text.old
+        ++ flat_map (fixed_line book.now.house (live book.now.history)) book.now.house.agreements) }
 {
     let house = book.house();
     for place in 0..house.agreement_count() {
@@ -141,7 +166,9 @@ fn append_fixed(text: &mut String, book: &Book) -> Result<(), Memory>
 
 /// Appends what is used of the agreement that the command makes, if it makes one.
 fn append_made_by(text: &mut String, book: &Book, command: &Command) -> Result<(), Memory>
-    ensures { OnOk result (string_bytes text.new ≡ string_bytes text.old ++ made_line book.now.house (live book.now.history) command.now) }
+    ensures { OnOk result
+        (string_bytes text.new
+        ≡ string_bytes text.old ++ made_line book.now.house (live book.now.history) command.now) }
 {
     match command {
         Command::Agree { giver, taker, .. } => append_use(text, book, giver, taker),
@@ -151,7 +178,11 @@ fn append_made_by(text: &mut String, book: &Book, command: &Command) -> Result<(
 
 /// Appends what is used of each agreement that a live change made.
 fn append_made(text: &mut String, alloc: Global, book: &Book) -> Result<(), Memory>
-    ensures { OnOk result (string_bytes text.new ≡ string_bytes text.old ++ flat_map (λ r. made_line book.now.house (live book.now.history) r.command) (live book.now.history)) }
+    ensures { OnOk result
+        (string_bytes text.new
+        ≡ string_bytes text.old
+        ++ flat_map (λ r. made_line book.now.house (live book.now.history) r.command)
+        (live book.now.history)) }
 {
     let numbers = book.live(alloc)?;
     for number in numbers.as_slice() {
@@ -163,16 +194,18 @@ fn append_made(text: &mut String, alloc: Global, book: &Book) -> Result<(), Memo
     Ok(())
 }
 
-/// Appends the totals, in the order of the house file: a line for each account and instrument in which lots stand, with those of buy
-/// trades and those of sell trades; a line for each firm that pays or receives something for live claims, in hundredths, the
-/// house first; and a line for each agreement of which lots are used, with its limit and what was raised: those that are fixed, and then
-/// those that live changes made, by their numbers.
+/// Appends the totals, in the order of the house file: a line for each account and instrument in
+/// which lots stand, with those of buy trades and those of sell trades; a line for each firm that
+/// pays or receives something for live claims, in hundredths, the house first; and a line for each
+/// agreement of which lots are used, with its limit and what was raised: those that are fixed, and
+/// then those that live changes made, by their numbers.
 ///
 /// # Errors
 ///
 /// `Memory` where a growth was refused. It leaves `out` as it was.
 pub fn totals(alloc: Global, book: &Book, out: &mut Vec<u8>) -> Result<(), Memory>
-    ensures text { OnOk result (out.new.items ≡ out.old.items ++ totals_text book.now.house book.now.history) }
+    ensures text { OnOk result
+        (out.new.items ≡ out.old.items ++ totals_text book.now.house book.now.history) }
     ensures unchanged { OnErr result (out.new.items ≡ out.old.items) }
 {
     let mut text = String::new(alloc);

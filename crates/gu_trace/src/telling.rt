@@ -1,7 +1,7 @@
 //! What a firm is told of the entries that concern it.
-ghost use Rattle.std.specs.Prelude.{◌≡◌, ◌≤◌, ◌<◌, ◌+◌, ◌^◌, ◌++◌, ℕ, List, [], length, map, sum_by};
-ghost use Rattle.std.specs.Prelude.{slice_get, option_map, bytes_eq, ◌||◌, if◌then◌else◌, true};
-ghost use Rattle.std.specs.Prelude.{IfOk, IfSome, OnOk, OnErr};
+ghost use Rattle.std.specs.Prelude.{◌≡◌, ◌≤◌, ◌<◌, ◌+◌, ◌^◌, ◌++◌, ℕ, List, [], length, map};
+ghost use Rattle.std.specs.Prelude.{sum_by, slice_get, option_map, bytes_eq, ◌||◌, if◌then◌else◌};
+ghost use Rattle.std.specs.Prelude.{true, IfOk, IfSome, OnOk, OnErr};
 ghost use Rattle.std.specs.List.{All, cons_option};
 ghost use Rattle.gu_base.specs.History.{numbered_as};
 ghost use Rattle.gu_base.specs.Limits.{most_entries, most_parts};
@@ -10,7 +10,10 @@ ghost use Rattle.gu_base.specs.declared.report.Report.{Report as ReportData};
 ghost use Rattle.gu_book.specs.Limits.{IsWithinLimits, PartsWithinLimits};
 ghost use Rattle.gu_trace.specs.Concerns.{concerns};
 ghost use Rattle.gu_trace.specs.Filling.{told_at, told_from, told_of_numbers, filled};
-ghost use Rattle.gu_trace.specs.Reports.{most_reports, report_with, report_part, shown_or_not, parts_shown, claimed_part, no_part, split_report, decision_report, change_report, reversal_report, report_of, told, entries_for, reports_for};
+ghost use Rattle.gu_trace.specs.Reports.{most_reports, report_with, report_part, shown_or_not};
+ghost use Rattle.gu_trace.specs.Reports.{parts_shown, claimed_part, no_part, split_report};
+ghost use Rattle.gu_trace.specs.Reports.{decision_report, change_report, reversal_report};
+ghost use Rattle.gu_trace.specs.Reports.{report_of, told, entries_for, reports_for};
 
 use crate::concern::concerns;
 use crate::lookup::{deal_of, entry_at, lots_at, node_at};
@@ -59,7 +62,8 @@ fn report(
     parts: Vec<ReportPart>,
     deal: Deal,
 ) -> Report
-    ensures { result ≡ report_with (numbered_as number e.now) codes.kind codes.trans target lots parts.items deal }
+    ensures { result ≡ report_with (numbered_as number e.now) codes.kind codes.trans target lots
+        parts.items deal }
 {
     Report {
         number,
@@ -74,7 +78,8 @@ fn report(
     }
 }
 
-/// Whether a part of a Split is shown to the firm: the owner sees all parts, another firm those that are given to it.
+/// Whether a part of a Split is shown to the firm: the owner sees all parts, another firm those
+/// that are given to it.
 fn is_shown(firm: &FirmId, by: &FirmId, part: &Part) -> bool
     ensures { result ≡ (bytes_eq by.now firm.now || bytes_eq part.now.firm firm.now) }
 {
@@ -153,7 +158,8 @@ fn split_report(
     parts: &[Part],
 ) -> Result<Option<Report>, Memory>
     requires { PartsWithinLimits parts.now }
-    ensures { IfOk result (λ o. o ≡ split_report entries.now firm.now (numbered_as number e.now) node parts.now) }
+    ensures { IfOk result
+        (λ o. o ≡ split_report entries.now firm.now (numbered_as number e.now) node parts.now) }
 {
     let Some(deal) = deal_of(entries, &node) else {
         return Ok(None);
@@ -201,7 +207,9 @@ fn claim_report(
     node: NodeName,
     account: &AccountId,
 ) -> Result<Option<Report>, Memory>
-    ensures { IfOk result (λ o. o ≡ decision_report entries.now (numbered_as number e.now) 16 0 node (claimed_part firm.now account.now)) }
+    ensures { IfOk result (λ o. o
+        ≡ decision_report entries.now (numbered_as number e.now) 16 0 node
+        (claimed_part firm.now account.now)) }
 {
     let Some(deal) = deal_of(entries, &node) else {
         return Ok(None);
@@ -222,7 +230,8 @@ fn give_back_report(
     codes: Codes,
     node: NodeName,
 ) -> Option<Report>
-    ensures { result ≡ decision_report entries.now (numbered_as number e.now) codes.kind codes.trans node no_part }
+    ensures { result ≡ decision_report entries.now (numbered_as number e.now) codes.kind codes.trans
+        node no_part }
 {
     let Some(deal) = deal_of(entries, &node) else {
         return None;
@@ -250,7 +259,8 @@ fn change_report(
     e: &Entry,
 ) -> Result<Option<Report>, Memory>
     requires { IsWithinLimits e.now.command }
-    ensures { IfOk result (λ o. o ≡ change_report entries.now firm.now (numbered_as number e.now) e.now.command) }
+    ensures { IfOk result
+        (λ o. o ≡ change_report entries.now firm.now (numbered_as number e.now) e.now.command) }
 {
     match &e.command {
         Command::Trade {
@@ -282,7 +292,8 @@ fn change_report(
     }
 }
 
-/// The report of an Initiate, Decline or Reverse of the change with the number `named`: its lots are those of that change's report.
+/// The report of an Initiate, Decline or Reverse of the change with the number `named`: its lots
+/// are those of that change's report.
 fn reversal_report(
     alloc: Global,
     entries: &[Entry],
@@ -294,7 +305,8 @@ fn reversal_report(
 ) -> Result<Option<Report>, Memory>
     requires within { All (λ e. IsWithinLimits e.command) entries.now }
     requires reversal { codes.trans ≡ 6 }
-    ensures { IfOk result (λ o. o ≡ reversal_report entries.now firm.now (numbered_as number e.now) codes.kind named) }
+    ensures { IfOk result (λ o.
+        o ≡ reversal_report entries.now firm.now (numbered_as number e.now) codes.kind named) }
 {
     let Some(change) = entry_at(entries, named) else {
         return Ok(None);
@@ -320,7 +332,8 @@ fn report_of(
 ) -> Result<Option<Report>, Memory>
     requires within { All (λ e. IsWithinLimits e.command) entries.now }
     requires change { IsWithinLimits e.now.command }
-    ensures { IfOk result (λ o. o ≡ report_of entries.now firm.now (numbered_as number e.now) e.now.command) }
+    ensures { IfOk result
+        (λ o. o ≡ report_of entries.now firm.now (numbered_as number e.now) e.now.command) }
 {
     match &e.command {
         Command::Initiate { entry } => {
@@ -336,7 +349,8 @@ fn report_of(
     }
 }
 
-/// What the firm is told of the entry at this place of the history, counted from 0: nothing where it doesn't concern the firm.
+/// What the firm is told of the entry at this place of the history, counted from 0: nothing where
+/// it doesn't concern the firm.
 fn told(
     alloc: Global,
     house: &FirmId,
@@ -347,8 +361,12 @@ fn told(
     requires few { length entries.now ≤ most_entries }
     requires there { place < length entries.now }
     requires within { All (λ e. IsWithinLimits e.command) entries.now }
-    ensures value { IfOk result (λ o. Some o ≡ option_map (λ e. told house.now entries.now firm.now (numbered_as (place + 1) e)) (slice_get entries.now place)) }
-    ensures memory { OnErr result (IfSome (slice_get entries.now place) (λ e. concerns house.now entries.now firm.now e.firm e.command ≡ true)) }
+    ensures value { IfOk result (λ o. Some o
+        ≡ option_map (λ e. told house.now entries.now firm.now (numbered_as (place + 1) e))
+        (slice_get entries.now place)) }
+    ensures memory { OnErr result
+        (IfSome (slice_get entries.now place)
+        (λ e. concerns house.now entries.now firm.now e.firm e.command ≡ true)) }
 {
     let e = &entries[place];
     if concerns(house, entries, firm, &e.firm, &e.command) {
@@ -431,20 +449,26 @@ pub(crate) fn tell_from(
     Ok(())
 }
 
-/// The reports to a firm of the first 100 entries numbered above `after` that concern it, in their order.
+/// The reports to a firm of the first 100 entries numbered above `after` that concern it, in their
+/// order.
 ///
-/// A Trade concerns the house and the firm that it is for; a Split its owner and each firm that it gives a part; a Claim, Refuse or
-/// Cancel giver and taker; an Agree or a Raise nobody; an Initiate, Decline or Reverse those whom the change that it names concerns.
-/// An entry is reported whether it is reversed or not, with the status with which it was accepted. A Split shows its owner all parts
-/// and another firm those that are given to it, a Claim shows its taker its part; no other report shows parts.
+/// A Trade concerns the house and the firm that it is for; a Split its owner and each firm that it
+/// gives a part; a Claim, Refuse or Cancel giver and taker; an Agree or a Raise nobody; an
+/// Initiate, Decline or Reverse those whom the change that it names concerns. An entry is reported
+/// whether it is reversed or not, with the status with which it was accepted. A Split shows its
+/// owner all parts and another firm those that are given to it, a Claim shows its taker its part;
+/// no other report shows parts.
 ///
 /// # Errors
 ///
 /// `Memory` where a growth was refused, and only where an entry above the number concerns the firm.
 pub fn reports(alloc: Global, book: &Book, firm: &FirmId, after: u32) -> Result<Vec<Report>, Memory>
-    ensures value { IfOk result (λ v. v.items ≡ reports_for book.now.house.house book.now.history firm.now after) }
-    ensures each { IfOk result (λ v. map (λ r. r.number) v.items ≡ map (λ r. r.number) (entries_for book.now.house.house book.now.history firm.now after)) }
-    ensures memory { OnErr result (1 ≤ length (entries_for book.now.house.house book.now.history firm.now after)) }
+    ensures value { IfOk result
+        (λ v. v.items ≡ reports_for book.now.house.house book.now.history firm.now after) }
+    ensures each { IfOk result (λ v. map (λ r. r.number) v.items
+        ≡ map (λ r. r.number) (entries_for book.now.house.house book.now.history firm.now after)) }
+    ensures memory { OnErr result
+        (1 ≤ length (entries_for book.now.house.house book.now.history firm.now after)) }
     ensures few { IfOk result (λ v. length v.items ≤ most_reports) }
     ensures short { IfOk result (λ v. All (λ r. length r.parts ≤ most_parts) v.items) }
 {

@@ -18,7 +18,8 @@ fn tells(rt: &HostRuntime, alloc: Global, book: &Book, before: &Picture) -> Opti
     }
 }
 
-/// Makes a call, of which nothing more is asked where no memory is found. Whether all could be written.
+/// Makes a call, of which nothing more is asked where no memory is found. Whether all could be
+/// written.
 fn make_last(rt: &HostRuntime, alloc: Global, book: &mut Book, call: &Call) -> bool {
     match book.apply(alloc, &call.by, &call.id, &call.command) {
         Ok(answer) => show_answer(rt, &answer),
@@ -26,7 +27,8 @@ fn make_last(rt: &HostRuntime, alloc: Global, book: &mut Book, call: &Call) -> b
     }
 }
 
-/// Makes a call once more, of a book that lacked memory and told this before. Whether all could be written.
+/// Makes a call once more, of a book that lacked memory and told this before. Whether all could be
+/// written.
 fn make_again(
     rt: &HostRuntime,
     alloc: Global,
@@ -41,8 +43,8 @@ fn make_again(
     }
 }
 
-/// Calls a book that tells this. Where no memory is found it sees that the book tells what it told before, and calls again. Whether all could
-/// be written.
+/// Calls a book that tells this. Where no memory is found it sees that the book tells what it told
+/// before, and calls again. Whether all could be written.
 fn make_once(
     rt: &HostRuntime,
     alloc: Global,
@@ -59,7 +61,8 @@ fn make_once(
     }
 }
 
-/// Calls, and where no memory is found sees that the book tells what it told before, and calls again. Whether all could be written.
+/// Calls, and where no memory is found sees that the book tells what it told before, and calls
+/// again. Whether all could be written.
 pub(crate) fn make(rt: &HostRuntime, alloc: Global, book: &mut Book, call: &Call) -> bool {
     match take_picture(rt, alloc, book) {
         Some(before) => {

@@ -29,7 +29,8 @@ fn opened_again(alloc: Global, house: House) -> Option<Book> {
     }
 }
 
-/// The book of a house after its opening calls. Where no memory is found it is opened once more, with the house that came back.
+/// The book of a house after its opening calls. Where no memory is found it is opened once more,
+/// with the house that came back.
 fn opened(rt: &HostRuntime, alloc: Global, house: House) -> Option<Book> {
     match Book::open(alloc, house) {
         Ok(book) => Some(book),
@@ -120,7 +121,8 @@ fn play_house<H: Threads + Wait + Clock + Eprint + Sync>(
     true
 }
 
-/// Plays the days of an input, and writes what each line gives. `false` where something can't be written, or memory is refused twice.
+/// Plays the days of an input, and writes what each line gives. `false` where something can't be
+/// written, or memory is refused twice.
 pub(crate) fn play<H: Threads + Wait + Clock + Eprint + Sync>(
     rt: &HostRuntime,
     handle: &H,

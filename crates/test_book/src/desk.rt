@@ -32,7 +32,8 @@ use std::thread::Threads;
 use std::time::Clock;
 use telling::{tell_held, tell_kept, tell_told};
 
-/// Plays both cases over books of this house, by a handle that may start threads and wait. Whether all could be written.
+/// Plays both cases over books of this house, by a handle that may start threads and wait. Whether
+/// all could be written.
 pub(crate) fn tell<H: Threads + Wait + Clock + Eprint + Sync>(
     rt: &HostRuntime,
     handle: &H,

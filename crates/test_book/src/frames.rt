@@ -6,7 +6,8 @@ use gu_message::{SendingTime, msg_types, report, shows_few_parts};
 use jiff::Timestamp;
 use std::alloc::Global;
 
-/// Appends the frame of a report to a firm, as a session sends it at a moment, if it can be written.
+/// Appends the frame of a report to a firm, as a session sends it at a moment, if it can be
+/// written.
 fn append_frame(
     alloc: Global,
     out: &mut Vec<u8>,
@@ -42,7 +43,8 @@ fn set_bars(bytes: &mut [u8]) {
     }
 }
 
-/// The frames of reports to a firm, a line for each, with `|` for SOH. Their numbers begin behind that of the Logon.
+/// The frames of reports to a firm, a line for each, with `|` for SOH. Their numbers begin behind
+/// that of the Logon.
 pub(crate) fn frames(
     alloc: Global,
     house: FirmId,

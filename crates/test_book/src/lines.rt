@@ -196,7 +196,8 @@ fn call_of(alloc: Global, line: &[u8]) -> Result<Option<Call>, Memory> {
     }
 }
 
-/// The call of a line: `FIRM ID` and a command. `None` where it is none. Where no memory is found it is read once more.
+/// The call of a line: `FIRM ID` and a command. `None` where it is none. Where no memory is found
+/// it is read once more.
 ///
 /// # Errors
 ///

@@ -71,7 +71,8 @@ fn show_decision(rt: &HostRuntime, taker: Option<FirmId>, decision: Option<Numbe
     }
 }
 
-/// `DEPTH NAME LOTS FIRM/ACCOUNT STATE`, and then ` taker FIRM` and ` by NUMBER` where there are any
+/// `DEPTH NAME LOTS FIRM/ACCOUNT STATE`, and then ` taker FIRM` and ` by NUMBER` where there are
+/// any
 fn show_row(rt: &HostRuntime, row: &Row) -> bool {
     let head = &row.head;
     let (firm, account) = (head.place.firm, head.place.account);
@@ -138,7 +139,8 @@ fn show_told(rt: &HostRuntime, told: &Told, taker: FirmId) -> bool {
         && show_these(rt, &told.rows)
 }
 
-/// What is asked of the live changes alone: a trade, an account of its giver, an instrument, and the giver and a taker.
+/// What is asked of the live changes alone: a trade, an account of its giver, an instrument, and
+/// the giver and a taker.
 #[derive(Clone, Copy)]
 struct Alone {
     trade: Number,
@@ -191,7 +193,8 @@ fn told_of(rt: &HostRuntime, alloc: Global, book: &Book, of: &Alone) -> Result<T
     }
 }
 
-/// Writes what the live changes alone give of a trade, of an account of its giver, and of the giver and a taker.
+/// Writes what the live changes alone give of a trade, of an account of its giver, and of the giver
+/// and a taker.
 fn show_alone(rt: &HostRuntime, alloc: Global, book: &Book, words: &[u8]) -> bool {
     let Some(of) = alone_of(words) else {
         return rt.println("what?").is_ok();

@@ -1,4 +1,5 @@
-//! Questions of what is told of a day: reports, as lines or in frames, a trace, and totals. What writes says whether it could.
+//! Questions of what is told of a day: reports, as lines or in frames, a trace, and totals. What
+//! writes says whether it could.
 
 use crate::frames::frames;
 use crate::memory::tell_refused;
@@ -114,7 +115,8 @@ fn frames_to(
     }
 }
 
-/// Writes the frames of these reports to a firm, as a session sends them at 09:00:30 on 2 March 2026.
+/// Writes the frames of these reports to a firm, as a session sends them at 09:00:30 on 2 March
+/// 2026.
 fn show_sent(rt: &HostRuntime, alloc: Global, book: &Book, firm: FirmId, found: &[Report]) -> bool {
     let house = book.house().house();
     let Ok(moment) = Timestamp::from_second(SENT) else {
@@ -163,7 +165,8 @@ fn show_behind(rt: &HostRuntime, out: &[u8]) -> bool {
     }
 }
 
-/// Writes the trace of a trade, behind what is there. Where no memory is found it sees that nothing was written, and asks again.
+/// Writes the trace of a trade, behind what is there. Where no memory is found it sees that nothing
+/// was written, and asks again.
 fn show_trace_behind(
     rt: &HostRuntime,
     alloc: Global,
@@ -186,7 +189,8 @@ fn show_trace_behind(
     rt.println("no memory").is_ok()
 }
 
-/// Writes the totals, behind what is there. Where no memory is found it sees that nothing was written, and asks again.
+/// Writes the totals, behind what is there. Where no memory is found it sees that nothing was
+/// written, and asks again.
 fn show_totals_behind(rt: &HostRuntime, alloc: Global, book: &Book, out: &mut Vec<u8>) -> bool {
     for _again in 0..2 {
         match totals(alloc, book, out) {
@@ -200,7 +204,8 @@ fn show_totals_behind(rt: &HostRuntime, alloc: Global, book: &Book, out: &mut Ve
     rt.println("no memory").is_ok()
 }
 
-/// What stands there before a text is asked for. Where no memory is found it is asked for once more.
+/// What stands there before a text is asked for. Where no memory is found it is asked for once
+/// more.
 fn text_before(rt: &HostRuntime, alloc: Global) -> Result<Vec<u8>, Memory> {
     match BEFORE.to_vec(alloc) {
         Ok(text) => Ok(text),
@@ -226,7 +231,8 @@ fn show_text(rt: &HostRuntime, alloc: Global, book: &Book, trade: Option<Number>
     }
 }
 
-/// The totals as a server writes them in the end, with a writer of its own. `None` where no memory is found.
+/// The totals as a server writes them in the end, with a writer of its own. `None` where no memory
+/// is found.
 fn written(alloc: Global, book: &Book) -> Option<Vec<u8>> {
     let mut writer = Counted::new(Vec::new(alloc));
     let is_written = write_totals(alloc, book, &mut writer).is_ok();

@@ -11,8 +11,9 @@ use std::thread;
 use std::thread::Threads;
 use std::time::Clock;
 
-/// The first worker in a thread of its own, and the second beside it. A thread that isn't had is asked for once more, since one after the other
-/// they would wait for each other. None where it isn't had then.
+/// The first worker in a thread of its own, and the second beside it. A thread that isn't had is
+/// asked for once more, since one after the other they would wait for each other. None where it
+/// isn't had then.
 pub(crate) fn side_by_side<J: Job + Send + Sync, R: Threads + Wait + Clock + Eprint + Sync>(
     rt: &R,
     alloc: Global,

@@ -14,7 +14,8 @@ use std::sync::Wait;
 use std::thread::Threads;
 use std::time::Clock;
 
-/// A case, its calls as lines of a day: the trades of the house, and what each of two workers calls and does beside the other.
+/// A case, its calls as lines of a day: the trades of the house, and what each of two workers calls
+/// and does beside the other.
 pub(crate) struct Case<'a> {
     trades: &'a [&'a [u8]],
     first: (Duty, &'a [u8]),
@@ -102,7 +103,8 @@ fn task_of(rt: &HostRuntime, alloc: Global, of: (Duty, &[u8])) -> Option<Task> {
     Some(Task { duty, call })
 }
 
-/// What comes of these tasks over a book of this house with these trades. None where there is no such book, or no desk.
+/// What comes of these tasks over a book of this house with these trades. None where there is no
+/// such book, or no desk.
 fn played_by<H: Threads + Wait + Clock + Eprint + Sync>(
     rt: &HostRuntime,
     handle: &H,

@@ -2,7 +2,8 @@
 
 use gu_desk::{CloseError, Desk, Job, Seat};
 
-/// What the close brought: how many seats came back where one was missing, and how many entries the book has in the end.
+/// What the close brought: how many seats came back where one was missing, and how many entries the
+/// book has in the end.
 #[derive(Clone, Copy)]
 pub(crate) struct Closed {
     pub(crate) back: Option<usize>,
@@ -24,7 +25,8 @@ pub(crate) fn entries_at_close<J: Job>(desk: Desk<J>, seats: Vec<Seat<J>>) -> Op
     }
 }
 
-/// Closes a desk of two seats, first with one of them, and then with both. The list has room for both.
+/// Closes a desk of two seats, first with one of them, and then with both. The list has room for
+/// both.
 pub(crate) fn close<J: Job>(
     desk: Desk<J>,
     list: Vec<Seat<J>>,

@@ -1,4 +1,5 @@
-//! A gate that holds the first call until it is released. What releases it is also the flag by which one worker tells the other.
+//! A gate that holds the first call until it is released. What releases it is also the flag by
+//! which one worker tells the other.
 
 use gu_desk::Gate;
 use std::sync::{Mutex, Wait};

@@ -30,7 +30,8 @@ impl Keeps for Shelf {
 impl Shelf {
     /// Puts these entries behind the others.
     fn add(&mut self, copies: Vec<Entry>) -> Result<(), Memory>
-        ensures added { OnOk result (self.new.entries.items ≡ self.old.entries.items ++ copies.items) }
+        ensures added { OnOk result
+            (self.new.entries.items ≡ self.old.entries.items ++ copies.items) }
         ensures unchanged { OnErr result (self.new.entries.items ≡ self.old.entries.items) }
     {
         let mut more = copies;

@@ -15,7 +15,8 @@ use std::sync::Wait;
 use std::thread::Threads;
 use std::time::Clock;
 
-/// What the two workers were answered and told, what the first was told in the end, and what the close brought.
+/// What the two workers were answered and told, what the first was told in the end, and what the
+/// close brought.
 #[derive(Drop)]
 pub(crate) struct Outcome {
     pub(crate) first: Told,
@@ -24,7 +25,8 @@ pub(crate) struct Outcome {
     pub(crate) closed: Closed,
 }
 
-/// Reads all reports to the first worker's firm with its seat, and closes the desk. The list has room for both seats.
+/// Reads all reports to the first worker's firm with its seat, and closes the desk. The list has
+/// room for both seats.
 fn read_and_close<J: Job, R: Wait + Eprint>(
     rt: &R,
     alloc: Global,
@@ -43,7 +45,8 @@ fn read_and_close<J: Job, R: Wait + Eprint>(
     }
 }
 
-/// The two workers at this desk, with the two seats of this list. None where there are no two, or no thread.
+/// The two workers at this desk, with the two seats of this list. None where there are no two, or
+/// no thread.
 fn work<J: Job + Send + Sync, R: Threads + Wait + Clock + Eprint + Sync>(
     rt: &R,
     alloc: Global,
@@ -81,7 +84,8 @@ fn work_and_close<J: Job + Send + Sync, R: Threads + Wait + Clock + Eprint + Syn
     }
 }
 
-/// The two workers at a desk over this ground. The book comes back where there is no memory for the desk.
+/// The two workers at a desk over this ground. The book comes back where there is no memory for the
+/// desk.
 fn run<J: Job + Send + Sync, R: Threads + Wait + Clock + Eprint + Sync>(
     rt: &R,
     alloc: Global,
@@ -112,7 +116,8 @@ fn attempt<R: Threads + Wait + Clock + Eprint + Sync>(
     }
 }
 
-/// The same, and where there is no memory for the ground or the desk once more with the book that comes back.
+/// The same, and where there is no memory for the ground or the desk once more with the book that
+/// comes back.
 pub(crate) fn outcome_of<R: Threads + Wait + Clock + Eprint + Sync>(
     rt: &R,
     alloc: Global,

@@ -164,7 +164,8 @@ fn read_after(duty: Duty) -> u32 {
     }
 }
 
-/// Calls the book, and reads the firm's reports. One who tells the other does so between the two, and one who frees it behind both.
+/// Calls the book, and reads the firm's reports. One who tells the other does so between the two,
+/// and one who frees it behind both.
 fn call_and_read<J: Job, R: Wait + Clock + Eprint>(
     rt: &R,
     alloc: Global,

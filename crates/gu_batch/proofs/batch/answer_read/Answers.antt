@@ -8,7 +8,9 @@ returns-in-Ok g c =
     record {
       out = c.deref.result.now;
       appended = c.in-Ok.ensures.ok;
-      right = rw (c.deref.ensures.value) (held_right c.args.answering.now h.new.answering c.args.feed.now h.new.feed h.new.out.items h.result _ _ h.ensures);
+      right = rw (c.deref.ensures.value)
+          (held_right c.args.answering.now h.new.answering c.args.feed.now h.new.feed h.new.out.items h.result _ _
+          h.ensures);
       grows = c.write_all.ensures.grows;
     }
 
@@ -19,6 +21,8 @@ returns-in-Err g c =
     record {
       out = take written.0 c.deref.result.now;
       appended = written.1;
-      right = rw (c.deref.ensures.value) (write_fails c.args.answering.now h.new.answering c.args.feed.now h.new.feed h.new.out.items written.0 h.result _ _ h.ensures c.in-Err.ensures.failed);
+      right = rw (c.deref.ensures.value)
+          (write_fails c.args.answering.now h.new.answering c.args.feed.now h.new.feed h.new.out.items written.0
+          h.result _ _ h.ensures c.in-Err.ensures.failed);
       grows = c.write_all.ensures.grows;
     }

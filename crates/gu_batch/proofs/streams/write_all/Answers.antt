@@ -12,7 +12,14 @@ pieces-preserved-in-Ok g c =
     let before = c.pieces.invariant in
     let some : 0 < n = omega (arith, c.if-n-eq0.false) in
     record {
-      within = omega (arith, before.within, c.in-Ok.ensures.bound, length-take (length bytes - at) (drop at bytes), length-drop at bytes);
+      within =
+          omega (
+            arith,
+            before.within,
+            c.in-Ok.ensures.bound,
+            length-take (length bytes - at) (drop at bytes),
+            length-drop at bytes,
+          );
       written = Appends_more _ _ _ bytes at n before.written c.in-Ok.ensures.bytes;
       calm = c.in-Ok.ensures.worked some ∙ before.calm;
     }

@@ -12,5 +12,8 @@ join_seat-requires c = (search rules, search rules, c.requires.slots, search rul
 pub load-requires : goal.load-requires
 load-requires c =
     let w : PassView = with_kept_laid_in c.args.pass.now.me.0 c.args.caller.me.0 in
-    let me = c.join_seat.ensures.2 ∙ ap (λ (m : Me Entry PassView). (w, m.1)) c.requires.journals in
-    (search rules, search rules, compares_as _ _ _ w me (ap (λ (m : Me Entry PassView). m.0.is_journals) c.requires.journals))
+    let me = c.join_seat.ensures.2 ∙ ap (λ (m : Me Entry PassView). (w, m.1)) c.requires.journals in (
+      search rules,
+      search rules,
+      compares_as _ _ _ w me (ap (λ (m : Me Entry PassView). m.0.is_journals) c.requires.journals),
+    )

@@ -9,7 +9,9 @@ use Rattle.gu_desk.proofs.count.open_count.Goals as goal
 pub of_words-requires : goal.of_words-requires
 of_words-requires c =
     let h = c.args.book.now.history in
-    subst (λ (l : List Entry). IsCounted (opening (length l ∷ 0 ∷ []) [] (of_opening h))) (sym c.history.ensures.value) (begins h c.history.ensures.fits)
+    subst (λ (l : List Entry). IsCounted (opening (length l ∷ 0 ∷ []) [] (of_opening h))) (sym c.history.ensures.value)
+    (begins h c.history.ensures.fits)
 
 pub split_seat-journal-requires : goal.split_seat-journal-requires
-split_seat-journal-requires c = (search rules, search rules, gives_journal_as _ _ c.args.book.now.history (search rules))
+split_seat-journal-requires c =
+    (search rules, search rules, gives_journal_as _ _ c.args.book.now.history (search rules))

@@ -18,5 +18,6 @@ join_seat-requires c = (
 pub load-requires : goal.load-requires
 load-requires c =
     let w : PassView = with_laid_in (beside c.args.pass.now.me.0) c.args.caller.me.0 in
-    let me = c.join_seat.ensures.2 ∙ ap (λ (m : Me Entry PassView). (with_laid_in m.0 c.args.caller.me.0, m.1)) c.give_beside-beside.ensures.new in
+    let me = c.join_seat.ensures.2
+    ∙ ap (λ (m : Me Entry PassView). (with_laid_in m.0 c.args.caller.me.0, m.1)) c.give_beside-beside.ensures.new in
     (search rules, search rules, orders_as _ _ _ w me refl)

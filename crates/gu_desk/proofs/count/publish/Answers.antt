@@ -22,5 +22,8 @@ pub returns-clause-added : goal.returns-clause-added
 returns-clause-added c =
     let h = c.args.pass.now.me.0.seen in
     let e = c.index-history-before.result in
-    let whole : h ++ e ∷ [] ≡ c.args.history.now = gained_is h c.args.history.now c.requires.one.0 e c.requires.one.1 c.index-history-before.is in
-    c.compare_exchange_with.ensures.2 ∙ (ap (λ (m : Me Entry PassView). (with_record (some e) m.0, m.1)) c.requires.books ∙ ap (λ (l : List Entry). (of_book l, [])) whole)
+    let whole : h ++ e ∷ [] ≡ c.args.history.now =
+    gained_is h c.args.history.now c.requires.one.0 e c.requires.one.1 c.index-history-before.is in
+    c.compare_exchange_with.ensures.2
+    ∙ (ap (λ (m : Me Entry PassView). (with_record (some e) m.0, m.1)) c.requires.books
+    ∙ ap (λ (l : List Entry). (of_book l, [])) whole)

@@ -10,7 +10,11 @@ returns c =
     let book = c.args.book.now in
     let given : Some c.in-Some.split.now.firm ≡ giver_of book.history head.name =
     ap (option_map (λ r. r.firm)) (rw (c.entry.ensures, c.history.ensures.value) at c.in-Some.ensures) in
-    let told = claim_told book.house book.history head.lots c.fee_of-fee.result c.in-Some.split.now.firm c.in-Some-taker.taker (giver_of book.history head.name) head.taker given c.in-Some-taker.is c.fee_of-fee.ensures in
-    on_ok (string_bytes c.append_fee.new.text ≡ string_bytes c.args.text.now ++ fee_words c.in-Some.split.now.firm c.fee_of-fee.result)
-    (string_bytes c.append_fee.new.text ≡ string_bytes c.args.text.now ++ claimed_words book.house book.history head.lots (giver_of book.history head.name) head.taker)
+    let told = claim_told book.house book.history head.lots c.fee_of-fee.result c.in-Some.split.now.firm
+    c.in-Some-taker.taker (giver_of book.history head.name) head.taker given c.in-Some-taker.is c.fee_of-fee.ensures in
+    on_ok (string_bytes c.append_fee.new.text
+    ≡ string_bytes c.args.text.now ++ fee_words c.in-Some.split.now.firm c.fee_of-fee.result)
+    (string_bytes c.append_fee.new.text
+    ≡ string_bytes c.args.text.now
+    ++ claimed_words book.house book.history head.lots (giver_of book.history head.name) head.taker)
     c.append_fee.result (λ e. e ∙ ap (λ t. string_bytes c.args.text.now ++ t) told) c.append_fee.ensures

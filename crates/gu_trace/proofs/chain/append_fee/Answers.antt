@@ -9,6 +9,8 @@ returns c =
     on_ok (string_bytes c.append_digits.new.text ≡ string_bytes c.append_giver.new.text ++ decimal c.args.fee)
     (string_bytes c.append_digits.new.text ≡ string_bytes c.args.text.now ++ fee_words c.args.giver.now c.args.fee)
     c.append_digits.result
-    (λ last. two_pieces (string_bytes c.args.text.now) (string_bytes c.append_giver.new.text) (string_bytes c.append_digits.new.text)
-    (giver_words c.args.giver.now) (decimal c.args.fee) c.in_ok-append_giver.ensures last)
+    (λ last.
+    two_pieces (string_bytes c.args.text.now) (string_bytes c.append_giver.new.text)
+    (string_bytes c.append_digits.new.text) (giver_words c.args.giver.now) (decimal c.args.fee)
+    c.in_ok-append_giver.ensures last)
     c.append_digits.ensures

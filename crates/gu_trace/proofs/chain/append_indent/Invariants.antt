@@ -4,4 +4,5 @@ use Rattle.gu_trace.specs.Trace.{indent}
 use Rattle.gu_trace.proofs.chain.append_indent.Given as goal
 
 abbrev pub invariant-loop-level : goal.invariant-loop-level
-invariant-loop-level l = string_bytes l.text ++ indent (l.depth - l._level) ≡ string_bytes l.initial.text ++ indent l.depth
+invariant-loop-level l =
+    string_bytes l.text ++ indent (l.depth - l._level) ≡ string_bytes l.initial.text ++ indent l.depth

@@ -11,11 +11,14 @@ use Rattle.gu_trace.proofs.chain.trace.Goals as goal
 pub returns-clause-text : goal.returns-clause-text
 returns-clause-text c =
     let book = c.args.book.now in
-    let told : Some (map shown c.in-Some.rows.items) ≡ tree_rows (live book.history) c.args.trade = rw c.in-Some.is at c.in_ok-rows.ensures.rows in
+    let told : Some (map shown c.in-Some.rows.items) ≡ tree_rows (live book.history) c.args.trade =
+    rw c.in-Some.is at c.in_ok-rows.ensures.rows in
     c.in_ok-extend_from_slice.ensures.items
-    ∙ ap (λ t. c.args.out.now.items ++ t) (c.as_bytes.ensures.value
+    ∙ ap (λ t. c.args.out.now.items ++ t)
+    (c.as_bytes.ensures.value
     ∙ (c.in_ok-append_lines.ensures
-    ∙ (ap (λ t. t ++ flat_map (λ r. line_of book.house book.history (shown r)) c.deref.result.now) c.new-text.ensures.bytes
+    ∙ (ap (λ t. t ++ flat_map (λ r. line_of book.house book.history (shown r)) c.deref.result.now)
+    c.new-text.ensures.bytes
     ∙ (ap (flat_map (λ r. line_of book.house book.history (shown r))) c.deref.ensures.value
     ∙ traced book.house book.history c.args.trade c.in-Some.rows.items told))))
 

@@ -8,4 +8,6 @@ use Rattle.gu_trace.proofs.lookup.root_of.Goals as goal
 pub returns : goal.returns
 returns c =
     rw c.node_at.ensures at c.root_from.ensures
-    ∙ ap (λ m. root_along (line_within m (records c.args.entries.now) (node_of (records c.args.entries.now) c.args.name.now))) (sym (as_long c.args.entries.now))
+    ∙ ap (λ m.
+    root_along (line_within m (records c.args.entries.now) (node_of (records c.args.entries.now) c.args.name.now)))
+    (sym (as_long c.args.entries.now))

@@ -6,5 +6,6 @@ use Rattle.gu_trace.proofs.sums.append_account.Given as goal
 
 abbrev pub invariant-loop-place : goal.invariant-loop-place
 invariant-loop-place l =
-    string_bytes l.text ++ flat_map (position_in (live l.book.history) l.account) (drop l.place l.book.house.instruments)
+    string_bytes l.text
+    ++ flat_map (position_in (live l.book.history) l.account) (drop l.place l.book.house.instruments)
     ≡ string_bytes l.initial.text ++ flat_map (position_in (live l.book.history) l.account) l.book.house.instruments

@@ -12,6 +12,10 @@ loop-place-preserved c =
     let f = fees_of book.house (live book.history) in
     let at = sym (rw c.house-house.ensures at c.firm_at.ensures) in
     elim c.match-firm_at.branch [
-      | in-Some+in_ok-append_firm-in-Some w ↦ written f book.house.firms c.loop-place.place _ (string_bytes c.loop-place.text) _ _ (at ∙ w.in-Some.is) (ap string_bytes w.text-is ∙ w.in_ok-append_firm-in-Some.ensures) c.loop-place.invariant
-      | in-None w ↦ let count = rw c.house-house.ensures at c.firm_count-place-end.ensures in absurd (is_there book.house.firms c.loop-place.place (omega (arith, count)) (at ∙ w.in-None.is))
+      | in-Some+in_ok-append_firm-in-Some w ↦
+          written f book.house.firms c.loop-place.place _ (string_bytes c.loop-place.text) _ _ (at ∙ w.in-Some.is)
+          (ap string_bytes w.text-is ∙ w.in_ok-append_firm-in-Some.ensures) c.loop-place.invariant
+      | in-None w ↦
+          let count = rw c.house-house.ensures at c.firm_count-place-end.ensures in
+          absurd (is_there book.house.firms c.loop-place.place (omega (arith, count)) (at ∙ w.in-None.is))
     ]

@@ -12,6 +12,10 @@ loop-place-preserved c =
     let f = fixed_line book.house (live book.history) in
     let at = sym (rw c.house-house.ensures at c.agreement_at.ensures) in
     elim c.match-agreement_at.branch [
-      | in-Some+in_ok-append_use-in-Some w ↦ written f book.house.agreements c.loop-place.place _ (string_bytes c.loop-place.text) _ _ (at ∙ w.in-Some.is) (ap string_bytes w.text-is ∙ w.in_ok-append_use-in-Some.ensures) c.loop-place.invariant
-      | in-None w ↦ let count = rw c.house-house.ensures at c.agreement_count-place-end.ensures in absurd (is_there book.house.agreements c.loop-place.place (omega (arith, count)) (at ∙ w.in-None.is))
+      | in-Some+in_ok-append_use-in-Some w ↦
+          written f book.house.agreements c.loop-place.place _ (string_bytes c.loop-place.text) _ _ (at ∙ w.in-Some.is)
+          (ap string_bytes w.text-is ∙ w.in_ok-append_use-in-Some.ensures) c.loop-place.invariant
+      | in-None w ↦
+          let count = rw c.house-house.ensures at c.agreement_count-place-end.ensures in
+          absurd (is_there book.house.agreements c.loop-place.place (omega (arith, count)) (at ∙ w.in-None.is))
     ]

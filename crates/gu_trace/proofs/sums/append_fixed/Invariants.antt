@@ -6,5 +6,6 @@ use Rattle.gu_trace.proofs.sums.append_fixed.Given as goal
 
 abbrev pub invariant-loop-place : goal.invariant-loop-place
 invariant-loop-place l =
-    string_bytes l.text ++ flat_map (fixed_line l.book.house (live l.book.history)) (drop l.place l.book.house.agreements)
+    string_bytes l.text
+    ++ flat_map (fixed_line l.book.house (live l.book.history)) (drop l.place l.book.house.agreements)
     ≡ string_bytes l.initial.text ++ flat_map (fixed_line l.book.house (live l.book.history)) l.book.house.agreements

@@ -10,6 +10,8 @@ pub returns : goal.returns
 returns c =
     let book = c.args.book.now in
     let f = made_at book.house book.history in
-    let items : c.as_slice-number-items.result.now ≡ map (λ (r : Record). r.number) (live book.history) = c.as_slice-number-items.ensures.value ∙ c.in_ok-numbers.ensures in
-    all_written f c.as_slice-number-items.result.now c.loop-number.number-index (string_bytes c.loop-number.text) _ c.loop-number-test.false c.loop-number.invariant
+    let items : c.as_slice-number-items.result.now ≡ map (λ (r : Record). r.number) (live book.history) =
+    c.as_slice-number-items.ensures.value ∙ c.in_ok-numbers.ensures in
+    all_written f c.as_slice-number-items.result.now c.loop-number.number-index (string_bytes c.loop-number.text) _
+    c.loop-number-test.false c.loop-number.invariant
     ∙ ap (λ t. string_bytes c.args.text.now ++ t) (ap (flat_map f) items ∙ made_all book.house book.history)

@@ -7,9 +7,13 @@ use Rattle.gu_trace.proofs.sums.append_position_line.Goals as goal
 pub returns : goal.returns
 returns c =
     let a = c.args.account.now in
-    on_ok (string_bytes c.append_lots.new.text ≡ string_bytes c.append_account_words.new.text ++ lots_words c.args.instrument.now c.args.long c.args.short)
-    (string_bytes c.append_lots.new.text ≡ string_bytes c.args.text.now ++ position_line a.firm a.name c.args.instrument.now c.args.long c.args.short)
+    on_ok (string_bytes c.append_lots.new.text
+    ≡ string_bytes c.append_account_words.new.text ++ lots_words c.args.instrument.now c.args.long c.args.short)
+    (string_bytes c.append_lots.new.text
+    ≡ string_bytes c.args.text.now ++ position_line a.firm a.name c.args.instrument.now c.args.long c.args.short)
     c.append_lots.result
-    (λ last. two_pieces (string_bytes c.args.text.now) (string_bytes c.append_account_words.new.text) (string_bytes c.append_lots.new.text)
-    (account_words a.firm a.name) (lots_words c.args.instrument.now c.args.long c.args.short) c.in_ok-append_account_words.ensures last)
+    (λ last.
+    two_pieces (string_bytes c.args.text.now) (string_bytes c.append_account_words.new.text)
+    (string_bytes c.append_lots.new.text) (account_words a.firm a.name)
+    (lots_words c.args.instrument.now c.args.long c.args.short) c.in_ok-append_account_words.ensures last)
     c.append_lots.ensures

@@ -13,6 +13,10 @@ loop-place-preserved c =
     let f = λ (a : Account). flat_map (position_in (live book.history) a) book.house.instruments in
     let at = sym (rw c.house-house.ensures at c.account_at.ensures) in
     elim c.match-account_at.branch [
-      | in-Some+in_ok-append_account-in-Some w ↦ written f book.house.accounts c.loop-place.place _ (string_bytes c.loop-place.text) _ _ (at ∙ w.in-Some.is) (ap string_bytes w.text-is ∙ w.in_ok-append_account-in-Some.ensures) c.loop-place.invariant
-      | in-None w ↦ let count = rw c.house-house.ensures at c.account_count-place-end.ensures in absurd (is_there book.house.accounts c.loop-place.place (omega (arith, count)) (at ∙ w.in-None.is))
+      | in-Some+in_ok-append_account-in-Some w ↦
+          written f book.house.accounts c.loop-place.place _ (string_bytes c.loop-place.text) _ _ (at ∙ w.in-Some.is)
+          (ap string_bytes w.text-is ∙ w.in_ok-append_account-in-Some.ensures) c.loop-place.invariant
+      | in-None w ↦
+          let count = rw c.house-house.ensures at c.account_count-place-end.ensures in
+          absurd (is_there book.house.accounts c.loop-place.place (omega (arith, count)) (at ∙ w.in-None.is))
     ]

@@ -6,5 +6,8 @@ use Rattle.gu_trace.proofs.sums.append_positions.Given as goal
 
 abbrev pub invariant-loop-place : goal.invariant-loop-place
 invariant-loop-place l =
-    string_bytes l.text ++ flat_map (λ a. flat_map (position_in (live l.book.history) a) l.book.house.instruments) (drop l.place l.book.house.accounts)
-    ≡ string_bytes l.initial.text ++ flat_map (λ a. flat_map (position_in (live l.book.history) a) l.book.house.instruments) l.book.house.accounts
+    string_bytes l.text
+    ++ flat_map (λ a. flat_map (position_in (live l.book.history) a) l.book.house.instruments)
+    (drop l.place l.book.house.accounts)
+    ≡ string_bytes l.initial.text
+    ++ flat_map (λ a. flat_map (position_in (live l.book.history) a) l.book.house.instruments) l.book.house.accounts

@@ -19,8 +19,10 @@ loop-place-preserved c =
       | in-Some+in_ok-push-in-Some w ↦
           ap (λ v. v.items ++ rest_shown f n by ps (i + 1)) w.shown-is
           ∙ (ap (λ xs. xs ++ rest_shown f n by ps (i + 1)) w.in_ok-push-in-Some.ensures.items
-          ∙ showing f n by ps i p w.in-Some.part before whole within c.index-parts-place.is (sym c.part_shown.ensures ∙ w.in-Some.is) c.loop-place.invariant)
+          ∙ showing f n by ps i p w.in-Some.part before whole within c.index-parts-place.is
+          (sym c.part_shown.ensures ∙ w.in-Some.is) c.loop-place.invariant)
       | in-None w ↦
           ap (λ v. v.items ++ rest_shown f n by ps (i + 1)) w.shown-is
-          ∙ passing f n by ps i p before whole within c.index-parts-place.is (sym c.part_shown.ensures ∙ w.in-None.is) c.loop-place.invariant
+          ∙ passing f n by ps i p before whole within c.index-parts-place.is (sym c.part_shown.ensures ∙ w.in-None.is)
+          c.loop-place.invariant
     ]

@@ -4,4 +4,5 @@ use Rattle.gu_trace.proofs.Shown.{rest_shown}
 use Rattle.gu_trace.proofs.telling.parts_shown.Given as goal
 
 abbrev pub invariant-loop-place : goal.invariant-loop-place
-invariant-loop-place l = l.shown.items ++ rest_shown l.firm l.number l.by l.parts l.place ≡ parts_shown l.firm l.number l.by l.parts
+invariant-loop-place l =
+    l.shown.items ++ rest_shown l.firm l.number l.by l.parts l.place ≡ parts_shown l.firm l.number l.by l.parts

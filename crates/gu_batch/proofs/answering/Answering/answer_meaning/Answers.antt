@@ -11,8 +11,12 @@ use Rattle.gu_batch.proofs.answering.Answering.answer_meaning.Goals.{In-Call, In
 use Rattle.gu_batch.proofs.answering.Answering.answer_meaning.Goals as goal
 
 -- the message means the call that was put into the room, or has the fault that was found
-calls : (c : In-Call) → meaning_of c.args.self.now.house.house (pairs c.args.fields) ≡ Ok (Call c.in-Call.firm c.in-Call.trade c.in-Call.id c.in-Call.command)
-calls c = put_call c.args.self.now (pairs c.args.fields) c.args.read c.in-Ok.field-0 c.args.room.now.meaning _ c.requires.gives c.in-Ok.is c.in-Call.is
+calls : (c : In-Call)
+    → meaning_of c.args.self.now.house.house (pairs c.args.fields)
+    ≡ Ok (Call c.in-Call.firm c.in-Call.trade c.in-Call.id c.in-Call.command)
+calls c =
+    put_call c.args.self.now (pairs c.args.fields) c.args.read c.in-Ok.field-0 c.args.room.now.meaning _
+    c.requires.gives c.in-Ok.is c.in-Call.is
 
 faulty : (c : In-Err-Reject) → meaning_of c.args.self.now.house.house (pairs c.args.fields) ≡ Err c.in-Err-Reject.fault
 faulty c =
@@ -23,13 +27,15 @@ faulty c =
 pub returns-in-Call-clause-ok : goal.returns-in-Call-clause-ok
 returns-in-Call-clause-ok c =
     let m = calls (goal.at.returns-in-Call-clause-ok c).In-Call in
-    subst (λ (x : List ℕ). OnOk c.answer_call-answered.result (c.answer_call-answered.new.out.items ≡ c.args.out.now.items ++ x))
+    subst (λ (x : List ℕ).
+    OnOk c.answer_call-answered.result (c.answer_call-answered.new.out.items ≡ c.args.out.now.items ++ x))
     (one_text c.args.self.now (pairs c.args.fields) _ _ m refl) c.answer_call-answered.ensures.ok
 
 pub returns-in-Call-clause-after : goal.returns-in-Call-clause-after
 returns-in-Call-clause-after c =
     let m = calls (goal.at.returns-in-Call-clause-after c).In-Call in
-    subst (λ (x : Progress). OnOk c.answer_call-answered.result (c.answer_call-answered.new.self ≡ x)) (one_after c.args.self.now (pairs c.args.fields) _ m) c.answer_call-answered.ensures.after
+    subst (λ (x : Progress). OnOk c.answer_call-answered.result (c.answer_call-answered.new.self ≡ x))
+    (one_after c.args.self.now (pairs c.args.fields) _ m) c.answer_call-answered.ensures.after
 
 pub returns-in-Err-Reject-clause-ok : goal.returns-in-Err-Reject-clause-ok
 returns-in-Err-Reject-clause-ok c =
@@ -40,4 +46,5 @@ returns-in-Err-Reject-clause-ok c =
 pub returns-in-Err-Reject-clause-after : goal.returns-in-Err-Reject-clause-after
 returns-in-Err-Reject-clause-after c =
     let m = faulty (goal.at.returns-in-Err-Reject-clause-after c).In-Err-Reject in
-    subst (λ (x : Progress). OnOk c.answer_fault.result (c.answer_fault.new.self ≡ x)) (one_after c.args.self.now (pairs c.args.fields) _ m) c.answer_fault.ensures.after
+    subst (λ (x : Progress). OnOk c.answer_fault.result (c.answer_fault.new.self ≡ x))
+    (one_after c.args.self.now (pairs c.args.fields) _ m) c.answer_fault.ensures.after

@@ -15,7 +15,8 @@ invariant_of-till g c =
     let same : b ≡ g.J.Job.opening = ap (λ (v : GroundView). v.opening) c.ground.view_is ∙ c.requires.opening in
     let history = ap (λ (l : List Entry). length l) c.history.ensures.value in
     let opening = ap (λ (v : HouseAndHistory). length v.history) same in (
-      subst (λ (v : HouseAndHistory). IsRunOf g.J.Job.opening v) (sym same) (refl, run_starts g.J.Job.opening.house g.J.Job.opening.history),
+      subst (λ (v : HouseAndHistory). IsRunOf g.J.Job.opening v) (sym same)
+          (refl, run_starts g.J.Job.opening.house g.J.Job.opening.history),
       omega (arith, c.add.ensures.total, c.open-total.ensures.total, history),
       omega (arith, c.add.ensures.parts, c.in-Ok-cut_seats.ensures.parts),
       omega (arith, c.add.ensures.amount, c.in-Ok-cut_seats.ensures.amount, history, opening),
@@ -28,11 +29,17 @@ invariant_of-till g c =
     )
 
 pub cut_seats-requires-clause-fits : goal.cut_seats-requires-clause-fits
-cut_seats-requires-clause-fits g c = omega (arith, c.ground.invariant.6, ap (λ (m : Me Entry PassView). length m.0.seen) c.ground.invariant.4)
+cut_seats-requires-clause-fits g c =
+    omega (arith, c.ground.invariant.6, ap (λ (m : Me Entry PassView). length m.0.seen) c.ground.invariant.4)
 
 -- the book's pass has seen the opening history, and so has each seat
 pub returns-clause-seen : goal.returns-clause-seen
-returns-clause-seen g c = λ k d low. c.in-Ok-cut_seats.ensures.seen k d low ∙ (ap (λ (m : Me Entry PassView). m.0.seen) c.ground.invariant.4 ∙ ap (λ (v : GroundView). v.opening.history) c.ground.view_is)
+returns-clause-seen g c = λ k d low. c.in-Ok-cut_seats.ensures.seen k d low
+    ∙ (ap (λ (m : Me Entry PassView). m.0.seen) c.ground.invariant.4
+    ∙ ap (λ (v : GroundView). v.opening.history) c.ground.view_is)
 
 pub returns-clause-once : goal.returns-clause-once
-returns-clause-once g c = λ k d low. subst (λ (h : List Entry). NoIdTwice h) (sym (c.in-Ok-cut_seats.ensures.seen k d low ∙ ap (λ (m : Me Entry PassView). m.0.seen) c.ground.invariant.4)) c.history.ensures.once
+returns-clause-once g c = λ k d low.
+    subst (λ (h : List Entry). NoIdTwice h)
+    (sym (c.in-Ok-cut_seats.ensures.seen k d low ∙ ap (λ (m : Me Entry PassView). m.0.seen) c.ground.invariant.4))
+    c.history.ensures.once

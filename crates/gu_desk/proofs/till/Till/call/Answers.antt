@@ -18,7 +18,8 @@ pub invariant_of-self : goal.invariant_of-self
 invariant_of-self g c =
     let i = c.self.invariant in
     let e = c.apply-answer.ensures in
-    let next = grown g.J.Job.opening (stored c.self.inside.book) (stored c.apply-answer.new.self) _ c.apply-answer.result i.0 e.answered e.kept e.unchanged in
+    let next = grown g.J.Job.opening (stored c.self.inside.book) (stored c.apply-answer.new.self) _
+    c.apply-answer.result i.0 e.answered e.kept e.unchanged in
     let out = c.new-seat.ensures in
     let added = c.publish_accepted.ensures in (
       next.0,
@@ -57,7 +58,8 @@ publish_accepted-requires-clause-gains g c =
     let new = stored c.apply-answer.new.self in
     let r = c.apply-answer.result in
     let seen = ap (λ (m : Me Entry PassView). m.0.seen) (c.into_share-share.ensures.same ∙ c.self.invariant.6) in
-    subst (λ (p : List Entry × List Entry). Gains r p.0 p.1) (λ k. (sym seen k, sym c.history.ensures.value k)) (gains old new _ r e.answered e.kept e.unchanged)
+    subst (λ (p : List Entry × List Entry). Gains r p.0 p.1) (λ k. (sym seen k, sym c.history.ensures.value k))
+    (gains old new _ r e.answered e.kept e.unchanged)
 
 -- the till's history begins with what the seat had seen, and its new one with that
 pub returns-clause-later : goal.returns-clause-later
@@ -67,9 +69,11 @@ returns-clause-later g c =
     let new = stored c.apply-answer.new.self in
     let r = c.apply-answer.result in
     let seen = ap (λ (m : Me Entry PassView). m.0.seen) c.self.invariant.6 in
-    let begins : BeginsWith old.history c.args.seat.seen = subst (λ (h : List Entry). BeginsWith h c.args.seat.seen) seen c.into_share-share.ensures.begins in (
+    let begins : BeginsWith old.history c.args.seat.seen =
+    subst (λ (h : List Entry). BeginsWith h c.args.seat.seen) seen c.into_share-share.ensures.begins in (
       (grown g.J.Job.opening old new _ r c.self.invariant.0 e.answered e.kept e.unchanged).0.1,
-      begins_with_all new.history old.history c.args.seat.seen (grows r old.history new.history (gains old new _ r e.answered e.kept e.unchanged)) begins,
+      begins_with_all new.history old.history c.args.seat.seen
+          (grows r old.history new.history (gains old new _ r e.answered e.kept e.unchanged)) begins,
     )
 
 pub returns-clause-answered : goal.returns-clause-answered
