@@ -16,13 +16,16 @@ use Rattle.gu_message.specs.Meaning.{meaning_of}
 use Rattle.gu_session.specs.declared.verdict.Verdict.{Verdict}
 use Rattle.gu_session.specs.Going.{Going}
 use Rattle.gu_session.specs.Table.{on_tick}
-use Rattle.gu_session.specs.Steps.{Seen, Event, Came, Tick, Reply, End, Outcome, Called, kept_from, tellings, fits, shut_down, idle, acts, replies, tells, message_verdict, on_event, step_of, opening, time_of}
+use Rattle.gu_session.specs.Steps.{Seen, Event, Came, Tick, Reply, End, Outcome, Called, kept_from, tellings, fits}
+use Rattle.gu_session.specs.Steps.{shut_down, idle, acts, replies, tells, message_verdict, on_event, step_of, opening}
+use Rattle.gu_session.specs.Steps.{time_of}
 use Rattle.gu_session.specs.Runs.{outcomes, new_of, again_of, CoversSpan, ResendsCoverTheirSpan}
 use Rattle.gu_session.proofs.Lines.{Goes, goes_on_message, goes_on_tick}
 use Rattle.gu_session.proofs.Sent.{acts_again, tells_new, tells_again}
 use Rattle.gu_session.proofs.Stepping.{moves_step}
 use Rattle.gu_session.proofs.Runs.{Early}
-use Rattle.gu_session.proofs.Resends.{RisesTo, rises_higher, rises_last, covers_span, IsEcho, WasSent, sent_more, at_time, last_sent, resends_again}
+use Rattle.gu_session.proofs.Resends.{RisesTo, rises_higher, rises_last, covers_span, IsEcho, WasSent, sent_more}
+use Rattle.gu_session.proofs.Resends.{at_time, last_sent, resends_again}
 use Rattle.gu_base.proofs.Basics.{either_way}
 
 -- each new message that a step sends, with its time
@@ -42,8 +45,9 @@ record Keeping (sent : List (List ℕ × Going)) (o : Outcome) : Type 0 where
   pub was_sent : All (WasSent (sent ++ sent_by o)) o.after.kept
 
 -- nothing is sent, and the messages and their numbers stay
-keeping_still : (sent : List (List ℕ × Going)) (s : Seen) (o : Outcome) → RisesTo 1 s.kept s.link.out → All (WasSent sent) s.kept
-    → o.send ≡ [] → o.again ≡ None → o.after.kept ≡ s.kept → o.after.link.out ≡ s.link.out → Keeping sent o
+keeping_still : (sent : List (List ℕ × Going)) (s : Seen) (o : Outcome) → RisesTo 1 s.kept s.link.out
+    → All (WasSent sent) s.kept → o.send ≡ [] → o.again ≡ None → o.after.kept ≡ s.kept → o.after.link.out ≡ s.link.out
+    → Keeping sent o
 keeping_still sent s o r w none again kept out = record {
   covers = rw (again, none) refl;
   rises = rw (kept, out) r;
@@ -51,8 +55,9 @@ keeping_still sent s o r w none again kept out = record {
   was_sent = rw kept (sent_more sent (sent_by o) s.kept w);
 }
 
-keeping_acts : (sent : List (List ℕ × Going)) (now : Timestamp) (s : Seen) (came : Option Message) (call : Option Called) (meaning : Result Inbound Reject) (v : Verdict)
-    → RisesTo 1 s.kept s.link.out → All (WasSent sent) s.kept → Goes s.link meaning v → Keeping sent (acts now s came call v)
+keeping_acts : (sent : List (List ℕ × Going)) (now : Timestamp) (s : Seen) (came : Option Message)
+    (call : Option Called) (meaning : Result Inbound Reject) (v : Verdict) → RisesTo 1 s.kept s.link.out
+    → All (WasSent sent) s.kept → Goes s.link meaning v → Keeping sent (acts now s came call v)
 keeping_acts sent now s came call meaning v r w g =
     let time = time_of now in
     let is = acts_again time s.kept v.resend came s.link.out v.say in
@@ -64,8 +69,10 @@ keeping_acts sent now s came call meaning v r w g =
       was_sent = sent_more sent (sent_by (acts now s came call v)) s.kept w;
     }
 
-keeping_tells : (sent : List (List ℕ × Going)) (now : Timestamp) (s : Seen) (answer : Option Answer) (reports : List Report) → RisesTo 1 s.kept s.link.out → All (WasSent sent) s.kept
-    → Keeping sent (tells now s (kept_from (time_of now) s.link.out (tellings (time_of now) s.link.waiting answer reports)))
+keeping_tells : (sent : List (List ℕ × Going)) (now : Timestamp) (s : Seen) (answer : Option Answer)
+    (reports : List Report) → RisesTo 1 s.kept s.link.out → All (WasSent sent) s.kept
+    → Keeping sent
+    (tells now s (kept_from (time_of now) s.link.out (tellings (time_of now) s.link.waiting answer reports)))
 keeping_tells sent now s answer reports r w =
     let time = time_of now in
     let xs = tellings (time_of now) s.link.waiting answer reports in
@@ -74,30 +81,37 @@ keeping_tells sent now s answer reports r w =
       covers = tells_again ms;
       rises = rises_last 1 s.link.out s.kept time xs r;
       again = subst (All (IsEcho sent)) (sym (tells_again ms)) (All-nil (IsEcho sent));
-      was_sent = subst (λ (t : List Going). All (WasSent (sent ++ at_time time t)) (tells now s ms).after.kept) (sym (tells_new ms)) (last_sent sent s.kept time s.link.out xs w);
+      was_sent = subst (λ (t : List Going). All (WasSent (sent ++ at_time time t)) (tells now s ms).after.kept)
+          (sym (tells_new ms)) (last_sent sent s.kept time s.link.out xs w);
     }
 
-keeping_replies : (sent : List (List ℕ × Going)) (now : Timestamp) (s : Seen) (firm : Option (List ℕ)) (answer : Option Answer) (reports : List Report) → RisesTo 1 s.kept s.link.out → All (WasSent sent) s.kept
+keeping_replies : (sent : List (List ℕ × Going)) (now : Timestamp) (s : Seen) (firm : Option (List ℕ))
+    (answer : Option Answer) (reports : List Report) → RisesTo 1 s.kept s.link.out → All (WasSent sent) s.kept
     → Keeping sent (replies now s firm answer reports)
 keeping_replies sent now s None answer reports r w = keeping_still sent s (idle now s) r w refl refl refl refl
 keeping_replies sent now s (Some firm) answer reports r w = keeping_tells sent now s answer reports r w
 
-keeping_event : (sent : List (List ℕ × Going)) (now : Timestamp) (s : Seen) (e : Event) → Early s → RisesTo 1 s.kept s.link.out → All (WasSent sent) s.kept → Keeping sent (on_event now s e)
+keeping_event : (sent : List (List ℕ × Going)) (now : Timestamp) (s : Seen) (e : Event) → Early s
+    → RisesTo 1 s.kept s.link.out → All (WasSent sent) s.kept → Keeping sent (on_event now s e)
 keeping_event sent now s (Came fs) early r w =
     keeping_acts sent now s (Some fs) _ (meaning_of s.house.house fs) (message_verdict now s fs) r w
     (goes_on_message now s.house s.link (heading_of s.house.house fs) (meaning_of s.house.house fs) _ early)
 keeping_event sent now s Tick early r w =
     let none : Result Inbound Reject = Ok Heartbeat in
-    keeping_acts sent now s None None none (on_tick now s.link s.link.firm) r w (goes_on_tick now s.link s.link.firm none refl early)
+    keeping_acts sent now s None None none (on_tick now s.link s.link.firm) r w
+    (goes_on_tick now s.link s.link.firm none refl early)
 keeping_event sent now s (Reply answer reports) early r w = keeping_replies sent now s s.link.firm answer reports r w
 keeping_event sent now s End early r w = keeping_still sent s (shut_down now s) r w refl refl refl refl
 
-keeping_step : (sent : List (List ℕ × Going)) (now : Timestamp) (s : Seen) (e : Event) → Early s → RisesTo 1 s.kept s.link.out → All (WasSent sent) s.kept → Keeping sent (step_of now s e)
+keeping_step : (sent : List (List ℕ × Going)) (now : Timestamp) (s : Seen) (e : Event) → Early s
+    → RisesTo 1 s.kept s.link.out → All (WasSent sent) s.kept → Keeping sent (step_of now s e)
 keeping_step sent now s e early r w =
-    either_way (Keeping sent) s.link.closed _ _ (λ _. keeping_still sent s (idle now s) r w refl refl refl refl)
-    (λ _. either_way (Keeping sent) (fits (on_event now s e).after.link) _ _ (λ _. keeping_event sent now s e early r w) (λ _. keeping_still sent s (shut_down now s) r w refl refl refl refl))
+    either_way (Keeping sent) s.link.closed _ _ (λ _. keeping_still sent s (idle now s) r w refl refl refl refl) (λ _.
+    either_way (Keeping sent) (fits (on_event now s e).after.link) _ _ (λ _. keeping_event sent now s e early r w)
+    (λ _. keeping_still sent s (shut_down now s) r w refl refl refl refl))
 
-covered : (sent : List (List ℕ × Going)) (s : Seen) (es : List (Timestamp × Event)) → Early s → RisesTo 1 s.kept s.link.out → All (WasSent sent) s.kept
+covered : (sent : List (List ℕ × Going)) (s : Seen) (es : List (Timestamp × Event)) → Early s
+    → RisesTo 1 s.kept s.link.out → All (WasSent sent) s.kept
     → All (λ o. CoversSpan o.again (again_of o.send)) (outcomes s es)
 covered sent s [] early r w = All-nil (λ (o : Outcome). CoversSpan o.again (again_of o.send))
 covered sent s (e ∷ es) early r w =
@@ -106,7 +120,8 @@ covered sent s (e ∷ es) early r w =
     All-cons (λ (o : Outcome). CoversSpan o.again (again_of o.send)) o (outcomes o.after es) k.covers
     (covered (sent ++ sent_by o) o.after es (moves_step e.0 s e.1 early).early k.rises k.was_sent)
 
-echoes : (sent : List (List ℕ × Going)) (s : Seen) (es : List (Timestamp × Event)) → Early s → RisesTo 1 s.kept s.link.out → All (WasSent sent) s.kept → AreEchoes sent (outcomes s es)
+echoes : (sent : List (List ℕ × Going)) (s : Seen) (es : List (Timestamp × Event)) → Early s
+    → RisesTo 1 s.kept s.link.out → All (WasSent sent) s.kept → AreEchoes sent (outcomes s es)
 echoes sent s [] early r w = tt
 echoes sent s (e ∷ es) early r w =
     let o = step_of e.0 s e.1 in
@@ -114,7 +129,9 @@ echoes sent s (e ∷ es) early r w =
     (k.again, echoes (sent ++ sent_by o) o.after es (moves_step e.0 s e.1 early).early k.rises k.was_sent)
 
 pub resends_cover_their_span : ResendsCoverTheirSpan
-resends_cover_their_span t never es = covered [] (opening t never) es (omega arith, refl) (omega arith) (All-nil (WasSent []))
+resends_cover_their_span t never es =
+    covered [] (opening t never) es (omega arith, refl) (omega arith) (All-nil (WasSent []))
 
-pub resends_echo : (t : House) (never : Timestamp) (es : List (Timestamp × Event)) → AreEchoes [] (outcomes (opening t never) es)
+pub resends_echo : (t : House) (never : Timestamp) (es : List (Timestamp × Event))
+    → AreEchoes [] (outcomes (opening t never) es)
 resends_echo t never es = echoes [] (opening t never) es (omega arith, refl) (omega arith) (All-nil (WasSent []))

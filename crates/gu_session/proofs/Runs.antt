@@ -1,11 +1,14 @@
 -- What holds of every list of steps: numbers, calls, the Logon and the close.
-use Rattle.std.proofs.Common.{◌≡◌, ℕ, zero, suc, ◌+◌, ◌<◌, ◌≤◌, Bool, true, false, List, [], ◌∷◌, ◌++◌, length, map, refl, sym, ap, subst, ◌∙◌, arith}
+use Rattle.std.proofs.Common.{◌≡◌, ℕ, zero, suc, ◌+◌, ◌<◌, ◌≤◌, Bool, true, false, List, [], ◌∷◌, ◌++◌, length, map}
+use Rattle.std.proofs.Common.{refl, sym, ap, subst, ◌∙◌, arith}
 use Rattle.std.specs.Prelude.{Option, Some, None, IfSome, option_map}
 use Rattle.std.specs.List.{All, cons_option}
 use Rattle.std.proofs.lemmas.List.Elements.{All-nil, All-cons}
 use Rattle.jiff.specs.Types.{Timestamp}
 use Rattle.gu_session.specs.Steps.{Seen, Event, Called, idle, step_of, opening}
-use Rattle.gu_session.specs.Runs.{outcomes, sent_anew, numbers_from, called, Rises, NeverFalls, IsToSomebody, IsOver, EndsOnce, waits_for, unless_closed, awaited_behind, IsAwaited, NewAreNumbered, CallsRise, WantNeverFalls, SpeaksWithinTheSession, CallsAreAwaited}
+use Rattle.gu_session.specs.Runs.{outcomes, sent_anew, numbers_from, called, Rises, NeverFalls, IsToSomebody, IsOver}
+use Rattle.gu_session.specs.Runs.{EndsOnce, waits_for, unless_closed, awaited_behind, IsAwaited, NewAreNumbered}
+use Rattle.gu_session.specs.Runs.{CallsRise, WantNeverFalls, SpeaksWithinTheSession, CallsAreAwaited}
 use Rattle.gu_session.proofs.Lines.{IsEarly}
 use Rattle.gu_session.proofs.Stepping.{moves_step}
 
@@ -26,14 +29,19 @@ numbers_join n (suc a) b =
     rw (e, f) (ap (λ (t : List ℕ). n ∷ t) (numbers_join (n + 1) a b))
 
 -- the new numbers of steps follow one another
-numbered : (s : Seen) (es : List (Timestamp × Event)) → Early s → (k : ℕ) × (sent_anew (outcomes s es) ≡ numbers_from s.link.out k)
+numbered : (s : Seen) (es : List (Timestamp × Event)) → Early s
+    → (k : ℕ) × (sent_anew (outcomes s es) ≡ numbers_from s.link.out k)
 numbered s [] early = (0, refl)
 numbered s (e ∷ es) early =
     let o = step_of e.0 s e.1 in
     let m = moves_step e.0 s e.1 early in
     let rest = numbered o.after es m.early in
-    let tail : sent_anew (outcomes o.after es) ≡ numbers_from (s.link.out + m.many) rest.0 = rest.1 ∙ ap (λ (n : ℕ). numbers_from n rest.0) m.out in
-    (m.many + rest.0, ap (λ (t : List ℕ). t ++ sent_anew (outcomes o.after es)) m.new ∙ ap (λ (t : List ℕ). numbers_from s.link.out m.many ++ t) tail ∙ numbers_join s.link.out m.many rest.0)
+    let tail : sent_anew (outcomes o.after es) ≡ numbers_from (s.link.out + m.many) rest.0 =
+    rest.1 ∙ ap (λ (n : ℕ). numbers_from n rest.0) m.out in (
+      m.many + rest.0,
+      ap (λ (t : List ℕ). t ++ sent_anew (outcomes o.after es)) m.new
+          ∙ ap (λ (t : List ℕ). numbers_from s.link.out m.many ++ t) tail ∙ numbers_join s.link.out m.many rest.0,
+    )
 
 length_numbers : (n k : ℕ) → length (numbers_from n k) ≡ k
 length_numbers n zero = refl
@@ -46,22 +54,26 @@ new_are_numbered t never es =
 
 -- ---- numbers that come
 
-rise_first : (c : Option Called) (rest : List ℕ) (low mid high : ℕ) → IfSome c (λ c. (mid ≤ c.number) × (c.number < high)) → low ≤ mid → mid ≤ high
+rise_first : (c : Option Called) (rest : List ℕ) (low mid high : ℕ)
+    → IfSome c (λ c. (mid ≤ c.number) × (c.number < high)) → low ≤ mid → mid ≤ high
     → ((k : ℕ) → k ≤ high → Rises k rest) → Rises low (cons_option (option_map (λ c. c.number) c) rest)
 rise_first None rest low mid high h l m f = f low (omega arith)
 rise_first (Some c) rest low mid high h l m f = (omega (arith, h.0), f (c.number + 1) (omega (arith, h.1)))
 
-rise : (s : Seen) (es : List (Timestamp × Event)) (low : ℕ) → Early s → low ≤ s.link.want → Rises low (called (outcomes s es))
+rise : (s : Seen) (es : List (Timestamp × Event)) (low : ℕ) → Early s → low ≤ s.link.want
+    → Rises low (called (outcomes s es))
 rise s [] low early le = tt
 rise s (e ∷ es) low early le =
     let o = step_of e.0 s e.1 in
     let m = moves_step e.0 s e.1 early in
-    rise_first o.call (called (outcomes o.after es)) low s.link.want o.after.link.want m.call le m.want (λ k h. rise o.after es k m.early h)
+    rise_first o.call (called (outcomes o.after es)) low s.link.want o.after.link.want m.call le m.want
+    (λ k h. rise o.after es k m.early h)
 
 pub calls_rise : CallsRise
 calls_rise t never es = rise (opening t never) es 1 (omega arith, refl) (omega arith)
 
-never_falls : (s : Seen) (es : List (Timestamp × Event)) (low : ℕ) → Early s → low ≤ s.link.want → NeverFalls low (map (λ o. o.after.link.want) (outcomes s es))
+never_falls : (s : Seen) (es : List (Timestamp × Event)) (low : ℕ) → Early s → low ≤ s.link.want
+    → NeverFalls low (map (λ o. o.after.link.want) (outcomes s es))
 never_falls s [] low early le = tt
 never_falls s (e ∷ es) low early le =
     let o = step_of e.0 s e.1 in
@@ -112,23 +124,30 @@ speaks_within_the_session t never es =
 abbrev IsFree : Seen → Type 0
 IsFree s = s.link.closed ≡ true → waits_for s ≡ None
 
-awaits_step : (now : Timestamp) (s : Seen) (e : Event) (b : Bool) → s.link.closed ≡ b → Early s → IsFree s → waits_for (step_of now s e).after ≡ awaited_behind e (step_of now s e) (waits_for s)
+awaits_step : (now : Timestamp) (s : Seen) (e : Event) (b : Bool) → s.link.closed ≡ b → Early s → IsFree s
+    → waits_for (step_of now s e).after ≡ awaited_behind e (step_of now s e) (waits_for s)
 awaits_step now s e true h early free =
     let is = idle_when_closed now s e h in
     rw is (free h ∙ rw h refl)
 awaits_step now s e false h early free = (moves_step now s e early).waits h
 
-free_then : (o : Option (List ℕ)) (b c : Bool) (rest : Option (List ℕ)) → b ≡ c → o ≡ unless_closed b rest → c ≡ true → o ≡ None
+free_then : (o : Option (List ℕ)) (b c : Bool) (rest : Option (List ℕ)) → b ≡ c → o ≡ unless_closed b rest → c ≡ true
+    → o ≡ None
 free_then o true c rest is h t = h
 free_then o false c rest is h t = absurd (cc)
 
-awaited : (s : Seen) (es : List (Timestamp × Event)) (id : Option (List ℕ)) → waits_for s ≡ id → Early s → IsFree s → IsAwaited id es (outcomes s es)
+awaited : (s : Seen) (es : List (Timestamp × Event)) (id : Option (List ℕ)) → waits_for s ≡ id → Early s → IsFree s
+    → IsAwaited id es (outcomes s es)
 awaited s [] id is early free = tt
 awaited s (e ∷ es) id is early free =
     let o = step_of e.0 s e.1 in
     let m = moves_step e.0 s e.1 early in
-    let here : waits_for o.after ≡ awaited_behind e.1 o id = awaits_step e.0 s e.1 s.link.closed refl early free ∙ ap (awaited_behind e.1 o) is in
-    (here, awaited o.after es (awaited_behind e.1 o id) here m.early (λ h. free_then (waits_for o.after) o.after.link.closed o.after.link.closed _ refl here h))
+    let here : waits_for o.after ≡ awaited_behind e.1 o id =
+    awaits_step e.0 s e.1 s.link.closed refl early free ∙ ap (awaited_behind e.1 o) is in (
+      here,
+      awaited o.after es (awaited_behind e.1 o id) here m.early
+          (λ h. free_then (waits_for o.after) o.after.link.closed o.after.link.closed _ refl here h),
+    )
 
 pub calls_are_awaited : CallsAreAwaited
 calls_are_awaited t never es = awaited (opening t never) es None refl (omega arith, refl) (λ h. refl)

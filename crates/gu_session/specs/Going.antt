@@ -3,15 +3,17 @@ use Rattle.std.specs.Prelude.{ℕ, ◌+◌, List, [], Option, None, codes}
 use Rattle.std.specs.Option.{option_map_or}
 use Rattle.gu_codec.specs.Messages.{Message}
 use Rattle.gu_codec.specs.Writing.{fields_text}
-use Rattle.gu_message.specs.SessionBodies.{logon_fields, heartbeat_fields, test_request_fields, resend_request_fields, logout_fields}
+use Rattle.gu_message.specs.SessionBodies.{logon_fields, heartbeat_fields, test_request_fields}
+use Rattle.gu_message.specs.SessionBodies.{resend_request_fields, logout_fields}
 use Rattle.gu_message.specs.SessionReject.{reject_fields}
 use Rattle.gu_session.specs.declared.verdict.Say.{Say}
 use Rattle.gu_session.specs.declared.verdict.Say.TheVariants as say
 use Rattle.gu_session.specs.declared.kept.Told.{Told}
 use Rattle.gu_session.specs.declared.kept.Told.TheVariants as told
 
--- a message that goes out: MsgType (35); MsgSeqNum (34); the number behind those that it stands for, which is the next one but for a
--- gap that is filled; OrigSendingTime (122), where it is sent again; the text of its fields behind the header
+-- a message that goes out: MsgType (35); MsgSeqNum (34); the number behind those that it stands
+-- for, which is the next one but for a gap that is filled; OrigSendingTime (122), where it is sent
+-- again; the text of its fields behind the header
 pub record Going : Type 0 where
   pub kind : List ℕ
   pub number : ℕ
@@ -45,4 +47,10 @@ type_of_told told.Report = codes "AS"
 
 -- what the session says, as a new message with this number
 abbrev pub said : Option Message → ℕ → Say → Going
-said came number s = record { kind = type_of_say s; number = number; next = number + 1; first = None; body = fields_text (fields_of_say came s) }
+said came number s = record {
+  kind = type_of_say s;
+  number = number;
+  next = number + 1;
+  first = None;
+  body = fields_text (fields_of_say came s);
+}

@@ -3,7 +3,8 @@ use Rattle.std.specs.Prelude.{◌≡◌, ℕ, ◌+◌, List, [], ◌∷◌, ◌+
 use Rattle.gu_session.specs.declared.kept.Told.{Told}
 use Rattle.gu_session.specs.declared.kept.Entry.{Entry}
 
--- an application message that was sent: its kind; MsgSeqNum (34); SendingTime (52) when it was sent first; the text of its fields behind the header
+-- an application message that was sent: its kind; MsgSeqNum (34); SendingTime (52) when it was sent
+-- first; the text of its fields behind the header
 pub record Kept : Type 0 where
   pub told : Told
   pub number : ℕ

@@ -1,5 +1,7 @@
 -- Steps one after the other, and what holds of every list of them.
-use Rattle.std.specs.Prelude.{◌≡◌, ℕ, zero, suc, ◌+◌, ◌<◌, ◌≤◌, Bool, true, false, List, [], ◌∷◌, ◌++◌, length, map, filter, is_none, is_some, Option, Some, None, option_map, codes}
+use Rattle.std.specs.Prelude.{◌≡◌, ℕ, zero, suc, ◌+◌, ◌<◌, ◌≤◌, Bool, true, false, List, [], ◌∷◌}
+use Rattle.std.specs.Prelude.{◌++◌, length, map, filter, is_none, is_some, Option, Some, None}
+use Rattle.std.specs.Prelude.{option_map, codes}
 use Rattle.std.specs.List.{flat_map, filter_map, All, Contains}
 use Rattle.jiff.specs.Types.{Timestamp}
 use Rattle.gu_base.specs.House.{House}
@@ -34,11 +36,15 @@ called os = filter_map (λ o. option_map (λ c. c.number) o.call) os
 
 -- the calls handed out have rising numbers
 abbrev pub CallsRise : Type 0
-CallsRise = (t : House) (never : Timestamp) (es : List (Timestamp × Event)) → Rises 1 (called (outcomes (opening t never) es))
+CallsRise =
+    (t : House) (never : Timestamp) (es : List (Timestamp × Event))
+    → Rises 1 (called (outcomes (opening t never) es))
 
 -- the wanted number never falls
 abbrev pub WantNeverFalls : Type 0
-WantNeverFalls = (t : House) (never : Timestamp) (es : List (Timestamp × Event)) → NeverFalls 1 (map (λ o. o.after.link.want) (outcomes (opening t never) es))
+WantNeverFalls =
+    (t : House) (never : Timestamp) (es : List (Timestamp × Event))
+    → NeverFalls 1 (map (λ o. o.after.link.want) (outcomes (opening t never) es))
 
 -- ---- new messages
 
@@ -57,8 +63,10 @@ sent_anew os = flat_map (λ o. map (λ m. m.number) (new_of o.send)) os
 
 -- the new messages sent are numbered 1, 2, .. without a gap
 abbrev pub NewAreNumbered : Type 0
-NewAreNumbered = (t : House) (never : Timestamp) (es : List (Timestamp × Event))
-    → sent_anew (outcomes (opening t never) es) ≡ numbers_from 1 (length (sent_anew (outcomes (opening t never) es)))
+NewAreNumbered =
+    (t : House) (never : Timestamp) (es : List (Timestamp × Event))
+    → sent_anew (outcomes (opening t never) es)
+    ≡ numbers_from 1 (length (sent_anew (outcomes (opening t never) es)))
 
 -- ---- before the Logon and after the close
 
@@ -85,7 +93,8 @@ SpeaksWithinTheSession = (t : House) (never : Timestamp) (es : List (Timestamp �
 
 -- ---- calls and replies
 
--- the id of the call that is awaited behind a step: that of the call it hands out; none behind a Reply and the close; else as before
+-- the id of the call that is awaited behind a step: that of the call it hands out; none behind a
+-- Reply and the close; else as before
 abbrev pub unless_closed : Bool → Option (List ℕ) → Option (List ℕ)
 unless_closed true id = None
 unless_closed false id = id
@@ -107,12 +116,15 @@ waits_for s = option_map (λ w. w.id) s.link.waiting
 
 -- along the steps
 abbrev pub IsAwaited : Option (List ℕ) → List (Timestamp × Event) → List Outcome → Type 0
-IsAwaited id (e ∷ es) (o ∷ os) = (waits_for o.after ≡ awaited_behind e.1 o id) × IsAwaited (awaited_behind e.1 o id) es os
+IsAwaited id (e ∷ es) (o ∷ os) =
+    (waits_for o.after ≡ awaited_behind e.1 o id) × IsAwaited (awaited_behind e.1 o id) es os
 IsAwaited id es os = Unit {0}
 
 -- each call that is handed out is awaited, by its id, until its Reply or the close
 abbrev pub CallsAreAwaited : Type 0
-CallsAreAwaited = (t : House) (never : Timestamp) (es : List (Timestamp × Event)) → IsAwaited None es (outcomes (opening t never) es)
+CallsAreAwaited =
+    (t : House) (never : Timestamp) (es : List (Timestamp × Event))
+    → IsAwaited None es (outcomes (opening t never) es)
 
 -- ---- what is sent again
 
@@ -131,7 +143,9 @@ CoversSpan (Some span) ms = Covers span.from ms span.next
 
 -- what is sent again covers each number of its span once, and nothing else
 abbrev pub ResendsCoverTheirSpan : Type 0
-ResendsCoverTheirSpan = (t : House) (never : Timestamp) (es : List (Timestamp × Event)) → All (λ o. CoversSpan o.again (again_of o.send)) (outcomes (opening t never) es)
+ResendsCoverTheirSpan =
+    (t : House) (never : Timestamp) (es : List (Timestamp × Event))
+    → All (λ o. CoversSpan o.again (again_of o.send)) (outcomes (opening t never) es)
 
 -- ---- and as it was sent
 
@@ -140,30 +154,44 @@ abbrev pub frames_to : List ℕ → Option (List ℕ) → List ℕ → List Goin
 frames_to house None time ms = []
 frames_to house (Some firm) time ms = map (λ m. (m.number, text_of house firm time m)) ms
 
--- the frames of messages that a step sends. All that it sends, one behind the other, are its bytes (`wire`)
+-- the frames of messages that a step sends. All that it sends, one behind the other, are its bytes
+-- (`wire`)
 abbrev pub frames_of : Outcome → List Going → List (ℕ × List ℕ)
 frames_of o ms = frames_to o.after.house.house o.after.link.firm o.time ms
 
--- the second frame is the first one sent again: byte for byte the same but for PossDupFlag (43), SendingTime (52) and OrigSendingTime (122). The
--- second has 43=Y before its 52, and in 122 behind it the 52 of the first. BodyLength (9) and CheckSum (10) are those of each frame's own body
+-- the second frame is the first one sent again: byte for byte the same but for PossDupFlag (43),
+-- SendingTime (52) and OrigSendingTime (122). The second has 43=Y before its 52, and in 122 behind
+-- it the 52 of the first. BodyLength (9) and CheckSum (10) are those of each frame's own body
 pub record IsSentAgain (first again : List ℕ) : Type 0 where
   pub before : Message
   pub behind : List ℕ
   pub sent : List ℕ
   pub time : List ℕ
-  pub first_is : first ≡ frame_text (fields_text (before ++ (tag.sending_time, sent) ∷ []) ++ behind)
-  pub again_is : again ≡ frame_text (fields_text (before ++ (tag.poss_dup_flag, codes "Y") ∷ (tag.sending_time, time) ∷ (tag.orig_sending_time, sent) ∷ []) ++ behind)
+  pub first_is : first
+      ≡ frame_text (fields_text (before ++ (tag.sending_time, sent) ∷ []) ++ behind)
+  pub again_is : again
+      ≡ frame_text (fields_text
+      (before ++ (tag.poss_dup_flag, codes "Y") ∷ (tag.sending_time, time)
+      ∷ (tag.orig_sending_time, sent) ∷ [])
+      ++ behind)
 
--- against the frames that were sent, each with its number: a frame that fills a gap from its number on, or one that was sent with this number, sent again
+-- against the frames that were sent, each with its number: a frame that fills a gap from its number
+-- on, or one that was sent with this number, sent again
 pub data IsAgain (sent : List (ℕ × List ℕ)) (f : ℕ × List ℕ) : Type 0 where
-  Fills : (house firm time first : List ℕ) → (next : ℕ) → f.1 ≡ text_of house firm time (filling first f.0 next) → IsAgain sent f
+  Fills : (house firm time first : List ℕ) → (next : ℕ)
+      → f.1 ≡ text_of house firm time (filling first f.0 next) → IsAgain sent f
   Repeats : (frame : List ℕ) → Contains sent (f.0, frame) → IsSentAgain frame f.1 → IsAgain sent f
 
 -- along the steps, where these frames were sent before
 abbrev pub IsAsSent : List (ℕ × List ℕ) → List Outcome → Type 0
 IsAsSent sent [] = Unit {0}
-IsAsSent sent (o ∷ os) = All (IsAgain sent) (frames_of o (again_of o.send)) × IsAsSent (sent ++ frames_of o (new_of o.send)) os
+IsAsSent sent (o ∷ os) =
+    All (IsAgain sent) (frames_of o (again_of o.send))
+    × IsAsSent (sent ++ frames_of o (new_of o.send)) os
 
--- the frame that is sent again for a number is the one that was sent with it, but for 43, 52 and 122; and a gap is filled where none is kept
+-- the frame that is sent again for a number is the one that was sent with it, but for 43, 52 and
+-- 122; and a gap is filled where none is kept
 abbrev pub ResendsAreAsSent : Type 0
-ResendsAreAsSent = (t : House) (never : Timestamp) (es : List (Timestamp × Event)) → IsAsSent [] (outcomes (opening t never) es)
+ResendsAreAsSent =
+    (t : House) (never : Timestamp) (es : List (Timestamp × Event))
+    → IsAsSent [] (outcomes (opening t never) es)

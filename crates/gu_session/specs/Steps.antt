@@ -1,5 +1,7 @@
 -- A step of a session: what it leaves, and what goes out.
-use Rattle.std.specs.Prelude.{ℕ, ◌+◌, ◌-◌, nat_lt, nat_le, ◌&&◌, Bool, true, false, if◌then◌else◌, codes, List, [], ◌∷◌, ◌++◌, length, drop, map, filter, Option, Some, None, Result, Ok, unsigned_abs}
+use Rattle.std.specs.Prelude.{ℕ, ◌+◌, ◌-◌, nat_lt, nat_le, ◌&&◌, Bool, true, false, if◌then◌else◌}
+use Rattle.std.specs.Prelude.{codes, List, [], ◌∷◌, ◌++◌, length, drop, map, filter, Option, Some}
+use Rattle.std.specs.Prelude.{None, Result, Ok, unsigned_abs}
 use Rattle.jiff.specs.Types.{Timestamp}
 use Rattle.gu_base.specs.House.{House}
 use Rattle.gu_base.specs.declared.command.Command.{Command}
@@ -49,7 +51,8 @@ pub record Called : Type 0 where
   pub id : List ℕ
   pub command : Command
 
--- what a step leaves, and what it gives out: at this time (SendingTime 52) what is sent, these numbers of it again
+-- what a step leaves, and what it gives out: at this time (SendingTime 52) what is sent, these
+-- numbers of it again
 pub record Outcome : Type 0 where
   pub after : Seen
   pub time : List ℕ
@@ -66,20 +69,34 @@ time_of now = sending_time (unsigned_abs now.nanosecond)
 
 -- a kept message, with its own number
 abbrev pub resent : Kept → Going
-resent m = record { kind = type_of_told m.told; number = m.number; next = m.number + 1; first = Some m.sent; body = m.body }
+resent m = record {
+  kind = type_of_told m.told;
+  number = m.number;
+  next = m.number + 1;
+  first = Some m.sent;
+  body = m.body;
+}
 
 -- the numbers from one up to another as one SequenceReset, which tells this as its first time
 abbrev pub filling : List ℕ → ℕ → ℕ → Going
-filling time from next = record { kind = codes "4"; number = from; next = next; first = Some time; body = fields_text (sequence_reset_fields next) }
+filling time from next = record {
+  kind = codes "4";
+  number = from;
+  next = next;
+  first = Some time;
+  body = fields_text (sequence_reset_fields next);
+}
 
 -- if there are any
 abbrev pub gap_fill : List ℕ → ℕ → ℕ → List Going
 gap_fill time from next = if nat_lt from next then filling time from next ∷ [] else []
 
--- each of the messages, and each run of other numbers as one SequenceReset, from one number up to another
+-- each of the messages, and each run of other numbers as one SequenceReset, from one number up to
+-- another
 abbrev pub with_gaps : List ℕ → ℕ → ℕ → List Kept → List Going
 with_gaps time from next [] = gap_fill time from next
-with_gaps time from next (m ∷ ms) = gap_fill time from m.number ++ resent m ∷ with_gaps time (m.number + 1) next ms
+with_gaps time from next (m ∷ ms) =
+    gap_fill time from m.number ++ resent m ∷ with_gaps time (m.number + 1) next ms
 
 -- the kept messages with numbers from one up to another
 abbrev pub within : ℕ → ℕ → List Kept → List Kept
@@ -98,7 +115,9 @@ sayings came number (Some s) = said came number s ∷ []
 
 -- the answer to a call, and a report at a time
 abbrev pub answer_told : Waiting → Answer → Told × List ℕ
-answer_told w a = if w.trade then (told.TradeAck, fields_text (trade_ack_fields w.id a)) else (told.Ack, fields_text (ack_fields w.id a))
+answer_told w a =
+    if w.trade then (told.TradeAck, fields_text (trade_ack_fields w.id a))
+    else (told.Ack, fields_text (ack_fields w.id a))
 
 abbrev pub report_told : List ℕ → Report → Told × List ℕ
 report_told time r = (told.Report, fields_text (report_fields (date_in time) r))
@@ -123,7 +142,13 @@ kept_from time number (x ∷ xs) = kept_as time number x ∷ kept_from time (num
 
 -- a new message
 abbrev pub new : Kept → Going
-new m = record { kind = type_of_told m.told; number = m.number; next = m.number + 1; first = None; body = m.body }
+new m = record {
+  kind = type_of_told m.told;
+  number = m.number;
+  next = m.number + 1;
+  first = None;
+  body = m.body;
+}
 
 -- the last of these, as many as are kept
 abbrev pub last_kept : List Kept → List Kept
@@ -136,17 +161,26 @@ went_at now (m ∷ ms) before = now
 
 -- ---- steps
 
--- each number is at most the last one: the next one to be sent may be past that, the wanted one may not
+-- each number is at most the last one: the next one to be sent may be past that, the wanted one may
+-- not
 abbrev pub fits : Link → Bool
 fits l = nat_le l.out past_last && nat_le l.want last_number
 
 -- the session is closed, and nothing is sent
 abbrev pub shut_down : Timestamp → Seen → Outcome
-shut_down now s = record { after = record s { link = (shut s.link).link }; time = time_of now; again = None; send = []; call = None; close = true }
+shut_down now s = record {
+  after = record s { link = (shut s.link).link };
+  time = time_of now;
+  again = None;
+  send = [];
+  call = None;
+  close = true;
+}
 
 -- nothing is done
 abbrev pub idle : Timestamp → Seen → Outcome
-idle now s = record { after = s; time = time_of now; again = None; send = []; call = None; close = false }
+idle now s =
+    record { after = s; time = time_of now; again = None; send = []; call = None; close = false }
 
 -- a step, where its numbers fit
 abbrev pub where_it_fits : Timestamp → Seen → Outcome → Outcome
@@ -154,7 +188,8 @@ where_it_fits now s o = if fits o.after.link then o else shut_down now s
 
 -- the call that a message makes, where it is handed out
 abbrev pub call_of : Result Inbound Reject → Option ℕ → Option Called
-call_of (Ok (Call firm trade id command)) (Some number) = Some (record { number = number; id = id; command = command })
+call_of (Ok (Call firm trade id command)) (Some number) =
+    Some (record { number = number; id = id; command = command })
 call_of _ _ = None
 
 -- what a verdict on a message, or on none, does
@@ -170,7 +205,8 @@ acts now s came call v = record {
 
 abbrev pub message_verdict : Timestamp → Seen → Message → Verdict
 message_verdict now s fs =
-    on_message now s.house s.link (heading_of s.house.house fs) (meaning_of s.house.house fs) (is_text (codes "5") (value_of 35 fs))
+    on_message now s.house s.link (heading_of s.house.house fs) (meaning_of s.house.house fs)
+    (is_text (codes "5") (value_of 35 fs))
 
 abbrev pub takes : Timestamp → Seen → Message → Verdict → Outcome
 takes now s fs v = acts now s (Some fs) (call_of (meaning_of s.house.house fs) v.call) v
@@ -178,7 +214,14 @@ takes now s fs v = acts now s (Some fs) (call_of (meaning_of s.house.house fs) v
 -- new application messages go out, and the last are kept
 abbrev pub tells : Timestamp → Seen → List Kept → Outcome
 tells now s fresh = record {
-  after = record s { link = record s.link { waiting = None; out = s.link.out + length fresh; went = went_at now fresh s.link.went }; kept = last_kept (s.kept ++ fresh) };
+  after = record s {
+    link = record s.link {
+      waiting = None;
+      out = s.link.out + length fresh;
+      went = went_at now fresh s.link.went;
+    };
+    kept = last_kept (s.kept ++ fresh);
+  };
   time = time_of now;
   again = None;
   send = map new fresh;
@@ -189,7 +232,9 @@ tells now s fresh = record {
 -- a Reply; before the Logon there is nobody to tell
 abbrev pub replies : Timestamp → Seen → Option (List ℕ) → Option Answer → List Report → Outcome
 replies now s None answer reports = idle now s
-replies now s (Some firm) answer reports = tells now s (kept_from (time_of now) s.link.out (tellings (time_of now) s.link.waiting answer reports))
+replies now s (Some firm) answer reports =
+    tells now s
+    (kept_from (time_of now) s.link.out (tellings (time_of now) s.link.waiting answer reports))
 
 -- what an event does to a session that is open
 abbrev pub on_event : Timestamp → Seen → Event → Outcome
@@ -206,6 +251,17 @@ step_of now s e = if s.link.closed then idle now s else where_it_fits now s (on_
 abbrev pub opening : House → Timestamp → Seen
 opening house never = record {
   house = house;
-  link = record { firm = None; closed = false; waiting = None; want = 1; out = 1; asked = None; heartbeat = 0; came = never; went = never; tested = false };
+  link = record {
+    firm = None;
+    closed = false;
+    waiting = None;
+    want = 1;
+    out = 1;
+    asked = None;
+    heartbeat = 0;
+    came = never;
+    went = never;
+    tested = false;
+  };
   kept = [];
 }

@@ -1,5 +1,7 @@
 -- The table of the session: what an event decides, line by line.
-use Rattle.std.specs.Prelude.{ℕ, ◌+◌, ◌-◌, ◌*◌, max, nat_lt, nat_le, ◌==◌, ◌||◌, ◌&&◌, not, Bool, true, false, if◌then◌else◌, bytes_eq, List, Option, Some, None, Result, Ok, Err, ℤ, pos, negsuc, ◌-ℤ◌, int_div}
+use Rattle.std.specs.Prelude.{ℕ, ◌+◌, ◌-◌, ◌*◌, max, nat_lt, nat_le, ◌==◌, ◌||◌, ◌&&◌, not, Bool}
+use Rattle.std.specs.Prelude.{true, false, if◌then◌else◌, bytes_eq, List, Option, Some, None}
+use Rattle.std.specs.Prelude.{Result, Ok, Err, ℤ, pos, negsuc, ◌-ℤ◌, int_div}
 use Rattle.jiff.specs.Types.{Timestamp}
 use Rattle.gu_base.specs.House.{House, knows_firm}
 use Rattle.gu_message.specs.declared.heading.Heading.{Heading}
@@ -25,7 +27,12 @@ silent l = record { link = l; resend = None; say = None; call = None }
 
 -- one new message
 abbrev pub says : Timestamp → Link → Say → Verdict
-says now l s = record { link = record l { out = l.out + 1; went = now }; resend = None; say = Some s; call = None }
+says now l s = record {
+  link = record l { out = l.out + 1; went = now };
+  resend = None;
+  say = Some s;
+  call = None;
+}
 
 -- a Logout, and the session is closed
 abbrev pub closes : Timestamp → Link → Option LogoutText → Verdict
@@ -42,7 +49,12 @@ again now (Some span) v = record v { link = record v.link { went = now }; resend
 
 -- a call is handed out, and waits for its Reply
 abbrev pub hands_out : Link → ℕ → Bool → List ℕ → Verdict
-hands_out l number trade id = record { link = record l { waiting = Some (record { trade = trade; id = id }) }; resend = None; say = None; call = Some number }
+hands_out l number trade id = record {
+  link = record l { waiting = Some (record { trade = trade; id = id }) };
+  resend = None;
+  say = None;
+  call = Some number;
+}
 
 -- ---- what a ResendRequest asks for, of what was sent
 
@@ -52,7 +64,10 @@ last_asked out to = if (to == 0) || nat_le out to then out - 1 else to
 
 -- nothing where its beginning is past that
 abbrev pub span_of : ℕ → ℕ → ℕ → Option Span
-span_of out from to = if nat_le from (last_asked out to) then Some (record { from = from; next = last_asked out to + 1 }) else None
+span_of out from to =
+    if nat_le from (last_asked out to)
+    then Some (record { from = from; next = last_asked out to + 1 })
+    else None
 
 -- what a message asks for, if it is a ResendRequest
 abbrev pub resend_of : ℕ → Result Inbound Reject → Option Span
@@ -65,12 +80,15 @@ resend_of out _ = None
 abbrev pub first_logon : Timestamp → House → Link → Heading → ℕ → Bool → Verdict
 first_logon now t l h heartbeat reset =
     if (h.number == 1) && knows_firm t h.firm
-    then says now (record l { firm = Some h.firm; want = 2; heartbeat = heartbeat; came = now }) (say.Logon heartbeat reset)
+    then says now (record l { firm = Some h.firm; want = 2; heartbeat = heartbeat; came = now })
+    (say.Logon heartbeat reset)
     else shut l
 
 -- anything else closes the session
-abbrev pub before_logon : Timestamp → House → Link → Result Heading Reject → Result Inbound Reject → Verdict
-before_logon now t l (Ok h) (Ok (inbound.Logon heartbeat reset)) = first_logon now t l h heartbeat reset
+abbrev pub before_logon : Timestamp → House → Link → Result Heading Reject → Result Inbound Reject
+    → Verdict
+before_logon now t l (Ok h) (Ok (inbound.Logon heartbeat reset)) =
+    first_logon now t l h heartbeat reset
 before_logon now t l heading meaning = shut l
 
 -- ---- after it: the first line that holds
@@ -91,15 +109,19 @@ line_by_number l h None is_logout =
     else line.Wanted h.number)))
 
 -- line 1 is the header's: another firm, another house, or a number that can't be read
-abbrev pub line_of : Link → List ℕ → Result Heading Reject → Result Inbound Reject → Bool → TableLine
+abbrev pub line_of : Link → List ℕ → Result Heading Reject → Result Inbound Reject → Bool
+    → TableLine
 line_of l firm (Err fault) meaning is_logout = line.BadHeader
-line_of l firm (Ok h) meaning is_logout = if bytes_eq h.firm firm then line_by_number l h (reset_to meaning) is_logout else line.BadHeader
+line_of l firm (Ok h) meaning is_logout =
+    if bytes_eq h.firm firm then line_by_number l h (reset_to meaning) is_logout else line.BadHeader
 
 -- ---- what the line decides
 
 -- the wanted number is set, where it doesn't fall
 abbrev pub resets : Timestamp → Link → ℕ → Verdict
-resets now l next = if nat_le l.want next then silent (record l { want = next }) else says now l (say.Reject (bad_value 36))
+resets now l next =
+    if nat_le l.want next then silent (record l { want = next })
+    else says now l (say.Reject (bad_value 36))
 
 -- a gap is asked for once, from the wanted number on
 abbrev pub asks : Timestamp → Link → ℕ → Option ℕ → Verdict
@@ -108,7 +130,9 @@ asks now l number (Some highest) = silent (record l { asked = Some (max highest 
 
 -- numbers that are passed over
 abbrev pub fills : Timestamp → Link → ℕ → ℕ → Verdict
-fills now l number next = if nat_lt number next then silent (record l { want = next }) else says now l (say.Reject (bad_value 36))
+fills now l number next =
+    if nat_lt number next then silent (record l { want = next })
+    else says now l (say.Reject (bad_value 36))
 
 -- the message with the wanted number, by its type
 abbrev pub by_type : Timestamp → Link → ℕ → Result Inbound Reject → Verdict
@@ -119,7 +143,8 @@ by_type now l number (Ok (inbound.TestRequest id)) = says now l (say.Heartbeat (
 by_type now l number (Ok inbound.Logout) = closes now l None
 by_type now l number (Ok (inbound.Logon heartbeat reset)) = closes now l (Some text.SecondLogon)
 by_type now l number (Ok (inbound.SequenceReset gap_fill next)) = fills now l number next
-by_type now l number (Ok (inbound.ResendRequest from to)) = again now (span_of l.out from to) (silent l)
+by_type now l number (Ok (inbound.ResendRequest from to)) =
+    again now (span_of l.out from to) (silent l)
 by_type now l number (Ok (inbound.Call firm trade id command)) = hands_out l number trade id
 
 abbrev pub on_line : Timestamp → Link → Result Inbound Reject → TableLine → Verdict
@@ -128,8 +153,10 @@ on_line now l meaning (line.Reset next) = resets now l next
 on_line now l meaning line.Duplicate = silent l
 on_line now l meaning line.TooLow = closes now l (Some (text.NumberTooLow l.want))
 on_line now l meaning line.LogoutAbove = closes now l None
-on_line now l meaning (line.Gap number) = again now (resend_of l.out meaning) (asks now l number l.asked)
-on_line now l meaning (line.Wanted number) = by_type now (record l { want = l.want + 1 }) number meaning
+on_line now l meaning (line.Gap number) =
+    again now (resend_of l.out meaning) (asks now l number l.asked)
+on_line now l meaning (line.Wanted number) =
+    by_type now (record l { want = l.want + 1 }) number meaning
 
 -- ---- a message
 
@@ -137,9 +164,11 @@ on_line now l meaning (line.Wanted number) = by_type now (record l { want = l.wa
 abbrev pub heard : Timestamp → Link → Link
 heard now l = record l { came = now; tested = false }
 
-abbrev pub by_firm : Timestamp → House → Link → Option (List ℕ) → Result Heading Reject → Result Inbound Reject → Bool → Verdict
+abbrev pub by_firm : Timestamp → House → Link → Option (List ℕ) → Result Heading Reject
+    → Result Inbound Reject → Bool → Verdict
 by_firm now t l None heading meaning is_logout = before_logon now t l heading meaning
-by_firm now t l (Some firm) heading meaning is_logout = on_line now (heard now l) meaning (line_of l firm heading meaning is_logout)
+by_firm now t l (Some firm) heading meaning is_logout =
+    on_line now (heard now l) meaning (line_of l firm heading meaning is_logout)
 
 -- a gap that was asked for is closed as soon as the wanted number is past it
 abbrev pub open_gap : ℕ → Option ℕ → Option ℕ
@@ -150,8 +179,10 @@ abbrev pub settled : Verdict → Verdict
 settled v = record v { link = record v.link { asked = open_gap v.link.want v.link.asked } }
 
 -- what a message decides
-abbrev pub on_message : Timestamp → House → Link → Result Heading Reject → Result Inbound Reject → Bool → Verdict
-on_message now t l heading meaning is_logout = settled (by_firm now t l l.firm heading meaning is_logout)
+abbrev pub on_message : Timestamp → House → Link → Result Heading Reject → Result Inbound Reject
+    → Bool → Verdict
+on_message now t l heading meaning is_logout =
+    settled (by_firm now t l l.firm heading meaning is_logout)
 
 -- ---- Tick
 
@@ -164,13 +195,14 @@ whole (negsuc n) = 0
 abbrev pub waited : Timestamp → Timestamp → ℕ
 waited since now = whole (int_div (now.nanosecond -ℤ since.nanosecond) (pos 1_000_000_000))
 
--- the first line that holds: no heartbeats were agreed; nothing came for three of them; nothing came for two, and no TestRequest
--- was sent since; nothing was sent for one
+-- the first line that holds: no heartbeats were agreed; nothing came for three of them; nothing
+-- came for two, and no TestRequest was sent since; nothing was sent for one
 abbrev pub by_silence : Timestamp → Link → Verdict
 by_silence now l =
     if l.heartbeat == 0 then silent l
     else (if nat_le (3 * l.heartbeat) (waited l.came now) then closes now l (Some text.NoHeartbeat)
-    else (if nat_le (2 * l.heartbeat) (waited l.came now) && not l.tested then says now (record l { tested = true }) say.TestRequest
+    else (if nat_le (2 * l.heartbeat) (waited l.came now) && not l.tested
+    then says now (record l { tested = true }) say.TestRequest
     else (if nat_le l.heartbeat (waited l.went now) then says now l (say.Heartbeat None)
     else silent l)))
 

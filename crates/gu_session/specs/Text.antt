@@ -16,7 +16,16 @@ use Rattle.gu_session.specs.Steps.{Event, Came, Tick, Reply, End, Seen, Outcome,
 -- the frame of a message from the house to a firm at a time
 abbrev pub text_of : List ℕ → List ℕ → List ℕ → Going → List ℕ
 text_of house firm time m =
-    frame_text (fields_text (header_pairs (record { kind = m.kind; sender = house; target = firm; number = m.number; sent = time; resent = m.first })) ++ m.body)
+    frame_text (fields_text
+    (header_pairs (record {
+      kind = m.kind;
+      sender = house;
+      target = firm;
+      number = m.number;
+      sent = time;
+      resent = m.first;
+    }))
+    ++ m.body)
 
 -- the frames of messages, one after the other; before the Logon there is nobody to send to
 abbrev pub wire : List ℕ → Option (List ℕ) → List ℕ → List Going → List ℕ

@@ -1,11 +1,14 @@
 //! The session of one connection: a pure machine over messages, ticks and replies.
 //!
-//! `Session::step` takes one event at one moment and answers what to do: bytes to send, a call for the book, whether to close. It reads no clock
-//! and no socket, and an error leaves the session as it was.
-//! - Each step is exactly the table's, byte for byte: `specs/Table.antt` is the table, an equation a line, `specs/Steps.antt` what a step leaves
-//!   and sends, `specs/Text.antt` its bytes. `docs/profile.md` states the same for people.
-//! - Laws hold for every list of steps (`specs/Runs.antt`): numbers without gaps, calls that rise and are awaited, silence before the Logon and
-//!   after the close, and resends that cover their span once with what was sent.
+//! `Session::step` takes one event at one moment and answers what to do: bytes to send, a call for
+//! the book, whether to close. It reads no clock and no socket, and an error leaves the session as
+//! it was.
+//! - Each step is exactly the table's, byte for byte: `specs/Table.antt` is the table, an equation
+//!   a line, `specs/Steps.antt` what a step leaves and sends, `specs/Text.antt` its bytes.
+//!   `docs/profile.md` states the same for people.
+//! - Laws hold for every list of steps (`specs/Runs.antt`): numbers without gaps, calls that rise
+//!   and are awaited, silence before the Logon and after the close, and resends that cover their
+//!   span once with what was sent.
 //! - No growth depends on a number that a peer names.
 //! Its cases are data of the program `test_messages`.
 #![tactic(auto)]

@@ -1,16 +1,20 @@
 //! The lines of the table for a message after the Logon.
 
 ghost use Rattle.std.specs.Prelude.{◌≡◌};
-ghost use Rattle.gu_session.specs.Table.{reset_to as reset_to_of, line_by_number as line_by_number_of, line_of as line_of_table};
+ghost use Rattle.gu_session.specs.Table.{reset_to as reset_to_of};
+ghost use Rattle.gu_session.specs.Table.{line_by_number as line_by_number_of};
+ghost use Rattle.gu_session.specs.Table.{line_of as line_of_table};
 
 use crate::link::Link;
 use gu_base::FirmId;
 use gu_message::{Heading, Inbound, Reject};
 
-/// The lines of the table for a message after the Logon, in their order: the first that holds decides.
+/// The lines of the table for a message after the Logon, in their order: the first that holds
+/// decides.
 #[derive(Clone, Copy)]
 pub enum TableLine {
-    /// The sender isn't the session's firm, the target isn't the house, or the number can't be read.
+    /// The sender isn't the session's firm, the target isn't the house, or the number can't be
+    /// read.
     BadHeader,
     /// A SequenceReset without GapFillFlag (123) Y, whatever its number.
     Reset { next: u32 },

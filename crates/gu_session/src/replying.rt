@@ -1,10 +1,12 @@
 //! The messages of a Reply: the answer to the call that waits, and reports.
 
-ghost use Rattle.std.specs.Prelude.{◌≡◌, ◌≤◌, ◌+◌, ◌++◌, length, map, nat_le, ◌≤ℤ◌, pos, Some, OnOk, IfOk};
+ghost use Rattle.std.specs.Prelude.{◌≡◌, ◌≤◌, ◌+◌, ◌++◌, length, map, nat_le, ◌≤ℤ◌, pos, Some};
+ghost use Rattle.std.specs.Prelude.{OnOk, IfOk};
 ghost use Rattle.std.specs.List.{All};
 ghost use Rattle.gu_message.specs.AllocationReport.{ShowsFewParts};
 ghost use Rattle.gu_session.specs.Limits.{past_last};
-ghost use Rattle.gu_session.specs.Steps.{kept_from, report_told, answer_of, tellings, new as new_of, time_of};
+ghost use Rattle.gu_session.specs.Steps.{kept_from, report_told, answer_of, tellings};
+ghost use Rattle.gu_session.specs.Steps.{new as new_of, time_of};
 ghost use Rattle.gu_session.specs.Text.{wire};
 
 use crate::kept::KeptMessages;
@@ -52,7 +54,8 @@ fn tell_reports(
     requires time { time ≡ time_of moment }
     requires few { All ShowsFewParts reports.now }
     requires numbers { out + length reports.now ≤ past_last }
-    ensures { OnOk result (fresh.new ≡ fresh.old ++ kept_from time out (map (report_told time) reports.now)) }
+    ensures { OnOk result
+        (fresh.new ≡ fresh.old ++ kept_from time out (map (report_told time) reports.now)) }
 {
     let mut number = out;
     for report in reports {
@@ -75,8 +78,10 @@ fn told(
     requires moment { pos 0 ≤ℤ moment.nanosecond }
     requires time { time ≡ time_of moment }
     requires few { All ShowsFewParts reports.now }
-    requires numbers { out + (length (answer_of waiting answer.now) + length reports.now) ≤ past_last }
-    ensures { IfOk result (λ fresh. fresh ≡ kept_from time out (tellings time waiting answer.now reports.now)) }
+    requires numbers { out + (length (answer_of waiting answer.now) + length reports.now)
+        ≤ past_last }
+    ensures { IfOk result
+        (λ fresh. fresh ≡ kept_from time out (tellings time waiting answer.now reports.now)) }
 {
     let mut fresh = KeptMessages::new(alloc);
     let mut number = out;
@@ -102,9 +107,14 @@ pub fn replied(
 ) -> Result<(KeptMessages, Vec<u8>), Memory>
     requires moment { pos 0 ≤ℤ moment.nanosecond }
     requires few { All ShowsFewParts reports.now }
-    requires numbers { link.now.out + (length (answer_of link.now.waiting answer.now) + length reports.now) ≤ past_last }
-    ensures kept { IfOk result (λ r. r.0 ≡ kept_from (time_of moment) link.now.out (tellings (time_of moment) link.now.waiting answer.now reports.now)) }
-    ensures send { IfOk result (λ r. r.1.items ≡ wire house (Some firm) (time_of moment) (map new_of r.0)) }
+    requires numbers { link.now.out
+        + (length (answer_of link.now.waiting answer.now) + length reports.now)
+        ≤ past_last }
+    ensures kept { IfOk result (λ r. r.0
+        ≡ kept_from (time_of moment) link.now.out
+        (tellings (time_of moment) link.now.waiting answer.now reports.now)) }
+    ensures send { IfOk result
+        (λ r. r.1.items ≡ wire house (Some firm) (time_of moment) (map new_of r.0)) }
 {
     let time = SendingTime::new(moment);
     let fresh = told(alloc, link.waiting, answer, reports, link.out, moment, time)?;

@@ -1,6 +1,7 @@
 //! A session.
 
-ghost use Rattle.std.specs.Prelude.{◌≡◌, ◌≤◌, ◌≤ℤ◌, ◌+◌, ◌++◌, pos, true, false, IsTrue, OnOk, OnErr, IfOk, Ok, None, Some, is_some, option_map, length};
+ghost use Rattle.std.specs.Prelude.{◌≡◌, ◌≤◌, ◌≤ℤ◌, ◌+◌, ◌++◌, pos, true, false, IsTrue, OnOk};
+ghost use Rattle.std.specs.Prelude.{OnErr, IfOk, Ok, None, Some, is_some, option_map, length};
 ghost use Rattle.std.specs.List.{All};
 ghost use Rattle.gu_codec.specs.Answer.{pairs};
 ghost use Rattle.gu_message.specs.AllocationReport.{ShowsFewParts};
@@ -9,7 +10,9 @@ ghost use Rattle.gu_message.specs.Meaning.{meaning_of};
 ghost use Rattle.gu_message.specs.declared.inbound.Inbound.TheVariants.{Heartbeat};
 ghost use Rattle.gu_session.specs.Limits.{past_last};
 ghost use Rattle.gu_session.specs.Steps as StepEvent;
-ghost use Rattle.gu_session.specs.Steps.{fits as fits_of, call_of as call_of_table, opening, tells, replies, where_it_fits, on_event, acts, resends, sayings, time_of};
+ghost use Rattle.gu_session.specs.Steps.{fits as fits_of, call_of as call_of_table, opening, tells};
+ghost use Rattle.gu_session.specs.Steps.{replies, where_it_fits, on_event, acts, resends, sayings};
+ghost use Rattle.gu_session.specs.Steps.{time_of};
 ghost use Rattle.gu_session.specs.Table.{shut as shut_of};
 ghost use Rattle.gu_session.specs.Text.{ShowFewParts, Steps, Gives, IsEmpty, wire, fields_of};
 
@@ -130,8 +133,10 @@ fn frames(
     moment: Timestamp,
 ) -> Result<Vec<u8>, Memory>
     requires { pos 0 ≤ℤ moment.nanosecond }
-    ensures { IfOk result (λ send. send.items ≡ wire house verdict.now.link.firm (time_of moment)
-        (resends (time_of moment) kept.now verdict.now.resend ++ sayings (fields_of came.entry) number verdict.now.say)) }
+    ensures { IfOk result (λ send. send.items
+        ≡ wire house verdict.now.link.firm (time_of moment)
+        (resends (time_of moment) kept.now verdict.now.resend
+        ++ sayings (fields_of came.entry) number verdict.now.say)) }
 {
     let mut send = Vec::new(alloc);
     if is_silent(verdict) {
@@ -177,9 +182,11 @@ impl<'a> Session<'a> {
     /// Takes an event at a moment from 1970 to 9999 (`is_moment`), and answers what to do, by the
     /// table of `docs/profile.md`.
     ///
-    /// After a `Message` whose actions have a call, the call is to be made and its answer handed in by a `Reply` before the
-    /// next `Message`. A `Reply` clears the call that waits; where none waits, only its reports are sent. A closed session
-    /// answers each event with no actions. Each report of a `Reply` shows at most 100 parts (`gu_message::shows_few_parts`). `Memory` leaves the session as it was, and the event may be handed in again.
+    /// After a `Message` whose actions have a call, the call is to be made and its answer handed in
+    /// by a `Reply` before the next `Message`. A `Reply` clears the call that waits; where none
+    /// waits, only its reports are sent. A closed session answers each event with no actions. Each
+    /// report of a `Reply` shows at most 100 parts (`gu_message::shows_few_parts`). `Memory` leaves
+    /// the session as it was, and the event may be handed in again.
     pub fn step(&mut self, event: Event<'_>, moment: Timestamp) -> Result<Actions, Memory>
         requires moment { pos 0 ≤ℤ moment.nanosecond }
         requires few { ShowFewParts event }
@@ -218,10 +225,21 @@ impl<'a> Session<'a> {
         self.link.firm
     }
 
+    /// MsgSeqNum (34) of the next message that goes out, 1 to 1,000,000,000; no message has the
+    /// last. Takes no memory.
+    pub fn next_number(&self) -> u32
+        ensures { result ≡ self.now.link.out }
+    {
+        self.link.out
+    }
+
     /// Takes a message.
     fn message(&mut self, fields: Fields<'_>, moment: Timestamp) -> Result<Actions, Memory>
         requires { pos 0 ≤ℤ moment.nanosecond }
-        ensures ok { IfOk result (λ a. Gives (where_it_fits moment self.old (on_event moment self.old (StepEvent.Came (pairs fields.entry)))) self.new a) }
+        ensures ok { IfOk result (λ a.
+            Gives (where_it_fits moment self.old
+            (on_event moment self.old (StepEvent.Came (pairs fields.entry))))
+            self.new a) }
         ensures err { OnErr result (self.new ≡ self.old) }
     {
         let house = self.house.house();
@@ -240,13 +258,16 @@ impl<'a> Session<'a> {
     /// Time has passed.
     fn tick(&mut self, moment: Timestamp) -> Result<Actions, Memory>
         requires { pos 0 ≤ℤ moment.nanosecond }
-        ensures ok { IfOk result (λ a. Gives (where_it_fits moment self.old (on_event moment self.old StepEvent.Tick)) self.new a) }
+        ensures ok { IfOk result (λ a.
+            Gives (where_it_fits moment self.old (on_event moment self.old StepEvent.Tick)) self.new
+            a) }
         ensures err { OnErr result (self.new ≡ self.old) }
     {
         self.act(None, no_message(), on_tick(moment, self.link), moment)
     }
 
-    /// Does what a verdict on a message, or on none, says: all frames are made before anything changes.
+    /// Does what a verdict on a message, or on none, says: all frames are made before anything
+    /// changes.
     fn act(
         &mut self,
         came: Option<Fields<'_>>,
@@ -255,7 +276,11 @@ impl<'a> Session<'a> {
         moment: Timestamp,
     ) -> Result<Actions, Memory>
         requires { pos 0 ≤ℤ moment.nanosecond }
-        ensures ok { IfOk result (λ a. Gives (where_it_fits moment self.old (acts moment self.old (fields_of came.entry) (call_of_table meaning verdict.call) verdict)) self.new a) }
+        ensures ok { IfOk result (λ a.
+            Gives (where_it_fits moment self.old
+            (acts moment self.old (fields_of came.entry) (call_of_table meaning verdict.call)
+            verdict))
+            self.new a) }
         ensures err { OnErr result (self.new ≡ self.old) }
     {
         if !fits(&verdict.link) {
@@ -287,7 +312,10 @@ impl<'a> Session<'a> {
     ) -> Result<Actions, Memory>
         requires moment { pos 0 ≤ℤ moment.nanosecond }
         requires few { All ShowsFewParts reports.now }
-        ensures ok { IfOk result (λ a. Gives (where_it_fits moment self.old (on_event moment self.old (StepEvent.Reply answer.now reports.now))) self.new a) }
+        ensures ok { IfOk result (λ a.
+            Gives (where_it_fits moment self.old
+            (on_event moment self.old (StepEvent.Reply answer.now reports.now)))
+            self.new a) }
         ensures err { OnErr result (self.new ≡ self.old) }
     {
         match self.link.firm {
@@ -307,7 +335,10 @@ impl<'a> Session<'a> {
         requires moment { pos 0 ≤ℤ moment.nanosecond }
         requires few { All ShowsFewParts reports.now }
         requires firm { self.old.link.firm ≡ Some firm }
-        ensures ok { IfOk result (λ a. Gives (where_it_fits moment self.old (replies moment self.old (Some firm) answer.now reports.now)) self.new a) }
+        ensures ok { IfOk result (λ a.
+            Gives (where_it_fits moment self.old
+            (replies moment self.old (Some firm) answer.now reports.now))
+            self.new a) }
         ensures err { OnErr result (self.new ≡ self.old) }
     {
         let link = self.link;

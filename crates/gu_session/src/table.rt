@@ -2,7 +2,16 @@
 
 ghost use Rattle.std.specs.Prelude.{◌≡◌, ◌≤◌, ◌+◌};
 ghost use Rattle.gu_session.specs.Limits.{last_number, past_last};
-ghost use Rattle.gu_session.specs.Table.{silent as silent_of, says as says_of, closes as closes_of, shut as shut_of, again as again_of, hands_out as hands_out_of, last_asked as last_asked_of, span_of, resend_of, first_logon as first_logon_of, before_logon as before_logon_of, resets as resets_of, asks as asks_of, fills as fills_of, by_type as by_type_of, on_line as on_line_of, heard as heard_of, open_gap as open_gap_of, settled as settled_of, on_message as on_message_of, waited as waited_of, by_silence as by_silence_of, on_tick as on_tick_of};
+ghost use Rattle.gu_session.specs.Table.{silent as silent_of, says as says_of, closes as closes_of};
+ghost use Rattle.gu_session.specs.Table.{shut as shut_of, again as again_of};
+ghost use Rattle.gu_session.specs.Table.{hands_out as hands_out_of, last_asked as last_asked_of};
+ghost use Rattle.gu_session.specs.Table.{span_of, resend_of, first_logon as first_logon_of};
+ghost use Rattle.gu_session.specs.Table.{before_logon as before_logon_of, resets as resets_of};
+ghost use Rattle.gu_session.specs.Table.{asks as asks_of, fills as fills_of, by_type as by_type_of};
+ghost use Rattle.gu_session.specs.Table.{on_line as on_line_of, heard as heard_of};
+ghost use Rattle.gu_session.specs.Table.{open_gap as open_gap_of, settled as settled_of};
+ghost use Rattle.gu_session.specs.Table.{on_message as on_message_of, waited as waited_of};
+ghost use Rattle.gu_session.specs.Table.{by_silence as by_silence_of, on_tick as on_tick_of};
 
 use crate::line::{TableLine, line_of};
 use crate::link::{Link, Waiting};
@@ -101,7 +110,8 @@ fn again(moment: Timestamp, span: Option<Span>, verdict: Verdict) -> Verdict
     }
 }
 
-/// The last number that a ResendRequest asks for: 0 and a number past the last sent mean the last sent.
+/// The last number that a ResendRequest asks for: 0 and a number past the last sent mean the last
+/// sent.
 fn last_asked(out: u32, to: u32) -> u32
     ensures value { result ≡ last_asked_of out to }
     ensures small { result ≤ out }

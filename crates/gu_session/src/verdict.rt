@@ -22,8 +22,8 @@ pub enum Say {
     Logout(Option<LogoutText>),
 }
 
-/// What an event decides: what the session knows then, what is sent again, the new message behind that, and the
-/// number of the message whose call is handed out.
+/// What an event decides: what the session knows then, what is sent again, the new message behind
+/// that, and the number of the message whose call is handed out.
 #[derive(Clone, Copy)]
 pub struct Verdict {
     pub link: Link,

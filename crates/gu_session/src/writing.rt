@@ -1,12 +1,15 @@
 //! Writing what goes out.
 
-ghost use Rattle.std.specs.Prelude.{◌≡◌, ◌≤◌, ◌+◌, ◌++◌, ◌∷◌, List, OnOk, IfOk, length, map, option_map, Some, None};
+ghost use Rattle.std.specs.Prelude.{◌≡◌, ◌≤◌, ◌+◌, ◌++◌, ◌∷◌, List, OnOk, IfOk, length, map};
+ghost use Rattle.std.specs.Prelude.{option_map, Some, None};
 ghost use Rattle.std.specs.List.{flat_map};
 ghost use Rattle.gu_codec.specs.Limits.{longest_body};
 ghost use Rattle.gu_codec.specs.Writing.{IsText, fields_text};
 ghost use Rattle.gu_codec.specs.Answer.{pairs};
-ghost use Rattle.gu_session.specs.Going.{type_of_say as type_of_say_lem, fields_of_say, type_of_told, said};
-ghost use Rattle.gu_session.specs.Steps.{gap_fill as gap_fill_of, with_gaps, within, resends, sayings, new as new_of};
+ghost use Rattle.gu_session.specs.Going.{type_of_say as type_of_say_lem, fields_of_say};
+ghost use Rattle.gu_session.specs.Going.{type_of_told, said};
+ghost use Rattle.gu_session.specs.Steps.{gap_fill as gap_fill_of, with_gaps, within, resends};
+ghost use Rattle.gu_session.specs.Steps.{sayings, new as new_of};
 ghost use Rattle.gu_session.specs.Text.{text_of, fields_of};
 ghost use Rattle.gu_session.specs.Keeping.{Kept, kept_with, messages, total};
 
@@ -40,7 +43,15 @@ fn write(
 ) -> Result<(), Memory>
     requires kind { IsText kind.now }
     requires body { length body.now ≤ longest_body }
-    ensures { OnOk result (out.new.items ≡ out.old.items ++ text_of writer.now.house writer.now.firm writer.now.time (record { kind = kind.now; number = number; next = number + 1; first = first; body = body.now })) }
+    ensures { OnOk result
+        (out.new.items ≡ out.old.items
+        ++ text_of writer.now.house writer.now.firm writer.now.time (record {
+          kind = kind.now;
+          number = number;
+          next = number + 1;
+          first = first;
+          body = body.now;
+        })) }
 {
     let time = writer.time;
     let resent = first.as_ref().map(|time| time.as_bytes());
@@ -72,7 +83,8 @@ fn type_of_say(say: &Say) -> &'static [u8]
 
 /// The body of what the session says about a message, or about none.
 fn body_of_say(alloc: Global, came: Option<Fields<'_>>, say: Say) -> Result<Vec<u8>, Memory>
-    ensures value { IfOk result (λ body. body.items ≡ fields_text (fields_of_say (fields_of came.entry) say)) }
+    ensures value { IfOk result
+        (λ body. body.items ≡ fields_text (fields_of_say (fields_of came.entry) say)) }
     ensures short { IfOk result (λ body. length body.items ≤ longest_body) }
 {
     let mut body = Vec::new(alloc);
@@ -99,7 +111,10 @@ fn write_say(
     number: u32,
     say: Say,
 ) -> Result<(), Memory>
-    ensures { OnOk result (out.new.items ≡ out.old.items ++ text_of writer.now.house writer.now.firm writer.now.time (said (fields_of came.entry) number say)) }
+    ensures { OnOk result
+        (out.new.items ≡ out.old.items
+        ++ text_of writer.now.house writer.now.firm writer.now.time
+        (said (fields_of came.entry) number say)) }
 {
     let body = body_of_say(alloc, came, say)?;
     write(
@@ -121,7 +136,15 @@ fn write_kept(
     first: Option<SendingTime>,
 ) -> Result<(), Memory>
     requires { length body.now ≤ longest_body }
-    ensures { OnOk result (out.new.items ≡ out.old.items ++ text_of writer.now.house writer.now.firm writer.now.time (record { kind = type_of_told entry.now.told; number = entry.now.number; next = entry.now.number + 1; first = first; body = body.now })) }
+    ensures { OnOk result
+        (out.new.items ≡ out.old.items
+        ++ text_of writer.now.house writer.now.firm writer.now.time (record {
+          kind = type_of_told entry.now.told;
+          number = entry.now.number;
+          next = entry.now.number + 1;
+          first = first;
+          body = body.now;
+        })) }
 {
     write(out, writer, type_of(entry.told), entry.number, first, body)
 }
@@ -134,7 +157,10 @@ fn write_gap(
     from: u32,
     next: u32,
 ) -> Result<(), Memory>
-    ensures { OnOk result (out.new.items ≡ out.old.items ++ flat_map (text_of writer.now.house writer.now.firm writer.now.time) (gap_fill_of writer.now.time from next)) }
+    ensures { OnOk result
+        (out.new.items ≡ out.old.items
+        ++ flat_map (text_of writer.now.house writer.now.firm writer.now.time)
+        (gap_fill_of writer.now.time from next)) }
 {
     if from < next {
         let mut body = Vec::new(alloc);
@@ -151,7 +177,8 @@ fn write_gap(
     Ok(())
 }
 
-/// Appends a kept message again, where its number is in the span, behind the gap before it. Answers the next number.
+/// Appends a kept message again, where its number is in the span, behind the gap before it. Answers
+/// the next number.
 fn write_one_again(
     alloc: Global,
     out: &mut Vec<u8>,
@@ -162,9 +189,14 @@ fn write_one_again(
     next: u32,
 ) -> Result<u32, Memory>
     requires { length body.now ≤ longest_body }
-    ensures { IfOk result (λ number. (later : List Kept) →
-        out.new.items ++ flat_map (text_of writer.now.house writer.now.firm writer.now.time) (with_gaps writer.now.time number span.next (within span.from span.next later))
-        ≡ out.old.items ++ flat_map (text_of writer.now.house writer.now.firm writer.now.time) (with_gaps writer.now.time next span.next (within span.from span.next (kept_with entry.now body.now ∷ later)))) }
+    ensures { IfOk result (λ number. (later : List Kept)
+        → out.new.items
+        ++ flat_map (text_of writer.now.house writer.now.firm writer.now.time)
+        (with_gaps writer.now.time number span.next (within span.from span.next later))
+        ≡ out.old.items
+        ++ flat_map (text_of writer.now.house writer.now.firm writer.now.time)
+        (with_gaps writer.now.time next span.next
+        (within span.from span.next (kept_with entry.now body.now ∷ later)))) }
 {
     if entry.number < span.from {
         return Ok(next);
@@ -177,7 +209,8 @@ fn write_one_again(
     Ok(entry.number + 1)
 }
 
-/// Appends what is sent again of the messages of these entries, whose bodies stand one behind the other.
+/// Appends what is sent again of the messages of these entries, whose bodies stand one behind the
+/// other.
 fn write_again(
     alloc: Global,
     out: &mut Vec<u8>,
@@ -187,7 +220,11 @@ fn write_again(
     span: Span,
 ) -> Result<(), Memory>
     requires { total entries.now.items ≡ length bodies.now }
-    ensures { OnOk result (out.new.items ≡ out.old.items ++ flat_map (text_of writer.now.house writer.now.firm writer.now.time) (with_gaps writer.now.time span.from span.next (within span.from span.next (messages entries.now.items bodies.now)))) }
+    ensures { OnOk result
+        (out.new.items ≡ out.old.items
+        ++ flat_map (text_of writer.now.house writer.now.firm writer.now.time)
+        (with_gaps writer.now.time span.from span.next
+        (within span.from span.next (messages entries.now.items bodies.now)))) }
 {
     let mut next = span.from;
     let mut left = bodies;
@@ -207,7 +244,10 @@ pub fn write_resend(
     kept: &KeptMessages,
     resend: Option<Span>,
 ) -> Result<(), Memory>
-    ensures { OnOk result (out.new.items ≡ out.old.items ++ flat_map (text_of writer.now.house writer.now.firm writer.now.time) (resends writer.now.time kept.now resend)) }
+    ensures { OnOk result
+        (out.new.items ≡ out.old.items
+        ++ flat_map (text_of writer.now.house writer.now.firm writer.now.time)
+        (resends writer.now.time kept.now resend)) }
 {
     match resend {
         None => Ok(()),
@@ -227,7 +267,10 @@ pub fn write_saying(
     number: u32,
     say: Option<Say>,
 ) -> Result<(), Memory>
-    ensures { OnOk result (out.new.items ≡ out.old.items ++ flat_map (text_of writer.now.house writer.now.firm writer.now.time) (sayings (fields_of came.entry) number say)) }
+    ensures { OnOk result
+        (out.new.items ≡ out.old.items
+        ++ flat_map (text_of writer.now.house writer.now.firm writer.now.time)
+        (sayings (fields_of came.entry) number say)) }
 {
     match say {
         None => Ok(()),
@@ -243,7 +286,10 @@ fn write_fresh(
     bodies: &[u8],
 ) -> Result<(), Memory>
     requires { total entries.now.items ≡ length bodies.now }
-    ensures { OnOk result (out.new.items ≡ out.old.items ++ flat_map (text_of writer.now.house writer.now.firm writer.now.time) (map new_of (messages entries.now.items bodies.now))) }
+    ensures { OnOk result
+        (out.new.items ≡ out.old.items
+        ++ flat_map (text_of writer.now.house writer.now.firm writer.now.time)
+        (map new_of (messages entries.now.items bodies.now))) }
 {
     let mut left = bodies;
     for i in 0..entries.len() {
@@ -256,7 +302,10 @@ fn write_fresh(
 
 /// Appends new application messages.
 pub fn write_new(out: &mut Vec<u8>, writer: &Writer, fresh: &KeptMessages) -> Result<(), Memory>
-    ensures { OnOk result (out.new.items ≡ out.old.items ++ flat_map (text_of writer.now.house writer.now.firm writer.now.time) (map new_of fresh.now)) }
+    ensures { OnOk result
+        (out.new.items ≡ out.old.items
+        ++ flat_map (text_of writer.now.house writer.now.firm writer.now.time)
+        (map new_of fresh.now)) }
 {
     let (entries, bodies) = fresh.parts();
     write_fresh(out, writer, entries, bodies)

@@ -6,4 +6,10 @@ use Rattle.gu_session.proofs.kept.KeptMessages.len.Goals as goal
 pub returns : goal.returns
 returns c =
     let same = ap (λ (t : List Kept). length t) c.self.view_is in
-    omega (arith, c.len.ensures, c.self.inside.entries.ok.0, length_messages c.self.inside.entries.items (drop c.self.inside.gone c.self.inside.bytes.items), same)
+    omega (
+      arith,
+      c.len.ensures,
+      c.self.inside.entries.ok.0,
+      length_messages c.self.inside.entries.items (drop c.self.inside.gone c.self.inside.bytes.items),
+      same,
+    )

@@ -11,9 +11,12 @@ use Rattle.gu_session.proofs.session.Session.tell.Goals as goal
 
 -- the messages that tell the answer and the reports, and whether there are numbers for them
 abbrev told : After-has_numbers → List Kept
-told c = kept_from (time_of c.args.moment) c.args.self.now.link.out (tellings (time_of c.args.moment) c.args.self.now.link.waiting c.args.answer.now c.args.reports.now)
+told c =
+    kept_from (time_of c.args.moment) c.args.self.now.link.out
+    (tellings (time_of c.args.moment) c.args.self.now.link.waiting c.args.answer.now c.args.reports.now)
 
-has_room : (c : After-has_numbers) → c.has_numbers.result ≡ nat_le (c.args.self.now.link.out + length (told c)) 1000000000
+has_room : (c : After-has_numbers)
+    → c.has_numbers.result ≡ nat_le (c.args.self.now.link.out + length (told c)) 1000000000
 has_room c =
     let s = c.args.self.now in
     let link : c.self.inside.link ≡ s.link = ap (λ (t : Seen). t.link) c.self.view_is in
@@ -48,7 +51,11 @@ returns-clause-ok c =
     let fresh : c.in_ok-fresh.fresh ≡ ms = rw link at c.in_ok-fresh.ensures.kept in
     let fits_before : fits s.link ≡ true = subst (λ (l : Link). fits l ≡ true) link c.self.invariant in
     let few : s.link.out + length ms ≤ 1000000000 = grind (arith, nat_tests, has, c.if-not-has_numbers.false) in
-    let house = ap (λ (h : List ℕ). wire h (Some c.args.firm) time (map new c.in_ok-fresh.fresh)) c.house-house.ensures in
-    let seen = ap (λ (t : Seen). wire t.house.house (Some c.args.firm) time (map new c.in_ok-fresh.fresh)) c.self.view_is in
-    let send = c.in_ok-fresh.ensures.send ∙ house ∙ seen ∙ ap (λ (t : List Kept). wire s.house.house (Some c.args.firm) time (map new t)) fresh in
-    tells_give c.args.moment s _ c.args.firm ms _ c.requires.firm fits_before few (c.in_ok-keep_fresh.ensures.ok ∙ ap (λ (t : List Kept). (tells c.args.moment s t).after) fresh) send refl refl
+    let house =
+    ap (λ (h : List ℕ). wire h (Some c.args.firm) time (map new c.in_ok-fresh.fresh)) c.house-house.ensures in
+    let seen =
+    ap (λ (t : Seen). wire t.house.house (Some c.args.firm) time (map new c.in_ok-fresh.fresh)) c.self.view_is in
+    let send = c.in_ok-fresh.ensures.send ∙ house ∙ seen
+    ∙ ap (λ (t : List Kept). wire s.house.house (Some c.args.firm) time (map new t)) fresh in
+    tells_give c.args.moment s _ c.args.firm ms _ c.requires.firm fits_before few
+    (c.in_ok-keep_fresh.ensures.ok ∙ ap (λ (t : List Kept). (tells c.args.moment s t).after) fresh) send refl refl
