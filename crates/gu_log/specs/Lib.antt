@@ -1,0 +1,5 @@
+pub mod Lines
+pub mod Moments
+pub mod Reading
+pub mod Values
+pub mod Words

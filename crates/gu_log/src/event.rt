@@ -1,0 +1,157 @@
+//! The events, and the keys of what is said of them.
+
+ghost use Rattle.std.specs.Prelude.{◌≡◌};
+ghost use Rattle.gu_log.specs.Words.{event_word, key_word};
+
+/// What an operator is told of.
+#[derive(Clone, Copy, Debug, PartialEq, Eq)]
+pub enum Event {
+    /// The program has read its command line and the house file.
+    Started,
+    /// The journal is being read.
+    Recovering,
+    /// The journal was read.
+    Recovered,
+    /// Connections are taken.
+    Listening,
+    /// A firm has logged on.
+    LoggedOn,
+    /// A connection ended before a Logon was accepted on it.
+    LogonRefused,
+    /// A connection on which a firm had logged on has ended.
+    Ended,
+    /// A firm's call was answered.
+    Called,
+    /// A group was long on its way to the disk.
+    SlowSync,
+    /// The book is nearly full.
+    BookFills,
+    /// What one firm may enter is nearly used up.
+    ShareFills,
+    /// A limit turned something away.
+    AtLimit,
+    /// Lines of this log were lost, since nobody read them in time.
+    LinesLost,
+    /// A part of the server stands still.
+    Stuck,
+    /// The server ends.
+    Stopped,
+}
+
+impl Event {
+    /// The word that stands for it.
+    pub fn word(self) -> &'static str
+        ensures { result.now ≡ event_word self }
+    {
+        match self {
+            Event::Started => "started",
+            Event::Recovering => "recovering",
+            Event::Recovered => "recovered",
+            Event::Listening => "listening",
+            Event::LoggedOn => "logged_on",
+            Event::LogonRefused => "logon_refused",
+            Event::Ended => "ended",
+            Event::Called => "called",
+            Event::SlowSync => "slow_sync",
+            Event::BookFills => "book_fills",
+            Event::ShareFills => "share_fills",
+            Event::AtLimit => "at_limit",
+            Event::LinesLost => "lines_lost",
+            Event::Stuck => "stuck",
+            Event::Stopped => "stopped",
+        }
+    }
+}
+
+/// What a value says.
+#[derive(Clone, Copy, Debug, PartialEq, Eq)]
+pub enum Key {
+    /// The version of the program.
+    Version,
+    /// The path of the house file, and the SHA-256 of its bytes.
+    House,
+    HouseDigest,
+    /// The path of the journal.
+    Journal,
+    /// The port that is listened on.
+    Port,
+    /// How many workers serve.
+    Workers,
+    /// How many entries the book has, or a group.
+    Entries,
+    /// How many there may be at most.
+    Most,
+    /// How much of that is used.
+    Percent,
+    /// How many bytes were read, and were sent.
+    Bytes,
+    BytesIn,
+    BytesOut,
+    /// How long it took.
+    Seconds,
+    Milliseconds,
+    /// The number of a connection: they are counted from 1 on.
+    Connection,
+    /// How many connections.
+    Connections,
+    /// The address of a peer.
+    Peer,
+    /// A firm of the house file.
+    Firm,
+    /// What a peer said that it is.
+    Said,
+    /// The id of a call.
+    Id,
+    /// What a call was answered.
+    Answer,
+    /// How many calls there were, and how many were accepted and refused.
+    Calls,
+    Accepted,
+    Refused,
+    /// Why it is so.
+    Why,
+    /// Which part of the server.
+    Part,
+    /// How many lines.
+    Lines,
+    /// The status that the program ends with.
+    Status,
+}
+
+impl Key {
+    /// The word that stands for it.
+    pub fn word(self) -> &'static str
+        ensures { result.now ≡ key_word self }
+    {
+        match self {
+            Key::Version => "version",
+            Key::House => "house",
+            Key::HouseDigest => "house_sha256",
+            Key::Journal => "journal",
+            Key::Port => "port",
+            Key::Workers => "workers",
+            Key::Entries => "entries",
+            Key::Most => "most",
+            Key::Percent => "percent",
+            Key::Bytes => "bytes",
+            Key::BytesIn => "bytes_in",
+            Key::BytesOut => "bytes_out",
+            Key::Seconds => "seconds",
+            Key::Milliseconds => "ms",
+            Key::Connection => "connection",
+            Key::Connections => "connections",
+            Key::Peer => "peer",
+            Key::Firm => "firm",
+            Key::Said => "said",
+            Key::Id => "id",
+            Key::Answer => "answer",
+            Key::Calls => "calls",
+            Key::Accepted => "accepted",
+            Key::Refused => "refused",
+            Key::Why => "why",
+            Key::Part => "part",
+            Key::Lines => "lines",
+            Key::Status => "status",
+        }
+    }
+}

@@ -1,0 +1,5 @@
+pub mod Metrics
+pub mod Pages
+pub mod Parts
+pub mod Samples
+pub mod Warning

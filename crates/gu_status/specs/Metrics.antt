@@ -1,0 +1,118 @@
+-- The text of a snapshot for Prometheus.
+use Rattle.std.specs.Prelude.{ℕ, ◌+◌, ◌*◌, ◌/◌, ◌==◌, Bool, true, false, if◌then◌else◌, List, []}
+use Rattle.std.specs.Prelude.{◌∷◌, ◌++◌, codes, decimal, flat_map, is_none, slice_index}
+use Rattle.gu_status.specs.Samples.{Text, family, decimal_line, millionths, sample, labelled}
+use Rattle.gu_status.specs.Samples.{single}
+use Rattle.gu_status.specs.declared.snapshot.FirmEntries.{FirmEntries}
+use Rattle.gu_status.specs.declared.snapshot.Snapshot.{Snapshot}
+use Rattle.gu_status.specs.declared.snapshot.Syncs.{Syncs}
+
+abbrev pub one_if : Bool → ℕ
+one_if true = 1
+one_if false = 0
+
+-- how the server stands
+unfoldable pub state_text : Snapshot → Text
+state_text s =
+    single (codes "allocd_ready") (codes "gauge")
+    (codes "1 where the book was recovered and connections are taken, else 0.") (one_if s.is_ready)
+    ++ single (codes "allocd_healthy") (codes "gauge")
+    (codes "1 where each part of the server moves, else 0.") (one_if (is_none s.stuck))
+    ++ single (codes "allocd_connections") (codes "gauge") (codes "Connections that are open.")
+    s.connections
+
+-- how much of the book is used, in millionths
+abbrev pub fullness : ℕ → ℕ → ℕ
+fullness entries most = if most == 0 then 0 else entries * 1000000 / most
+
+unfoldable pub fullness_text : Snapshot → Text
+fullness_text s =
+    family (codes "allocd_book_fullness_ratio") (codes "gauge")
+    (codes "Entries of the book as a part of the most that it takes.")
+    ++ codes "allocd_book_fullness_ratio" ++ millionths (fullness s.entries s.most_entries)
+
+-- how full the book is
+unfoldable pub book_text : Snapshot → Text
+book_text s =
+    single (codes "allocd_entries") (codes "gauge") (codes "Entries of the book.") s.entries
+    ++ single (codes "allocd_entries_limit") (codes "gauge")
+    (codes "The most entries that the book takes.") s.most_entries
+    ++ fullness_text s
+
+-- the entries of each firm
+unfoldable pub firm_text : FirmEntries → Text
+firm_text f = labelled (codes "allocd_firm_entries{firm=\"") f.firm f.entries
+
+abbrev pub firms_text : List FirmEntries → Text
+firms_text fs = flat_map firm_text fs
+
+unfoldable pub shares_text : Snapshot → Text
+shares_text s =
+    family (codes "allocd_firm_entries") (codes "gauge")
+    (codes "Entries of the book that a firm has made.")
+    ++ firms_text s.firms.items
+
+-- how many calls were refused by a refusal
+unfoldable pub refusal_text : ℕ → ℕ → Text
+refusal_text n c = labelled (codes "allocd_refusals_total{reason=\"") (decimal n) c
+
+-- how many were by each, the first of which has this number
+abbrev pub refusals_text : ℕ → List ℕ → Text
+refusals_text n [] = []
+refusals_text n (c ∷ cs) =
+    refusal_text n c ++ refusals_text (n + 1) cs
+
+-- how calls were answered
+unfoldable pub calls_text : Snapshot → Text
+calls_text s =
+    single (codes "allocd_calls_accepted_total") (codes "counter")
+    (codes "Calls that were accepted.") s.accepted
+    ++ single (codes "allocd_calls_repeated_total") (codes "counter")
+    (codes "Calls that had been made and accepted before.") s.repeated
+    ++ family (codes "allocd_refusals_total") (codes "counter")
+    (codes "Calls that were refused, by the refusal's number.")
+    ++ refusals_text 1 s.refused
+
+-- how many syncs took no longer than a bound
+abbrev pub bucket : Text → ℕ → Text
+bucket bound n = labelled (codes "allocd_sync_seconds_bucket{le=\"") bound n
+
+unfoldable pub short_buckets : Syncs → Text
+short_buckets s = bucket (codes "0.001") (slice_index s.within 0)
+    ++ bucket (codes "0.002") (slice_index s.within 1)
+    ++ bucket (codes "0.005") (slice_index s.within 2)
+    ++ bucket (codes "0.01") (slice_index s.within 3)
+    ++ bucket (codes "0.02") (slice_index s.within 4)
+
+unfoldable pub long_buckets : Syncs → Text
+long_buckets s = bucket (codes "0.05") (slice_index s.within 5)
+    ++ bucket (codes "0.1") (slice_index s.within 6)
+    ++ bucket (codes "1") (slice_index s.within 7)
+    ++ bucket (codes "10") (slice_index s.within 8)
+    ++ bucket (codes "+Inf") s.count
+
+-- how long they took together, and how many they were
+unfoldable pub totals_text : Syncs → Text
+totals_text s = codes "allocd_sync_seconds_sum" ++ millionths s.micros
+    ++ codes "allocd_sync_seconds_count" ++ decimal_line s.count
+
+unfoldable pub times_text : Syncs → Text
+times_text s =
+    family (codes "allocd_sync_seconds") (codes "histogram")
+    (codes "How long a group was on its way to the disk.")
+    ++ short_buckets s ++ long_buckets s ++ totals_text s
+
+-- what waits, and what was lost
+unfoldable pub rest_text : Snapshot → Text
+rest_text s =
+    single (codes "allocd_since_sync_seconds") (codes "gauge")
+    (codes "Seconds since a group was last brought to the disk, or since the start.")
+    s.syncs.idle_seconds
+    ++ single (codes "allocd_waiting_bytes") (codes "gauge")
+    (codes "Bytes that wait for firms to take them.") s.waiting_bytes
+    ++ single (codes "allocd_log_lines_lost_total") (codes "counter")
+    (codes "Lines of the log that nobody read in time.") s.lines_lost
+
+unfoldable pub metrics_text : Snapshot → Text
+metrics_text s = state_text s ++ book_text s ++ shares_text s ++ calls_text s ++ times_text s.syncs
+    ++ rest_text s

@@ -1,0 +1,318 @@
+//! The text of a snapshot.
+
+ghost use Rattle.std.specs.Prelude.{◌≡◌, ◌++◌, codes, is_none, OnOk, IfOk};
+ghost use Rattle.gu_status.specs.Samples.{single};
+ghost use Rattle.gu_status.specs.Metrics.{book_text, bucket, calls_text, firm_text, firms_text};
+ghost use Rattle.gu_status.specs.Metrics.{fullness, fullness_text, long_buckets};
+ghost use Rattle.gu_status.specs.Metrics.{metrics_text, one_if, refusal_text, refusals_text};
+ghost use Rattle.gu_status.specs.Metrics.{rest_text, shares_text};
+ghost use Rattle.gu_status.specs.Metrics.{short_buckets, state_text, times_text, totals_text};
+
+use crate::samples::{push, push_family, push_labelled, push_millionths, push_number, push_single};
+use crate::snapshot::{FirmEntries, REASONS, Snapshot, Syncs};
+use gu_base::Memory;
+use itoa::Buffer;
+use std::alloc::Global;
+
+/// 1 where something is so, else 0.
+fn one_if(is_so: bool) -> u64
+    ensures { result ≡ one_if is_so }
+{
+    if is_so { 1 } else { 0 }
+}
+
+/// Whether each part moves.
+fn is_healthy(snapshot: &Snapshot) -> bool
+    ensures { result ≡ is_none snapshot.now.stuck }
+{
+    snapshot.stuck.is_none()
+}
+
+/// Appends a gauge that says whether something is so.
+fn push_flag(text: &mut Vec<u8>, name: &str, help: &str, is_so: bool) -> Result<(), Memory>
+    ensures { OnOk result (text.new.items ≡ text.old.items
+        ++ single name.now (codes "gauge") help.now (one_if is_so)) }
+{
+    push_single(text, name, "gauge", help, one_if(is_so))
+}
+
+/// Appends a gauge of a count.
+fn push_count(text: &mut Vec<u8>, name: &str, help: &str, count: u32) -> Result<(), Memory>
+    ensures { OnOk result (text.new.items ≡ text.old.items
+        ++ single name.now (codes "gauge") help.now count) }
+{
+    push_single(text, name, "gauge", help, u64::from(count))
+}
+
+/// Appends how the server stands.
+#[tactic(auto, unfolding(crate::specs::Metrics::state_text))]
+fn push_state(text: &mut Vec<u8>, snapshot: &Snapshot) -> Result<(), Memory>
+    ensures { OnOk result (text.new.items ≡ text.old.items ++ state_text snapshot.now) }
+{
+    push_flag(
+        text,
+        "allocd_ready",
+        "1 where the book was recovered and connections are taken, else 0.",
+        snapshot.is_ready,
+    )?;
+    push_flag(
+        text,
+        "allocd_healthy",
+        "1 where each part of the server moves, else 0.",
+        is_healthy(snapshot),
+    )?;
+    push_single(
+        text,
+        "allocd_connections",
+        "gauge",
+        "Connections that are open.",
+        snapshot.connections,
+    )
+}
+
+/// How much of the book is used, in millionths.
+fn fullness(entries: u32, most: u32) -> u64
+    ensures { result ≡ fullness entries most }
+{
+    if most == 0 {
+        0
+    } else {
+        u64::from(entries) * 1_000_000 / u64::from(most)
+    }
+}
+
+/// Appends the entries of a firm.
+#[tactic(auto, unfolding(crate::specs::Metrics::firm_text))]
+fn push_firm(text: &mut Vec<u8>, it: &FirmEntries) -> Result<(), Memory>
+    ensures { OnOk result (text.new.items ≡ text.old.items ++ firm_text it.now) }
+{
+    push_labelled(
+        text,
+        "allocd_firm_entries{firm=\"",
+        it.firm.as_bytes(),
+        it.entries,
+    )
+}
+
+/// Appends the entries of each firm.
+fn push_firms(text: &mut Vec<u8>, firms: &[FirmEntries]) -> Result<(), Memory>
+    ensures { OnOk result (text.new.items ≡ text.old.items ++ firms_text firms.now) }
+{
+    for it in firms {
+        push_firm(text, it)?;
+    }
+    Ok(())
+}
+
+/// Appends how much of the book is used.
+#[tactic(auto, unfolding(crate::specs::Metrics::fullness_text))]
+fn push_fullness(text: &mut Vec<u8>, snapshot: &Snapshot) -> Result<(), Memory>
+    ensures { OnOk result (text.new.items ≡ text.old.items ++ fullness_text snapshot.now) }
+{
+    push_family(
+        text,
+        "allocd_book_fullness_ratio",
+        "gauge",
+        "Entries of the book as a part of the most that it takes.",
+    )?;
+    push(text, "allocd_book_fullness_ratio")?;
+    push_millionths(text, fullness(snapshot.entries, snapshot.most_entries))
+}
+
+/// Appends how full the book is.
+#[tactic(auto, unfolding(crate::specs::Metrics::book_text))]
+fn push_book(text: &mut Vec<u8>, snapshot: &Snapshot) -> Result<(), Memory>
+    ensures { OnOk result (text.new.items ≡ text.old.items ++ book_text snapshot.now) }
+{
+    push_count(
+        text,
+        "allocd_entries",
+        "Entries of the book.",
+        snapshot.entries,
+    )?;
+    push_count(
+        text,
+        "allocd_entries_limit",
+        "The most entries that the book takes.",
+        snapshot.most_entries,
+    )?;
+    push_fullness(text, snapshot)
+}
+
+/// Appends the entries of firms.
+#[tactic(auto, unfolding(crate::specs::Metrics::shares_text))]
+fn push_shares(text: &mut Vec<u8>, snapshot: &Snapshot) -> Result<(), Memory>
+    ensures { OnOk result (text.new.items ≡ text.old.items ++ shares_text snapshot.now) }
+{
+    push_family(
+        text,
+        "allocd_firm_entries",
+        "gauge",
+        "Entries of the book that a firm has made.",
+    )?;
+    push_firms(text, &snapshot.firms)
+}
+
+/// Appends how many calls were refused for a reason.
+#[tactic(auto, unfolding(crate::specs::Metrics::refusal_text))]
+fn push_refusal(text: &mut Vec<u8>, reason: usize, count: u64) -> Result<(), Memory>
+    ensures { OnOk result (text.new.items ≡ text.old.items ++ refusal_text reason count) }
+{
+    let mut digits = Buffer::new();
+    push_labelled(
+        text,
+        "allocd_refusals_total{reason=\"",
+        digits.format(reason).as_bytes(),
+        count,
+    )
+}
+
+/// Appends how many calls were refused for each reason.
+fn push_refusals(text: &mut Vec<u8>, refused: &[u64; REASONS]) -> Result<(), Memory>
+    ensures { OnOk result (text.new.items ≡ text.old.items ++ refusals_text 1 refused.now) }
+{
+    let mut reason = 1;
+    for count in refused {
+        push_refusal(text, reason, *count)?;
+        reason += 1;
+    }
+    Ok(())
+}
+
+/// Appends how calls were answered.
+#[tactic(auto, unfolding(crate::specs::Metrics::calls_text))]
+fn push_calls(text: &mut Vec<u8>, snapshot: &Snapshot) -> Result<(), Memory>
+    ensures { OnOk result (text.new.items ≡ text.old.items ++ calls_text snapshot.now) }
+{
+    push_single(
+        text,
+        "allocd_calls_accepted_total",
+        "counter",
+        "Calls that were accepted.",
+        snapshot.accepted,
+    )?;
+    push_single(
+        text,
+        "allocd_calls_repeated_total",
+        "counter",
+        "Calls that had been made and accepted before.",
+        snapshot.repeated,
+    )?;
+    push_family(
+        text,
+        "allocd_refusals_total",
+        "counter",
+        "Calls that were refused, by the refusal's number.",
+    )?;
+    push_refusals(text, &snapshot.refused)
+}
+
+/// Appends how many syncs took no longer than a bound.
+fn push_bucket(text: &mut Vec<u8>, bound: &str, count: u64) -> Result<(), Memory>
+    ensures { OnOk result (text.new.items ≡ text.old.items ++ bucket bound.now count) }
+{
+    push_labelled(
+        text,
+        "allocd_sync_seconds_bucket{le=\"",
+        bound.as_bytes(),
+        count,
+    )
+}
+
+/// Appends how many syncs were short.
+#[tactic(auto, unfolding(crate::specs::Metrics::short_buckets))]
+fn push_short(text: &mut Vec<u8>, syncs: &Syncs) -> Result<(), Memory>
+    ensures { OnOk result (text.new.items ≡ text.old.items ++ short_buckets syncs.now) }
+{
+    push_bucket(text, "0.001", syncs.within[0])?;
+    push_bucket(text, "0.002", syncs.within[1])?;
+    push_bucket(text, "0.005", syncs.within[2])?;
+    push_bucket(text, "0.01", syncs.within[3])?;
+    push_bucket(text, "0.02", syncs.within[4])
+}
+
+/// Appends how many were longer.
+#[tactic(auto, unfolding(crate::specs::Metrics::long_buckets))]
+fn push_long(text: &mut Vec<u8>, syncs: &Syncs) -> Result<(), Memory>
+    ensures { OnOk result (text.new.items ≡ text.old.items ++ long_buckets syncs.now) }
+{
+    push_bucket(text, "0.05", syncs.within[5])?;
+    push_bucket(text, "0.1", syncs.within[6])?;
+    push_bucket(text, "1", syncs.within[7])?;
+    push_bucket(text, "10", syncs.within[8])?;
+    push_bucket(text, "+Inf", syncs.count)
+}
+
+/// Appends how long syncs took.
+#[tactic(auto, unfolding(crate::specs::Metrics::times_text))]
+fn push_times(text: &mut Vec<u8>, syncs: &Syncs) -> Result<(), Memory>
+    ensures { OnOk result (text.new.items ≡ text.old.items ++ times_text syncs.now) }
+{
+    push_family(
+        text,
+        "allocd_sync_seconds",
+        "histogram",
+        "How long a group was on its way to the disk.",
+    )?;
+    push_short(text, syncs)?;
+    push_long(text, syncs)?;
+    push_totals(text, syncs)
+}
+
+/// Appends how long they took together, and how many they were.
+#[tactic(auto, unfolding(crate::specs::Metrics::totals_text))]
+fn push_totals(text: &mut Vec<u8>, syncs: &Syncs) -> Result<(), Memory>
+    ensures { OnOk result (text.new.items ≡ text.old.items ++ totals_text syncs.now) }
+{
+    push(text, "allocd_sync_seconds_sum")?;
+    push_millionths(text, syncs.micros)?;
+    push(text, "allocd_sync_seconds_count")?;
+    push_number(text, syncs.count)
+}
+
+/// Appends what waits, and what was lost.
+#[tactic(auto, unfolding(crate::specs::Metrics::rest_text))]
+fn push_rest(text: &mut Vec<u8>, snapshot: &Snapshot) -> Result<(), Memory>
+    ensures { OnOk result (text.new.items ≡ text.old.items ++ rest_text snapshot.now) }
+{
+    push_single(
+        text,
+        "allocd_since_sync_seconds",
+        "gauge",
+        "Seconds since a group was last brought to the disk, or since the start.",
+        snapshot.syncs.idle_seconds,
+    )?;
+    push_single(
+        text,
+        "allocd_waiting_bytes",
+        "gauge",
+        "Bytes that wait for firms to take them.",
+        snapshot.waiting_bytes,
+    )?;
+    push_single(
+        text,
+        "allocd_log_lines_lost_total",
+        "counter",
+        "Lines of the log that nobody read in time.",
+        snapshot.lines_lost,
+    )
+}
+
+/// The text of a snapshot for Prometheus.
+///
+/// # Errors
+///
+/// `Memory`, if a growth is refused.
+#[tactic(auto, unfolding(crate::specs::Metrics::metrics_text))]
+pub fn metrics(alloc: Global, snapshot: &Snapshot) -> Result<Vec<u8>, Memory>
+    ensures { IfOk result (λ v. v.items ≡ metrics_text snapshot.now) }
+{
+    let mut text = Vec::new(alloc);
+    push_state(&mut text, snapshot)?;
+    push_book(&mut text, snapshot)?;
+    push_shares(&mut text, snapshot)?;
+    push_calls(&mut text, snapshot)?;
+    push_times(&mut text, &snapshot.syncs)?;
+    push_rest(&mut text, snapshot)?;
+    Ok(text)
+}

@@ -1,0 +1,61 @@
+//! How a server stands at a moment.
+
+use crate::parts::Part;
+use gu_base::FirmId;
+
+/// How many kinds of refusal there are: their numbers are 1 to 28.
+pub const REASONS: usize = 28;
+
+/// How many bounds the times of syncs are sorted by.
+const BUCKETS: usize = 9;
+
+/// These bounds, in microseconds: 1, 2, 5, 10, 20, 50 and 100 ms, 1 s and 10 s.
+pub const BOUNDS: [u64; BUCKETS] = [
+    1_000, 2_000, 5_000, 10_000, 20_000, 50_000, 100_000, 1_000_000, 10_000_000,
+];
+
+/// How many entries of the book are a firm's.
+#[derive(Clone, Copy, Debug)]
+pub struct FirmEntries {
+    pub firm: FirmId,
+    pub entries: u64,
+}
+
+/// The groups that were brought to the disk.
+#[derive(Clone, Copy, Debug)]
+pub struct Syncs {
+    /// How many took no longer than each of the `BOUNDS`.
+    pub within: [u64; BUCKETS],
+    /// How many there were.
+    pub count: u64,
+    /// How long they took together, in microseconds.
+    pub micros: u64,
+    /// How many seconds ago the last one was, or the start.
+    pub idle_seconds: u64,
+}
+
+/// How a server stands.
+#[derive(Debug, Drop)]
+pub struct Snapshot {
+    /// Whether the book was recovered, and connections are taken.
+    pub is_ready: bool,
+    /// The part that hasn't moved for long, if there is one.
+    pub stuck: Option<Part>,
+    /// The entries of the book, and the most that it may have.
+    pub entries: u32,
+    pub most_entries: u32,
+    /// The entries of each firm, in the order of the house file.
+    pub firms: Vec<FirmEntries>,
+    /// The connections that are open.
+    pub connections: u64,
+    /// Calls that were accepted, were a call made before, and were refused: by the refusal's
+    /// number, from 1 on.
+    pub accepted: u64,
+    pub repeated: u64,
+    pub refused: [u64; REASONS],
+    /// Bytes that wait for firms to take them.
+    pub waiting_bytes: u64,
+    pub syncs: Syncs,
+    /// Lines of the log that were lost.
+    pub lines_lost: u64,
+}
