@@ -3,16 +3,16 @@ use Rattle.std.proofs.Common.{◌≡◌, inl, inr, ℕ, ◌+◌, ◌-◌, ◌<�
 use Rattle.std.proofs.Common.{length-append, length-take}
 use Rattle.gu_base.specs.declared.entry.Entry.{Entry}
 use Rattle.gu_store.specs.Store.{IsGroup, frames_in}
-use Rattle.sha2.specs.Hashers.{Holds256}
-use Rattle.sha2.specs.declared.Sha256.{Sha256}
+use Rattle.sha2.specs.Hashers.{Holds512}
+use Rattle.sha2.specs.declared.Sha512.{Sha512}
 use Rattle.gu_journal.specs.Causes.{IsUnsaid, IsCause, IsStopped}
 use Rattle.gu_journal.specs.Groups.{group_frames, group_of}
 use Rattle.gu_journal.specs.declared.error.JournalError.{JournalError}
 use Rattle.gu_journal.specs.declared.error.JournalError.TheVariants as error
 
 -- what stops the writing of a group behind these bytes, which say this history
-pub cause_of : (named house moment bytes : List ℕ) (h es : List Entry) (failed : Type 0) (len n : ℕ) (hasher : Sha256)
-    → named ≡ house → n ≡ length h + 1 → len ≡ length bytes → Holds256 hasher bytes → (e : JournalError)
+pub cause_of : (named house moment bytes : List ℕ) (h es : List Entry) (failed : Type 0) (len n : ℕ) (hasher : Sha512)
+    → named ≡ house → n ≡ length h + 1 → len ≡ length bytes → Holds512 hasher bytes → (e : JournalError)
     → IsStopped named moment len hasher n es e → IsCause house moment bytes h es failed e
 cause_of named house moment bytes h es failed len n hasher same next size held error.Memory is = tt
 cause_of named house moment bytes h es failed len n hasher same next size held error.Full (inl none) =

@@ -1,7 +1,7 @@
 -- The frames at the front of a file are taken, a piece at a time.
-use Rattle.std.proofs.Common.{Result, Ok, Err, false, ◌≡◌, ◌≢◌, ℕ, ◌+◌, ◌<◌, ◌≤◌, List, [], ◌∷◌}
+use Rattle.std.proofs.Common.{Result, Ok, Err, false, ◌≡◌, ℕ, ◌+◌, ◌<◌, ◌≤◌, List, [], ◌∷◌}
 use Rattle.std.proofs.Common.{◌++◌, length, take, refl, sym, ◌∙◌, ap, subst, arith, append_assoc}
-use Rattle.std.proofs.Common.{append-nil, length-take}
+use Rattle.std.proofs.Common.{append-nil, length-append, length-take}
 use Rattle.std.specs.Prelude.{IfErr, IsErr, IsErrAnd, slice_index}
 use Rattle.std.proofs.lemmas.List.{take_all}
 use Rattle.gu_base.specs.House.{House}
@@ -15,11 +15,11 @@ use Rattle.gu_codec.proofs.Streams.{frame_len}
 use Rattle.gu_message.specs.Meaning.{meaning_of}
 use Rattle.gu_message.specs.declared.inbound.Inbound.{Inbound}
 use Rattle.gu_message.specs.declared.inbound.Inbound.TheVariants as inbound
-use Rattle.sha2.specs.Hashers.{Holds256}
+use Rattle.sha2.specs.Hashers.{Holds512}
 use Rattle.gu_journal.specs.Journal.{IsOneFrame, IsNumbered, IsHead, IsSeal, Says, says_none, says_next}
 use Rattle.gu_journal.specs.Journal.{IsJournal, head_alone, group_more}
-use Rattle.gu_journal.specs.Recovered.{Replays, IsNextOf}
-use Rattle.gu_journal.specs.Taking.{IsFault, IsTold, AddsNext, Takes, TakesNone, SaysNext, IsOpenAt, IsTaken}
+use Rattle.gu_journal.specs.Recovered.{Replays}
+use Rattle.gu_journal.specs.Taking.{IsFault, IsTold, AddsNext, Takes, SaysNext, IsOpenAt, IsTaken}
 use Rattle.gu_journal.specs.declared.damage.RecoverError.{RecoverError}
 use Rattle.gu_journal.specs.declared.damage.RecoverError.TheVariants as error
 use Rattle.gu_journal.specs.declared.replay.Stand.{Stand}
@@ -28,18 +28,36 @@ use Rattle.gu_journal.specs.declared.replay.Replay.{Replay}
 
 -- ---- one message more
 
-open_now : (t : House) (pin taken : List ℕ) (h : List Entry) → IsJournal t pin taken h → IsOpenAt t pin taken h
-open_now t pin taken h is = record {
+-- a journal, and behind it what says further entries, or nothing
+record Reaches (t : House) (pin taken : List ℕ) (new : List Entry) : Type 0 where
+  bytes : List ℕ
+  entries : List ℕ
+  h : List Entry
+  journal : IsJournal t pin bytes h
+  says : Says t h entries new
+  parts : taken ≡ bytes ++ entries
+
+sealed : (t : House) (pin taken : List ℕ) (h : List Entry) → IsJournal t pin taken h → Reaches t pin taken h
+sealed t pin taken h is = record {
   bytes = taken;
   entries = [];
   h = h;
   journal = is;
   says = says_none;
-  parts =
-      sym (append-nil taken);
+  parts = sym (append-nil taken);
 }
 
-entry_on : (t : House) (pin taken frame : List ℕ) (h new : List Entry) (m : Message) → IsOpenAt t pin taken h
+unsealed : (t : House) (pin taken : List ℕ) (h : List Entry) → IsOpenAt t pin taken h → Reaches t pin taken h
+unsealed t pin taken h is = record {
+  bytes = is.bytes;
+  entries = is.entries;
+  h = is.h;
+  journal = is.journal;
+  says = is.says;
+  parts = is.parts;
+}
+
+entry_on : (t : House) (pin taken frame : List ℕ) (h new : List Entry) (m : Message) → Reaches t pin taken h
     → SaysNext t h new m
     → IsOneFrame frame m → IsOpenAt t pin (taken ++ frame) new
 entry_on t pin taken frame h new m is next one = record {
@@ -49,10 +67,11 @@ entry_on t pin taken frame h new m is next one = record {
   journal = is.journal;
   says = subst (λ (k : List Entry). Says t is.h (is.entries ++ frame) k) (sym next.2)
       (says_next is.entries frame h next.0 m is.says one next.1);
+  some = omega (arith, frame_len frame one.0 (length frame) one.1, length-append is.entries frame);
   parts = ap (λ (b : List ℕ). b ++ frame) is.parts ∙ append_assoc is.bytes is.entries frame;
 }
 
-seal_on : (t : House) (pin taken frame : List ℕ) (h : List Entry) (m : Message) → IsOpenAt t pin taken h
+seal_on : (t : House) (pin taken frame : List ℕ) (h : List Entry) (m : Message) → Reaches t pin taken h
     → IsSeal t taken h m
     → IsOneFrame frame m → IsJournal t pin (taken ++ frame) h
 seal_on t pin taken frame h m is seal one =
@@ -73,16 +92,17 @@ takes_on t pin taken frame Fresh Unsealed h more m takes is one = absurd takes
 takes_on t pin taken frame Sealed Fresh h more m takes is one = absurd takes
 takes_on t pin taken frame Sealed Sealed h more m takes is one =
     subst (λ (k : List Entry). IsJournal t pin (taken ++ frame) k) (sym takes.1)
-    (seal_on t pin taken frame h m (open_now t pin taken h is) takes.0 one)
+    (seal_on t pin taken frame h m (sealed t pin taken h is) takes.0 one)
 takes_on t pin taken frame Sealed Unsealed h more m takes is one =
-    entry_on t pin taken frame h more m (open_now t pin taken h is) takes one
+    entry_on t pin taken frame h more m (sealed t pin taken h is) takes one
 takes_on t pin taken frame Unsealed Fresh h more m takes is one = absurd takes
 takes_on t pin taken frame Unsealed Sealed h more m takes is one =
     subst (λ (k : List Entry). IsJournal t pin (taken ++ frame) k) (sym takes.1)
-    (seal_on t pin taken frame h m is takes.0 one)
-takes_on t pin taken frame Unsealed Unsealed h more m takes is one = entry_on t pin taken frame h more m is takes one
+    (seal_on t pin taken frame h m (unsealed t pin taken h is) takes.0 one)
+takes_on t pin taken frame Unsealed Unsealed h more m takes is one =
+    entry_on t pin taken frame h more m (unsealed t pin taken h is) takes one
 
--- ---- what isn't taken
+-- ---- errors
 
 pub on_err : {A E : Type 0} {P Q : E → Type 0} (r : Result A E) → IfErr r P → ((e : E) → P e → Q e) → IfErr r Q
 on_err (Ok x) is f = tt
@@ -107,6 +127,15 @@ pub passed_on : {A E : Type 0} {P Q : E → Type 0} (r : Result A E) (e : E) →
     → ((x : E) → P x → Q x) → IfErr r Q
 passed_on (Ok x) e same is f = tt
 passed_on {P = P} (Err x) e same is f = f x (subst P (sym same.1) is)
+
+-- of which two things hold
+pub passed_both : {A E : Type 0} {P R Q : E → Type 0} (r : Result A E) (e : E) → IsErr r × IsErrAnd r (λ x. x ≡ e)
+    → P e → R e
+    → ((x : E) → P x → R x → Q x) → IfErr r Q
+passed_both (Ok x) e same is too f = tt
+passed_both {P = P} {R = R} (Err x) e same is too f = f x (subst P (sym same.1) is) (subst R (sym same.1) too)
+
+-- ---- what is taken
 
 -- what means a call that is accepted says the next entry
 pub says_next_of : (t : House) (h new : List Entry) (m : Message) (means : Inbound) → meaning_of t.house m ≡ Ok means
@@ -135,29 +164,6 @@ adds_of t h new m means is next =
   where
     one : (other : Inbound) → meaning_of t.house m ≡ Ok other → means ≡ other
     one other e = cc
-
--- behind the head nothing is taken but a seal and what means a call that is accepted
-pub none_behind : (t : House) (pin taken : List ℕ) (s : Stand) (h : List Entry) (m : Message) (means : Inbound)
-    → meaning_of t.house m ≡ Ok means
-    → s ≢ Fresh → means ≢ inbound.Heartbeat → ((new : List Entry) → AddsNext t h new means → ⊥)
-    → TakesNone t pin taken s h m
-none_behind t pin taken Fresh h m means is behind no_seal none fresh next new takes = absurd (behind refl)
-none_behind t pin taken Sealed h m means is behind no_seal none fresh Fresh new takes = takes
-none_behind t pin taken Sealed h m means is behind no_seal none fresh Sealed new takes =
-    no_seal (one is takes.0.meaning)
-  where
-    one : meaning_of t.house m ≡ Ok means → meaning_of t.house m ≡ Ok inbound.Heartbeat → means ≡ inbound.Heartbeat
-    one a b = cc
-none_behind t pin taken Sealed h m means is behind no_seal none fresh Unsealed new takes =
-    none new (adds_of t h new m means is takes)
-none_behind t pin taken Unsealed h m means is behind no_seal none fresh Fresh new takes = takes
-none_behind t pin taken Unsealed h m means is behind no_seal none fresh Sealed new takes =
-    no_seal (one is takes.0.meaning)
-  where
-    one : meaning_of t.house m ≡ Ok means → meaning_of t.house m ≡ Ok inbound.Heartbeat → means ≡ inbound.Heartbeat
-    one a b = cc
-none_behind t pin taken Unsealed h m means is behind no_seal none fresh Unsealed new takes =
-    none new (adds_of t h new m means is takes)
 
 -- what is taken at the front is the head
 pub takes_head : (t : House) (pin taken : List ℕ) (h new : List Entry) (m : Message) (next : Stand)
@@ -221,23 +227,6 @@ pub first_is : (s : List ℕ) (b : ℕ) → 0 < length s → slice_index s 0 ≡
 first_is [] b some is = absurd (omega (arith, some))
 first_is (a ∷ s) b some is = (s, ap (λ (x : ℕ). x ∷ s) is)
 
--- what isn't taken
-pub none_head : (t : House) (pin taken : List ℕ) (s : Stand) (h : List Entry) (m : Message) → s ≡ Fresh
-    → (IsHead t pin m → ⊥) → TakesNone t pin taken s h m
-none_head t pin taken s h m is none fresh next new takes =
-    none (takes_head t pin taken h new m next (subst (λ (x : Stand). Takes t pin taken x h m next new) is takes)
-    (fresh is))
-
-pub none_numbered : (t : House) (pin taken : List ℕ) (s : Stand) (h : List Entry) (m : Message)
-    → (IsNumbered (length h + 1) m → ⊥) → TakesNone t pin taken s h m
-none_numbered t pin taken s h m none fresh next new takes = none (takes_known t pin taken s next h new m takes fresh).0
-
-pub none_meant : (t : House) (pin taken : List ℕ) (s : Stand) (h : List Entry) (m : Message)
-    → ((means : Inbound) → meaning_of t.house m ≡ Ok means → ⊥)
-    → TakesNone t pin taken s h m
-none_meant t pin taken s h m none fresh next new takes = let known =
-    takes_known t pin taken s next h new m takes fresh in none known.1 known.2
-
 pub fresh_opening : (t : House) (pin taken : List ℕ) (s : Stand) (h : List Entry) → IsTaken t pin taken s h → s ≡ Fresh
     → h ≡ opening_history t
 fresh_opening t pin taken Fresh h is fresh = is.1
@@ -249,8 +238,8 @@ pub replays_on : (t : House) (pin taken frame : List ℕ) (m fields : Message) (
     (before after : BookView)
     → Replays t pin taken old before → m ≡ fields → mid.stand ≡ old.stand
     → Takes before.house pin taken mid.stand before.history m new.stand after.history → after.house ≡ before.house
-    → IsOneFrame frame fields → Holds256 new.hasher (taken ++ frame)
-    → IsNextOf t pin taken frame fields old before new after
+    → IsOneFrame frame fields → Holds512 new.hasher (taken ++ frame)
+    → Replays t pin (taken ++ frame) new after
 replays_on t pin taken frame m fields old mid new before after is same_fields same takes house one hashed =
     let told : Takes before.house pin taken mid.stand before.history fields new.stand after.history =
     subst (λ (n : Message). Takes before.house pin taken mid.stand before.history n new.stand after.history) same_fields
@@ -259,10 +248,7 @@ replays_on t pin taken frame m fields old mid new before after is same_fields sa
     subst (λ (s : Stand). Takes t pin taken s before.history fields new.stand after.history) same
     (subst (λ (u : House). Takes u pin taken mid.stand before.history fields new.stand after.history) is.house told) in
     record {
-      takes = step;
-      replays = record {
-        house = house ∙ is.house;
-        stands = takes_on t pin taken frame old.stand new.stand before.history after.history fields step is.stands one;
-        hashed = hashed;
-      };
+      house = house ∙ is.house;
+      stands = takes_on t pin taken frame old.stand new.stand before.history after.history fields step is.stands one;
+      hashed = hashed;
     }

@@ -16,9 +16,9 @@ use Rattle.gu_journal.specs.Session.{head_of, seal_of, seal_with}
 use Rattle.gu_journal.specs.Groups.{entry_frames, group_frames, head_frame, group_of, IsSayableEntry}
 use Rattle.gu_journal.specs.Groups.{IsMoment, IsGroupOf}
 use Rattle.gu_codec.specs.Messages.{Message}
-use Rattle.sha2.specs.Hashers.{Holds256}
-use Rattle.sha2.specs.Sha256.{sha256}
-use Rattle.sha2.specs.declared.Sha256.{Sha256}
+use Rattle.sha2.specs.Hashers.{Holds512}
+use Rattle.sha2.specs.Sha512.{sha512}
+use Rattle.sha2.specs.declared.Sha512.{Sha512}
 use Rattle.gu_journal.specs.Journal.{IsNumbered, IsHead, IsNext, IsSeal, Says, says_none, says_next, IsJournal}
 use Rattle.gu_journal.specs.Journal.{head_alone, group_more}
 use Rattle.gu_journal.proofs.Frames.{one_frame, first_eight}
@@ -133,15 +133,15 @@ one_more house moment n m e later old new all so_far is next =
     ∙ append_assoc old text (entry_frames house moment (n + 1) later) ∙ so_far
 
 -- the group is written, and the hasher has taken it in
-pub is_group_of : (house moment : List ℕ) (n : ℕ) (es : List Entry) (old one new : Sha256)
+pub is_group_of : (house moment : List ℕ) (n : ℕ) (es : List Entry) (old one new : Sha512)
     (frames sealed slice text digest : List ℕ) (at : ℕ)
     → IsTrue (is_firm_text house) → AllByRecursion IsSayableEntry es → n + length es ≤ 1000001
     → frames ≡ entry_frames house moment n es
-    → ((m : List ℕ) → Holds256 old m → Holds256 one (m ++ frames))
-    → ((m : List ℕ) → Holds256 one m → digest ≡ sha256 m)
+    → ((m : List ℕ) → Holds512 old m → Holds512 one (m ++ frames))
+    → ((m : List ℕ) → Holds512 one m → digest ≡ sha512 m)
     → sealed ≡ frames ++ message_text (seal_with house moment (n + length es) digest)
     → slice ≡ sealed → at ≡ length frames
-    → ((m : List ℕ) → Holds256 one m → Holds256 new (m ++ take (length slice - at) (drop at slice)))
+    → ((m : List ℕ) → Holds512 one m → Holds512 new (m ++ take (length slice - at) (drop at slice)))
     → text ≡ sealed ++ 10 ∷ []
     → IsGroupOf house moment n es old new text
 is_group_of house moment n es old one new frames sealed slice text digest at named sayable few frames_is first digest_is
@@ -155,9 +155,9 @@ is_group_of house moment n es old one new frames sealed slice text digest at nam
     let rest : take (length slice - at) (drop at slice) ≡ seal =
     take_all (length slice - at) (drop at slice) (omega (arith, length-drop at slice))
     ∙ ap (drop at) all ∙ drop_at frames seal at (sym at_is) in
-    let sealed_of : (bytes : List ℕ) → Holds256 old bytes → entries ++ seal ≡ group_frames house moment n es bytes =
+    let sealed_of : (bytes : List ℕ) → Holds512 old bytes → entries ++ seal ≡ group_frames house moment n es bytes =
     λ bytes h. ap (λ (d : List ℕ). entries ++ message_text (seal_with house moment next d))
-    (digest_is (bytes ++ frames) (first bytes h) ∙ ap (λ (f : List ℕ). sha256 (bytes ++ f)) frames_is) in
+    (digest_is (bytes ++ frames) (first bytes h) ∙ ap (λ (f : List ℕ). sha512 (bytes ++ f)) frames_is) in
     record {
       is_group = subst IsGroup (sym whole) (group_from (entries ++ seal)
           (frames_begin house moment n es (seal_with house moment next digest)));
@@ -170,5 +170,5 @@ is_group_of house moment n es old one new frames sealed slice text digest at nam
           (drop at slice) ≡ bytes ++ group_frames house moment n es bytes =
           ap (λ (r : List ℕ). (bytes ++ frames) ++ r) rest ∙ append_assoc bytes frames seal
           ∙ ap (λ (f : List ℕ). bytes ++ (f ++ seal)) frames_is ∙ ap (λ (l : List ℕ). bytes ++ l) (sealed_of bytes h) in
-          subst (λ (l : List ℕ). Holds256 new l) joined (second (bytes ++ frames) (first bytes h));
+          subst (λ (l : List ℕ). Holds512 new l) joined (second (bytes ++ frames) (first bytes h));
     }

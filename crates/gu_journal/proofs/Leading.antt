@@ -16,12 +16,29 @@ use Rattle.gu_message.specs.declared.inbound.Inbound.{Inbound}
 use Rattle.gu_message.specs.declared.inbound.Inbound.TheVariants as inbound
 use Rattle.gu_journal.specs.Journal.{IsOneFrame, IsSeal, Says, says_none, says_next, IsJournal}
 use Rattle.gu_journal.specs.Journal.{head_alone, group_more}
-use Rattle.gu_journal.specs.Leading.{Leads, leads_end, leads_on, Stepped}
-use Rattle.gu_journal.specs.Taking.{AddsNext, Takes, SaysNext}
+use Rattle.gu_journal.specs.Taking.{AddsNext, Takes, SaysNext, IsTaken}
 use Rattle.gu_journal.specs.declared.replay.Stand.{Stand}
 use Rattle.gu_journal.specs.declared.replay.Stand.TheVariants.{Fresh, Sealed, Unsealed}
 use Rattle.gu_journal.proofs.Frames.{shut_ends}
 use Rattle.gu_journal.proofs.Going.{adds_of}
+
+-- Behind the bytes that were taken, the others are frames whose messages are taken in turn, up to
+-- the head or a seal.
+pub data Leads (t : House) (pin : List ℕ) : List ℕ → Stand → List Entry → List ℕ → Type 0 where
+  leads_end : (taken : List ℕ) (h : List Entry) → Leads t pin taken Sealed h []
+  leads_on : (taken frame rest : List ℕ) (s next : Stand) (h new : List Entry) (m : Message)
+      → IsOneFrame frame m → Takes t pin taken s h m next new
+      → Leads t pin (taken ++ frame) next new rest → Leads t pin taken s h (frame ++ rest)
+
+-- a frame of so many bytes, which has this message, was taken from the front of these bytes
+pub record Stepped (t : House) (pin taken : List ℕ) (s : Stand) (h : List Entry) (m : Message)
+    (len : ℕ) (bytes later more : List ℕ) : Type 0 where
+  pub next : Stand
+  pub new : List Entry
+  pub rest : List ℕ
+  pub takes : Takes t pin taken s h m next new
+  pub leads : Leads t pin (taken ++ take len bytes) next new rest
+  pub left : rest ++ 10 ∷ more ≡ drop len bytes ++ later
 
 ten : ◌≢◌ {A = ℕ} 10 56
 ten e = absurd (omega (arith, e))
@@ -144,8 +161,19 @@ gate_front more =
     let zero : ends.0 ≡ 0 = omega (arith, ends.1) in
     subst (λ (n : ℕ). IsFrontOf (10 ∷ more) (Broken n)) zero ends.2
 
-fronts : (s : List ℕ) (a b : Front) → IsFrontOf s a → IsFrontOf s b → a ≡ b
+pub fronts : (s : List ℕ) (a b : Front) → IsFrontOf s a → IsFrontOf s b → a ≡ b
 fronts s a b x y = front_alone s a x ∙ sym (front_alone s b y)
+
+pub gate_at : (b more : List ℕ) → b ≡ 10 ∷ more → IsFrontOf b (Broken 0)
+gate_at b more is = subst (λ (x : List ℕ). IsFrontOf x (Broken 0)) (sym is) (gate_front more)
+
+-- no frame stands at a shut gate
+pub gate_broken : (b more : List ℕ) (at : ℕ) → IsFrontOf b (Broken at) → b ≡ 10 ∷ more → at ≡ 0
+gate_broken b more at front is =
+    zero (fronts b (Broken at) (Broken 0) front (gate_at b more is))
+  where
+    zero : Broken at ≡ Broken 0 → at ≡ 0
+    zero e = cc
 
 -- a frame that is taken next
 record Next (t : House) (pin taken : List ℕ) (s : Stand) (h : List Entry) (rest : List ℕ) : Type 0 where
@@ -272,3 +300,98 @@ module _ (t : House) (pin taken : List ℕ) (s : Stand) (h : List Entry) (rest b
 
       apart : Whole m len ≡ Broken 0 → ⊥
       apart e = cc
+
+-- ---- what is left of a journal behind the bytes that were taken
+
+-- a shut gate and more stand behind it
+pub record LeftOf (t : House) (pin taken : List ℕ) (s : Stand) (h : List Entry) (rest more : List ℕ) : Type 0 where
+  pub left : List ℕ
+  pub leads : Leads t pin taken s h left
+  pub parts : left ++ 10 ∷ more ≡ rest ++ []
+
+-- where a frame is taken
+left_step : (t : House) (pin taken frame rest more : List ℕ) (s next : Stand) (h new : List Entry) (m : Message)
+    → IsOneFrame frame m → Takes t pin taken s h m next new → LeftOf t pin taken s h (frame ++ rest) more
+    → LeftOf t pin (taken ++ frame) next new rest more
+left_step t pin taken frame rest more s next h new m one takes l =
+    let all = step t pin taken s h l.left (frame ++ rest) more [] l.leads l.parts m (length frame)
+    (frame_front frame rest m one) in
+    let same = takes_one t pin taken s all.next next h all.new new m all.takes takes in
+    let here : take (length frame) (frame ++ rest) ≡ frame = take_at frame rest (length frame) refl in
+    record {
+      left = all.rest;
+      leads = subst (λ (k : List Entry). Leads t pin (taken ++ frame) next k all.rest) same.1
+          (subst (λ (x : Stand). Leads t pin (taken ++ frame) x all.new all.rest) same.0
+          (subst (λ (f : List ℕ). Leads t pin (taken ++ f) all.next all.new all.rest) here all.leads));
+      parts = all.left ∙ ap (λ (l : List ℕ). l ++ []) (drop_at frame rest (length frame) refl);
+    }
+
+-- behind what says entries
+record LeftOn (t : House) (pin bytes entries : List ℕ) (h : List Entry) (rest more : List ℕ) : Type 0 where
+  stand : Stand
+  behind : stand ≢ Fresh
+  unsealed : 0 < length entries → stand ≡ Unsealed
+  left_of : LeftOf t pin (bytes ++ entries) stand h rest more
+
+left_says : (t : House) (pin bytes : List ℕ) (h : List Entry) (entries : List ℕ) (new : List Entry)
+    → Says t h entries new → (rest more : List ℕ) → LeftOf t pin bytes Sealed h (entries ++ rest) more
+    → LeftOn t pin bytes entries new rest more
+left_says t pin bytes h _ _ says_none rest more l = record {
+  stand = Sealed;
+  behind = sealed_behind;
+  unsealed = λ some. absurd (omega (arith, some));
+  left_of = subst (λ (b : List ℕ). LeftOf t pin b Sealed h rest more) (sym (append-nil bytes)) l;
+}
+left_says t pin bytes h _ _ (says_next entries frame new e m says one next) rest more l =
+    let before = left_says t pin bytes h entries new says (frame ++ rest) more
+    (subst (λ (r : List ℕ). LeftOf t pin bytes Sealed h r more) (append_assoc entries frame rest) l) in
+    let takes = takes_next t pin (bytes ++ entries) before.stand new (new ++ e ∷ []) m before.behind (e, next, refl) in
+    record {
+      stand = Unsealed;
+      behind = unsealed_behind;
+      unsealed = λ some. refl;
+      left_of = subst (λ (b : List ℕ). LeftOf t pin b Unsealed (new ++ e ∷ []) rest more)
+          (append_assoc bytes entries frame)
+          (left_step t pin (bytes ++ entries) frame rest more before.stand Unsealed new (new ++ e ∷ []) m one takes
+          before.left_of);
+    }
+
+left_journal : (t : House) (pin bytes : List ℕ) (h : List Entry) → IsJournal t pin bytes h → (rest more : List ℕ)
+    → LeftOf t pin [] Fresh (opening_history t) (bytes ++ rest) more → LeftOf t pin bytes Sealed h rest more
+left_journal t pin _ _ (head_alone frame m one head) rest more l =
+    left_step t pin [] frame rest more Fresh Sealed (opening_history t) (opening_history t) m one ((λ is. head), refl) l
+left_journal t pin _ _ (group_more bytes entries frame h new m journal says one seal) rest more l =
+    let before = left_journal t pin bytes h journal (entries ++ (frame ++ rest)) more
+    (subst (λ (r : List ℕ). LeftOf t pin [] Fresh (opening_history t) r more)
+    (append_assoc (bytes ++ entries) frame rest ∙ append_assoc bytes entries (frame ++ rest)) l) in
+    let on = left_says t pin bytes h entries new says (frame ++ rest) more before in
+    left_step t pin (bytes ++ entries) frame rest more on.stand Sealed new new m one
+    (takes_seal t pin (bytes ++ entries) on.stand new m on.behind seal) on.left_of
+
+-- of a journal that stands there from the front on
+pub left_of : (t : House) (pin taken : List ℕ) (s : Stand) (h : List Entry) → IsTaken t pin taken s h
+    → (before more rest : List ℕ) (all : List Entry) → IsJournal t pin before all
+    → before ++ 10 ∷ more ≡ taken ++ rest → LeftOf t pin taken s h rest more
+left_of t pin taken s h stands before more rest all journal is = go s stands
+  where
+    start : LeftOf t pin [] Fresh (opening_history t) (taken ++ rest) more
+    start = record {
+      left = before;
+      leads = from_front t pin before all journal;
+      parts = is ∙ sym (append-nil (taken ++ rest));
+    }
+
+    go : (s : Stand) → IsTaken t pin taken s h → LeftOf t pin taken s h rest more
+    go Fresh stands =
+        subst (λ (k : List Entry). LeftOf t pin taken Fresh k rest more) (sym stands.1)
+        (subst (λ (b : List ℕ). LeftOf t pin b Fresh (opening_history t) rest more) (sym stands.0)
+        (subst (λ (b : List ℕ). LeftOf t pin [] Fresh (opening_history t) (b ++ rest) more) stands.0 start))
+    go Sealed stands = left_journal t pin taken h stands rest more start
+    go Unsealed stands =
+        let whole = left_journal t pin stands.bytes stands.h stands.journal (stands.entries ++ rest) more
+        (subst (λ (r : List ℕ). LeftOf t pin [] Fresh (opening_history t) r more)
+        (ap (λ (b : List ℕ). b ++ rest) stands.parts ∙ append_assoc stands.bytes stands.entries rest) start) in
+        let on = left_says t pin stands.bytes stands.h stands.entries h stands.says rest more whole in
+        subst (λ (b : List ℕ). LeftOf t pin b Unsealed h rest more) (sym stands.parts)
+        (subst (λ (x : Stand). LeftOf t pin (stands.bytes ++ stands.entries) x h rest more) (on.unsealed stands.some)
+        on.left_of)

@@ -14,8 +14,8 @@ use Rattle.gu_codec.proofs.Streams.{frame_len}
 use Rattle.gu_store.specs.Store as store
 use Rattle.gu_store.specs.Store.{IsAtRest, IsLeft, IsShutBehind}
 use Rattle.gu_store.specs.declared.store.Store.{Store}
-use Rattle.sha2.specs.Hashers.{Holds256}
-use Rattle.sha2.specs.declared.Sha256.{Sha256}
+use Rattle.sha2.specs.Hashers.{Holds512}
+use Rattle.sha2.specs.declared.Sha512.{Sha512}
 use Rattle.gu_journal.specs.Groups.{IsMoment, head_frame, group_of}
 use Rattle.gu_journal.specs.Journal.{IsOneFrame, IsJournal, head_alone, group_more}
 use Rattle.gu_journal.specs.Keeping.{Keeps}
@@ -32,7 +32,7 @@ on_ok (Err e) is f = tt
 module _ {D : Type 0} (seen : D → List ℕ) (may_leave : D → List ℕ → Type 0) where
   -- ---- a file with nothing but the gate
 
-  pub bare_rest : (t : House) (disk : D) (hasher : Sha256) (house : List ℕ) (number : ℕ) (s : Store D)
+  pub bare_rest : (t : House) (disk : D) (hasher : Sha512) (house : List ℕ) (number : ℕ) (s : Store D)
       → IsBare seen may_leave t disk hasher house number
       → store.disk_of s ≡ disk → store.end_of s ≡ 0 → IsAtRest seen may_leave s []
   bare_rest t disk hasher house number s b same end = record {
@@ -41,7 +41,7 @@ module _ {D : Type 0} (seen : D → List ℕ) (may_leave : D → List ℕ → Ty
     durable = subst (λ (d : D). Only (seen d) (may_leave d)) (sym same) b.durable;
   }
 
-  pub head_journal : (t : House) (pin moment : List ℕ) (disk : D) (hasher : Sha256) (house : List ℕ) (number : ℕ)
+  pub head_journal : (t : House) (pin moment : List ℕ) (disk : D) (hasher : Sha512) (house : List ℕ) (number : ℕ)
       → IsBare seen may_leave t disk hasher house number
       → IsMoment moment → IsTrue (is_firm_text house) → length pin ≡ 32 → number ≤ 1000001
       → IsJournal t pin (head_frame house moment number pin) (opening_history t)
@@ -50,12 +50,12 @@ module _ {D : Type 0} (seen : D → List ℕ) (may_leave : D → List ℕ → Ty
       (begins t (subst (λ (n : List ℕ). IsTrue (is_firm_text n)) b.named named) moment is_moment pin number size
       b.numbered few)
 
-  pub keeps_begun : (t : House) (pin moment : List ℕ) (disk : D) (old hasher : Sha256) (house : List ℕ) (number : ℕ)
+  pub keeps_begun : (t : House) (pin moment : List ℕ) (disk : D) (old hasher : Sha512) (house : List ℕ) (number : ℕ)
       (s : Store D) (j : Journal D)
       → IsBare seen may_leave t disk old house number → IsMoment moment → IsTrue (is_firm_text house) → length pin ≡ 32
       → number ≤ 1000001
       → IsAtRest seen may_leave s (head_frame house moment number pin)
-      → Holds256 hasher (head_frame house moment number pin)
+      → Holds512 hasher (head_frame house moment number pin)
       → j.store ≡ s → j.house ≡ house → j.next ≡ number → j.hasher ≡ hasher
       → Keeps seen may_leave t pin (opening_history t) j
   keeps_begun t pin moment disk old hasher house number s j b is_moment named size few rest hashed same_store same_house
@@ -66,10 +66,10 @@ module _ {D : Type 0} (seen : D → List ℕ) (may_leave : D → List ℕ → Ty
         is_journal = head_journal t pin moment disk old house number b is_moment named size few;
         house = same_house ∙ b.named;
         next = same_next ∙ b.numbered;
-        hashed = subst (λ (x : Sha256). Holds256 x (head_frame house moment number pin)) (sym same_hasher) hashed;
+        hashed = subst (λ (x : Sha512). Holds512 x (head_frame house moment number pin)) (sym same_hasher) hashed;
       }
 
-  pub crash_begun : (t : House) (pin moment : List ℕ) (disk : D) (hasher : Sha256) (house : List ℕ) (number : ℕ)
+  pub crash_begun : (t : House) (pin moment : List ℕ) (disk : D) (hasher : Sha512) (house : List ℕ) (number : ℕ)
       → IsBare seen may_leave t disk hasher house number
       → IsMoment moment → IsTrue (is_firm_text house) → length pin ≡ 32 → number ≤ 1000001 → (c : List ℕ)
       → IsLeft [] (group_of (head_frame house moment number pin)) c → history_of t c ≡ opening_history t
@@ -88,7 +88,7 @@ module _ {D : Type 0} (seen : D → List ℕ) (may_leave : D → List ℕ → Ty
         record {
           file = r.file ∙ ap (λ (l : List ℕ). l ++ 10 ∷ []) new.0;
           durable = r.durable;
-          hashed = subst (λ (l : List ℕ). Holds256 rest.hasher l) new.0 r.hashed;
+          hashed = subst (λ (l : List ℕ). Holds512 rest.hasher l) new.0 r.hashed;
           named = r.named;
           numbered = omega (arith, r.numbered, ap length new.1);
         },
@@ -112,7 +112,7 @@ module _ {D : Type 0} (seen : D → List ℕ) (may_leave : D → List ℕ → Ty
         is_journal = subst (λ (b : Bool). IsCounted t pin taken h b) old r.says;
         house = same_house ∙ r.named;
         next = same_next ∙ r.numbered;
-        hashed = subst (λ (x : Sha256). Holds256 x taken) (sym same_hasher) r.hashed;
+        hashed = subst (λ (x : Sha512). Holds512 x taken) (sym same_hasher) r.hashed;
       }
 
   pub crash_rest : (t : House) (pin : List ℕ) (h : List Entry) (taken : List ℕ) (disk : D) (rest : Rest)

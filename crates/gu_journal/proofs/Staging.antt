@@ -5,8 +5,8 @@ use Rattle.gu_base.specs.House.{House}
 use Rattle.gu_base.specs.Names.{is_firm_text}
 use Rattle.gu_base.specs.Runs.{IsRunFrom}
 use Rattle.gu_base.specs.declared.entry.Entry.{Entry}
-use Rattle.sha2.specs.Hashers.{Holds256}
-use Rattle.sha2.specs.declared.Sha256.{Sha256}
+use Rattle.sha2.specs.Hashers.{Holds512}
+use Rattle.sha2.specs.declared.Sha512.{Sha512}
 use Rattle.gu_store.specs.Store.{IsAtRest, IsStaged, IsShutBehind, frames_in}
 use Rattle.gu_journal.specs.Groups.{group_frames, IsMoment, IsGroupOf}
 use Rattle.gu_journal.specs.Journal.{IsJournal}
@@ -49,8 +49,8 @@ module _ {D : Type 0} (seen : D → List ℕ) (may_leave : D → List ℕ → Ty
 
   -- a group was written and staged behind bytes that are a journal
   pub stages : (t : House) (pin bytes : List ℕ) (h es : List Entry) (old new : Journal D) (moment text : List ℕ)
-      (hasher : Sha256)
-      → IsJournal t pin bytes h → old.house ≡ t.house → old.next ≡ length h + 1 → Holds256 old.hasher bytes
+      (hasher : Sha512)
+      → IsJournal t pin bytes h → old.house ≡ t.house → old.next ≡ length h + 1 → Holds512 old.hasher bytes
       → IsMoment moment → IsGroupOf old.house moment old.next es old.hasher hasher text → IsRunFrom t h (h ++ es)
       → IsStaged seen may_leave new.store bytes text → new.house ≡ old.house → new.next ≡ old.next + length es
       → new.hasher ≡ hasher
@@ -71,6 +71,6 @@ module _ {D : Type 0} (seen : D → List ℕ) (may_leave : D → List ℕ → Ty
         with_group = subst (λ (f : List ℕ). IsJournal t pin (bytes ++ f) (h ++ es)) of_house grown;
         house = house_same ∙ house;
         next = omega (arith, new_next, next, length-append h es);
-        hashed = subst (λ (x : Sha256). Holds256 x (bytes ++ frames_in text)) (sym new_hasher)
-            (subst (λ (f : List ℕ). Holds256 hasher (bytes ++ f)) (sym frames) (g.hashed bytes hashed));
+        hashed = subst (λ (x : Sha512). Holds512 x (bytes ++ frames_in text)) (sym new_hasher)
+            (subst (λ (f : List ℕ). Holds512 hasher (bytes ++ f)) (sym frames) (g.hashed bytes hashed));
       }

@@ -1,7 +1,7 @@
 -- Why entries aren't kept.
 use Rattle.std.specs.Prelude.{◌≡◌, ◌⊎◌, ◌<◌, ◌+◌, ◌^◌, ℕ, false, List, ◌∷◌, ◌++◌, length}
-use Rattle.sha2.specs.Hashers.{Holds256}
-use Rattle.sha2.specs.declared.Sha256.{Sha256}
+use Rattle.sha2.specs.Hashers.{Holds512}
+use Rattle.sha2.specs.declared.Sha512.{Sha512}
 use Rattle.gu_base.specs.declared.entry.Entry.{Entry}
 use Rattle.gu_journal.specs.Entries.{is_sayable}
 use Rattle.gu_journal.specs.Groups.{group_frames, group_of, IsMoment}
@@ -39,11 +39,11 @@ IsFailure failed _ = ⊥
 
 -- While the group is written: what counts has so many bytes, which the hasher holds, and the first
 -- entry has the number n.
-abbrev pub IsStopped : List ℕ → List ℕ → ℕ → Sha256 → ℕ → List Entry → JournalError → Type 0
+abbrev pub IsStopped : List ℕ → List ℕ → ℕ → Sha512 → ℕ → List Entry → JournalError → Type 0
 IsStopped house moment len hasher n es error.Memory = Unit {0}
 IsStopped house moment len hasher n es error.Full =
     (n ≡ 0) ⊎ (1000001 < n + length es) ⊎ (2 ^ 60 < len)
-    ⊎ ((bytes : List ℕ) → Holds256 hasher bytes
+    ⊎ ((bytes : List ℕ) → Holds512 hasher bytes
     → 2 ^ 60 < length (group_of (group_frames house moment n es bytes)))
 IsStopped house moment len hasher n es (error.Unsayable number) = IsUnsaid n es number
 IsStopped house moment len hasher n es error.Moment = IsMoment moment → ⊥

@@ -8,8 +8,8 @@ use Rattle.gu_codec.specs.Messages.{Message}
 use Rattle.gu_codec.specs.Writing.{IsText, message_text, stream_text}
 use Rattle.gu_message.specs.Timestamp.{is_timestamp}
 use Rattle.gu_store.specs.Store.{IsGroup, shut_gate}
-use Rattle.sha2.specs.Hashers.{Holds256}
-use Rattle.sha2.specs.declared.Sha256.{Sha256}
+use Rattle.sha2.specs.Hashers.{Holds512}
+use Rattle.sha2.specs.declared.Sha512.{Sha512}
 use Rattle.gu_journal.specs.Entries.{message_of, IsLawfulCall}
 use Rattle.gu_journal.specs.Session.{head_of, seal_of}
 
@@ -48,13 +48,13 @@ pub record IsMoment (moment : List ℕ) : Type 0 where
 
 -- The text is the group of these entries, of which the first has this number, as it follows the
 -- bytes that the old hasher holds; and the new one holds its frames too.
-pub record IsGroupOf (house moment : List ℕ) (n : ℕ) (es : List Entry) (old new : Sha256)
+pub record IsGroupOf (house moment : List ℕ) (n : ℕ) (es : List Entry) (old new : Sha512)
     (text : List ℕ) : Type 0 where
   pub is_group : IsGroup text
   pub named : IsTrue (is_firm_text house)
   pub sayable : AllByRecursion IsSayableEntry es
   pub few : n + length es ≤ 1000001
-  pub group : (bytes : List ℕ) → Holds256 old bytes
+  pub group : (bytes : List ℕ) → Holds512 old bytes
       → text ≡ group_of (group_frames house moment n es bytes)
-  pub hashed : (bytes : List ℕ) → Holds256 old bytes
-      → Holds256 new (bytes ++ group_frames house moment n es bytes)
+  pub hashed : (bytes : List ℕ) → Holds512 old bytes
+      → Holds512 new (bytes ++ group_frames house moment n es bytes)

@@ -24,6 +24,10 @@ pub record IsKept (w : Inside) : Type 0 where
 abbrev pub end_of : Held → ℕ
 end_of w = w.at + length w.bytes
 
+-- what is held stands there in the file
+abbrev pub IsHeld : List ℕ → Held → Type 0
+IsHeld file w = (later : List ℕ) × (drop w.at file ≡ w.bytes ++ later)
+
 -- A piece was read behind what is held, of a file of this length. It stands there in the file,
 -- where the disk has given no wrong answer.
 pub record Adds (is_clean : Bool) (file : List ℕ) (len : ℕ) (old new : Held) : Type 0 where

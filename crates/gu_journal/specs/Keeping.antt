@@ -4,7 +4,7 @@ use Rattle.gu_base.specs.House.{House}
 use Rattle.gu_base.specs.declared.entry.Entry.{Entry}
 use Rattle.gu_store.specs.Store as store
 use Rattle.gu_store.specs.Store.{IsAtRest, IsStaged, frames_in}
-use Rattle.sha2.specs.Hashers.{Holds256}
+use Rattle.sha2.specs.Hashers.{Holds512}
 use Rattle.gu_journal.specs.Journal.{IsJournal}
 use Rattle.gu_journal.specs.declared.journal.Journal.{Journal}
 
@@ -29,7 +29,7 @@ pub record Keeps {D : Type 0} (seen : D → List ℕ) (may_leave : D → List �
   pub is_journal : IsJournal t pin bytes h
   pub house : journal.house ≡ t.house
   pub next : journal.next ≡ length h + 1
-  pub hashed : Holds256 journal.hasher bytes
+  pub hashed : Holds512 journal.hasher bytes
 
 -- All of the file is on the disk. What counts of it is a journal of this house with this history;
 -- together with the group that is staged, with the new one, whose next entry has the next number.
@@ -43,4 +43,4 @@ pub record Stages {D : Type 0} (seen : D → List ℕ) (may_leave : D → List �
   pub with_group : IsJournal t pin (bytes ++ frames_in group) new
   pub house : journal.house ≡ t.house
   pub next : journal.next ≡ length new + 1
-  pub hashed : Holds256 journal.hasher (bytes ++ frames_in group)
+  pub hashed : Holds512 journal.hasher (bytes ++ frames_in group)

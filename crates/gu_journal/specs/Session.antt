@@ -4,7 +4,7 @@ use Rattle.gu_codec.specs.Messages.{Message}
 use Rattle.gu_codec.specs.Tags as tag
 use Rattle.gu_codec.specs.Writing.{header_pairs}
 use Rattle.hex.specs.Hex.{encode_lower}
-use Rattle.sha2.specs.Sha256.{sha256}
+use Rattle.sha2.specs.Sha512.{sha512}
 
 -- DefaultCstmApplVerID (1408), in which the head has the form of the journal
 abbrev pub default_cstm_appl_ver_id : ℕ
@@ -12,11 +12,16 @@ default_cstm_appl_ver_id = 1408
 
 -- the one form of a journal that is written and read
 abbrev pub form : List ℕ
-form = codes "allocd-journal-1"
+form = codes "allocd-journal-2"
 
--- the SHA-256 of some bytes, as 64 hex digits in lower case
+-- The most bytes that a head has with the gate behind it: 153 beside two names of 16, a number of 7
+-- digits and a moment of 24, and the gate.
+abbrev pub longest_head : ℕ
+longest_head = 217
+
+-- the SHA-512 of some bytes, as 128 hex digits in lower case
 abbrev pub digest_text : List ℕ → List ℕ
-digest_text bytes = encode_lower (sha256 bytes)
+digest_text bytes = encode_lower (sha512 bytes)
 
 -- the header of a message of this type from the house to itself
 abbrev pub own_header : List ℕ → List ℕ → List ℕ → ℕ → Message
@@ -50,4 +55,4 @@ seal_with house moment number digest =
 
 -- the seal of these bytes
 abbrev pub seal_of : List ℕ → List ℕ → ℕ → List ℕ → Message
-seal_of house moment number bytes = seal_with house moment number (sha256 bytes)
+seal_of house moment number bytes = seal_with house moment number (sha512 bytes)

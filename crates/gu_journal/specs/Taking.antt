@@ -1,5 +1,5 @@
 -- How the messages of a journal are taken, one after the other.
-use Rattle.std.specs.Prelude.{◌≡◌, ◌≢◌, ℕ, ◌+◌, List, [], ◌∷◌, ◌++◌, length, Some}
+use Rattle.std.specs.Prelude.{◌≡◌, ◌≢◌, ℕ, ◌+◌, ◌<◌, List, [], ◌∷◌, ◌++◌, length, Some}
 use Rattle.gu_base.specs.House.{House}
 use Rattle.gu_base.specs.Answers.{Call, answer_to}
 use Rattle.gu_base.specs.Runs.{opening_history}
@@ -74,18 +74,14 @@ Takes t pin taken Unsealed h m Fresh new = ⊥
 Takes t pin taken Unsealed h m Sealed new = IsSeal t taken h m × (new ≡ h)
 Takes t pin taken Unsealed h m Unsealed new = SaysNext t h new m
 
--- no message like this is taken there, of a house whose opening that is
-abbrev pub TakesNone : House → List ℕ → List ℕ → Stand → List Entry → Message → Type 0
-TakesNone t pin taken stand h m = (stand ≡ Fresh → h ≡ opening_history t)
-    → (next : Stand) (new : List Entry) → Takes t pin taken stand h m next new → ⊥
-
--- a journal, and behind it what says further entries, up to this history
+-- a journal, and behind it what says further entries, one at least, up to this history
 pub record IsOpenAt (t : House) (pin taken : List ℕ) (new : List Entry) : Type 0 where
   pub bytes : List ℕ
   pub entries : List ℕ
   pub h : List Entry
   pub journal : IsJournal t pin bytes h
   pub says : Says t h entries new
+  pub some : 0 < length entries
   pub parts : taken ≡ bytes ++ entries
 
 -- the bytes that were taken: none, a journal, or a journal with a group that isn't sealed yet

@@ -4,7 +4,7 @@ ghost use Rattle.std.specs.Prelude.{◌≡◌};
 ghost use Rattle.sha2.specs.Sha256.{sha256};
 ghost use Rattle.gu_journal.specs.declared.damage.RecoverError.TheVariants as error;
 
-use crate::session::hex_digits;
+use crate::session::house_digits;
 use sha2::{Digest, Sha256};
 use std::alloc::AllocError;
 use std::{fmt, io, str};
@@ -31,7 +31,7 @@ impl HouseDigest {
 /// 64 hex digits in lower case.
 impl fmt::Display for HouseDigest {
     fn fmt<W: fmt::Write>(&self, f: &mut fmt::Formatter<W>) -> fmt::Result {
-        match str::from_utf8(&hex_digits(&self.bytes)) {
+        match str::from_utf8(&house_digits(&self.bytes)) {
             Ok(text) => f.write_str(text),
             Err(_) => Ok(()),
         }
@@ -85,8 +85,8 @@ pub struct Damage {
     pub cause: Cause,
 }
 
-/// Why a journal isn't recovered. But for `Disk`, and `Memory` where a file has no head yet, nothing
-/// was written.
+/// Why a journal isn't recovered. But for `Disk`, and `Memory` where a file has no head yet,
+/// nothing was written.
 #[derive(Clone, Copy, Debug, Error)]
 pub enum RecoverError {
     /// Memory ran out.
@@ -105,7 +105,7 @@ pub enum RecoverError {
         journal: HouseDigest,
     },
     /// The journal has a form that this program doesn't read.
-    #[error("the journal isn't of the form allocd-journal-1")]
+    #[error("the journal isn't of the form allocd-journal-2")]
     OtherForm,
     /// The file isn't what a crash leaves of a journal.
     #[error("{0}")]

@@ -1,14 +1,14 @@
 //! A journal's file: its frames are taken, and it is put at rest.
 
-ghost use Rattle.std.specs.Prelude.{◌≡◌, ◌≢◌, ◌≤◌, ◌<◌, ◌^◌, [], List, ℕ, length, IsTrue, IfOk};
-ghost use Rattle.std.specs.Prelude.{IfErr, OnOk};
+ghost use Rattle.std.specs.Prelude.{◌≡◌, ◌≢◌, ◌≤◌, ◌<◌, ◌+◌, ◌^◌, [], List, ℕ, length, IsTrue};
+ghost use Rattle.std.specs.Prelude.{IfOk, IfErr, OnOk};
 ghost use Rattle.sqlite_disk.specs.Disk.{Only};
 ghost use Rattle.gu_base.specs.Runs.{opening_history};
 ghost use Rattle.gu_batch.specs.Output.{history_of};
-ghost use Rattle.gu_journal.specs.Held.{OnlyReads, IsUntouched, at_front, end_of};
-ghost use Rattle.gu_journal.specs.Leading.{HasNoFront};
-ghost use Rattle.gu_journal.specs.Recovered.{Replays, Meets, MeetsNone, Finds, Settles};
-ghost use Rattle.gu_journal.specs.Taking.{IsFault, IsTold};
+ghost use Rattle.gu_journal.specs.Held.{OnlyReads, IsUntouched, IsHeld, at_front, end_of};
+ghost use Rattle.gu_journal.specs.Places.{IsAt, NamesCause};
+ghost use Rattle.gu_journal.specs.Recovered.{Replays, Meets, MeetsReason, Finds, Settles};
+ghost use Rattle.gu_journal.specs.Taking.{IsTold};
 ghost use Rattle.gu_journal.specs.declared.replay.Stand.TheVariants.{Fresh, Unsealed};
 
 use crate::behind::check_rest;
@@ -20,7 +20,7 @@ use crate::window::Window;
 use gu_book::Book;
 use gu_codec::Frame;
 use gu_store::{create, repair};
-use sha2::{Digest, Sha256};
+use sha2::{Digest, Sha512};
 use sqlite_disk::Disk;
 use std::alloc::Global;
 
@@ -44,10 +44,12 @@ fn take_front(
     pin: &HouseDigest,
     place: Place,
 ) -> Result<Met, RecoverError>
+    requires entry { place.entry ≡ length book.old.history + 1 }
     ensures meets { IfOk result (Meets pin.now.bytes window.now.bytes replay.old book.old
         replay.new book.new) }
-    ensures fault { IfErr result (λ e. IsFault e → MeetsNone pin.now.bytes window.now.bytes
-        replay.old book.old) }
+    ensures cause { IfErr result (λ e. MeetsReason pin.now.bytes window.now.bytes replay.old
+        book.old e) }
+    ensures place { IfErr result (λ e. IsAt place.at place.entry e) }
 {
     match window.front() {
         Frame::Whole { fields, len } => {
@@ -88,9 +90,11 @@ fn take_frames<D: Disk, P: Progress>(
     ensures finds { OnOk result (Finds (D.Disk.is_clean disk.new) (D.Disk.seen disk.old)
         book.old.house pin.now.bytes
         window.new.at replay.new book.new) }
-    ensures fault { IfErr result (λ e. IsFault e → IsTrue (D.Disk.is_clean disk.new)
-        → HasNoFront book.old.house pin.now.bytes (D.Disk.seen disk.old)) }
+    ensures cause { IfErr result (λ e. NamesCause (D.Disk.is_clean disk.new) (D.Disk.seen disk.old)
+        book.old.house pin.now.bytes e) }
     ensures gate { OnOk result ((0 < length window.new.bytes) × (end_of window.new ≤ size)) }
+    ensures held { OnOk result (IsTrue (D.Disk.is_clean disk.new)
+        → IsHeld (D.Disk.seen disk.old) window.new) }
 {
     'frames: loop {
         let place = Place {
@@ -133,8 +137,8 @@ fn take_file<D: Disk, P: Progress>(
     ensures finds { IfOk result (λ end. Finds (D.Disk.is_clean disk.new) (D.Disk.seen disk.old)
         book.old.house pin.now.bytes
         end replay.new book.new) }
-    ensures fault { IfErr result (λ e. IsFault e → IsTrue (D.Disk.is_clean disk.new)
-        → HasNoFront book.old.house pin.now.bytes (D.Disk.seen disk.old)) }
+    ensures cause { IfErr result (λ e. NamesCause (D.Disk.is_clean disk.new) (D.Disk.seen disk.old)
+        book.old.house pin.now.bytes e) }
     ensures sealed { OnOk result (replay.new.stand ≢ Unsealed) }
     ensures small { IfOk result (λ end. end < 2 ^ 63) }
 {
@@ -153,7 +157,7 @@ fn take_file<D: Disk, P: Progress>(
 /// has taken them in.
 #[derive(Drop)]
 pub(crate) struct Rest {
-    pub(crate) hasher: Sha256,
+    pub(crate) hasher: Sha512,
     pub(crate) end: usize,
     pub(crate) is_new: bool,
 }
@@ -176,8 +180,8 @@ pub(crate) fn settle<D: Disk, P: Progress>(
     ensures durable { OnOk result (Only (D.Disk.seen disk.new) (D.Disk.may_leave disk.new)) }
     ensures usable { OnOk result (IsTrue (D.Disk.is_usable disk.new)) }
     ensures clean { IsTrue (D.Disk.is_clean disk.new) → IsTrue (D.Disk.is_clean disk.old) }
-    ensures fault { IfErr result (λ e. IsFault e → IsTrue (D.Disk.is_clean disk.new)
-        → HasNoFront book.old.house pin.now.bytes (D.Disk.seen disk.old)) }
+    ensures cause { IfErr result (λ e. NamesCause (D.Disk.is_clean disk.new) (D.Disk.seen disk.old)
+        book.old.house pin.now.bytes e) }
     ensures untouched { IfErr result (λ e. IsTold e
         → IsUntouched D.Disk.seen D.Disk.may_leave disk.old disk.new) }
     ensures crash { (c : List ℕ) → IsTrue (D.Disk.is_clean disk.new) → D.Disk.may_leave disk.new c
@@ -190,7 +194,7 @@ pub(crate) fn settle<D: Disk, P: Progress>(
     if size <= 1 {
         create(disk)?;
         return Ok(Rest {
-            hasher: Sha256::new(),
+            hasher: Sha512::new(),
             end: 0,
             is_new: true,
         });

@@ -4,7 +4,7 @@ ghost use Rattle.std.specs.Prelude.{◌≡◌, ◌⊎◌, ◌≤◌, ◌<◌, �
 ghost use Rattle.std.specs.Prelude.{OnOk, IfErr};
 ghost use Rattle.std.specs.List.{AllByRecursion};
 ghost use Rattle.gu_codec.specs.Writing.{IsText};
-ghost use Rattle.sha2.specs.declared.Sha256.{Sha256 as HasherValue};
+ghost use Rattle.sha2.specs.declared.Sha512.{Sha512 as HasherValue};
 ghost use Rattle.gu_journal.specs.Causes.{IsStopped};
 ghost use Rattle.gu_journal.specs.Groups.{entry_frames, IsSayableEntry, IsGroupOf};
 
@@ -15,7 +15,7 @@ use crate::session::write_seal;
 use crate::stamp::Stamp;
 use crate::writing::write_entry;
 use gu_base::Entry;
-use sha2::{Digest, Sha256};
+use sha2::{Digest, Sha512};
 use std::alloc::Global;
 
 /// The most entries that a history has.
@@ -92,7 +92,7 @@ fn write_entries(
 /// in the group's frames.
 fn write_frames(
     room: &mut Room,
-    hasher: &mut Sha256,
+    hasher: &mut Sha512,
     first: Stamp,
     moment: &[u8],
     entries: &[Entry],
@@ -127,7 +127,7 @@ fn write_frames(
 /// The same, of at most 2^60 bytes.
 pub(crate) fn write_group(
     room: &mut Room,
-    hasher: &mut Sha256,
+    hasher: &mut Sha512,
     first: Stamp,
     moment: &[u8],
     entries: &[Entry],

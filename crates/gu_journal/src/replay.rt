@@ -1,25 +1,29 @@
 //! Taking the frames of a journal, one after the other.
 
-ghost use Rattle.std.specs.Prelude.{◌≡◌, ◌≤◌, ◌↔◌, ◌+◌, ◌++◌, [], List, ℕ, length, Some, IsTrue};
-ghost use Rattle.std.specs.Prelude.{IfOk, IfErr, OnOk, OnErr, Ok};
+ghost use Rattle.std.specs.Prelude.{◌≡◌, ◌≢◌, ◌≤◌, ◌↔◌, ◌+◌, ◌++◌, [], List, ℕ, length, Some, Ok};
+ghost use Rattle.std.specs.Prelude.{IsTrue, IsSome, IsNone, IfSome, IfOk, IfErr, OnOk};
 ghost use Rattle.gu_base.specs.House.{House};
 ghost use Rattle.gu_base.specs.Runs.{IsRunFrom};
 ghost use Rattle.gu_base.specs.declared.entry.Entry.{Entry};
 ghost use Rattle.gu_message.specs.declared.inbound.Inbound.{Inbound as Means};
 ghost use Rattle.gu_codec.specs.Answer.{pairs};
+ghost use Rattle.gu_codec.specs.Tags as tag;
 ghost use Rattle.gu_message.specs.Finding.{value_of};
 ghost use Rattle.gu_message.specs.Meaning.{meaning_of};
-ghost use Rattle.hex.specs.Hex.{encode_lower};
-ghost use Rattle.sha2.specs.Hashers.{Holds256};
-ghost use Rattle.gu_journal.specs.Journal.{IsHead, IsNumbered, IsOneFrame};
+ghost use Rattle.hex.specs.Hex.{IsBytes, encode_lower};
+ghost use Rattle.sha2.specs.Hashers.{Holds512};
+ghost use Rattle.gu_journal.specs.Damages.{IsRefused, IsUnpinned, Blames, lack_of};
+ghost use Rattle.gu_journal.specs.Journal.{IsNumbered, IsOneFrame};
 ghost use Rattle.gu_journal.specs.Session.{digest_text};
-ghost use Rattle.gu_journal.specs.Recovered.{Replays, IsNextOf};
-ghost use Rattle.gu_journal.specs.Taking.{IsPinned, IsFault, AddsCall, AddsNext, Takes, TakesNone};
+ghost use Rattle.gu_journal.specs.Places.{IsAt};
+ghost use Rattle.gu_journal.specs.Recovered.{Replays};
+ghost use Rattle.gu_journal.specs.Taking.{IsPinned, AddsCall, AddsNext, Takes};
+ghost use Rattle.gu_journal.specs.declared.damage.Cause.TheVariants.{NoEntry};
 ghost use Rattle.gu_journal.specs.declared.damage.RecoverError.TheVariants.{Damaged};
 ghost use Rattle.gu_journal.specs.declared.replay.Stand.TheVariants.{Fresh, Unsealed};
 
 use crate::damage::{Cause, Damage, HouseDigest, RecoverError};
-use crate::session::{DEFAULT_CSTM_APPL_VER_ID, FORM, hex_digits};
+use crate::session::{DEFAULT_CSTM_APPL_VER_ID, FORM, house_digits, seal_digits};
 use gu_base::{AllocId, Answer, Command, FirmId, Memory, Part};
 use gu_book::Book;
 use gu_codec::{Fields, tags};
@@ -28,7 +32,7 @@ use gu_message::{
 };
 use hex::decode_to_slice;
 use itoa::Buffer;
-use sha2::{Digest, Sha256};
+use sha2::{Digest, Sha512};
 use std::alloc::{AllocError, Global};
 
 /// What stands before the next frame.
@@ -42,11 +46,25 @@ pub(crate) enum Stand {
     Unsealed,
 }
 
+impl Stand {
+    /// What a message lacks there that means nothing.
+    #[cold]
+    fn lack(self) -> Cause
+        ensures { result ≡ lack_of self }
+    {
+        match self {
+            Stand::Fresh => Cause::NoHead,
+            Stand::Sealed => Cause::NoEntry,
+            Stand::Unsealed => Cause::NoEntry,
+        }
+    }
+}
+
 /// What the frames that were taken lead to beside the book, and room that is kept between them.
 #[derive(Drop)]
 pub(crate) struct Replay {
     /// Has taken in the bytes of these frames.
-    pub(crate) hasher: Sha256,
+    pub(crate) hasher: Sha512,
     pub(crate) stand: Stand,
     parts: Vec<Part>,
     meaning: Inbound,
@@ -90,20 +108,45 @@ fn is_numbered(message: &Index<'_, '_>, number: u32) -> bool
     message.is_text(tags::MSG_SEQ_NUM, digits.format(number).as_bytes())
 }
 
-/// Whether a message has this digest, as 64 hex digits in lower case, in a field.
-fn has_digest(message: &Index<'_, '_>, tag: u32, digest: &[u8; 32]) -> bool
-    ensures { IsTrue result ↔ (value_of tag message.now ≡ Some (encode_lower digest.now)) }
+/// Whether a head has this digest of a house file in Text (58).
+fn has_pin(message: &Index<'_, '_>, pin: &HouseDigest) -> bool
+    ensures { IsTrue result ↔ (value_of tag.text message.now ≡ Some (encode_lower pin.now.bytes)) }
 {
-    message.is_text(tag, &hex_digits(digest))
+    message.is_text(tags::TEXT, &house_digits(&pin.bytes))
+}
+
+/// Whether a seal has this digest in TestReqID (112).
+fn has_digest(message: &Index<'_, '_>, digest: &[u8; 64]) -> bool
+    ensures { IsTrue result
+        ↔ (value_of tag.test_req_id message.now ≡ Some (encode_lower digest.now)) }
+{
+    message.is_text(tags::TEST_REQ_ID, &seal_digits(digest))
+}
+
+/// The 32 bytes that hex digits write.
+fn digest_in(digits: &[u8]) -> Option<HouseDigest>
+    ensures { (bytes : List ℕ) → IsBytes bytes → length bytes ≡ 32 → digits.now ≡ encode_lower bytes
+        → IfSome result (λ digest. digest.bytes ≡ bytes) × IsSome result }
+{
+    let mut bytes = [0; 32];
+    match decode_to_slice(digits, &mut bytes) {
+        Ok(()) => Some(HouseDigest { bytes }),
+        Err(_) => None,
+    }
 }
 
 /// The digest of another house file that a head has in Text (58), if it is one.
-fn other_digest(message: &Index<'_, '_>) -> Option<HouseDigest> {
-    let text = message.first(tags::TEXT)?;
-    let mut bytes = [0; 32];
-    match decode_to_slice(text, &mut bytes) {
-        Ok(()) => Some(HouseDigest { bytes }),
-        Err(_) => None,
+fn other_digest(message: &Index<'_, '_>) -> Option<HouseDigest>
+    ensures other { IfSome result (λ digest. value_of tag.text message.now
+        ≡ Some (encode_lower digest.bytes)) }
+    ensures none { IsNone result → (bytes : List ℕ) → IsBytes bytes → length bytes ≡ 32
+        → value_of tag.text message.now ≢ Some (encode_lower bytes) }
+{
+    let digest = digest_in(message.first(tags::TEXT)?)?;
+    if has_pin(message, &digest) {
+        Some(digest)
+    } else {
+        None
     }
 }
 
@@ -111,7 +154,8 @@ fn other_digest(message: &Index<'_, '_>) -> Option<HouseDigest> {
 /// tell.
 fn check_head(message: &Index<'_, '_>, pin: &HouseDigest, place: Place) -> Result<(), RecoverError>
     ensures ok { OnOk result (IsPinned pin.now.bytes message.now) }
-    ensures err { OnErr result ((t : House) → IsHead t pin.now.bytes message.now → ⊥) }
+    ensures cause { IfErr result (λ e. IsUnpinned pin.now.bytes message.now e) }
+    ensures place { IfErr result (λ e. IsAt place.at place.entry e) }
 {
     if !message.is_text(DEFAULT_CSTM_APPL_VER_ID, FORM) {
         return match message.first(DEFAULT_CSTM_APPL_VER_ID) {
@@ -119,7 +163,7 @@ fn check_head(message: &Index<'_, '_>, pin: &HouseDigest, place: Place) -> Resul
             None => Err(place.damaged(Cause::NoHead)),
         };
     }
-    if has_digest(message, tags::TEXT, &pin.bytes) {
+    if has_pin(message, pin) {
         return Ok(());
     }
     match other_digest(message) {
@@ -155,15 +199,13 @@ fn add_call(
 }
 
 impl Replay {
-    ghost use Rattle.gu_codec.specs.Tags as tag;
-
     /// Nothing taken yet.
     pub(crate) fn new(alloc: Global) -> Replay
         ensures fresh { result.stand ≡ Fresh }
-        ensures empty { Holds256 result.hasher [] }
+        ensures empty { Holds512 result.hasher [] }
     {
         Replay {
-            hasher: Sha256::new(),
+            hasher: Sha512::new(),
             stand: Stand::Fresh,
             parts: Vec::new(alloc),
             meaning: Inbound::Heartbeat,
@@ -171,7 +213,7 @@ impl Replay {
     }
 
     /// The hasher, without the rest.
-    pub(crate) fn into_hasher(self) -> Sha256
+    pub(crate) fn into_hasher(self) -> Sha512
         ensures { result ≡ self.hasher }
     {
         self.hasher
@@ -179,11 +221,11 @@ impl Replay {
 
     /// Whether a message has the digest of all that was taken in TestReqID (112).
     fn is_sealed_by(&self, message: &Index<'_, '_>) -> bool
-        ensures { (taken : List ℕ) → Holds256 self.now.hasher taken
+        ensures { (taken : List ℕ) → Holds512 self.now.hasher taken
             → (IsTrue result ↔ (value_of tag.test_req_id message.now ≡ Some (digest_text taken))) }
     {
         match self.hasher.clone() {
-            Ok(hasher) => has_digest(message, tags::TEST_REQ_ID, &hasher.finalize()),
+            Ok(hasher) => has_digest(message, &hasher.finalize()),
             Err(_) => false,
         }
     }
@@ -197,14 +239,15 @@ impl Replay {
         place: Place,
     ) -> Result<(), RecoverError>
         ensures means { OnOk result (meaning_of house.now message.now ≡ Ok self.new.meaning) }
-        ensures fault { IfErr result (λ e. IsFault e → (m : Means)
-            → meaning_of house.now message.now ≡ Ok m → ⊥) }
+        ensures cause { IfErr result (λ e. Blames (lack_of self.old.stand) ((m : Means)
+            → meaning_of house.now message.now ≡ Ok m → ⊥) e) }
+        ensures place { IfErr result (λ e. IsAt place.at place.entry e) }
         ensures hasher { self.new.hasher ≡ self.old.hasher }
         ensures stand { self.new.stand ≡ self.old.stand }
     {
         match meaning_into(alloc, message, house, &mut self.parts, &mut self.meaning) {
             Ok(()) => Ok(()),
-            Err(MeaningError::Reject(_)) => Err(place.damaged(Cause::NoEntry)),
+            Err(MeaningError::Reject(_)) => Err(place.damaged(self.stand.lack())),
             Err(MeaningError::Memory) => Err(RecoverError::Memory),
         }
     }
@@ -219,8 +262,9 @@ impl Replay {
         ensures house { OnOk result (book.new.house ≡ book.old.house) }
         ensures adds { OnOk result (AddsNext book.old.house book.old.history book.new.history
             self.old.meaning) }
-        ensures fault { IfErr result (λ e. IsFault e → (new : List Entry)
-            → AddsNext book.old.house book.old.history new self.old.meaning → ⊥) }
+        ensures cause { IfErr result (λ e. Blames NoEntry ((new : List Entry)
+            → AddsNext book.old.house book.old.history new self.old.meaning → ⊥) e) }
+        ensures place { IfErr result (λ e. IsAt place.at place.entry e) }
         ensures hasher { self.new.hasher ≡ self.old.hasher }
         ensures stand { OnOk result (self.new.stand ≡ Unsealed) }
     {
@@ -255,12 +299,13 @@ impl Replay {
         ensures house { OnOk result (book.new.house ≡ book.old.house) }
         ensures hasher { self.new.hasher ≡ self.old.hasher }
         ensures takes { (pin taken : List ℕ) → (self.old.stand ≡ Fresh
-            → IsPinned pin message.now) → Holds256 self.old.hasher taken
+            → IsPinned pin message.now) → Holds512 self.old.hasher taken
             → OnOk result (Takes book.old.house pin taken self.old.stand book.old.history
             message.now self.new.stand book.new.history) }
-        ensures fault { IfErr result (λ e. IsFault e → (pin taken : List ℕ)
-            → Holds256 self.old.hasher taken
-            → TakesNone book.old.house pin taken self.old.stand book.old.history message.now) }
+        ensures cause { IfErr result (λ e. (pin taken : List ℕ) → (self.old.stand ≡ Fresh
+            → IsPinned pin message.now) → Holds512 self.old.hasher taken
+            → IsRefused book.old.house pin taken self.old.stand book.old.history message.now e) }
+        ensures place { IfErr result (λ e. IsAt place.at place.entry e) }
     {
         match (self.stand, &self.meaning) {
             (
@@ -296,11 +341,12 @@ impl Replay {
         requires frame { IsOneFrame frame.now (pairs fields) }
         ensures takes { (t : House) (taken : List ℕ) → Replays t pin.now.bytes taken self.old
             book.old
-            → OnOk result (IsNextOf t pin.now.bytes taken frame.now (pairs fields.entry) self.old
-            book.old self.new book.new) }
-        ensures fault { IfErr result (λ e. IsFault e → (t : House) (taken : List ℕ)
+            → OnOk result (Replays t pin.now.bytes (taken ++ frame.now) self.new book.new) }
+        ensures cause { IfErr result (λ e. (t : House) (taken : List ℕ)
             → Replays t pin.now.bytes taken self.old book.old
-            → TakesNone t pin.now.bytes taken self.old.stand book.old.history (pairs fields.entry)) }
+            → IsRefused t pin.now.bytes taken self.old.stand book.old.history
+            (pairs fields.entry) e) }
+        ensures place { IfErr result (λ e. IsAt at (length book.old.history + 1) e) }
     {
         let mut slots = [Slot::none(); SLOTS];
         let walked = walk(fields, &mut slots);

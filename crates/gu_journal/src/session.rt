@@ -17,7 +17,7 @@ use hex::encode_to_slice;
 pub(crate) const DEFAULT_CSTM_APPL_VER_ID: u32 = 1408;
 
 /// The one form of a journal that is written and read.
-pub(crate) const FORM: &[u8] = b"allocd-journal-1";
+pub(crate) const FORM: &[u8] = b"allocd-journal-2";
 
 /// The most bytes that the group of a head has: 153 beside two names of 16, a number of 7 digits
 /// and a moment of 24, and the gate.
@@ -26,11 +26,20 @@ pub(crate) const LONGEST_HEAD: usize = 217;
 /// The most bytes of the fields behind a header.
 const ROOM: usize = 256;
 
-/// The digits of a digest: 64 hex digits in lower case.
-pub(crate) fn hex_digits(digest: &[u8; 32]) -> [u8; 64]
+/// The digits of a house file's digest: 64 hex digits in lower case.
+pub(crate) fn house_digits(digest: &[u8; 32]) -> [u8; 64]
     ensures { result ≡ encode_lower digest.now }
 {
     let mut text = [0; 64];
+    let _ = encode_to_slice(digest.as_slice(), &mut text);
+    text
+}
+
+/// The digits of a seal's digest: 128 hex digits in lower case.
+pub(crate) fn seal_digits(digest: &[u8; 64]) -> [u8; 128]
+    ensures { result ≡ encode_lower digest.now }
+{
+    let mut text = [0; 128];
     let _ = encode_to_slice(digest.as_slice(), &mut text);
     text
 }
@@ -68,7 +77,7 @@ fn append_head(out: &mut Vec<u8>, pin: &[u8; 32])
     ensures items { out.new.items ≡ out.old.items ++ fields_text (head_fields pin.now) }
     ensures len { vec_len out.new ≤ vec_len out.old + 256 }
 {
-    let digits = hex_digits(pin);
+    let digits = house_digits(pin);
     append_field(out, tags::ENCRYPT_METHOD, b"0");
     append_field(out, tags::HEART_BT_INT, b"0");
     append_field(out, tags::DEFAULT_APPL_VER_ID, b"9");
@@ -110,14 +119,14 @@ pub(crate) fn write_seal(
     body: &mut Vec<u8>,
     stamp: Stamp,
     moment: &[u8],
-    digest: &[u8; 32],
+    digest: &[u8; 64],
 ) -> Result<(), Memory>
     requires moment { IsText moment.now }
     ensures ok { OnOk result (out.new.items ≡ out.old.items ++ message_text
         (seal_with stamp.house moment.now stamp.number digest.now)) }
     ensures err { OnErr result (out.new.items ≡ out.old.items) }
 {
-    let digits = hex_digits(digest);
+    let digits = seal_digits(digest);
     body.clear();
     body.reserve(ROOM)?;
     append_field(body, tags::TEST_REQ_ID, &digits);

@@ -1,10 +1,10 @@
 //! The bytes of a file in pieces.
 
-ghost use Rattle.std.specs.Prelude.{◌≡◌, ◌≤◌, ◌<◌, ◌+◌, ◌^◌, ◌++◌, [], List, ℕ, length, take, drop};
-ghost use Rattle.std.specs.Prelude.{slice_index, vec_len, OnOk, IfOk, IfErr, IsTrue};
+ghost use Rattle.std.specs.Prelude.{◌≡◌, ◌≤◌, ◌<◌, ◌+◌, ◌^◌, ◌++◌, [], ◌∷◌, List, ℕ, length};
+ghost use Rattle.std.specs.Prelude.{take, drop, slice_index, vec_len, OnOk, IfOk, IfErr, IsTrue};
 ghost use Rattle.sqlite_disk.specs.Disk.{Holds};
 ghost use Rattle.gu_journal.specs.Held.{Adds, OnlyReads};
-ghost use Rattle.gu_journal.specs.Taking.{IsFault};
+ghost use Rattle.gu_journal.specs.Taking.{IsTold};
 
 use crate::damage::RecoverError;
 use gu_codec::{Frame, MAX_FRAME_LEN, read_frame};
@@ -49,7 +49,7 @@ fn read_piece<D: Disk>(
     requires few { count ≤ 65536 }
     ensures reads { OnlyReads D.Disk.seen D.Disk.may_leave D.Disk.is_usable D.Disk.is_clean
         disk.old disk.new }
-    ensures err { IfErr result (λ e. IsFault e → ⊥) }
+    ensures err { IfErr result (λ e. IsTold e → ⊥) }
     ensures kept { vec_len buffer.old ≤ vec_len buffer.new }
     ensures piece { OnOk result ((piece : List ℕ) × (length piece ≡ count)
         × (buffer.new.items ≡ buffer.old.items ++ piece)
@@ -126,8 +126,7 @@ impl Window {
     /// Puts another first byte.
     pub(crate) fn put_first(&mut self, byte: u8)
         requires { 0 < length self.old.bytes }
-        ensures at { self.new.at ≡ self.old.at }
-        ensures len { length self.new.bytes ≡ length self.old.bytes }
+        ensures { self.new ≡ record { at = self.old.at; bytes = byte ∷ drop 1 self.old.bytes } }
     {
         self.buffer[self.taken] = byte;
     }
@@ -148,7 +147,7 @@ impl Window {
         requires more { end_of self.old < len }
         ensures reads { OnlyReads D.Disk.seen D.Disk.may_leave D.Disk.is_usable D.Disk.is_clean
             disk.old disk.new }
-        ensures err { IfErr result (λ e. IsFault e → ⊥) }
+        ensures err { IfErr result (λ e. IsTold e → ⊥) }
         ensures adds { OnOk result (Adds (D.Disk.is_clean disk.new) (D.Disk.seen disk.old) len
             self.old self.new) }
     {

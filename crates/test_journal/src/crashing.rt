@@ -14,11 +14,12 @@ ghost use Rattle.gu_journal.specs.Keeping.{disk_of, IsIdle};
 use crate::fault::Fault;
 use crate::keeping::{Told, Way, commit_all, turn_all};
 use crate::mixing::{ALL, Left, bytes_left};
-use crate::reading::{attempt, book_of, number_of, opening_count, read_file};
+use crate::reading::{Kept, attempt_beside, book_of, number_of, opening_count, read_file};
 use gu_base::Entry;
-use gu_journal::{RecoverError, Recovered, Unrecovered};
+use gu_journal::{Journal, RecoverError, Unrecovered};
 use sqlite_disk::{Crash, Disk, Fuse, Memory};
 use std::alloc::Global;
+use std::mem::ManuallyDrop;
 
 /// A disk in memory that breaks.
 type Breaking = Fuse<Memory>;
@@ -68,18 +69,18 @@ const PUT: u64 = 2;
 /// Writes these bytes to a disk, and recovers it.
 fn recovery_of<D: Disk + Drop>(
     alloc: Global,
-    house: &[u8],
+    day: Day<'_>,
     disk: D,
     bytes: &[u8],
-) -> Result<Result<Recovered<D>, Unrecovered<D>>, Fault>
+) -> Result<Result<Kept<D>, Unrecovered<D>>, Fault>
     requires usable { IsTrue (D.Disk.is_usable disk) }
-    ensures idle { IfOk result (λ r. IfOk r (λ found. IsIdle found.journal)) }
-    ensures usable { IfOk result (λ r. IfOk r (λ found.
-        IsTrue (D.Disk.is_usable (disk_of found.journal)))) }
+    ensures idle { IfOk result (λ r. IfOk r (λ kept. IsIdle kept.journal)) }
+    ensures usable { IfOk result (λ r. IfOk r (λ kept.
+        IsTrue (D.Disk.is_usable (disk_of kept.journal)))) }
 {
     let mut disk = disk;
     disk.write_at(0, bytes)?;
-    attempt(alloc, house, disk)
+    attempt_beside(alloc, day.house, disk, day.entries)
 }
 
 /// The same bytes once more.
@@ -103,17 +104,16 @@ impl Told for Far {
 /// Keeps entries of a day that follow so many others. Gives the disk back, and whether it never
 /// failed.
 fn keep_rest<D: Disk + Drop>(
-    found: Recovered<D>,
+    journal: Journal<D>,
     day: Day<'_>,
     have: usize,
     far: &mut Far,
 ) -> (D, bool)
-    requires usable { IsTrue (D.Disk.is_usable (disk_of found.journal)) }
-    requires idle { IsIdle found.journal }
+    requires usable { IsTrue (D.Disk.is_usable (disk_of journal)) }
+    requires idle { IsIdle journal }
     requires some { 0 < day.group }
 {
-    let Recovered { book, mut journal } = found;
-    drop(book);
+    let mut journal = journal;
     let rest = day.entries.get(have..).unwrap_or(&[]);
     let kept = match day.way {
         Way::Single => commit_all(&mut journal, far, have, rest, day.group),
@@ -145,32 +145,11 @@ fn run_day(alloc: Global, day: Day<'_>, calls: u64) -> Result<Broken, Fault>
         tried: day.opening,
     };
     let empty = Fuse::new(Memory::new(alloc), calls.saturating_add(PUT));
-    let (disk, ended) = match recovery_of(alloc, day.house, empty, b"")? {
-        Ok(found) => keep_rest(found, day, day.opening, &mut far),
+    let (disk, ended) = match recovery_of(alloc, day, empty, b"")? {
+        Ok(kept) => keep_rest(kept.journal, day, day.opening, &mut far),
         Err(Unrecovered { disk, .. }) => (disk, false),
     };
     broken_of(alloc, disk, ended, far)
-}
-
-/// Whether a history is the first of these entries.
-fn is_front(history: &[Entry], entries: &[Entry]) -> bool {
-    history.len() <= entries.len()
-        && history.iter().zip(entries.iter()).all(|(found, entry)| {
-            found.firm == entry.firm
-                && found.id == entry.id
-                && found.status == entry.status
-                && found.command.is_same(&entry.command)
-        })
-}
-
-/// How many entries were recovered, where all are as they were.
-fn front_of(found: Recovered<Breaking>, day: Day<'_>) -> Option<usize> {
-    let Recovered { book, journal } = found;
-    drop(journal);
-    let have = book.history().len();
-    let is_front = is_front(book.history(), day.entries);
-    drop(book);
-    if is_front { Some(have) } else { None }
 }
 
 /// Whether damage was told.
@@ -194,11 +173,14 @@ enum Found {
 /// What is recovered of these bytes.
 fn found_in(alloc: Global, day: Day<'_>, bytes: &[u8]) -> Result<Found, Fault> {
     let whole = Fuse::new(Memory::new(alloc), u64::MAX);
-    match recovery_of(alloc, day.house, whole, bytes)? {
-        Ok(found) => match front_of(found, day) {
-            Some(have) => Ok(Found::Front(have)),
-            None => Ok(Found::Other),
-        },
+    match recovery_of(alloc, day, whole, bytes)? {
+        Ok(kept) => {
+            if kept.is_front {
+                Ok(Found::Front(kept.have))
+            } else {
+                Ok(Found::Other)
+            }
+        }
         Err(lost) => {
             if is_damaged(lost) {
                 Ok(Found::Damage)
@@ -218,8 +200,8 @@ fn goes_on(alloc: Global, day: Day<'_>, bytes: &[u8], have: usize) -> Result<boo
         tried: have,
     };
     let whole = Fuse::new(Memory::new(alloc), u64::MAX);
-    let (disk, ended) = match recovery_of(alloc, day.house, whole, bytes)? {
-        Ok(found) => keep_rest(found, day, have, &mut far),
+    let (disk, ended) = match recovery_of(alloc, day, whole, bytes)? {
+        Ok(kept) => keep_rest(kept.journal, day, have, &mut far),
         Err(Unrecovered { disk, .. }) => (disk, false),
     };
     let found = found_in(alloc, day, disk.inner().bytes())?;
@@ -247,11 +229,8 @@ fn crash_recovery(
 ) -> Result<(), Fault> {
     for calls in 0..1000u64 {
         let breaking = Fuse::new(Memory::new(alloc), calls.saturating_add(PUT));
-        match recovery_of(alloc, day.house, breaking, bytes)? {
-            Ok(found) => {
-                drop(found);
-                return Ok(());
-            }
+        match recovery_of(alloc, day, breaking, bytes)? {
+            Ok(_) => return Ok(()),
             Err(Unrecovered { disk, .. }) => {
                 count.recoveries = count.recoveries.saturating_add(1);
                 if !has_front(alloc, day, disk, have)? {
@@ -371,6 +350,20 @@ fn tell_day(rt: &HostRuntime, day: Day<'_>) -> Result<(), Fault>
     Ok(())
 }
 
+/// The same, alone and pipelined.
+fn tell_both(rt: &HostRuntime, day: Day<'_>) -> Result<(), Fault>
+    requires some { 0 < day.group }
+{
+    tell_day(rt, day)?;
+    tell_day(
+        rt,
+        Day {
+            way: Way::Pipelined,
+            ..day
+        },
+    )
+}
+
 /// Breaks the day of a stream, alone and pipelined, and tells what was counted.
 pub(crate) fn crash_all(
     rt: &HostRuntime,
@@ -382,20 +375,16 @@ pub(crate) fn crash_all(
     let file = read_file(rt, house)?;
     let opening = opening_count(rt.alloc(), &file)?;
     let bytes = read_file(rt, stream)?;
-    let whole = book_of(rt.alloc(), &file, &bytes)?;
-    let day = Day {
-        house: &file,
-        entries: whole.history(),
-        opening,
-        group,
-        way: Way::Single,
-    };
-    tell_day(rt, day)?;
-    tell_day(
+    // Left as it is: one for each line of words.
+    let whole = ManuallyDrop::new(book_of(rt.alloc(), &file, &bytes)?);
+    tell_both(
         rt,
         Day {
-            way: Way::Pipelined,
-            ..day
+            house: &file,
+            entries: whole.history(),
+            opening,
+            group,
+            way: Way::Single,
         },
     )
 }

@@ -4,11 +4,11 @@ ghost use Rattle.std.specs.Prelude.{◌<◌, IsTrue};
 ghost use Rattle.gu_journal.specs.Keeping.{disk_of, IsIdle};
 
 use crate::fault::Fault;
-use crate::reading::{MOMENT, attempt, book_of, number_of, read_file};
+use crate::reading::{Kept, MOMENT, attempt_beside, book_of, number_of, read_file};
 use gu_base::Entry;
-use gu_book::Book;
-use gu_journal::{Journal, Recovered, Unrecovered, open_file};
+use gu_journal::{Journal, Unrecovered, open_file};
 use sqlite_disk::{Disk, Unknown};
+use std::mem::ManuallyDrop;
 
 /// Told how far a keeping is.
 pub(crate) trait Told {
@@ -94,11 +94,11 @@ pub(crate) enum Way {
     Pipelined,
 }
 
-/// Recovers the journal on a disk, and keeps there the entries of a book that it doesn't have.
+/// Recovers the journal on a disk, and keeps there those of the entries that it doesn't have.
 fn keep_on<D: Disk + Drop>(
     rt: &HostRuntime,
     house: &[u8],
-    whole: &Book,
+    whole: &[Entry],
     disk: D,
     group: usize,
     way: Way,
@@ -106,14 +106,16 @@ fn keep_on<D: Disk + Drop>(
     requires usable { IsTrue (D.Disk.is_usable disk) }
     requires some { 0 < group }
 {
-    let Recovered { book, mut journal } = match attempt(rt.alloc(), house, disk)? {
-        Ok(found) => found,
+    let Kept {
+        mut journal,
+        have: done,
+        ..
+    } = match attempt_beside(rt.alloc(), house, disk, whole)? {
+        Ok(kept) => kept,
         Err(Unrecovered { error, .. }) => return Err(Fault::Recover(error)),
     };
-    let done = book.history().len();
-    drop(book);
     println!(rt; "recovered {done}")?;
-    let Some(entries) = whole.history().get(done..) else {
+    let Some(entries) = whole.get(done..) else {
         return Err(Fault::Other("the journal has more entries than the stream"));
     };
     let mut printer = Printer { rt };
@@ -123,7 +125,22 @@ fn keep_on<D: Disk + Drop>(
     }
 }
 
-/// The same with the journal's file, and the book of a stream.
+/// The same with the journal's file.
+fn keep_in(
+    rt: &HostRuntime,
+    house: &[u8],
+    whole: &[Entry],
+    path: &str,
+    group: usize,
+    way: Way,
+) -> Result<(), Fault>
+    requires some { 0 < group }
+{
+    let disk = open_file(rt, path, Unknown)?;
+    keep_on(rt, house, whole, disk, group, way)
+}
+
+/// The same with the entries of a stream's book.
 pub(crate) fn keep(
     rt: &HostRuntime,
     house: &str,
@@ -134,7 +151,8 @@ pub(crate) fn keep(
 ) -> Result<(), Fault> {
     let file = read_file(rt, house)?;
     let group = number_of(group)?;
-    let whole = book_of(rt.alloc(), &file, &read_file(rt, stream)?)?;
-    let disk = open_file(rt, path, Unknown)?;
-    keep_on(rt, &file, &whole, disk, group, way)
+    let stream = read_file(rt, stream)?;
+    // Left as it is, as a batch leaves its book: the process ends behind it.
+    let whole = ManuallyDrop::new(book_of(rt.alloc(), &file, &stream)?);
+    keep_in(rt, &file, whole.history(), path, group, way)
 }

@@ -1,11 +1,13 @@
 use Rattle.std.proofs.Common.{◌+◌, ◌-◌, ◌*◌, ◌≤◌, length}
 use Rattle.gu_journal.specs.Held.{OnlyReads, end_of}
+use Rattle.gu_journal.proofs.ShutGroups.{Opens}
 use Rattle.gu_journal.proofs.behind.has_shut_group.Given as goal
 
 abbrev pub invariant-frames : goal.invariant-frames
 invariant-frames g l = record {
   within : end_of l.window ≤ l.size;
   reads : OnlyReads g.D.Disk.seen g.D.Disk.may_leave g.D.Disk.is_usable g.D.Disk.is_clean l.initial.disk l.disk;
+  opens : Opens (g.D.Disk.is_clean l.disk) (g.D.Disk.seen l.initial.disk) l.fn.window.at l.window l.sealed;
 }
 
 -- each turn passes bytes, or reads some that weren't read

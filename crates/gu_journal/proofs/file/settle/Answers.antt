@@ -4,11 +4,11 @@ use Rattle.sqlite_disk.specs.Disk.{Only}
 use Rattle.gu_batch.specs.Output.{history_of}
 use Rattle.gu_store.specs.Store.{IsShutBehind}
 use Rattle.gu_journal.proofs.Going.{any_err, passed_on}
-use Rattle.sha2.specs.Hashers.{Holds256}
-use Rattle.sha2.specs.declared.Sha256.{Sha256}
+use Rattle.sha2.specs.Hashers.{Holds512}
+use Rattle.sha2.specs.declared.Sha512.{Sha512}
 use Rattle.gu_journal.specs.Held.{IsUntouched}
-use Rattle.gu_journal.specs.Leading.{HasNoFront}
-use Rattle.gu_journal.specs.Taking.{IsFault, IsTold}
+use Rattle.gu_journal.specs.Places.{NamesCause}
+use Rattle.gu_journal.specs.Taking.{IsTold}
 use Rattle.gu_journal.specs.declared.damage.RecoverError.{RecoverError}
 use Rattle.gu_journal.proofs.Looping.{nothing_taken}
 use Rattle.gu_journal.proofs.Settling.{byte_says, counts, finds_says}
@@ -90,17 +90,6 @@ take_file-requires-clause-fresh g c =
     nothing_taken c.args.book.now.house c.args.pin.now.bytes c.new-replay.result c.args.book.now refl
     c.new-replay.ensures.fresh c.new-replay.ensures.empty c.requires.opening
 
-pub returns-in_err-end-clause-fault : goal.returns-in_err-end-clause-fault
-returns-in_err-end-clause-fault g c =
-    let none : (e : RecoverError)
-    → (IsFault e → IsTrue (g.D.Disk.is_clean c.take_file.new.disk)
-    → HasNoFront c.args.book.now.house c.args.pin.now.bytes (g.D.Disk.seen c.len.new.self)) → IsFault e
-    → IsTrue (g.D.Disk.is_clean c.take_file.new.disk) → HasNoFront c.args.book.now.house c.args.pin.now.bytes
-    (g.D.Disk.seen c.args.disk.now) = λ e told fault clean.
-    subst (λ (b : List ℕ). HasNoFront c.args.book.now.house c.args.pin.now.bytes b) c.len.ensures.seen
-    (told fault clean) in
-    passed_on _ c.in_err-end.field-0.0 (search rules) c.in_err-end.ensures.fault none
-
 pub returns-clause-settles : goal.returns-clause-settles
 returns-clause-settles g c =
     let reads = c.take_file.ensures.reads in
@@ -112,7 +101,7 @@ returns-clause-settles g c =
       house = f.replays.house;
       says = counts c.args.book.now.house c.args.pin.now.bytes f.taken _ _ c.eq.result c.in_ok-end.ensures.sealed
           f.replays.stands (search rules) (search rules);
-      hashed = subst (λ (s : Sha256). Holds256 s f.taken) (sym c.into_hasher.ensures) f.replays.hashed;
+      hashed = subst (λ (s : Sha512). Holds512 s f.taken) (sym c.into_hasher.ensures) f.replays.hashed;
       place = f.place;
       small = c.in_ok-end.ensures.small;
       had = λ h. inl (subst (IsShutBehind f.taken) c.len.ensures.seen (there h));
@@ -128,3 +117,13 @@ returns-in_err-end-clause-untouched g c =
       durable = λ x left. c.requires.durable x (c.len.ensures.crash x (reads.crash x left));
     } in
     any_err _ none
+
+pub returns-in_err-end-clause-cause : goal.returns-in_err-end-clause-cause
+returns-in_err-end-clause-cause g c =
+    let same : (e : RecoverError) → NamesCause (g.D.Disk.is_clean c.take_file.new.disk) (g.D.Disk.seen c.len.new.self)
+    c.args.book.now.house c.args.pin.now.bytes e
+    → NamesCause (g.D.Disk.is_clean c.take_file.new.disk) (g.D.Disk.seen c.args.disk.now) c.args.book.now.house
+    c.args.pin.now.bytes e = λ e is.
+    subst (λ (b : List ℕ). NamesCause (g.D.Disk.is_clean c.take_file.new.disk) b c.args.book.now.house
+    c.args.pin.now.bytes e) c.len.ensures.seen is in
+    passed_on _ c.in_err-end.field-0.0 (search rules) c.in_err-end.ensures.cause same

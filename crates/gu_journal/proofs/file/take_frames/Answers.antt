@@ -1,16 +1,16 @@
-use Rattle.std.proofs.Common.{◌≡◌, ◌≤◌, List, ℕ, IsTrue, length, refl, sym, ap, subst, arith}
+use Rattle.std.proofs.Common.{List, ℕ, length, refl, sym, ap, subst, arith}
 use Rattle.std.proofs.Common.{rules, length-drop}
-use Rattle.gu_journal.specs.Held.{Held, end_of}
+use Rattle.gu_journal.specs.Held.{Held}
 use Rattle.gu_book.specs.Seen.{BookView}
 use Rattle.gu_journal.specs.Held.{Adds}
-use Rattle.gu_journal.specs.Leading.{HasNoFront}
-use Rattle.gu_journal.specs.Recovered.{Goes, Finds, Meets, MeetsNone}
-use Rattle.gu_journal.specs.Taking.{IsFault}
+use Rattle.gu_journal.specs.Places.{IsToldOf}
+use Rattle.gu_journal.specs.Recovered.{Goes, Finds, Meets}
 use Rattle.gu_journal.specs.declared.damage.RecoverError.{RecoverError}
 use Rattle.gu_journal.specs.declared.replay.Replay.{Replay}
-use Rattle.gu_journal.proofs.Going.{passed_on}
+use Rattle.gu_journal.proofs.Going.{passed_on, passed_both}
 use Rattle.gu_journal.specs.declared.file.Met.{Met}
-use Rattle.gu_journal.proofs.Looping.{goes_first, goes_taken, goes_filled, goes_shut, goes_none, goes_cut, reads_on}
+use Rattle.gu_journal.proofs.Looping.{goes_first, goes_taken, goes_filled, goes_shut, goes_held, reads_on}
+use Rattle.gu_journal.proofs.Reasons.{goes_told, goes_cut, untold}
 use Rattle.gu_journal.proofs.file.take_frames.Goals as goal
 
 pub frames-init : goal.frames-init
@@ -60,16 +60,19 @@ frames-smaller-in-Taken g c =
     omega (arith, at, len, m.0, m.1, length-drop c.in-Taken.len c.frames.window.bytes)
 
 -- what is there isn't taken
-pub returns-in_err-met-clause-fault : goal.returns-in_err-met-clause-fault
-returns-in_err-met-clause-fault g c =
-    let none : (e : RecoverError) → (IsFault e → MeetsNone c.args.pin.now.bytes c.frames.window.bytes c.frames.replay
-    c.frames.book) → IsFault e
-    → IsTrue (g.D.Disk.is_clean c.frames.disk) → HasNoFront c.args.book.now.house c.args.pin.now.bytes
-    (g.D.Disk.seen c.args.disk.now) = λ e told fault clean.
-    goes_none (g.D.Disk.seen c.args.disk.now) c.args.size c.args.book.now.house c.args.pin.now.bytes
-    (g.D.Disk.is_clean c.frames.disk) c.frames.window c.frames.replay c.frames.book
-    c.frames.invariant.goes clean (told fault) in
-    passed_on c.from_residual.result c.in_err-met.field-0.0 c.from_residual.ensures c.in_err-met.ensures.fault none
+pub returns-in_err-met-clause-cause : goal.returns-in_err-met-clause-cause
+returns-in_err-met-clause-cause g c =
+    passed_both c.from_residual.result c.in_err-met.field-0.0 c.from_residual.ensures c.in_err-met.ensures.place
+    c.in_err-met.ensures.cause
+    (goes_told (g.D.Disk.is_clean c.frames.disk) (g.D.Disk.seen c.args.disk.now) c.args.size c.args.book.now.house
+    c.args.pin.now.bytes c.frames.window c.frames.replay c.frames.book _ _ c.frames.invariant.goes (search rules)
+    (search rules))
+
+pub returns-in_err-fill-in-Begun-clause-cause : goal.returns-in_err-fill-in-Begun-clause-cause
+returns-in_err-fill-in-Begun-clause-cause g c =
+    passed_on _ c.in_err-fill-in-Begun.field-0.0 (search rules) c.in_err-fill-in-Begun.ensures.err
+    (untold (g.D.Disk.is_clean c.fill.new.disk) (g.D.Disk.seen c.args.disk.now) c.args.book.now.house
+    c.args.pin.now.bytes)
 
 -- the shut gate
 pub returns-in-Shut-clause-finds : goal.returns-in-Shut-clause-finds
@@ -86,17 +89,22 @@ returns-in-Shut-clause-finds g c =
     (g.D.Disk.seen c.args.disk.now) c.args.book.now.house c.args.pin.now.bytes c.frames.window.at r c.frames.book)
     (sym m.1) f)
 
+pub returns-in-Shut-clause-held : goal.returns-in-Shut-clause-held
+returns-in-Shut-clause-held g c clean =
+    goes_held (g.D.Disk.seen c.args.disk.now) c.args.size c.args.book.now.house c.args.pin.now.bytes
+    (g.D.Disk.is_clean c.frames.disk) c.frames.window c.frames.replay c.frames.book c.frames.invariant.goes clean
+
 -- the file ends where a frame only begins
-pub returns-then-at-len-clause-fault : goal.returns-then-at-len-clause-fault
-returns-then-at-len-clause-fault g c fault clean =
+pub returns-then-at-len-clause-cause : goal.returns-then-at-len-clause-cause
+returns-then-at-len-clause-cause g c told =
     let m = subst (λ (x : Met). Meets c.args.pin.now.bytes c.frames.window.bytes c.frames.replay c.frames.book
     c.take_front.new.replay c.take_front.new.book x) c.in-Begun.is c.in_ok-met.ensures.meets in
-    let all : c.args.size ≡ length (g.D.Disk.seen c.args.disk.now) =
-    c.requires.size (c.frames.invariant.reads.clean clean) in
-    let ended : c.args.size ≤ end_of c.frames.window = search rules in
-    goes_cut (g.D.Disk.seen c.args.disk.now) c.args.size c.args.book.now.house c.args.pin.now.bytes
-    (g.D.Disk.is_clean c.frames.disk) c.frames.window c.frames.replay c.frames.book
-    c.frames.invariant.goes clean all ended m.0
+    subst (λ (e : RecoverError). IsToldOf (g.D.Disk.is_clean c.frames.disk) (g.D.Disk.seen c.args.disk.now)
+    c.args.book.now.house c.args.pin.now.bytes e) (sym c.damaged.ensures)
+    (goes_cut (g.D.Disk.is_clean c.frames.disk) (g.D.Disk.seen c.args.disk.now) c.args.size c.args.book.now.house
+    c.args.pin.now.bytes c.frames.window c.frames.replay c.frames.book _ c.frames.invariant.goes
+    (λ clean. c.requires.size (c.frames.invariant.reads.clean clean)) (search rules) m.0 (search rules) (search rules)
+    refl)
 
 -- a piece more was read
 pub frames-preserved : goal.frames-preserved

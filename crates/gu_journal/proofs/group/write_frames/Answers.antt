@@ -1,7 +1,7 @@
 use Rattle.std.proofs.Common.{◌≡◌, ◌+◌, ◌≤◌, [], ◌∷◌, ◌++◌, List, ℕ, length, sym, ap, subst, ◌∙◌, arith, rules}
 use Rattle.std.proofs.Common.{inl, inr}
-use Rattle.sha2.specs.Hashers.{Holds256}
-use Rattle.sha2.specs.declared.Sha256.{Sha256}
+use Rattle.sha2.specs.Hashers.{Holds512}
+use Rattle.sha2.specs.declared.Sha512.{Sha512}
 use Rattle.gu_codec.specs.Writing.{message_text}
 use Rattle.gu_journal.specs.Causes.{IsStopped}
 use Rattle.gu_journal.specs.Groups.{entry_frames}
@@ -27,7 +27,7 @@ returns-clause-group c =
     (c.as_slice.ensures.value ∙ c.in_ok-write_entries.ensures.text
     ∙ ap (λ (l : List ℕ). l ++ entry_frames house c.args.moment.now n es) c.clear.ensures.items)
     c.update.ensures
-    (λ m h. c.finalize-digest.ensures m (subst (λ (s : Sha256). Holds256 s m) cloned h))
+    (λ m h. c.finalize-digest.ensures m (subst (λ (s : Sha512). Holds512 s m) cloned h))
     (c.in_ok-write_seal.ensures.ok
     ∙ ap (λ (l : List ℕ). l ++ message_text (seal_with house c.args.moment.now
     (n + length es) c.finalize-digest.result))
@@ -46,7 +46,7 @@ returns-in_err-write_entries-clause-cause c =
     let moment = c.args.moment.now in
     let n = c.args.first.number in
     let es = c.args.entries.now in
-    let told : (e : JournalError) → ((len : ℕ) (hasher : Sha256) → IsStopped house moment len hasher n es e) → (len : ℕ)
+    let told : (e : JournalError) → ((len : ℕ) (hasher : Sha512) → IsStopped house moment len hasher n es e) → (len : ℕ)
     → IsStopped house moment len c.args.hasher.now n es e = λ e is len. is len c.args.hasher.now in
     passed_on c.from_residual.result c.in_err-write_entries.field-0.0 c.from_residual.ensures
     c.in_err-write_entries.ensures.cause told

@@ -15,7 +15,7 @@ five o p q r s t =
 
 pub returns-clause-items : goal.returns-clause-items
 returns-clause-items c =
-    let digits = c.hex_digits-digits.result in
+    let digits = c.house_digits-digits.result in
     let two = c.append_field-2.ensures.items ∙ ap (λ (l : List ℕ).
     l ++ field 108 (codes "0")) c.append_field.ensures.items in
     let three = c.append_field-3.ensures.items ∙ ap (λ (l : List ℕ). l ++ field 1137 (codes "9")) two in
@@ -25,4 +25,4 @@ returns-clause-items c =
     (field 1408 form) (field 58 digits)
     ∙ ap (λ (d : List ℕ). c.args.out.now.items ++ (field 98 (codes "0") ++
     (field 108 (codes "0") ++ (field 1137 (codes "9") ++ (field 1408 form ++ (field 58 d ++ []))))))
-    c.hex_digits-digits.ensures
+    c.house_digits-digits.ensures

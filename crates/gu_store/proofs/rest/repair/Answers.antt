@@ -1,4 +1,4 @@
-use Rattle.std.proofs.Common.{◌≡◌, ◌∙◌}
+use Rattle.std.proofs.Common.{◌∙◌}
 use Rattle.std.specs.Prelude.{Result, Ok, Err, OnOk}
 use Rattle.gu_store.proofs.Steps.{from_one, cutting, cut_done}
 use Rattle.gu_store.proofs.rest.repair.Goals as goal

@@ -53,6 +53,7 @@ returns-in_err-hasher-clause-cause g c t pin h k =
     let told : (e : JournalError)
     → IsStopped j.house c.args.moment.now (staged_end_of j.store) j.hasher j.next es e
     → IsCause t.house c.args.moment.now k.bytes h es failed e =
-    cause_of j.house t.house c.args.moment.now k.bytes h es failed (staged_end_of j.store) j.next j.hasher k.house k.next
-    (c.requires.idle ∙ k.file.end) k.hashed in
-    passed_on c.from_residual.result c.in_err-hasher.field-0.0 c.from_residual.ensures c.in_err-hasher.ensures.cause told
+    cause_of j.house t.house c.args.moment.now k.bytes h es failed (staged_end_of j.store) j.next j.hasher k.house
+    k.next (c.requires.idle ∙ k.file.end) k.hashed in
+    passed_on c.from_residual.result c.in_err-hasher.field-0.0 c.from_residual.ensures c.in_err-hasher.ensures.cause
+    told

@@ -71,6 +71,7 @@ returns-in_err-hasher-clause-cause g c t pin h new s =
     let told : (e : JournalError)
     → IsStopped j.house c.args.moment.now (staged_end_of j.store) j.hasher j.next es e
     → IsCause t.house c.args.moment.now bytes new es failed e =
-    cause_of j.house t.house c.args.moment.now bytes new es failed (staged_end_of j.store) j.next j.hasher s.house s.next
-    (opened_len s.bytes s.group (staged_end_of j.store) s.file.is_group s.file.staged_end) s.hashed in
-    passed_on c.from_residual.result c.in_err-hasher.field-0.0 c.from_residual.ensures c.in_err-hasher.ensures.cause told
+    cause_of j.house t.house c.args.moment.now bytes new es failed (staged_end_of j.store) j.next j.hasher s.house
+    s.next (opened_len s.bytes s.group (staged_end_of j.store) s.file.is_group s.file.staged_end) s.hashed in
+    passed_on c.from_residual.result c.in_err-hasher.field-0.0 c.from_residual.ensures c.in_err-hasher.ensures.cause
+    told

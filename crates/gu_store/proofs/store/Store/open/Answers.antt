@@ -1,4 +1,4 @@
-use Rattle.std.proofs.Common.{◌≡◌, ◌<◌, ◌+◌, ◌^◌, ◌∙◌, sym, arith}
+use Rattle.std.proofs.Common.{◌<◌, ◌+◌, ◌^◌, ◌∙◌, sym, arith}
 use Rattle.gu_store.proofs.Groups.{group_len, counts, counts_len}
 use Rattle.gu_store.proofs.Steps.{from_one, opening, opened, mixing_open}
 use Rattle.gu_store.proofs.store.Store.open.Goals as goal
