@@ -1,13 +1,21 @@
-//! The program `allocd`: the allocation and give-up service of a clearing house, on its command line.
+//! The program `allocd`: the allocation and give-up service of a clearing house, on its command
+//! line.
 //!
-//! It reads its words, does what they ask for (`gu_server::run`), and tells a fault on standard error, with its status:
-//! 0 where all went well, 2 where the command line isn't one that the program knows, else 1. `docs/operations.md` says
-//! how it is run.
+//! It reads its words, does what they ask for (`gu_server::run`), and tells a fault on standard
+//! error, with its status: 0 where all went well, 2 where the command line isn't one that the
+//! program knows, else 1. `docs/operations.md` says how it is run.
 #![tactic(auto)]
 
-use gu_server::{Counted, Fault, SystemFiles, SystemJournals, Wary, run, unread_words};
+use gu_server::{
+    Counted, Fault, RunError, SystemFiles, SystemJournals, VERSION, Wary, run, unread_words,
+};
+use std::alloc::Global;
+use std::io::Eprint;
 use std::process::ExitCode;
-use std::{env, io};
+use std::sync::Wait;
+use std::thread::Threads;
+use std::time::{Clock, Duration};
+use std::{env, io, thread};
 
 /// The words after the program's name.
 fn words(rt: &HostRuntime) -> Result<Vec<String>, Fault> {
@@ -22,16 +30,71 @@ fn words(rt: &HostRuntime) -> Result<Vec<String>, Fault> {
     Ok(words)
 }
 
+/// Whether the words are `keep --version`.
+fn asks_for_version(words: &[String]) -> bool {
+    if words.len() != 2 {
+        return false;
+    }
+    words[0].as_str() == "keep" && words[1].as_str() == "--version"
+}
+
+/// Writes the version on standard output.
+fn tell_version(rt: &HostRuntime) -> Result<(), Fault> {
+    match println!(rt; "allocd, {VERSION}") {
+        Ok(()) => Ok(()),
+        Err(_) => Err(Fault::Run(RunError::Write)),
+    }
+}
+
+/// Writes a text on standard error. Who reads that has a second for it. False where nothing was
+/// begun.
+fn told_beside<R: Threads + Wait + Clock + Eprint + Copy + Send + 'static>(
+    rt: &R,
+    alloc: Global,
+    text: String,
+) -> bool {
+    let Ok((done, told)) = crossbeam_channel::bounded::<(), Global>(alloc, 1) else {
+        return false;
+    };
+    let there = *rt;
+    let teller = thread::spawn(rt, move || {
+        let _ = there.eprintln(&text);
+        let _ = done.send(&there, ());
+    });
+    if teller.is_err() {
+        return false;
+    }
+    let _ = told.recv_timeout(rt, Duration::from_secs(1));
+    true
+}
+
+/// Tells a fault on standard error. A server that keeps a book ends though nobody reads it.
+fn tell<R: Threads + Wait + Clock + Eprint + Copy + Send + 'static>(
+    rt: &R,
+    alloc: Global,
+    fault: &Fault,
+) {
+    if let Fault::Journal(_) | Fault::Keep(_) = fault {
+        if let Ok(text) = format!(in alloc; "{fault}") {
+            if told_beside(rt, alloc, text) {
+                return;
+            }
+        }
+    }
+    let _ = rt.eprintln(fault);
+}
+
 fn main(rt: HostRuntime) -> ExitCode {
     let files = SystemFiles::new(&rt);
     let mut reader = Counted::new(rt.reader());
     let mut writer = Counted::new(io::writer(&rt));
     let done = match words(&rt) {
+        Ok(words) if asks_for_version(words.as_slice()) => tell_version(&rt),
         Ok(words) => run(
             &rt,
             rt.alloc(),
             &files,
-            SystemJournals::new(&rt, Wary),
+            SystemJournals::new(rt, Wary),
             &mut reader,
             &mut writer,
             words.as_slice(),
@@ -41,7 +104,7 @@ fn main(rt: HostRuntime) -> ExitCode {
     match done {
         Ok(()) => ExitCode::SUCCESS,
         Err(fault) => {
-            let _ = rt.eprintln(&fault);
+            tell(&rt, rt.alloc(), &fault);
             ExitCode::from(fault.status())
         }
     }

@@ -1,6 +1,5 @@
--- What was done where a run ended with an error, where a trace was run, and where firms were served.
+-- What was done where a trace was run, and where firms were served.
 use Rattle.std.proofs.Common.{◌≡◌, ℕ, inl, inr, List, Option, Some, Result, Ok, Err, codes, refl, ap, ◌∙◌}
-use Rattle.std.specs.Prelude.{IsErrAnd}
 use Rattle.clap.specs.Words.{Text}
 use Rattle.gu_base.specs.House.{House}
 use Rattle.gu_batch.specs.Runs.{Told}
@@ -12,31 +11,38 @@ use Rattle.gu_server.specs.Program.{Names, Asks, Serves, HasDone, Does}
 use Rattle.gu_server.specs.declared.fault.Fault.{Fault}
 use Rattle.gu_server.specs.declared.fault.Fault.TheVariants as fault
 
--- a run ended with an error, which the fault tells
-pub ended : {A : Type 0} (words : List Text) (bytes_at : Text → Option (List ℕ)) (old new : Told) (error : RunError) (r : Result A Fault)
-    → IsErrAnd r (λ e. e ≡ fault.Run error) → HasDone {A = A} words bytes_at old new (Err error) → Does words bytes_at old new r
-ended words bytes_at old new error (Ok x) told done = absurd told
-ended words bytes_at old new error (Err e) told done = inr (error, told, done)
-
 -- the words' house file has a house table, by which a trace was run
-pub traced : {A : Type 0} (words : List Text) (bytes_at : Text → Option (List ℕ)) (path : Text) (trade : Option ℕ) (house : House) (old new : Told) (r : Result A RunError)
-    → command_in words ≡ Some (codes "trace") → house_in words ≡ Some path → trade_meant (trade_in words) ≡ Some trade → Names (bytes_at path) (Ok house)
+pub traced : {A : Type 0} (words : List Text) (bytes_at : Text → Option (List ℕ)) (path : Text) (trade : Option ℕ)
+    (house : House) (old new : Told) (r : Result A RunError) → command_in words ≡ Some (codes "trace")
+    → house_in words ≡ Some path → trade_meant (trade_in words) ≡ Some trade → Names (bytes_at path) (Ok house)
     → Traces house trade old new r → HasDone words bytes_at old new r
 traced words bytes_at path trade house old new r is asked meant named traces =
-    inr (inl (record { by = record { path = path; is = is; asked = asked; house = house; named = named }; trade = trade; meant = meant; traces = traces }))
+    inr (inl (record {
+      by = record { path = path; is = is; asked = asked; house = house; named = named };
+      trade = trade;
+      meant = meant;
+      traces = traces;
+    }))
 
 -- what a reader and a writer tell
 abbrev tells : Option (List ℕ) → ℕ → ℕ → Option (List ℕ) → ℕ → Told
-tells left made failed contents writes_failed = record { left = left; made = made; reads_failed = failed; contents = contents; writes_failed = writes_failed }
+tells left made failed contents writes_failed =
+    record { left = left; made = made; reads_failed = failed; contents = contents; writes_failed = writes_failed }
 
 -- the words ask for a server, and firms were served by the house table that they name
-pub served_by : (words : List Text) (bytes_at : Text → Option (List ℕ)) (l : Option (List ℕ)) (x f : ℕ) (b c : Option (List ℕ)) (v w : ℕ) (r : Result (Unit {0}) Fault)
-    → (by : Asks (codes "serve") words bytes_at) → Serves by.house b c v w r → Does words bytes_at (tells l x f b v) (tells l x f c w) r
+pub served_by : (words : List Text) (bytes_at : Text → Option (List ℕ)) (l : Option (List ℕ)) (x f : ℕ)
+    (b c : Option (List ℕ)) (v w : ℕ) (r : Result (Unit {0}) Fault) → (by : Asks (codes "serve") words bytes_at)
+    → Serves by.house b c v w r → Does words bytes_at (tells l x f b v) (tells l x f c w) r
 served_by words bytes_at l x f b c v w (Ok done) by (book, served, totals) =
     inr (inr (inl (record { by = by; book = book; served = served; unread = (refl, refl, refl); totals = totals })))
-served_by words bytes_at l x f b c v w (Err (fault.Service e)) by (same, never) = inl (by, ap (λ y. tells l x f y w) same ∙ ap (λ y. tells l x f b y) never)
+served_by words bytes_at l x f b c v w (Err (fault.Service e)) by (same, never) =
+    inl (by, ap (λ y. tells l x f y w) same ∙ ap (λ y. tells l x f b y) never)
 served_by words bytes_at l x f b c v w (Err (fault.Run e)) by (book, served, totals) =
-    inr (e, refl, inr (inr (inl (record { by = by; book = book; served = served; unread = (refl, refl, refl); totals = totals }))))
+    inr (
+      e,
+      refl,
+      inr (inr (inl (record { by = by; book = book; served = served; unread = (refl, refl, refl); totals = totals }))),
+    )
 served_by words bytes_at l x f b c v w (Err (fault.Journal t)) by h = absurd h
 served_by words bytes_at l x f b c v w (Err (fault.Keep e)) by h = absurd h
 served_by words bytes_at l x f b c v w (Err (fault.Usage t)) by h = absurd h
@@ -45,8 +51,8 @@ served_by words bytes_at l x f b c v w (Err (fault.HouseLine e)) by h = absurd h
 
 -- the words ask to keep a book, and firms were served by the house table that they name
 pub kept_by : (words : List Text) (bytes_at : Text → Option (List ℕ)) (l : Option (List ℕ)) (x f : ℕ)
-    (b c : Option (List ℕ)) (v w : ℕ) (r : Result (Unit {0}) Fault) → (by : Asks (codes "keep") words bytes_at) → Keeps by.house b c v w r
-    → Does words bytes_at (tells l x f b v) (tells l x f c w) r
+    (b c : Option (List ℕ)) (v w : ℕ) (r : Result (Unit {0}) Fault) → (by : Asks (codes "keep") words bytes_at)
+    → Keeps by.house b c v w r → Does words bytes_at (tells l x f b v) (tells l x f c w) r
 kept_by words bytes_at l x f b c v w (Ok done) by (book, served, totals) =
     inr (inr (inr (record { by = by; book = book; served = served; unread = (refl, refl, refl); totals = totals })))
 kept_by words bytes_at l x f b c v w (Err (fault.Journal t)) by (same, never) =

@@ -1,5 +1,6 @@
 -- House files: which bytes are read of one, and why it isn't read.
-use Rattle.std.specs.Prelude.{◌≡◌, ℕ, ◌+◌, ◌<◌, ◌≤◌, ◌⊎◌, List, length, Option, IfSome, Result, Ok, Err}
+use Rattle.std.specs.Prelude.{◌≡◌, ℕ, ◌+◌, ◌<◌, ◌≤◌, ◌⊎◌, List, length, Option, IfSome, Result, Ok}
+use Rattle.std.specs.Prelude.{Err}
 use Rattle.std.specs.Io.KnownBytes.{Consumes, IsAtEnd}
 use Rattle.gu_batch.specs.Counts.{Fails}
 use Rattle.gu_batch.specs.declared.batch.RunError.TheVariants.{Memory}
@@ -28,14 +29,18 @@ Reads known text (Err e) = IsUnread known e
 -- ---- of a reader
 
 -- these bytes were taken of a reader: they were all and are the text, or why they aren't
-abbrev pub IsRead : {A : Type 0} → List ℕ → Option (List ℕ) → ℕ → ℕ → List ℕ → Result A Fault → Type 0
+abbrev pub IsRead : {A : Type 0} → List ℕ → Option (List ℕ) → ℕ → ℕ → List ℕ → Result A Fault
+    → Type 0
 IsRead bytes left failed_before failed text (Ok x) = (text ≡ bytes) × IsAtEnd left
-IsRead bytes left failed_before failed text (Err HouseFile) = Fails failed_before failed ⊎ (most_bytes < length bytes)
+IsRead bytes left failed_before failed text (Err HouseFile) =
+    Fails failed_before failed ⊎ (most_bytes < length bytes)
 IsRead bytes left failed_before failed text (Err (Run Memory)) = Unit {0}
 IsRead bytes left failed_before failed text (Err _) = ⊥
 
--- the reader was read to its end, or why it wasn't; of a longer one no more than a read was taken beyond the bound
-pub record ReadsAll {A : Type 0} (old new : Option (List ℕ)) (failed_before failed : ℕ) (text : List ℕ) (result : Result A Fault) : Type 0 where
+-- the reader was read to its end, or why it wasn't; of a longer one no more than a read was taken
+-- beyond the bound
+pub record ReadsAll {A : Type 0} (old new : Option (List ℕ)) (failed_before failed : ℕ)
+    (text : List ℕ) (result : Result A Fault) : Type 0 where
   pub bytes : List ℕ
   pub consumed : Consumes old new bytes
   pub few : length bytes ≤ most_bytes + longest_read

@@ -1,4 +1,5 @@
--- What the program does: which house file it reads, what it does to its reader and its writer, and in which order faults are found.
+-- What the program does: which house file it reads, what it does to its reader and its writer, and
+-- in which order faults are found.
 use Rattle.std.specs.Prelude.{◌≡◌, ℕ, ◌⊎◌, codes, List, Option, Some, Result, Ok, Err}
 use Rattle.clap.specs.Words.{Text}
 use Rattle.gu_base.specs.House.{House}
@@ -13,7 +14,8 @@ use Rattle.gu_parties.specs.declared.fault.HouseError.{HouseError}
 use Rattle.gu_server.specs.HouseText.{IsTextOf, IsTooLong}
 use Rattle.gu_server.specs.Lines.{command_in, house_in, trade_in, trade_meant}
 use Rattle.gu_server.specs.declared.fault.Fault.{Fault}
-use Rattle.gu_server.specs.declared.fault.Fault.TheVariants.{Usage, HouseFile, HouseLine, Service, Journal, Keep, Run}
+use Rattle.gu_server.specs.declared.fault.Fault.TheVariants.{Usage, HouseFile, HouseLine, Service}
+use Rattle.gu_server.specs.declared.fault.Fault.TheVariants.{Journal, Keep, Run}
 
 -- the text of the file with these bytes names this house table, or has this fault
 abbrev pub Names : Option (List ℕ) → Result House HouseError → Type 0
@@ -31,29 +33,35 @@ ReadsHouse known (Ok house) = Names known (Ok house)
 ReadsHouse known (Err e) = IsHouseFault known e
 
 -- the words are those of this command, and the house file that they name has a house table
-pub record Asks (command : Text) (words : List Text) (bytes_at : Text → Option (List ℕ)) : Type 0 where
+pub record Asks (command : Text) (words : List Text) (bytes_at : Text → Option (List ℕ))
+    : Type 0 where
   pub path : Text
   pub is : command_in words ≡ Some command
   pub asked : house_in words ≡ Some path
   pub house : House
   pub named : Names (bytes_at path) (Ok house)
 
--- why nothing was read and nothing written: the command line, the house file that it names, or the server
+-- why nothing was read and nothing written: the command line, the house file that it names, or the
+-- server
 abbrev pub Stops : List Text → (Text → Option (List ℕ)) → Fault → Type 0
 Stops words bytes_at (Usage text) = Unit {0}
 Stops words bytes_at (Run Memory) = Unit {0}
 Stops words bytes_at (Service error) = Asks (codes "serve") words bytes_at
 Stops words bytes_at (Journal text) = Asks (codes "keep") words bytes_at
 Stops words bytes_at (Keep error) = Asks (codes "keep") words bytes_at
-Stops words bytes_at e = (path : Text) × (house_in words ≡ Some path) × IsHouseFault (bytes_at path) e
+Stops words bytes_at e =
+    (path : Text) × (house_in words ≡ Some path) × IsHouseFault (bytes_at path) e
 
 -- a batch was run, by the house table that the house file of the words names
-pub record HasRun {A : Type 0} (words : List Text) (bytes_at : Text → Option (List ℕ)) (old new : Told) (result : Result A RunError) : Type 0 where
+pub record HasRun {A : Type 0} (words : List Text) (bytes_at : Text → Option (List ℕ))
+    (old new : Told) (result : Result A RunError) : Type 0 where
   pub by : Asks (codes "batch") words bytes_at
   pub runs : Runs by.house old new result
 
--- a trace was run, by the house table that the house file of the words names, for the trade that they name
-pub record HasTraced {A : Type 0} (words : List Text) (bytes_at : Text → Option (List ℕ)) (old new : Told) (result : Result A RunError) : Type 0 where
+-- a trace was run, by the house table that the house file of the words names, for the trade that
+-- they name
+pub record HasTraced {A : Type 0} (words : List Text) (bytes_at : Text → Option (List ℕ))
+    (old new : Told) (result : Result A RunError) : Type 0 where
   pub by : Asks (codes "trace") words bytes_at
   pub trade : Option ℕ
   pub meant : trade_meant (trade_in words) ≡ Some trade
@@ -66,39 +74,56 @@ abbrev pub IsServed : House → HouseAndHistory → Type 0
 IsServed house b = (b.house ≡ house) × IsRunFrom house (opening_history house) b.history
 
 -- a server ended without a book, and nothing was written, or the totals of its book were
-abbrev pub Serves : {A : Type 0} → House → Option (List ℕ) → Option (List ℕ) → ℕ → ℕ → Result A Fault → Type 0
-Serves {A} house old new failed_before failed (Ok x) = (book : HouseAndHistory) × IsServed house book × WritesTotals {A = A} book.house book.history old new failed_before failed (Ok x)
-Serves {A} house old new failed_before failed (Err (Service error)) = (new ≡ old) × (failed ≡ failed_before)
-Serves {A} house old new failed_before failed (Err (Run error)) = (book : HouseAndHistory) × IsServed house book × WritesTotals {A = A} book.house book.history old new failed_before failed (Err error)
+abbrev pub Serves : {A : Type 0} → House → Option (List ℕ) → Option (List ℕ) → ℕ → ℕ
+    → Result A Fault → Type 0
+Serves {A} house old new failed_before failed (Ok x) =
+    (book : HouseAndHistory) × IsServed house book
+    × WritesTotals {A = A} book.house book.history old new failed_before failed (Ok x)
+Serves {A} house old new failed_before failed (Err (Service error)) =
+    (new ≡ old) × (failed ≡ failed_before)
+Serves {A} house old new failed_before failed (Err (Run error)) =
+    (book : HouseAndHistory) × IsServed house book
+    × WritesTotals {A = A} book.house book.history old new failed_before failed (Err error)
 Serves {A} house old new failed_before failed (Err _) = ⊥
 
--- connections were served, by the house table that the house file of the words names, and the totals of the book behind them were written
-pub record HasServed {A : Type 0} (words : List Text) (bytes_at : Text → Option (List ℕ)) (old new : Told) (result : Result A RunError) : Type 0 where
+-- connections were served, by the house table that the house file of the words names, and the
+-- totals of the book behind them were written
+pub record HasServed {A : Type 0} (words : List Text) (bytes_at : Text → Option (List ℕ))
+    (old new : Told) (result : Result A RunError) : Type 0 where
   pub by : Asks (codes "serve") words bytes_at
   pub book : HouseAndHistory
   pub served : IsServed by.house book
   pub unread : (new.left ≡ old.left) × (new.made ≡ old.made) × (new.reads_failed ≡ old.reads_failed)
-  pub totals : WritesTotals book.house book.history old.contents new.contents old.writes_failed new.writes_failed result
+  pub totals : WritesTotals book.house book.history old.contents new.contents old.writes_failed
+      new.writes_failed result
 
 -- the same of a book that the journal of the words keeps
-pub record HasKept {A : Type 0} (words : List Text) (bytes_at : Text → Option (List ℕ)) (old new : Told) (result : Result A RunError) : Type 0 where
+pub record HasKept {A : Type 0} (words : List Text) (bytes_at : Text → Option (List ℕ))
+    (old new : Told) (result : Result A RunError) : Type 0 where
   pub by : Asks (codes "keep") words bytes_at
   pub book : HouseAndHistory
   pub served : IsServed by.house book
   pub unread : (new.left ≡ old.left) × (new.made ≡ old.made) × (new.reads_failed ≡ old.reads_failed)
-  pub totals : WritesTotals book.house book.history old.contents new.contents old.writes_failed new.writes_failed result
+  pub totals : WritesTotals book.house book.history old.contents new.contents old.writes_failed
+      new.writes_failed result
 
 -- ---- the program
 
 -- what the words ask for was done
-abbrev pub HasDone : {A : Type 0} → List Text → (Text → Option (List ℕ)) → Told → Told → Result A RunError → Type 0
-HasDone words bytes_at old new result = HasRun words bytes_at old new result ⊎ HasTraced words bytes_at old new result
+abbrev pub HasDone : {A : Type 0} → List Text → (Text → Option (List ℕ)) → Told → Told
+    → Result A RunError → Type 0
+HasDone words bytes_at old new result =
+    HasRun words bytes_at old new result ⊎ HasTraced words bytes_at old new result
     ⊎ HasServed words bytes_at old new result ⊎ HasKept words bytes_at old new result
 
--- a batch, a trace or a server was run to its end, or nothing was touched, or the run ended with an error
-abbrev pub Does : {A : Type 0} → List Text → (Text → Option (List ℕ)) → Told → Told → Result A Fault → Type 0
+-- a batch, a trace or a server was run to its end, or nothing was touched, or the run ended with an
+-- error
+abbrev pub Does : {A : Type 0} → List Text → (Text → Option (List ℕ)) → Told → Told → Result A Fault
+    → Type 0
 Does {A} words bytes_at old new (Ok x) = HasDone {A = A} words bytes_at old new (Ok x)
-Does {A} words bytes_at old new (Err e) = (Stops words bytes_at e × (new ≡ old)) ⊎ ((error : RunError) × (e ≡ Run error) × HasDone {A = A} words bytes_at old new (Err error))
+Does {A} words bytes_at old new (Err e) =
+    (Stops words bytes_at e × (new ≡ old))
+    ⊎ ((error : RunError) × (e ≡ Run error) × HasDone {A = A} words bytes_at old new (Err error))
 
 -- the command line isn't at fault
 abbrev pub IsUnderstood : Fault → Type 0

@@ -31,7 +31,8 @@ fn after_numbered(number: u32) -> AfterFault
     ensures { result ≡ numbered number }
 {
     match number {
-        // EINTR, ENONET, EPROTO, ENOPROTOOPT, EOPNOTSUPP, ENETDOWN, ENETUNREACH, ECONNABORTED, EHOSTDOWN, EHOSTUNREACH
+        // EINTR, ENONET, EPROTO, ENOPROTOOPT, EOPNOTSUPP, ENETDOWN, ENETUNREACH, ECONNABORTED,
+        // EHOSTDOWN, EHOSTUNREACH
         4 | 64 | 71 | 92 | 95 | 100 | 101 | 103 | 112 | 113 => AfterFault::AsksAgain,
         // ENOMEM, ENFILE, EMFILE, ENOBUFS
         12 | 23 | 24 | 105 => AfterFault::Waits,
@@ -39,7 +40,8 @@ fn after_numbered(number: u32) -> AfterFault
     }
 }
 
-/// What a server does behind a fault of accept: it asks again where accept(2) says so, waits where descriptors or buffers lack, and else ends.
+/// What a server does behind a fault of accept: it asks again where accept(2) says so, waits where
+/// descriptors or buffers lack, and else ends.
 pub(crate) fn after_fault(code: Option<i32>) -> AfterFault
     ensures { result ≡ outcome_of code }
 {
@@ -49,7 +51,8 @@ pub(crate) fn after_fault(code: Option<i32>) -> AfterFault
     }
 }
 
-/// Accepts the next connection, and hands it to the workers, for whom it may wait. A fault that passes is passed over.
+/// Accepts the next connection, and hands it to the workers, for whom it may wait. A fault that
+/// passes is passed over.
 fn accept<R: Wait + Clock>(
     rt: &R,
     listener: &TcpListener,

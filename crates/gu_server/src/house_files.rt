@@ -20,17 +20,20 @@ pub trait HouseFiles {
     /// The bytes of the file at a path, where it is known that they can be read.
     ghost bytes_at: { Self → List ℕ → Option (List ℕ) };
 
-    /// Reads the file at a path into an empty list. The fault is `HouseFile` where it isn't there, can't be read to its end or is longer
-    /// than 16,777,216 bytes, and want of memory where a growth was refused.
+    /// Reads the file at a path into an empty list. The fault is `HouseFile` where it isn't there,
+    /// can't be read to its end or is longer than 16,777,216 bytes, and want of memory where a
+    /// growth was refused.
     fn read(&self, path: &str, text: &mut Vec<u8>) -> Result<(), Fault>
         requires { text.old.items ≡ [] }
         ensures { Reads (bytes_at self.now path.now) text.new.items result };
 }
 
-/// Reads a file to its end into an empty list. Of a file that is longer than 16 MiB no more than a read is taken beyond them.
+/// Reads a file to its end into an empty list. Of a file that is longer than 16 MiB no more than a
+/// read is taken beyond them.
 fn read_all<R: Source>(file: &mut R, text: &mut Vec<u8>) -> Result<(), Fault>
     requires { text.old.items ≡ [] }
-    ensures { ReadsAll (R.remaining file.old) (R.remaining file.new) (R.failed file.old) (R.failed file.new) text.new.items result }
+    ensures { ReadsAll (R.remaining file.old) (R.remaining file.new) (R.failed file.old)
+        (R.failed file.new) text.new.items result }
 {
     let mut buf = [0; LONGEST_READ];
     'reads: loop {

@@ -3,18 +3,28 @@
 
 mod accepting;
 mod bells;
+pub(crate) mod board;
 mod client;
 mod clients;
 pub(crate) mod filed;
+mod first_message;
 mod journals;
 mod keeper;
+mod log;
 mod outbox;
+mod pages;
 pub(crate) mod recorder;
+pub(crate) mod replica;
 mod running;
+mod saying;
 mod starting;
 mod system;
+pub(crate) mod tallies;
+mod telling;
+mod visit;
+mod watch;
 
 pub use journals::{Journals, Record, RecordError};
 pub use running::KeepError;
-pub(crate) use starting::{Request, keep_port};
 pub use system::SystemJournals;
+pub(crate) use watch::{Order, keep_watched};

@@ -6,6 +6,7 @@ ghost use Rattle.gu_desk.specs.Begins.{BeginsWith};
 ghost use Rattle.gu_desk.specs.Runs.{IsRunOf};
 
 use crate::accepting::accept_all;
+use crate::keep::tallies::Tallies;
 use crate::worker::Worker;
 use crossbeam_channel::Receiver;
 use gu_book::Book;
@@ -34,12 +35,12 @@ pub enum ServeError {
     Memory,
 }
 
-/// How many accepted connections wait for a worker, beside the one in hand. The others wait in the system's queue, so that what a server
-/// keeps open is bounded by its workers.
+/// How many accepted connections wait for a worker, beside the one in hand. The others wait in the
+/// system's queue, so that what a server keeps open is bounded by its workers.
 const WAITING: usize = 1;
 
 /// How long a connection may be without an accepted Logon, in seconds.
-const LOGON_WAIT: u64 = 30;
+pub(crate) const LOGON_WAIT: u64 = 30;
 
 /// How much a server does.
 #[derive(Clone, Copy)]
@@ -80,7 +81,8 @@ fn join_all<J: Job, R: Threads>(
     Ok(seats)
 }
 
-/// Starts a worker for each seat, as this one but for its number, accepts the connections, and joins the workers. Gives the seats back.
+/// Starts a worker for each seat, as this one but for its number, accepts the connections, and
+/// joins the workers. Gives the seats back.
 fn run_workers<J: Job + Send + Sync, R: Threads + Wait + Clock + Sync, G: Gate + Sync>(
     first: Worker<'_, J, R, G>,
     listener: &TcpListener,
@@ -90,7 +92,8 @@ fn run_workers<J: Job + Send + Sync, R: Threads + Wait + Clock + Sync, G: Gate +
     let Ok((to, from)) = crossbeam_channel::bounded(first.alloc, WAITING) else {
         return Err(ServeError::Memory);
     };
-    // Whatever ends the scope, the channel is closed then, and the workers end with their connections.
+    // Whatever ends the scope, the channel is closed then, and the workers end with their
+    // connections.
     thread::scope(thread::scope_env(), first.rt, move |scope| {
         let mut handles: Vec<JoinHandle<Seat<J>>> = Vec::new(first.alloc);
         let mut number = 0u32;
@@ -136,12 +139,14 @@ fn run_desk<J: Job + Send + Sync, R: Threads + Wait + Clock + Sync, G: Gate + Sy
             return Err(ServeError::Memory);
         }
     };
+    let tallies = Tallies::none(alloc, house.house());
     let first = Worker {
         rt,
         alloc,
         desk: &desk,
         house,
         gate,
+        tallies: &tallies,
         logon_wait: limits.logon_wait,
         number: 0,
     };
@@ -187,8 +192,9 @@ pub(crate) fn prepare(
     }
 }
 
-/// Serves within these limits, by workers that share the book. Gives the book back when all connections have ended. One that has no accepted
-/// Logon in time is ended, and nothing is sent to it.
+/// Serves within these limits, by workers that share the book. Gives the book back when all
+/// connections have ended. One that has no accepted Logon in time is ended, and nothing is sent to
+/// it.
 ///
 /// # Errors
 ///
@@ -205,12 +211,17 @@ pub fn serve_within<R: Threads + Wait + Clock + Sync, G: Gate + Sync>(
     ensures run { IfOk result (λ b. IsRunOf (stored book) (stored b)) }
     ensures begins { IfOk result (λ b. BeginsWith b.history book.history) }
 {
-    let (house, ground) = prepare(alloc, book, limits.workers)?;
-    run_desk::<Brand, R, G>(rt, alloc, listener, &house, ground, limits, gate)
+    let (house, ground) = match prepare(alloc, book, limits.workers) {
+        Ok(prepared) => prepared,
+        Err(error) => return Err(error),
+    };
+    let served = run_desk::<Brand, R, G>(rt, alloc, listener, &house, ground, limits, gate);
+    drop(house);
+    served
 }
 
-/// Serves so many connections, or with 0 connections without end, by 1 to 16 workers that share the book. Gives the book back when
-/// all have ended. A connection has 30 seconds for its Logon.
+/// Serves so many connections, or with 0 connections without end, by 1 to 16 workers that share the
+/// book. Gives the book back when all have ended. A connection has 30 seconds for its Logon.
 ///
 /// # Errors
 ///

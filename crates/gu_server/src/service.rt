@@ -10,6 +10,7 @@ use gu_book::{Book, HashKey};
 use gu_desk::Gate;
 use gu_parties::House;
 use std::alloc::Global;
+use std::io;
 use std::io::ErrorKind;
 use std::net::{Ipv4Addr, Net, TcpListener, TcpStream};
 use std::random::RandomSource;
@@ -39,37 +40,33 @@ impl Gate for Open {
     }
 }
 
-/// Listens on a port of 127.0.0.1.
-fn listen<R: Net<Stream = TcpStream, Listener = TcpListener>>(
-    rt: &R,
-    port: u16,
-) -> Result<TcpListener, ServiceError> {
-    match TcpListener::bind(rt, (Ipv4Addr::LOCALHOST, port)) {
+/// What listens on a port, or which of two faults it is that nothing does: want of memory, or one
+/// of the port.
+pub(crate) fn listening<L, E: Copy>(bound: io::Result<L>, memory: E, port: E) -> Result<L, E> {
+    match bound {
         Ok(listener) => Ok(listener),
-        Err(error) => match error.kind() {
-            ErrorKind::OutOfMemory => Err(ServiceError::Serve(ServeError::Memory)),
-            _ => Err(ServiceError::Listen),
-        },
+        Err(error) if error.kind() == ErrorKind::OutOfMemory => Err(memory),
+        Err(_) => Err(port),
     }
 }
 
-/// Gives the book a key that nobody knows, by the system's randomness. Where the system gives none
-/// the book keeps the key that it has, and answers the same.
-pub(crate) fn rekey<R: RandomSource>(rt: &R, book: &mut Book)
-    ensures { book.new ≡ book.old }
-{
+/// A key for a book that nobody knows, by the system's randomness. Where the system gives none it
+/// is the one that everyone knows: a book answers the same under each.
+pub(crate) fn new_key<R: RandomSource>(rt: &R) -> HashKey {
     let mut bytes = [0; 16];
-    if rt.fill_bytes(&mut bytes).is_ok() {
-        book.rekey(HashKey::new(u128::from_le_bytes(bytes)));
+    match rt.fill_bytes(&mut bytes) {
+        Ok(()) => HashKey::new(u128::from_le_bytes(bytes)),
+        Err(_) => HashKey::KNOWN,
     }
 }
 
-/// Serves so many connections (0: without end) on a port of 127.0.0.1, by 1 to 16 workers that share the opening book of this house, and
-/// gives the book when all have ended.
+/// Serves so many connections (0: without end) on a port of 127.0.0.1, by 1 to 16 workers that
+/// share the opening book of this house, and gives the book when all have ended.
 ///
 /// # Errors
 ///
-/// `Listen`, and those of `serve`. A book that finds no memory for its opening calls is `Memory`: the port is let go, and nobody was served.
+/// `Listen`, and those of `serve`. A book that finds no memory for its opening calls is `Memory`:
+/// the port is let go, and nobody was served.
 pub(crate) fn serve_port<
     R: Threads
         + Wait
@@ -88,7 +85,9 @@ pub(crate) fn serve_port<
     requires { IsTrue (is_worker_count workers) }
     ensures { IfOk result (λ b. IsServed house (stored b)) }
 {
-    let listener = match listen(rt, port) {
+    let bound = TcpListener::bind(rt, (Ipv4Addr::LOCALHOST, port));
+    let no_memory = ServiceError::Serve(ServeError::Memory);
+    let listener = match listening(bound, no_memory, ServiceError::Listen) {
         Ok(listener) => listener,
         Err(error) => {
             drop(house);
@@ -100,10 +99,10 @@ pub(crate) fn serve_port<
         Err((house, _)) => {
             drop(house);
             drop(listener);
-            return Err(ServiceError::Serve(ServeError::Memory));
+            return Err(no_memory);
         }
     };
-    rekey(rt, &mut book);
+    book.rekey(new_key(rt));
     let served = serve(rt, alloc, &listener, book, workers, connections, &Open);
     drop(listener);
     match served {

@@ -12,6 +12,7 @@ ghost use Rattle.gu_desk.specs.Runs.{HasSeen};
 ghost use Rattle.gu_server.specs.Turns.{Replies};
 
 use crate::connection::{Brought, Closed, Connection};
+use crate::keep::tallies::Tallies;
 use gu_base::{AllocId, Answer, Command, FirmId};
 use gu_codec::MAX_FRAME_LEN;
 use gu_desk::{Desk, Gate, Job, Seat};
@@ -36,8 +37,9 @@ const READ_WAIT: u64 = 1;
 /// How long a read waits where the firm is behind with its reports, in milliseconds.
 const BEHIND_WAIT: u64 = 1;
 
-/// How long a write waits, in seconds. A peer that doesn't read holds a worker no longer.
-const WRITE_WAIT: u64 = 30;
+/// How long a firm may take nothing of what it is sent, in seconds: a write of `serve` waits no
+/// longer, and `keep` closes the connection.
+pub(crate) const WRITE_WAIT: u64 = 30;
 
 /// Sets how long a connection waits, and that what is written goes out at once.
 fn set_up(stream: &TcpStream) -> io::Result<()> {
@@ -46,7 +48,8 @@ fn set_up(stream: &TcpStream) -> io::Result<()> {
     stream.set_write_timeout(Some(Duration::from_secs(WRITE_WAIT)))
 }
 
-/// Sets how long the next reads wait, where the last waited otherwise: a firm that is behind has its next reports at once.
+/// Sets how long the next reads wait, where the last waited otherwise: a firm that is behind has
+/// its next reports at once.
 fn keep_pace(stream: &TcpStream, hurried: &mut bool, behind: bool) -> io::Result<()>
     ensures { OnOk result (hurried.new ≡ behind) }
 {
@@ -62,7 +65,8 @@ fn keep_pace(stream: &TcpStream, hurried: &mut bool, behind: bool) -> io::Result
     stream.set_read_timeout(Some(wait))
 }
 
-/// Ends a connection that was taken then and has waited for its Logon as long as it may, in seconds.
+/// Ends a connection that was taken then and has waited for its Logon as long as it may, in
+/// seconds.
 pub(crate) fn expire<R: Clock>(
     rt: &R,
     connection: &mut Connection<'_>,
@@ -90,6 +94,8 @@ pub(crate) enum Left {
     Unread,
     /// Perhaps messages that have come whole: too much waits to be sent.
     Untaken,
+    /// Perhaps messages that have come whole: the firm has made its calls of this second.
+    Late,
 }
 
 /// A worker: what it has for all its connections. Its seat goes from hand to hand.
@@ -100,6 +106,8 @@ pub(crate) struct Worker<'a, J: Job, R, G> {
     pub(crate) desk: &'a Desk<J>,
     pub(crate) house: &'a House,
     pub(crate) gate: &'a G,
+    /// What is counted of firms, for the limits of `keep`.
+    pub(crate) tallies: &'a Tallies,
     /// How long a connection may be without an accepted Logon, in seconds.
     pub(crate) logon_wait: u64,
     pub(crate) number: u32,
@@ -114,6 +122,7 @@ impl<'a, J: Job, R, G> Worker<'a, J, R, G> {
             desk: self.desk,
             house: self.house,
             gate: self.gate,
+            tallies: self.tallies,
             logon_wait: self.logon_wait,
             number,
         }
@@ -121,7 +130,8 @@ impl<'a, J: Job, R, G> Worker<'a, J, R, G> {
 }
 
 impl<'a, J: Job, R: Wait + Clock, G: Gate> Worker<'a, J, R, G> {
-    /// Reads the firm's reports above the entry up to which was looked, and sends the answer, if there is one, and them.
+    /// Reads the firm's reports above the entry up to which was looked, and sends the answer, if
+    /// there is one, and them.
     fn reply(
         &self,
         seat: Seat<J>,
@@ -130,7 +140,8 @@ impl<'a, J: Job, R: Wait + Clock, G: Gate> Worker<'a, J, R, G> {
         answer: Option<Answer>,
     ) -> (Seat<J>, Result<(), Closed>)
         ensures seen { HasSeen J.opening seat.seen result.0.seen }
-        ensures replies { OnOk result.1 (Replies J.opening.house result.0.seen firm.now answer connection.old connection.new) }
+        ensures replies { OnOk result.1
+            (Replies J.opening.house result.0.seen firm.now answer connection.old connection.new) }
     {
         let (seat, reports) = self
             .desk
@@ -145,7 +156,49 @@ impl<'a, J: Job, R: Wait + Clock, G: Gate> Worker<'a, J, R, G> {
         }
     }
 
-    /// Makes the call of a firm that has logged on, if the gate lets it pass, and sends the answer.
+    /// Counts a call that is to be made. Where the firm has as much as it may have, the call isn't
+    /// made, and a Logout says so.
+    fn admit(&self, connection: &mut Connection<'_>, firm: &FirmId) -> Result<(), Closed>
+        ensures { OnOk result (connection.new ≡ connection.old) }
+    {
+        match self.tallies.begin_call(self.rt, firm) {
+            Ok(()) => Ok(()),
+            Err(ending) => {
+                Err(connection.log_out(self.rt, self.alloc, self.house, ending.text()))
+            }
+        }
+    }
+
+    /// Asks the book for the answer to a call that is counted, and takes the count back where it
+    /// made no entry.
+    #[tactic(auto, using(crate::proofs::Later::itself, crate::proofs::Later::still))]
+    fn ask(
+        &self,
+        seat: Seat<J>,
+        firm: &FirmId,
+        id: &AllocId,
+        command: &Command,
+    ) -> (Seat<J>, Result<Answer, Closed>)
+        ensures later { BeginsWith result.0.seen seat.seen }
+    {
+        let (seat, answer) = self.desk.call(self.rt, self.alloc, seat, firm, id, command);
+        match answer {
+            Ok(answer) => {
+                let is_entry = matches!(answer, Answer::Accepted { .. });
+                self.tallies.end_call(firm, is_entry);
+                self.tallies
+                    .note_answer(self.rt, self.number, firm, id, &answer);
+                (seat, Ok(answer))
+            }
+            Err(_) => {
+                self.tallies.end_call(firm, false);
+                (seat, Err(Closed))
+            }
+        }
+    }
+
+    /// Makes the call of a firm that has logged on, if the gate lets it pass and the firm may make
+    /// it, and sends the answer.
     #[tactic(auto, using(crate::proofs::Later::itself, crate::proofs::Later::still))]
     fn call(
         &self,
@@ -162,12 +215,21 @@ impl<'a, J: Job, R: Wait + Clock, G: Gate> Worker<'a, J, R, G> {
         if !self.gate.before_book(self.number) {
             return (seat, Err(Closed));
         }
-        let (seat, answer) = self
-            .desk
-            .call(self.rt, self.alloc, seat, &firm, id, command);
+        if self.admit(connection, &firm).is_err() {
+            return (seat, Err(Closed));
+        }
+        let (seat, answer) = self.ask(seat, &firm, id, command);
         match answer {
             Ok(answer) => self.reply(seat, connection, &firm, Some(answer)),
             Err(_) => (seat, Err(Closed)),
+        }
+    }
+
+    /// Whether the messages of a connection wait, since its firm has made its calls of this second.
+    fn is_late(&self, connection: &Connection<'_>) -> bool {
+        match connection.firm() {
+            Some(firm) => self.tallies.is_late(self.rt, &firm),
+            None => false,
         }
     }
 
@@ -212,6 +274,9 @@ impl<'a, J: Job, R: Wait + Clock, G: Gate> Worker<'a, J, R, G> {
             if connection.waiting() > MOST_WAITING {
                 return (seat, Ok(Left::Untaken));
             }
+            if self.is_late(connection) {
+                return (seat, Ok(Left::Late));
+            }
             match connection.next(self.rt) {
                 Ok(Brought::Nothing) => break,
                 Ok(Brought::Garbled) => {}
@@ -231,12 +296,14 @@ impl<'a, J: Job, R: Wait + Clock, G: Gate> Worker<'a, J, R, G> {
         }
     }
 
-    /// A turn in which nothing came: a Tick, and the reports to a firm that has logged on.
+    /// A turn in which no message is taken: a Tick, and the reports to a firm that has logged on.
+    /// It leaves this.
     #[tactic(auto, using(crate::proofs::Later::itself, crate::proofs::Later::still))]
     fn idle(
         &self,
         seat: Seat<J>,
         connection: &mut Connection<'_>,
+        left: Left,
     ) -> (Seat<J>, Result<Left, Closed>)
         ensures later { BeginsWith result.0.seen seat.seen }
     {
@@ -244,13 +311,35 @@ impl<'a, J: Job, R: Wait + Clock, G: Gate> Worker<'a, J, R, G> {
             return (seat, Err(Closed));
         }
         let Some(firm) = connection.firm() else {
-            return (seat, Ok(Left::Nothing));
+            return (seat, Ok(left));
         };
         let (seat, told) = self.reply(seat, connection, &firm, None);
         match told {
-            Ok(()) => (seat, Ok(Left::Nothing)),
+            Ok(()) => (seat, Ok(left)),
             Err(e) => (seat, Err(e)),
         }
+    }
+
+    /// A turn behind one in which the firm had made its calls of a second.
+    #[tactic(auto, using(crate::proofs::Later::itself, crate::proofs::Later::still))]
+    fn late(
+        &self,
+        seat: Seat<J>,
+        connection: &mut Connection<'_>,
+    ) -> (Seat<J>, Result<Left, Closed>)
+        ensures later { BeginsWith result.0.seen seat.seen }
+    {
+        if self.is_late(connection) {
+            self.idle(seat, connection, Left::Late)
+        } else {
+            self.messages(seat, connection, Left::Unread)
+        }
+    }
+
+    /// Takes what a read has brought.
+    fn take_in(&self, connection: &mut Connection<'_>, piece: &[u8]) -> Result<(), Closed> {
+        self.tallies.note_read(self.number, piece.len());
+        connection.push(piece)
     }
 
     /// The last turn: the peer is gone.
@@ -259,6 +348,7 @@ impl<'a, J: Job, R: Wait + Clock, G: Gate> Worker<'a, J, R, G> {
         ensures later { BeginsWith result.0.seen seat.seen }
     {
         let _ = connection.end(self.rt);
+        self.tallies.note_gone(self.number);
         (seat, Err(Closed))
     }
 
@@ -277,54 +367,98 @@ impl<'a, J: Job, R: Wait + Clock, G: Gate> Worker<'a, J, R, G> {
         if left == Left::Untaken {
             return self.messages(seat, connection, Left::Unread);
         }
+        if left == Left::Late {
+            return self.late(seat, connection);
+        }
         let most = connection.room().min(piece.len());
         let mut from: &TcpStream = stream;
         match from.read(&mut piece[..most]) {
             Ok(0) => self.end(seat, connection),
-            Ok(n) => match connection.push(&piece[..n]) {
+            Ok(n) => match self.take_in(connection, &piece[..n]) {
                 Ok(()) if n == most => self.messages(seat, connection, Left::Unread),
                 Ok(()) => self.messages(seat, connection, Left::Nothing),
                 Err(e) => (seat, Err(e)),
             },
             Err(e) => match e.kind() {
-                ErrorKind::WouldBlock | ErrorKind::TimedOut => self.idle(seat, connection),
+                ErrorKind::WouldBlock | ErrorKind::TimedOut => {
+                    self.idle(seat, connection, Left::Nothing)
+                }
                 ErrorKind::Interrupted => (seat, Ok(Left::Unread)),
                 _ => self.end(seat, connection),
             },
         }
     }
 
-    /// Serves a connection to its end, and gives the seat back.
-    pub(crate) fn attend(&self, seat: Seat<J>, stream: TcpStream) -> Seat<J> {
-        if set_up(&stream).is_err() {
-            return seat;
+    /// One turn with its write, behind one that left this. `Err` where the connection is to be
+    /// closed.
+    fn round(
+        &self,
+        seat: Seat<J>,
+        connection: &mut Connection<'_>,
+        stream: &TcpStream,
+        piece: &mut [u8],
+        left: Left,
+    ) -> (Seat<J>, Result<Left, Closed>) {
+        let (seat, turned) = self.turn(seat, connection, stream, piece, left);
+        match connection.write(stream) {
+            Ok(()) => (seat, turned),
+            Err(e) => (seat, Err(e)),
         }
-        let Ok(mut connection) = Connection::new(self.alloc, self.house) else {
-            return seat;
-        };
-        let Ok(taken) = Instant::now(self.rt) else {
-            return seat;
-        };
+    }
+
+    /// Serves a connection that was taken then to its end, and gives the seat back.
+    fn converse(
+        &self,
+        seat: Seat<J>,
+        connection: &mut Connection<'_>,
+        stream: &TcpStream,
+        taken: Instant,
+    ) -> Seat<J> {
         let mut seat = seat;
         let mut piece = [0; LONGEST_READ];
         let mut left = Left::Nothing;
         let mut hurried = false;
         for _ in self.rt.forever() {
-            let (back, turned) = self.turn(seat, &mut connection, &stream, &mut piece, left);
+            let (back, turned) = self.round(seat, connection, stream, &mut piece, left);
             seat = back;
-            if connection.write(&stream).is_err() {
-                break;
-            }
-            match turned {
-                Ok(rest) => left = rest,
-                Err(_) => break,
-            }
-            if expire(self.rt, &mut connection, taken, self.logon_wait).is_err()
-                || keep_pace(&stream, &mut hurried, connection.behind()).is_err()
+            let Ok(rest) = turned else {
+                return seat;
+            };
+            left = rest;
+            if expire(self.rt, connection, taken, self.logon_wait).is_err()
+                || keep_pace(stream, &mut hurried, connection.behind()).is_err()
             {
-                break;
+                return seat;
             }
         }
+        unreachable!()
+    }
+
+    /// A connection that is set up and taken now.
+    fn opened(&self, stream: &TcpStream) -> Result<(Connection<'a>, Instant), Closed> {
+        if set_up(stream).is_err() {
+            return Err(Closed);
+        }
+        let Ok(taken) = Instant::now(self.rt) else {
+            return Err(Closed);
+        };
+        match Connection::new(self.alloc, self.house) {
+            Ok(connection) => Ok((connection, taken)),
+            Err(e) => Err(e),
+        }
+    }
+
+    /// Serves a connection to its end, and gives the seat back.
+    pub(crate) fn attend(&self, seat: Seat<J>, stream: TcpStream) -> Seat<J> {
+        let seat = match self.opened(&stream) {
+            Ok((mut connection, taken)) => {
+                let seat = self.converse(seat, &mut connection, &stream, taken);
+                drop(connection);
+                seat
+            }
+            Err(_) => seat,
+        };
+        drop(stream);
         seat
     }
 }

@@ -6,10 +6,10 @@ ghost use Rattle.gu_book.specs.Seen.{stored};
 ghost use Rattle.gu_server.specs.Keeping.{is_keep_fault};
 
 use gu_base::{Entry, Memory};
-use gu_book::Book;
+use gu_book::{Book, HashKey};
 use gu_desk::Keeps;
 use gu_parties::House;
-use gu_server::{Fault, Journals, KeepError, Record, RecordError};
+use gu_server::{Fault, Journals, KeepError, Progress, Record, RecordError};
 use std::alloc::Global;
 
 /// A journal in memory, which ends with the run. It takes so many entries beside the opening ones.
@@ -83,22 +83,33 @@ impl Record for Noted {
 }
 
 /// Where journals in memory are opened. The path says what becomes of one: `taken` is in use,
-/// `full` takes one entry, and any other takes all.
+/// `full` takes one entry, and any other takes all. On the socket `silent` nobody answers.
 #[derive(Clone, Copy, Drop)]
 pub(crate) struct Shelf;
 
-/// What is said where a journal is in use.
-fn in_use(alloc: Global, path: &str) -> Fault
+/// Why a journal can't be had, if that is so.
+fn cause_of(path: &str, replica: Option<&str>) -> Option<&'static str> {
+    if path == "taken" {
+        return Some("the journal is in use");
+    }
+    match replica {
+        Some(socket) if socket == "silent" => Some("the other machines don't have it"),
+        _ => None,
+    }
+}
+
+/// What is said where a journal can't be had.
+fn refused(alloc: Global, path: &str, cause: &str) -> Fault
     ensures { IsTrue (is_keep_fault result) }
 {
-    match format!(in alloc; "{path}: the journal is in use") {
+    match format!(in alloc; "{path}: {cause}") {
         Ok(text) => Fault::Journal(text),
         Err(_) => Fault::Keep(KeepError::Memory),
     }
 }
 
-/// The opening book of a house, and a journal of it.
-fn opened(alloc: Global, house: House, room: usize) -> Result<(Book, Noted), Memory>
+/// The opening book of a house under this key, and a journal of it.
+fn opened(alloc: Global, house: House, key: HashKey, room: usize) -> Result<(Book, Noted), Memory>
     ensures opening { IfOk result (λ r.
         stored r.0 ≡ record { house = house; history = opening_history house }) }
     ensures house { IfOk result (λ r. r.1.house ≡ house) }
@@ -111,7 +122,7 @@ fn opened(alloc: Global, house: House, room: usize) -> Result<(Book, Noted), Mem
             return Err(error);
         }
     };
-    let book = match Book::open(alloc, house) {
+    let mut book = match Book::open(alloc, house) {
         Ok(book) => book,
         Err((house, error)) => {
             drop(house);
@@ -119,6 +130,7 @@ fn opened(alloc: Global, house: House, room: usize) -> Result<(Book, Noted), Mem
             return Err(error);
         }
     };
+    book.rekey(key);
     match copies(alloc, book.history()) {
         Ok(entries) => Ok((
             book,
@@ -140,19 +152,22 @@ fn opened(alloc: Global, house: House, room: usize) -> Result<(Book, Noted), Mem
 impl Journals for Shelf {
     type Journal = Noted;
 
-    fn open(
+    fn open<P: Progress>(
         self,
         alloc: Global,
         path: &str,
+        replica: Option<&str>,
         _text: &[u8],
         house: House,
+        key: HashKey,
+        _progress: &mut P,
     ) -> Result<(Book, Noted), Fault> {
-        if path == "taken" {
+        if let Some(cause) = cause_of(path, replica) {
             drop(house);
-            return Err(in_use(alloc, path));
+            return Err(refused(alloc, path, cause));
         }
         let room = if path == "full" { 1 } else { usize::MAX };
-        match opened(alloc, house, room) {
+        match opened(alloc, house, key, room) {
             Ok(opened) => Ok(opened),
             Err(_) => Err(Fault::Keep(KeepError::Memory)),
         }

@@ -4,9 +4,10 @@ use crate::journals::Shelf;
 use crate::streams::{AtEnd, Narrow, pieces_of, takes_all, writer_of};
 use gu_server::{Counted, Fault, SystemFiles, run};
 use std::alloc::{AllocError, Global};
-use std::io::Write;
+use std::io::{Eprint, Write};
 use std::net::{Net, TcpListener, TcpStream};
 use std::random::RandomSource;
+use std::rt::Files;
 use std::sync::Wait;
 use std::thread::Threads;
 use std::time::Clock;
@@ -36,8 +37,9 @@ fn word_of(alloc: Global, word: &str, port: u16) -> Result<String, AllocError> {
     }
 }
 
-/// The words of a command line, in which `PORT` stands for this port. Between two spaces stands one, and an empty text has none. What can't be
-/// had is missing from what the program writes, here and below.
+/// The words of a command line, in which `PORT` stands for this port. Between two spaces stands
+/// one, and an empty text has none. What can't be had is missing from what the program writes, here
+/// and below.
 pub(crate) fn words_of(alloc: Global, text: &str, port: u16) -> Vec<String> {
     let mut words = Vec::new(alloc);
     if !text.is_empty() {
@@ -64,7 +66,12 @@ pub(crate) fn run_words<
         + Clock
         + RandomSource
         + Net<Stream = TcpStream, Listener = TcpListener>
-        + Sync,
+        + Files
+        + Eprint
+        + Copy
+        + Send
+        + Sync
+        + 'static,
 >(
     rt: &HostRuntime,
     handle: &H,
@@ -164,15 +171,20 @@ fn tell_outcome(rt: &HostRuntime, alloc: Global, line: &Line<'_>, outcome: &Outc
     status
 }
 
-/// Runs a line over a handle that may start threads, wait and listen, and writes what came of it. Gives the status of the run, and none where its
-/// stream isn't there.
+/// Runs a line over a handle that may start threads, wait and listen, and writes what came of it.
+/// Gives the status of the run, and none where its stream isn't there.
 pub(crate) fn tell<
     H: Threads
         + Wait
         + Clock
         + RandomSource
         + Net<Stream = TcpStream, Listener = TcpListener>
-        + Sync,
+        + Files
+        + Eprint
+        + Copy
+        + Send
+        + Sync
+        + 'static,
 >(rt: &HostRuntime, handle: &H, alloc: Global, line: &Line<'_>, port: u16) -> Option<u8> {
     let Ok(stream) = fs::read(rt, line.stream) else {
         return None;

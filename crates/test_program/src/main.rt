@@ -1,14 +1,16 @@
-//! Batches over memory; runs of the program `allocd`, over the files of the system, but with a reader and a writer in memory; and
-//! behind them servers and their clients. Input and output are data: the files `stdin` and `stdout` beside `src/`; `data/` has the
-//! house files and streams.
+//! Batches over memory; runs of the program `allocd`, over the files of the system, but with a
+//! reader and a writer in memory; and behind them servers and their clients. Input and output are
+//! data: the files `stdin` and `stdout` beside `src/`; `data/` has the house files and streams.
 //!
-//! A line of standard input that begins with `row ` is a worked row (`rows.rt`). Any other is `STREAM;HOW;WORDS`: a file of
-//! `data/`, how it is read and written, and the words of the command line. HOW is `plain`, `failing reader` (it fails behind the
-//! stream's last byte) or `full writer` (it takes no byte). Of each line the program writes how the run ended, with its status and
-//! the first line of its text, and whether what it wrote is what the file of the stream's name with `.out` for `.fix` holds; of a
-//! trace, what it wrote. In WORDS `PORT` stands for a port that is in use. A book is kept in journals in memory (`journals.rt`). Then it
-//! writes the text of each error, and what the clients of servers were told (`servers.rt`). It ends with the status of the last
-//! line's run.
+//! A line of standard input that begins with `row ` is a worked row (`rows.rt`). Any other is
+//! `STREAM;HOW;WORDS`: a file of `data/`, how it is read and written, and the words of the command
+//! line. HOW is `plain`, `failing reader` (it fails behind the stream's last byte) or `full writer`
+//! (it takes no byte). Of each line the program writes how the run ended, with its status and the
+//! first line of its text, and whether what it wrote is what the file of the stream's name with
+//! `.out` for `.fix` holds; of a trace, what it wrote. In WORDS `PORT` stands for a port that is in
+//! use. A book is kept in journals in memory (`journals.rt`). Then it writes the text of each
+//! error, and what the clients of servers were told (`servers.rt`). It ends with the status of the
+//! last line's run.
 #![tactic(auto)]
 
 mod journals;
@@ -22,9 +24,11 @@ use lines::{read_line, tell, tell_fault};
 use servers::{play_all, play_kept};
 use std::alloc::Global;
 use std::io;
+use std::io::Eprint;
 use std::net::{Net, TcpListener, TcpStream};
 use std::process::ExitCode;
 use std::random::RandomSource;
+use std::rt::Files;
 use std::sync::Wait;
 use std::thread::Threads;
 use std::time::Clock;
@@ -58,6 +62,9 @@ const KEEP_ERRORS: &[KeepError] = &[
     KeepError::Record(RecordError::Memory),
     KeepError::Record(RecordError::Full),
     KeepError::Record(RecordError::Unsaid),
+    KeepError::Record(RecordError::Replica),
+    KeepError::Status,
+    KeepError::Stuck,
     KeepError::Failed,
 ];
 
@@ -81,7 +88,12 @@ fn run_lines<
         + Clock
         + RandomSource
         + Net<Stream = TcpStream, Listener = TcpListener>
-        + Sync,
+        + Files
+        + Eprint
+        + Copy
+        + Send
+        + Sync
+        + 'static,
 >(rt: &HostRuntime, handle: &H, alloc: Global) -> io::Result<u8> {
     let listener = TcpListener::bind(rt, "127.0.0.1:0")?;
     let port = listener.local_addr()?.port();

@@ -101,7 +101,8 @@ impl<'a> Read for Pieces<'a> {
     }
 }
 
-/// How a writer takes bytes: at most `most` a call and `room` in all. Then it fails or, where it is quiet, takes none.
+/// How a writer takes bytes: at most `most` a call and `room` in all. Then it fails or, where it is
+/// quiet, takes none.
 #[derive(Clone, Copy)]
 pub(crate) struct Taking {
     pub(crate) most: usize,

@@ -11,6 +11,8 @@ pub(crate) struct Bell {
     pub(crate) waits: AtomicBool,
     /// How many connections it has.
     pub(crate) open: AtomicU64,
+    /// Whether descriptors lack, so that it is to close connections without a Logon.
+    pub(crate) lacks: AtomicBool,
 }
 
 /// What the workers and the thread that accepts share.
@@ -28,6 +30,7 @@ impl Bell {
             waker,
             waits: AtomicBool::new(false),
             open: AtomicU64::new(0),
+            lacks: AtomicBool::new(false),
         }
     }
 }
@@ -39,6 +42,14 @@ impl Bells {
             if bell.waits.load(Ordering::SeqCst) {
                 let _ = bell.waker.wake();
             }
+        }
+    }
+
+    /// Tells all workers that descriptors lack.
+    pub(crate) fn tell_lack(&self) {
+        for bell in self.workers.as_slice() {
+            bell.lacks.store(true, Ordering::SeqCst);
+            let _ = bell.waker.wake();
         }
     }
 
@@ -65,6 +76,13 @@ impl Bells {
     pub(crate) fn count_one(&self, at: usize) {
         if let Some(bell) = self.workers.get(at) {
             bell.open.fetch_add(1, Ordering::SeqCst);
+        }
+    }
+
+    /// Counts a connection less, which a worker doesn't get.
+    pub(crate) fn discount_one(&self, at: usize) {
+        if let Some(bell) = self.workers.get(at) {
+            bell.open.fetch_sub(1, Ordering::SeqCst);
         }
     }
 

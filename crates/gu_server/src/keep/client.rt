@@ -5,17 +5,18 @@ ghost use Rattle.gu_desk.specs.Begins.{BeginsWith};
 
 use crate::connection::{Closed, Connection};
 use crate::keep::outbox::{Outbox, Rest};
-use crate::worker::{Left, Worker, expire};
+use crate::keep::tallies::Tallies;
+use crate::keep::visit::Visit;
+use crate::worker::{Left, WRITE_WAIT, Worker, expire};
+use gu_base::FirmId;
 use gu_desk::{Gate, Job, Seat};
+use gu_limits::{Ending, is_silent};
 use std::net::TcpStream;
 use std::sync::Wait;
 use std::time::{Clock, Instant};
 
 /// How many bytes may wait for a firm to read them: a connection for which more wait has no turn.
 const MOST_UNREAD: usize = 1 << 20;
-
-/// How long a firm may take nothing of what it is sent, in seconds.
-const WRITE_WAIT: u64 = 30;
 
 /// A connection, what it is to be sent, and how it stands.
 #[derive(Drop)]
@@ -29,13 +30,24 @@ pub(crate) struct Client<'a, J: Job> {
     ended: bool,
     /// Whether the peer took nothing when it was last written to.
     full: bool,
+    /// Whether the peer sends no more: what it has sent is read to its end.
+    shut: bool,
     /// The second in which it last had a turn, and that in which the peer last took something.
     turned: u64,
     took: u64,
+    /// The second in which the peer last sent something, and whether it has since.
+    heard: u64,
+    speaks: bool,
+    /// The firm for whose connection it counts.
+    counted: Option<FirmId>,
+    /// Whether no firm has logged on.
+    strange: bool,
     /// Whether it stands among those that have something to be sent, and among those that have a
     /// turn without being asked.
     sends: bool,
     pub(crate) hurries: bool,
+    /// What an operator is told of it.
+    pub(crate) visit: Visit,
 }
 
 /// A connection before its first turn.
@@ -52,6 +64,7 @@ pub(crate) fn open_client<'a, J: Job, R: Clock, G>(
         return Err(Closed);
     };
     let connection = Connection::new(worker.alloc, worker.house)?;
+    let visit = Visit::new(worker.alloc, worker.tallies.board(), &stream, second);
     Ok(Client {
         stream,
         connection,
@@ -60,22 +73,40 @@ pub(crate) fn open_client<'a, J: Job, R: Clock, G>(
         left: Left::Nothing,
         ended: false,
         full: false,
+        shut: false,
         turned: second,
         took: second,
+        heard: second,
+        speaks: false,
+        counted: None,
+        strange: true,
         sends: false,
         hurries: false,
+        visit,
     })
 }
 
 impl<'a, J: Job> Client<'a, J> {
     /// Notes what the poll says of its stream.
-    pub(crate) fn note(&mut self, readable: bool, writable: bool) {
-        if readable && self.left == Left::Nothing {
+    pub(crate) fn note(&mut self, readable: bool, shut: bool, writable: bool) {
+        self.speaks = self.speaks || readable;
+        self.shut = self.shut || shut;
+        if (readable || shut) && self.left == Left::Nothing {
             self.left = Left::Unread;
         }
         if writable {
             self.full = false;
         }
+    }
+
+    /// The firm that has logged on.
+    pub(crate) fn firm(&self) -> Option<FirmId> {
+        self.connection.firm()
+    }
+
+    /// How many bytes wait to be sent.
+    pub(crate) fn waiting(&self) -> usize {
+        self.outbox.len()
     }
 
     /// Whether it may have a turn now.
@@ -85,7 +116,28 @@ impl<'a, J: Job> Client<'a, J> {
 
     /// Whether it is to have a turn without being asked.
     pub(crate) fn is_due(&self) -> bool {
-        self.may_turn() && (self.left != Left::Nothing || self.connection.behind())
+        let unread = self.left == Left::Unread || self.left == Left::Untaken;
+        self.may_turn() && (unread || self.connection.behind())
+    }
+
+    /// Whether no firm has logged on.
+    pub(crate) fn is_strange(&self) -> bool {
+        self.strange
+    }
+
+    /// Whether a firm has logged on since this was asked last.
+    pub(crate) fn has_logged_on(&mut self) -> bool {
+        let has = self.strange && self.connection.firm().is_some();
+        self.strange = self.strange && !has;
+        has
+    }
+
+    /// Ends its count as a connection of its firm.
+    pub(crate) fn leave(&mut self, tallies: &Tallies) {
+        if let Some(firm) = self.counted {
+            tallies.leave(&firm);
+            self.counted = None;
+        }
     }
 
     /// Whether it is to be listed among those that have something to be sent, and among those that
@@ -122,6 +174,66 @@ impl<'a, J: Job> Client<'a, J> {
         }
     }
 
+    /// Notes that it has a turn in this second.
+    fn begin_turn(&mut self, second: u64) {
+        self.turned = second;
+        if self.speaks {
+            self.heard = second;
+            self.speaks = false;
+        }
+    }
+
+    /// Counts it as a connection of its firm, once one has logged on: whether the firm may have it.
+    fn enters<R, G>(&mut self, worker: &Worker<'a, J, R, G>, firm: &FirmId) -> bool {
+        if self.counted.is_some() {
+            return true;
+        }
+        if worker.tallies.enter(firm) {
+            self.counted = Some(*firm);
+            return true;
+        }
+        false
+    }
+
+    /// Whether it is to be closed behind a turn: it has no Logon in time, or its firm has too many
+    /// connections or has said nothing for too long, and is told so.
+    fn ends<R: Clock, G>(&mut self, worker: &Worker<'a, J, R, G>, second: u64) -> bool {
+        let late = expire(
+            worker.rt,
+            &mut self.connection,
+            self.taken,
+            worker.logon_wait,
+        );
+        if late.is_err() {
+            return true;
+        }
+        let Some(firm) = self.connection.firm() else {
+            return false;
+        };
+        let ending = if !self.enters(worker, &firm) {
+            Ending::Connections
+        } else if is_silent(self.heard, second) {
+            Ending::Silence
+        } else {
+            return false;
+        };
+        worker.tallies.note(&firm, ending);
+        let _ = self
+            .connection
+            .log_out(worker.rt, worker.alloc, worker.house, ending.text());
+        true
+    }
+
+    /// What a turn leaves that knows of this: where the peer sends no more, also the end of what
+    /// it has sent.
+    fn left_by(&self, left: Left) -> Left {
+        if self.shut && left == Left::Nothing {
+            Left::Unread
+        } else {
+            left
+        }
+    }
+
     /// A turn, if it may have one.
     #[tactic(auto, using(crate::proofs::Later::itself, crate::proofs::Later::still))]
     pub(crate) fn turn<R: Wait + Clock, G: Gate>(
@@ -136,7 +248,7 @@ impl<'a, J: Job> Client<'a, J> {
         if !self.may_turn() {
             return seat;
         }
-        self.turned = second;
+        self.begin_turn(second);
         let (seat, turned) = worker.turn(
             seat,
             &mut self.connection,
@@ -146,14 +258,8 @@ impl<'a, J: Job> Client<'a, J> {
         );
         match turned {
             Ok(left) => {
-                self.left = left;
-                self.ended = expire(
-                    worker.rt,
-                    &mut self.connection,
-                    self.taken,
-                    worker.logon_wait,
-                )
-                .is_err();
+                self.left = self.left_by(left);
+                self.ended = self.ends(worker, second);
             }
             Err(_) => self.ended = true,
         }

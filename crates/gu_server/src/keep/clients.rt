@@ -4,7 +4,8 @@ use crate::connection::Closed;
 use crate::keep::client::Client;
 use gu_desk::Job;
 use std::alloc::Global;
-use std::mem::swap;
+use std::collections::VecDeque;
+use std::mem::{replace, swap};
 
 /// The connections of a worker.
 #[derive(Drop)]
@@ -12,6 +13,8 @@ pub(crate) struct Clients<'a, J: Job> {
     pub(crate) places: Vec<Option<Client<'a, J>>>,
     free: Vec<usize>,
     open: usize,
+    /// The places of those without a Logon, in the order in which they came.
+    strangers: VecDeque<usize>,
     /// The places of those that have something to be sent.
     pub(crate) sending: Vec<usize>,
     /// The places of those that are sent something now.
@@ -26,6 +29,7 @@ impl<'a, J: Job> Clients<'a, J> {
             places: Vec::new(alloc),
             free: Vec::new(alloc),
             open: 0,
+            strangers: VecDeque::new(alloc),
             sending: Vec::new(alloc),
             to_send: Vec::new(alloc),
             hurried: Vec::new(alloc),
@@ -52,29 +56,46 @@ impl<'a, J: Job> Clients<'a, J> {
             && self.to_send.reserve(most).is_ok()
             && self.hurried.reserve(most).is_ok()
             && self.free.reserve(most).is_ok()
+            && self.strangers.reserve(most).is_ok()
+    }
+
+    /// A place that no connection has.
+    fn free_place(&mut self) -> Result<usize, Closed> {
+        if !self.make_room() {
+            return Err(Closed);
+        }
+        if let Some(at) = self.free.pop() {
+            return Ok(at);
+        }
+        if self.places.reserve(1).is_err() {
+            return Err(Closed);
+        }
+        let at = self.places.len();
+        self.places.push_reserved(None);
+        Ok(at)
+    }
+
+    /// Puts this at a place, and gives what was there; or this, where there is no such place.
+    fn put(&mut self, at: usize, client: Option<Client<'a, J>>) -> Option<Client<'a, J>> {
+        match self.places.get_mut(at) {
+            Some(place) => replace(place, client),
+            None => client,
+        }
     }
 
     /// Takes a connection in, and tells its place.
     pub(crate) fn add(&mut self, client: Client<'a, J>) -> Result<usize, Closed> {
-        if !self.make_room() {
-            return Err(Closed);
-        }
-        let at = match self.free.pop() {
-            Some(at) => at,
-            None => {
-                if self.places.push(None).is_err() {
-                    return Err(Closed);
-                }
-                self.places.len().saturating_sub(1)
-            }
-        };
-        match self.places.get_mut(at) {
-            Some(place) => {
-                *place = Some(client);
+        match self.free_place() {
+            Ok(at) => {
+                drop(self.put(at, Some(client)));
                 self.open = self.open.saturating_add(1);
+                let _ = self.strangers.push_back(at);
                 Ok(at)
             }
-            None => Err(Closed),
+            Err(closed) => {
+                drop(client);
+                Err(closed)
+            }
         }
     }
 
@@ -98,17 +119,47 @@ impl<'a, J: Job> Clients<'a, J> {
         swap(&mut self.sending, &mut self.to_send);
     }
 
+    /// How many are without a Logon.
+    pub(crate) fn strangers(&self) -> usize {
+        self.strangers.len()
+    }
+
+    /// The place of the one without a Logon that came first.
+    pub(crate) fn oldest_stranger(&self) -> Option<usize> {
+        self.strangers.front().copied()
+    }
+
+    /// Takes a place out of those without a Logon.
+    fn forget(&mut self, at: usize) {
+        if let Some(index) = self.strangers.iter().position(|it| *it == at) {
+            let _ = self.strangers.remove(index);
+        }
+    }
+
+    /// Takes the one at a place out of those without a Logon, if it has logged on.
+    pub(crate) fn greet(&mut self, at: usize) {
+        let greets = match self.places.get_mut(at) {
+            Some(Some(client)) => client.has_logged_on(),
+            _ => false,
+        };
+        if greets {
+            self.forget(at);
+        }
+    }
+
     /// Closes the connection at a place: whether there was one.
     pub(crate) fn close(&mut self, at: usize) -> bool {
-        if self.at(at).is_none() {
-            return false;
+        let strange = match self.at(at) {
+            Some(client) => client.is_strange(),
+            None => return false,
+        };
+        if strange {
+            self.forget(at);
         }
-        if let Some(place) = self.places.get_mut(at) {
-            // The system drops the descriptor from the poll when it is closed.
-            *place = None;
-            self.open = self.open.saturating_sub(1);
-            let _ = self.free.push(at);
-        }
+        // The system drops the descriptor from the poll when it is closed.
+        drop(self.put(at, None));
+        self.open = self.open.saturating_sub(1);
+        let _ = self.free.push(at);
         true
     }
 }

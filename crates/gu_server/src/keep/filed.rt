@@ -1,14 +1,18 @@
 //! A journal over a disk, as what a kept book is recorded in.
 
-ghost use Rattle.std.specs.Prelude.{◌≡◌, ℕ, List, IsTrue, IfOk};
+ghost use Rattle.std.specs.Prelude.{◌≡◌, ℕ, List, length, IsTrue, IfOk, IfSome};
 ghost use Rattle.sqlite_disk.specs.Disk.{Only};
+ghost use Rattle.gu_base.specs.House.{House as HouseTable};
 ghost use Rattle.gu_base.specs.Runs.{IsRunFrom, opening_history};
+ghost use Rattle.gu_base.specs.declared.entry.Entry.{Entry as EntryData};
 ghost use Rattle.gu_book.specs.Seen.{stored};
 ghost use Rattle.gu_journal.specs.Keeping.{disk_of, IsIdle, Keeps};
+ghost use Rattle.gu_server.specs.Replicas.{HasAnswered};
 
 use crate::keep::journals::{Record, RecordError};
+use crate::keep::replica::{Replica, answered, offered};
 use gu_base::{Entry, Memory};
-use gu_book::Book;
+use gu_book::{Book, HashKey};
 use gu_desk::Keeps;
 use gu_journal::{
     HouseDigest, Journal, JournalError, Progress, RecoverError, Recovered, Unrecovered, recover,
@@ -17,62 +21,86 @@ use gu_parties::House;
 use sqlite_disk::Disk;
 use std::alloc::Global;
 
-/// A journal over a disk, and the house table of its house.
+/// A journal over a disk, the house table of its house, and the line to other machines, if they are
+/// to have it too.
 #[derive(Drop)]
 pub struct Filed<D: Disk> {
     pub(crate) journal: Journal<D>,
     pub(crate) house: House,
+    pub(crate) replica: Option<Replica>,
 }
 
 impl<D: Disk> Keeps for Filed<D> {
-    ghost use Rattle.std.specs.Prelude.{ℕ, List, IsTrue};
-    ghost use Rattle.gu_batch.specs.Output.{history_of};
-    ghost use Rattle.gu_desk.specs.Begins.{BeginsWith};
+    ghost use Rattle.std.specs.Prelude.{IsTrue};
     ghost use Rattle.gu_journal.specs.Keeping.{disk_of};
+    ghost use Rattle.gu_server.specs.Filing.{IsKept};
 
-    ghost keeps = { λ k h. IsTrue (D.Disk.is_clean (disk_of k.journal)) → (c : List ℕ)
-        → D.Disk.may_leave (disk_of k.journal) c → BeginsWith (history_of k.house c) h };
+    ghost keeps = { λ k h. IsTrue (D.Disk.is_clean (disk_of k.journal))
+        → IsKept D.Disk.may_leave k.house h (disk_of k.journal) k.replica };
+}
+
+/// Why a journal's fault keeps entries from being recorded.
+fn cause(error: JournalError) -> RecordError {
+    match error {
+        JournalError::Memory => RecordError::Memory,
+        JournalError::Full => RecordError::Full,
+        JournalError::Unsayable { .. } | JournalError::Moment => RecordError::Unsaid,
+        JournalError::Disk(error) => RecordError::Disk(error),
+    }
 }
 
 impl<D: Disk> Record for Filed<D> {
-    ghost use Rattle.std.specs.Prelude.{ℕ, List, IsTrue};
-    ghost use Rattle.gu_batch.specs.Output.{history_of};
-    ghost use Rattle.gu_desk.proofs.Moves.{begins_with_all};
-    ghost use Rattle.gu_journal.specs.Keeping.{disk_of, IsIdle, Keeps};
-    ghost use Rattle.gu_server.specs.Filing.{said_is_kept};
+    ghost use Rattle.std.specs.Prelude.{IsTrue};
+    ghost use Rattle.gu_journal.specs.Keeping.{disk_of, IsIdle};
+    ghost use Rattle.gu_server.specs.Filing.{IsSaid, said_is_kept, begun_is_kept};
 
     ghost house = { λ k. k.house };
 
     ghost takes = { λ k. IsTrue (D.Disk.is_usable (disk_of k.journal)) × IsIdle k.journal };
 
-    ghost says = { λ k h. IsTrue (D.Disk.is_clean (disk_of k.journal)) → (pin : List ℕ)
-        × Keeps D.Disk.seen D.Disk.may_leave k.house pin h k.journal };
+    ghost says = { λ k h. IsTrue (D.Disk.is_clean (disk_of k.journal))
+        → IsSaid D.Disk.seen D.Disk.may_leave k.house h k.journal k.replica };
 
-    ghost keeps_all = { λ k h said is_clean c left.
-        said_is_kept D.Disk.seen D.Disk.may_leave k.house h k.journal (said is_clean) c left };
+    ghost keeps_all = { λ k h said is_clean. said_is_kept
+        D.Disk.seen D.Disk.may_leave k.house h k.journal k.replica (said is_clean) };
 
-    ghost keeps_begun = { λ k h begun longer kept is_clean c left.
-        begins_with_all (history_of k.house c) h begun (kept is_clean c left) longer };
+    ghost keeps_begun = { λ k h begun longer kept is_clean. begun_is_kept
+        D.Disk.may_leave k.house h begun (disk_of k.journal) k.replica longer (kept is_clean) };
 
+    // Other machines take the group while it is opened here.
     fn record(&mut self, moment: &[u8], entries: &[Entry]) -> Result<(), RecordError> {
-        match self.journal.commit(moment, entries) {
-            Ok(()) => Ok(()),
-            Err(JournalError::Memory) => Err(RecordError::Memory),
-            Err(JournalError::Full) => Err(RecordError::Full),
-            Err(JournalError::Unsayable { .. } | JournalError::Moment) => Err(RecordError::Unsaid),
-            Err(JournalError::Disk(error)) => Err(RecordError::Disk(error)),
+        match self.journal.stage(moment, entries) {
+            Ok(()) => {}
+            Err(error) => return Err(cause(error)),
+        }
+        let count = self.journal.entries();
+        if !offered(&self.replica, count, self.journal.len()) {
+            return Err(RecordError::Replica);
+        }
+        match self.journal.open() {
+            Ok(()) => {}
+            Err(error) => return Err(cause(error)),
+        }
+        if answered(&mut self.replica, count) {
+            Ok(())
+        } else {
+            Err(RecordError::Replica)
         }
     }
 }
 
 impl<D: Disk + Drop> Filed<D> {
-    /// The journal, with a copy of the book's house table.
+    /// The journal, with a copy of the book's house table, on this machine alone.
     pub(crate) fn new(alloc: Global, book: &Book, journal: Journal<D>) -> Result<Filed<D>, Memory>
         ensures journal { IfOk result (λ f. f.journal ≡ journal) }
         ensures house { IfOk result (λ f. f.house ≡ (stored book.now).house) }
     {
         match book.house().copy(alloc) {
-            Ok(house) => Ok(Filed { journal, house }),
+            Ok(house) => Ok(Filed {
+                journal,
+                house,
+                replica: None,
+            }),
             Err(error) => {
                 drop(journal);
                 Err(error)
@@ -86,6 +114,7 @@ impl<D: Disk + Drop> Filed<D> {
         alloc: Global,
         disk: D,
         house: House,
+        key: HashKey,
         pin: &HouseDigest,
         moment: &[u8],
         progress: &mut P,
@@ -101,7 +130,7 @@ impl<D: Disk + Drop> Filed<D> {
         ensures takes { IfOk result (λ r.
             IsTrue (D.Disk.is_usable (disk_of r.1.journal)) × IsIdle r.1.journal) }
     {
-        match recover(alloc, disk, house, pin, moment, progress) {
+        match recover(alloc, disk, house, key, pin, moment, progress) {
             Ok(Recovered { book, journal }) => match Filed::new(alloc, &book, journal) {
                 Ok(filed) => Ok((book, filed)),
                 Err(_) => {
@@ -116,12 +145,38 @@ impl<D: Disk + Drop> Filed<D> {
         }
     }
 
+    /// The same journal, once other machines have what it says, if they are to have it.
+    pub(crate) fn replicated(self, replica: Option<Replica>) -> Option<Filed<D>>
+        ensures journal { IfSome result (λ f. f.journal ≡ self.journal) }
+        ensures house { IfSome result (λ f. f.house ≡ self.house) }
+        ensures answered { IfSome result (λ f. (t : HouseTable) (pin : List ℕ) (h : List EntryData)
+            → Keeps D.Disk.seen D.Disk.may_leave t pin h f.journal
+            → HasAnswered f.replica (length h)) }
+    {
+        let mut filed = self;
+        filed.replica = replica;
+        let count = filed.journal.entries();
+        if offered(&filed.replica, count, filed.journal.len())
+            && answered(&mut filed.replica, count)
+        {
+            Some(filed)
+        } else {
+            drop(filed);
+            None
+        }
+    }
+
     /// The disk.
     pub(crate) fn into_disk(self) -> D
         ensures { result ≡ disk_of self.journal }
     {
-        let Filed { journal, house } = self;
+        let Filed {
+            journal,
+            house,
+            replica,
+        } = self;
         drop(house);
+        drop(replica);
         journal.into_disk()
     }
 }

@@ -2,8 +2,9 @@
 
 use crate::fault::Fault;
 use gu_base::Entry;
-use gu_book::Book;
+use gu_book::{Book, HashKey};
 use gu_desk::Keeps;
+use gu_journal::Progress;
 use gu_parties::House;
 use std::alloc::Global;
 use std::io;
@@ -21,6 +22,9 @@ pub enum RecordError {
     /// An entry is one that no message can say.
     #[error("an entry that no message can say")]
     Unsaid,
+    /// The program that puts the journal on other machines didn't answer that they have it.
+    #[error("the other machines don't have it")]
+    Replica,
     /// The file can't be written or synced.
     #[error("cannot write: {0}")]
     Disk(io::Error),
@@ -75,21 +79,26 @@ pub trait Journals {
     ghost use Rattle.gu_base.specs.Runs.{IsRunFrom, opening_history};
     ghost use Rattle.gu_server.specs.Keeping.{is_keep_fault};
 
-    type Journal: Record + Drop + Send;
+    type Journal: Record + Drop + Send + 'static;
 
     /// Opens the journal at a path, which is made where it isn't there, and gives the book of the
-    /// history that it says. It is one of this house, whose file has these bytes.
+    /// history that it says, which finds ids under this key from its first entry on. It is one of
+    /// this house, whose file has these bytes. Where the path of a socket is given, whoever listens
+    /// there puts on other machines what is kept. How far the journal is read is told meanwhile.
     ///
     /// # Errors
     ///
     /// `Journal`, whose text says which file and what is wrong with it; or want of memory. Nothing
     /// was written then.
-    fn open(
+    fn open<P: Progress>(
         self,
         alloc: Global,
         path: &str,
+        replica: Option<&str>,
         text: &[u8],
         house: House,
+        key: HashKey,
+        progress: &mut P,
     ) -> Result<(Book, Self::Journal), Fault>
         ensures house { IfOk result (λ r. Self.Journal.house r.1 ≡ house) }
         ensures book { IfOk result (λ r. r.0.house ≡ house) }

@@ -4,6 +4,7 @@
 
 use crate::connection::Closed;
 use crate::keep::bells::{Bell, Bells};
+use crate::keep::board::{Board, Work};
 use crate::keep::client::{Client, open_client};
 use crate::keep::clients::Clients;
 use crate::keep::journals::Record;
@@ -29,8 +30,13 @@ const MOST_EVENTS: usize = 256;
 /// The longest read of a turn, in bytes.
 const LONGEST_READ: usize = 16_384;
 
-/// How many connections are taken in one round.
-const MOST_TAKEN: usize = 1024;
+/// How many connections are taken in one round. Each has a turn before as many have come as may be
+/// without a Logon, if its Logon is there.
+const MOST_TAKEN: usize = 64;
+
+/// How many connections of a worker may be without a Logon. Where there are more, the one that came
+/// first is closed.
+const MOST_STRANGERS: usize = 256;
 
 /// A worker, and what it has for its connections.
 #[derive(Drop)]
@@ -68,8 +74,9 @@ fn note<J: Job>(events: &Events, clients: &mut Clients<'_, J>, round: &mut Round
         if at == WOKEN {
             round.woken = true;
         } else if let Some(Some(client)) = clients.places.get_mut(at) {
-            let readable = event.is_readable() || event.is_read_closed() || event.is_error();
-            client.note(readable, event.is_writable() || event.is_error());
+            let readable = event.is_readable() || event.is_error();
+            let writable = event.is_writable() || event.is_error();
+            client.note(readable, event.is_read_closed(), writable);
             let _ = round.ready.push(at);
         }
     }
@@ -88,6 +95,15 @@ fn hurry<J: Job>(clients: &mut Clients<'_, J>, round: &mut Round<J>) {
     }
 }
 
+/// Why a connection has ended that is over.
+fn ended_by<J: Job>(client: Option<&Client<'_, J>>) -> &'static str {
+    match client {
+        Some(client) if client.visit.is_gone => "the peer has closed",
+        Some(client) if client.is_over() => "the session has ended",
+        _ => "cannot be written to",
+    }
+}
+
 impl<'a, K: Record, J: Job, R: Wait + Clock, G: Gate> Keeper<'a, K, J, R, G> {
     /// Registers a stream with the poll under this place.
     fn watch(&self, poll: &Poll, stream: &TcpStream, at: usize) -> Result<(), Closed> {
@@ -102,7 +118,7 @@ impl<'a, K: Record, J: Job, R: Wait + Clock, G: Gate> Keeper<'a, K, J, R, G> {
         }
     }
 
-    /// Takes a connection in. One that can't be set up is dropped.
+    /// Takes a connection in. One that can't be set up, or for which memory lacks, is dropped.
     fn take(
         &self,
         poll: &Poll,
@@ -110,22 +126,44 @@ impl<'a, K: Record, J: Job, R: Wait + Clock, G: Gate> Keeper<'a, K, J, R, G> {
         clients: &mut Clients<'a, J>,
         stream: TcpStream,
         second: u64,
-    ) -> Result<(), KeepError> {
-        let Ok(client) = open_client(&self.worker, seat, stream, second) else {
+    ) {
+        let added = match open_client(&self.worker, seat, stream, second) {
+            Ok(client) => clients.add(client),
+            Err(closed) => Err(closed),
+        };
+        let Ok(at) = added else {
             self.bell.open.fetch_sub(1, Ordering::SeqCst);
-            return Ok(());
+            return;
         };
-        let Ok(at) = clients.add(client) else {
-            return Err(KeepError::Memory);
-        };
+        if let Some(board) = self.worker.tallies.board() {
+            board.opens();
+        }
         let watched = match clients.at(at) {
             Some(client) => self.watch(poll, &client.stream, at).is_ok(),
             _ => false,
         };
         if !watched {
-            self.close(clients, at);
+            self.close(clients, at, second, "not watched");
         }
-        Ok(())
+        self.close_strangers(clients, MOST_STRANGERS, second);
+    }
+
+    /// Closes those without a Logon that came first, until there are at most so many.
+    fn close_strangers(&self, clients: &mut Clients<'a, J>, most: usize, second: u64) {
+        for _ in most..clients.strangers() {
+            let Some(at) = clients.oldest_stranger() else {
+                return;
+            };
+            self.close(clients, at, second, "too many without a Logon");
+        }
+    }
+
+    /// Closes half of those without a Logon, if descriptors lack. The one that came last stays.
+    fn make_way(&self, clients: &mut Clients<'a, J>, second: u64) {
+        if self.bell.lacks.swap(false, Ordering::SeqCst) {
+            let all = clients.strangers();
+            self.close_strangers(clients, all.saturating_sub(all / 2), second);
+        }
     }
 
     /// Takes the connections that have come. False where no more will come.
@@ -135,23 +173,63 @@ impl<'a, K: Record, J: Job, R: Wait + Clock, G: Gate> Keeper<'a, K, J, R, G> {
         seat: &mut Seat<J>,
         clients: &mut Clients<'a, J>,
         second: u64,
-    ) -> Result<bool, KeepError> {
+    ) -> bool {
         for _ in 0..MOST_TAKEN {
             match self.streams.try_recv(self.worker.rt) {
-                Ok(stream) => self.take(poll, seat, clients, stream, second)?,
-                Err(TryRecvError::Empty) => return Ok(true),
-                Err(TryRecvError::Disconnected) => return Ok(false),
+                Ok(stream) => self.take(poll, seat, clients, stream, second),
+                Err(TryRecvError::Empty) => return true,
+                Err(TryRecvError::Disconnected) => return false,
             }
         }
         // More may be there: the next round takes them.
         let _ = self.bell.waker.wake();
-        Ok(true)
+        true
     }
 
-    /// Closes the connection at a place.
-    fn close(&self, clients: &mut Clients<'a, J>, at: usize) {
+    /// Says that a connection ends, and why.
+    fn say_end(&self, client: &Client<'a, J>, second: u64, why: &'static str) {
+        let Some(board) = self.worker.tallies.board() else {
+            return;
+        };
+        let house = self.worker.house;
+        client
+            .visit
+            .say_end(self.worker.rt, board, house, client.firm(), second, why);
+        board.waits(client.waiting(), 0);
+        board.leaves();
+    }
+
+    /// Closes the connection at a place, for this reason.
+    fn close(&self, clients: &mut Clients<'a, J>, at: usize, second: u64, why: &'static str) {
+        if let Some(Some(client)) = clients.places.get_mut(at) {
+            client.leave(self.worker.tallies);
+            self.say_end(client, second, why);
+        }
         if clients.close(at) {
             self.bell.open.fetch_sub(1, Ordering::SeqCst);
+        }
+    }
+
+    /// What the worker had done before a turn with a connection, and how much waited there.
+    fn begin_turn(&self, client: &Client<'a, J>) -> (Work, usize) {
+        match self.worker.tallies.board() {
+            Some(board) => (
+                client.visit.begin(board, self.worker.number),
+                client.waiting(),
+            ),
+            None => (Work::default(), 0),
+        }
+    }
+
+    /// Counts what a turn has done, and says that a firm has logged on, if it has.
+    fn end_turn(&self, client: &mut Client<'a, J>, before: (Work, usize), piece: &[u8]) {
+        let Some(board) = self.worker.tallies.board() else {
+            return;
+        };
+        client.visit.end(board, self.worker.number, before.0, piece);
+        board.waits(before.1, client.waiting());
+        if let Some(firm) = client.firm() {
+            client.visit.say_logon(self.worker.rt, board, &firm);
         }
     }
 
@@ -167,12 +245,15 @@ impl<'a, K: Record, J: Job, R: Wait + Clock, G: Gate> Keeper<'a, K, J, R, G> {
         let mut over = false;
         let mut seat = seat;
         if let Some(Some(client)) = clients.places.get_mut(at) {
+            let before = self.begin_turn(client);
             seat = client.turn(&self.worker, seat, piece, second);
+            self.end_turn(client, before, piece);
             over = client.is_over();
         }
+        clients.greet(at);
         clients.list(at);
         if over {
-            self.close(clients, at);
+            self.close(clients, at, second, ended_by(clients.at(at)));
         }
         seat
     }
@@ -197,13 +278,14 @@ impl<'a, K: Record, J: Job, R: Wait + Clock, G: Gate> Keeper<'a, K, J, R, G> {
             _ => false,
         };
         if stalled {
-            self.close(clients, at);
+            self.close(clients, at, second, "takes nothing");
         }
     }
 
-    /// Each second: a turn with each connection that had none, and the end of those whose peer
-    /// takes nothing.
+    /// Each second: a turn with each connection that had none, the end of those whose peer takes
+    /// nothing, and a word on those that were closed for a limit.
     fn tick(&self, seat: Seat<J>, clients: &mut Clients<'a, J>, round: &mut Round<J>) -> Seat<J> {
+        self.worker.tallies.tell(self.worker.rt);
         let mut seat = seat;
         let second = round.second;
         for at in 0..clients.places.len() {
@@ -219,16 +301,39 @@ impl<'a, K: Record, J: Job, R: Wait + Clock, G: Gate> Keeper<'a, K, J, R, G> {
         seat
     }
 
+    /// Records what the desk has answered, and notes how long that took.
+    fn record_noted(&self, board: &Board, recorder: &mut Recorder<K, J>) -> Result<(), KeepError> {
+        let rt = self.worker.rt;
+        board.takes_journal();
+        let start = Instant::now(rt);
+        let count = recorder.record(rt, self.worker.alloc, self.worker.desk);
+        board.leaves_journal();
+        let count = count?;
+        if count == 0 {
+            return Ok(());
+        }
+        if let Ok(start) = start {
+            if let Ok(took) = start.elapsed(rt) {
+                let micros = took.as_micros().min(u128::from(u64::MAX)) as u64;
+                board.recorded(rt, count as u64, micros);
+            }
+        }
+        Ok(())
+    }
+
     /// Records what the desk has answered, if nobody else does so now: whether it did.
     fn record(&self) -> Result<bool, KeepError> {
         let Some(mut guard) = self.recorder.try_lock() else {
             return Ok(false);
         };
         let recorder = &mut *guard;
-        match recorder.record(self.worker.rt, self.worker.alloc, self.worker.desk) {
-            Ok(()) => Ok(true),
-            Err(error) => Err(error),
+        match self.worker.tallies.board() {
+            Some(board) => self.record_noted(board, recorder)?,
+            None => {
+                recorder.record(self.worker.rt, self.worker.alloc, self.worker.desk)?;
+            }
         }
+        Ok(true)
     }
 
     /// Has what the newest bytes rest on recorded: by this worker, where nobody else records now.
@@ -248,14 +353,25 @@ impl<'a, K: Record, J: Job, R: Wait + Clock, G: Gate> Keeper<'a, K, J, R, G> {
         Ok(())
     }
 
+    /// Counts what was sent of so many bytes that waited.
+    fn count_sent(&self, client: &mut Client<'a, J>, before: usize) {
+        let after = client.waiting();
+        client.visit.sends(before.saturating_sub(after));
+        if let Some(board) = self.worker.tallies.board() {
+            board.waits(before, after);
+        }
+    }
+
     /// Sends what may go out to the connection at a place.
     fn send(&self, clients: &mut Clients<'a, J>, second: u64, at: usize) {
         let mut over = false;
         if let Some(Some(client)) = clients.places.get_mut(at) {
+            let before = client.waiting();
             over = client.send(&self.worker, second).is_err();
+            self.count_sent(client, before);
         }
         if over {
-            self.close(clients, at);
+            self.close(clients, at, second, ended_by(clients.at(at)));
         } else {
             clients.list(at);
         }
@@ -323,13 +439,16 @@ impl<'a, K: Record, J: Job, R: Wait + Clock, G: Gate> Keeper<'a, K, J, R, G> {
         round: &mut Round<J>,
     ) -> Result<(), KeepError> {
         let mut coming = true;
-        let Ok(start) = Instant::now(self.worker.rt) else {
+        let Some(start) = self.worker.tallies.start() else {
             return Err(KeepError::Clock);
         };
         for _ in self.worker.rt.forever() {
             self.wait(poll, events, clients, round, start)?;
             if self.bells.ends() {
                 return Ok(());
+            }
+            if let Some(board) = self.worker.tallies.board() {
+                board.turns(self.worker.number);
             }
             let Some(mut mine) = seat.take() else {
                 return Ok(());
@@ -339,8 +458,9 @@ impl<'a, K: Record, J: Job, R: Wait + Clock, G: Gate> Keeper<'a, K, J, R, G> {
                 round.second = round.millis / 1000;
                 mine = self.tick(mine, clients, round);
             }
+            self.make_way(clients, round.second);
             if round.woken && coming {
-                coming = self.take_all(poll, &mut mine, clients, round.second)?;
+                coming = self.take_all(poll, &mut mine, clients, round.second);
             }
             round.newest = self.worker.desk.ticket(&mut mine);
             *seat = Some(mine);
@@ -382,6 +502,9 @@ impl<'a, K: Record, J: Job, R: Wait + Clock, G: Gate> Keeper<'a, K, J, R, G> {
         let served = self.serve(&mut poll, &mut events, &mut seat, &mut clients, &mut round);
         if served.is_err() {
             self.bells.end();
+        }
+        if let Some(board) = self.worker.tallies.board() {
+            board.ends(self.worker.number);
         }
         (seat, served)
     }

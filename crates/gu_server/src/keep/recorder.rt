@@ -82,12 +82,13 @@ impl<K: Record, J: Job> Recorder<K, J> {
     }
 
     /// Records what the desk has answered since, and tells those that wait for it that it is kept.
+    /// How many entries these were.
     pub(crate) fn record<R: Wait + Clock>(
         &mut self,
         rt: &R,
         alloc: Global,
         desk: &Desk<J>,
-    ) -> Result<(), KeepError>
+    ) -> Result<usize, KeepError>
         ensures { OnOk result (self.new.kept ≡ self.new.seen) }
     {
         if self.failed {
@@ -97,13 +98,14 @@ impl<K: Record, J: Job> Recorder<K, J> {
         let Ok(entries) = desk.copy_above(rt, alloc, &mut self.seat) else {
             return Err(KeepError::Memory);
         };
-        if entries.is_empty() {
-            return Ok(());
+        let count = entries.len();
+        if count == 0 {
+            return Ok(0);
         }
         match self.journal.record(sent.as_bytes(), entries.as_slice()) {
             Ok(()) => {
                 desk.confirm(&mut self.seat, &self.journal);
-                Ok(())
+                Ok(count)
             }
             Err(error) => {
                 self.failed = true;

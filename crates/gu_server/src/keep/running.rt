@@ -44,6 +44,12 @@ pub enum KeepError {
     /// What was answered couldn't be recorded.
     #[error("{0}")]
     Record(RecordError),
+    /// The status can't be told where it is to be.
+    #[error("cannot listen for status")]
+    Status,
+    /// A part of the server stood still.
+    #[error("a part of the server stood still")]
+    Stuck,
     /// Another worker found the journal failed.
     #[error("the journal has failed")]
     Failed,
@@ -54,11 +60,10 @@ type Done<J> = (Option<Seat<J>>, Result<(), KeepError>);
 
 /// What the threads wake each other by, and the polls of the workers and of the thread that
 /// accepts.
-fn make_polls<N: Net>(
-    net: &N,
-    alloc: Global,
-    workers: usize,
-) -> Result<(Bells, Vec<Poll>, Poll), KeepError> {
+pub(crate) type Polls = (Bells, Vec<Poll>, Poll);
+
+/// The polls of so many workers.
+pub(crate) fn make_polls<N: Net>(net: &N, alloc: Global, workers: u32) -> Result<Polls, KeepError> {
     let mut bells: Vec<Bell> = Vec::new(alloc);
     let mut polls: Vec<Poll> = Vec::new(alloc);
     for _ in 0..workers {
@@ -176,6 +181,9 @@ fn accept_and_join<J: Job, R: Threads + Wait + Clock>(
 ) -> Result<Vec<Seat<J>>, KeepError> {
     let bells = inlets.bells;
     let accepted = inlets.accept_all(rt, alloc, poll, listener, connections);
+    if let Some(board) = inlets.board {
+        board.accepts_no_more();
+    }
     // The workers take no more once their channels are closed.
     drop(inlets);
     if accepted.is_err() {
@@ -192,16 +200,17 @@ fn accept_and_join<J: Job, R: Threads + Wait + Clock>(
 pub(crate) fn run_keepers<
     K: Record + Send,
     J: Job + Send + Sync,
-    R: Threads + Wait + Clock + Net + Sync,
+    R: Threads + Wait + Clock + Sync,
     G: Gate + Sync,
 >(
     first: Worker<'_, J, R, G>,
     listener: &TcpListener,
+    waits: Polls,
     recorder: &Mutex<Recorder<K, J>>,
     seats: Vec<Seat<J>>,
     connections: u32,
 ) -> Result<Vec<Seat<J>>, KeepError> {
-    let (bells, polls, poll) = make_polls(first.rt, first.alloc, seats.len())?;
+    let (bells, polls, poll) = waits;
     watch(&poll, listener)?;
     let bells = &bells;
     thread::scope(thread::scope_env(), first.rt, move |scope| {
@@ -225,7 +234,11 @@ pub(crate) fn run_keepers<
             }
             number = number.wrapping_add(1);
         }
-        let inlets = Inlets { bells, to };
+        let inlets = Inlets {
+            bells,
+            to,
+            board: first.tallies.board(),
+        };
         accept_and_join(
             first.rt,
             first.alloc,

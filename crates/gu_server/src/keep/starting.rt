@@ -8,28 +8,40 @@ ghost use Rattle.gu_desk.specs.Views.{is_worker_count};
 ghost use Rattle.gu_server.specs.Keeping.{is_keep_fault};
 ghost use Rattle.gu_server.specs.Program.{IsServed};
 
-use crate::fault::Fault;
+use crate::fault::{Fault, fault_at};
+use crate::keep::board::{Board, number};
 use crate::keep::journals::{Journals, Record};
 use crate::keep::recorder::Recorder;
-use crate::keep::running::{KeepError, run_keepers};
-use crate::server::prepare;
-use crate::service::{Open, rekey};
+use crate::keep::running::{KeepError, Polls, make_polls, run_keepers};
+use crate::keep::tallies::Tallies;
+use crate::keep::telling::Teller;
+use crate::keep::watch::{Order, serve_beside};
+use crate::server::{LOGON_WAIT, prepare};
+use crate::service::{Open, listening, new_key};
 use crate::worker::Worker;
 use gu_book::Book;
 use gu_desk::{Desk, Ground, Job, JournalSeat, Seat};
+use gu_limits::Limits;
+use gu_log::{Event, Key};
 use gu_parties::House;
 use mio::net::TcpListener;
 use std::alloc::Global;
-use std::io::ErrorKind;
 use std::marker::Brand;
 use std::net::{Ipv4Addr, Net, SocketAddr};
 use std::random::RandomSource;
-use std::sync::{Mutex, Wait};
+use std::sync::{Arc, Mutex, Wait};
 use std::thread::Threads;
-use std::time::Clock;
+use std::time::{Clock, Instant};
 
-/// How long a connection may be without an accepted Logon, in seconds.
-const LOGON_WAIT: u64 = 30;
+/// Where connections come in, of which firms, what is counted of these, and after how many
+/// connections the server ends (0: never).
+#[derive(Clone, Copy)]
+struct Door<'a> {
+    listener: &'a TcpListener,
+    house: &'a House,
+    tallies: &'a Tallies,
+    connections: u32,
+}
 
 /// The recorder of a journal that says what the desk opened with.
 fn begin<K: Record, J: Job>(desk: &Desk<J>, journal: K, seat: JournalSeat<J>) -> Recorder<K, J>
@@ -45,6 +57,32 @@ fn begin<K: Record, J: Job>(desk: &Desk<J>, journal: K, seat: JournalSeat<J>) ->
         seat,
         failed: false,
     }
+}
+
+/// A desk over this ground, its seats, and the recorder of a journal that says what it opened with.
+fn open_desk<K: Record + Drop, J: Job>(
+    alloc: Global,
+    ground: Ground,
+    journal: K,
+) -> Result<(Desk<J>, Vec<Seat<J>>, Recorder<K, J>), KeepError>
+    requires name { ground.name ≡ J.name }
+    requires parts { ground.workers + 1 ≡ J.parts }
+    requires table { ground.table ≡ J.table }
+    requires opening { ground.opening ≡ J.opening }
+    requires house { K.house journal ≡ J.opening.house }
+    requires says { K.says journal J.opening.history }
+    requires takes { K.takes journal }
+{
+    let (desk, seats, seat) = match Desk::<J>::with_journal(alloc, ground) {
+        Ok(opened) => opened,
+        Err((book, _)) => {
+            drop(book);
+            drop(journal);
+            return Err(KeepError::Memory);
+        }
+    };
+    let recorder = begin(&desk, journal, seat);
+    Ok((desk, seats, recorder))
 }
 
 /// Gives the book back, once all of it is recorded, also what was answered to nobody.
@@ -72,14 +110,13 @@ fn end<K: Record + Drop, J: Job, R: Wait + Clock>(
 }
 
 /// A desk over this ground, from its opening to its close.
-fn run_kept<K: Record + Drop + Send, J: Job + Send + Sync, R: Threads + Wait + Clock + Net + Sync>(
+fn run_kept<K: Record + Drop + Send, J: Job + Send + Sync, R: Threads + Wait + Clock + Sync>(
     rt: &R,
     alloc: Global,
-    listener: &TcpListener,
-    house: &House,
+    door: Door<'_>,
+    polls: Polls,
     ground: Ground,
     journal: K,
-    connections: u32,
 ) -> Result<Book, KeepError>
     requires name { ground.name ≡ J.name }
     requires parts { ground.workers + 1 ≡ J.parts }
@@ -90,61 +127,117 @@ fn run_kept<K: Record + Drop + Send, J: Job + Send + Sync, R: Threads + Wait + C
     requires takes { K.takes journal }
     ensures { IfOk result (λ b. IsRunOf J.opening (stored b)) }
 {
-    let (desk, seats, seat) = match Desk::<J>::with_journal(alloc, ground) {
+    let (desk, seats, recorder) = match open_desk::<K, J>(alloc, ground, journal) {
         Ok(opened) => opened,
-        Err((book, _)) => {
-            drop(book);
-            drop(journal);
-            return Err(KeepError::Memory);
-        }
+        Err(error) => return Err(error),
     };
-    let recorder = Mutex::new(begin(&desk, journal, seat));
+    let recorder = Mutex::new(recorder);
     let first = Worker {
         rt,
         alloc,
         desk: &desk,
-        house,
+        house: door.house,
         gate: &Open,
+        tallies: door.tallies,
         logon_wait: LOGON_WAIT,
         number: 0,
     };
-    let seats = match run_keepers(first, listener, &recorder, seats, connections) {
+    let served = run_keepers(
+        first,
+        door.listener,
+        polls,
+        &recorder,
+        seats,
+        door.connections,
+    );
+    door.tallies.tell(rt);
+    let seats = match served {
         Ok(seats) => seats,
         Err(error) => {
             drop(desk);
             return Err(error);
         }
     };
-    end(rt, alloc, desk, recorder.into_inner(), seats)
+    if let Some(board) = door.tallies.board() {
+        board.takes_journal();
+    }
+    let book = end(rt, alloc, desk, recorder.into_inner(), seats);
+    if let Some(board) = door.tallies.board() {
+        board.leaves_journal();
+    }
+    book
 }
 
-/// Listens on a port of 127.0.0.1, with as long a queue as the system allows.
-fn listen<R: Net>(rt: &R, port: u16) -> Result<TcpListener, KeepError> {
-    match TcpListener::bind(rt, SocketAddr::from((Ipv4Addr::LOCALHOST, port))) {
-        Ok(listener) => Ok(listener),
-        Err(error) => match error.kind() {
-            ErrorKind::OutOfMemory => Err(KeepError::Memory),
-            _ => Err(KeepError::Listen),
-        },
+/// What is counted of the firms of a book, from now on.
+fn count<R: Clock>(
+    rt: &R,
+    alloc: Global,
+    book: &Book,
+    limits: Limits,
+    board: &Arc<Board>,
+) -> Result<Tallies, KeepError> {
+    let Ok(start) = Instant::now(rt) else {
+        return Err(KeepError::Clock);
+    };
+    let Ok(board) = Arc::try_clone(board) else {
+        return Err(KeepError::Memory);
+    };
+    match Tallies::new(alloc, book, limits, start, Some(board)) {
+        Ok(tallies) => Ok(tallies),
+        Err(_) => Err(KeepError::Memory),
     }
 }
 
-/// Serves this book, which the journal says, on a port.
-fn serve_kept<K: Record + Drop + Send, R: Threads + Wait + Clock + Net + Sync>(
+/// What a line asks for of the server: the port, 1 to 16 workers, after how many connections it
+/// ends (0: never), and what firms may have.
+#[derive(Clone, Copy)]
+pub(crate) struct Request {
+    pub(crate) port: u16,
+    pub(crate) workers: u32,
+    pub(crate) connections: u32,
+    pub(crate) limits: Limits,
+}
+
+/// Where connections come in, and what the server's threads wait by.
+#[derive(Drop)]
+pub(crate) struct Entrance {
+    listener: TcpListener,
+    polls: Polls,
+}
+
+/// Listens on a port of 127.0.0.1, with as long a queue as the system allows.
+fn listen<N: Net>(net: &N, alloc: Global, request: Request) -> Result<Entrance, KeepError> {
+    let address = SocketAddr::from((Ipv4Addr::LOCALHOST, request.port));
+    let bound = TcpListener::bind(net, address);
+    let listener = match listening(bound, KeepError::Memory, KeepError::Listen) {
+        Ok(listener) => listener,
+        Err(error) => return Err(error),
+    };
+    match make_polls(net, alloc, request.workers) {
+        Ok(polls) => Ok(Entrance { listener, polls }),
+        Err(error) => Err(error),
+    }
+}
+
+/// Serves this book, which the journal says, to those who come in.
+pub(crate) fn serve_listener<K: Record + Drop + Send, R: Threads + Wait + Clock + Sync>(
     rt: &R,
     alloc: Global,
+    entrance: Entrance,
     book: Book,
     journal: K,
-    request: &Request<'_>,
+    request: Request,
+    board: &Arc<Board>,
 ) -> Result<Book, KeepError>
-    requires workers { IsTrue (is_worker_count request.now.workers) }
+    requires workers { IsTrue (is_worker_count request.workers) }
     requires says { K.says journal book.history }
     requires takes { K.takes journal }
     requires house { K.house journal ≡ book.house }
     ensures { IfOk result (λ b. IsRunOf (stored book) (stored b)) }
 {
-    let listener = match listen(rt, request.port) {
-        Ok(listener) => listener,
+    let Entrance { listener, polls } = entrance;
+    let tallies = match count(rt, alloc, &book, request.limits, board) {
+        Ok(tallies) => tallies,
         Err(error) => {
             drop(book);
             drop(journal);
@@ -153,18 +246,49 @@ fn serve_kept<K: Record + Drop + Send, R: Threads + Wait + Clock + Net + Sync>(
     };
     let Ok((house, ground)) = prepare(alloc, book, request.workers) else {
         drop(journal);
-        drop(listener);
         return Err(KeepError::Memory);
     };
-    run_kept::<K, Brand, R>(
-        rt,
-        alloc,
-        &listener,
-        &house,
-        ground,
-        journal,
-        request.connections,
-    )
+    board.set_ready();
+    let fields = [number(Key::Port, u64::from(request.port))];
+    board.say(rt, Event::Listening, &fields);
+    let door = Door {
+        listener: &listener,
+        house: &house,
+        tallies: &tallies,
+        connections: request.connections,
+    };
+    run_kept::<K, Brand, R>(rt, alloc, door, polls, ground, journal)
+}
+
+/// Lets a book and its journal go, since the server can't begin.
+pub(crate) fn let_go<K: Record + Drop>(book: Book, journal: K, error: KeepError) -> KeepError {
+    drop(book);
+    drop(journal);
+    error
+}
+
+/// Serves this book, which the journal says, on a port of 127.0.0.1.
+fn serve_kept<
+    K: Record + Drop + Send + 'static,
+    R: Threads + Wait + Clock + Net + Copy + Send + Sync + 'static,
+>(
+    rt: &R,
+    alloc: Global,
+    book: Book,
+    journal: K,
+    request: Request,
+    board: &Arc<Board>,
+) -> Result<Book, KeepError>
+    requires workers { IsTrue (is_worker_count request.workers) }
+    requires says { K.says journal book.history }
+    requires takes { K.takes journal }
+    requires house { K.house journal ≡ book.house }
+    ensures { IfOk result (λ b. IsRunOf (stored book) (stored b)) }
+{
+    match listen(rt, alloc, request) {
+        Ok(entrance) => serve_beside(rt, alloc, entrance, book, journal, request, board),
+        Err(error) => Err(let_go(book, journal, error)),
+    }
 }
 
 /// The fault of a server whose journal is at this path.
@@ -172,32 +296,30 @@ fn fault_of(alloc: Global, path: &str, error: KeepError) -> Fault
     ensures { IsTrue (is_keep_fault result) }
 {
     match error {
-        KeepError::Record(cause) => match format!(in alloc; "{path}: {cause}") {
-            Ok(text) => Fault::Journal(text),
-            Err(_) => Fault::Keep(KeepError::Memory),
-        },
+        KeepError::Record(cause) => fault_at(alloc, path, cause),
         other => Fault::Keep(other),
     }
 }
 
-/// What a line asks for that keeps a book in a journal: the journal's path, the port, 1 to 16
-/// workers, and after how many connections the server ends (0: never).
-#[derive(Clone, Copy)]
-pub(crate) struct Request<'a> {
-    pub(crate) path: &'a str,
-    pub(crate) port: u16,
-    pub(crate) workers: u32,
-    pub(crate) connections: u32,
+/// Notes that a book was recovered, in so many milliseconds.
+fn note_recovered<R: Wait + Clock>(rt: &R, board: &Board, book: &Book, millis: u64) {
+    board.count_book(book);
+    let fields = [
+        number(Key::Entries, board.entries()),
+        number(Key::Milliseconds, millis),
+    ];
+    board.say(rt, Event::Recovered, &fields);
 }
 
-/// Opens the journal that is asked for, and gives its book a key that nobody knows.
-fn open_under_key<R: RandomSource, K: Journals>(
+/// Opens the journal that is asked for. Its book has a key that nobody knows.
+fn open_journal<R: Wait + Clock + RandomSource, K: Journals>(
     rt: &R,
     alloc: Global,
     journals: K,
     text: &[u8],
     house: House,
-    request: &Request<'_>,
+    order: &Order,
+    board: &Board,
 ) -> Result<(Book, K::Journal), Fault>
     ensures house { IfOk result (λ r. K.Journal.house r.1 ≡ house) }
     ensures book { IfOk result (λ r. r.0.house ≡ house) }
@@ -206,10 +328,19 @@ fn open_under_key<R: RandomSource, K: Journals>(
     ensures takes { IfOk result (λ r. K.Journal.takes r.1) }
     ensures fault { IfErr result (λ e. IsTrue (is_keep_fault e)) }
 {
-    match journals.open(alloc, request.path, text, house) {
+    let key = new_key(rt);
+    let mut teller = Teller::new(rt, board);
+    match journals.open(
+        alloc,
+        order.journal.as_str(),
+        order.options.replica.as_deref(),
+        text,
+        house,
+        key,
+        &mut teller,
+    ) {
         Ok((book, journal)) => {
-            let mut book = book;
-            rekey(rt, &mut book);
+            note_recovered(rt, board, &book, teller.millis());
             Ok((book, journal))
         }
         Err(fault) => Err(fault),
@@ -223,24 +354,35 @@ fn open_under_key<R: RandomSource, K: Journals>(
 /// # Errors
 ///
 /// `Journal`, where the journal can't be opened, isn't one of this house or failed; else `Keep`.
-pub(crate) fn keep_port<R: Threads + Wait + Clock + Net + RandomSource + Sync, K: Journals>(
+pub(crate) fn keep_port<
+    R: Threads + Wait + Clock + Net + RandomSource + Copy + Send + Sync + 'static,
+    K: Journals,
+>(
     rt: &R,
     alloc: Global,
     journals: K,
     text: &[u8],
     house: House,
-    request: &Request<'_>,
+    order: &Order,
+    board: &Arc<Board>,
 ) -> Result<Book, Fault>
-    requires { IsTrue (is_worker_count request.now.workers) }
+    requires { IsTrue (is_worker_count order.now.workers) }
     ensures served { IfOk result (λ b. IsServed house (stored b)) }
     ensures fault { IfErr result (λ e. IsTrue (is_keep_fault e)) }
 {
-    let (book, journal) = match open_under_key(rt, alloc, journals, text, house, request) {
+    let request = Request {
+        port: order.port,
+        workers: order.workers,
+        connections: order.connections,
+        limits: order.options.limits,
+    };
+    let opened = open_journal(rt, alloc, journals, text, house, order, board);
+    let (book, journal) = match opened {
         Ok(opened) => opened,
         Err(fault) => return Err(fault),
     };
-    match serve_kept::<K::Journal, R>(rt, alloc, book, journal, request) {
+    match serve_kept::<K::Journal, R>(rt, alloc, book, journal, request, board) {
         Ok(book) => Ok(book),
-        Err(error) => Err(fault_of(alloc, request.path, error)),
+        Err(error) => Err(fault_of(alloc, order.journal.as_str(), error)),
     }
 }

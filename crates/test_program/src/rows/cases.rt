@@ -19,7 +19,8 @@ pub(crate) enum Way {
     Totals,
 }
 
-/// A case: its name, its way, whether its house's agreements are opening calls, and the text of its input.
+/// A case: its name, its way, whether its house's agreements are opening calls, and the text of its
+/// input.
 #[derive(Clone, Copy)]
 pub(crate) struct Case<'a> {
     pub(crate) name: &'a str,

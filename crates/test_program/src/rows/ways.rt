@@ -12,7 +12,9 @@ use std::io::Print;
 
 /// The house of all rows, without the line of its version.
 const HOUSE: &[u8] =
-    b"HOUSE HSE\nFIRM AAA\nFIRM BBB\nFIRM CCC\nACCOUNT AAA A1\nACCOUNT AAA A2\nACCOUNT BBB B1\nACCOUNT BBB B2\nACCOUNT CCC C1\nINSTRUMENT ESZ6\nAGREEMENT AAA BBB 125 500\nAGREEMENT BBB CCC 40 100\n";
+    b"HOUSE HSE\nFIRM AAA\nFIRM BBB\nFIRM CCC\nACCOUNT AAA A1\nACCOUNT AAA A2\nACCOUNT BBB B1\n\
+      ACCOUNT BBB B2\nACCOUNT CCC C1\nINSTRUMENT ESZ6\nAGREEMENT AAA BBB 125 500\n\
+      AGREEMENT BBB CCC 40 100\n";
 
 /// What a case runs on: its name, whether its house's agreements are opening calls, and its input.
 #[derive(Clone, Copy)]
@@ -168,7 +170,8 @@ fn tell_failed(rt: &HostRuntime, alloc: Global, row: &Row<'_>, end: usize, outco
     tell(rt, alloc, row.name, outcome)
 }
 
-/// Prints what comes of a reader that fails after so many bytes, where it isn't `last` bytes of output. Gives how many are written.
+/// Prints what comes of a reader that fails after so many bytes, where it isn't `last` bytes of
+/// output. Gives how many are written.
 fn fail_after(rt: &HostRuntime, alloc: Global, row: &Row<'_>, end: usize, last: usize) -> usize {
     let mut pieces = pieces_of(row.input, 7);
     pieces.end = end;
@@ -230,7 +233,8 @@ fn count_fronts(alloc: Global, row: &Row<'_>, most: usize, quiet: bool, whole: &
     fronts
 }
 
-/// Prints what comes of a writer that takes so many bytes a call, with less room than for the whole, and with just that.
+/// Prints what comes of a writer that takes so many bytes a call, with less room than for the
+/// whole, and with just that.
 fn failing_writer(rt: &HostRuntime, alloc: Global, row: &Row<'_>, most: usize, quiet: bool) {
     let Some(whole) = run_whole(alloc, row) else {
         return say_line(rt, "no run");

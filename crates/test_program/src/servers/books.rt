@@ -5,7 +5,8 @@ use gu_book::Book;
 use gu_parties::House;
 use std::alloc::Global;
 
-/// Trades of the house in ESZ6: a firm has bought these lots each time, for this account. Their numbers, of three digits, tell them apart.
+/// Trades of the house in ESZ6: a firm has bought these lots each time, for this account. Their
+/// numbers, of three digits, tell them apart.
 #[derive(Clone, Copy)]
 pub(crate) struct Trades<'a> {
     pub(crate) firm: &'a [u8],

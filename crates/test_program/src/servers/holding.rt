@@ -1,4 +1,5 @@
-//! A gate that holds the first call until it is released. `test_book` has one of its own: a program gives nothing to another.
+//! A gate that holds the first call until it is released. `test_book` has one of its own: a program
+//! gives nothing to another.
 
 use gu_desk::Gate;
 use std::alloc::Global;
@@ -6,7 +7,8 @@ use std::sync::atomic::{AtomicU64, Ordering};
 use std::thread;
 use std::time::Duration;
 
-/// Holds the first call until it is released, for at most 10,000 turns of a millisecond. What the clients do has the system from here.
+/// Holds the first call until it is released, for at most 10,000 turns of a millisecond. What the
+/// clients do has the system from here.
 #[derive(Drop)]
 pub(crate) struct Holds<'a> {
     pub(crate) rt: &'a HostRuntime,

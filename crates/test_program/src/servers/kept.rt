@@ -1,17 +1,21 @@
-//! Runs of the program that keep a book, and their clients. What must be printed was written by hand from the rules.
+//! Runs of the program that keep a book, and their clients. What must be printed was written by
+//! hand from the rules.
 //!
-//! - The house enters a trade, and is told its entry; AAA splits it, and is told its entry. Both have gone: the run ends, and the totals are
-//!   those of the book.
-//! - The journal takes one entry. The house is told the first; AAA's split isn't recorded, so AAA is told nothing, not even its Logon, which
-//!   was to go out with it. The run ends, and names the journal.
+//! - The house enters a trade, and is told its entry; AAA splits it, and is told its entry. Both
+//!   have gone: the run ends, and the totals are those of the book.
+//! - The journal takes one entry. The house is told the first; AAA's split isn't recorded, so AAA
+//!   is told nothing, not even its Logon, which was to go out with it. The run ends, and names the
+//!   journal.
 
 use crate::lines::{Outcome, run_words, say, tell_fault, words_of};
 use crate::servers::peers::{Message, send_all};
 use crate::servers::scenes::{AAA_LOGON, AAA_SPLIT, LOGON};
 use crate::servers::telling::tell;
 use std::alloc::Global;
+use std::io::Eprint;
 use std::net::{Ipv4Addr, Net, SocketAddr, TcpListener, TcpStream};
 use std::random::RandomSource;
+use std::rt::Files;
 use std::sync::Wait;
 use std::thread::Threads;
 use std::time::{Clock, Duration};
@@ -42,7 +46,8 @@ const HOUSE_TRADE: Message<'static> = Message {
     firm: b"HSE",
     kind: b"AE",
     number: 2,
-    body: b"571=T1\x0155=ESZ6\x0132=100\x01552=1\x0154=1\x01453=1\x01448=AAA\x01447=D\x01452=4\x011=A1\x01",
+    body: b"571=T1\x0155=ESZ6\x0132=100\x01552=1\x0154=1\x01453=1\x01448=AAA\x01447=D\x01452=4\x01\
+        1=A1\x01",
 };
 
 const CLIENTS: &[Client<'static>] = &[
@@ -106,14 +111,20 @@ fn tell_outcome(rt: &HostRuntime, alloc: Global, outcome: &Outcome) {
     say(rt, outcome.out.as_slice());
 }
 
-/// Makes the runs over a handle that may start threads, wait and listen, and beside each what its clients do.
+/// Makes the runs over a handle that may start threads, wait and listen, and beside each what its
+/// clients do.
 pub(crate) fn play_kept<
     H: Threads
         + Wait
         + Clock
         + RandomSource
         + Net<Stream = TcpStream, Listener = TcpListener>
-        + Sync,
+        + Files
+        + Eprint
+        + Copy
+        + Send
+        + Sync
+        + 'static,
 >(rt: &HostRuntime, handle: &H, alloc: Global) -> io::Result<()> {
     for run in RUNS {
         let port = free_port(rt)?;

@@ -99,7 +99,8 @@ fn receive(stream: &TcpStream, held: &mut Vec<u8>) -> bool {
     }
 }
 
-/// What a peer is sent until so many messages with this field have come whole, or until it is closed.
+/// What a peer is sent until so many messages with this field have come whole, or until it is
+/// closed.
 pub(crate) fn received(alloc: Global, stream: &TcpStream, wanted: &[u8], most: usize) -> Vec<u8> {
     let mut held = Vec::new(alloc);
     for _ in 0..100_000 {

@@ -20,7 +20,8 @@ pub(crate) enum Deed<'a> {
     IsHeld,
     /// The gate lets the held call pass.
     IsFreed,
-    /// What came up to an acknowledgement, or until the connection was closed, is written under this name.
+    /// What came up to an acknowledgement, or until the connection was closed, is written under
+    /// this name.
     Hears(&'a [u8]),
     /// Whether the connection is closed before a byte came is written under this name.
     IsClosed(&'a [u8]),

@@ -133,7 +133,8 @@ const CCC_LOGOUT: Message<'static> = Message {
     body: b"",
 };
 
-/// AAA's call is held; while it is, CCC logs on, splits its trade and is answered. Then the gate lets AAA's call pass.
+/// AAA's call is held; while it is, CCC logs on, splits its trade and is answered. Then the gate
+/// lets AAA's call pass.
 const GATE: Scene<'static> = Scene {
     connections: 2,
     has_two_workers: true,
@@ -149,7 +150,8 @@ const GATE: Scene<'static> = Scene {
     ],
 };
 
-/// A peer that speaks another protocol, a firm that the house doesn't have, and a peer that goes in mid-frame; then a session of AAA.
+/// A peer that speaks another protocol, a firm that the house doesn't have, and a peer that goes in
+/// mid-frame; then a session of AAA.
 const STRANGERS: Scene<'static> = Scene {
     connections: 4,
     has_two_workers: false,
@@ -168,7 +170,8 @@ const STRANGERS: Scene<'static> = Scene {
     ],
 };
 
-/// AAA's split is held until its connection is closed. Then AAA logs on again, and sends the split again in the same write.
+/// AAA's split is held until its connection is closed. Then AAA logs on again, and sends the split
+/// again in the same write.
 const RETRY: Scene<'static> = Scene {
     connections: 2,
     has_two_workers: false,
@@ -184,7 +187,8 @@ const RETRY: Scene<'static> = Scene {
     ],
 };
 
-/// CCC, which nothing in the book concerns, has logged on. A peer that says nothing is ended, and then CCC's TestRequest is answered.
+/// CCC, which nothing in the book concerns, has logged on. A peer that says nothing is ended, and
+/// then CCC's TestRequest is answered.
 const SILENT: Scene<'static> = Scene {
     connections: 2,
     has_two_workers: true,
@@ -197,7 +201,7 @@ const SILENT: Scene<'static> = Scene {
     ],
 };
 
-/// AAA logs on and says nothing more. It has its thousand reports within two seconds.
+/// AAA logs on and says nothing more. It has its thousand reports within eight seconds.
 const BEHIND: Scene<'static> = Scene {
     connections: 1,
     has_two_workers: false,

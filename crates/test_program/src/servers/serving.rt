@@ -81,7 +81,8 @@ fn served<R: Threads + Wait + Clock + Sync>(
     served.ok()
 }
 
-/// Serves the clients of a scene with this book, and writes how long the book is then. None where there is none, or none comes back.
+/// Serves the clients of a scene with this book, and writes how long the book is then. None where
+/// there is none, or none comes back.
 fn told<R: Threads + Wait + Clock + Sync>(
     handle: &R,
     ground: &Ground<'_>,

@@ -7,8 +7,9 @@ use std::io::{ErrorKind, Write};
 use std::net::TcpStream;
 use std::time::Instant;
 
-/// How long a firm that is behind may wait for its thousand reports, in seconds. A server that waits a second for each hundred takes ten.
-const REPORTS_WAIT: u64 = 2;
+/// How long a firm that is behind may wait for its thousand reports, in seconds. A server that
+/// waits a second for each hundred takes ten.
+const REPORTS_WAIT: u64 = 8;
 
 /// Writes a text.
 pub(crate) fn say(rt: &HostRuntime, text: &[u8]) {
@@ -22,7 +23,8 @@ pub(crate) fn say_line(rt: &HostRuntime, who: &[u8], what: &[u8]) {
     say(rt, b"\n");
 }
 
-/// Writes the messages up to the first of this type (35), each as a line of its fields but the times (52) and the checksum (10), which hangs on these.
+/// Writes the messages up to the first of this type (35), each as a line of its fields but the
+/// times (52) and the checksum (10), which hangs on these.
 fn show(rt: &HostRuntime, held: &[u8], wanted: &[u8]) {
     let mut is_answer = false;
     for field in held.split(|b| *b == 1) {
@@ -39,14 +41,16 @@ fn show(rt: &HostRuntime, held: &[u8], wanted: &[u8]) {
     }
 }
 
-/// Writes who is sent something, and what it is sent up to a message of this type (35), or until it is closed.
+/// Writes who is sent something, and what it is sent up to a message of this type (35), or until it
+/// is closed.
 pub(crate) fn tell(rt: &HostRuntime, alloc: Global, who: &[u8], stream: &TcpStream, wanted: &[u8]) {
     let held = received(alloc, stream, wanted, 1);
     say_line(rt, who, b"");
     show(rt, held.as_slice(), wanted);
 }
 
-/// Writes who is sent something, and whether it is sent a byte before the server closes the connection.
+/// Writes who is sent something, and whether it is sent a byte before the server closes the
+/// connection.
 pub(crate) fn tell_stranger(rt: &HostRuntime, who: &[u8], stream: &TcpStream) {
     let what = match read_byte(stream) {
         Ok(0) => b": nothing, and closed".as_slice(),
@@ -78,7 +82,7 @@ fn has_reports(rt: &HostRuntime, alloc: Global, stream: &TcpStream) -> bool {
 /// Writes whether a firm that is behind has its thousand reports in time.
 pub(crate) fn tell_reports(rt: &HostRuntime, alloc: Global, who: &[u8], stream: &TcpStream) {
     if has_reports(rt, alloc, stream) {
-        say_line(rt, who, b": a thousand reports within two seconds");
+        say_line(rt, who, b": a thousand reports within eight seconds");
     } else {
         say_line(rt, who, b": too late");
     }

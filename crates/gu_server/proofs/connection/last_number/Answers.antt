@@ -7,5 +7,7 @@ use Rattle.gu_server.proofs.connection.last_number.Goals as goal
 
 pub returns-in-Some : goal.returns-in-Some
 returns-in-Some c =
-    let last : option_map_or (λ (r : Report). r.number) (slice_get c.args.reports.now (length c.args.reports.now - 1)) c.args.before ≡ c.get.result = search rules in
+    let last : option_map_or (λ (r : Report). r.number) (slice_get c.args.reports.now (length c.args.reports.now - 1))
+    c.args.before ≡ c.get.result =
+    search rules in
     sym last ∙ last_of c.args.reports.now c.args.before

@@ -12,9 +12,25 @@ returns-then-count-len g c =
     record {
       bytes = text ++ piece;
       consumed = Consumes-trans _ _ _ text piece c.reads.invariant.consumed c.in-Ok.ensures.bytes.0;
-      few = omega (arith, length-append text piece, c.reads.invariant.held, c.in-Ok.ensures.bound.0, c.in-Ok.ensures.bound.1, c.read.auto.buf);
+      few =
+          omega (
+            arith,
+            length-append text piece,
+            c.reads.invariant.held,
+            c.in-Ok.ensures.bound.0,
+            c.in-Ok.ensures.bound.1,
+            c.read.auto.buf,
+          );
       held = c.reads.invariant.held;
-      right = inr (omega (arith, length-append text piece, size, c.reads.invariant.held, c.in-Ok.ensures.bound.1, c.if-count-len.true));
+      right =
+          inr (omega (
+            arith,
+            length-append text piece,
+            size,
+            c.reads.invariant.held,
+            c.in-Ok.ensures.bound.1,
+            c.if-count-len.true,
+          ));
     }
 
 pub returns-in_err-extend_from_slice-in-Ok : goal.returns-in_err-extend_from_slice-in-Ok
@@ -26,7 +42,15 @@ returns-in_err-extend_from_slice-in-Ok g c =
     rw (p.1, p.2) (record {
       bytes = text ++ piece;
       consumed = Consumes-trans _ _ _ text piece c.reads.invariant.consumed c.in-Ok.ensures.bytes.0;
-      few = omega (arith, length-append text piece, c.reads.invariant.held, c.in-Ok.ensures.bound.0, c.in-Ok.ensures.bound.1, c.read.auto.buf);
+      few =
+          omega (
+            arith,
+            length-append text piece,
+            c.reads.invariant.held,
+            c.in-Ok.ensures.bound.0,
+            c.in-Ok.ensures.bound.1,
+            c.read.auto.buf,
+          );
       held = let h = c.reads.invariant.held in rw kept h;
       right = tt;
     })

@@ -7,4 +7,5 @@ pub returns : goal.returns
 returns c =
     let app = new_app c.args.name.now in
     let bare : app_of c.about.result ≡ app = search rules in
-    subst (λ (r : Rule). Makes (with_rule app r) c.with_argument.result) c.house_argument-house.ensures.rule (c.with_argument.ensures app (bare, search rules))
+    subst (λ (r : Rule). Makes (with_rule app r) c.with_argument.result) c.house_argument-house.ensures.rule
+    (c.with_argument.ensures app (bare, search rules))

@@ -7,5 +7,6 @@ use Rattle.gu_server.proofs.server.serve_within.Goals as goal
 
 pub returns : goal.returns
 returns g c =
-    let run = subst (λ (o : HouseAndHistory). IfOk c.run_desk.result (λ (b : BookView). IsRunOf o (stored b))) c.in_ok-house.ensures.opening c.run_desk.ensures in
-    record { run = run; begins = begun c.args.book c.run_desk.result run }
+    let run = subst (λ (o : HouseAndHistory). IfOk c.run_desk-served.result (λ (b : BookView). IsRunOf o (stored b)))
+    c.in-Ok.ensures.opening c.run_desk-served.ensures in
+    record { run = run; begins = begun c.args.book c.run_desk-served.result run }

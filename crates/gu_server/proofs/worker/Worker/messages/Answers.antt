@@ -11,5 +11,7 @@ loop-preserved g c =
     let kept : SeatView → Type 0 = λ s. BeginsWith s.seen c.args.seat.seen in
     elim c.match-next-2.branch [
       | in-Ok-Garbled w ↦ subst kept (sym w.seat-is) c.loop.invariant
-      | in-Ok-Message+else-is_err w ↦ subst kept (sym w.seat-is) (still _ c.loop.seat.seen c.args.seat.seen w.act-back.ensures.later c.loop.invariant)
+      | in-Ok-Message+else-is_err w ↦
+          subst kept (sym w.seat-is)
+          (still _ c.loop.seat.seen c.args.seat.seen w.act-back.ensures.later c.loop.invariant)
     ]

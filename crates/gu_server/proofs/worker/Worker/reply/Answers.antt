@@ -14,5 +14,6 @@ returns-in-Ok-clause-replies g c =
     let sent = c.send_reply-sent in
     let told = rw c.in-Ok.is at c.read_reports-seat.ensures.told in
     let read : c.in-Ok.reports.items ≡ reports_for t.house now f before.looked = rw (← c.looked.ensures) told.0 in
-    replied sent.result t now f c.args.answer c.in-Ok.reports.items c.seen-entries.result (Reply c.args.answer c.in-Ok.reports) before sent.new.self
-    read c.seen-entries.ensures (refl, refl) sent.ensures.ok sent.ensures.told sent.ensures.looked sent.ensures.behind
+    replied sent.result t now f c.args.answer c.in-Ok.reports.items c.seen-entries.result
+    (Reply c.args.answer c.in-Ok.reports) before sent.new.self read c.seen-entries.ensures (refl, refl) sent.ensures.ok
+    sent.ensures.told sent.ensures.looked sent.ensures.behind

@@ -1,38 +1,64 @@
-use Rattle.gu_server.proofs.Filed.{says_more, keeps_still}
+use Rattle.gu_server.proofs.Filed.{keeps_staged, staged_then, keeps_opened, keeps_answered, says_answered, has_all}
 use Rattle.gu_server.proofs.keep.filed.FiledRecord.record.Goals as goal
 
-pub returns-in-Ok-clause-says : goal.returns-in-Ok-clause-says
-returns-in-Ok-clause-says g c h said run honest =
-    says_more g.D.Disk.seen g.D.Disk.may_leave g.D.Disk.is_clean c.args.self.now.house h
-    c.args.entries.now c.args.self.now.journal c.commit.new.self
-    c.commit.ensures.clean said run honest c.in-Ok.ensures.kept
+-- nothing was staged
+pub returns-in-Err-clause-kept : goal.returns-in-Err-clause-kept
+returns-in-Err-clause-kept g c h said run =
+    let was = c.args.self.now in
+    keeps_staged g.D.Disk.seen g.D.Disk.may_leave g.D.Disk.is_clean was.house h c.args.entries.now was.journal
+    c.stage.new.self was.replica
+    c.stage.ensures.clean said c.stage.ensures.crash
 
-pub returns-in-Ok-clause-kept : goal.returns-in-Ok-clause-kept
-returns-in-Ok-clause-kept g c h said run honest =
-    keeps_still g.D.Disk.seen g.D.Disk.may_leave g.D.Disk.is_clean c.args.self.now.house h
-    c.args.entries.now c.args.self.now.journal c.commit.new.self
-    c.commit.ensures.clean said run honest c.commit.ensures.crash
+-- a group was staged, and couldn't be offered
+pub returns-then-not-offered-clause-kept : goal.returns-then-not-offered-clause-kept
+returns-then-not-offered-clause-kept g c h said run =
+    let was = c.args.self.now in
+    keeps_staged g.D.Disk.seen g.D.Disk.may_leave g.D.Disk.is_clean was.house h c.args.entries.now was.journal
+    c.stage.new.self was.replica
+    c.stage.ensures.clean said c.stage.ensures.crash
 
-pub returns-in-Err-Memory-clause-kept : goal.returns-in-Err-Memory-clause-kept
-returns-in-Err-Memory-clause-kept g c h said run honest =
-    keeps_still g.D.Disk.seen g.D.Disk.may_leave g.D.Disk.is_clean c.args.self.now.house h
-    c.args.entries.now c.args.self.now.journal c.commit.new.self
-    c.commit.ensures.clean said run honest c.commit.ensures.crash
+-- the file failed while its gate was written
+pub returns-in-Err-open-clause-kept : goal.returns-in-Err-open-clause-kept
+returns-in-Err-open-clause-kept g c h said run honest =
+    let was = c.args.self.now in
+    let known = staged_then g.D.Disk.seen g.D.Disk.may_leave g.D.Disk.is_clean was.house h c.args.entries.now
+    was.journal c.stage.new.self was.replica c.stage.ensures.clean said c.open.new.self c.open.ensures.clean run
+    c.in-Ok.ensures.staged honest in
+    keeps_opened g.D.Disk.seen g.D.Disk.may_leave was.house h c.args.entries.now c.stage.new.self c.open.new.self
+    was.replica was.replica
+    c.open.ensures.crash known (λ n answered. answered)
 
-pub returns-in-Err-Full-clause-kept : goal.returns-in-Err-Full-clause-kept
-returns-in-Err-Full-clause-kept g c h said run honest =
-    keeps_still g.D.Disk.seen g.D.Disk.may_leave g.D.Disk.is_clean c.args.self.now.house h
-    c.args.entries.now c.args.self.now.journal c.commit.new.self
-    c.commit.ensures.clean said run honest c.commit.ensures.crash
+-- it counts here, and no answer came
+pub returns-else-answered-clause-kept : goal.returns-else-answered-clause-kept
+returns-else-answered-clause-kept g c h said run honest =
+    let was = c.args.self.now in
+    let known = staged_then g.D.Disk.seen g.D.Disk.may_leave g.D.Disk.is_clean was.house h c.args.entries.now
+    was.journal c.stage.new.self was.replica c.stage.ensures.clean said c.open.new.self c.open.ensures.clean run
+    c.in-Ok.ensures.staged honest in
+    keeps_opened g.D.Disk.seen g.D.Disk.may_leave was.house h c.args.entries.now c.stage.new.self c.open.new.self
+    was.replica c.answered.new.replica c.open.ensures.crash known (c.answered.ensures.no c.if-answered.false)
 
-pub returns-in-Err-Unsayable-clause-kept : goal.returns-in-Err-Unsayable-clause-kept
-returns-in-Err-Unsayable-clause-kept g c h said run honest =
-    keeps_still g.D.Disk.seen g.D.Disk.may_leave g.D.Disk.is_clean c.args.self.now.house h
-    c.args.entries.now c.args.self.now.journal c.commit.new.self
-    c.commit.ensures.clean said run honest c.commit.ensures.crash
+-- it counts here, and the answer came
+pub returns-then-answered-clause-kept : goal.returns-then-answered-clause-kept
+returns-then-answered-clause-kept g c h said run honest =
+    let was = c.args.self.now in
+    let known = staged_then g.D.Disk.seen g.D.Disk.may_leave g.D.Disk.is_clean was.house h c.args.entries.now
+    was.journal c.stage.new.self was.replica c.stage.ensures.clean said c.open.new.self c.open.ensures.clean run
+    c.in-Ok.ensures.staged honest in
+    let all = has_all g.D.Disk.seen g.D.Disk.may_leave was.house h c.args.entries.now c.stage.new.self c.open.new.self
+    was.replica c.answered.new.replica c.open.ensures.crash known c.entries-count.result c.entries-count.ensures.staged
+    (c.answered.ensures.yes c.if-answered.true) in
+    keeps_answered g.D.Disk.seen g.D.Disk.may_leave was.house h c.args.entries.now c.stage.new.self c.open.new.self
+    was.replica c.answered.new.replica c.open.ensures.crash known all
 
-pub returns-in-Err-Disk-clause-kept : goal.returns-in-Err-Disk-clause-kept
-returns-in-Err-Disk-clause-kept g c h said run honest =
-    keeps_still g.D.Disk.seen g.D.Disk.may_leave g.D.Disk.is_clean c.args.self.now.house h
-    c.args.entries.now c.args.self.now.journal c.commit.new.self
-    c.commit.ensures.clean said run honest c.commit.ensures.crash
+pub returns-then-answered-clause-says : goal.returns-then-answered-clause-says
+returns-then-answered-clause-says g c h said run honest =
+    let was = c.args.self.now in
+    let known = staged_then g.D.Disk.seen g.D.Disk.may_leave g.D.Disk.is_clean was.house h c.args.entries.now
+    was.journal c.stage.new.self was.replica c.stage.ensures.clean said c.open.new.self c.open.ensures.clean run
+    c.in-Ok.ensures.staged honest in
+    let all = has_all g.D.Disk.seen g.D.Disk.may_leave was.house h c.args.entries.now c.stage.new.self c.open.new.self
+    was.replica c.answered.new.replica c.open.ensures.crash known c.entries-count.result c.entries-count.ensures.staged
+    (c.answered.ensures.yes c.if-answered.true) in
+    says_answered g.D.Disk.seen g.D.Disk.may_leave was.house h c.args.entries.now c.stage.new.self c.open.new.self
+    was.replica c.answered.new.replica c.open.ensures.crash known c.in-Ok-open.ensures.kept all

@@ -11,14 +11,16 @@ use Rattle.crossbeam_channel.proofs.channel.Receiver.TheSendSync as receiver
 use Rattle.mio.proofs.poll.Poll.TheSendSync as poll
 use Rattle.gu_desk.proofs.Crossing.{desk_sync, seat_send, journal_send}
 use Rattle.gu_parties.proofs.house.House.TheSendSync as house
+use Rattle.gu_server.proofs.keep.tallies.Tallies.TheSendSync as tallies
 use Rattle.gu_server.proofs.keep.bells.Bells.TheSendSync as bells
 use Rattle.gu_server.proofs.keep.bells.Bell.TheSendSync as bell
 use Rattle.gu_server.specs.contracts.keep.recorder.Recorder as Recorder
 use Rattle.gu_server.proofs.keep.running.fn.run_keepers.scope.Lts.{arg-14-1}
 use Rattle.gu_server.proofs.keep.running.fn.run_keepers.scope.Goals as goal
 
--- A keeper may go to another thread with its poll and its seat, since each thing that it has may: its worker's, in their order the runtime, the allocator, the desk,
--- the house table, the gate, how long it waits for a Logon and its number; the recorder, all bells, its own, and its end of the channel.
+-- A keeper may go to another thread with its poll and its seat, since each thing that it has may: its worker's, in
+-- their order the runtime, the allocator, the desk, the house table, the gate, the tallies, how long it waits for a
+-- Logon and its number; the recorder, all bells, its own, and its end of the channel.
 pub spawn-requires-send-F : goal.spawn-requires-send-F
 spawn-requires-send-F g c κs within =
     let journal : IsSend g.row.K = c.requires.1.1.1.1.0 in
@@ -28,14 +30,21 @@ spawn-requires-send-F g c κs within =
     let desk = desk_sync g.row.J g.J.Job g.J.Ledger in
     let part = journal_send (param 1 g.row.J) g.J.Job g.J.Ledger in
     let kept : IsSend (param 0 g.row.K) = param_send 0 g.row.K journal in
-    let recorded : IsSend (Recorder.the_row (param 0 g.row.K) (param 1 g.row.J) g.K.Record g.K.Keeps g.J.Job g.J.Ledger) =
+    let recorded : IsSend
+    (Recorder.the_row (param 0 g.row.K) (param 1 g.row.J) g.K.Record g.K.Keeps g.J.Job g.J.Ledger) =
     record {
       owned = λ d vs t. ((λ vss. (tt, (kept.owned t.0.journal vss.0, (part.owned t.0.seat vss.1.0, (tt, tt))))), tt);
       leaving = λ k t w. tt;
     } in
-    let recorder : IsSync (Mutex.the_row (Recorder.the_row (param 0 g.row.K) (param 1 g.row.J) g.K.Record g.K.Keeps g.J.Job g.J.Ledger)) = search (recorded, crosses, sendable) depth 12 in
-    let end : IsSend (Receiver.the_row Stream.the_row heap.the_row ghosts) = search (receiver.the_send, stream.the_send, crosses, sendable) depth 12 in
-    param_send 1 (arg-14-1 g.row.K g.row.J g.row.R g.row.G g.K.laws g.J.laws g.R.laws g.G.laws g.K.Record g.K.Record-dict g.K.Keeps g.K.Keeps-dict g.J.Job g.J.Job-dict g.J.Ledger g.J.Ledger-dict g.R.Threads g.R.Threads-dict g.R.Wait g.R.Wait-dict g.R.Clock g.R.Clock-dict g.G.Gate g.G.Gate-dict κs)
+    let recorder : IsSync
+    (Mutex.the_row (Recorder.the_row (param 0 g.row.K) (param 1 g.row.J) g.K.Record g.K.Keeps g.J.Job g.J.Ledger)) =
+    search (recorded, crosses, sendable) depth 12 in
+    let end : IsSend (Receiver.the_row Stream.the_row heap.the_row ghosts) =
+    search (receiver.the_send, stream.the_send, crosses, sendable) depth 12 in
+    param_send 1
+    (arg-14-1 g.row.K g.row.J g.row.R g.row.G g.K.laws g.J.laws g.R.laws g.G.laws g.K.Record g.K.Record-dict g.K.Keeps
+    g.K.Keeps-dict g.J.Job g.J.Job-dict g.J.Ledger g.J.Ledger-dict g.R.Threads g.R.Threads-dict g.R.Wait g.R.Wait-dict
+    g.R.Clock g.R.Clock-dict g.G.Gate g.G.Gate-dict κs)
     (record {
       owned = λ d vs vss. (
         tt,
@@ -43,8 +52,49 @@ spawn-requires-send-F g c κs within =
           (λ wss. (
             tt,
             (
-              (λ uss. (tt, ((tt, by.shared d.0.worker.rt.now d.0.worker.rt.ref_ptr.0 d.0.worker.rt.ref_ptr.1 _), (heap_send.owned d.0.worker.alloc uss.1.0, ((tt, desk.shared d.0.worker.desk.now d.0.worker.desk.ref_ptr.0 d.0.worker.desk.ref_ptr.1 _), ((tt, house.the_sync.shared d.0.worker.house.now d.0.worker.house.ref_ptr.0 d.0.worker.house.ref_ptr.1 _), ((tt, gate.shared d.0.worker.gate.now d.0.worker.gate.ref_ptr.0 d.0.worker.gate.ref_ptr.1 _), ((tt, tt), ((tt, tt), tt))))))))),
-              ((tt, recorder.shared d.0.recorder.now d.0.recorder.ref_ptr.0 d.0.recorder.ref_ptr.1 _), ((tt, bells.the_sync.shared d.0.bells.now d.0.bells.ref_ptr.0 d.0.bells.ref_ptr.1 _), ((tt, bell.the_sync.shared d.0.bell.now d.0.bell.ref_ptr.0 d.0.bell.ref_ptr.1 _), (end.owned d.0.streams wss.1.1.1.1.0, tt)))),
+              (λ uss. (
+                tt,
+                (
+                  (tt, by.shared d.0.worker.rt.now d.0.worker.rt.ref_ptr.0 d.0.worker.rt.ref_ptr.1 _),
+                  (
+                    heap_send.owned d.0.worker.alloc uss.1.0,
+                    (
+                      (tt, desk.shared d.0.worker.desk.now d.0.worker.desk.ref_ptr.0 d.0.worker.desk.ref_ptr.1 _),
+                      (
+                        (
+                          tt,
+                          house.the_sync.shared d.0.worker.house.now d.0.worker.house.ref_ptr.0
+                              d.0.worker.house.ref_ptr.1 _,
+                        ),
+                        (
+                          (
+                            tt,
+                            gate.shared d.0.worker.gate.now d.0.worker.gate.ref_ptr.0 d.0.worker.gate.ref_ptr.1 _,
+                          ),
+                          (
+                            (
+                              tt,
+                              tallies.the_sync.shared d.0.worker.tallies.now d.0.worker.tallies.ref_ptr.0
+                                  d.0.worker.tallies.ref_ptr.1 _,
+                            ),
+                            ((tt, tt), ((tt, tt), tt)),
+                          ),
+                        ),
+                      ),
+                    ),
+                  ),
+                ),
+              )),
+              (
+                (tt, recorder.shared d.0.recorder.now d.0.recorder.ref_ptr.0 d.0.recorder.ref_ptr.1 _),
+                (
+                  (tt, bells.the_sync.shared d.0.bells.now d.0.bells.ref_ptr.0 d.0.bells.ref_ptr.1 _),
+                  (
+                    (tt, bell.the_sync.shared d.0.bell.now d.0.bell.ref_ptr.0 d.0.bell.ref_ptr.1 _),
+                    (end.owned d.0.streams wss.1.1.1.1.0, tt),
+                  ),
+                ),
+              ),
             ),
           )),
           (poll.the_send.owned d.1 vss.1.0, (seat.owned d.2 vss.1.1.0, tt)),

@@ -1,5 +1,5 @@
 use Rattle.std.proofs.Common.{◌+◌}
-use Rattle.gu_server.proofs.keep.starting.serve_kept.Given as goal
+use Rattle.gu_server.proofs.keep.starting.serve_listener.Given as goal
 
 -- the ground's own name, table and book
 abbrev pub ghosts-run_kept-J-Job : goal.ghosts-run_kept-J-Job
