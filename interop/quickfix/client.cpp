@@ -23,7 +23,7 @@
 
 namespace {
 
-const std::chrono::seconds patience(20);
+const std::chrono::seconds patience(60);
 
 std::string value(const FIX::FieldMap &from, int tag) {
   return from.isSetField(tag) ? " " + std::to_string(tag) + "=" + from.getField(tag) : "";

@@ -1,0 +1,177 @@
+package main
+
+import (
+	"bytes"
+	"crypto/sha256"
+	"fmt"
+	"hash"
+	"io"
+	"os"
+	"path/filepath"
+	"sort"
+	"syscall"
+	"time"
+)
+
+// gate is the line feed at the end of a journal's file. The next group takes its place, beginning with an 8.
+const gate = '\n'
+
+// mirror is a journal's file that has a book's beginning: `at` bytes and the gate, or nothing.
+type mirror struct {
+	path, run string
+	file      *os.File
+	at        int64
+	sha       hash.Hash
+}
+
+// held takes the lock beside a journal's file. Whoever inherits the descriptor has it too.
+func held(path string) *os.File {
+	lock, err := os.OpenFile(path+".lock", os.O_RDWR|os.O_CREATE, 0o600)
+	check(err)
+	for i := 0; ; i++ {
+		err = syscall.Flock(int(lock.Fd()), syscall.LOCK_EX|syscall.LOCK_NB)
+		if err == nil {
+			return lock
+		}
+		if i == 50 {
+			lost("%s is in use: another sidecar or its server has %s.lock", path, path)
+		}
+		time.Sleep(100 * time.Millisecond)
+	}
+}
+
+// settle has the file be what etcd has: it keeps what is the same, and fetches the rest. What it replaces is laid aside. Says where the bytes came from.
+func settle(k *keys, h header, path, run string) (*mirror, string) {
+	unlost(h, path)
+	file, err := os.OpenFile(path, os.O_RDWR|os.O_CREATE, 0o600)
+	check(err)
+	m := &mirror{path: path, run: run, file: file}
+	size, err := file.Seek(0, io.SeekEnd)
+	check(err)
+	if m.has(h, size) {
+		m.mend(m.at, nil, size)
+		return m, "all of it from the file"
+	}
+	for _, r := range m.marks(k, h, size) {
+		from := r.at
+		tail, _, err := r.rest()
+		if err != nil {
+			continue
+		}
+		m.at, m.sha = r.at, r.sha
+		m.mend(from, tail, size)
+		return m, fmt.Sprintf("the last %d bytes from etcd", len(tail))
+	}
+	m.fetch(k, size)
+	return m, "all of it from etcd"
+}
+
+// has tells whether the file begins with all of the book; nobody has to be asked for that.
+func (m *mirror) has(h header, size int64) bool {
+	if size < h.length {
+		return false
+	}
+	m.at, m.sha = h.length, sha256.New()
+	_, err := io.Copy(m.sha, io.NewSectionReader(m.file, 0, h.length))
+	check(err)
+	return digest(m.sha) == h.digest
+}
+
+// marks are the places up to which the file may be etcd's, the last first, each with what comes before it taken in: the file's end, and where
+// pieces begin. So of a file whose last group was never put, or has its gate shut, what comes before that group is kept.
+func (m *mirror) marks(k *keys, h header, size int64) []*reader {
+	places := []int64{}
+	for _, place := range append(k.beginnings(clamp(h.length, 0, size)), size-1) {
+		if place > 0 && place <= h.length && place <= size {
+			places = append(places, place)
+		}
+	}
+	sort.Slice(places, func(i, j int) bool { return places[i] < places[j] })
+	marks, sha, at := []*reader{}, sha256.New(), int64(0)
+	for _, place := range places {
+		_, err := io.Copy(sha, io.NewSectionReader(m.file, at, place-at))
+		check(err)
+		at = place
+		r := k.reader()
+		r.at, r.sha = at, cloned(sha)
+		marks = append([]*reader{r}, marks...)
+	}
+	return marks
+}
+
+// mend writes what lacks from there on, and cuts off what is behind it.
+func (m *mirror) mend(from int64, tail []byte, size int64) {
+	wanted := m.end(tail)
+	cut := make([]byte, size-from)
+	if len(cut) > 0 {
+		_, err := m.file.ReadAt(cut, from)
+		check(err)
+	}
+	if bytes.Equal(cut, wanted) {
+		return
+	}
+	if known := bytes.TrimRight(cut, "\n"); len(known) > 1 && (len(wanted) < 1 || !bytes.HasPrefix(wanted[1:], known[1:])) { // its gate may be shut
+		check(os.WriteFile(m.path+"."+m.run+".cut", cut, 0o600))
+		say("%d bytes behind byte %d, which nobody was told of, are laid aside in %s.%s.cut", len(cut), from, m.path, m.run)
+	}
+	_, err := m.file.WriteAt(wanted, from)
+	check(err)
+	check(m.file.Truncate(from + int64(len(wanted))))
+	check(m.file.Sync())
+}
+
+// end are these bytes as they stand at the file's end.
+func (m *mirror) end(tail []byte) []byte {
+	if m.at == 0 {
+		return nil
+	}
+	return append(append([]byte{}, tail...), gate)
+}
+
+// fetch has all of the book from etcd. A file that is there is laid aside.
+func (m *mirror) fetch(k *keys, size int64) {
+	check(m.file.Close())
+	if size > 0 {
+		check(os.Rename(m.path, m.path+"."+m.run+".old"))
+		say("%s isn't what etcd has, and is laid aside as %s.%s.old", m.path, m.path, m.run)
+	}
+	file, err := os.OpenFile(m.path+".new", os.O_RDWR|os.O_CREATE|os.O_TRUNC, 0o600)
+	check(err)
+	m.file = file
+	r := k.reader()
+	for {
+		data, h, err := r.next()
+		check(err)
+		_, err = file.Write(data)
+		check(err)
+		if m.at, m.sha = r.at, r.sha; r.at == h.length {
+			_, err = file.Write(m.end(nil))
+			check(err)
+			m.sync()
+			check(os.Rename(m.path+".new", m.path))
+			m.syncFolder()
+			return
+		}
+	}
+}
+
+// add puts the next bytes of the book behind those that are there: first what comes behind the gate, then what takes its place.
+func (m *mirror) add(data []byte) {
+	if len(data) == 0 {
+		return
+	}
+	_, err := m.file.WriteAt(append(append([]byte{}, data[1:]...), gate), m.at+1)
+	check(err)
+	_, err = m.file.WriteAt(data[:1], m.at)
+	check(err)
+	m.at += int64(len(data))
+}
+
+func (m *mirror) sync() { check(m.file.Sync()) }
+
+func (m *mirror) syncFolder() {
+	folder, err := os.Open(filepath.Dir(m.path))
+	check(err)
+	check(folder.Sync())
+	folder.Close()
+}
