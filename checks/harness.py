@@ -17,6 +17,8 @@ TOP = os.path.dirname(os.path.dirname(os.path.abspath(__file__)))
 sys.path.insert(1, f"{TOP}/examples")
 from fix import Ended, connected, framed, free_port, is_free  # some are for the harnesses
 
+# The seconds after which a program that says nothing hangs. Programs on a loaded machine are slow, and nothing is learned of it.
+PATIENCE = 300
 TOLD = re.compile(rb"growths: (\d+), largest (\d+) bytes, refused (\d+)\n\Z")
 
 
@@ -40,7 +42,7 @@ def exchanged(started, send):
         port = free_port()
         server, got = started(port), b""
         try:
-            with connected(port, server, 20) as client:
+            with connected(port, server, PATIENCE) as client:
                 client.sendall(send)
                 client.shutdown(socket.SHUT_WR)
                 while piece := client.recv(65_536):
@@ -48,13 +50,18 @@ def exchanged(started, send):
         except (Ended, OSError):
             pass
         try:
-            out, err = server.communicate(timeout=30)
+            out, err = server.communicate(timeout=PATIENCE)
         except subprocess.TimeoutExpired:
             server.kill()
             out, err = server.communicate()
-        if not err.startswith(b"cannot listen"):
+        if not unlogged(err).startswith(b"cannot listen"):
             break
     return subprocess.CompletedProcess(server.args, server.returncode, out, err), got
+
+
+def unlogged(err):
+    """What `keep` has written on standard error beside the lines of its log."""
+    return b"".join(it for it in err.splitlines(keepends=True) if not it.startswith(b"time="))
 
 
 def end(passed, failed):
@@ -75,13 +82,13 @@ def compiled(source, out):
 
 
 class Run:
-    """A run of a program with its growths counted: how it ended, what it wrote, and of its growths how many there were, how many bytes the
-    largest asked for, and how many were refused."""
+    """A run of a program with its growths counted: how it ended, what it wrote beside its log, and of its growths how many there were, how
+    many bytes the largest asked for, and how many were refused."""
 
     def __init__(self, done):
         told = TOLD.search(done.stderr)
         self.status, self.out = done.returncode, done.stdout
-        self.err = done.stderr[: told.start()] if told else done.stderr
+        self.err = unlogged(done.stderr[: told.start()] if told else done.stderr)
         self.growths, self.largest, self.refused = map(int, told.groups()) if told else (0, 0, 0)
 
 
@@ -99,7 +106,7 @@ class Growths:
 
     def run(self, words, given, nth=0):
         """The run with the N-th growth refused, or with none."""
-        return Run(subprocess.run(words, input=given, capture_output=True, cwd=TOP, env=self.env(nth), timeout=120))
+        return Run(subprocess.run(words, input=given, capture_output=True, cwd=TOP, env=self.env(nth), timeout=PATIENCE))
 
     def each(self, words, given, first=1):
         """The run with none refused, and then those with one refused, for each growth from the `first` on until a run meets none."""

@@ -1,0 +1,358 @@
+"""What checks/abuse does to a server that keeps its book: its limits hold, and no firm stops another."""
+import os
+import resource
+import signal
+import socket
+import subprocess
+import sys
+import threading
+import time
+
+sys.dont_write_bytecode = True
+from harness import PATIENCE, TOP, built, compiled
+from fix import free_port, message
+
+ALLOCD = os.environ.get("ALLOCD") or built("allocd")
+SILENT, DESCRIPTORS = 2_000, 300
+MOST_LOGON, MOST_MEMORY, LEAST_SHARE = 1, 2_048, 0.5
+DEAF = 20
+ROUNDS = 15
+TRIES = 5  # of what has to be quick: on a busy machine one of them is
+HOUSE = f"{TOP}/examples/rows.house"
+
+
+class Peer:
+    """A connection of a firm that has logged on, and what it was sent."""
+
+    def __init__(self, port, firm, name=""):
+        self.firm, self.name, self.number, self.got = firm, name or firm, 1, b""
+        self.socket = socket.create_connection(("127.0.0.1", port), timeout=PATIENCE)
+        self.socket.setsockopt(socket.IPPROTO_TCP, socket.TCP_NODELAY, 1)
+        self.send("A", "98=0|108=0|1137=9|")
+
+    def send(self, kind, rest=""):
+        """Sends a message. If the connection is closed by then, what it was sent tells why."""
+        try:
+            self.socket.sendall(message(kind, self.firm, self.number, rest))
+        except OSError:
+            pass
+        self.number += 1
+
+    def raises(self, count):
+        """Calls as many times, each with an id of its own."""
+        giver = {"BBB": "AAA", "CCC": "BBB"}[self.firm]
+        ids = [f"{self.name}{self.number + n}" for n in range(count)]
+        calls = [f"70={it}|71=0|626=91|5001={giver}|5004=1|" for it in ids]
+        frames = [message("J", self.firm, self.number + n, it) for n, it in enumerate(calls)]
+        self.number += count
+        try:
+            self.socket.sendall(b"".join(frames))
+        except OSError:
+            pass
+
+    def trade(self):
+        self.send("AE", f"571={self.name}{self.number}|55=ESZ6|32=1|552=1|54=1|453=1|448=AAA|447=D|452=4|1=A1|")
+
+    def read(self, until=None, seconds=PATIENCE):
+        """Reads until this was sent or the connection is closed: whether it was sent."""
+        until_time = time.monotonic() + seconds
+        while until is None or until not in self.got:
+            self.socket.settimeout(max(0.01, until_time - time.monotonic()))
+            try:
+                piece = self.socket.recv(1 << 18)
+            except OSError:
+                break
+            if not piece:
+                break
+            self.got += piece
+        return until is not None and until in self.got
+
+    def accepted(self):
+        return self.got.count(b"\x0187=0\x0110=") + self.got.count(b"\x01939=0\x01")
+
+    def text(self):
+        """58 of its Logout."""
+        logout = self.got.rfind(b"\x0135=5\x01")
+        return self.got[logout:].partition(b"\x0158=")[2].partition(b"\x01")[0].decode() if logout >= 0 else ""
+
+    def close(self):
+        self.socket.close()
+        return self
+
+
+class Server:
+    """A server that keeps its book in the journal of a room, with these words more."""
+
+    def __init__(self, room, name, *words, workers=2, shell=(), env=()):
+        self.port, self.journal = free_port(), f"{room}/{name}"
+        self.told = open(f"{room}/{name}.told", "w+b")
+        given = [ALLOCD, "keep", HOUSE, self.journal, "--port", str(self.port), "--workers", str(workers), *words]
+        env = dict(os.environ, **dict(env))
+        self.process = subprocess.Popen([*shell, *given], stdout=subprocess.DEVNULL, stderr=self.told, env=env)
+        while self.process.poll() is None:
+            try:
+                socket.create_connection(("127.0.0.1", self.port), timeout=PATIENCE).close()
+                return
+            except ConnectionRefusedError:
+                time.sleep(0.02)
+        sys.exit(self.says())
+
+    def peer(self, firm, name=""):
+        return Peer(self.port, firm, name)
+
+    def says(self):
+        self.told.flush()
+        with open(self.told.name, encoding="latin-1") as it:
+            return it.read()
+
+    def says_soon(self, *texts):
+        """Whether it says these on standard error: some lines come each second, some each ten."""
+        until = time.monotonic() + PATIENCE
+        while not all(it in self.says() for it in texts) and time.monotonic() < until:
+            time.sleep(0.1)
+        return all(it in self.says() for it in texts)
+
+    def memory(self):
+        """What it needs now, in kB."""
+        with open(f"/proc/{self.process.pid}/status") as it:
+            return int(it.read().split("VmRSS:")[1].split()[0])
+
+    def __enter__(self):
+        return self
+
+    def __exit__(self, *_):
+        self.process.kill()
+        self.process.wait()
+        self.told.close()
+
+
+def called(server, firm, name, count):
+    """How many calls of a firm are accepted of so many on a connection, and what its Logout says."""
+    peer = server.peer(firm, name)
+    peer.raises(count)
+    peer.send("5")
+    peer.read()
+    return peer.close().accepted(), peer.text()
+
+
+def entries(room):
+    """The limits on entries: of a firm, by many connections at once, and after a start anew; and the house's reserve."""
+    with Server(room, "entries", "--most-entries", "50", "--reserve", "999930", workers=4) as server:
+        took = []
+        threads = [threading.Thread(target=lambda n=n: took.append(called(server, "BBB", f"B{n}x", 100))) for n in range(8)]
+        for it in threads:
+            it.start()
+        for it in threads:
+            it.join()
+        well = sum(count for count, _ in took) == 50 and {text for _, text in took} == {"too many entries"}
+        yield well, f"of 800 calls of a firm on 8 connections {sum(count for count, _ in took)} are made"
+        count, text = called(server, "CCC", "C", 40)
+        yield (count, text) == (20, "entries left are the house's"), f"another firm makes {count} calls, up to the reserve"
+        said = (f'event=at_limit firm={why}' for why in ('BBB why="too many entries"', 'CCC why="entries left'))
+        yield server.says_soon(*said), "the log says so"
+        house = server.peer("HSE")
+        for _ in range(30):
+            house.trade()
+        house.send("5")
+        house.read()
+        yield house.accepted() == 30, f"the house makes {house.accepted()} calls of 30"
+    with Server(room, "entries", "--most-entries", "50") as server:
+        yield called(server, "BBB", "B", 1) == (0, "too many entries"), "a server that goes on with the journal counts its entries"
+        yield called(server, "CCC", "D", 40)[0] == 30, "and makes the others'"
+
+
+def logged_on(server, firm, name):
+    """A connection of a firm once another one, which has ended, isn't counted any more; or none."""
+    until = time.monotonic() + PATIENCE
+    while time.monotonic() < until:
+        peer = server.peer(firm, name)
+        peer.send("1", "112=HERE|")
+        if peer.read(b"\x01112=HERE\x01"):
+            return peer
+        time.sleep(0.1)
+
+
+def at_a_rate(peer, count):
+    """The seconds that so many calls take, if all are accepted."""
+    begun = time.monotonic()
+    peer.raises(count)
+    peer.send("5")
+    peer.read()
+    return time.monotonic() - begun if peer.accepted() == count else None
+
+
+def a_call(peer):
+    """The seconds that a call of the house takes."""
+    peer.got, begun = b"", time.monotonic()
+    peer.trade()
+    peer.read(b"\x01939=0\x01")
+    return time.monotonic() - begun
+
+
+def connections(room):
+    """The limits on connections and on calls a second."""
+    with Server(room, "connections", "--per-firm", "2", "--rate", "50") as server:
+        first = [server.peer("BBB", f"B{n}") for n in range(2)]
+        well = all(it.read(b"\x0135=A\x01") for it in first)
+        third = server.peer("BBB")
+        third.read()
+        yield well and third.text() == "too many connections", "a third connection of a firm is closed"
+        houses = [server.peer("HSE", f"H{n}") for n in range(5)]
+        yield all(it.read(b"\x0135=A\x01") for it in houses), "five of the house are not"
+        first[0].close()
+        again = logged_on(server, "BBB", "again")
+        yield again is not None, "where one has ended another may log on"
+        took = [at_a_rate(again, 200)]
+        while None not in took and min(took) > 6 and len(took) < TRIES:
+            took.append(at_a_rate(logged_on(server, "BBB", f"again{len(took)}"), 200))
+        yield None not in took and 2.5 <= min(took) <= 6, f"200 calls at 50 a second take {took} s"
+        yield min(a_call(houses[0]) for _ in range(TRIES)) < 1, "the house's call waits for none"
+
+
+def a_logon(server, firm):
+    """The seconds until a firm has logged on."""
+    begun = time.monotonic()
+    peer = server.peer(firm)
+    well = peer.read(b"\x0135=A\x01")
+    took = time.monotonic() - begun
+    peer.close()
+    return took if well else float("inf")
+
+
+def silent(room):
+    """Connections that say nothing beside one that logs on: with descriptors for all of them, and without."""
+    for name, shell in (("silent", ()), ("lacking", ("sh", "-c", f'ulimit -n {DESCRIPTORS}; exec "$@"', ""))):
+        with Server(room, name, shell=shell) as server:
+            held = [socket.create_connection(("127.0.0.1", server.port), timeout=PATIENCE) for _ in range(SILENT)]
+            took = [a_logon(server, "AAA")]
+            while min(took) > MOST_LOGON and len(took) < TRIES:
+                took.append(a_logon(server, "AAA"))
+            yield min(took) <= MOST_LOGON, f"a Logon beside {SILENT} {name} connections takes {min(took):.2f} s"
+            if shell:
+                yield server.says_soon("connections wait"), "the log says that descriptors lack"
+            for it in held:
+                it.close()
+
+
+def patience(room):
+    """A firm that says nothing for three hours, by a clock that jumps, and the house beside it."""
+    compiled(f"{TOP}/checks/jumping.c", f"{room}/jumping.so")
+    env = {"LD_PRELOAD": f"{room}/jumping.so", "JUMP": f"{room}/jump"}
+    with Server(room, "patience", env=env) as server:
+        peers = [server.peer("BBB"), server.peer("HSE")]
+        well = all(it.read(b"\x0135=A\x01") for it in peers)
+        open(env["JUMP"], "w").close()
+        for it in peers:
+            it.read()
+        well = well and [it.text() for it in peers] == ["no heartbeat"] * 2
+        yield well, "one that says nothing for three hours is closed, though its HeartBtInt is 0"
+        again = server.peer("BBB")
+        yield again.read(b"\x0135=A\x01"), "and may log on again"
+
+
+class Deaf(Peer):
+    """One that asks for resends and reads nothing, and what the socket hasn't taken of that."""
+
+    def __init__(self, port):
+        super().__init__(port, "BBB")
+        self.unsent = b""
+        self.read(b"\x0135=A\x01")
+        self.socket.setblocking(False)
+
+    def ask(self):
+        """Asks as far as the socket takes it: whether the server still has the connection."""
+        for _ in range(100):
+            if not self.unsent:
+                self.unsent = message("2", "BBB", self.number, "7=1|16=0|")
+                self.number += 1
+            try:
+                self.unsent = self.unsent[self.socket.send(self.unsent) :]
+            except BlockingIOError:
+                return True
+            except OSError:
+                return False
+        return True
+
+
+def deaf(room):
+    """Sessions that ask for resends and read nothing."""
+    with Server(room, "deaf") as server:
+        peer = server.peer("BBB")
+        peer.raises(2_000)
+        peer.send("5")
+        peer.read()
+        before = needs = server.memory()
+        peers = [Deaf(server.port) for _ in range(DEAF)]
+        until, open_ones = time.monotonic() + 10, DEAF
+        while time.monotonic() < until:
+            open_ones = min(open_ones, sum(it.ask() for it in peers))
+            needs = max(needs, server.memory())
+            time.sleep(0.01)
+        each = (needs - before) / DEAF
+        yield open_ones == DEAF and each <= MOST_MEMORY, f"each of {open_ones} sessions that read nothing takes {each:.0f} kB"
+
+
+def anew(port, stop):
+    """Connects anew for each call, as fast as it can."""
+    number = 0
+    while not stop.is_set():
+        number += 1
+        try:
+            peer = Peer(port, "BBB", f"N{number}x")
+            peer.raises(1)
+            peer.read(b"\x0135=P\x01", 2)
+            peer.close()
+        except OSError:
+            pass
+
+
+def calls_within(house, seconds):
+    """How many calls the house makes in so long, one after the other."""
+    count, begun = 0, time.monotonic()
+    while time.monotonic() - begun < seconds:
+        a_call(house)
+        count += 1
+    return count
+
+
+def share(house, server):
+    """What part of the calls that the house makes alone it makes beside a firm that connects anew for each call. The firm is
+    stopped and goes on by turns, so that a busy machine or disk is none of it."""
+    firm = subprocess.Popen([sys.executable, "-B", os.path.abspath(__file__), str(server.port)])
+    time.sleep(1)
+    alone = beside = 0
+    for _ in range(ROUNDS):
+        firm.send_signal(signal.SIGSTOP)
+        alone += calls_within(house, 0.3)
+        firm.send_signal(signal.SIGCONT)
+        beside += calls_within(house, 0.3)
+    firm.kill()
+    firm.wait()
+    return beside / alone
+
+
+def reconnecting(room):
+    """A firm that connects anew for each call, beside the house."""
+    with Server(room, "anew") as server:
+        peer = server.peer("BBB")
+        peer.raises(20_000)
+        peer.send("5")
+        peer.read()
+        house = server.peer("HSE")
+        house.read(b"\x0135=A\x01")
+        shares = [share(house, server)]
+        while max(shares) < LEAST_SHARE and len(shares) < TRIES:
+            shares.append(share(house, server))
+        well = max(shares) >= LEAST_SHARE
+        yield well, f"beside a firm that connects anew for each call the house has {max(shares):.2f} of its calls a second"
+
+
+def cases(room):
+    _, hard = resource.getrlimit(resource.RLIMIT_NOFILE)
+    resource.setrlimit(resource.RLIMIT_NOFILE, (min(hard, 8192), hard))
+    for part in (entries, connections, silent, patience, deaf, reconnecting):
+        yield from part(room)
+
+
+if __name__ == "__main__":
+    anew(int(sys.argv[1]), threading.Event())
