@@ -5,6 +5,8 @@
 //! answer is known but for the numbers of the entries, which have to rise along a connection, and to be 1, 2, 3, .. over all of them, each
 //! once. It prints the round trips a second and their percentiles, and the accepted calls.
 //!
+//! A connection that fails, or hears nothing for a minute, ends all with status 1.
+//!
 //! load PORT turns AT_ONCE CONNECTIONS CALLS: so many connections in turn, so many of them at once, each with its calls one at a time.
 //!
 //! load PORT behind ENTRIES: the house fills a book with trades for AAA; then AAA logs on and says nothing, and while its reports come the house
@@ -24,6 +26,7 @@ use std::time::{Duration, Instant};
 use std::{env, process, thread};
 
 const SOH: u8 = 1;
+const PATIENCE: Duration = Duration::from_secs(60);
 
 /// A frame of a body whose fields end with `|`.
 fn frame(body: &str, out: &mut Vec<u8>) {
@@ -237,6 +240,20 @@ fn read_all(frames: &mut Frames, calls: usize, unanswered: &Unanswered) -> Resul
     Ok(told)
 }
 
+/// A connection to the server.
+fn connected(port: u16) -> Result<TcpStream, String> {
+    let stream = TcpStream::connect(("127.0.0.1", port)).map_err(|e| e.to_string())?;
+    stream.set_nodelay(true).map_err(|e| e.to_string())?;
+    stream.set_read_timeout(Some(PATIENCE)).map_err(|e| e.to_string())?;
+    Ok(stream)
+}
+
+/// Says why nothing can be gone on with, and ends.
+fn failed(why: &str) -> ! {
+    eprintln!("load: {why}");
+    process::exit(1)
+}
+
 /// One connection, from its Logon to its Logout.
 fn connection(
     port: u16,
@@ -245,8 +262,7 @@ fn connection(
     window: usize,
     start: &Barrier,
 ) -> Result<Told, String> {
-    let mut stream = TcpStream::connect(("127.0.0.1", port)).map_err(|e| e.to_string())?;
-    stream.set_nodelay(true).map_err(|e| e.to_string())?;
+    let mut stream = connected(port)?;
     let mut out = Vec::new();
     frame(&(header("A", 1) + "98=0|108=60|1137=9|"), &mut out);
     stream.write_all(&out).map_err(|e| e.to_string())?;
@@ -317,14 +333,18 @@ fn calls(port: u16, connections: usize, calls: usize, window: usize) -> Result<(
     let running: Vec<_> = (0..connections)
         .map(|c| {
             let start = start.clone();
-            thread::spawn(move || connection(port, c, calls, window, &start))
+            // one that fails before all are logged on would leave the others waiting
+            thread::spawn(move || match connection(port, c, calls, window, &start) {
+                Ok(told) => told,
+                Err(why) => failed(&why),
+            })
         })
         .collect();
     start.wait();
     let began = Instant::now();
     let mut told = Vec::new();
     for one in running {
-        told.push(one.join().map_err(|_| "panicked")??);
+        told.push(one.join().map_err(|_| "panicked")?);
     }
     tell_all(told, began.elapsed())
 }
@@ -365,8 +385,7 @@ struct Session {
 
 impl Session {
     fn logged_on(port: u16, firm: &'static str) -> Result<Session, String> {
-        let stream = TcpStream::connect(("127.0.0.1", port)).map_err(|e| e.to_string())?;
-        stream.set_nodelay(true).map_err(|e| e.to_string())?;
+        let stream = connected(port)?;
         let frames = Frames { stream, held: Vec::new(), at: 0 };
         let mut session = Session { frames, firm, number: 0, reports: 0 };
         session.send(&[("A", "98=0|108=0|1137=9|".to_owned())])?;
@@ -532,7 +551,6 @@ fn main() {
         _ => Err("load PORT calls CONNECTIONS CALLS WINDOW, and so on: see its head".to_owned()),
     };
     if let Err(why) = done {
-        eprintln!("load: {why}");
-        process::exit(1);
+        failed(&why);
     }
 }
