@@ -3,6 +3,7 @@
 The tools of this folder, checks/ and interop/ make and find frames by this module, and none of them in another way. It lies
 here so that a copy of this folder runs alone, and needs nothing but Python 3.9.
 """
+import random
 import re
 import socket
 import time
@@ -44,10 +45,16 @@ def body_of(frame):
 
 
 def free_port():
-    """A port of 127.0.0.1 on which nobody listens."""
-    with socket.socket() as probe:
-        probe.bind(("127.0.0.1", 0))
-        return probe.getsockname()[1]
+    """A port of 127.0.0.1 on which nobody listens. It lies below those that connections get by themselves (32,768 and up), so
+    that none of these takes it before a server does, or between two servers."""
+    while True:
+        port = random.SystemRandom().randrange(10_000, 32_000)
+        with socket.socket() as probe:
+            try:
+                probe.bind(("127.0.0.1", port))
+                return port
+            except OSError:
+                continue
 
 
 def is_free(port):

@@ -13,6 +13,7 @@ from fix import BODY, OPENING, checksum
 from tool import Fault, called, content, say
 
 BEGINNING = b"8=FIXT.1.1\x019="
+FORM = "allocd-journal-2"
 TORN_LENGTH = re.compile(rb"8=FIXT\.1\.1\x019=\d{1,6}")
 TRAILER = re.compile(rb"10=(\d{3})\x01")
 LINE_FEED = 10
@@ -32,7 +33,7 @@ class Stream:
     def __init__(self, name, data, house=None):
         self.name, self.data, self.house = name, data, house
         self.garbled, self.first, self.left_out = 0, 0, ""
-        self.is_kept, self.hasher, self.hashed = False, hashlib.sha256(), 0
+        self.is_kept, self.hasher, self.hashed = False, hashlib.sha512(), 0
 
     @classmethod
     def of(cls, path, house=None):
@@ -63,7 +64,10 @@ class Stream:
         """Sees that the journal of a kept book is of this house, and that its seals are of the bytes before them."""
         if at == 0:
             head = firsts(fields)
-            self.is_kept = head.get("1408", "").startswith("allocd-journal-")
+            form = head.get("1408", "")
+            self.is_kept = form == FORM
+            if form.startswith("allocd-journal-") and not self.is_kept:
+                raise NoJournal(f"{self.name} is of the form {form}, and not {FORM}")
             if self.is_kept and self.house not in (None, head.get("58")):
                 raise NoJournal(f"{self.name} is of another house file, with SHA-256 {head.get('58')}")
         elif self.is_kept and fields[0][1] == "0":
