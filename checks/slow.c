@@ -1,21 +1,34 @@
 /* Makes the syncs of a file slow, where the environment has SLOW_SYNC=MS, or has the N-th and all later ones never end,
-   where it has HUNG_SYNC=N. Preloaded, it stands before the C library's `fdatasync`. It needs no header, so that the kit's
-   own clang will do. */
+   where it has HUNG_SYNC=N; and so its reads, by SLOW_READ and HUNG_READ. Preloaded, it stands before the C library's
+   `fdatasync` and `pread`. It needs no header, so that the kit's own clang will do. */
 extern char *getenv(const char *);
 extern long atol(const char *);
 extern long syscall(long, ...);
 extern int usleep(unsigned);
 extern int pause(void);
-enum { FDATASYNC = 75 };
-static long slow, hung, calls;
+enum { PREAD = 17, FDATASYNC = 75 };
+struct calls {
+    long slow, hung, count;
+};
+static struct calls syncs, reads;
+static long number(const char *name) {
+    const char *is = getenv(name);
+    return is ? atol(is) : 0;
+}
 __attribute__((constructor)) static void begin(void) {
-    const char *by = getenv("SLOW_SYNC"), *at = getenv("HUNG_SYNC");
-    slow = by ? atol(by) : 0;
-    hung = at ? atol(at) : 0;
+    syncs = (struct calls){number("SLOW_SYNC"), number("HUNG_SYNC"), 0};
+    reads = (struct calls){number("SLOW_READ"), number("HUNG_READ"), 0};
+}
+static void wait_in(struct calls *it) {
+    it->count++;
+    while (it->hung && it->count >= it->hung) pause();
+    if (it->slow) usleep(it->slow * 1000);
 }
 int fdatasync(int file) {
-    calls++;
-    while (hung && calls >= hung) pause();
-    if (slow) usleep(slow * 1000);
+    wait_in(&syncs);
     return syscall(FDATASYNC, file);
+}
+long pread(int file, void *to, unsigned long bytes, long at) {
+    wait_in(&reads);
+    return syscall(PREAD, file, to, bytes, at);
 }

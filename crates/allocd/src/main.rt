@@ -7,7 +7,7 @@
 #![tactic(auto)]
 
 use gu_server::{
-    Counted, Fault, RunError, SystemFiles, SystemJournals, VERSION, Wary, run, unread_words,
+    Counted, Fault, RunError, SystemFiles, SystemJournals, VERSION, Wary, commit, run, unread_words,
 };
 use std::alloc::Global;
 use std::io::Eprint;
@@ -38,9 +38,13 @@ fn asks_for_version(words: &[String]) -> bool {
     words[0].as_str() == "keep" && words[1].as_str() == "--version"
 }
 
-/// Writes the version on standard output.
+/// Writes the version on standard output, and git's commit, which a packaged program has.
 fn tell_version(rt: &HostRuntime) -> Result<(), Fault> {
-    match println!(rt; "allocd, {VERSION}") {
+    let told = match commit(rt, rt.alloc()) {
+        Some(commit) => println!(rt; "allocd, {VERSION}, commit {commit}"),
+        None => println!(rt; "allocd, {VERSION}, no commit: not packaged"),
+    };
+    match told {
         Ok(()) => Ok(()),
         Err(_) => Err(Fault::Run(RunError::Write)),
     }

@@ -27,6 +27,7 @@ pub first_none : (o : Option Refusal) (rest : List (Option Refusal)) → first (
 first_none None rest h = (refl, h)
 first_none (Some r) rest h = absurd (cc)
 
+-- a test that refuses nothing holds
 pub unless_none : (b : Bool) (r : Refusal) → unless b r ≡ None → b ≡ true
 unless_none true r h = refl
 unless_none false r h = cc
@@ -40,6 +41,7 @@ accepted_parts None (Some r) number status o n s h = absurd (cc)
 accepted_parts None None number status (Some r) n s h = absurd (cc)
 accepted_parts None None number status None n s h = (refl, (refl, ((cc), (cc))))
 
+-- a change is refused by its row
 pub change_refused : (t : House) (h : List Entry) (by : List ℕ) (c : Command) → is_change c ≡ true
     → command_refusal t h by c ≡ refusal_of t (live h) by c
 change_refused t h by (Trade _ _ _ _ _) e = refl
@@ -60,6 +62,7 @@ pub record IsAllowed (t : House) (h : List Entry) (e : Entry) (n : ℕ) : Type 0
   pub id : find (is_same_id (call_of e)) (records h) ≡ None
   pub lawful : command_refusal t h e.firm e.command ≡ None
 
+-- so it is where the answer is Accepted
 pub allowed : (t : House) (h : List Entry) (e : Entry) (n : ℕ) → answer_to t h (call_of e) ≡ Accepted n e.status
     → IsAllowed t h e n
 allowed t h e n ok =
@@ -86,6 +89,7 @@ pub record IsOpen (t : House) (h : List Entry) (by : List ℕ) (rest : Record �
   pub party : is_among by (parties_of t (live h) r.firm r.command) ≡ true
   pub own : rest r ≡ None
 
+-- so it is where the command is not refused
 pub open_from_none : (t : House) (h : List Entry) (by : List ℕ) (rest : Record → Option Refusal) (o : Option Record)
     → on_change t h by rest o ≡ None → (r : Record) × IsOpen t h by rest o r
 open_from_none t h by rest None e = absurd (cc)

@@ -6,6 +6,8 @@ use Rattle.std.specs.Option.{option_or}
 use Rattle.std.proofs.lemmas.Bool.Decides.{Decides-eqb, same_from_decides}
 use Rattle.std.proofs.lemmas.Slice.Eq.{bytes_eq-Decides}
 
+-- ---- tests and options
+
 pub or_false : (b : Bool) → (b || false) ≡ b
 or_false true = refl
 or_false false = refl
@@ -43,6 +45,8 @@ pub nothing_here : {A : Type 0} (b : Bool) (x : A) (rest : Option A) → cond b 
     → (b ≡ false) × (rest ≡ None)
 nothing_here true x rest h = absurd (cc)
 nothing_here false x rest h = (refl, h)
+
+-- ---- tests of equality, and filters
 
 pub eqb_symm : (a b : ℕ) → (a == b) ≡ (b == a)
 eqb_symm a b =

@@ -43,6 +43,7 @@ first_unfit file before (d ∷ rest) =
 
 -- ---- sums and terms of more dealings
 
+-- of options
 or_assoc : {A : Type 0} (a b c : Option A) → option_or a (option_or b c) ≡ option_or (option_or a b) c
 or_assoc None b c = refl
 or_assoc (Some x) b c = refl
@@ -52,6 +53,7 @@ made_append [] ys = refl
 made_append (x ∷ xs) ys =
     ap (option_or (made_by_deed x.deed)) (made_append xs ys) ∙ or_assoc (made_by_deed x.deed) (made_in xs) (made_in ys)
 
+-- the terms of more
 pub terms_append : (file : Option Agreement) (xs ys : List Dealing)
     → terms_under file (xs ++ ys) ≡ option_or (terms_under file xs) (made_in ys)
 terms_append file xs ys = ap (option_or file) (made_append xs ys) ∙ or_assoc file (made_in xs) (made_in ys)
@@ -70,6 +72,7 @@ pub terms_stay : (file : Option Agreement) (xs ys : List Dealing) (a : Agreement
     → terms_under file (xs ++ ys) ≡ Some a
 terms_stay file xs ys a e = terms_append file xs ys ∙ ap (λ o. option_or o (made_in ys)) e
 
+-- the raises of one more
 raised_push : (xs : List Dealing) (d : Dealing) → raised_under (xs ++ d ∷ []) ≡ raised_under xs + raised_by_deed d.deed
 raised_push xs d = sum_by_push (λ d. raised_by_deed d.deed) xs d
 
@@ -105,6 +108,7 @@ sound_with file ds a e w = record {
       omega (arith, one, w.high more);
 }
 
+-- one more, by what it does
 sound_by : (file : Option Agreement) (ds : List Dealing) (d : Dealing) → IsSound file ds → (o : Option Agreement)
     → terms_under file ds ≡ o → (e : Deed) → d.deed ≡ e → fits file ds e ≡ true → IsSound file (ds ++ d ∷ [])
 sound_by file ds d s None none (Makes a) is fit =
@@ -158,6 +162,7 @@ sound_by file ds d s (Some a) some (Uses lots) is fit =
       high = λ more. let high = old (omega (arith, r, no_raise, more)) in omega (arith, r, no_raise, high);
     })
 
+-- one more that fits, and any number
 pub sound_push : (file : Option Agreement) (ds : List Dealing) (d : Dealing) → IsSound file ds
     → fits file ds d.deed ≡ true → IsSound file (ds ++ d ∷ [])
 sound_push file ds d s fit = sound_by file ds d s (terms_under file ds) refl d.deed refl fit
@@ -174,6 +179,7 @@ all_sound file ds all = sound_along file [] ds (sound_none file) all
 
 -- ---- cutting and joining
 
+-- a front of them fits, and what is behind it
 pub fit_front : (file : Option Agreement) (ds xs ys : List Dealing) → AllFit file ds (xs ++ ys) → AllFit file ds xs
 fit_front file ds [] ys all = tt
 fit_front file ds (x ∷ xs) ys all = (all.0, fit_front file (ds ++ x ∷ []) xs ys all.1)
@@ -272,6 +278,7 @@ record UsesLess (file : Option Agreement) (x y : List Dealing) : Type 0 where
   raised : raised_under y ≡ raised_under x
   used : used_under y ≤ used_under x
 
+-- one more behind both
 less_push : (file : Option Agreement) (x y : List Dealing) (d : Dealing) → UsesLess file x y
     → UsesLess file (x ++ d ∷ []) (y ++ d ∷ [])
 less_push file x y d less =
@@ -297,6 +304,7 @@ use_less old new lots None less h = h
 use_less old new lots (Some limit) less h =
     le-leb (new + lots) limit (let low : old + lots ≤ limit = leb-true _ _ h in omega (arith, low, less))
 
+-- what fits behind the first fits behind the second
 fits_less : (file : Option Agreement) (x y : List Dealing) (e : Deed) → UsesLess file x y → fits file x e ≡ true
     → fits file y e ≡ true
 fits_less file x y (Makes a) less fit = ap is_none less.terms ∙ fit
@@ -315,6 +323,7 @@ all_fit_less file x y (d ∷ rest) less all = (
 
 -- ---- one of them left out
 
+-- one of them, and those behind it
 cut_fit : (file : Option Agreement) (xs : List Dealing) (k : Dealing) (ys : List Dealing)
     → AllFit file [] (xs ++ k ∷ ys) → fits file xs k.deed ≡ true
 cut_fit file xs k ys all = (fit_behind file [] xs (k ∷ ys) all).0
@@ -348,6 +357,7 @@ record RaisesLess (file : Option Agreement) (x y : List Dealing) (a : Agreement)
   used : used_under y ≡ used_under x
   within : used_under y ≤ a.limit + raised_under y
 
+-- a use within the limit doesn't pass it
 over_false : (limit used : ℕ) → used ≤ limit → nat_lt limit used ≡ false
 over_false limit used low = le-ltb limit used low
 
@@ -366,6 +376,8 @@ first_over_at limit y d rest =
     ∙ ap (λ n. first_over (limit + raised_under y + raised_by_deed d.deed) n rest) (used_push y d)
 
 module _ (file : Option Agreement) (a : Agreement) (lots : ℕ) where
+  -- ---- one step of the walk
+
   raise_push : (x y : List Dealing) (d : Dealing) → RaisesLess file x y a lots
       → used_under (y ++ d ∷ []) ≤ a.limit + raised_under (y ++ d ∷ [])
       → RaisesLess file (x ++ d ∷ []) (y ++ d ∷ []) a lots
@@ -382,6 +394,7 @@ module _ (file : Option Agreement) (a : Agreement) (lots : ℕ) where
         within = within;
       }
 
+  -- a deal that fits the one, and fits or passes the limit of the other
   over_step : (x y : List Dealing) (d : Dealing) (rest : List Dealing) → RaisesLess file x y a lots
       → (RaisesLess file (x ++ d ∷ []) (y ++ d ∷ []) a lots
       → first_unfit file (y ++ d ∷ []) rest
@@ -390,8 +403,10 @@ module _ (file : Option Agreement) (a : Agreement) (lots : ℕ) where
       → cond (fits file y e) (first_unfit file (y ++ d ∷ []) rest) (Some d.number)
       ≡ cond (nat_lt (a.limit + raised_under y + raised_by_deed e) (used_under y + used_by_deed e)) (Some d.number)
       (first_over (a.limit + raised_under y + raised_by_deed d.deed) (used_under y + used_by_deed d.deed) rest)
+  -- no terms are made twice
   over_step x y d rest less later (Makes b) is fit =
       absurd (let e : false ≡ true = sym (ap is_none less.old) ∙ fit in cc)
+  -- a Raise fits both
   over_step x y d rest less later (Raises more) is fit =
       let may : (nat_le 1 more && nat_le (a.limit + raised_under x + more) highest_limit) ≡ true =
       sym (ap (may_raise more) (limit_at file a x less.old)) ∙ fit in
@@ -413,6 +428,7 @@ module _ (file : Option Agreement) (a : Agreement) (lots : ℕ) where
       cond b (Some d.number)
       (first_over (a.limit + raised_under y + raised_by_deed d.deed) (used_under y + used_by_deed d.deed) rest))
       not_over)))
+  -- a Claim fits both, or passes the limit of the second
   over_step x y d rest less later (Uses more) is fit =
       use_step x y d rest less later more is (nat_le (used_under y + more) (a.limit + raised_under y)) refl
     where
@@ -452,6 +468,8 @@ module _ (file : Option Agreement) (a : Agreement) (lots : ℕ) where
           (first_over (a.limit + raised_under y + raised_by_deed d.deed) (used_under y + used_by_deed d.deed) rest))
           is_over)
 
+  -- ---- the whole walk
+
   over_walk : (x y rest : List Dealing) → RaisesLess file x y a lots → AllFit file x rest
       → first_unfit file y rest ≡ first_over (a.limit + raised_under y) (used_under y) rest
   over_walk x y [] less all = refl
@@ -460,6 +478,7 @@ module _ (file : Option Agreement) (a : Agreement) (lots : ℕ) where
 
 -- the walk over dealings that fit passes nothing
 module _ (file : Option Agreement) (a : Agreement) where
+  -- terms that are there at the end are there after the first deal
   fit_terms_by : (ds : List Dealing) (d : Dealing) (rest : List Dealing) → IsSound file (ds ++ d ∷ [])
       → terms_under file (ds ++ (d ∷ rest)) ≡ Some a → (o : Option Agreement) → terms_under file (ds ++ d ∷ []) ≡ o
       → terms_under file (ds ++ d ∷ []) ≡ Some a
@@ -473,6 +492,7 @@ module _ (file : Option Agreement) (a : Agreement) where
       (append_assoc ds (d ∷ []) rest) (terms_stay file (ds ++ d ∷ []) rest b some) in
       some ∙ (sym more ∙ end)
 
+  -- each of them stays within the limit
   over_past : (ds rest tail : List Dealing) → IsSound file ds → AllFit file ds rest
       → terms_under file (ds ++ rest) ≡ Some a
       → first_over (a.limit + raised_under ds) (used_under ds) (rest ++ tail)
@@ -547,6 +567,7 @@ made_first file xs k ys a is all =
     let none = none_of_is (terms_under file xs) fit in
     (front.none none, file_none file xs none)
   where
+    -- without terms the house table has none
     none_of_is : (o : Option Agreement) → is_none o ≡ true → o ≡ None
     none_of_is None e = refl
     none_of_is (Some a) e = absurd (cc)
@@ -563,6 +584,7 @@ makes_first k ys a is =
     (cond (not (is_some (made_by_deed e))) (Some k) (find (λ d. not (is_making d)) ys)))
     is
 
+-- the first that doesn't fit is then the first under its terms
 first_without : (k : Dealing) (ys : List Dealing) (a : Agreement) → k.deed ≡ Makes a → AllFit None (k ∷ []) ys
     → first_unfit None [] ys ≡ first_under_terms ys
 first_without k [] a is all = refl
@@ -587,6 +609,7 @@ first_without k (y ∷ ys) a is all = by_deed y.deed refl all.0
         (cond (not (is_some (made_by_deed e))) (Some y) (find (λ d. not (is_making d)) ys)))
         here)
 
+-- so it is the first of those behind the Agree
 pub unfit_without_terms : (file : Option Agreement) (xs : List Dealing) (k : Dealing) (ys : List Dealing)
     (a : Agreement) → k.deed ≡ Makes a → AllFit file [] (xs ++ k ∷ ys)
     → first_unfit file [] (xs ++ ys) ≡ first_under_terms (xs ++ k ∷ ys)
@@ -601,6 +624,7 @@ unfit_without_terms file xs k ys a is all =
 
 -- ---- one that may be left out may stand last
 
+-- an Agree that may go has nothing behind it
 nothing_behind : (k : Dealing) (ys : List Dealing) (a : Agreement) → k.deed ≡ Makes a → AllFit None (k ∷ []) ys
     → AllFit None [] ys → ys ≡ []
 nothing_behind k [] a is all less = refl
@@ -614,6 +638,7 @@ nothing_behind k (y ∷ ys) a is all less = absurd (by_deed y.deed all.0 less.0)
     by_deed (Raises lots) fit free = cc
     by_deed (Uses lots) fit free = cc
 
+-- terms and sums without one that makes no terms
 terms_skip : (file : Option Agreement) (xs : List Dealing) (k : Dealing) (ys : List Dealing)
     → made_by_deed k.deed ≡ None → terms_under file (xs ++ ys) ≡ terms_under file (xs ++ k ∷ ys)
 terms_skip file xs k ys none =
@@ -631,6 +656,7 @@ sum_skip f xs k ys =
 
 module _ (file : Option Agreement) (xs : List Dealing) (k : Dealing) (ys : List Dealing)
     (all : AllFit file [] (xs ++ k ∷ ys)) (less : AllFit file [] (xs ++ ys)) where
+  -- a Raise may stand last, a Claim, and an Agree
   last_raise : (lots : ℕ) → k.deed ≡ Raises lots → fits file (xs ++ ys) (Raises lots) ≡ true
   last_raise lots is =
       let fit = subst (λ e. fits file xs e ≡ true) is (cut_fit file xs k ys all) in
@@ -706,6 +732,7 @@ module _ (file : Option Agreement) (xs : List Dealing) (k : Dealing) (ys : List 
   pub terms_last : terms_under file ((xs ++ ys) ++ k ∷ []) ≡ terms_under file (xs ++ k ∷ ys)
   terms_last = terms_last_by k.deed refl
 
+-- sums do not depend on the order
 pub raised_last : (xs : List Dealing) (k : Dealing) (ys : List Dealing)
     → raised_under ((xs ++ ys) ++ k ∷ []) ≡ raised_under (xs ++ k ∷ ys)
 raised_last xs k ys = let a = sum_skip raised_by_deed xs k ys in let b = raised_push (xs ++ ys) k in omega (arith, a, b)

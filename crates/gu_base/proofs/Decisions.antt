@@ -13,6 +13,7 @@ pub data Which (l : List Record) (r : Record) (n : EntryPart) (d : Record) : Typ
   before : decision_of l n ≡ Some d → Which l r n d
   here : decides n r.command ≡ true → r ≡ d → Which l r n d
 
+-- of one more change
 which_new : (l : List Record) (r : Record) (n : EntryPart) (d : Record) (b : Bool) → decides n r.command ≡ b
     → cond b (Some r) None ≡ Some d → Which l r n d
 which_new l r n d true is h = here is (same_Some r d h)

@@ -30,11 +30,13 @@ first_refused_cut t done (d ∷ before) r after h =
     (none_refused (refusal_of t done d.firm d.command) d.number (first_refused t (done ++ d ∷ []) (before ++ r ∷ after))
     h).1)
 
+-- so such a list is legal
 pub legal_from_replay : (t : House) (l : List Record) → first_refused t [] l ≡ None → IsLegal t l
 legal_from_replay t l h = record {
   accepted = λ before after r e. first_refused_cut t [] before r after (subst (λ k. first_refused t [] k ≡ None) e h);
 }
 
+-- and a legal list is replayed
 replay_from : (t : House) (l : List Record) → IsLegal t l → (done rest : List Record) → l ≡ done ++ rest
     → first_refused t done rest ≡ None
 replay_from t l legal done [] e = refl
@@ -42,6 +44,7 @@ replay_from t l legal done (r ∷ rest) e =
     subst (λ o. replayed o r.number (first_refused t (done ++ r ∷ []) rest) ≡ None) (sym (legal.accepted done rest r e))
     (replay_from t l legal (done ++ r ∷ []) rest (e ∙ sym (append_assoc done (r ∷ []) rest)))
 
+-- from its first change on
 pub replay_from_legal : (t : House) (l : List Record) → IsLegal t l → first_refused t [] l ≡ None
 replay_from_legal t l legal = replay_from t l legal [] l refl
 

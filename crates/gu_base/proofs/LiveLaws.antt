@@ -17,6 +17,8 @@ use Rattle.gu_base.specs.declared.entry.Entry.{Entry}
 use Rattle.gu_base.specs.declared.entry.Record.{Record}
 use Rattle.gu_base.proofs.Basics.{or_false, eqb_symm, filter_twice}
 
+-- ---- one entry more
+
 pub numbered_push : (n : ℕ) (h : List Entry) (e : Entry)
     → numbered_from n (h ++ e ∷ []) ≡ numbered_from n h ++ numbered_as (n + length h) e ∷ []
 numbered_push n [] e = ap (λ m. numbered_as m e ∷ []) (omega arith)
@@ -24,6 +26,7 @@ numbered_push n (d ∷ h) e =
     ap (λ rs. numbered_as n d ∷ rs)
     (numbered_push (n + 1) h e ∙ ap (λ m. numbered_from (n + 1) h ++ numbered_as m e ∷ []) (omega arith))
 
+-- a consent is none
 consent_is_no_change : (c : Command) → is_consenting c ≡ true → is_change c ≡ false
 consent_is_no_change (Trade _ _ _ _ _) h = cc
 consent_is_no_change (Split _ _) h = cc
@@ -55,6 +58,7 @@ change_is_no_reverse n c h = no_reverse n c (ap (λ b. b || is_consenting c) h)
 pub consent_is_no_reverse : (n : ℕ) (c : Command) → is_consenting c ≡ true → is_reverse_of n c ≡ false
 consent_is_no_reverse n c h = no_reverse n c (ap (λ b. b || is_consenting c) (consent_is_no_change c h) ∙ h)
 
+-- what is reversed with one entry more
 pub reversed_push : (h : List Entry) (e : Entry) (n : ℕ)
     → is_reversed (h ++ e ∷ []) n ≡ (is_reversed h n || is_reverse_of n e.command)
 reversed_push h e n =

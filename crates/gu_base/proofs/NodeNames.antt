@@ -40,9 +40,11 @@ node_called l n x h = name_is x.name n (find_passes (λ x. same_name x.name n) (
 abbrev pub made : Record → List Node
 made r = nodes_of r.number r.firm r.command
 
+-- the one of this name among them
 abbrev pub made_of : Record → EntryPart → Option Node
 made_of r n = find (λ x. same_name x.name n) (made r)
 
+-- the nodes of one change more
 pub nodes_push : (l : List Record) (r : Record) → nodes (l ++ r ∷ []) ≡ nodes l ++ made r
 nodes_push l r =
     flat_map-append (λ r. nodes_of r.number r.firm r.command) l (r ∷ [])
@@ -65,6 +67,7 @@ part_entry_or : (n m : EntryPart) (y x : Node) (rest : Option Node) → (rest �
 part_entry_or n m y x rest later h =
     first_or n m y x rest (n.entry ≡ m.entry) (λ is _. sym ((name_told m n is).0)) later (same_name m n) refl h
 
+-- a part has the number of its Split
 pub part_entry : (n m : EntryPart) (k i : ℕ) (by : List ℕ) (ps : List Part) (x : Node)
     → find (λ x. same_name x.name n) (nodes_of_parts k i m by ps) ≡ Some x → n.entry ≡ k
 part_entry n m k i by [] x h = absurd (cc)

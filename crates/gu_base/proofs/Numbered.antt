@@ -17,6 +17,7 @@ pub rises_later : (n m : ℕ) (l : List Record) → n ≤ m → RisesFrom m l �
 rises_later n m [] h rises = tt
 rises_later n m (r ∷ l) h rises = let a : m ≤ r.number = rises.0 in (omega arith, rises.1)
 
+-- a record may be left out
 pub rises_kept : (n : ℕ) (r : Record) (kept : List Record) → n ≤ r.number → RisesFrom (r.number + 1) kept → (b : Bool)
     → RisesFrom n (cond b (r ∷ kept) kept)
 rises_kept n r kept h rises true = (h, rises)
@@ -35,6 +36,7 @@ none_past m n (e ∷ h) past =
     (ne_eqb m n (λ s. omega arith))
     ∙ none_past (m + 1) n h (omega arith)
 
+-- the entry at its place
 there : (m n k : ℕ) (h : List Entry) (e : Entry) → n ≡ m + k → k < length h → e ≡ get_or h k e
     → find (λ q. q.number == n) (numbered_from m h) ≡ Some (numbered_as n e)
 there m n k [] e same within is = absurd (omega arith)

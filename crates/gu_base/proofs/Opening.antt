@@ -47,6 +47,7 @@ abbrev pub opened_from : House → ℕ → List (Pair × Agreement) → List Ent
 opened_from t i [] = []
 opened_from t i (e ∷ es) = opening_entry t i e ∷ opened_from t (i + 1) es
 
+-- one more, and how many they are
 opened_push : (t : House) (i : ℕ) (es : List (Pair × Agreement)) (e : Pair × Agreement)
     → opened_from t i (es ++ e ∷ []) ≡ opened_from t i es ++ opening_entry t (i + length es) e ∷ []
 opened_push t i [] e = ap (λ j. opening_entry t j e ∷ []) (omega arith)
@@ -93,6 +94,8 @@ not_found p t n i (e ∷ es) none =
     ∙ not_found p t (n + 1) (i + 1) es (λ m k d less. none m k d (omega (arith, less)))
 
 module _ (t : House) (es : List (Pair × Agreement)) (e : Pair × Agreement) (few : length es < most_entries) where
+  -- ---- none has the id of the next
+
   other_id : (m k : ℕ) (d : Pair × Agreement) → k < 1 + length es
       → is_same_id (opening_call t (1 + length es) e) (numbered_as m (opening_entry t k d)) ≡ false
   other_id m k d less =
@@ -114,6 +117,7 @@ module _ (t : House) (es : List (Pair × Agreement)) (e : Pair × Agreement) (fe
 abbrev numbered_deed : ℕ → Deed → Dealing
 numbered_deed n d = record { number = n; deed = d }
 
+-- another pair has no deed of it
 no_deed : (l : List Record) (giver taker : List ℕ) (n : ℕ) (t : House) (i : ℕ) (e : Pair × Agreement)
     → same_pair e.0 (record { giver = giver; taker = taker }) ≡ false
     → dealing_of l giver taker (numbered_as n (opening_entry t i e)) ≡ None
@@ -127,6 +131,7 @@ cut_no_deal : (l : List Record) (giver taker : List ℕ) (r : Record) (rest : Li
 cut_no_deal l giver taker r rest true none later = ap (λ o. cons_option o (dealings_in l rest giver taker)) none ∙ later
 cut_no_deal l giver taker r rest false none later = later
 
+-- so a pair of its own has no dealings
 no_deals : (l : List Record) (q : Record → Bool) (giver taker : List ℕ) (n : ℕ) (t : House) (i : ℕ)
     (es : List (Pair × Agreement))
     → AllByRecursion (λ d. same_pair d.0 (record { giver = giver; taker = taker }) ≡ false) es
@@ -151,6 +156,7 @@ answer_is same dup n s room o a b c d = rw (a, b, c, d) refl
 pub knows_itself : (t : House) → knows_firm t t.house ≡ true
 knows_itself t = ap (λ b. b || list_any (bytes_eq t.house) t.firms) ((bytes_eq-Decides t.house t.house).1 refl)
 
+-- the next call is accepted
 pub opening_accepted : (t : House) (es : List (Pair × Agreement)) (e : Pair × Agreement) → can_be_made t e ≡ true
     → AllByRecursion (λ d. same_pair d.0 e.0 ≡ false) es → length es < most_entries
     → answer_to t (opened_from t 1 es) (opening_call t (1 + length es) e)
@@ -203,6 +209,8 @@ others_at (d ∷ es) e rest distinct =
     (apart_at (λ p. same_pair d.0 p ≡ false) es e rest distinct.0, others_at es e rest distinct.1)
 
 module _ (t : House) (lawful : HasLawfulOpening t) (few : length t.opening ≤ most_entries) where
+  -- ---- all of them
+
   opened_along : (es rest : List (Pair × Agreement)) → t.opening ≡ es ++ rest
       → after_all t (opened_from t 1 es) (opening_from t (1 + length es) rest) ≡ opened_from t 1 (es ++ rest)
   opened_along es [] is = ap (opened_from t 1) (sym (append-nil es))

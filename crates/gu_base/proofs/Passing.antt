@@ -275,6 +275,7 @@ pub record SplitsNode (l : List Record) (n : EntryPart) : Type 0 where
   pub whole : split_of l n ≡ None
   pub free : not (is_offered l node) ≡ true
 
+-- where it is accepted
 pub splits_well : (t : House) (l : List Record) (by : List ℕ) (c : Command) (n : EntryPart) → row t l by c ≡ None
     → splits n c ≡ true → SplitsNode l n
 splits_well t l by (Split m ps) n h is =
@@ -314,6 +315,7 @@ decides_from l m n x one found given none = record {
   undecided = subst (λ (z : EntryPart). decision_of l z ≡ None) (node_called l m x found ∙ one) none;
 }
 
+-- where it is accepted
 pub decides_well : (t : House) (l : List Record) (by : List ℕ) (c : Command) (n : EntryPart) → row t l by c ≡ None
     → decides n c ≡ true → DecidesNode l n
 decides_well t l by (Claim m account) n h is =

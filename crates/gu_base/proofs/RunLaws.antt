@@ -29,6 +29,7 @@ pub record IsTaken (t : House) (h : List Entry) (by : List ℕ) (k : ℕ) : Type
   pub low : k < 1 + length h
   pub free : standing_on t (live h) k ≡ None
 
+-- an accepted Reverse of an entry
 pub taken : (t : House) (h : List Entry) (by : List ℕ) (k : ℕ) → command_refusal t h by (Reverse k) ≡ None
     → IsTaken t h by k
 taken t h by k e =
@@ -52,6 +53,7 @@ pub record IsRun (t : House) (h : List Entry) : Type 0 where
   pub replayed : first_refused t [] (live h) ≡ None
   pub behind : (n : ℕ) → length h < n → is_reversed h n ≡ false
 
+-- no Reverse names what is not there yet
 pub behind_push : (h : List Entry) (e : Entry) → ((n : ℕ) → length h < n → is_reversed h n ≡ false)
     → ((n : ℕ) → 1 + length h < n → is_reverse_of n e.command ≡ false) → (n : ℕ) → length (h ++ e ∷ []) < n
     → is_reversed (h ++ e ∷ []) n ≡ false
@@ -62,6 +64,8 @@ behind_push h e behind own n high =
 
 module _ {t : House} {h : List Entry} (run : IsRun t h) (e : Entry) (n : ℕ)
     (ok : answer_to t h (call_of e) ≡ Accepted n e.status) where
+  -- ---- one entry more, by its command
+
   push_change : is_change e.command ≡ true → IsRun t (h ++ e ∷ [])
   push_change change =
       let a = allowed t h e n ok in
@@ -104,9 +108,12 @@ module _ {t : House} {h : List Entry} (run : IsRun t h) (e : Entry) (n : ℕ)
   pub run_push : IsRun t (h ++ e ∷ [])
   run_push = push_any e.command refl
 
+-- ---- from the empty history on
+
 pub run_none : (t : House) → IsRun t []
 run_none t = record { replayed = refl; behind = λ n high. refl }
 
+-- after a call, accepted or not
 run_step : (t : House) (h : List Entry) (c : Call) (a : Answer) → answer_to t h c ≡ a → IsRun t h
     → IsRun t (after_by h c a)
 run_step t h c (Accepted n s) ok run =

@@ -54,13 +54,16 @@ on_change t h by rest (Some r) = first (
     ∷ unless (is_among by (parties_of t (live h) r.firm r.command)) NotAParty
     ∷ rest r ∷ [])
 
+-- a firm consents once
 abbrev pub initiate_rest : List Entry → List ℕ → Record → Option Refusal
 initiate_rest h by r = unless (not (is_among by (consents_of h r.number))) AlreadyConsented
 
+-- no firm is among them
 abbrev pub is_empty : List (List ℕ) → Bool
 is_empty [] = true
 is_empty (x ∷ xs) = false
 
+-- some consent stands
 abbrev pub decline_rest : List Entry → Record → Option Refusal
 decline_rest h r = unless (not (is_empty (consents_of h r.number))) NothingPending
 
@@ -109,6 +112,7 @@ is_same_id c r = bytes_eq r.firm c.firm && bytes_eq r.id c.id
 abbrev pub is_same_call : Call → Record → Bool
 is_same_call c r = is_same_id c r && same_command r.command c.command
 
+-- the entry of this number, unless the call is refused
 abbrev pub accepted_or : ℕ → State → Option Refusal → Answer
 accepted_or number status None = Accepted number status
 accepted_or number status (Some r) = Refused r
@@ -127,6 +131,7 @@ answer_to t h c =
     (first
     (unless (nat_lt (length h) most_entries) BookFull ∷ command_refusal t h c.firm c.command ∷ [])))
 
+-- the history with the call's entry, where this answer accepts it
 abbrev pub after_by : List Entry → Call → Answer → List Entry
 after_by h c (Accepted number status) =
     h ++ record { firm = c.firm; id = c.id; command = c.command; status = status } ∷ []
@@ -136,6 +141,7 @@ after_by h c _ = h
 abbrev pub after : House → List Entry → Call → List Entry
 after t h c = after_by h c (answer_to t h c)
 
+-- the answer accepts the call
 abbrev pub is_accepted : Answer → Bool
 is_accepted (Accepted _ _) = true
 is_accepted _ = false

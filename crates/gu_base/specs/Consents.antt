@@ -14,10 +14,12 @@ use Rattle.gu_base.specs.declared.command.Command.{Command}
 use Rattle.gu_base.specs.declared.command.Command.TheVariants.{Trade, Split, Claim, Refuse, Cancel}
 use Rattle.gu_base.specs.declared.command.Command.TheVariants.{Agree, Raise, Initiate, Decline}
 
+-- the parties of a Claim or a Refuse of a given part
 abbrev pub taker_and_giver : Kind → List (List ℕ)
 taker_and_giver (Given _ giver taker) = taker ∷ giver ∷ []
 taker_and_giver _ = []
 
+-- the party of a Cancel of one
 abbrev pub giver_alone : Kind → List (List ℕ)
 giver_alone (Given _ giver taker) = giver ∷ []
 giver_alone _ = []
@@ -44,10 +46,12 @@ is_consenting (Initiate _) = true
 is_consenting (Decline _) = true
 is_consenting _ = false
 
+-- it consents to the reversal of this entry
 abbrev pub is_initiate_of : ℕ → Command → Bool
 is_initiate_of n (Initiate entry) = entry == n
 is_initiate_of n _ = false
 
+-- it clears the consents to that
 abbrev pub is_decline_of : ℕ → Command → Bool
 is_decline_of n (Decline entry) = entry == n
 is_decline_of n _ = false
@@ -63,6 +67,7 @@ consents_of h n =
 abbrev pub consents_left : List Entry → ℕ → List (List ℕ)
 consents_left h n = if is_reversed h n then [] else consents_of h n
 
+-- the firm is one of these
 abbrev pub is_among : List ℕ → List (List ℕ) → Bool
 is_among firm firms = list_any (bytes_eq firm) firms
 

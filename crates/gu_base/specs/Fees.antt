@@ -19,6 +19,7 @@ charge_of_kind t l lots (Given _ giver taker) =
     (terms_of t l giver taker)
 charge_of_kind t l lots _ = None
 
+-- what a claim of the node costs
 abbrev pub charge_of_node : House → List Record → Node → Option Charge
 charge_of_node t l x = charge_of_kind t l x.lots x.kind
 

@@ -12,6 +12,7 @@ use Rattle.gu_base.specs.declared.command.Part.{Part}
 use Rattle.gu_base.specs.declared.command.Command.{Command}
 use Rattle.gu_base.specs.declared.command.Command.TheVariants.{Trade, Split, Claim, Refuse, Cancel}
 
+-- the two are one node
 abbrev pub same_name : EntryPart → EntryPart → Bool
 same_name a b = (a.entry == b.entry) && (a.part == b.part)
 
@@ -83,6 +84,7 @@ split_of l n = find (λ r. splits n r.command) l
 abbrev pub decision_of : List Record → EntryPart → Option Record
 decision_of l n = find (λ r. decides n r.command) l
 
+-- the account that a Claim names
 abbrev pub claimed_account : Command → Option (List ℕ)
 claimed_account (Claim _ account) = Some account
 claimed_account _ = None

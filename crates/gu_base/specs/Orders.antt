@@ -17,6 +17,7 @@ is_ready l before (Refuse n) = is_some (node_of before n)
 is_ready l before (Cancel n) = is_some (node_of before n)
 is_ready l before _ = true
 
+-- each finds before it the node that it names
 abbrev pub in_lawful_order : List Record → List Record → List Record → Bool
 in_lawful_order l before [] = true
 in_lawful_order l before (r ∷ rest) =

@@ -9,6 +9,7 @@ use Rattle.gu_base.specs.declared.node.Kind.{Kind}
 use Rattle.gu_base.specs.declared.node.Kind.TheVariants.{Root, Own, Given}
 use Rattle.gu_base.specs.declared.node.Node.{Node}
 
+-- the two are one account
 abbrev pub same_place : Place → Place → Bool
 same_place a b = bytes_eq a.firm b.firm && bytes_eq a.account b.account
 
@@ -34,6 +35,7 @@ place_of_kind (Given _ _ taker) (Some account) above =
     Some (record { firm = taker; account = account })
 place_of_kind (Given _ _ taker) None above = above
 
+-- the account in which the first of a line stands, a node and those above it
 abbrev pub place_along : List Record → List Node → Option Place
 place_along l [] = None
 place_along l (x ∷ above) = place_of_kind x.kind (claim_of l x.name) (place_along l above)
@@ -50,6 +52,7 @@ owner_of l n = option_map (λ p. p.firm) (place_of l n)
 abbrev pub depth_of : List Record → EntryPart → ℕ
 depth_of l n = length (line_of l n) - 1
 
+-- the last of a line
 abbrev pub root_along : List Node → Option EntryPart
 root_along [] = None
 root_along (x ∷ []) = Some x.name

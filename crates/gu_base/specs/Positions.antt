@@ -16,6 +16,7 @@ use Rattle.gu_base.specs.declared.command.Command.TheVariants.{Trade}
 abbrev pub leaves : List Record → List Node
 leaves l = filter (λ x. is_none (split_of l x.name)) (nodes l)
 
+-- both buy, or both sell
 abbrev pub same_side : Side → Side → Bool
 same_side Buy Buy = true
 same_side Sell Sell = true
@@ -33,6 +34,7 @@ trades_in l instrument side n =
     (λ t. find (λ r. (r.number == t.entry) && is_trade_of instrument side r.command) l)
     (root_of l n))
 
+-- the node stands in the account
 abbrev pub stands_at : List Record → Place → EntryPart → Bool
 stands_at l at n = unwrap_or (option_map (same_place at) (place_of l n)) false
 

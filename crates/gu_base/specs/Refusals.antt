@@ -46,10 +46,12 @@ at_node row (Some x) = row x
 abbrev pub owns : List Record → List ℕ → EntryPart → Bool
 owns l firm n = unwrap_or (option_map (λ owner. bytes_eq owner firm) (owner_of l n)) false
 
+-- the firm gives the part up
 abbrev pub is_giver : List ℕ → Kind → Bool
 is_giver firm (Given _ giver _) = bytes_eq giver firm
 is_giver firm _ = false
 
+-- the firm is to take the part
 abbrev pub is_taker : List ℕ → Kind → Bool
 is_taker firm (Given _ _ taker) = bytes_eq taker firm
 is_taker firm _ = false
@@ -59,12 +61,14 @@ abbrev pub knows_own_account : House → List ℕ → Part → Bool
 knows_own_account t by p =
     not (bytes_eq p.firm by) || unwrap_or (option_map (knows_account t by) p.account) false
 
+-- one part of a Split
 abbrev pub refusal_of_part : House → List ℕ → Part → Option Refusal
 refusal_of_part t by p = first (
     unless (knows_firm t p.firm) UnknownFirm
     ∷ unless (knows_own_account t by p) UnknownAccount
     ∷ unless (is_lots p.lots) BadLots ∷ [])
 
+-- a Trade
 abbrev pub trade_row : House → List ℕ → (firm account instrument : List ℕ) → ℕ → Option Refusal
 trade_row t by firm account instrument lots = first (
     unless (bytes_eq by t.house) HouseOnly
@@ -73,6 +77,7 @@ trade_row t by firm account instrument lots = first (
     ∷ unless (knows_instrument t instrument) UnknownInstrument
     ∷ unless (is_lots lots) BadLots ∷ [])
 
+-- a Split of this node
 abbrev pub split_row : House → List Record → List ℕ → List Part → Node → Option Refusal
 split_row t l by parts x = first (
     unless (owns l by x.name) NotYours
@@ -93,10 +98,12 @@ abbrev pub limit_by : House → List Record → Kind → Option ℕ
 limit_by t l (Given _ giver taker) = limit_of t l giver taker
 limit_by t l _ = None
 
+-- the lots that the two firms of a given part use
 abbrev pub used_by : List Record → Kind → ℕ
 used_by l (Given _ giver taker) = used_of l giver taker
 used_by l _ = 0
 
+-- a Claim of this node
 abbrev pub claim_row : House → List Record → List ℕ → List ℕ → Node → Option Refusal
 claim_row t l by account x = first (
     unless (is_offered l x) NotOffered
@@ -104,10 +111,12 @@ claim_row t l by account x = first (
     ∷ unless (knows_account t by account) UnknownAccount
     ∷ limit_row (used_by l x.kind + x.lots) (limit_by t l x.kind) ∷ [])
 
+-- a Refuse of this node
 abbrev pub refuse_row : List Record → List ℕ → Node → Option Refusal
 refuse_row l by x =
     first (unless (is_offered l x) NotOffered ∷ unless (is_taker by x.kind) NotYours ∷ [])
 
+-- a Cancel of this node
 abbrev pub cancel_row : List Record → List ℕ → Node → Option Refusal
 cancel_row l by x =
     first (unless (is_offered l x) NotOffered ∷ unless (is_giver by x.kind) NotYours ∷ [])
@@ -129,6 +138,7 @@ raised_row lots None = Some NoAgreement
 raised_row lots (Some limit) =
     unless (nat_le 1 lots && nat_le (limit + lots) highest_limit) BadTerms
 
+-- a Raise
 abbrev pub raise_row : House → List Record → List ℕ → List ℕ → ℕ → Option Refusal
 raise_row t l by giver lots =
     first (unless (knows_firm t giver) UnknownFirm ∷ raised_row lots (limit_of t l giver by) ∷ [])

@@ -43,6 +43,7 @@ abbrev pub taker_of : Kind → Option (List ℕ)
 taker_of (Given _ _ taker) = Some taker
 taker_of _ = None
 
+-- the row of a node
 abbrev pub row_of : List Record → ℕ → Node → Row
 row_of l depth x = record {
   depth = depth;
@@ -54,6 +55,7 @@ row_of l depth x = record {
   decision = option_map (λ r. r.number) (decision_of l x.name);
 }
 
+-- the nodes that a record makes
 abbrev pub made_by : Option Record → List Node
 made_by None = []
 made_by (Some r) = nodes_of r.number r.firm r.command
@@ -68,6 +70,7 @@ rows_within zero l depth x = row_of l depth x ∷ []
 rows_within (suc levels) l depth x =
     row_of l depth x ∷ flat_map (rows_within levels l (depth + 1)) (parts_of l x.name)
 
+-- the rows of a node and of all below it
 abbrev pub rows_from : List Record → Option Node → List Row
 rows_from l None = []
 rows_from l (Some x) = rows_within (length l) l 0 x

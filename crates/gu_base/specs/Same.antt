@@ -8,6 +8,7 @@ use Rattle.gu_base.specs.declared.command.Command.TheVariants.{Trade, Split, Cla
 use Rattle.gu_base.specs.declared.command.Command.TheVariants.{Agree, Raise, Initiate, Decline}
 use Rattle.gu_base.specs.declared.command.Command.TheVariants.{Reverse}
 
+-- the same command, with the same values
 abbrev pub same_command : Command → Command → Bool
 same_command (Trade f a i s l) (Trade f' a' i' s' l') =
     bytes_eq f f' && bytes_eq a a' && bytes_eq i i' && same_side s s' && (l == l')

@@ -18,6 +18,7 @@ use Rattle.gu_base.specs.declared.command.Command.TheVariants.{Trade, Split, Cla
 use Rattle.gu_base.specs.declared.command.Command.TheVariants.{Agree, Raise, Initiate, Decline}
 use Rattle.gu_base.specs.declared.command.Command.TheVariants.{Reverse}
 
+-- the tests of names and of sides say whether they are equal
 pub same_name-Decides : (a b : EntryPart) → Decides (same_name a b) (a ≡ b)
 same_name-Decides a b =
     decides_from same_name a b
@@ -34,6 +35,7 @@ same_side-Decides Sell Sell = (λ _. refl, λ _. refl)
 same_side-Decides Buy Sell = (λ h. cc, λ h. cc)
 same_side-Decides Sell Buy = (λ h. cc, λ h. cc)
 
+-- a command is the same as itself
 pub same_command_refl : (a : Command) → same_command a a ≡ true
 same_command_refl (Trade f a i s l) =
     rw (bytes_same f, bytes_same a, bytes_same i, (same_side-Decides s s).1 refl, number_same l)
@@ -50,6 +52,7 @@ same_command_refl (Initiate e) = number_same e
 same_command_refl (Decline e) = number_same e
 same_command_refl (Reverse e) = number_same e
 
+-- commands that are the same are equal
 pub same_command_told : (a b : Command) → same_command a b ≡ true → a ≡ b
 same_command_told (Trade f a i s l) (Trade f' a' i' s' l') h =
     let p = and_parts _ _ h in
@@ -89,6 +92,7 @@ same_command_told (Decline e) (Decline e') h = ap (λ x. Decline x) ((Decides-eq
 same_command_told (Reverse e) (Reverse e') h = ap (λ x. Reverse x) ((Decides-eqb _ _).0 h)
 same_command_told _ _ h = cc
 
+-- so the test of commands says whether they are equal
 pub same_command-Decides : (a b : Command) → Decides (same_command a b) (a ≡ b)
 same_command-Decides a b =
     decides_from same_command a b (same_command_told a b) (same_command_refl a)

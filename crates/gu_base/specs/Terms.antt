@@ -21,6 +21,7 @@ use_of_kind giver taker lots (Given _ g k) =
     if bytes_eq g giver && bytes_eq k taker then Some (Uses lots) else None
 use_of_kind giver taker lots _ = None
 
+-- a claim of the node uses its lots, where it is given by the one to the other
 abbrev pub use_of_node : List ℕ → List ℕ → Node → Option Deed
 use_of_node giver taker x = use_of_kind giver taker x.lots x.kind
 
@@ -52,17 +53,21 @@ dealings l giver taker = dealings_in l l giver taker
 
 -- ---- over what a giver and a taker deal, and the terms that the house table has of them
 
+-- the terms that a deed makes
 abbrev pub made_by_deed : Deed → Option Agreement
 made_by_deed (Makes a) = Some a
 made_by_deed _ = None
 
+-- it makes terms
 abbrev pub is_making : Dealing → Bool
 is_making d = is_some (made_by_deed d.deed)
 
+-- the lots by which it raises the limit
 abbrev pub raised_by_deed : Deed → ℕ
 raised_by_deed (Raises lots) = lots
 raised_by_deed _ = 0
 
+-- the lots that it uses
 abbrev pub used_by_deed : Deed → ℕ
 used_by_deed (Uses lots) = lots
 used_by_deed _ = 0

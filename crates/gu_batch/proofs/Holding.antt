@@ -48,6 +48,7 @@ answer_of f h r q e a k w = (
   subst (λ (o : Option Frame). h ≡ next_after f o) w k,
 )
 
+-- a frame with a good checksum
 pub leads_good : (p q : Progress) (f g h : Stream) (out : List ℕ) (fields : Fields) (len : ℕ)
     → LeadsTo p f q g out → NextOf None g (Some (Whole fields len)) → h ≡ next_after g (Some (Whole fields len))
     → LeadsTo p f (progress_after q (pairs fields)) h (out ++ stream_text (answers_to q (pairs fields)))
@@ -75,6 +76,7 @@ leads_good p q f g h out fields len l a e =
           (sym (drop-append-le len g.held later a.1.within)) k));
     })
 
+-- a garbled one
 pub leads_garbled : (p q : Progress) (f g h : Stream) (out : List ℕ) (len : ℕ) → LeadsTo p f q g out
     → NextOf None g (Some (Garbled len)) → h ≡ next_after g (Some (Garbled len)) → LeadsTo p f q h out
 leads_garbled p q f g h out len l a e =
@@ -123,6 +125,8 @@ sealed_len g fields len a = elim (cases_Bool (are_fields fields.rest.now)) [
       let l = frame_len g.held garbled.0 len garbled.1 in
       (omega (arith, l), garbled.1.within)
 ]
+
+-- ---- where no frame more is held
 
 pub leads_to : (p q : Progress) (f g : Stream) (out later : List ℕ) (end : Option End) → LeadsTo p f q g out
     → Ends g.passed (g.held ++ later) end → Answers p f.passed (f.held ++ later) end out

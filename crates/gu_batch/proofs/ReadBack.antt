@@ -43,6 +43,7 @@ record IsSound (p : Progress) : Type 0 where
   house : IsTrue (is_firm_text p.house.house)
   named : All (EntryNames is_firm_text) p.history
 
+-- its replies are lawful, and the history stays so
 replies_lawful : (p : Progress) (message : Message) (meaning : Result Inbound Reject) → IsSound p → HasBody message
     → Passes IsLawfulMeaning meaning → AllByRecursion IsLawfulReply (replies_by p message meaning)
 replies_lawful p message (Ok (inbound.Call firm trade id command)) s came h = (
@@ -72,6 +73,7 @@ stays_sound p message (Ok (inbound.SequenceReset gap_fill next)) s h = record { 
 stays_sound p message (Ok inbound.Logout) s h = record { house = s.house; named = s.named }
 stays_sound p message (Err fault) s h = record { house = s.house; named = s.named }
 
+-- the time of a batch is a text
 time_text : IsText batch_time
 time_text = record {
   value = record {
@@ -91,6 +93,7 @@ sent_lawful house written (r ∷ rs) h few ok = (
   sent_lawful house (written + 1) rs h (omega (arith, few)) ok.1,
 )
 
+-- what answers it can be written
 answers_lawful : (p : Progress) (message : Message) → IsSound p → p.written + 1 < 2 ^ 64 → HasBody message
     → AllByRecursion IsWritable (answers_to p message)
 unfolding answers_to
@@ -114,6 +117,7 @@ answers_lawful p message s few came =
 
 -- ---- all of them
 
+-- one list of them behind another
 joined : (ms ns : List Message) → AllByRecursion IsWritable ms → AllByRecursion IsWritable ns
     → AllByRecursion IsWritable (ms ++ ns)
 joined [] ns h k = k
@@ -139,6 +143,7 @@ record Came (bytes : List ℕ) (ms : List Message) : Type 0 where
   bodies : AllByRecursion HasBody ms
   few : length ms ≤ length bytes
 
+-- one frame more, and all of a stream
 came_next : (d : Option Message) (len : ℕ) (bytes : List ℕ) (fs : List Seen)
     → Begins bytes (record { fields = d; len = len }) → Came (drop len bytes) (messages_in fs)
     → Came bytes (messages_in (record { fields = d; len = len } ∷ fs))
@@ -164,11 +169,14 @@ opening_named t i (e ∷ es) h lawful names named =
     let c = opening_call t i e in
     opening_named t (i + 1) es (after t h c) lawful names.1 (after_named t h c.firm c.id c.command lawful names.0 named)
 
+-- a batch begins so
 start_sound : (house : House) → HasFirmNames house → IsSound (start house)
 start_sound house names = record {
   house = names.house;
   named = opening_named house 1 house.opening [] names.house names.opening (All-nil (EntryNames is_firm_text));
 }
+
+-- ---- the whole output
 
 pub output_read : (house : House) (bytes : List ℕ) → HasFirmNames house → length bytes < 2 ^ 64
     → (end_of (output_of house bytes) ≡ Clean) × (messages_of (output_of house bytes) ≡ answers_of house bytes)

@@ -150,6 +150,7 @@ behind_all house old new p f total turns now e =
 
 -- ---- what each turn gives
 
+-- want of memory before the first read
 pub memory_first : (house : House) (old : Told) → RunsTo house old old (Err error.Memory)
 memory_first house old = record {
   bytes = [];
@@ -170,6 +171,7 @@ no_more : (a b c : Option (List ℕ)) (bytes piece : List ℕ) → Consumes a b 
 no_more a b c bytes piece p q e =
     subst (Consumes a c) (ap (λ (t : List ℕ). bytes ++ t) e ∙ append-nil bytes) (Consumes-trans a b c bytes piece p q)
 
+-- a read that brought nothing
 pub after_nothing : (house : House) (old now : Told) (p : Progress) (f g : Stream) (total turns : ℕ)
     (left : Option (List ℕ)) (made failed : ℕ) → Sofar house old now p f total turns
     → Fills now.left left now.reads_failed failed f g came.Nothing → CountsOne now.made made
@@ -203,6 +205,7 @@ after_nothing house old now p f g total turns left made failed k r one =
       writes = k.writes;
     })
 
+-- a piece that was answered
 pub after_bytes : (house : House) (old now : Told) (p q : Progress) (f g h : Stream) (total turns count : ℕ)
     (left contents : Option (List ℕ)) (made failed writes_failed : ℕ) (out : List ℕ)
     → Sofar house old now p f total turns → Fills now.left left now.reads_failed failed f g (came.Bytes count)
@@ -247,6 +250,7 @@ more_fails a b c le k = record {
   counts = λ small. let on = k.counts in let up = k.grows in grind (arith, le, on, up, small);
 }
 
+-- a read that failed
 pub fault_right : (house : House) (old now : Told) (p : Progress) (f g : Stream) (total turns : ℕ)
     (left : Option (List ℕ)) (made failed : ℕ) → Sofar house old now p f total turns
     → Fills now.left left now.reads_failed failed f g came.Fault
@@ -271,6 +275,7 @@ fault_right house old now p f g total turns left made failed k r = record {
   behind = tt;
 }
 
+-- too many reads
 pub limit_right : (house : House) (old now : Told) (p : Progress) (f : Stream) (total turns : ℕ)
     → turns ≡ 16777216 → Sofar house old now p f total turns → RunsTo house old now (Err error.Read)
 limit_right house old now p f total turns e k = record {
@@ -285,6 +290,7 @@ limit_right house old now p f total turns e k = record {
   behind = tt;
 }
 
+-- the end of the stream
 ending : (house : House) (old now : Told) (p : Progress) (f : Stream) (total turns : ℕ) (left : Option (List ℕ))
     (made failed : ℕ) (k : Sofar house old now p f total turns) (r : Result (Unit {0}) RunError) → IsAtEnd left
     → EndsAs f r
@@ -362,6 +368,7 @@ end_wrong house old now p f g total turns left made failed e k r h = record {
   behind = tt;
 }
 
+-- where answering the last piece failed
 failing : (house : House) (old now new : Told) (p : Progress) (f : Stream) (total turns : ℕ)
     (k : Sofar house old now p f total turns) (piece out : List ℕ) (e : RunError)
     → PieceFails p (record f { held = f.held ++ piece }) out now.writes_failed new.writes_failed e

@@ -44,6 +44,7 @@ IsRightFor house old new bytes out error.Memory =
     (n : ℕ) × (out ≡ texts (start house) (take n (messages_of bytes)))
 IsRightFor house old new bytes out (error.NoLiveTrade trade) = ⊥
 
+-- what was read and written is right for this result
 abbrev pub IsRight : {A : Type 0} → House → Told → Told → List ℕ → List ℕ → Result A RunError
     → Type 0
 IsRight house old new bytes out (Ok x) =
@@ -76,6 +77,7 @@ and_progress (Err e) p = Err e
 
 -- ---- one read
 
+-- a read of this piece, with so many failed reads before and after it, is told as this
 abbrev pub CameAs : List ℕ → Option (List ℕ) → ℕ → ℕ → Came → Type 0
 CameAs piece left old new (came.Bytes count) = (length piece ≡ count) × (old ≡ new)
 CameAs piece left old new came.Nothing = (piece ≡ []) × (old ≡ new)
@@ -105,6 +107,7 @@ PieceFails p f out old new (error.Truncated at) = ⊥
 PieceFails p f out old new error.Read = ⊥
 PieceFails p f out old new (error.NoLiveTrade trade) = ⊥
 
+-- what comes of a piece: from where the run stood to where it stands
 abbrev pub PieceRight : {A : Type 0} → Progress → Stream → Progress → Stream → List ℕ → ℕ → ℕ
     → Result A RunError → Type 0
 PieceRight p f q g out old new (Ok x) = LeadsTo p f q g out × IsFront g.held
@@ -121,6 +124,7 @@ pub record Answered {A : Type 0} (p : Progress) (f : Stream) (q : Progress) (g :
 
 -- ---- the end
 
+-- why the stream that ended here is at fault
 abbrev pub EndFails : Stream → RunError → Type 0
 EndFails f (error.Truncated at) = (at ≡ f.passed) × (f.held ≢ [])
 EndFails f (error.Broken at) = ⊥
@@ -129,6 +133,7 @@ EndFails f error.Write = ⊥
 EndFails f error.Memory = ⊥
 EndFails f (error.NoLiveTrade trade) = ⊥
 
+-- the result at the end of the stream
 abbrev pub EndsAs : {A : Type 0} → Stream → Result A RunError → Type 0
 EndsAs f (Ok x) = f.held ≡ []
 EndsAs f (Err e) = EndFails f e

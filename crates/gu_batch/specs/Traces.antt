@@ -70,6 +70,7 @@ IsTracedFor house trade old new bytes out error.Write =
     Fails old.writes_failed new.writes_failed × IsReadThrough new bytes × (rest : List ℕ)
     × Tells house (history_of house bytes) trade (Ok (out ++ rest))
 
+-- what was read and written is right for this result of a trace
 abbrev pub IsTraced : {A : Type 0} → House → Option ℕ → Told → Told → List ℕ → List ℕ
     → Result A RunError → Type 0
 IsTraced house trade old new bytes out (Ok x) =

@@ -309,7 +309,8 @@ impl Answering {
 
     /// Appends the answer to a message that was read into the room's meaning. An `Err` appends
     /// nothing.
-    #[tactic(auto, unfolding(crate::specs::Output::answers_to, crate::specs::Output::progress_after))]
+    #[tactic(auto, // what goes out, and what is counted
+    unfolding(crate::specs::Output::answers_to, crate::specs::Output::progress_after))]
     fn answer_meaning(
         &mut self,
         alloc: Global,

@@ -24,6 +24,7 @@ pub trait Source {
     /// How many interruptions more it bears.
     ghost patience: { Self → ℕ };
 
+    /// Reads at most as many bytes as the buffer has, and counts the call.
     fn read(&mut self, buf: &mut [u8]) -> io::Result<usize>
         ensures bound { ReadsAtMost result buf.new }
         ensures bytes { ReadConsumes (remaining self.old) (remaining self.new) result buf.new }
@@ -47,6 +48,7 @@ pub trait Sink {
     /// How many interruptions more it bears.
     ghost patience: { Self → ℕ };
 
+    /// Writes a front of these bytes, and counts a call that failed.
     fn write(&mut self, buf: &[u8]) -> io::Result<usize>
         ensures bound { WritesAtMost result buf.now }
         ensures bytes { WriteAppends (contents self.old) (contents self.new) result buf.now }

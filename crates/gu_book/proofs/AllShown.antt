@@ -1,27 +1,24 @@
 -- The filed trees show all live changes, so what stands on a change is read off them.
-use Rattle.gu_depend.proofs.Vocabulary.{Bool, ◌+◌, length, get_or, not, cond, Contains, ◌<◌, ◌≡◌, ℕ, ◌≤◌, true, false}
-use Rattle.gu_depend.proofs.Vocabulary.{◌&&◌, List, [], ◌∷◌, refl, sym, ◌∙◌, ap, subst, arith, Option, map, IsSomeAnd}
-use Rattle.gu_depend.proofs.Vocabulary.{Decides-eqb, same_Some, House, knows_firm, numbered_as, is_change, is_reversed}
-use Rattle.gu_depend.proofs.Vocabulary.{live, node_of, unless, standing_on, answer_to, entry_of, on_change}
-use Rattle.gu_depend.proofs.Vocabulary.{reverse_rest, command_refusal, call_of, Command, Trade, Split, Claim, Refuse}
-use Rattle.gu_depend.proofs.Vocabulary.{Cancel, Agree, Part, Side, Raise, Reverse, Accepted, Entry, Record, UnknownFirm}
-use Rattle.gu_depend.proofs.Vocabulary.{Row, rows_of, EntryPart, found_in, find_passes}
-use Rattle.gu_depend.proofs.{Vocabulary.{false_from_ne_true, and_parts, reversal_of}, Finds.some_there}
-use Rattle.std.proofs.Common.{◌-◌, ◌≢◌, Some, None, find, ◌==◌, is_some, option_map, IsSome}
-use Rattle.gu_base.proofs.{Accepted.{first_none, allowed, open_from_none}, RunLaws.taken, Consenting.not_reversed}
-use Rattle.gu_base.proofs.{Numbered.{found_at, known_entry}, LiveLaws.is_live}
-use Rattle.gu_book.proofs.Vocabulary.{Rose, Grove, tree_of, IsPlace, named_node, named_place, place_in, AreTreesOf}
-use Rattle.gu_book.proofs.Vocabulary.{IsGroveOf, IsFree, is_trade, is_live_trade, IsFoundIn}
-use Rattle.gu_book.proofs.{Vocabulary.{IsUndoneThere, IsOfTerms, is_of_trees}, ByNumber.{found_live, if_passes}}
-use Rattle.gu_tree.specs.{Rose.rows, Shown.shown, ShownAll.IsTreeIn, declared.head.Row.{Row as TreeRow}}
-use Rattle.gu_depend.proofs.{Replay.{NumbersOnce, number_once}, StandsLast.node_of_maker}
-use Rattle.gu_depend.proofs.{StandsUnder.{any_found, rises_distinct}}
+use Rattle.gu_base.proofs.{Accepted.{first_none, allowed, open_from_none}, Numbered.{found_at, known_entry}}
+use Rattle.gu_base.proofs.{Consenting.not_reversed, LiveLaws.is_live, RunLaws.taken}
 use Rattle.gu_base.specs.Standing.{first_refused}
-use Rattle.gu_book.specs.{TreeRows.tree_rows, Found.IsUndoneAs, declared.found.Undone.Undone}
-use Rattle.gu_book.proofs.{Leaves.live_rises}
-use Rattle.gu_book.proofs.{Filed.{root_name, makes_root, tree_shown, live_at, place_named, place_of_own}}
+use Rattle.gu_book.proofs.{ByNumber.{found_live, if_passes}, Orders.{InOrder, in_order}, Leaves.live_rises}
+use Rattle.gu_book.proofs.Filed.{root_name, makes_root, tree_shown, live_at, place_named, place_of_own}
+use Rattle.gu_book.proofs.Vocabulary.{Rose, Grove, tree_of, named_node, named_place, place_in, AreTreesOf, IsGroveOf}
+use Rattle.gu_book.proofs.Vocabulary.{IsFree, is_trade, is_live_trade, IsFoundIn, IsUndoneThere, IsOfTerms, is_of_trees}
+use Rattle.gu_book.specs.{declared.found.Undone.Undone, TreeRows.tree_rows, Found.IsUndoneAs}
+use Rattle.gu_depend.proofs.{StandsUnder.{any_found, rises_distinct}, Replay.{NumbersOnce, number_once}}
+use Rattle.gu_depend.proofs.{StandsLast.node_of_maker, Finds.some_there}
+use Rattle.gu_depend.proofs.Vocabulary.{Bool, ◌+◌, length, get_or, not, cond, Contains, ◌<◌, ◌≡◌, ℕ, ◌≤◌, true, false}
+use Rattle.gu_depend.proofs.Vocabulary.{◌&&◌, List, [], ◌∷◌, refl, sym, ◌∙◌, ap, subst, arith, Option, map, Decides-eqb}
+use Rattle.gu_depend.proofs.Vocabulary.{same_Some, House, knows_firm, numbered_as, is_change, is_reversed, live}
+use Rattle.gu_depend.proofs.Vocabulary.{node_of, unless, standing_on, answer_to, entry_of, on_change, reverse_rest}
+use Rattle.gu_depend.proofs.Vocabulary.{command_refusal, call_of, Command, Trade, Split, Claim, Refuse, Cancel, Agree}
+use Rattle.gu_depend.proofs.Vocabulary.{Part, Side, Raise, Reverse, Accepted, Entry, Record, UnknownFirm, EntryPart}
+use Rattle.gu_depend.proofs.Vocabulary.{found_in, find_passes, false_from_ne_true, and_parts, reversal_of}
 use Rattle.gu_tree.proofs.ShowsRows.{shown_rows}
-use Rattle.gu_book.proofs.Orders.{InOrder, in_order}
+use Rattle.gu_tree.specs.{declared.head.Row.{Row as TreeRow}, ShownAll.IsTreeIn, Shown.shown, Rose.rows}
+use Rattle.std.proofs.Common.{◌-◌, ◌≢◌, Some, None, find, ◌==◌, is_some, option_map, IsSome}
 
 -- ---- a change whose Reverse is accepted
 
@@ -69,7 +66,7 @@ undone t h e n k ok same =
 pub undone_entry : {t : House} {h : List Entry} {k : ℕ} {r : Record} → IsUndone t h k r → (d : Entry)
     → d ≡ get_or h (k - 1) d → r ≡ numbered_as k d
 undone_entry {h = h} {k = k} {r = r} u d is =
-    same_Some r (numbered_as k d) (sym u.entry ∙ known_entry h k d u.from (omega (arith, u.from, u.within)) is)
+    same_Some r _ (sym u.entry ∙ known_entry h k d u.from (omega (arith, u.from, u.within)) is)
 
 -- so it may go from the trees
 pub undone_goes : {t : House} {h : List Entry} {g : Grove} {k : ℕ} {r : Record} → first_refused t [] (live h) ≡ None
@@ -82,11 +79,11 @@ undone_goes {h = h} replayed filed u =
 -- without its root a list has no live trade
 no_trade : (l : List Record) (k : ℕ) → NumbersOnce l → node_of l (root_name k) ≡ None → is_live_trade l k ≡ false
 no_trade l k once none =
-    false_from_ne_true (is_live_trade l k) (λ live.
+    false_from_ne_true _ (λ live.
     let test : Record → Bool = λ r. (r.number == k) && is_trade r.command in
-    let d = any_found test l live in
-    let is = and_parts (d.0.number == k) (is_trade d.0.command) (find_passes test l d.0 d.1) in
-    let x = makes_root d.0.number d.0.firm d.0.command is.1 in
+    let d = any_found _ l live in
+    let is = and_parts _ _ (find_passes _ l d.0 d.1) in
+    let x = makes_root _ _ _ is.1 in
     cc (
       (Decides-eqb d.0.number k).0 is.0,
       none,
@@ -96,11 +93,9 @@ no_trade l k once none =
 -- the rows of the tree of a number are those of the live trade, and no tree bears another number
 rows_filed : (l : List Record) (g : Grove) → InOrder l → NumbersOnce l → IsGroveOf l g
     → (k : ℕ) (o : Option Rose) → tree_of g k ≡ o → option_map (map shown) (option_map rows o) ≡ tree_rows l k
-rows_filed l g order once filed k None e =
-    ap (λ b. cond b (Some (rows_of l k)) None) (sym (no_trade l k once (subst (IsTreeIn l k) e (filed.trees k))))
+rows_filed l g order once filed k None e = cc (no_trade l k once (subst (IsTreeIn l k) e (filed.trees k)))
 rows_filed l g order once filed k (Some t) e =
-    ap (λ (rs : List Row). Some rs) (shown_rows l order.distinct k t (tree_shown filed k t e))
-    ∙ ap (λ b. cond b (Some (rows_of l k)) None) (sym (live_at filed k t e))
+    cc (shown_rows l order.distinct k t (tree_shown filed k t e), live_at filed k t e)
 
 mapped : {A B C : Type 0} (f : A → B) (g : B → C) (o : Option A)
     → option_map (λ a. g (f a)) o ≡ option_map g (option_map f o)
@@ -114,13 +109,11 @@ module _ {l : List Record} {g : Grove} (are : AreTreesOf l g) where
   pub rows_shown : {V : Type 0} (items : V → List TreeRow) (o : Option V) (k : ℕ)
       → option_map items o ≡ option_map rows (tree_of g k) → option_map (λ v. map shown (items v)) o ≡ tree_rows l k
   rows_shown items o k e =
-      mapped items (map shown) o
-      ∙ (ap (option_map (map shown)) e
-      ∙ rows_filed l g order (number_once l order.distinct) are.filed k (tree_of g k) refl)
+      cc (mapped items (map shown) o, rows_filed l g order (number_once l order.distinct) are.filed k _ refl)
 
   -- a tree that bears a number is that of a live trade
   pub live_if_shown : (k : ℕ) → IsSome (tree_of g k) → is_live_trade l k ≡ true
-  live_if_shown k some = let t = some_there (tree_of g k) some in live_at are.filed k t.0 t.1
+  live_if_shown k some = let t = some_there _ some in live_at are.filed k t.0 t.1
 
 -- ---- what was found of the change that a Reverse names
 
@@ -149,9 +142,7 @@ is_of_terms k _ change e = absurd (cc)
 -- a change that was found lies where its path leads
 pub undone_there : {l : List Record} {g : Grove} {k : ℕ} {u : Undone} {p : List ℕ}
     → IsGroveOf l g → IsUndoneAs l k u p → IsUndoneThere g k u p
-undone_there {g = g} {k = k} {u = u} {p = p} filed is =
-    subst (λ (o : Option EntryPart). IsSomeAnd o (λ n. IsPlace g n u.found.trade p)) (sym (filed.places k ∙ is.place))
-    (is.there g filed)
+undone_there {g = g} {k = k} {u = u} {p = p} filed is = rw (filed.places k ∙ is.place) (is.there g filed)
 
 module _ {t : House} {l : List Record} {r : Record} {g : Grove} (go : IsFree t l r g) where
   -- its place is the node that it made or named
@@ -162,13 +153,13 @@ module _ {t : House} {l : List Record} {r : Record} {g : Grove} (go : IsFree t l
   pub found_named : {u : Undone} {p : List ℕ} → IsUndoneAs l r.number u p → (n : EntryPart)
       → named_node r.command ≡ Some n → IsFoundIn l n (Some u.found)
   found_named {u} is n named =
-      subst (λ (m : EntryPart). IsFoundIn l m (Some u.found))
+      subst (λ m. IsFoundIn l m (Some u.found))
       (cc (own_place, place_named r.number r.command n named, is.place)) is.found
 
   -- one that was found is a change of trees
   pub undone_of_trees : {u : Undone} {p : List ℕ} → IsUndoneAs l r.number u p → is_of_trees r.command ≡ true
-  undone_of_trees is = sym (has_place r.number r.command) ∙ ap is_some (sym own_place ∙ is.place)
+  undone_of_trees is = cc (has_place r.number _, own_place)
 
   -- and one that has no place there is an Agree or a Raise
   pub undone_of_terms : is_change r.command ≡ true → place_in l r.number ≡ None → IsOfTerms r.command
-  undone_of_terms change none = is_of_terms r.number r.command change (sym own_place ∙ none)
+  undone_of_terms change none = is_of_terms r.number _ change (cc own_place)

@@ -1,25 +1,23 @@
 -- What a book keeps stays true behind a growth, and with one accepted entry more.
-use Rattle.std.proofs.Common.{◌≡◌, ℕ, ◌+◌, ◌-◌, true, ◌∙◌, List, [], ◌∷◌, ◌++◌, length, sym, subst, ap, arith, cond}
-use Rattle.std.proofs.Common.{Some, ◌==◌, get_or}
 use Rattle.gu_base.proofs.LiveLaws.{change_is_no_reverse, consent_is_no_reverse}
-use Rattle.gu_depend.proofs.Vocabulary.{House, Initiate, Decline, Reverse, Entry, Record, Accepted, answer_to, call_of}
-use Rattle.gu_depend.proofs.Vocabulary.{live, numbered_as, is_change, is_consenting, without, RisesFrom}
-use Rattle.gu_book.proofs.Vocabulary.{given, Consents, Ids, reversal_in, Reversals, IsKept, AreTreesOf}
-use Rattle.gu_book.specs.{Lookups.{AreIdsOf, AreReversalsOf}, Kept.IsBook}
-use Rattle.gu_book.specs.{LiveState.{Becomes, CanFollow, CanGo, IsLiveList, IsStateOf}}
-use Rattle.gu_book.specs.{declared.live_state.LiveState.LiveState}
-use Rattle.gu_book.specs.declared.lookups.Lookups.{Lookups}
-use Rattle.gu_book.proofs.{AllShown.{IsUndone, undone, undone_entry, undone_goes}}
+use Rattle.gu_book.proofs.{AllShown.{IsUndone, undone, undone_entry, undone_goes}, Keeps.{live_less, next_number}}
 use Rattle.gu_book.proofs.{LookedUp.{reversals_same, reversals_put}, Leaves.live_rises}
 use Rattle.gu_book.proofs.Keeps.{kept_change, kept_consents, kept_reverse, lawful, live_few, live_more, live_same}
-use Rattle.gu_book.proofs.Keeps.{live_less, next_number}
+use Rattle.gu_book.proofs.Vocabulary.{given, Consents, Ids, reversal_in, Reversals, IsKept, AreTreesOf}
+use Rattle.gu_book.specs.{LiveState.{Becomes, CanFollow, CanGo, IsLiveList, IsStateOf}, Kept.IsBook}
+use Rattle.gu_book.specs.{declared.live_state.LiveState.LiveState, Lookups.{AreIdsOf, AreReversalsOf}}
+use Rattle.gu_book.specs.declared.lookups.Lookups.{Lookups}
+use Rattle.gu_depend.proofs.Vocabulary.{House, Initiate, Decline, Reverse, Entry, Record, Accepted, answer_to, call_of}
+use Rattle.gu_depend.proofs.Vocabulary.{live, numbered_as, is_change, is_consenting, without}
+use Rattle.std.proofs.Common.{◌≡◌, ℕ, ◌+◌, ◌-◌, true, ◌∙◌, List, [], ◌∷◌, ◌++◌, length, subst, arith, cond, Some, ◌==◌}
+use Rattle.std.proofs.Common.{get_or}
 
 module _ {t : House} {h : List Entry} {cs : Consents} {lookups : Lookups} {s : LiveState}
     (book : IsBook t h cs lookups s) where
   -- the live changes are a list that a book may have
   pub list_live : IsLiveList t (live h)
   list_live = record {
-    few = (let few = book.kept.few in let fewer = live_few h in omega (arith, few, fewer));
+    few = (omega (arith, book.kept.few, live_few h));
     replayed = book.kept.replayed;
     within = book.kept.within;
   }
@@ -49,9 +47,9 @@ module _ {t : House} {h : List Entry} {cs : Consents} {lookups : Lookups} {s : L
     pub can_follow : is_change e.command ≡ true → CanFollow t (live h) (numbered_as n e) s
     can_follow change = record {
       list = list_live;
-      state = subst (λ (m : ℕ). IsStateOf t (live h) m s) (sym number_is) book.state;
+      state = rw number_is book.state;
       lawful = lawful book.kept n e ok change;
-      rises = subst (RisesFrom 1) (sym (live_more book.kept n e ok change)) (live_rises (h ++ e ∷ []));
+      rises = rw (live_more book.kept n e ok change) (live_rises (h ++ e ∷ []));
     }
 
     -- what a Reverse names may go from the live changes
@@ -59,7 +57,7 @@ module _ {t : House} {h : List Entry} {cs : Consents} {lookups : Lookups} {s : L
         → CanGo t (live h) (numbered_as k d) s
     can_go k reverse d here =
         let u = undone t h e n k ok reverse in
-        let is : IsUndone t h k (numbered_as k d) = subst (IsUndone t h k) (undone_entry u.1 d here) u.1 in
+        let is : IsUndone t h k (numbered_as k d) = rw (undone_entry u.1 d here) at u.1 in
         record {
           list = list_live;
           next = length h + 1;
@@ -76,17 +74,16 @@ module _ {t : House} {h : List Entry} {cs : Consents} {lookups : Lookups} {s : L
       book_next l is kept reversals {now} state = record {
         kept = kept;
         looked_up = record { ids = known; reversals = reversals };
-        state = subst (λ (m : ℕ). IsStateOf t (live (h ++ e ∷ [])) (m + 1) now) (sym (next_number book.kept n e ok).1)
-            (subst (λ (l : List Record). IsStateOf t l (n + 1) now) is state);
+        state = rw ((next_number book.kept n e ok).1) (subst (λ l. IsStateOf t l (n + 1) now) is state);
       }
 
       pub book_more : (change : is_change e.command ≡ true) → (now : LiveState)
           → IsStateOf t (live h ++ numbered_as n e ∷ []) (n + 1) now
           → IsBook t (h ++ e ∷ []) cs (record { ids = ids; reversals = lookups.reversals }) now
       book_more change now state =
-          book_next (live h ++ numbered_as n e ∷ []) (live_more book.kept n e ok change)
+          book_next _ (live_more book.kept n e ok change)
           (kept_change book.kept n e ok change)
-          (reversals_same book.looked_up.reversals e (λ m. change_is_no_reverse m e.command change)) state
+          (reversals_same book.looked_up.reversals e (λ m. change_is_no_reverse m _ change)) state
 
       -- the state stays where the list does
       later : (l : List Record) → (now : LiveState) → IsStateOf t l (length h + 1) now → IsStateOf t l (n + 1) now
@@ -95,8 +92,8 @@ module _ {t : House} {h : List Entry} {cs : Consents} {lookups : Lookups} {s : L
         charged = is.charged;
         stands = is.stands;
         dealt = is.dealt;
-        placed = let placed = is.placed in omega (arith, placed, number_is);
-        dealt_before = let before = is.dealt_before in omega (arith, before, number_is);
+        placed = omega (arith, is.placed, number_is);
+        dealt_before = omega (arith, is.dealt_before, number_is);
       }
 
       -- an Initiate or a Decline
@@ -105,10 +102,10 @@ module _ {t : House} {h : List Entry} {cs : Consents} {lookups : Lookups} {s : L
           → ((k m : ℕ) → e.command ≡ Decline k → given ds m ≡ cond (m == k) [] (given cs m))
           → IsBook t (h ++ e ∷ []) ds (record { ids = ids; reversals = lookups.reversals }) s
       book_consenting consents ds gives clears =
-          book_next (live h) (live_same book.kept n e ok consents)
+          book_next _ (live_same book.kept n e ok consents)
           (kept_consents book.kept n e ok consents ds gives clears)
-          (reversals_same book.looked_up.reversals e (λ m. consent_is_no_reverse m e.command consents))
-          (later (live h) s book.state)
+          (reversals_same book.looked_up.reversals e (λ m. consent_is_no_reverse m _ consents))
+          (later _ s book.state)
 
       -- a Reverse
       pub book_less : (k : ℕ) → e.command ≡ Reverse k → (now : LiveState)
@@ -118,8 +115,8 @@ module _ {t : House} {h : List Entry} {cs : Consents} {lookups : Lookups} {s : L
           → ((m : ℕ) → reversal_in rs m ≡ cond (k == m) (Some n) (reversal_in mid m))
           → IsBook t (h ++ e ∷ []) ds (record { ids = ids; reversals = rs }) now
       book_less k reverse now gone ds cleared mid rs same put =
-          book_next (without (live h) k) (live_less book.kept n e ok k reverse)
+          book_next _ (live_less book.kept n e ok k reverse)
           (kept_reverse book.kept n e ok k reverse ds cleared)
           (reversals_put book.looked_up.reversals t e n k ok reverse rs
-          (λ m. put m ∙ ap (λ o. cond (k == m) (Some n) o) (same m)))
+          (λ m. cc (put m, same m)))
           (later (without (live h) k) now (gone (length h + 1) book.state))

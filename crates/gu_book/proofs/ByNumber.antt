@@ -4,7 +4,11 @@ use Rattle.gu_depend.proofs.Vocabulary.{length, get_or, refl, ap, sym, ◌∙◌
 use Rattle.gu_depend.proofs.Vocabulary.{option_and_then, Decides-eqb, same_Some, EntryPart, numbered_as, numbered_from}
 use Rattle.gu_depend.proofs.Vocabulary.{records, is_change, is_reverse_of, is_reversed, live, RisesFrom, node_of}
 use Rattle.gu_depend.proofs.Vocabulary.{entry_of, Node, reversal_of, Entry, Record, no_some, none_is_some, made_of}
-use Rattle.gu_depend.proofs.Vocabulary.{found_in, number_same, without}
+use Rattle.gu_depend.proofs.Vocabulary.{found_in, number_same, without, on_change, first, unless, is_among, parties_of}
+use Rattle.gu_depend.proofs.Vocabulary.{Refusal, NotAChange, AlreadyReversed, NotAParty}
+use Rattle.gu_base.specs.declared.refusal.Refusal.TheVariants.{UnknownEntry}
+use Rattle.gu_base.proofs.{Basics.{mapped_none}, Consenting.{not_reversed}}
+use Rattle.gu_book.specs.Live.{IsLiveAt, IsRefusedAt}
 use Rattle.std.proofs.Common.{◌≢◌, ◌-◌, Some, None, find, filter, drop, Contains, drop-cons, add-one, ◌==◌, option_map}
 use Rattle.gu_book.proofs.Vocabulary.{cons_option, change_of}
 use Rattle.std.proofs.Math.Bool.{and-false, and-true}
@@ -98,34 +102,6 @@ numbers_rise m (e ∷ h) = (omega arith, numbers_rise (m + 1) h)
 pub records_once : (h : List Entry) → NumbersOnce (records h)
 records_once h = number_once (records h) (rises_distinct 1 (records h) (numbers_rise 1 h))
 
-module _ (h : List Entry) (n : ℕ) where
-  pub found_live : find (λ (d : Record). d.number == n) (live h) ≡ if_passes (is_live h) (entry_of h n)
-  found_live =
-      let p : Record → Bool = λ d. d.number == n in
-      found_kept p (is_live h) (records h) ∙ both_found p (is_live h) (records h) (records_once h n)
-
-  -- no entry has the number
-  pub none_there : entry_of h n ≡ None → None ≡ find (λ (d : Record). d.number == n) (live h)
-  none_there none = sym (found_live ∙ ap (if_passes (is_live h)) none)
-
-  module _ (e : Entry) (there : entry_of h n ≡ Some (numbered_as n e)) where
-    found_by : (b : Bool) → is_live h (numbered_as n e) ≡ b
-        → find (λ (d : Record). d.number == n) (live h) ≡ cond b (Some (numbered_as n e)) None
-    found_by b is = found_live ∙ (ap (if_passes (is_live h)) there ∙ ap (λ d. cond d (Some (numbered_as n e)) None) is)
-
-    -- the entry is no change
-    pub none_changed : is_change e.command ≡ false → None ≡ find (λ (d : Record). d.number == n) (live h)
-    none_changed is = sym (found_by false (and_left (is_change e.command) (not (is_reversed h n)) is))
-
-    -- a Reverse names it
-    pub none_reversed : is_reversed h n ≡ true → None ≡ find (λ (d : Record). d.number == n) (live h)
-    none_reversed is = sym (found_by false (and_right (is_change e.command) (not (is_reversed h n)) (ap not is)))
-
-    -- it is live
-    pub found_there : is_change e.command ≡ true → is_reversed h n ≡ false
-        → Some (numbered_as n e) ≡ find (λ (d : Record). d.number == n) (live h)
-    found_there change unnamed = sym (found_by true (rw (change, unnamed) refl))
-
 -- an entry that has a Reverse is reversed
 reversed_found : (n m : ℕ) (h : List Entry) (r : Record)
     → find (λ (q : Record). is_reverse_of n q.command) (numbered_from m h) ≡ Some r → is_reversed h n ≡ true
@@ -145,6 +121,77 @@ numbered_some (Some r) n e = (r, (refl, cc))
 pub reversed_some : (h : List Entry) (n v : ℕ) → option_map (λ (r : Record). r.number) (reversal_of h n) ≡ Some v
     → is_reversed h n ≡ true
 reversed_some h n v named = let q = numbered_some (reversal_of h n) v named in reversed_found n 1 h q.0 q.1.0
+
+-- the refusals that come first in the row of a command that names an entry
+change_first : (is : Bool) (reversal : Option Record) (party : Bool) (last : Option Refusal) → is ≡ false
+    → first
+    (unless is NotAChange ∷ option_map (λ v. AlreadyReversed v.number) reversal ∷ unless party NotAParty ∷ last ∷ [])
+    ≡ Some NotAChange
+change_first is reversal party last other = rw other refl
+
+reversal_second : (is : Bool) (reversal : Option Record) (party : Bool) (last : Option Refusal) (v : ℕ) → is ≡ true
+    → option_map (λ (r : Record). r.number) reversal ≡ Some v
+    → first
+    (unless is NotAChange ∷ option_map (λ v. AlreadyReversed v.number) reversal ∷ unless party NotAParty ∷ last ∷ [])
+    ≡ Some (AlreadyReversed v)
+reversal_second is None party last v change named = absurd (cc)
+reversal_second is (Some r) party last v change named = let number : r.number ≡ v = cc in rw (change, number) refl
+
+module _ (h : List Entry) (n : ℕ) where
+  pub found_live : find (λ (d : Record). d.number == n) (live h) ≡ if_passes (is_live h) (entry_of h n)
+  found_live =
+      let p : Record → Bool = λ d. d.number == n in
+      found_kept p (is_live h) (records h) ∙ both_found p (is_live h) (records h) (records_once h n)
+
+  -- it is live
+  pub live_found : (r : Record) → IsLiveAt h n r → change_of (live h) n ≡ Some r
+  live_found r is =
+      let unreversed : is_reversed h r.number ≡ false =
+      not_reversed r.number 1 h (subst (λ (k : ℕ). reversal_of h k ≡ None) (sym is.number) is.unreversed) in
+      let passes : (is_change r.command && not (is_reversed h r.number)) ≡ true = rw (is.change, unreversed) refl in
+      found_live ∙ (ap (if_passes (is_live h)) is.there ∙ ap (λ b. cond b (Some r) None) passes)
+
+  -- no entry has the number
+  pub unknown : entry_of h n ≡ None → IsRefusedAt h n UnknownEntry
+  unknown none = record {
+    none = found_live ∙ ap (if_passes (is_live h)) none;
+    refused = λ t by rest. ap (on_change t h by rest) none;
+  }
+
+  module _ (e : Entry) (there : entry_of h n ≡ Some (numbered_as n e)) where
+    not_found : (is_change e.command && not (is_reversed h n)) ≡ false → change_of (live h) n ≡ None
+    not_found fails =
+        found_live
+        ∙ (ap (if_passes (is_live h)) there ∙ ap (λ b. cond b (Some (numbered_as n e)) None) fails)
+
+    -- the entry is no change
+    pub no_change : is_change e.command ≡ false → IsRefusedAt h n NotAChange
+    no_change is = record {
+      none = not_found (and_left (is_change e.command) (not (is_reversed h n)) is);
+      refused = λ t by rest. ap (on_change t h by rest) there
+          ∙ change_first (is_change e.command) (reversal_of h n)
+          (is_among by (parties_of t (live h) e.firm e.command)) (rest (numbered_as n e)) is;
+    }
+
+    -- a Reverse names it
+    pub named_before : is_change e.command ≡ true → (v : ℕ)
+        → option_map (λ (r : Record). r.number) (reversal_of h n) ≡ Some v → IsRefusedAt h n (AlreadyReversed v)
+    named_before is v named = record {
+      none = not_found (and_right (is_change e.command) (not (is_reversed h n)) (ap not (reversed_some h n v named)));
+      refused = λ t by rest. ap (on_change t h by rest) there
+          ∙ reversal_second (is_change e.command) (reversal_of h n)
+          (is_among by (parties_of t (live h) e.firm e.command)) (rest (numbered_as n e)) v is named;
+    }
+
+    -- no Reverse names the change
+    pub still_live : is_change e.command ≡ true
+        → option_map (λ (r : Record). r.number) (reversal_of h n) ≡ None → IsLiveAt h n (numbered_as n e)
+    still_live is none = record {
+      there = there;
+      number = refl;
+      change = is;
+      unreversed = mapped_none (λ (r : Record). r.number) (reversal_of h n) none;
+    }
 
 -- ---- one after the other
 

@@ -1,17 +1,16 @@
 -- The running sums of what the live claims cost, with one change more.
-use Rattle.std.proofs.Common.{◌≡◌, ℕ, ◌+◌, ◌*◌, ◌≤◌, Bool, true, cond, refl, List, [], ◌∷◌, ◌++◌, length, sym, ◌∙◌, ap}
-use Rattle.std.proofs.Common.{subst, arith, Option, append-nil, Some, None, filter, filter_map, sum_by, bytes_eq, ◌&&◌}
-use Rattle.std.proofs.Common.{IfSome, All, mul-le-mul, mul-le-mul_right}
+use Rattle.gu_base.specs.Fees.{paid_by, received_by}
+use Rattle.gu_book.proofs.Refused.{next_legal}
 use Rattle.gu_book.proofs.Vocabulary.{cons_option, FeeRows, Grove, IsNext, IsSmallCharge, AreFeesOf, IsCharged}
+use Rattle.gu_book.specs.Charging.{HasRoomFor}
+use Rattle.gu_depend.proofs.LastMoves.{moves_its_own}
+use Rattle.gu_depend.proofs.Vocabulary.{House, most_lots, highest_rate, charges, charge_of, Record, Charge}
+use Rattle.gu_fees.specs.{Rows.{paid_in, received_in}, Sums.{AreSumsOf, cost}}
+use Rattle.std.proofs.{Common.{All, mul-le-mul, mul-le-mul_right}, lemmas.Slice.Eq.bytes_eq-Decides}
+use Rattle.std.proofs.Common.{◌≡◌, ℕ, ◌+◌, ◌*◌, ◌≤◌, Bool, true, cond, refl, List, [], ◌∷◌, ◌++◌, length, ◌∙◌, ap}
+use Rattle.std.proofs.Common.{arith, Option, append-nil, Some, None, filter, filter_map, sum_by, bytes_eq, ◌&&◌, IfSome}
 use Rattle.std.proofs.lemmas.List.Elements.{All-nil, All-cons, All-append, All-filter, All-weaker, filter-append}
 use Rattle.std.proofs.lemmas.List.Sums.{sum_by-le, sum_by-append, sum_by-cons, length-filter, count_by-le-length}
-use Rattle.std.proofs.lemmas.Slice.Eq.{bytes_eq-Decides}
-use Rattle.gu_depend.proofs.Vocabulary.{House, most_lots, highest_rate, charges, charge_of, Record, Charge}
-use Rattle.gu_depend.proofs.LastMoves.{moves_its_own}
-use Rattle.gu_book.proofs.Refused.{next_legal}
-use Rattle.gu_fees.specs.{Rows.{paid_in, received_in}, Sums.{AreSumsOf, cost}}
-use Rattle.gu_base.specs.Fees.{paid_by, received_by}
-use Rattle.gu_book.specs.Charging.{HasRoomFor}
 
 -- ---- one change more
 
@@ -27,19 +26,17 @@ pub fees_push : {t : House} {l : List Record} {r : Record} {ts : Grove} → IsNe
     → ((cs : List Charge) → AreSumsOf fees cs → AreSumsOf new (cs ++ cons_option o [])) → AreFeesOf t (l ++ r ∷ []) new
 fees_push {t} {l} {r} next fees new are o is lots rate more =
     let all : charges t l ++ cons_option o [] ≡ charges t (l ++ r ∷ []) =
-    ap (λ (o : Option Charge). charges t l ++ cons_option o []) is
-    ∙ sym (moves_its_own t l r (next_legal next)).charged in
+    cc ((moves_its_own t l r (next_legal next)).charged) in
     record {
-      sums = subst (λ (cs : List Charge). AreSumsOf new cs) all (more (charges t l) are.sums);
-      small = subst (λ (cs : List Charge). All IsSmallCharge cs) all
-          (All-append IsSmallCharge (charges t l) (cons_option o []) are.small (small_option o lots rate));
+      sums = rw all at (more _ are.sums);
+      small = rw all at (All-append IsSmallCharge (charges t l) (cons_option o []) are.small
+          (small_option o lots rate));
     }
 
 -- a change that costs nothing
 pub fees_stay : {t : House} {l : List Record} {r : Record} {ts : Grove} → IsNext t l r ts → (fees : FeeRows)
     → AreFeesOf t l fees → None ≡ charge_of t l r.command → AreFeesOf t (l ++ r ∷ []) fees
-fees_stay next fees are free =
-    fees_push next fees fees are None free tt tt (λ cs sums. subst (AreSumsOf fees) (sym (append-nil cs)) sums)
+fees_stay next fees are free = fees_push next _ _ are _ free tt tt (λ cs sums. rw (append-nil cs) sums)
 
 pub no_fees : (t : House) (fees : FeeRows) → AreSumsOf fees [] → AreFeesOf t [] fees
 no_fees t fees are = record { sums = are; small = All-nil IsSmallCharge }
@@ -59,23 +56,19 @@ small_cost : (c : Charge) → c.lots ≤ most_lots → c.rate ≤ highest_rate �
 small_cost c lots rate = mul-le-mul lots rate
 
 fewer_by : {Y : Type 0} (o : Option Y) (ys : List Y) (n : ℕ) → length ys ≤ n → length (cons_option o ys) ≤ n + 1
-fewer_by None ys n few = omega (arith, few)
-fewer_by (Some y) ys n few = omega (arith, few)
+fewer_by None ys n few = omega arith
+fewer_by (Some y) ys n few = omega arith
 
 -- what the elements of a list give is no longer than the list
 pub fewer_given : {X Y : Type 0} (h : X → Option Y) (xs : List X) → length (filter_map h xs) ≤ length xs
 fewer_given h [] = omega arith
-fewer_given h (x ∷ xs) =
-    let a = fewer_by (h x) (filter_map h xs) (length xs) (fewer_given h xs) in
-    omega (arith, a)
+fewer_given h (x ∷ xs) = omega (arith, fewer_by (h x) _ (length xs) (fewer_given h xs))
 
 -- a sum over a million elements at most
 pub sum_most : {X : Type 0} (w : X → ℕ) (most : ℕ) (xs : List X) → All (λ x. w x ≤ most) xs → length xs ≤ 1000000
     → sum_by w xs ≤ 1000000 * most
 sum_most w most xs all few =
-    let a = sum_by-le w most xs all in
-    let b : length xs * most ≤ 1000000 * most = mul-le-mul_right most few in
-    omega (arith, a, b)
+    let b : length xs * most ≤ 1000000 * most = mul-le-mul_right most few in omega (arith, sum_by-le w _ xs all)
 
 -- and over some of the charges of a list
 bounded : (t : House) (l : List Record) (w : Charge → ℕ) (takes : Charge → Bool) (most : ℕ) → length l ≤ 1000000
@@ -84,8 +77,8 @@ bounded t l w takes most few all =
     let a = length-filter takes (charges t l) in
     let b = count_by-le-length takes (charges t l) in
     let c = fewer_given (λ (r : Record). charge_of t l r.command) l in
-    sum_most w most (filter takes (charges t l)) (All-filter takes (λ (c : Charge). w c ≤ most) (charges t l) all)
-    (omega (arith, a, b, c, few))
+    sum_most w most _ (All-filter takes (λ (c : Charge). w c ≤ most) (charges t l) all)
+    (omega arith)
 
 pub has_room : (t : House) (l : List Record) (fees : FeeRows) → AreFeesOf t l fees → length l ≤ 1000000
     → (o : Option Charge) → IfSome o (λ c. c.lots ≤ most_lots) → IfSome o (λ c. c.rate ≤ highest_rate)
@@ -98,16 +91,16 @@ has_room t l fees are few (Some c) lots rate =
     let each = All-weaker IsSmallCharge (λ (c : Charge). c.lots ≤ 10000000) (λ c s. s.lots) (charges t l) are.small in
     let own = small_cost c lots rate in
     let paid = sums.paid c.taker in
-    let paid_most = bounded t l cost (λ d. bytes_eq d.taker c.taker) 1000000000000 few costs in
+    let paid_most = bounded t l cost (λ d. bytes_eq d.taker c.taker) _ few costs in
     let received = sums.received c.giver in
-    let received_most = bounded t l cost (λ d. bytes_eq d.giver c.giver) 1000000000000 few costs in
+    let received_most = bounded t l cost (λ d. bytes_eq d.giver c.giver) _ few costs in
     let used = sums.used c.giver c.taker in
     let used_most =
     bounded t l (λ d. d.lots) (λ d. bytes_eq d.giver c.giver && bytes_eq d.taker c.taker) 10000000 few each in
     record {
-      paid = omega (arith, own, paid, paid_most);
-      received = omega (arith, own, received, received_most);
-      used = omega (arith, lots, used, used_most);
+      paid = omega arith;
+      received = omega arith;
+      used = omega arith;
     }
 
 -- ---- what is there
@@ -115,11 +108,13 @@ has_room t l fees are few (Some c) lots rate =
 own_part : (w : Charge → ℕ) (takes : Charge → Bool) (cs : List Charge) (c : Charge) → takes c ≡ true
     → w c ≤ sum_by w (filter takes (cs ++ c ∷ []))
 own_part w takes cs c own =
-    let a = ap (sum_by w) (filter-append takes cs (c ∷ [])) in
     let b = sum_by-append w (filter takes cs) (filter takes (c ∷ [])) in
-    let d = ap (λ b. sum_by w (cond b (c ∷ []) [])) own in
-    let e = sum_by-cons w c [] in
-    omega (arith, a, b, d, e)
+    omega (
+      arith,
+      ap (sum_by w) (filter-append takes cs (c ∷ [])),
+      ap (λ b. sum_by w (cond b (c ∷ []) [])) own,
+      sum_by-cons w c [],
+    )
 
 -- a charge that the sums have can be taken out
 pub is_charged : (fees : FeeRows) (cs : List Charge) (o : Option Charge) → AreSumsOf fees (cs ++ cons_option o [])
@@ -130,12 +125,8 @@ is_charged fees cs (Some c) sums lots rate =
     let giver : bytes_eq c.giver c.giver ≡ true = (bytes_eq-Decides c.giver c.giver).1 refl in
     let taker : bytes_eq c.taker c.taker ≡ true = (bytes_eq-Decides c.taker c.taker).1 refl in
     record {
-      fits = omega (arith, small);
-      paid =
-          subst (λ n. cost c ≤ n) (sym (sums.paid c.taker)) (own_part cost (λ d. bytes_eq d.taker c.taker) cs c taker);
-      received = subst (λ n. cost c ≤ n) (sym (sums.received c.giver))
-          (own_part cost (λ d. bytes_eq d.giver c.giver) cs c giver);
-      used = subst (λ n. c.lots ≤ n) (sym (sums.used c.giver c.taker))
-          (own_part (λ d. d.lots) (λ d. bytes_eq d.giver c.giver && bytes_eq d.taker c.taker) cs c
-          (ap (λ b. b && bytes_eq c.taker c.taker) giver ∙ taker));
+      fits = omega arith;
+      paid = rw (sums.paid c.taker) (own_part cost _ cs c taker);
+      received = rw (sums.received c.giver) (own_part cost _ cs c giver);
+      used = rw (sums.used c.giver c.taker) (own_part _ _ cs c (ap (λ b. b && bytes_eq c.taker c.taker) giver ∙ taker));
     }

@@ -1,8 +1,8 @@
 -- The book may go to another thread: what it owns says the same to each.
-use denote.Param.Send.{IsSend, sendable}
 use Rattle.std.proofs.Crossing.{crosses}
-use Rattle.std.specs.contracts.alloc.Global as heap
 use Rattle.std.specs.contracts.impls.GlobalAllocator.TheImpl.{ghosts}
+use denote.Param.Send.{IsSend, sendable}
+use Rattle.std.specs.contracts.alloc.Global as heap
 use Rattle.gu_base.proofs.numbers.Number.TheSendSync as number
 use Rattle.gu_base.proofs.entry.Entry.TheSendSync as entry
 use Rattle.gu_base.proofs.entry.Record.TheSendSync as made

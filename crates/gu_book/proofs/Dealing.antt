@@ -1,24 +1,21 @@
 -- The terms that a book keeps: what they say of a giver and a taker, and how they follow the changes.
-use Rattle.std.proofs.Common.{◌≡◌, ℕ, ◌+◌, ◌*◌, ◌≤◌, Bool, true, false, ◌&&◌, List, [], ◌∷◌, length, refl, sym, ◌∙◌, ap}
-use Rattle.std.proofs.Common.{subst, arith, cond, Option, All, Contains, Some, None, IfSome, filter, filter_map, sum_by}
-use Rattle.std.proofs.Common.{option_map, option_and_then, bytes_eq}
+use Rattle.gu_base.proofs.{Dealt.all_sound, Sums.sum_option}
+use Rattle.gu_base.specs.{Terms.{dealing_of, made_by_deed, made_in, raised_by_deed, used_by_deed}, Limits.highest_limit}
+use Rattle.gu_book.proofs.{Charging.{fewer_given, sum_most}, Vocabulary.AllWithinLimits, Within.node_within}
+use Rattle.gu_book.proofs.Leaves.{cond_same}
 use Rattle.gu_book.proofs.Vocabulary.{option_or, AreTermsOf, FeeRows, TermsView, AreFeesOf, IsSmallDeed, IsWithinLimits}
-use Rattle.gu_book.proofs.Vocabulary.{AllWithinLimits}
-use Rattle.std.proofs.lemmas.List.Elements.{All-nil, All-cons, All-head, All-tail, All-contains_itself, All-weaker}
-use Rattle.std.proofs.lemmas.List.Sums.{sum_by-cons}
-use Rattle.gu_depend.proofs.Vocabulary.{most_lots, highest_rate, House, agreement, node_of, charge_of, charge_of_kind}
-use Rattle.gu_depend.proofs.Vocabulary.{charges, counted, first_refused, use_of_kind, use_of_node, deed_of, dealings_in}
-use Rattle.gu_depend.proofs.Vocabulary.{dealings, terms_under, raised_under, limit_under, used_under, terms_of}
-use Rattle.gu_depend.proofs.Vocabulary.{limit_of, used_of, Agreement, Dealing, Deed, Makes, Raises, Uses, Command}
-use Rattle.gu_depend.proofs.Vocabulary.{Claim, Agree, Raise, Record, Charge, Kind, Root, Own, Given, Node}
-use Rattle.gu_depend.proofs.{Deals.{both_same, dealt, numbered}, LastMoves.{deals_there}, Settled.{facts}}
-use Rattle.gu_depend.proofs.TermsFollow.{without_row}
-use Rattle.gu_base.specs.Limits.{highest_limit}
-use Rattle.gu_base.specs.Terms.{dealing_of, made_by_deed, made_in, raised_by_deed, used_by_deed}
-use Rattle.gu_base.proofs.{Dealt.{all_sound}, Sums.{sum_option}}
-use Rattle.gu_fees.specs.Terms.{row_of}
 use Rattle.gu_book.specs.Charging.{AreUsesOf}
-use Rattle.gu_book.proofs.{Charging.{fewer_given, sum_most}, Leaves.{cond_same}, Within.{node_within}}
+use Rattle.gu_depend.proofs.{Vocabulary.{Charge, Kind, Root, Own, Given, Node}, Deals.{both_same, dealt, numbered}}
+use Rattle.gu_depend.proofs.{TermsFollow.without_row, LastMoves.deals_there, Settled.facts}
+use Rattle.gu_depend.proofs.Vocabulary.{most_lots, highest_rate, House, agreement, charge_of, charge_of_kind, charges}
+use Rattle.gu_depend.proofs.Vocabulary.{counted, first_refused, use_of_kind, use_of_node, deed_of, dealings_in}
+use Rattle.gu_depend.proofs.Vocabulary.{dealings, raised_under, used_under, terms_of, limit_of, used_of, Agreement}
+use Rattle.gu_depend.proofs.Vocabulary.{Dealing, Deed, Makes, Raises, Uses, Command, Claim, Agree, Raise, Record}
+use Rattle.gu_fees.specs.Terms.{row_of}
+use Rattle.std.proofs.{Common.{option_map, option_and_then, bytes_eq}, lemmas.List.Sums.sum_by-cons}
+use Rattle.std.proofs.Common.{◌≡◌, ℕ, ◌+◌, ◌*◌, ◌≤◌, Bool, true, false, ◌&&◌, List, [], ◌∷◌, length, refl, ◌∙◌, ap}
+use Rattle.std.proofs.Common.{arith, cond, Option, All, Contains, Some, None, IfSome, filter, filter_map, sum_by}
+use Rattle.std.proofs.lemmas.List.Elements.{All-nil, All-cons, All-head, All-tail, All-contains_itself, All-weaker}
 
 -- ---- what is kept of a giver and a taker
 
@@ -34,15 +31,13 @@ module _ {t : House} {l : List Record} {v : TermsView} (are : AreTermsOf t l v) 
 
   -- and where there is none, the house table does
   pub filed_terms : row_of v g k ≡ None → agreement t g k ≡ terms_of t l g k
-  filed_terms none =
-      only_file (agreement t g k) ∙ ap (terms_under (agreement t g k)) (sym (without_row t l v are g k none))
+  filed_terms none = cc (only_file _, without_row t l v are g k none)
 
   pub filed_limit : row_of v g k ≡ None → option_map (λ (a : Agreement). a.limit) (agreement t g k) ≡ limit_of t l g k
-  filed_limit none =
-      file_limit (agreement t g k) ∙ ap (limit_under (agreement t g k)) (sym (without_row t l v are g k none))
+  filed_limit none = cc (file_limit _, without_row t l v are g k none)
 
   pub filed_used : row_of v g k ≡ None → 0 ≡ used_of l g k
-  filed_used none = ap used_under (sym (without_row t l v are g k none))
+  filed_used none = cc (without_row t l v are g k none)
 
 -- ---- what the charges say of uses
 
@@ -60,19 +55,22 @@ UsesCharged t l g k r =
 
 used_cons : (r : Record) (o : Option Deed) (ds : List Dealing) → used_under (dealt r o ds) ≡ used_told o + used_under ds
 used_cons r None ds = omega arith
-used_cons r (Some d) ds = sum_by-cons (λ (d : Dealing). used_by_deed d.deed) (numbered r d) ds
+used_cons r (Some d) ds = sum_by-cons (λ d. used_by_deed d.deed) (numbered r d) ds
 
 uses_in : (t : House) (l : List Record) (g k : List ℕ) (among : List Record) → All (UsesCharged t l g k) among
     → sum_by (λ c. c.lots) (filter (of_pair g k) (filter_map (λ r. charge_of t l r.command) among))
     ≡ used_under (dealings_in l among g k)
 uses_in t l g k [] each = refl
 uses_in t l g k (r ∷ among) each =
-    let a = sum_option (of_pair g k) (λ (c : Charge). c.lots) (charge_of t l r.command)
-    (filter_map (λ r. charge_of t l r.command) among) in
-    let b = used_cons r (deed_of l g k r.firm r.command) (dealings_in l among g k) in
-    let c = All-head (UsesCharged t l g k) r among each in
-    let d = uses_in t l g k among (All-tail (UsesCharged t l g k) r among each) in
-    omega (arith, a, b, c, d)
+    omega (
+      arith,
+      sum_option (of_pair g k) (λ (c : Charge). c.lots) (charge_of t l r.command)
+          (filter_map (λ r. charge_of t l r.command) among),
+      used_cons r (deed_of l g k r.firm r.command)
+          (dealings_in l among g k),
+      All-head (UsesCharged t l g k) r among each,
+      uses_in t l g k among (All-tail (UsesCharged t l g k) r among each),
+    )
 
 told_if : (b : Bool) (d : Deed) → cond b (used_by_deed d) 0 ≡ used_told (cond b (Some d) None)
 told_if true d = refl
@@ -84,7 +82,7 @@ module _ (t : House) (l : List Record) (none : first_refused t [] l ≡ None) wh
       → terms_of t l g k ≡ None → ⊥
   has_terms g k r d there deals absent =
       deals_there l r there g k d deals
-      ((all_sound (agreement t g k) (dealings l g k) ((facts t l none).deals g k)).none absent)
+      ((all_sound _ _ ((facts t l none).deals g k)).none absent)
 
   given_charged : (g k x y : List ℕ) (lots : ℕ) (o : Option Agreement) → (o ≡ None → ⊥)
       → counted (of_pair g k) (λ c. c.lots)
@@ -99,8 +97,8 @@ module _ (t : House) (l : List Record) (none : first_refused t [] l ≡ None) wh
   kind_charged g k lots (Root _) some = refl
   kind_charged g k lots (Own _ _ _) some = refl
   kind_charged g k lots (Given m x y) some =
-      given_charged g k x y lots (terms_of t l x y)
-      (some x y (Uses lots) (ap (λ b. cond b (Some (Uses lots)) None) (both_same x y)))
+      given_charged g k x y lots _
+      (some x y (Uses lots) (cc (both_same x y)))
 
   claim_charged : (g k : List ℕ) (o : Option Node)
       → ((x y : List ℕ) (d : Deed) → option_and_then (use_of_node x y) o ≡ Some d → terms_of t l x y ≡ None → ⊥)
@@ -112,7 +110,7 @@ module _ (t : House) (l : List Record) (none : first_refused t [] l ≡ None) wh
   change_charged : (g k by : List ℕ) (c : Command)
       → ((x y : List ℕ) (d : Deed) → deed_of l x y by c ≡ Some d → terms_of t l x y ≡ None → ⊥)
       → counted (of_pair g k) (λ c. c.lots) (charge_of t l c) ≡ used_told (deed_of l g k by c)
-  change_charged g k by (Claim n _) some = claim_charged g k (node_of l n) some
+  change_charged g k by (Claim n _) some = claim_charged g k _ some
   change_charged g k by (Agree x y rate limit) some =
       let b = bytes_eq x g && bytes_eq y k in cond_same 0 b ∙ told_if b (Makes (record { rate = rate; limit = limit }))
   change_charged g k by (Raise x lots) some =
@@ -140,7 +138,7 @@ small_if false d small = tt
 small_kind : (g k : List ℕ) (lots : ℕ) (kind : Kind) → lots ≤ most_lots → IfSome (use_of_kind g k lots kind) IsSmallDeed
 small_kind g k lots (Root _) small = tt
 small_kind g k lots (Own _ _ _) small = tt
-small_kind g k lots (Given m x y) small = small_if (bytes_eq x g && bytes_eq y k) (Uses lots) small
+small_kind g k lots (Given m x y) small = small_if _ _ small
 
 small_node : (g k : List ℕ) (o : Option Node) → IfSome o (λ x. x.lots ≤ 10000000)
     → IfSome (option_and_then (use_of_node g k) o) IsSmallDeed
@@ -149,10 +147,9 @@ small_node g k (Some x) small = small_kind g k x.lots x.kind small
 
 pub deed_small : (l : List Record) (g k by : List ℕ) (c : Command) → AllWithinLimits l → IsWithinLimits c
     → IfSome (deed_of l g k by c) IsSmallDeed
-deed_small l g k by (Agree x y rate limit) all within =
-    small_if (bytes_eq x g && bytes_eq y k) (Makes (record { rate = rate; limit = limit })) within
-deed_small l g k by (Raise x lots) all within = small_if (bytes_eq x g && bytes_eq by k) (Raises lots) within
-deed_small l g k by (Claim n _) all within = small_node g k (node_of l n) (node_within l n all)
+deed_small l g k by (Agree x y rate limit) all within = small_if _ _ within
+deed_small l g k by (Raise x lots) all within = small_if _ _ within
+deed_small l g k by (Claim n _) all within = small_node g k _ (node_within l n all)
 deed_small l g k by _ all within = tt
 
 abbrev HasSmallDeed : Dealing → Type 0
@@ -167,8 +164,8 @@ small_in : (l : List Record) (g k : List ℕ) → AllWithinLimits l → (among :
     → All HasSmallDeed (dealings_in l among g k)
 small_in l g k all [] within = All-nil HasSmallDeed
 small_in l g k all (r ∷ among) within =
-    small_cons r (deed_of l g k r.firm r.command) (dealings_in l among g k)
-    (deed_small l g k r.firm r.command all (All-head (λ (r : Record). IsWithinLimits r.command) r among within))
+    small_cons r _ _
+    (deed_small l g k _ _ all (All-head (λ (r : Record). IsWithinLimits r.command) r among within))
     (small_in l g k all among (All-tail (λ (r : Record). IsWithinLimits r.command) r among within))
 
 raised_small : (d : Deed) → IsSmallDeed d → raised_by_deed d ≤ 10000000000000
@@ -186,20 +183,19 @@ dealt_most : (l : List Record) (g k : List ℕ) → AllWithinLimits l → length
     → ((d : Deed) → IsSmallDeed d → counts d ≤ most)
     → sum_by (λ (d : Dealing). counts d.deed) (dealings l g k) ≤ 1000000 * most
 dealt_most l g k all few counts most each =
-    sum_most (λ (d : Dealing). counts d.deed) most (dealings l g k)
+    sum_most _ _ _
     (All-weaker HasSmallDeed (λ (d : Dealing). counts d.deed ≤ most) (λ d. each d.deed) (dealings l g k)
     (small_in l g k all l all))
-    (let fewer = fewer_given (dealing_of l g k) l in omega (arith, fewer, few))
+    (omega (arith, fewer_given (dealing_of l g k) l))
 
 -- what is raised and what is used in such a list
 pub raised_most : (l : List Record) (g k : List ℕ) → AllWithinLimits l → length l ≤ 1000000
     → raised_under (dealings l g k) ≤ 10000000000000000000
-raised_most l g k all few =
-    let most = dealt_most l g k all few raised_by_deed 10000000000000 raised_small in omega (arith, most)
+raised_most l g k all few = omega (arith, dealt_most l g k all few raised_by_deed 10000000000000 raised_small)
 
 pub used_most : (l : List Record) (g k : List ℕ) → AllWithinLimits l → length l ≤ 1000000
     → used_under (dealings l g k) ≤ 10000000000000
-used_most l g k all few = let most = dealt_most l g k all few used_by_deed 10000000 used_small in omega (arith, most)
+used_most l g k all few = omega (arith, dealt_most l g k all few used_by_deed 10000000 used_small)
 
 abbrev HasRate : Agreement → Type 0
 HasRate a = a.rate ≤ highest_rate
@@ -213,7 +209,7 @@ made_first (Uses lots) rest small later = later
 made_small : (ds : List Dealing) → All HasSmallDeed ds → IfSome (made_in ds) HasRate
 made_small [] all = tt
 made_small (d ∷ ds) all =
-    made_first d.deed (made_in ds) (All-head HasSmallDeed d ds all) (made_small ds (All-tail HasSmallDeed d ds all))
+    made_first _ _ (All-head HasSmallDeed d ds all) (made_small ds (All-tail HasSmallDeed d ds all))
 
 file_first : (file made : Option Agreement) → IfSome file (λ a. (a.rate ≤ highest_rate) × (a.limit ≤ highest_limit))
     → IfSome made HasRate → IfSome (option_or file made) HasRate
@@ -224,7 +220,4 @@ file_first (Some a) made in_range small = in_range.0
 pub terms_rate : (t : House) (l : List Record) (g k : List ℕ) → AllWithinLimits l
     → IfSome (agreement t g k) (λ a. (a.rate ≤ highest_rate) × (a.limit ≤ highest_limit)) → (o : Option Agreement)
     → o ≡ terms_of t l g k → IfSome o (λ a. a.rate ≤ highest_rate)
-terms_rate t l g k all in_range o e =
-    subst (λ (o : Option Agreement). IfSome o HasRate) (sym e)
-    (file_first (agreement t g k) (made_in (dealings l g k)) in_range
-    (made_small (dealings l g k) (small_in l g k all l all)))
+terms_rate t l g k all in_range o e = rw e (file_first _ _ in_range (made_small _ (small_in l g k all l all)))

@@ -1,23 +1,22 @@
 -- What trees that show a list of changes say of its nodes, and what of them stays where the list has one change more,
 -- or one less.
+use Rattle.gu_book.proofs.{Vocabulary.{is_trade, is_live_trade}, ByNumber.{other_made, its_own}, Sound.node_push}
+use Rattle.gu_book.proofs.Orders.{InOrder, names_node}
+use Rattle.gu_book.proofs.Vocabulary.{names, Rose, Roses, leaf, parted, head_of, named, node_at, Grove, tree_of}
+use Rattle.gu_book.proofs.Vocabulary.{tree_in, last_place, IsPlace, IsSameGrove, ChangesTree, slot_of, IsTreeOf}
+use Rattle.gu_book.proofs.Vocabulary.{IsNodeOf, ArePartsOf, named_node, named_place, place_in, Head, IsGroveOf, IsNext}
+use Rattle.gu_book.specs.Filed.{IsDue, Follows}
+use Rattle.gu_depend.proofs.{Names.{maker, made_number}, Replay.NumbersOnce, StandsLast.any_in}
 use Rattle.gu_depend.proofs.Vocabulary.{◌≡◌, ℕ, ◌<◌, ◌≤◌, true, false, ◌&&◌, List, [], ◌∷◌, ◌++◌, refl, sym, ◌∙◌, ap}
 use Rattle.gu_depend.proofs.Vocabulary.{subst, arith, cond, Option, Some, None, find, ◌==◌, option_and_then}
 use Rattle.gu_depend.proofs.Vocabulary.{false_from_ne_true, or_parts, Decides-eqb, same_Some, EntryPart, House, node_of}
-use Rattle.gu_depend.proofs.Vocabulary.{nodes_of, same_name, split_of, root_of, Command, Trade, Split, Record, Node}
-use Rattle.gu_depend.proofs.Vocabulary.{Root, Place, none_is_some}
-use Rattle.gu_depend.proofs.{Vocabulary.{or_none, made_of, name_is, name_same, splits, decides}, Replay.NumbersOnce}
-use Rattle.std.proofs.{Common.{◌≢◌}, lemmas.Bool.{true_from_ne_false, cond_both, eqb-true, eqb-false, ne_eqb}}
-use Rattle.gu_book.proofs.Vocabulary.{option_or, names, Rose, Roses, leaf, parted, head_of, named, node_at, Grove}
-use Rattle.gu_book.proofs.Vocabulary.{tree_of, tree_in, last_place, IsPlace, IsSameGrove, ChangesTree, slot_of}
-use Rattle.gu_book.proofs.Vocabulary.{IsTreeOf, IsNodeOf, ArePartsOf, named_node, named_place, place_in, Head}
-use Rattle.gu_book.proofs.Vocabulary.{IsGroveOf, IsNext, is_trade, is_live_trade}
-use Rattle.std.proofs.Common.{unwrap_or, option_map, Contains}
-use Rattle.gu_depend.proofs.{Names.{maker, made_number}, StandsLast.any_in}
-use Rattle.gu_tree.specs.{Grove.place_of, Filing.name_in, ShownAll.IsTreeIn}
-use Rattle.gu_tree.proofs.{Alike.{IsAlike, node_alike}, Along.{IsAlong, along, path_of}, Parts.some_and}
-use Rattle.gu_tree.proofs.{Shows.find_kept, ShowsLess.no_root_part}
-use Rattle.gu_book.specs.Filed.{IsDue, Follows}
-use Rattle.gu_book.proofs.{ByNumber.{other_made, its_own}, Orders.{InOrder, names_node}, Sound.node_push}
+use Rattle.gu_depend.proofs.Vocabulary.{nodes_of, same_name, split_of, Command, Trade, Split, Record, Node, Root, Place}
+use Rattle.gu_depend.proofs.Vocabulary.{none_is_some, or_none, made_of, name_is, name_same, splits, decides}
+use Rattle.gu_tree.proofs.{Along.{IsAlong, along, path_of}, Alike.{IsAlike, node_alike}, ShowsLess.no_root_part}
+use Rattle.gu_tree.proofs.{Shows.find_kept, Parts.some_and}
+use Rattle.gu_tree.specs.{ShownAll.IsTreeIn, Grove.place_of}
+use Rattle.std.proofs.Common.{◌≢◌, unwrap_or, option_map, Contains}
+use Rattle.std.proofs.lemmas.Bool.{true_from_ne_false, cond_both, eqb-true, eqb-false, ne_eqb}
 
 -- ---- of two groves
 
@@ -25,7 +24,7 @@ use Rattle.gu_book.proofs.{ByNumber.{other_made, its_own}, Orders.{InOrder, name
 pub same_filed : (l : List Record) (old new : Grove) → IsSameGrove old new → IsGroveOf l old → IsGroveOf l new
 same_filed l old new same filed = record {
   trees = λ k. subst (IsTreeIn l k) (sym (λ i. tree_in (same.trees i) (slot_of (same.slots i) k))) (filed.trees k);
-  places = λ k. ap (λ s. name_in k (slot_of s k)) same.slots ∙ filed.places k;
+  places = λ k. cc (filed.places k);
 }
 
 pub same_next : (t : House) (l : List Record) (r : Record) (old new : Grove) → IsSameGrove old new → IsNext t l r old
@@ -35,7 +34,7 @@ same_next t l r old new same next = record {
   later =
       let a : last_place new ≡ last_place old = rw same.slots refl in
       let b : last_place old < r.number = next.later in
-      omega (arith, a, b);
+      omega arith;
   replayed = next.replayed;
   lawful = next.lawful;
   rises = next.rises;
@@ -50,7 +49,7 @@ due_same r old new same due = (due.0, due.1, same_next due.0 due.1 r old new sam
 
 -- no trees and no places
 pub filed_none : (g : Grove) → ((k : ℕ) → tree_of g k ≡ None) → ((k : ℕ) → place_of g k ≡ None) → IsGroveOf [] g
-filed_none g trees places = record { trees = λ k. subst (IsTreeIn [] k) (sym (trees k)) refl; places = places }
+filed_none g trees places = record { trees = λ k. rw (trees k) refl; places = places }
 
 -- ---- where a node lies
 
@@ -68,13 +67,13 @@ pub record Spot (l : List Record) (g : Grove) (trade : ℕ) (p : List ℕ) (n : 
 
 pub tree_shown : {l : List Record} {g : Grove} → IsGroveOf l g → (k : ℕ) (tree : Rose) → tree_of g k ≡ Some tree
     → IsTreeOf l k tree
-tree_shown {l} filed k tree e = subst (IsTreeIn l k) e (filed.trees k)
+tree_shown {l} filed k tree e = rw e at (filed.trees k)
 
 pub spot : {l : List Record} {g : Grove} → IsGroveOf l g → InOrder l → (trade : ℕ) (p : List ℕ) (n : EntryPart)
     → IsPlace g n trade p → Spot l g trade p n
 spot {l} {g} filed order trade p n place =
-    let v = some_and (λ v. (head_of v).name ≡ n) (node_at p place.tree) place.there in
-    let shown = tree_shown filed trade place.tree place.found in
+    let v = some_and _ _ place.there in
+    let shown = tree_shown filed _ _ place.found in
     record {
       tree = place.tree;
       found = place.found;
@@ -82,7 +81,7 @@ spot {l} {g} filed order trade p n place =
       at = v.1;
       called = v.2;
       shown = shown;
-      said = along l order.distinct trade place.tree shown p v.0 v.1;
+      said = along l order.distinct _ _ shown p v.0 v.1;
     }
 
 -- ---- a node and its Split
@@ -96,14 +95,14 @@ pub record IsParted (l : List Record) (r : Record) (v : Rose) : Type 0 where
 
 pub parted_by : (l : List Record) (above : Option Place) (x : Node) (r : Record) (v : Rose) → IsNodeOf l above x v
     → split_of l x.name ≡ Some r → IsParted l r v
-parted_by l above x r (leaf h) is found = absurd (none_is_some (split_of l x.name) r is.1 found)
+parted_by l above x r (leaf h) is found = absurd (none_is_some _ r is.1 found)
 parted_by l above x r (parted h n ts) is found =
-    let same : is.1.0 ≡ r = same_Some is.1.0 r (sym is.1.1 ∙ found) in
+    let same = same_Some is.1.0 r (cc) in
     record {
       head = h;
       parts = ts;
-      is = ap (λ k. parted h k ts) (sym is.1.2 ∙ ap (λ (d : Record). d.number) same);
-      are = subst (λ (d : Record). ArePartsOf l (Some h.place) (nodes_of d.number d.firm d.command) ts) same is.1.3;
+      is = cc;
+      are = rw same at is.1.3;
     }
 
 -- one that none names is a leaf
@@ -114,7 +113,7 @@ pub record IsWhole (v : Rose) : Type 0 where
 pub whole_by : (l : List Record) (above : Option Place) (x : Node) (v : Rose) → IsNodeOf l above x v
     → split_of l x.name ≡ None → IsWhole v
 whole_by l above x (leaf h) is none = record { head = h; is = refl }
-whole_by l above x (parted h n ts) is none = absurd (none_is_some (split_of l x.name) is.1.0 none is.1.1)
+whole_by l above x (parted h n ts) is none = absurd (none_is_some _ _ none is.1.1)
 
 -- ---- roots
 
@@ -130,22 +129,21 @@ pub makes_root : (k : ℕ) (by : List ℕ) (c : Command) → is_trade c ≡ true
 makes_root k by (Trade firm account instrument side lots) is =
     let x : Node =
     record { name = root_name k; lots = lots; kind = Root (record { firm = firm; account = account }) } in
-    (x, ap (λ b. cond b (Some x) None) (name_same (root_name k)))
+    (x, cc (name_same _))
 makes_root k by _ is = absurd (cc)
 
 -- so a tree is that of a live trade
 pub live_at : {l : List Record} {g : Grove} → IsGroveOf l g → (k : ℕ) (tree : Rose) → tree_of g k ≡ Some tree
     → is_live_trade l k ≡ true
 live_at {l} filed k tree e =
-    let is = tree_shown filed k tree e in
-    let m = maker l (root_name k) is.root is.found in
-    let same : (m.change.number == k) ≡ true =
-    (Decides-eqb m.change.number k).1 (sym (made_number m.change (root_name k) is.root m.makes_it)) in
-    let trades : is_trade m.change.command ≡ true = true_from_ne_false (is_trade m.change.command) (λ plain.
+    let is = tree_shown filed k _ e in
+    let m = maker l _ _ is.found in
+    let same = (Decides-eqb m.change.number k).1 (sym (made_number m.change _ _ m.makes_it)) in
+    let trades = true_from_ne_false _ (λ plain.
     none_is_some (made_of m.change (root_name k)) is.root
     (rootless k m.change.number m.change.firm m.change.command plain) m.makes_it) in
     any_in (λ (r : Record). (r.number == k) && is_trade r.command) l m.change m.among
-    (ap (λ b. b && is_trade m.change.command) same ∙ trades)
+    (cc)
 
 -- ---- what a command names
 
@@ -160,11 +158,10 @@ place_named k _ n e = e
 
 told : (m : EntryPart) (o : Option EntryPart) → unwrap_or (option_map (λ n. same_name n m) o) false ≡ true → o ≡ Some m
 told m None is = absurd (cc)
-told m (Some n) is = ap (λ z. Some z) (name_is n m is)
+told m (Some n) is = cc (name_is n m is)
 
 pub unnamed_by : (m : EntryPart) (c : Command) → (named_node c ≡ Some m → ⊥) → names m c ≡ false
-unnamed_by m c never =
-    false_from_ne_true (names m c) (λ yes. never (told m (named_node c) (sym (names_node m c) ∙ yes)))
+unnamed_by m c never = false_from_ne_true _ (λ yes. never (told m _ (cc (names_node m c))))
 
 -- what has no place in the trees makes no root and names no node
 placeless_is : (k : ℕ) (c : Command) → named_place k c ≡ None → (is_trade c ≡ false) × (named_node c ≡ None)
@@ -179,7 +176,7 @@ place_of_change o = option_and_then (λ (d : Record). named_place d.number d.com
 -- a change has its own place
 pub place_of_own : (l : List Record) (r : Record) → NumbersOnce l → Contains l r
     → place_in l r.number ≡ named_place r.number r.command
-place_of_own l r once among = ap place_of_change (its_own l r once among)
+place_of_own l r once among = cc (its_own l r once among)
 
 -- ---- one change more or less
 
@@ -192,20 +189,20 @@ pub record IsBeside (r : Record) (x y : List Record) : Type 0 where
 -- as a list and the same with the change behind it do
 pub more_beside : (l : List Record) (r : Record) → IsBeside r l (l ++ r ∷ [])
 more_beside l r = record {
-  nodes = λ n none. node_push l r n ∙ (ap (option_or (node_of l n)) none ∙ or_none (node_of l n));
+  nodes = λ n none. cc (node_push l r n, or_none (node_of l n));
   alike = λ n un.
       let p = or_parts _ _ un in
       record {
-        splits = find_kept (λ r. splits n r.command) l r p.0;
-        decides = find_kept (λ r. decides n r.command) l r p.1;
+        splits = find_kept _ l r p.0;
+        decides = find_kept _ l r p.1;
       };
   places = λ k other.
-      ap place_of_change (find_kept (λ (d : Record). d.number == k) l r (ne_eqb r.number k (λ e. other (sym e))));
+      cc (find_kept (λ (d : Record). d.number == k) l r (ne_eqb r.number k (λ e. other (sym e))));
 }
 
 -- what is as it was everywhere is so here
 as_before : {A : Type 0} (f : ℕ → A) (k e : ℕ) → f k ≡ cond (k == e) (f e) (f k)
-as_before f k e = cond_both (k == e) (f e) (f k) (λ z. f k ≡ z) (λ same. ap f (eqb-true k e same)) (λ other. refl)
+as_before f k e = cond_both _ (f e) (f k) (λ z. f k ≡ z) (λ same. cc (eqb-true k e same)) (λ other. refl)
 
 -- the key has this value now, and each other key the one that it had
 abbrev pub Alters : {A : Type 0} → (ℕ → A) → (ℕ → A) → ℕ → A → Type 0
@@ -219,28 +216,26 @@ module _ {r : Record} {x y : List Record} (b : IsBeside r x y) {g : Grove} (file
       → IsGroveOf y h
   moved trade tree place trees places shown others own = record {
     trees = λ k.
-        subst (IsTreeIn y k) (sym (trees k))
-        (cond_both (k == trade) tree (tree_of g k) (IsTreeIn y k)
-        (λ same. subst (λ j. IsTreeIn y j tree) (sym (eqb-true k trade same)) shown)
-        (λ other. others k (eqb-false k trade other)));
-    places = λ k. places k ∙ cond_both (k == r.number) place (place_of g k) (λ o. o ≡ place_in y k)
-        (λ same. sym own ∙ ap (place_in y) (sym (eqb-true k r.number same)))
-        (λ other. filed.places k ∙ sym (b.places k (eqb-false k r.number other)));
+        rw (trees k) (cond_both _ tree _ (IsTreeIn y k) (λ same. subst (λ j. IsTreeIn y j tree)
+        (sym (eqb-true k trade same)) shown) (λ other. others k (eqb-false k trade other)));
+    places = λ k. places k ∙ cond_both _ place _ (λ o. o ≡ place_in y k)
+        (λ same. cc (eqb-true k r.number same))
+        (λ other. cc (filed.places k, b.places k (eqb-false k r.number other)));
   }
 
   -- a tree of whose nodes the change names none, and whose root it doesn't make, shows the one as it shows the other
   stays : (k : ℕ) → made_of r (root_name k) ≡ None
       → ((t : Rose) → tree_of g k ≡ Some t → (n : EntryPart) → 1 ≤ named n t → names n r.command ≡ false)
       → IsTreeIn y k (tree_of g k)
-  stays k none unnamed = alike (tree_of g k) unnamed (filed.trees k)
+  stays k none unnamed = alike _ unnamed (filed.trees k)
     where
       alike : (o : Option Rose)
           → ((t : Rose) → o ≡ Some t → (n : EntryPart) → 1 ≤ named n t → names n r.command ≡ false) → IsTreeIn x k o
           → IsTreeIn y k o
       alike None un is = b.nodes (root_name k) none ∙ is
       alike (Some t) un is =
-          let tree = node_alike x y None is.root t (λ n one. b.alike n (un t refl n one)) is.tree in
-          record { root = is.root; found = b.nodes (root_name k) none ∙ is.found; top = is.top; tree = tree }
+          let tree = node_alike x y _ _ t (λ n one. b.alike n (un t refl n one)) is.tree in
+          record { root = is.root; found = cc (b.nodes (root_name k) none); top = is.top; tree = tree }
 
   -- the tree of the node that it names gives way to another
   pub changed : {h : Grove} {trade : ℕ} {p : List ℕ} {n : EntryPart} → InOrder x → Spot x g trade p n
@@ -248,14 +243,13 @@ module _ {r : Record} {x y : List Record} (b : IsBeside r x y) {g : Grove} (file
       → Alters (place_of g) (place_of h) r.number place → IsTreeOf y trade new → place_in y r.number ≡ place
       → IsGroveOf y h
   changed {trade = trade} {p = p} {n = n} order s is new place trees places shown own =
-      moved trade (Some new) place trees places shown
-      (λ k other. stays k (rootless k r.number r.firm r.command (not_trade r.command n is))
+      moved _ _ _ trees places shown
+      (λ k other. stays k (rootless k _ _ _ (not_trade _ n is))
       -- since a node lies in the tree of one trade alone
-      (λ t e m one. unnamed_by m r.command (λ it.
+      (λ t e m one. unnamed_by m _ (λ it.
       let q = path_of m t one in
       let a = along x order.distinct k t (tree_shown filed k t e) q.0 q.1 q.2 in
-      let roots =
-      sym a.rooted ∙ (ap (root_of x) (q.3 ∙ (same_Some m n (sym it ∙ is) ∙ sym s.called)) ∙ s.said.rooted) in
+      let roots = sym a.rooted ∙ (cc (same_Some m n (sym it ∙ is), s.called, s.said.rooted)) in
       other (ap (λ (m : EntryPart). m.entry) (same_Some (root_name k) (root_name trade) roots))))) own
 
   -- the tree of its own number does
@@ -264,8 +258,8 @@ module _ {r : Record} {x y : List Record} (b : IsBeside r x y) {g : Grove} (file
       → Alters (place_of g) (place_of h) r.number place → IsTreeIn y r.number tree → place_in y r.number ≡ place
       → IsGroveOf y h
   rooted unnamed tree place trees places shown own =
-      moved r.number tree place trees places shown
-      (λ k other. stays k (other_made r (root_name k) (λ e. other (sym e))) (λ t e n one. unnamed n)) own
+      moved _ _ _ trees places shown
+      (λ k other. stays k (other_made r _ (λ e. other (sym e))) (λ t e n one. unnamed n)) own
 
   -- none does, of an Agree or a Raise
   pub apart : named_place r.number r.command ≡ None → place_in y r.number ≡ place_of g r.number → IsGroveOf y g
@@ -273,5 +267,5 @@ module _ {r : Record} {x y : List Record} (b : IsBeside r x y) {g : Grove} (file
       let is = placeless_is r.number r.command placeless in
       let each : (k : ℕ) → IsTreeIn y k (tree_of g k) = λ k. stays k (rootless k r.number r.firm r.command is.0)
       (λ t e n one. unnamed_by n r.command (none_is_some (named_node r.command) n is.1)) in
-      moved r.number (tree_of g r.number) (place_of g r.number) (λ k. as_before (tree_of g) k r.number)
+      moved r.number _ _ (λ k. as_before (tree_of g) k r.number)
       (λ k. as_before (place_of g) k r.number) (each r.number) (λ k other. each k) own

@@ -1,12 +1,11 @@
 -- What the changes other than one on which nothing stands say, and the trees that show them.
-use Rattle.gu_depend.proofs.Vocabulary.{not, ◌≡◌, ℕ, false, List, refl, sym, ◌∙◌, ap, Some, None, ◌==◌, EntryPart}
-use Rattle.gu_depend.proofs.Vocabulary.{House, without, Record}
+use Rattle.gu_book.proofs.{Vocabulary.{named_place, place_in, IsGroveOf, IsFree}, Undoing.{others, once, finds, unmade}}
+use Rattle.gu_book.proofs.{Orders.{InOrder, in_order}, ByNumber.change_left}
+use Rattle.gu_book.proofs.Filed.{Spot, IsBeside, more_beside, changed, rooted, apart, place_of_own}
 use Rattle.gu_book.proofs.Vocabulary.{names, Rose, Grove, ChangesTree, Takes, TakesTree, IsTreeOf, named_node}
-use Rattle.gu_book.proofs.Vocabulary.{named_place, place_in, IsGroveOf, IsFree}
+use Rattle.gu_depend.proofs.{Vocabulary.{without, Record}, Finds.find_filter}
+use Rattle.gu_depend.proofs.Vocabulary.{not, ◌≡◌, ℕ, false, List, refl, sym, ◌∙◌, ap, Some, None, EntryPart, House}
 use Rattle.gu_tree.specs.Grove.{place_of}
-use Rattle.gu_depend.proofs.Finds.{find_filter}
-use Rattle.gu_book.proofs.Filed.{Spot, IsBeside, more_beside, place_of_change, changed, rooted, apart, place_of_own}
-use Rattle.gu_book.proofs.{ByNumber.change_left, Orders.{InOrder, in_order}, Undoing.{others, once, finds, unmade}}
 
 module _ {t : House} {l : List Record} {r : Record} {g : Grove} (u : IsFree t l r g) where
   pub order : InOrder l
@@ -17,25 +16,23 @@ module _ {t : House} {l : List Record} {r : Record} {g : Grove} (u : IsFree t l 
   less_beside =
       let last = more_beside (others u) r in
       record {
-        nodes = λ n none. sym (last.nodes n none) ∙ (finds u).nodes n;
+        nodes = λ n none. cc (last.nodes n none, (finds u).nodes n);
         alike = λ n un.
             let a = last.alike n un in
-            record { splits = sym a.splits ∙ (finds u).splits_same n; decides = sym a.decides ∙ (finds u).decisions n };
-        places = λ k other. ap place_of_change (change_left r.number k l (λ e. other (sym e)));
+            record { splits = cc ((finds u).splits_same n); decides = cc ((finds u).decisions n) };
+        places = λ k other. cc (change_left r.number k l (λ e. other (sym e)));
       }
 
   place_gone : place_in (others u) r.number ≡ None
-  place_gone =
-      ap place_of_change
-      (find_filter (λ d. d.number == r.number) (λ d. not (d.number == r.number)) false l (λ d is. ap not is))
+  place_gone = cc (find_filter _ _ _ l (λ d is. ap not is))
 
   -- its place is the node that it made or named
   pub own_place : place_of g r.number ≡ named_place r.number r.command
-  own_place = u.filed.places r.number ∙ place_of_own l r (once u) u.among
+  own_place = u.filed.places _ ∙ place_of_own l r (once u) u.among
 
   -- an Agree or a Raise, which has no place in the trees
   pub left_alone : named_place r.number r.command ≡ None → IsGroveOf (without l r.number) g
-  left_alone placeless = apart less_beside u.filed placeless (place_gone ∙ sym (own_place ∙ placeless))
+  left_alone placeless = apart less_beside u.filed placeless (cc (place_gone, own_place))
 
   -- a Split or a decision, taken back at its node
   pub taken_back : {trade : ℕ} {p : List ℕ} {n : EntryPart} → Spot l g trade p n → named_node r.command ≡ Some n
@@ -47,5 +44,5 @@ module _ {t : House} {l : List Record} {r : Record} {g : Grove} (u : IsFree t l 
   pub uprooted : ((n : EntryPart) → names n r.command ≡ false) → (h : Grove) → TakesTree g h r.number
       → Takes g h r.number → IsGroveOf (without l r.number) h
   uprooted unnamed h tree place =
-      rooted less_beside u.filed unnamed None None tree place (unmade u (record { entry = r.number; part = 0 }) refl)
+      rooted less_beside u.filed unnamed _ _ tree place (unmade u _ refl)
       place_gone

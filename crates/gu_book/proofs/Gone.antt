@@ -1,47 +1,45 @@
 -- What the trees say of a change on which nothing stands, and what is left when it is taken back at its node.
-use Rattle.gu_depend.proofs.Vocabulary.{◌≡◌, ℕ, ◌&&◌, true, false, List, [], ◌∷◌, refl, sym, ◌∙◌, ap, subst, Option}
-use Rattle.gu_depend.proofs.Vocabulary.{All, inl, inr, is_none, Some, None, option_map, All-head, All-tail, All-weaker}
-use Rattle.gu_depend.proofs.Vocabulary.{All-contains, EntryPart, House, node_of, split_of, decision_of, splits, decides}
-use Rattle.gu_depend.proofs.Vocabulary.{is_given, state_of, state_after, without, Command, Trade, Split, Claim, Refuse}
-use Rattle.gu_depend.proofs.Vocabulary.{Cancel, Record, Kind, Given, Node, Place, no_some, none_is_some, made, made_of}
-use Rattle.gu_depend.proofs.Vocabulary.{name_same}
-use Rattle.gu_depend.proofs.{Vocabulary.{node_called, decides_well, found_in, find_passes}, Finds.found_once}
+use Rattle.gu_book.proofs.{FiledChanges.{its_head, its_node, from_tree, has_at, is_at, said_at}, Vocabulary.is_trade}
+use Rattle.gu_book.proofs.{FiledLess.{order, own_place, taken_back, uprooted}, Sound.made_found}
+use Rattle.gu_book.proofs.Filed.{Spot, spot, IsParted, parted_by, IsWhole, whole_by, root_name, makes_root, place_named}
+use Rattle.gu_book.proofs.Undoing.{others, once, finds, before, grown, bare, only_split, only_decision}
+use Rattle.gu_book.proofs.Vocabulary.{names, Rose, Roses, leaf, parted, no_parts, part_then, head_of, split_of_node}
+use Rattle.gu_book.proofs.Vocabulary.{node_at, edit_at, HasAt, can_unsplit, unsplit_node, is_given_back, Grove, IsPlace}
+use Rattle.gu_book.proofs.Vocabulary.{HasTree, ChangesTree, Takes, TakesTree, IsNodeOf, ArePartsOf, SplitsNode}
+use Rattle.gu_book.proofs.Vocabulary.{DecidesNode, named_node, IsOnlySplit, IsOnlyDecision, Head, IsGroveOf, IsFree}
+use Rattle.gu_depend.proofs.{Vocabulary.{name_same, node_called, decides_well, found_in, find_passes}, Finds.found_once}
+use Rattle.gu_depend.proofs.{StandsLast.node_of_maker, LastMoves.split_kept, Grown.SplitsDecided, Settled.named_once}
+use Rattle.gu_depend.proofs.Names.{made_number}
+use Rattle.gu_depend.proofs.Vocabulary.{◌≡◌, ℕ, true, false, List, [], ◌∷◌, refl, sym, ◌∙◌, ap, subst, Option, All, inl}
+use Rattle.gu_depend.proofs.Vocabulary.{inr, Some, None, option_map, All-head, All-tail, All-weaker, All-contains}
+use Rattle.gu_depend.proofs.Vocabulary.{EntryPart, House, node_of, split_of, decision_of, splits, decides, is_given}
+use Rattle.gu_depend.proofs.Vocabulary.{state_of, state_after, without, Command, Trade, Split, Claim, Refuse, Cancel}
+use Rattle.gu_depend.proofs.Vocabulary.{Record, Kind, Given, Node, Place, no_some, none_is_some, made, made_of}
+use Rattle.gu_tree.proofs.Parts.{some_and, at_fact}
+use Rattle.gu_tree.specs.{Changes.{are_undecided_leaves, is_undecided_leaf, offer_node, offer_again_node}, Paths.above}
+use Rattle.gu_tree.specs.{Grove.{place_of, IsSapling}, ShownAll.IsTreeIn, Shown.ShowsLess}
 use Rattle.std.proofs.Common.{IsTrue, ◌⊎◌}
 use Rattle.std.specs.Prelude.{IsSomeAnd}
-use Rattle.gu_book.proofs.Vocabulary.{names, Rose, Roses, leaf, parted, no_parts, part_then, head_of, split_of_node}
-use Rattle.gu_book.proofs.Vocabulary.{node_at, edit_at, HasAt, can_unsplit, unsplit_node, is_given_back, Grove, tree_of}
-use Rattle.gu_book.proofs.Vocabulary.{IsPlace, HasTree, ChangesTree, Takes, TakesTree, IsNodeOf, ArePartsOf, SplitsNode}
-use Rattle.gu_book.proofs.Vocabulary.{DecidesNode, named_node, IsOnlySplit, IsOnlyDecision, Head}
-use Rattle.gu_book.proofs.{Vocabulary.{IsGroveOf, IsFree, is_trade}, Sound.made_found}
-use Rattle.gu_depend.proofs.{Grown.SplitsDecided, LastMoves.split_kept, Names.made_number, Settled.named_once}
-use Rattle.gu_depend.proofs.StandsLast.{node_of_maker}
-use Rattle.gu_tree.specs.{Paths.above, Changes.{are_undecided_leaves, is_undecided_leaf, offer_node, offer_again_node}}
-use Rattle.gu_tree.specs.{Grove.{place_of, IsSapling}, Shown.ShowsLess, ShownAll.IsTreeIn}
-use Rattle.gu_tree.proofs.Parts.{some_and, at_fact}
-use Rattle.gu_book.proofs.Filed.{Spot, spot, IsParted, parted_by, IsWhole, whole_by, root_name, makes_root, place_named}
-use Rattle.gu_book.proofs.FiledChanges.{its_head, its_node, from_tree, has_at, is_at, said_at}
-use Rattle.gu_book.proofs.FiledLess.{order, own_place, taken_back, uprooted}
-use Rattle.gu_book.proofs.Undoing.{others, once, finds, before, grown, bare, only_split, only_decision}
 
 -- ---- what a command names
 
 pub split_names : (n : EntryPart) (c : Command) → SplitsNode n c → (named_node c ≡ Some n) × (splits n c ≡ true)
-split_names n (Split m ps) e = (ap (λ k. Some k) e, ap (λ k. splits n (Split k ps)) e ∙ name_same n)
+split_names n (Split m ps) e = (cc, cc (name_same n))
 split_names n _ e = absurd e
 
 -- a decision names its node, and splits none
 pub decision_names : (n : EntryPart) (c : Command) → DecidesNode n c
     → (named_node c ≡ Some n) × (decides n c ≡ true) × (splits n c ≡ false)
-decision_names n (Claim m account) e = (ap (λ k. Some k) e, ap (λ k. decides n (Claim k account)) e ∙ name_same n, refl)
-decision_names n (Refuse m) e = (ap (λ k. Some k) e, ap (λ k. decides n (Refuse k)) e ∙ name_same n, refl)
-decision_names n (Cancel m) e = (ap (λ k. Some k) e, ap (λ k. decides n (Cancel k)) e ∙ name_same n, refl)
+decision_names n (Claim m account) e = (cc, cc (name_same n), refl)
+decision_names n (Refuse m) e = (cc, cc (name_same n), refl)
+decision_names n (Cancel m) e = (cc, cc (name_same n), refl)
 decision_names n _ e = absurd e
 
 -- a Refuse or a Cancel gives the part back that it names
 pub turned_down : {c : Command} → ((n : EntryPart) × c ≡ Refuse n) ⊎ ((n : EntryPart) × c ≡ Cancel n)
     → (n : EntryPart) × DecidesNode n c × (is_given_back (state_after c) ≡ true)
-turned_down (inl r) = (r.0, subst (DecidesNode r.0) (sym r.1) refl, ap (λ c. is_given_back (state_after c)) r.1)
-turned_down (inr r) = (r.0, subst (DecidesNode r.0) (sym r.1) refl, ap (λ c. is_given_back (state_after c)) r.1)
+turned_down (inl r) = (r.0, rw r.1 refl, cc)
+turned_down (inr r) = (r.0, rw r.1 refl, cc)
 
 -- ---- parts on which nothing stands
 
@@ -50,8 +48,8 @@ IsBare l x = (split_of l x.name ≡ None) × (decision_of l x.name ≡ None)
 
 bare_part : (l : List Record) (above : Option Place) (x : Node) (v : Rose) → IsNodeOf l above x v → IsBare l x
     → is_undecided_leaf v ≡ true
-bare_part l above x (leaf h) is bare = ap is_none (is.0.decision ∙ ap (option_map (λ r. r.number)) bare.1)
-bare_part l above x (parted h n ts) is bare = absurd (none_is_some (split_of l x.name) is.1.0 bare.0 is.1.1)
+bare_part l above x (leaf h) is bare = cc
+bare_part l above x (parted h n ts) is bare = absurd (none_is_some _ _ bare.0 is.1.1)
 
 bare_parts : (l : List Record) (above : Option Place) (xs : List Node) (ts : Roses) → ArePartsOf l above xs ts
     → All (IsBare l) xs → are_undecided_leaves ts ≡ true
@@ -59,8 +57,10 @@ bare_parts l above [] no_parts is bare = refl
 bare_parts l above [] (part_then v ts) is bare = absurd is
 bare_parts l above (x ∷ xs) no_parts is bare = absurd is
 bare_parts l above (x ∷ xs) (part_then v ts) is bare =
-    ap (λ b. b && are_undecided_leaves ts) (bare_part l above x v is.0 (All-head (IsBare l) x xs bare))
-    ∙ bare_parts l above xs ts is.1 (All-tail (IsBare l) x xs bare)
+    cc (
+      bare_part l above x v is.0 (All-head (IsBare l) x xs bare),
+      bare_parts l above xs ts is.1 (All-tail (IsBare l) x xs bare),
+    )
 
 given_state : (k : Kind) (r : Record) → is_given k ≡ true → state_of k (Some r) ≡ state_after r.command
 given_state (Given _ _ _) r h = refl
@@ -71,31 +71,29 @@ module _ {t : House} {l : List Record} {r : Record} {g : Grove} (u : IsFree t l 
       → IsSomeAnd (place_of g r.number) (λ m. IsPlace g m trade p) → Spot l g trade p n
   its_spot trade p n is at =
       spot u.filed (order u) trade p n
-      (subst (λ (o : Option EntryPart). IsSomeAnd o (λ m. IsPlace g m trade p))
-      (own_place u ∙ place_named r.number r.command n is) at)
+      (rw (own_place u ∙ place_named r.number r.command n is) at at)
 
   -- ---- a Trade
 
   module _ (trades : is_trade r.command ≡ true) where
     root_there : (x : Node) × (node_of l (root_name r.number) ≡ Some x)
     root_there =
-        let x = makes_root r.number r.firm r.command trades in
-        (x.0, node_of_maker l r (root_name r.number) x.0 (once u) u.among x.1)
+        let x = makes_root _ _ _ trades in
+        (x.0, node_of_maker l r _ x.0 (once u) u.among x.1)
 
     pub sapling_there : HasTree g r.number IsSapling
-    sapling_there = sapling (tree_of g r.number) (u.filed.trees r.number)
+    sapling_there = sapling _ (u.filed.trees r.number)
       where
         sapling : (o : Option Rose) → IsTreeIn l r.number o → IsSomeAnd o IsSapling
-        sapling None is = none_is_some (node_of l (root_name r.number)) root_there.0 is root_there.1
-        sapling (Some (leaf h)) is =
-            ap (λ (m : EntryPart). m.part) (is.tree.0.name ∙ node_called l (root_name r.number) is.root is.found)
+        sapling None is = none_is_some _ _ is root_there.1
+        sapling (Some (leaf h)) is = cc (node_called l _ is.root is.found)
         sapling (Some (parted h n ts)) is =
-            let called = node_called l (root_name r.number) is.root is.found in
-            none_is_some (split_of l is.root.name) is.tree.1.0
-            (ap (split_of l) called ∙ (bare u (root_name r.number) refl).0) is.tree.1.1
+            let called = node_called l _ is.root is.found in
+            none_is_some _ _
+            (cc ((bare u (root_name r.number) refl).0)) is.tree.1.1
 
     pub root_gone : (h : Grove) → TakesTree g h r.number → Takes g h r.number → IsGroveOf (without l r.number) h
-    root_gone = uprooted u (unnamed r.command trades)
+    root_gone = uprooted u (unnamed _ trades)
       where
         unnamed : (c : Command) → is_trade c ≡ true → (n : EntryPart) → names n c ≡ false
         unnamed (Trade _ _ _ _ _) is n = refl
@@ -106,18 +104,20 @@ module _ {t : House} {l : List Record} {r : Record} {g : Grove} (u : IsFree t l 
   module _ {trade : ℕ} {p : List ℕ} {n : EntryPart} (s : Spot l g trade p n) (is : SplitsNode n r.command) where
     its_parts : IsParted l r s.node
     its_parts =
-        parted_by l s.said.above s.said.node r s.node s.said.shown
+        parted_by l _ _ r _ s.said.shown
         (ap (split_of l) (s.said.named ∙ s.called)
-        ∙ found_once (λ (d : Record). splits n d.command) l r u.among (split_names n r.command is).1
+        ∙ found_once (λ d. splits n d.command) l r u.among (split_names n _ is).1
         ((named_once t l u.replayed).splits_once n))
 
     pub may_unsplit : HasTree g trade (HasAt p (λ v. IsTrue (can_unsplit v)))
     may_unsplit =
-        is_at s (λ v. IsTrue (can_unsplit v))
-        (ap can_unsplit its_parts.is
-        ∙ bare_parts l (Some its_parts.head.place) (made r) its_parts.parts its_parts.are
-        (All-weaker (λ (x : Node). made_of r x.name ≡ Some x) (IsBare l)
-        (λ x e. bare u x.name (made_number r x.name x e)) (made r) (made_found r)))
+        is_at s _
+        (cc (
+          its_parts.is,
+          bare_parts l (Some its_parts.head.place) (made r) its_parts.parts its_parts.are
+              (All-weaker (λ (x : Node). made_of r x.name ≡ Some x) (IsBare l)
+              (λ x e. bare u x.name (made_number r x.name x e)) (made r) (made_found r)),
+        ))
 
     pub unsplit_gone : (h : Grove) → HasTree g trade (λ v. ChangesTree g h trade (edit_at unsplit_node p v))
         → HasTree g trade (HasAt p (λ w. IsSomeAnd (split_of_node w) (λ q. Takes g h q.0)))
@@ -125,15 +125,15 @@ module _ {t : House} {l : List Record} {r : Record} {g : Grove} (u : IsFree t l 
         (λ v. ShowsLess (λ l k. HasAt p (λ w. IsOnlySplit l k (head_of w).name) v) v (edit_at unsplit_node p v))
         → IsGroveOf (without l r.number) h
     unsplit_gone h tree place shows =
-        taken_back u s (split_names n r.command is).0 h (edit_at unsplit_node p s.tree)
-        (from_tree s (λ v. ChangesTree g h trade (edit_at unsplit_node p v)) tree)
-        (subst (λ (o : Option (ℕ × ℕ)). IsSomeAnd o (λ q. Takes g h q.0)) (ap split_of_node its_parts.is)
-        (said_at s (λ w. IsSomeAnd (split_of_node w) (λ q. Takes g h q.0)) place))
+        taken_back u s (split_names n _ is).0 h _
+        (from_tree s _ tree)
+        (rw (ap split_of_node its_parts.is) at (said_at s (λ w. IsSomeAnd (split_of_node w) (λ q. Takes g h q.0))
+        place))
         (from_tree s
         (λ v. ShowsLess (λ l k. HasAt p (λ w. IsOnlySplit l k (head_of w).name) v) v (edit_at unsplit_node p v)) shows l
         trade r.number
         (has_at s (λ w. IsOnlySplit l r.number (head_of w).name)
-        (subst (IsOnlySplit l r.number) (sym s.called) (only_split u n is (split_names n r.command is).1)))
+        (rw s.called (only_split u n is (split_names n _ is).1)))
         s.shown)
 
   -- ---- a decision
@@ -147,37 +147,43 @@ module _ {t : House} {l : List Record} {r : Record} {g : Grove} (u : IsFree t l 
 
     its_decision : decision_of l n ≡ Some r
     its_decision =
-        found_once (λ (d : Record). decides n d.command) l r u.among its_names.1
+        found_once _ l r u.among its_names.1
         ((named_once t l u.replayed).decisions_once n)
 
     -- a Split of the part would stand behind the decision
     whole : IsWhole s.node
     whole =
-        whole_by l s.said.above s.said.node s.node s.said.shown
-        (ap (split_of l) called
-        ∙ (sym ((finds u).splits_same n)
-        ∙ (split_kept (before u) n its_names.2
-        ∙ no_some (split_of (others u) n) (λ d e.
-        none_is_some (decision_of (others u) n) r
-        (decides_well t (others u) r.firm r.command n (before u).accepted its_names.1).undecided
-        (All-contains (SplitsDecided l (others u)) (others u) d (grown u).decided
-        (found_in (λ q. splits n q.command) (others u) d e) n (find_passes (λ q. splits n q.command) (others u) d e)
-        ∙ its_decision)))))
+        whole_by l _ _ _ s.said.shown
+        (cc (
+          called,
+          (finds u).splits_same n,
+          split_kept (before u) n its_names.2,
+          no_some (split_of (others u) n) (λ d e. none_is_some (decision_of (others u) n) r
+              (decides_well t (others u) r.firm r.command n (before u).accepted its_names.1).undecided
+              (All-contains (SplitsDecided l (others u)) (others u) d (grown u).decided
+              (found_in (λ q. splits n q.command) (others u) d e) n
+              (find_passes (λ q. splits n q.command) (others u) d e)
+              ∙ its_decision)),
+        ))
 
     -- the state in which it left the part
     decided_state : (head_of s.node).state ≡ state_after r.command
     decided_state =
         let w = decides_well t (others u) r.firm r.command n (before u).accepted its_names.1 in
-        (its_head s).state
-        ∙ (ap (state_of s.said.node.kind) (ap (decision_of l) called ∙ its_decision)
-        ∙ given_state s.said.node.kind r
-        (subst (λ (y : Node). is_given y.kind ≡ true) (its_node s w.node ((grown u).within.nodes n w.node w.there))
-        w.given))
+        cc (
+          (its_head s).state,
+          called,
+          its_decision,
+          given_state _ r
+              (subst (λ (y : Node). is_given y.kind ≡ true) (its_node s w.node
+              ((grown u).within.nodes n w.node w.there))
+              w.given),
+        )
 
     pub leaf_there : (P : Rose → Type 0) → ((h : Head) → h.state ≡ state_after r.command → P (leaf h))
         → HasTree g trade (HasAt p P)
     leaf_there P has =
-        is_at s P (subst P (sym whole.is) (has whole.head (sym (ap (λ v. (head_of v).state) whole.is) ∙ decided_state)))
+        is_at s P (rw whole.is (has whole.head (sym (ap (λ v. (head_of v).state) whole.is) ∙ decided_state)))
 
     -- the part is offered again
     offered_gone : (h : Grove) (f : Rose → Rose) → ChangesTree g h trade (edit_at f p s.tree)
@@ -185,13 +191,12 @@ module _ {t : House} {l : List Record} {r : Record} {g : Grove} (u : IsFree t l 
         → ShowsLess (λ l k. HasAt p (λ w. IsOnlyDecision l k (head_of w).name) s.tree) s.tree (edit_at f p s.tree)
         → IsGroveOf (without l r.number) h
     offered_gone h f tree place shows =
-        taken_back u s its_names.0 h (edit_at f p s.tree) tree
-        (subst (λ (o : Option ℕ). IsSomeAnd o (Takes g h))
-        ((its_head s).decision ∙ ap (option_map (λ (d : Record). d.number)) (ap (decision_of l) called ∙ its_decision))
-        (said_at s (λ w. IsSomeAnd (head_of w).decision (Takes g h)) place))
+        taken_back u s its_names.0 h _ tree
+        (rw ((its_head s).decision ∙ ap (option_map (λ (d : Record). d.number))
+        (ap (decision_of l) called ∙ its_decision)) at (said_at s _ place))
         (shows l trade r.number
         (has_at s (λ w. IsOnlyDecision l r.number (head_of w).name)
-        (subst (IsOnlyDecision l r.number) (sym s.called) (only_decision u n is its_names.1)))
+        (rw s.called (only_decision u n is its_names.1)))
         s.shown)
 
     -- ---- a Claim
@@ -208,11 +213,11 @@ module _ {t : House} {l : List Record} {r : Record} {g : Grove} (u : IsFree t l 
         v)
         → IsGroveOf (without l r.number) h
     claim_gone h tree place shows =
-        let w = some_and (λ w. ChangesTree g h trade (edit_at (offer_node (head_of w).place) p s.tree))
-        (node_at (above p) s.tree)
-        (from_tree s (λ v. HasAt (above p) (λ w. ChangesTree g h trade (edit_at (offer_node (head_of w).place) p v)) v)
+        let w = some_and _
+        _
+        (from_tree s _
         tree) in
-        offered_gone h (offer_node (head_of w.0).place) w.2 place
+        offered_gone h _ w.2 place
         (at_fact (λ w.
         ShowsLess (λ l k. HasAt p (λ x. IsOnlyDecision l k (head_of x).name) s.tree) s.tree
         (edit_at (offer_node (head_of w).place) p s.tree))
@@ -234,8 +239,8 @@ module _ {t : House} {l : List Record} {r : Record} {g : Grove} (u : IsFree t l 
         (λ v. ShowsLess (λ l k. HasAt p (λ w. IsOnlyDecision l k (head_of w).name) v) v (edit_at offer_again_node p v))
         → IsGroveOf (without l r.number) h
     turned_gone h tree place shows =
-        offered_gone h offer_again_node (from_tree s (λ v. ChangesTree g h trade (edit_at offer_again_node p v)) tree)
+        offered_gone h _ (from_tree s _ tree)
         place
         (from_tree s
-        (λ v. ShowsLess (λ l k. HasAt p (λ w. IsOnlyDecision l k (head_of w).name) v) v (edit_at offer_again_node p v))
+        _
         shows)

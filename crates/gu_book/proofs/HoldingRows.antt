@@ -1,37 +1,31 @@
 -- Running rows of positions, into and out of which holdings go one by one.
-use Rattle.std.proofs.Common.{refl, ◌≡◌, ℕ, ◌+◌, ◌<◌, ◌≤◌, Bool, true, false, ◌&&◌, List, ◌∷◌, length, take, drop}
-use Rattle.std.proofs.Common.{get_or, sym, ◌∙◌, ap, arith, Option, cond, drop-cons, add-one, None, filter_map, sum_by}
-use Rattle.std.proofs.Common.{Result, Ok, Err, is_err, OnErr}
-use Rattle.gu_depend.proofs.Vocabulary.{bytes_same, same_side, Side}
 use Rattle.gu_base.specs.SameLaws.{same_side-Decides}
 use Rattle.gu_book.proofs.Vocabulary.{cons_option, PositionRows, lots_in, is_key, Key, counted_at, HaveMoved, HaveThere}
 use Rattle.gu_book.proofs.Vocabulary.{Holding}
-use Rattle.std.proofs.lemmas.List.{take-append-drop}
-use Rattle.std.proofs.lemmas.List.Elements.{filter_map-append}
-use Rattle.std.proofs.lemmas.List.Sums.{sum_by-cons, sum_by-append}
+use Rattle.gu_depend.proofs.Vocabulary.{bytes_same, same_side, Side}
+use Rattle.std.proofs.{lemmas.List.Sums.{sum_by-cons, sum_by-append}, lemmas.List.Elements.filter_map-append}
+use Rattle.std.proofs.{lemmas.List.take-append-drop, Common.{Err, is_err, OnErr}}
+use Rattle.std.proofs.Common.{refl, ◌≡◌, ℕ, ◌+◌, ◌<◌, ◌≤◌, Bool, true, false, ◌&&◌, List, ◌∷◌, length, take, drop}
+use Rattle.std.proofs.Common.{get_or, ap, arith, Option, cond, drop-cons, add-one, None, filter_map, sum_by, Result, Ok}
 
 -- ---- what a search or a sum over the records does at one record
 
 -- all give what those before a place give, and those from it on
 pub given_cut : {X Y : Type 0} (f : X → Option Y) (w : Y → ℕ) (i : ℕ) (xs : List X)
     → sum_by w (filter_map f xs) ≡ sum_by w (filter_map f (take i xs)) + sum_by w (filter_map f (drop i xs))
-given_cut f w i xs =
-    ap (λ ys. sum_by w (filter_map f ys)) (sym (take-append-drop i xs))
-    ∙ (ap (sum_by w) (filter_map-append f (take i xs) (drop i xs))
-    ∙ sum_by-append w (filter_map f (take i xs)) (filter_map f (drop i xs)))
+given_cut f w i xs = cc (take-append-drop i xs, filter_map-append f _ _, sum_by-append w _ _)
 
 -- what the elements from place i on give begins with what the one there gives
 pub given_here : {X Y : Type 0} (f : X → Option Y) (xs : List X) (i : ℕ) (x : X) (o : Option Y) → i < length xs
     → x ≡ get_or xs i x → o ≡ f x → filter_map f (drop i xs) ≡ cons_option o (filter_map f (drop (i + 1) xs))
 given_here f xs i x o within here is =
-    let left : drop i xs ≡ x ∷ drop (i + 1) xs = (let e = drop-cons xs i x within in rw (← here, ← add-one i) at e) in
-    ap (filter_map f) left ∙ ap (λ o. cons_option o (filter_map f (drop (i + 1) xs))) (sym is)
+    let left = (let e = drop-cons xs i x within in rw (← here, ← add-one i) at e) in
+    cc
 
 -- ---- holdings that go one by one
 
 pub is_own_key : (k : Key) (s : Side) → (is_key k k && same_side s s) ≡ true
-is_own_key k s =
-    rw (bytes_same k.firm, bytes_same k.account, bytes_same k.instrument, (same_side-Decides s s).1 refl) refl
+is_own_key k s = rw (bytes_same _, bytes_same _, bytes_same _, (same_side-Decides s s).1 refl) refl
 
 pub at_most : (b : Bool) (n : ℕ) → cond b n 0 ≤ n
 at_most true n = omega arith
@@ -41,14 +35,12 @@ at_most false n = omega arith
 pub first_there : (rows : PositionRows) (h : Holding) (hs : List Holding) → HaveThere rows (h ∷ hs)
     → h.lots ≤ lots_in rows h.key h.side
 first_there rows h hs there =
-    let a = there h.key h.side in
     let b = sum_by-cons (counted_at h.key h.side) h hs in
-    let c = ap (λ b. cond b h.lots 0) (is_own_key h.key h.side) in
-    omega (arith, a, b, c)
+    omega (arith, there h.key h.side, ap (λ b. cond b h.lots 0) (is_own_key h.key h.side))
 
 -- what was put is there
 pub put_there : (old new : PositionRows) (hs : List Holding) → HaveMoved old new None hs → HaveThere new hs
-put_there old new hs put = λ at side. let a = put at side in omega (arith, a)
+put_there old new hs put = λ at side. omega (arith, put at side)
 
 -- what holds where there is none
 pub put_err : {X E P : Type 0} {b : Bool} (r : Result X E) → is_err r ≡ b → b ≡ true → OnErr r P → P

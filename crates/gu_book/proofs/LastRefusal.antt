@@ -1,22 +1,39 @@
 -- The last refusal of a command that names an entry, by what a book keeps beside its history.
-use Rattle.std.proofs.Common.{◌≡◌, ℕ, Bool, true, not, List, [], ◌∷◌, refl, sym, ◌∙◌, ap, Option, Some, None}
-use Rattle.std.proofs.Common.{option_map}
+use Rattle.std.proofs.Common.{◌≡◌, ℕ, Bool, true, false, not, List, [], ◌∷◌, refl, sym, ◌∙◌, ap, subst, Option, Some}
+use Rattle.std.proofs.Common.{None, option_map}
 use Rattle.gu_depend.proofs.Vocabulary.{House, live, first, unless, parties_of, consents_of, is_among, is_empty}
 use Rattle.gu_depend.proofs.Vocabulary.{missing, consents_left, reversal_of, Command, Initiate, Decline, Reverse, Entry}
 use Rattle.gu_depend.proofs.Vocabulary.{Record, Refusal, NotAChange, AlreadyReversed, NotAParty, NeedsConsent, StandsOn}
 use Rattle.gu_depend.proofs.Vocabulary.{AlreadyConsented, NothingPending, UnknownFirm, command_refusal, entry_of}
-use Rattle.gu_depend.proofs.Vocabulary.{knows_firm, on_change}
+use Rattle.gu_depend.proofs.Vocabulary.{knows_firm, on_change, is_change}
 use Rattle.gu_base.proofs.Consenting.{not_reversed, left_open}
-use Rattle.gu_book.specs.Front.{IsStandingOn, own_refusal}
+use Rattle.gu_book.specs.{Front.{IsStandingOn, own_refusal}, Live.{IsLiveAt}}
 use Rattle.gu_book.proofs.Vocabulary.{rest_of}
 
--- where no other refuses, the last one is that of the row
-pub last_of_row : (is : Bool) (reversal : Option Record) (party : Bool) (last : Option Refusal) → is ≡ true
-    → reversal ≡ None → party ≡ true
-    → last ≡ first
-    (unless is NotAChange ∷ option_map (λ v. AlreadyReversed v.number) reversal ∷ unless party NotAParty ∷ last ∷ [])
-last_of_row is reversal party None a b c = rw (a, b, c) refl
-last_of_row is reversal party (Some x) a b c = rw (a, b, c) refl
+-- where the first two don't refuse, the others do
+after_two : (is : Bool) (reversal : Option Record) (others : List (Option Refusal)) → is ≡ true → reversal ≡ None
+    → first (unless is NotAChange ∷ option_map (λ v. AlreadyReversed v.number) reversal ∷ others) ≡ first others
+after_two is reversal others change unreversed = rw (change, unreversed) refl
+
+-- of a live change only the last two refusals of the row are asked
+pub live_row : (t : House) (h : List Entry) (n : ℕ) (r : Record) → IsLiveAt h n r → (by : List ℕ)
+    → (rest : Record → Option Refusal) → on_change t h by rest (entry_of h n)
+    ≡ first (unless (is_among by (parties_of t (live h) r.firm r.command)) NotAParty ∷ rest r ∷ [])
+live_row t h n r is by rest =
+    ap (on_change t h by rest) is.there
+    ∙ after_two (is_change r.command) (reversal_of h r.number)
+    (unless (is_among by (parties_of t (live h) r.firm r.command)) NotAParty ∷ rest r ∷ []) is.change
+    (subst (λ (k : ℕ). reversal_of h k ≡ None) (sym is.number) is.unreversed)
+
+-- the first of these, and the last
+pub no_party : (party : Bool) (last : Option Refusal) → party ≡ false
+    → Some NotAParty ≡ first (unless party NotAParty ∷ last ∷ [])
+no_party party last other = rw other refl
+
+pub last_of_row : (party : Bool) (last : Option Refusal) → party ≡ true
+    → last ≡ first (unless party NotAParty ∷ last ∷ [])
+last_of_row party None among = rw among refl
+last_of_row party (Some x) among = rw among refl
 
 module _ (t : House) (h : List Entry) (given : ℕ → List (List ℕ)) (left : (n : ℕ) → given n ≡ consents_left h n) where
   given_open : (n : ℕ) → reversal_of h n ≡ None → given n ≡ consents_of h n

@@ -32,6 +32,7 @@ pub mod FiledLess
 pub mod Gone
 pub mod Crossing
 mod PartsAway
+mod Cited
 mod LiveStates
 mod Books
 mod TradesKept

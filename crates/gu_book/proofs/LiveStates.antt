@@ -1,26 +1,22 @@
 -- What is kept of the live changes follows them: behind a growth, with one change more, and with one less.
-use Rattle.std.proofs.Common.{◌≡◌, ℕ, ◌+◌, ◌<◌, ◌≤◌, true, false, List, [], ◌∷◌, ◌++◌, subst, sym, refl, arith}
-use Rattle.std.proofs.Common.{Option, None, Some, IfSome, IsSome, option_and_then, ap, ◌∙◌}
+use Rattle.gu_book.proofs.{Vocabulary.{goes_back, held_above, lots_in, taken_before, taken_by}, HoldingRows.first_there}
+use Rattle.gu_book.proofs.{TradesKept.{MayFollow, idle_stands, idle_terms, TakesWhole}, AllShown.undone_of_terms}
+use Rattle.gu_book.proofs.{TermsKept.{positions_left, terms_undealt, undealt_filed}, Refused.accepted_small}
+use Rattle.gu_book.proofs.{PartsAway.holds_some, Charging.fees_stay, Dealing.deed_small, Orders.earlier}
+use Rattle.gu_book.proofs.TermsKept.{can_put, dealt_apart, dealt_put, terms_filed, apart_undealt, fees_left}
+use Rattle.gu_book.proofs.Undoing.{GoesBack, added_there, moves_back, positions_without, room_back, taken_same}
+use Rattle.gu_book.proofs.Vocabulary.{AreFeesOf, ArePositionsOf, AreTermsOf, CanPut, IsGroveOf, IsNext, IsOfTerms}
+use Rattle.gu_book.proofs.Vocabulary.{IsPut, AreTreesOf, Holding, IsNamedBy, IsTakenOut, TermsView, holding_of}
+use Rattle.gu_book.proofs.Vocabulary.{is_of_trees, last_entry, last_place, named_node, pair_of, place_in, record_of}
+use Rattle.gu_book.proofs.Vocabulary.{HasRoomBack, HaveMoved, HaveThere, PositionRows, SameLots, added_by, comes_from}
+use Rattle.gu_book.specs.{LiveState.{Becomes, CanAdd, CanFollow, CanGo, IsStateOf}, declared.found.Named.Named}
+use Rattle.gu_book.specs.{declared.live_state.LiveState.LiveState, declared.live_state.Addition.Addition}
+use Rattle.gu_book.specs.{Found.LiesThere, Kinds.is_claim}
 use Rattle.gu_depend.proofs.Vocabulary.{House, Record, Command, Trade, Claim, Deed, EntryPart, charge_of, deed_of}
 use Rattle.gu_depend.proofs.Vocabulary.{node_of, without}
-use Rattle.gu_book.proofs.Vocabulary.{AreFeesOf, ArePositionsOf, AreTermsOf, CanPut, IsGroveOf, IsNext, IsOfTerms}
-use Rattle.gu_book.proofs.Vocabulary.{IsPut, IsSmallDeed, AreTreesOf, Holding, IsNamedBy, IsTakenOut, TermsView}
-use Rattle.gu_book.proofs.Vocabulary.{holding_of, is_of_trees, last_entry, last_place, named_node, pair_of, place_in}
-use Rattle.gu_book.proofs.Vocabulary.{record_of}
 use Rattle.gu_fees.specs.Terms.{IsReady}
-use Rattle.gu_book.specs.{LiveState.{Becomes, CanAdd, CanFollow, CanGo, IsStateOf}, Found.LiesThere}
-use Rattle.gu_book.specs.{declared.found.Named.Named}
-use Rattle.gu_book.specs.declared.live_state.{Addition.Addition, LiveState.LiveState}
-use Rattle.gu_book.proofs.{Charging.fees_stay, Dealing.deed_small, Refused.accepted_small}
-use Rattle.gu_book.proofs.{TermsKept.{can_put, dealt_apart, dealt_put, terms_filed}}
-use Rattle.gu_book.proofs.{TradesKept.{MayFollow, idle_stands, idle_terms}}
-use Rattle.gu_book.proofs.Vocabulary.{HasRoomBack, HaveMoved, HaveThere, PositionRows, SameLots, added_by, comes_from}
-use Rattle.gu_book.proofs.Vocabulary.{goes_back, held_above, lots_in, taken_before, taken_by}
-use Rattle.gu_book.proofs.HoldingRows.{first_there}
-use Rattle.gu_book.proofs.Undoing.{GoesBack, added_there, moves_back, positions_without, room_back, taken_same}
-use Rattle.gu_book.specs.Kinds.{is_claim}
-use Rattle.gu_book.proofs.{AllShown.undone_of_terms, Orders.earlier, PartsAway.holds_some, TradesKept.TakesWhole}
-use Rattle.gu_book.proofs.TermsKept.{apart_undealt, fees_left, positions_left, terms_undealt, undealt_filed}
+use Rattle.std.proofs.Common.{◌≡◌, ℕ, ◌+◌, ◌<◌, ◌≤◌, true, false, List, [], ◌∷◌, ◌++◌, sym, refl, arith, Option, None}
+use Rattle.std.proofs.Common.{Some, IsSome, option_and_then}
 
 module _ {t : House} {l : List Record} {r : Record} {s : LiveState} (can : CanFollow t l r s) where
   pub next_of : IsNext t l r s.trees
@@ -37,7 +33,7 @@ module _ {t : House} {l : List Record} {r : Record} {s : LiveState} (can : CanFo
 
   -- no entry of a giver and a taker has so high a number
   pub above : (dealt : TermsView) → last_entry dealt ≡ last_entry s.terms → last_entry dealt < r.number
-  above dealt last = let before = can.state.dealt_before in omega (arith, last, before)
+  above dealt last = omega (arith, can.state.dealt_before)
 
   -- one change more
   pub state_more : (new : LiveState) → IsGroveOf (l ++ r ∷ []) new.trees → last_place new.trees ≤ r.number
@@ -49,8 +45,8 @@ module _ {t : House} {l : List Record} {r : Record} {s : LiveState} (can : CanFo
     charged = charged;
     stands = stands;
     dealt = dealt;
-    placed = omega (arith, placed);
-    dealt_before = omega (arith, last);
+    placed = omega arith;
+    dealt_before = omega arith;
   }
 
   -- that costs nothing and deals for nobody
@@ -60,7 +56,7 @@ module _ {t : House} {l : List Record} {r : Record} {s : LiveState} (can : CanFo
   state_apart new paid deals filed placed costs stands none =
       state_more new filed placed (rw paid (fees_stay next_of s.fees can.state.charged costs)) stands
       (rw deals (dealt_apart next_of s.terms can.state.dealt none))
-      (let before = can.state.dealt_before in rw deals (omega (arith, before)))
+      (let before = can.state.dealt_before in rw deals (omega arith))
 
   -- an Agree or a Raise, by what it does to the terms of its giver and taker
   module _ (of : IsOfTerms r.command) (giver taker : List ℕ) (d : Deed)
@@ -68,19 +64,18 @@ module _ {t : House} {l : List Record} {r : Record} {s : LiveState} (can : CanFo
       (last : last_entry ready ≡ last_entry s.terms) where
     pub may_deal : IsReady ready giver taker → CanPut ready giver taker (record { number = r.number; deed = d })
     may_deal room =
-        let within = accepted_small t l r.firm r.command can.lawful in
-        let small =
-        subst (λ o. IfSome o IsSmallDeed) deals (deed_small l giver taker r.firm r.command can.list.within within) in
-        can_put can.list.few can.list.within are giver taker d small r.number (above ready last) room
+        let within = accepted_small t l _ _ can.lawful in
+        let small = rw deals at (deed_small l giver taker r.firm r.command can.list.within within) in
+        can_put can.list.few can.list.within are _ _ d small _ (above ready last) room
 
     pub state_dealt : (dealt : TermsView) → IsPut ready dealt giver taker (record { number = r.number; deed = d })
         → IsStateOf t (l ++ r ∷ []) (r.number + 1) (record s { terms = dealt })
     state_dealt dealt put =
-        let idle = idle_terms t l r.firm r.command of in
+        let idle = idle_terms t l _ _ of in
         let placed = can.state.placed in
-        state_more (record s { terms = dealt }) (terms_filed next_of of) (omega (arith, placed))
-        (fees_stay next_of s.fees can.state.charged idle.costs) (idle_stands may_of idle)
-        (dealt_put next_of ready dealt giver taker d are deals put) (let put_last = put.last in omega (arith, put_last))
+        state_more _ (terms_filed next_of of) (omega arith)
+        (fees_stay next_of _ can.state.charged idle.costs) (idle_stands may_of idle)
+        (dealt_put next_of _ _ _ _ d are deals put) (omega (arith, put.last))
 
 -- ---- the node of a change that is to be added
 
@@ -95,8 +90,8 @@ module _ {add : Addition} {s : LiveState} (can : CanAdd add s) (m : Named) (is :
   -- lots stand there
   pub whole_there : IsSome (holding_of add.changes m.node)
   whole_there =
-      holds_some can.follows.state.filed (earlier 1 add.changes (record_of add.made.now) can.follows.rises).0 named_by.2
-      (lies s.trees can.follows.state.filed)
+      holds_some can.follows.state.filed (earlier 1 _ _ can.follows.rises).0 named_by.2
+      (lies _ can.follows.state.filed)
 
   pub takes_whole : (whole : Holding) → Some whole ≡ holding_of add.changes m.node
       → TakesWhole add.house.now add.changes (record_of add.made.now) s.trees s.positions n m.node whole
@@ -118,14 +113,14 @@ module _ {t : House} {l : List Record} {r : Record} {s : LiveState} (can : CanGo
       → Becomes t l (without l r.number) s (record s { terms = dealt })
   terms_gone none dealt taken next is =
       let of = undone_of_terms can.free can.change none in
-      let idle = idle_terms t (without l r.number) r.firm r.command of in
+      let idle = idle_terms t _ _ _ of in
       record {
         filed = undealt_filed can.free of;
-        charged = fees_left can.free idle.costs s.fees is.charged;
-        stands = positions_left can.free idle s.positions is.stands;
-        dealt = terms_undealt can.free s.terms dealt is.dealt of taken;
+        charged = fees_left can.free idle.costs _ is.charged;
+        stands = positions_left can.free idle _ is.stands;
+        dealt = terms_undealt can.free _ _ is.dealt of taken;
         placed = is.placed;
-        dealt_before = let before = is.dealt_before in let last = taken.last in omega (arith, before, last);
+        dealt_before = omega (arith, is.dealt_before, taken.last);
       }
 
   -- a change of trees that is no Claim costs nothing and deals for nobody
@@ -139,10 +134,10 @@ module _ {t : House} {l : List Record} {r : Record} {s : LiveState} (can : CanGo
       let before = is.dealt_before in
       record {
         filed = filed;
-        charged = rw paid (fees_left can.free (uncharged t (without l r.number) r.command other) s.fees is.charged);
+        charged = rw paid (fees_left can.free (uncharged t (without l r.number) _ other) _ is.charged);
         stands = stands is.stands;
-        dealt = rw deals (apart_undealt can.free s.terms is.dealt of_trees other);
-        placed = omega (arith, placed, last);
+        dealt = rw deals (apart_undealt can.free _ is.dealt of_trees other);
+        placed = omega arith;
         dealt_before = rw deals before;
       }
 
@@ -150,55 +145,49 @@ module _ {t : House} {l : List Record} {r : Record} {s : LiveState} (can : CanGo
   module _ (back : Option Holding) (goes : back ≡ goes_back r.firm r.command (taken_before l r.command))
       (ready : PositionRows) (same : SameLots s.positions ready) where
     moves : GoesBack r.firm r.command (taken_before l r.command)
-    moves = moves_back can.free (taken_before l r.command) (taken_same can.free)
+    moves = moves_back can.free _ (taken_same can.free)
 
     -- it is there
     pub back_there : HaveThere ready (comes_from r.firm r.command back)
-    back_there =
-        subst (λ (o : Option Holding). HaveThere ready (comes_from r.firm r.command o)) (sym goes)
-        (moves.there ready
-        (added_there can.free s.positions ready can.state.stands same (taken_before l r.command) (taken_same can.free)))
+    back_there = rw goes (moves.there _ (added_there can.free _ _ can.state.stands same _ (taken_same can.free)))
 
     -- has room where it goes
     pub back_room : HasRoomBack ready back (comes_from r.firm r.command back)
     back_room =
-        subst (λ (o : Option Holding). HasRoomBack ready o (comes_from r.firm r.command o)) (sym goes)
-        (moves.room ready
-        (room_back can.free can.list.few can.list.within s.positions ready can.state.stands same
-        (taken_before l r.command) (taken_same can.free)))
+        rw goes (moves.room ready (room_back can.free can.list.few can.list.within _ _ can.state.stands same _
+        (taken_same can.free)))
 
     -- and when it is back, the positions are those without it
     pub back_stands : (new : PositionRows) → HaveMoved new ready back (comes_from r.firm r.command back)
         → ArePositionsOf l s.positions → ArePositionsOf (without l r.number) new
     back_stands new moved are =
-        let whole = subst (λ (o : Option Holding). HaveMoved new ready o (comes_from r.firm r.command o)) goes moved in
-        positions_without can.free s.positions ready new are same (taken_before l r.command) (taken_same can.free)
-        (moves.moved ready new whole)
+        let whole = rw goes at moved in
+        positions_without can.free _ _ new are same _ (taken_same can.free)
+        (moves.moved _ new whole)
 
   -- of a Claim, what stands where the node above does
   pub claim_goes_back : (n : EntryPart) (account : List ℕ) → r.command ≡ Claim n account → {back : Option Holding}
       → back ≡ option_and_then (held_above l) (node_of l n)
       → back ≡ goes_back r.firm r.command (taken_before l r.command)
-  claim_goes_back n account claims is = is ∙ sym (ap (λ c. goes_back r.firm c (taken_before l c)) claims)
+  claim_goes_back n account claims is = cc
 
   -- a Trade's lots are in its account, and go from there
   module _ (traded : Holding)
       (trades : r.command ≡ Trade traded.key.firm traded.key.account traded.key.instrument traded.side traded.lots)
     where
       adds : added_by r.firm r.command None ≡ traded ∷ []
-      adds = ap (λ c. added_by r.firm c None) trades
+      adds = rw trades
 
       takes : None ≡ taken_by (without l r.number) r.command
-      takes = sym (ap (taken_by (without l r.number)) trades)
+      takes = sym (cc trades)
 
       pub trade_there : traded.lots ≤ lots_in s.positions traded.key traded.side
       trade_there =
-          first_there s.positions traded []
-          (subst (HaveThere s.positions) adds
-          (added_there can.free s.positions s.positions can.state.stands (λ at side. refl) None takes))
+          first_there _ _ []
+          (rw adds at (added_there can.free _ _ can.state.stands (λ at side. refl) _ takes))
 
       pub trade_gone : (new : PositionRows) → HaveMoved new s.positions None (traded ∷ [])
           → ArePositionsOf l s.positions → ArePositionsOf (without l r.number) new
       trade_gone new taken are =
-          positions_without can.free s.positions s.positions new are (λ at side. refl) None takes
-          (subst (λ (hs : List Holding). HaveMoved new s.positions None hs) (sym adds) taken)
+          positions_without can.free _ _ new are (λ at side. refl) None takes
+          (rw adds taken)

@@ -1,22 +1,22 @@
 -- What is found of a history without going over it is what a search of it finds, also with one more entry.
-use Rattle.std.proofs.Common.{◌≡◌, ℕ, suc, ◌+◌, ◌-◌, ◌<◌, ◌≤◌, Bool, true, false, ◌&&◌, List, [], ◌∷◌, ◌++◌, length}
-use Rattle.std.proofs.Common.{get_or, refl, sym, ◌∙◌, ap, subst, arith, cond, Some, None, find, bytes_eq, option_map}
-use Rattle.std.proofs.Common.{option_and_then, ◌==◌, count_by}
-use Rattle.gu_book.proofs.Vocabulary.{AllByRecursion, same_id, NoIdTwice, Ids, reversal_in, Reversals}
-use Rattle.std.proofs.{lemmas.Bool.{and_parts, eqb-true}, lemmas.List.Folds.find-append}
-use Rattle.std.proofs.{lemmas.Map.Keys.{IsDistinct-head, IsDistinct-tail}, lemmas.Slice.Eq.bytes_eq-Decides}
-use Rattle.gu_depend.proofs.Vocabulary.{House, same_command, numbered_as, numbered_from, records, is_reverse_of, Call}
-use Rattle.gu_depend.proofs.Vocabulary.{answer_to, answer_by, is_same_id, is_same_call, entry_of, reversal_of, call_of}
-use Rattle.gu_depend.proofs.Vocabulary.{Reverse, Answer, Accepted, Repeated, Entry, Record, DuplicateId}
-use Rattle.gu_depend.proofs.{Vocabulary.most_entries, Finds.{by_test, count_cons}}
+use Rattle.gu_base.proofs.{Basics.{bytes_symm, mapped_none, or_none}, Numbered.{found_at, known_entry}}
+use Rattle.gu_base.proofs.{LiveLaws.numbered_push, Searches.found_in, Accepted.allowed}
 use Rattle.gu_base.specs.declared.entry.Answer.TheVariants.{Refused}
-use Rattle.gu_base.proofs.{Accepted.allowed, Basics.{bytes_symm, mapped_none, or_none}, LiveLaws.numbered_push}
-use Rattle.gu_base.proofs.{Numbered.{found_at, known_entry}, Searches.found_in}
-use Rattle.gu_book.proofs.{AllShown.undone, ByNumber.{its_own, records_once, numbered_some}}
-use Rattle.gu_book.proofs.Once.{both_found, none_of_both, once_at}
-use Rattle.gu_ids.specs.{Chains.{count, AreIdsOf as AreChainsOf}}
-use Rattle.gu_ids.proofs.{NewestLaws.newest_push, Walk.count_is}
+use Rattle.gu_book.proofs.{ByNumber.{its_own, records_once, numbered_some}, Once.{both_found, none_of_both, once_at}}
+use Rattle.gu_book.proofs.AllShown.{undone}
+use Rattle.gu_book.proofs.Vocabulary.{AllByRecursion, same_id, NoIdTwice, Ids, reversal_in, Reversals}
 use Rattle.gu_book.specs.Lookups.{number_of, AreIdsOf, AreReversalsOf}
+use Rattle.gu_depend.proofs.Finds.{by_test, count_cons}
+use Rattle.gu_depend.proofs.Vocabulary.{House, same_command, numbered_as, numbered_from, records, is_reverse_of, Call}
+use Rattle.gu_depend.proofs.Vocabulary.{answer_to, answer_by, is_same_id, is_same_call, entry_of, call_of, Reverse}
+use Rattle.gu_depend.proofs.Vocabulary.{Answer, Accepted, Repeated, Entry, Record, DuplicateId, most_entries}
+use Rattle.gu_ids.proofs.{NewestLaws.newest_push, Walk.count_is}
+use Rattle.gu_ids.specs.Chains.{count, AreIdsOf as AreChainsOf}
+use Rattle.std.proofs.{lemmas.Map.Keys.{IsDistinct-head, IsDistinct-tail}, Common.{option_and_then, ◌==◌, count_by}}
+use Rattle.std.proofs.{lemmas.Bool.{and_parts, eqb-true}, lemmas.Slice.Eq.bytes_eq-Decides}
+use Rattle.std.proofs.Common.{◌≡◌, ℕ, suc, ◌+◌, ◌-◌, ◌<◌, ◌≤◌, Bool, true, false, ◌&&◌, List, [], ◌∷◌, ◌++◌, length}
+use Rattle.std.proofs.Common.{get_or, refl, sym, ◌∙◌, ap, arith, cond, Some, None, find, bytes_eq, option_map}
+use Rattle.std.proofs.lemmas.List.Folds.{find-append}
 
 -- ---- a search of a history with one more entry
 
@@ -27,7 +27,7 @@ number_push : (p : Record → Bool) (h : List Entry) (e : Entry) (n : ℕ) → n
     ≡ cond (p (numbered_as (1 + length h) e)) (Some n) (option_map (λ (r : Record). r.number) (find p (records h)))
 number_push p h e n number none =
     let new = numbered_as (1 + length h) e in
-    let last : 1 + length h ≡ n = omega (arith, number) in
+    let last : 1 + length h ≡ n = omega arith in
     let found = ap (find p) (numbered_push 1 h e) ∙ find-append p (records h) (new ∷ []) in
     by_test (p new) (λ is. cc (found, is, none is, last)) (λ other. cc (found, other, or_none (find p (records h))))
 
@@ -37,53 +37,52 @@ module _ {h : List Entry} {ids : Ids} (are : AreIdsOf ids h) (t : House) (e : En
     (ok : answer_to t h (call_of e) ≡ Accepted n e.status) where
   -- there is a number for an accepted entry
   pub ids_fewer : count ids < most_entries
-  ids_fewer = let many = count_is ids h are.chained in let room = (allowed t h e n ok).room in omega (arith, many, room)
+  ids_fewer = omega (arith, count_is ids h are.chained, (allowed t h e n ok).room)
 
   -- its id, added
   pub ids_added : (added : Ids) → AreChainsOf added (h ++ e ∷ []) → AreIdsOf added (h ++ e ∷ [])
   ids_added added is_added =
       let a = allowed t h e n ok in
-      let last : suc (length h) ≡ n = omega (arith, a.number) in
+      let last : suc (length h) ≡ n = omega arith in
       record {
         chained = is_added;
         numbers = λ c.
-            let push = number_push (is_same_id c) h e n a.number (λ same.
-            let p = and_parts (bytes_eq e.firm c.firm) (bytes_eq e.id c.id) same in
-            let firm : c.firm ≡ e.firm = sym ((bytes_eq-Decides e.firm c.firm).0 p.0) in
-            let id : c.id ≡ e.id = sym ((bytes_eq-Decides e.id c.id).0 p.1) in
-            (λ i. find (λ (r : Record). bytes_eq r.firm (firm i) && bytes_eq r.id (id i)) (records h)) ∙ a.id) in
-            cc (newest_push h e c.firm c.id, last, are.numbers c, push);
+            cc (
+              number_push _ h e n a.number (λ same. let p = and_parts _ _ same in let firm : c.firm
+                  ≡ e.firm = sym ((bytes_eq-Decides e.firm c.firm).0 p.0) in let id : c.id
+                  ≡ e.id = sym ((bytes_eq-Decides e.id c.id).0 p.1) in
+                  (λ i. find (λ (r : Record). bytes_eq r.firm (firm i) && bytes_eq r.id (id i)) (records h)) ∙ a.id),
+              newest_push h e c.firm c.id,
+              last,
+              are.numbers c,
+            );
       }
 
 -- ---- the call that an id names
 
 module _ (h : List Entry) (c : Call) (n : ℕ) (there : number_of h c ≡ Some n) where
   its_record : (r : Record) × ((find (is_same_id c) (records h) ≡ Some r) × (r.number ≡ n))
-  its_record = numbered_some (find (is_same_id c) (records h)) n there
+  its_record = numbered_some _ n there
 
   -- the record is found by its number
   its_entry : entry_of h n ≡ Some its_record.0
   its_entry =
       let r = its_record.0 in
-      subst (λ k. entry_of h k ≡ Some r) its_record.1.1
-      (its_own (records h) r (records_once h) (found_in (is_same_id c) (records h) r its_record.1.0))
+      rw its_record.1.1 at (its_own _ r (records_once h) (found_in (is_same_id c) (records h) r its_record.1.0))
 
   -- the entry of the number stands in the history
   pub stands_within : n - 1 < length h
   stands_within =
-      let at = found_at n 1 h its_record.0 its_entry in
-      let from = at.from in
-      let within = at.within in
-      omega (arith, from, within)
+      let at = found_at n 1 h _ its_entry in omega (arith, at.from, at.within)
 
   -- and has the id
   pub stands_found : (e : Entry) → e ≡ get_or h (n - 1) e → find (is_same_id c) (records h) ≡ Some (numbered_as n e)
   stands_found e is =
-      its_record.1.0 ∙ (sym its_entry ∙ known_entry h n e (found_at n 1 h its_record.0 its_entry).from stands_within is)
+      cc (its_record.1.0, its_entry, known_entry h n e (found_at n 1 h _ its_entry).from stands_within is)
 
 -- no record has the id: none is of the call itself
 pub no_call : (c : Call) (rs : List Record) → find (is_same_id c) rs ≡ None → find (is_same_call c) rs ≡ None
-no_call c = none_of_both (is_same_id c) (λ (r : Record). same_command r.command c.command)
+no_call c = none_of_both _ _
 
 -- no later entry has the id
 no_later : (c : Call) (m : ℕ) (d : Entry) (h : List Entry) → AllByRecursion (λ y. same_id d y ≡ false) h
@@ -92,8 +91,7 @@ no_later c m d [] apart firm id = refl
 no_later c m d (e ∷ h) apart firm id =
     let other : (bytes_eq e.firm c.firm && bytes_eq e.id c.id) ≡ false =
     cc (firm, id, bytes_symm e.firm d.firm, bytes_symm e.id d.id, apart.0) in
-    ap (λ b. cond b (Some (numbered_as m e)) (find (is_same_id c) (numbered_from (m + 1) h))) other
-    ∙ no_later c (m + 1) d h apart.1 firm id
+    cc (no_later c (m + 1) d h apart.1 firm id)
 
 ids_once : (c : Call) (m : ℕ) (h : List Entry) → NoIdTwice h → count_by (is_same_id c) (numbered_from m h) ≤ 1
 ids_once c m [] once = omega arith
@@ -104,13 +102,13 @@ ids_once c m (d ∷ h) once =
     (λ test. let p = and_parts (bytes_eq d.firm c.firm) (bytes_eq d.id c.id) test in
     no_later c (m + 1) d h (IsDistinct-head same_id d h once) ((bytes_eq-Decides d.firm c.firm).0 p.0)
     ((bytes_eq-Decides d.id c.id).0 p.1)) in
-    omega (arith, a, b)
+    omega arith
 
 -- the answer to a call whose id no entry has
 pub new_answer : (h : List Entry) (c : Call) → number_of h c ≡ None → (other : Answer)
     → other ≡ answer_by (find (is_same_call c) (records h)) (find (is_same_id c) (records h)) other
 new_answer h c none other =
-    let n = mapped_none (λ (r : Record). r.number) (find (is_same_id c) (records h)) none in
+    let n = mapped_none _ _ none in
     cc (n, no_call c (records h) n)
 
 -- the answer to a call whose id this entry has
@@ -121,7 +119,7 @@ pub known_answer : (h : List Entry) (c : Call) (n : ℕ) (e : Entry) → NoIdTwi
 known_answer h c n e once found other =
     -- the one entry of the id is of the call itself, or none is
     let the_call =
-    both_found (is_same_id c) (λ (r : Record). same_command r.command c.command) (records h) (ids_once c 1 h once)
+    both_found _ (λ (r : Record). same_command r.command c.command) (records h) (ids_once c 1 h once)
     ∙ ap (option_and_then (λ (r : Record). cond (same_command r.command c.command) (Some r) None)) found in
     by_test (same_command e.command c.command) (λ is. cc (is, the_call, found)) (λ apart. cc (apart, the_call, found))
 
@@ -132,9 +130,11 @@ module _ {h : List Entry} {rs : Reversals} (are : AreReversalsOf rs h) where
   pub reversals_same : (e : Entry) → ((m : ℕ) → is_reverse_of m e.command ≡ false) → AreReversalsOf rs (h ++ e ∷ [])
   reversals_same e none = record {
     numbers = λ m.
-        let push = number_push (λ (r : Record). is_reverse_of m r.command) h e (length h + 1) refl
-        (λ is. absurd (let f = none m in cc)) in
-        cc (are.numbers m, push, none m);
+        cc (
+          number_push (λ r. is_reverse_of m r.command) h e (length h + 1) refl (λ is. absurd (let f = none m in cc)),
+          are.numbers m,
+          none m,
+        );
   }
 
   -- an accepted Reverse, put in
@@ -144,12 +144,16 @@ module _ {h : List Entry} {rs : Reversals} (are : AreReversalsOf rs h) where
   reversals_put t e n k ok reverse new is_put =
       let none = (undone t h e n k ok reverse).1.unreversed in
       record {
-        numbers = λ m. let tested : is_reverse_of m e.command ≡ (k == m) = ap (is_reverse_of m) reverse in
-            let push = number_push (λ (r : Record). is_reverse_of m r.command) h e n (allowed t h e n ok).number
-            (λ is. subst (λ j. reversal_of h j ≡ None) (eqb-true k m (sym tested ∙ is)) none) in
-            cc (is_put m, are.numbers m, push, tested);
+        numbers = λ m. let tested : is_reverse_of m e.command ≡ (k == m) = cc in
+            cc (
+              number_push (λ (r : Record). is_reverse_of m r.command) h e n (allowed t h e n ok).number
+                  (λ is. rw (eqb-true k m (sym tested ∙ is)) at none),
+              is_put m,
+              are.numbers m,
+              tested,
+            );
       }
 
 -- there is a number for one entry more
 pub ids_few : {h : List Entry} {ids : Ids} → AreIdsOf ids h → length h ≤ most_entries → count ids ≤ most_entries
-ids_few {h} {ids} are few = let many = count_is ids h are.chained in omega (arith, many, few)
+ids_few {h} {ids} are few = omega (arith, count_is ids h are.chained)

@@ -1,21 +1,21 @@
 -- In whatever trees a list of changes has, a node lies at one place.
-use Rattle.gu_depend.proofs.Vocabulary.{◌≡◌, ℕ, zero, suc, ◌<◌, Option, IsSomeAnd, List, [], ◌∷◌, ◌++◌, refl, sym, ◌∙◌}
-use Rattle.gu_depend.proofs.Vocabulary.{ap, subst, arith, length, same_Some, EntryPart, node_of, nodes_of, same_name}
-use Rattle.gu_depend.proofs.Vocabulary.{deal_in, splits, split_of, parent, House, Command, Trade, Split, Record, Place}
-use Rattle.gu_depend.proofs.Vocabulary.{Node, place_of, depth_of, root_of, Deal, made, name_is, node_called, cond_both}
-use Rattle.gu_depend.proofs.Vocabulary.{refusal_parts, no_some, none_is_some}
-use Rattle.std.proofs.Common.{◌==◌, find, option_and_then, Some, None, option_map}
-use Rattle.gu_depend.proofs.{Finds.{by_test, found_once}, Names.{maker, made_by_split}, Settled.named_once}
+use Rattle.gu_base.proofs.NodeNames.{part_parent}
+use Rattle.gu_book.proofs.{FiledChanges.{its_head, from_tree, order}, Vocabulary.{held_at, held_above, Found}}
+use Rattle.gu_book.proofs.Filed.{same_filed, Spot, tree_shown, spot, root_name, parted_by}
+use Rattle.gu_book.proofs.Orders.{InOrder, names_there, in_order}
 use Rattle.gu_book.proofs.Vocabulary.{Rose, Roses, leaf, parted, no_parts, part_then, head_of, split_of_node, node_at}
 use Rattle.gu_book.proofs.Vocabulary.{Grove, tree_of, IsPlace, IsSameGrove, HasTree, IsNodeOf, ArePartsOf, IsTreeOf}
-use Rattle.gu_book.proofs.Vocabulary.{named_node, IsHeadOf, IsGroveOf, IsNext, AreTreesOf, IsFoundAs, IsFoundIn, Head}
-use Rattle.gu_book.proofs.Vocabulary.{held_at, held_above, Found}
-use Rattle.gu_tree.specs.{Paths.{part_at, LeadsTo}, ShownAll.IsTreeIn}
-use Rattle.gu_tree.proofs.{Along.own_head, Parts.{some_and, at_there, node_at_further}, ToldAt.told_at}
+use Rattle.gu_book.proofs.Vocabulary.{named_node, IsHeadOf, IsGroveOf, IsNext, AreTreesOf, IsFoundAs, IsFoundIn}
 use Rattle.gu_book.specs.{Found.{IsNamedIn, LiesThere, IsFoundThere}, declared.found.Named.Named}
-use Rattle.gu_base.proofs.NodeNames.{part_parent}
-use Rattle.gu_book.proofs.Filed.{same_filed, Spot, tree_shown, spot, root_name, parted_by}
-use Rattle.gu_book.proofs.{Orders.{InOrder, names_there, in_order}, FiledChanges.{its_head, from_tree, order}}
+use Rattle.gu_depend.proofs.{Names.{maker, made_by_split}, Finds.{by_test, found_once}, Vocabulary.none_is_some}
+use Rattle.gu_depend.proofs.Settled.{named_once}
+use Rattle.gu_depend.proofs.Vocabulary.{◌≡◌, ℕ, zero, suc, ◌<◌, Option, IsSomeAnd, List, [], ◌∷◌, ◌++◌, refl, sym, ◌∙◌}
+use Rattle.gu_depend.proofs.Vocabulary.{ap, subst, arith, length, same_Some, EntryPart, node_of, nodes_of, same_name}
+use Rattle.gu_depend.proofs.Vocabulary.{deal_in, split_of, parent, House, Command, Trade, Split, Record, Place, Node}
+use Rattle.gu_depend.proofs.Vocabulary.{place_of, Deal, name_is, node_called, cond_both, refusal_parts, no_some}
+use Rattle.gu_tree.proofs.{Parts.{some_and, at_there, node_at_further}, Along.own_head, ToldAt.told_at}
+use Rattle.gu_tree.specs.{Paths.{part_at, LeadsTo}, ShownAll.IsTreeIn}
+use Rattle.std.proofs.Common.{◌==◌, find, option_and_then, Some, None, option_map}
 
 -- the path leads to a node of this name
 abbrev Leads : List ℕ → EntryPart → Option Rose → Type 0
@@ -25,16 +25,13 @@ mutual
   -- two trees that show one node have nodes of one name at each path
   pub alike : (l : List Record) (a b : Option Place) (x : Node) (t u : Rose) → IsNodeOf l a x t → IsNodeOf l b x u
       → (p : List ℕ) (v : Rose) → node_at p t ≡ Some v → LeadsTo p u (head_of v).name
-  alike l a b x t u is other [] v e =
-      let same : t ≡ v = same_Some t v e in
-      (own_head l b x u other).name ∙ (sym (own_head l a x t is).name ∙ ap (λ (w : Rose). (head_of w).name) same)
+  alike l a b x t u is other [] v e = cc (same_Some t v e, (own_head l b x u other).name, (own_head l a x t is).name)
   alike l a b x (leaf h) u is other (i ∷ p) v e = absurd (cc)
   alike l a b x (parted h n ts) (leaf k) is other (i ∷ p) v e =
-      let z : Some is.1.0 ≡ None = sym is.1.1 ∙ other.1 in absurd (cc)
+      let z : Some is.1.0 ≡ None = cc in absurd (cc)
   alike l a b x (parted h n ts) (parted k m us) is other (i ∷ p) v e =
-      let same : is.1.0 ≡ other.1.0 = same_Some is.1.0 other.1.0 (sym is.1.1 ∙ other.1.1) in
-      let mine =
-      subst (λ (r : Record). ArePartsOf l (Some h.place) (nodes_of r.number r.firm r.command) ts) same is.1.3 in
+      let same : is.1.0 ≡ other.1.0 = same_Some is.1.0 other.1.0 (cc) in
+      let mine = rw same at is.1.3 in
       parts_alike l (Some h.place) (Some k.place) (nodes_of other.1.0.number other.1.0.firm other.1.0.command) ts us
       mine other.1.3 i p v e
 
@@ -52,33 +49,31 @@ mutual
 -- where some trees have one of a trade, all have
 there_too : {l : List Record} (k : ℕ) (o : Option Rose) → IsTreeIn l k o → (t : Rose) → IsTreeOf l k t
     → (u : Rose) × (o ≡ Some u)
-there_too {l} k None is t shown = absurd (none_is_some (node_of l (root_name k)) shown.root is shown.found)
+there_too {l} k None is t shown = absurd (none_is_some _ _ is shown.found)
 there_too k (Some u) is t shown = (u, refl)
 
 -- what trees of the changes have at a place, all trees of the changes have there
 pub one_place : {l : List Record} {g : Grove} → IsGroveOf l g → (n : EntryPart) (trade : ℕ) (p : List ℕ)
     → IsPlace g n trade p → (h : Grove) → IsGroveOf l h → IsPlace h n trade p
 one_place {l} {g} filed n trade p place h others =
-    let mine : IsTreeOf l trade place.tree = tree_shown filed trade place.tree place.found in
-    let u = there_too trade (tree_of h trade) (others.trees trade) place.tree mine in
-    let its : IsTreeOf l trade u.0 = tree_shown others trade u.0 u.1 in
-    let v = some_and (λ w. (head_of w).name ≡ n) (node_at p place.tree) place.there in
-    let root : its.root ≡ mine.root = same_Some its.root mine.root (sym its.found ∙ mine.found) in
-    let shows : IsNodeOf l None mine.root u.0 = subst (λ (x : Node). IsNodeOf l None x u.0) root its.tree in
+    let mine = tree_shown filed _ _ place.found in
+    let u = there_too _ _ (others.trees trade) _ mine in
+    let its = tree_shown others _ u.0 u.1 in
+    let v = some_and _ _ place.there in
+    let root : its.root ≡ mine.root = same_Some its.root mine.root (cc) in
+    let shows : IsNodeOf l None mine.root u.0 = rw root at its.tree in
     record {
       tree = u.0;
       found = u.1;
-      there = subst (λ (m : EntryPart). LeadsTo p u.0 m) v.2
-          (alike l None None mine.root place.tree u.0 mine.tree shows p v.0 v.1);
+      there = rw v.2 at (alike l None None mine.root place.tree u.0 mine.tree shows p v.0 v.1);
     }
 
 -- what was found at a place lies there
 pub lies_there : {l : List Record} {g : Grove} → IsGroveOf l g → (n : EntryPart) (m : Named) (trade : ℕ) (p : List ℕ)
     → m.node.name ≡ n → m.found.trade ≡ trade → IsPlace g n trade p → LiesThere l (Some m) p
 lies_there {l} {g} filed n m trade p called same place h others =
-    one_place filed m.node.name m.found.trade p
-    (subst (λ (k : EntryPart). IsPlace g k m.found.trade p) (sym called)
-    (subst (λ (k : ℕ). IsPlace g n k p) (sym same) place))
+    one_place filed _ _ p
+    (rw called (subst (λ (k : ℕ). IsPlace g n k p) (sym same) place))
     h others
 
 -- what a command names was found there, where the changes make it
@@ -87,15 +82,14 @@ pub found_there : (l : List Record) (g : Grove) (k : Option EntryPart) (o : Opti
     → IsFoundThere g k o p
 found_there l g None o p filed is lies there = tt
 found_there l g (Some n) None p filed is lies there =
-    let x = there n refl in let z : None ≡ Some x.0 = sym is ∙ x.1 in absurd (cc)
-found_there l g (Some n) (Some m) p filed is lies there =
-    subst (λ (k : EntryPart). IsPlace g k m.found.trade p) is.1 (lies g filed)
+    let x = there n refl in let z : None ≡ Some x.0 = cc in absurd (cc)
+found_there l g (Some n) (Some m) p filed is lies there = rw is.1 at (lies g filed)
 
 -- that is where the node lies that the next change names
 pub named_spot : {t : House} {l : List Record} {r : Record} {g : Grove} → IsNext t l r g → (o : Option Named)
     (p : List ℕ) → IsFoundThere g (named_node r.command) o p → (n : EntryPart) → named_node r.command ≡ Some n
     → (m : Named) → o ≡ Some m → Spot l g m.found.trade p n
-named_spot {r = r} next o p there n named m e = spot next.filed (order next) m.found.trade p n (rw (named, e) at there)
+named_spot {r = r} next o p there n named m e = spot next.filed (order next) _ p n (rw (named, e) at there)
 
 -- and there is one
 pub never_none : (g : Grove) (k : Option EntryPart) (o : Option Named) (p : List ℕ) → IsFoundThere g k o p
@@ -107,8 +101,8 @@ pub next_there : {t : House} {l : List Record} {r : Record} {g : Grove} → IsNe
     → IsSameGrove g new → (o : Option Named) (p : List ℕ) → IsNamedIn l (named_node r.command) o → LiesThere l o p
     → IsFoundThere new (named_node r.command) o p
 next_there {t} {l} {r} {g} next new same o p named lies =
-    found_there l new (named_node r.command) o p (same_filed l g new same next.filed) named lies
-    (λ n names. names_there t l r.firm r.command n (refusal_parts t l r.firm r.command next.lawful).1 names)
+    found_there l new _ o p (same_filed l g new same next.filed) named lies
+    (λ n names. names_there t l r.firm _ n (refusal_parts t l _ r.command next.lawful).1 names)
 
 -- ---- what the trees say of a node is what the changes say of it
 
@@ -121,7 +115,7 @@ part_lies : (l : List Record) (a : Option Place) (n : EntryPart) (xs : List Node
 part_lies l a n [] ts x are h = absurd (cc)
 part_lies l a n (y ∷ ys) no_parts x are h = absurd are
 part_lies l a n (y ∷ ys) (part_then t ts) x are h =
-    cond_both (same_name y.name n) (Some y) (find (λ y. same_name y.name n) ys)
+    cond_both _ _ (find (λ y. same_name y.name n) ys)
     (λ o. o ≡ Some x → IsPart n (part_then t ts))
     (λ is _. (zero, t, refl, (own_head l a y t are.0).name ∙ name_is y.name n is))
     (λ _ later. let q = part_lies l a n ys ts x are.1 later in (suc q.0, q.1, q.2, q.3)) h
@@ -130,8 +124,8 @@ part_lies l a n (y ∷ ys) (part_then t ts) x are h =
 root_made : (n : EntryPart) (k : ℕ) (by : List ℕ) (c : Command) (x : Node)
     → find (λ x. same_name x.name n) (nodes_of k by c) ≡ Some x → parent x.kind ≡ None → root_name k ≡ n
 root_made n k by (Trade firm account instrument side lots) x h top =
-    by_test (same_name (root_name k) n) (λ is. name_is (root_name k) n is) (λ other. absurd (cc (other, h)))
-root_made n k by (Split m ps) x h top = absurd (none_is_some (parent x.kind) m top (part_parent n m k 1 by ps x h))
+    by_test (same_name (root_name k) n) (λ is. name_is _ n is) (λ other. absurd (cc (other, h)))
+root_made n k by (Split m ps) x h top = absurd (none_is_some _ m top (part_parent n m k 1 by ps x h))
 root_made n k by _ x h top = absurd (cc)
 
 abbrev Lies : Grove → EntryPart → Type 0
@@ -143,11 +137,11 @@ module _ {l : List Record} {g : Grove} (are : AreTreesOf l g) where
 
   root_lies : (k : ℕ) (x : Node) → node_of l (root_name k) ≡ Some x → (o : Option Rose) → tree_of g k ≡ o
       → IsTreeIn l k o → IsPlace g (root_name k) k []
-  root_lies k x found None e is = absurd (none_is_some (node_of l (root_name k)) x is found)
+  root_lies k x found None e is = absurd (none_is_some _ x is found)
   root_lies k x found (Some t) e is = record {
     tree = t;
     found = e;
-    there = (own_head l None is.root t is.tree).name ∙ node_called l (root_name k) is.root is.found;
+    there = (own_head l _ _ t is.tree).name ∙ node_called l _ _ is.found;
   }
 
   -- a node lies below the one above it
@@ -156,19 +150,17 @@ module _ {l : List Record} {g : Grove} (are : AreTreesOf l g) where
       let m = maker l n x found in
       let s = spot are.filed order_of q.0 q.1 up q.2 in
       let once = (named_once are.house l are.replayed).splits_once up in
-      let split = found_once (λ (d : Record). splits up d.command) l m.change m.among
-      (made_by_split m.change n up x m.makes_it e) once in
-      let v = parted_by l s.said.above s.said.node m.change s.node s.said.shown
-      (ap (split_of l) (s.said.named ∙ s.called) ∙ split) in
-      let w = part_lies l (Some v.head.place) n (made m.change) v.parts x v.are m.makes_it in
-      let led = node_at_further q.1 (w.0 ∷ []) s.tree s.node s.at
+      let split = found_once _ l m.change m.among (made_by_split m.change n up x m.makes_it e) once in
+      let v = parted_by l _ _ m.change s.node s.said.shown (ap (split_of l) (s.said.named ∙ s.called) ∙ split) in
+      let w = part_lies l _ n _ v.parts x v.are m.makes_it in
+      let led = node_at_further q.1 _ s.tree s.node s.at
       ∙ subst (λ u. node_at (w.0 ∷ []) u ≡ Some w.1) (sym v.is) (ap (option_and_then (node_at [])) w.2) in (
         q.0,
         q.1 ++ w.0 ∷ [],
         record {
           tree = s.tree;
           found = s.found;
-          there = at_there (λ u. (head_of u).name ≡ n) (node_at (q.1 ++ w.0 ∷ []) s.tree) w.1 led w.3;
+          there = at_there _ _ w.1 led w.3;
         },
       )
 
@@ -178,12 +170,10 @@ module _ {l : List Record} {g : Grove} (are : AreTreesOf l g) where
       → parent x.kind ≡ o → Lies g n
   lies_by n x found later None top =
       let m = maker l n x found in
-      let root = root_made n m.change.number m.change.firm m.change.command x m.makes_it top in (
+      let root = root_made n _ _ _ x m.makes_it top in (
         m.change.number,
         [],
-        subst (λ (k : EntryPart). IsPlace g k m.change.number []) root
-            (root_lies m.change.number x (ap (node_of l) root ∙ found) (tree_of g m.change.number) refl
-            (are.filed.trees m.change.number)),
+        rw root at (root_lies _ x (ap (node_of l) root ∙ found) _ refl (are.filed.trees _)),
       )
   lies_by n x found later (Some up) e =
       let y = order_of.sound.parents.there n up x found e in
@@ -191,13 +181,11 @@ module _ {l : List Record} {g : Grove} (are : AreTreesOf l g) where
 
   lies : (f : ℕ) (n : EntryPart) (x : Node) → node_of l n ≡ Some x → n.entry < f → Lies g n
   lies zero n x found low = absurd (omega arith)
-  lies (suc f) n x found low =
-      lies_by n x found (λ m y there less. lies f m y there (omega (arith, less, low))) (parent x.kind) refl
+  lies (suc f) n x found low = lies_by n x found (λ m y there less. lies f m y there (omega arith)) (parent x.kind) refl
 
   -- so no tree has a node that no change makes
   pub found_none : (n : EntryPart) → ((trade : ℕ) (p : List ℕ) → IsPlace g n trade p → ⊥) → node_of l n ≡ None
-  found_none n never =
-      no_some (node_of l n) (λ x e. let q = lies (suc n.entry) n x e (omega arith) in never q.0 q.1 q.2)
+  found_none n never = no_some _ (λ x e. let q = lies (suc n.entry) n x e (omega arith) in never q.0 q.1 q.2)
 
 -- the node that was looked up at a place is found as the changes say
 pub found_spot : {l : List Record} {g : Grove} → AreTreesOf l g → (n : EntryPart) (trade : ℕ) (p : List ℕ) (u : Rose)
@@ -205,20 +193,20 @@ pub found_spot : {l : List Record} {g : Grove} → AreTreesOf l g → (n : Entry
     → f.head ≡ head_of u → length p ≡ f.depth → f.trade ≡ trade → o ≡ split_of_node u
     → f.split ≡ option_map (λ (q : ℕ × ℕ). q.0) o → IsFoundIn l n (Some f)
 found_spot {l} {g} are n trade p u f o place at here deep its parts split =
-    let s = spot are.filed (order_of are) trade p n place in
-    let same : s.node ≡ u = same_Some s.node u (sym s.at ∙ from_tree s (λ t. node_at p t ≡ Some u) at) in
-    let head : head_of s.node ≡ f.head = ap head_of same ∙ sym here in
+    let s = spot are.filed (order_of are) _ p n place in
+    let same : s.node ≡ u = same_Some s.node u (cc (from_tree s (λ t. node_at p t ≡ Some u) at)) in
+    let head : head_of s.node ≡ f.head = cc in
     let is : IsHeadOf l s.said.above s.said.node f.head =
-    subst (λ (h : Head). IsHeadOf l s.said.above s.said.node h) head (its_head s) in (
+    rw head at (its_head s) in (
       s.said.node,
-      s.said.named ∙ s.called,
+      cc,
       record {
-        node = ap (node_of l) s.said.named ∙ s.said.found;
+        node = cc;
         lots = is.lots;
-        place = ap (place_of l) s.said.named ∙ (s.said.placed ∙ ap (λ (h : Head). Some h.place) head);
+        place = cc;
         state = is.state;
-        deep = ap (depth_of l) s.said.named ∙ (s.said.deep ∙ deep);
-        rooted = ap (root_of l) s.said.named ∙ (s.said.rooted ∙ ap (λ (k : ℕ). Some (root_name k)) (sym its));
+        deep = cc;
+        rooted = cc;
         split = cc (split, parts, same, (told_at l trade s.tree s.shown p s.node s.at).split, s.said.named);
       },
     )
@@ -234,10 +222,9 @@ module _ {l : List Record} {x : Node} {f : Found} (is : IsFoundAs l x f) where
   above_as y b m over called up w e =
       let of_root : EntryPart → Option Deal =
       λ root. option_and_then (λ (r : Record). deal_in r.command) (find (λ (r : Record). r.number == root.entry) l) in
-      let place : option_and_then (place_of l) (parent x.kind) ≡ Some b.head.place =
-      ap (option_and_then (place_of l)) up ∙ (ap (place_of l) (sym called) ∙ over.place) in
+      let place : option_and_then (place_of l) (parent x.kind) ≡ Some b.head.place = cc in
       cc (e, ap (option_and_then of_root) (sym is.rooted), place, is.lots)
 
 -- the node that was found is the one that the changes make
 pub found_node : {l : List Record} {n : EntryPart} {f : Found} → (q : IsFoundIn l n (Some f)) → node_of l n ≡ Some q.0
-found_node {l} q = ap (node_of l) (sym q.1) ∙ q.2.node
+found_node {l} q = cc

@@ -1,33 +1,29 @@
 -- The calls of an opening, made one after the other.
-use Rattle.std.proofs.Common.{◌≡◌, ℕ, suc, ◌+◌, ◌≤◌, ◌<◌, List, [], ◌∷◌, length, drop, refl, sym, ◌∙◌, ap, subst, arith}
-use Rattle.std.proofs.Common.{Option, Some, None, slice_get, get_or, IsSomeAnd}
-use Rattle.std.proofs.Math.Seq.{drop-cons}
-use Rattle.std.proofs.lemmas.List.{drop_all}
-use Rattle.std.proofs.lemmas.Option.{slice_get_within, slice_get-get_or, get_or_from_slice_get}
+use Rattle.gu_book.specs.Seen.{HouseAndHistory}
 use Rattle.gu_depend.proofs.Vocabulary.{House, Call, after, after_all, opening_from, opening_calls, opening_history}
 use Rattle.gu_depend.proofs.Vocabulary.{Reverse, Entry, Agreement, Pair, none_is_some}
-use Rattle.gu_book.specs.Seen.{HouseAndHistory}
+use Rattle.std.proofs.{lemmas.Option.{slice_get_within, slice_get-get_or, get_or_from_slice_get}, lemmas.List.drop_all}
+use Rattle.std.proofs.{Common.{Option, Some, None, slice_get, IsSomeAnd}, Math.Seq.drop-cons}
+use Rattle.std.proofs.Common.{◌≡◌, ℕ, suc, ◌+◌, ◌≤◌, ◌<◌, List, [], ◌∷◌, length, drop, refl, sym, ◌∙◌, ap, arith}
 
 -- with one of the calls made, those behind it are left
 call_made : (t : House) (h : List Entry) (cs : List Call) (i : ℕ) (c : Call) → slice_get cs i ≡ Some c
     → after_all t h (drop i cs) ≡ after_all t (after t h c) (drop (i + 1) cs)
 call_made t h cs i c e =
     let one : suc i ≡ i + 1 = omega arith in
-    ap (after_all t h)
-    (drop-cons cs i c (slice_get_within cs i c e)
-    ∙ (ap (λ x. x ∷ drop (suc i) cs) (get_or_from_slice_get cs i c c e) ∙ ap (λ n. c ∷ drop n cs) one))
+    cc (drop-cons cs i c (slice_get_within cs i c e), get_or_from_slice_get cs i c c e)
 
 -- there is one for each agreement
 call_count : (t : House) (i : ℕ) (es : List (Pair × Agreement)) → length (opening_from t i es) ≡ length es
 call_count t i [] = refl
-call_count t i (e ∷ es) = let rest = call_count t (i + 1) es in omega (arith, rest)
+call_count t i (e ∷ es) = omega (arith, call_count t (i + 1) es)
 
 pub call_there : (t : House) (i : ℕ) → i < length t.opening → slice_get (opening_calls t) i ≡ None → ⊥
 call_there t i within absent =
     let count = call_count t 1 t.opening in
     let none : Call = record { firm = []; id = []; command = Reverse 0 } in
-    none_is_some (slice_get (opening_calls t) i) (get_or (opening_calls t) i none) absent
-    (slice_get-get_or (opening_calls t) i none (omega (arith, count, within)))
+    none_is_some _ _ absent
+    (slice_get-get_or _ i none (omega arith))
 
 -- the calls from this place on make the opening history of the entries that there are
 abbrev pub IsOpenedTo : HouseAndHistory → ℕ → Type 0
@@ -38,9 +34,8 @@ next_of : (b d : HouseAndHistory) (i : ℕ) (o : Option Call) → slice_get (ope
     → (d.house ≡ b.house) × IsOpenedTo d (i + 1)
 next_of b d i None e made so_far = absurd made
 next_of b d i (Some c) e made so_far = (
-  ap (λ (x : HouseAndHistory). x.house) made,
-  subst (λ (x : HouseAndHistory). IsOpenedTo x (i + 1)) (sym made)
-      (sym (call_made b.house b.history (opening_calls b.house) i c e) ∙ so_far),
+  cc,
+  rw made (sym (call_made b.house b.history _ i c e) ∙ so_far),
 )
 
 -- with the call at this place made
@@ -48,7 +43,7 @@ pub opened_next : (b d : HouseAndHistory) (i : ℕ)
     → IsSomeAnd (slice_get (opening_calls b.house) i)
     (λ c. d ≡ record { house = b.house; history = after b.house b.history c })
     → IsOpenedTo b i → (d.house ≡ b.house) × IsOpenedTo d (i + 1)
-opened_next b d i = next_of b d i (slice_get (opening_calls b.house) i) refl
+opened_next b d i = next_of b d i _ refl
 
 abbrev holding : House → List Entry → HouseAndHistory
 holding t h = record { house = t; history = h }
@@ -58,7 +53,7 @@ pub opened_all : (t : House) (b : HouseAndHistory) (i : ℕ) → b.house ≡ t �
     → b ≡ record { house = t; history = opening_history t }
 opened_all t b i same so_far past =
     let count = call_count b.house 1 b.house.opening in
-    let last : length b.house.opening ≤ i = subst (λ (x : House). length x.opening ≤ i) (sym same) past in
-    let none : drop i (opening_calls b.house) ≡ [] = drop_all i (opening_calls b.house) (omega (arith, count, last)) in
-    let done : b.history ≡ opening_history b.house = sym (ap (after_all b.house b.history) none) ∙ so_far in
+    let last : length b.house.opening ≤ i = rw same past in
+    let none : drop i (opening_calls b.house) ≡ [] = drop_all i _ (omega arith) in
+    let done : b.history ≡ opening_history b.house = cc in
     ap (holding b.house) done ∙ ap (λ (x : House). holding x (opening_history x)) same

@@ -1,30 +1,27 @@
 -- Of what a split moves, the lots of the parts that stay where the whole stood cancel: the others alone have to be
 -- moved.
-use Rattle.std.proofs.Common.{◌≡◌, ℕ, ◌+◌, ◌≤◌, Bool, true, false, not, ◌&&◌, ◌||◌, List, [], ◌∷◌, refl, sym, ◌∙◌, ap}
-use Rattle.std.proofs.Common.{subst, arith, Option, cond, Some, None, IsSome, map, find, filter_map, sum_by, unwrap_or}
-use Rattle.std.proofs.Common.{option_map, option_and_then, bytes_eq, ◌==◌}
+use Rattle.gu_base.proofs.{Passing.{at_node_none, split_passes, part_passes, refusal_parts}, Accepted.first_none}
+use Rattle.gu_base.proofs.Searches.{found_in, find_passes}
+use Rattle.gu_book.proofs.{Vocabulary.{taken_at, HaveMoved, is_trade, is_live_trade, Found, Holding}, Leaves.cond_same}
+use Rattle.gu_book.proofs.{Holdings.counts_or, Filed.live_at}
 use Rattle.gu_book.proofs.Vocabulary.{cons_option, PositionRows, is_key, Key, Grove, IsPlace, IsGroveOf, IsFoundAs}
 use Rattle.gu_book.proofs.Vocabulary.{traded_at, held_at, holding_of, part_holding, holding_away, part_away, counted_at}
-use Rattle.gu_book.proofs.Vocabulary.{taken_at, HaveMoved, is_trade, is_live_trade, Found, Holding}
-use Rattle.std.proofs.lemmas.Bool.{eqb-true, and_parts}
-use Rattle.std.proofs.lemmas.List.Sums.{sum_by-cons}
-use Rattle.std.proofs.lemmas.Option.{same_Some}
-use Rattle.std.proofs.lemmas.Slice.Eq.{bytes_eq-Decides}
-use Rattle.gu_depend.proofs.Vocabulary.{House, knows_account, RisesFrom, EntryPart, deal_in, node_of, place_of, first}
-use Rattle.gu_depend.proofs.Vocabulary.{owns, refusal_of, refusal_of_part, split_row, knows_own_account, Part, Side}
-use Rattle.gu_depend.proofs.Vocabulary.{Command, Trade, Split, Record, Deal, Node, Place, same_side}
-use Rattle.gu_depend.proofs.{Replay.{number_once}, StandsUnder.{any_found, rises_distinct}, Finds.{found_once}}
-use Rattle.gu_base.proofs.{Accepted.{first_none}, Searches.{found_in, find_passes}}
-use Rattle.gu_base.proofs.Passing.{at_node_none, split_passes, part_passes, refusal_parts}
 use Rattle.gu_book.specs.Holdings.{lots_told}
-use Rattle.gu_book.proofs.{Filed.{live_at}, Holdings.{counts_or}, Leaves.{cond_same}}
+use Rattle.gu_depend.proofs.{Vocabulary.{Trade, Split, Record, Deal, Node, Place, same_side}, Replay.number_once}
+use Rattle.gu_depend.proofs.{StandsUnder.{any_found, rises_distinct}, Finds.found_once}
+use Rattle.gu_depend.proofs.Vocabulary.{House, knows_account, RisesFrom, EntryPart, deal_in, node_of, first, owns}
+use Rattle.gu_depend.proofs.Vocabulary.{refusal_of, refusal_of_part, split_row, knows_own_account, Part, Side, Command}
+use Rattle.std.proofs.{Common.{option_map, option_and_then, bytes_eq, ◌==◌}, lemmas.Bool.{eqb-true, and_parts}}
+use Rattle.std.proofs.{lemmas.Slice.Eq.bytes_eq-Decides, lemmas.List.Sums.sum_by-cons, lemmas.Option.same_Some}
+use Rattle.std.proofs.Common.{◌≡◌, ℕ, ◌+◌, ◌≤◌, Bool, true, false, not, ◌&&◌, ◌||◌, List, [], ◌∷◌, refl, sym, ◌∙◌, ap}
+use Rattle.std.proofs.Common.{arith, Option, cond, Some, None, IsSome, map, find, filter_map, sum_by, unwrap_or}
 
 -- ---- sums
 
 pub lots_or : (o : Option Holding) (hs : List Holding)
     → sum_by (λ (h : Holding). h.lots) (cons_option o hs) ≡ lots_told o + sum_by (λ (h : Holding). h.lots) hs
 lots_or None hs = omega arith
-lots_or (Some h) hs = sum_by-cons (λ (h : Holding). h.lots) h hs
+lots_or (Some h) hs = sum_by-cons (λ h. h.lots) h hs
 
 both_counted : (w : Bool) (a b : ℕ) → cond w (a + b) 0 ≡ cond w a 0 + cond w b 0
 both_counted true a b = refl
@@ -46,12 +43,9 @@ own_moves : (whole : Holding) (by a : List ℕ) (n : ℕ) → whole.key.firm ≡
     ≡ taken_at at side (away_told whole by a n b) + counted_at at side (at_whole whole n)
 own_moves whole by a n home at side false e = refl
 own_moves whole by a n home at side true e =
-    let here : a ≡ whole.key.account = (bytes_eq-Decides a whole.key.account).0 e in
-    let key : holding_away whole by a n ≡ at_whole whole n =
+    let here = (bytes_eq-Decides a _).0 e in let key =
     ap (λ f. holding_away whole f a n) (sym home) ∙ ap (λ x. holding_away whole whole.key.firm x n) here in
-    let same = ap (counted_at at side) key in
-    let nothing = cond_same 0 (is_key whole.key at && same_side whole.side side) in
-    omega (arith, same, nothing)
+    omega (arith, ap (counted_at at side) key, cond_same 0 (is_key whole.key at && same_side whole.side side))
 
 abbrev holding_told : (whole : Holding) (by : List ℕ) (o : Option (List ℕ)) (n : ℕ) → Bool → Option Holding
 holding_told whole by o n b = cond b (option_map (λ a. holding_away whole by a n) o) (Some (at_whole whole n))
@@ -66,18 +60,16 @@ moves_told : (t : House) (whole : Holding) (by : List ℕ) (o : Option (List ℕ
     + counted_at at side (at_whole whole (lots_told (elsewhere_told whole by o n b)))
     ≡ taken_at at side (elsewhere_told whole by o n b) + counted_at at side (at_whole whole n)
 moves_told t whole by o n home at side false known =
-    let nothing = cond_same 0 (is_key whole.key at && same_side whole.side side) in omega (arith, nothing)
+    omega (arith, cond_same 0 (is_key whole.key at && same_side whole.side side))
 moves_told t whole by None n home at side true known = absurd (cc)
-moves_told t whole by (Some a) n home at side true known =
-    own_moves whole by a n home at side (bytes_eq a whole.key.account) refl
+moves_told t whole by (Some a) n home at side true known = own_moves whole by a n home at side _ refl
 
 part_moves : (t : House) (whole : Holding) (by : List ℕ) (p : Part) → whole.key.firm ≡ by
     → knows_own_account t by p ≡ true → (at : Key) (side : Side)
     → taken_at at side (part_holding whole by p)
     + counted_at at side (at_whole whole (lots_told (part_away whole by p)))
     ≡ taken_at at side (part_away whole by p) + counted_at at side (at_whole whole p.lots)
-part_moves t whole by p home known at side =
-    moves_told t whole by p.account p.lots home at side (bytes_eq p.firm by) known
+part_moves t whole by p home known at side = moves_told t whole by _ _ home at _ _ known
 
 few_away : (whole : Holding) (by a : List ℕ) (n : ℕ) (b : Bool) → lots_told (away_told whole by a n b) ≤ n
 few_away whole by a n true = omega arith
@@ -87,7 +79,7 @@ few_told : (whole : Holding) (by : List ℕ) (o : Option (List ℕ)) (n : ℕ) (
     → lots_told (elsewhere_told whole by o n b) ≤ n
 few_told whole by o n false = omega arith
 few_told whole by None n true = omega arith
-few_told whole by (Some a) n true = few_away whole by a n (bytes_eq a whole.key.account)
+few_told whole by (Some a) n true = few_away whole by a n _
 
 -- ---- all parts
 
@@ -99,11 +91,13 @@ moved whole by ps = sum_by (λ (h : Holding). h.lots) (filter_map (part_away who
 pub moved_few : (whole : Holding) (by : List ℕ) (ps : List Part) → moved whole by ps ≤ sum_by (λ (p : Part). p.lots) ps
 moved_few whole by [] = omega arith
 moved_few whole by (p ∷ ps) =
-    let a = lots_or (part_away whole by p) (filter_map (part_away whole by) ps) in
-    let b = few_told whole by p.account p.lots (bytes_eq p.firm by) in
-    let c = moved_few whole by ps in
-    let d = sum_by-cons (λ (p : Part). p.lots) p ps in
-    omega (arith, a, b, c, d)
+    omega (
+      arith,
+      lots_or (part_away whole by p) (filter_map (part_away whole by) ps),
+      few_told whole by p.account p.lots (bytes_eq p.firm by),
+      moved_few whole by ps,
+      sum_by-cons (λ (p : Part). p.lots) p ps,
+    )
 
 -- what all parts hold, less the lots of the whole, is what goes elsewhere, less so many lots where the whole stood
 pub parts_move : (t : House) (whole : Holding) (by : List ℕ) (ps : List Part) → whole.key.firm ≡ by
@@ -114,17 +108,21 @@ pub parts_move : (t : House) (whole : Holding) (by : List ℕ) (ps : List Part) 
     + counted_at at side (at_whole whole (sum_by (λ (p : Part). p.lots) ps))
 parts_move t whole by [] home fine at side = refl
 parts_move t whole by (p ∷ ps) home fine at side =
-    let f = first_none (refusal_of_part t by p) (map (refusal_of_part t by) ps) fine in
-    let one = part_moves t whole by p home (part_passes t by p f.0).1 at side in
-    let rest = parts_move t whole by ps home f.1 at side in
-    let w = is_key whole.key at && same_side whole.side side in
-    let a = counts_or at side (part_holding whole by p) (filter_map (part_holding whole by) ps) in
-    let b = counts_or at side (part_away whole by p) (filter_map (part_away whole by) ps) in
-    let c = ap (λ n. cond w n 0) (lots_or (part_away whole by p) (filter_map (part_away whole by) ps)) in
-    let d = both_counted w (lots_told (part_away whole by p)) (moved whole by ps) in
-    let e = ap (λ n. cond w n 0) (sum_by-cons (λ (p : Part). p.lots) p ps) in
-    let g = both_counted w p.lots (sum_by (λ (p : Part). p.lots) ps) in
-    omega (arith, one, rest, a, b, c, d, e, g)
+    let f = first_none _ _ fine in let w = is_key whole.key at && same_side whole.side side in
+    omega (
+      arith,
+      part_moves t whole by p home (part_passes t by p f.0).1 at side,
+      parts_move t whole by ps home f.1 at side,
+      counts_or at side (part_holding whole by p)
+          (filter_map (part_holding whole by) ps),
+      counts_or at side (part_away whole by p)
+          (filter_map (part_away whole by) ps),
+      ap (λ n. cond w n 0)
+          (lots_or (part_away whole by p) (filter_map (part_away whole by) ps)),
+      both_counted w (lots_told (part_away whole by p)) (moved whole by ps),
+      ap (λ n. cond w n 0) (sum_by-cons (λ (p : Part). p.lots) p ps),
+      both_counted w p.lots (sum_by (λ (p : Part). p.lots) ps),
+    )
 
 -- ---- what a node that is named holds
 
@@ -142,10 +140,8 @@ deal_there l k rises live =
     let passes = and_parts (r.0.number == k) (is_trade r.0.command) (find_passes own l r.0 r.1) in
     let d = deal_of r.0.command passes.1 in (
       d.0,
-      ap (option_and_then (λ (r : Record). deal_in r.command))
-          (found_once (λ (r : Record). r.number == k) l r.0 (found_in own l r.0 r.1) passes.0
-          (number_once l (rises_distinct 1 l rises) k))
-          ∙ d.1,
+      cc (found_once (λ (r : Record). r.number == k) l r.0 (found_in own l r.0 r.1) passes.0
+          (number_once l (rises_distinct 1 l rises) k)),
     )
 
 -- so each node that was found holds something
@@ -155,11 +151,9 @@ holds_some {l} {g} filed rises {x} {f} is place =
     let d = deal_there l f.trade rises (live_at filed f.trade place.tree place.found) in
     let of_root : EntryPart → Option Deal =
     λ root. option_and_then (λ (r : Record). deal_in r.command) (find (λ (r : Record). r.number == root.entry) l) in
-    let traded : traded_at l x.name ≡ Some d.0 = ap (option_and_then of_root) is.rooted ∙ d.1 in
-    subst IsSome
-    (sym
-    (ap (λ o. held_at o (traded_at l x.name) x.lots) is.place ∙ ap (λ w. held_at (Some f.head.place) w x.lots) traded))
-    refl
+    let traded : traded_at l x.name ≡ Some d.0 = cc in
+    rw (← sym (ap (λ o. held_at o (traded_at l x.name) x.lots) is.place ∙ ap (λ w. held_at (Some f.head.place) w x.lots)
+    traded)) refl
 
 -- ---- a Split that may follow
 
@@ -174,14 +168,14 @@ pub record SplitWell (t : House) (l : List Record) (by : List ℕ) (n : EntryPar
 pub split_well : (t : House) (l : List Record) (by : List ℕ) (n : EntryPart) (ps : List Part)
     → refusal_of t l by (Split n ps) ≡ None → SplitWell t l by n ps
 split_well t l by n ps lawful =
-    let there = at_node_none (split_row t l by ps) (node_of l n) (refusal_parts t l by (Split n ps) lawful).1 in
+    let there = at_node_none (split_row t l by ps) _ (refusal_parts t l by (Split n ps) lawful).1 in
     let holds = (split_passes t l by ps there.0 there.1.1).0 in
     record {
       node = there.0;
       there = there.1.0;
       owned = holds.owned;
       parts = holds.parts;
-      sums = eqb-true (sum_by (λ (p : Part). p.lots) ps) there.0.lots holds.sums;
+      sums = eqb-true _ _ holds.sums;
     }
 
 -- what is held somewhere has the lots that it is said to have, and is held by the firm that stands there
@@ -191,19 +185,18 @@ held_is None w n h is = absurd (cc)
 held_is (Some p) None n h is = absurd (cc)
 held_is (Some p) (Some d) n h is =
     let same = same_Some h
-    (record { key = record { firm = p.firm; account = p.account; instrument = d.instrument }; side = d.side; lots = n })
+    _
     is in
-    (ap (λ (h : Holding). h.lots) same, ap (λ (h : Holding). Some h.key.firm) (sym same))
+    (ap (λ h. h.lots) same, ap (λ h. Some h.key.firm) (sym same))
 
 -- the whole stands in an account of the firm that splits it, and has the lots of its parts
 pub whole_well : {t : House} {l : List Record} {by : List ℕ} {n : EntryPart} {ps : List Part}
     → (w : SplitWell t l by n ps) → (h : Holding) → Some h ≡ holding_of l w.node
     → (h.key.firm ≡ by) × (h.lots ≡ sum_by (λ (p : Part). p.lots) ps)
 whole_well {t} {l} {by} w h is =
-    let held = held_is (place_of l w.node.name) (traded_at l w.node.name) w.node.lots h is in
-    let owner : bytes_eq h.key.firm by ≡ true =
-    sym (ap (λ o. unwrap_or (option_map (λ owner. bytes_eq owner by) o) false) held.1) ∙ w.owned in
-    ((bytes_eq-Decides h.key.firm by).0 owner, held.0 ∙ sym w.sums)
+    let held = held_is _ _ _ h is in
+    let owner : bytes_eq h.key.firm by ≡ true = cc in
+    ((bytes_eq-Decides h.key.firm by).0 owner, cc)
 
 -- what goes elsewhere was put there, and so many lots were taken from where the whole stands: then the rows have moved
 -- as the split says
@@ -213,8 +206,10 @@ pub split_moved : (t : House) (whole : Holding) (by : List ℕ) (ps : List Part)
     → HaveMoved mid new (Some (at_whole whole (moved whole by ps))) []
     → HaveMoved rows new (Some whole) (filter_map (part_holding whole by) ps)
 split_moved t whole by ps home lots fine rows mid new put taken at side =
-    let a = put at side in
-    let b = taken at side in
-    let c = parts_move t whole by ps home fine at side in
-    let d = ap (λ n. cond (is_key whole.key at && same_side whole.side side) n 0) lots in
-    omega (arith, a, b, c, d)
+    omega (
+      arith,
+      put at side,
+      taken at side,
+      parts_move t whole by ps home fine at side,
+      ap (λ n. cond (is_key whole.key at && same_side whole.side side) n 0) lots,
+    )

@@ -1,25 +1,20 @@
 -- A reversal for which all is ready is accepted, and what a refused one names.
-use Rattle.std.proofs.Common.{◌≡◌, ℕ, ◌+◌, Bool, true, false, not, List, [], ◌∷◌, ◌++◌, length, refl, sym, ◌∙◌, ap}
-use Rattle.std.proofs.Common.{subst, Option, cond, inl, inr, ◌⊎◌, Some, None, IfSome, find, nat_lt, option_map}
-use Rattle.std.proofs.Common.{bytes_eq}
-use Rattle.gu_book.proofs.Vocabulary.{AllByRecursion}
-use Rattle.std.proofs.lemmas.Bool.{lt-ltb, not-true, and_parts, or_parts}
-use Rattle.std.proofs.lemmas.Slice.Eq.{bytes_eq-Decides}
-use Rattle.gu_depend.proofs.Vocabulary.{House, knows_firm, numbered_as, numbered_from, records, is_change}
-use Rattle.gu_depend.proofs.Vocabulary.{is_reverse_of, is_reversed, live, refusal_of, first, unless, first_refused}
-use Rattle.gu_depend.proofs.Vocabulary.{standing_on, parties_of, consents_of, is_among, missing, Call, answer_to}
-use Rattle.gu_depend.proofs.Vocabulary.{answer_by, accepted_or, entry_of, reversal_of, on_change, initiate_rest}
-use Rattle.gu_depend.proofs.Vocabulary.{reverse_rest, command_refusal, is_same_id, is_same_call, after_all, Initiate}
-use Rattle.gu_depend.proofs.Vocabulary.{Reverse, Entry, Record, Refusal, UnknownFirm, NotAChange, AlreadyReversed}
-use Rattle.gu_depend.proofs.Vocabulary.{NotAParty, NeedsConsent, StandsOn, DuplicateId, BookFull, AlreadyConsented}
-use Rattle.gu_depend.proofs.Vocabulary.{State, Reversed}
-use Rattle.gu_depend.proofs.StandsUnder.{any_found}
+use Rattle.gu_base.proofs.{Opening.{answer_is, knows_itself}, Searches.{find_has, find_passes}, LiveLaws.is_live}
+use Rattle.gu_base.proofs.{LegalLaws.first_refused_cut, Numbered.{listed, found_at}, RunLaws.run_all}
 use Rattle.gu_base.specs.declared.entry.Answer.TheVariants.{Refused}
-use Rattle.gu_base.proofs.{LiveLaws.{is_live}, Opening.{answer_is, knows_itself}, Searches.{find_has, find_passes}}
-use Rattle.gu_base.proofs.{LegalLaws.{first_refused_cut}, RunLaws.{run_all}, Numbered.{listed, found_at}}
+use Rattle.gu_book.proofs.{Placed.{change_known, firms_known}, Parties.{AllPass, parties_pass}, Restored.newest_is_free}
+use Rattle.gu_book.proofs.{Vocabulary.AllByRecursion, LookedUp.no_call}
 use Rattle.gu_book.specs.Headline.{IsAcceptedWhereReady, IsConsentAccepted, IsNewestUndone, NamedBy, IsNamed}
-use Rattle.gu_book.proofs.{LookedUp.{no_call}, Placed.{change_known, firms_known}, Parties.{AllPass, parties_pass}}
-use Rattle.gu_book.proofs.Restored.{newest_is_free}
+use Rattle.gu_depend.proofs.{Vocabulary.{AlreadyConsented, State, Reversed}, StandsUnder.any_found}
+use Rattle.gu_depend.proofs.Vocabulary.{House, knows_firm, numbered_from, records, is_change, is_reverse_of}
+use Rattle.gu_depend.proofs.Vocabulary.{is_reversed, live, refusal_of, first, unless, first_refused, standing_on}
+use Rattle.gu_depend.proofs.Vocabulary.{parties_of, consents_of, is_among, missing, Call, answer_to, answer_by}
+use Rattle.gu_depend.proofs.Vocabulary.{accepted_or, entry_of, reversal_of, on_change, reverse_rest, command_refusal}
+use Rattle.gu_depend.proofs.Vocabulary.{after_all, Initiate, Reverse, Entry, Record, Refusal, UnknownFirm, NotAChange}
+use Rattle.gu_depend.proofs.Vocabulary.{AlreadyReversed, NotAParty, NeedsConsent, StandsOn, DuplicateId, BookFull}
+use Rattle.std.proofs.{lemmas.Bool.{lt-ltb, not-true, and_parts, or_parts}, lemmas.Slice.Eq.bytes_eq-Decides}
+use Rattle.std.proofs.Common.{◌≡◌, ℕ, ◌+◌, Bool, true, false, not, List, [], ◌∷◌, ◌++◌, length, refl, subst, Option}
+use Rattle.std.proofs.Common.{inl, inr, ◌⊎◌, Some, None, IfSome, find, nat_lt, option_map, bytes_eq}
 
 -- ---- the parties of a live change are firms of the house table
 
@@ -27,13 +22,13 @@ parties_known : (t : House) (l before : List Record) (r : Record) → first_refu
     → refusal_of t before r.firm r.command ≡ None → AllPass (knows_firm t) (parties_of t l r.firm r.command)
 parties_known t l before r none accepted =
     let known = change_known t before r accepted in
-    parties_pass (knows_firm t) t l r.firm r.command (knows_itself t) known.by known.named (firms_known t l none)
+    parties_pass _ t l _ _ (knows_itself t) known.by known.named (firms_known t l none)
 
 among_known : (t : House) (by : List ℕ) (firms : List (List ℕ)) → AllPass (knows_firm t) firms
     → is_among by firms ≡ true → knows_firm t by ≡ true
 among_known t by firms all h =
-    let f = any_found (bytes_eq by) firms h in
-    subst (λ g. knows_firm t g ≡ true) (sym ((bytes_eq-Decides by f.0).0 (find_passes (bytes_eq by) firms f.0 f.1)))
+    let f = any_found _ firms h in
+    rw ((bytes_eq-Decides by f.0).0 (find_passes (bytes_eq by) firms f.0 f.1))
     (find_has (λ f. knows_firm t f ≡ true) (bytes_eq by) firms f.0 all f.1)
 
 party_known : (t : House) (calls : List Call) (before after : List Record) (r : Record) (by : List ℕ)
@@ -42,8 +37,8 @@ party_known : (t : House) (calls : List Call) (before after : List Record) (r : 
 party_known t calls before after r by same party =
     let l = live (after_all t [] calls) in
     let run = run_all t calls in
-    let lawful = first_refused_cut t [] before r after (subst (λ l. first_refused t [] l ≡ None) same run.replayed) in
-    among_known t by (parties_of t l r.firm r.command) (parties_known t l before r run.replayed lawful) party
+    let lawful = first_refused_cut t [] before r after (rw same at run.replayed) in
+    among_known t by _ (parties_known t l before r run.replayed lawful) party
 
 -- ---- a reversal that nothing refuses
 
@@ -51,9 +46,8 @@ none_reverses : (n m : ℕ) (h : List Entry) → is_reversed h n ≡ false
     → find (λ r. is_reverse_of n r.command) (numbered_from m h) ≡ None
 none_reverses n m [] e = refl
 none_reverses n m (d ∷ h) e =
-    let p = or_parts (is_reverse_of n d.command) (is_reversed h n) e in
-    ap (λ b. cond b (Some (numbered_as m d)) (find (λ r. is_reverse_of n r.command) (numbered_from (m + 1) h))) p.0
-    ∙ none_reverses n (m + 1) h p.1
+    let p = or_parts _ (is_reversed h n) e in
+    cc (none_reverses n (m + 1) h p.1)
 
 all_clear : (known is party : Bool) (reversal : Option Record) (lack : Option (List ℕ)) (stands : Option ℕ)
     → known ≡ true → is ≡ true → party ≡ true → reversal ≡ None → lack ≡ None → stands ≡ None
@@ -70,9 +64,8 @@ accepted_where_ready t calls before after r by id same ready fresh room =
     let passes = and_parts (is_change r.command) (not (is_reversed h r.number)) at.passes in
     let known = party_known t calls before after r by same ready.party in
     let clear : command_refusal t h by (Reverse r.number) ≡ None =
-    ap (λ o. first (unless (knows_firm t by) UnknownFirm ∷ on_change t h by (reverse_rest t h) o ∷ [])) at.found
-    ∙ all_clear _ _ _ _ _ _ known passes.0 ready.party
-    (none_reverses r.number 1 h (not-true (is_reversed h r.number) passes.1)) ready.agreed ready.free in
+    cc (all_clear _ _ _ _ _ _ known passes.0 ready.party (none_reverses r.number 1 h
+    (not-true (is_reversed h r.number) passes.1)) ready.agreed ready.free) in
     answer_is _ _ _ _ _ _ (no_call call (records h) fresh) fresh (lt-ltb (length h) 1000000 room) clear
 
 initiate_clear : (known is party given : Bool) (reversal : Option Record) → known ≡ true → is ≡ true → party ≡ true
@@ -91,9 +84,8 @@ consent_accepted t calls before after r by id same party lacks fresh room =
     let passes = and_parts (is_change r.command) (not (is_reversed h r.number)) at.passes in
     let known = party_known t calls before after r by same party in
     let clear : command_refusal t h by (Initiate r.number) ≡ None =
-    ap (λ o. first (unless (knows_firm t by) UnknownFirm ∷ on_change t h by (initiate_rest h by) o ∷ [])) at.found
-    ∙ initiate_clear _ _ _ _ _ known passes.0 party
-    (none_reverses r.number 1 h (not-true (is_reversed h r.number) passes.1)) lacks in
+    cc (initiate_clear _ _ _ _ _ known passes.0 party (none_reverses r.number 1 h
+    (not-true (is_reversed h r.number) passes.1)) lacks) in
     answer_is _ _ _ _ _ _ (no_call call (records h) fresh) fresh (lt-ltb (length h) 1000000 room) clear
 
 pub newest_undone : (t : House) → IsNewestUndone t
@@ -136,11 +128,11 @@ module _ (t : House) (h : List Entry) (by : List ℕ) (k : ℕ) where
         of_mapped (NamedBy t h k) (λ f. NeedsConsent f) lack (λ f is. (
           r,
           at,
-          subst (λ n. missing (parties_of t (live h) r.firm r.command) (consents_of h n) ≡ Some f) number is,
+          rw number at is,
         )),
         (
           of_mapped (NamedBy t h k) (λ n. StandsOn n) on
-              (λ n is. subst (λ m. standing_on t (live h) m ≡ Some n) number is),
+              (λ n is. rw number at is),
           tt,
         ),
       )
@@ -149,7 +141,7 @@ module _ (t : House) (h : List Entry) (by : List ℕ) (k : ℕ) where
   named_change None at = tt
   named_change (Some r) at =
       let party = is_among by (parties_of t (live h) r.firm r.command) in
-      of_row (NamedBy t h k)
+      of_row _
       (unless (is_change r.command) NotAChange ∷ option_map (λ v. AlreadyReversed v.number) (reversal_of h r.number)
       ∷ unless party NotAParty ∷ reverse_rest t h r ∷ []) (
         of_unless (NamedBy t h k) (is_change r.command) NotAChange tt,
@@ -176,11 +168,11 @@ module _ (t : House) (h : List Entry) (by : List ℕ) (k : ℕ) where
       → answer_to t h (record { firm = by; id = id; command = Reverse k }) ≡ Refused x → NamedBy t h k x
   named_at x id e =
       let call : Call = record { firm = by; id = id; command = Reverse k } in
-      elim (refused_by (find (is_same_call call) (records h)) (find (is_same_id call) (records h)) (length h + 1)
-      Reversed (first (unless (nat_lt (length h) 1000000) BookFull ∷ command_refusal t h by (Reverse k) ∷ [])) x e) [
-        | inl known ↦ subst (NamedBy t h k) known.1 tt
+      elim (refused_by _ _ _
+      Reversed _ x e) [
+        | inl known ↦ rw (← known.1) tt
         | inr why ↦ subst (λ o. IfSome o (NamedBy t h k)) why named_row
       ]
 
 pub named : (t : House) → IsNamed t
-named t calls by id k x e = named_at t (after_all t [] calls) by k x id e
+named t calls by id k x e = named_at t _ by k x id e

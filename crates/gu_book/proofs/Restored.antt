@@ -1,29 +1,31 @@
 -- What a reversal does over any list of calls.
-use Rattle.gu_depend.proofs.Vocabulary.{◌≡◌, ℕ, ◌+◌, ◌<◌, ◌≤◌, true, List, [], ◌∷◌, ◌++◌, length, refl, sym, ◌∙◌, ap}
-use Rattle.gu_depend.proofs.Vocabulary.{subst, arith, cond, cond_both, same_Some, append-nil, append_assoc, map, All}
-use Rattle.gu_depend.proofs.Vocabulary.{and_parts, All-head, All-tail, House, numbered_as, is_change, live, RisesFrom}
-use Rattle.gu_depend.proofs.Vocabulary.{refusal_of, first_refused, standing_on, without, Call, answer_to, after}
-use Rattle.gu_depend.proofs.Vocabulary.{after_by, is_accepted, after_all, call_of, IsRunFrom, Answer, Accepted, Entry}
-use Rattle.gu_depend.proofs.Vocabulary.{Record, is_consenting, legal_from_replay, none_refused, replay_front}
-use Rattle.std.proofs.Common.{Some, None, is_some}
-use Rattle.std.specs.List.{list_all}
 use Rattle.gu_base.proofs.LiveLaws.{live_push_change, live_push_reverse, live_push_consent, live_below, without_last}
 use Rattle.gu_base.proofs.RunLaws.{run_all}
+use Rattle.gu_book.proofs.{Leaves.live_rises, Orders.earlier}
 use Rattle.gu_book.specs.Headline.{IsLawful, Restores, TakesOut, StandsLater}
-use Rattle.gu_book.proofs.{Leaves.{live_rises}, Orders.{earlier}}
-use Rattle.gu_depend.proofs.{Replay.{number_once}, StandsLast.{gone}, StandsUnder.{rises_above, rises_distinct}}
+use Rattle.gu_depend.proofs.{StandsUnder.{rises_above, rises_distinct}, Vocabulary.{none_refused, replay_front}}
+use Rattle.gu_depend.proofs.{Replay.number_once, StandsLast.gone}
+use Rattle.gu_depend.proofs.Vocabulary.{◌≡◌, ℕ, ◌+◌, ◌<◌, ◌≤◌, true, List, [], ◌∷◌, ◌++◌, length, refl, sym, ◌∙◌, subst}
+use Rattle.gu_depend.proofs.Vocabulary.{arith, cond_both, same_Some, append-nil, append_assoc, map, All, and_parts}
+use Rattle.gu_depend.proofs.Vocabulary.{All-head, All-tail, House, numbered_as, live, RisesFrom, first_refused}
+use Rattle.gu_depend.proofs.Vocabulary.{standing_on, Call, answer_to, after, after_by, is_accepted, after_all, call_of}
+use Rattle.gu_depend.proofs.Vocabulary.{IsRunFrom, Answer, Accepted, Entry, Record, is_consenting, legal_from_replay}
+use Rattle.std.proofs.Common.{Some, None}
+use Rattle.std.specs.List.{list_all}
 
 pub lawful : (t : House) → IsLawful t
-lawful t calls = legal_from_replay t (live (after_all t [] calls)) ((run_all t calls).replayed)
+lawful t calls = legal_from_replay t _ ((run_all t calls).replayed)
 
 -- a history that calls made is made again by the calls that its entries keep
 remade : (t : House) (h : List Entry) → IsRunFrom t [] h → (before rest : List Entry) → h ≡ before ++ rest
     → after_all t before (map call_of rest) ≡ h
 remade t h run before [] e = sym (e ∙ append-nil before)
 remade t h run before (x ∷ rest) e =
-    ap (λ k. after_all t (after_by before (call_of x) k) (map call_of rest))
-    (run.accepted before rest x e (omega arith))
-    ∙ remade t h run (before ++ x ∷ []) rest (e ∙ sym (append_assoc before (x ∷ []) rest))
+    cc (
+      run.accepted before rest x e (omega arith),
+      remade t h run (before ++ x ∷ []) rest
+          (e ∙ sym (append_assoc before (x ∷ []) rest)),
+    )
 
 pub made_again : (t : House) (h : List Entry) → IsRunFrom t [] h → after_all t [] (map call_of h) ≡ h
 made_again t h run = remade t h run [] h refl
@@ -42,44 +44,43 @@ added : (t : House) (h : List Entry) (c : Call) (a : Answer) → answer_to t h c
     → (e : Entry) × IsAdded t h c e
 added t h c (Accepted n s) same ok = (
   record { firm = c.firm; id = c.id; command = c.command; status = s },
-  record { command = refl; longer = ap (after_by h c) same },
+  record { command = refl; longer = cc },
 )
 added t h c _ same ok = absurd (cc)
 
 pub takes_out : (t : House) → TakesOut t
 takes_out t calls reversal k same ok =
     let h = after_all t [] calls in
-    let a = added t h reversal (answer_to t h reversal) refl ok in
-    ap live (after_more t [] calls (reversal ∷ []) ∙ a.1.longer) ∙ live_push_reverse h a.0 k (a.1.command ∙ same)
+    let a = added t h _ _ refl ok in
+    cc (after_more t [] calls (reversal ∷ []), live_push_reverse h a.0 k (a.1.command ∙ same))
 
 -- Initiates and Declines leave the live changes
 consent_step : (h : List Entry) (c : Call) (a : Answer) → is_consenting c.command ≡ true
     → live (after_by h c a) ≡ live h
-consent_step h c (Accepted n s) consent =
-    live_push_consent h (record { firm = c.firm; id = c.id; command = c.command; status = s }) consent
+consent_step h c (Accepted n s) consent = live_push_consent h _ consent
 consent_step h c _ consent = refl
 
 consents_keep : (t : House) (h : List Entry) (cs : List Call) → list_all (λ c. is_consenting c.command) cs ≡ true
     → live (after_all t h cs) ≡ live h
 consents_keep t h [] all = refl
 consents_keep t h (c ∷ cs) all =
-    let p = and_parts (is_consenting c.command) (list_all (λ c. is_consenting c.command) cs) all in
+    let p = and_parts _ _ all in
     consents_keep t (after t h c) cs p.1 ∙ consent_step h c (answer_to t h c) p.0
 
 pub restores : (t : House) → Restores t
 restores t calls between change reversal is ok consents names undone =
     let h = after_all t [] calls in
     let run = run_all t calls in
-    let a = added t h change (answer_to t h change) refl ok in
+    let a = added t h change _ refl ok in
     let e = a.0 in
-    let more = live_push_change h e (ap is_change a.1.command ∙ is) (run.behind (1 + length h) (omega arith)) in
+    let more = live_push_change h e (cc) (run.behind _ (omega arith)) in
     let longer : live (after_all t [] (calls ++ change ∷ between)) ≡ live h ++ numbered_as (1 + length h) e ∷ [] =
-    ap live (after_more t [] calls (change ∷ between))
-    ∙ (consents_keep t (after t h change) between consents ∙ (ap live a.1.longer ∙ more)) in
-    takes_out t (calls ++ change ∷ between) reversal (length h + 1) names undone
-    ∙ (ap (λ l. without l (length h + 1)) longer
-    ∙ without_last (length h + 1) (live h) (numbered_as (1 + length h) e) (omega arith)
-    (subst (λ k. All (λ (r : Record). r.number < k) (live h)) (omega arith) (live_below h)))
+    cc (after_more t [] calls _, consents_keep t _ between consents) in
+    cc (
+      takes_out t (calls ++ change ∷ between) reversal (length h + 1) names undone,
+      without_last (length h + 1) (live h) (numbered_as (1 + length h) e) (omega arith)
+          (subst (λ k. All (λ (r : Record). r.number < k) (live h)) (omega arith) (live_below h)),
+    )
 
 -- nothing stands on the newest of the live changes
 abbrev pub NewestIsFree : House → Type 0
@@ -91,10 +92,12 @@ pub newest_is_free : (t : House) → NewestIsFree t
 newest_is_free t calls before r same =
     let h = after_all t [] calls in
     let run = run_all t calls in
-    let order = earlier 1 before r (subst (λ l. RisesFrom 1 l) same (live_rises h)) in
-    ap (λ l. first_refused t [] (without l r.number)) same
-    ∙ (ap (first_refused t []) (without_last r.number before r refl order.2)
-    ∙ replay_front t [] before (r ∷ []) (subst (λ l. first_refused t [] l ≡ None) same run.replayed))
+    let order = earlier 1 before r (rw same at (live_rises h)) in
+    cc (
+      without_last r.number before r refl order.2,
+      replay_front t [] before (r ∷ [])
+          (subst (λ l. first_refused t [] l ≡ None) same run.replayed),
+    )
 
 -- ---- what stands on a change is later
 
@@ -106,30 +109,27 @@ rises_behind n (b ∷ before) after r rises = rises_behind (b.number + 1) before
 
 pub replay_on : (t : House) (done l m : List Record) → first_refused t done l ≡ None
     → first_refused t done (l ++ m) ≡ first_refused t (done ++ l) m
-replay_on t done [] m h = ap (λ b. first_refused t b m) (sym (append-nil done))
+replay_on t done [] m h = cc (append-nil done)
 replay_on t done (d ∷ l) m h =
-    let p = none_refused (refusal_of t done d.firm d.command) d.number (first_refused t (done ++ d ∷ []) l) h in
-    ap (λ o. cond (is_some o) (Some d.number) (first_refused t (done ++ d ∷ []) (l ++ m))) p.0
-    ∙ (replay_on t (done ++ d ∷ []) l m p.1 ∙ ap (λ b. first_refused t b m) (append_assoc done (d ∷ []) l))
+    let p = none_refused _ d.number (first_refused t (done ++ d ∷ []) l) h in
+    cc (replay_on t (done ++ d ∷ []) l m p.1, append_assoc done (d ∷ []) l)
 
 refused_above : (t : House) (k : ℕ) (done l : List Record) (n : ℕ) → All (λ d. k ≤ d.number) l
     → first_refused t done l ≡ Some n → k ≤ n
 refused_above t k done [] n all h = absurd (cc)
 refused_above t k done (d ∷ l) n all h =
-    cond_both (is_some (refusal_of t done d.firm d.command)) (Some d.number) (first_refused t (done ++ d ∷ []) l)
+    cond_both _ _ (first_refused t (done ++ d ∷ []) l)
     (λ o. o ≡ Some n → k ≤ n)
-    (λ refused e. subst (λ m. k ≤ m) (same_Some d.number n e) (All-head (λ (d : Record). k ≤ d.number) d l all))
+    (λ refused e. rw (same_Some d.number n e) at (All-head (λ (d : Record). k ≤ d.number) d l all))
     (λ accepted later. refused_above t k (done ++ d ∷ []) l n (All-tail (λ (d : Record). k ≤ d.number) d l all) later) h
 
 pub stands_later : (t : House) → StandsLater t
 stands_later t calls before after r n same stands =
     let l : List Record = before ++ r ∷ after in
-    let rises = subst (RisesFrom 1) same (live_rises (after_all t [] calls)) in
-    let none = subst (λ l. first_refused t [] l ≡ None) same (run_all t calls).replayed in
+    let rises = rw same at (live_rises (after_all t [] calls)) in
+    let none = rw same at (run_all t calls).replayed in
     let others = gone t before r after (record { once = number_once l (rises_distinct 1 l rises); replayed = none }) in
-    let high = refused_above t (r.number + 1) before after n
-    (rises_above (r.number + 1) after (rises_behind 1 before after r rises))
-    (sym (replay_on t [] before after (replay_front t [] before (r ∷ after) none))
-    ∙ (ap (first_refused t []) (sym others)
-    ∙ (ap (λ l. first_refused t [] (without l r.number)) (sym same) ∙ stands))) in
-    omega (arith, high)
+    let high = refused_above t _ before after n
+    (rises_above _ after (rises_behind 1 before after r rises))
+    (cc (replay_on t [] before after (replay_front t [] before _ none))) in
+    omega arith

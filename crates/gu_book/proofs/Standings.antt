@@ -1,34 +1,31 @@
 -- The running rows of positions, with one change more.
-use Rattle.std.proofs.Common.{◌≡◌, ℕ, ◌+◌, ◌*◌, ◌≤◌, ◌<◌, ◌^◌, not, ◌&&◌, List, [], ◌∷◌, ◌++◌, length, refl, ap, arith}
-use Rattle.std.proofs.Common.{Option, cond, Some, None, sum_by, is_none, mul-le-mul_right}
+use Rattle.gu_base.proofs.NodeNames.{made}
+use Rattle.gu_book.proofs.{Vocabulary.{IsWithinLimits, AllWithinLimits, Holding}, HoldingRows.{at_most, is_own_key}}
+use Rattle.gu_book.proofs.{Holdings.{IsCounted, balances, key_at}, Orders.{earlier, in_order}, Placed.node_stands}
+use Rattle.gu_book.proofs.{Refused.next_legal, Leaves.parts_lots}
 use Rattle.gu_book.proofs.Vocabulary.{lots_at, names, PositionRows, lots_in, Key, Grove, IsNext, taken_by, added_by}
 use Rattle.gu_book.proofs.Vocabulary.{counted_at, taken_at, HaveMoved, ArePositionsOf, PartsWithinLimits}
-use Rattle.gu_book.proofs.Vocabulary.{IsWithinLimits, AllWithinLimits, Holding}
-use Rattle.std.proofs.lemmas.List.Elements.{All-weaker}
-use Rattle.std.proofs.lemmas.List.Filters.{sum_by-filter_both}
-use Rattle.std.proofs.lemmas.List.Sums.{sum_by-le, sum_by-cons, sum_by-le-sum_by}
+use Rattle.gu_depend.proofs.{LastMoves.{moves_its_own, is_before, position_is}, Vocabulary.{Root, Node, Place}}
+use Rattle.gu_depend.proofs.{State.sum_made, Settled.facts, Replay.Legal}
 use Rattle.gu_depend.proofs.Vocabulary.{House, first_refused, nodes, nodes_of, split_of, position_of, replay_front}
 use Rattle.gu_depend.proofs.Vocabulary.{RisesFrom, stands_at, trades_in, Part, Side, Command, Trade, Split, Record}
-use Rattle.gu_depend.proofs.Vocabulary.{Root, Node, Place}
-use Rattle.gu_depend.proofs.{LastMoves.{moves_its_own, is_before, position_is}, Replay.{Legal}, Settled.{facts}}
-use Rattle.gu_depend.proofs.State.{sum_made}
-use Rattle.gu_base.proofs.NodeNames.{made}
-use Rattle.gu_book.proofs.{Leaves.{parts_lots}, HoldingRows.{at_most, is_own_key}}
-use Rattle.gu_book.proofs.{Holdings.{IsCounted, balances, key_at}, Orders.{earlier, in_order}, Placed.{node_stands}}
-use Rattle.gu_book.proofs.Refused.{next_legal}
+use Rattle.std.proofs.{lemmas.List.Sums.{sum_by-le, sum_by-cons, sum_by-le-sum_by}, lemmas.List.Elements.All-weaker}
+use Rattle.std.proofs.Common.{◌≡◌, ℕ, ◌+◌, ◌*◌, ◌≤◌, ◌<◌, ◌^◌, not, ◌&&◌, List, [], ◌∷◌, ◌++◌, length, refl, ap, arith}
+use Rattle.std.proofs.Common.{Option, cond, Some, None, sum_by, is_none, mul-le-mul_right}
+use Rattle.std.proofs.lemmas.List.Filters.{sum_by-filter_both}
 
 -- ---- a change behind others
 
 pub counts_on : {t : House} {l : List Record} {r : Record} → Legal t (l ++ r ∷ []) → RisesFrom 1 l → IsCounted t l r
 counts_on {t} {l} {r} legal rises =
-    let none = replay_front t [] l (r ∷ []) legal.replayed in
+    let none = replay_front t [] l _ legal.replayed in
     let o = in_order t l none rises in
     record {
       last = is_before t l r legal;
       bound = o.bound;
       sound = o.sound;
       settled = (facts t l none).settled;
-      stand = λ x e. let p = node_stands t l o.bound o.sound none x e in (p.place, p.is);
+      stand = λ x e. let p = node_stands t l _ o.sound none x e in (p.place, p.is);
     }
 
 module _ {t : House} {l : List Record} {r : Record} (c : IsCounted t l r)
@@ -40,20 +37,24 @@ module _ {t : House} {l : List Record} {r : Record} (c : IsCounted t l r)
       ≡ position_of l at.firm at.account instrument side
       + sum_by (counted_at (key_at at instrument) side) (added_by r.firm r.command (taken_by l r.command))
   moved_by at instrument side =
-      let moved =
-      (moves_its_own t l r (record { once = c.last.once; replayed = legal })).positions at instrument side in
-      let even = (balances t l r.number r.firm r.id r.command r.status c at instrument side).equal in
-      omega (arith, moved, even)
+      omega (
+        arith,
+        (moves_its_own t l r (record { once = c.last.once; replayed = legal })).positions at instrument
+            side,
+        (balances t l r.number r.firm r.id r.status at instrument side r.command c).equal,
+      )
 
   -- what it takes is part of the position
   pub taken_part : (at : Place) (instrument : List ℕ) (side : Side)
       → taken_at (key_at at instrument) side (taken_by l r.command) ≤ position_of l at.firm at.account instrument side
   taken_part at instrument side =
-      let even = (balances t l r.number r.firm r.id r.command r.status c at instrument side).there in
-      let whole = position_is l at instrument side in
-      let both = sum_by-filter_both (λ (x : Node). names x.name r.command) (λ (x : Node). not (names x.name r.command))
-      (λ x. refl) (lots_at l at instrument side) (nodes l) in
-      omega (arith, even, whole, both)
+      omega (
+        arith,
+        (balances t l _ _ r.id r.status at instrument side r.command c).there,
+        position_is l at instrument side,
+        sum_by-filter_both (λ (x : Node). names x.name r.command)
+            (λ (x : Node). not (names x.name r.command)) (λ x. refl) (lots_at l at instrument side) (nodes l),
+      )
 
 -- ---- one that may follow
 
@@ -67,76 +68,86 @@ module _ {t : House} {l : List Record} {r : Record} {ts : Grove} (next : IsNext 
   positions_moved rows new are o is moved = record {
     lots = λ at side.
         let place : Place = record { firm = at.firm; account = at.account } in
-        let a = are.lots at side in
-        let b = moved at side in
-        let d = moved_by counted (next_legal next).replayed place at.instrument side in
-        let e = ap (taken_at at side) is in
-        let f = ap (λ o. sum_by (counted_at at side) (added_by r.firm r.command o)) is in
-        omega (arith, a, b, d, e, f);
+        omega (
+          arith,
+          are.lots at side,
+          moved at side,
+          moved_by counted (next_legal next).replayed place at.instrument
+              side,
+          ap (taken_at at side) is,
+          ap (λ o. sum_by (counted_at at side) (added_by r.firm r.command o)) is,
+        );
   }
 
   -- what it takes is there
   pub has_taken : (rows now : PositionRows) → ArePositionsOf l rows → (hs : List Holding) → HaveMoved rows now None hs
       → (h : Holding) → Some h ≡ taken_by l r.command → h.lots ≤ lots_in now h.key h.side
   has_taken rows now are hs put h is =
-      let a = are.lots h.key h.side in
-      let b = put h.key h.side in
-      let c = taken_part counted (next_legal next).replayed (record { firm = h.key.firm; account = h.key.account })
-      h.key.instrument h.side in
-      let d = ap (taken_at h.key h.side) is in
-      let e = ap (λ b. cond b h.lots 0) (is_own_key h.key h.side) in
-      omega (arith, a, b, c, d, e)
+      let b = put h.key h.side in omega (
+        arith,
+        are.lots h.key h.side,
+        taken_part counted (next_legal next).replayed
+            (record { firm = h.key.firm; account = h.key.account }) h.key.instrument h.side,
+        ap (taken_at h.key h.side) is,
+        ap (λ b. cond b h.lots 0) (is_own_key h.key h.side),
+      )
 
 -- ---- what has room
 
 few_lots : (ps : List Part) → PartsWithinLimits ps → sum_by (λ (p : Part). p.lots) ps ≤ 1000000000
 few_lots ps within =
-    let a = sum_by-le (λ (p : Part). p.lots) 10000000 ps within.small in
-    let few = within.few in
-    let b : length ps * 10000000 ≤ 100 * 10000000 = mul-le-mul_right 10000000 few in
-    omega (arith, a, b)
+    let few = within.few in let b : length ps * 10000000 ≤ 100 * 10000000 = mul-le-mul_right 10000000 few in
+    omega (arith, sum_by-le (λ p. p.lots) 10000000 ps within.small)
 
 made_lots : (k : ℕ) (by : List ℕ) (c : Command) → IsWithinLimits c
     → sum_by (λ (x : Node). x.lots) (nodes_of k by c) ≤ 1000000000
 made_lots k by (Trade firm account instrument side lots) h =
-    let a = sum_by-cons (λ (x : Node). x.lots)
-    (record {
-      name = record { entry = k; part = 0 };
-      lots = lots;
-      kind = Root (record { firm = firm; account = account });
-    })
-    [] in
-    omega (arith, a, h)
-made_lots k by (Split m ps) h = let a = parts_lots m k 1 by ps in let b = few_lots ps h in omega (arith, a, b)
+    omega (
+      arith,
+      sum_by-cons (λ (x : Node). x.lots) (record {
+        name = record { entry = k; part = 0 };
+        lots = lots;
+        kind = Root
+            (record { firm = firm; account = account });
+      })
+          [],
+    )
+made_lots k by (Split m ps) h = omega (arith, parts_lots m k 1 by ps, few_lots ps h)
 made_lots k by _ h = omega arith
 
 all_lots : (l : List Record) → AllWithinLimits l → sum_by (λ (x : Node). x.lots) (nodes l) ≤ length l * 1000000000
 all_lots l all =
-    let a = sum_made (λ (x : Node). x.lots) l in
-    let b = sum_by-le (λ (r : Record). sum_by (λ (x : Node). x.lots) (made r)) 1000000000 l
-    (All-weaker (λ (r : Record). IsWithinLimits r.command)
-    (λ (r : Record). sum_by (λ (x : Node). x.lots) (made r) ≤ 1000000000) (λ r h. made_lots r.number r.firm r.command h)
-    l all) in
-    omega (arith, a, b)
+    omega (
+      arith,
+      sum_made (λ (x : Node). x.lots) l,
+      sum_by-le (λ (r : Record). sum_by (λ (x : Node). x.lots) (made r))
+          1000000000 l (All-weaker (λ (r : Record). IsWithinLimits r.command)
+          (λ (r : Record). sum_by (λ (x : Node). x.lots) (made r) ≤ 1000000000)
+          (λ r h. made_lots r.number r.firm r.command h)
+          l all),
+    )
 
 pub position_within : (l : List Record) → AllWithinLimits l → (at : Place) (instrument : List ℕ) (side : Side)
     → position_of l at.firm at.account instrument side ≤ length l * 1000000000
 position_within l all at instrument side =
-    let a = position_is l at instrument side in
-    let b = sum_by-le-sum_by (lots_at l at instrument side) (λ (x : Node). x.lots) (nodes l)
-    (λ x.
-    let leaf = at_most (is_none (split_of l x.name))
-    (cond (stands_at l at x.name && trades_in l instrument side x.name) x.lots 0) in
-    let here = at_most (stands_at l at x.name && trades_in l instrument side x.name) x.lots in
-    omega (arith, leaf, here)) in
-    let c = all_lots l all in
-    omega (arith, a, b, c)
+    omega (
+      arith,
+      position_is l at instrument side,
+      sum_by-le-sum_by (lots_at l at instrument side)
+          (λ (x : Node). x.lots) (nodes l) (λ x. let leaf = at_most (is_none (split_of l x.name))
+          (cond (stands_at l at x.name && trades_in l instrument side x.name) x.lots 0) in
+          let here = at_most (stands_at l at x.name && trades_in l instrument side x.name) x.lots in omega arith),
+      all_lots l all,
+    )
 
 -- each row has room for as many lots as an entry may have
 pub row_fits : {l : List Record} {rows : PositionRows} → length l ≤ 1000000 → AllWithinLimits l → ArePositionsOf l rows
     → (at : Key) (side : Side) (n : ℕ) → n ≤ 10000000 → lots_in rows at side + n < 2 ^ 64
 row_fits {l} few all are at side n small =
-    let a = are.lots at side in
-    let b = position_within l all (record { firm = at.firm; account = at.account }) at.instrument side in
     let c : length l * 1000000000 ≤ 1000000 * 1000000000 = mul-le-mul_right 1000000000 few in
-    omega (arith, a, b, c)
+    omega (
+      arith,
+      are.lots at side,
+      position_within l all (record { firm = at.firm; account = at.account })
+          at.instrument side,
+    )

@@ -1,26 +1,24 @@
 -- How the terms that a book keeps follow its changes, and what an Agree or a Raise leaves of all else.
-use Rattle.std.proofs.Common.{◌≡◌, ℕ, ◌≤◌, ◌<◌, true, false, List, [], ◌∷◌, ◌++◌, length, refl, sym, ◌∙◌, ap, subst}
-use Rattle.std.proofs.Common.{arith, cond, Option, IsSomeAnd, append-nil, Some, None, sum_by, option_and_then}
-use Rattle.std.proofs.Common.{slice_get}
+use Rattle.gu_book.proofs.{Vocabulary.{IsOfTerms, AllWithinLimits, is_of_trees}, Dealing.{raised_most, used_most}}
+use Rattle.gu_book.proofs.{Undoing.{fees_without, positions_without}, FiledChanges.left_alone, Refused.next_legal}
+use Rattle.gu_book.proofs.TradesKept.{IsIdle}
 use Rattle.gu_book.proofs.Vocabulary.{lookup, AreTermsOf, pair_of, PairView, FeeRows, is_pair, TermsView, last_entry}
 use Rattle.gu_book.proofs.Vocabulary.{CanPut, CanPutAt, IsPut, IsTakenOut, PositionRows, Grove, AreFeesOf, CanClaim}
 use Rattle.gu_book.proofs.Vocabulary.{IsClaimed, IsSmallDeed, IsGroveOf, IsNext, IsFree, ArePositionsOf, counted_at}
-use Rattle.gu_book.proofs.Vocabulary.{IsOfTerms, AllWithinLimits, is_of_trees}
-use Rattle.std.proofs.lemmas.List.Elements.{All-contains}
-use Rattle.gu_depend.proofs.Vocabulary.{House, EntryPart, charge_of, node_of, is_given, without, use_of_node, deed_of}
-use Rattle.gu_depend.proofs.Vocabulary.{raised_under, used_under, Deed, Makes, Raises, Uses, Dealing, Pair, Command}
-use Rattle.gu_depend.proofs.Vocabulary.{Trade, Split, Claim, Refuse, Cancel, Agree, Raise, Record, Kind, Given, Node}
-use Rattle.gu_depend.proofs.{Deals.{both_same}, LastMoves.{IsBefore, is_before}, Replay.{NumbersOnce, number_once}}
-use Rattle.gu_depend.proofs.{Settled.{Settled, SettledAs, facts}, StandsUnder.{rises_distinct}}
-use Rattle.gu_depend.proofs.TermsFollow.{apart_follows, put_follows, taken_follows, nobody_follows}
+use Rattle.gu_book.specs.{Dealing.{HasRoomForClaim, place_of_kind}, Kinds.is_claim}
+use Rattle.gu_depend.proofs.{TermsFollow.{apart_follows, put_follows, taken_follows, nobody_follows}, Deals.both_same}
+use Rattle.gu_depend.proofs.{Settled.{Settled, SettledAs, facts}, Replay.{NumbersOnce, number_once}}
+use Rattle.gu_depend.proofs.{LastMoves.{IsBefore, is_before}, StandsUnder.rises_distinct}
+use Rattle.gu_depend.proofs.Vocabulary.{House, EntryPart, charge_of, node_of, is_given, without, deed_of, raised_under}
+use Rattle.gu_depend.proofs.Vocabulary.{used_under, Deed, Makes, Raises, Uses, Dealing, Pair, Command, Trade, Split}
+use Rattle.gu_depend.proofs.Vocabulary.{Claim, Refuse, Cancel, Agree, Raise, Record, Kind, Given, Node}
 use Rattle.gu_depend.specs.Terms.{pair_of_kind}
-use Rattle.gu_fees.specs.{Pairs.{HasRoomFor}, Sums.{AreSumsOf}, Terms.{row_of, IsReady}}
+use Rattle.gu_fees.specs.{Terms.{row_of, IsReady}, Pairs.HasRoomFor}
 use Rattle.gu_tree.specs.ShownAll.{named_place}
-use Rattle.gu_book.specs.{Dealing.{HasRoomForClaim, place_of_kind}, Kinds.{is_claim}}
-use Rattle.gu_book.proofs.{Dealing.{raised_most, used_most}, Refused.{next_legal}, FiledChanges.{left_alone}}
-use Rattle.gu_book.proofs.TradesKept.{IsIdle}
+use Rattle.std.proofs.Common.{◌≡◌, ℕ, ◌≤◌, ◌<◌, true, false, List, [], ◌∷◌, ◌++◌, length, refl, sym, ◌∙◌, ap, arith}
+use Rattle.std.proofs.Common.{Option, IsSomeAnd, append-nil, Some, None, sum_by, option_and_then}
+use Rattle.std.proofs.lemmas.List.Elements.{All-contains}
 use Rattle.gu_book.proofs.FiledLess as less
-use Rattle.gu_book.proofs.Undoing.{fees_without, positions_without}
 
 -- ---- which changes deal
 
@@ -50,8 +48,8 @@ terms_placeless k _ of = absurd (cc)
 has_room : (d : Deed) → IsSmallDeed d → (ds : List Dealing) → raised_under ds ≤ 10000000000000000000
     → used_under ds ≤ 10000000000000 → HasRoomFor ds d
 has_room (Makes a) small ds raised used = small.limit_fits
-has_room (Raises lots) small ds raised used = let few : lots ≤ 10000000000000 = small in omega (arith, few, raised)
-has_room (Uses lots) small ds raised used = let few : lots ≤ 10000000 = small in omega (arith, few, used)
+has_room (Raises lots) small ds raised used = omega (arith, small)
+has_room (Uses lots) small ds raised used = omega (arith, small)
 
 module _ {t : House} {l : List Record} {v : TermsView} (few : length l ≤ 1000000) (all : AllWithinLimits l)
     (are : AreTermsOf t l v) (g k : List ℕ) (d : Deed) (small : IsSmallDeed d) where
@@ -63,13 +61,13 @@ module _ {t : House} {l : List Record} {v : TermsView} (few : length l ≤ 10000
       let raised = raised_most l g k all few in
       let used = used_most l g k all few in (
         h,
-        has_room d small q.dealings (omega (arith, ap raised_under told, raised))
-            (omega (arith, ap used_under told, used)),
+        has_room d small q.dealings (omega (arith, ap raised_under told))
+            (omega (arith, ap used_under told)),
       )
 
   -- a small deed may be put where there is room for an entry
   pub can_put : (n : ℕ) → last_entry v < n → IsReady v g k → CanPut v g k (record { number = n; deed = d })
-  can_put n above ready = record { room = ready.room; above = above; pair = room_by (row_of v g k) refl ready.pair }
+  can_put n above ready = record { room = ready.room; above = above; pair = room_by _ refl ready.pair }
 
 -- at the place of the two
 pub can_put_at : {v : TermsView} {g k : List ℕ} {d : Dealing} (i : ℕ) → Some i ≡ lookup (is_pair g k) v.places
@@ -77,10 +75,7 @@ pub can_put_at : {v : TermsView} {g k : List ℕ} {d : Dealing} (i : ℕ) → So
 can_put_at {v} {d = d} i at can = record {
   room = can.room;
   above = can.above;
-  pair =
-      subst (λ o.
-      IsSomeAnd (option_and_then (slice_get v.pairs) o) (λ (r : PairView). (1 ≤ r.room) × HasRoomFor r.dealings d.deed))
-      (sym at) can.pair;
+  pair = rw (← at) at can.pair;
 }
 
 -- ---- one change more
@@ -105,17 +100,11 @@ module _ {t : House} {l : List Record} {r : Record} {ts : Grove} (next : IsNext 
     claimed_by : (kind : Kind) → x.kind ≡ kind → (v w : TermsView) → AreTermsOf t l v
         → IsClaimed v w r.number x.lots kind → AreTermsOf t (l ++ r ∷ []) w
     claimed_by (Given m g k) is v w are put =
-        dealt_put v w g k (Uses x.lots) are
-        (ap (deed_of l g k r.firm) claims
-        ∙ (ap (option_and_then (use_of_node g k)) there
-        ∙ (ap (λ (kind : Kind). use_of_node g k (record { name = x.name; lots = x.lots; kind = kind })) is
-        ∙ ap (λ b. cond b (Some (Uses x.lots)) None) (both_same g k))))
+        dealt_put v w g k _ are
+        (cc (claims, there, both_same g k))
         put
     claimed_by _ is v w are same =
-        subst (AreTermsOf t (l ++ r ∷ [])) (sym same)
-        (dealt_apart v are
-        (ap (pair_of l r.firm) claims
-        ∙ (ap (option_and_then (λ (x : Node). pair_of_kind x.kind)) there ∙ ap pair_of_kind is)))
+        rw same (dealt_apart v are (ap (pair_of l r.firm) claims ∙ (ap (option_and_then _) there ∙ ap pair_of_kind is)))
 
     pub claim_dealt : (v w : TermsView) → AreTermsOf t l v → IsClaimed v w r.number x.lots x.kind
         → AreTermsOf t (l ++ r ∷ []) w
@@ -123,14 +112,14 @@ module _ {t : House} {l : List Record} {r : Record} {ts : Grove} (next : IsNext 
 
   -- an Agree and a Raise change no tree
   pub terms_filed : IsOfTerms r.command → IsGroveOf (l ++ r ∷ []) ts
-  terms_filed of_terms = left_alone next (terms_placeless r.number r.command of_terms)
+  terms_filed of_terms = left_alone next (terms_placeless _ _ of_terms)
 
 -- ---- a claim of a node of some kind
 
 pub can_claim : {t : House} {l : List Record} {v : TermsView} → length l ≤ 1000000 → AllWithinLimits l
     → AreTermsOf t l v → (n lots : ℕ) → lots ≤ 10000000 → last_entry v < n → (kind : Kind) → HasRoomForClaim v kind
     → CanClaim v n lots kind
-can_claim few all are n lots small above (Given m g k) ready = can_put few all are g k (Uses lots) small n above ready
+can_claim few all are n lots small above (Given m g k) ready = can_put few all are g k _ small n above ready
 can_claim few all are n lots small above _ ready = tt
 
 -- what has a place is a given node
@@ -149,17 +138,13 @@ claimed_at v w n lots i _ at put = absurd (cc)
 -- and a node for which there is room has one, if it is given
 pub claimed_nowhere : (v : TermsView) (n lots : ℕ) (kind : Kind) → None ≡ place_of_kind v kind
     → CanClaim v n lots kind → IsClaimed v v n lots kind
-claimed_nowhere v n lots (Given _ g k) at can =
-    absurd (subst (λ o.
-    IsSomeAnd (option_and_then (slice_get v.pairs) o)
-    (λ (r : PairView). (1 ≤ r.room) × HasRoomFor r.dealings (Uses lots)))
-    (sym at) can.pair)
+claimed_nowhere v n lots (Given _ g k) at can = absurd (rw (← at) at can.pair)
 claimed_nowhere v n lots _ at can = refl
 
 pub claimed_last : (v w : TermsView) (n lots : ℕ) (kind : Kind) → last_entry v < n → IsClaimed v w n lots kind
     → last_entry w ≤ n
-claimed_last v w n lots (Given m g k) above put = let e = put.last in omega (arith, e)
-claimed_last v w n lots _ above same = let e = ap last_entry same in omega (arith, above, e)
+claimed_last v w n lots (Given m g k) above put = omega (arith, put.last)
+claimed_last v w n lots _ above same = omega (arith, ap last_entry same)
 
 -- ---- one change less
 
@@ -173,8 +158,8 @@ module _ {t : House} {l : List Record} {r : Record} {ts : Grove} (u : IsFree t l
 
   claim_paired : (c : Command) → is_claim c ≡ true → SettledAs t l r.firm c → (p : Pair) × (pair_of l r.firm c ≡ Some p)
   claim_paired (Claim n account) is s =
-      let p = given_pair s.node.kind s.holds.given in
-      (p.0, ap (option_and_then (λ (x : Node). pair_of_kind x.kind)) s.there ∙ p.1)
+      let p = given_pair _ s.holds.given in
+      (p.0, cc)
   claim_paired _ is s = absurd (cc)
 
   -- taken out of the terms of its giver and taker
@@ -187,35 +172,34 @@ module _ {t : House} {l : List Record} {r : Record} {ts : Grove} (u : IsFree t l
   pub claim_undealt : (v w : TermsView) → AreTermsOf t l v → is_claim r.command ≡ true → IsTakenOut v w r.number
       → AreTermsOf t (without l r.number) w
   claim_undealt v w are is taken =
-      let settled : Settled t l r = All-contains (Settled t l) l r (facts t l u.replayed).settled u.among in
-      let paired = claim_paired r.command is settled.stands in
-      dealt_taken v w paired.0 are paired.1 taken
+      let settled = All-contains (Settled t l) l r (facts t l u.replayed).settled u.among in
+      let paired = claim_paired _ is settled.stands in
+      dealt_taken v w _ are paired.1 taken
 
   -- another change of trees
   pub apart_undealt : (v : TermsView) → AreTermsOf t l v → is_of_trees r.command ≡ true → is_claim r.command ≡ false
       → AreTermsOf t (without l r.number) v
   apart_undealt v are of_trees other =
       nobody_follows t l r (record { once = numbers; replayed = u.replayed }) u.among u.free v are
-      (trees_apart l r.firm r.command of_trees other)
+      (trees_apart l _ _ of_trees other)
 
   -- an Agree or a Raise
   pub terms_undealt : (v w : TermsView) → AreTermsOf t l v → IsOfTerms r.command → IsTakenOut v w r.number
       → AreTermsOf t (without l r.number) w
-  terms_undealt v w are of taken = let p = terms_paired l r.firm r.command of in dealt_taken v w p.0 are p.1 taken
+  terms_undealt v w are of taken = let p = terms_paired l r.firm _ of in dealt_taken v w p.0 are p.1 taken
 
   -- an Agree or a Raise that goes leaves the trees as they are
   pub undealt_filed : IsOfTerms r.command → IsGroveOf (without l r.number) ts
-  undealt_filed of = less.left_alone u (terms_placeless r.number r.command of)
+  undealt_filed of = less.left_alone u (terms_placeless _ _ of)
 
   -- what costs nothing leaves the fees as they are
   pub fees_left : None ≡ charge_of t (without l r.number) r.command → (fees : FeeRows) → AreFeesOf t l fees
       → AreFeesOf t (without l r.number) fees
-  fees_left costs fees are =
-      fees_without u fees fees are None costs (λ cs sums. subst (AreSumsOf fees) (append-nil cs) sums)
+  fees_left costs fees are = fees_without u fees fees are None costs (λ cs sums. rw (append-nil cs) at sums)
 
   -- and what moves nothing the positions
   pub positions_left : IsIdle t (without l r.number) r.firm r.command → (rows : PositionRows) → ArePositionsOf l rows
       → ArePositionsOf (without l r.number) rows
   positions_left idle rows are =
       positions_without u rows rows rows are (λ at side. refl) None idle.takes
-      (λ at side. let a = ap (sum_by (counted_at at side)) idle.adds in omega (arith, a))
+      (λ at side. omega (arith, ap (sum_by (counted_at at side)) idle.adds))

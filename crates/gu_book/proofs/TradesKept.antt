@@ -1,22 +1,20 @@
 -- What each kind of change leaves of the fees and the positions: a Claim alone costs something; the lots of a Trade go
 -- into one row, those of a Claim from one into another, and of a Split only what goes to other accounts is moved.
-use Rattle.std.proofs.Common.{◌≡◌, ℕ, ◌+◌, ◌<◌, ◌≤◌, ◌^◌, true, false, List, [], ◌∷◌, ◌++◌, length, refl, sym, ◌∙◌, ap}
-use Rattle.std.proofs.Common.{subst, arith, Option, Some, None, sum_by, filter_map, option_and_then, IfSome}
-use Rattle.std.proofs.lemmas.List.Sums.{sum_by-cons}
-use Rattle.gu_depend.proofs.Vocabulary.{House, charge_of, charge_of_node, is_change, place_of, Charge, node_of}
-use Rattle.gu_depend.proofs.Vocabulary.{refusal_of, Node, Part, Command, Trade, Split, Claim, Agree, Raise, Record}
-use Rattle.gu_depend.proofs.Vocabulary.{EntryPart, State, Refuse, Cancel, state_after}
 use Rattle.gu_base.specs.declared.state.State.TheVariants.{Refused, Cancelled}
-use Rattle.gu_tree.specs.{Changes.{is_given_back}, Shown.{DecidesNode, GivesBack}}
-use Rattle.gu_book.specs.Kinds.{is_claim}
-use Rattle.std.proofs.lemmas.Option.{same_Some}
-use Rattle.gu_book.proofs.Vocabulary.{PositionRows, lots_in, Grove, IsNext, IsOfTerms, pair_of, traded_at, holding_of}
-use Rattle.gu_book.proofs.Vocabulary.{taken_by, holding_away, part_away, added_by, counted_at, HaveRoom, HaveMoved}
-use Rattle.gu_book.proofs.Vocabulary.{ArePositionsOf, AllWithinLimits, IsWithinLimits, Holding}
+use Rattle.gu_book.proofs.{Vocabulary.{ArePositionsOf, AllWithinLimits, Holding}, HoldingRows.{put_there, first_there}}
+use Rattle.gu_book.proofs.{Standings.{row_fits, has_taken, positions_moved}, Refused.accepted_small, Within.node_within}
 use Rattle.gu_book.proofs.PartsAway.{at_whole, held_is, moved, moved_few, SplitWell, split_well, whole_well}
 use Rattle.gu_book.proofs.PartsAway.{split_moved}
-use Rattle.gu_book.proofs.{Standings.{row_fits, has_taken, positions_moved}, HoldingRows.{put_there, first_there}}
-use Rattle.gu_book.proofs.{Within.{node_within}, Refused.{accepted_small}}
+use Rattle.gu_book.proofs.Vocabulary.{PositionRows, lots_in, Grove, IsNext, IsOfTerms, pair_of, holding_of, taken_by}
+use Rattle.gu_book.proofs.Vocabulary.{holding_away, part_away, added_by, counted_at, HaveRoom, HaveMoved}
+use Rattle.gu_book.specs.Kinds.{is_claim}
+use Rattle.gu_depend.proofs.Vocabulary.{House, charge_of, charge_of_node, is_change, Charge, node_of, Node, Part}
+use Rattle.gu_depend.proofs.Vocabulary.{Command, Trade, Split, Claim, Agree, Raise, Record, EntryPart, State, Refuse}
+use Rattle.gu_depend.proofs.Vocabulary.{Cancel, state_after}
+use Rattle.gu_tree.specs.{Shown.{DecidesNode, GivesBack}, Changes.is_given_back}
+use Rattle.std.proofs.{Common.{arith, Option, Some, None, sum_by, filter_map, option_and_then}, lemmas.Option.same_Some}
+use Rattle.std.proofs.Common.{◌≡◌, ℕ, ◌+◌, ◌<◌, ◌≤◌, ◌^◌, true, false, List, [], ◌∷◌, ◌++◌, length, refl, sym, ◌∙◌, ap}
+use Rattle.std.proofs.lemmas.List.Sums.{sum_by-cons}
 
 -- a command that costs nothing, takes nothing and adds nothing: one that gives a node back, and one of terms
 pub record IsIdle (t : House) (l : List Record) (by : List ℕ) (c : Command) : Type 0 where
@@ -53,11 +51,9 @@ pub record GivesNodeBack (t : House) (l : List Record) (by : List ℕ) (c : Comm
 pub gives_node_back : (t : House) (l : List Record) (by : List ℕ) (c : Command) (n : EntryPart) (s : State)
     → GivesBack n s c → GivesNodeBack t l by c
 gives_node_back t l by c n Refused is =
-    subst (GivesNodeBack t l by) (sym is)
-    (record { change = refl; idle = record { costs = refl; takes = refl; adds = refl }; apart = refl })
+    rw is (record { change = refl; idle = record { costs = refl; takes = refl; adds = refl }; apart = refl })
 gives_node_back t l by c n Cancelled is =
-    subst (GivesNodeBack t l by) (sym is)
-    (record { change = refl; idle = record { costs = refl; takes = refl; adds = refl }; apart = refl })
+    rw is (record { change = refl; idle = record { costs = refl; takes = refl; adds = refl }; apart = refl })
 gives_node_back t l by c n _ is = absurd is
 
 -- a change that may follow those of a book, whose positions stand in these rows
@@ -75,26 +71,26 @@ module _ {t : House} {l : List Record} {r : Record} {ts : Grove} {rows : Positio
       (trades : r.command ≡ Trade traded.key.firm traded.key.account traded.key.instrument traded.side traded.lots)
     where
       adds : added_by r.firm r.command None ≡ traded ∷ []
-      adds = ap (λ c. added_by r.firm c None) trades
+      adds = rw trades
 
       -- the row has room
       pub trade_fits : lots_in rows traded.key traded.side + traded.lots < 2 ^ 64
       trade_fits =
-          row_fits may.few may.within may.stands traded.key traded.side traded.lots
-          (subst IsWithinLimits trades (accepted_small t l r.firm r.command may.next.lawful))
+          row_fits may.few may.within may.stands traded.key traded.side _
+          (rw trades at (accepted_small t l r.firm r.command may.next.lawful))
 
       -- and has the lots
       pub trade_stands : (new : PositionRows) → HaveMoved rows new None (traded ∷ []) → ArePositionsOf (l ++ r ∷ []) new
       trade_stands new put =
-          positions_moved may.next rows new may.stands None (sym (ap (taken_by l) trades))
-          (subst (λ (hs : List Holding). HaveMoved rows new None hs) (sym adds) put)
+          positions_moved may.next _ new may.stands None (sym (cc trades))
+          (rw adds put)
 
   -- ---- what moves nothing
 
   pub idle_stands : IsIdle t l r.firm r.command → ArePositionsOf (l ++ r ∷ []) rows
   idle_stands idle =
-      positions_moved may.next rows rows may.stands None idle.takes
-      (λ at side. let a = ap (sum_by (counted_at at side)) idle.adds in omega (arith, a))
+      positions_moved may.next _ _ may.stands None idle.takes
+      (λ at side. omega (arith, ap (sum_by (counted_at at side)) idle.adds))
 
 -- a change that may follow and takes the whole of a node, the lots that stand there: a Split or a Claim
 pub record TakesWhole (t : House) (l : List Record) (r : Record) (ts : Grove) (rows : PositionRows) (n : EntryPart)
@@ -106,25 +102,24 @@ pub record TakesWhole (t : House) (l : List Record) (r : Record) (ts : Grove) (r
 module _ {t : House} {l : List Record} {r : Record} {ts : Grove} {rows : PositionRows} {n : EntryPart} {x : Node}
     {whole : Holding} (of : TakesWhole t l r ts rows n x whole) where
   its_whole : Some whole ≡ option_and_then (holding_of l) (node_of l n)
-  its_whole = of.holds ∙ sym (ap (option_and_then (holding_of l)) of.there)
+  its_whole = cc (of.holds, of.there)
 
   -- its node has lots in their range
   pub few_whole : x.lots ≤ 10000000
-  few_whole = subst (λ (o : Option Node). IfSome o (λ x. x.lots ≤ 10000000)) of.there (node_within l n of.may.within)
+  few_whole = rw of.there at (node_within l n of.may.within)
 
   -- ---- a Split
 
   module _ (ps : List Part) (splits : r.command ≡ Split n ps) where
     well : SplitWell t l r.firm n ps
-    well =
-        split_well t l r.firm n ps (subst (λ (c : Command). refusal_of t l r.firm c ≡ None) splits of.may.next.lawful)
+    well = split_well t l r.firm n ps (rw splits at of.may.next.lawful)
 
     -- the whole stands in an account of the firm that splits it, and has the lots of its parts
     pub whole_is : (whole.key.firm ≡ r.firm) × (whole.lots ≡ sum_by (λ (p : Part). p.lots) ps)
-    whole_is = whole_well well whole (of.holds ∙ ap (holding_of l) (same_Some x well.node (sym of.there ∙ well.there)))
+    whole_is = whole_well well whole (cc (of.holds, same_Some x well.node (sym of.there ∙ well.there)))
 
     takes : Some whole ≡ taken_by l r.command
-    takes = its_whole ∙ sym (ap (taken_by l) splits)
+    takes = cc (its_whole, splits)
 
     -- the rows have room for what goes elsewhere
     pub split_fits : HaveRoom rows (filter_map (part_away whole r.firm) ps)
@@ -132,65 +127,67 @@ module _ {t : House} {l : List Record} {r : Record} {ts : Grove} {rows : Positio
         let d = moved_few whole r.firm ps in
         let e = well.sums in
         let f = ap (λ (x : Node). x.lots) (same_Some x well.node (sym of.there ∙ well.there)) in
-        row_fits of.may.few of.may.within of.may.stands at side (moved whole r.firm ps)
-        (omega (arith, d, e, f, few_whole))
+        row_fits of.may.few of.may.within of.may.stands at side _
+        (omega (arith, few_whole))
 
     module _ (mid : PositionRows) (put : HaveMoved rows mid None (filter_map (part_away whole r.firm) ps)) where
       -- so many lots stand where the whole does
       pub split_takes : moved whole r.firm ps ≤ lots_in mid whole.key whole.side
       split_takes =
-          let a =
-          has_taken of.may.next rows mid of.may.stands (filter_map (part_away whole r.firm) ps) put whole takes in
-          let b = moved_few whole r.firm ps in
-          let c = whole_is.1 in
-          omega (arith, a, b, c)
+          omega (
+            arith,
+            has_taken of.may.next rows mid of.may.stands (filter_map (part_away whole r.firm) ps) put whole
+                takes,
+            moved_few whole r.firm ps,
+            whole_is.1,
+          )
 
       pub split_stands : (new : PositionRows) → HaveMoved mid new (Some (at_whole whole (moved whole r.firm ps))) []
           → ArePositionsOf (l ++ r ∷ []) new
       split_stands new taken =
-          positions_moved of.may.next rows new of.may.stands (Some whole) takes
-          (subst (λ (hs : List Holding). HaveMoved rows new (Some whole) hs)
-          (sym (ap (λ c. added_by r.firm c (Some whole)) splits))
+          positions_moved of.may.next rows new of.may.stands _ takes
+          (rw (ap (λ c. added_by r.firm c (Some whole)) splits)
           (split_moved t whole r.firm ps whole_is.0 whole_is.1 well.parts rows mid new put taken))
 
   -- ---- a Claim
 
   module _ (account : List ℕ) (claims : r.command ≡ Claim n account) where
     claim_takes : Some whole ≡ taken_by l r.command
-    claim_takes = its_whole ∙ sym (ap (taken_by l) claims)
+    claim_takes = cc (its_whole, claims)
 
     -- what it costs
     pub claim_costs : (o : Option Charge) → o ≡ charge_of_node t l x → o ≡ charge_of t l r.command
-    claim_costs o is = is ∙ sym (ap (charge_of t l) claims ∙ ap (option_and_then (charge_of_node t l)) of.there)
+    claim_costs o is = cc (claims, of.there)
 
     -- the lots in the account of the claim
     abbrev claimed_lots : Holding
     claimed_lots = holding_away whole r.firm account whole.lots
 
     claim_adds : added_by r.firm r.command (Some whole) ≡ claimed_lots ∷ []
-    claim_adds = ap (λ c. added_by r.firm c (Some whole)) claims
+    claim_adds = cc claims
 
     -- the row has room
     pub claim_fits : lots_in rows claimed_lots.key whole.side + whole.lots < 2 ^ 64
     claim_fits =
-        let same = (held_is (place_of l x.name) (traded_at l x.name) x.lots whole of.holds).0 in
+        let same = (held_is _ _ _ _ of.holds).0 in
         row_fits of.may.few of.may.within of.may.stands claimed_lots.key whole.side whole.lots
-        (omega (arith, few_whole, same))
+        (omega (arith, few_whole))
 
     module _ (mid : PositionRows) (put : HaveMoved rows mid None (claimed_lots ∷ [])) where
       -- once they are put they are there
       pub claim_there : whole.lots ≤ lots_in mid claimed_lots.key whole.side
-      claim_there = first_there mid claimed_lots [] (put_there rows mid (claimed_lots ∷ []) put)
+      claim_there = first_there mid claimed_lots [] (put_there _ mid (claimed_lots ∷ []) put)
 
       -- so many stand where the node stood
       pub claim_whole : whole.lots ≤ lots_in mid whole.key whole.side
-      claim_whole = has_taken of.may.next rows mid of.may.stands (claimed_lots ∷ []) put whole claim_takes
+      claim_whole = has_taken of.may.next _ mid of.may.stands (claimed_lots ∷ []) put _ claim_takes
 
       pub claim_stands : (new : PositionRows) → HaveMoved new mid None (whole ∷ []) → ArePositionsOf (l ++ r ∷ []) new
       claim_stands new taken =
-          positions_moved of.may.next rows new of.may.stands (Some whole) claim_takes
-          (subst (λ (hs : List Holding). HaveMoved rows new (Some whole) hs) (sym claim_adds) (λ at side.
-          let a = put at side in
-          let b = taken at side in
-          let c = sum_by-cons (counted_at at side) whole [] in
-          omega (arith, a, b, c)))
+          positions_moved of.may.next rows new of.may.stands _ claim_takes
+          (rw claim_adds (λ at side. omega (
+            arith,
+            put at side,
+            taken at side,
+            sum_by-cons (counted_at at side) whole [],
+          )))

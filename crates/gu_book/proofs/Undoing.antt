@@ -1,36 +1,34 @@
 -- A live change on which nothing stands can as well stand last: so the fees and positions without it are those with it,
 -- less what it moved.
-use Rattle.gu_depend.proofs.Vocabulary.{◌≡◌, ℕ, suc, ◌+◌, ◌≤◌, true, ◌&&◌, ◌||◌, List, [], ◌∷◌, ◌++◌, length, refl, sym}
-use Rattle.gu_depend.proofs.Vocabulary.{◌∙◌, ap, subst, arith, Option, All, Contains, cond, false, Bool, map, All-tail}
-use Rattle.gu_depend.proofs.Vocabulary.{All-contains, All-weaker, All-contains_itself, EntryPart, House, most_lots}
-use Rattle.gu_depend.proofs.Vocabulary.{highest_rate, charges, charge_of, deal_in, node_of, split_of, splits, decides}
-use Rattle.gu_depend.proofs.Vocabulary.{decision_of, is_given, parent, position_of, same_side, line_within}
-use Rattle.gu_depend.proofs.Vocabulary.{place_of_kind, place_of, root_along, root_of, refusal_of, first}
-use Rattle.gu_depend.proofs.Vocabulary.{refusal_of_part, without, Command, Split, Claim, Part, Side, Record, Charge}
-use Rattle.gu_depend.proofs.Vocabulary.{Kind, Given, Node, Place, Deal, no_some, none_is_some, none_refused, found_in}
-use Rattle.gu_depend.proofs.Vocabulary.{find_passes, or_parts, false_from_ne_true, same_Some, name_same, node_called}
-use Rattle.gu_depend.proofs.Vocabulary.{splits_well}
-use Rattle.gu_depend.proofs.{Vocabulary.{decides_well, filter, not, All-head, All-cons, cond_both}, Deals.gives_alike}
-use Rattle.std.proofs.Common.{◌≢◌, ◌*◌, Some, None, find, filter_map, sum_by, option_and_then, ◌==◌, IfSome}
-use Rattle.std.proofs.Common.{mul-le-mul_right}
+use Rattle.gu_book.proofs.{PartsAway.{moved, moved_few, parts_move, split_well, whole_well}, HoldingRows.is_own_key}
+use Rattle.gu_book.proofs.{Standings.{counts_on, moved_by, taken_part, position_within}, Dealing.uses_charged}
+use Rattle.gu_book.proofs.{Leaves.{rises_without, without_small, without_within}, Charging.is_charged}
+use Rattle.gu_book.proofs.{Holdings.{IsCounted, decision_kept, given_parent}, ByNumber.{its_own, not_yet, change_left}}
+use Rattle.gu_book.proofs.{Restored.replay_on, Within.node_within}
 use Rattle.gu_book.proofs.Vocabulary.{cons_option, change_of, Grove, IsFree, names, FeeRows, PositionRows, lots_in}
 use Rattle.gu_book.proofs.Vocabulary.{is_key, Key, SplitsNode, DecidesNode, IsOnlySplit, IsOnlyDecision, IsSmallCharge}
 use Rattle.gu_book.proofs.Vocabulary.{AreFeesOf, IsCharged, traded_at, held_at, holding_of, taken_before, taken_by}
 use Rattle.gu_book.proofs.Vocabulary.{added_by, counted_at, taken_at, SameLots, HaveMoved, HaveThere, HasRoomBack}
 use Rattle.gu_book.proofs.Vocabulary.{ArePositionsOf, goes_back, comes_from, HasFewLots, AllWithinLimits, Holding}
-use Rattle.gu_depend.proofs.{Finds.{count_permuted, alike_at}, Names.at_name, Settled.{named_once, accepted_there}}
+use Rattle.gu_depend.proofs.{Vocabulary.{decides_well, filter, All-head, All-cons, cond_both}, Deals.gives_alike}
+use Rattle.gu_depend.proofs.{Replay.{NumbersOnce, number_once, Legal, SameFinds, same_finds}, Names.at_name}
+use Rattle.gu_depend.proofs.{StandsUnder.{rises_distinct, CanGo, can_go}, Settled.{named_once, accepted_there}}
+use Rattle.gu_depend.proofs.{Finds.{count_permuted, alike_at}, State.{SameDeals, charge_same}}
 use Rattle.gu_depend.proofs.Grown.{NamesThere, Grown, line_of_grown, place_same, above}
 use Rattle.gu_depend.proofs.LastMoves.{IsBefore, is_before, moves_its_own, split_kept, root_found, charge_kept}
-use Rattle.gu_depend.proofs.Replay.{NumbersOnce, number_once, Legal, SameFinds, same_finds}
-use Rattle.gu_depend.proofs.{StandsUnder.{rises_distinct, CanGo, can_go}, State.{SameDeals, charge_same}}
+use Rattle.gu_depend.proofs.Vocabulary.{◌≡◌, ℕ, suc, ◌+◌, ◌≤◌, true, ◌&&◌, ◌||◌, List, [], ◌∷◌, ◌++◌, length, refl, sym}
+use Rattle.gu_depend.proofs.Vocabulary.{◌∙◌, ap, arith, Option, All, Contains, cond, false, Bool, map, All-tail}
+use Rattle.gu_depend.proofs.Vocabulary.{All-contains, All-weaker, All-contains_itself, EntryPart, House, most_lots}
+use Rattle.gu_depend.proofs.Vocabulary.{highest_rate, charges, charge_of, deal_in, node_of, split_of, splits, decides}
+use Rattle.gu_depend.proofs.Vocabulary.{decision_of, is_given, parent, position_of, same_side, place_of_kind, place_of}
+use Rattle.gu_depend.proofs.Vocabulary.{root_along, root_of, refusal_of, first, refusal_of_part, without, Command}
+use Rattle.gu_depend.proofs.Vocabulary.{Split, Claim, Part, Side, Record, Charge, Kind, Given, Node, Place, Deal}
+use Rattle.gu_depend.proofs.Vocabulary.{no_some, none_is_some, none_refused, found_in, find_passes, or_parts}
+use Rattle.gu_depend.proofs.Vocabulary.{false_from_ne_true, same_Some, name_same, node_called, splits_well}
 use Rattle.gu_fees.specs.Sums.{AreSumsOf}
 use Rattle.gu_tree.proofs.Shows.{find_kept}
-use Rattle.std.proofs.Math.Bool.{or-true}
-use Rattle.gu_book.proofs.{Holdings.{IsCounted, decision_kept, given_parent}, Charging.is_charged, Dealing.uses_charged}
-use Rattle.gu_book.proofs.{HoldingRows.is_own_key, Leaves.{rises_without, without_small, without_within}}
-use Rattle.gu_book.proofs.{ByNumber.{its_own, not_yet, change_left}, Restored.replay_on, Within.node_within}
-use Rattle.gu_book.proofs.Standings.{counts_on, moved_by, taken_part, position_within}
-use Rattle.gu_book.proofs.PartsAway.{moved, moved_few, parts_move, split_well, whole_well}
+use Rattle.std.proofs.{Common.mul-le-mul_right, Math.Bool.or-true}
+use Rattle.std.proofs.Common.{◌≢◌, ◌*◌, Some, None, find, filter_map, sum_by, option_and_then, ◌==◌, IfSome}
 use Rattle.gu_depend.proofs.LastMoves as before_last
 
 -- ---- small charges
@@ -39,7 +37,7 @@ use Rattle.gu_depend.proofs.LastMoves as before_last
 kept_small : (h : Record → Option Charge) (p : Record → Bool) (l : List Record) → All IsSmallCharge (filter_map h l)
     → All IsSmallCharge (filter_map h (filter p l))
 kept_small h p [] all = all
-kept_small h p (d ∷ l) all = at (h d) refl (kept_small h p l) all
+kept_small h p (d ∷ l) all = at _ refl (kept_small h p l) all
   where
     at : (o : Option Charge) → h d ≡ o
         → (All IsSmallCharge (filter_map h l) → All IsSmallCharge (filter_map h (filter p l)))
@@ -48,15 +46,14 @@ kept_small h p (d ∷ l) all = at (h d) refl (kept_small h p l) all
     at None e later all =
         cond_both (p d) (d ∷ filter p l) (filter p l) (λ z. All IsSmallCharge (filter_map h z))
         (λ _.
-        subst (λ (o : Option Charge). All IsSmallCharge (cons_option o (filter_map h (filter p l)))) (sym e)
-        (later all))
+        rw e (later all))
         (λ _. later all)
     at (Some c) e later all =
         let rest = later (All-tail IsSmallCharge c (filter_map h l) all) in
         cond_both (p d) (d ∷ filter p l) (filter p l) (λ z. All IsSmallCharge (filter_map h z))
         (λ _.
-        subst (λ (o : Option Charge). All IsSmallCharge (cons_option o (filter_map h (filter p l)))) (sym e)
-        (All-cons IsSmallCharge c (filter_map h (filter p l)) (All-head IsSmallCharge c (filter_map h l) all) rest))
+        rw e (All-cons IsSmallCharge c (filter_map h (filter p l)) (All-head IsSmallCharge c (filter_map h l) all)
+        rest))
         (λ _. rest)
 
 -- ---- the change last
@@ -82,7 +79,7 @@ module _ {t : House} {l : List Record} {r : Record} {g : Grove} (u : IsFree t l 
 
   last_list : Legal t last
   last_list = record {
-    once = λ n. omega (arith, count_permuted (λ (d : Record). d.number == n) l last go.permuted, once n);
+    once = λ n. omega (arith, count_permuted (λ d. d.number == n) l _ go.permuted, once n);
     replayed = go.last;
   }
 
@@ -103,32 +100,37 @@ module _ {t : House} {l : List Record} {r : Record} {g : Grove} (u : IsFree t l 
   none_among : (n : EntryPart) → n.entry ≡ r.number → (p : Record → Bool)
       → ((d : Record) → p d ≡ true → names n d.command ≡ true) → find p others ≡ None
   none_among n own p named =
-      no_some (find p others) (λ d e.
+      no_some _ (λ d e.
       let y = All-contains (NamesThere others) others d grown.named (found_in p others d e) n
       (named d (find_passes p others d e)) in
-      none_is_some (node_of others n) y.0 (unmade n own) y.1)
+      none_is_some _ y.0 (unmade n own) y.1)
 
   -- so nothing stands on such a node
   pub bare : (n : EntryPart) → n.entry ≡ r.number → (split_of l n ≡ None) × (decision_of l n ≡ None)
   bare n own =
-      let un = false_from_ne_true (names n r.command) (λ yes.
+      let un = false_from_ne_true _ (λ yes.
       let y = accepted_there t others r.firm r.command before.accepted n yes in
-      none_is_some (node_of others n) y.0 (unmade n own) y.1) in
-      let p = or_parts (splits n r.command) (decides n r.command) un in (
-        sym (finds.splits_same n)
-            ∙ (split_kept before n p.0
-            ∙ none_among n own (λ d. splits n d.command) (λ d is. ap (λ b. b || decides n d.command) is)),
-        sym (finds.decisions n)
-            ∙ (find_kept (λ r. decides n r.command) others r p.1
-            ∙ none_among n own (λ d. decides n d.command)
-            (λ d is. ap (λ b. splits n d.command || b) is ∙ or-true (splits n d.command))),
+      none_is_some _ y.0 (unmade n own) y.1) in
+      let p = or_parts _ _ un in (
+        cc (
+          finds.splits_same n,
+          split_kept before n p.0,
+          none_among n own _
+              (λ d is. ap (λ b. b || decides n d.command) is),
+        ),
+        cc (
+          finds.decisions n,
+          find_kept _ others r p.1,
+          none_among n own _
+              (λ d is. ap (λ b. splits n d.command || b) is ∙ or-true (splits n d.command)),
+        ),
       )
 
   -- the others don't refuse it
   pub lawful : refusal_of t others r.firm r.command ≡ None
   lawful =
-      (none_refused (refusal_of t others r.firm r.command) r.number None
-      (sym (replay_on t [] others (r ∷ []) u.free) ∙ go.last)).0
+      (none_refused _ r.number None
+      (cc (replay_on t [] others (r ∷ []) u.free, go.last))).0
 
   pub counted : IsCounted t others r
   counted = counts_on last_list (rises_without 1 r.number l u.rises)
@@ -143,38 +145,35 @@ module _ {t : House} {l : List Record} {r : Record} {g : Grove} (u : IsFree t l 
   charges_with : (fees : FeeRows) → AreFeesOf t l fees
       → AreSumsOf fees (charges t others ++ cons_option (charge_of t others r.command) [])
   charges_with fees are =
-      subst (λ cs. AreSumsOf fees cs) ((moves_its_own t others r last_list).charged)
-      (record {
+      rw (← (moves_its_own t others r last_list).charged) (record {
         paid = λ firm. are.sums.paid firm ∙ sym (go.same.paid firm);
-        received = λ firm. are.sums.received firm ∙ sym (go.same.received firm);
+        received = λ firm. are.sums.received firm
+            ∙ sym (go.same.received firm);
         used = λ giver taker. are.sums.used giver taker
-            ∙ (uses_charged t l u.replayed giver taker
-            ∙ (sym (go.same.used giver taker) ∙ sym (uses_charged t last go.last giver taker)));
+            ∙ (uses_charged t l u.replayed giver taker ∙ (sym (go.same.used giver taker)
+            ∙ sym (uses_charged t last go.last giver taker)));
       })
 
   -- and its own can be taken out of them
   pub charged_there : (fees : FeeRows) → AreFeesOf t l fees → (o : Option Charge) → o ≡ charge_of t others r.command
       → IfSome o (λ c. c.lots ≤ most_lots) → IfSome o (λ c. c.rate ≤ highest_rate) → IsCharged fees o
   charged_there fees are o is lots rate =
-      is_charged fees (charges t others) o
-      (subst (λ (o : Option Charge). AreSumsOf fees (charges t others ++ cons_option o [])) (sym is)
-      (charges_with fees are))
+      is_charged _ (charges t others) o
+      (rw is (charges_with fees are))
       lots rate
 
   pub fees_without : (fees new : FeeRows) → AreFeesOf t l fees → (o : Option Charge) → o ≡ charge_of t others r.command
       → ((cs : List Charge) → AreSumsOf fees (cs ++ cons_option o []) → AreSumsOf new cs) → AreFeesOf t others new
   fees_without fees new are o is less = record {
-    sums = less (charges t others)
-        (subst (λ (o : Option Charge). AreSumsOf fees (charges t others ++ cons_option o [])) (sym is)
-        (charges_with fees are));
+    sums = less _
+        (rw is (charges_with fees are));
     small =
         let h : Record → Option Charge = λ d. charge_of t l d.command in
         -- and what another change costs
         let each = All-weaker (Contains others) (λ (d : Record). charge_of t others d.command ≡ h d)
         (λ d there. charge_kept before d there ∙ charge_same t l last finds deals d.command) others
         (All-contains_itself others) in
-        subst (All IsSmallCharge) (sym (gives_alike (λ d. charge_of t others d.command) h others each))
-        (kept_small h (λ d. not (d.number == r.number)) l are.small);
+        rw (gives_alike _ h others each) (kept_small h _ l are.small);
   }
 
   -- ---- what it took
@@ -191,7 +190,7 @@ module _ {t : House} {l : List Record} {r : Record} {g : Grove} (u : IsFree t l 
         grown.ends (suc (length others)) n x found (omega arith),
         up,
         undecided,
-        given_place x.kind (place_of others m) given,
+        given_place _ _ given,
       )
     where
       given_place : (k : Kind) (o : Option Place) → is_given k ≡ true → place_of_kind k None o ≡ o
@@ -208,31 +207,31 @@ module _ {t : House} {l : List Record} {r : Record} {g : Grove} (u : IsFree t l 
       let named = at_name others n x found in
       let traded = ap (option_and_then (of_root l)) (sym (ap root_along (line_of_grown l others grown x.name x named)))
       ∙ alike_at (of_root l) (of_root others) (root_of others x.name) (λ p e.
-      let y = root_found (length others) others p x.name x named
-      (sym (ap (λ o. root_along (line_within (length others) others o)) named) ∙ e) in
+      let y = root_found (length others) others p x.name x named (cc) in
       let other : r.number ≢ p.entry = λ same. none_is_some (node_of others p) y.0 (unmade p (sym same)) y.1 in
-      ap (option_and_then (λ (d : Record). deal_in d.command)) (sym (change_left r.number p.entry l other))) in
+      cc (change_left r.number p.entry l other)) in
       cc (grown.within.nodes n x found, place, traded, found)
 
   -- what it took is read while it is still there
   taken_as : (c : Command) → r.command ≡ c → taken_before l c ≡ taken_by others c
   taken_as (Split n ps) e =
-      let w = splits_well t others r.firm r.command n before.accepted (ap (splits n) e ∙ name_same n) in
-      let same_decision =
-      decision_kept counted w.node.name (ap (decides w.node.name) e) ∙ finds.decisions w.node.name in
-      took (λ y. place_of l y.name) n w.node w.there
-      (sym (place_same l others w.node.name w.node grown (at_name others n w.node w.there) same_decision))
+      let w = splits_well t others r.firm r.command n before.accepted (cc (name_same n)) in
+      let same_decision = decision_kept counted _ (cc) ∙ finds.decisions _ in
+      took _ n w.node w.there
+      (sym (place_same l others _ w.node grown (at_name others n w.node w.there) same_decision))
   taken_as (Claim n account) e =
-      let w = decides_well t others r.firm r.command n before.accepted (ap (decides n) e ∙ name_same n) in
+      let w = decides_well t others r.firm r.command n before.accepted (cc (name_same n)) in
       let x = w.node in
       let own = at_name others n x w.there in
       let up = given_parent x.kind w.given in
       let over = above l others x.name up.0 x grown own up.1 in
       let undecided = ap (decision_of others) (node_called others n x w.there) ∙ w.undecided in
-      took (λ y. option_and_then (place_of l) (parent y.kind)) n x w.there
+      took _ n x w.there
       (ap (option_and_then (place_of l)) up.1
-      ∙ (sym (place_same l others up.0 over.node grown over.there over.decided)
-      ∙ sym (stands_above x.name up.0 x own up.1 w.given undecided)))
+      ∙ (cc (
+        place_same l others up.0 over.node grown over.there over.decided,
+        stands_above x.name up.0 x own up.1 w.given undecided,
+      )))
   taken_as _ e = refl
 
   pub taken_same : taken_before l r.command ≡ taken_by others r.command
@@ -254,28 +253,19 @@ module _ {t : House} {l : List Record} {r : Record} {g : Grove} (u : IsFree t l 
         let moved = moved_by counted go.last place at.instrument side in
         let took = ap (taken_at at side) is in
         let added = ap (λ o. sum_by (counted_at at side) (added_by r.firm r.command o)) is in (
-          omega (
-            arith,
-            are.lots at side,
-            moved,
-            go.same.positions at.firm at.account at.instrument side,
-            took,
-            added,
-            same at side,
-          ),
-          omega (arith, taken_part counted go.last place at.instrument side, took),
+          omega (arith, are.lots at side, go.same.positions at.firm at.account at.instrument side, same),
+          omega (arith, taken_part counted go.last place at.instrument side),
         )
 
     -- so what it added is there
     pub added_there : HaveThere now (added_by r.firm r.command o)
-    added_there at side = let a = lots_with at side in omega (arith, a.0, a.1)
+    added_there at side = omega (arith, lots_with at side)
 
   pub positions_without : (rows now new : PositionRows) → ArePositionsOf l rows → SameLots rows now
       → (o : Option Holding) → o ≡ taken_by others r.command → HaveMoved new now o (added_by r.firm r.command o)
       → ArePositionsOf others new
   positions_without rows now new are same o is moved = record {
-    lots =
-        λ at side. let a = (lots_with rows now are same o is at side).0 in let b = moved at side in omega (arith, a, b);
+    lots = λ at side. omega (arith, (lots_with rows now are same o is at side).0, moved at side);
   }
 
   pub room_back : length l ≤ 1000000 → AllWithinLimits l → (rows now : PositionRows) → ArePositionsOf l rows
@@ -283,13 +273,15 @@ module _ {t : House} {l : List Record} {r : Record} {g : Grove} (u : IsFree t l 
       → HasRoomBack now o (added_by r.firm r.command o)
   room_back few all rows now are same None is = tt
   room_back few all rows now are same (Some h) is =
-      let a = (lots_with rows now are same (Some h) is h.key h.side).0 in
       let b = position_within others (without_small r.number l all)
       (record { firm = h.key.firm; account = h.key.account }) h.key.instrument h.side in
-      let c = ap (λ b. cond b h.lots 0) (is_own_key h.key h.side) in
-      let fewer : length others ≤ 1000000 = omega (arith, without_within r.number l, few) in
+      let fewer : length others ≤ 1000000 = omega (arith, without_within) in
       let i : length others * 1000000000 ≤ 1000000 * 1000000000 = mul-le-mul_right 1000000000 fewer in
-      omega (arith, a, b, c, i)
+      omega (
+        arith,
+        (lots_with rows now are same (Some h) is h.key h.side).0,
+        ap (λ b. cond b h.lots 0) (is_own_key h.key h.side),
+      )
 
   -- ---- trees
 
@@ -298,15 +290,14 @@ module _ {t : House} {l : List Record} {r : Record} {g : Grove} (u : IsFree t l 
   each_number P is =
       All-weaker (Contains l) (λ (d : Record). d.number ≡ r.number → P d)
       (λ d there same.
-      subst P (sym (same_Some d r (sym (its_own l d once there) ∙ (ap (change_of l) same ∙ its_own l r once u.among))))
-      is)
+      rw (same_Some d r (sym (its_own l d once there) ∙ (ap (change_of l) same ∙ its_own l r once u.among))) is)
       l (All-contains_itself l)
 
   -- no other Split and no other decision names its node
   pub only_split : (n : EntryPart) → SplitsNode n r.command → splits n r.command ≡ true → IsOnlySplit l r.number n
   only_split n is named =
       record {
-        each = each_number (λ (d : Record). SplitsNode n d.command) is;
+        each = each_number (λ d. SplitsNode n d.command) is;
         alone = (splits_well t others r.firm r.command n before.accepted named).whole;
       }
 
@@ -314,7 +305,7 @@ module _ {t : House} {l : List Record} {r : Record} {g : Grove} (u : IsFree t l 
       → IsOnlyDecision l r.number n
   only_decision n is named =
       record {
-        each = each_number (λ (d : Record). DecidesNode n d.command) is;
+        each = each_number (λ d. DecidesNode n d.command) is;
         alone = (decides_well t others r.firm r.command n before.accepted named).undecided;
       }
 
@@ -346,29 +337,40 @@ module _ (t : House) (whole : Holding) (by : List ℕ) (n : EntryPart) (ps : Lis
   split_back : GoesBack by (Split n ps) (Some whole)
   split_back = record {
     there = λ rows there at side.
-        let c = counted_less (is_key whole.key at && same_side whole.side side) (moved whole by ps)
-        (sum_by (λ (p : Part). p.lots) ps) (moved_few whole by ps) in
-        omega (arith, there at side, parts_move t whole by ps home fine at side, c);
+        omega (
+          arith,
+          counted_less (is_key whole.key at && same_side whole.side side) _ _ (moved_few whole by ps),
+          there at side,
+          parts_move t whole by ps home fine at side,
+        );
     room = λ rows room.
-        let c = ap (λ w. cond w (moved whole by ps) 0) (is_own_key whole.key whole.side) in
-        let d = ap (λ w. cond w (sum_by (λ (p : Part). p.lots) ps) 0) (is_own_key whole.key whole.side) in
-        omega (arith, room, lots, parts_move t whole by ps home fine whole.key whole.side, c, d);
+        omega (
+          arith,
+          ap (λ w. cond w (moved whole by ps) 0) (is_own_key whole.key whole.side),
+          ap (λ w. cond w (sum_by (λ (p : Part). p.lots) ps) 0) (is_own_key whole.key whole.side),
+          lots,
+          parts_move t whole by ps home fine whole.key whole.side,
+        );
     moved = λ old new back at side.
-        let c = ap (λ n. cond (is_key whole.key at && same_side whole.side side) n 0) lots in
-        omega (arith, back at side, parts_move t whole by ps home fine at side, c);
+        omega (
+          arith,
+          ap (λ n. cond (is_key whole.key at && same_side whole.side side) n 0) lots,
+          back at side,
+          parts_move t whole by ps home fine at side,
+        );
   }
 
 -- ---- the change that is undone
 
 module _ {t : House} {l : List Record} {r : Record} {g : Grove} (u : IsFree t l r g) where
   lawful_as : (c : Command) → r.command ≡ c → refusal_of t (others u) r.firm c ≡ None
-  lawful_as c e = subst (λ (c : Command). refusal_of t (others u) r.firm c ≡ None) e (lawful u)
+  lawful_as c e = rw e at (lawful u)
 
   back_as : (c : Command) → r.command ≡ c → (o : Option Holding) → o ≡ taken_by (others u) c → GoesBack r.firm c o
-  back_as (Split n ps) e None is = all_back None []
+  back_as (Split n ps) e None is = all_back _ []
   back_as (Split n ps) e (Some whole) is =
       let w = split_well t (others u) r.firm n ps (lawful_as (Split n ps) e) in
-      let well = whole_well w whole (is ∙ ap (option_and_then (holding_of (others u))) w.there) in
+      let well = whole_well w whole (cc) in
       split_back t whole r.firm n ps well.0 well.1 w.parts
   back_as c e o is = all_back o (added_by r.firm c o)
 
@@ -377,10 +379,9 @@ module _ {t : House} {l : List Record} {r : Record} {g : Grove} (u : IsFree t l 
 
   few_as : AllWithinLimits l → (c : Command) → r.command ≡ c → HasFewLots c
   few_as all (Split n ps) e =
-      let w = split_well t (others u) r.firm n ps (lawful_as (Split n ps) e) in
-      let small : w.node.lots ≤ 10000000 = subst (λ (o : Option Node). IfSome o (λ x. x.lots ≤ 10000000)) w.there
-      (node_within (others u) n (without_small r.number l all)) in
-      omega (arith, small, w.sums)
+      let w = split_well t (others u) r.firm n ps (lawful_as _ e) in
+      let small : w.node.lots ≤ 10000000 = rw w.there at (node_within (others u) n (without_small r.number l all)) in
+      omega arith
   few_as all _ e = tt
 
   -- the lots of its parts can be counted

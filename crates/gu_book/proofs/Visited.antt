@@ -2,7 +2,7 @@
 use Rattle.gu_depend.proofs.Vocabulary.{◌≡◌, ℕ, ◌+◌, ◌≤◌, true, false, List, length, refl, sym, ◌∙◌, ap, subst, arith}
 use Rattle.gu_depend.proofs.Vocabulary.{Option, IsSomeAnd, EntryPart, House, live, is_change, node_of, depth_of}
 use Rattle.gu_depend.proofs.Vocabulary.{refusal_of, answer_to, call_of, Command, Trade, Split, Claim, Refuse, Cancel}
-use Rattle.gu_depend.proofs.Vocabulary.{Reverse, Accepted, Entry, Record, refusal_parts, no_some}
+use Rattle.gu_depend.proofs.Vocabulary.{Reverse, Accepted, Entry, Record, refusal_parts}
 use Rattle.std.proofs.Common.{Some, None, is_some, IsSome, option_and_then, option_map, unwrap_or}
 use Rattle.gu_base.proofs.Accepted.{allowed, change_refused}
 use Rattle.gu_book.proofs.Vocabulary.{Grove, IsPlace, named_node, named_place, change_of, AreTreesOf, is_trade}
@@ -21,12 +21,6 @@ change_met t h e n ok change m named =
     sym (change_refused t h e.firm e.command change) ∙ (allowed t h e n ok).lawful in
     let x = names_there t (live h) e.firm e.command m (refusal_parts t (live h) e.firm e.command lawful).1 named in
     ap is_some x.1
-
--- what is no change of trees has no place there
-pub placeless : (k : ℕ) (c : Command) → is_of_trees c ≡ false → named_place k c ≡ None
-placeless k c other =
-    no_some (named_place k c)
-    (λ n e. let z : true ≡ false = ap is_some (sym e) ∙ (has_place k c ∙ other) in absurd (cc))
 
 met : (t : House) (h : List Entry) (e : Entry) (n : ℕ) → answer_to t h (call_of e) ≡ Accepted n e.status → (c : Command)
     → e.command ≡ c → changes_trees (live h) c ≡ true → is_trade c ≡ false → IsMet (live h) c

@@ -95,6 +95,7 @@ IsUndoneThere g k u p = IsSomeAnd (place_kept g k) (λ n. IsPlace g n u.found.tr
 -- nothing was looked up yet
 pub record IsNothing (s : Sought) : Type 0 where
   pub named : s.named ≡ None
+  pub undo : s.undo ≡ None
   pub undone : s.undone ≡ None
   pub standing : s.standing ≡ None
   pub nodes : s.nodes ≡ 0

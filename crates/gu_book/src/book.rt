@@ -30,6 +30,7 @@ ghost use Rattle.gu_book.specs.Found.{IsUndoneBy, IsUndoneIn, LiesThere};
 ghost use Rattle.gu_book.specs.Live.{entry_of_change};
 ghost use Rattle.gu_book.specs.Seen.{stored};
 ghost use Rattle.gu_book.specs.TreeRows.{is_live_trade, tree_rows};
+ghost use Rattle.gu_book.specs.Undo.{IsUndoIn};
 ghost use Rattle.gu_book.specs.Visits.{AreSeen, AreVisits, is_kept};
 
 use crate::copies::{copy_of, parts_of};
@@ -161,7 +162,7 @@ impl Book {
     }
 
     /// The accepted commands, in order.
-    #[tactic(auto, using(crate::proofs::Keeps::run_from_accepted, gu_base::proofs::LegalLaws::legal_from_replay))]
+    #[tactic(auto, using(crate::proofs::Cited::history_runs))]
     pub fn history(&self) -> &[Entry]
         ensures value { result.now ≡ self.now.history }
         ensures fits { length self.now.history ≤ most_entries }
@@ -266,6 +267,7 @@ impl Book {
         requires { IsNothing sought.old }
         ensures named { IsNamedIn (live self.now.history) (named_node command.now)
             sought.new.named }
+        ensures undo { IsUndoIn self.now.house self.now.history command.now sought.new.undo }
         ensures undone { IsUndoneIn (live self.now.history) command.now sought.new.undone
             sought.new.path.items }
         ensures there { LiesThere (live self.now.history) sought.new.named sought.new.path.items }
@@ -274,8 +276,14 @@ impl Book {
         ensures seen { (by : List ℕ) → AreSeen (live self.now.history) by command.now
             sought.new.nodes }
     {
-        let changes = Live::of(self.entries.as_slice(), &self.lookups.reversals);
-        seek(&changes, &self.state, command, sought);
+        seek(
+            &self.house,
+            &self.entries,
+            &self.lookups.reversals,
+            &self.state,
+            command,
+            sought,
+        );
     }
 
     /// What the book asks of what stands on a change, and what `first_standing` reads off its trees
@@ -304,6 +312,7 @@ impl Book {
         requires hashed { IsHashOf hash by.now id.now }
         requires named { IsNamedIn (live self.now.history) (named_node command.now)
             sought.now.named }
+        requires undo { IsUndoIn self.now.house self.now.history command.now sought.now.undo }
         requires standing { IsStandingIn self.now.house (live self.now.history) command.now
             sought.now.standing }
         ensures { result ≡ answer_to self.now.house self.now.history (record {
@@ -315,8 +324,8 @@ impl Book {
         let at = Basis {
             house: &self.house,
             entries: &self.entries,
-            changes: Live::of(self.entries.as_slice(), &self.lookups.reversals),
             named: &sought.named,
+            undo: &sought.undo,
             standing: sought.standing,
             terms: &self.state.terms,
             lookups: &self.lookups,

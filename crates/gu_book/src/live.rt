@@ -1,14 +1,13 @@
 //! The live changes, read off the history by their numbers.
 ghost use Rattle.std.specs.Prelude.{◌≡◌, ◌≤◌, ◌==◌, length, find, option_map, IfOk, map};
 ghost use Rattle.gu_base.specs.Answers.{entry_of};
-ghost use Rattle.gu_base.specs.History.{live, numbered_as};
+ghost use Rattle.gu_base.specs.History.{is_change, live, numbered_as};
 ghost use Rattle.gu_base.specs.Limits.{most_entries};
 ghost use Rattle.gu_book.specs.Lookups.{AreReversalsOf};
-ghost use Rattle.gu_book.specs.Live.{record_of};
+ghost use Rattle.gu_book.specs.Live.{CanBeFound, IsLookedUp, record_of};
 
 use crate::lookups::Reversals;
-use crate::rules::naming::is_change;
-use gu_base::{AllocId, Command, Entry, FirmId, Memory, Number, State};
+use gu_base::{AllocId, Command, Entry, FirmId, Memory, Number, Refusal, State};
 use std::alloc::Global;
 use std::marker::Model;
 
@@ -24,7 +23,7 @@ pub(crate) struct Change<'a> {
 
 /// The entry of this number, if the history has so many.
 #[inline(always)]
-#[tactic(auto, using(gu_base::proofs::Numbered::positive, gu_base::proofs::Numbered::unknown_entry, gu_base::proofs::Numbered::known_entry))]
+#[tactic(auto, using(crate::proofs::Cited::entry_by_number))]
 pub(crate) fn entry_at(entries: &[Entry], number: Number) -> Option<&Entry>
     ensures { option_map (λ e. numbered_as number e.now) result ≡ entry_of entries.now number }
 {
@@ -33,6 +32,53 @@ pub(crate) fn entry_at(entries: &[Entry], number: Number) -> Option<&Entry>
         return None;
     }
     Some(&entries[place])
+}
+
+/// Whether a command changes trees, positions, fees or terms.
+fn is_change(command: &Command) -> bool
+    ensures { result ≡ is_change command.now }
+{
+    match command {
+        Command::Trade { .. } => true,
+        Command::Split { .. } => true,
+        Command::Claim { .. } => true,
+        Command::Refuse { .. } => true,
+        Command::Cancel { .. } => true,
+        Command::Agree { .. } => true,
+        Command::Raise { .. } => true,
+        Command::Initiate { .. } => false,
+        Command::Decline { .. } => false,
+        Command::Reverse { .. } => false,
+    }
+}
+
+/// The live change of this number, or why a command that names it is refused. Whether an entry is a
+/// change, and whether it is reversed, is asked here alone.
+#[inline(always)]
+pub(crate) fn look_up<'a>(
+    entries: &'a [Entry],
+    reversals: &Reversals,
+    number: Number,
+) -> Result<Change<'a>, Refusal>
+    requires { CanBeFound entries.now reversals.now }
+    ensures { IsLookedUp entries.now number result }
+{
+    let Some(entry) = entry_at(entries, number) else {
+        return Err(Refusal::UnknownEntry);
+    };
+    if !is_change(&entry.command) {
+        return Err(Refusal::NotAChange);
+    }
+    match reversals.number(number) {
+        Some(reversal) => Err(Refusal::AlreadyReversed(reversal)),
+        None => Ok(Change {
+            number,
+            firm: &entry.firm,
+            id: &entry.id,
+            status: entry.status,
+            command: &entry.command,
+        }),
+    }
 }
 
 /// The live changes of a history: its changes that no Reverse names. Nothing is copied; a change is
@@ -67,25 +113,12 @@ impl<'a> Live<'a> {
     }
 
     /// The change of this number, if it is live.
-    #[tactic(auto, using(crate::proofs::ByNumber::none_changed, crate::proofs::ByNumber::none_reversed, crate::proofs::ByNumber::reversed_some))]
     pub(crate) fn change(&self, number: Number) -> Option<Change<'a>>
         ensures { option_map record_of result ≡ find (λ r. r.number == number) self.now }
     {
-        let Some(entry) = entry_at(self.entries, number) else {
-            return None;
-        };
-        if !is_change(&entry.command) {
-            return None;
-        }
-        match self.reversals.number(number) {
-            Some(_) => None,
-            None => Some(Change {
-                number,
-                firm: &entry.firm,
-                id: &entry.id,
-                status: entry.status,
-                command: &entry.command,
-            }),
+        match look_up(self.entries, self.reversals, number) {
+            Ok(made) => Some(made),
+            Err(_) => None,
         }
     }
 

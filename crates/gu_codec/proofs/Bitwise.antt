@@ -28,6 +28,7 @@ pub sizes : (n : ℕ) → IsWindow n → (32 ≤ n) × (n ≤ 64)
 sizes n (inl is) = (omega (arith, is), omega (arith, is))
 sizes n (inr is) = (omega (arith, is), omega (arith, is))
 
+-- two tests of a byte in one bit
 in_range : (x y : Bool) → top 7 (bit_and (cond x 255 0) (cond y 255 0)) ≡ (x && y)
 in_range true true = refl
 in_range true false = refl
@@ -35,6 +36,8 @@ in_range false true = refl
 in_range false false = refl
 
 module _ (bytes : List ℕ) (n : ℕ) (few : n ≤ 64) (long : length bytes ≡ n) where
+  -- ---- a window
+
   all_taken : take n bytes ≡ bytes
   all_taken = take_all n bytes (omega (arith, long))
 
@@ -77,6 +80,7 @@ module _ (bytes : List ℕ) (n : ℕ) (few : n ≤ 64) (long : length bytes ≡ 
 abbrev Tells : ℕ → ℕ → (ℕ → Bool) → Type 0
 Tells n word p = (i : ℕ) → i < n → bit_at word i ≡ cond (p i) 1 0
 
+-- of fewer bits, of both tests, of either, of the opposite, one place on
 fewer : (n m word : ℕ) (p : ℕ → Bool) → m ≤ n → Tells n word p → Tells m word p
 fewer n m word p le h i lt = h i (omega arith)
 
@@ -110,6 +114,8 @@ unfit true false e z = absurd (omega arith)
 unfit false y e z = absurd cc
 
 module _ (bytes : List ℕ) (soh digit zero equal : ℕ) where
+  -- ---- the words of a window: where fields end and may begin
+
   abbrev ends : ℕ
   ends = bit_and equal (bit_not w64 (soh / 2))
 

@@ -28,6 +28,7 @@ pub record Begins (bytes rest : List ℕ) : Type 0 where
   pub there : drop (length bytes - length rest) bytes ≡ rest
   pub soh : position_or_len is_soh bytes ≡ length bytes - length rest + position_or_len is_soh rest
 
+-- where a tag is read
 pub begins : (bytes : List ℕ) (tag : ℕ) (rest : List ℕ) → tag_after 0 0 bytes ≡ Some (tag, rest) → Begins bytes rest
 begins bytes tag rest e =
     let t = tag_found 0 0 bytes tag rest (omega arith) e in
@@ -42,6 +43,7 @@ begins bytes tag rest e =
       soh = ap (position_or_len is_soh) t.parts ∙ soh_behind_tag t.text rest t.digits ∙ omega arith;
     }
 
+-- the value up to the SOH
 value_ends : (rest : List ℕ) (n : ℕ) → n ≡ position_or_len is_soh rest → 0 < n → n < length rest
     → value_at rest ≡ Some (take n rest, drop (n + 1) rest)
 value_ends rest n e some inside =
@@ -49,6 +51,7 @@ value_ends rest n e some inside =
     let b : ltb (position_or_len is_soh rest) (length rest) ≡ true = lt-ltb _ (length rest) (omega (arith, e)) in
     rw (e, a, b) refl
 
+-- none where that stands first, or nowhere
 no_value : (rest : List ℕ) → position_or_len is_soh rest ≡ 0 → value_at rest ≡ None
 no_value rest e = rw e refl
 
@@ -63,6 +66,7 @@ no_end rest e =
     (never {A = List ℕ × List ℕ} (ltb 0 (position_or_len is_soh rest))
     (before_first is_soh rest, after_first is_soh rest))
 
+-- a tag without a value is no field
 tag_alone : (bytes : List ℕ) (tag : ℕ) (rest : List ℕ) → tag_after 0 0 bytes ≡ Some (tag, rest) → value_at rest ≡ None
     → field_at bytes ≡ None
 unfolding field_at

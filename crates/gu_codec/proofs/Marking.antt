@@ -44,6 +44,7 @@ loaded bytes at n m room few e =
           bit i ∙ ap (λ b. cond b 1 0) (get_or_past (map is_soh xs) i false (omega (arith, length-map xs is_soh)));
     }
 
+-- past the end there is none
 soh_past : (bytes : List ℕ) (k : ℕ) → length bytes ≤ k → soh_bit bytes k ≡ 0
 soh_past bytes k le = ap (λ x. cond (is_soh x) 1 0) (get_or_past bytes k 0 le)
 
@@ -138,6 +139,7 @@ pushed bytes at b m small here h (suc i) =
 
 -- ---- what they say
 
+-- what a bit of 0 or 1 says
 bit_zero : (b : Bool) → ◌≡◌ {A = ℕ} (cond b 1 0) 0 → b ≡ false
 bit_zero true e = absurd (omega arith)
 bit_zero false e = refl
@@ -260,6 +262,7 @@ module _ (bytes : List ℕ) (at base marks : ℕ) (h : IsMarked bytes at base ma
         ]
       ]
 
+  -- the lowest bit that is set
   pub lowest : 0 < marks → marks < 2 ^ 64 → Lowest bytes at base marks (base + count_trailing_zeros 64 marks)
   lowest some fits =
       let t = count_trailing_zeros 64 marks in

@@ -99,10 +99,12 @@ pub record HasTag (bytes : List ℕ) : Type 0 where
   pub equals : get_or bytes at 0 ≡ 61
   pub value : get_or bytes (at + 1) 0 ≢ 1
 
+-- the first byte of a tag
 first_digit : (a : ℕ) (bytes : List ℕ) → is_digit a ≡ true → not (eqb a 48) ≡ true
     → tag_after 0 0 (a ∷ bytes) ≡ tag_after 1 (0 * 10 + (a - 48)) bytes
 first_digit a bytes digit some = tag_goes 0 0 a bytes (rw (digit, some) refl)
 
+-- a tag of one digit, of two and of three
 one_digit : (bytes : List ℕ) → is_digit (get_or bytes 0 0) ≡ true → not (eqb (get_or bytes 0 0) 48) ≡ true
     → (eqb (get_or bytes 1 0) 61 && not (eqb (get_or bytes 2 0) 1)) ≡ true → HasTag bytes
 one_digit [] digit some ends = absurd cc
@@ -178,6 +180,7 @@ pub record HasSoh (bytes : List ℕ) : Type 0 where
   pub inside : at < length bytes
   pub soh : get_or bytes at 0 ≡ 1
 
+-- where it ends
 has_soh : (bytes : List ℕ) → 0 < length bytes → get_or bytes 0 0 ≢ 1 → get_or bytes (length bytes - 1) 0 ≡ 1
     → HasSoh bytes
 has_soh bytes some first last =
@@ -258,6 +261,8 @@ has_short bytes t more v =
       inside = omega (arith, size, v.inside, more);
       soh = ap (λ (k : ℕ). get_or bytes k 0) (sym at-soh) ∙ sym (get_or-drop (t.at + 1) bytes v.at 0) ∙ v.soh;
     }
+
+-- ---- one field after the other
 
 first_short : (bytes : List ℕ) → AllShort bytes → HasTag bytes → HasShort bytes
 first_short bytes all t = let more = some_behind bytes all t in has_short bytes t more (soh_behind bytes all t more)

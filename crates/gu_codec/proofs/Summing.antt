@@ -13,6 +13,7 @@ use lib.Lanes.{zip2, fold_l, Each1}
 abbrev pub add_bytes : ℕ → ℕ → ℕ
 add_bytes a b = (a + b) % 256
 
+-- sums lane by lane, and of all lanes
 sum_cons : (x : ℕ) (xs : List ℕ) → sum (x ∷ xs) ≡ x + sum xs
 sum_cons x xs = sum_by-cons (λ y. y) x xs
 
@@ -54,6 +55,7 @@ masked (x ∷ front) back h =
       masked front back h,
     )
 
+-- zeros in front, ones behind
 drop_zeros : (n k : ℕ) (ys : List ℕ) → k ≤ n → drop k (replicate n 0 ++ ys) ≡ replicate (n - k) 0 ++ ys
 drop_zeros n zero ys le = ap (λ (m : ℕ). replicate m 0 ++ ys) (omega arith)
 drop_zeros zero (suc k) ys le = absurd (omega arith)
@@ -103,6 +105,7 @@ kept_sum bytes left long few fits =
     ∙ masked front back (subst (Each1 (λ x. x < 256)) (sym same) (fits_below (length bytes - left) bytes fits))
     ∙ ap sum same
 
+-- a sum cut in two
 pub sum_cut : (i : ℕ) (xs : List ℕ) → sum xs ≡ sum (take i xs) + sum (drop i xs)
 sum_cut i xs = ap sum (sym (take-append-drop i xs)) ∙ sum_by-append (λ x. x) (take i xs) (drop i xs)
 

@@ -1,34 +1,30 @@
 -- What changes deal under the terms of a giver and a taker.
-use Rattle.gu_depend.proofs.Vocabulary.{◌≡◌, ℕ, ◌+◌, true, ◌&&◌, List, [], ◌∷◌, ◌++◌, refl, sym, ◌∙◌, ap, subst, cond}
-use Rattle.gu_depend.proofs.Vocabulary.{Option, All, append-nil, Some, None, filter_map, option_map, option_and_then}
-use Rattle.gu_depend.proofs.Vocabulary.{bytes_eq, ◌==◌, ◌↔◌, cons_option, and_parts, All-head, All-tail, All-weaker}
-use Rattle.gu_depend.proofs.Vocabulary.{filter_map-append, same_Some, bytes_eq-Decides, EntryPart, House, agreement}
-use Rattle.gu_depend.proofs.Vocabulary.{node_of, is_given, use_of_kind, use_of_node, deed_of, dealing_of, dealings_in}
-use Rattle.gu_depend.proofs.Vocabulary.{dealings, terms_under, limit_of, used_of, leave_out, first_over}
-use Rattle.gu_depend.proofs.Vocabulary.{first_under_deed, row, claim_row, raised_row, limit_row, limit_by, used_by}
-use Rattle.gu_depend.proofs.Vocabulary.{without, bytes_same, Agreement, Deed, Makes, Raises, Uses, Dealing, Pair}
-use Rattle.gu_depend.proofs.Vocabulary.{Command, Claim, Agree, Raise, Record, Kind, Given, Node, no_some, may_use, fits}
-use Rattle.gu_depend.proofs.Vocabulary.{AllFit, first_unfit, name_same, claim_passes, agree_passes, raise_passes}
-use Rattle.gu_depend.proofs.Vocabulary.{at_node, pair_of, deals_under, may_raise, unfit_none, fit_without_use}
-use Rattle.gu_depend.proofs.Vocabulary.{unfit_without_raise, unfit_without_terms}
-use Rattle.gu_depend.proofs.{Vocabulary.{none_unless, none_or_some, inl, inr}, Finds.{by_test, and_then_told}}
-use Rattle.gu_depend.proofs.Grown.{ThereFor, Within, NamesThere, Grown}
 use Rattle.gu_base.proofs.Accepted.{unless_none}
+use Rattle.gu_depend.proofs.{Finds.{and_then_told, by_test}, Grown.{Grown, ThereFor, Within}}
+use Rattle.gu_depend.proofs.Vocabulary
+use Vocabulary.{Agree, agree_passes, agreement, Agreement, All, All-head, All-tail, All-weaker, AllFit, and_parts}
+use Vocabulary.{append-nil, at_node, bytes_eq, bytes_eq-Decides, bytes_same, Claim, claim_passes, claim_row, Command}
+use Vocabulary.{cond, cons_option, Dealing, dealing_of, dealings, dealings_in, deals_under, Deed, deed_of, EntryPart}
+use Vocabulary.{filter_map, filter_map-append, first_under_deed, first_unfit, fit_without_use, fits, Given, House, inl}
+use Vocabulary.{inr, is_given, Kind, leave_out, limit_by, limit_of, limit_row, List, Makes, may_raise, may_use}
+use Vocabulary.{name_same, no_some, Node, node_of, None, none_or_some, none_unless, Option, option_map, Pair, pair_of}
+use Vocabulary.{Raise, raise_passes, raised_row, Raises, Record, refl, row, same_Some, Some, subst, sym, true}
+use Vocabulary.{unfit_none, unfit_without_raise, unfit_without_terms, use_of_kind, use_of_node, used_by, used_of, Uses}
+use Vocabulary.{without, ℕ, [], ◌&&◌, ◌++◌, ◌+◌, ◌==◌, ◌↔◌, ◌∙◌, ◌∷◌, ◌≡◌}
 use Rattle.std.proofs.lemmas.Option.{cond_some}
 
 -- ---- pairs
 
 pub both_same : (g k : List ℕ) → (bytes_eq g g && bytes_eq k k) ≡ true
-both_same g k = ap (λ b. b && bytes_eq k k) (bytes_same g) ∙ bytes_same k
+both_same g k = cc (bytes_same g, bytes_same k)
 
 -- what holds of a pair and its deed holds of the two for whom it is given
 pub given_for : (P : List ℕ → List ℕ → Deed → Type 0) (g k x y : List ℕ) (e d : Deed)
     → cond (bytes_eq x g && bytes_eq y k) (Some e) None ≡ Some d → P x y e → P g k d
 given_for P g k x y e d h held =
-    let c = cond_some (bytes_eq x g && bytes_eq y k) e d h in
-    let p = and_parts (bytes_eq x g) (bytes_eq y k) c.0 in
-    subst (P g k) c.1
-    (subst (λ z. P g z e) ((bytes_eq-Decides y k).0 p.1) (subst (λ z. P z y e) ((bytes_eq-Decides x g).0 p.0) held))
+    let c = cond_some _ e d h in
+    let p = and_parts _ _ c.0 in
+    rw c.1 at (rw ((bytes_eq-Decides y k).0 p.1) at (subst (λ z. P z y e) ((bytes_eq-Decides x g).0 p.0) held))
 
 -- ---- the deed of a change, in lists of which one has some of the changes of the other
 
@@ -39,11 +35,21 @@ numbered r d = record { number = r.number; deed = d }
 abbrev pub dealt : Record → Option Deed → List Dealing → List Dealing
 dealt r o ds = cons_option (option_map (numbered r) o) ds
 
+-- what a change deals for two, with whom it deals, and what stands first on what it deals
+abbrev pub deed_in : List Record → List ℕ → List ℕ → Record → Option Deed
+deed_in l g k r = deed_of l g k r.firm r.command
+
+abbrev pub pair_in : List Record → Record → Option Pair
+pair_in l r = pair_of l r.firm r.command
+
+abbrev pub first_on_deal : House → List Record → Record → Option ℕ
+first_on_deal t l r = deals_under t l r.number r.firm r.command
+
 -- a change whose node is there deals the same in both lists
 pub deed_grown : (l b : List Record) (g k by : List ℕ) (c : Command) → Within l b → ThereFor b c
     → deed_of b g k by c ≡ deed_of l g k by c
-deed_grown l b g k by (Claim n account) w there =
-    let x = there n (name_same n) in ap (option_and_then (use_of_node g k)) (x.1 ∙ sym (w.nodes n x.0 x.1))
+deed_grown l b g k by (Claim n _) w there =
+    let x = there n (name_same n) in rw (x.1 ∙ sym (w.nodes n x.0 x.1))
 deed_grown l b g k by _ w there = refl
 
 pub gives_alike : {X Y : Type 0} (f h : X → Option Y) (xs : List X) → All (λ x. f x ≡ h x) xs
@@ -54,25 +60,24 @@ gives_alike f h (x ∷ xs) all =
 
 pub dealings_grown : (l b : List Record) (g k : List ℕ) → Grown l b → dealings b g k ≡ dealings_in l b g k
 dealings_grown l b g k grown =
-    gives_alike (dealing_of b g k) (dealing_of l g k) b
-    (All-weaker (NamesThere b) (λ (r : Record). dealing_of b g k r ≡ dealing_of l g k r)
-    (λ r there. ap (option_map (numbered r)) (deed_grown l b g k r.firm r.command grown.within there)) b grown.named)
+    gives_alike _ _ b
+    (All-weaker _ (λ r. dealing_of b g k r ≡ dealing_of l g k r)
+    (λ r there. rw (deed_grown l b g k _ _ grown.within there)) b grown.named)
 
 pub dealings_append : (l xs ys : List Record) (g k : List ℕ)
     → dealings_in l (xs ++ ys) g k ≡ dealings_in l xs g k ++ dealings_in l ys g k
-dealings_append l xs ys g k = filter_map-append (dealing_of l g k) xs ys
+dealings_append l xs ys g k = filter_map-append _ xs ys
 
 -- what is dealt, cut at a change
 pub dealings_cut : (l p : List Record) (r : Record) (s : List Record) (g k : List ℕ) (o : Option Deed)
-    → deed_of l g k r.firm r.command ≡ o
+    → deed_in l g k r ≡ o
     → dealings_in l (p ++ r ∷ s) g k ≡ dealings_in l p g k ++ dealt r o (dealings_in l s g k)
-dealings_cut l p r s g k o e =
-    dealings_append l p (r ∷ s) g k ∙ ap (λ o. dealings_in l p g k ++ dealt r o (dealings_in l s g k)) e
+dealings_cut l p r s g k o e = cc (dealings_append l p _ g k)
 
 -- a change that deals nothing adds nothing
-pub dealings_idle : (l p : List Record) (r : Record) (g k : List ℕ) → deed_of l g k r.firm r.command ≡ None
+pub dealings_idle : (l p : List Record) (r : Record) (g k : List ℕ) → deed_in l g k r ≡ None
     → dealings_in l (p ++ r ∷ []) g k ≡ dealings_in l p g k
-dealings_idle l p r g k e = dealings_cut l p r [] g k None e ∙ append-nil (dealings_in l p g k)
+dealings_idle l p r g k e = dealings_cut l p r [] g k None e ∙ append-nil _
 
 pub not_empty : (before : List Dealing) (d : Dealing) (behind : List Dealing) → [] ≡ before ++ d ∷ behind → ⊥
 not_empty [] d behind e = cc
@@ -81,12 +86,12 @@ not_empty (x ∷ before) d behind e = cc
 -- ---- what is accepted fits
 
 pub raised_may : (lots : ℕ) (o : Option ℕ) → (raised_row lots o ≡ None) ↔ (may_raise lots o ≡ true)
-raised_may lots None = (λ h. absurd (cc), λ h. absurd (cc))
-raised_may lots (Some limit) = (λ h. unless_none _ _ h, λ h. none_unless _ _ h)
+raised_may lots None = (λ h. cc, λ h. cc)
+raised_may lots (Some _) = (λ h. unless_none _ _ h, λ h. none_unless _ _ h)
 
 used_may : (lots : ℕ) (o : Option ℕ) → (limit_row lots o ≡ None) ↔ (may_use lots o ≡ true)
-used_may lots None = (λ h. absurd (cc), λ h. absurd (cc))
-used_may lots (Some limit) = (λ h. unless_none _ _ h, λ h. none_unless _ _ h)
+used_may lots None = (λ h. cc, λ h. cc)
+used_may lots (Some _) = (λ h. unless_none _ _ h, λ h. none_unless _ _ h)
 
 abbrev pub pair : List ℕ → List ℕ → Option Pair
 pair g k = Some (record { giver = g; taker = k })
@@ -134,9 +139,8 @@ pub claim_within : (t : House) (l b : List Record) (n : EntryPart) (by account :
     → (kind : Kind) → x.kind ≡ kind → is_given kind ≡ true
     → limit_row (used_by b kind + x.lots) (limit_by t b kind) ≡ None
 claim_within t l b n by account x found fit (Given m g k) is given =
-    (used_may (used_of b g k + x.lots) (limit_of t b g k)).1
-    (fit g k (Uses x.lots) (cc (found, is, both_same g k)))
-claim_within t l b n by account x found fit _ is given = absurd (cc)
+    (used_may _ (limit_of t b g k)).1 (fit g k (Uses x.lots) (cc (found, is, both_same g k)))
+claim_within t l b n by account x found fit _ is given = cc
 
 -- ---- whom a change deals with
 
@@ -145,29 +149,21 @@ pub deals_some : (t : House) (l : List Record) (n : ℕ) (by : List ℕ) (c : Co
     → deals_under t l n by c ≡ Some m → (g : List ℕ) × (k : List ℕ) × (d : Deed) × (deed_of l g k by c ≡ Some d)
 deals_some t l n by (Agree x y rate limit) m h =
     let made = Makes (record { rate = rate; limit = limit }) in
-    (x, y, made, ap (λ b. cond b (Some made) None) (both_same x y))
-deals_some t l n by (Raise x lots) m h =
-    (x, by, Raises lots, ap (λ b. cond b (Some (Raises lots)) None) (both_same x by))
-deals_some t l n by _ m h = absurd (cc)
+    (x, y, made, rw (both_same x y))
+deals_some t l n by (Raise x lots) m h = (x, by, Raises lots, rw (both_same x by))
+deals_some t l n by _ m h = cc
 
 -- what holds of one pair holds of the same pair
 pub at_pair : (P : List ℕ → List ℕ → Type 0) (g k x y : List ℕ) → (g ≡ x) × (k ≡ y) → P g k → P x y
-at_pair P g k x y same held = subst (P x) same.1 (subst (λ z. P z k) same.0 held)
+at_pair P g k x y same held = rw same.1 at (rw same.0 at held)
 
 pub pair_told : (p q : Pair) → Some p ≡ Some q → (p.giver ≡ q.giver) × (p.taker ≡ q.taker)
-pair_told p q e = let one : p ≡ q = same_Some p q e in (ap (λ (z : Pair). z.giver) one, ap (λ (z : Pair). z.taker) one)
+pair_told p q e = let one = same_Some p q e in (rw one, rw one)
 
--- a change deals for one giver and one taker
-pub same_pair : (l : List Record) (g k x y by : List ℕ) (c : Command) (d f : Deed) → deed_of l g k by c ≡ Some d
-    → deed_of l x y by c ≡ Some f → (g ≡ x) × (k ≡ y)
-same_pair l g k x y by c d f a b =
-    pair_told (record { giver = g; taker = k }) (record { giver = x; taker = y })
-    (sym (deal l by c g k d a).of ∙ (deal l by c x y f b).of)
-
--- and for the others nothing
+-- a change deals for one giver and one taker, and for the others nothing
 pub undealt : (l : List Record) (x y by : List ℕ) (c : Command) → (pair_of l by c ≡ pair x y → ⊥)
     → deed_of l x y by c ≡ None
-undealt l x y by c other = no_some (deed_of l x y by c) (λ d e. other (deal l by c x y d e).of)
+undealt l x y by c other = no_some _ (λ d e. other (deal l by c x y d e).of)
 
 -- ---- one left out
 
@@ -175,18 +171,17 @@ undealt l x y by c other = no_some (deed_of l x y by c) (λ d e. other (deal l b
 pub unfit_without : (file : Option Agreement) (xs : List Dealing) (k : Dealing) (ys : List Dealing)
     → AllFit file [] (xs ++ k ∷ ys) → leave_out k.number (xs ++ k ∷ ys) ≡ xs ++ ys → (e : Deed) → k.deed ≡ e
     → first_unfit file [] (xs ++ ys) ≡ first_under_deed file (xs ++ k ∷ ys) k.number e
-unfit_without file xs k ys all left (Makes a) is = unfit_without_terms file xs k ys a is all
+unfit_without file xs k ys all left (Makes a) is = unfit_without_terms _ xs k ys a is all
 unfit_without file xs k ys all left (Raises lots) is =
-    unfit_without_raise file xs k ys lots is all
-    ∙ sym (ap (λ z. option_and_then (λ (a : Agreement). first_over a.limit 0 z) (terms_under file (xs ++ k ∷ ys))) left)
-unfit_without file xs k ys all left (Uses lots) is =
-    unfit_none file [] (xs ++ ys) (fit_without_use file xs k ys lots is all)
+    unfit_without_raise _ xs k ys _ is all
+    ∙ sym (rw left)
+unfit_without file xs k ys all left (Uses _) is = unfit_none _ [] _ (fit_without_use _ xs k ys _ is all)
 
 -- the dealings but the one of a number are those of the changes without it
 pub left_out : (l : List Record) (g k : List ℕ) (n : ℕ) (b : List Record)
     → leave_out n (dealings_in l b g k) ≡ dealings_in l (without b n) g k
 left_out l g k n [] = refl
-left_out l g k n (r ∷ b) = let rest = left_out l g k n b in elim (none_or_some (deed_of l g k r.firm r.command)) [
+left_out l g k n (r ∷ b) = let rest = left_out l g k n b in elim (none_or_some (deed_in l g k r)) [
   | inl none ↦ by_test (r.number == n) (λ is. cc (none, is, rest)) (λ other. cc (none, other, rest))
   | inr d ↦ by_test (r.number == n) (λ is. cc (d.1, is, rest)) (λ other. cc (d.1, other, rest))
 ]

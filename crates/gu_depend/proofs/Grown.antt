@@ -1,13 +1,13 @@
 -- A list of changes that has some of the changes of another, each behind what it stands on: what it says of a node is
 -- what the other says.
-use Rattle.gu_depend.proofs.{Vocabulary.claim_of, Finds.find_more, Names.{maker, made_by_split, made_alone}}
-use Rattle.gu_depend.proofs.Vocabulary.{Command, ◌≡◌, ℕ, zero, suc, ◌+◌, ◌<◌, ◌≤◌, true, false, ◌||◌, List, [], ◌∷◌}
-use Rattle.gu_depend.proofs.Vocabulary.{◌++◌, length, refl, sym, ◌∙◌, ap, subst, arith, append-nil, append_assoc, inl}
-use Rattle.gu_depend.proofs.Vocabulary.{inr, none_or_some, All, length-append, Some, None, option_and_then, option_map}
-use Rattle.gu_depend.proofs.Vocabulary.{unwrap_or, bytes_eq, All-nil, All-push, All-weaker, All-contains, EntryPart}
-use Rattle.gu_depend.proofs.Vocabulary.{node_of, decision_of, claimed_account, parent, splits, decides, line_within}
-use Rattle.gu_depend.proofs.Vocabulary.{line_of, place_of_kind, place_along, place_of, depth_of, owns, Record, Node}
-use Rattle.gu_depend.proofs.Vocabulary.{node_more, node_called, made_of, node_cut, none_is_some, no_some, names, ◌-◌}
+use Rattle.gu_depend.proofs.Names.{made_by_split, maker}
+use Rattle.gu_depend.proofs.Vocabulary
+use Vocabulary.{All, All-contains, All-nil, All-push, All-weaker, ap, append-nil, append_assoc, arith, claim_of}
+use Vocabulary.{claimed_account, Command, decides, decision_of, EntryPart, find-append, inl, inr, length, length-append}
+use Vocabulary.{line_of, line_within, List, made, made_of, names, no_some, Node, node_called, node_cut, node_more}
+use Vocabulary.{node_of, None, none_or_some, option_and_then, or_none, parent, place_along, place_of, place_of_kind}
+use Vocabulary.{Record, refl, same_name, Some, splits, subst, suc, sym, true, zero, ℕ, [], ◌++◌, ◌+◌, ◌<◌, ◌∙◌, ◌∷◌}
+use Vocabulary.{◌≡◌, ◌≤◌}
 
 -- what is found in the second list is found in the first
 pub record Within (l b : List Record) : Type 0 where
@@ -37,11 +37,10 @@ AllFollow l b [] = Unit {0}
 AllFollow l b (r ∷ rest) = Follows l b r.command × AllFollow l (b ++ r ∷ []) rest
 
 pub follow_append : (l b xs ys : List Record) → AllFollow l b xs → AllFollow l (b ++ xs) ys → AllFollow l b (xs ++ ys)
-follow_append l b [] ys first second = subst (λ z. AllFollow l z ys) (append-nil b) second
+follow_append l b [] ys first second = rw (append-nil b) at second
 follow_append l b (r ∷ xs) ys first second = (
   first.0,
-  follow_append l (b ++ r ∷ []) xs ys first.1
-      (subst (λ z. AllFollow l z ys) (sym (append_assoc b (r ∷ []) xs)) second),
+  follow_append l _ xs ys first.1 (rw (append_assoc b _ xs) second),
 )
 
 -- within as many steps as the list is long, each line has come to its end
@@ -59,21 +58,21 @@ pub record Grown (l b : List Record) : Type 0 where
 
 pub grown_none : (l : List Record) → Grown l []
 grown_none l = record {
-  within = record { nodes = λ n x e. absurd (cc); decisions = λ n r e. absurd (cc) };
-  named = All-nil (NamesThere []);
-  decided = All-nil (SplitsDecided l []);
+  within = record { nodes = λ n x e. cc; decisions = λ n r e. cc };
+  named = All-nil _;
+  decided = All-nil _;
   short = omega arith;
-  ends = λ f n x e. absurd (cc);
+  ends = λ f n x e. cc;
 }
 
 -- a decision that both lists have, or neither, stays so
 pub decided_more : (l b z : List Record) (n : EntryPart) → Within l (b ++ z) → decision_of b n ≡ decision_of l n
     → decision_of (b ++ z) n ≡ decision_of l n
-decided_more l b z n w same = elim (none_or_some (decision_of b n)) [
+decided_more l b z n w same = elim (none_or_some _) [
   | inl none ↦
-      no_some (decision_of (b ++ z) n) (λ d h. none_is_some (decision_of l n) d (sym same ∙ none) (w.decisions n d h))
-      ∙ (sym none ∙ same)
-  | inr d ↦ find_more (λ r. decides n r.command) b z d.0 d.1 ∙ (sym d.1 ∙ same)
+      no_some _ (λ d h. cc ((sym same ∙ none), (w.decisions n d h)))
+      ∙ (cc)
+  | inr d ↦ cc (d.1, find-append (λ r. decides n r.command) b z)
 ]
 
 there_more : (b z : List Record) (c : Command) → ThereFor b c → ThereFor (b ++ z) c
@@ -83,9 +82,6 @@ there_more b z c h n is = let x = h n is in (x.0, node_more b z n x.0 x.1)
 pub follows_more : (l b z : List Record) (c : Command) → Within l (b ++ z) → Follows l b c → Follows l (b ++ z) c
 follows_more l b z c w f =
     record { there = there_more b z c f.there; decided = λ n is. decided_more l b z n w (f.decided n is) }
-
-splits_names : (n : EntryPart) (r : Record) → splits n r.command ≡ true → names n r.command ≡ true
-splits_names n r is = ap (λ b. b || decides n r.command) is
 
 -- ---- lines
 
@@ -105,7 +101,7 @@ module _ (l b : List Record) (nodes : (n : EntryPart) (x : Node) → node_of b n
     | inr m ↦ (
         let by = maker b n x found in
         let y = All-contains (NamesThere b) b by.change named by.among m.0
-        (splits_names m.0 by.change (made_by_split by.change n m.0 x by.makes_it m.1)) in
+        (rw (made_by_split by.change n m.0 x by.makes_it m.1)) in
         cc (m.1, y.1, line_led f m.0 y.0 y.1, nodes m.0 y.0 y.1))
   ])
 
@@ -130,7 +126,7 @@ module _ (b : List Record) (r : Record) (named : All (NamesThere b) b) (ends : L
   new_ends (suc f) (suc g) n x makes far long = ap (λ xs. x ∷ xs) (elim (none_or_some (parent x.kind)) [
     | inl none ↦ cc (none)
     | inr m ↦ (
-        let y = there m.0 (splits_names m.0 r (made_by_split r n m.0 x makes m.1)) in
+        let y = there m.0 (rw (made_by_split r n m.0 x makes m.1)) in
         cc (m.1, node_more b (r ∷ []) m.0 y.0 y.1, old_ends f g m.0 y.0 y.1 (omega arith) (omega arith)))
   ])
 
@@ -153,7 +149,8 @@ grown_push l b r g w short f =
           let either = sym (node_cut b (r ∷ []) n) ∙ found in
           elim (none_or_some (node_of b n)) [
             | inl none ↦
-                new_ends b r g.named g.ends f.there s (length (b ++ r ∷ [])) n x (cc (made_alone r n, none, either))
+                new_ends b r g.named g.ends f.there s (length (b ++ r ∷ [])) n x
+                (cc (find-append (λ x. same_name x.name n) (made r) [], or_none (made_of r n), none, either))
                 (omega (arith, long)) (omega (arith, long))
             | inr y ↦
                 old_ends b r g.named g.ends f.there s (length (b ++ r ∷ [])) n x (cc (y.1, either))
@@ -172,7 +169,7 @@ pub above : (l b : List Record) (n m : EntryPart) (x : Node) → Grown l b → n
 above l b n m x g found up =
     let by = maker b n x found in
     let split = made_by_split by.change n m x by.makes_it up in
-    let y = All-contains (NamesThere b) b by.change g.named by.among m (splits_names m by.change split) in
+    let y = All-contains (NamesThere b) b by.change g.named by.among m (rw split) in
     record {
       node = y.0;
       there = y.1;
@@ -182,19 +179,14 @@ above l b n m x g found up =
 pub line_of_grown : (l b : List Record) → Grown l b → (n : EntryPart) (x : Node) → node_of b n ≡ Some x
     → line_of b n ≡ line_of l n
 line_of_grown l b g n x found =
-    cc (
-      found,
-      g.within.nodes n x found,
-      g.ends (length l) n x found g.short,
-      line_led l b g.within.nodes g.named (length l) n x found,
-    )
+    cc (g.within.nodes n x found, g.ends _ n x found g.short, line_led l b g.within.nodes g.named _ n x found)
 
 -- where its claim is the same, a node stands in the same place
 place_grown : (f : ℕ) (l b : List Record) → Grown l b → (n : EntryPart) (x : Node) → node_of b n ≡ Some x
     → claim_of b n ≡ claim_of l n → place_along b (line_within f b (Some x)) ≡ place_along l (line_within f l (Some x))
 place_grown zero l b g n x found claims = refl
 place_grown (suc f) l b g n x found claims =
-    let claimed = subst (λ (z : EntryPart). claim_of b z ≡ claim_of l z) (sym (node_called b n x found)) claims in
+    let claimed = subst (λ z. claim_of b z ≡ claim_of l z) (sym (node_called b n x found)) claims in
     let up : place_along b (line_within f b (option_and_then (node_of b) (parent x.kind)))
     ≡ place_along l (line_within f l (option_and_then (node_of l) (parent x.kind))) =
     elim (none_or_some (parent x.kind)) [
@@ -208,24 +200,8 @@ place_grown (suc f) l b g n x found claims =
 pub place_claimed : (l b : List Record) (n : EntryPart) (x : Node) → Grown l b → node_of b n ≡ Some x
     → claim_of b n ≡ claim_of l n → place_of b n ≡ place_of l n
 place_claimed l b n x g found claims =
-    cc (
-      found,
-      g.within.nodes n x found,
-      g.ends (length l) n x found g.short,
-      place_grown (length l) l b g n x found claims,
-    )
+    cc (g.within.nodes n x found, g.ends _ n x found g.short, place_grown _ l b g n x found claims)
 
 pub place_same : (l b : List Record) (n : EntryPart) (x : Node) → Grown l b → node_of b n ≡ Some x
     → decision_of b n ≡ decision_of l n → place_of b n ≡ place_of l n
-place_same l b n x g found decided =
-    place_claimed l b n x g found (ap (option_and_then (λ r. claimed_account r.command)) decided)
-
-pub owns_same : (l b : List Record) (by : List ℕ) (n : EntryPart) (x : Node) → Grown l b → node_of b n ≡ Some x
-    → decision_of b n ≡ decision_of l n → owns b by n ≡ owns l by n
-owns_same l b by n x g found decided =
-    ap (λ o. unwrap_or (option_map (λ owner. bytes_eq owner by) (option_map (λ p. p.firm) o)) false)
-    (place_same l b n x g found decided)
-
-pub depth_same : (l b : List Record) (n : EntryPart) (x : Node) → Grown l b → node_of b n ≡ Some x
-    → depth_of b n ≡ depth_of l n
-depth_same l b n x g found = ap (λ xs. length xs - 1) (line_of_grown l b g n x found)
+place_same l b n x g found decided = place_claimed l b n x g found (rw decided)

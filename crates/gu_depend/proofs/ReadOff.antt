@@ -1,39 +1,35 @@
 -- What stands on a change, read off trees and terms that show the list, and how many entries stand beside it.
-use Rattle.gu_depend.proofs.Vocabulary.{◌≡◌, ℕ, true, false, List, [], refl, sym, ◌∙◌, ap, subst, arith, Option}
-use Rattle.gu_depend.proofs.Vocabulary.{Contains, IsSomeAnd, inl, inr, Some, None, find, flat_map, option_map}
-use Rattle.gu_depend.proofs.Vocabulary.{option_and_then, ◌==◌, ◌↔◌, Decides-eqb, same_Some, made_by, parts_of}
-use Rattle.gu_depend.proofs.Vocabulary.{EntryPart, RisesFrom, House, node_of, nodes_of, split_of, decision_of, splits}
-use Rattle.gu_depend.proofs.Vocabulary.{decides, same_name, IsLegal, first_refused, standing_on, without, Part, Command}
-use Rattle.gu_depend.proofs.Vocabulary.{Trade, Split, Claim, Refuse, Cancel, Agree, Raise, Record, Node}
-use Rattle.gu_depend.proofs.Vocabulary.{legal_from_replay, replay_from_legal, name_same, found_in, find_passes}
-use Rattle.gu_depend.proofs.Vocabulary.{change_of, named_place, number_in, numbers_on, least, ◌||◌, numbers_under}
-use Rattle.gu_depend.proofs.Vocabulary.{deals_under, or_right, ◌∷◌, cond, length, unwrap_or, slice_get, lookup}
-use Rattle.gu_depend.proofs.Vocabulary.{nothing_here, find-append, deed_of, dealings_in, dealings, Deed, Makes, Raises}
-use Rattle.gu_depend.proofs.Vocabulary.{Pair, is_pair, PairView, TermsView, pair_at, pair_of, place_of_pair}
-use Rattle.gu_depend.proofs.Vocabulary.{entries_dealt, AreTermsOf, ◌≢◌, place_in, IsTreeIn, ShowsAll, numbers_on_parts}
-use Rattle.gu_depend.proofs.Vocabulary.{Bool, none_or_some}
-use Rattle.gu_depend.proofs.Finds.{some_with, and_then_told, found_once, filter_all, cut_at, none_before, alike_at}
-use Rattle.gu_depend.proofs.Finds.{and_then_steps}
-use Rattle.gu_tree.specs.{Rose.{Rose, head_of, split_of_node}, Paths.{node_at, LeadsTo}}
-use Rattle.gu_tree.specs.Grove.{Grove, tree_of, place_of, IsPlace, HasTree}
-use Rattle.gu_tree.proofs.{Parts.{some_and, at_fact}, ShowsLess.no_root_part, ToldAt.{IsToldAt, told_at}}
+use Rattle.gu_depend.proofs
+use proofs.{Deals.{both_same, deal, dealings_cut, deed_in, first_on_deal, numbered, pair_in}, Finds.alike_at}
+use proofs.Finds.{and_then_steps, and_then_told, cut_at, filter_all, found_once, none_before, some_with}
+use proofs.{Names.{made_number, maker}, Replay.{Legal, NumbersOnce}, Settled.named_once, StandsUnder.least_in}
+use proofs.{StandsUnder.{least_one, legal_rising, looked_up}, TermsFollow.pair_place}
+use Rattle.gu_depend.proofs.Vocabulary
+use Vocabulary.{Agree, ap, AreTermsOf, arith, Bool, Cancel, change_of, Claim, Command, cond, Contains, dealings}
+use Vocabulary.{dealings_in, deals_under, decides, Decides-eqb, decision_of, Deed, entries_dealt, EntryPart, false}
+use Vocabulary.{find, find-append, find_passes, first_refused, flat_map, found_in, House, inl, inr, is_pair, IsLegal}
+use Vocabulary.{IsSomeAnd, IsTreeIn, least, legal_from_replay, length, List, lookup, made_by, Makes, name_same}
+use Vocabulary.{named_place, Node, node_of, nodes_of, None, none_or_some, nothing_here, number_in, numbers_on}
+use Vocabulary.{numbers_on_parts, numbers_under, Option, option_and_then, option_map, or_right, Pair, pair_at, PairView}
+use Vocabulary.{Part, parts_of, place_in, place_of_pair, Raise, Raises, Record, refl, Refuse, replay_from_legal}
+use Vocabulary.{RisesFrom, same_name, same_Some, ShowsAll, slice_get, Some, Split, split_of, splits, standing_on, subst}
+use Vocabulary.{sym, TermsView, Trade, true, unwrap_or, without, ℕ, [], ◌==◌, ◌↔◌, ◌∙◌, ◌∷◌, ◌≡◌, ◌≢◌}
 use Rattle.gu_depend.specs.Touch.{is_trade_or_decision}
-use Rattle.std.proofs.lemmas.Bool.{or_from, ne_eqb}
-use Rattle.gu_depend.proofs.{Settled.named_once, Names.{maker, made_number}, Replay.{Legal, NumbersOnce}}
-use Rattle.gu_depend.proofs.{StandsUnder.{legal_rising, looked_up, least_one, least_in}, TermsFollow.pair_place}
-use Rattle.gu_fees.specs.{Pairs.{deed_at, standing_under}, Terms.{standing_in, entries_in, row_of}}
-use Rattle.gu_depend.proofs.Deals.{numbered, both_same, dealings_cut, deal}
+use Rattle.gu_fees.specs.{Pairs.{deed_at, standing_under}, Terms.{entries_in, row_of, standing_in}}
+use Rattle.gu_tree.proofs.{Parts.{at_fact, some_and}, ShowsLess.no_root_part, ToldAt.{IsToldAt, told_at}}
+use Rattle.gu_tree.specs.{Grove.{Grove, HasTree, IsPlace, place_of, tree_of}, Paths.{LeadsTo, node_at}, Rose.head_of}
+use Rattle.gu_tree.specs.Rose.{Rose, split_of_node}
+use Rattle.std.proofs.lemmas.Bool.{ne_eqb, or_from}
 
 -- ---- a trade, a decision, or neither
 
 of_trade : (k trade : ℕ) (d : Option ℕ) → trade ≡ k → is_trade_or_decision k trade d ≡ true
 of_trade k trade None same = (Decides-eqb trade k).1 same
-of_trade k trade (Some d) same = ap (λ b. b || (d == k)) ((Decides-eqb trade k).1 same)
+of_trade k trade (Some d) same = rw ((Decides-eqb trade k).1 same)
 
 of_neither : (k trade : ℕ) (d : Option ℕ) → trade ≢ k → d ≢ Some k → is_trade_or_decision k trade d ≡ false
 of_neither k trade None other undecided = ne_eqb trade k other
-of_neither k trade (Some d) other undecided =
-    or_from (trade == k) (d == k) (ne_eqb trade k other) (ne_eqb d k (λ e. undecided (ap (λ n. Some n) e)))
+of_neither k trade (Some d) other undecided = or_from _ _ (ne_eqb trade k other) (ne_eqb d k (λ e. undecided (rw e)))
 
 -- what is read at a node: its Split where the change made or decided it, else what stands first on its parts
 abbrev pub read_at : Rose → Bool → Option ℕ
@@ -43,16 +39,14 @@ read_at v b = cond b (option_map (λ s. s.0) (split_of_node v)) (least (numbers_
 
 module _ (t : House) (l : List Record) (list : Legal t l) (k : ℕ) (r : Record) (there : change_of l k ≡ Some r) where
   number_is : r.number ≡ k
-  number_is = (Decides-eqb r.number k).0 (find_passes (λ r. r.number == k) l r there)
+  number_is = (Decides-eqb r.number k).0 (find_passes _ l r there)
 
   among : Contains l r
-  among = found_in (λ r. r.number == k) l r there
+  among = found_in _ l r there
 
   -- what has its number is the change
   only_change : (d : Record) → Contains l d → d.number ≡ k → d ≡ r
-  only_change d in_list is =
-      same_Some d r
-      (sym (found_once (λ r. r.number == k) l d in_list ((Decides-eqb d.number k).1 is) (list.once k)) ∙ there)
+  only_change d in_list is = same_Some d r (cc (found_once _ l d in_list ((Decides-eqb d.number k).1 is) (list.once k)))
 
   -- what is looked up for it is what stands on the number
   looked_up_here : RisesFrom 0 l → least (numbers_under t l r.number r.firm r.command) ≡ standing_on t l k
@@ -63,32 +57,25 @@ module _ (t : House) (l : List Record) (list : Legal t l) (k : ℕ) (r : Record)
       → node_of l (record { entry = trade; part = 0 }) ≡ Some root → trade ≡ k → ⊥
   split_no_trade n ps is trade root found same =
       let name : EntryPart = record { entry = trade; part = 0 } in
-      let m = maker l name root found in
-      let one = only_change m.change m.among (sym (made_number m.change name root m.makes_it) ∙ same) in
-      cc (
-        one,
-        m.makes_it,
-        ap (λ c. find (λ x. same_name x.name name) (nodes_of r.number r.firm c)) is
-            ∙ no_root_part trade r.number 1 n r.firm ps (omega arith),
-      )
+      let m = maker l _ _ found in
+      let one = only_change _ m.among (cc (made_number m.change name root m.makes_it)) in
+      cc (ap (λ c. find (λ x. same_name x.name name) (nodes_of r.number r.firm c)) is
+      ∙ no_root_part trade r.number 1 n r.firm ps (omega arith))
 
   -- nor a decision
   split_no_decision : (n : EntryPart) (ps : List Part) → r.command ≡ Split n ps → (o : Option Record)
       → decision_of l n ≡ o → option_map (λ d. d.number) o ≡ Some k → ⊥
-  split_no_decision n ps is None e h = absurd (cc)
+  split_no_decision n ps is None e h = cc
   split_no_decision n ps is (Some d) e h =
       cc (
         only_change d (found_in (λ r. decides n r.command) l d e) (same_Some d.number k h),
-        is,
         find_passes (λ r. decides n r.command) l d e,
       )
 
   module _ (trade : ℕ) (v : Rose) (told : IsToldAt l trade v) where
     split_at : (n : EntryPart) → Some n ≡ Some (head_of v).name
         → option_map (λ s. s.0) (split_of_node v) ≡ least (number_in (split_of l n))
-    split_at n at =
-        told.split
-        ∙ (ap (λ n. option_map (λ r. r.number) (split_of l n)) (sym (same_Some _ _ at)) ∙ sym (least_in (split_of l n)))
+    split_at n at = cc (same_Some _ _ at, least_in (split_of l n))
 
     at_decision : (n : EntryPart) → decides n r.command ≡ true → Some n ≡ Some (head_of v).name
         → read_at v (is_trade_or_decision k trade (head_of v).decision) ≡ least (number_in (split_of l n))
@@ -136,25 +123,24 @@ module _ (t : House) (l : List Record) (rises : RisesFrom 0 l) (legal : IsLegal 
   -- what stands on a change without a place, of those whose giver and taker it deals for
   nothing_named : (k : ℕ) (o : Option Record) → change_of l k ≡ o
       → option_and_then (λ r. named_place r.number r.command) o ≡ None
-      → option_and_then (λ r. deals_under t l r.number r.firm r.command) o ≡ standing_on t l k
+      → option_and_then (λ r. first_on_deal t l r) o ≡ standing_on t l k
   nothing_named k None e none = sym (ap (first_refused t []) (filter_all (λ r. r.number == k) l e) ∙ list.replayed)
-  nothing_named k (Some r) e none = deals_alone r.command none ∙ looked_up_here t l list k r e rises
+  nothing_named k (Some r) e none = deals_alone _ none ∙ looked_up_here t l list k r e rises
     where
       deals_alone : (c : Command) → named_place r.number c ≡ None
           → deals_under t l r.number r.firm c ≡ least (numbers_under t l r.number r.firm c)
-      deals_alone (Agree giver taker rate limit) h =
-          sym (least_one (deals_under t l r.number r.firm (Agree giver taker rate limit)))
-      deals_alone (Raise giver lots) h = sym (least_one (deals_under t l r.number r.firm (Raise giver lots)))
+      deals_alone (Agree giver taker rate limit) h = sym (least_one _)
+      deals_alone (Raise giver lots) h = sym (least_one _)
       deals_alone _ h = cc
 
   pub placeless : (k : ℕ) → place_in l k ≡ None
-      → option_and_then (λ r. deals_under t l r.number r.firm r.command) (change_of l k) ≡ standing_on t l k
-  placeless k none = nothing_named k (change_of l k) refl none
+      → option_and_then (λ r. first_on_deal t l r) (change_of l k) ≡ standing_on t l k
+  placeless k none = nothing_named k _ refl none
 
 module _ (g : Grove) (t : House) (l : List Record) (rises : RisesFrom 0 l) (legal : IsLegal t l)
     (shows : ShowsAll l g) where
   pub nothing_placed : (k : ℕ) → place_of g k ≡ None
-      → option_and_then (λ r. deals_under t l r.number r.firm r.command) (change_of l k) ≡ standing_on t l k
+      → option_and_then (λ r. first_on_deal t l r) (change_of l k) ≡ standing_on t l k
   nothing_placed k none = placeless t l rises legal k (sym (shows.places k) ∙ none)
 
   -- and what is read at the node that lies where the trees place the change
@@ -177,8 +163,7 @@ module _ (g : Grove) (t : House) (l : List Record) (rises : RisesFrom 0 l) (lega
 -- none is answered exactly where the others alone are legal
 pub none_where_legal : (t : House) (l : List Record) (k : ℕ) (o : Option ℕ) → o ≡ standing_on t l k
     → (o ≡ None) ↔ IsLegal t (without l k)
-none_where_legal t l k o is =
-    (λ none. legal_from_replay t (without l k) (sym is ∙ none), λ others. is ∙ replay_from_legal t (without l k) others)
+none_where_legal t l k o is = (λ none. legal_from_replay t _ (cc), λ others. is ∙ replay_from_legal t _ others)
 
 -- ---- the deed of a number
 
@@ -188,7 +173,7 @@ none_numbered l g k n [] h = refl
 none_numbered l g k n (r ∷ b) h =
     let q = nothing_here (r.number == n) r (find (λ r. r.number == n) b) h in
     let rest = none_numbered l g k n b q.1 in
-    elim (none_or_some (deed_of l g k r.firm r.command)) [ inl none ↦ cc (none, rest) | inr d ↦ cc (d.1, q.0, rest) ]
+    elim (none_or_some (deed_in l g k r)) [ inl none ↦ cc (none, rest) | inr d ↦ cc (d.1, q.0, rest) ]
 
 -- ---- read off the terms
 
@@ -199,13 +184,13 @@ standing_of n r = standing_under r.file r.dealings n
 pub stands_in : (v : TermsView) (n : ℕ) (i : Option ℕ) (o : Option PairView) → o ≡ option_and_then (slice_get v.pairs) i
     → option_and_then (λ (r : PairView). standing_under r.file r.dealings n) o
     ≡ option_and_then (λ i. standing_in v.pairs i n) i
-stands_in v n i o is = ap (option_and_then (standing_of n)) is ∙ and_then_steps (slice_get v.pairs) (standing_of n) i
+stands_in v n i o is = cc (and_then_steps (slice_get v.pairs) (standing_of n) i)
 
 module _ (t : House) (l : List Record) (v : TermsView) (are : AreTermsOf t l v) (once : NumbersOnce l) where
   -- of a change that deals for these two
-  read_deal : (r : Record) → Contains l r → (g k : List ℕ) (d : Deed) → deed_of l g k r.firm r.command ≡ Some d
+  read_deal : (r : Record) → Contains l r → (g k : List ℕ) (d : Deed) → deed_in l g k r ≡ Some d
       → option_and_then (λ i. standing_in v.pairs i r.number) (pair_place v l r)
-      ≡ deals_under t l r.number r.firm r.command
+      ≡ first_on_deal t l r
   read_deal r among g k d deals =
       let is_deal = deal l r.firm r.command g k d deals in
       let q = are.ready r (record { giver = g; taker = k }) among is_deal.of in
@@ -231,22 +216,20 @@ module _ (t : House) (l : List Record) (v : TermsView) (are : AreTermsOf t l v) 
   read_by : (r : Record) → Contains l r → (c : Command) → r.command ≡ c → named_place r.number c ≡ None
       → option_and_then (λ i. standing_in v.pairs i r.number) (pair_place v l r) ≡ deals_under t l r.number r.firm c
   read_by r among (Agree g k rate limit) is none =
-      cc (read_deal r among g k (Makes (record { rate = rate; limit = limit })) (cc (is, both_same g k)), is)
-  read_by r among (Raise g lots) is none =
-      cc (read_deal r among g r.firm (Raises lots) (cc (is, both_same g r.firm)), is)
-  read_by r among (Claim m account) is none = absurd (cc)
-  read_by r among _ is none = cc (is)
+      cc (read_deal r among g k (Makes (record { rate = rate; limit = limit })) (cc (is, both_same g k)))
+  read_by r among (Raise g lots) is none = cc (read_deal r among g r.firm (Raises lots) (cc (is, both_same g r.firm)))
+  read_by r among (Claim m _) is none = cc
+  read_by r among _ is none = cc
 
   -- what the terms say stands on a number without a place in the trees is what the list says
   pub read_off : (n : ℕ) → option_and_then (λ r. named_place r.number r.command) (change_of l n) ≡ None
       → option_and_then (λ i. standing_in v.pairs i n) (pair_at v n)
-      ≡ option_and_then (λ r. deals_under t l r.number r.firm r.command) (change_of l n)
+      ≡ option_and_then (λ r. first_on_deal t l r) (change_of l n)
   read_off n none =
       ap (option_and_then (λ i. standing_in v.pairs i n)) (are.placed n)
-      ∙ (and_then_steps (pair_place v l) (λ i. standing_in v.pairs i n) (change_of l n)
-      ∙ alike_at (λ r. option_and_then (λ i. standing_in v.pairs i n) (pair_place v l r))
-      (λ r. deals_under t l r.number r.firm r.command) (change_of l n)
-      (λ r found. let number = (Decides-eqb r.number n).0 (find_passes (λ r. r.number == n) l r found) in
+      ∙ (and_then_steps (pair_place v l) _ (change_of l n)
+      ∙ alike_at _ (first_on_deal t l) _
+      (λ r found. let number = (Decides-eqb r.number n).0 (find_passes _ l r found) in
       ap (λ m. option_and_then (λ i. standing_in v.pairs i m) (pair_place v l r)) (sym number)
       ∙ read_by r (found_in (λ r. r.number == n) l r found) r.command refl
       (sym (ap (option_and_then (λ (r : Record). named_place r.number r.command)) found) ∙ none)))
@@ -260,8 +243,7 @@ count_at v o = unwrap_or (option_map (λ i. entries_in v.pairs i) o) 0
 abbrev count_of : List Record → Option Pair → ℕ
 count_of l o = unwrap_or (option_map (λ (p : Pair). length (dealings l p.giver p.taker)) o) 0
 
-counts_through : (v : TermsView) (o : Option ℕ)
-    → count_at v o ≡ unwrap_or
+counts_through : (v : TermsView) (o : Option ℕ) → count_at v o ≡ unwrap_or
     (option_map (λ (r : PairView). length r.dealings) (option_and_then (slice_get v.pairs) o)) 0
 counts_through v None = refl
 counts_through v (Some i) = refl
@@ -270,8 +252,7 @@ counts_through v (Some i) = refl
 pub counts_in : (v : TermsView) (i : Option ℕ) (o : Option PairView) → o ≡ option_and_then (slice_get v.pairs) i
     → unwrap_or (option_map (λ (r : PairView). length r.dealings) o) 0
     ≡ unwrap_or (option_map (λ i. entries_in v.pairs i) i) 0
-counts_in v i o is =
-    ap (λ o. unwrap_or (option_map (λ (r : PairView). length r.dealings) o) 0) is ∙ sym (counts_through v i)
+counts_in v i o is = cc (counts_through v i)
 
 module _ (t : House) (l : List Record) (v : TermsView) (are : AreTermsOf t l v) where
   of_pair : (o : Option Pair) → ((p : Pair) → o ≡ Some p → (q : PairView) × (row_of v p.giver p.taker ≡ Some q))
@@ -279,11 +260,14 @@ module _ (t : House) (l : List Record) (v : TermsView) (are : AreTermsOf t l v) 
   of_pair None there = refl
   of_pair (Some p) there =
       let q = there p refl in
-      cc (counts_through v (place_of_pair v p), q.1, (are.rows p.giver p.taker q.0 q.1).1)
+      cc (counts_through v (place_of_pair v p), (are.rows p.giver p.taker q.0 q.1).1)
 
   pub counted : (n : ℕ) → count_at v (pair_at v n) ≡ entries_dealt l n
   counted n =
-      let pairs = λ (r : Record). pair_of l r.firm r.command in
-      ap (count_at v) (are.placed n ∙ sym (and_then_steps pairs (place_of_pair v) (change_of l n)))
-      ∙ of_pair (option_and_then pairs (change_of l n)) (λ p e. let r = and_then_told pairs (change_of l n) p e in
-      are.ready r.0 p (found_in (λ r. r.number == n) l r.0 r.1.0) r.1.1)
+      let pairs = λ (r : Record). pair_in l r in
+      cc (
+        are.placed n,
+        and_then_steps pairs (place_of_pair v) (change_of l n),
+        of_pair (option_and_then pairs (change_of l n)) (λ p e. let r = and_then_told pairs (change_of l n) p e in
+            are.ready r.0 p (found_in (λ r. r.number == n) l r.0 r.1.0) r.1.1),
+      )

@@ -1,36 +1,30 @@
 -- A lawful order of a legal list is legal.
-use Rattle.gu_depend.proofs.Vocabulary.{find, ◌≡◌, ℕ, ◌+◌, ◌≤◌, Bool, true, false, ◌||◌, List, [], ◌∷◌, ◌++◌, length}
-use Rattle.gu_depend.proofs.Vocabulary.{refl, sym, ◌∙◌, ap, subst, arith, cond, Option, append_assoc, append-nil}
-use Rattle.gu_depend.proofs.Vocabulary.{IsPermutation, map, Some, None, count_by, is_none, is_some, ◌==◌}
-use Rattle.gu_depend.proofs.Vocabulary.{AllByRecursion, Decides-eqb, EntryPart, House, agreement, node_of, split_of}
-use Rattle.gu_depend.proofs.Vocabulary.{decision_of, splits, decides, same_name, deed_of, dealings_in, dealings}
-use Rattle.gu_depend.proofs.Vocabulary.{limit_of, refusal_of, row, split_row, claim_row, is_taker, is_giver}
-use Rattle.gu_depend.proofs.Vocabulary.{first_refused, IsLegal, is_ready, in_lawful_order, IsLawfulOrder, Deed, Makes}
-use Rattle.gu_depend.proofs.Vocabulary.{Raises, Command, Trade, Split, Claim, Refuse, Cancel, Agree, Raise, Record}
-use Rattle.gu_depend.proofs.Vocabulary.{Kind, Node, Refusal, at_node, fits, AllFit, legal_from_replay}
-use Rattle.gu_depend.proofs.Vocabulary.{replay_from_legal, and_parts, HasDistinctNumbers, eqb_symm, name_is, name_same}
-use Rattle.gu_depend.proofs.Vocabulary.{node_called, All-contains, Contains, first_unfit, inl, inr, none_is_some}
-use Rattle.gu_depend.proofs.Vocabulary.{none_or_some, refusal_parts, same_Some, names, cases_Bool, cond_both}
-use Rattle.gu_depend.proofs.Vocabulary.{All-permutation, length_permutation, IsDistinct-head, IsDistinct-tail, or_false}
-use Rattle.gu_depend.proofs.Vocabulary.{none_at_node, split_accepted, claim_accepted, agree_accepted, raise_accepted}
-use Rattle.gu_depend.proofs.Vocabulary.{decision_accepted}
-use Rattle.gu_depend.proofs.{Vocabulary.{refusal_none, unfit_none, fit_behind, ◌⊎◌}}
-use Rattle.gu_depend.proofs.{Names.{at_name, node_by_maker, makes, makers_once}}
-use Rattle.gu_depend.proofs.Finds.{some_there, count_cons, count_permuted, find_permuted, none_before, not_both}
-use Rattle.gu_depend.proofs.Finds.{stands_between, none_counts}
-use Rattle.gu_depend.proofs.Grown.{Within, Grown, grown_none, grown_push, owns_same, depth_same, AllFollow, Follows}
-use Rattle.gu_depend.proofs.Settled.{NamedOnce, named_once, SettledAs, SettledAt, IsYours, decision_row, split_moved}
-use Rattle.gu_depend.proofs.Settled.{Settled, facts, front_within, front_short}
-use Rattle.gu_depend.proofs.Deals.{dealt, both_same, dealings_grown, dealings_cut, dealings_idle, raised_may}
-use Rattle.gu_depend.proofs.Deals.{claim_within, at_pair, deal, dealings_append, deed_grown}
+use Rattle.gu_depend.proofs
+use proofs.Deals.{at_pair, both_same, claim_within, deal, dealings_append, dealings_cut, dealings_grown, dealings_idle}
+use proofs.{Deals.{dealt, deed_grown, deed_in, raised_may}, Finds.{count_cons, count_permuted, find_permuted}}
+use proofs.{Finds.{none_before, none_counts, not_both, some_there, stands_between}, Grown.{AllFollow, Follows, Grown}}
+use proofs.{Grown.{grown_none, grown_push, line_of_grown, place_same, Within}, Names.{at_name, makers_once}}
+use proofs.{Names.node_by_maker, Settled.{decision_row, facts, front_within, IsYours, named_once, NamedOnce, Settled}}
+use proofs.Settled.{SettledAs, SettledAt, split_moved}
+use Rattle.gu_depend.proofs.Vocabulary
+use Vocabulary.{Agree, agree_accepted, agreement, All-contains, All-permutation, AllByRecursion, AllFit, and_parts, ap}
+use Vocabulary.{append-nil, append_assoc, arith, at_node, Bool, Cancel, cases_Bool, Claim, claim_accepted, Command}
+use Vocabulary.{cond, cond_both, Contains, count_by, dealings, dealings_in, decides, Decides-eqb, decision_accepted}
+use Vocabulary.{decision_of, Deed, deed_of, EntryPart, eqb_symm, false, find, first_refused, first_unfit, fit_behind}
+use Vocabulary.{fits, HasDistinctNumbers, House, in_lawful_order, inl, inr, is_none, is_ready, is_some, IsDistinct-head}
+use Vocabulary.{IsDistinct-tail, IsLawfulOrder, IsLegal, IsPermutation, Kind, legal_from_replay, length, length-append}
+use Vocabulary.{length_permutation, limit_of, List, Makes, map, name_is, name_same, names, Node, node_called}
+use Vocabulary.{node_of, None, none_at_node, none_is_some, none_or_some, Option, or_false, Raise, raise_accepted}
+use Vocabulary.{Raises, Record, refl, Refusal, refusal_none, refusal_of, refusal_parts, Refuse, replay_from_legal, row}
+use Vocabulary.{same_name, same_Some, Some, Split, split_accepted, split_of, splits, subst, sym, Trade, true}
+use Vocabulary.{unfit_none, ℕ, [], ◌++◌, ◌+◌, ◌==◌, ◌||◌, ◌∙◌, ◌∷◌, ◌≡◌, ◌≤◌, ◌⊎◌}
 
 -- ---- numbers that stand once
 
 none_equal : (n : ℕ) (l : List Record) → AllByRecursion (λ y. (n == y) ≡ false) (map (λ r. r.number) l)
     → find (λ r. r.number == n) l ≡ None
 none_equal n [] none = refl
-none_equal n (r ∷ l) none =
-    ap (λ b. cond b (Some r) (find (λ r. r.number == n) l)) (eqb_symm r.number n ∙ none.0) ∙ none_equal n l none.1
+none_equal n (r ∷ l) none = cc (eqb_symm _ n, none_equal n l none.1)
 
 -- each number stands once at most
 abbrev pub NumbersOnce : List Record → Type 0
@@ -39,16 +33,14 @@ NumbersOnce l = (n : ℕ) → count_by (λ r. r.number == n) l ≤ 1
 pub number_once : (l : List Record) → HasDistinctNumbers l → NumbersOnce l
 number_once [] distinct n = omega arith
 number_once (r ∷ l) distinct n =
-    let later = number_once l (IsDistinct-tail (λ a b. a == b) r.number (map (λ r. r.number) l) distinct) n in
-    let none = none_counts (λ d. d.number == r.number) l
-    (none_equal r.number l (IsDistinct-head (λ a b. a == b) r.number (map (λ r. r.number) l) distinct)) in
-    cond_both (r.number == n) 1 0
+    let later = number_once l (IsDistinct-tail (λ a b. a == b) _ _ distinct) n in
+    let none = none_counts _ l (none_equal _ l (IsDistinct-head (λ a b. a == b) _ _ distinct)) in
+    cond_both _ 1 0
     (λ i. count_by (λ r. r.number == n) (r ∷ l) ≡ i + count_by (λ r. r.number == n) l
     → count_by (λ r. r.number == n) (r ∷ l) ≤ 1)
     (λ is e.
-    let a = subst (λ m. count_by (λ r. r.number == m) l ≡ 0) ((Decides-eqb r.number n).0 is) none in
-    omega (arith, a, e))
-    (λ _ e. omega (arith, later, e)) (count_cons (λ r. r.number == n) r l)
+    let a = rw ((Decides-eqb r.number n).0 is) at none in
+    omega arith) (λ _ e. omega (arith, later, e)) (count_cons _ r l)
 
 -- no number stands twice, and none of the changes is refused after those before it
 pub record Legal (t : House) (l : List Record) : Type 0 where
@@ -68,17 +60,16 @@ pub record SameFinds (l o : List Record) : Type 0 where
 
 pub same_finds : (l o : List Record) → IsPermutation l o → NumbersOnce l → NamedOnce l → SameFinds l o
 same_finds l o same once s = record {
-  nodes =
-      λ n. cc (node_by_maker o n, find_permuted (makes n) l o same (makers_once l n (once n.entry)), node_by_maker l n);
-  splits_same = λ n. find_permuted (λ r. splits n r.command) l o same (s.splits_once n);
-  decisions = λ n. find_permuted (λ r. decides n r.command) l o same (s.decisions_once n);
+  nodes = λ n. cc (node_by_maker o n, find_permuted _ l o same (makers_once l n (once _)), node_by_maker l n);
+  splits_same = λ n. find_permuted _ l o same (s.splits_once n);
+  decisions = λ n. find_permuted _ l o same (s.decisions_once n);
   long = length_permutation l o same;
 }
 
 -- what is found in a front of the one is found in the other
 pub order_within : (l o b rest : List Record) → SameFinds l o → o ≡ b ++ rest → Within l b
 order_within l o b rest same e =
-    let w = front_within o b rest e in
+    let w = front_within o b _ e in
     record {
       nodes = λ n x found. sym (same.nodes n) ∙ w.nodes n x found;
       decisions = λ n r found. sym (same.decisions n) ∙ w.decisions n r found;
@@ -88,29 +79,26 @@ order_within l o b rest same e =
 
 moved : (b : List Record) (m n : EntryPart) → same_name m n ≡ true → is_some (node_of b m) ≡ true
     → (x : Node) × (node_of b n ≡ Some x)
-moved b m n is h =
-    subst (λ (z : EntryPart). (x : Node) × (node_of b z ≡ Some x)) (name_is m n is) (some_there (node_of b m) h)
+moved b m n is h = rw (name_is m n is) at (some_there _ h)
 
 decided_either : (o p : Option Record) → (is_none p || is_some o) ≡ true → ((d : Record) → o ≡ Some d → p ≡ Some d)
     → o ≡ p
 decided_either None None h w = refl
-decided_either None (Some d) h w = absurd (cc)
+decided_either None (Some d) h w = cc
 decided_either (Some d) p h w = sym (w d refl)
 
 ready_follows : (l b : List Record) (c : Command) → Within l b → is_ready l b c ≡ true → Follows l b c
 ready_follows l b (Split m ps) w h =
-    let p = and_parts (is_some (node_of b m)) (is_none (decision_of l m) || is_some (decision_of b m)) h in
+    let p = and_parts _ _ h in
     record {
-      there = λ n is. moved b m n (sym (or_false (same_name m n)) ∙ is) p.0;
+      there = λ n is. moved b m n (cc (or_false _)) p.0;
       decided = λ n is.
-          decided_either (decision_of b n) (decision_of l n)
-          (subst (λ z. (is_none (decision_of l z) || is_some (decision_of b z)) ≡ true) (name_is m n is) p.1)
-          (w.decisions n);
+          decided_either _ _ (rw (name_is m n is) at p.1) (w.decisions n);
     }
-ready_follows l b (Claim m _) w h = record { there = λ n is. moved b m n is h; decided = λ n is. absurd (cc) }
-ready_follows l b (Refuse m) w h = record { there = λ n is. moved b m n is h; decided = λ n is. absurd (cc) }
-ready_follows l b (Cancel m) w h = record { there = λ n is. moved b m n is h; decided = λ n is. absurd (cc) }
-ready_follows l b _ w h = record { there = λ n is. absurd (cc); decided = λ n is. absurd (cc) }
+ready_follows l b (Claim m _) w h = record { there = λ n is. moved b m n is h; decided = λ n is. cc }
+ready_follows l b (Refuse m) w h = record { there = λ n is. moved b m n is h; decided = λ n is. cc }
+ready_follows l b (Cancel m) w h = record { there = λ n is. moved b m n is h; decided = λ n is. cc }
+ready_follows l b _ w h = record { there = λ n is. cc; decided = λ n is. cc }
 
 -- what a change finds before it
 record IsDue (t : House) (l b : List Record) (by : List ℕ) (c : Command) : Type 0 where
@@ -123,53 +111,45 @@ record IsDue (t : House) (l b : List Record) (by : List ℕ) (c : Command) : Typ
 -- the node that is there in the one is that of the other
 there_both : (l b : List Record) (n : EntryPart) (x : Node) → Within l b → node_of l n ≡ Some x
     → (y : Node) × (node_of b n ≡ Some y) → node_of b n ≡ Some x
-there_both l b n x w found y = y.1 ∙ (sym (w.nodes n y.0 y.1) ∙ found)
-
-undecided_named : (b : List Record) (n : EntryPart) (x : Node) → node_of b n ≡ Some x → decision_of b n ≡ None
-    → decision_of b x.name ≡ None
-undecided_named b n x found none =
-    subst (λ (z : EntryPart). decision_of b z ≡ None) (sym (node_called b n x found)) none
+there_both l b n x w found y = cc (w.nodes n y.0 y.1)
 
 decision_accepts : (l b : List Record) (n : EntryPart) (yours : Kind → Bool) → SettledAt l n (IsYours yours)
     → Within l b → (x : Node) × (node_of b n ≡ Some x) → decision_of b n ≡ None
     → at_node (decision_row b yours) (node_of b n) ≡ None
 decision_accepts l b n yours s w there undecided =
-    let found = there_both l b n s.node w s.there there in
-    none_at_node (decision_row b yours) (node_of b n) s.node found
-    (decision_accepted b s.node (yours s.node.kind) s.holds.0 (undecided_named b n s.node found undecided) s.holds.1)
+    let found = there_both l b n _ w s.there there in
+    none_at_node _ _ _ found (decision_accepted b s.node _ s.holds.0
+    (rw (node_called b n s.node found) undecided) s.holds.1)
 
 accepts : (t : House) (l b : List Record) (by : List ℕ) (c : Command) → SettledAs t l by c → IsDue t l b by c
     → row t b by c ≡ None
-accepts t l b by (Trade firm account instrument side lots) s due = s
+accepts t l b by (Trade _ account _ _ lots) s due = s
 accepts t l b by (Split n ps) s due =
-    let is : names n (Split n ps) ≡ true = or_false (same_name n n) ∙ name_same n in
-    let found = there_both l b n s.node due.grown.within s.there (due.follows.there n is) in
-    let called = node_called b n s.node found in
-    let named = at_name b n s.node found in
+    let is : names n (Split n ps) ≡ true = or_false _ ∙ name_same n in
+    let found = there_both l b n _ due.grown.within s.there (due.follows.there n is) in
+    let called = node_called b n _ found in
+    let named = at_name b n _ found in
     let same =
-    subst (λ (z : EntryPart). decision_of b z ≡ decision_of l z) (sym called) (due.follows.decided n (name_same n)) in
-    none_at_node (split_row t b by ps) (node_of b n) s.node found
-    (split_accepted t b by ps s.node
-    (split_moved t l b by ps s.node (owns_same l b by s.node.name s.node due.grown named same) same
-    (depth_same l b s.node.name s.node due.grown named) s.holds)
-    (subst (λ (z : EntryPart). split_of b z ≡ None) (sym called) (due.whole n (name_same n))))
+    subst (λ z. decision_of b z ≡ decision_of l z) (sym called) (due.follows.decided n (name_same n)) in
+    none_at_node _ _ _ found
+    (split_accepted t b by ps _
+    (split_moved t l b by ps _ (rw (place_same l b s.node.name s.node due.grown named same)) same
+    (rw (line_of_grown l b due.grown s.node.name s.node named)) s.holds)
+    (rw called (due.whole n (name_same n))))
 accepts t l b by (Claim n account) s due =
-    let found = there_both l b n s.node due.grown.within s.there (due.follows.there n (name_same n)) in
-    none_at_node (claim_row t b by account) (node_of b n) s.node found
-    (claim_accepted t b by account s.node s.holds (undecided_named b n s.node found (due.undecided n (name_same n)))
-    (claim_within t l b n by account s.node s.there due.afforded s.node.kind refl s.holds.given))
+    let found = there_both l b n _ due.grown.within s.there (due.follows.there n (name_same n)) in
+    none_at_node _ _ _ found
+    (claim_accepted t b by _ _ s.holds (rw (node_called b n s.node found) (due.undecided n (name_same n)))
+    (claim_within t l b n by account _ s.there due.afforded _ refl s.holds.given))
 accepts t l b by (Refuse n) s due =
-    decision_accepts l b n (is_taker by) s due.grown.within (due.follows.there n (name_same n))
-    (due.undecided n (name_same n))
+    decision_accepts l b n _ s due.grown.within (due.follows.there n (name_same n)) (due.undecided n (name_same n))
 accepts t l b by (Cancel n) s due =
-    decision_accepts l b n (is_giver by) s due.grown.within (due.follows.there n (name_same n))
-    (due.undecided n (name_same n))
+    decision_accepts l b n _ s due.grown.within (due.follows.there n (name_same n)) (due.undecided n (name_same n))
 accepts t l b by (Agree giver taker rate limit) s due =
-    let made : Deed = Makes (record { rate = rate; limit = limit }) in
-    agree_accepted t b by giver taker rate limit s
-    (due.afforded giver taker made (ap (λ b. cond b (Some made) None) (both_same giver taker)))
+    let made = Makes (record { rate = rate; limit = limit }) in
+    agree_accepted t b by _ _ _ _ s (due.afforded giver taker made (rw (both_same giver taker)))
 accepts t l b by (Raise giver lots) s due =
-    raise_accepted t b by giver lots s
+    raise_accepted t b by _ _ s
     ((raised_may lots (limit_of t b giver by)).1
     (due.afforded giver by (Raises lots) (ap (λ b. cond b (Some (Raises lots)) None) (both_same giver by))))
 accepts t l b by _ s due = refl
@@ -199,26 +179,26 @@ module _ (t : House) (l o : List Record) (legal : Legal t l) (same : IsPermutati
       → o ≡ b ++ r ∷ rest → p r ≡ true → find p b ≡ None
   none_yet p once b r rest e =
       let a = count_permuted p l o same in
-      none_before p b r rest (subst (λ (z : List Record). count_by p z ≤ 1) e (omega (arith, a, once)))
+      none_before p b r rest (subst (λ z. count_by p z ≤ 1) e (omega arith))
 
   grown_one : (b : List Record) (r : Record) (rest : List Record) → o ≡ (b ++ r ∷ []) ++ rest → Grown l b
       → Follows l b r.command → Grown l (b ++ r ∷ [])
   grown_one b r rest e g follows =
-      grown_push l b r g (order_within l o (b ++ r ∷ []) rest finds e)
-      (omega (arith, front_short o (b ++ r ∷ []) rest e, finds.long)) follows
+      grown_push l b r g (order_within l o _ _ finds e)
+      (omega (arith, length-append (b ++ r ∷ []) rest, ap length e, finds.long)) follows
 
   -- what follows its own says of its nodes what the list says
   pub grown_along : (b rest tail : List Record) → o ≡ b ++ (rest ++ tail) → AllFollow l b rest → Grown l b
       → Grown l (b ++ rest)
-  grown_along b [] tail e follow g = subst (Grown l) (sym (append-nil b)) g
+  grown_along b [] tail e follow g = rw (append-nil b) g
   grown_along b (r ∷ rest) tail e follow g =
-      let cut : o ≡ (b ++ r ∷ []) ++ (rest ++ tail) = e ∙ sym (append_assoc b (r ∷ []) (rest ++ tail)) in
-      subst (Grown l) (append_assoc b (r ∷ []) rest)
+      let cut : o ≡ (b ++ r ∷ []) ++ (rest ++ tail) = e ∙ sym (append_assoc b _ _) in
+      rw (append_assoc b (r ∷ []) rest) at
       (grown_along (b ++ r ∷ []) rest tail cut follow.1 (grown_one b r (rest ++ tail) cut g follow.0))
 
   -- a change that follows its own, and fits, is accepted
   taken : (b : List Record) (r : Record) (rest : List Record) → o ≡ b ++ r ∷ rest → Grown l b → Follows l b r.command
-      → ((g k : List ℕ) (d : Deed) → deed_of l g k r.firm r.command ≡ Some d
+      → ((g k : List ℕ) (d : Deed) → deed_in l g k r ≡ Some d
       → fits (agreement t g k) (dealings_in l b g k) d ≡ true)
       → refusal_of t b r.firm r.command ≡ None
   taken b r rest e g follows fit =
@@ -253,8 +233,8 @@ module _ (t : House) (l o : List Record) (legal : Legal t l) (same : IsPermutati
               (subst (AllFit (agreement t u v) (dealings_in l b u v)) (dealings_append l (r ∷ []) rest u v) all)))
           | inr here ↦ inr here
         ]) in
-        elim (none_or_some (deed_of l x y r.firm r.command)) [
-          | inl none ↦ accepted (λ d deals. absurd (none_is_some (deed_of l x y r.firm r.command) d none deals))
+        elim (none_or_some (deed_in l x y r)) [
+          | inl none ↦ accepted (λ d deals. absurd (none_is_some (deed_in l x y r) d none deals))
               ∙ (later ∙ cc (dealings_idle l b r x y none, none))
           | inr d ↦ elim (cases_Bool (fits (agreement t x y) (dealings_in l b x y) d.0)) [
             | inl fit ↦
@@ -272,8 +252,7 @@ module _ (t : House) (l o : List Record) (legal : Legal t l) (same : IsPermutati
           ]
         ]
       where
-        accepted : ((d : Deed) → deed_of l x y r.firm r.command ≡ Some d
-            → fits (agreement t x y) (dealings_in l b x y) d ≡ true)
+        accepted : ((d : Deed) → deed_in l x y r ≡ Some d → fits (agreement t x y) (dealings_in l b x y) d ≡ true)
             → first_refused t b (r ∷ rest) ≡ first_refused t (b ++ r ∷ []) rest
         accepted fit =
             ap (λ o. cond (is_some o) (Some r.number) (first_refused t (b ++ r ∷ []) rest))
@@ -283,26 +262,26 @@ module _ (t : House) (l o : List Record) (legal : Legal t l) (same : IsPermutati
                   deals all).0
               | inr here ↦
                   at_pair (λ u v.
-                  deed_of l u v r.firm r.command ≡ Some d → fits (agreement t u v) (dealings_in l b u v) d ≡ true)
+                  deed_in l u v r ≡ Some d → fits (agreement t u v) (dealings_in l b u v) d ≡ true)
                   x y u v here (fit d) deals
             ]))
 
     pub first_along : (front tail : List Record) → o ≡ front ++ tail → AllFollow l [] front → OthersFit t l x y [] front
         → first_refused t [] front ≡ first_unfit (agreement t x y) [] (dealings_in l front x y)
-    first_along front tail e follow others = along [] front tail e (grown_none l) follow others
+    first_along front tail e follow others = along [] _ _ e (grown_none l) follow others
 
   -- and where all fit, none is refused
   pub none_along : (front tail : List Record) → o ≡ front ++ tail → AllFollow l [] front
       → ((g k : List ℕ) → AllFit (agreement t g k) [] (dealings_in l front g k)) → first_refused t [] front ≡ None
   none_along front tail e follow all =
-      first_along [] [] front tail e follow (λ g k. inl (all g k))
-      ∙ unfit_none (agreement t [] []) [] (dealings_in l front [] []) (all [] [])
+      first_along [] [] _ _ e follow (λ g k. inl (all g k))
+      ∙ unfit_none _ [] _ (all [] [])
 
   lawful_follow : (b rest : List Record) → o ≡ b ++ rest → in_lawful_order l b rest ≡ true → AllFollow l b rest
   lawful_follow b [] e h = tt
   lawful_follow b (r ∷ rest) e h =
-      let p = and_parts (is_ready l b r.command) (in_lawful_order l (b ++ r ∷ []) rest) h in (
-        ready_follows l b r.command (order_within l o b (r ∷ rest) finds e) p.0,
+      let p = and_parts _ _ h in (
+        ready_follows l b _ (order_within l o b (r ∷ rest) finds e) p.0,
         lawful_follow (b ++ r ∷ []) rest (e ∙ sym (append_assoc b (r ∷ []) rest)) p.1,
       )
 

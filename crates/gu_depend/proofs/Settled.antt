@@ -1,20 +1,17 @@
 -- What holds of the changes of a legal list over the whole list, wherever each of them stands.
-use Rattle.gu_depend.proofs.Vocabulary.{◌≡◌, ◌≤◌, true, List, [], ◌∷◌, ◌++◌, sym, subst, arith, append-nil}
-use Rattle.gu_depend.proofs.Vocabulary.{append_assoc, Some, None, count_by, EntryPart, House, node_of, decision_of}
-use Rattle.gu_depend.proofs.Vocabulary.{is_given, splits, decides, refusal_of, row, first_refused, Record, Node}
-use Rattle.gu_depend.proofs.Vocabulary.{node_more, refusal_parts, splits_well, decides_well, ℕ, Bool, not, ◌&&◌, length}
-use Rattle.gu_depend.proofs.Vocabulary.{length-append, ◌∙◌, ap, Option, All, inl, inr, is_none, nat_lt, All-nil}
-use Rattle.gu_depend.proofs.Vocabulary.{All-push, knows_firm, agreement, owns, depth_of, is_offered, trade_row}
-use Rattle.gu_depend.proofs.Vocabulary.{split_row, claim_row, Refusal, NotOffered, NotYours, first, unless, is_taker}
-use Rattle.gu_depend.proofs.Vocabulary.{is_giver, IsLegal, Part, Command, Trade, Split, Claim, Refuse, Cancel, Agree}
-use Rattle.gu_depend.proofs.Vocabulary.{Raise, Kind, deed_of, dealings_in, at_node, legal_from_replay, fits, AllFit}
-use Rattle.gu_depend.proofs.Vocabulary.{at_node_none, SplitHolds, claim_passes, agree_passes, raise_passes, node_called}
-use Rattle.gu_depend.proofs.Vocabulary.{no_some, or_cases, none_or_some, fit_append, split_passes, ClaimHolds}
-use Rattle.gu_depend.proofs.Vocabulary.{AgreeHolds, decision_passes}
-use Rattle.gu_depend.proofs.{Finds.{once_push, find_more}, Names.at_name}
 use Rattle.gu_base.proofs.Decisions.{before, here, which}
-use Rattle.gu_depend.proofs.Grown.{ThereFor, Within, Grown, grown_none, grown_push, owns_same, depth_same, Follows}
-use Rattle.gu_depend.proofs.Deals.{numbered, deed_grown, dealings_grown, dealings_cut, dealings_idle, deal}
+use Rattle.gu_depend.proofs
+use proofs.{Deals.{deal, dealings_cut, dealings_grown, dealings_idle, deed_grown, deed_in, numbered}, Finds.once_push}
+use proofs.{Grown.{Follows, Grown, grown_none, grown_push, line_of_grown, place_same, ThereFor, Within}, Names.at_name}
+use proofs.Vocabulary.{Agree, agree_passes, AgreeHolds, agreement, All, All-nil, All-push, AllFit, ap, append-nil}
+use proofs.Vocabulary.{append_assoc, arith, at_node, at_node_none, Bool, Cancel, Claim, claim_passes, ClaimHolds}
+use proofs.Vocabulary.{Command, count_by, dealings_in, decides, decides_well, decision_of, decision_passes, depth_of}
+use proofs.Vocabulary.{EntryPart, find-append, first, first_refused, fit_append, fits, House, inl, inr, is_given}
+use proofs.Vocabulary.{is_giver, is_none, is_offered, is_taker, IsLegal, Kind, knows_firm, legal_from_replay, length}
+use proofs.Vocabulary.{length-append, List, nat_lt, no_some, Node, node_called, node_more, node_of, None, none_or_some}
+use proofs.Vocabulary.{not, NotOffered, NotYours, Option, or_cases, owns, Part, Raise, raise_passes, Record, Refusal}
+use proofs.Vocabulary.{refusal_of, refusal_parts, Refuse, row, Some, Split, split_passes, SplitHolds, splits}
+use proofs.Vocabulary.{splits_well, subst, sym, Trade, trade_row, true, unless, ℕ, [], ◌&&◌, ◌++◌, ◌∙◌, ◌∷◌, ◌≡◌, ◌≤◌}
 
 -- ---- what a list names, and what it finds
 
@@ -30,12 +27,11 @@ along : (t : House) (l : List Record) (P : List Record → Type 0) → IsLegal t
     → ((b : List Record) (r : Record) (rest : List Record) → l ≡ (b ++ r ∷ []) ++ rest
     → refusal_of t b r.firm r.command ≡ None → P b → P (b ++ r ∷ []))
     → (b front rest : List Record) → l ≡ b ++ (front ++ rest) → P b → P (b ++ front)
-along t l P legal keeps b [] rest e held = subst P (sym (append-nil b)) held
+along t l P legal keeps b [] rest e held = rw (append-nil b) held
 along t l P legal keeps b (r ∷ front) rest e held =
-    let cut : l ≡ (b ++ r ∷ []) ++ (front ++ rest) = e ∙ sym (append_assoc b (r ∷ []) (front ++ rest)) in
-    subst P (append_assoc b (r ∷ []) front)
-    (along t l P legal keeps (b ++ r ∷ []) front rest cut
-    (keeps b r (front ++ rest) cut (legal.accepted b (front ++ rest) r e) held))
+    let cut : l ≡ (b ++ r ∷ []) ++ (front ++ rest) = e ∙ sym (append_assoc b _ _) in
+    rw (append_assoc b _ front) at (along t l P legal keeps _ front rest cut
+    (keeps b r (front ++ rest) cut (legal.accepted b _ r e) held))
 
 pub named_once : (t : House) (l : List Record) → first_refused t [] l ≡ None → NamedOnce l
 named_once t l none = along t l NamedOnce (legal_from_replay t l none) (λ b r rest e accepted s.
@@ -83,9 +79,9 @@ pub record Settled (t : House) (l : List Record) (r : Record) : Type 0 where
 
 pub free_decided : (l b : List Record) (n : EntryPart) (x : Node) → NamedOnce l → Within l b → node_of b n ≡ Some x
     → not (is_offered b x) ≡ true → decision_of b n ≡ decision_of l n
-free_decided l b n x s w found free = elim (none_or_some (decision_of b n)) [
-  | inl none ↦ none ∙ sym (no_some (decision_of l n) (λ d h.
-      let y = s.given n d h in cc (y.1.0, y.1.1, w.nodes n x found, node_called b n x found, none, free)))
+free_decided l b n x s w found free = elim (none_or_some _) [
+  | inl none ↦ none ∙ sym (no_some _ (λ d h.
+      let y = s.given n d h in cc (w.nodes n x found, node_called b n x found)))
   | inr d ↦ d.1 ∙ sym (w.decisions n d.0 d.1)
 ]
 
@@ -111,37 +107,34 @@ decision_row b yours x = first (unless (is_offered b x) NotOffered ∷ unless (y
 settles_at : (l b : List Record) (n : EntryPart) (line : Node → Option Refusal) (P : Node → Type 0) → Grown l b
     → at_node line (node_of b n) ≡ None → ((x : Node) → node_of b n ≡ Some x → line x ≡ None → P x) → SettledAt l n P
 settles_at l b n line P g h holds =
-    let x = at_node_none line (node_of b n) h in
+    let x = at_node_none _ _ h in
     record { node = x.0; there = g.within.nodes n x.0 x.1.0; holds = holds x.0 x.1.0 x.1.1 }
 
 decision_settles : (l b : List Record) (n : EntryPart) (yours : Kind → Bool) → Grown l b
     → at_node (decision_row b yours) (node_of b n) ≡ None → SettledAt l n (IsYours yours)
 decision_settles l b n yours g h =
-    settles_at l b n (decision_row b yours) (IsYours yours) g h
-    (λ x found passes. let p = decision_passes b x (yours x.kind) passes in (p.0, p.2))
+    settles_at l b n _ _ g h (λ x found passes. let p = decision_passes b x _ passes in (p.0, p.2))
 
 settles : (t : House) (l b : List Record) (by : List ℕ) (c : Command) → NamedOnce l → Grown l b → row t b by c ≡ None
     → SettledAs t l by c
-settles t l b by (Trade firm account instrument side lots) s g h = h
+settles t l b by (Trade _ account _ _ lots) s g h = h
 settles t l b by (Split n ps) s g h =
-    settles_at l b n (split_row t b by ps) (SplitHolds t l by ps) g h
+    settles_at l b n _ _ g h
     (λ x found passes. let named = at_name b n x found in
     let holds = (split_passes t b by ps x passes).0 in
-    let same = free_decided l b x.name x s g.within named holds.free in
-    split_moved t b l by ps x (sym (owns_same l b by x.name x g named same)) (sym same)
-    (sym (depth_same l b x.name x g named)) holds)
-settles t l b by (Claim n account) s g h =
-    settles_at l b n (claim_row t b by account) (ClaimHolds t by account) g h
-    (λ x found passes. (claim_passes t b by account x passes).0)
-settles t l b by (Refuse n) s g h = decision_settles l b n (is_taker by) g h
-settles t l b by (Cancel n) s g h = decision_settles l b n (is_giver by) g h
-settles t l b by (Agree giver taker rate limit) s g h = (agree_passes t b by giver taker rate limit h).0
-settles t l b by (Raise giver lots) s g h = (raise_passes t b by giver lots h).0
+    let same = free_decided l b _ x s g.within named holds.free in
+    split_moved t b l by ps x (rw (place_same l b x.name x g named same)) (sym same)
+    (rw (line_of_grown l b g x.name x named)) holds)
+settles t l b by (Claim n _) s g h = settles_at l b n _ _ g h (λ x found passes. (claim_passes t b by _ x passes).0)
+settles t l b by (Refuse n) s g h = decision_settles l b n _ g h
+settles t l b by (Cancel n) s g h = decision_settles l b n _ g h
+settles t l b by (Agree giver _ _ _) s g h = (agree_passes t b by _ _ _ _ h).0
+settles t l b by (Raise _ _) s g h = (raise_passes t b by _ _ h).0
 settles t l b by _ s g h = tt
 
 -- a change that is accepted names a node that is there
 pub accepted_there : (t : House) (b : List Record) (by : List ℕ) (c : Command) → row t b by c ≡ None → ThereFor b c
-accepted_there t b by c h n is = elim (or_cases (splits n c) (decides n c) is) [
+accepted_there t b by c h n is = elim (or_cases _ _ is) [
   | inl split ↦ (let y = splits_well t b by c n h split in (y.node, y.there))
   | inr decided ↦ (let y = decides_well t b by c n h decided in (y.node, y.there))
 ]
@@ -153,19 +146,16 @@ pub accepted_follows : (t : House) (l b : List Record) (by : List ℕ) (c : Comm
     → row t b by c ≡ None → Follows l b c
 accepted_follows t l b by c s w h = record {
   there = accepted_there t b by c h;
-  decided = λ n is. let y = splits_well t b by c n h is in free_decided l b n y.node s w y.there y.free;
+  decided = λ n is. let y = splits_well t b by c n h is in free_decided l b n _ s w y.there y.free;
 }
 
 -- the second list is a front of the first
 pub front_within : (l b rest : List Record) → l ≡ b ++ rest → Within l b
 front_within l b rest e =
-    subst (λ (z : List Record). Within z b) (sym e) (record {
-      nodes = λ n x found. node_more b rest n x found;
-      decisions = λ n r found. find_more (λ r. decides n r.command) b rest r found;
+    rw e (record {
+      nodes = λ n x found. node_more b _ n x found;
+      decisions = λ n r found. cc (find-append (λ d. decides n d.command) b rest);
     })
-
-pub front_short : (l b rest : List Record) → l ≡ b ++ rest → length b ≤ length l
-front_short l b rest e = omega (arith, length-append b rest, ap length e)
 
 -- what holds of a legal list as a whole
 pub record Facts (t : House) (l b : List Record) : Type 0 where
@@ -180,11 +170,12 @@ front_facts t l front rest e none = along t l (Facts t l) (legal_from_replay t l
     let s = named_once t l none in
     let p = refusal_parts t b r.firm r.command h in
     record {
-      grown = grown_push l b r f.grown (front_within l (b ++ r ∷ []) rest e) (front_short l (b ++ r ∷ []) rest e)
+      grown = grown_push l b r f.grown (front_within l (b ++ r ∷ []) rest e)
+          (omega (arith, length-append (b ++ r ∷ []) rest, ap length e))
           (accepted_follows t l b r.firm r.command s f.grown.within p.1);
       settled = All-push (Settled t l) b r f.settled
           (record { known = p.0; stands = settles t l b r.firm r.command s f.grown p.1 });
-      deals = λ g k. elim (none_or_some (deed_of l g k r.firm r.command)) [
+      deals = λ g k. elim (none_or_some (deed_in l g k r)) [
         | inl none ↦ subst (AllFit (agreement t g k) []) (sym (dealings_idle l b r g k none)) (f.deals g k)
         | inr d ↦ (
             let same =

@@ -1,45 +1,42 @@
 -- A change that stands under none of those behind it can stand behind them all.
-use Rattle.gu_depend.proofs.Vocabulary.{◌≡◌, ℕ, ◌+◌, Bool, true, false, List, [], ◌∷◌, ◌++◌, refl, sym, ◌∙◌, ap, subst}
-use Rattle.gu_depend.proofs.Vocabulary.{Option, Contains, append-nil, append_assoc, inl, inr, Some, None, find, is_some}
-use Rattle.gu_depend.proofs.Vocabulary.{option_and_then, option_map, ◌==◌, list_any, EntryPart, House, agreement}
-use Rattle.gu_depend.proofs.Vocabulary.{node_of, nodes_of, is_given, same_name, splits, decides, refusal_of, row}
-use Rattle.gu_depend.proofs.Vocabulary.{first_refused, without, Command, Trade, Split, Claim, Refuse, Cancel, Record}
-use Rattle.gu_depend.proofs.Vocabulary.{Node, deed_of, dealings_in, dealings, terms_under, limit_under, used_under}
-use Rattle.gu_depend.proofs.Vocabulary.{leave_out, Deed, Dealing, Agreement, no_some, or_cases, false_from_ne_true}
-use Rattle.gu_depend.proofs.Vocabulary.{none_refused, legal_from_replay, AllFit, first_unfit, Decides-eqb}
-use Rattle.gu_depend.proofs.Vocabulary.{refusal_parts, decides_well, name_is, made_of, cases_Bool, found_in}
-use Rattle.gu_depend.proofs.Vocabulary.{find_passes, none_or_some, names, is_under, stands_under, deals_under}
-use Rattle.gu_depend.proofs.Vocabulary.{IsSameState, nothing_here, list_any_at, none_unfit, fit_last, terms_last}
-use Rattle.gu_depend.proofs.Vocabulary.{raised_last, used_last}
-use Rattle.gu_depend.proofs.Finds.{found_once, not_both, find_beside, moved_to_end, stands_between, filter_one}
-use Rattle.gu_depend.proofs.{Names.{makes, node_by_maker, makers_once}, State.state_same}
-use Rattle.gu_depend.proofs.Settled.{named_once, front_within, facts, accepted_follows}
-use Rattle.gu_depend.proofs.Deals.{numbered, dealings_append, dealings_cut, same_pair, unfit_without, left_out, deal}
-use Rattle.gu_depend.proofs.Deals.{deals_some, dealt, dealings_grown}
-use Rattle.gu_depend.proofs.Replay.{NumbersOnce, Legal, finds, first_along, none_along, grown_along, order_within}
-use Rattle.gu_depend.proofs.Grown.{AllFollow, Follows, Grown, follow_append, follows_more, grown_none}
+use Rattle.gu_depend.proofs
+use proofs.Deals.{deal, dealings_append, dealings_cut, dealings_grown, deals_some, dealt, deed_in, first_on_deal}
+use proofs.{Deals.{left_out, numbered, pair_told, unfit_without}, Finds.{filter_one, find_beside, found_once}}
+use proofs.{Finds.{moved_to_end, not_both, stands_between}, Grown.{AllFollow, follow_append, Follows, follows_more}}
+use proofs.{Grown.{Grown, grown_none}, Names.{makers_once, node_by_maker}, Replay.{finds, first_along, grown_along}}
+use proofs.{Replay.{Legal, none_along, NumbersOnce, order_within}, Settled.{accepted_follows, facts, front_within}}
+use proofs.{Settled.named_once, State.state_same}
+use Rattle.gu_depend.proofs.Vocabulary
+use Vocabulary.{agreement, Agreement, AllFit, ap, append-nil, append_assoc, Bool, Cancel, cases_Bool, Claim, Command}
+use Vocabulary.{Contains, Dealing, dealings, dealings_in, decides, Decides-eqb, decides_well, Deed, EntryPart, false}
+use Vocabulary.{false_from_ne_true, find, find_passes, first_refused, first_unfit, fit_last, found_in, House, inl, inr}
+use Vocabulary.{is_given, is_some, is_under, IsSameState, leave_out, legal_from_replay, limit_under, List, list_any}
+use Vocabulary.{list_any_at, made_of, name_is, names, no_some, Node, node_of, nodes_of, None, none_or_some}
+use Vocabulary.{none_refused, none_unfit, nothing_here, Option, option_map, or_cases, raised_last, Record, refl}
+use Vocabulary.{refusal_parts, Refuse, row, same_name, Some, Split, splits, stands_under, subst, sym, terms_last}
+use Vocabulary.{terms_under, Trade, true, used_last, used_under, without, ℕ, [], ◌++◌, ◌+◌, ◌∙◌, ◌∷◌, ◌≡◌}
 
 -- behind changes of which none is refused, the replay goes on
 pub replay_on : (t : House) (done l m : List Record) → first_refused t done l ≡ None
     → first_refused t done (l ++ m) ≡ first_refused t (done ++ l) m
 replay_on t done [] m h = ap (λ b. first_refused t b m) (sym (append-nil done))
 replay_on t done (d ∷ l) m h =
-    let p = none_refused (refusal_of t done d.firm d.command) d.number (first_refused t (done ++ d ∷ []) l) h in
+    let p = none_refused _ _ (first_refused t (done ++ d ∷ []) l) h in
     cc (p.0, replay_on t (done ++ d ∷ []) l m p.1, append_assoc done (d ∷ []) l)
 
 -- ---- a change that another doesn't stand under
 
 -- an element that passes is one of them
 pub any_in : {X : Type 0} (p : X → Bool) (xs : List X) (x : X) → Contains xs x → p x ≡ true → list_any p xs ≡ true
-any_in p xs x among passes = list_any_at p xs among.0 x among.1 (ap p among.2 ∙ passes)
+any_in p xs x among passes = list_any_at p xs _ x among.1 (cc)
 
 -- a change stands under one that names a node that it makes
 under_made : (k : ℕ) (by : List ℕ) (d c : Command) (n : EntryPart) (x : Node)
     → find (λ x. same_name x.name n) (nodes_of k by d) ≡ Some x → names n c ≡ true
     → (decides n c ≡ true → is_given x.kind ≡ true) → is_under k by d c ≡ true
-under_made k by (Trade firm account instrument side lots) c n x found is given =
+under_made k by (Trade _ _ _ _ _) c n x found is given =
     let p : EntryPart = record { entry = k; part = 0 } in
-    elim (cases_Bool (same_name p n)) [
+    elim (cases_Bool _) [
       | inl same ↦ elim (or_cases (splits n c) (decides n c) is) [
         | inl split ↦ cc (name_is p n same, split)
         | inr decided ↦ absurd (cc (same, found, given decided))
@@ -55,39 +52,33 @@ under_made k by _ c n x found is given = absurd (cc)
 -- and under one that splits a node that it decides
 under_decided : (k : ℕ) (by : List ℕ) (d c : Command) (n : EntryPart) → decides n d ≡ true → splits n c ≡ true
     → is_under k by d c ≡ true
-under_decided k by (Claim m account) c n is split =
-    subst (λ (z : EntryPart). splits z c ≡ true) (sym (name_is m n is)) split
-under_decided k by (Refuse m) c n is split = subst (λ (z : EntryPart). splits z c ≡ true) (sym (name_is m n is)) split
-under_decided k by (Cancel m) c n is split = subst (λ (z : EntryPart). splits z c ≡ true) (sym (name_is m n is)) split
-under_decided k by _ c n is split = absurd (cc)
+under_decided k by (Claim m _) c n is split = rw (name_is m n is) split
+under_decided k by (Refuse m) c n is split = rw (name_is m n is) split
+under_decided k by (Cancel m) c n is split = rw (name_is m n is) split
+under_decided k by _ c n is split = cc
 
 -- the node that a change makes is that of its name
 pub node_of_maker : (l : List Record) (k : Record) (n : EntryPart) (x : Node) → NumbersOnce l → Contains l k
     → made_of k n ≡ Some x → node_of l n ≡ Some x
-node_of_maker l k n x once among h =
-    node_by_maker l n
-    ∙ (ap (option_and_then (λ r. made_of r n))
-    (found_once (makes n) l k among (ap is_some h) (makers_once l n (once n.entry)))
-    ∙ h)
+node_of_maker l k n x once among h = cc (node_by_maker l n, found_once _ l k among (rw h) (makers_once l n (once _)))
 
 -- a change of a legal list is accepted behind those before it
 pub accepted_at : (t : House) (l b : List Record) (r : Record) (rest : List Record) → Legal t l → l ≡ b ++ r ∷ rest
     → row t b r.firm r.command ≡ None
 accepted_at t l b r rest legal e =
-    (refusal_parts t b r.firm r.command ((legal_from_replay t l legal.replayed).accepted b rest r e)).1
+    (refusal_parts t b _ _ ((legal_from_replay t l legal.replayed).accepted b rest r e)).1
 
 pub follows_at : (t : House) (l b : List Record) (r : Record) (rest : List Record) → Legal t l → l ≡ b ++ r ∷ rest
     → Follows l b r.command
 follows_at t l b r rest legal e =
-    accepted_follows t l b r.firm r.command (named_once t l legal.replayed) (front_within l b (r ∷ rest) e)
-    (accepted_at t l b r rest legal e)
+    accepted_follows t l b _ _ (named_once t l legal.replayed) (front_within l b _ e) (accepted_at t l b r _ legal e)
 
 -- in a legal list each change follows what it stands on
 all_follow : (t : House) (l b rest tail : List Record) → Legal t l → l ≡ b ++ (rest ++ tail) → AllFollow l b rest
 all_follow t l b [] tail legal e = tt
 all_follow t l b (r ∷ rest) tail legal e = (
-  follows_at t l b r (rest ++ tail) legal e,
-  all_follow t l (b ++ r ∷ []) rest tail legal (e ∙ sym (append_assoc b (r ∷ []) (rest ++ tail))),
+  follows_at t l b r _ legal e,
+  all_follow t l _ rest tail legal (e ∙ sym (append_assoc b (r ∷ []) (rest ++ tail))),
 )
 
 -- ---- what deals, last
@@ -102,19 +93,19 @@ record IsLast (file : Option Agreement) (r : Record) (o : Option Deed) (xs ys : 
 dealt_last : (file : Option Agreement) (r : Record) (o : Option Deed) (xs ys : List Dealing)
     → AllFit file [] (xs ++ dealt r o ys) → AllFit file [] (xs ++ ys) → IsLast file r o xs ys
 dealt_last file r None xs ys all others =
-    let e = append-nil (xs ++ ys) in
+    let e = append-nil _ in
     record {
       fit = subst (AllFit file []) (sym e) others;
-      terms = ap (terms_under file) e;
-      limits = ap (limit_under file) e;
-      used = ap used_under e;
+      terms = rw e;
+      limits = rw e;
+      used = rw e;
     }
 dealt_last file r (Some d) xs ys all others =
-    let terms = terms_last file xs (numbered r d) ys all others in
+    let terms = terms_last _ xs (numbered r d) ys all others in
     record {
-      fit = fit_last file xs (numbered r d) ys all others;
+      fit = fit_last _ xs (numbered r d) ys all others;
       terms = terms;
-      limits = λ i. option_map (λ (a : Agreement). a.limit + raised_last xs (numbered r d) ys i) (terms i);
+      limits = λ i. option_map (λ a. a.limit + raised_last xs (numbered r d) ys i) (terms i);
       used = used_last xs (numbered r d) ys;
     }
 
@@ -133,9 +124,9 @@ module _ (t : House) (p : List Record) (k : Record) (s : List Record) (legal : L
       → (names n e.command ≡ true → made_of k n ≡ None) × (splits n e.command ≡ true → decides n k.command ≡ false)
   unnamed z e rest cut un n = (
     λ is.
-        no_some (made_of k n) (λ x found.
-        not_both (stands_under k e)
-        (under_made k.number k.firm k.command e.command n x found is
+        no_some _ (λ x found.
+        not_both _
+        (under_made _ _ k.command e.command n x found is
         (λ decided. let whole_cut = ap (λ z. p ++ k ∷ z) cut ∙ sym (append_assoc p (k ∷ z) (e ∷ rest)) in
         let d = decides_well t (p ++ k ∷ z) e.firm e.command n (accepted_at t whole (p ++ k ∷ z) e rest legal whole_cut)
         decided in
@@ -150,131 +141,104 @@ module _ (t : House) (p : List Record) (k : Record) (s : List Record) (legal : L
   beside : (z rest : List Record) → s ≡ z ++ rest → find (stands_under k) rest ≡ None → AllFollow whole (p ++ z) rest
   beside z [] cut un = tt
   beside z (r ∷ rest) cut un =
-      let f = follows_at t whole (p ++ k ∷ z) r rest legal
-      (ap (λ z. p ++ k ∷ z) cut ∙ sym (append_assoc p (k ∷ z) (r ∷ rest))) in
-      let q = nothing_here (stands_under k r) r (find (stands_under k) rest) un in
-      let away = unnamed z r rest cut q.0 in (
+      let f = follows_at t _ _ r _ legal (ap (λ z. p ++ k ∷ z) cut ∙ sym (append_assoc p _ _)) in
+      let q = nothing_here _ r _ un in
+      let away = unnamed z r _ cut q.0 in (
         record {
           there = λ n is. let y = f.there n is in (
             y.0,
-            cc (
-              node_by_maker (p ++ k ∷ z) n,
-              find_beside (makes n) p k z (ap is_some ((away n).0 is)),
-              node_by_maker (p ++ z) n,
-              y.1,
-            ),
+            cc (node_by_maker _ n, find_beside _ p k z (ap is_some ((away n).0 is)), node_by_maker _ n),
           );
-          decided = λ n is. sym (find_beside (λ r. decides n r.command) p k z ((away n).1 is)) ∙ f.decided n is;
+          decided = λ n is. sym (find_beside _ p k z ((away n).1 is)) ∙ f.decided n is;
         },
-        subst (λ y. AllFollow whole y rest) (sym (append_assoc p z (r ∷ [])))
-            (beside (z ++ r ∷ []) rest (cut ∙ sym (append_assoc z (r ∷ []) rest)) q.1),
+        rw (append_assoc p z _) (beside (z ++ r ∷ []) rest (cc (append_assoc z (r ∷ []) rest)) q.1),
       )
 
   others_follow : find (stands_under k) s ≡ None → AllFollow whole [] (p ++ s)
   others_follow un =
-      follow_append whole [] p s (all_follow t whole [] p (k ∷ s) legal refl)
-      (subst (λ y. AllFollow whole y s) (append-nil p) (beside [] s refl un))
+      follow_append _ [] p s (all_follow t _ [] p _ legal refl) (rw (append-nil p) at (beside [] s refl un))
 
   -- and it follows what it stands on behind them all
   last_follows : find (stands_under k) s ≡ None → AllFollow whole [] last
   last_follows un =
-      let within = order_within whole last (p ++ s) (k ∷ []) (finds t whole last legal (moved_to_end p k s)) refl in
-      follow_append whole [] (p ++ s) (k ∷ []) (others_follow un)
-      (follows_more whole p s k.command within (follows_at t whole p k s legal refl), tt)
+      let within = order_within _ _ _ (k ∷ []) (finds t _ _ legal (moved_to_end p k s)) refl in
+      follow_append _ [] _ (k ∷ []) (others_follow un)
+      (follows_more _ p s _ within (follows_at t _ p k s legal refl), tt)
 
   pub grown_without : find (stands_under k) s ≡ None → Grown whole (p ++ s)
-  grown_without un =
-      grown_along t whole last legal (moved_to_end p k s) [] (p ++ s) (k ∷ []) refl (others_follow un)
-      (grown_none whole)
+  grown_without un = grown_along t _ _ legal (moved_to_end p k s) [] _ (k ∷ []) refl (others_follow un) (grown_none _)
 
   pub gone : without whole k.number ≡ p ++ s
-  gone = filter_one (λ r. r.number == k.number) p k s ((Decides-eqb k.number k.number).1 refl) (legal.once k.number)
+  gone = filter_one _ p k s ((Decides-eqb k.number k.number).1 refl) (legal.once k.number)
 
   -- ---- what deals
 
-  deals_whole : (x y : List ℕ)
-      → AllFit (agreement t x y) []
-      (dealings_in whole p x y ++ dealt k (deed_of whole x y k.firm k.command) (dealings_in whole s x y))
-  deals_whole x y =
-      subst (AllFit (agreement t x y) []) (dealings_append whole p (k ∷ s) x y)
-      ((facts t whole legal.replayed).deals x y)
+  deals_whole : (x y : List ℕ) → AllFit (agreement t x y) []
+      (dealings_in whole p x y ++ dealt k (deed_in whole x y k) (dealings_in whole s x y))
+  deals_whole x y = rw (dealings_append _ p _ x y) at ((facts t _ legal.replayed).deals x y)
 
   -- where the change deals for them, the first that doesn't fit without it is the first that stands on it
-  unfit_here : (x y : List ℕ) (d : Deed) → deed_of whole x y k.firm k.command ≡ Some d
+  unfit_here : (x y : List ℕ) (d : Deed) → deed_in whole x y k ≡ Some d
       → first_unfit (agreement t x y) [] (dealings_in whole (p ++ s) x y)
-      ≡ deals_under t whole k.number k.firm k.command
+      ≡ first_on_deal t whole k
   unfit_here x y d e =
       let all =
-      subst (λ o. AllFit (agreement t x y) [] (dealings_in whole p x y ++ dealt k o (dealings_in whole s x y))) e
-      (deals_whole x y) in
-      let left = ap (leave_out k.number) (sym (dealings_cut whole p k s x y (Some d) e))
-      ∙ (left_out whole x y k.number whole
+      rw e at (deals_whole x y) in
+      let left = ap (leave_out k.number) (sym (dealings_cut whole p k s x y _ e))
+      ∙ (left_out whole x y _ whole
       ∙ (ap (λ z. dealings_in whole z x y) gone ∙ dealings_append whole p s x y)) in
-      let first = unfit_without (agreement t x y) (dealings_in whole p x y) (numbered k d) (dealings_in whole s x y) all
+      let first = unfit_without _ _ _ _ all
       left d refl in
-      cc (
-        dealings_append whole p s x y,
-        first,
-        dealings_cut whole p k s x y (Some d) e,
-        (deal whole k.firm k.command x y d e).under t k.number,
-      )
+      cc (dealings_append whole p s x y, dealings_cut whole p k s x y _ e, (deal whole _ _ x y d e).under t k.number)
 
   -- for all others, each fits
-  fit_others : (x y : List ℕ) → deed_of whole x y k.firm k.command ≡ None
+  fit_others : (x y : List ℕ) → deed_in whole x y k ≡ None
       → AllFit (agreement t x y) [] (dealings_in whole (p ++ s) x y)
-  fit_others x y e =
-      subst (AllFit (agreement t x y) [])
-      (ap (λ o. dealings_in whole p x y ++ dealt k o (dealings_in whole s x y)) e ∙ sym (dealings_append whole p s x y))
-      (deals_whole x y)
+  fit_others x y e = subst (AllFit (agreement t x y) []) (cc (dealings_append whole p s x y)) (deals_whole x y)
 
   -- where nothing stands on what it deals, all others fit
-  fit_without : deals_under t whole k.number k.firm k.command ≡ None → (x y : List ℕ)
+  fit_without : first_on_deal t whole k ≡ None → (x y : List ℕ)
       → AllFit (agreement t x y) [] (dealings_in whole (p ++ s) x y)
-  fit_without under x y = elim (none_or_some (deed_of whole x y k.firm k.command)) [
+  fit_without under x y = elim (none_or_some _) [
     | inl none ↦ fit_others x y none
-    | inr d ↦ none_unfit (agreement t x y) [] (dealings_in whole (p ++ s) x y) (unfit_here x y d.0 d.1 ∙ under)
+    | inr d ↦ none_unfit _ [] _ (unfit_here x y d.0 d.1 ∙ under)
   ]
 
   -- where nothing stands under it by a node, the first that is refused without it is the first that stands under what
   -- it deals
-  pub standing_deals : find (stands_under k) s ≡ None
-      → first_refused t [] (p ++ s) ≡ deals_under t whole k.number k.firm k.command
-  standing_deals un = elim (none_or_some (deals_under t whole k.number k.firm k.command)) [
+  pub standing_deals : find (stands_under k) s ≡ None → first_refused t [] (p ++ s) ≡ first_on_deal t whole k
+  standing_deals un = elim (none_or_some (first_on_deal t whole k)) [
     | inl none ↦
         none_along t whole last legal (moved_to_end p k s) (p ++ s) (k ∷ []) refl (others_follow un) (fit_without none)
         ∙ sym none
     | inr m ↦ (
         let (x, y, d, deals) = deals_some t whole k.number k.firm k.command m.0 m.1 in
         first_along t whole last legal (moved_to_end p k s) x y (p ++ s) (k ∷ []) refl (others_follow un)
-        (λ u v. elim (none_or_some (deed_of whole u v k.firm k.command)) [
+        (λ u v. elim (none_or_some (deed_in whole u v k)) [
           | inl none ↦ inl (fit_others u v none)
-          | inr f ↦ inr (same_pair whole x y u v k.firm k.command d f.0 deals f.1)
+          | inr f ↦ inr (pair_told _ _ (sym (deal whole k.firm k.command x y d deals).of
+              ∙ (deal whole k.firm k.command u v f.0 f.1).of))
         ]) ∙ unfit_here x y d deals)
   ]
 
   -- ---- the change last, where the others alone fit
 
-  found_last : (x y : List ℕ)
-      → dealings_in whole last x y
-      ≡ (dealings_in whole p x y ++ dealings_in whole s x y) ++ dealt k (deed_of whole x y k.firm k.command) []
-  found_last x y =
-      dealings_append whole (p ++ s) (k ∷ []) x y
-      ∙ ap (λ z. z ++ dealt k (deed_of whole x y k.firm k.command) []) (dealings_append whole p s x y)
+  found_last : (x y : List ℕ) → dealings_in whole last x y
+      ≡ (dealings_in whole p x y ++ dealings_in whole s x y) ++ dealt k (deed_in whole x y k) []
+  found_last x y = cc (dealings_append _ _ _ x y, dealings_append _ p s x y)
 
   -- what it leaves for two is what the whole leaves
   same_for : Grown whole last → (A : Type 0) (f : List ℕ → List ℕ → List Dealing → A) (x y : List ℕ)
-      → f x y ((dealings_in whole p x y ++ dealings_in whole s x y) ++ dealt k (deed_of whole x y k.firm k.command) [])
-      ≡ f x y (dealings_in whole p x y ++ dealt k (deed_of whole x y k.firm k.command) (dealings_in whole s x y))
+      → f x y ((dealings_in whole p x y ++ dealings_in whole s x y) ++ dealt k (deed_in whole x y k) [])
+      ≡ f x y (dealings_in whole p x y ++ dealt k (deed_in whole x y k) (dealings_in whole s x y))
       → f x y (dealings last x y) ≡ f x y (dealings whole x y)
-  same_for grown A f x y same =
-      ap (f x y) (dealings_grown whole last x y grown ∙ found_last x y)
-      ∙ (same ∙ sym (ap (f x y) (dealings_append whole p (k ∷ s) x y)))
+  same_for grown A f x y same = cc (dealings_grown _ _ x y grown, found_last x y, dealings_append _ p _ x y)
 
-  pub stands_last : find (stands_under k) s ≡ None → deals_under t whole k.number k.firm k.command ≡ None
+  pub stands_last : find (stands_under k) s ≡ None → first_on_deal t whole k ≡ None
       → (first_refused t [] last ≡ None) × IsSameState t whole last
   stands_last un under =
       let at = λ (x y : List ℕ).
-      dealt_last (agreement t x y) k (deed_of whole x y k.firm k.command) (dealings_in whole p x y)
+      dealt_last (agreement t x y) k (deed_in whole x y k) (dealings_in whole p x y)
       (dealings_in whole s x y) (deals_whole x y)
       (subst (AllFit (agreement t x y) []) (dealings_append whole p s x y) (fit_without under x y)) in
       let grown = grown_along t whole last legal (moved_to_end p k s) [] last [] (sym (append-nil last))

@@ -1,29 +1,25 @@
 -- The first change that would be refused without another is the first that the other stands under; where the numbers
 -- rise, the least that is looked up.
-use Rattle.gu_depend.proofs.Vocabulary.{◌≡◌, ℕ, zero, ◌+◌, ◌<◌, ◌≤◌, Bool, true, false, not, ◌||◌, List, [], ◌∷◌, ◌++◌}
-use Rattle.gu_depend.proofs.Vocabulary.{refl, sym, ◌∙◌, ap, subst, arith, cond, Option, Contains, All, IsPermutation}
-use Rattle.gu_depend.proofs.Vocabulary.{append_assoc, map, inl, inr, Some, None, find, count_by, is_some}
-use Rattle.gu_depend.proofs.Vocabulary.{option_and_then, option_map, ◌==◌, option_or, list_any, AllByRecursion}
-use Rattle.gu_depend.proofs.Vocabulary.{Decides-eqb, All-nil, All-cons, All-weaker, All-contains, All-contains_itself}
-use Rattle.gu_depend.proofs.Vocabulary.{Contains-append_right, find-append, EntryPart, House, node_of, nodes_of}
-use Rattle.gu_depend.proofs.Vocabulary.{decision_of, same_name, splits, decides, refusal_of, first_refused, IsLegal}
-use Rattle.gu_depend.proofs.Vocabulary.{without, standing_on, Command, Trade, Split, Claim, Refuse, Cancel, Agree}
-use Rattle.gu_depend.proofs.Vocabulary.{Record, Root, Node, RisesFrom, replay_front, HasDistinctNumbers, same_Some}
-use Rattle.gu_depend.proofs.Vocabulary.{refusal_parts, name_same, made_of, none_is_some, no_some, found_in, find_passes}
-use Rattle.gu_depend.proofs.Vocabulary.{false_from_ne_true, none_or_some, IsSameState, names, is_under, stands_under}
-use Rattle.gu_depend.proofs.Vocabulary.{deals_under, first_under, IsLeastUnder, flat_map, cons_option, split_of}
-use Rattle.gu_depend.proofs.Vocabulary.{number_in, numbers_on, least, or_none, numbers_under, All-filter}
-use Rattle.gu_depend.proofs.Vocabulary.{Contains-append_cases, IsDistinct-cons, IsPermutation-refl, list_any_none, min}
-use Rattle.gu_depend.proofs.Vocabulary.{find_has, least_with, lesser}
-use Rattle.std.specs.List.{IsDistinct}
-use Rattle.gu_depend.proofs.Finds.{by_test, found_once, none_before, count_append, count_permuted, by_cut, found_some}
-use Rattle.gu_depend.proofs.Finds.{not_both, none_there, stands_between, first_cut, none_passes, moved_to_end}
-use Rattle.gu_depend.proofs.Names.{makes, node_by_maker, makers_once}
-use Rattle.gu_depend.proofs.Settled.{NamedOnce, named_once, front_facts, accepted_follows}
-use Rattle.gu_depend.proofs.Grown.{NamesThere, SplitsDecided, Grown, Follows}
-use Rattle.gu_depend.proofs.Replay.{Legal, legal_list, finds, order_within, refused_here}
-use Rattle.gu_depend.proofs.StandsLast.{replay_on, gone, stands_last, standing_deals, grown_without, follows_at}
+use Rattle.gu_depend.proofs
+use proofs.{Deals.first_on_deal, Finds.{by_cut, by_test, count_append, count_permuted, first_cut, found_once}}
+use proofs.{Finds.{found_some, moved_to_end, none_before, none_passes, none_there, stands_between}, Grown.Follows}
+use proofs.{Grown.{Grown, NamesThere, SplitsDecided}, Names.{makers_once, node_by_maker}, Replay.{finds, Legal}}
+use proofs.{Replay.{legal_list, order_within, refused_here}, Settled.{accepted_follows, front_facts, named_once}}
+use proofs.{Settled.NamedOnce, StandsLast.{follows_at, gone, grown_without, replay_on, standing_deals, stands_last}}
+use Rattle.gu_depend.proofs.Vocabulary
+use Vocabulary.{Agree, All, All-cons, All-contains, All-contains_itself, All-filter, All-nil, All-weaker}
+use Vocabulary.{AllByRecursion, ap, append_assoc, arith, Bool, Cancel, Claim, Command, cond, cons_option, Contains}
+use Vocabulary.{Contains-append_cases, Contains-append_right, count_by, deals_under, decides, Decides-eqb, decision_of}
+use Vocabulary.{EntryPart, false, false_from_ne_true, find, find-append, find_has, find_passes, first_refused}
+use Vocabulary.{first_under, flat_map, found_in, HasDistinctNumbers, House, inl, inr, is_under, IsDistinct-cons}
+use Vocabulary.{IsLeastUnder, IsLegal, IsPermutation, IsPermutation-refl, IsSameState, least, least_with, lesser, List}
+use Vocabulary.{list_any, list_any_none, made_of, map, min, name_same, names, no_some, Node, nodes_of, None}
+use Vocabulary.{none_or_some, not, number_in, numbers_on, numbers_under, Option, option_and_then, option_map, option_or}
+use Vocabulary.{or_none, Record, refl, refusal_of, refusal_parts, Refuse, replay_front, RisesFrom, Root, same_name}
+use Vocabulary.{same_Some, Some, Split, split_of, splits, standing_on, stands_under, subst, sym, Trade, true, without}
+use Vocabulary.{zero, ℕ, [], ◌++◌, ◌+◌, ◌<◌, ◌==◌, ◌||◌, ◌∙◌, ◌∷◌, ◌≡◌, ◌≤◌}
 use Rattle.gu_tree.proofs.FirstOn.{least_append}
+use Rattle.std.specs.List.{IsDistinct}
 
 -- ---- what a change stands under
 
@@ -35,25 +31,25 @@ data Under (k : ℕ) (by : List ℕ) (d c : Command) : Type 0 where
 
 -- one passes where some pass
 pub any_found : {X : Type 0} (p : X → Bool) (xs : List X) → list_any p xs ≡ true → (x : X) × (find p xs ≡ Some x)
-any_found p xs h = elim (none_or_some (find p xs)) [
-  | inl none ↦ absurd (not_both (list_any p xs) h (list_any_none p xs (none_passes p xs none)))
+any_found p xs h = elim (none_or_some _) [
+  | inl none ↦ absurd (cc ((list_any_none p xs (none_passes p xs none))))
   | inr x ↦ x
 ]
 
 under_is : (k : ℕ) (by : List ℕ) (d c : Command) → is_under k by d c ≡ true → Under k by d c
-under_is k by (Trade firm account instrument side lots) c h =
+under_is k by (Trade _ _ _ _ lots) c h =
     let p : EntryPart = record { entry = k; part = 0 } in
-    let root : Node = record { name = p; lots = lots; kind = Root (record { firm = firm; account = account }) } in
-    part p root (ap (λ b. b || decides p c) h) (ap (λ b. cond b (Some root) None) (name_same p))
+    let root : Node = record { name = p; lots = lots; kind = Root _ } in
+    part p root (rw h) (ap (λ b. cond b (Some root) None) (name_same p))
 under_is k by (Split m ps) c h =
     let x = any_found (λ x. names x.name c) (nodes_of k by (Split m ps)) h in
     let among = found_in (λ x. names x.name c) (nodes_of k by (Split m ps)) x.0 x.1 in
-    let y = found_some (λ z. same_name z.name x.0.name) (nodes_of k by (Split m ps)) x.0 among (name_same x.0.name) in
+    let y = found_some _ (nodes_of k by (Split m ps)) x.0 among (name_same x.0.name) in
     part x.0.name y.0 (find_passes (λ x. names x.name c) (nodes_of k by (Split m ps)) x.0 x.1) y.1
-under_is k by (Claim m account) c h = decided m h (name_same m)
+under_is k by (Claim m _) c h = decided m h (name_same m)
 under_is k by (Refuse m) c h = decided m h (name_same m)
 under_is k by (Cancel m) c h = decided m h (name_same m)
-under_is k by _ c h = absurd (cc)
+under_is k by _ c h = cc
 
 legal_front : (t : House) (xs ys : List Record) → Legal t (xs ++ ys) → Legal t xs
 legal_front t xs ys legal = record {
@@ -64,14 +60,14 @@ legal_front t xs ys legal = record {
 -- what stands under a node deals for nobody's terms
 deals_none : (t : House) (l : List Record) (k : ℕ) (by : List ℕ) (d c : Command) → is_under k by d c ≡ true
     → deals_under t l k by d ≡ None
-deals_none t l k by (Agree _ _ _ _) c h = absurd (cc)
+deals_none t l k by (Agree _ _ _ _) c h = cc
 deals_none t l k by _ c h = cc
 
 -- where the first of two is none, so is the second
 free_by : (o : Option Record) (q : Option ℕ) → option_or (option_map (λ (e : Record). e.number) o) q ≡ None
     → (o ≡ None) × (q ≡ None)
 free_by None q h = (refl, h)
-free_by (Some e) q h = absurd (cc)
+free_by (Some e) q h = cc
 
 module _ (t : House) (p : List Record) (k : Record) (s : List Record) (legal : Legal t (p ++ k ∷ s)) where
   abbrev l : List Record
@@ -83,23 +79,20 @@ module _ (t : House) (p : List Record) (k : Record) (s : List Record) (legal : L
   -- where it is missing, a change that it stands under doesn't follow what it stands on itself
   not_without : (y rest : List Record) → IsPermutation l (y ++ k ∷ rest) → (c : Command) → Follows l y c
       → is_under k.number k.firm k.command c ≡ true → ⊥
-  not_without y rest same c f h = without (under_is k.number k.firm k.command c h)
+  not_without y rest same c f h = without (under_is _ _ _ c h)
     where
       absent : (p : Record → Bool) → count_by p l ≤ 1 → p k ≡ true → find p y ≡ None
-      absent p once passes =
-          none_before p y k rest (omega (arith, count_permuted p l (y ++ k ∷ rest) same, once)) passes
+      absent p once passes = none_before p y k rest (omega (arith, count_permuted p l _ same, once)) passes
 
       without : Under k.number k.firm k.command c → ⊥
       without (part n x is made) =
           let there = f.there n is in
           let gone = node_by_maker y n
-          ∙ ap (option_and_then (λ r. made_of r n))
-          (absent (makes n) (makers_once l n (legal.once n.entry)) (ap is_some made)) in
-          none_is_some (node_of y n) there.0 gone there.1
+          ∙ ap (option_and_then (λ r. made_of r n)) (absent _ (makers_once l n (legal.once n.entry)) (rw made)) in
+          cc
       without (decided n split is) =
-          let own = found_once (λ r. decides n r.command) l k (stands_between p k s) is (sn.decisions_once n) in
-          none_is_some (decision_of y n) k (absent (λ r. decides n r.command) (sn.decisions_once n) is)
-          (f.decided n split ∙ own)
+          let own = found_once _ l k (stands_between p k s) is (sn.decisions_once n) in
+          cc ((absent _ (sn.decisions_once n) is), (f.decided n split ∙ own))
 
   -- so the first that it stands under is behind it
   found_behind : find (stands_under k) l ≡ find (stands_under k) s
@@ -123,7 +116,7 @@ module _ (t : House) (p : List Record) (k : Record) (s : List Record) (legal : L
 standing_by : (t : House) (p : List Record) (k : Record) (s : List Record) → Legal t (p ++ k ∷ s) → (o : Option Record)
     → find (stands_under k) s ≡ o
     → first_refused t [] (p ++ s)
-    ≡ option_or (option_map (λ e. e.number) o) (deals_under t (p ++ k ∷ s) k.number k.firm k.command)
+    ≡ option_or (option_map (λ e. e.number) o) (first_on_deal t (p ++ k ∷ s) k)
 standing_by t p k s legal None found = standing_deals t p k s legal found
 standing_by t p k s legal (Some e) found =
     let c = first_cut (stands_under k) s e found in
@@ -166,8 +159,7 @@ pub can_go : (t : House) (l : List Record) (k : Record) → Legal t l → Contai
 can_go t l k legal among free =
     by_cut (λ l. Legal t l → standing_on t l k.number ≡ None → CanGo t l k) l k among
     (λ p s legal free. let first = standing_is_first t (p ++ k ∷ s) k legal (stands_between p k s) in
-    let under = free_by (find (stands_under k) (p ++ k ∷ s)) (deals_under t (p ++ k ∷ s) k.number k.firm k.command)
-    (sym first ∙ free) in
+    let under = free_by (find (stands_under k) (p ++ k ∷ s)) (first_on_deal t (p ++ k ∷ s) k) (sym first ∙ free) in
     let behind = sym (found_behind t p k s legal) ∙ under.0 in
     let others = sym (gone t p k s legal) in
     let last = stands_last t p k s legal behind under.1 in
@@ -181,10 +173,10 @@ can_go t l k legal among free =
 -- ---- in the order of the numbers
 
 pub rises_above : (n : ℕ) (l : List Record) → RisesFrom n l → All (λ d. n ≤ d.number) l
-rises_above n [] rises = All-nil (λ (d : Record). n ≤ d.number)
+rises_above n [] rises = All-nil (λ d. n ≤ d.number)
 rises_above n (r ∷ l) rises =
-    let here : n ≤ r.number = rises.0 in
-    All-cons (λ (d : Record). n ≤ d.number) r l here
+    let here = rises.0 in
+    All-cons (λ d. n ≤ d.number) r l here
     (All-weaker (λ (d : Record). r.number + 1 ≤ d.number) (λ (d : Record). n ≤ d.number) (λ d h. omega (arith, here, h))
     l (rises_above (r.number + 1) l rises.1))
 
@@ -210,8 +202,8 @@ rises_apart : (k n : ℕ) (l : List Record) → k < n → RisesFrom n l
     → AllByRecursion (λ y. (k == y) ≡ false) (map (λ r. r.number) l)
 rises_apart k n [] less rises = tt
 rises_apart k n (r ∷ l) less rises =
-    let here : n ≤ r.number = rises.0 in
-    let apart = false_from_ne_true (k == r.number)
+    let here = rises.0 in
+    let apart = false_from_ne_true _
     (λ h. let e : k ≡ r.number = (Decides-eqb k r.number).0 h in absurd (omega (arith, e, here, less))) in
     (apart, rises_apart k (r.number + 1) l (omega (arith, here, less)) rises.1)
 
@@ -219,7 +211,7 @@ pub rises_distinct : (n : ℕ) (l : List Record) → RisesFrom n l → HasDistin
 unfolding IsDistinct
 rises_distinct n [] rises = tt
 rises_distinct n (r ∷ l) rises =
-    IsDistinct-cons (λ a b. a == b) r.number (map (λ r. r.number) l)
+    IsDistinct-cons (λ a b. a == b) _ _
     (rises_apart r.number (r.number + 1) l (omega arith) rises.1) (rises_distinct (r.number + 1) l rises.1)
 
 pub legal_rising : (t : House) (l : List Record) → RisesFrom 0 l → IsLegal t l → Legal t l
@@ -238,39 +230,39 @@ refused_in t b (r ∷ rest) n h =
 
 pub in_whole : (l : List Record) (k : ℕ) (e : Record) → Contains (without l k) e → Contains l e
 in_whole l k e among =
-    All-contains (Contains l) (without l k) e
-    (All-filter (λ (r : Record). not (r.number == k)) (Contains l) l (All-contains_itself l)) among
+    All-contains (Contains l) _ e (All-filter (λ r. not _) (Contains l) l (All-contains_itself l)) among
 
 module _ (t : House) (l : List Record) (k : Record) (rises : RisesFrom 0 l) where
-  least_by : (o : Option Record) → find (stands_under k) l ≡ o → (q : Option ℕ)
-      → deals_under t l k.number k.firm k.command ≡ q
+  least_by : (o : Option Record) → find (stands_under k) l ≡ o → (q : Option ℕ) → first_on_deal t l k ≡ q
       → standing_on t l k.number ≡ option_or (option_map (λ e. e.number) o) q
       → IsLeastUnder t l k (option_or (option_map (λ e. e.number) o) q)
   least_by None found None e stands = λ c among under. elim under [
-    | inl node ↦ none_there (stands_under k) l c found among node
-    | inr deal ↦ none_is_some (deals_under t l k.number k.firm k.command) c.number e deal
+    | inl node ↦ none_there _ l c found among node
+    | inr deal ↦ cc (e, deal)
   ]
   least_by None found (Some n) e stands =
-      let r = refused_in t [] (without l k.number) n stands in (
+      let r = refused_in t [] _ n stands in (
         r.0,
-        in_whole l k.number r.0 r.1.0,
-        inr (e ∙ ap (λ z. Some z) (sym r.1.1)),
+        in_whole l _ r.0 r.1.0,
+        inr (e ∙ ap Some (sym r.1.1)),
         r.1.1,
         λ d among under. elim under [
-          | inl node ↦ absurd (none_there (stands_under k) l d found among node)
-          | inr deal ↦ (let one : n ≡ d.number = same_Some n d.number (sym e ∙ deal) in omega (arith, one))
+          | inl node ↦ absurd (none_there _ l d found among node)
+          | inr deal ↦ (let one : n ≡ d.number = same_Some n d.number (cc) in omega arith)
         ],
       )
   least_by (Some e) found q same stands = (
     e,
-    found_in (stands_under k) l e found,
-    inl (find_passes (stands_under k) l e found),
+    found_in _ l e found,
+    inl (find_passes _ l e found),
     refl,
     λ d among under. elim under [
-      | inl node ↦ first_is_least (stands_under k) l rises e found d among node
+      | inl node ↦ first_is_least _ l rises e found d among node
       | inr deal ↦
-          absurd (none_is_some (deals_under t l k.number k.firm k.command) d.number
-          (deals_none t l k.number k.firm k.command e.command (find_passes (stands_under k) l e found)) deal)
+          absurd (cc (
+            (deals_none t l k.number k.firm k.command e.command (find_passes (stands_under k) l e found)),
+            deal,
+          ))
     ],
   )
 
@@ -278,8 +270,7 @@ pub standing_is_least : (t : House) (l : List Record) (k : Record) → RisesFrom
     → IsLeastUnder t l k (standing_on t l k.number)
 standing_is_least t l k rises legal among =
     let first = standing_is_first t l k legal among in
-    subst (IsLeastUnder t l k) (sym first)
-    (least_by t l k rises (find (stands_under k) l) refl (deals_under t l k.number k.firm k.command) refl first)
+    rw first (least_by t l k rises (find (stands_under k) l) refl (first_on_deal t l k) refl first)
 
 -- ---- looked up at the nodes that the other made or decided
 
@@ -300,7 +291,7 @@ none_below p n l rises = elim (none_or_some (find p l)) [
 
 lesser_one : (o : Option ℕ) (n : ℕ) → lesser o (Some n) ≡ Some (least_with n o)
 lesser_one None n = refl
-lesser_one (Some m) n = let same : min m n ≡ min n m = omega arith in ap (λ z. Some z) same
+lesser_one (Some m) n = let same : min m n ≡ min n m = omega arith in ap Some same
 
 -- the first that passes either of two tests is the lesser of the two firsts
 either_first : (p q : Record → Bool) (n : ℕ) (l : List Record) → RisesFrom n l
@@ -324,9 +315,7 @@ least_one None = refl
 least_one (Some n) = refl
 
 none_passes_never : (l : List Record) → find (λ (e : Record). false) l ≡ None
-none_passes_never l =
-    no_some (find (λ (e : Record). false) l)
-    (λ e h. let never : false ≡ true = find_passes (λ (e : Record). false) l e h in cc)
+none_passes_never l = no_some (find (λ e. false) l) (λ e h. let never = find_passes (λ e. false) l e h in cc)
 
 -- at the parts of a Split
 at_parts : (l : List Record) → RisesFrom 0 l → (xs : List Node)
@@ -344,16 +333,14 @@ at_parts l rises (x ∷ xs) =
 by_command : (t : House) (l : List Record) → RisesFrom 0 l → (k : ℕ) (by : List ℕ) (c : Command)
     → option_or (first_number (λ e. is_under k by c e.command) l) (deals_under t l k by c)
     ≡ least (numbers_under t l k by c)
-by_command t l rises k by (Trade _ _ _ _ _) = or_none _ ∙ sym (least_in (split_of l (record { entry = k; part = 0 })))
-by_command t l rises k by (Split n ps) = or_none _ ∙ at_parts l rises (nodes_of k by (Split n ps))
-by_command t l rises k by (Claim n _) = or_none _ ∙ sym (least_in (split_of l n))
-by_command t l rises k by (Refuse n) = or_none _ ∙ sym (least_in (split_of l n))
-by_command t l rises k by (Cancel n) = or_none _ ∙ sym (least_in (split_of l n))
-by_command t l rises k by c =
-    ap (λ o. option_or (option_map (λ (e : Record). e.number) o) (deals_under t l k by c)) (none_passes_never l)
-    ∙ sym (least_one (deals_under t l k by c))
+by_command t l rises k by (Trade _ _ _ _ _) = or_none _ ∙ sym (least_in _)
+by_command t l rises k by (Split n ps) = or_none _ ∙ at_parts l rises _
+by_command t l rises k by (Claim n _) = or_none _ ∙ sym (least_in _)
+by_command t l rises k by (Refuse n) = or_none _ ∙ sym (least_in _)
+by_command t l rises k by (Cancel n) = or_none _ ∙ sym (least_in _)
+by_command t l rises k by c = cc (none_passes_never l, least_one (deals_under t l k by c))
 
 -- the least of the numbers is the first change that would be refused
 pub looked_up : (t : House) (l : List Record) → RisesFrom 0 l → Legal t l → (k : Record) → Contains l k
     → standing_on t l k.number ≡ least (numbers_under t l k.number k.firm k.command)
-looked_up t l rises legal k among = standing_is_first t l k legal among ∙ by_command t l rises k.number k.firm k.command
+looked_up t l rises legal k among = standing_is_first t l k legal among ∙ by_command t l rises _ _ _

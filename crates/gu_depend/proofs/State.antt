@@ -1,17 +1,15 @@
 -- Lists that find the same, and have the same changes, leave the same trees, positions and fees.
-use Rattle.gu_depend.proofs.Vocabulary.{and_parts, filter_map, ◌≡◌, ℕ, zero, suc, ◌+◌, Bool, false, ◌&&◌, List, [], ◌∷◌}
-use Rattle.gu_depend.proofs.Vocabulary.{refl, sym, ◌∙◌, ap, arith, Option, IsPermutation, Some, None, flat_map, filter}
-use Rattle.gu_depend.proofs.Vocabulary.{sum_by, option_and_then, option_map, unwrap_or, is_some, is_none, bytes_eq}
-use Rattle.gu_depend.proofs.Vocabulary.{◌==◌, sum_by-cons, sum_by-append, sum_by-IsPermutation, EntryPart, House}
-use Rattle.gu_depend.proofs.Vocabulary.{node_of, nodes, split_of, claimed_account, parent, line_within, line_of}
-use Rattle.gu_depend.proofs.Vocabulary.{place_of_kind, place_along, place_of, root_along, same_place, is_trade_of}
-use Rattle.gu_depend.proofs.Vocabulary.{trades_in, stands_at, position_of, terms_of, limit_of, used_of, charge_of_kind}
-use Rattle.gu_depend.proofs.Vocabulary.{charge_of_node, charge_of, charges, counted, Agreement, Kind, Given, row_of}
-use Rattle.gu_depend.proofs.Vocabulary.{made_by, rows_within, rows_from, Side, Command, Claim, Record, Charge, Node}
-use Rattle.gu_depend.proofs.Vocabulary.{Place, made, cond, deed_of, use_of_node, use_of_kind, Uses, name_same, true}
-use Rattle.gu_depend.proofs.Vocabulary.{IsSameState, names}
-use Rattle.gu_depend.proofs.{Vocabulary.{sum_option, sum_kept, ◌*◌, lots_at}, Settled.NamedOnce, Deals.both_same}
-use Rattle.gu_depend.proofs.{Finds.{counts_less, find_permuted, alike_at}, Replay.{SameFinds, same_finds, NumbersOnce}}
+use Rattle.gu_depend.proofs.{Deals.both_same, Finds.{alike_at, counts_less, find_permuted}, Replay.NumbersOnce}
+use Rattle.gu_depend.proofs.{Replay.{same_finds, SameFinds}, Settled.NamedOnce}
+use Rattle.gu_depend.proofs.Vocabulary
+use Vocabulary.{and_parts, ap, arith, Bool, bytes_eq, Charge, charge_of, charge_of_kind, charges, Claim}
+use Vocabulary.{claimed_account, Command, cond, counted, deed_of, EntryPart, false, filter, filter_map, flat_map, Given}
+use Vocabulary.{House, is_none, is_some, is_trade_of, IsPermutation, IsSameState, Kind, limit_of, line_within, List}
+use Vocabulary.{lots_at, made, made_by, name_same, names, Node, node_of, nodes, None, Option, option_and_then}
+use Vocabulary.{option_map, parent, Place, place_along, place_of, place_of_kind, position_of, Record, refl, root_along}
+use Vocabulary.{row_of, rows_from, rows_within, same_place, Side, Some, split_of, suc, sum_by, sum_by-append}
+use Vocabulary.{sum_by-cons, sum_by-IsPermutation, sum_kept, sum_option, sym, terms_of, trades_in, true, unwrap_or}
+use Vocabulary.{use_of_kind, use_of_node, used_of, Uses, zero, ℕ, [], ◌&&◌, ◌*◌, ◌+◌, ◌==◌, ◌∙◌, ◌∷◌, ◌≡◌}
 
 module _ {l o : List Record} (f : SameFinds l o) where
   line_same : (n : ℕ) (x : Option Node) → line_within n o x ≡ line_within n l x
@@ -20,19 +18,16 @@ module _ {l o : List Record} (f : SameFinds l o) where
   line_same zero (Some x) = refl
   line_same (suc n) (Some x) = λ i. x ∷ line_same n (option_and_then (λ m. f.nodes m i) (parent x.kind)) i
 
-  line_of_same : (n : EntryPart) → line_of o n ≡ line_of l n
-  line_of_same n = λ i. line_same (f.long i) (f.nodes n i) i
-
   along_same : (xs : List Node) → place_along o xs ≡ place_along l xs
   along_same [] = refl
   along_same (x ∷ xs) = λ i.
       place_of_kind x.kind (option_and_then (λ r. claimed_account r.command) (f.decisions x.name i)) (along_same xs i)
 
   place_same : (n : EntryPart) → place_of o n ≡ place_of l n
-  place_same n = λ i. along_same (line_of_same n i) i
+  place_same n = λ i. along_same (line_same (f.long i) (f.nodes n i) i) i
 
   row_same : (depth : ℕ) (x : Node) → row_of o depth x ≡ row_of l depth x
-  row_same depth x = cc (place_same x.name, f.decisions x.name)
+  row_same depth x = cc (place_same _, f.decisions x.name)
 
   rows_same : (levels depth : ℕ) (x : Node) → rows_within levels o depth x ≡ rows_within levels l depth x
   rows_same zero depth x = λ i. row_same depth x i ∷ []
@@ -54,10 +49,8 @@ sum_filter w p (x ∷ xs) =
 pub position_is : (l : List Record) (at : Place) (instrument : List ℕ) (side : Side)
     → position_of l at.firm at.account instrument side ≡ sum_by (lots_at l at instrument side) (nodes l)
 position_is l at instrument side =
-    sum_filter (λ (x : Node). x.lots) (λ x. stands_at l at x.name && trades_in l instrument side x.name)
-    (filter (λ x. is_none (split_of l x.name)) (nodes l))
-    ∙ sum_filter (λ (x : Node). cond (stands_at l at x.name && trades_in l instrument side x.name) x.lots 0)
-    (λ x. is_none (split_of l x.name)) (nodes l)
+    sum_filter _ _ (filter (λ x. is_none (split_of l x.name)) (nodes l))
+    ∙ sum_filter _ (λ x. is_none (split_of l x.name)) (nodes l)
 
 -- a sum over the nodes is one over the changes
 pub sum_made : (w : Node → ℕ) (l : List Record) → sum_by w (nodes l) ≡ sum_by (λ r. sum_by w (made r)) l
@@ -71,16 +64,16 @@ module _ {l o : List Record} (same : IsPermutation l o) (once : NumbersOnce l) (
   trades_same instrument side n = λ i. is_some (option_and_then (λ t.
       let own : Record → Bool = λ r. r.number == t.entry in
       let trades : Record → Bool = λ r. own r && is_trade_of instrument side r.command in
-      let few = counts_less trades own l (λ r h. (and_parts (own r) (is_trade_of instrument side r.command) h).0) in
+      let few = counts_less _ own l (λ r h. (and_parts _ (is_trade_of instrument side r.command) h).0) in
       find_permuted trades l o same (omega (arith, few, once t.entry)) i)
-      (root_along (line_of_same f n i)))
+      (root_along (line_same f (f.long i) (f.nodes n i) i)))
 
   positions_same : (firm account instrument : List ℕ) (side : Side)
       → position_of o firm account instrument side ≡ position_of l firm account instrument side
   positions_same firm account instrument side =
       let at : Place = record { firm = firm; account = account } in
       let w = lots_at l at instrument side in
-      position_is o at instrument side
+      position_is o at _ _
       ∙ ((λ i.
       sum_by (λ x.
       cond (is_none (f.splits_same x.name i))
@@ -121,20 +114,20 @@ SameTermsFor t l b by c =
 charge_of_given : (t : House) (l b : List Record) (lots : ℕ) (kind : Kind)
     → ((g k : List ℕ) → use_of_kind g k lots kind ≡ Some (Uses lots) → terms_of t b g k ≡ terms_of t l g k)
     → charge_of_kind t b lots kind ≡ charge_of_kind t l lots kind
-charge_of_given t l b lots (Given m g k) same =
-    ap (option_map (λ (a : Agreement). record { giver = g; taker = k; lots = lots; rate = a.rate }))
-    (same g k (ap (λ b. cond b (Some (Uses lots)) None) (both_same g k)))
+charge_of_given t l b lots (Given m g k) same = rw (same g k (rw (both_same g k)))
 charge_of_given t l b lots _ same = refl
 
 -- a change whose node and terms are the same is charged the same
 pub charge_alike : (t : House) (l b : List Record) (by : List ℕ) (c : Command)
     → ((n : EntryPart) → names n c ≡ true → node_of b n ≡ node_of l n) → SameTermsFor t l b by c
     → charge_of t b c ≡ charge_of t l c
-charge_alike t l b by (Claim n account) nodes same =
-    alike_at (charge_of_node t b) (charge_of_node t l) (node_of b n) (λ x e.
-    charge_of_given t l b x.lots x.kind
-    (λ g k deals. same g k x.lots (ap (option_and_then (use_of_node g k)) e ∙ deals)))
-    ∙ ap (option_and_then (charge_of_node t l)) (nodes n (name_same n))
+charge_alike t l b by (Claim n _) nodes same =
+    cc (
+      alike_at _ _ _ (λ x e.
+          charge_of_given t l b _ _
+          (λ g k deals. same g k _ (ap (option_and_then (use_of_node g k)) e ∙ deals))),
+      nodes n (name_same n),
+    )
 charge_alike t l b by _ nodes same = refl
 
 pub charge_same : (t : House) (l o : List Record) → SameFinds l o → SameDeals t l o → (c : Command)
@@ -145,7 +138,7 @@ charges_same : (t : House) (takes : Charge → Bool) (counts : Charge → ℕ) (
     → SameFinds l o → SameDeals t l o
     → sum_by counts (filter takes (charges t o)) ≡ sum_by counts (filter takes (charges t l))
 charges_same t takes counts l o same f deals =
-    sum_charged takes counts (λ r. charge_of t o r.command) o
+    sum_charged _ _ _ o
     ∙ (ap (λ (g : Record → Option Charge). sum_by (λ r. counted takes counts (g r)) o)
     (λ i r. charge_same t l o f deals r.command i)
     ∙ (sum_by-IsPermutation (λ r. counted takes counts (charge_of t l r.command)) l o same

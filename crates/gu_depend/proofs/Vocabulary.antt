@@ -1,90 +1,67 @@
 -- The words of the definitions, and what several files here use of std and of the crates below, passed on together.
-pub use Rattle.gu_base.specs.Answers.{Call, accepted_or, after, after_by, answer_by, answer_to, command_refusal}
-pub use Rattle.gu_base.specs.Answers.{entry_of, initiate_rest, is_accepted, is_empty, is_same_call, is_same_id}
-pub use Rattle.gu_base.specs.Answers.{on_change, reversal_of, reverse_rest}
-pub use Rattle.gu_base.specs.Consents.{consents_left, consents_of, giver_alone, is_among, is_consenting, missing}
-pub use Rattle.gu_base.specs.Consents.{of_node, parties_of, taker_and_giver}
-pub use Rattle.gu_base.specs.Dealt.{first_over, first_under_deed, leave_out}
-pub use Rattle.gu_base.specs.Fees.{charge_of, charge_of_kind, charge_of_node, charges, counted}
-pub use Rattle.gu_base.specs.{FirmsNamed.NamesOnly, Same.same_command, SameLaws.same_name-Decides, Refusals.at_node}
-pub use Rattle.gu_base.specs.History.{RisesFrom, is_change, is_reverse_of, is_reversed, live, numbered_as}
-pub use Rattle.gu_base.specs.History.{numbered_from, records}
-pub use Rattle.gu_base.specs.House.{House, agreement, knows_account, knows_firm}
-pub use Rattle.gu_base.specs.Limits.{highest_rate, most_entries, most_lots}
-pub use Rattle.gu_base.specs.Nodes.{claim_of, claimed_account, deal_in, decides, decision_of, is_given, is_offered}
-pub use Rattle.gu_base.specs.Nodes.{kind_of_part, node_of, nodes, nodes_of, nodes_of_parts, parent, same_name, split_of}
-pub use Rattle.gu_base.specs.{Nodes.{splits}, Numbers.{EntryPart, are_terms, is_lots}}
-pub use Rattle.gu_base.specs.Orders.{IsLawfulOrder, in_lawful_order, is_ready}
-pub use Rattle.gu_base.specs.Places.{depth_of, line_of, line_within, place_along, place_of, place_of_kind, root_along}
-pub use Rattle.gu_base.specs.Places.{root_of, same_place}
-pub use Rattle.gu_base.specs.Positions.{is_trade_of, leaves, position_of, same_side, stands_at, trades_in}
-pub use Rattle.gu_base.specs.Refusals.{cancel_row, claim_row, first, is_giver, is_taker, knows_own_account, limit_by}
-pub use Rattle.gu_base.specs.Refusals.{limit_row, owns, raised_row, refusal_of, refusal_of_part, refuse_row, row}
-pub use Rattle.gu_base.specs.Refusals.{split_row, trade_row, unless, used_by}
-pub use Rattle.gu_base.specs.Rows.{Row, made_by, parts_of, row_of, rows_from, rows_of, rows_within, state_after}
-pub use Rattle.gu_base.specs.Rows.{state_of, taker_of}
-pub use Rattle.gu_base.specs.Runs.{IsRunFrom, after_all, call_of, opening_calls, opening_from, opening_history}
-pub use Rattle.gu_base.specs.SamePartsLaws.{bytes_same, number_same}
-pub use Rattle.gu_base.specs.Standing.{IsLegal, first_refused, standing_on, without}
-pub use Rattle.gu_base.specs.Terms.{dealing_of, dealings, dealings_in, deed_of, limit_of, limit_under, raised_under}
-pub use Rattle.gu_base.specs.Terms.{terms_of, terms_under, use_of_kind, use_of_node, used_of, used_under}
-pub use Rattle.gu_base.specs.declared.{command.Command.Command, command.Part.Part, command.Side.Side}
-pub use Rattle.gu_base.specs.declared.{entry.Answer.Answer, entry.Entry.Entry, entry.Record.Record}
-pub use Rattle.gu_base.specs.declared.{house.Agreement.Agreement, house.Dealing.Dealing, house.Deed.Deed}
-pub use Rattle.gu_base.specs.declared.{house.Pair.Pair, node.Charge.Charge, node.Deal.Deal, node.Kind.Kind}
-pub use Rattle.gu_base.specs.declared.{node.Node.Node, node.Place.Place, refusal.Refusal.Refusal, state.State.State}
-pub use Rattle.gu_base.specs.declared.command.Command.TheVariants.{Agree, Cancel, Claim, Decline, Initiate, Raise}
-pub use Rattle.gu_base.specs.declared.command.Command.TheVariants.{Refuse, Reverse, Split, Trade}
-pub use Rattle.gu_base.specs.declared.command.Side.TheVariants.{Buy, Sell}
-pub use Rattle.gu_base.specs.declared.entry.Answer.TheVariants.{Accepted, Repeated}
-pub use Rattle.gu_base.specs.declared.house.Deed.TheVariants.{Makes, Raises, Uses}
-pub use Rattle.gu_base.specs.declared.node.Kind.TheVariants.{Given, Own, Root}
-pub use Rattle.gu_base.specs.declared.refusal.Refusal.TheVariants.{AlreadyConsented, AlreadyReversed, BadTerms}
-pub use Rattle.gu_base.specs.declared.refusal.Refusal.TheVariants.{BookFull, DuplicateId, NeedsConsent, NotAChange}
-pub use Rattle.gu_base.specs.declared.refusal.Refusal.TheVariants.{NotAParty, NotOffered, NotYours, NothingPending}
-pub use Rattle.gu_base.specs.declared.refusal.Refusal.TheVariants.{StandsOn, UnknownAccount, UnknownEntry, UnknownFirm}
-pub use Rattle.gu_base.specs.declared.state.State.TheVariants.{Cancelled, Claimed, Held, Offered, ReversalPending}
-pub use Rattle.gu_base.specs.declared.state.State.TheVariants.{Reversed}
-pub use Rattle.gu_base.proofs.Basics.{nothing_here, no_some, none_is_some, none_or_some, or_none, eqb_symm, or_false}
-pub use Rattle.gu_base.proofs.Dealt.{may_use, fits, AllFit, first_unfit, may_raise, unfit_none, fit_without_use}
-pub use Rattle.gu_base.proofs.Dealt.{unfit_without_raise, unfit_without_terms, all_sound, terms_stay, fit_behind}
-pub use Rattle.gu_base.proofs.Dealt.{fit_last, fit_append, none_unfit, terms_last, raised_last, used_last}
-pub use Rattle.gu_base.proofs.LegalLaws.{replay_front, none_refused, legal_from_replay, replay_from_legal}
-pub use Rattle.gu_base.proofs.Lines.{node_more}
-pub use Rattle.gu_base.proofs.NodeNames.{name_same, node_called, made_of, node_cut, made, first_or, name_is, nodes_push}
-pub use Rattle.gu_base.proofs.NodeNames.{made_entry, part_parent}
-pub use Rattle.gu_base.proofs.Passing.{at_node_none, claim_passes, agree_passes, raise_passes, refusal_parts}
-pub use Rattle.gu_base.proofs.Passing.{splits_well, decides_well, SplitHolds, none_unless, none_at_node, split_accepted}
-pub use Rattle.gu_base.proofs.Passing.{claim_accepted, agree_accepted, raise_accepted, decision_accepted, refusal_none}
-pub use Rattle.gu_base.proofs.Passing.{split_passes, ClaimHolds, AgreeHolds, decision_passes, offered_of}
-pub use Rattle.gu_base.proofs.Searches.{found_in, find_passes, find_has}
-pub use Rattle.gu_base.proofs.Sums.{sum_agree_on, sum_plus, sum_option, sum_kept}
-pub use Rattle.gu_depend.specs.{Moves.{lots_at, named_by, MovesItsOwn}, Same.{IsSameState}}
-pub use Rattle.gu_depend.specs.Terms.{AreTermsOf, entries_dealt, pair_of, pair_of_kind, place_of_pair}
-pub use Rattle.gu_depend.specs.Under.{IsLeastUnder, deals_under, first_under, is_under, names, numbers_under}
-pub use Rattle.gu_depend.specs.Under.{stands_under}
-pub use Rattle.gu_fees.specs.{Pairs.PairView, Rows.is_pair, Terms.{TermsView, pair_at}}
-pub use Rattle.gu_tree.specs.NumbersOn.{number_in, numbers_on, least, numbers_on_parts, least_with, lesser}
-pub use Rattle.gu_tree.specs.Shown.{HasDistinctNumbers}
-pub use Rattle.gu_tree.specs.ShownAll.{change_of, named_place, place_in, IsTreeIn, ShowsAll}
-pub use Rattle.std.proofs.Common.{◌≡◌, ℕ, Bool, true, List, [], ◌∷◌, refl, sym, ◌∙◌, ap, arith, cond, Option, zero, suc}
-pub use Rattle.std.proofs.Common.{◌<◌, ◌≤◌, false, not, ◌++◌, length, get_or, IsPermutation, Contains, All, subst, ◌+◌}
-pub use Rattle.std.proofs.Common.{◌&&◌, append-nil, ◌||◌, length-append, inl, inr, append_assoc, IsSomeAnd, map, take}
-pub use Rattle.std.proofs.Common.{drop, ◌-◌, ◌≢◌, ◌⊎◌, min, ◌*◌}
-pub use Rattle.std.proofs.lemmas.Bool.{false_from_ne_true, and_parts, or_parts, or_cases, cases_Bool, cond_both}
-pub use Rattle.std.proofs.lemmas.Bool.{or_right}
-pub use Rattle.std.proofs.lemmas.{Bool.Decides.Decides-eqb, List.Elements.All-contains_itself, List.Folds.find-append}
-pub use Rattle.std.proofs.lemmas.{List.Sorted.sum_by-IsPermutation, Option.same_Some, Slice.Eq.bytes_eq-Decides}
-pub use Rattle.std.proofs.lemmas.List.Elements.{All-nil, All-cons, All-head, All-tail, All-weaker, filter-append}
-pub use Rattle.std.proofs.lemmas.List.Elements.{Contains-append_right, filter_map-append, All-push, All-contains}
-pub use Rattle.std.proofs.lemmas.List.Elements.{All-filter, Contains-append_cases, Contains-push_cases}
-pub use Rattle.std.proofs.lemmas.List.Folds.{list_any_at, list_any_none}
-pub use Rattle.std.proofs.lemmas.List.Sorted.{Contains-permutation, IsPermutation-middle, IsPermutation-to_front}
-pub use Rattle.std.proofs.lemmas.List.Sorted.{IsPermutation-sym, IsPermutation-trans, All-permutation}
-pub use Rattle.std.proofs.lemmas.List.Sorted.{length_permutation, IsPermutation-refl}
-pub use Rattle.std.proofs.lemmas.List.Sums.{sum_by-cons, sum_by-append, sum_by-le-sum_by, sum_by_push, get_or-le-sum_by}
-pub use Rattle.std.proofs.lemmas.Map.Keys.{IsDistinct-head, IsDistinct-tail, IsDistinct-cons}
-pub use Rattle.std.specs.List.{cons_option, list_any, AllByRecursion}
-pub use Rattle.std.specs.{Map.lookup, Option.option_or}
-pub use Rattle.std.specs.Prelude.{Some, None, filter, filter_map, sum_by, option_map, option_and_then, find, count_by}
-pub use Rattle.std.specs.Prelude.{bytes_eq, ◌==◌, ◌↔◌, unwrap_or, is_some, is_none, flat_map, slice_get, nat_lt}
+use Rattle.gu_base.proofs
+pub use proofs.Basics.{eqb_symm, no_some, none_is_some, none_or_some, nothing_here, or_false, or_none}
+pub use proofs.Dealt.{all_sound, AllFit, first_unfit, fit_append, fit_behind, fit_last, fit_without_use, fits}
+pub use proofs.Dealt.{may_raise, may_use, none_unfit, raised_last, terms_last, terms_stay, unfit_none}
+pub use proofs.{Dealt.{unfit_without_raise, unfit_without_terms, used_last}, LegalLaws.legal_from_replay}
+pub use proofs.{LegalLaws.{none_refused, replay_from_legal, replay_front}, Lines.node_more, NodeNames.made}
+pub use proofs.NodeNames.{made_entry, made_of, name_is, name_same, node_called, node_cut, nodes_push, part_parent}
+pub use proofs.Passing.{agree_accepted, agree_passes, AgreeHolds, at_node_none, claim_accepted, claim_passes}
+pub use proofs.Passing.{ClaimHolds, decides_well, decision_accepted, decision_passes, none_at_node, none_unless}
+pub use proofs.Passing.{raise_accepted, raise_passes, refusal_none, refusal_parts, split_accepted, split_passes}
+pub use proofs.{Passing.{SplitHolds, splits_well}, Searches.{find_has, find_passes, found_in}, Sums.sum_agree_on}
+pub use proofs.Sums.{sum_kept, sum_option, sum_plus}
+use Rattle.gu_base.specs
+pub use specs.Consents.{consents_left, consents_of, giver_alone, is_among, is_consenting, missing, of_node, parties_of}
+pub use specs.{Consents.taker_and_giver, Dealt.{first_over, first_under_deed, leave_out}, Fees.charge_of}
+pub use specs.{Fees.{charge_of_kind, charge_of_node, charges, counted}, FirmsNamed.NamesOnly, History.is_change}
+pub use specs.History.{is_reverse_of, is_reversed, live, numbered_as, numbered_from, records, RisesFrom}
+pub use specs.{House.{agreement, House, knows_account, knows_firm}, Limits.{highest_rate, most_entries, most_lots}}
+pub use specs.Nodes.{claim_of, claimed_account, deal_in, decides, decision_of, is_given, is_offered, kind_of_part}
+pub use specs.{Nodes.{node_of, nodes, nodes_of, nodes_of_parts, parent, same_name, split_of, splits}, Numbers.are_terms}
+pub use specs.{Numbers.{EntryPart, is_lots}, Orders.{in_lawful_order, is_ready, IsLawfulOrder}, Places.depth_of}
+pub use specs.Places.{line_of, line_within, place_along, place_of, place_of_kind, root_along, root_of, same_place}
+pub use specs.{Positions.{is_trade_of, leaves, position_of, same_side, stands_at, trades_in}, Refusals.at_node}
+pub use specs.Refusals.{cancel_row, claim_row, first, is_giver, is_taker, knows_own_account, limit_by, limit_row, owns}
+pub use specs.Refusals.{raised_row, refusal_of, refusal_of_part, refuse_row, row, split_row, trade_row, unless, used_by}
+pub use specs.Rows.{made_by, parts_of, Row, row_of, rows_from, rows_of, rows_within, state_after, state_of, taker_of}
+pub use specs.{Runs.{after_all, call_of, IsRunFrom, opening_calls, opening_from, opening_history}, Same.same_command}
+pub use specs.{SameLaws.same_name-Decides, SamePartsLaws.{bytes_same, number_same}, Standing.{first_refused, IsLegal}}
+pub use specs.{Standing.{standing_on, without}, Terms.{dealing_of, dealings, dealings_in, deed_of, limit_of}}
+pub use specs.Terms.{limit_under, raised_under, terms_of, terms_under, use_of_kind, use_of_node, used_of, used_under}
+use Rattle.gu_base.specs.Answers
+pub use Answers.{accepted_or, after, after_by, answer_by, answer_to, Call, command_refusal, entry_of, initiate_rest}
+pub use Answers.{is_accepted, is_empty, is_same_call, is_same_id, on_change, reversal_of, reverse_rest}
+use Rattle.gu_base.specs.declared
+pub use declared.command.Command.{Command, TheVariants.{Agree, Cancel, Claim, Decline, Initiate, Raise, Refuse}}
+pub use declared.command.{Command.TheVariants.{Reverse, Split, Trade}, Part.Part, Side.{Side, TheVariants.{Buy, Sell}}}
+pub use declared.entry.{Answer.{Answer, TheVariants.{Accepted, Repeated}}, Entry.Entry, Record.Record}
+pub use declared.house.{Agreement.Agreement, Dealing.Dealing, Deed.{Deed, TheVariants.{Makes, Raises, Uses}}, Pair.Pair}
+pub use declared.node.{Charge.Charge, Deal.Deal, Kind.{Kind, TheVariants.{Given, Own, Root}}, Node.Node, Place.Place}
+pub use declared.{refusal.Refusal.Refusal, state.State.{State, TheVariants.{Cancelled, Held, Offered, Reversed}}}
+use Rattle.gu_base.specs.declared.refusal.Refusal.TheVariants
+pub use TheVariants.{AlreadyConsented, AlreadyReversed, BadTerms, BookFull, DuplicateId, NeedsConsent, NotAChange}
+pub use TheVariants.{NotAParty, NothingPending, NotOffered, NotYours, StandsOn, UnknownFirm}
+pub use Rattle.gu_depend.specs.{Moves.{lots_at, MovesItsOwn}, Same.IsSameState, Terms.{AreTermsOf, entries_dealt}}
+pub use Rattle.gu_depend.specs.{Terms.{pair_of, pair_of_kind, place_of_pair}, Under.{deals_under, first_under}}
+pub use Rattle.gu_depend.specs.Under.{is_under, IsLeastUnder, names, numbers_under, stands_under}
+pub use Rattle.gu_fees.specs.{Pairs.PairView, Rows.is_pair, Terms.{pair_at, TermsView}}
+pub use Rattle.gu_tree.specs.NumbersOn.{least, least_with, lesser, number_in, numbers_on, numbers_on_parts}
+pub use Rattle.gu_tree.specs.{Shown.HasDistinctNumbers, ShownAll.{change_of, IsTreeIn, named_place, place_in, ShowsAll}}
+use Rattle.std.proofs.Common
+pub use Common.{All, ap, append-nil, append_assoc, arith, Bool, cond, Contains, drop, false, get_or, inl, inr}
+pub use Common.{IsPermutation, IsSomeAnd, length, length-append, List, map, min, not, Option, refl, subst, suc, sym}
+pub use Common.{take, true, zero, ℕ, [], ◌&&◌, ◌*◌, ◌++◌, ◌+◌, ◌-◌, ◌<◌, ◌||◌, ◌∙◌, ◌∷◌, ◌≡◌, ◌≢◌, ◌≤◌, ◌⊎◌}
+use Rattle.std.proofs.lemmas
+pub use lemmas.Bool.{and_parts, cases_Bool, cond_both, false_from_ne_true, or_cases, or_parts, or_right}
+pub use lemmas.{Bool.Decides.Decides-eqb, List.Elements.{All-cons, All-contains, All-contains_itself, All-filter}}
+pub use lemmas.List.Elements.{All-head, All-nil, All-push, All-tail, All-weaker, Contains-append_cases}
+pub use lemmas.List.Elements.{Contains-append_right, Contains-push_cases, filter-append, filter_map-append}
+pub use lemmas.List.{Folds.{find-append, list_any_at, list_any_none}, Sorted.{All-permutation, Contains-permutation}}
+pub use lemmas.List.Sorted.{IsPermutation-middle, IsPermutation-refl, IsPermutation-sym, IsPermutation-to_front}
+pub use lemmas.List.{Sorted.{IsPermutation-trans, length_permutation, sum_by-IsPermutation}, Sums.get_or-le-sum_by}
+pub use lemmas.{List.Sums.{sum_by-append, sum_by-cons, sum_by-le-sum_by, sum_by_push}, Map.Keys.IsDistinct-cons}
+pub use lemmas.{Map.Keys.{IsDistinct-head, IsDistinct-tail}, Option.same_Some, Slice.Eq.bytes_eq-Decides}
+pub use Rattle.std.specs.{List.{AllByRecursion, cons_option, list_any}, Map.lookup, Option.option_or, Prelude.bytes_eq}
+pub use Rattle.std.specs.Prelude.{count_by, filter, filter_map, find, flat_map, is_none, is_some, nat_lt, None}
+pub use Rattle.std.specs.Prelude.{option_and_then, option_map, slice_get, Some, sum_by, unwrap_or, ◌==◌, ◌↔◌}

@@ -19,6 +19,8 @@ use Rattle.gu_desk.specs.declared.count.PassView.{PassView}
 no_callers : {A : Type 0} → false ≡ true → A
 no_callers e = absurd (true≢false (sym e))
 
+-- ---- histories that begin one another
+
 pub begins_itself : (h : List Entry) → BeginsWith h h
 begins_itself h = record { rest = []; is = sym (append-nil h) }
 
@@ -45,6 +47,7 @@ shorter (x ∷ a) (y ∷ b) r t e n =
       is = ap (λ (l : List Entry). y ∷ l) p.is ∙ ap (λ (z : Entry). z ∷ (a ++ p.rest)) (sym first);
     }
 
+-- two that begin one history
 pub both_begin : (h a b : List Entry) → BeginsWith h a → BeginsWith h b → length a ≤ length b → BeginsWith b a
 both_begin h a b p q n = shorter a b p.rest q.rest (sym p.is ∙ q.is) n
 
@@ -289,6 +292,7 @@ publishes slots id h old e is few s k _ here _ =
       refl,
     )
 
+-- the same at a pass that is known by what it was
 pub publishes_as : (slots id : ℕ) (me : Me Entry PassView) (h : List Entry) (old : ℕ) (e : Entry) → me ≡ (of_book h, [])
     → old ≡ length h → length (h ++ e ∷ []) ≤ most_entries
     → Allows IsCounted slots id me 0 (λ n. either (n == old) (old + 1) n)
@@ -364,6 +368,7 @@ confirms slots id h d records all grown s k _ here _ =
       refl,
     )
 
+-- the same at a pass that is known by what it was
 pub confirms_as : (slots id : ℕ) (me : Me Entry PassView) (h d : List Entry) (records : ℕ) → me ≡ (of_journal h d, [])
     → records ≡ length h → BeginsWith h d
     → Allows IsCounted slots id me 1 (λ _. records) (λ _. Confirms (step slots 1 records 0 none) me records)
@@ -396,6 +401,7 @@ compares slots id v is s k _ here _ =
       (subst (λ (l : List Entry). BeginsWith l v.laid_in) (sym known.1) known.2, refl),
     )
 
+-- the same at a pass that is known by what it was
 pub compares_as : (slots id : ℕ) (me : Me Entry PassView) (v : PassView) → me ≡ (v, []) → v.is_journals ≡ true
     → Allows IsCounted slots id me 1 (λ n. n) (Compares (step slots 1 0 0 none) me)
 compares_as slots id me v same is =
@@ -425,6 +431,7 @@ orders slots id v not s k _ here _ =
       ((λ n. both_begin k.history v.laid_in v.seen mine.3 mine.2 n), refl),
     )
 
+-- the same at a pass that is known by what it was
 pub orders_as : (slots id : ℕ) (me : Me Entry PassView) (v : PassView) → me ≡ (v, []) → v.is_journals ≡ false
     → Allows IsCounted slots id me 0 (λ n. n) (Orders (step slots 0 0 0 none) me)
 orders_as slots id me v same not =

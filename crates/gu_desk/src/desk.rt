@@ -1,4 +1,5 @@
-//! The desk that workers share.
+//! The desk that workers share: calls, readings and copies under its lock, what settles and
+//! confirms without it, and the close.
 ghost use Rattle.std.specs.Prelude.{◌≡◌, ◌+◌, ◌<◌, ◌≤◌, ◌++◌};
 ghost use Rattle.std.specs.Prelude.{[], length, vec_len, IfOk, IfErr, OnOk, OnErr};
 ghost use Rattle.std.specs.Arc.{arc_value};

@@ -1,4 +1,4 @@
-//! A stop before the book.
+//! A stop before each call of the book, at which a test holds a call.
 
 /// Asked by a worker just before each call of the book. A test holds a call with it; a server in
 /// service lets all pass.

@@ -1,4 +1,4 @@
-//! What a desk is made of.
+//! What a desk is made of: a book, its count, and a ledger that no type names yet.
 ghost use Rattle.std.specs.Prelude.{◌≡◌, IfOk, IfErr, IsTrue};
 ghost use Rattle.gu_book.specs.Seen.{stored};
 ghost use Rattle.gu_desk.specs.Views.{is_worker_count};

@@ -1,4 +1,4 @@
-//! What a history is kept by.
+//! What a history is kept by: the device that `Desk::confirm` names.
 
 /// What keeps histories: a journal's file, or several in one.
 pub trait Keeps {

@@ -23,6 +23,7 @@ pub trait Job: Ledger {
     ghost opening: { HouseAndHistory };
 }
 
+// It stands for no desk: the proof of a call with `Brand` picks the table and the book.
 impl Job for Brand {
     ghost use Rattle.gu_desk.specs.Views.{no_book, no_table};
 

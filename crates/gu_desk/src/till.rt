@@ -1,4 +1,4 @@
-//! What lies behind the lock.
+//! What lies behind the lock of a desk: the book, its index, and the count of its records.
 ghost use Rattle.std.specs.Prelude.{◌≡◌, ◌+◌, ◌<◌, ◌≤◌, ◌++◌};
 ghost use Rattle.std.specs.Prelude.{length, map, IfOk, OnOk, OnErr, IsTrue};
 ghost use Rattle.std.specs.List.{All};

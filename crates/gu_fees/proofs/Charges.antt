@@ -1,12 +1,10 @@
 -- What a charge does to the rows: their sums, and that they stay ready.
-use Rattle.std.proofs.Common.{◌≡◌, ℕ, ◌+◌, ◌&&◌, List, ◌∷◌, ◌++◌, cond, bytes_eq}
-use Rattle.std.specs.Prelude.{IsTrue}
-use Rattle.gu_base.specs.declared.house.Pair.{Pair}
-use Rattle.gu_base.specs.declared.node.Charge.{Charge}
+use Rattle.gu_base.specs.declared.{house.Pair.Pair, node.Charge.Charge}
+use Rattle.gu_fees.specs.{Rows.{FeeRows, is_pair, IsReady, paid_in, received_in, used_in}, Sums.{AreSumsOf, cost}}
+use Rattle.gu_sums.proofs.OneMore.{less_sum, more_sum}
 use Rattle.gu_sums.specs.Sums.{has_row}
-use Rattle.gu_sums.proofs.OneMore.{more_sum, less_sum}
-use Rattle.gu_fees.specs.Rows.{FeeRows, paid_in, received_in, used_in, is_pair, IsReady}
-use Rattle.gu_fees.specs.Sums.{cost, AreSumsOf}
+use Rattle.std.proofs.Common.{bytes_eq, cond, List, ℕ, ◌&&◌, ◌++◌, ◌+◌, ◌∷◌, ◌≡◌}
+use Rattle.std.specs.Prelude.{IsTrue}
 
 module _ (old new : FeeRows) where
   -- where each kind of row stays, the rows of a giver and a taker stay ready
@@ -16,12 +14,7 @@ module _ (old new : FeeRows) where
       → IsTrue (has_row (is_pair q.giver q.taker) new.used))
       → (g t : List ℕ) → IsReady old g t → IsReady new g t
   stay_ready pays receives uses g t is =
-      record {
-        pays =
-            pays t is.pays;
-        receives = receives g is.receives;
-        uses = uses (record { giver = g; taker = t }) is.uses;
-      }
+      record { pays = pays t is.pays; receives = receives g is.receives; uses = uses _ is.uses }
 
   module _ (x : Charge) (before after : List Charge) where
     -- where each kind of row grew by what the charge counts there, the rows are the sums with it
@@ -33,8 +26,8 @@ module _ (old new : FeeRows) where
     sums_more paid received used are = record {
       paid = λ q. more_sum cost (λ k. bytes_eq k.taker q) before x after _ _ (paid q) (are.paid q);
       received = λ q. more_sum cost (λ k. bytes_eq k.giver q) before x after _ _ (received q) (are.received q);
-      used = λ g t. more_sum (λ k. k.lots) (λ k. bytes_eq k.giver g && bytes_eq k.taker t) before x after _ _
-          (used (record { giver = g; taker = t })) (are.used g t);
+      used = λ g t. more_sum (λ k. k.lots) _ before x after _ _
+          (used _) (are.used g t);
     }
 
     -- where each shrank by that, they are those without it
@@ -46,6 +39,6 @@ module _ (old new : FeeRows) where
     sums_less paid received used are = record {
       paid = λ q. less_sum cost (λ k. bytes_eq k.taker q) before x after _ _ (paid q) (are.paid q);
       received = λ q. less_sum cost (λ k. bytes_eq k.giver q) before x after _ _ (received q) (are.received q);
-      used = λ g t. less_sum (λ k. k.lots) (λ k. bytes_eq k.giver g && bytes_eq k.taker t) before x after _ _
-          (used (record { giver = g; taker = t })) (are.used g t);
+      used = λ g t. less_sum (λ k. k.lots) _ before x after _ _
+          (used _) (are.used g t);
     }

@@ -1,98 +1,44 @@
 -- What a pair deals, with one entry more and with one less.
-use Rattle.std.proofs.Common.{
-  ◌≡◌,
-  ℕ,
-  ◌+◌,
-  ◌<◌,
-  ◌≤◌,
-  ◌^◌,
-  ◌-◌,
-  Bool,
-  true,
-  false,
-  not,
-  cond,
-  List,
-  [],
-  ◌∷◌,
-  ◌++◌,
-  Option,
-  refl,
-  sym,
-  ◌∙◌,
-  ap,
-  subst,
-  arith,
-}
-use Rattle.std.specs.Prelude.{Some, None, IfSome, find, sum_by, option_map, option_and_then, IsTrue, ◌↔◌, ◌==◌}
-use Rattle.std.specs.Map.{lookup, remove_entry}
-use Rattle.std.specs.List.{All}
-use Rattle.std.specs.Option.{option_or}
-use Rattle.std.proofs.lemmas.List.Elements.{All-head, All-tail, All-filter, All-push}
-use Rattle.std.proofs.lemmas.List.{map-append}
-use Rattle.std.proofs.lemmas.List.Sums.{sum_by-cons, sum_by_push}
-use Rattle.std.proofs.lemmas.Option.{same_Some}
+use Rattle.gu_base.specs
+use specs.{Dealt.{first_under_deed, leave_out}, declared.house.{Agreement.Agreement, Dealing.Dealing, Deed.Deed}}
+use specs.{declared.house.Deed.TheVariants.{Makes, Raises, Uses}, Limits.highest_limit, Terms.{made_by_deed, made_in}}
+use specs.Terms.{raised_by_deed, raised_under, terms_under, used_by_deed, used_under}
+use Rattle.gu_fees.specs.Pairs.{dealings_of, deed_at, HasLowLimit, HasRoomFor, HasRoomOn, IsKept, IsSmall}
+use Rattle.gu_fees.specs.Pairs.{standing_under}
 use Rattle.gu_sums.specs.Filing.{without}
-use Rattle.gu_base.specs.Limits.{highest_limit}
-use Rattle.gu_base.specs.Terms.{
-  made_by_deed,
-  made_in,
-  terms_under,
-  raised_by_deed,
-  raised_under,
-  used_by_deed,
-  used_under,
-}
-use Rattle.gu_base.specs.Dealt.{leave_out, first_under_deed}
-use Rattle.gu_base.specs.declared.house.Agreement.{Agreement}
-use Rattle.gu_base.specs.declared.house.Deed.{Deed}
-use Rattle.gu_base.specs.declared.house.Deed.TheVariants.{Makes, Raises, Uses}
-use Rattle.gu_base.specs.declared.house.Dealing.{Dealing}
-use Rattle.gu_fees.specs.Pairs.{
-  dealings_of,
-  HasLowLimit,
-  HasRoomOn,
-  HasRoomFor,
-  IsSmall,
-  IsKept,
-  deed_at,
-  standing_under,
-}
+use Rattle.std.proofs
+use proofs.Common.{ap, arith, Bool, cond, false, inl, inr, List, not, Option, refl, sym, true, ℕ, [], ◌++◌, ◌+◌, ◌-◌}
+use proofs.{Common.{◌<◌, ◌^◌, ◌∙◌, ◌∷◌, ◌≡◌, ◌≤◌}, lemmas.{Bool.cases_Bool, List.{map-append, Elements.All-filter}}}
+use proofs.lemmas.{List.{Elements.{All-head, All-push, All-tail}, Sums.{sum_by-cons, sum_by_push}}, Option.same_Some}
+use Rattle.std.specs.{List.All, Map.{lookup, remove_entry}, Option.option_or, Prelude.{IfSome, IsTrue, None}}
+use Rattle.std.specs.Prelude.{option_and_then, Some, sum_by, ◌==◌, ◌↔◌}
 
 -- ---- deeds under their numbers
 
 abbrev is : ℕ → ℕ → Bool
 is n k = k == n
 
+abbrev dealing : ℕ → Deed → Dealing
+dealing n d = record { number = n; deed = d }
+
 pub dealings_with : (l : List (ℕ × Deed)) (n : ℕ) (d : Deed)
-    → dealings_of (l ++ (n, d) ∷ []) ≡ dealings_of l ++ record { number = n; deed = d } ∷ []
-dealings_with l n d = map-append (λ (k : ℕ × Deed). record { number = k.0; deed = k.1 }) l ((n, d) ∷ [])
+    → dealings_of (l ++ (n, d) ∷ []) ≡ dealings_of l ++ dealing n d ∷ []
+dealings_with l n d = map-append _ l _
 
 pub dealings_without : (l : List (ℕ × Deed)) (n : ℕ) → dealings_of (without n l) ≡ leave_out n (dealings_of l)
 dealings_without [] n = refl
-dealings_without (k ∷ l) n = by (k.0 == n) (dealings_without l n)
-  where
-    by : (b : Bool) → dealings_of (without n l) ≡ leave_out n (dealings_of l)
-        → dealings_of (cond (not b) (k ∷ without n l) (without n l))
-        ≡ cond (not b) (record { number = k.0; deed = k.1 } ∷ leave_out n (dealings_of l)) (leave_out n (dealings_of l))
-    by true later = later
-    by false later = ap (λ ds. record { number = k.0; deed = k.1 } ∷ ds) later
+dealings_without (k ∷ l) n =
+    elim (cases_Bool (k.0 == n)) [ inl is ↦ cc (dealings_without l n) | inr other ↦ cc (dealings_without l n) ]
 
 -- the deed of a number is what is filed under it
 deed_kept : (l : List (ℕ × Deed)) (n : ℕ) → deed_at (dealings_of l) n ≡ lookup (is n) l
 deed_kept [] n = refl
-deed_kept (k ∷ l) n = by (k.0 == n) (deed_kept l n)
-  where
-    by : (b : Bool) → deed_at (dealings_of l) n ≡ lookup (is n) l
-        → option_map (λ (d : Dealing). d.deed) (cond b (Some (record { number = k.0; deed = k.1 }))
-        (find (λ d. d.number == n) (dealings_of l))) ≡ cond b (Some k.1) (lookup (is n) l)
-    by true later = refl
-    by false later = later
+deed_kept (k ∷ l) n = elim (cases_Bool (k.0 == n)) [ inl is ↦ cc | inr other ↦ cc (deed_kept l n) ]
 
 -- what stands on an entry, by what is filed under its number
 pub standing_is : (file : Option Agreement) (l : List (ℕ × Deed)) (n : ℕ) {o : Option Deed} → lookup (is n) l ≡ o
     → standing_under file (dealings_of l) n ≡ option_and_then (first_under_deed file (dealings_of l) n) o
-standing_is file l n at = ap (option_and_then (first_under_deed file (dealings_of l) n)) (deed_kept l n ∙ at)
+standing_is file l n at = rw (deed_kept l n ∙ at)
 
 -- what holds of a list and of what is left after its first, and stays so behind others, holds where the deed of a
 -- number is taken out
@@ -100,19 +46,19 @@ by_removal : (P : List (ℕ × Deed) → List (ℕ × Deed) → Type 0) (n : ℕ
     → ((k : ℕ × Deed) (l : List (ℕ × Deed)) → k.1 ≡ d → P (k ∷ l) l)
     → ((k : ℕ × Deed) (l m : List (ℕ × Deed)) → P l m → P (k ∷ l) (k ∷ m)) → (l : List (ℕ × Deed))
     → lookup (is n) l ≡ Some d → P l (remove_entry (is n) l)
-by_removal P n d here later [] at = absurd (cc)
-by_removal P n d here later (k ∷ l) at = by (k.0 == n) at (by_removal P n d here later l)
+by_removal P n d here later [] at = cc
+by_removal P n d here later (k ∷ l) at = by _ at (by_removal P n d here later l)
   where
     by : (b : Bool) → cond b (Some k.1) (lookup (is n) l) ≡ Some d
         → (lookup (is n) l ≡ Some d → P l (remove_entry (is n) l)) → P (k ∷ l) (cond b l (k ∷ remove_entry (is n) l))
     by true at rest = here k l (same_Some k.1 d at)
-    by false at rest = later k l (remove_entry (is n) l) (rest at)
+    by false at rest = later k l _ (rest at)
 
 abbrev counted : (Deed → ℕ) → List (ℕ × Deed) → ℕ
 counted count l = sum_by (λ x. count x.deed) (dealings_of l)
 
 one_more : (count : Deed → ℕ) (k : ℕ × Deed) (l : List (ℕ × Deed)) → counted count (k ∷ l) ≡ count k.1 + counted count l
-one_more count k l = sum_by-cons (λ (x : Dealing). count x.deed) (record { number = k.0; deed = k.1 }) (dealings_of l)
+one_more count k l = sum_by-cons _ (dealing k.0 k.1) (dealings_of l)
 
 -- what is taken out is no longer counted
 pub counted_less : (count : Deed → ℕ) (n : ℕ) (d : Deed) (l : List (ℕ × Deed)) → lookup (is n) l ≡ Some d
@@ -133,56 +79,51 @@ or_assoc (Some a) p q = refl
 
 -- by one deed more
 pub made_with : (ds : List Dealing) (n : ℕ) (d : Deed)
-    → made_in (ds ++ record { number = n; deed = d } ∷ []) ≡ option_or (made_in ds) (made_by_deed d)
-made_with [] n d = or_none (made_by_deed d)
-made_with (x ∷ ds) n d = ap (option_or (made_by_deed x.deed)) (made_with ds n d)
-    ∙ or_assoc (made_by_deed x.deed) (made_in ds) (made_by_deed d)
+    → made_in (ds ++ dealing n d ∷ []) ≡ option_or (made_in ds) (made_by_deed d)
+made_with [] n d = or_none _
+made_with (x ∷ ds) n d = cc (made_with ds n d, or_assoc _ _ _)
 
 -- and without one that made none
 made_less : (n : ℕ) (d : Deed) → made_by_deed d ≡ None → (l : List (ℕ × Deed)) → lookup (is n) l ≡ Some d
     → made_in (dealings_of l) ≡ made_in (dealings_of (remove_entry (is n) l))
 made_less n d none = by_removal (λ l m. made_in (dealings_of l) ≡ made_in (dealings_of m)) n d
-    (λ k l same. ap (λ o. option_or o (made_in (dealings_of l))) (ap made_by_deed same
-    ∙ none)) (λ k l m is. ap (option_or (made_by_deed k.1)) is)
+    (λ k l same. rw (same, none)) (λ k l m is. rw is)
 
 -- ---- limits
 
 low_made_by : (d : Deed) (rest : Option Agreement) (a : Agreement) → HasLowLimit d
     → (rest ≡ Some a → a.limit ≤ highest_limit) → option_or (made_by_deed d) rest ≡ Some a → a.limit ≤ highest_limit
-low_made_by (Makes b) rest a low later is = let same : b.limit ≡ a.limit =
-    ap (λ (z : Agreement). z.limit) (same_Some b a is) in omega (arith, same, low)
-low_made_by (Raises lots) rest a low later is = later is
-low_made_by (Uses lots) rest a low later is = later is
+low_made_by (Makes b) rest a low later is = rw (← same_Some b a is) low
+low_made_by (Raises _) rest a low later is = later is
+low_made_by (Uses _) rest a low later is = later is
 
 low_made : (ds : List Dealing) (a : Agreement) → All (λ d. HasLowLimit d.deed) ds → made_in ds ≡ Some a
     → a.limit ≤ highest_limit
-low_made [] a low is = absurd (cc)
+low_made [] a low is = cc
 low_made (d ∷ ds) a low is =
-    low_made_by d.deed (made_in ds) a (All-head (λ (d : Dealing). HasLowLimit d.deed) d ds low)
-    (low_made ds a (All-tail (λ (d : Dealing). HasLowLimit d.deed) d ds low)) is
+    low_made_by _ _ a (All-head (λ d. HasLowLimit d.deed) d ds low)
+    (low_made ds a (All-tail (λ d. HasLowLimit d.deed) d ds low)) is
 
 low_either : (file made : Option Agreement) (a : Agreement) → IfSome file (λ a. a.limit ≤ highest_limit)
     → (made ≡ Some a → a.limit ≤ highest_limit) → option_or file made ≡ Some a → a.limit ≤ highest_limit
 low_either None made a low later is = later is
-low_either (Some b) made a low later is = let same : b.limit ≡ a.limit =
-    ap (λ (z : Agreement). z.limit) (same_Some b a is) in omega (arith, same, low)
+low_either (Some b) made a low later is = rw (← same_Some b a is) low
 
 -- terms have a limit that limits may be
 pub low_terms : (file : Option Agreement) (ds : List Dealing) (a : Agreement) → IsSmall file ds
     → terms_under file ds ≡ Some a → a.limit ≤ highest_limit
-low_terms file ds a small is = low_either file (made_in ds) a small.file_low (low_made ds a small.made_low) is
+low_terms file ds a small is = low_either _ _ a small.file_low (low_made ds a small.made_low) is
 
 -- what is small stays so with a deed that it has room for
 small_with : (file : Option Agreement) (ds : List Dealing) (n : ℕ) (d : Deed) → IsSmall file ds → HasRoomFor ds d
-    → IsSmall file (ds ++ record { number = n; deed = d } ∷ [])
+    → IsSmall file (ds ++ dealing n d ∷ [])
 small_with file ds n d small room =
-    let raised = sum_by_push (λ (x : Dealing). raised_by_deed x.deed) ds (record { number = n; deed = d }) in
-    let used = sum_by_push (λ (x : Dealing). used_by_deed x.deed) ds (record { number = n; deed = d }) in
+    let raised = sum_by_push (λ x. raised_by_deed x.deed) ds (dealing n d) in
+    let used = sum_by_push (λ (x : Dealing). used_by_deed x.deed) ds (dealing n d) in
     let fits = fits_by d room in
     record {
       file_low = small.file_low;
-      made_low =
-          All-push (λ (x : Dealing). HasLowLimit x.deed) ds (record { number = n; deed = d }) small.made_low fits.2;
+      made_low = All-push (λ (x : Dealing). HasLowLimit x.deed) ds (dealing n d) small.made_low fits.2;
       raised = omega (arith, raised, fits.0);
       used = omega (arith, used, fits.1);
     }
@@ -194,9 +135,9 @@ small_with file ds n d small room =
     fits_by (Uses lots) room = (omega (arith, small.raised), room, tt)
 
 pub room_used : (raised used : ℕ) (d : Deed) → used < 2 ^ 64 → HasRoomOn raised used d → used + used_by_deed d < 2 ^ 64
-room_used raised used (Makes a) small room = omega (arith, small)
-room_used raised used (Raises lots) small room = omega (arith, small)
-room_used raised used (Uses lots) small room = omega (arith, room)
+room_used raised used (Makes a) small room = omega arith
+room_used raised used (Raises _) small room = omega arith
+room_used raised used (Uses _) small room = omega arith
 
 -- ---- what is kept of a pair
 
@@ -204,32 +145,26 @@ module _ {file made : Option Agreement} (l : List (ℕ × Deed)) {raised used : 
     (kept : IsKept file made (dealings_of l) raised used) (n : ℕ) (d : Deed) where
   -- with one more
   pub kept_more : HasRoomFor (dealings_of l) d
-      → IsKept file (option_or made (made_by_deed d)) (dealings_of l ++ record {
-        number = n;
-        deed = d;
-      } ∷ []) (raised + raised_by_deed d) (used + used_by_deed d)
+      → IsKept file (option_or made (made_by_deed d)) (dealings_of l ++ dealing n d ∷ [])
+      (raised + raised_by_deed d) (used + used_by_deed d)
   kept_more room = record {
     made_is = ap (λ o. option_or o (made_by_deed d)) kept.made_is ∙ sym (made_with (dealings_of l) n d);
     raised_is = omega (
       arith,
-      kept.raised_is,
-      sum_by_push (λ (x : Dealing). raised_by_deed x.deed) (dealings_of l)
-          (record { number = n; deed = d }),
+      sum_by_push (λ (x : Dealing). raised_by_deed x.deed) (dealings_of l) (dealing n d),
     );
     used_is = omega (
       arith,
-      kept.used_is,
-      sum_by_push (λ (x : Dealing). used_by_deed x.deed) (dealings_of l)
-          (record { number = n; deed = d }),
+      sum_by_push (λ (x : Dealing). used_by_deed x.deed) (dealings_of l) (dealing n d),
     );
-    small = small_with file (dealings_of l) n d kept.small room;
+    small = small_with _ _ n d kept.small room;
   }
 
   -- it counts for no more than the sums
   pub kept_counts : lookup (is n) l ≡ Some d → (raised_by_deed d ≤ raised) × (used_by_deed d ≤ used)
   kept_counts at = (
     omega (arith, kept.raised_is, counted_less raised_by_deed n d l at),
-    omega (arith, kept.used_is, counted_less used_by_deed n d l at),
+    omega (arith, counted_less used_by_deed n d l at),
   )
 
   -- without one
@@ -238,31 +173,26 @@ module _ {file made : Option Agreement} (l : List (ℕ × Deed)) {raised used : 
       → IsKept file left (dealings_of m) (raised - raised_by_deed d) (used - used_by_deed d)
   kept_less at {m} out removed left_is = record {
     made_is = left_is;
-    raised_is = rw removed (omega (arith, kept.raised_is, counted_less raised_by_deed n d l at));
-    used_is = rw removed (omega (arith, kept.used_is, counted_less used_by_deed n d l at));
+    raised_is = rw removed (omega (arith, counted_less raised_by_deed n d l at));
+    used_is = rw removed (omega (arith, counted_less used_by_deed n d l at));
     small = record {
       file_low = kept.small.file_low;
-      made_low = rw (out, dealings_without l n) (All-filter (λ (x : Dealing). not (x.number == n))
-          (λ (x : Dealing). HasLowLimit x.deed) (dealings_of l) kept.small.made_low);
-      raised = rw removed (omega (arith, kept.small.raised, counted_less raised_by_deed n d l at));
-      used = rw removed (omega (arith, kept.small.used, counted_less used_by_deed n d l at));
+      made_low = rw (out, dealings_without l n) (All-filter (λ x. not (x.number == n))
+          (λ x. HasLowLimit x.deed) _ kept.small.made_low);
+      raised = rw removed (omega (arith, counted_less raised_by_deed n d l at));
+      used = rw removed (omega (arith, counted_less used_by_deed n d l at));
     };
   }
 
   -- the terms that were made stay where one that made none is taken out
   pub made_stays : lookup (is n) l ≡ Some d → {m : List (ℕ × Deed)} → m ≡ remove_entry (is n) l → made_by_deed d ≡ None
       → made ≡ made_in (dealings_of m)
-  made_stays at removed none = rw removed (kept.made_is ∙ made_less n d none l at)
+  made_stays at removed none = rw removed (cc (made_less n d none l at))
 
 -- whether an entry may be put behind the others
 pub can_by : (room above : Type 0) (b : Bool) (raised used r u : ℕ) (d : Deed) → raised ≡ r → used ≡ u → room → above
     → (IsTrue b ↔ HasRoomOn raised used d) → IsTrue b ↔ (room × above × HasRoomOn r u d)
 can_by room above b raised used r u d same_raised same_used has_room is_above told = (
-  (λ h. (
-    has_room,
-    is_above,
-    subst (λ n. HasRoomOn r n d) same_used
-        (subst (λ n. HasRoomOn n used d) same_raised (told.0 h)),
-  )),
-  (λ h. told.1 (subst (λ n. HasRoomOn n used d) (sym same_raised) (subst (λ n. HasRoomOn r n d) (sym same_used) h.2))),
+  (λ h. (has_room, is_above, rw (← same_raised, ← same_used) (told.0 h))),
+  (λ h. told.1 (rw (same_raised, same_used) h.2)),
 )

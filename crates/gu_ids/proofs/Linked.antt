@@ -28,10 +28,12 @@ module _ (hashes hashes' befores befores' heads : List ℕ) (k hash : ℕ)
     (same_before : (j : ℕ) → j < k → slice_index_or befores' j 0 ≡ slice_index_or befores j 0)
     (before : slice_index_or befores' k 0 ≡ slice_index_or heads (bucket_of hash (length heads)) 0)
     (within : bucket_of hash (length heads) < length heads) (are : AreChains hashes befores heads k) where
+  -- the first k fall into the same buckets
   in_same : (b m : ℕ) → m ≤ k → newest (is_in hashes' (length heads) b) m ≡ newest (is_in hashes (length heads) b) m
   in_same b m few = newest_same (is_in hashes' (length heads) b) (is_in hashes (length heads) b) m
       (λ j less. ap (λ x. eqb (bucket_of x (length heads)) b) (same j (omega (arith, few, less))))
 
+  -- the head of each bucket
   head_of : (b : ℕ) → b < length heads
       → slice_index_or (set heads (bucket_of hash (length heads)) (suc k)) b 0
       ≡ newest (is_in hashes' (length heads) b) (suc k)
@@ -40,6 +42,7 @@ module _ (hashes hashes' befores befores' heads : List ℕ) (k hash : ℕ)
       (eqb (bucket_of hash (length heads)) b) refl (ap (λ x. eqb (bucket_of x (length heads)) b) here) within
       (are.head b inside ∙ sym (in_same b k (omega arith))) (eqb_tells (bucket_of hash (length heads)) b)
 
+  -- the entry before each in its bucket
   before_by : (j : ℕ) → j < suc k → (j < k) ⊎ (j ≡ k)
       → slice_index_or befores' j 0
       ≡ newest (is_in hashes' (length heads) (bucket_of (slice_index_or hashes' j 0) (length heads))) j
@@ -63,6 +66,7 @@ module _ (hashes hashes' befores befores' heads : List ℕ) (k hash : ℕ)
       which_by (inl e) = inr e.1
       which_by (inr e) = let apart = e.1 in inl (omega (arith, less, apart))
 
+  -- so the chains are those of one entry more
   pub linked : AreChains hashes' befores' (set heads (bucket_of hash (length heads)) (suc k)) (suc k)
   linked =
       let new = set heads (bucket_of hash (length heads)) (suc k) in

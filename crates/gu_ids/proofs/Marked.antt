@@ -10,6 +10,7 @@ use Rattle.gu_ids.specs.Marks.{bucket_of, bears, marks_of, AreMarked}
 use Rattle.gu_ids.proofs.Links.{length_map}
 
 module _ (heads : List Head) where
+  -- there are as many of each
   pub newests_long : length (newests_of heads) ≡ length heads
   newests_long = length_map (λ (h : Head). h.newest) heads
 
@@ -17,12 +18,14 @@ module _ (heads : List Head) where
   marks_long = length_map (λ (h : Head). h.marks) heads
 
   module _ (b : ℕ) (h : Head) (is : h ≡ slice_index_or heads b h) (within : b < length heads) where
+    -- what one head says
     pub newest_read : h.newest ≡ slice_index_or (newests_of heads) b 0
     newest_read = ap (λ (h : Head). h.newest) is ∙ sym (get_or-map (λ (h : Head). h.newest) heads b h 0 within)
 
     pub marks_read : h.marks ≡ slice_index_or (marks_of heads) b 0
     marks_read = ap (λ (h : Head). h.marks) is ∙ sym (get_or-map (λ (h : Head). h.marks) heads b h 0 within)
 
+  -- one head written anew
   pub newests_set : (b : ℕ) (h : Head) → newests_of (set heads b h) ≡ set (newests_of heads) b h.newest
   newests_set b h = map-set (λ (h : Head). h.newest) heads b h
 
@@ -36,6 +39,7 @@ module _ (hashes hashes' marks : List ℕ) (k hash new : ℕ)
     (own : bears new hash ≡ true)
     (others : (x : ℕ) → bears (slice_index_or marks (bucket_of hash (length marks)) 0) x ≡ true → bears new x ≡ true)
     (are : AreMarked hashes marks k) where
+  -- a mark that is there stays
   kept_by : (x : ℕ) → bears (slice_index_or marks (bucket_of x (length marks)) 0) x ≡ true
       → ((eqb (bucket_of x (length marks)) (bucket_of hash (length marks)) ≡ true)
       × (bucket_of x (length marks) ≡ bucket_of hash (length marks)))
@@ -55,6 +59,7 @@ module _ (hashes hashes' marks : List ℕ) (k hash new : ℕ)
       → bears (slice_index_or (set marks (bucket_of hash (length marks)) new) (bucket_of x (length marks)) 0) x ≡ true
   kept x had = kept_by x had (eqb_tells (bucket_of x (length marks)) (bucket_of hash (length marks)))
 
+  -- the entry before, or the new one
   marked_by : (j : ℕ) → ((eqb j k ≡ true) × (j ≡ k)) ⊎ ((eqb j k ≡ false) × (j ≢ k)) → j < suc k
       → bears (slice_index_or (set marks (bucket_of hash (length marks)) new)
       (bucket_of (slice_index_or hashes' j 0) (length marks)) 0)
@@ -71,6 +76,7 @@ module _ (hashes hashes' marks : List ℕ) (k hash new : ℕ)
       (same j earlier)
       ∙ kept (slice_index_or hashes j 0) (are j earlier)
 
+  -- so each has its marks
   pub marked : AreMarked hashes' (set marks (bucket_of hash (length marks)) new) (suc k)
   marked j less =
       ap (λ n.

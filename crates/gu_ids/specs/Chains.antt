@@ -10,12 +10,15 @@ use Rattle.gu_ids.specs.Hashing.{hash_of}
 use Rattle.gu_ids.specs.Marks.{bucket_of, marks_of, AreMarked}
 use Rattle.gu_ids.specs.Newest.{newest, is_at}
 
+-- the hash of each entry
 abbrev pub hashes_of : List Link → List ℕ
 hashes_of links = map (λ l. l.hash) links
 
+-- the entry before each in its bucket
 abbrev pub befores_of : List Link → List ℕ
 befores_of links = map (λ l. l.before) links
 
+-- the newest entry of each bucket
 abbrev pub newests_of : List Head → List ℕ
 newests_of heads = map (λ h. h.newest) heads
 

@@ -23,13 +23,15 @@ state_in h = record { v0 = h.v0; v1 = h.v1; v2 = h.v2; v3 = h.v3 }
 abbrev pub begun : HashKey → Sip
 begun key = state_in (sip.with_keys key.low key.high)
 
--- after a round; with one word more; the hash, with a last word of the tail and the count
+-- after a round
 abbrev pub turned : Sip → Sip
 turned s = state_in (sip.round (hasher_at s 0 0))
 
+-- with one word more
 abbrev pub taken : Sip → ℕ → Sip
 taken s word = state_in (sip.write_word (hasher_at s 0 0) word)
 
+-- the hash, with a last word of the tail and the count of bytes
 abbrev pub finished : Sip → ℕ → ℕ → ℕ
 finished s tail count = sip.finish (hasher_at s tail count)
 

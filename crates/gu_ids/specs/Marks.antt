@@ -24,6 +24,7 @@ is_marked marks bit = bit_at marks bit == 1
 abbrev pub bears : ℕ → ℕ → Bool
 bears marks hash = is_marked marks (mark_of hash) && is_marked marks (second_mark_of hash)
 
+-- the marks of each bucket
 abbrev pub marks_of : List Head → List ℕ
 marks_of heads = map (λ h. h.marks) heads
 

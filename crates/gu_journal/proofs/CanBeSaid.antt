@@ -11,6 +11,7 @@ use Rattle.gu_base.specs.declared.command.Command.TheVariants.{Initiate, Decline
 use Rattle.gu_journal.specs.Entries.{is_short, is_sayable_to, is_sayable_part, is_sayable, HasFewParts, IsNamedTo}
 use Rattle.gu_journal.specs.Entries.{IsNamedPart, HasLawfulNames, IsLawfulTo, IsLawfulPart, IsLawfulCommand}
 
+-- tests
 short_is : (n : ℕ) → is_short n ≡ true → n < 10 ^ 18
 short_is n h = ltb-true n (10 ^ 18) h
 
@@ -21,6 +22,7 @@ differ a b h = λ e. go (bytes_eq a b) ((bytes_eq-Decides a b).1 e) h
     go true e h = cc h
     go false e h = cc e
 
+-- one part, and all
 to_lawful : (by firm : List ℕ) (lots : ℕ) (account : Option (List ℕ)) → is_sayable_to by firm lots account ≡ true
     → IsNamedTo firm account → IsLawfulTo by firm lots account
 to_lawful by firm lots (Some account) said named =
@@ -37,6 +39,7 @@ parts_lawful by (p ∷ ps) said named =
     let both = and_parts (is_sayable_part by p) (list_all (is_sayable_part by) ps) said in
     (to_lawful by p.firm p.lots p.account both.0 named.0, parts_lawful by ps both.1 named.1)
 
+-- each command
 pub lawful_from : (by : List ℕ) (c : Command) → is_sayable by c ≡ true → HasLawfulNames c → IsLawfulCommand by c
 lawful_from by (Trade firm account instrument side lots) said named = (named.0, named.1, named.2, short_is lots said)
 lawful_from by (Split node parts) said named =
@@ -53,6 +56,7 @@ lawful_from by (Initiate entry) said named = named
 lawful_from by (Decline entry) said named = named
 lawful_from by (Reverse entry) said named = named
 
+-- a split that can be said has few parts
 pub few_parts : (by : List ℕ) (c : Command) → is_sayable by c ≡ true → HasFewParts c
 few_parts by (Trade firm account instrument side lots) said = tt
 few_parts by (Split node parts) said = leb-true (length parts) 100

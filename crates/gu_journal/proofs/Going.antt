@@ -37,6 +37,7 @@ record Reaches (t : House) (pin taken : List ℕ) (new : List Entry) : Type 0 wh
   says : Says t h entries new
   parts : taken ≡ bytes ++ entries
 
+-- what is taken at a seal, and behind one, reaches so far
 sealed : (t : House) (pin taken : List ℕ) (h : List Entry) → IsJournal t pin taken h → Reaches t pin taken h
 sealed t pin taken h is = record {
   bytes = taken;
@@ -57,6 +58,7 @@ unsealed t pin taken h is = record {
   parts = is.parts;
 }
 
+-- an entry more, and a seal
 entry_on : (t : House) (pin taken frame : List ℕ) (h new : List Entry) (m : Message) → Reaches t pin taken h
     → SaysNext t h new m
     → IsOneFrame frame m → IsOpenAt t pin (taken ++ frame) new

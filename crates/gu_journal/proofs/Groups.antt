@@ -27,6 +27,7 @@ use Rattle.gu_journal.proofs.Writable.{call_writable, head_writable, seal_writab
 
 -- ---- as bytes
 
+-- frames begin with `8`, so they and a shut gate are a group
 frames_begin : (house moment : List ℕ) (n : ℕ) (es : List Entry) (m : Message) → (rest : List ℕ)
     × (entry_frames house moment n es ++ message_text m ≡ 56 ∷ rest)
 frames_begin house moment n [] m = first_eight m

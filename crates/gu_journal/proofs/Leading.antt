@@ -40,6 +40,7 @@ pub record Stepped (t : House) (pin taken : List ℕ) (s : Stand) (h : List Entr
   pub leads : Leads t pin (taken ++ take len bytes) next new rest
   pub left : rest ++ 10 ∷ more ≡ drop len bytes ++ later
 
+-- the two gates differ, and how the journal stands
 ten : ◌≢◌ {A = ℕ} 10 56
 ten e = absurd (omega (arith, e))
 
@@ -51,6 +52,7 @@ unsealed_behind e = cc
 
 -- ---- a journal, from its front
 
+-- an entry or a seal behind the head
 takes_next : (t : House) (pin taken : List ℕ) (s : Stand) (h new : List Entry) (m : Message) → s ≢ Fresh
     → SaysNext t h new m → Takes t pin taken s h m Unsealed new
 takes_next t pin taken Fresh h new m behind next = absurd (behind refl)
@@ -63,6 +65,7 @@ takes_seal t pin taken Fresh h m behind seal = absurd (behind refl)
 takes_seal t pin taken Sealed h m behind seal = (seal, refl)
 takes_seal t pin taken Unsealed h m behind seal = (seal, refl)
 
+-- what says entries, and a whole journal
 says_leads : (t : House) (pin bytes : List ℕ) (h : List Entry) (entries : List ℕ) (new : List Entry)
     → Says t h entries new → (rest : List ℕ)
     → ((s : Stand) → s ≢ Fresh → Leads t pin (bytes ++ entries) s new rest)
@@ -101,6 +104,7 @@ from_front t pin bytes h journal =
 
 -- ---- what is taken is determined
 
+-- the next entry is determined
 same_next : (t : House) (h new other : List Entry) (means : Inbound) → AddsNext t h new means → AddsNext t h other means
     → new ≡ other
 same_next t h new other (inbound.Call firm trade id command) a b = cc
@@ -118,6 +122,7 @@ next_one t h new other m a b =
     let means = inbound.Call a.0.firm a.1.trade a.0.id a.0.command in
     same_next t h new other means (adds_of t h new m means a.1.meaning a) (adds_of t h other m means a.1.meaning b)
 
+-- a seal is no entry
 no_seal_next : (t : House) (taken : List ℕ) (h new : List Entry) (m : Message) → IsSeal t taken h m → SaysNext t h new m
     → ⊥
 no_seal_next t taken h new m seal next = apart seal.meaning next.1.meaning
@@ -151,6 +156,7 @@ takes_one t pin taken Unsealed Unsealed Unsealed h new more m a b = (refl, next_
 
 -- ---- one step
 
+-- what stands at the front
 frame_front : (frame later : List ℕ) (m : Message) → IsOneFrame frame m
     → IsFrontOf (frame ++ later) (Whole m (length frame))
 frame_front frame later m one = begins_stays frame later (record { fields = Some m; len = length frame }) one
@@ -187,6 +193,7 @@ record Next (t : House) (pin taken : List ℕ) (s : Stand) (h : List Entry) (res
   takes : Takes t pin taken s h m next new
   leads : Leads t pin (taken ++ frame) next new later
 
+-- nothing is left, or a frame
 opened : (t : House) (pin taken : List ℕ) (s : Stand) (h : List Entry) (rest : List ℕ) → Leads t pin taken s h rest
     → ((rest ≡ []) × (s ≡ Sealed)) ⊎ Next t pin taken s h rest
 opened t pin _ _ _ _ (leads_end taken h) = inl (refl, refl)
@@ -212,6 +219,7 @@ module _ (t : House) (pin taken : List ℕ) (s : Stand) (h : List Entry) (rest b
   gate_there none = subst (λ (b : List ℕ). IsFrontOf b (Broken 0)) (ap (λ (r : List ℕ). r ++ 10 ∷ more) (sym none)
       ∙ is) (gate_front more)
 
+  -- the frame that is taken next stands there
   frame_there : (n : Next t pin taken s h rest) → IsFrontOf (bytes ++ later) (Whole n.m (length n.frame))
   frame_there n =
       subst (λ (b : List ℕ). IsFrontOf b (Whole n.m (length n.frame)))
@@ -333,6 +341,7 @@ record LeftOn (t : House) (pin bytes entries : List ℕ) (h : List Entry) (rest 
   unsealed : 0 < length entries → stand ≡ Unsealed
   left_of : LeftOf t pin (bytes ++ entries) stand h rest more
 
+-- entry by entry, and then the whole journal
 left_says : (t : House) (pin bytes : List ℕ) (h : List Entry) (entries : List ℕ) (new : List Entry)
     → Says t h entries new → (rest more : List ℕ) → LeftOf t pin bytes Sealed h (entries ++ rest) more
     → LeftOn t pin bytes entries new rest more

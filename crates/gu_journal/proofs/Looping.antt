@@ -110,6 +110,7 @@ module _ (file : List ℕ) (size : ℕ) (t : House) (pin : List ℕ) where
             ∙ drop_at g.taken (w.bytes ++ read.0) w.at (sym g.at),
       )
 
+-- before the first frame
 pub nothing_taken : (t : House) (pin : List ℕ) (r : Replay) (b : BookView) → b.house ≡ t → r.stand ≡ Fresh
     → Holds512 r.hasher [] → b.history ≡ opening_history t
     → Replays t pin [] r b
@@ -131,6 +132,7 @@ goes_first clean file size t pin r b is fresh = record {
 }
 
 module _ {D : Type 0} (seen : D → List ℕ) (may_leave : D → List ℕ → Type 0) (is_usable is_clean : D → Bool) where
+  -- one reading of the disk after another
   pub reads_on : (a b c : D) → OnlyReads seen may_leave is_usable is_clean a b
       → OnlyReads seen may_leave is_usable is_clean b c
       → OnlyReads seen may_leave is_usable is_clean a c

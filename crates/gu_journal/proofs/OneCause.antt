@@ -47,8 +47,11 @@ IsGateCause s cause.NoBeginning = s ≡ Fresh
 IsGateCause s _ = ⊥
 
 module _ (t : House) (pin taken : List ℕ) (s : Stand) (h : List Entry) (rest : List ℕ) where
+  -- a shut gate is no frame: it breaks the stream at its first byte
   no_gate : (x : Front) → IsFrontOf rest x → (x ≡ Broken 0 → ⊥) → HasShutGate rest → ⊥
   no_gate x front apart gate = apart (fronts rest x (Broken 0) front (gate_at rest gate.0 gate.1))
+
+  -- ---- one cause, by what stands at the front
 
   garbled_only : (d : Cause) (len : ℕ) → IsFrontOf rest (Garbled len) → HasCause t pin taken s h rest d
       → d ≡ cause.Garbled
@@ -147,6 +150,8 @@ module _ (t : House) (pin taken : List ℕ) (s : Stand) (h : List Entry) (rest :
   gate_only cause.ShutGroup gate has = has.0
   gate_only cause.NoBeginning gate has = has.0
 
+  -- ---- one cause, by where the journal stands
+
   stands_apart : (x y : Stand) → x ≢ y → s ≡ x → s ≡ y → ⊥
   stands_apart x y apart a b = apart (sym a ∙ b)
 
@@ -198,6 +203,7 @@ module _ (t : House) (pin taken : List ℕ) (s : Stand) (h : List Entry) (rest :
   no_number m fresh (inr (inl none)) pinned other = none.this (pinned fresh).digest
   no_number m fresh (inr (inr none)) pinned other = other none.number
 
+  -- one cause for which a message is not taken
   untaken_one : (c d : Cause) (m : Message) → IsUntaken t pin taken s h m c → IsUntaken t pin taken s h m d → c ≡ d
   untaken_one cause.NoHead cause.Garbled m a b = absurd b
   untaken_one cause.NoHead cause.NoFrame m a b = absurd b
@@ -245,6 +251,8 @@ module _ (t : House) (pin taken : List ℕ) (s : Stand) (h : List Entry) (rest :
   untaken_one cause.Unsealed d m a b = absurd a
   untaken_one cause.ShutGroup d m a b = absurd a
   untaken_one cause.NoBeginning d m a b = absurd a
+
+  -- ---- the whole
 
   pub one_cause : (c d : Cause) → HasCause t pin taken s h rest c → HasCause t pin taken s h rest d → c ≡ d
   one_cause cause.Garbled d a b = sym (garbled_only d a.0 a.1 b)

@@ -32,6 +32,7 @@ on_ok (Err e) is f = tt
 module _ {D : Type 0} (seen : D → List ℕ) (may_leave : D → List ℕ → Type 0) where
   -- ---- a file with nothing but the gate
 
+  -- the store over it
   pub bare_rest : (t : House) (disk : D) (hasher : Sha512) (house : List ℕ) (number : ℕ) (s : Store D)
       → IsBare seen may_leave t disk hasher house number
       → store.disk_of s ≡ disk → store.end_of s ≡ 0 → IsAtRest seen may_leave s []
@@ -41,6 +42,7 @@ module _ {D : Type 0} (seen : D → List ℕ) (may_leave : D → List ℕ → Ty
     durable = subst (λ (d : D). Only (seen d) (may_leave d)) (sym same) b.durable;
   }
 
+  -- and the journal that its head begins
   pub head_journal : (t : House) (pin moment : List ℕ) (disk : D) (hasher : Sha512) (house : List ℕ) (number : ℕ)
       → IsBare seen may_leave t disk hasher house number
       → IsMoment moment → IsTrue (is_firm_text house) → length pin ≡ 32 → number ≤ 1000001

@@ -152,6 +152,7 @@ IsUntaken t pin taken stand h m cause.NoEntry = IsNoEntry t stand h m
 IsUntaken t pin taken stand h m cause.OtherDigest = IsOtherSeal t taken stand h m
 IsUntaken t pin taken stand h m _ = ⊥
 
+-- the same of whatever is told of it
 abbrev pub IsRefused : House → List ℕ → List ℕ → Stand → List Entry → Message → RecoverError
     → Type 0
 IsRefused t pin taken stand h m error.Memory = Unit {0}

@@ -17,6 +17,7 @@ at_front none = record { at = 0; bytes = none }
 abbrev pub held_of : Inside → Held
 held_of w = record { at = w.at; bytes = drop w.taken w.buffer.items }
 
+-- no more were passed than were read
 pub record IsKept (w : Inside) : Type 0 where
   pub taken : w.taken ≤ vec_len w.buffer
 

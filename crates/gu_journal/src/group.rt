@@ -33,7 +33,7 @@ pub(crate) const SHUT: u8 = b'\n';
 pub(crate) struct Room {
     /// For the group.
     pub(crate) text: Vec<u8>,
-    /// For the fields of a message.
+    /// For the fields of a call.
     pub(crate) body: Vec<u8>,
 }
 
@@ -116,7 +116,7 @@ fn write_frames(
         house: first.house,
         number: first.number + entries.len() as u32,
     };
-    write_seal(&mut room.text, &mut room.body, stamp, moment, &digest)?;
+    write_seal(&mut room.text, stamp, moment, &digest)?;
     hasher.update(&room.text[seal_at..]);
     if room.text.push(SHUT).is_err() {
         return Err(JournalError::Memory);

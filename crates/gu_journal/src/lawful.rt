@@ -8,30 +8,35 @@ ghost use Rattle.gu_journal.specs.Entries.{IsNode, IsNamedPart, HasLawfulNames};
 
 use gu_base::{AccountId, Command, Entry, FirmId, InstrumentId, NodeName, Number, Part};
 
+/// The name of a firm.
 pub(crate) fn firm_is_lawful(firm: &FirmId)
     ensures { IsTrue (is_firm_text firm.now) }
 {
     let _ = firm.as_bytes();
 }
 
+/// The name of an account.
 fn account_is_lawful(account: &AccountId)
     ensures { IsTrue (is_firm_text account.now) }
 {
     let _ = account.as_bytes();
 }
 
+/// The name of an instrument.
 fn instrument_is_lawful(instrument: &InstrumentId)
     ensures { IsTrue (is_firm_text instrument.now) }
 {
     let _ = instrument.as_bytes();
 }
 
+/// The number of an entry.
 fn number_is_lawful(number: Number)
     ensures { IsTrue (is_number number) }
 {
     let _ = number.get();
 }
 
+/// The name of a node.
 fn node_is_lawful(node: NodeName)
     ensures { IsNode node }
 {
@@ -39,6 +44,7 @@ fn node_is_lawful(node: NodeName)
     let _ = node.part();
 }
 
+/// The names of a part.
 fn part_is_lawful(part: &Part)
     ensures { IsNamedPart part.now }
 {
@@ -48,6 +54,7 @@ fn part_is_lawful(part: &Part)
     }
 }
 
+/// Those of each part of a split.
 fn parts_are_lawful(parts: &[Part])
     ensures { AllByRecursion IsNamedPart parts.now }
 {
@@ -56,6 +63,7 @@ fn parts_are_lawful(parts: &[Part])
     }
 }
 
+/// The names and numbers of a command.
 fn command_is_lawful(command: &Command)
     ensures { HasLawfulNames command.now }
 {
@@ -91,6 +99,7 @@ fn command_is_lawful(command: &Command)
     }
 }
 
+/// Those of an entry.
 pub(crate) fn entry_is_lawful(entry: &Entry)
     ensures firm { IsTrue (is_firm_text entry.now.firm) }
     ensures id { IsTrue (is_id_text entry.now.id) }

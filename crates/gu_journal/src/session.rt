@@ -8,6 +8,7 @@ ghost use Rattle.gu_codec.specs.Messages.{Message};
 ghost use Rattle.gu_journal.specs.Session.{own_header, head_of, head_fields, seal_with};
 
 use crate::stamp::Stamp;
+use crate::writing::put_field;
 use gu_base::Memory;
 use gu_codec::{Header, append_field, tags, write_frame};
 use gu_message::msg_types;
@@ -109,14 +110,13 @@ pub(crate) fn write_head(
     write_own(out, msg_types::LOGON, stamp, moment, body)
 }
 
-/// Appends the frame of a seal, with this digest. `body` is room, of which nothing is read.
+/// Appends the frame of a seal, with this digest.
 ///
 /// # Errors
 ///
 /// `Memory` where room was refused; `out` is then as it was.
 pub(crate) fn write_seal(
     out: &mut Vec<u8>,
-    body: &mut Vec<u8>,
     stamp: Stamp,
     moment: &[u8],
     digest: &[u8; 64],
@@ -127,8 +127,7 @@ pub(crate) fn write_seal(
     ensures err { OnErr result (out.new.items ≡ out.old.items) }
 {
     let digits = seal_digits(digest);
-    body.clear();
-    body.reserve(ROOM)?;
-    append_field(body, tags::TEST_REQ_ID, &digits);
-    write_own(out, msg_types::HEARTBEAT, stamp, moment, body)
+    let mut body = [0; 256];
+    let end = put_field(&mut body, 0, tags::TEST_REQ_ID, &digits);
+    write_own(out, msg_types::HEARTBEAT, stamp, moment, &body[..end])
 }

@@ -38,9 +38,11 @@ use Rattle.gu_log.specs.Lines.{most_shown, field_pair, Pair, pair_text, fields_t
 use Rattle.gu_log.specs.declared.event.Event.{Event}
 use Rattle.gu_log.specs.declared.lines.Field.{Field}
 
+-- each of these is printable
 Shows : Text → Type 0
 Shows s = list_all is_printable s ≡ true
 
+-- a value as it is, and in quotes
 word_shows : (s : Text) → list_all is_bare s ≡ true → Shows s
 unfolding Shows
 word_shows [] h = refl
@@ -63,6 +65,7 @@ value_shows (b ∷ s) h = elim (cases_Bool (list_all is_bare (b ∷ s))) [
   | inr e ↦ rw e (all_joined is_printable (34 ∷ flat_map escaped (b ∷ s)) (34 ∷ []) (quotes_show (b ∷ s) h) refl)
 ]
 
+-- pairs, and the whole line
 pair_shows : (p : Pair) → IsPair p → Shows (pair_text p)
 unfolding Shows
 pair_shows p h = all_joined is_printable p.0 (61 ∷ value_text p.1) (word_shows p.0 h.0) (value_shows p.1 h.1)

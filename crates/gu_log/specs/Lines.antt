@@ -22,6 +22,7 @@ abbrev pub InRange : Value → Type 0
 InRange (AText s) = AreBytes s.now
 InRange (Number n) = n < 2 ^ 64
 
+-- the same of a field
 abbrev pub IsField : Field → Type 0
 IsField f = InRange f.value
 
@@ -29,9 +30,11 @@ IsField f = InRange f.value
 abbrev pub Pair : Type 0
 Pair = Text × Text
 
+-- what a line shows of a field
 abbrev pub field_pair : Field → Pair
 field_pair f = (key_word f.key, shown f.value)
 
+-- `key=value`
 abbrev pub pair_text : Pair → Text
 pair_text p = p.0 ++ 61 ∷ value_text p.1
 

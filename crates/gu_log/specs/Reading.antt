@@ -26,9 +26,11 @@ pub record Read : Type 0 where
 abbrev pub nothing : Read
 nothing = record { key = []; value = []; more = [] }
 
+-- a byte before the rest of the key
 abbrev pub key_more : ℕ → Read → Read
 key_more b r = record { key = b ∷ r.key; value = r.value; more = r.more }
 
+-- a byte before the rest of the value
 abbrev pub value_more : ℕ → Read → Read
 value_more b r = record { key = r.key; value = b ∷ r.value; more = r.more }
 
@@ -36,15 +38,19 @@ value_more b r = record { key = r.key; value = b ∷ r.value; more = r.more }
 abbrev pub pair_read : Read → Pair
 pair_read r = (r.key, r.value)
 
+-- the pair before those that follow it
 abbrev pub pair_more : Read → Read
 pair_more r = record { key = []; value = []; more = pair_read r ∷ r.more }
 
+-- all pairs
 abbrev pub all_read : Read → List Pair
 all_read r = pair_read r ∷ r.more
 
+-- the same of what was read, if anything was
 abbrev pub with_key : ℕ → Option Read → Option Read
 with_key b r = option_map (key_more b) r
 
+-- the same of the value
 abbrev pub with_value : ℕ → Option Read → Option Read
 with_value b r = option_map (value_more b) r
 
@@ -52,6 +58,7 @@ with_value b r = option_map (value_more b) r
 abbrev pub next_pair : Option Read → Option Read
 next_pair r = option_map pair_more r
 
+-- the value of a hexadecimal digit
 abbrev pub digit_value : ℕ → ℕ
 digit_value c = if nat_lt c 58 then c - 48 else c - 87
 

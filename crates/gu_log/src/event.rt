@@ -66,13 +66,15 @@ impl Event {
 /// What a value says.
 #[derive(Clone, Copy, Debug, PartialEq, Eq)]
 pub enum Key {
-    /// The version of the program.
+    /// The version of the program, and git's commit.
     Version,
+    Commit,
     /// The path of the house file, and the SHA-256 of its bytes.
     House,
     HouseDigest,
-    /// The path of the journal.
+    /// The path of the journal, and the SHA-512 of its bytes but for what shuts it.
     Journal,
+    JournalDigest,
     /// The port that is listened on.
     Port,
     /// How many workers serve.
@@ -83,6 +85,15 @@ pub enum Key {
     Most,
     /// How much of that is used.
     Percent,
+    /// The options by the same words.
+    MostEntries,
+    Reserve,
+    Rate,
+    PerFirm,
+    Replicate,
+    LogCalls,
+    /// Where figures and pages are told: a port, or a socket.
+    StatusAt,
     /// How many bytes were read, and were sent.
     Bytes,
     BytesIn,
@@ -104,10 +115,13 @@ pub enum Key {
     Id,
     /// What a call was answered.
     Answer,
-    /// How many calls there were, and how many were accepted and refused.
+    /// How many calls there were, how many were accepted, were a call made before and were refused,
+    /// and of these how many for each reason.
     Calls,
     Accepted,
+    Repeated,
     Refused,
+    RefusedBy,
     /// Why it is so.
     Why,
     /// Which part of the server.
@@ -125,14 +139,23 @@ impl Key {
     {
         match self {
             Key::Version => "version",
+            Key::Commit => "commit",
             Key::House => "house",
             Key::HouseDigest => "house_sha256",
             Key::Journal => "journal",
+            Key::JournalDigest => "journal_sha512",
             Key::Port => "port",
             Key::Workers => "workers",
             Key::Entries => "entries",
             Key::Most => "most",
             Key::Percent => "percent",
+            Key::MostEntries => "most_entries",
+            Key::Reserve => "reserve",
+            Key::Rate => "rate",
+            Key::PerFirm => "per_firm",
+            Key::Replicate => "replicate",
+            Key::LogCalls => "log_calls",
+            Key::StatusAt => "status_at",
             Key::Bytes => "bytes",
             Key::BytesIn => "bytes_in",
             Key::BytesOut => "bytes_out",
@@ -147,7 +170,9 @@ impl Key {
             Key::Answer => "answer",
             Key::Calls => "calls",
             Key::Accepted => "accepted",
+            Key::Repeated => "repeated",
             Key::Refused => "refused",
+            Key::RefusedBy => "refused_by",
             Key::Why => "why",
             Key::Part => "part",
             Key::Lines => "lines",

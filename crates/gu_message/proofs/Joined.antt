@@ -16,6 +16,8 @@ then_text o front value text rest =
     append_assoc ((o ++ front) ++ value) (1 ∷ text) rest ∙ closed (o ++ front) value (text ++ rest)
     ∙ append_assoc o front ((value ++ 1 ∷ []) ++ (text ++ rest))
 
+-- ---- decimals and values
+
 pub two_digits : (n : ℕ) → 10 ≤ n → n < 100 → decimal n ≡ (48 + n / 10) ∷ (48 + n % 10) ∷ []
 two_digits n lo hi = rw (decimal_step n lo (omega arith), decimal_digit (n / 10) (omega arith)) refl
 
@@ -96,6 +98,7 @@ refused_instruction_text o id text =
 
 -- ---- how many bytes they have
 
+-- of two values, and of three
 two_len : (front id text value : List ℕ)
     → length front + length id + length text + length value + 2
     ≡ length ((((front ++ id) ++ 1 ∷ text) ++ value) ++ 1 ∷ [])
@@ -125,6 +128,7 @@ three_len front id text number more status =
       length-append t5 (1 ∷ []),
     )
 
+-- of each body
 pub trade_len : (id number : List ℕ)
     → length id + length number + 21
     ≡ length ((decimal 571 ++ 61 ∷ (id ++ 1 ∷ []))

@@ -51,6 +51,7 @@ then : {A B : Type 0} (p : A → Type 0) (q : B → Type 0) (r : Result A Reject
 then p q (Ok x) f k h = h x k
 then p q (Err e) f k h = tt
 
+-- a text that passes its test
 text_passes : (is : List ℕ → Bool) (t : List ℕ) (e : Reject)
     → Passes (λ x. IsTrue (is x)) (ok_or (cond (is t) (Some t) None) e)
 text_passes is t e = by_test (is t) refl
@@ -114,6 +115,7 @@ abbrev IfNamed : Option (List ℕ) → Type 0
 IfNamed None = Unit {0}
 IfNamed (Some firm) = IsTrue (is_firm_text firm)
 
+-- the firm of a party
 named_passes : (party : Option (List ℕ)) → Passes IfNamed (named party)
 named_passes None = tt
 named_passes (Some text) = name_then IfNamed text (bad_value 524) (λ firm. Ok (Some firm)) (λ firm h. h)
@@ -130,6 +132,7 @@ named_by_passes fs = by_value (value_of 539 fs)
     by_value None = tt
     by_value (Some text) = named_in_passes text fs
 
+-- the firm to which a part is given
 given_passes : (by : List ℕ) (firm : Option (List ℕ)) → IfNamed firm → IfNamed (given_to by firm)
 given_passes by None h = tt
 given_passes by (Some firm) h = by_test (bytes_eq firm by)
@@ -148,6 +151,7 @@ named_then : {B : Type 0} (q : B → Type 0) (fs : List (ℕ × List ℕ)) (f : 
     → ((x : Option (List ℕ)) → IfNamed x → Passes q (f x)) → Passes q (named_by fs >>= f)
 named_then q fs f h = then IfNamed q (named_by fs) f (named_by_passes fs) h
 
+-- one part, and all
 part_passes : (by : List ℕ) (e : List ℕ × List (ℕ × List ℕ)) → IsTrue (is_firm_text by)
     → Passes (λ (q : Part). IsTrue (is_firm_text q.firm)) (part_of by e)
 unfolding part_of

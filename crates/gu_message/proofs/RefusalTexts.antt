@@ -46,8 +46,10 @@ numbered OwnAgreement = rw (two_digits 26 (omega arith) (omega arith)) refl
 numbered BadTerms = rw (two_digits 27 (omega arith) (omega arith)) refl
 numbered AgreementExists = rw (two_digits 28 (omega arith) (omega arith)) refl
 
+-- with what it names they are the text of the refusal
 pub in_parts : (r : Refusal) → words_of r ++ tail_of r ≡ refusal_text r
 in_parts r = ap (λ (t : List ℕ). t ++ tail_of r) (numbered r)
 
+-- and so long
 pub text_len : (r : Refusal) → length (words_of r) + length (tail_of r) ≡ length (refusal_text r)
 text_len r = sym (length-append (words_of r) (tail_of r)) ∙ ap length (in_parts r)

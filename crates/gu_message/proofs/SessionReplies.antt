@@ -12,6 +12,7 @@ use Rattle.gu_message.specs.SessionReplies.{to_firm, IsTestReqId, SessionMessage
 use Rattle.gu_message.proofs.Replies.{IsShort, short, joined, decimal_shown, decimal_short, byte_short, given}
 use Rattle.gu_message.proofs.Replies.{reply_lawful}
 
+-- a Logon (A)
 logon_lawful : (firm : List ℕ) → IsTrue (is_firm_text firm) → (heartbeat : ℕ) (reset : Bool)
     → IsLawfulReply (to_firm firm (codes "A") (logon_fields heartbeat reset))
 logon_lawful firm t heartbeat false =
@@ -28,6 +29,7 @@ logon_lawful firm t heartbeat true =
       ),
     )
 
+-- a Heartbeat (0)
 heartbeat_lawful : (firm : List ℕ) → IsTrue (is_firm_text firm) → (id : Option (List ℕ)) → IfSome id IsTestReqId
     → IsLawfulReply (to_firm firm (codes "0") (heartbeat_fields id))
 heartbeat_lawful firm t None h = reply_lawful firm (codes "0") [] t refl (omega arith) tt
@@ -36,6 +38,7 @@ heartbeat_lawful firm t (Some id) h =
     reply_lawful firm (codes "0") (heartbeat_fields (Some id)) t refl (omega arith)
     (given 112 id refl (record { value = h.value; few = few }), tt)
 
+-- a TestRequest (1)
 test_request_lawful : (firm : List ℕ) → IsTrue (is_firm_text firm)
     → IsLawfulReply (to_firm firm (codes "1") test_request_fields)
 test_request_lawful firm t =
@@ -46,18 +49,21 @@ test_request_lawful firm t =
       tt,
     )
 
+-- a ResendRequest (2)
 resend_request_lawful : (firm : List ℕ) → IsTrue (is_firm_text firm) → (from : ℕ)
     → IsLawfulReply (to_firm firm (codes "2") (resend_request_fields from))
 resend_request_lawful firm t from =
     reply_lawful firm (codes "2") (resend_request_fields from) t refl (omega arith)
     (given 7 _ refl (decimal_short from), (given 16 _ refl (byte_short 48 refl), tt))
 
+-- a SequenceReset (4)
 sequence_reset_lawful : (firm : List ℕ) → IsTrue (is_firm_text firm) → (next : ℕ)
     → IsLawfulReply (to_firm firm (codes "4") (sequence_reset_fields next))
 sequence_reset_lawful firm t next =
     reply_lawful firm (codes "4") (sequence_reset_fields next) t refl (omega arith)
     (given 123 _ refl (byte_short 89 refl), (given 36 _ refl (decimal_short next), tt))
 
+-- a Logout (5)
 logout_short : (text : LogoutText) → IsShort (logout_text text)
 logout_short BadHeader =
     short 1 20 (codes "bad header") (omega arith) (omega arith)
@@ -80,6 +86,7 @@ logout_lawful firm t (Some text) =
     reply_lawful firm (codes "5") (logout_fields (Some text)) t refl (omega arith)
     (given 58 (logout_text text) refl (logout_short text), tt)
 
+-- each of them
 pub all_lawful : SessionMessagesAreLawful
 all_lawful firm t = record {
   logon = logon_lawful firm t;

@@ -24,6 +24,8 @@ record Two (a b : ℕ) : Type 0 where
 abbrev number : ℕ → ℕ → ℕ
 number a b = (0 * 10 + (a - 48)) * 10 + (b - 48)
 
+-- ---- the parts of a text
+
 two_from : (t : List ℕ) (at : ℕ) → at + 2 ≤ length t → take 2 (drop at t) ≡ get_or t at 0 ∷ get_or t (at + 1) 0 ∷ []
 two_from t at h = rw (drop_more t at 0 (omega arith), drop_more t (at + 1) 0 (omega arith)) refl
 
@@ -61,6 +63,7 @@ part_four t h a b =
           refl,
     )
 
+-- the fraction: a dot and three digits
 thousandths : (a b c d : ℕ) → a ≡ 46 → is_digit b ≡ true → Two c d → is_fraction (a ∷ b ∷ c ∷ d ∷ []) ≡ true
 thousandths a b c d dot e two =
     rw (eq-eqb a 46 dot, e, digit c two.tens_low two.tens_high, digit d two.ones_low two.ones_high) refl
@@ -77,6 +80,7 @@ fraction_from t h =
     )
     refl
 
+-- a day of the months 1 to 12 and 1 to 28
 day_is : (year a b c d : ℕ) → Two a b → Two c d → 528 < a * 10 + b → a * 10 + b ≤ 540 → 528 < c * 10 + d
     → c * 10 + d ≤ 556 → is_day year (number a b) (number c d) ≡ true
 day_is year a b c d month day m0 m1 d0 d1 =
@@ -88,6 +92,7 @@ day_is year a b c d month day m0 m1 d0 d1 =
           (omega (arith, (days_in_month_bounds (pos year) (number a b)).1)),
     ) refl
 
+-- a time of the hours 0 to 23
 clock_is : (a b c d e f : ℕ) → Two a b → Two c d → Two e f → a * 10 + b ≤ 551 → c ≤ 53 → e ≤ 53
     → is_clock (number a b) (number c d) (number e f) ≡ true
 clock_is a b c d e f hour minute second h m s =
@@ -110,6 +115,7 @@ two t at = get_or t at 0 * 10 + get_or t (at + 1) 0
 module _ (t : List ℕ) (size : length t ≡ 21)
     (front : AreBetween t 0 (codes "00000000-00:00:0") (codes "99991929-29:59:5") 16)
     (back : AreBetween t 5 (codes "000-00:00:00.000") (codes "929-29:59:59.999") 16) where
+  -- the marks between the parts
   marks : has_marks t ≡ true
   marks =
       rw (
@@ -119,6 +125,7 @@ module _ (t : List ℕ) (size : length t ≡ 21)
         eq-eqb (get_or t 14 0) 58 (omega (arith, front 14 (omega arith))),
       ) refl
 
+  -- its parts, one after the other
   fraction : is_fraction (drop 17 t) ≡ true
   fraction =
       let b = back 13 (omega arith) in

@@ -39,6 +39,7 @@ pub record Stamp : Type 0 where
   pub sent : List ℕ
   pub resent : Option (List ℕ)
 
+-- the header of a reply
 abbrev pub header_of : Stamp → Reply → HeaderText
 header_of s r = record {
   kind = r.kind;
@@ -55,12 +56,14 @@ message_of s r = header_pairs (header_of s r) ++ r.fields
 
 -- ---- what is lawful
 
+-- a frame may carry it
 pub record IsLawfulReply (r : Reply) : Type 0 where
   pub target : IsTrue (is_firm_text r.target)
   pub kind : IsText r.kind
   pub fields : AllByRecursion IsLawfulField r.fields
   pub short : length (fields_text r.fields) ≤ longest_body
 
+-- the sender's part may stand in a header
 pub record IsLawfulStamp (s : Stamp) : Type 0 where
   pub sender : IsTrue (is_firm_text s.sender)
   pub number : s.number < 2 ^ 64

@@ -21,6 +21,7 @@ abbrev pub flag_if : ℕ → Option (List ℕ) → Result Bool Reject
 flag_if tag None = Ok false
 flag_if tag (Some t) = ok_or (flag_of t) (bad_kind tag)
 
+-- the flag of this tag
 abbrev pub flag_in : ℕ → List (ℕ × List ℕ) → Result Bool Reject
 flag_in tag fs = flag_if tag (value_of tag fs)
 

@@ -33,5 +33,6 @@ pub record AreLawful (firm : List ℕ) : Type 0 where
   pub logout : (text : Option LogoutText)
       → IsLawfulReply (to_firm firm (codes "5") (logout_fields text))
 
+-- to each firm
 abbrev pub SessionMessagesAreLawful : Type 0
 SessionMessagesAreLawful = (firm : List ℕ) → IsTrue (is_firm_text firm) → AreLawful firm

@@ -22,9 +22,10 @@ use gu_life::status_code;
 use itoa::Buffer;
 use jiff::Timestamp;
 
-/// No report is longer without its parts, and no part.
+/// No report is longer without its parts.
 const ENTRY_ROOM: usize = 768;
 
+/// No part of a report is longer.
 const PART_ROOM: usize = 256;
 
 /// Appends a field with a large number within the room that is there: 52 bytes.

@@ -63,6 +63,8 @@ fn count_in(message: &Index<'_, '_>, tag: u32) -> Result<u32, Reject>
     }
 }
 
+/// A Logon (A): EncryptMethod (98), HeartBtInt (108), DefaultApplVerID (1137), and perhaps
+/// ResetSeqNumFlag (141).
 #[tactic(auto, unfolding(crate::specs::SessionMessages::logon_of))]
 fn logon(message: &Index<'_, '_>) -> Result<Inbound, Reject>
     ensures { result ≡ logon_of message.now }
@@ -80,6 +82,7 @@ fn logon(message: &Index<'_, '_>) -> Result<Inbound, Reject>
     Ok(Inbound::Logon { heartbeat, reset })
 }
 
+/// A TestRequest (1): TestReqID (112).
 #[tactic(auto, unfolding(crate::specs::SessionMessages::test_request_of))]
 fn test_request(message: &Index<'_, '_>) -> Result<Inbound, Reject>
     ensures { result ≡ test_request_of message.now }
@@ -91,6 +94,7 @@ fn test_request(message: &Index<'_, '_>) -> Result<Inbound, Reject>
     }
 }
 
+/// A ResendRequest (2): BeginSeqNo (7) and EndSeqNo (16).
 #[tactic(auto, unfolding(crate::specs::SessionMessages::resend_request_of))]
 fn resend_request(message: &Index<'_, '_>) -> Result<Inbound, Reject>
     ensures { result ≡ resend_request_of message.now }
@@ -103,6 +107,7 @@ fn resend_request(message: &Index<'_, '_>) -> Result<Inbound, Reject>
     Ok(Inbound::ResendRequest { from, to })
 }
 
+/// A SequenceReset (4): perhaps GapFillFlag (123), and NewSeqNo (36).
 #[tactic(auto, unfolding(crate::specs::SessionMessages::sequence_reset_of))]
 fn sequence_reset(message: &Index<'_, '_>) -> Result<Inbound, Reject>
     ensures { result ≡ sequence_reset_of message.now }

@@ -9,6 +9,7 @@ use Rattle.std.proofs.Math.Seq.{drop-length}
 use native.Mathlib.Numerals.{unary_clauses}
 use Rattle.gu_parties.specs.Words.{pieces}
 
+-- where the separator stands
 cut_some : (end : List (List ℕ)) (s : ℕ) (bs : List ℕ) (i : ℕ) → position_or_len (λ b. eqb b s) bs ≡ i → i < length bs
     → pieces end s bs ≡ take i bs ∷ pieces end s (drop (i + 1) bs)
 cut_some end s [] i e h = absurd (omega arith)
@@ -28,6 +29,7 @@ cut_some end s (b ∷ bs) i e h = by (eqb b s) refl (cut_some end s bs)
         let found = rest (position_or_len (λ b. eqb b s) bs) refl inside in
         rw (← next, t, found) (simp unary_clauses)
 
+-- and where there is none
 cut_none : (s : ℕ) (bs : List ℕ) → length bs ≤ position_or_len (λ b. eqb b s) bs → pieces ([] ∷ []) s bs ≡ bs ∷ []
 cut_none s [] h = refl
 cut_none s (b ∷ bs) h = by (eqb b s) refl (cut_none s bs)
@@ -39,6 +41,7 @@ cut_none s (b ∷ bs) h = by (eqb b s) refl (cut_none s bs)
         let within : suc (length bs) ≤ 1 + position_or_len (λ b. eqb b s) bs = rw t at h in
         rw (t, rest (omega arith)) refl
 
+-- the same by what a search finds
 pub cut_at : (end : List (List ℕ)) (s : ℕ) (bs : List ℕ) (i : ℕ) → position (λ b. eqb b s) bs ≡ Some i
     → pieces end s bs ≡ take i bs ∷ pieces end s (take (length bs - (i + 1)) (drop (i + 1) bs))
 cut_at end s bs i e =
@@ -70,6 +73,7 @@ line_none s (b ∷ c ∷ bs) z h = by (eqb b s) refl (line_none s (c ∷ bs) (om
         let within : suc (length (c ∷ bs)) ≤ 1 + position_or_len (λ b. eqb b s) (c ∷ bs) = rw t at h in
         rw (t, rest (omega arith)) refl
 
+-- the same by what a search finds
 pub line_not : (s : ℕ) (bs : List ℕ) → 0 < length bs → position (λ b. eqb b s) bs ≡ None → pieces [] s bs ≡ bs ∷ []
 line_not s bs z e =
     let none : length bs ≤ position_or_len (λ b. eqb b s) bs = grind (arith, common_steps) in

@@ -27,6 +27,7 @@ faults_behind house done (ws ∷ rest) =
     cons_option (at_line (3 + length done) (line_cause (3 + length done) (table_of house done) ws))
     (faults_behind house (done ++ ws ∷ []) rest)
 
+-- the faults of all lines are those of the ones read and of the others
 take_done : (done rest : List (List (List ℕ))) → take (length done) (done ++ rest) ≡ done
 take_done done rest = grind (arith, common_steps)
 
@@ -69,18 +70,22 @@ pub record Reads (house : List ℕ) (all rest : List (List (List ℕ))) (n : ℕ
   pub faults : later_faults house all ≡ faults_behind house done rest
   pub table : u ≡ table_of house done
 
+-- none is read yet
 pub reads_none : (house : List ℕ) (all : List (List (List ℕ))) → Reads house all all 3 (house_alone house)
 reads_none house all = record { done = []; split = refl; count = refl; faults = faults_all house all; table = refl }
 
 module _ (house : List ℕ) (ls : List (List ℕ)) (line : List ℕ) (rest : List (List (List ℕ))) (n : ℕ) (u : House)
     (r : Reads house (map words ls) (words line ∷ rest) n u) where
+  -- the fault of this line, then those behind it
   here : later_faults house (map words ls)
       ≡ cons_option (at_line n (line_cause n u (words line))) (faults_behind house (r.done ++ words line ∷ []) rest)
   here = r.faults ∙ rw (← r.count, ← r.table) refl
 
+  -- there is a line too many
   pub reads_many : nat_lt most_lines n ≡ true → house_behind house ls ≡ Err (n, TooManyLines)
   reads_many h = rw (here, h) refl
 
+  -- the line was added
   pub reads_more : (v : House) → nat_lt most_lines n ≡ false → add_line u (words line) ≡ Ok v
       → Reads house (map words ls) rest (n + 1) v
   reads_more v h e =
@@ -93,6 +98,7 @@ module _ (house : List ℕ) (ls : List (List ℕ)) (line : List ℕ) (rest : Lis
         table = sym none.1 ∙ rw r.table (sym (table_more house r.done (words line)));
       }
 
+  -- the line has a cause
   stop_cause : (c : Cause) → nat_lt most_lines n ≡ false → add_line u (words line) ≡ Err c
       → house_behind house ls ≡ Err (n, c)
   stop_cause c h e = rw (here, h, refused u c (words line) e) refl
@@ -138,6 +144,8 @@ opened_behind opens house ls t h = by (later_faults house (map words ls)) refl
 
 module _ (version second house : List ℕ) (ls : List (List ℕ)) (v : version_cause (Some version) ≡ None)
     (h : house_cause (Some (words second)) ≡ None) (w : second_word (Some (words second)) ≡ house) where
+  -- ---- the whole file
+
   whole : house_of_lines (version ∷ second ∷ ls)
       ≡ unless_faulty (later_faults house (map words ls))
       (opened_if (is_opening version) (table_of house (map words ls)))
@@ -166,5 +174,6 @@ module _ (version second house : List ℕ) (ls : List (List ℕ)) (v : version_c
   gives_all (Ok u) e = whole ∙ e
   gives_all (Err e) s = stops_behind e.cause e.line s
 
+-- a line that isn't one too many
 pub within_last : (n : ℕ) → n ≤ most_lines → nat_lt most_lines n ≡ false
 within_last n h = grind (arith, common_steps)

@@ -24,6 +24,7 @@ lots_of o s = lots_on s (unwrap_or o (record { long = 0; short = 0 }))
 abbrev pub IsPut : PositionRows → PositionRows → Key → Row → Type 0
 IsPut old new key row = (q : Key) → found new q ≡ cond (is_key key q) (Some row) (found old q)
 
+-- keys that pass the test are one
 key_same : (a b : Key) → is_key a b ≡ true → a ≡ b
 key_same a b h =
     let p = and_parts (bytes_eq a.firm b.firm) (bytes_eq a.account b.account && bytes_eq a.instrument b.instrument) h in
@@ -46,9 +47,12 @@ by_key b old new key at row put is = (
   λ h. put at ∙ ap (λ t. cond t (Some row) (found old at)) (is ∙ h),
 )
 
+-- ---- one row has changed
+
 lots_found : (o p : Option Row) (s : Side) → o ≡ p → lots_of o s ≡ lots_of p s
 lots_found o p s e = ap (λ (o : Option Row). lots_of o s) e
 
+-- by so many lots more, or less
 more_by : (b : Bool) (o new : Option Row) (was now : Row) (side : Side) (lots : ℕ) (s : Side)
     → lots_on s now ≡ lots_on s was + cond (same_side side s) lots 0
     → (b ≡ true → (new ≡ Some now) × (o ≡ Some was)) × (b ≡ false → new ≡ o)
@@ -78,6 +82,7 @@ ways_at old new key at was now there put =
     let w = by_key (is_key key at) old new key at now put refl in
     (λ h. ((w.0 h).0, (w.0 h).1 ∙ sym there), λ h. w.1 h)
 
+-- so the lots of each key, with more and with less
 pub more_at : (old new : PositionRows) (key : Key) (was now : Row) (side : Side) (lots : ℕ) → Some was ≡ found old key
     → IsPut old new key now → ((s : Side) → lots_on s now ≡ lots_on s was + cond (same_side side s) lots 0) → (at : Key)
     (s : Side) → lots_in new at s ≡ lots_in old at s + cond (is_key key at && same_side side s) lots 0
@@ -100,6 +105,7 @@ same_by true o new s ways =
     ∙ sym (lots_found o None s ((ways.0 refl).1))
 same_by false o new s ways = lots_found new o s (ways.1 refl)
 
+-- no row, so it is none
 no_row : (o : Option Row) → is_some o ≡ false → o ≡ None
 no_row None h = refl
 no_row (Some row) h = absurd (cc)
@@ -112,6 +118,7 @@ same_at old new key none put at s =
     same_by (is_key key at) (found old at) (found new at) s
     (λ h. ((w.0 h).0, (w.0 h).1 ∙ no_row (found old key) none), λ h. w.1 h)
 
+-- a row that is there stays
 there_still : (b : Bool) (row : Row) (o : Option Row) → IsTrue (is_some o) → IsTrue (is_some (cond b (Some row) o))
 there_still true row o is = refl
 there_still false row o is = is
@@ -132,6 +139,8 @@ lots_absent rows key side none = lots_found (found rows key) None side (sym none
     zero : (s : Side) → lots_of None s ≡ 0
     zero Buy = refl
     zero Sell = refl
+
+-- ---- what may be added or taken
 
 pub room_there : (rows : PositionRows) (key : Key) (row : Row) (side : Side) (lots : ℕ) → Some row ≡ found rows key
     → lots_in rows key side + lots < 2 ^ 64 → lots_on side row + lots < 2 ^ 64
@@ -157,6 +166,7 @@ can_add_there rows key row side lots b there room =
       λ can. room.1 (room_there rows key row side lots there can.fits),
     )
 
+-- a key without a row is not ready
 pub not_ready : (rows : PositionRows) (key : Key) → None ≡ found rows key → IsReady rows key → ⊥
 not_ready rows key none is = absent (found rows key) none is
   where

@@ -11,6 +11,7 @@ use Rattle.gu_positions.specs.declared.positions.Row.{Row}
 abbrev pub PositionRows : Type 0
 PositionRows = List (Key × Row)
 
+-- the two are one key
 abbrev pub is_key : Key → Key → Bool
 is_key a b =
     bytes_eq a.firm b.firm && (bytes_eq a.account b.account && bytes_eq a.instrument b.instrument)

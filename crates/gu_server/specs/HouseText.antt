@@ -16,6 +16,7 @@ IsTextOf known text = (length text ≤ most_bytes) × IfSome known (λ bytes. te
 abbrev pub IsTooLong : Option (List ℕ) → Type 0
 IsTooLong known = IfSome known (λ bytes. most_bytes < length bytes)
 
+-- why a file wasn't read
 abbrev pub IsUnread : Option (List ℕ) → Fault → Type 0
 IsUnread known HouseFile = IsTooLong known
 IsUnread known (Run Memory) = Unit {0}

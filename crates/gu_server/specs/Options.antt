@@ -15,24 +15,27 @@ option_rule name word = record (new_rule name) { long = Some word; action = Some
 abbrev pub replica_rule : Rule
 replica_rule = option_rule (codes "PATH") (codes "replicate")
 
--- the arguments `--most-entries ENTRIES`, `--reserve RESERVED`, `--rate CALLS` and
--- `--per-firm CONNECTIONS`
+-- the argument `--most-entries ENTRIES`
 abbrev pub most_entries_rule : Rule
 most_entries_rule = option_rule (codes "ENTRIES") (codes "most-entries")
 
+-- the argument `--reserve RESERVED`
 abbrev pub reserve_rule : Rule
 reserve_rule = option_rule (codes "RESERVED") (codes "reserve")
 
+-- the argument `--rate CALLS`
 abbrev pub rate_rule : Rule
 rate_rule = option_rule (codes "CALLS") (codes "rate")
 
+-- the argument `--per-firm CONNECTIONS`
 abbrev pub per_firm_rule : Rule
 per_firm_rule = option_rule (codes "CONNECTIONS") (codes "per-firm")
 
--- the arguments `--status PORT|PATH` and `--log-calls`
+-- the argument `--status PORT|PATH`
 abbrev pub status_rule : Rule
 status_rule = option_rule (codes "STATUS") (codes "status")
 
+-- the argument `--log-calls`
 abbrev pub log_calls_rule : Rule
 log_calls_rule =
     record (new_rule (codes "LOG_CALLS")) { long = Some (codes "log-calls"); action = Some SetTrue }

@@ -348,6 +348,13 @@ impl<'a> Connection<'a> {
         self.out.len()
     }
 
+    /// What the turn sends so far.
+    pub(crate) fn made(&self) -> &[u8]
+        ensures { result.now ≡ self.now.out.items }
+    {
+        self.out.as_slice()
+    }
+
     /// Puts what the turn sends behind what waits to be sent already.
     pub(crate) fn hand_out(&mut self, to: &mut Vec<u8>) -> Result<(), Closed>
         ensures ok { OnOk result (to.new.items ≡ to.old.items ++ self.old.out.items) }

@@ -4,6 +4,7 @@
 mod accepting;
 mod bells;
 pub(crate) mod board;
+mod cell;
 mod client;
 mod clients;
 pub(crate) mod filed;
@@ -24,7 +25,7 @@ mod telling;
 mod visit;
 mod watch;
 
-pub use journals::{Journals, Record, RecordError};
+pub use journals::{Checksum, Journals, Record, RecordError};
 pub use running::KeepError;
 pub use system::SystemJournals;
 pub(crate) use watch::{Order, keep_watched};

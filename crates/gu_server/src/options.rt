@@ -31,6 +31,7 @@ pub struct KeepOptions {
     pub log_calls: bool,
 }
 
+/// The names by which `ArgMatches` gives the options.
 const REPLICA: &str = "PATH";
 
 const MOST_ENTRIES: &str = "ENTRIES";

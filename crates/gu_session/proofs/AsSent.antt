@@ -55,6 +55,7 @@ keeping_still sent s o r w none again kept out = record {
   was_sent = rw kept (sent_more sent (sent_by o) s.kept w);
 }
 
+-- what a verdict does
 keeping_acts : (sent : List (List ℕ × Going)) (now : Timestamp) (s : Seen) (came : Option Message)
     (call : Option Called) (meaning : Result Inbound Reject) (v : Verdict) → RisesTo 1 s.kept s.link.out
     → All (WasSent sent) s.kept → Goes s.link meaning v → Keeping sent (acts now s came call v)
@@ -69,6 +70,7 @@ keeping_acts sent now s came call meaning v r w g =
       was_sent = sent_more sent (sent_by (acts now s came call v)) s.kept w;
     }
 
+-- a Reply, where there is a firm or not
 keeping_tells : (sent : List (List ℕ × Going)) (now : Timestamp) (s : Seen) (answer : Option Answer)
     (reports : List Report) → RisesTo 1 s.kept s.link.out → All (WasSent sent) s.kept
     → Keeping sent
@@ -91,6 +93,7 @@ keeping_replies : (sent : List (List ℕ × Going)) (now : Timestamp) (s : Seen)
 keeping_replies sent now s None answer reports r w = keeping_still sent s (idle now s) r w refl refl refl refl
 keeping_replies sent now s (Some firm) answer reports r w = keeping_tells sent now s answer reports r w
 
+-- each event of an open session, and each step
 keeping_event : (sent : List (List ℕ × Going)) (now : Timestamp) (s : Seen) (e : Event) → Early s
     → RisesTo 1 s.kept s.link.out → All (WasSent sent) s.kept → Keeping sent (on_event now s e)
 keeping_event sent now s (Came fs) early r w =
@@ -109,6 +112,8 @@ keeping_step sent now s e early r w =
     either_way (Keeping sent) s.link.closed _ _ (λ _. keeping_still sent s (idle now s) r w refl refl refl refl) (λ _.
     either_way (Keeping sent) (fits (on_event now s e).after.link) _ _ (λ _. keeping_event sent now s e early r w)
     (λ _. keeping_still sent s (shut_down now s) r w refl refl refl refl))
+
+-- ---- along the steps
 
 covered : (sent : List (List ℕ × Going)) (s : Seen) (es : List (Timestamp × Event)) → Early s
     → RisesTo 1 s.kept s.link.out → All (WasSent sent) s.kept

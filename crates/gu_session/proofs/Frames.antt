@@ -27,6 +27,7 @@ use Rattle.gu_session.proofs.AsSent.{sent_by, AreEchoes, resends_echo}
 
 -- ---- the firm and the house stay
 
+-- of a Reply, of each event, of each step
 replies_firm : (now : Timestamp) (s : Seen) (firm : Option (List ℕ)) (answer : Option Answer) (reports : List Report)
     → (replies now s firm answer reports).after.link.firm ≡ s.link.firm
 replies_firm now s None answer reports = refl
@@ -47,6 +48,7 @@ step_firm now s e firm is =
     either_way (λ (o : Outcome). o.after.link.firm ≡ Some firm) (fits (on_event now s e).after.link) _ _
     (λ _. event_firm now s e firm is ∙ is) (λ _. is))
 
+-- and so the house
 replies_house : (now : Timestamp) (s : Seen) (firm : Option (List ℕ)) (answer : Option Answer) (reports : List Report)
     → (replies now s firm answer reports).after.house ≡ s.house
 replies_house now s None answer reports = refl
@@ -70,10 +72,12 @@ step_house now s e =
 abbrev framed : List ℕ → List ℕ → List ℕ × Going → ℕ × List ℕ
 framed house firm x = (x.1.number, text_of house firm x.0 x.1)
 
+-- all of them, before the Logon none
 abbrev all_framed : List ℕ → Option (List ℕ) → List (List ℕ × Going) → List (ℕ × List ℕ)
 all_framed house None sent = []
 all_framed house (Some firm) sent = map (framed house firm) sent
 
+-- those of one time, and of more
 framed_at : (house firm time : List ℕ) (ms : List Going)
     → map (framed house firm) (map (λ m. (time, m)) ms) ≡ map (λ m. (m.number, text_of house firm time m)) ms
 framed_at house firm time [] = refl
@@ -116,6 +120,7 @@ all_in f (x ∷ xs) =
     (All-weaker (StandsIn f (map f xs)) (StandsIn f (f x ∷ map f xs))
     (λ y c. Contains-append_right (f x ∷ []) (map f xs) (f y) c) xs (all_in f xs))
 
+-- a message, and the same one sent again
 sent_again : (house firm time sent : List ℕ) (m : Going) → m.first ≡ Some sent
     → IsSentAgain (text_of house firm sent (as_new m)) (text_of house firm time m)
 sent_again house firm time sent m is = record {
@@ -134,12 +139,14 @@ sent_again house firm time sent m is = record {
       is;
 }
 
+-- one that fills a gap
 fills_frame : (house firm time first : List ℕ) (sent : List (ℕ × List ℕ)) (from next : ℕ) (m : Going)
     → m ≡ filling first from next → IsAgain sent (m.number, text_of house firm time m)
 fills_frame house firm time first sent from next m is =
     subst (λ (g : Going). IsAgain sent (g.number, text_of house firm time g)) (sym is)
     (Fills house firm time first next refl)
 
+-- either
 echo_again : (house firm time : List ℕ) (sent : List (List ℕ × Going)) (m : Going) → IsEcho sent m
     → IsAgain (map (framed house firm) sent) (m.number, text_of house firm time m)
 echo_again house firm time sent m (EchoFills first from next is) =
@@ -161,6 +168,7 @@ echoes_again house (Some firm) time sent ms h =
 
 -- ---- along the steps
 
+-- where there is no firm yet, nothing was sent
 none_before : (before after : Option (List ℕ)) → ((firm : List ℕ) → before ≡ Some firm → after ≡ Some firm)
     → after ≡ None → before ≡ None
 none_before None after stays is = refl

@@ -75,6 +75,7 @@ keeps_closes : (now : Timestamp) (l : Link) (want : ℕ) (t : Option LogoutText)
 keeps_closes now l want t meaning w =
     record { firm = refl; out = refl; want = w; call = tt; waits = λ h. refl; span = tt }
 
+-- what is sent again before it
 keeps_again : (now : Timestamp) (l : Link) (meaning : Result Inbound Reject) (span : Option Span) (v : Verdict)
     → IfSome span (λ s. s.from ≤ s.next) → Keeps l meaning v → Keeps l meaning (again now span v)
 keeps_again now l meaning None v h k = k
@@ -97,6 +98,8 @@ resend_rises out (Ok (inbound.Logon heartbeat reset)) = tt
 resend_rises out (Ok (inbound.SequenceReset gap_fill next)) = tt
 resend_rises out (Ok (inbound.ResendRequest from to)) = span_rises out from to
 resend_rises out (Ok (inbound.Call firm trade id command)) = tt
+
+-- ---- the lines, each with what it keeps
 
 keeps_fills : (now : Timestamp) (l : Link) (number next : ℕ) (meaning : Result Inbound Reject) → number ≡ l.want
     → Keeps l meaning (fills now (record l { want = l.want + 1 }) number next)
@@ -218,6 +221,7 @@ still_early : (firm : Option (List ℕ)) (want : ℕ) (waiting : Option Waiting)
 still_early None want waiting e = (e.0, refl)
 still_early (Some firm) want waiting e = tt
 
+-- the session is closed
 goes_shut : (l : Link) (meaning : Result Inbound Reject) → IsEarly l.firm l.want l.waiting → Goes l meaning (shut l)
 goes_shut l meaning e =
     record {
@@ -230,6 +234,7 @@ goes_shut l meaning e =
       mute = λ _. (refl, refl);
     }
 
+-- nothing is done
 goes_silent : (l : Link) (meaning : Result Inbound Reject) → IsEarly l.firm l.want l.waiting → Goes l meaning (silent l)
 goes_silent l meaning e =
     record {
@@ -242,6 +247,7 @@ goes_silent l meaning e =
       mute = λ _. (refl, refl);
     }
 
+-- before the Logon
 goes_first : (now : Timestamp) (t : House) (l : Link) (h : Heading) (heartbeat : ℕ) (reset : Bool)
     (meaning : Result Inbound Reject) → IsEarly l.firm l.want l.waiting → l.want ≤ 2
     → Goes l meaning (first_logon now t l h heartbeat reset)
@@ -264,6 +270,7 @@ goes_before now t l (Ok h) (Ok (inbound.SequenceReset gap_fill next)) e two = go
 goes_before now t l (Ok h) (Ok (inbound.ResendRequest from to)) e two = goes_shut l _ e
 goes_before now t l (Ok h) (Ok (inbound.Call firm trade id command)) e two = goes_shut l _ e
 
+-- before it and after it
 goes_by_firm : (now : Timestamp) (t : House) (l : Link) (firm : Option (List ℕ)) (heading : Result Heading Reject)
     (meaning : Result Inbound Reject) (is_logout : Bool) → l.firm ≡ firm → IsEarly firm l.want l.waiting
     → Goes l meaning (by_firm now t l firm heading meaning is_logout)
@@ -272,6 +279,7 @@ goes_by_firm now t l (Some firm) heading meaning is_logout is e =
     let k = keeps_after_logon now (heard now l) firm heading meaning is_logout in
     goes_on l meaning _ firm (k.firm ∙ is) k.out k.want k.call k.waits k.span
 
+-- with the gap settled
 goes_settled : (l : Link) (meaning : Result Inbound Reject) (v : Verdict) → Goes l meaning v
     → Goes l meaning (settled v)
 goes_settled l meaning v g =
@@ -283,6 +291,7 @@ pub goes_on_message : (now : Timestamp) (t : House) (l : Link) (heading : Result
 goes_on_message now t l heading meaning is_logout e =
     goes_settled l meaning _ (goes_by_firm now t l l.firm heading meaning is_logout refl e)
 
+-- a Tick
 goes_by_silence : (now : Timestamp) (l : Link) (meaning : Result Inbound Reject) (firm : List ℕ) → l.firm ≡ Some firm
     → Goes l meaning (by_silence now l)
 goes_by_silence now l meaning firm is =

@@ -21,6 +21,7 @@ abbrev pub RisesTo : ℕ → List Kept → ℕ → Type 0
 RisesTo low [] high = low ≤ high
 RisesTo low (m ∷ ms) high = (low ≤ m.number) × RisesTo (m.number + 1) ms high
 
+-- of other bounds
 rises_lower : (low lower high : ℕ) (ms : List Kept) → lower ≤ low → RisesTo low ms high → RisesTo lower ms high
 rises_lower low lower high [] le h = omega arith
 rises_lower low lower high (m ∷ ms) le h = (omega (arith, h.0), h.1)
@@ -29,6 +30,7 @@ pub rises_higher : (low high higher : ℕ) (ms : List Kept) → high ≤ higher 
 rises_higher low high higher [] le h = omega arith
 rises_higher low high higher (m ∷ ms) le h = (h.0, rises_higher (m.number + 1) high higher ms le h.1)
 
+-- of two lists, of the last ones, of new ones
 rises_append : (low mid high : ℕ) (xs ys : List Kept) → RisesTo low xs mid → RisesTo mid ys high
     → RisesTo low (xs ++ ys) high
 rises_append low mid high [] ys h k = rises_lower mid low high ys h k
@@ -61,6 +63,7 @@ abbrev Inside : ℕ → ℕ → List Kept → Type 0
 Inside from next [] = Unit {0}
 Inside from next (m ∷ ms) = (from ≤ m.number) × (m.number < next) × Inside (m.number + 1) next ms
 
+-- the kept messages of a span
 is_inside : (from next n : ℕ) → (nat_le from n && nat_lt n next) ≡ true → (from ≤ n) × (n < next)
 is_inside from next n h = (grind (arith, nat_tests), grind (arith, nat_tests))
 
@@ -73,6 +76,7 @@ inside from next at low high (m ∷ ms) f h =
     (f m.number h.0 is.0, is.1, inside from next (m.number + 1) (m.number + 1) high ms (λ n l g. l) h.1))
     (λ t. inside from next at (m.number + 1) high ms (λ n l g. f n (omega (arith, h.0)) g) h.1)
 
+-- with the gaps between them
 covers_gap : (time : List ℕ) (from number next : ℕ) (rest : List Going) → from ≤ number → Covers number rest next
     → Covers from (gap_fill time from number ++ rest) next
 covers_gap time from number next rest le h =
@@ -142,6 +146,7 @@ last_sent sent kept time n xs h =
     All-drop (WasSent (sent ++ more)) (length (kept ++ fresh) - 256) (kept ++ fresh)
     (All-append (WasSent (sent ++ more)) kept fresh (sent_more sent more kept h) late)
 
+-- gaps, messages, and all of a span
 gap_fills : (sent : List (List ℕ × Going)) (time : List ℕ) (from next : ℕ) → All (IsEcho sent) (gap_fill time from next)
 gap_fills sent time from next =
     either_way (All (IsEcho sent)) (nat_lt from next) _ _

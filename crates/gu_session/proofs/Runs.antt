@@ -54,12 +54,14 @@ new_are_numbered t never es =
 
 -- ---- numbers that come
 
+-- the number of a call that is handed out, or none
 rise_first : (c : Option Called) (rest : List ℕ) (low mid high : ℕ)
     → IfSome c (λ c. (mid ≤ c.number) × (c.number < high)) → low ≤ mid → mid ≤ high
     → ((k : ℕ) → k ≤ high → Rises k rest) → Rises low (cons_option (option_map (λ c. c.number) c) rest)
 rise_first None rest low mid high h l m f = f low (omega arith)
 rise_first (Some c) rest low mid high h l m f = (omega (arith, h.0), f (c.number + 1) (omega (arith, h.1)))
 
+-- calls rise, and the expected number never falls
 rise : (s : Seen) (es : List (Timestamp × Event)) (low : ℕ) → Early s → low ≤ s.link.want
     → Rises low (called (outcomes s es))
 rise s [] low early le = tt
@@ -86,6 +88,7 @@ want_never_falls t never es = never_falls (opening t never) es 1 (omega arith, r
 
 -- ---- the Logon and the close
 
+-- nothing goes to nobody
 to_somebody : (s : Seen) (es : List (Timestamp × Event)) → Early s → All IsToSomebody (outcomes s es)
 to_somebody s [] early = All-nil IsToSomebody
 to_somebody s (e ∷ es) early =
@@ -93,6 +96,7 @@ to_somebody s (e ∷ es) early =
     let m = moves_step e.0 s e.1 early in
     All-cons IsToSomebody o (outcomes o.after es) m.mute (to_somebody o.after es m.early)
 
+-- a closed session does nothing
 idle_when_closed : (now : Timestamp) (s : Seen) (e : Event) → s.link.closed ≡ true → step_of now s e ≡ idle now s
 idle_when_closed now s e h = rw h refl
 
@@ -124,6 +128,7 @@ speaks_within_the_session t never es =
 abbrev IsFree : Seen → Type 0
 IsFree s = s.link.closed ≡ true → waits_for s ≡ None
 
+-- one step
 awaits_step : (now : Timestamp) (s : Seen) (e : Event) (b : Bool) → s.link.closed ≡ b → Early s → IsFree s
     → waits_for (step_of now s e).after ≡ awaited_behind e (step_of now s e) (waits_for s)
 awaits_step now s e true h early free =
@@ -136,6 +141,7 @@ free_then : (o : Option (List ℕ)) (b c : Bool) (rest : Option (List ℕ)) → 
 free_then o true c rest is h t = h
 free_then o false c rest is h t = absurd (cc)
 
+-- along the steps
 awaited : (s : Seen) (es : List (Timestamp × Event)) (id : Option (List ℕ)) → waits_for s ≡ id → Early s → IsFree s
     → IsAwaited id es (outcomes s es)
 awaited s [] id is early free = tt

@@ -29,6 +29,7 @@ use Rattle.gu_base.proofs.Basics.{either_way}
 abbrev pub numbers : List Going → List ℕ
 numbers ms = map (λ m. m.number) ms
 
+-- of what is said, and of a Reply
 said_numbers : (came : Option Message) (number : ℕ) (v : Verdict)
     → numbers (sayings came number v.say) ≡ numbers_from number (count v.say)
 said_numbers came number v = by_say v.say
@@ -56,6 +57,7 @@ pub record Moves (s : Seen) (e : Event) (o : Outcome) : Type 0 where
   pub mute : o.after.link.firm ≡ None → o.send ≡ []
   pub closes : o.close ≡ true → o.after.link.closed ≡ true
 
+-- a step that closes
 moves_shut : (now : Timestamp) (s : Seen) (e : Event) → IsEarly s.link.firm s.link.want s.link.waiting
     → Moves s e (shut_down now s)
 moves_shut now s e early =
@@ -76,6 +78,7 @@ moves_shut now s e early =
     still None want waiting e = (e.0, refl)
     still (Some firm) want waiting e = tt
 
+-- a call's number is the message's
 call_kept : (meaning : Result Inbound Reject) (number : Option ℕ) (low high : ℕ)
     → IfSome number (λ n. (low ≤ n) × (n < high))
     → IfSome (call_of meaning number) (λ c. (low ≤ c.number) × (c.number < high))
@@ -95,6 +98,7 @@ muted : (now : Timestamp) (s : Seen) (came : Option Message) (v : Verdict) → (
     → resends (time_of now) s.kept v.resend ++ sayings came s.link.out v.say ≡ []
 muted now s came v h = rw (h.0, h.1) refl
 
+-- what a verdict does
 moves_acts : (now : Timestamp) (s : Seen) (e : Event) (came : Option Message) (meaning : Result Inbound Reject)
     (v : Verdict)
     → ((o : Outcome) → (id : Option (List ℕ))
@@ -114,6 +118,7 @@ moves_acts now s e came meaning v no_reply g =
       closes = λ h. h;
     }
 
+-- nothing is done
 moves_idle : (now : Timestamp) (s : Seen) (e : Event) → IsEarly s.link.firm s.link.want s.link.waiting
     → (s.link.closed ≡ false → waits_for s ≡ awaited_behind e (idle now s) (waits_for s)) → Moves s e (idle now s)
 moves_idle now s e early waits =
@@ -129,6 +134,7 @@ moves_idle now s e early waits =
       closes = λ h. absurd (cc);
     }
 
+-- a Reply, where there is a firm or not
 moves_tells : (now : Timestamp) (s : Seen) (answer : Option Answer) (reports : List Report) (firm : List ℕ)
     → s.link.firm ≡ Some firm
     → Moves s (Reply answer reports)
@@ -159,6 +165,7 @@ moves_replies now s answer reports None is early =
     (λ h. ap (λ (w : Option Waiting). option_map (λ (x : Waiting). x.id) w) early.1 ∙ rw h refl)
 moves_replies now s answer reports (Some firm) is early = moves_tells now s answer reports firm is
 
+-- each event of an open session
 moves_on_event : (now : Timestamp) (s : Seen) (e : Event) → IsEarly s.link.firm s.link.want s.link.waiting
     → Moves s e (on_event now s e)
 moves_on_event now s (Came fs) early =

@@ -93,20 +93,23 @@ SpeaksWithinTheSession = (t : House) (never : Timestamp) (es : List (Timestamp �
 
 -- ---- calls and replies
 
--- the id of the call that is awaited behind a step: that of the call it hands out; none behind a
--- Reply and the close; else as before
+-- The id of the call that is awaited behind a step: that of the call it hands out; none behind a
+-- Reply and the close; else as before. The close clears it.
 abbrev pub unless_closed : Bool → Option (List ℕ) → Option (List ℕ)
 unless_closed true id = None
 unless_closed false id = id
 
+-- a Reply clears it
 abbrev pub unless_replied : Event → Option (List ℕ) → Option (List ℕ)
 unless_replied (Reply answer reports) id = None
 unless_replied _ id = id
 
+-- a call that is handed out takes its place
 abbrev pub or_called : Option Called → Option (List ℕ) → Option (List ℕ)
 or_called (Some c) id = Some c.id
 or_called None id = id
 
+-- all three, the close last
 abbrev pub awaited_behind : Event → Outcome → Option (List ℕ) → Option (List ℕ)
 awaited_behind e o id = unless_closed o.after.link.closed (or_called o.call (unless_replied e id))
 
@@ -137,6 +140,7 @@ abbrev pub Covers : ℕ → List Going → ℕ → Type 0
 Covers from [] next = from ≡ next
 Covers from (m ∷ ms) next = (m.number ≡ from) × (m.number < m.next) × Covers m.next ms next
 
+-- nothing is sent again, or each number of the span once
 abbrev pub CoversSpan : Option Span → List Going → Type 0
 CoversSpan None ms = ms ≡ []
 CoversSpan (Some span) ms = Covers span.from ms span.next

@@ -102,6 +102,7 @@ with_gaps time from next (m ∷ ms) =
 abbrev pub within : ℕ → ℕ → List Kept → List Kept
 within from next kept = filter (λ m. nat_le from m.number && nat_lt m.number next) kept
 
+-- what is sent again for a span, if there is one
 abbrev pub resends : List ℕ → List Kept → Option Span → List Going
 resends time kept None = []
 resends time kept (Some span) = with_gaps time span.from span.next (within span.from span.next kept)
@@ -113,12 +114,13 @@ abbrev pub sayings : Option Message → ℕ → Option Say → List Going
 sayings came number None = []
 sayings came number (Some s) = said came number s ∷ []
 
--- the answer to a call, and a report at a time
+-- the answer to a call: its type and fields
 abbrev pub answer_told : Waiting → Answer → Told × List ℕ
 answer_told w a =
     if w.trade then (told.TradeAck, fields_text (trade_ack_fields w.id a))
     else (told.Ack, fields_text (ack_fields w.id a))
 
+-- a report at a time: its type and fields
 abbrev pub report_told : List ℕ → Report → Told × List ℕ
 report_told time r = (told.Report, fields_text (report_fields (date_in time) r))
 
@@ -203,11 +205,13 @@ acts now s came call v = record {
   close = v.link.closed;
 }
 
+-- what the table decides of a message
 abbrev pub message_verdict : Timestamp → Seen → Message → Verdict
 message_verdict now s fs =
     on_message now s.house s.link (heading_of s.house.house fs) (meaning_of s.house.house fs)
     (is_text (codes "5") (value_of 35 fs))
 
+-- what a verdict on a message does
 abbrev pub takes : Timestamp → Seen → Message → Verdict → Outcome
 takes now s fs v = acts now s (Some fs) (call_of (meaning_of s.house.house fs) v.call) v
 

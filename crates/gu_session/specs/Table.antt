@@ -147,6 +147,7 @@ by_type now l number (Ok (inbound.ResendRequest from to)) =
     again now (span_of l.out from to) (silent l)
 by_type now l number (Ok (inbound.Call firm trade id command)) = hands_out l number trade id
 
+-- what the first line that holds decides
 abbrev pub on_line : Timestamp → Link → Result Inbound Reject → TableLine → Verdict
 on_line now l meaning line.BadHeader = closes now l (Some text.BadHeader)
 on_line now l meaning (line.Reset next) = resets now l next
@@ -164,6 +165,7 @@ on_line now l meaning (line.Wanted number) =
 abbrev pub heard : Timestamp → Link → Link
 heard now l = record l { came = now; tested = false }
 
+-- before the Logon, or after it
 abbrev pub by_firm : Timestamp → House → Link → Option (List ℕ) → Result Heading Reject
     → Result Inbound Reject → Bool → Verdict
 by_firm now t l None heading meaning is_logout = before_logon now t l heading meaning
@@ -175,6 +177,7 @@ abbrev pub open_gap : ℕ → Option ℕ → Option ℕ
 open_gap want None = None
 open_gap want (Some highest) = if nat_lt highest want then None else Some highest
 
+-- the same of a verdict
 abbrev pub settled : Verdict → Verdict
 settled v = record v { link = record v.link { asked = open_gap v.link.want v.link.asked } }
 
@@ -206,6 +209,7 @@ by_silence now l =
     else (if nat_le l.heartbeat (waited l.went now) then says now l (say.Heartbeat None)
     else silent l)))
 
+-- what a Tick decides: nothing before the Logon
 abbrev pub on_tick : Timestamp → Link → Option (List ℕ) → Verdict
 on_tick now l None = silent l
 on_tick now l (Some firm) = by_silence now l

@@ -1,4 +1,4 @@
-//! A session.
+//! The session of one connection: what comes is decided by the table, sent and kept.
 
 ghost use Rattle.std.specs.Prelude.{◌≡◌, ◌≤◌, ◌≤ℤ◌, ◌+◌, ◌++◌, pos, true, false, IsTrue, OnOk};
 ghost use Rattle.std.specs.Prelude.{OnErr, IfOk, Ok, None, Some, is_some, option_map, length};

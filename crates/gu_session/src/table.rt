@@ -341,6 +341,7 @@ fn open_gap(want: u32, asked: Option<u32>) -> Option<u32>
     }
 }
 
+/// The same of a verdict.
 fn settled(verdict: Verdict) -> Verdict
     ensures { result ≡ settled_of verdict }
 {

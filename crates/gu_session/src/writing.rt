@@ -1,4 +1,4 @@
-//! Writing what goes out.
+//! Writing the frames that go out: what the session says, what is new, and what is sent again.
 
 ghost use Rattle.std.specs.Prelude.{◌≡◌, ◌≤◌, ◌+◌, ◌++◌, ◌∷◌, List, OnOk, IfOk, length, map};
 ghost use Rattle.std.specs.Prelude.{option_map, Some, None};

@@ -7,6 +7,7 @@ use Rattle.gu_status.specs.declared.snapshot.FirmEntries.{FirmEntries}
 use Rattle.gu_status.specs.declared.snapshot.Snapshot.{Snapshot}
 use Rattle.gu_status.specs.declared.snapshot.Syncs.{Syncs}
 
+-- 1 where it holds, else 0
 abbrev pub one_if : Bool → ℕ
 one_if true = 1
 one_if false = 0
@@ -25,6 +26,7 @@ state_text s =
 abbrev pub fullness : ℕ → ℕ → ℕ
 fullness entries most = if most == 0 then 0 else entries * 1000000 / most
 
+-- that figure
 unfoldable pub fullness_text : Snapshot → Text
 fullness_text s =
     family (codes "allocd_book_fullness_ratio") (codes "gauge")
@@ -34,7 +36,8 @@ fullness_text s =
 -- how full the book is
 unfoldable pub book_text : Snapshot → Text
 book_text s =
-    single (codes "allocd_entries") (codes "gauge") (codes "Entries of the book.") s.entries
+    single (codes "allocd_entries") (codes "gauge")
+    (codes "Entries of the book, all on the disk.") s.entries
     ++ single (codes "allocd_entries_limit") (codes "gauge")
     (codes "The most entries that the book takes.") s.most_entries
     ++ fullness_text s
@@ -43,9 +46,11 @@ book_text s =
 unfoldable pub firm_text : FirmEntries → Text
 firm_text f = labelled (codes "allocd_firm_entries{firm=\"") f.firm f.entries
 
+-- of all firms
 abbrev pub firms_text : List FirmEntries → Text
 firms_text fs = flat_map firm_text fs
 
+-- how many entries each firm has
 unfoldable pub shares_text : Snapshot → Text
 shares_text s =
     family (codes "allocd_firm_entries") (codes "gauge")
@@ -66,7 +71,7 @@ refusals_text n (c ∷ cs) =
 unfoldable pub calls_text : Snapshot → Text
 calls_text s =
     single (codes "allocd_calls_accepted_total") (codes "counter")
-    (codes "Calls that were accepted.") s.accepted
+    (codes "Calls that were accepted and are on the disk.") s.accepted
     ++ single (codes "allocd_calls_repeated_total") (codes "counter")
     (codes "Calls that had been made and accepted before.") s.repeated
     ++ family (codes "allocd_refusals_total") (codes "counter")
@@ -77,6 +82,7 @@ calls_text s =
 abbrev pub bucket : Text → ℕ → Text
 bucket bound n = labelled (codes "allocd_sync_seconds_bucket{le=\"") bound n
 
+-- the bounds up to 20 ms
 unfoldable pub short_buckets : Syncs → Text
 short_buckets s = bucket (codes "0.001") (slice_index s.within 0)
     ++ bucket (codes "0.002") (slice_index s.within 1)
@@ -84,6 +90,7 @@ short_buckets s = bucket (codes "0.001") (slice_index s.within 0)
     ++ bucket (codes "0.01") (slice_index s.within 3)
     ++ bucket (codes "0.02") (slice_index s.within 4)
 
+-- the bounds from 50 ms on
 unfoldable pub long_buckets : Syncs → Text
 long_buckets s = bucket (codes "0.05") (slice_index s.within 5)
     ++ bucket (codes "0.1") (slice_index s.within 6)
@@ -96,6 +103,7 @@ unfoldable pub totals_text : Syncs → Text
 totals_text s = codes "allocd_sync_seconds_sum" ++ millionths s.micros
     ++ codes "allocd_sync_seconds_count" ++ decimal_line s.count
 
+-- how long syncs took
 unfoldable pub times_text : Syncs → Text
 times_text s =
     family (codes "allocd_sync_seconds") (codes "histogram")
@@ -113,6 +121,7 @@ rest_text s =
     ++ single (codes "allocd_log_lines_lost_total") (codes "counter")
     (codes "Lines of the log that nobody read in time.") s.lines_lost
 
+-- all figures
 unfoldable pub metrics_text : Snapshot → Text
 metrics_text s = state_text s ++ book_text s ++ shares_text s ++ calls_text s ++ times_text s.syncs
     ++ rest_text s

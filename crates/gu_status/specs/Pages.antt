@@ -19,6 +19,7 @@ asks method path = if bytes_eq method (codes "GET") || bytes_eq method (codes "H
     else (if bytes_eq path (codes "/ready") then Readiness
     else (if bytes_eq path (codes "/health") then Health else NoPage))) else NoMethod
 
+-- 200, or 503: service unavailable
 abbrev pub yes_or : Bool → ℕ
 yes_or true = 200
 yes_or false = 503
@@ -31,19 +32,23 @@ status_for Health s = yes_or (is_none s.stuck)
 status_for NoPage s = 404
 status_for NoMethod s = 405
 
+-- the name of a part of the server
 abbrev pub part_text : Part → Text
 part_text Journal = codes "journal"
 part_text Acceptor = codes "acceptor"
 part_text (Worker n) = codes "worker " ++ decimal n
 
+-- which part stands still, if one does
 abbrev pub health_text : Option Part → Text
 health_text None = codes "healthy\n"
 health_text (Some p) = part_text p ++ codes " stands still\n"
 
+-- whether connections are taken
 abbrev pub ready_text : Bool → Text
 ready_text true = codes "ready\n"
 ready_text false = codes "not ready\n"
 
+-- what a page says
 abbrev pub page_text : Asked → Snapshot → Text
 page_text Figures s = metrics_text s
 page_text Readiness s = ready_text s.is_ready

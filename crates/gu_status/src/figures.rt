@@ -127,7 +127,7 @@ fn push_book(text: &mut Vec<u8>, snapshot: &Snapshot) -> Result<(), Memory>
     push_count(
         text,
         "allocd_entries",
-        "Entries of the book.",
+        "Entries of the book, all on the disk.",
         snapshot.entries,
     )?;
     push_count(
@@ -188,7 +188,7 @@ fn push_calls(text: &mut Vec<u8>, snapshot: &Snapshot) -> Result<(), Memory>
         text,
         "allocd_calls_accepted_total",
         "counter",
-        "Calls that were accepted.",
+        "Calls that were accepted and are on the disk.",
         snapshot.accepted,
     )?;
     push_single(

@@ -48,8 +48,8 @@ pub struct Snapshot {
     pub firms: Vec<FirmEntries>,
     /// The connections that are open.
     pub connections: u64,
-    /// Calls that were accepted, were a call made before, and were refused: by the refusal's
-    /// number, from 1 on.
+    /// Calls that were accepted and are on the disk, were a call made before, and were refused: by
+    /// the refusal's number, from 1 on.
     pub accepted: u64,
     pub repeated: u64,
     pub refused: [u64; REASONS],

@@ -44,6 +44,7 @@ pub record IsCut (k m : ℕ) (h : List Entry) (r : Record) : Type 0 where
   pub is : numbered_as k entry ≡ r
   pub place : m + length before ≡ k
 
+-- at the first entry, or behind it
 cut_here : (k m : ℕ) (d : Entry) (h : List Entry) (r : Record) (b : Bool) → eqb m k ≡ b
     → (find (λ q. q.number == k) (numbered_from (m + 1) h) ≡ Some r → IsCut k (m + 1) h r)
     → cond b (Some (numbered_as m d)) (find (λ q. q.number == k) (numbered_from (m + 1) h)) ≡ Some r
@@ -79,6 +80,7 @@ cut_from k m (d ∷ h) r found = cut_here k m d h r (eqb m k) refl (cut_from k (
 pub cut_at : (k : ℕ) (h : List Entry) (r : Record) → entry_of h k ≡ Some r → IsCut k 1 h r
 cut_at k h r found = cut_from k 1 h r found
 
+-- the numbers go on behind the first entries
 pub numbered_append : (m : ℕ) (h k : List Entry) → numbered_from m (h ++ k) ≡ numbered_from m h
     ++ numbered_from (m + length h) k
 numbered_append m [] k = ap (λ n. numbered_from n k) (omega arith)
@@ -104,6 +106,7 @@ node_later h k n x found =
 abbrev IsThere : Option Node → Type 0
 IsThere o = (y : Node) × (o ≡ Some y)
 
+-- one of two, or the other
 some_or : (a b : Option Node) → IsThere b → IsThere (option_or a b)
 some_or None b later = later
 some_or (Some z) b later = (z, refl)
@@ -115,6 +118,7 @@ or_some (Some z) b c x found later = (z, refl)
 abbrev made_by : Record → EntryPart → Option Node
 made_by r n = find (λ x. same_name x.name n) (nodes_of r.number r.firm r.command)
 
+-- the node of the first change, or else of the others
 first_made : (r : Record) (l : List Record) (n : EntryPart) → node_of (r ∷ l) n ≡ option_or (made_by r n) (node_of l n)
 first_made r l n = find-append (λ x. same_name x.name n) (nodes_of r.number r.firm r.command) (nodes l)
 
@@ -134,6 +138,7 @@ unfiltered p (r ∷ l) n x found =
 
 -- ---- the nodes that changes name
 
+-- only changes name nodes
 naming_changes : (c : Command) (n : EntryPart) → named_node c ≡ Some n → is_change c ≡ true
 naming_changes (Split _ _) n h = refl
 naming_changes (Claim _ _) n h = refl
@@ -152,6 +157,7 @@ pub record IsMade (h : List Entry) (n : EntryPart) (x : Node) : Type 0 where
   pub found : entry_of h n.entry ≡ Some by
   pub made : find (λ y. same_name y.name n) (nodes_of n.entry by.firm by.command) ≡ Some x
 
+-- the entry of its number made it
 made_at : (h : List Entry) (n : EntryPart) (x : Node) (o : Option Record) → entry_of h n.entry ≡ o
     → made_in n o ≡ Some x → IsMade h n x
 made_at h n x None there made = absurd (cc)
@@ -196,6 +202,7 @@ record EndsAtTrade (h : List Entry) (above : List Node) : Type 0 where
   ends : root_along above ≡ Some root
   trades : deal_at h root ≡ Some deal
 
+-- a node above which the line ends so
 one_more : (h : List Entry) (x : Node) (above : List Node) → EndsAtTrade h above → EndsAtTrade h (x ∷ above)
 one_more h x above top = record {
   root = top.root;
@@ -204,6 +211,7 @@ one_more h x above top = record {
   trades = top.trades;
 }
 
+-- a node without a parent is a root
 root_kind : (n : EntryPart) (y x : Node) → parent y.kind ≡ None → cond (same_name y.name n) (Some y) None ≡ Some x
     → parent x.kind ≡ None
 root_kind n y x none found =
@@ -254,6 +262,7 @@ by_command t h s n x r (Initiate _) run found low there is made up = absurd (cc)
 by_command t h s n x r (Decline _) run found low there is made up = absurd (cc)
 by_command t h s n x r (Reverse _) run found low there is made up = absurd (cc)
 
+-- for each node, by the number of its entry
 ends_from : (t : House) (h : List Entry) → IsRunFrom t [] h → (s : ℕ) (n : EntryPart) (x : Node)
     → node_of (records h) n ≡ Some x → n.entry ≤ s → EndsAtTrade h (line_within s (records h) (Some x))
 ends_from t h run zero n x found low =

@@ -33,6 +33,7 @@ use Rattle.gu_trace.specs.Reports.{report_of, most_reports, entries_for, reports
 use Rattle.gu_trace.proofs.Each.{each_told}
 use Rattle.gu_trace.proofs.Found.{cut_at, entry_more, node_later, named_there}
 
+-- the numbers of records
 abbrev numbers : List Record → List ℕ
 numbers rs = map (λ (q : Record). q.number) rs
 
@@ -42,12 +43,14 @@ numbers rs = map (λ (q : Record). q.number) rs
 abbrev Above : (Record → Bool) → ℕ → ℕ → Type 0
 Above p k d = (j : ℕ) (x : Entry) → k ≤ j → p (numbered_as j x) ≡ true → d < j
 
+-- also from a higher number on
 above_next : (p : Record → Bool) (k d : ℕ) → Above p k d → Above p (k + 1) d
 above_next p k d above = λ j x low kept. above j x (omega (arith, low)) kept
 
 above_own : (p : Record → Bool) (k : ℕ) → Above p (k + 1) k
 above_own p k = λ j x low kept. omega (arith, low)
 
+-- one record more
 grows_by : (p : Record → Bool) (k d : ℕ) (x : Entry) (fs : List Record) (b : Bool) → p (numbered_as k x) ≡ b
     → Above p k d → k ≤ last_number k (numbers fs) → d ≤ last_number d (numbers fs)
     → d ≤ last_number d (numbers (cond b (numbered_as k x ∷ fs) fs))
@@ -63,6 +66,7 @@ grows p k d (x ∷ h) above =
     grows_by p k d x (filter p (numbered_from (k + 1) h)) (p (numbered_as k x)) refl above
     (grows p (k + 1) k h (above_own p k)) (grows p (k + 1) d h (above_next p k d above))
 
+-- the first record, or a later one
 kept_here : (n k d : ℕ) (e : Entry) (fs : List Record) (b : Bool) → b ≡ true → n ≤ last_number k (numbers fs)
     → n ≤ last_number d (numbers (cond b (numbered_as k e ∷ fs) fs))
 kept_here n k d e fs true kept low = low
@@ -92,11 +96,13 @@ member p k d (x ∷ before) behind e above kept =
 
 -- ---- a reading that isn't full has looked at all
 
+-- fewer than asked for are all
 all_taken : (n : ℕ) (rs : List Record) → length (take n rs) < n → take n rs ≡ rs
 all_taken zero rs few = absurd (omega (arith, few))
 all_taken (suc n) [] few = refl
 all_taken (suc n) (r ∷ rs) few = ap (λ qs. r ∷ qs) (all_taken n rs (omega (arith, few)))
 
+-- of tests
 both_true : (a c : Bool) → a ≡ true → c ≡ true → (a && c) ≡ true
 both_true true c h k = k
 both_true false c h k = absurd (cc)
@@ -135,6 +141,7 @@ none_behind house h f after few before behind e cut low high =
 
 -- ---- a reading from the one number tells what one from the other tells
 
+-- one record is told by both, or by neither
 same_by : (low high n : ℕ) (c a b : Bool) → nat_lt low n ≡ a → nat_lt high n ≡ b → low ≤ high
     → (low < n → n ≤ high → c ≡ false) → (a && c) ≡ (b && c)
 same_by low high n c true true x y under none = refl
@@ -179,6 +186,7 @@ same_reading house h f low high under none =
 
 -- ---- whom an entry concerns stays
 
+-- a front of a run is one
 pub run_before : (t : House) (h k : List Entry) → IsRunFrom t [] (h ++ k) → IsRunFrom t [] h
 run_before t h k run = record {
   begins = (h, refl);
@@ -186,6 +194,7 @@ run_before t h k run = record {
       run.accepted before (rest ++ k) e (ap (λ (l : List Entry). l ++ k) same ∙ append_assoc before (e ∷ rest) k) long;
 }
 
+-- of a node that is there, and of a change
 node_stays : (t : House) (h k before behind : List Entry) (e : Entry) (f : List ℕ) (n : EntryPart) → IsRunFrom t [] h
     → h ≡ before ++ e ∷ behind → named_node e.command ≡ Some n
     → is_between f (node_of (records (h ++ k)) n) ≡ is_between f (node_of (records h) n)
@@ -218,6 +227,7 @@ record IsOpened (h : List Entry) (n : ℕ) : Type 0 where
 abbrev first_row : House → List Entry → List ℕ → (Record → Option Refusal) → ℕ → Option Refusal
 first_row t h by own n = first (unless (knows_firm t by) UnknownFirm ∷ on_change t h by own (entry_of h n) ∷ [])
 
+-- where it is accepted
 opened : (t : House) (h before behind : List Entry) (e : Entry) (n : ℕ) (own : Record → Option Refusal)
     → h ≡ before ++ e ∷ behind → first_row t before e.firm own n ≡ None → IsOpened h n
 opened t h before behind e n own cut free =
@@ -243,6 +253,7 @@ named_stays t h k f n run opening =
     ap (record_concerns t.house (h ++ k) f) (entry_more h k n r opening.found)
     ∙ (same' ∙ ap (record_concerns t.house h f) (sym opening.found))
 
+-- of each command
 pub concerns_stay : (t : House) (h k before behind : List Entry) (e : Entry) (f : List ℕ) (c : Command)
     → IsRunFrom t [] h → h ≡ before ++ e ∷ behind → e.command ≡ c
     → command_refusal t before e.firm c ≡ None → concerns t.house (h ++ k) f e.firm c ≡ concerns t.house h f e.firm c
@@ -268,6 +279,7 @@ record IsCutWithin (h before : List Entry) (e : Entry) : Type 0 where
   behind : List Entry
   is : h ≡ before ++ e ∷ behind
 
+-- that front
 cut_within : (h k before behind : List Entry) (e : Entry) → h ++ k ≡ before ++ e ∷ behind → length before < length h
     → IsCutWithin h before e
 cut_within [] k before behind e cut short = absurd (omega arith)
@@ -297,6 +309,7 @@ taken_by top k d zero x fs b here there low = low
 taken_by top k d (suc n) x fs true here there low = here n
 taken_by top k d (suc n) x fs false here there low = there (suc n)
 
+-- so the last of the first n
 taken_top : (p : Record → Bool) (k d n : ℕ) (h : List Entry) → d < k + length h
     → last_number d (numbers (take n (filter p (numbered_from k h)))) < k + length h
 taken_top p k d zero [] low = low
@@ -308,6 +321,7 @@ taken_top p k d n (x ∷ h) low =
     (λ m. let here = taken_top p (k + 1) k m h k' in omega (arith, here))
     (λ m. let there = taken_top p (k + 1) d m h d' in omega (arith, there)) low
 
+-- there is a report of each entry that concerns the firm
 as_many : (t : House) (h : List Entry) (f : List ℕ) (after : ℕ) → IsRunFrom t [] h
     → length (reports_for t.house h f after) ≡ length (entries_for t.house h f after)
 as_many t h f after run =
@@ -356,6 +370,7 @@ rises t h f after run within =
     rises_by (last_told after (reports_for t.house h f after)) (length h)
     (nat_lt (length (reports_for t.house h f after)) most_reports) (omega (arith, same, low))
 
+-- of two ranges that meet
 joined_by : (low mid high i : ℕ) (c b : Bool) → nat_lt i mid ≡ b → (low ≤ i → i < mid → c ≡ false)
     → (mid ≤ i → i < high → c ≡ false) → low ≤ i → i < high → c ≡ false
 joined_by low mid high i c true place first second from to = first from ((Decides-ltb i mid).0 place)
@@ -427,6 +442,7 @@ run_on t h g first on = record {
       λ before behind e cut low. run_on_by t h g first on before behind e cut (nat_lt (length before) (length h)) refl;
 }
 
+-- from one reading on
 same_from : (t : House) (h : List Entry) (f : List ℕ) (sent looked : ℕ) (hs : List (List Entry)) → IsRunFrom t [] h
     → HasLooked t.house h f sent looked → Grow t h hs
     → told_above_looked t.house f looked hs ≡ told_above_sent t.house f sent hs

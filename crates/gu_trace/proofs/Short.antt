@@ -27,8 +27,11 @@ use Rattle.gu_trace.specs.Reports.{report_with, parts_shown, claimed_part, no_pa
 use Rattle.gu_trace.specs.Reports.{reports_for}
 use Rattle.gu_trace.proofs.Shown.{shown_few}
 
+-- it shows few parts
 abbrev pub IsShort : Report → Type 0
 IsShort r = length r.parts ≤ most_parts
+
+-- ---- one report
 
 by_deal : (r : Record) (kind trans : ℕ) (target : Target) (lots : ℕ) (parts : List ReportPart) (d : Option Deal)
     → length parts ≤ most_parts → IfSome (option_map (report_with r kind trans target lots parts) d) IsShort
@@ -42,6 +45,7 @@ by_node : (h : List Entry) (r : Record) (kind trans : ℕ) (n : EntryPart) (targ
 by_node h r kind trans n target shown None few = tt
 by_node h r kind trans n target shown (Some x) few = by_deal r kind trans target x.lots (shown x) (deal_of h n) (few x)
 
+-- what a claim shows
 one_at_most : (b : Bool) (p : ReportPart) → length (cond b (p ∷ []) []) ≤ most_parts
 one_at_most true p = omega arith
 one_at_most false p = omega arith
@@ -57,6 +61,7 @@ by_change : (r : Record) (kind trans : ℕ) (target : Target) (o : Option Report
 by_change r kind trans target None = tt
 by_change r kind trans target (Some c) = omega arith
 
+-- the report of a change, and of any entry
 change_short : (h : List Entry) (f : List ℕ) (r : Record) (c : Command) → IsWithinLimits c
     → IfSome (change_report h f r c) IsShort
 change_short h f r (Trade _ _ instrument side lots) within = omega arith
@@ -88,6 +93,8 @@ report_short h f r (Decline n) within =
 report_short h f r (Reverse n) within =
     by_change r 17 6 _ (option_and_then (λ e. change_report h f e e.command) (entry_of h n))
 
+-- ---- all reports of a reading
+
 with_one : (o : Option Report) (rs : List Report) → IfSome o IsShort → All IsShort rs → All IsShort (cons_option o rs)
 with_one None rs short all = all
 with_one (Some r) rs short all = All-cons IsShort r rs short all
@@ -108,6 +115,7 @@ numbered_within k (e ∷ es) within =
     (All-head (λ q. IsWithinLimits q.command) e es within)
     (numbered_within (k + 1) es (All-tail (λ q. IsWithinLimits q.command) e es within))
 
+-- of the first records alone
 first_of_them : (n : ℕ) (rs : List Record) → All (λ r. IsWithinLimits r.command) rs
     → All (λ r. IsWithinLimits r.command) (take n rs)
 first_of_them zero rs all = All-nil (λ r. IsWithinLimits r.command)

@@ -13,6 +13,8 @@ use Rattle.gu_trace.specs.Filling.{told_at, told_from, filled}
 use Rattle.gu_trace.specs.Reports.{told}
 use Rattle.std.proofs.lemmas.Bool.{false_from_ne_true}
 
+-- ---- the records above a number
+
 all_behind : (after k : ℕ) (h : List Entry) → after < k
     → filter (λ r. nat_lt after r.number) (numbered_from k h) ≡ numbered_from k h
 all_behind after k [] low = refl
@@ -31,6 +33,8 @@ behind_from after k (suc i) (x ∷ xs) e =
 -- the records above a number are those behind that place
 pub behind : (after : ℕ) (h : List Entry) → filter (λ r. nat_lt after r.number) (records h) ≡ drop after (records h)
 behind after h = behind_from after 1 after h (omega arith)
+
+-- ---- what is left of them at a place
 
 at_place_from : (k i : ℕ) (h : List Entry) (e : Entry) → slice_get h i ≡ Some e
     → drop i (numbered_from k h) ≡ numbered_as (k + i) e ∷ drop (i + 1) (numbered_from k h)
@@ -64,6 +68,7 @@ rest_past f h i past = ap (filter_map f) (nothing_from 1 i h past)
 abbrev pub TellsOf : (Record → Option Report) → List Entry → ℕ → Option Report → Type 0
 TellsOf f h i o = Some o ≡ option_map (λ e. f (numbered_as (i + 1) e)) (slice_get h i)
 
+-- the record there, then the others
 step_by : (f : Record → Option Report) (h : List Entry) (i : ℕ) (o : Option Report) (found : Option Entry)
     → slice_get h i ≡ found → Some o ≡ option_map (λ e. f (numbered_as (i + 1) e)) found
     → rest f h i ≡ cons_option o (rest f h (i + 1))
@@ -78,6 +83,8 @@ step_by f h i o (Some e) there told =
 pub rest_step : (f : Record → Option Report) (h : List Entry) (i : ℕ) (o : Option Report) → TellsOf f h i o
     → rest f h i ≡ cons_option o (rest f h (i + 1))
 rest_step f h i o told = step_by f h i o (slice_get h i) refl told
+
+-- ---- the reports found so far
 
 take_one : (n : ℕ) (r : Report) (rs : List Report) → 1 ≤ n → take n (r ∷ rs) ≡ r ∷ take (n - 1) rs
 take_one zero r rs low = absurd (omega arith)
@@ -129,11 +136,14 @@ longer_by found new (Some r) is room =
     let more = length-append found (r ∷ []) in
     omega (arith, long, more, room)
 
+-- ---- one step
+
 no_entry : (h : List Entry) (i : ℕ) → slice_get h i ≡ None → i < length h → ⊥
 no_entry [] i none within = omega (arith, within)
 no_entry (e ∷ h) zero none within = cc
 no_entry (e ∷ h) (suc i) none within = no_entry h i none (omega (arith, within))
 
+-- what is told of the entry there
 tells_by : (house : List ℕ) (h : List Entry) (f : List ℕ) (i : ℕ) (o : Option Entry) → slice_get h i ≡ o → i < length h
     → TellsOf (told house h f) h i (told_at house h f i)
 tells_by house h f i None there within = absurd (no_entry h i there within)

@@ -35,6 +35,7 @@ abbrev pub position_or_none : List ℕ → List ℕ → List ℕ → ℕ → ℕ
 position_or_none firm account instrument long short =
     if (long == 0) && (short == 0) then [] else position_line firm account instrument long short
 
+-- the line of an account and an instrument
 abbrev pub position_in : List Record → Account → List ℕ → List ℕ
 position_in l a instrument =
     position_or_none a.firm a.name instrument (position_of l a.firm a.name instrument Buy)
@@ -47,6 +48,7 @@ fees_line firm paid received =
     else codes "fees " ++ firm ++ codes " paid " ++ decimal paid ++ codes " received "
     ++ decimal received ++ 10 ∷ []
 
+-- the line of a firm
 abbrev pub fees_of : House → List Record → List ℕ → List ℕ
 fees_of t l firm = fees_line firm (paid_by t l firm) (received_by t l firm)
 

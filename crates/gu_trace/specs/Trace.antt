@@ -18,6 +18,7 @@ abbrev pub indent : ℕ → List ℕ
 indent zero = []
 indent (suc n) = codes "  " ++ indent n
 
+-- `entry.part`
 abbrev pub name_text : EntryPart → List ℕ
 name_text n = decimal n.entry ++ codes "." ++ decimal n.part
 

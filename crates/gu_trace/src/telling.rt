@@ -36,6 +36,7 @@ struct Codes {
     trans: u8,
 }
 
+/// What is reported of each command.
 const ACCEPT: Codes = Codes { kind: 9, trans: 0 };
 
 const GIVE_UP: Codes = Codes { kind: 15, trans: 0 };

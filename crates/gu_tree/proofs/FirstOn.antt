@@ -1,69 +1,16 @@
 -- The least number that stands on the parts of a node, and which it is in a list that the tree shows.
-use Rattle.gu_tree.proofs.Vocabulary.{
-  min,
-  ◌≡◌,
-  true,
-  ℕ,
-  ◌+◌,
-  ◌<◌,
-  ◌≤◌,
-  Option,
-  Some,
-  None,
-  List,
-  [],
-  ◌∷◌,
-  ◌++◌,
-  length,
-  get_or,
-  take,
-  refl,
-  ap,
-  sym,
-  ◌∙◌,
-  arith,
-  append_assoc,
-  append-nil,
-  flat_map,
-  option_map,
-  and_parts,
-  nodes_of,
-  decision_of,
-  made_by,
-  parts_of,
-  Record,
-  Place,
-  Rose,
-  Roses,
-  leaf,
-  parted,
-  no_parts,
-  part_then,
-  from_list,
-  is_undecided_leaf,
-  are_undecided_leaves,
-  node_at,
-  Head,
-  IsNodeOf,
-  ArePartsOf,
-  numbers_on,
-  least,
-  numbers_at_each,
-  numbers_on_parts,
-  EntryPart,
-  nodes_of_parts,
-  splits,
-  Part,
-  Command,
-  Split,
-  height_of,
-  none_told,
-  AllByRecursion,
-  Node,
+use Rattle.gu_tree.proofs.{
+  Vocabulary.{min, ◌≡◌, true, ℕ, ◌+◌, ◌<◌, ◌≤◌, Option, Some, None, List, [], ◌∷◌, ◌++◌, length, get_or, take, refl},
+  Vocabulary.{ap, sym, ◌∙◌, arith, append_assoc, append-nil, flat_map, option_map, and_parts, nodes_of, decision_of},
+  Vocabulary.{parts_of, Record, Place, Rose, Roses, leaf, parted, no_parts, part_then, from_list},
+  Vocabulary.{is_undecided_leaf, are_undecided_leaves, node_at, Head, IsNodeOf, ArePartsOf, numbers_on, least},
+  Vocabulary.{numbers_at_each, numbers_on_parts, EntryPart, nodes_of_parts, splits, Part, Command, Split, height_of},
+  Vocabulary.{none_told, AllByRecursion, Node},
+  Parts.over_more,
+  Along.{IsReached, reach},
 }
-use Rattle.std.specs.Option.{option_to_list}
-use Rattle.gu_tree.proofs.{Parts.{over_more}, Along.{IsReached, reach}}
 use Rattle.gu_tree.specs.NumbersOn.{number_in, lesser, numbers_at}
+use Rattle.std.specs.Option.{option_to_list}
 use Rattle.gu_base.proofs.Searches.{find_passes}
 
 -- ---- the least of two lists of numbers
@@ -72,8 +19,7 @@ lesser_assoc : (a b c : Option ℕ) → lesser (lesser a b) c ≡ lesser a (less
 lesser_assoc None b c = refl
 lesser_assoc (Some n) None c = refl
 lesser_assoc (Some n) (Some m) None = refl
-lesser_assoc (Some n) (Some m) (Some k) = let e : min (min n m) k ≡ min n (min m k) = omega arith in
-    ap (λ (z : ℕ). Some z) e
+lesser_assoc (Some n) (Some m) (Some k) = let least : min (min n m) k ≡ min n (min m k) = omega arith in cc
 
 pub least_append : (ns ms : List ℕ) → least (ns ++ ms) ≡ lesser (least ns) (least ms)
 least_append [] ms = refl
@@ -84,9 +30,9 @@ least_append (n ∷ ns) ms = ap (lesser (Some n)) (least_append ns ms) ∙ sym (
 pub least_more : (xs : List Rose) (i : ℕ) (u : Rose) → i < length xs → u ≡ get_or xs i u
     → least (numbers_at_each (from_list (take (i + 1) xs)))
     ≡ lesser (least (numbers_at_each (from_list (take i xs)))) (least (numbers_at u))
-least_more xs i u h e =
+least_more xs i u within is =
     ap least (over_more [] (λ a b. a ++ b) (λ _. refl) append-nil append_assoc numbers_at
-    (λ xs. numbers_at_each (from_list xs)) refl (λ x xs. refl) xs i u h e)
+    (λ xs. numbers_at_each (from_list xs)) refl (λ x xs. refl) xs i u within is)
     ∙ least_append (numbers_at_each (from_list (take i xs))) (numbers_at u)
 
 -- ---- where nothing stands on the parts
@@ -103,7 +49,7 @@ undecided_each (part_then t ts) is =
 
 pub first_of_none : (t : Rose) (h : Head) (n : ℕ) (xs : List Rose) → parted h n (from_list xs) ≡ t
     → are_undecided_leaves (from_list xs) ≡ true → None ≡ least (numbers_on_parts t)
-first_of_none t h n xs o is = rw (← o, undecided_each (from_list xs) is) refl
+first_of_none t h n xs opened is = rw (← opened, undecided_each (from_list xs) is) refl
 
 pub ruleset first_steps = (first_of_none, least_more)
 
@@ -120,8 +66,8 @@ parts_counted d above k i up by (p ∷ ps) low = (λ _. low, parts_counted d abo
 
 split_counted : (d : ℕ) (above : Option Place) (n : EntryPart) (k : ℕ) (by : List ℕ) (c : Command) → splits n c ≡ true
     → AllByRecursion (IsCounted d above) (nodes_of k by c)
-split_counted d above n k by (Split up ps) e = parts_counted d above k 1 up by ps (omega arith)
-split_counted d above n k by _ e = absurd (cc)
+split_counted d above n k by (Split up ps) names = parts_counted d above k 1 up by ps (omega arith)
+split_counted d above n k by _ names = absurd (cc)
 
 -- ---- in a list that the tree shows
 
@@ -132,15 +78,8 @@ decided_number (Some r) = refl
 module _ (l : List Record) where
   node_numbers : (above : Option Place) (x : Node) (t : Rose) → IsNodeOf l above x t
       → numbers_at t ≡ numbers_on l x.name
-  node_numbers above x (leaf h) is =
-      ap option_to_list (is.0).decision
-      ∙ (decided_number (decision_of l x.name)
-      ∙ ap (λ o. number_in o ++ number_in (decision_of l x.name)) (sym is.1))
-  node_numbers above x (parted h n ts) is =
-      ap (λ k. k ∷ option_to_list h.decision) (sym is.1.2)
-      ∙ (ap (λ o. is.1.0.number ∷ option_to_list o) (is.0).decision
-      ∙ (ap (λ ns. is.1.0.number ∷ ns) (decided_number (decision_of l x.name))
-      ∙ ap (λ o. number_in o ++ number_in (decision_of l x.name)) (sym is.1.1)))
+  node_numbers above x (leaf h) is = rw ((is.0).decision, is.1) (decided_number (decision_of l x.name))
+  node_numbers above x (parted h n ts) is = rw ((is.0).decision, is.1.1, ← is.1.2, decided_number) refl
 
   each_numbers : (above : Option Place) (xs : List Node) (ts : Roses) → ArePartsOf l above xs ts
       → numbers_at_each ts ≡ flat_map (λ x. numbers_on l x.name) xs
@@ -153,16 +92,15 @@ module _ (l : List Record) where
 
   pub parts_numbers : (above : Option Place) (x : Node) (t : Rose) → IsNodeOf l above x t
       → numbers_on_parts t ≡ flat_map (λ x. numbers_on l x.name) (parts_of l x.name)
-  parts_numbers above x (leaf h) is = ap (λ o. flat_map (λ x. numbers_on l x.name) (made_by o)) (sym is.1)
+  parts_numbers above x (leaf h) is = rw is.1 refl
   parts_numbers above x (parted h n ts) is =
-      each_numbers (Some h.place) (nodes_of is.1.0.number is.1.0.firm is.1.0.command) ts is.1.3
-      ∙ ap (λ o. flat_map (λ x. numbers_on l x.name) (made_by o)) (sym is.1.1)
+      rw is.1.1 (each_numbers (Some h.place) (nodes_of is.1.0.number is.1.0.firm is.1.0.command) ts is.1.3)
 
   -- what the tree shows at the end of a path
   pub shown_at : (p : List ℕ) (v : Rose) (root : Node) (t : Rose) → IsNodeOf l None root t → node_at p t ≡ Some v
       → IsReached l IsCounted (length p) v
-  shown_at p v root t is e =
+  shown_at p v root t is led =
       reach l (1 + height_of t) IsCounted
       (λ d above x h r within here its split. split_counted (d + 1) (Some h.place) x.name r.number r.firm r.command
       (find_passes (λ r. splits x.name r.command) l r split))
-      0 p v (length p) (omega arith) None root t (omega arith) (λ below. absurd (omega (arith, below))) is e
+      0 p v (length p) (omega arith) None root t (omega arith) (λ below. absurd (omega arith)) is led

@@ -1,55 +1,23 @@
 -- What the node at a path of a tree tells of a list of changes that the tree shows.
-use Rattle.gu_tree.proofs.Vocabulary.{
-  ◌≡◌,
-  ℕ,
-  ◌≤◌,
-  Option,
-  Some,
-  None,
-  List,
-  [],
-  ◌∷◌,
-  length,
-  ap,
-  sym,
-  ◌∙◌,
-  arith,
-  flat_map,
-  option_map,
-  EntryPart,
-  node_of,
-  split_of,
-  decision_of,
-  parts_of,
-  Record,
-  Place,
-  same_Some,
-  node_called,
-  Rose,
-  leaf,
-  parted,
-  head_of,
-  split_of_node,
-  node_at,
-  HasAt,
-  IsNodeOf,
-  IsTreeOf,
-  least,
-  numbers_on,
+use Rattle.gu_tree.proofs.{
+  Vocabulary.{◌≡◌, ℕ, ◌≤◌, Option, Some, None, List, [], ◌∷◌, length, refl, ap, ◌∙◌, arith, flat_map, option_map},
+  Vocabulary.{node_of, split_of, decision_of, parts_of, Record, Place, node_called, Rose, leaf, parted, head_of},
+  Vocabulary.{split_of_node, node_at, HasAt, IsNodeOf, IsTreeOf, least, numbers_on, numbers_on_parts, Node},
+  Along.own_head,
+  FirstOn.{shown_at, parts_numbers},
+  Parts.at_there,
 }
-use Rattle.gu_tree.proofs.{Vocabulary.{numbers_on_parts, Node}, Along.{own_head}, FirstOn.{shown_at, parts_numbers}}
-use Rattle.gu_tree.proofs.Parts.{at_there}
 
 -- the node of part 0 is the trade's root
 root_told : (p : List ℕ) (t v : Rose) → node_at p t ≡ Some v → (1 ≤ length p → 1 ≤ (head_of v).name.part)
     → (head_of v).name.part ≡ 0 → t ≡ v
-root_told [] t v e counted none = same_Some t v e
-root_told (i ∷ p) t v e counted none = absurd (omega (arith, counted (omega arith), none))
+root_told [] t v e counted none = cc
+root_told (i ∷ p) t v e counted none = absurd (omega (arith, counted (omega arith)))
 
 split_told : (l : List Record) (above : Option Place) (x : Node) (t : Rose) → IsNodeOf l above x t
     → option_map (λ s. s.0) (split_of_node t) ≡ option_map (λ r. r.number) (split_of l x.name)
-split_told l above x (leaf h) is = ap (option_map (λ r. r.number)) (sym is.1)
-split_told l above x (parted h n ts) is = ap (λ k. Some k) (sym is.1.2) ∙ ap (option_map (λ r. r.number)) (sym is.1.1)
+split_told l above x (leaf h) is = rw is.1 refl
+split_told l above x (parted h n ts) is = rw (is.1.1, is.1.2) refl
 
 -- what is told of the node, and of the tree's own trade
 pub record IsToldAt (l : List Record) (trade : ℕ) (v : Rose) : Type 0 where
@@ -64,20 +32,18 @@ pub told_at : (l : List Record) (trade : ℕ) (t : Rose) → IsTreeOf l trade t 
     → node_at p t ≡ Some v → IsToldAt l trade v
 told_at l trade t is p v led =
     let s = shown_at l p v is.root t is.tree led in
-    let named : s.node.name ≡ (head_of v).name = sym (own_head l s.above s.node v s.shown).name in
-    let top : is.root.name.entry ≡ trade = ap (λ (m : EntryPart). m.entry)
-    (node_called l (record { entry = trade; part = 0 }) is.root is.found) in
+    let head = own_head l s.above s.node v s.shown in
     record {
-      split = split_told l s.above s.node v s.shown ∙ ap (λ n. option_map (λ r. r.number) (split_of l n)) named;
-      decision =
-          (own_head l s.above s.node v s.shown).decision ∙ ap (λ n. option_map (λ r. r.number) (decision_of l n)) named;
-      parts =
-          parts_numbers l s.above s.node v s.shown ∙ ap (λ n. flat_map (λ x. numbers_on l x.name) (parts_of l n)) named;
+      split = rw head.name (split_told l s.above s.node v s.shown);
+      decision = rw head.name head.decision;
+      parts = rw head.name (parts_numbers l s.above s.node v s.shown);
       rooted = λ none.
-          let same =
-          root_told p t v led (λ below. omega (arith, s.here below, ap (λ (m : EntryPart). m.part) named)) none in
-          ap (λ u. (head_of u).name.entry) (sym same) ∙ (ap (λ (m : EntryPart). m.entry)
-          (own_head l None is.root t is.tree).name ∙ top);
+          let same : t ≡ v = root_told p t v led (λ below. rw head.name (s.here below)) none in
+          rw (
+            ← same,
+            (own_head l None is.root t is.tree).name,
+            node_called l (record { entry = trade; part = 0 }) is.root is.found,
+          ) refl;
       root = is.root;
       has_root = is.found;
     }

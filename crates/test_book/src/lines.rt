@@ -16,6 +16,7 @@ pub(crate) struct Call {
     pub(crate) command: Command,
 }
 
+/// The side of a word: `sell`, or else buy.
 fn side_of(word: &[u8]) -> Side {
     if word == b"sell".as_slice() {
         Side::Sell

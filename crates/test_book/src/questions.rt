@@ -9,6 +9,7 @@ use gu_book::laws::{Told, live_changes_alone};
 use gu_tree::Row;
 use std::alloc::Global;
 
+/// `position FIRM ACCOUNT INSTRUMENT`: the lots that stand there, long and short.
 fn show_position(rt: &HostRuntime, book: &Book, words: &[u8]) -> bool {
     let (firm, rest) = first_word(words);
     let (account, instrument) = first_word(rest);
@@ -25,6 +26,7 @@ fn show_position(rt: &HostRuntime, book: &Book, words: &[u8]) -> bool {
     }
 }
 
+/// `fees FIRM`: what a firm has paid and received.
 fn show_fees(rt: &HostRuntime, book: &Book, firm: &[u8]) -> bool {
     match FirmId::new(firm) {
         Some(firm) => {
@@ -36,6 +38,7 @@ fn show_fees(rt: &HostRuntime, book: &Book, firm: &[u8]) -> bool {
     }
 }
 
+/// `used GIVER TAKER`: the lots that live claims use.
 fn show_used(rt: &HostRuntime, book: &Book, words: &[u8]) -> bool {
     let (giver, taker) = first_word(words);
     match (FirmId::new(giver), FirmId::new(taker)) {
@@ -47,6 +50,7 @@ fn show_used(rt: &HostRuntime, book: &Book, words: &[u8]) -> bool {
     }
 }
 
+/// `limit GIVER TAKER`: the limit with its raises.
 fn show_limit(rt: &HostRuntime, book: &Book, words: &[u8]) -> bool {
     let (giver, taker) = first_word(words);
     let (Some(giver), Some(taker)) = (FirmId::new(giver), FirmId::new(taker)) else {

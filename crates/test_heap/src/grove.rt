@@ -147,6 +147,7 @@ pub(crate) fn tell(rt: &impl Print, alloc: Global, accounts: &Accounts) {
     say_line(rt, "never done among the trees")
 }
 
+/// Writes which changes were refused before all of them were done.
 fn tell_done(rt: &impl Print, trade_refused: bool, split_refused: bool) {
     say(rt, "among the trees: trade refused ");
     say(rt, trade_refused);

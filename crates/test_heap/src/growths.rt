@@ -29,6 +29,7 @@ enum Growth {
     Changed,
 }
 
+/// What came of a call that took its memory.
 fn given(is_wanted: bool) -> Growth {
     if is_wanted {
         Growth::Given

@@ -31,6 +31,7 @@ use std::io::Print;
 use test_splits::words::say_line;
 use trees::Accounts;
 
+/// Writes the cases, one part after the other.
 fn tell(rt: &impl Print, alloc: Global, accounts: &Accounts) {
     splits::tell(rt, alloc, accounts);
     tight::tell(rt, alloc, accounts);

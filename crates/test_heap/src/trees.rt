@@ -21,6 +21,7 @@ fn place(firm: &[u8], account: &[u8]) -> Option<Place> {
 }
 
 impl Accounts {
+    /// `AAA/A1` and `BBB/B1`.
     pub(crate) fn new() -> Option<Accounts> {
         Some(Accounts {
             own: place(b"AAA", b"A1")?,

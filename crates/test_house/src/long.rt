@@ -18,6 +18,7 @@ fn add_firms(text: &mut String) -> bool {
     true
 }
 
+/// Writes the fault of this file behind what it is.
 fn tell_fault(rt: &impl Print, alloc: Global, what: &str, text: &str) -> bool {
     print!(rt; "{what}: ").is_ok() && tell(rt, alloc, text.as_bytes(), Wanted::Fault)
 }

@@ -60,6 +60,7 @@ fn tell_both(rt: &impl Print, alloc: Global, house: &House, copy: &House, wanted
     }
 }
 
+/// Writes what is wanted of a house, and of a copy of it. Whether all went well.
 fn tell_house(rt: &impl Print, alloc: Global, house: &House, wanted: Wanted) -> bool {
     match copied(alloc, house) {
         Ok(copy) => tell_both(rt, alloc, house, &copy, wanted),

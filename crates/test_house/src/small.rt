@@ -11,6 +11,7 @@ pub(crate) const TEXT: &[u8] =
 pub(crate) const OPENING: &[u8] =
     b"GIVEUP 2\nHOUSE H\nFIRM A\nACCOUNT A X\nINSTRUMENT I\nAGREEMENT A H 1 2\n";
 
+/// Writes whether a firm is known, and its account X.
 fn tell_firm(rt: &impl Print, house: &House, name: &str) -> bool {
     let (Some(firm), Some(account)) = (FirmId::new(name.as_bytes()), AccountId::new(b"X")) else {
         return false;
@@ -19,6 +20,7 @@ fn tell_firm(rt: &impl Print, house: &House, name: &str) -> bool {
     println!(rt; "firm {firm}: {known}, its account X: {its}").is_ok()
 }
 
+/// Writes the terms of a giver and a taker, if they have any.
 fn tell_agreement(rt: &impl Print, house: &House, giver: &FirmId, taker: &FirmId) -> bool {
     match house.agreement(giver, taker) {
         Some(terms) => println!(rt;
@@ -40,6 +42,7 @@ fn tell_agreements(rt: &impl Print, house: &House) -> bool {
     }
 }
 
+/// Writes how many opening calls there are, and the id of the first.
 fn tell_opening(rt: &impl Print, house: &House) -> bool {
     match &house.opening_at(0) {
         Some((id, _)) => {
@@ -50,6 +53,7 @@ fn tell_opening(rt: &impl Print, house: &House) -> bool {
     }
 }
 
+/// Writes whether an instrument is known.
 fn tell_instrument(rt: &impl Print, house: &House, name: &str) -> bool {
     match InstrumentId::new(name.as_bytes()) {
         Some(instrument) => {

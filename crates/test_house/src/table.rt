@@ -39,6 +39,7 @@ fn add_name<N: Display + Copy>(out: &mut String, what: &str, name: Option<N>) ->
     }
 }
 
+/// Appends an account, if there is one. Whether it did.
 fn add_account(out: &mut String, account: Option<Account>) -> bool {
     match account {
         Some(account) => writeln!(out, "account {}/{}", account.firm, account.name).is_ok(),
@@ -46,6 +47,7 @@ fn add_account(out: &mut String, account: Option<Account>) -> bool {
     }
 }
 
+/// Appends an agreement, if there is one. Whether it did.
 fn add_agreement(out: &mut String, agreement: Option<(Pair, Agreement)>) -> bool {
     match agreement {
         Some((pair, terms)) => writeln!(
@@ -88,6 +90,7 @@ fn add_at(out: &mut String, house: &House, list: List, place: usize) -> bool {
     }
 }
 
+/// Appends all that a list has.
 fn add_list(out: &mut String, house: &House, list: List) {
     for place in 0..PLACES {
         if !add_at(out, house, list, place) {

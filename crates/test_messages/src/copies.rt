@@ -44,6 +44,7 @@ fn tell_split(rt: &impl Print, alloc: Global, split: &Command, node: NodeName) -
     )
 }
 
+/// Writes whether a copy of a split is the split.
 fn tell_copy(rt: &impl Print, alloc: Global, node: NodeName, firm: FirmId) -> bool {
     match split_of(alloc, node, firm) {
         Ok(split) => tell_split(rt, alloc, &split, node),
@@ -51,6 +52,7 @@ fn tell_copy(rt: &impl Print, alloc: Global, node: NodeName, firm: FirmId) -> bo
     }
 }
 
+/// The command that makes these terms.
 fn agree(giver: FirmId, taker: FirmId, rate: u64, limit: u64) -> Command {
     Command::Agree {
         giver,
@@ -128,6 +130,7 @@ fn report_parts(alloc: Global, name: NodeName, firm: FirmId) -> Result<ReportPar
     Ok(ReportParts::from_vec(items))
 }
 
+/// Writes how many parts a report shows, and how many it gives back.
 fn tell_parts(rt: &impl Print, alloc: Global, name: NodeName, firm: FirmId) -> bool {
     match report_parts(alloc, name, firm) {
         Ok(parts) => {

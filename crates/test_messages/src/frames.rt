@@ -27,6 +27,7 @@ fn is_marked_alike(fields: Fields<'_>) -> bool {
     marked.is_at_end()
 }
 
+/// Writes a tag and its value.
 fn show_field(rt: &impl Print, tag: u32, value: &[u8]) -> bool {
     print!(rt; " {tag}={}", str::from_utf8(value).unwrap_or("?")).is_ok()
 }

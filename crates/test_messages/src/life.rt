@@ -1,8 +1,9 @@
-//! The tables of states.
+//! The tables of gu_life: what a part becomes by each act, and what an entry shows.
 
 use gu_base::State;
 use gu_life::{Act, entry_state, next, status_code};
 
+/// All states.
 const STATES: &[State] = &[
     State::Held,
     State::Offered,
@@ -13,6 +14,7 @@ const STATES: &[State] = &[
     State::Reversed,
 ];
 
+/// All that is done about a given part.
 const ACTS: &[Act] = &[Act::Claim, Act::Refuse, Act::Cancel, Act::Reverse];
 
 /// Writes what a state becomes by an act.
@@ -42,6 +44,7 @@ fn tell_shown(rt: &impl Print, state: State) -> bool {
     println!(rt; "; shown {pending:?}, {reversed:?}, {own:?}").is_ok()
 }
 
+/// Writes a state and its code in a message.
 fn tell_code(rt: &impl Print, state: State) -> bool {
     print!(rt; "{state:?} {}", status_code(state)).is_ok()
 }

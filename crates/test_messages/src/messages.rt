@@ -59,6 +59,7 @@ fn show_parts(rt: &impl Print, parts: &Parts) -> bool {
     true
 }
 
+/// Writes a split and its parts.
 fn show_split(rt: &impl Print, node: &NodeName, parts: &Parts) -> bool {
     show_one(rt, "split", node) && show_parts(rt, parts)
 }

@@ -69,6 +69,7 @@ pub(crate) fn tell_number(rt: &impl Print, text: &str) -> bool {
     rt.print(value).is_ok() && show_each(rt, &said)
 }
 
+/// Writes the name of a part of an entry's split, where there is such a one.
 fn show_node(rt: &impl Print, entry: u32, part: u8) -> bool {
     match NodeName::new(entry, part) {
         Some(node) => println!(rt; "part {part} of {entry}: {node}").is_ok(),

@@ -42,6 +42,7 @@ const HOUSE: &[u8] = b"GIVEUP 1\nHOUSE HSE\nFIRM AAA\nFIRM BBB\nACCOUNT AAA A1\n
 /// The header of a message of AAA, behind its type and behind its number.
 const PARTIES: &str = "|49=AAA|56=HSE|34=";
 
+/// SendingTime (52), and what stands around it.
 const TIME: &str = "|52=20260302-09:00:05|";
 
 /// The body of a call.

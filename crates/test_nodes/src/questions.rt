@@ -8,6 +8,7 @@ use std::alloc::Global;
 use std::io::Print;
 use test_splits::words::{say, say_line};
 
+/// A state as it is written.
 fn state_name(state: State) -> &'static str {
     match state {
         State::Held => "Held",
@@ -36,6 +37,7 @@ fn show_head(rt: &impl Print, head: &Head) {
     }
 }
 
+/// Writes rows, a line each.
 fn show_rows(rt: &impl Print, rows: &[Row]) {
     for row in rows {
         say(rt, row.depth);

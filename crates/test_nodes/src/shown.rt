@@ -1,4 +1,4 @@
-//! What is written.
+//! How values and changes are written.
 
 use std::fmt::Display;
 use std::io::Print;

@@ -37,6 +37,7 @@ fn move_some(sums: &mut Sums<u32>) -> bool {
     true
 }
 
+/// Writes what the key has that was moved, and another.
 fn tell_moved(rt: &impl Print, sums: &Sums<u32>) -> bool {
     show_each(
         rt,
@@ -67,12 +68,14 @@ fn charge(fees: &mut Fees, giver: &FirmId, taker: &FirmId) -> bool {
     true
 }
 
+/// Takes the charge of a pair back.
 fn uncharge(fees: &mut Fees, giver: &FirmId, taker: &FirmId) {
     if fees.can_uncharge(giver, taker, 40, 125) {
         fees.uncharge(giver, taker, 40, 125);
     }
 }
 
+/// Writes what the taker paid, the giver received and the pair used.
 fn tell_paid(rt: &impl Print, fees: &Fees, giver: &FirmId, taker: &FirmId) -> bool {
     show_each(
         rt,
@@ -98,18 +101,21 @@ fn tell_fees(rt: &impl Print, alloc: Global, giver: &FirmId, taker: &FirmId) -> 
     println!(rt; "without rows: {can_charge}").is_ok() && tell_charged(rt, &mut fees, giver, taker)
 }
 
+/// Adds lots, where that is allowed.
 fn add(positions: &mut Positions, key: &Key, side: Side, lots: u64) {
     if positions.can_add(key, side, lots) {
         positions.add(key, side, lots);
     }
 }
 
+/// Takes lots, where that is allowed.
 fn take(positions: &mut Positions, key: &Key, side: Side, lots: u64) {
     if positions.can_take(key, side, lots) {
         positions.take(key, side, lots);
     }
 }
 
+/// Writes what stands at a key.
 fn tell_position(rt: &impl Print, positions: &Positions, when: &str, key: &Key) -> bool {
     let (long, short) = positions.of(key);
     println!(rt; "{when}long {long}, short {short}").is_ok()
@@ -153,6 +159,7 @@ fn put_some(fees: &mut Fees, giver: &FirmId, taker: &FirmId) -> bool {
     false
 }
 
+/// Writes the sums of a pair whose charges were put.
 fn tell_put_paid(rt: &impl Print, fees: &Fees, giver: &FirmId, taker: &FirmId) -> bool {
     show_each(
         rt,

@@ -1,4 +1,4 @@
-//! One run of the program.
+//! One run of the program: its words, the stream that it reads, and how it is read and written.
 
 use crate::journals::Shelf;
 use crate::streams::{AtEnd, Narrow, pieces_of, takes_all, writer_of};
@@ -13,7 +13,7 @@ use std::thread::Threads;
 use std::time::Clock;
 use std::{fs, io};
 
-/// A line of the input.
+/// A line of the input: the stream's file, how it is read and written, and the words.
 #[derive(Clone, Copy)]
 pub(crate) struct Line<'a> {
     stream: &'a str,

@@ -22,6 +22,7 @@ pub enum Outcome {
 }
 
 impl Outcome {
+    /// How it is written.
     pub fn text(self) -> &'static str {
         match self {
             Outcome::Done => "done",
@@ -30,6 +31,7 @@ impl Outcome {
         }
     }
 
+    /// Whether the change was made.
     pub fn is_done(self) -> bool {
         match self {
             Outcome::Done => true,

@@ -1,21 +1,21 @@
 //! What an answer is read from.
 use crate::found::Named;
-use crate::live::Live;
 use crate::lookups::Lookups;
-use gu_base::{Entry, Number};
+use crate::undo::Undo;
+use gu_base::{Entry, Number, Refusal};
 use gu_consent::Consents;
 use gu_fees::Terms;
 use gu_parties::House;
 use std::marker::Model;
 
-/// The house table, the history, its live changes, the node that the command names, what stands on
-/// the change that it names, and what is kept beside them.
+/// The house table, the history, the node or the change that the command names, what stands on
+/// that, and what is kept beside them.
 #[derive(Drop)]
 pub(crate) struct Basis<'a> {
     pub(crate) house: &'a House,
     pub(crate) entries: &'a [Entry],
-    pub(crate) changes: Live<'a>,
     pub(crate) named: &'a Option<Named>,
+    pub(crate) undo: &'a Option<Result<Undo, Refusal>>,
     pub(crate) standing: Option<Number>,
     pub(crate) terms: &'a Terms,
     pub(crate) lookups: &'a Lookups,
@@ -31,9 +31,10 @@ impl<'a> Model for Basis<'a> {
       house = b.house.now;
       history = b.entries.now;
       named = b.named.now;
+      undo = b.undo.now;
       standing = b.standing;
     } };
 
-    ghost invariant = { λ b. IsBasis b.house.now b.entries.now b.changes b.terms.now b.lookups.now
-        b.consents.now };
+    ghost invariant = { λ b.
+        IsBasis b.house.now b.entries.now b.terms.now b.lookups.now b.consents.now };
 }

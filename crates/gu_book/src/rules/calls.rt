@@ -1,6 +1,6 @@
 //! The answer to a call.
 ghost use Rattle.std.specs.Prelude.{◌≡◌, ◌≤◌, ◌+◌, [], ◌∷◌, length, find, nat_lt, unwrap_or};
-ghost use Rattle.std.specs.Prelude.{if◌then◌else◌};
+ghost use Rattle.std.specs.Prelude.{IsSomeAnd, if◌then◌else◌};
 ghost use Rattle.gu_base.specs.Limits.{most_entries};
 ghost use Rattle.gu_base.specs.Same.{same_command};
 ghost use Rattle.gu_base.specs.History.{records, live};
@@ -16,6 +16,7 @@ ghost use Rattle.gu_book.specs.Found.{IsNamedIn, IsStandingIn};
 ghost use Rattle.gu_book.specs.Front.{IsStandingOn, rest_of};
 ghost use Rattle.gu_book.specs.Ids.{NoIdTwice};
 ghost use Rattle.gu_book.specs.Lookups.{AreIdsOf};
+ghost use Rattle.gu_book.specs.Undo.{IsUndoIn, IsUndoOr};
 ghost use Rattle.gu_ids.specs.Hashing.{IsHashOf};
 ghost use Rattle.gu_tree.specs.Shown.{named_node};
 
@@ -44,7 +45,7 @@ fn known_answer(number: Number, e: &Entry, command: &Command) -> Answer
 
 /// The answer to a call whose firm and id stand in the history, whatever the rules say of its
 /// command.
-#[tactic(auto, using(crate::proofs::LookedUp::stands_found, crate::proofs::LookedUp::new_answer, crate::proofs::LookedUp::known_answer))]
+#[tactic(auto, using(crate::proofs::Cited::answer_again))]
 fn known(
     ids: &Ids,
     entries: &[Entry],
@@ -98,6 +99,7 @@ fn status_of(by: &FirmId, command: &Command) -> State
 
 /// Why a command that names this entry is refused.
 fn named_refusal(at: &Basis<'_>, by: &FirmId, command: &Command, entry: Number) -> Option<Refusal>
+    requires undo { IsSomeAnd at.now.undo (IsUndoOr at.now.house at.now.history entry) }
     requires standing { IsStandingOn at.now.house (live at.now.history) command.now entry
         at.now.standing }
     ensures { result ≡ first (unless (knows_firm at.now.house by.now) UnknownFirm
@@ -105,19 +107,17 @@ fn named_refusal(at: &Basis<'_>, by: &FirmId, command: &Command, entry: Number) 
         (rest_of at.now.house at.now.history by.now command.now)
         (entry_of at.now.history entry) ∷ []) }
 {
-    // Asked first, though an unknown firm is told first: so the entry is fetched while the bucket
-    // of the id still is.
-    let refusal = naming_refusal(at, by, command, entry);
     if !at.house.firm(by) {
         return Some(Refusal::UnknownFirm);
     }
-    refusal
+    naming_refusal(at, by, command, entry)
 }
 
 /// Why a command is refused.
-#[tactic(auto, using(crate::proofs::LastRefusal::initiate_row, crate::proofs::LastRefusal::decline_row, crate::proofs::LastRefusal::reverse_row))]
+#[tactic(auto, using(crate::proofs::Cited::last_refusals))]
 fn command_refusal(at: &Basis<'_>, by: &FirmId, command: &Command) -> Option<Refusal>
     requires named { IsNamedIn (live at.now.history) (named_node command.now) at.now.named }
+    requires undo { IsUndoIn at.now.house at.now.history command.now at.now.undo }
     requires standing { IsStandingIn at.now.house (live at.now.history) command.now
         at.now.standing }
     ensures { result ≡ command_refusal at.now.house at.now.history by.now command.now }
@@ -133,6 +133,7 @@ fn command_refusal(at: &Basis<'_>, by: &FirmId, command: &Command) -> Option<Ref
 /// The answer by the rules, to a call whose id no entry has.
 fn answer_by_rules(at: &Basis<'_>, by: &FirmId, command: &Command) -> Answer
     requires named { IsNamedIn (live at.now.history) (named_node command.now) at.now.named }
+    requires undo { IsUndoIn at.now.house at.now.history command.now at.now.undo }
     requires standing { IsStandingIn at.now.house (live at.now.history) command.now
         at.now.standing }
     ensures { result ≡ accepted_or (length at.now.history + 1) (status_of by.now command.now)
@@ -161,6 +162,7 @@ pub(crate) fn answer(
 ) -> Answer
     requires hashed { IsHashOf hash by.now id.now }
     requires named { IsNamedIn (live at.now.history) (named_node command.now) at.now.named }
+    requires undo { IsUndoIn at.now.house at.now.history command.now at.now.undo }
     requires standing { IsStandingIn at.now.house (live at.now.history) command.now
         at.now.standing }
     ensures { result ≡ answer_to at.now.house at.now.history (record {

@@ -198,7 +198,7 @@ pub(crate) fn place_of(terms: &Terms, node: &Node) -> Option<usize>
 
 /// Puts the claim of this number to the terms of the giver and the taker of its node, who stand at
 /// this place and for whom there has to be room.
-#[tactic(auto, using(crate::proofs::TermsKept::can_at, crate::proofs::TermsKept::claimed_at, crate::proofs::TermsKept::claimed_nowhere))]
+#[tactic(auto, using(crate::proofs::Cited::claimed_terms))]
 pub(crate) fn claim(terms: &mut Terms, place: Option<usize>, number: Number, node: &Node)
     requires place { place ≡ place_of_kind terms.old node.now.kind }
     requires room { CanClaim terms.old number node.now.lots node.now.kind }

@@ -25,6 +25,7 @@ pub(crate) struct Bells {
 }
 
 impl Bell {
+    /// The bell of a worker that this wakes, with no connections yet.
     pub(crate) fn new(waker: Waker) -> Bell {
         Bell {
             waker,

@@ -1,8 +1,9 @@
 //! What is counted of a server while it runs, for an operator: by whoever does it, read by whoever
 //! asks. It has no lock, so that nobody waits for a reader.
 
+use crate::keep::cell::{Cell, ENDED, Work, add, add_at, load, zeros};
 use crate::keep::log::Log;
-use gu_base::{AllocId, Answer, FirmId, Memory};
+use gu_base::{AllocId, Answer, Entry, FirmId, Memory};
 use gu_book::Book;
 use gu_log::{Event, Field, Key, Value};
 use gu_parties::House;
@@ -17,54 +18,13 @@ use std::time::Clock;
 const MOST_WORKERS: usize = 16;
 
 /// The most entries of a book.
-const MOST_ENTRIES: u32 = 1_000_000;
+pub(crate) const MOST_ENTRIES: u32 = 1_000_000;
 
 /// For how many seconds a part may stand still before `/health` says so.
 const MOST_STILL: u64 = 5;
 
 /// From how many microseconds on a sync is slow.
 const SLOW_SYNC: u64 = 100_000;
-
-/// Where a part moves no more, since it has ended.
-const ENDED: u64 = u64::MAX;
-
-/// What is counted of a worker.
-#[derive(Drop)]
-struct Cell {
-    /// The second of its last turn.
-    turned: AtomicU64,
-    /// The connection that it serves now.
-    connection: AtomicU64,
-    /// The bytes that it has read, and the calls that it has made: those that were accepted, and
-    /// all.
-    read: AtomicU64,
-    accepted: AtomicU64,
-    calls: AtomicU64,
-    /// How many peers have closed their connections.
-    gone: AtomicU64,
-}
-
-impl Cell {
-    fn new() -> Cell {
-        Cell {
-            turned: AtomicU64::new(0),
-            connection: AtomicU64::new(0),
-            read: AtomicU64::new(0),
-            accepted: AtomicU64::new(0),
-            calls: AtomicU64::new(0),
-            gone: AtomicU64::new(0),
-        }
-    }
-}
-
-/// What a worker has read and made so far.
-#[derive(Clone, Copy, Default)]
-pub(crate) struct Work {
-    pub(crate) read: u64,
-    pub(crate) accepted: u64,
-    pub(crate) calls: u64,
-    pub(crate) gone: u64,
-}
 
 /// What is counted.
 #[derive(Drop)]
@@ -81,7 +41,8 @@ pub(crate) struct Board {
     second: AtomicU64,
     ready: AtomicBool,
     acceptor: AtomicU64,
-    /// The second since which the journal's lock is held, and one more; 0 while it isn't.
+    /// The second since which the journal's lock is held, and one more; 0 while it isn't. In the
+    /// start it is held by whoever reads the journal, and each piece that was read is a new second.
     journal: AtomicU64,
     entries: AtomicU64,
     open: AtomicU64,
@@ -96,22 +57,11 @@ pub(crate) struct Board {
     synced: AtomicU64,
 }
 
-/// A number for each of so many.
-fn zeros(alloc: Global, count: usize) -> Result<Vec<AtomicU64>, Memory> {
-    let mut numbers = Vec::new(alloc);
-    for _ in 0..count {
-        if numbers.push(AtomicU64::new(0)).is_err() {
-            return Err(AllocError);
-        }
-    }
-    Ok(numbers)
-}
-
 /// A cell for each worker.
 fn cells_for(alloc: Global, workers: u32) -> Result<Vec<Cell>, Memory> {
     let mut cells = Vec::new(alloc);
     for _ in 0..workers {
-        if cells.push(Cell::new()).is_err() {
+        if cells.push(Cell::new(alloc)?).is_err() {
             return Err(AllocError);
         }
     }
@@ -131,17 +81,12 @@ fn firms_of(alloc: Global, house: &House) -> Result<IndexMap<FirmId, AtomicU64>,
     Ok(firms)
 }
 
-/// The loads of such numbers.
-fn load(number: &AtomicU64) -> u64 {
-    number.load(Ordering::SeqCst)
-}
-
 /// A number that fits.
 fn small(number: u64) -> u32 {
     number.min(u64::from(u32::MAX)) as u32
 }
 
-/// A field with a number, and one with a text.
+/// A field with a number.
 pub(crate) fn number(key: Key, number: u64) -> Field<'static> {
     Field {
         key,
@@ -149,6 +94,7 @@ pub(crate) fn number(key: Key, number: u64) -> Field<'static> {
     }
 }
 
+/// A field with a text.
 pub(crate) fn text<'a>(key: Key, text: &'a [u8]) -> Field<'a> {
     Field {
         key,
@@ -175,8 +121,8 @@ impl Board {
             cells: cells_for(alloc, workers)?,
             second: AtomicU64::new(0),
             ready: AtomicBool::new(false),
-            acceptor: AtomicU64::new(0),
-            journal: AtomicU64::new(0),
+            acceptor: AtomicU64::new(ENDED),
+            journal: AtomicU64::new(1),
             entries: AtomicU64::new(0),
             open: AtomicU64::new(0),
             taken: AtomicU64::new(0),
@@ -191,6 +137,11 @@ impl Board {
         })
     }
 
+    /// Where its memory comes from.
+    pub(crate) fn alloc(&self) -> Global {
+        self.alloc
+    }
+
     /// The log.
     pub(crate) fn log(&self) -> &Log {
         &self.log
@@ -201,13 +152,13 @@ impl Board {
         self.log.say(rt, self.alloc, event, fields);
     }
 
-    /// Counts the entries of a book that was recovered.
+    /// Counts the entries of a book that was recovered, all of which are on the disk.
     pub(crate) fn count_book(&self, book: &Book) {
         let mut count = 0u64;
         for entry in book.history() {
             count = count.saturating_add(1);
             if let Some(entries) = self.firms.get(&entry.firm) {
-                entries.fetch_add(1, Ordering::SeqCst);
+                add(entries);
             }
         }
         self.entries.store(count, Ordering::SeqCst);
@@ -218,6 +169,14 @@ impl Board {
         load(&self.entries)
     }
 
+    /// Warns of what is nearly full in a book that was recovered.
+    pub(crate) fn warn<R: Wait + Clock>(&self, rt: &R) {
+        self.warn_of_book(rt, 0, self.entries());
+        for (firm, entries) in self.firms.iter() {
+            self.warn_of_share(rt, firm, 0, load(entries));
+        }
+    }
+
     /// Connections are taken from now on.
     pub(crate) fn set_ready(&self) {
         let second = load(&self.second);
@@ -226,6 +185,7 @@ impl Board {
             cell.turned.store(second, Ordering::SeqCst);
         }
         self.synced.store(second, Ordering::SeqCst);
+        self.leaves_journal();
         self.ready.store(true, Ordering::SeqCst);
     }
 
@@ -258,7 +218,7 @@ impl Board {
         self.acceptor.store(ENDED, Ordering::SeqCst);
     }
 
-    /// The journal's lock is held from now on.
+    /// The journal's lock is held from now on, or whoever holds it has moved.
     pub(crate) fn takes_journal(&self) {
         let since = load(&self.second).saturating_add(1);
         self.journal.store(since, Ordering::SeqCst);
@@ -269,27 +229,19 @@ impl Board {
         self.journal.store(0, Ordering::SeqCst);
     }
 
-    /// A group of so many entries was recorded, in so many microseconds.
-    pub(crate) fn recorded<R: Wait + Clock>(&self, rt: &R, count: u64, micros: u64) {
-        for i in 0..BOUNDS.len() {
-            if micros <= BOUNDS[i] {
-                if let Some(within) = self.within.get(i) {
-                    within.fetch_add(1, Ordering::SeqCst);
-                }
-            }
-        }
-        self.syncs.fetch_add(1, Ordering::SeqCst);
-        self.sync_micros.fetch_add(micros, Ordering::SeqCst);
-        self.synced.store(load(&self.second), Ordering::SeqCst);
+    /// A group with these entries is on the disk: nobody was told of them yet.
+    pub(crate) fn keeps<R: Wait + Clock>(&self, rt: &R, group: &[Entry]) {
+        let count = group.len() as u64;
+        self.accepted.fetch_add(count, Ordering::SeqCst);
         let before = self.entries.fetch_add(count, Ordering::SeqCst);
-        if micros > SLOW_SYNC {
-            let fields = [
-                number(Key::Milliseconds, micros / 1000),
-                number(Key::Entries, count),
-            ];
-            self.say(rt, Event::SlowSync, &fields);
+        for entry in group {
+            self.count_entry(rt, &entry.firm);
         }
-        let after = before.saturating_add(count);
+        self.warn_of_book(rt, before, before.saturating_add(count));
+    }
+
+    /// Warns where the book has become nearly full.
+    fn warn_of_book<R: Wait + Clock>(&self, rt: &R, before: u64, after: u64) {
         if let Some(percent) = mark_passed(small(before), small(after), MOST_ENTRIES) {
             let fields = [
                 number(Key::Percent, u64::from(percent)),
@@ -297,6 +249,27 @@ impl Board {
                 number(Key::Most, u64::from(MOST_ENTRIES)),
             ];
             self.say(rt, Event::BookFills, &fields);
+        }
+    }
+
+    /// A group of so many entries took so many microseconds.
+    pub(crate) fn recorded<R: Wait + Clock>(&self, rt: &R, count: u64, micros: u64) {
+        for i in 0..BOUNDS.len() {
+            if micros <= BOUNDS[i] {
+                if let Some(within) = self.within.get(i) {
+                    add(within);
+                }
+            }
+        }
+        self.syncs.fetch_add(1, Ordering::SeqCst);
+        self.sync_micros.fetch_add(micros, Ordering::SeqCst);
+        self.synced.store(load(&self.second), Ordering::SeqCst);
+        if micros > SLOW_SYNC {
+            let fields = [
+                number(Key::Milliseconds, micros / 1000),
+                number(Key::Entries, count),
+            ];
+            self.say(rt, Event::SlowSync, &fields);
         }
     }
 
@@ -317,13 +290,16 @@ impl Board {
     /// What a worker has done so far.
     pub(crate) fn work(&self, worker: u32) -> Work {
         match self.cells.get(worker as usize) {
-            Some(cell) => Work {
-                read: load(&cell.read),
-                accepted: load(&cell.accepted),
-                calls: load(&cell.calls),
-                gone: load(&cell.gone),
-            },
+            Some(cell) => cell.work(),
             None => Work::default(),
+        }
+    }
+
+    /// Adds the calls that a worker has refused in this turn to those of its connection, by the
+    /// refusal's number.
+    pub(crate) fn hand_over(&self, worker: u32, reasons: &mut [u64; REASONS]) {
+        if let Some(cell) = self.cells.get(worker as usize) {
+            cell.hand_over(reasons);
         }
     }
 
@@ -360,13 +336,17 @@ impl Board {
         self.open.fetch_sub(1, Ordering::SeqCst);
     }
 
-    /// Counts an entry of a firm, and warns where that has used most of what it may.
+    /// Counts an entry of a firm.
     fn count_entry<R: Wait + Clock>(&self, rt: &R, firm: &FirmId) {
         let Some(entries) = self.firms.get(firm) else {
             return;
         };
         let before = entries.fetch_add(1, Ordering::SeqCst);
-        let after = before.saturating_add(1);
+        self.warn_of_share(rt, firm, before, before.saturating_add(1));
+    }
+
+    /// Warns where a firm has used most of what it may.
+    fn warn_of_share<R: Wait + Clock>(&self, rt: &R, firm: &FirmId, before: u64, after: u64) {
         let Some(most) = self.share else {
             return;
         };
@@ -391,27 +371,15 @@ impl Board {
         answer: &Answer,
     ) {
         match answer {
-            Answer::Accepted { .. } => {
-                self.accepted.fetch_add(1, Ordering::SeqCst);
-                self.count_entry(rt, firm);
-            }
-            Answer::Repeated { .. } => {
-                self.repeated.fetch_add(1, Ordering::SeqCst);
-            }
-            Answer::Refused(refusal) => {
-                let at = usize::from(refusal.number()).saturating_sub(1);
-                if let Some(count) = self.refused.get(at) {
-                    count.fetch_add(1, Ordering::SeqCst);
-                }
-            }
+            // It is counted once it is on the disk.
+            Answer::Accepted { .. } => {}
+            Answer::Repeated { .. } => add(&self.repeated),
+            Answer::Refused(refusal) => add_at(self.refused.as_slice(), refusal.number()),
         }
         let Some(cell) = self.cells.get(worker as usize) else {
             return;
         };
-        cell.calls.fetch_add(1, Ordering::SeqCst);
-        if !matches!(answer, Answer::Refused(_)) {
-            cell.accepted.fetch_add(1, Ordering::SeqCst);
-        }
+        cell.count(answer);
         if self.logs_calls {
             self.say_call(rt, load(&cell.connection), firm, id, answer);
         }
@@ -447,9 +415,6 @@ impl Board {
 
     /// The first part that hasn't moved for so many seconds.
     pub(crate) fn stuck(&self, most: u64) -> Option<Part> {
-        if !self.ready.load(Ordering::SeqCst) {
-            return None;
-        }
         let mut turned = [ENDED; MOST_WORKERS];
         for i in 0..self.cells.len().min(MOST_WORKERS) {
             if let Some(cell) = self.cells.get(i) {

@@ -174,6 +174,13 @@ impl<'a, J: Job> Client<'a, J> {
         }
     }
 
+    /// Notes why it has ended, if it has: what the last message says that the turn sends.
+    fn note_end(&mut self) {
+        if self.ended {
+            self.visit.note_end(self.connection.made());
+        }
+    }
+
     /// Notes that it has a turn in this second.
     fn begin_turn(&mut self, second: u64) {
         self.turned = second;
@@ -263,6 +270,7 @@ impl<'a, J: Job> Client<'a, J> {
             }
             Err(_) => self.ended = true,
         }
+        self.note_end();
         let mut seat = seat;
         self.hold(worker, &mut seat, second);
         seat

@@ -24,6 +24,7 @@ pub(crate) struct Clients<'a, J: Job> {
 }
 
 impl<'a, J: Job> Clients<'a, J> {
+    /// No connections yet.
     pub(crate) fn new(alloc: Global) -> Clients<'a, J> {
         Clients {
             places: Vec::new(alloc),

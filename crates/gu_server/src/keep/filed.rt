@@ -7,9 +7,10 @@ ghost use Rattle.gu_base.specs.Runs.{IsRunFrom, opening_history};
 ghost use Rattle.gu_base.specs.declared.entry.Entry.{Entry as EntryData};
 ghost use Rattle.gu_book.specs.Seen.{stored};
 ghost use Rattle.gu_journal.specs.Keeping.{disk_of, IsIdle, Keeps};
+ghost use Rattle.gu_journal.specs.Session.{digest_text};
 ghost use Rattle.gu_server.specs.Replicas.{HasAnswered};
 
-use crate::keep::journals::{Record, RecordError};
+use crate::keep::journals::{Checksum, Record, RecordError};
 use crate::keep::replica::{Replica, answered, offered};
 use gu_base::{Entry, Memory};
 use gu_book::{Book, HashKey};
@@ -66,6 +67,20 @@ impl<D: Disk> Record for Filed<D> {
 
     ghost keeps_begun = { λ k h begun longer kept is_clean. begun_is_kept
         D.Disk.may_leave k.house h begun (disk_of k.journal) k.replica longer (kept is_clean) };
+
+    fn checksum(&self) -> Option<Checksum>
+        ensures { (t : HouseTable) (pin : List ℕ) (h : List EntryData)
+            → (k : Keeps D.Disk.seen D.Disk.may_leave t pin h self.now.journal)
+            → IfSome result (λ sum. sum.sha512 ≡ digest_text k.bytes) }
+    {
+        match self.journal.digest() {
+            Ok(sha512) => Some(Checksum {
+                bytes: self.journal.len(),
+                sha512,
+            }),
+            Err(_) => None,
+        }
+    }
 
     // Other machines take the group while it is opened here.
     fn record(&mut self, moment: &[u8], entries: &[Entry]) -> Result<(), RecordError> {

@@ -1,4 +1,4 @@
-//! Why a connection has no Logon that was accepted.
+//! What messages say of why a connection has ended.
 
 use gu_base::FirmId;
 use gu_codec::{Fields, Frame, read_frame, tags};
@@ -70,6 +70,35 @@ pub(crate) fn why_refused(house: &House, first: &[u8]) -> &'static str {
         Frame::Broken { .. } => "no frame of FIX",
         Frame::Partial => "no whole frame came",
     }
+}
+
+/// The text of a Logout: Text (58), if it has one.
+fn text_of(fields: Fields<'_>) -> &[u8] {
+    match value_of(fields, tags::TEXT) {
+        Some(text) => text,
+        None => b"logged out",
+    }
+}
+
+/// Why a session has ended, by the last of the frames that it sends: what its Logout says.
+pub(crate) fn said_last(frames: &[u8]) -> Option<&[u8]> {
+    let mut said = None;
+    let mut at = 0usize;
+    for _ in 0..frames.len() {
+        let Some(rest) = frames.get(at..) else {
+            return said;
+        };
+        let Frame::Whole { fields, len } = read_frame(rest) else {
+            return said;
+        };
+        said = if has(fields, tags::MSG_TYPE, b"5") {
+            Some(text_of(fields))
+        } else {
+            None
+        };
+        at = at.saturating_add(len);
+    }
+    said
 }
 
 /// What they say of who sends: SenderCompID (49), or where they are no frame the bytes themselves.

@@ -30,6 +30,14 @@ pub enum RecordError {
     Disk(io::Error),
 }
 
+/// A checksum of a journal's file: how many bytes it has but for what shuts it, and their SHA-512
+/// in hex digits.
+#[derive(Clone, Copy)]
+pub struct Checksum {
+    pub bytes: usize,
+    pub sha512: [u8; 128],
+}
+
 /// A journal that is open: it says a history of a house, and takes further entries.
 pub trait Record: Keeps {
     ghost use Rattle.std.specs.Prelude.{◌≡◌, List, ◌++◌, OnOk};
@@ -64,6 +72,11 @@ pub trait Record: Keeps {
             → IsRunFrom (house self.old) h (h ++ entries.now)
             → Self.Keeps.keeps self.new h };
 
+    /// What an operator may compare its file with. None where it has no file, or memory lacks.
+    fn checksum(&self) -> Option<Checksum> {
+        None
+    }
+
     /// With a history each beginning of it is kept.
     ghost keeps_begun: { (journal : Self) (h begun : List Entry) → BeginsWith h begun
         → Self.Keeps.keeps journal h → Self.Keeps.keeps journal begun };
@@ -79,6 +92,7 @@ pub trait Journals {
     ghost use Rattle.gu_base.specs.Runs.{IsRunFrom, opening_history};
     ghost use Rattle.gu_server.specs.Keeping.{is_keep_fault};
 
+    /// What `open` gives: a journal that keeps entries.
     type Journal: Record + Drop + Send + 'static;
 
     /// Opens the journal at a path, which is made where it isn't there, and gives the book of the

@@ -4,7 +4,7 @@
 
 use crate::connection::Closed;
 use crate::keep::bells::{Bell, Bells};
-use crate::keep::board::{Board, Work};
+use crate::keep::cell::Work;
 use crate::keep::client::{Client, open_client};
 use crate::keep::clients::Clients;
 use crate::keep::journals::Record;
@@ -95,12 +95,11 @@ fn hurry<J: Job>(clients: &mut Clients<'_, J>, round: &mut Round<J>) {
     }
 }
 
-/// Why a connection has ended that is over.
-fn ended_by<J: Job>(client: Option<&Client<'_, J>>) -> &'static str {
+/// Why a connection has ended, if it isn't over: what is over knows itself why.
+fn ended_by<J: Job>(client: Option<&Client<'_, J>>) -> Option<&'static str> {
     match client {
-        Some(client) if client.visit.is_gone => "the peer has closed",
-        Some(client) if client.is_over() => "the session has ended",
-        _ => "cannot be written to",
+        Some(client) if client.is_over() || client.visit.is_gone() => None,
+        _ => Some("cannot be written to"),
     }
 }
 
@@ -143,7 +142,7 @@ impl<'a, K: Record, J: Job, R: Wait + Clock, G: Gate> Keeper<'a, K, J, R, G> {
             _ => false,
         };
         if !watched {
-            self.close(clients, at, second, "not watched");
+            self.close(clients, at, second, Some("not watched"));
         }
         self.close_strangers(clients, MOST_STRANGERS, second);
     }
@@ -154,7 +153,7 @@ impl<'a, K: Record, J: Job, R: Wait + Clock, G: Gate> Keeper<'a, K, J, R, G> {
             let Some(at) = clients.oldest_stranger() else {
                 return;
             };
-            self.close(clients, at, second, "too many without a Logon");
+            self.close(clients, at, second, Some("too many without a Logon"));
         }
     }
 
@@ -187,20 +186,29 @@ impl<'a, K: Record, J: Job, R: Wait + Clock, G: Gate> Keeper<'a, K, J, R, G> {
     }
 
     /// Says that a connection ends, and why.
-    fn say_end(&self, client: &Client<'a, J>, second: u64, why: &'static str) {
+    fn say_end(&self, client: &Client<'a, J>, second: u64, why: Option<&'static str>) {
         let Some(board) = self.worker.tallies.board() else {
             return;
         };
-        let house = self.worker.house;
-        client
-            .visit
-            .say_end(self.worker.rt, board, house, client.firm(), second, why);
+        let rt = self.worker.rt;
+        match client.firm() {
+            Some(firm) => client.visit.say_end(rt, board, &firm, second, why),
+            None => client
+                .visit
+                .say_refusal(rt, board, self.worker.house, second),
+        }
         board.waits(client.waiting(), 0);
         board.leaves();
     }
 
-    /// Closes the connection at a place, for this reason.
-    fn close(&self, clients: &mut Clients<'a, J>, at: usize, second: u64, why: &'static str) {
+    /// Closes the connection at a place, for this reason, if it doesn't know itself why.
+    fn close(
+        &self,
+        clients: &mut Clients<'a, J>,
+        at: usize,
+        second: u64,
+        why: Option<&'static str>,
+    ) {
         if let Some(Some(client)) = clients.places.get_mut(at) {
             client.leave(self.worker.tallies);
             self.say_end(client, second, why);
@@ -278,7 +286,7 @@ impl<'a, K: Record, J: Job, R: Wait + Clock, G: Gate> Keeper<'a, K, J, R, G> {
             _ => false,
         };
         if stalled {
-            self.close(clients, at, second, "takes nothing");
+            self.close(clients, at, second, Some("takes nothing"));
         }
     }
 
@@ -301,38 +309,21 @@ impl<'a, K: Record, J: Job, R: Wait + Clock, G: Gate> Keeper<'a, K, J, R, G> {
         seat
     }
 
-    /// Records what the desk has answered, and notes how long that took.
-    fn record_noted(&self, board: &Board, recorder: &mut Recorder<K, J>) -> Result<(), KeepError> {
-        let rt = self.worker.rt;
-        board.takes_journal();
-        let start = Instant::now(rt);
-        let count = recorder.record(rt, self.worker.alloc, self.worker.desk);
-        board.leaves_journal();
-        let count = count?;
-        if count == 0 {
-            return Ok(());
-        }
-        if let Ok(start) = start {
-            if let Ok(took) = start.elapsed(rt) {
-                let micros = took.as_micros().min(u128::from(u64::MAX)) as u64;
-                board.recorded(rt, count as u64, micros);
-            }
-        }
-        Ok(())
-    }
-
     /// Records what the desk has answered, if nobody else does so now: whether it did.
     fn record(&self) -> Result<bool, KeepError> {
         let Some(mut guard) = self.recorder.try_lock() else {
             return Ok(false);
         };
         let recorder = &mut *guard;
-        match self.worker.tallies.board() {
-            Some(board) => self.record_noted(board, recorder)?,
-            None => {
-                recorder.record(self.worker.rt, self.worker.alloc, self.worker.desk)?;
-            }
+        let board = self.worker.tallies.board();
+        if let Some(board) = board {
+            board.takes_journal();
         }
+        let recorded = recorder.record(self.worker.rt, self.worker.alloc, self.worker.desk, board);
+        if let Some(board) = board {
+            board.leaves_journal();
+        }
+        recorded?;
         Ok(true)
     }
 

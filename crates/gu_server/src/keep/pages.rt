@@ -63,6 +63,34 @@ pub(crate) fn listen_at<R: Net<Stream = TcpStream, Listener = TcpListener> + Fil
     }
 }
 
+/// Moves a connection on by one read or one write.
+fn step<S: Read + Write>(connection: &mut Connection, stream: &mut S) -> io::Result<()> {
+    if connection.wants_write() {
+        connection.write_to(stream)?;
+    } else {
+        connection.read_from(stream)?;
+    }
+    Ok(())
+}
+
+/// Moves a connection on until it is answered, or has had the time that it may take.
+fn converse<R: Clock, S: Read + Write>(
+    rt: &R,
+    connection: &mut Connection,
+    pages: &mut Pages<'_>,
+    stream: &mut S,
+) -> io::Result<()> {
+    let start = Instant::now(rt)?;
+    for _ in 0..MOST_STEPS {
+        connection.advance(pages);
+        if connection.is_done() || start.elapsed(rt)?.as_secs() >= MOST_TIME {
+            return Ok(());
+        }
+        step(connection, stream)?;
+    }
+    Ok(())
+}
+
 /// Answers what one connection asks for, as the server stands now.
 fn answer<R: Clock + RandomSource, S: Read + Write>(
     rt: &R,
@@ -70,23 +98,11 @@ fn answer<R: Clock + RandomSource, S: Read + Write>(
     board: &Board,
     stream: &mut S,
 ) -> io::Result<()> {
+    let keys = RandomState::new(rt)?;
     let snapshot = board.snapshot()?;
     let mut pages = Pages::new(alloc, &snapshot);
-    let keys = RandomState::new(rt)?;
     let mut connection = Connection::new(alloc, keys, Config::default());
-    let start = Instant::now(rt)?;
-    for _ in 0..MOST_STEPS {
-        connection.advance(&mut pages);
-        if connection.is_done() || start.elapsed(rt)?.as_secs() >= MOST_TIME {
-            return Ok(());
-        }
-        if connection.wants_write() {
-            connection.write_to(stream)?;
-        } else {
-            connection.read_from(stream)?;
-        }
-    }
-    Ok(())
+    converse(rt, &mut connection, &mut pages, stream)
 }
 
 impl Window {

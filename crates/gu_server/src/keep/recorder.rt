@@ -4,8 +4,10 @@
 ghost use Rattle.std.specs.Prelude.{◌≡◌, OnOk};
 ghost use Rattle.gu_desk.specs.Begins.{BeginsWith};
 
+use crate::keep::board::Board;
 use crate::keep::journals::{Record, RecordError};
 use crate::keep::running::KeepError;
+use gu_base::Entry;
 use gu_desk::{Desk, Job, JournalSeat, Ticket};
 use gu_message::SendingTime;
 use gu_session::is_moment;
@@ -13,7 +15,7 @@ use jiff::Timestamp;
 use std::alloc::Global;
 use std::marker::Model;
 use std::sync::Wait;
-use std::time::Clock;
+use std::time::{Clock, Instant};
 
 /// A journal, and its seat at the desk. Once the journal has failed nothing more is recorded.
 ///
@@ -70,6 +72,26 @@ fn moment<R: Clock>(rt: &R) -> Result<SendingTime, KeepError> {
     }
 }
 
+/// Counts a group that is on the disk, and how long that took.
+fn count_group<R: Wait + Clock>(
+    rt: &R,
+    board: Option<&Board>,
+    start: Option<Instant>,
+    group: &[Entry],
+) {
+    let Some(board) = board else {
+        return;
+    };
+    board.keeps(rt, group);
+    let Some(start) = start else {
+        return;
+    };
+    if let Ok(took) = start.elapsed(rt) {
+        let micros = took.as_micros().min(u128::from(u64::MAX)) as u64;
+        board.recorded(rt, group.len() as u64, micros);
+    }
+}
+
 impl<K: Record, J: Job> Recorder<K, J> {
     /// A law: what a ticket rests on whose receipt was met is kept by the journal.
     pub(crate) fn keeps_told(&mut self, desk: &Desk<J>, ticket: Ticket<J>)
@@ -81,31 +103,34 @@ impl<K: Record, J: Job> Recorder<K, J> {
         told_is_kept(desk, &self.journal, &mut self.seat, ticket);
     }
 
-    /// Records what the desk has answered since, and tells those that wait for it that it is kept.
-    /// How many entries these were.
+    /// Records what the desk has answered since, counts it for an operator, and tells those that
+    /// wait for it that it is kept.
     pub(crate) fn record<R: Wait + Clock>(
         &mut self,
         rt: &R,
         alloc: Global,
         desk: &Desk<J>,
-    ) -> Result<usize, KeepError>
+        board: Option<&Board>,
+    ) -> Result<(), KeepError>
         ensures { OnOk result (self.new.kept ≡ self.new.seen) }
     {
         if self.failed {
             return Err(KeepError::Failed);
         }
         let sent = moment(rt)?;
+        let start = Instant::now(rt).ok();
         let Ok(entries) = desk.copy_above(rt, alloc, &mut self.seat) else {
             return Err(KeepError::Memory);
         };
         let count = entries.len();
         if count == 0 {
-            return Ok(0);
+            return Ok(());
         }
         match self.journal.record(sent.as_bytes(), entries.as_slice()) {
             Ok(()) => {
+                count_group(rt, board, start, entries.as_slice());
                 desk.confirm(&mut self.seat, &self.journal);
-                Ok(count)
+                Ok(())
             }
             Err(error) => {
                 self.failed = true;

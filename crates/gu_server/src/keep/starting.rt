@@ -9,13 +9,13 @@ ghost use Rattle.gu_server.specs.Keeping.{is_keep_fault};
 ghost use Rattle.gu_server.specs.Program.{IsServed};
 
 use crate::fault::{Fault, fault_at};
-use crate::keep::board::{Board, number};
-use crate::keep::journals::{Journals, Record};
+use crate::keep::board::{Board, number, text};
+use crate::keep::journals::{Checksum, Journals, Record};
 use crate::keep::recorder::Recorder;
 use crate::keep::running::{KeepError, Polls, make_polls, run_keepers};
 use crate::keep::tallies::Tallies;
 use crate::keep::telling::Teller;
-use crate::keep::watch::{Order, serve_beside};
+use crate::keep::watch::Order;
 use crate::server::{LOGON_WAIT, prepare};
 use crate::service::{Open, listening, new_key};
 use crate::worker::Worker;
@@ -92,11 +92,12 @@ fn end<K: Record + Drop, J: Job, R: Wait + Clock>(
     desk: Desk<J>,
     recorder: Recorder<K, J>,
     seats: Vec<Seat<J>>,
+    board: Option<&Board>,
 ) -> Result<Book, KeepError>
     ensures { IfOk result (λ b. IsRunOf J.opening (stored b)) }
 {
     let mut recorder = recorder;
-    if let Err(error) = recorder.record(rt, alloc, &desk) {
+    if let Err(error) = recorder.record(rt, alloc, &desk, board) {
         drop(desk);
         return Err(error);
     }
@@ -158,11 +159,12 @@ fn run_kept<K: Record + Drop + Send, J: Job + Send + Sync, R: Threads + Wait + C
             return Err(error);
         }
     };
-    if let Some(board) = door.tallies.board() {
+    let board = door.tallies.board();
+    if let Some(board) = board {
         board.takes_journal();
     }
-    let book = end(rt, alloc, desk, recorder.into_inner(), seats);
-    if let Some(board) = door.tallies.board() {
+    let book = end(rt, alloc, desk, recorder.into_inner(), seats, board);
+    if let Some(board) = board {
         board.leaves_journal();
     }
     book
@@ -191,16 +193,16 @@ fn count<R: Clock>(
 /// What a line asks for of the server: the port, 1 to 16 workers, after how many connections it
 /// ends (0: never), and what firms may have.
 #[derive(Clone, Copy)]
-pub(crate) struct Request {
-    pub(crate) port: u16,
-    pub(crate) workers: u32,
-    pub(crate) connections: u32,
-    pub(crate) limits: Limits,
+struct Request {
+    port: u16,
+    workers: u32,
+    connections: u32,
+    limits: Limits,
 }
 
 /// Where connections come in, and what the server's threads wait by.
 #[derive(Drop)]
-pub(crate) struct Entrance {
+struct Entrance {
     listener: TcpListener,
     polls: Polls,
 }
@@ -220,7 +222,7 @@ fn listen<N: Net>(net: &N, alloc: Global, request: Request) -> Result<Entrance, 
 }
 
 /// Serves this book, which the journal says, to those who come in.
-pub(crate) fn serve_listener<K: Record + Drop + Send, R: Threads + Wait + Clock + Sync>(
+fn serve_listener<K: Record + Drop + Send, R: Threads + Wait + Clock + Sync>(
     rt: &R,
     alloc: Global,
     entrance: Entrance,
@@ -261,17 +263,14 @@ pub(crate) fn serve_listener<K: Record + Drop + Send, R: Threads + Wait + Clock 
 }
 
 /// Lets a book and its journal go, since the server can't begin.
-pub(crate) fn let_go<K: Record + Drop>(book: Book, journal: K, error: KeepError) -> KeepError {
+fn let_go<K: Record + Drop>(book: Book, journal: K, error: KeepError) -> KeepError {
     drop(book);
     drop(journal);
     error
 }
 
 /// Serves this book, which the journal says, on a port of 127.0.0.1.
-fn serve_kept<
-    K: Record + Drop + Send + 'static,
-    R: Threads + Wait + Clock + Net + Copy + Send + Sync + 'static,
->(
+fn serve_kept<K: Record + Drop + Send, R: Threads + Wait + Clock + Net + Sync>(
     rt: &R,
     alloc: Global,
     book: Book,
@@ -286,7 +285,7 @@ fn serve_kept<
     ensures { IfOk result (λ b. IsRunOf (stored book) (stored b)) }
 {
     match listen(rt, alloc, request) {
-        Ok(entrance) => serve_beside(rt, alloc, entrance, book, journal, request, board),
+        Ok(entrance) => serve_listener(rt, alloc, entrance, book, journal, request, board),
         Err(error) => Err(let_go(book, journal, error)),
     }
 }
@@ -301,14 +300,30 @@ fn fault_of(alloc: Global, path: &str, error: KeepError) -> Fault
     }
 }
 
-/// Notes that a book was recovered, in so many milliseconds.
-fn note_recovered<R: Wait + Clock>(rt: &R, board: &Board, book: &Book, millis: u64) {
+/// Notes that a book was recovered, in so many milliseconds, from a file with this checksum.
+fn note_recovered<R: Wait + Clock>(
+    rt: &R,
+    board: &Board,
+    book: &Book,
+    checksum: Option<Checksum>,
+    millis: u64,
+) {
     board.count_book(book);
-    let fields = [
-        number(Key::Entries, board.entries()),
-        number(Key::Milliseconds, millis),
-    ];
-    board.say(rt, Event::Recovered, &fields);
+    let entries = number(Key::Entries, board.entries());
+    let took = number(Key::Milliseconds, millis);
+    match checksum {
+        Some(checksum) => {
+            let fields = [
+                entries,
+                number(Key::Bytes, checksum.bytes as u64),
+                text(Key::JournalDigest, &checksum.sha512),
+                took,
+            ];
+            board.say(rt, Event::Recovered, &fields);
+        }
+        None => board.say(rt, Event::Recovered, &[entries, took]),
+    }
+    board.warn(rt);
 }
 
 /// Opens the journal that is asked for. Its book has a key that nobody knows.
@@ -340,7 +355,7 @@ fn open_journal<R: Wait + Clock + RandomSource, K: Journals>(
         &mut teller,
     ) {
         Ok((book, journal)) => {
-            note_recovered(rt, board, &book, teller.millis());
+            note_recovered(rt, board, &book, journal.checksum(), teller.millis());
             Ok((book, journal))
         }
         Err(fault) => Err(fault),
@@ -354,10 +369,7 @@ fn open_journal<R: Wait + Clock + RandomSource, K: Journals>(
 /// # Errors
 ///
 /// `Journal`, where the journal can't be opened, isn't one of this house or failed; else `Keep`.
-pub(crate) fn keep_port<
-    R: Threads + Wait + Clock + Net + RandomSource + Copy + Send + Sync + 'static,
-    K: Journals,
->(
+pub(crate) fn keep_port<R: Threads + Wait + Clock + Net + RandomSource + Sync, K: Journals>(
     rt: &R,
     alloc: Global,
     journals: K,

@@ -25,6 +25,7 @@ struct Closures {
 }
 
 impl Closures {
+    /// None yet.
     fn new() -> Closures {
         Closures {
             entries: AtomicU64::new(0),
@@ -58,6 +59,7 @@ struct Tally {
 }
 
 impl Tally {
+    /// Nothing counted yet.
     fn new() -> Tally {
         Tally {
             entries: AtomicU64::new(0),

@@ -6,7 +6,7 @@ use gu_log::{Event, Key};
 use std::sync::Wait;
 use std::time::{Clock, Instant};
 
-/// Tells each second how far a journal is read.
+/// Tells each second how far a journal is read, and the watch that it is read on.
 #[derive(Drop)]
 pub(crate) struct Teller<'a, R> {
     rt: &'a R,
@@ -44,6 +44,7 @@ impl<'a, R: Clock> Teller<'a, R> {
 
 impl<R: Wait + Clock> Progress for Teller<'_, R> {
     fn read(&mut self, bytes: usize, entries: u32) {
+        self.board.takes_journal();
         let second = self.millis() / 1000;
         if second > self.told {
             self.told = second;

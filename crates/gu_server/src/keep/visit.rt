@@ -1,10 +1,12 @@
 //! What an operator is told of a connection.
 
-use crate::keep::board::{Board, Work, number, text};
-use crate::keep::first_message::{said_by, why_refused};
+use crate::keep::board::{Board, number, text};
+use crate::keep::cell::Work;
+use crate::keep::first_message::{said_by, said_last, why_refused};
 use gu_base::FirmId;
 use gu_log::{Event, Key};
 use gu_parties::House;
+use gu_status::REASONS;
 use std::alloc::Global;
 use std::net::TcpStream;
 use std::sync::Wait;
@@ -21,15 +23,17 @@ pub(crate) struct Visit {
     peer: String,
     /// The second in which it was taken.
     since: u64,
-    /// What was read and called on it, and how many bytes were sent.
+    /// What was read and called on it, the calls that were refused by the refusal's number, from 1
+    /// on, and how many bytes were sent.
     work: Work,
+    reasons: [u64; REASONS],
     sent: u64,
     /// Its first bytes, while it has no Logon.
     first: Vec<u8>,
     /// Whether the Logon was told.
     is_told: bool,
-    /// Whether its peer has closed it.
-    pub(crate) is_gone: bool,
+    /// Why its session has ended, once it has.
+    why: String,
 }
 
 /// The address of a peer, in words.
@@ -40,6 +44,21 @@ fn peer_of(alloc: Global, stream: &TcpStream) -> String {
         }
     }
     String::new(alloc)
+}
+
+/// How many calls were refused for each reason, by the refusal's number: as `3:1,14:2`.
+fn reasons_text(alloc: Global, reasons: &[u64; REASONS]) -> String {
+    let mut text = String::new(alloc);
+    for i in 0..REASONS {
+        if reasons[i] == 0 {
+            continue;
+        }
+        let comma = if text.is_empty() { "" } else { "," };
+        if let Ok(reason) = format!(in alloc; "{comma}{}:{}", i + 1, reasons[i]) {
+            let _ = text.push_str(reason.as_str());
+        }
+    }
+    text
 }
 
 impl Visit {
@@ -59,10 +78,11 @@ impl Visit {
             peer: peer_of(alloc, stream),
             since: second,
             work: Work::default(),
+            reasons: [0; REASONS],
             sent: 0,
             first: Vec::new(alloc),
             is_told: false,
-            is_gone: false,
+            why: String::new(alloc),
         }
     }
 
@@ -74,18 +94,41 @@ impl Visit {
 
     /// The turn has ended, which has read into this piece.
     pub(crate) fn end(&mut self, board: &Board, worker: u32, before: Work, piece: &[u8]) {
-        let after = board.work(worker);
-        let read = after.read.saturating_sub(before.read);
-        self.work.read = self.work.read.saturating_add(read);
-        let calls = after.calls.saturating_sub(before.calls);
-        self.work.calls = self.work.calls.saturating_add(calls);
-        let accepted = after.accepted.saturating_sub(before.accepted);
-        self.work.accepted = self.work.accepted.saturating_add(accepted);
-        self.is_gone = self.is_gone || after.gone > before.gone;
+        let done = board.work(worker).since(before);
+        let read = done.read;
+        self.work = self.work.with(done);
+        if done.refused > 0 {
+            board.hand_over(worker, &mut self.reasons);
+        }
         if !self.is_told && self.first.len() < MOST_FIRST {
             let room = MOST_FIRST - self.first.len();
             let len = piece.len().min(read.min(room as u64) as usize);
             let _ = self.first.extend_from_slice(&piece[..len]);
+        }
+    }
+
+    /// Notes why its session has ended, by the last frames that it sends.
+    pub(crate) fn note_end(&mut self, frames: &[u8]) {
+        if let Some(said) = said_last(frames) {
+            if let Ok(said) = std::str::from_utf8(said) {
+                let _ = self.why.push_str(said);
+            }
+        }
+    }
+
+    /// Whether its peer has closed it.
+    pub(crate) fn is_gone(&self) -> bool {
+        self.work.gone > 0
+    }
+
+    /// Why it has ended.
+    fn why(&self) -> &str {
+        if self.is_gone() {
+            "the peer has closed"
+        } else if self.why.is_empty() {
+            "the session has ended"
+        } else {
+            self.why.as_str()
         }
     }
 
@@ -109,40 +152,49 @@ impl Visit {
         board.say(rt, Event::LoggedOn, &fields);
     }
 
-    /// Says that it has ended in this second, and why; or that it had no Logon that was accepted.
-    pub(crate) fn say_end<R: Wait + Clock>(
+    /// Says that it has ended in this second without a Logon that was accepted, and why.
+    pub(crate) fn say_refusal<R: Wait + Clock>(
         &self,
         rt: &R,
         board: &Board,
         house: &House,
-        firm: Option<FirmId>,
         second: u64,
-        why: &str,
     ) {
-        let Some(firm) = firm else {
-            let fields = [
-                number(Key::Connection, self.number),
-                text(Key::Peer, self.peer.as_bytes()),
-                text(Key::Said, said_by(self.first.as_slice())),
-                text(
-                    Key::Why,
-                    why_refused(house, self.first.as_slice()).as_bytes(),
-                ),
-                number(Key::Seconds, second.saturating_sub(self.since)),
-            ];
-            board.say(rt, Event::LogonRefused, &fields);
-            return;
+        let first = self.first.as_slice();
+        let fields = [
+            number(Key::Connection, self.number),
+            text(Key::Peer, self.peer.as_bytes()),
+            text(Key::Said, said_by(first)),
+            text(Key::Why, why_refused(house, first).as_bytes()),
+            number(Key::Seconds, second.saturating_sub(self.since)),
+        ];
+        board.say(rt, Event::LogonRefused, &fields);
+    }
+
+    /// Says that it has ended in this second, of a firm that had logged on; and why, which it knows
+    /// itself where no reason is given.
+    pub(crate) fn say_end<R: Wait + Clock>(
+        &self,
+        rt: &R,
+        board: &Board,
+        firm: &FirmId,
+        second: u64,
+        why: Option<&'static str>,
+    ) {
+        let why = match why {
+            Some(why) => why,
+            None => self.why(),
         };
+        let reasons = reasons_text(board.alloc(), &self.reasons);
         let fields = [
             number(Key::Connection, self.number),
             text(Key::Firm, firm.as_bytes()),
             number(Key::Seconds, second.saturating_sub(self.since)),
-            number(Key::Calls, self.work.calls),
+            number(Key::Calls, self.work.calls()),
             number(Key::Accepted, self.work.accepted),
-            number(
-                Key::Refused,
-                self.work.calls.saturating_sub(self.work.accepted),
-            ),
+            number(Key::Repeated, self.work.repeated),
+            number(Key::Refused, self.work.refused),
+            text(Key::RefusedBy, reasons.as_bytes()),
             number(Key::BytesIn, self.work.read),
             number(Key::BytesOut, self.sent),
             text(Key::Why, why.as_bytes()),

@@ -1,28 +1,26 @@
-//! A server on a thread of its own, and the watch that looks after it. What asks the system for
-//! sockets is done before, on the thread that watches.
+//! A server on a thread of its own, from the first byte of its journal on, and the watch that looks
+//! after it.
 //!
 //! Where a part of the server stands still the watch doesn't wait for it: it gives a fault back,
 //! and whoever called ends the program, which cuts the threads off.
 
-ghost use Rattle.std.specs.Prelude.{◌≡◌, IfOk, IfErr, IsTrue};
+ghost use Rattle.std.specs.Prelude.{IfOk, IfErr, IsTrue};
 ghost use Rattle.gu_book.specs.Seen.{stored};
-ghost use Rattle.gu_desk.specs.Runs.{IsRunOf};
 ghost use Rattle.gu_desk.specs.Views.{is_worker_count};
 ghost use Rattle.gu_server.specs.Keeping.{is_keep_fault};
 ghost use Rattle.gu_server.specs.Program.{IsServed};
 
-use crate::VERSION;
 use crate::fault::Fault;
 use crate::keep::board::{Board, number, text};
-use crate::keep::journals::{Journals, Record};
+use crate::keep::journals::Journals;
 use crate::keep::log::{Log, Written};
 use crate::keep::pages::{Window, listen_at};
 use crate::keep::running::KeepError;
-use crate::keep::starting::{Entrance, Request, keep_port, let_go, serve_listener};
+use crate::keep::saying::say_started;
+use crate::keep::starting::keep_port;
 use crate::options::KeepOptions;
-use crossbeam_channel::{Receiver, RecvTimeoutError};
+use crossbeam_channel::{Receiver, RecvTimeoutError, Sender};
 use gu_book::Book;
-use gu_journal::HouseDigest;
 use gu_log::{Event, Key};
 use gu_message::entry;
 use gu_parties::House;
@@ -56,6 +54,10 @@ pub(crate) struct Order {
     pub(crate) options: KeepOptions,
 }
 
+/// What ties a server's thread to the watch: both ends of a channel that is closed once the thread
+/// has ended, and the board.
+type Tie = (Sender<u8>, Receiver<u8>, Arc<Board>);
+
 /// The port that a word means, if it is the number of one.
 fn port_meant(word: &str) -> Option<u16> {
     match entry(word.as_bytes()) {
@@ -64,16 +66,19 @@ fn port_meant(word: &str) -> Option<u16> {
     }
 }
 
-/// That a server gives a book back that calls made of this one.
+/// That a server of this house gives a book back that calls made of the opening one, or a fault of
+/// its own.
 #[derive(Drop)]
-struct OfBook(Snapshot<Book>);
+struct OfHouse(Snapshot<House>);
 
-impl Promise<Result<Book, KeepError>> for OfBook {
-    ghost use Rattle.std.specs.Prelude.{IfOk};
+impl Promise<Result<Book, Fault>> for OfHouse {
+    ghost use Rattle.std.specs.Prelude.{IfOk, IfErr, IsTrue};
     ghost use Rattle.gu_book.specs.Seen.{stored};
-    ghost use Rattle.gu_desk.specs.Runs.{IsRunOf};
+    ghost use Rattle.gu_server.specs.Keeping.{is_keep_fault};
+    ghost use Rattle.gu_server.specs.Program.{IsServed};
 
-    ghost kept_by = { λ p r. IfOk r (λ b. IsRunOf (stored p.0.value) (stored b)) };
+    ghost kept_by = { λ p r. IfOk r (λ b. IsServed p.0.value (stored b))
+        × IfErr r (λ e. IsTrue (is_keep_fault e)) };
 }
 
 /// Says which part stands still.
@@ -107,74 +112,56 @@ fn watch<R: Wait + Clock>(rt: &R, ended: &Receiver<u8>, board: &Board) -> Option
     unreachable!()
 }
 
-/// Serves this book, which the journal says, on a thread of its own, until all connections have
+/// Opens a journal and serves its book, as `keep_port` does, on a thread of its own, until that has
 /// ended or a part of the server stands still.
-#[tactic(auto, using(crate::proofs::Sent::book_sent, crate::proofs::Sent::result_sent))]
-pub(crate) fn serve_beside<
-    K: Record + Drop + Send + 'static,
-    R: Threads + Wait + Clock + Copy + Send + Sync + 'static,
+#[tactic(auto, using(crate::proofs::Sent::served_sent))]
+fn keep_beside<
+    R: Threads
+        + Wait
+        + Clock
+        + Net<Stream = TcpStream, Listener = TcpListener>
+        + RandomSource
+        + Copy
+        + Send
+        + Sync
+        + 'static,
+    K: Journals + Drop + Send + 'static,
 >(
     rt: &R,
     alloc: Global,
-    entrance: Entrance,
-    book: Book,
-    journal: K,
-    request: Request,
-    board: &Arc<Board>,
-) -> Result<Book, KeepError>
-    requires workers { IsTrue (is_worker_count request.workers) }
-    requires says { K.says journal book.history }
-    requires takes { K.takes journal }
-    requires house { K.house journal ≡ book.house }
-    ensures { IfOk result (λ b. IsRunOf (stored book) (stored b)) }
+    journals: K,
+    text: Vec<u8>,
+    house: House,
+    order: Order,
+    board: &Board,
+    tie: Tie,
+) -> Result<Book, Fault>
+    requires workers { IsTrue (is_worker_count order.workers) }
+    ensures served { IfOk result (λ b. IsServed house (stored b)) }
+    ensures fault { IfErr result (λ e. IsTrue (is_keep_fault e)) }
 {
-    let (Ok((running, ended)), Ok(shared)) = (
-        crossbeam_channel::bounded::<u8, Global>(alloc, 1),
-        Arc::try_clone(board),
-    ) else {
-        return Err(let_go(book, journal, KeepError::Memory));
-    };
-    let promise = OfBook(Snapshot::of(&book));
+    let (running, ended, shared) = tie;
+    let promise = OfHouse(Snapshot::of(&house));
     let there = *rt;
     let server = move ||
-        requires workers { IsTrue (is_worker_count request.workers) }
-        requires says { K.says journal book.history }
-        requires takes { K.takes journal }
-        requires house { K.house journal ≡ book.house }
-        ensures { IfOk result (λ b. IsRunOf (stored book) (stored b)) }
+        requires workers { IsTrue (is_worker_count order.workers) }
+        ensures served { IfOk result (λ b. IsServed house (stored b)) }
+        ensures fault { IfErr result (λ e. IsTrue (is_keep_fault e)) }
     {
-        let served = serve_listener(&there, alloc, entrance, book, journal, request, &shared);
+        let served = keep_port(&there, alloc, journals, &text, house, &order, &shared);
         drop(running);
         served
     };
     let Ok(child) = thread::spawn_with(rt, promise, server) else {
-        return Err(KeepError::NoThread);
+        return Err(Fault::Keep(KeepError::NoThread));
     };
     match watch(rt, &ended, board) {
         None => child.join(rt),
         Some(part) => {
             say_stuck(rt, alloc, board, part);
-            Err(KeepError::Stuck)
+            Err(Fault::Keep(KeepError::Stuck))
         }
     }
-}
-
-/// Says that the program has begun, by a house file with these bytes.
-fn say_started<R: Wait + Clock>(rt: &R, alloc: Global, board: &Board, order: &Order, file: &[u8]) {
-    let pin = HouseDigest::of(file);
-    let digest = match format!(in alloc; "{pin}") {
-        Ok(digest) => digest,
-        Err(_) => String::new(alloc),
-    };
-    let fields = [
-        text(Key::Version, VERSION.as_bytes()),
-        text(Key::House, order.house.as_bytes()),
-        text(Key::HouseDigest, digest.as_bytes()),
-        text(Key::Journal, order.journal.as_bytes()),
-        number(Key::Port, u64::from(order.port)),
-        number(Key::Workers, u64::from(order.workers)),
-    ];
-    board.say(rt, Event::Started, &fields);
 }
 
 /// Answers those who ask for pages, on a thread of its own, if that is asked for.
@@ -203,6 +190,29 @@ fn open_pages<
     match thread::spawn(rt, move || window.answer_all(&there, alloc, shared)) {
         Ok(_) => Ok(()),
         Err(_) => Err(KeepError::NoThread),
+    }
+}
+
+/// Opens the pages that an order asks for, and makes what ties the server's thread to the watch.
+fn open_told<
+    R: Threads
+        + Wait
+        + Clock
+        + Net<Stream = TcpStream, Listener = TcpListener>
+        + RandomSource
+        + Files
+        + Copy
+        + Send
+        + Sync
+        + 'static,
+>(rt: &R, alloc: Global, order: &Order, board: &Arc<Board>) -> Result<Tie, KeepError> {
+    open_pages(rt, alloc, order, board)?;
+    match (
+        crossbeam_channel::bounded::<u8, Global>(alloc, 1),
+        Arc::try_clone(board),
+    ) {
+        (Ok((running, ended)), Ok(shared)) => Ok((running, ended, shared)),
+        _ => Err(KeepError::Memory),
     }
 }
 
@@ -258,7 +268,7 @@ fn open_board<R: Threads + Wait + Eprint + Copy + Send + Sync + 'static>(
     }
 }
 
-/// Opens the pages that an order asks for, and serves.
+/// Opens the pages that an order asks for, and serves, on a thread of its own.
 fn keep_told<
     R: Threads
         + Wait
@@ -270,27 +280,62 @@ fn keep_told<
         + Send
         + Sync
         + 'static,
-    K: Journals + Drop,
+    K: Journals + Drop + Send + 'static,
 >(
     rt: &R,
     alloc: Global,
     journals: K,
-    text: &[u8],
+    text: Vec<u8>,
     house: House,
-    order: &Order,
+    order: Order,
     board: &Arc<Board>,
 ) -> Result<Book, Fault>
-    requires { IsTrue (is_worker_count order.now.workers) }
+    requires { IsTrue (is_worker_count order.workers) }
     ensures served { IfOk result (λ b. IsServed house (stored b)) }
     ensures fault { IfErr result (λ e. IsTrue (is_keep_fault e)) }
 {
-    match open_pages(rt, alloc, order, board) {
-        Ok(()) => keep_port(rt, alloc, journals, text, house, order, board),
+    match open_told(rt, alloc, &order, board) {
+        Ok(tie) => keep_beside(rt, alloc, journals, text, house, order, board, tie),
         Err(error) => {
             drop(journals);
+            drop(house);
             Err(Fault::Keep(error))
         }
     }
+}
+
+/// Says what begins, serves, and says what has ended.
+fn keep_said<
+    R: Threads
+        + Wait
+        + Clock
+        + Net<Stream = TcpStream, Listener = TcpListener>
+        + RandomSource
+        + Files
+        + Copy
+        + Send
+        + Sync
+        + 'static,
+    K: Journals + Drop + Send + 'static,
+>(
+    rt: &R,
+    alloc: Global,
+    journals: K,
+    text: Vec<u8>,
+    house: House,
+    order: Order,
+    board: &Arc<Board>,
+    written: &Written,
+) -> Result<Book, Fault>
+    requires { IsTrue (is_worker_count order.workers) }
+    ensures served { IfOk result (λ b. IsServed house (stored b)) }
+    ensures fault { IfErr result (λ e. IsTrue (is_keep_fault e)) }
+{
+    say_started(rt, alloc, board, &order, &text);
+    let served = keep_told(rt, alloc, journals, text, house, order, board);
+    say_stopped(rt, alloc, board, &served);
+    let _ = board.log().end(rt, alloc, written);
+    served
 }
 
 /// Serves as an order asks for, of a book that a journal of this house keeps, whose file has these
@@ -312,7 +357,7 @@ pub(crate) fn keep_watched<
         + Send
         + Sync
         + 'static,
-    K: Journals + Drop,
+    K: Journals + Drop + Send + 'static,
 >(
     rt: &R,
     alloc: Global,
@@ -325,16 +370,14 @@ pub(crate) fn keep_watched<
     ensures served { IfOk result (λ b. IsServed house (stored b)) }
     ensures fault { IfErr result (λ e. IsTrue (is_keep_fault e)) }
 {
-    let (board, written) = match open_board(rt, alloc, &house, &order) {
-        Ok(opened) => opened,
+    match open_board(rt, alloc, &house, &order) {
+        Ok((board, written)) => {
+            keep_said(rt, alloc, journals, text, house, order, &board, &written)
+        }
         Err(error) => {
             drop(journals);
-            return Err(Fault::Keep(error));
+            drop(house);
+            Err(Fault::Keep(error))
         }
-    };
-    say_started(rt, alloc, &board, &order, text.as_slice());
-    let served = keep_told(rt, alloc, journals, text.as_slice(), house, &order, &board);
-    say_stopped(rt, alloc, &board, &served);
-    let _ = board.log().end(rt, alloc, &written);
-    served
+    }
 }

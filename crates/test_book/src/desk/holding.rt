@@ -14,6 +14,7 @@ pub(crate) struct Turns {
 }
 
 impl Turns {
+    /// No call came yet.
     pub(crate) fn new() -> Turns {
         Turns {
             came: 0,
@@ -36,6 +37,7 @@ pub(crate) struct Holds<'a, R: Wait + Clock> {
 }
 
 impl<'a, R: Wait + Clock> Holds<'a, R> {
+    /// A gate over these turns.
     pub(crate) fn new(rt: &'a R, turns: &'a Mutex<Turns>) -> Holds<'a, R> {
         Holds { rt, turns }
     }

@@ -114,6 +114,7 @@ fn beside(terms: &Terms, entry: u32) -> u64 {
     }
 }
 
+/// Takes these entries out.
 fn take_out(terms: &mut Terms, entries: &[u32]) {
     for entry in entries {
         if let Some(number) = Number::new(*entry) {

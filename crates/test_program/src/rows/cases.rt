@@ -1,4 +1,5 @@
-//! Cases as lines.
+//! The cases of the batch as lines of data: a name, how the input is given and the output taken,
+//! and the text of the input.
 
 use std::alloc::Global;
 
@@ -29,6 +30,7 @@ pub(crate) struct Case<'a> {
     pub(crate) text: &'a str,
 }
 
+/// The way of this name.
 fn way_of(text: &str) -> Option<Way> {
     match text {
         "whole" => Some(Way::Whole),

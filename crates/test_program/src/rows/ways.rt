@@ -118,6 +118,7 @@ fn tell_run(rt: &HostRuntime, alloc: Global, name: &str, outcome: Option<Outcome
     }
 }
 
+/// What comes of the input in pieces of some sizes.
 fn in_pieces(rt: &HostRuntime, alloc: Global, row: &Row<'_>) {
     for most in [1usize, 7, 134] {
         say(rt, "pieces of ");
@@ -150,6 +151,7 @@ fn same_cuts(alloc: Global, row: &Row<'_>, whole: &Outcome) -> u64 {
     same
 }
 
+/// What comes of the input cut in two at each place.
 fn in_two(rt: &HostRuntime, alloc: Global, row: &Row<'_>) {
     let Some(whole) = run_whole(alloc, row) else {
         return say_line(rt, "no run");

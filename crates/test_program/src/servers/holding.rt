@@ -31,6 +31,7 @@ fn is_set(rt: &HostRuntime, flag: &AtomicU64) -> bool {
 }
 
 impl<'a> Holds<'a> {
+    /// No call came yet, and none may go on.
     pub(crate) fn new(rt: &'a HostRuntime, alloc: Global) -> Holds<'a> {
         Holds {
             rt,

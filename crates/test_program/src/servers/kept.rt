@@ -34,6 +34,7 @@ struct Run<'a> {
     clients: &'a [Client<'a>],
 }
 
+/// The house logs on.
 const HOUSE_LOGON: Message<'static> = Message {
     firm: b"HSE",
     kind: b"A",
@@ -50,6 +51,7 @@ const HOUSE_TRADE: Message<'static> = Message {
         1=A1\x01",
 };
 
+/// The house enters a trade, then AAA splits it.
 const CLIENTS: &[Client<'static>] = &[
     Client {
         who: b"the house",
@@ -63,6 +65,7 @@ const CLIENTS: &[Client<'static>] = &[
     },
 ];
 
+/// A journal that keeps what is told, and one that is full.
 const RUNS: &[Run<'static>] = &[
     Run {
         words: "keep servers.house kept --port PORT --workers 2 --connections 2",

@@ -41,6 +41,7 @@ pub(crate) const PLAYS: &[Play<'static>] = &[
     },
 ];
 
+/// The first trade, of AAA.
 const AAA_TRADE: Trades<'static> = Trades {
     firm: b"AAA",
     account: b"A1",
@@ -49,6 +50,7 @@ const AAA_TRADE: Trades<'static> = Trades {
     last: 1,
 };
 
+/// The second one, of CCC.
 const CCC_TRADE: Trades<'static> = Trades {
     firm: b"CCC",
     account: b"C1",
@@ -57,6 +59,7 @@ const CCC_TRADE: Trades<'static> = Trades {
     last: 2,
 };
 
+/// A thousand trades of AAA.
 const THOUSAND_TRADES: Trades<'static> = Trades {
     firm: b"AAA",
     account: b"A1",
@@ -68,6 +71,7 @@ const THOUSAND_TRADES: Trades<'static> = Trades {
 /// The body of a Logon.
 pub(crate) const LOGON: &[u8] = b"98=0\x01108=30\x011137=9\x01";
 
+/// AAA logs on.
 pub(crate) const AAA_LOGON: Message<'static> = Message {
     firm: b"AAA",
     kind: b"A",
@@ -75,6 +79,7 @@ pub(crate) const AAA_LOGON: Message<'static> = Message {
     body: LOGON,
 };
 
+/// CCC logs on.
 const CCC_LOGON: Message<'static> = Message {
     firm: b"CCC",
     kind: b"A",
@@ -82,6 +87,7 @@ const CCC_LOGON: Message<'static> = Message {
     body: LOGON,
 };
 
+/// DDD, which is no firm of the house, would log on.
 const DDD_LOGON: Message<'static> = Message {
     firm: b"DDD",
     kind: b"A",
@@ -89,6 +95,7 @@ const DDD_LOGON: Message<'static> = Message {
     body: LOGON,
 };
 
+/// AAA logs out.
 const AAA_LOGOUT: Message<'static> = Message {
     firm: b"AAA",
     kind: b"5",
@@ -112,6 +119,7 @@ const AAA_SPLIT_IN_TWO: Message<'static> = Message {
     body: b"70=S1\x0171=0\x01626=23\x0172=1.0\x0178=2\x0179=A1\x0180=60\x0179=A2\x0180=40\x01",
 };
 
+/// CCC's trade stays in its account.
 const CCC_SPLIT: Message<'static> = Message {
     firm: b"CCC",
     kind: b"J",
@@ -119,6 +127,7 @@ const CCC_SPLIT: Message<'static> = Message {
     body: b"70=S1\x0171=0\x01626=23\x0172=2.0\x0178=1\x0179=C1\x0180=10\x01",
 };
 
+/// CCC asks for a Heartbeat.
 const CCC_TEST: Message<'static> = Message {
     firm: b"CCC",
     kind: b"1",
@@ -126,6 +135,7 @@ const CCC_TEST: Message<'static> = Message {
     body: b"112=HERE\x01",
 };
 
+/// CCC logs out.
 const CCC_LOGOUT: Message<'static> = Message {
     firm: b"CCC",
     kind: b"5",

@@ -1,6 +1,6 @@
-use Rattle.std.proofs.Common.{◌<◌, refl, ap, arith}
-use Rattle.gu_tree.specs.{Rose.{Rose, head_of}, Grove.last_place}
 use Rattle.gu_book.proofs.FiledChanges.{trade_filed}
+use Rattle.gu_tree.specs.{Rose.{Rose, head_of}, Grove.last_place}
+use Rattle.std.proofs.Common.{◌<◌, refl, ap, arith}
 use Rattle.gu_book.proofs.grove.plant.Goals as goal
 
 pub plant-requires-clause-sapling : goal.plant-requires-clause-sapling
@@ -11,11 +11,11 @@ plant-requires-clause-above c =
     let due = c.requires.due in
     let above : last_place c.args.trees.now < c.args.made.now.number = due.2.later in
     let entry = ap (λ (t : Rose). (head_of t).name.entry) c.new.ensures.root in
-    omega (arith, above, entry)
+    omega arith
 
 pub returns-clause-follows : goal.returns-clause-follows
 returns-clause-follows c = λ t l next.
     let name = ap (λ (t : Rose). (head_of t).name) c.new.ensures.root in
     let entry = ap (λ (t : Rose). (head_of t).name.entry) c.new.ensures.root in
-    trade_filed next c.args.place c.args.lots c.requires.trade c.plant.new.self c.new.result c.new.ensures.shows
+    trade_filed next _ _ c.requires.trade _ _ c.new.ensures.shows
     (rw entry at c.plant.ensures.tree) (rw name at c.plant.ensures.place)

@@ -1,10 +1,10 @@
+use Rattle.gu_base.specs.{declared.entry.Record.Record, House.House}
+use Rattle.gu_book.proofs.{FiledChanges.{may_split, has_accounts, part_count, not_deep, split_filed}, Filed.Spot}
+use Rattle.gu_book.proofs.{OnePlace.{named_spot, never_none}, grove.split.Goals.In-Some}
+use Rattle.gu_book.specs.{Live.record_of, Filed.IsNext}
+use Rattle.gu_tree.specs.Shown.{named_node}
 use Rattle.std.proofs.Common.{ap, List}
 use Rattle.std.specs.Prelude.{OnOk, Result, Ok, Err}
-use Rattle.gu_tree.specs.Shown.{named_node}
-use Rattle.gu_base.specs.{House.House, declared.entry.Record.Record}
-use Rattle.gu_book.specs.{Filed.IsNext, Live.record_of}
-use Rattle.gu_book.proofs.{Filed.Spot, OnePlace.{named_spot, never_none}, grove.split.Goals.In-Some}
-use Rattle.gu_book.proofs.FiledChanges.{may_split, has_accounts, part_count, not_deep, split_filed}
 use Rattle.gu_book.proofs.grove.split.Goals as goal
 
 pub unreachable-requires : goal.unreachable-requires
@@ -15,9 +15,7 @@ unreachable-requires c =
 -- where the node lies that the split names
 here : (c : In-Some) → {t : House} {l : List Record} → IsNext t l (record_of c.args.made.now) c.args.trees.now
     → Spot l c.args.trees.now c.in-Some.named.found.trade c.args.sought.now.path.items c.requires.split.0
-here c next =
-    named_spot next c.args.sought.now.named c.args.sought.now.path.items c.requires.there c.requires.split.0
-    (ap named_node c.requires.split.1) c.in-Some.named c.in-Some.is
+here c next = named_spot next _ _ c.requires.there _ (cc) _ c.in-Some.is
 
 pub split-requires : goal.split-requires
 split-requires c =
@@ -25,11 +23,11 @@ split-requires c =
     let s = here (goal.at.split-requires c).In-Some next in
     let is = c.requires.split.1 in
     record {
-      leaf = may_split next s c.args.parts.now is;
-      accounts = has_accounts next s c.args.parts.now is;
-      some = (part_count next s c.args.parts.now is).0;
-      most = (part_count next s c.args.parts.now is).1;
-      shallow = not_deep next s c.args.parts.now is;
+      leaf = may_split next s _ is;
+      accounts = has_accounts next s _ is;
+      some = (part_count next s _ is).0;
+      most = (part_count next s _ is).1;
+      shallow = not_deep next s _ is;
       above = next.later;
       place_room = c.requires.place_room;
     }
@@ -43,5 +41,5 @@ pub returns-clause-follows : goal.returns-clause-follows
 returns-clause-follows c =
     on_ok c.split.result c.split.ensures.tree c.split.ensures.place c.split.ensures.shows (λ tree place shows t l next.
     let s = here (goal.at.returns-clause-follows c).In-Some next in
-    split_filed next s c.args.parts.now c.requires.split.1 c.split.new.self (record { tree = tree; place = place })
+    split_filed next s _ c.requires.split.1 _ (record { tree = tree; place = place })
     shows)

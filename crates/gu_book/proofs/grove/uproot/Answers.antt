@@ -6,4 +6,4 @@ uproot-requires c = record { sapling = sapling_there c.requires.may_go.2 c.requi
 
 pub returns-clause-gone : goal.returns-clause-gone
 returns-clause-gone c = λ t l u.
-    root_gone u c.requires.trade c.uproot.new.self c.uproot.ensures.tree c.uproot.ensures.place
+    root_gone u c.requires.trade _ c.uproot.ensures.tree c.uproot.ensures.place

@@ -1,4 +1,3 @@
-use Rattle.gu_depend.proofs.Vocabulary.{live}
 use Rattle.gu_base.proofs.LegalLaws.{replay_from_legal}
 use Rattle.gu_book.proofs.Positions as balance
 use Rattle.gu_book.proofs.Leaves as sums
@@ -7,11 +6,9 @@ use Rattle.gu_book.proofs.laws.lots_and_fees_are_conserved.Goals as goal
 pub returns-clause-leaves : goal.returns-clause-leaves
 returns-clause-leaves c =
     let book = c.args.book.now in
-    sums.leaves_sum book.house (live book.history)
-    (replay_from_legal book.house (live book.history) c.history.ensures.legal) (sums.live_rises book.history)
+    sums.leaves_sum book.house _ (replay_from_legal _ _ c.history.ensures.legal) (sums.live_rises book.history)
 
 pub returns-clause-positions : goal.returns-clause-positions
 returns-clause-positions c =
     let book = c.args.book.now in
-    balance.positions_sum book.house (live book.history)
-    (replay_from_legal book.house (live book.history) c.history.ensures.legal) (sums.live_rises book.history)
+    balance.positions_sum _ _ (replay_from_legal _ _ c.history.ensures.legal) (sums.live_rises book.history)

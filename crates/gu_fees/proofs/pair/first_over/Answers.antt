@@ -1,6 +1,5 @@
-use Rattle.std.proofs.Common.{arith}
-use Rattle.std.proofs.lemmas.Grind.{common_steps}
 use Rattle.gu_fees.proofs.pair.first_over.Goals as goal
+use Rattle.std.proofs.{Common.arith, lemmas.Grind.common_steps}
 
 pub returns-then-limit-used : goal.returns-then-limit-used
 returns-then-limit-used c = grind (arith, common_steps)

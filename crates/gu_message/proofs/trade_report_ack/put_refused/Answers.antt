@@ -5,12 +5,5 @@ use Rattle.gu_message.proofs.trade_report_ack.put_refused.Goals as goal
 
 pub returns-clause-text : goal.returns-clause-text
 returns-clause-text c =
-    rw (
-      c.put.ensures.text,
-      c.put_refusal-at.ensures.text,
-      c.put-at-3.ensures.text,
-      c.put-at-2.ensures.text,
-      c.put-at.ensures.text,
-      c.as_bytes.ensures.value,
-    )
+    rw c.put_refused_call.ensures.text
     (refused_trade_text (take c.args.at c.args.bytes.now) c.args.id.now (refusal_text c.args.refusal.now))

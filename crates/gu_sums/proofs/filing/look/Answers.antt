@@ -1,12 +1,11 @@
 use Rattle.std.proofs.Common.{sym, ◌∙◌, ap}
-use Rattle.gu_sums.specs.declared.filing.Filed.{Filed}
-use Rattle.gu_sums.proofs.Filings.{at_found, at_nowhere}
+use Rattle.gu_sums.{specs.declared.filing.Filed.Filed, proofs.Filings.{at_found, at_nowhere}}
 use Rattle.gu_sums.proofs.filing.look.Goals as goal
 
 pub returns-in-Some : goal.returns-in-Some
 returns-in-Some g c =
     ap (λ (z : Filed _). z.kept) (sym c.index-filed-i.is)
-    ∙ at_found 0 _ c.args.number c.in-Some.i c.index-filed-i.result c.requires c.in-Some.ensures.found
+    ∙ at_found 0 _ _ _ _ c.requires c.in-Some.ensures.found
     c.index-filed-i.is
 
 pub returns-in-None : goal.returns-in-None

@@ -1,7 +1,5 @@
-use Rattle.std.proofs.Common.{rules}
-use Rattle.std.proofs.lemmas.List.Sorted.{answers_always}
-use Rattle.gu_sums.specs.declared.filing.Filed.{Filed}
-use Rattle.gu_sums.proofs.Filings.{searched}
+use Rattle.std.proofs.{Common.rules, lemmas.List.Sorted.answers_always}
+use Rattle.gu_sums.{specs.declared.filing.Filed.Filed, proofs.Filings.searched}
 use Rattle.gu_sums.proofs.filing.search.Goals as goal
 
 -- the closure gives the number of an entry

@@ -1,6 +1,4 @@
-use Rattle.std.proofs.Common.{rules}
-use Rattle.std.specs.Prelude.{is_some}
-use Rattle.std.proofs.lemmas.Fn.{filter_same}
+use Rattle.std.{proofs.{Common.rules, lemmas.Fn.filter_same}, specs.Prelude.is_some}
 use Rattle.gu_sums.specs.declared.filing.Filed.{Filed}
 use Rattle.gu_sums.proofs.filing.sweep.Goals as goal
 

@@ -1,33 +1,32 @@
-use Rattle.gu_tree.proofs.Vocabulary.{rules, ◌≡◌, ◌≢◌, ◌∙◌, ◌+◌, ◌-◌, ap, arith, sym, length-set, slot_of}
-use Rattle.gu_tree.proofs.Groves.{step_up, way_cell, way_further, way_ends, written_before, read_out}
+use Rattle.gu_tree.proofs.{
+  Vocabulary.{rules, ◌≡◌, ◌≢◌, ◌∙◌, ◌+◌, ◌-◌, arith, sym, length-set},
+  Groves.{step_up, way_cell, way_further, way_ends, written_before, read_out},
+}
 use Rattle.gu_tree.proofs.slot.climb.Goals as goal
 
 pub overflow_sub-first : goal.overflow_sub-first
 overflow_sub-first g c =
-    let part : c.loop-first.node.part ≢ 0 = search rules in
-    way_cell _ _ _ _ _ c.loop-first.invariant.cells part c.loop-first.invariant.way
+    way_cell _ _ _ _ _ c.loop-first.invariant.cells (search rules) c.loop-first.invariant.way
 
 pub unreachable-requires : goal.unreachable-requires
 unreachable-requires g c =
     let part : c.loop-first.node.part ≢ 0 = search rules in
-    let way = c.loop-first.invariant.way in
-    let u = step_up c.args.slots.now.filed c.loop-first.node way.trade way.rest part way.ahead in
-    c.in_default.not-Node u.above (c.filed_at-found.ensures
-    ∙ (ap (slot_of c.args.slots.now.filed) c.entry-in-loop-first.ensures ∙ u.slot))
+    let u = step_up c.args.slots.now.filed c.loop-first.node _ _ part c.loop-first.invariant.way.ahead in
+    c.in_default.not-Node u.above ((rw c.entry-in-loop-first.ensures at c.filed_at-found.ensures) ∙ u.slot)
 
 pub loop-first-preserved : goal.loop-first-preserved
 loop-first-preserved g c =
     let part : c.loop-first.node.part ≢ 0 = search rules in
-    let i : c.loop-first.node.part ≡ c.part-in-loop-first-2.result - 1 + 1 =
-    omega (arith, part, c.part-in-loop-first-2.ensures.value) in
+    let i : c.loop-first.node.part ≡ c.part-in-loop-first-2.result - 1 + 1 = omega arith in
     let some = way_cell _ _ _ _ _ c.loop-first.invariant.cells part c.loop-first.invariant.way in
     let more = written_before c.loop-first.steps c.loop-first.first (c.part-in-loop-first-2.result - 1) some
-    (omega (arith, c.loop-first.invariant.cells, c.loop-first.invariant.within)) in
+    (omega arith) in
     record {
-      way = way_further _ _ _ _ _ _ _ part i (sym (ap (slot_of c.args.slots.now.filed) c.entry-in-loop-first.ensures)
-          ∙ (sym c.filed_at-found.ensures ∙ c.in-Node.is)) more c.loop-first.invariant.way;
+      way = way_further _ _ _ _ _ _ _ part i
+          (rw c.entry-in-loop-first.ensures at (sym c.filed_at-found.ensures ∙ c.in-Node.is)) more
+          c.loop-first.invariant.way;
       cells = length-set c.loop-first.steps _ _ ∙ c.loop-first.invariant.cells;
-      within = omega (arith, c.loop-first.invariant.within);
+      within = omega arith;
     }
 
 pub returns : goal.returns

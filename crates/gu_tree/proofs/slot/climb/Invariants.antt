@@ -1,6 +1,5 @@
 use Rattle.std.proofs.Common.{◌≡◌, ◌≤◌, drop, length}
-use Rattle.gu_tree.specs.Filing.{turned}
-use Rattle.gu_tree.proofs.Groves.{IsOnWay}
+use Rattle.gu_tree.{specs.Filing.turned, proofs.Groves.IsOnWay}
 use Rattle.gu_tree.proofs.slot.climb.Given as goal
 
 abbrev pub invariant-loop-first : goal.invariant-loop-first

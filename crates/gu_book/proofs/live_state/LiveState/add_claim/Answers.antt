@@ -1,11 +1,9 @@
-use Rattle.std.proofs.Common.{◌<◌, ap}
-use Rattle.gu_book.proofs.Vocabulary.{last_entry, record_of, named_node}
-use Rattle.gu_book.proofs.{Charging.{fees_push, has_room}, Filed.{due_same, follows_same}}
-use Rattle.gu_book.proofs.{LiveStates.{above, next_of, state_more, takes_whole, whole_there}}
-use Rattle.gu_book.proofs.TermsKept.{can_claim, claim_dealt, claimed_last}
+use Rattle.gu_book.proofs.{LiveStates.{above, next_of, state_more, takes_whole, whole_there}, TradesKept.claim_stands}
+use Rattle.gu_book.proofs.{live_state.LiveState.add_claim.Goals.After-whole_of-whole, Charging.{fees_push, has_room}}
+use Rattle.gu_book.proofs.{TermsKept.{can_claim, claim_dealt, claimed_last}, Filed.{due_same, follows_same}}
 use Rattle.gu_book.proofs.TradesKept.{TakesWhole, few_whole, claim_costs, claim_fits, claim_there, claim_whole}
-use Rattle.gu_book.proofs.TradesKept.{claim_stands}
-use Rattle.gu_book.proofs.live_state.LiveState.add_claim.Goals.{After-whole_of-whole}
+use Rattle.gu_book.proofs.Vocabulary.{last_entry, record_of, named_node}
+use Rattle.std.proofs.Common.{◌<◌, ap}
 use Rattle.gu_book.proofs.live_state.LiveState.add_claim.Goals as goal
 
 -- the claim takes the whole of the node that was found
@@ -13,8 +11,8 @@ taking : (c : After-whole_of-whole)
     → TakesWhole c.args.addition.now.house.now c.args.addition.now.changes (record_of c.args.addition.now.made.now)
     c.args.self.now.trees c.args.self.now.positions c.requires.claim.0 c.in-Some.named.node c.whole_of-whole.result
 taking c =
-    takes_whole c.requires.can c.in-Some.named c.in-Some.is c.requires.claim.0 (ap named_node c.requires.claim.1)
-    c.whole_of-whole.result c.whole_of-whole.ensures
+    takes_whole c.requires.can c.in-Some.named c.in-Some.is _ (cc)
+    _ c.whole_of-whole.ensures
 
 -- its number is above all that were put to terms
 over : (c : After-whole_of-whole) → last_entry c.ready_claim.new.terms < c.args.addition.now.made.now.number
@@ -32,42 +30,40 @@ pub claim-requires-2-clause-room : goal.claim-requires-2-clause-room
 claim-requires-2-clause-room c =
     let w = (goal.at.claim-requires-2-clause-room c).After-whole_of-whole in
     let can = c.requires.can.follows in
-    can_claim can.list.few can.list.within (c.in_ok-place.ensures.same c.args.addition.now.changes can.state.dealt)
-    c.args.addition.now.made.now.number c.in-Some.named.node.lots (few_whole (taking w)) (over w)
-    c.in-Some.named.node.kind c.in_ok-place.ensures.ready
+    can_claim can.list.few can.list.within (c.in_ok-place.ensures.same _ can.state.dealt)
+    _ _ (few_whole (taking w)) (over w)
+    _ c.in_ok-place.ensures.ready
 
 pub put-requires : goal.put-requires
 put-requires c =
     rw c.in_account-claimed.ensures
-    (claim_fits (taking (goal.at.put-requires c).After-whole_of-whole) c.args.account.now c.requires.claim.1)
+    (claim_fits (taking (goal.at.put-requires c).After-whole_of-whole) _ c.requires.claim.1)
 
 pub put-requires-2 : goal.put-requires-2
 put-requires-2 c =
     let to = c.args.addition.now in
     let can = c.requires.can.follows in
-    has_room to.house.now to.changes c.args.self.now.fees can.state.charged can.list.few c.node_charge-charge.result
+    has_room _ _ _ can.state.charged can.list.few _
     c.node_charge-charge.ensures.lots
-    (c.node_charge-charge.ensures.rate to.changes (c.in_ok-place.ensures.same to.changes can.state.dealt)
+    (c.node_charge-charge.ensures.rate _ (c.in_ok-place.ensures.same to.changes can.state.dealt)
     can.list.within)
 
 pub take-requires : goal.take-requires
 take-requires c =
     let of = taking (goal.at.take-requires c).After-whole_of-whole in
     rw c.in_account-claimed.ensures
-    (claim_there of c.args.account.now c.requires.claim.1 c.put.new.positions
+    (claim_there of _ c.requires.claim.1 _
     (rw c.in_account-claimed.ensures at c.in_ok-put.ensures.put))
 
 pub claim-requires-clause-due : goal.claim-requires-clause-due
 claim-requires-clause-due c =
     let to = c.args.addition.now in
-    due_same (record_of to.made.now) c.args.self.now.trees c.ready.new.self c.in_ok-ready.ensures.same
-    (to.house.now, to.changes, next_of c.requires.can.follows)
+    due_same _ _ _ c.in_ok-ready.ensures.same (to.house.now, to.changes, next_of c.requires.can.follows)
 
 pub take-requires-2 : goal.take-requires-2
 take-requires-2 c =
     let of = taking (goal.at.take-requires-2 c).After-whole_of-whole in
-    claim_whole of c.args.account.now c.requires.claim.1 c.put.new.positions
-    (rw c.in_account-claimed.ensures at c.in_ok-put.ensures.put)
+    claim_whole of _ c.requires.claim.1 _ (rw c.in_account-claimed.ensures at c.in_ok-put.ensures.put)
 
 pub returns-clause-added : goal.returns-clause-added
 returns-clause-added c =
@@ -77,18 +73,16 @@ returns-clause-added c =
     let to = c.args.addition.now in
     let claims = c.requires.claim.1 in
     let next = next_of can in
-    let are = c.in_ok-place.ensures.same to.changes can.state.dealt in
-    let costs = claim_costs of c.args.account.now claims c.node_charge-charge.result
-    (c.node_charge-charge.ensures.value to.changes are) in
-    let filed = follows_same (record_of to.made.now) c.args.self.now.trees c.ready.new.self c.claim.new.trees
-    c.in_ok-ready.ensures.same c.claim.ensures.follows to.house.now to.changes next in
+    let are = c.in_ok-place.ensures.same _ can.state.dealt in
+    let costs = claim_costs of _ claims _ (c.node_charge-charge.ensures.value _ are) in
+    let filed = follows_same _ _ _ _ c.in_ok-ready.ensures.same c.claim.ensures.follows to.house.now to.changes next in
     state_more can _ filed c.claim.ensures.last
-    (fees_push next c.args.self.now.fees c.put-2.new.fees can.state.charged c.node_charge-charge.result costs
-    c.node_charge-charge.ensures.lots (c.node_charge-charge.ensures.rate to.changes are can.list.within)
+    (fees_push next _ _ can.state.charged _ costs
+    c.node_charge-charge.ensures.lots (c.node_charge-charge.ensures.rate _ are can.list.within)
     c.in_default-put.ensures.put)
-    (claim_stands of c.args.account.now claims c.put.new.positions
-    (rw c.in_account-claimed.ensures at c.in_ok-put.ensures.put) c.take-2.new.positions c.take-2.ensures)
-    (claim_dealt next c.requires.claim.0 c.args.account.now claims c.in-Some.named.node of.there c.ready_claim.new.terms
-    c.claim-2.new.terms are c.claim-2.ensures)
-    (claimed_last c.ready_claim.new.terms c.claim-2.new.terms to.made.now.number c.in-Some.named.node.lots
-    c.in-Some.named.node.kind (over w) c.claim-2.ensures)
+    (claim_stands of _ claims _
+    (rw c.in_account-claimed.ensures at c.in_ok-put.ensures.put) _ c.take-2.ensures)
+    (claim_dealt next _ _ claims _ of.there _
+    _ are c.claim-2.ensures)
+    (claimed_last _ _ _ _
+    _ (over w) c.claim-2.ensures)

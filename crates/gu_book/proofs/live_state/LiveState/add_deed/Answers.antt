@@ -1,5 +1,5 @@
+use Rattle.gu_book.proofs.{LiveStates.{may_deal, state_dealt}, TermsKept.can_put_at}
 use Rattle.std.proofs.Common.{sym}
-use Rattle.gu_book.proofs.{LiveStates.{may_deal, state_dealt}, TermsKept.{can_put_at}}
 use Rattle.gu_book.proofs.live_state.LiveState.add_deed.Goals as goal
 
 pub put_at-requires : goal.put_at-requires
@@ -15,7 +15,6 @@ pub returns-clause-added : goal.returns-clause-added
 returns-clause-added c =
     let can = c.requires.can.follows in
     let l = c.args.addition.now.changes in
-    state_dealt can c.requires.of_terms c.deed_of-giver.result.0 c.deed_of-giver.result.1 c.deed_of-giver.result.2
-    (c.deed_of-giver.ensures l) c.ready.new.terms (c.in_ok-place.ensures.same l can.state.dealt)
-    c.in_ok-place.ensures.last c.put_at.new.self
-    (c.put_at.ensures c.deed_of-giver.result.0 c.deed_of-giver.result.1 (sym c.in_ok-place.ensures.place))
+    state_dealt can c.requires.of_terms _ _ _
+    (c.deed_of-giver.ensures l) _ (c.in_ok-place.ensures.same l can.state.dealt)
+    c.in_ok-place.ensures.last _ (c.put_at.ensures _ _ (sym c.in_ok-place.ensures.place))

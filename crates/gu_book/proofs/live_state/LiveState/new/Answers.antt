@@ -1,14 +1,14 @@
-use Rattle.std.proofs.Common.{arith}
-use Rattle.gu_book.proofs.{Charging.{no_fees}, Filed.{filed_none}}
+use Rattle.gu_book.proofs.{Charging.no_fees, Filed.filed_none}
 use Rattle.gu_depend.proofs.TermsFollow.{none_follow}
+use Rattle.std.proofs.Common.{arith}
 use Rattle.gu_book.proofs.live_state.LiveState.new.Goals as goal
 
 pub returns : goal.returns
 returns c = λ t. record {
-  filed = filed_none c.new.result c.new.ensures.trees c.new.ensures.places;
-  charged = no_fees t c.new-3.result c.new-3.ensures;
+  filed = filed_none _ c.new.ensures.trees c.new.ensures.places;
+  charged = no_fees t _ c.new-3.ensures;
   stands = record { lots = λ at side. c.new-2.ensures.lots at side };
-  dealt = none_follow t c.new-4.result c.new-4.ensures.rows c.new-4.ensures.entries;
-  placed = (let last = c.new.ensures.last in omega (arith, last));
-  dealt_before = (let last = c.new-4.ensures.last in omega (arith, last));
+  dealt = none_follow t _ c.new-4.ensures.rows c.new-4.ensures.entries;
+  placed = (let last = c.new.ensures.last in omega arith);
+  dealt_before = (let last = c.new-4.ensures.last in omega arith);
 }

@@ -1,7 +1,6 @@
+use Rattle.gu_book.proofs.{AllShown.{undone_of_trees, undone_there}, TradesKept.{idle_return, return_other}}
+use Rattle.gu_book.proofs.{TermsKept.positions_left, LiveStates.apart_gone}
 use Rattle.std.proofs.Common.{refl}
-use Rattle.gu_book.proofs.{AllShown.{undone_of_trees, undone_there}, LiveStates.{apart_gone}}
-use Rattle.gu_book.proofs.{TermsKept.{positions_left}}
-use Rattle.gu_book.proofs.TradesKept.{idle_return, return_other}
 use Rattle.gu_book.proofs.live_state.LiveState.remove_return.Goals as goal
 
 pub offer_again-requires-clause-may_go : goal.offer_again-requires-clause-may_go
@@ -16,8 +15,7 @@ returns c =
     let of = c.args.removal.now in
     let back = c.requires.back in
     let go = c.requires.can.goes.free in
-    let filed = c.offer_again.ensures.gone of.house.now of.changes go in
-    let idle = idle_return of.house.now _ of.entry.now.firm back.0 of.entry.now.command back.1 back.2 in
+    let filed = c.offer_again.ensures.gone _ _ go in
+    let idle = idle_return _ _ _ back.0 _ back.1 back.2 in
     apart_gone c.requires.can.goes _ refl refl (undone_of_trees go c.requires.found)
-    (return_other back.0 of.entry.now.command back.1 back.2) filed c.offer_again.ensures.last
-    (positions_left go idle c.args.self.now.positions)
+    (return_other back.0 _ back.1 back.2) filed c.offer_again.ensures.last (positions_left go idle _)

@@ -1,11 +1,10 @@
-use Rattle.std.proofs.Common.{◌<◌, ◌^◌, arith, subst, sum_by}
+use Rattle.gu_book.proofs.PartsAway.{moved_few}
 use Rattle.gu_depend.proofs.Vocabulary.{Part}
-use Rattle.gu_book.proofs.{Vocabulary.{HasFewLots}, PartsAway.{moved_few}}
+use Rattle.std.proofs.Common.{◌<◌, ◌^◌, arith, sum_by}
 use Rattle.gu_book.proofs.rules.holdings.parts_back.Goals as goal
 
 pub lots_away-requires : goal.lots_away-requires
 lots_away-requires c =
-    let few : sum_by (λ (p : Part). p.lots) c.args.parts.now < 2 ^ 64 =
-    subst HasFewLots c.requires.split.1 c.requires.few in
+    let few : sum_by (λ (p : Part). p.lots) c.args.parts.now < 2 ^ 64 = rw c.requires.split.1 at c.requires.few in
     let less = moved_few c.in-Some.whole c.args.entry.now.firm c.args.parts.now in
-    omega (arith, few, less)
+    omega arith

@@ -1,5 +1,5 @@
-use Rattle.std.proofs.Common.{ℕ, drop, refl, sym, ap, arith, filter_map, sum_by}
 use Rattle.gu_book.proofs.{Vocabulary.{part_away, counted_at, Holding}, HoldingRows.{given_cut, put_err}}
+use Rattle.std.proofs.Common.{ℕ, drop, refl, sym, ap, arith, filter_map, sum_by}
 use Rattle.gu_book.proofs.rules.holdings.put_away.Goals as goal
 
 pub loop-part-init : goal.loop-part-init
@@ -10,18 +10,18 @@ loop-part-init c = record {
   room = c.requires.room;
   put = λ at side. refl;
   moved = omega arith;
-  fits = let room = c.requires.room c.args.whole.now.key c.args.whole.now.side in omega (arith, room);
+  fits = let room = c.requires.room c.args.whole.now.key c.args.whole.now.side in omega arith;
 }
 
 pub returns-then-is_err-clause-put : goal.returns-then-is_err-clause-put
 returns-then-is_err-clause-put c = λ at side.
     let f = part_away c.args.whole.now c.args.by.now in
-    let same = put_err c.put.result (sym c.is_err.ensures.value) c.if-is_err.true c.put.ensures.same at side in
+    let same = put_err _ (sym c.is_err.ensures.value) c.if-is_err.true c.put.ensures.same at side in
     let cut = given_cut f (counted_at at side) c.loop-part.done c.args.parts.now in
     let here =
     ap (λ i. sum_by (counted_at at side) (filter_map f (drop i c.args.parts.now))) c.loop-part.invariant.done in
     let put = c.loop-part.invariant.put at side in
-    omega (arith, same, cut, here, put)
+    omega arith
 
 pub returns-then-is_err-clause-moved : goal.returns-then-is_err-clause-moved
 returns-then-is_err-clause-moved c =
@@ -30,4 +30,4 @@ returns-then-is_err-clause-moved c =
     let cut = given_cut f lots c.loop-part.done c.args.parts.now in
     let here = ap (λ i. sum_by lots (filter_map f (drop i c.args.parts.now))) c.loop-part.invariant.done in
     let moved = c.loop-part.invariant.moved in
-    omega (arith, cut, here, moved)
+    omega arith

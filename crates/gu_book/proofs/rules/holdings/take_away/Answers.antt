@@ -1,6 +1,6 @@
-use Rattle.std.proofs.Common.{◌+◌, List, drop, arith, subst, Some, filter_map}
-use Rattle.gu_book.proofs.Vocabulary.{holding_away, part_away, HaveThere, Holding}
 use Rattle.gu_book.proofs.HoldingRows.{given_here, first_there}
+use Rattle.gu_book.proofs.Vocabulary.{holding_away, part_away, HaveThere, Holding}
+use Rattle.std.proofs.Common.{◌+◌, drop, arith, filter_map}
 use Rattle.gu_book.proofs.rules.holdings.take_away.Goals as goal
 
 pub take-requires : goal.take-requires
@@ -8,11 +8,9 @@ take-requires c =
     let i = c.loop-part.part-index in
     let f = part_away c.args.whole.now c.args.by.now in
     let h : Holding = holding_away c.args.whole.now c.args.by.now c.in-Some.account.now c.part-item.result.lots in
-    let here = given_here f c.args.parts.now i c.part-item.result (Some h) c.loop-part-test.true c.part-item.is
-    c.in-Some.ensures in
+    let here = given_here f _ i _ _ c.loop-part-test.true c.part-item.is c.in-Some.ensures in
     let there : HaveThere c.loop-part.positions (filter_map f (drop i c.args.parts.now)) = λ at side.
     let all = c.requires at side in
     let gone = c.loop-part.invariant.gone at side in
-    omega (arith, all, gone) in
-    first_there c.loop-part.positions h (filter_map f (drop (i + 1) c.args.parts.now))
-    (subst (λ (hs : List Holding). HaveThere c.loop-part.positions hs) here there)
+    omega arith in
+    first_there _ h (filter_map f (drop (i + 1) c.args.parts.now)) (rw here at there)

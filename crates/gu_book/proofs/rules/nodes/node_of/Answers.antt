@@ -1,8 +1,7 @@
-use Rattle.std.proofs.Common.{sym, ◌∙◌, ap, ◌≡◌, ◌==◌, option_map, find}
-use Rattle.std.proofs.lemmas.Bool.{eqb-true}
-use Rattle.gu_depend.proofs.Vocabulary.{nodes_of, same_name, Record}
-use Rattle.gu_book.proofs.{Vocabulary.{record_of}, ByNumber.{node_found}}
 use Rattle.gu_base.proofs.Searches.{find_passes}
+use Rattle.gu_book.proofs.{Vocabulary.record_of, ByNumber.node_found}
+use Rattle.gu_depend.proofs.Vocabulary.{nodes_of, same_name, Record}
+use Rattle.std.proofs.{Common.{sym, ◌∙◌, ap, ◌≡◌, ◌==◌, option_map, find}, lemmas.Bool.eqb-true}
 use Rattle.gu_book.proofs.rules.nodes.node_of.Goals as goal
 
 pub returns-in-Some : goal.returns-in-Some

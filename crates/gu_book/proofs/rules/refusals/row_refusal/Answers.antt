@@ -1,6 +1,6 @@
-use Rattle.std.proofs.Common.{◌∙◌, ap, sym}
 use Rattle.gu_base.specs.Refusals.{at_node}
 use Rattle.gu_depend.proofs.Vocabulary.{split_row, live}
+use Rattle.std.proofs.Common.{◌∙◌, ap, sym}
 use Rattle.gu_book.proofs.rules.refusals.row_refusal.Goals as goal
 
 pub returns-in-Some : goal.returns-in-Some
@@ -8,6 +8,6 @@ returns-in-Some c =
     let t = c.at.inside.house.now in
     let l = live c.at.inside.entries.now in
     let q = rw (c.in-Split.is, ← c.at.view_is, c.in-Some.is) at c.requires.named in
-    let e = c.split_refusal.ensures l c.in-Some.x.node q.2 in
+    let e = c.split_refusal.ensures l _ q.2 in
     rw (c.in-Split.is, ← c.at.view_is)
     ((rw c.as_slice.ensures at e) ∙ sym (ap (at_node (split_row t l c.args.by.now c.in-Split.parts)) q.0))

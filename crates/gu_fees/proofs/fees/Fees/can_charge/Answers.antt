@@ -1,5 +1,5 @@
-use Rattle.std.proofs.Common.{arith}
 use Rattle.gu_fees.proofs.fees.Fees.can_charge.Goals as goal
+use Rattle.std.proofs.Common.{arith}
 
 pub returns : goal.returns
 returns c = rw (← c.self.view_is) (
@@ -10,13 +10,13 @@ returns c = rw (← c.self.view_is) (
       let uses = c.can_add-uses.ensures.0 each.2 in
       record {
         ready = record { pays = pays.ready; receives = receives.ready; uses = uses.ready };
-        paid = omega (arith, pays.fits);
-        received = omega (arith, receives.fits);
+        paid = omega arith;
+        received = omega arith;
         used = uses.fits;
       }),
   (λ can. c.all_three.ensures.1 (
-    c.can_add-pays.ensures.1 (record { ready = can.ready.pays; fits = omega (arith, can.paid) }),
-    c.can_add-receives.ensures.1 (record { ready = can.ready.receives; fits = omega (arith, can.received) }),
+    c.can_add-pays.ensures.1 (record { ready = can.ready.pays; fits = omega arith }),
+    c.can_add-receives.ensures.1 (record { ready = can.ready.receives; fits = omega arith }),
     c.can_add-uses.ensures.1 (record { ready = can.ready.uses; fits = can.used }),
   )),
 )

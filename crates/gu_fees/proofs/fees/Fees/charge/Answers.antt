@@ -1,8 +1,7 @@
-use Rattle.std.proofs.Common.{rules}
-use Rattle.gu_base.specs.declared.node.Charge.{Charge}
-use Rattle.gu_fees.proofs.Charges.{stay_ready, sums_more}
 use Rattle.gu_fees.proofs.fees.Fees.charge.Goals as goal
 use Rattle.gu_base.proofs.Basics.{still_true}
+use Rattle.gu_fees.proofs.Charges.{stay_ready, sums_more}
+use Rattle.std.proofs.Common.{rules}
 
 pub returns-clause-paid : goal.returns-clause-paid
 returns-clause-paid c = λ firm. rw (← c.self.view_is) (c.add.ensures.added firm)
@@ -11,7 +10,7 @@ pub returns-clause-received : goal.returns-clause-received
 returns-clause-received c = λ firm. rw (← c.self.view_is) (c.add-2.ensures.added firm)
 
 pub returns-clause-used : goal.returns-clause-used
-returns-clause-used c = λ g t. rw (← c.self.view_is) (c.add-3.ensures.added (record { giver = g; taker = t }))
+returns-clause-used c = λ g t. rw (← c.self.view_is) (c.add-3.ensures.added _)
 
 pub returns-clause-stays_ready : goal.returns-clause-stays_ready
 returns-clause-stays_ready c = rw (← c.self.view_is) (stay_ready _ _
@@ -20,13 +19,7 @@ returns-clause-stays_ready c = rw (← c.self.view_is) (stay_ready _ _
 
 pub returns-clause-sums : goal.returns-clause-sums
 returns-clause-sums c = λ before after.
-    let x : Charge = record {
-      giver = c.args.giver.now;
-      taker = c.args.taker.now;
-      lots = c.args.lots;
-      rate = c.args.rate;
-    } in
-    rw (← c.self.view_is) (sums_more _ _ x before after c.add.ensures.added c.add-2.ensures.added c.add-3.ensures.added)
+    rw (← c.self.view_is) (sums_more _ _ _ _ after c.add.ensures.added c.add-2.ensures.added c.add-3.ensures.added)
 
 pub add-requires : goal.add-requires
 add-requires c = search rules

@@ -1,28 +1,21 @@
-use Rattle.std.proofs.Common.{ℕ, ◌≡◌, ◌+◌, arith, rules}
-use Rattle.std.specs.Prelude.{OnErr, Result, Ok, Err}
-use Rattle.gu_base.specs.declared.node.Charge.{Charge}
-use Rattle.gu_base.proofs.Basics.{still_true}
-use Rattle.gu_fees.proofs.Charges.{stay_ready, sums_more}
 use Rattle.gu_fees.proofs.fees.Fees.put.Goals as goal
+use Rattle.gu_base.proofs.Basics.{still_true}
+use Rattle.gu_fees.proofs.{Charges.{stay_ready, sums_more}, Places.on_err}
+use Rattle.std.proofs.Common.{arith, rules, ℕ, ◌+◌, ◌≡◌}
 
 -- what was added and taken out again changes nothing
 back : (old mid new by : ℕ) → mid ≡ old + by → new + by ≡ mid → new ≡ old
-back old mid new by put taken = omega (arith, put, taken)
-
-on_err : {X E P : Type 0} (r : Result X E) → P → OnErr r P
-on_err (Ok x) p = tt
-on_err (Err e) p = p
+back old mid new by put taken = omega arith
 
 pub returns-in_err-put-clause-same_paid : goal.returns-in_err-put-clause-same_paid
-returns-in_err-put-clause-same_paid c =
-    on_err c.from_residual.result (rw (← c.self.view_is) (λ firm. c.in_err-put.ensures.same firm))
+returns-in_err-put-clause-same_paid c = on_err c.from_residual.result (rw (← c.self.view_is) c.in_err-put.ensures.same)
 
 pub returns-in-Err-clause-same_paid : goal.returns-in-Err-clause-same_paid
 returns-in-Err-clause-same_paid c =
     rw (← c.self.view_is) (λ firm. back _ _ _ _ (c.in_ok-put.ensures.added firm) (c.take.ensures.taken firm))
 
 pub returns-in-Err-clause-same_received : goal.returns-in-Err-clause-same_received
-returns-in-Err-clause-same_received c = rw (← c.self.view_is) (λ firm. c.in-Err.ensures.same firm)
+returns-in-Err-clause-same_received c = rw (← c.self.view_is) c.in-Err.ensures.same
 
 pub returns-in-Err-put-clause-same_paid : goal.returns-in-Err-put-clause-same_paid
 returns-in-Err-put-clause-same_paid c = rw (← c.self.view_is)
@@ -33,18 +26,11 @@ returns-in-Err-put-clause-same_received c = rw (← c.self.view_is)
     (λ firm. back _ _ _ _ (c.in_default.ensures.added firm) (c.take-in-Err-put.ensures.taken firm))
 
 pub returns-in-Err-put-clause-same_used : goal.returns-in-Err-put-clause-same_used
-returns-in-Err-put-clause-same_used c =
-    rw (← c.self.view_is) (λ g t. c.in-Err-put.ensures.same (record { giver = g; taker = t }))
+returns-in-Err-put-clause-same_used c = rw (← c.self.view_is) (λ g t. c.in-Err-put.ensures.same _)
 
 pub returns-clause-sums : goal.returns-clause-sums
 returns-clause-sums c = λ before after.
-    let x : Charge = record {
-      giver = c.args.giver.now;
-      taker = c.args.taker.now;
-      lots = c.args.lots;
-      rate = c.args.rate;
-    } in
-    rw (← c.self.view_is) (sums_more _ _ x before after c.in_ok-put.ensures.added c.in_default.ensures.added
+    rw (← c.self.view_is) (sums_more _ _ _ _ after c.in_ok-put.ensures.added c.in_default.ensures.added
     c.in_default-put.ensures.added)
 
 pub returns-in_err-put-clause-stays_ready : goal.returns-in_err-put-clause-stays_ready

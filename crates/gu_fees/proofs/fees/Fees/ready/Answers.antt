@@ -1,6 +1,6 @@
-use Rattle.std.proofs.Common.{rules}
-use Rattle.gu_fees.proofs.Charges.{stay_ready}
 use Rattle.gu_fees.proofs.fees.Fees.ready.Goals as goal
+use Rattle.gu_fees.proofs.Charges.{stay_ready}
+use Rattle.std.proofs.Common.{rules}
 
 pub returns-in_err-ready-clause-paid : goal.returns-in_err-ready-clause-paid
 returns-in_err-ready-clause-paid c = λ firm. rw (← c.self.view_is) (c.ready.ensures.same firm)
@@ -26,7 +26,7 @@ pub returns-clause-received : goal.returns-clause-received
 returns-clause-received c = λ firm. rw (← c.self.view_is) (c.ready-2.ensures.same firm)
 
 pub returns-clause-used : goal.returns-clause-used
-returns-clause-used c = λ g t. rw (← c.self.view_is) (c.ready-3.ensures.same (record { giver = g; taker = t }))
+returns-clause-used c = λ g t. rw (← c.self.view_is) (c.ready-3.ensures.same _)
 
 pub returns-clause-stays_ready : goal.returns-clause-stays_ready
 returns-clause-stays_ready c = rw (← c.self.view_is) (stay_ready _ _ c.ready.ensures.stays_ready

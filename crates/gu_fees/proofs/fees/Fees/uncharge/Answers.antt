@@ -1,7 +1,6 @@
-use Rattle.gu_base.specs.declared.node.Charge.{Charge}
-use Rattle.gu_fees.proofs.Charges.{stay_ready, sums_less}
 use Rattle.gu_fees.proofs.fees.Fees.uncharge.Goals as goal
 use Rattle.gu_base.proofs.Basics.{still_true}
+use Rattle.gu_fees.proofs.Charges.{stay_ready, sums_less}
 
 pub returns-clause-paid : goal.returns-clause-paid
 returns-clause-paid c = λ firm. rw (← c.self.view_is) (c.take.ensures.taken firm)
@@ -10,7 +9,7 @@ pub returns-clause-received : goal.returns-clause-received
 returns-clause-received c = λ firm. rw (← c.self.view_is) (c.take-2.ensures.taken firm)
 
 pub returns-clause-used : goal.returns-clause-used
-returns-clause-used c = λ g t. rw (← c.self.view_is) (c.take-3.ensures.taken (record { giver = g; taker = t }))
+returns-clause-used c = λ g t. rw (← c.self.view_is) (c.take-3.ensures.taken _)
 
 pub returns-clause-stays_ready : goal.returns-clause-stays_ready
 returns-clause-stays_ready c = rw (← c.self.view_is) (stay_ready _ _
@@ -19,11 +18,5 @@ returns-clause-stays_ready c = rw (← c.self.view_is) (stay_ready _ _
 
 pub returns-clause-sums : goal.returns-clause-sums
 returns-clause-sums c = λ before after.
-    let x : Charge = record {
-      giver = c.args.giver.now;
-      taker = c.args.taker.now;
-      lots = c.args.lots;
-      rate = c.args.rate;
-    } in
-    rw (← c.self.view_is) (sums_less _ _ x before after c.take.ensures.taken c.take-2.ensures.taken
+    rw (← c.self.view_is) (sums_less _ _ _ _ after c.take.ensures.taken c.take-2.ensures.taken
     c.take-3.ensures.taken)

@@ -1,11 +1,8 @@
-use Rattle.std.proofs.Common.{rules, ◌≡◌, ◌<◌, Option, List, ℕ, length, sym}
-use Rattle.std.specs.Prelude.{None, Some, IfSome}
-use Rattle.std.specs.Map.{lookup}
-use Rattle.gu_base.specs.declared.house.Pair.{Pair}
-use Rattle.gu_fees.specs.Pairs.{PairView}
-use Rattle.gu_fees.specs.Rows.{is_pair}
-use Rattle.gu_fees.specs.Terms.{AreApart}
 use Rattle.gu_fees.proofs.terms.Terms.place.Goals as goal
+use Rattle.gu_base.specs.declared.house.Pair.{Pair}
+use Rattle.gu_fees.specs.{Pairs.PairView, Rows.is_pair, Terms.AreApart}
+use Rattle.std.proofs.Common.{length, List, Option, rules, sym, ℕ, ◌<◌, ◌≡◌}
+use Rattle.std.specs.{Map.lookup, Prelude.{IfSome, None, Some}}
 
 -- a place that is kept is one of a row
 low : (places : List (Pair × ℕ)) (pairs : List PairView) → AreApart places pairs → (g k : List ℕ) (o : Option ℕ)
@@ -16,5 +13,5 @@ low places pairs apart g k (Some i) is = apart.there g k i is
 pub returns-clause-there : goal.returns-clause-there
 returns-clause-there c =
     rw (← c.self.view_is)
-    (low c.self.inside.places.entries c.self.inside.pairs.items c.self.invariant.apart c.args.giver.now c.args.taker.now
+    (low _ _ c.self.invariant.apart c.args.giver.now c.args.taker.now
     c.copied.result (sym (first_of (search rules, cc))))

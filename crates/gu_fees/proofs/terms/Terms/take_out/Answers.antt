@@ -1,34 +1,24 @@
-use Rattle.std.proofs.Common.{arith, ◌≡◌, refl, sym, ◌∙◌, ap}
-use Rattle.std.specs.Prelude.{Some, None, IsSomeAnd, slice_get}
-use Rattle.std.specs.Map.{lookup}
-use Rattle.std.proofs.lemmas.Option.{same_Some}
+use Rattle.gu_fees.proofs.terms.Terms.take_out.Goals as goal
 use Rattle.gu_base.specs.Dealt.{leave_out}
+use Rattle.gu_fees.proofs.Places.{apart_changed, below_changed, last_lower, none_there, other_place, own_place_row}
+use Rattle.gu_fees.proofs.Places.{some_there}
 use Rattle.gu_fees.specs.Rows.{is_pair}
 use Rattle.gu_sums.specs.Filing.{kept_at, last_of}
-use Rattle.gu_fees.proofs.Places.{
-  own_place_row,
-  other_place,
-  apart_changed,
-  below_changed,
-  some_there,
-  last_lower,
-  none_there,
-}
-use Rattle.gu_fees.proofs.terms.Terms.take_out.Goals as goal
+use Rattle.std.proofs.Common.{arith, refl, sym, ◌∙◌, ◌≡◌}
+use Rattle.std.specs.{Map.lookup, Prelude.{IsSomeAnd, slice_get, Some}}
 
 pub invariant_of-self : goal.invariant_of-self
 invariant_of-self c =
     let last = c.take.ensures.taken.last in
     record {
-      apart = apart_changed c.self.inside.places.entries c.self.inside.pairs.items c.take_from.new.pairs.items
-          c.take_from.ensures.len c.self.invariant.apart;
-      below = below_changed c.self.inside.pairs.items c.take_from.new.pairs.items c.in-Some.i c.take_from.ensures.others
-          (last_of c.self.inside.entries.filed) (last_of c.take.new.self.filed) (omega (arith, last))
+      apart = apart_changed c.take_from.ensures.len c.self.invariant.apart;
+      below = below_changed _ _ _ c.take_from.ensures.others
+          (last_of c.self.inside.entries.filed) (last_of c.take.new.self.filed) (omega arith)
           c.self.invariant.below
-          (rw last (last_lower (slice_get c.self.inside.pairs.items c.in-Some.i)
-          (slice_get c.take_from.new.pairs.items c.in-Some.i) (last_of c.self.inside.entries.filed)
-          (c.self.invariant.below c.in-Some.i) (none_there c.self.inside.pairs.items c.take_from.new.pairs.items
-          c.in-Some.i c.take_from.ensures.len) c.take_from.ensures.last));
+          (rw last (last_lower _
+          _ _
+          (c.self.invariant.below c.in-Some.i) (none_there _ _
+          _ c.take_from.ensures.len) c.take_from.ensures.last));
     }
 
 pub invariant_of-self-in_default : goal.invariant_of-self-in_default
@@ -46,9 +36,7 @@ returns-in-Some c =
     rw (← c.self.view_is)
     (record {
       own = λ g k j at place.
-          let one : j ≡ c.in-Some.i = same_Some j c.in-Some.i (sym at ∙ found) in
-          let here : lookup (is_pair g k) c.self.inside.places.entries ≡ Some c.in-Some.i =
-          place ∙ ap (λ n. Some n) one in
+          let here : lookup (is_pair g k) c.self.inside.places.entries ≡ Some c.in-Some.i = cc (at, found, place) in
           own_place_row c.self.inside.pairs.items c.take_from.new.pairs.items
           (lookup (is_pair g k) c.self.inside.places.entries) c.in-Some.i
           (λ r q. (q.file ≡ r.file) × (q.dealings ≡ leave_out c.args.entry r.dealings)) here
@@ -67,10 +55,10 @@ returns-in-Some c =
 
 pub returns-in_default : goal.returns-in_default
 returns-in_default c =
-    let none : kept_at c.self.inside.entries.filed c.args.entry ≡ None = sym c.take.ensures.value ∙ c.in_default.is in
+    let none = sym c.take.ensures.value ∙ c.in_default.is in
     rw (← c.self.view_is)
     (record {
-      own = λ g k j at place. absurd (let no : None ≡ Some j = sym none ∙ at in cc);
+      own = λ g k j at place. cc (none, at);
       others = λ g k away. refl;
       placed = λ n. c.take.ensures.taken.at n;
       places = refl;

@@ -13,7 +13,7 @@ pub returns-in_default-kept-clause-value : goal.returns-in_default-kept-clause-v
 returns-in_default-kept-clause-value g c =
     rw (← c.self.view_is)
     (sym c.in_default-kept.is
-    ∙ at_found 0 _ c.args.number c.in-Some.i c.index.result.now c.self.invariant.rising
+    ∙ at_found 0 _ _ _ _ c.self.invariant.rising
     (rw c.as_slice-2.ensures.value at c.in-Some.ensures.found) c.index.ensures)
 
 pub returns-in_default-kept-clause-taken : goal.returns-in_default-kept-clause-taken
@@ -21,18 +21,18 @@ returns-in_default-kept-clause-taken g c = none_leaves _ _ (sym (returns-in_defa
 
 pub invariant_of-self : goal.invariant_of-self
 invariant_of-self g c =
-    (take_leaves _ _ _ c.in-Some.i c.in-Some-kept.thing c.index.result.now c.self.invariant
+    (take_leaves _ _ _ _ _ _ c.self.invariant
     (rw c.as_slice-2.ensures.value at c.in-Some.ensures.found) c.index.ensures c.in-Some-kept.is).0
 
 pub returns-clause-value : goal.returns-clause-value
 returns-clause-value g c =
     rw (← c.self.view_is)
     (sym c.in-Some-kept.is
-    ∙ at_found 0 _ c.args.number c.in-Some.i c.index.result.now c.self.invariant.rising
+    ∙ at_found 0 _ _ _ _ c.self.invariant.rising
     (rw c.as_slice-2.ensures.value at c.in-Some.ensures.found) c.index.ensures)
 
 pub returns-clause-taken : goal.returns-clause-taken
 returns-clause-taken g c =
     rw (← c.self.view_is)
-    (take_leaves _ _ _ c.in-Some.i c.in-Some-kept.thing c.index.result.now c.self.invariant
+    (take_leaves _ _ _ _ _ _ c.self.invariant
     (rw c.as_slice-2.ensures.value at c.in-Some.ensures.found) c.index.ensures c.in-Some-kept.is).1

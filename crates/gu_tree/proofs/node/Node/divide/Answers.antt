@@ -4,6 +4,5 @@ use Rattle.gu_tree.proofs.node.Node.divide.Goals as goal
 
 pub invariant_of-self : goal.invariant_of-self
 invariant_of-self g c =
-    divided_parts c.self.inside.head c.self.inside.kind c.args.self.now c.args.entry c.args.parts.now
-    c.fill.new.leaves.items
-    (c.self.view_is ∙ c.in_ok-leaves.ensures.same) c.requires.leaf c.fill.ensures c.requires.some c.requires.most
+    divided_parts _ _ _ c.args.entry c.args.parts.now _ (c.self.view_is ∙ c.in_ok-leaves.ensures.same) c.requires.leaf
+    c.fill.ensures c.requires.some c.requires.most

@@ -1,24 +1,21 @@
-use Rattle.std.proofs.Common.{ap, is_some, sym, ◌∙◌, arith, add-one}
-use Rattle.std.proofs.Math.Seq.{drop-cons}
-use Rattle.gu_tree.proofs.{Parts.{goes_there, goes_below, at_leaf, at_beyond}, Splits.{not_parted}}
+use Rattle.std.proofs.{Common.{ap, is_some, sym, ◌∙◌, arith, add-one}, Math.Seq.drop-cons}
+use Rattle.gu_tree.proofs.{Parts.{goes_below, at_leaf, at_beyond}, Splits.not_parted}
 use Rattle.gu_tree.proofs.node.Node.has_path.Goals as goal
 
 pub returns-in_default : goal.returns-in_default
 returns-in_default g c =
-    let step = drop-cons c.args.path.now c.loop-i.i-index 0 c.loop-i-test.true in
+    let step = drop-cons _ _ 0 c.loop-i-test.true in
     let leaf = not_parted c.node.inside.head c.node.inside.kind c.in_default.not-Parted ∙ c.node.view_is in
     ap is_some (sym (at_leaf step leaf) ∙ c.loop-i.invariant)
 
 pub returns-then-place-len : goal.returns-then-place-len
 returns-then-place-len g c =
-    let step = drop-cons c.args.path.now c.loop-i.i-index 0 c.loop-i-test.true in
-    let none = at_beyond c.in-Parted.parts.items step (rw c.in-Parted.is at c.node.view_is)
-    (omega (arith, c.len.ensures, c.if-place-len.true, c.in-Parted.parts.ok)) in
+    let step = drop-cons _ _ 0 c.loop-i-test.true in
+    let none = at_beyond c.in-Parted.parts.items step (rw c.in-Parted.is at c.node.view_is) (omega arith) in
     ap is_some (sym none ∙ c.loop-i.invariant)
 
 pub loop-i-preserved : goal.loop-i-preserved
 loop-i-preserved g c =
-    let step = drop-cons c.args.path.now c.loop-i.i-index 0 c.loop-i-test.true in
-    let e = goes_there step (rw c.in-Parted.is at c.node.view_is)
-    (omega (arith, c.len.ensures, c.if-place-len.false, c.in-Parted.parts.ok)) in
-    rw add-one (sym (goes_below _ e c.index-node.ensures) ∙ c.loop-i.invariant)
+    let step = drop-cons _ _ 0 c.loop-i-test.true in
+    let opened = rw c.in-Parted.is at c.node.view_is in
+    rw add-one (sym (goes_below _ step opened (omega arith) _ c.index-node.ensures) ∙ c.loop-i.invariant)

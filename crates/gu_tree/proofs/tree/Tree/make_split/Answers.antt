@@ -1,9 +1,4 @@
-use Rattle.gu_tree.proofs.{
-  Vocabulary.{IsTrue, head_of, own_parts_have_accounts},
-  Parts.{at_fact, some_and},
-  ShowsChanges.{split_shows},
-  Splits.{split_tree},
-}
+use Rattle.gu_tree.proofs.{Parts.{at_fact, some_and}, ShowsChanges.split_shows, Splits.split_tree}
 use Rattle.gu_tree.proofs.tree.Tree.make_split.Goals as goal
 
 pub returns-clause-node : goal.returns-clause-node
@@ -11,13 +6,12 @@ returns-clause-node g c = rw (c.as_slice.ensures.value, c.self.view_is) at c.in_
 
 pub invariant_of-self-2 : goal.invariant_of-self-2
 invariant_of-self-2 g c =
-    let v = some_and _ _ c.requires.leaf in
-    split_tree _ _ v.0 _ c.args.entry c.args.parts.now v.1 v.2 c.requires.shallow c.requires.fresh
+    let (v, led, can) = some_and _ _ c.requires.leaf in
+    split_tree _ _ v _ c.args.entry c.args.parts.now led can c.requires.shallow c.requires.fresh
     (returns-clause-node g c) (rw c.self.view_is at c.self.invariant)
 
 pub returns-clause-shows : goal.returns-clause-shows
 returns-clause-shows g c =
-    let v = some_and _ _ c.requires.leaf in
-    split_shows c.args.path.now.items c.args.self.now v.0 _ c.args.entry c.args.parts.now v.1 v.2
-    (at_fact (λ t. IsTrue (own_parts_have_accounts c.args.parts.now (head_of t))) _ _ v.1 c.requires.accounts)
+    let (v, led, can) = some_and _ _ c.requires.leaf in
+    split_shows _ _ v _ c.args.entry c.args.parts.now led can (at_fact _ _ _ led c.requires.accounts)
     c.requires.fresh (rw c.self.view_is at c.self.invariant).once (returns-clause-node g c)

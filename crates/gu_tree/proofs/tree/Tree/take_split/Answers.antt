@@ -1,5 +1,8 @@
-use Rattle.gu_tree.proofs.{Vocabulary.{arith, refl, head_of, unsplit_node}, Edits.{lesser_tree, named_cut, some_and}}
-use Rattle.gu_tree.proofs.ShowsLess.{unsplit_shows}
+use Rattle.gu_tree.proofs.{
+  Vocabulary.{arith, refl, head_of, unsplit_node},
+  Edits.{lesser_tree, named_cut, some_and},
+  ShowsLess.unsplit_shows,
+}
 use Rattle.gu_tree.proofs.tree.Tree.take_split.Goals as goal
 
 pub returns-clause-node : goal.returns-clause-node
@@ -7,13 +10,11 @@ returns-clause-node g c = rw (c.as_slice.ensures.value, c.self.view_is) at c.uns
 
 pub invariant_of-self : goal.invariant_of-self
 invariant_of-self g c =
-    let v = some_and _ _ c.requires in
-    lesser_tree unsplit_node c.args.path.now.items c.args.self.now v.0 _ v.1 (omega arith)
-    (λ name. named_cut name (head_of v.0) v.0 refl)
-    (λ held. held) (returns-clause-node g c) (rw c.self.view_is at c.self.invariant)
+    let (v, led, _) = some_and _ _ c.requires in
+    lesser_tree unsplit_node _ _ v led _ (omega arith) (λ name. named_cut name (head_of v) v refl) (λ held. held)
+    (returns-clause-node g c) (rw c.self.view_is at c.self.invariant)
 
 pub returns-clause-shows : goal.returns-clause-shows
 returns-clause-shows g c =
-    let v = some_and _ _ c.requires in
-    unsplit_shows c.args.path.now.items c.args.self.now v.0 _ v.1 v.2 (rw c.self.view_is at c.self.invariant).once
-    (returns-clause-node g c)
+    let (v, led, can) = some_and _ _ c.requires in
+    unsplit_shows _ _ v _ led can (rw c.self.view_is at c.self.invariant).once (returns-clause-node g c)

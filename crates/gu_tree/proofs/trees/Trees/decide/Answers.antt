@@ -1,6 +1,8 @@
-use Rattle.gu_tree.proofs.Vocabulary.{refl, Some, set, decide_node}
-use Rattle.gu_tree.proofs.GroveEdits.{grove_of, found, Edits, decided, at_there, roomier, IsNamed}
-use Rattle.gu_tree.proofs.{trees.Trees.decide.Given.{Over}, trees.Trees.decide.Goals.{After-file}}
+use Rattle.gu_tree.proofs.{
+  Vocabulary.{Some, set, decide_node},
+  GroveEdits.{grove_of, found, Edits, decided, at_there, roomier, IsNamed},
+  trees.Trees.decide.{Given.Over, Goals.After-file},
+}
 use Rattle.gu_tree.proofs.trees.Trees.decide.Goals as goal
 
 -- what the call does to the trees
@@ -9,12 +11,10 @@ edited : (g : Over) (c : After-file g) → Edits (grove_of c.self.inside.trees.i
     c.args.trade c.in-Some.tree c.args.path.now.items (decide_node c.args.number c.args.decision.now) c.args.number
 edited g c =
     let is = roomier _ 0 0 c.self.invariant in
-    let slot = c.root_of-i.ensures in
-    decided c.args.decision.now is
-    (found (IsNamed c.decide-node.result) is slot c.index_mut.ensures.value c.in-Some.is c.decide-node.ensures.name)
-    c.decide-node.ensures.short c.decide-node.ensures.leaf (rw (← c.self.view_is) at c.requires.offered)
-    c.requires.settles
-    (rw (← c.self.view_is) at c.requires.above) c.decide-node.ensures.node refl (rw c.node.ensures at c.file.ensures)
+    decided is c.args.decision.now (found (IsNamed c.decide-node.result) is c.root_of-i.ensures
+    c.index_mut.ensures.value c.in-Some.is c.decide-node.ensures.name) c.decide-node.ensures.short
+    c.decide-node.ensures.leaf (rw (← c.self.view_is) at c.requires.offered) c.requires.settles
+    (rw (← c.self.view_is) at c.requires.above) (rw c.decide-node.ensures.node) (rw c.node.ensures at c.file.ensures)
 
 pub invariant_of-self : goal.invariant_of-self
 invariant_of-self g c = roomier _ _ _ (edited g (goal.at.invariant_of-self g c).After-file).grove

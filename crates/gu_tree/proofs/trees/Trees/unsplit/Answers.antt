@@ -1,6 +1,8 @@
-use Rattle.gu_tree.proofs.Vocabulary.{◌≡◌, IsSomeAnd, split_of_node, refl, Some, set}
-use Rattle.gu_tree.proofs.GroveEdits.{grove_of, found, TakesSplit, taking_split, at_there, roomier}
-use Rattle.gu_tree.proofs.{trees.Trees.unsplit.Given.{Over}, trees.Trees.unsplit.Goals.{After-take}}
+use Rattle.gu_tree.proofs.{
+  Vocabulary.{Some, set},
+  GroveEdits.{grove_of, found, TakesSplit, taking_split, at_there, roomier},
+  trees.Trees.unsplit.{Given.Over, Goals.After-take},
+}
 use Rattle.gu_tree.proofs.trees.Trees.unsplit.Goals as goal
 
 -- what the call does to the trees
@@ -10,11 +12,9 @@ taken : (g : Over) (c : After-take g) → TakesSplit (grove_of c.self.inside.tre
     c.args.trade c.in-Some.tree c.args.path.now.items
 taken g c =
     let is = roomier _ 0 0 c.self.invariant in
-    let slot = c.root_of-i.ensures in
-    taking_split c.take_split-split.result is
-    (found (λ u. IsSomeAnd (split_of_node u) (λ s. s.0 ≡ c.take_split-split.result)) is slot c.index_mut.ensures.value
-    c.in-Some.is c.take_split-split.ensures.split)
-    (rw (← c.self.view_is) at c.requires.undecided) c.take_split-split.ensures.node refl c.take.ensures.taken
+    taking_split c.take_split-split.result is (found _ is c.root_of-i.ensures c.index_mut.ensures.value c.in-Some.is
+    c.take_split-split.ensures.split) (rw (← c.self.view_is) at c.requires.undecided)
+    (rw c.take_split-split.ensures.node) c.take.ensures.taken
 
 pub invariant_of-self : goal.invariant_of-self
 invariant_of-self g c = roomier _ _ _ (taken g (goal.at.invariant_of-self g c).After-take).grove

@@ -1,0 +1,6 @@
+use Rattle.std.proofs.Common.{rules}
+use Rattle.gu_journal.proofs.damage.HouseDigest.of.Goals as goal
+
+-- it is the digest of all of the file
+pub returns : goal.returns
+returns c = search rules

@@ -1,0 +1,6 @@
+use Rattle.std.proofs.Common.{rules}
+use Rattle.gu_journal.proofs.replay.check_head.Goals as goal
+
+-- the message has the pin
+pub returns-then-has_pin-clause-ok : goal.returns-then-has_pin-clause-ok
+returns-then-has_pin-clause-ok c = search rules
