@@ -2,7 +2,7 @@ mod Transfers
 mod Outputs
 mod Holding
 mod Sending
-mod Sofar
+mod ReadSoFar
 mod ReadAlong
 mod Lawful
 mod ReadBack

@@ -7,15 +7,14 @@ use Rattle.gu_book.proofs.Filed.{root_name, makes_root, tree_shown, live_at, pla
 use Rattle.gu_book.proofs.Vocabulary.{Rose, Grove, tree_of, named_node, named_place, place_in, AreTreesOf, IsGroveOf}
 use Rattle.gu_book.proofs.Vocabulary.{IsFree, is_trade, is_live_trade, IsFoundIn, IsUndoneThere, IsOfTerms, is_of_trees}
 use Rattle.gu_book.specs.{declared.found.Undone.Undone, TreeRows.tree_rows, Found.IsUndoneAs}
-use Rattle.gu_depend.proofs.{StandsUnder.{any_found, rises_distinct}, Replay.{NumbersOnce, number_once}}
-use Rattle.gu_depend.proofs.{StandsLast.node_of_maker, Finds.some_there}
+use Rattle.gu_depend.proofs.{Vocabulary.{false_from_ne_true, and_parts, reversal_of}, Replay.{NumbersOnce, number_once}}
+use Rattle.gu_depend.proofs.{StandsUnder.{any_found, rises_distinct}, StandsLast.node_of_maker, Finds.some_there}
 use Rattle.gu_depend.proofs.Vocabulary.{Bool, ◌+◌, length, get_or, not, cond, Contains, ◌<◌, ◌≡◌, ℕ, ◌≤◌, true, false}
 use Rattle.gu_depend.proofs.Vocabulary.{◌&&◌, List, [], ◌∷◌, refl, sym, ◌∙◌, ap, subst, arith, Option, map, Decides-eqb}
 use Rattle.gu_depend.proofs.Vocabulary.{same_Some, House, knows_firm, numbered_as, is_change, is_reversed, live}
 use Rattle.gu_depend.proofs.Vocabulary.{node_of, unless, standing_on, answer_to, entry_of, on_change, reverse_rest}
-use Rattle.gu_depend.proofs.Vocabulary.{command_refusal, call_of, Command, Trade, Split, Claim, Refuse, Cancel, Agree}
-use Rattle.gu_depend.proofs.Vocabulary.{Part, Side, Raise, Reverse, Accepted, Entry, Record, UnknownFirm, EntryPart}
-use Rattle.gu_depend.proofs.Vocabulary.{found_in, find_passes, false_from_ne_true, and_parts, reversal_of}
+use Rattle.gu_depend.proofs.Vocabulary.{call_of, Command, Trade, Split, Claim, Refuse, Cancel, Agree, Part, Side, Raise}
+use Rattle.gu_depend.proofs.Vocabulary.{Reverse, Accepted, Entry, Record, UnknownFirm, EntryPart, found_in, find_passes}
 use Rattle.gu_tree.proofs.ShowsRows.{shown_rows}
 use Rattle.gu_tree.specs.{declared.head.Row.{Row as TreeRow}, ShownAll.IsTreeIn, Shown.shown, Rose.rows}
 use Rattle.std.proofs.Common.{◌-◌, ◌≢◌, Some, None, find, ◌==◌, is_some, option_map, IsSome}
@@ -37,7 +36,7 @@ pub record IsUndone (t : House) (h : List Entry) (k : ℕ) (r : Record) : Type 0
 pub undone : (t : House) (h : List Entry) (e : Entry) (n k : ℕ) → answer_to t h (call_of e) ≡ Accepted n e.status
     → e.command ≡ Reverse k → (r : Record) × IsUndone t h k r
 undone t h e n k ok same =
-    let lawful = subst (λ (c : Command). command_refusal t h e.firm c ≡ None) same (allowed t h e n ok).lawful in
+    let lawful = rw same at (allowed t h e n ok).lawful in
     let a = first_none (unless (knows_firm t e.firm) UnknownFirm)
     (on_change t h e.firm (reverse_rest t h) (entry_of h k) ∷ []) lawful in
     let b = first_none (on_change t h e.firm (reverse_rest t h) (entry_of h k)) [] a.1 in
@@ -45,8 +44,7 @@ undone t h e n k ok same =
     let r : Record = o.0 in
     let at = found_at k 1 h r o.1.found in
     let unreversed : is_reversed h r.number ≡ false = not_reversed r.number 1 h o.1.unreversed in
-    let passes : (is_change r.command && not (is_reversed h r.number)) ≡ true =
-    ap (λ b. b && not (is_reversed h r.number)) o.1.is ∙ ap not unreversed in
+    let passes : (is_change r.command && not (is_reversed h r.number)) ≡ true = cc in
     let there = found_live h k ∙ (ap (if_passes (is_live h)) o.1.found ∙ ap (λ b. cond b (Some r) None) passes) in (
       r,
       record {
@@ -57,8 +55,8 @@ undone t h e n k ok same =
         within = at.within;
         found = there;
         among = found_in (λ (q : Record). q.number == k) (live h) r there;
-        unreversed = subst (λ j. reversal_of h j ≡ None) at.number o.1.unreversed;
-        free = subst (λ j. standing_on t (live h) j ≡ None) (sym at.number) (taken t h e.firm k lawful).free;
+        unreversed = rw at.number at o.1.unreversed;
+        free = rw at.number (taken t h e.firm k lawful).free;
       },
     )
 

@@ -1,16 +1,15 @@
 -- What a book keeps stays true behind a growth, and with one accepted entry more.
 use Rattle.gu_base.proofs.LiveLaws.{change_is_no_reverse, consent_is_no_reverse}
-use Rattle.gu_book.proofs.{AllShown.{IsUndone, undone, undone_entry, undone_goes}, Keeps.{live_less, next_number}}
-use Rattle.gu_book.proofs.{LookedUp.{reversals_same, reversals_put}, Leaves.live_rises}
-use Rattle.gu_book.proofs.Keeps.{kept_change, kept_consents, kept_reverse, lawful, live_few, live_more, live_same}
+use Rattle.gu_book.proofs.{AllShown.{undone, undone_entry, undone_goes}, LookedUp.{reversals_same, reversals_put}}
+use Rattle.gu_book.proofs.{Keeps.{live_more, live_same}, Leaves.live_rises}
+use Rattle.gu_book.proofs.Keeps.{live_less, next_number, kept_change, kept_consents, kept_reverse, lawful, live_few}
 use Rattle.gu_book.proofs.Vocabulary.{given, Consents, Ids, reversal_in, Reversals, IsKept, AreTreesOf}
 use Rattle.gu_book.specs.{LiveState.{Becomes, CanFollow, CanGo, IsLiveList, IsStateOf}, Kept.IsBook}
 use Rattle.gu_book.specs.{declared.live_state.LiveState.LiveState, Lookups.{AreIdsOf, AreReversalsOf}}
 use Rattle.gu_book.specs.declared.lookups.Lookups.{Lookups}
 use Rattle.gu_depend.proofs.Vocabulary.{House, Initiate, Decline, Reverse, Entry, Record, Accepted, answer_to, call_of}
 use Rattle.gu_depend.proofs.Vocabulary.{live, numbered_as, is_change, is_consenting, without}
-use Rattle.std.proofs.Common.{◌≡◌, ℕ, ◌+◌, ◌-◌, true, ◌∙◌, List, [], ◌∷◌, ◌++◌, length, subst, arith, cond, Some, ◌==◌}
-use Rattle.std.proofs.Common.{get_or}
+use Rattle.std.proofs.Common.{◌≡◌, ℕ, ◌+◌, ◌-◌, true, ◌∙◌, List, [], ◌∷◌, ◌++◌, length, arith, cond, Some, ◌==◌, get_or}
 
 module _ {t : House} {h : List Entry} {cs : Consents} {lookups : Lookups} {s : LiveState}
     (book : IsBook t h cs lookups s) where
@@ -57,7 +56,7 @@ module _ {t : House} {h : List Entry} {cs : Consents} {lookups : Lookups} {s : L
         → CanGo t (live h) (numbered_as k d) s
     can_go k reverse d here =
         let u = undone t h e n k ok reverse in
-        let is : IsUndone t h k (numbered_as k d) = rw (undone_entry u.1 d here) at u.1 in
+        let is = rw (undone_entry u.1 d here) at u.1 in
         record {
           list = list_live;
           next = length h + 1;
@@ -74,15 +73,14 @@ module _ {t : House} {h : List Entry} {cs : Consents} {lookups : Lookups} {s : L
       book_next l is kept reversals {now} state = record {
         kept = kept;
         looked_up = record { ids = known; reversals = reversals };
-        state = rw ((next_number book.kept n e ok).1) (subst (λ l. IsStateOf t l (n + 1) now) is state);
+        state = rw ((next_number book.kept n e ok).1) (rw is at state);
       }
 
       pub book_more : (change : is_change e.command ≡ true) → (now : LiveState)
           → IsStateOf t (live h ++ numbered_as n e ∷ []) (n + 1) now
           → IsBook t (h ++ e ∷ []) cs (record { ids = ids; reversals = lookups.reversals }) now
       book_more change now state =
-          book_next _ (live_more book.kept n e ok change)
-          (kept_change book.kept n e ok change)
+          book_next _ (live_more book.kept n e ok change) (kept_change book.kept n e ok change)
           (reversals_same book.looked_up.reversals e (λ m. change_is_no_reverse m _ change)) state
 
       -- the state stays where the list does
@@ -93,7 +91,7 @@ module _ {t : House} {h : List Entry} {cs : Consents} {lookups : Lookups} {s : L
         stands = is.stands;
         dealt = is.dealt;
         placed = omega (arith, is.placed, number_is);
-        dealt_before = omega (arith, is.dealt_before, number_is);
+        dealt_before = omega (arith, number_is);
       }
 
       -- an Initiate or a Decline
@@ -102,10 +100,8 @@ module _ {t : House} {h : List Entry} {cs : Consents} {lookups : Lookups} {s : L
           → ((k m : ℕ) → e.command ≡ Decline k → given ds m ≡ cond (m == k) [] (given cs m))
           → IsBook t (h ++ e ∷ []) ds (record { ids = ids; reversals = lookups.reversals }) s
       book_consenting consents ds gives clears =
-          book_next _ (live_same book.kept n e ok consents)
-          (kept_consents book.kept n e ok consents ds gives clears)
-          (reversals_same book.looked_up.reversals e (λ m. consent_is_no_reverse m _ consents))
-          (later _ s book.state)
+          book_next _ (live_same book.kept n e ok consents) (kept_consents book.kept n e ok consents ds gives clears)
+          (reversals_same book.looked_up.reversals e (λ m. consent_is_no_reverse m _ consents)) (later _ s book.state)
 
       -- a Reverse
       pub book_less : (k : ℕ) → e.command ≡ Reverse k → (now : LiveState)
@@ -115,8 +111,6 @@ module _ {t : House} {h : List Entry} {cs : Consents} {lookups : Lookups} {s : L
           → ((m : ℕ) → reversal_in rs m ≡ cond (k == m) (Some n) (reversal_in mid m))
           → IsBook t (h ++ e ∷ []) ds (record { ids = ids; reversals = rs }) now
       book_less k reverse now gone ds cleared mid rs same put =
-          book_next _ (live_less book.kept n e ok k reverse)
-          (kept_reverse book.kept n e ok k reverse ds cleared)
+          book_next _ (live_less book.kept n e ok k reverse) (kept_reverse book.kept n e ok k reverse ds cleared)
           (reversals_put book.looked_up.reversals t e n k ok reverse rs
-          (λ m. cc (put m, same m)))
-          (later (without (live h) k) now (gone (length h + 1) book.state))
+          (λ m. cc (put m, same m))) (later (without (live h) k) now (gone (length h + 1) book.state))

@@ -6,9 +6,9 @@ use Rattle.gu_book.specs.Charging.{HasRoomFor}
 use Rattle.gu_depend.proofs.LastMoves.{moves_its_own}
 use Rattle.gu_depend.proofs.Vocabulary.{House, most_lots, highest_rate, charges, charge_of, Record, Charge}
 use Rattle.gu_fees.specs.{Rows.{paid_in, received_in}, Sums.{AreSumsOf, cost}}
-use Rattle.std.proofs.{Common.{All, mul-le-mul, mul-le-mul_right}, lemmas.Slice.Eq.bytes_eq-Decides}
-use Rattle.std.proofs.Common.{◌≡◌, ℕ, ◌+◌, ◌*◌, ◌≤◌, Bool, true, cond, refl, List, [], ◌∷◌, ◌++◌, length, ◌∙◌, ap}
-use Rattle.std.proofs.Common.{arith, Option, append-nil, Some, None, filter, filter_map, sum_by, bytes_eq, ◌&&◌, IfSome}
+use Rattle.std.proofs.{Common.{sum_by, bytes_eq, ◌&&◌, IfSome}, lemmas.Slice.Eq.bytes_eq-Decides}
+use Rattle.std.proofs.Common.{All, mul-le-mul, mul-le-mul_right, ◌≡◌, ℕ, ◌+◌, ◌*◌, ◌≤◌, Bool, true, cond, refl, List}
+use Rattle.std.proofs.Common.{[], ◌∷◌, ◌++◌, length, ap, arith, Option, append-nil, Some, None, filter, filter_map}
 use Rattle.std.proofs.lemmas.List.Elements.{All-nil, All-cons, All-append, All-filter, All-weaker, filter-append}
 use Rattle.std.proofs.lemmas.List.Sums.{sum_by-le, sum_by-append, sum_by-cons, length-filter, count_by-le-length}
 
@@ -68,7 +68,7 @@ fewer_given h (x ∷ xs) = omega (arith, fewer_by (h x) _ (length xs) (fewer_giv
 pub sum_most : {X : Type 0} (w : X → ℕ) (most : ℕ) (xs : List X) → All (λ x. w x ≤ most) xs → length xs ≤ 1000000
     → sum_by w xs ≤ 1000000 * most
 sum_most w most xs all few =
-    let b : length xs * most ≤ 1000000 * most = mul-le-mul_right most few in omega (arith, sum_by-le w _ xs all)
+    let b = mul-le-mul_right most few in omega (arith, sum_by-le w _ xs all)
 
 -- and over some of the charges of a list
 bounded : (t : House) (l : List Record) (w : Charge → ℕ) (takes : Charge → Bool) (most : ℕ) → length l ≤ 1000000
@@ -77,8 +77,7 @@ bounded t l w takes most few all =
     let a = length-filter takes (charges t l) in
     let b = count_by-le-length takes (charges t l) in
     let c = fewer_given (λ (r : Record). charge_of t l r.command) l in
-    sum_most w most _ (All-filter takes (λ (c : Charge). w c ≤ most) (charges t l) all)
-    (omega arith)
+    sum_most w most _ (All-filter takes (λ (c : Charge). w c ≤ most) (charges t l) all) (omega arith)
 
 pub has_room : (t : House) (l : List Record) (fees : FeeRows) → AreFeesOf t l fees → length l ≤ 1000000
     → (o : Option Charge) → IfSome o (λ c. c.lots ≤ most_lots) → IfSome o (λ c. c.rate ≤ highest_rate)
@@ -128,5 +127,5 @@ is_charged fees cs (Some c) sums lots rate =
       fits = omega arith;
       paid = rw (sums.paid c.taker) (own_part cost _ cs c taker);
       received = rw (sums.received c.giver) (own_part cost _ cs c giver);
-      used = rw (sums.used c.giver c.taker) (own_part _ _ cs c (ap (λ b. b && bytes_eq c.taker c.taker) giver ∙ taker));
+      used = rw (sums.used c.giver c.taker) (own_part _ _ cs c (cc));
     }

@@ -1,20 +1,20 @@
 -- The terms that a book keeps: what they say of a giver and a taker, and how they follow the changes.
 use Rattle.gu_base.proofs.{Dealt.all_sound, Sums.sum_option}
-use Rattle.gu_base.specs.{Terms.{dealing_of, made_by_deed, made_in, raised_by_deed, used_by_deed}, Limits.highest_limit}
-use Rattle.gu_book.proofs.{Charging.{fewer_given, sum_most}, Vocabulary.AllWithinLimits, Within.node_within}
-use Rattle.gu_book.proofs.Leaves.{cond_same}
-use Rattle.gu_book.proofs.Vocabulary.{option_or, AreTermsOf, FeeRows, TermsView, AreFeesOf, IsSmallDeed, IsWithinLimits}
+use Rattle.gu_base.specs.{Terms.{made_by_deed, made_in, raised_by_deed, used_by_deed}, Limits.highest_limit}
+use Rattle.gu_book.proofs.{Vocabulary.{IsSmallDeed, IsWithinLimits}, Charging.{fewer_given, sum_most}, Leaves.cond_same}
+use Rattle.gu_book.proofs.Vocabulary.{AllWithinLimits, option_or, AreTermsOf, FeeRows, TermsView, AreFeesOf}
+use Rattle.gu_book.proofs.Within.{node_within}
 use Rattle.gu_book.specs.Charging.{AreUsesOf}
-use Rattle.gu_depend.proofs.{Vocabulary.{Charge, Kind, Root, Own, Given, Node}, Deals.{both_same, dealt, numbered}}
+use Rattle.gu_depend.proofs.{Vocabulary.{Claim, Agree, Raise, Record}, Deals.{both_same, dealt, numbered}}
 use Rattle.gu_depend.proofs.{TermsFollow.without_row, LastMoves.deals_there, Settled.facts}
-use Rattle.gu_depend.proofs.Vocabulary.{most_lots, highest_rate, House, agreement, charge_of, charge_of_kind, charges}
-use Rattle.gu_depend.proofs.Vocabulary.{counted, first_refused, use_of_kind, use_of_node, deed_of, dealings_in}
-use Rattle.gu_depend.proofs.Vocabulary.{dealings, raised_under, used_under, terms_of, limit_of, used_of, Agreement}
-use Rattle.gu_depend.proofs.Vocabulary.{Dealing, Deed, Makes, Raises, Uses, Command, Claim, Agree, Raise, Record}
+use Rattle.gu_depend.proofs.Vocabulary.{Charge, Kind, Root, Own, Given, Node, most_lots, highest_rate, House, agreement}
+use Rattle.gu_depend.proofs.Vocabulary.{charge_of, charge_of_kind, charges, counted, first_refused, use_of_kind}
+use Rattle.gu_depend.proofs.Vocabulary.{use_of_node, deed_of, dealings_in, dealings, raised_under, used_under, terms_of}
+use Rattle.gu_depend.proofs.Vocabulary.{limit_of, used_of, Agreement, Dealing, Deed, Makes, Raises, Uses, Command}
 use Rattle.gu_fees.specs.Terms.{row_of}
-use Rattle.std.proofs.{Common.{option_map, option_and_then, bytes_eq}, lemmas.List.Sums.sum_by-cons}
-use Rattle.std.proofs.Common.{◌≡◌, ℕ, ◌+◌, ◌*◌, ◌≤◌, Bool, true, false, ◌&&◌, List, [], ◌∷◌, length, refl, ◌∙◌, ap}
-use Rattle.std.proofs.Common.{arith, cond, Option, All, Contains, Some, None, IfSome, filter, filter_map, sum_by}
+use Rattle.std.proofs.{Common.{IfSome, filter, filter_map, sum_by}, lemmas.List.Sums.sum_by-cons}
+use Rattle.std.proofs.Common.{option_map, option_and_then, bytes_eq, ◌≡◌, ℕ, ◌+◌, ◌*◌, ◌≤◌, Bool, true, false, ◌&&◌}
+use Rattle.std.proofs.Common.{List, [], ◌∷◌, length, refl, ◌∙◌, ap, arith, cond, Option, All, Contains, Some, None}
 use Rattle.std.proofs.lemmas.List.Elements.{All-nil, All-cons, All-head, All-tail, All-contains_itself, All-weaker}
 
 -- ---- what is kept of a giver and a taker
@@ -81,8 +81,7 @@ module _ (t : House) (l : List Record) (none : first_refused t [] l ≡ None) wh
   has_terms : (g k : List ℕ) (r : Record) (d : Deed) → Contains l r → deed_of l g k r.firm r.command ≡ Some d
       → terms_of t l g k ≡ None → ⊥
   has_terms g k r d there deals absent =
-      deals_there l r there g k d deals
-      ((all_sound _ _ ((facts t l none).deals g k)).none absent)
+      deals_there l r there g k d deals ((all_sound _ _ ((facts t l none).deals g k)).none absent)
 
   given_charged : (g k x y : List ℕ) (lots : ℕ) (o : Option Agreement) → (o ≡ None → ⊥)
       → counted (of_pair g k) (λ c. c.lots)
@@ -96,9 +95,7 @@ module _ (t : House) (l : List Record) (none : first_refused t [] l ≡ None) wh
       → counted (of_pair g k) (λ c. c.lots) (charge_of_kind t l lots kind) ≡ used_told (use_of_kind g k lots kind)
   kind_charged g k lots (Root _) some = refl
   kind_charged g k lots (Own _ _ _) some = refl
-  kind_charged g k lots (Given m x y) some =
-      given_charged g k x y lots _
-      (some x y (Uses lots) (cc (both_same x y)))
+  kind_charged g k lots (Given m x y) some = given_charged g k x y lots _ (some x y (Uses lots) (cc (both_same x y)))
 
   claim_charged : (g k : List ℕ) (o : Option Node)
       → ((x y : List ℕ) (d : Deed) → option_and_then (use_of_node x y) o ≡ Some d → terms_of t l x y ≡ None → ⊥)
@@ -164,8 +161,7 @@ small_in : (l : List Record) (g k : List ℕ) → AllWithinLimits l → (among :
     → All HasSmallDeed (dealings_in l among g k)
 small_in l g k all [] within = All-nil HasSmallDeed
 small_in l g k all (r ∷ among) within =
-    small_cons r _ _
-    (deed_small l g k _ _ all (All-head (λ (r : Record). IsWithinLimits r.command) r among within))
+    small_cons r _ _ (deed_small l g k _ _ all (All-head (λ (r : Record). IsWithinLimits r.command) r among within))
     (small_in l g k all among (All-tail (λ (r : Record). IsWithinLimits r.command) r among within))
 
 raised_small : (d : Deed) → IsSmallDeed d → raised_by_deed d ≤ 10000000000000
@@ -185,8 +181,7 @@ dealt_most : (l : List Record) (g k : List ℕ) → AllWithinLimits l → length
 dealt_most l g k all few counts most each =
     sum_most _ _ _
     (All-weaker HasSmallDeed (λ (d : Dealing). counts d.deed ≤ most) (λ d. each d.deed) (dealings l g k)
-    (small_in l g k all l all))
-    (omega (arith, fewer_given (dealing_of l g k) l))
+    (small_in l g k all l all)) (omega (arith, fewer_given))
 
 -- what is raised and what is used in such a list
 pub raised_most : (l : List Record) (g k : List ℕ) → AllWithinLimits l → length l ≤ 1000000

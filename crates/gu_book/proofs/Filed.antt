@@ -1,14 +1,14 @@
 -- What trees that show a list of changes say of its nodes, and what of them stays where the list has one change more,
 -- or one less.
-use Rattle.gu_book.proofs.{Vocabulary.{is_trade, is_live_trade}, ByNumber.{other_made, its_own}, Sound.node_push}
-use Rattle.gu_book.proofs.Orders.{InOrder, names_node}
-use Rattle.gu_book.proofs.Vocabulary.{names, Rose, Roses, leaf, parted, head_of, named, node_at, Grove, tree_of}
-use Rattle.gu_book.proofs.Vocabulary.{tree_in, last_place, IsPlace, IsSameGrove, ChangesTree, slot_of, IsTreeOf}
-use Rattle.gu_book.proofs.Vocabulary.{IsNodeOf, ArePartsOf, named_node, named_place, place_in, Head, IsGroveOf, IsNext}
+use Rattle.gu_book.proofs.{Vocabulary.{IsGroveOf, IsNext}, ByNumber.{other_made, its_own}, Orders.{InOrder, names_node}}
+use Rattle.gu_book.proofs.Sound.{node_push}
+use Rattle.gu_book.proofs.Vocabulary.{is_trade, is_live_trade, names, Rose, Roses, leaf, parted, head_of, named}
+use Rattle.gu_book.proofs.Vocabulary.{node_at, Grove, tree_of, tree_in, last_place, IsPlace, IsSameGrove, ChangesTree}
+use Rattle.gu_book.proofs.Vocabulary.{slot_of, IsTreeOf, IsNodeOf, ArePartsOf, named_node, named_place, place_in, Head}
 use Rattle.gu_book.specs.Filed.{IsDue, Follows}
 use Rattle.gu_depend.proofs.{Names.{maker, made_number}, Replay.NumbersOnce, StandsLast.any_in}
-use Rattle.gu_depend.proofs.Vocabulary.{◌≡◌, ℕ, ◌<◌, ◌≤◌, true, false, ◌&&◌, List, [], ◌∷◌, ◌++◌, refl, sym, ◌∙◌, ap}
-use Rattle.gu_depend.proofs.Vocabulary.{subst, arith, cond, Option, Some, None, find, ◌==◌, option_and_then}
+use Rattle.gu_depend.proofs.Vocabulary.{◌≡◌, ℕ, ◌≤◌, true, false, ◌&&◌, List, [], ◌∷◌, ◌++◌, refl, sym, ◌∙◌, ap, subst}
+use Rattle.gu_depend.proofs.Vocabulary.{arith, cond, Option, Some, None, find, ◌==◌, option_and_then}
 use Rattle.gu_depend.proofs.Vocabulary.{false_from_ne_true, or_parts, Decides-eqb, same_Some, EntryPart, House, node_of}
 use Rattle.gu_depend.proofs.Vocabulary.{nodes_of, same_name, split_of, Command, Trade, Split, Record, Node, Root, Place}
 use Rattle.gu_depend.proofs.Vocabulary.{none_is_some, or_none, made_of, name_is, name_same, splits, decides}
@@ -33,7 +33,7 @@ same_next t l r old new same next = record {
   filed = same_filed l old new same next.filed;
   later =
       let a : last_place new ≡ last_place old = rw same.slots refl in
-      let b : last_place old < r.number = next.later in
+      let b = next.later in
       omega arith;
   replayed = next.replayed;
   lawful = next.lawful;
@@ -142,8 +142,7 @@ live_at {l} filed k tree e =
     let trades = true_from_ne_false _ (λ plain.
     none_is_some (made_of m.change (root_name k)) is.root
     (rootless k m.change.number m.change.firm m.change.command plain) m.makes_it) in
-    any_in (λ (r : Record). (r.number == k) && is_trade r.command) l m.change m.among
-    (cc)
+    any_in (λ (r : Record). (r.number == k) && is_trade r.command) l m.change m.among (cc)
 
 -- ---- what a command names
 
@@ -216,11 +215,10 @@ module _ {r : Record} {x y : List Record} (b : IsBeside r x y) {g : Grove} (file
       → IsGroveOf y h
   moved trade tree place trees places shown others own = record {
     trees = λ k.
-        rw (trees k) (cond_both _ tree _ (IsTreeIn y k) (λ same. subst (λ j. IsTreeIn y j tree)
-        (sym (eqb-true k trade same)) shown) (λ other. others k (eqb-false k trade other)));
+        rw (trees k) (cond_both _ tree _ (IsTreeIn y k) (λ same. rw (eqb-true k trade same) shown)
+        (λ other. others k (eqb-false k trade other)));
     places = λ k. places k ∙ cond_both _ place _ (λ o. o ≡ place_in y k)
-        (λ same. cc (eqb-true k r.number same))
-        (λ other. cc (filed.places k, b.places k (eqb-false k r.number other)));
+        (λ same. cc (eqb-true k r.number same)) (λ other. cc (filed.places k, b.places k (eqb-false k r.number other)));
   }
 
   -- a tree of whose nodes the change names none, and whose root it doesn't make, shows the one as it shows the other

@@ -1,20 +1,20 @@
 -- What the trees say of a change on which nothing stands, and what is left when it is taken back at its node.
-use Rattle.gu_book.proofs.{FiledChanges.{its_head, its_node, from_tree, has_at, is_at, said_at}, Vocabulary.is_trade}
+use Rattle.gu_book.proofs.{FiledChanges.{its_head, its_node, from_tree, has_at, is_at, said_at}, Vocabulary.IsFree}
 use Rattle.gu_book.proofs.{FiledLess.{order, own_place, taken_back, uprooted}, Sound.made_found}
 use Rattle.gu_book.proofs.Filed.{Spot, spot, IsParted, parted_by, IsWhole, whole_by, root_name, makes_root, place_named}
 use Rattle.gu_book.proofs.Undoing.{others, once, finds, before, grown, bare, only_split, only_decision}
-use Rattle.gu_book.proofs.Vocabulary.{names, Rose, Roses, leaf, parted, no_parts, part_then, head_of, split_of_node}
-use Rattle.gu_book.proofs.Vocabulary.{node_at, edit_at, HasAt, can_unsplit, unsplit_node, is_given_back, Grove, IsPlace}
-use Rattle.gu_book.proofs.Vocabulary.{HasTree, ChangesTree, Takes, TakesTree, IsNodeOf, ArePartsOf, SplitsNode}
-use Rattle.gu_book.proofs.Vocabulary.{DecidesNode, named_node, IsOnlySplit, IsOnlyDecision, Head, IsGroveOf, IsFree}
-use Rattle.gu_depend.proofs.{Vocabulary.{name_same, node_called, decides_well, found_in, find_passes}, Finds.found_once}
+use Rattle.gu_book.proofs.Vocabulary.{is_trade, names, Rose, Roses, leaf, parted, no_parts, part_then, head_of}
+use Rattle.gu_book.proofs.Vocabulary.{split_of_node, node_at, edit_at, HasAt, can_unsplit, unsplit_node, is_given_back}
+use Rattle.gu_book.proofs.Vocabulary.{Grove, IsPlace, HasTree, ChangesTree, Takes, TakesTree, IsNodeOf, ArePartsOf}
+use Rattle.gu_book.proofs.Vocabulary.{SplitsNode, DecidesNode, named_node, IsOnlySplit, IsOnlyDecision, Head, IsGroveOf}
 use Rattle.gu_depend.proofs.{StandsLast.node_of_maker, LastMoves.split_kept, Grown.SplitsDecided, Settled.named_once}
-use Rattle.gu_depend.proofs.Names.{made_number}
-use Rattle.gu_depend.proofs.Vocabulary.{◌≡◌, ℕ, true, false, List, [], ◌∷◌, refl, sym, ◌∙◌, ap, subst, Option, All, inl}
-use Rattle.gu_depend.proofs.Vocabulary.{inr, Some, None, option_map, All-head, All-tail, All-weaker, All-contains}
-use Rattle.gu_depend.proofs.Vocabulary.{EntryPart, House, node_of, split_of, decision_of, splits, decides, is_given}
-use Rattle.gu_depend.proofs.Vocabulary.{state_of, state_after, without, Command, Trade, Split, Claim, Refuse, Cancel}
-use Rattle.gu_depend.proofs.Vocabulary.{Record, Kind, Given, Node, Place, no_some, none_is_some, made, made_of}
+use Rattle.gu_depend.proofs.{Names.made_number, Finds.found_once}
+use Rattle.gu_depend.proofs.Vocabulary.{name_same, node_called, decides_well, found_in, find_passes, ◌≡◌, ℕ, true}
+use Rattle.gu_depend.proofs.Vocabulary.{false, List, [], ◌∷◌, refl, ◌∙◌, ap, Option, All, inl, inr, Some, None}
+use Rattle.gu_depend.proofs.Vocabulary.{option_map, All-head, All-tail, All-weaker, All-contains, EntryPart, House}
+use Rattle.gu_depend.proofs.Vocabulary.{node_of, split_of, decision_of, splits, decides, is_given, state_of}
+use Rattle.gu_depend.proofs.Vocabulary.{state_after, without, Command, Trade, Split, Claim, Refuse, Cancel, Record}
+use Rattle.gu_depend.proofs.Vocabulary.{Kind, Given, Node, Place, no_some, none_is_some, made, made_of}
 use Rattle.gu_tree.proofs.Parts.{some_and, at_fact}
 use Rattle.gu_tree.specs.{Changes.{are_undecided_leaves, is_undecided_leaf, offer_node, offer_again_node}, Paths.above}
 use Rattle.gu_tree.specs.{Grove.{place_of, IsSapling}, ShownAll.IsTreeIn, Shown.ShowsLess}
@@ -70,8 +70,7 @@ module _ {t : House} {l : List Record} {r : Record} {g : Grove} (u : IsFree t l 
   pub its_spot : (trade : ℕ) (p : List ℕ) (n : EntryPart) → named_node r.command ≡ Some n
       → IsSomeAnd (place_of g r.number) (λ m. IsPlace g m trade p) → Spot l g trade p n
   its_spot trade p n is at =
-      spot u.filed (order u) trade p n
-      (rw (own_place u ∙ place_named r.number r.command n is) at at)
+      spot u.filed (order u) trade p n (rw (own_place u ∙ place_named r.number r.command n is) at at)
 
   -- ---- a Trade
 
@@ -89,8 +88,7 @@ module _ {t : House} {l : List Record} {r : Record} {g : Grove} (u : IsFree t l 
         sapling (Some (leaf h)) is = cc (node_called l _ is.root is.found)
         sapling (Some (parted h n ts)) is =
             let called = node_called l _ is.root is.found in
-            none_is_some _ _
-            (cc ((bare u (root_name r.number) refl).0)) is.tree.1.1
+            none_is_some _ _ (cc ((bare u (root_name r.number) refl).0)) is.tree.1.1
 
     pub root_gone : (h : Grove) → TakesTree g h r.number → Takes g h r.number → IsGroveOf (without l r.number) h
     root_gone = uprooted u (unnamed _ trades)
@@ -125,12 +123,11 @@ module _ {t : House} {l : List Record} {r : Record} {g : Grove} (u : IsFree t l 
         (λ v. ShowsLess (λ l k. HasAt p (λ w. IsOnlySplit l k (head_of w).name) v) v (edit_at unsplit_node p v))
         → IsGroveOf (without l r.number) h
     unsplit_gone h tree place shows =
-        taken_back u s (split_names n _ is).0 h _
-        (from_tree s _ tree)
+        taken_back u s (split_names n _ is).0 h _ (from_tree s _ tree)
         (rw (ap split_of_node its_parts.is) at (said_at s (λ w. IsSomeAnd (split_of_node w) (λ q. Takes g h q.0))
         place))
         (from_tree s
-        (λ v. ShowsLess (λ l k. HasAt p (λ w. IsOnlySplit l k (head_of w).name) v) v (edit_at unsplit_node p v)) shows l
+        _ shows l
         trade r.number
         (has_at s (λ w. IsOnlySplit l r.number (head_of w).name)
         (rw s.called (only_split u n is (split_names n _ is).1)))
@@ -146,9 +143,7 @@ module _ {t : House} {l : List Record} {r : Record} {g : Grove} (u : IsFree t l 
     called = s.said.named ∙ s.called
 
     its_decision : decision_of l n ≡ Some r
-    its_decision =
-        found_once _ l r u.among its_names.1
-        ((named_once t l u.replayed).decisions_once n)
+    its_decision = found_once _ l r u.among its_names.1 ((named_once t l u.replayed).decisions_once n)
 
     -- a Split of the part would stand behind the decision
     whole : IsWhole s.node
@@ -175,15 +170,12 @@ module _ {t : House} {l : List Record} {r : Record} {g : Grove} (u : IsFree t l 
           called,
           its_decision,
           given_state _ r
-              (subst (λ (y : Node). is_given y.kind ≡ true) (its_node s w.node
-              ((grown u).within.nodes n w.node w.there))
-              w.given),
+              (rw (its_node s w.node ((grown u).within.nodes n w.node w.there)) at w.given),
         )
 
     pub leaf_there : (P : Rose → Type 0) → ((h : Head) → h.state ≡ state_after r.command → P (leaf h))
         → HasTree g trade (HasAt p P)
-    leaf_there P has =
-        is_at s P (rw whole.is (has whole.head (sym (ap (λ v. (head_of v).state) whole.is) ∙ decided_state)))
+    leaf_there P has = is_at s P (rw whole.is (has whole.head (cc (whole.is, decided_state))))
 
     -- the part is offered again
     offered_gone : (h : Grove) (f : Rose → Rose) → ChangesTree g h trade (edit_at f p s.tree)
@@ -220,15 +212,9 @@ module _ {t : House} {l : List Record} {r : Record} {g : Grove} (u : IsFree t l 
         offered_gone h _ w.2 place
         (at_fact (λ w.
         ShowsLess (λ l k. HasAt p (λ x. IsOnlyDecision l k (head_of x).name) s.tree) s.tree
-        (edit_at (offer_node (head_of w).place) p s.tree))
-        (node_at (above p) s.tree) w.0 w.1
+        (edit_at (offer_node (head_of w).place) p s.tree)) (node_at (above p) s.tree) w.0 w.1
         (from_tree s
-        (λ v.
-        HasAt (above p)
-        (λ w.
-        ShowsLess (λ l k. HasAt p (λ x. IsOnlyDecision l k (head_of x).name) v) v
-        (edit_at (offer_node (head_of w).place) p v))
-        v)
+        _
         shows))
 
     -- ---- a Refuse or a Cancel

@@ -8,14 +8,14 @@ use Rattle.gu_book.proofs.Sound.{Sound, split_push, node_push, made_found, line_
 use Rattle.gu_book.proofs.Vocabulary.{option_or, cons_option, lots_at, names, Key, traded_at, held_at, holding_of}
 use Rattle.gu_book.proofs.Vocabulary.{taken_by, part_holding, added_by, counted_at, taken_at, Holding}
 use Rattle.gu_depend.proofs.{LastMoves.{IsBefore, other_trade, trades_kept, split_kept}, Replay.NumbersOnce}
-use Rattle.gu_depend.proofs.{Grown.{NamesThere, line_none, place_same, place_claimed}, Vocabulary.{Place, State, Deal}}
+use Rattle.gu_depend.proofs.{Grown.{NamesThere, line_none, place_same, place_claimed}, Names.made_number}
 use Rattle.gu_depend.proofs.{Settled.{Settled, SettledAs, accepted_there}, Finds.{count_append, found_once, not_both}}
-use Rattle.gu_depend.proofs.Names.{made_number}
-use Rattle.gu_depend.proofs.Vocabulary.{EntryPart, House, deal_in, node_of, nodes, nodes_of_parts, same_name}
-use Rattle.gu_depend.proofs.Vocabulary.{kind_of_part, parent, split_of, splits, decision_of, decides, claimed_account}
-use Rattle.gu_depend.proofs.Vocabulary.{claim_of, is_given, is_offered, line_of, place_of, place_of_kind, same_place}
-use Rattle.gu_depend.proofs.Vocabulary.{is_trade_of, trades_in, same_side, is_taker, number_same, Part, Side, Command}
-use Rattle.gu_depend.proofs.Vocabulary.{Trade, Split, Claim, Refuse, Cancel, Record, Kind, Root, Own, Given, Node}
+use Rattle.gu_depend.proofs.Vocabulary.{Place, State, Deal, EntryPart, House, deal_in, node_of, nodes, nodes_of_parts}
+use Rattle.gu_depend.proofs.Vocabulary.{same_name, kind_of_part, parent, split_of, splits, decision_of, decides}
+use Rattle.gu_depend.proofs.Vocabulary.{claimed_account, claim_of, is_given, is_offered, line_of, place_of}
+use Rattle.gu_depend.proofs.Vocabulary.{place_of_kind, same_place, is_trade_of, trades_in, same_side, is_taker}
+use Rattle.gu_depend.proofs.Vocabulary.{number_same, Part, Side, Command, Trade, Split, Claim, Refuse, Cancel, Record}
+use Rattle.gu_depend.proofs.Vocabulary.{Kind, Root, Own, Given, Node}
 use Rattle.gu_depend.specs.Moves.{named_by}
 use Rattle.std.proofs.{lemmas.Bool.{false_from_ne_true, not-true}, lemmas.Slice.Eq.bytes_eq-Decides}
 use Rattle.std.proofs.{lemmas.Bool.Decides.Decides-eqb, Math.Bool.{and-false, or-true}, lemmas.List.Folds.find-append}
@@ -92,8 +92,7 @@ lots_held l at instrument side x o t whole stands trades =
 pub lots_of_leaf : (l : List Record) → NumbersOnce l → (at : Place) (instrument : List ℕ) (side : Side) (x : Node)
     → split_of l x.name ≡ None → lots_at l at instrument side x ≡ taken_at (key_at at instrument) side (holding_of l x)
 lots_of_leaf l once at instrument side x whole =
-    lots_held l at instrument side x _ (traded_at l x.name) whole refl
-    (trades_told l once instrument side x.name)
+    lots_held l at instrument side x _ (traded_at l x.name) whole refl (trades_told l once instrument side x.name)
 
 -- what is split counts nothing
 lots_of_split : (l : List Record) (at : Place) (instrument : List ℕ) (side : Side) (x : Node) (r : Record)
@@ -116,8 +115,7 @@ sum_split l bound s n ps x found f = cc (filter_agree _ _ (λ x. or_false _) _, 
 
 free_as : (t : House) (l : List Record) (by : List ℕ) (c : Command) (n : EntryPart) (x : Node) → SettledAs t l by c
     → splits n c ≡ true → node_of l n ≡ Some x → not (is_offered l x) ≡ true
-free_as t l by (Split m ps) n x s is found =
-    rw (same_Some _ x (sym s.there ∙ (ap (node_of l) (name_is m n is) ∙ found))) at s.holds.free
+free_as t l by (Split m ps) n x s is found = rw (same_Some _ x (sym s.there ∙ (cc (name_is m n is)))) at s.holds.free
 free_as t l by _ n x s is found = absurd (cc)
 
 offered_whole : (t : House) (l : List Record) (n : EntryPart) (x : Node) → All (Settled t l) l → node_of l n ≡ Some x
@@ -169,8 +167,7 @@ module _ {t : House} {l : List Record} {r : Record} (c : IsCounted t l r) where
       let y = accepted_there t l r.firm r.command c.last.accepted n (cc) in
       none_is_some _ y.0 (unmade n own) y.1) in
       split_kept c.last n unsplit
-      ∙ unnamed_yet l n _ (λ d is. cc) c.last.grown.named
-      (unmade n own)
+      ∙ unnamed_yet l n _ (λ d is. cc) c.last.grown.named (unmade n own)
 
   -- where a node stands that has one above it
   place_up : (x : Node) (m : EntryPart) (o : Option (List ℕ)) → node_of (l ++ r ∷ []) x.name ≡ Some x
@@ -188,16 +185,14 @@ module _ {t : House} {l : List Record} {r : Record} (c : IsCounted t l r) where
       )
 
   once_before : NumbersOnce l
-  once_before n = omega (arith, count_append (λ d. d.number == n) l (r ∷ []), c.last.once n)
+  once_before n = omega (arith, count_append, c.last.once n)
 
   decision_push : (m : EntryPart)
       → decision_of (l ++ r ∷ []) m ≡ option_or (decision_of l m) (cond (decides m r.command) (Some r) None)
   decision_push m = find-append _ l _
 
   pub decision_kept : (m : EntryPart) → decides m r.command ≡ false → decision_of l m ≡ decision_of (l ++ r ∷ []) m
-  decision_kept m un =
-      sym
-      (cc (decision_push m, or_none _))
+  decision_kept m un = sym (cc (decision_push m, or_none _))
 
 -- what was taken and what the nodes count behind the change is what they counted before it and what was added
 pub record Balances (at : Place) (instrument : List ℕ) (side : Side) (l : List Record) (r : Record) : Type 0 where
@@ -218,8 +213,7 @@ part_is : (m : EntryPart) (by : List ℕ) (p : Place) (w : Deal) (total : ℕ) (
     ≡ cond own
     (option_map
     (λ a. record { key = record { firm = by; account = a; instrument = w.instrument }; side = w.side; lots = lots })
-    account)
-    (held_at (Some p) (Some w) lots)
+    account) (held_at (Some p) (Some w) lots)
 part_is m by p w total firm None lots true = refl
 part_is m by p w total firm (Some a) lots true = refl
 part_is m by p w total firm account lots false = refl
@@ -266,9 +260,8 @@ module _ (t : House) (l : List Record) (k : ℕ) (by id : List ℕ) (status : St
       let found = made_here c x (cc (name_same root)) in
       let line : line_of (behind trade) root ≡ x ∷ [] = cc (line_first _ c.last.whole root x found, line_none _ _) in
       let stands : place_of (behind trade) root ≡ Some place = cc in
-      let own : find (λ d. d.number == k) (behind trade) ≡ Some r =
-      found_once _ _ r
-      (Contains-append_right l (r ∷ []) r (zero, omega arith, refl)) (number_same k) (c.last.once k) in
+      let own =
+      found_once _ _ r (Contains-append_right l (r ∷ []) r (zero, omega arith, refl)) (number_same k) (c.last.once k) in
       let traded : traded_at (behind trade) root ≡ Some (record { instrument = instrument; side = side }) = cc in
       let count : lots_at (behind trade) at i s x ≡ counted (Some held) =
       cc (lots_of_leaf (behind trade) c.last.once at i s x (whole_here c root refl)) in
@@ -325,8 +318,7 @@ module _ (t : House) (l : List Record) (k : ℕ) (by id : List ℕ) (status : St
       (nodes_of_parts k 1 m by ps)
       ≡ added (Split m ps) (held_at (Some p) w total)
   parts_added m p None total ps =
-      sum_agree _ _
-      (λ y. cc (held_none _ y.lots)) (nodes_of_parts k 1 m by ps)
+      sum_agree _ _ (λ y. cc (held_none _ y.lots)) (nodes_of_parts k 1 m by ps)
       ∙ sum_zero (nodes_of_parts k 1 m by ps)
   parts_added m p (Some w) total ps = parts_count m p w total 1 ps
 
@@ -342,19 +334,17 @@ module _ (t : House) (l : List Record) (k : ℕ) (by id : List ℕ) (status : St
       let moved_place : place_of (behind split) m ≡ Some p =
       cc (place_same _ l m x c.last.grown there (decision_kept c m refl), called split m x there c, (c.stand x _).1) in
       let count : Node → ℕ = λ y. counted (held_at (place_of_kind y.kind None (Some p)) w y.lots) in
-      let each : All (λ y. lots_at (behind split) at i s y ≡ count y) (made r) =
+      let each =
       All-weaker (λ (y : Node). made_of r y.name ≡ Some y) (λ (y : Node). lots_at (behind split) at i s y ≡ count y)
       (λ y e. let own : y.name.entry ≡ k = made_number r y.name y e in
       let here = made_here c y e in
       let up = part_parent y.name m k 1 by ps y e in
       let undecided = unnamed_yet l y.name (λ d. decides y.name d.command)
-      (λ d is. cc (or-true (splits y.name d.command))) c.last.grown.named
-      (unmade c y.name own) in
+      (λ d is. cc (or-true (splits y.name d.command))) c.last.grown.named (unmade c y.name own) in
       let claims : claim_of (behind split) y.name ≡ None = cc (decision_kept c y.name refl) in
       lots_held (behind split) at i s y (place_of_kind y.kind None (Some p)) w (whole_here c y.name own)
       (cc (place_up c y m None here up claims))
-      (trades_up c i s y x m here up there ∙ trades_told l (once_before c) i s m))
-      (made r) (made_found r) in
+      (trades_up c i s y x m here up there ∙ trades_told l (once_before c) i s m)) (made r) (made_found r) in
       let leaf = before split m x there c whole in
       let named = sum_split l c.bound c.sound m ps x there (lots_at l at i s) in
       let named_now = sum_split l c.bound c.sound m ps x there (lots_at (behind split) at i s) in
@@ -374,17 +364,7 @@ module _ (t : House) (l : List Record) (k : ℕ) (by id : List ℕ) (status : St
       → counted (held_at (Some (record { firm = by; account = account })) w lots)
       ≡ added (Claim m account) (held_at (Some p) w lots)
   claim_added p None m account lots = refl
-  claim_added p (Some w) m account lots =
-      omega (
-        arith,
-        sum_by-cons (counted_at (key_at at i) s)
-            (record {
-              key = record { firm = by; account = account; instrument = w.instrument };
-              side = w.side;
-              lots = lots;
-            })
-            [],
-      )
+  claim_added p (Some w) m account lots = omega (arith, sum_by-cons)
 
   claim_balances : (m : EntryPart) (account : List ℕ) (x : Node) → node_of l m ≡ Some x → is_given x.kind ≡ true
       → is_taker by x.kind ≡ true → decision_of l x.name ≡ None → Balance (Claim m account)
@@ -403,9 +383,7 @@ module _ (t : House) (l : List Record) (k : ℕ) (by id : List ℕ) (status : St
       let stands : place_of (behind claim) x.name ≡ Some into =
       place_up c x up.0 _ (node_more l (r ∷ []) x.name x is_found) up.1 claims
       ∙ taken_place by account x.kind _ taker in
-      let now : lots_at (behind claim) at i s x ≡ counted (held_at (Some into) w x.lots) =
-      lots_held (behind claim) at i s x _ w unsplit stands
-      (cc (trades_kept c.last i s x.name x is_found)) in
+      let now = lots_held (behind claim) at i s x _ w unsplit stands (cc (trades_kept c.last i s x.name x is_found)) in
       let leaf = before claim m x there c whole in
       let named = sum_named c.sound m x there (lots_at l at i s) in
       let named_now = sum_named c.sound m x there (lots_at (behind claim) at i s) in
@@ -437,9 +415,7 @@ module _ (t : House) (l : List Record) (k : ℕ) (by id : List ℕ) (status : St
       let is_called = called c m x there counts in
       let is_found = found c m x there counts in
       let decision : decision_of (behind c) x.name ≡ Some (change c) = cc (decision_push counts x.name) in
-      let stays : place_of l x.name ≡ place_of (behind c) x.name =
-      place_claimed (behind c) l x.name x counts.last.grown is_found
-      (cc) in
+      let stays = place_claimed (behind c) l x.name x counts.last.grown is_found (cc) in
       let split = split_kept counts.last x.name unsplits in
       let trades = trades_kept counts.last i s x.name x is_found in
       let same : lots_at (behind c) at i s x ≡ lots_at l at i s x =

@@ -3,22 +3,22 @@ use Rattle.gu_base.proofs.{LiveLaws.{live_push_change, live_push_reverse, live_p
 use Rattle.gu_base.proofs.{Numbered.{found_at, length_numbered}, Basics.{bytes_symm, nothing_here}}
 use Rattle.gu_base.proofs.Accepted.{first_none, change_refused, IsAllowed, allowed, open_from_none}
 use Rattle.gu_base.proofs.Consenting.{left_change, left_initiate, left_decline, left_reverse, not_reversed}
-use Rattle.gu_book.proofs.{Refused.accepted_small, Leaves.without_small, Vocabulary.Consents}
-use Rattle.gu_book.proofs.Vocabulary.{list_any, same_id, NoIdTwice, IsKept, IsWithinLimits, AllWithinLimits, given}
+use Rattle.gu_book.proofs.{Refused.accepted_small, Leaves.without_small, Vocabulary.given}
+use Rattle.gu_book.proofs.Vocabulary.{Consents, list_any, same_id, NoIdTwice, IsKept, IsWithinLimits, AllWithinLimits}
 use Rattle.gu_book.specs.Kept.{AcceptedFrom, IsAccepted}
 use Rattle.gu_depend.proofs.Vocabulary.{House, knows_firm, numbered_as, numbered_from, is_change, is_reversed, live}
 use Rattle.gu_depend.proofs.Vocabulary.{refusal_of, unless, without, answer_to, entry_of, on_change, initiate_rest}
 use Rattle.gu_depend.proofs.Vocabulary.{is_same_id, call_of, IsRunFrom, Command, Initiate, Decline, Reverse, Accepted}
 use Rattle.gu_depend.proofs.Vocabulary.{Entry, UnknownFirm, bytes_same, consents_left, is_consenting}
-use Rattle.std.proofs.{Common.{append-nil, append_assoc, length-append, None, find, ◌==◌}, lemmas.Bool.and_parts}
+use Rattle.std.proofs.{Common.{List, [], ◌∷◌, ◌++◌, length, refl, sym, ◌∙◌, arith, cond}, lemmas.Bool.and_parts}
 use Rattle.std.proofs.{lemmas.List.Sums.{length-filter, count_by-le-length}, lemmas.List.Elements.{All-nil, All-push}}
 use Rattle.std.proofs.{lemmas.Slice.Eq.bytes_eq-Decides, lemmas.Map.Keys.IsDistinct-push}
-use Rattle.std.proofs.Common.{◌≡◌, ℕ, ◌+◌, ◌≤◌, true, false, List, [], ◌∷◌, ◌++◌, length, refl, sym, ◌∙◌, arith, cond}
+use Rattle.std.proofs.Common.{append-nil, append_assoc, length-append, None, find, ◌==◌, ◌≡◌, ℕ, ◌+◌, ◌≤◌, true, false}
 use Rattle.std.specs.{Cmp.IsEquivalence, List.IsDistinct}
 
 ids_congr : (x y z : Entry) → same_id x y ≡ true → same_id x z ≡ same_id y z
 ids_congr x y z h =
-    let p = and_parts _ _ h in let g : x.id ≡ y.id = (bytes_eq-Decides x.id y.id).0 p.1 in
+    let p = and_parts _ _ h in let g = (bytes_eq-Decides x.id y.id).0 p.1 in
     cc ((bytes_eq-Decides _ y.firm).0 p.0)
 
 ids_symm : (x y : Entry) → same_id x y ≡ same_id y x
@@ -130,8 +130,7 @@ module _ {t : House} {h : List Entry} {cs : Consents} (kept : IsKept t h cs) (n 
         left_initiate h e k m same (open_entry k same),
       ))
   told_by (Decline k) same is ds more less =
-      kept_consenting (cc) ds
-      (λ m. cc (less k m same, kept.consented m, left_decline h e k m same))
+      kept_consenting (cc) ds (λ m. cc (less k m same, kept.consented m, left_decline h e k m same))
   told_by _ same is ds more less = absurd (cc)
 
   -- a consent is given, or the consents to one reversal are taken back

@@ -1,14 +1,14 @@
 -- What is kept of the live changes follows them: behind a growth, with one change more, and with one less.
-use Rattle.gu_book.proofs.{Vocabulary.{goes_back, held_above, lots_in, taken_before, taken_by}, HoldingRows.first_there}
 use Rattle.gu_book.proofs.{TradesKept.{MayFollow, idle_stands, idle_terms, TakesWhole}, AllShown.undone_of_terms}
-use Rattle.gu_book.proofs.{TermsKept.{positions_left, terms_undealt, undealt_filed}, Refused.accepted_small}
-use Rattle.gu_book.proofs.{PartsAway.holds_some, Charging.fees_stay, Dealing.deed_small, Orders.earlier}
-use Rattle.gu_book.proofs.TermsKept.{can_put, dealt_apart, dealt_put, terms_filed, apart_undealt, fees_left}
+use Rattle.gu_book.proofs.{Vocabulary.{PositionRows, SameLots, added_by, comes_from}, HoldingRows.first_there}
+use Rattle.gu_book.proofs.{TermsKept.{terms_filed, apart_undealt, fees_left}, Refused.accepted_small, Orders.earlier}
+use Rattle.gu_book.proofs.{PartsAway.holds_some, Charging.fees_stay, Dealing.deed_small}
+use Rattle.gu_book.proofs.TermsKept.{positions_left, terms_undealt, undealt_filed, can_put, dealt_apart, dealt_put}
 use Rattle.gu_book.proofs.Undoing.{GoesBack, added_there, moves_back, positions_without, room_back, taken_same}
-use Rattle.gu_book.proofs.Vocabulary.{AreFeesOf, ArePositionsOf, AreTermsOf, CanPut, IsGroveOf, IsNext, IsOfTerms}
-use Rattle.gu_book.proofs.Vocabulary.{IsPut, AreTreesOf, Holding, IsNamedBy, IsTakenOut, TermsView, holding_of}
-use Rattle.gu_book.proofs.Vocabulary.{is_of_trees, last_entry, last_place, named_node, pair_of, place_in, record_of}
-use Rattle.gu_book.proofs.Vocabulary.{HasRoomBack, HaveMoved, HaveThere, PositionRows, SameLots, added_by, comes_from}
+use Rattle.gu_book.proofs.Vocabulary.{goes_back, held_above, lots_in, taken_before, taken_by, AreFeesOf, ArePositionsOf}
+use Rattle.gu_book.proofs.Vocabulary.{AreTermsOf, CanPut, IsGroveOf, IsNext, IsOfTerms, IsPut, AreTreesOf, Holding}
+use Rattle.gu_book.proofs.Vocabulary.{IsNamedBy, IsTakenOut, TermsView, holding_of, is_of_trees, last_entry, last_place}
+use Rattle.gu_book.proofs.Vocabulary.{named_node, pair_of, place_in, record_of, HasRoomBack, HaveMoved, HaveThere}
 use Rattle.gu_book.specs.{LiveState.{Becomes, CanAdd, CanFollow, CanGo, IsStateOf}, declared.found.Named.Named}
 use Rattle.gu_book.specs.{declared.live_state.LiveState.LiveState, declared.live_state.Addition.Addition}
 use Rattle.gu_book.specs.{Found.LiesThere, Kinds.is_claim}
@@ -90,8 +90,7 @@ module _ {add : Addition} {s : LiveState} (can : CanAdd add s) (m : Named) (is :
   -- lots stand there
   pub whole_there : IsSome (holding_of add.changes m.node)
   whole_there =
-      holds_some can.follows.state.filed (earlier 1 _ _ can.follows.rises).0 named_by.2
-      (lies _ can.follows.state.filed)
+      holds_some can.follows.state.filed (earlier 1 _ _ can.follows.rises).0 named_by.2 (lies _ can.follows.state.filed)
 
   pub takes_whole : (whole : Holding) → Some whole ≡ holding_of add.changes m.node
       → TakesWhole add.house.now add.changes (record_of add.made.now) s.trees s.positions n m.node whole
@@ -120,7 +119,7 @@ module _ {t : House} {l : List Record} {r : Record} {s : LiveState} (can : CanGo
         stands = positions_left can.free idle _ is.stands;
         dealt = terms_undealt can.free _ _ is.dealt of taken;
         placed = is.placed;
-        dealt_before = omega (arith, is.dealt_before, taken.last);
+        dealt_before = omega arith;
       }
 
   -- a change of trees that is no Claim costs nothing and deals for nobody
@@ -162,8 +161,7 @@ module _ {t : House} {l : List Record} {r : Record} {s : LiveState} (can : CanGo
         → ArePositionsOf l s.positions → ArePositionsOf (without l r.number) new
     back_stands new moved are =
         let whole = rw goes at moved in
-        positions_without can.free _ _ new are same _ (taken_same can.free)
-        (moves.moved _ new whole)
+        positions_without can.free _ _ new are same _ (taken_same can.free) (moves.moved _ new whole)
 
   -- of a Claim, what stands where the node above does
   pub claim_goes_back : (n : EntryPart) (account : List ℕ) → r.command ≡ Claim n account → {back : Option Holding}
@@ -183,11 +181,8 @@ module _ {t : House} {l : List Record} {r : Record} {s : LiveState} (can : CanGo
 
       pub trade_there : traded.lots ≤ lots_in s.positions traded.key traded.side
       trade_there =
-          first_there _ _ []
-          (rw adds at (added_there can.free _ _ can.state.stands (λ at side. refl) _ takes))
+          first_there _ _ [] (rw adds at (added_there can.free _ _ can.state.stands (λ at side. refl) _ takes))
 
       pub trade_gone : (new : PositionRows) → HaveMoved new s.positions None (traded ∷ [])
           → ArePositionsOf l s.positions → ArePositionsOf (without l r.number) new
-      trade_gone new taken are =
-          positions_without can.free _ _ new are (λ at side. refl) None takes
-          (rw adds taken)
+      trade_gone new taken are = positions_without can.free _ _ new are (λ at side. refl) None takes (rw adds taken)

@@ -12,11 +12,10 @@ use Rattle.gu_depend.proofs.Vocabulary.{answer_to, answer_by, is_same_id, is_sam
 use Rattle.gu_depend.proofs.Vocabulary.{Answer, Accepted, Repeated, Entry, Record, DuplicateId, most_entries}
 use Rattle.gu_ids.proofs.{NewestLaws.newest_push, Walk.count_is}
 use Rattle.gu_ids.specs.Chains.{count, AreIdsOf as AreChainsOf}
-use Rattle.std.proofs.{lemmas.Map.Keys.{IsDistinct-head, IsDistinct-tail}, Common.{option_and_then, ◌==◌, count_by}}
-use Rattle.std.proofs.{lemmas.Bool.{and_parts, eqb-true}, lemmas.Slice.Eq.bytes_eq-Decides}
-use Rattle.std.proofs.Common.{◌≡◌, ℕ, suc, ◌+◌, ◌-◌, ◌<◌, ◌≤◌, Bool, true, false, ◌&&◌, List, [], ◌∷◌, ◌++◌, length}
-use Rattle.std.proofs.Common.{get_or, refl, sym, ◌∙◌, ap, arith, cond, Some, None, find, bytes_eq, option_map}
-use Rattle.std.proofs.lemmas.List.Folds.{find-append}
+use Rattle.std.proofs.{lemmas.Map.Keys.{IsDistinct-head, IsDistinct-tail}, lemmas.Bool.{and_parts, eqb-true}}
+use Rattle.std.proofs.{lemmas.Slice.Eq.bytes_eq-Decides, Common.{bytes_eq, option_map}, lemmas.List.Folds.find-append}
+use Rattle.std.proofs.Common.{option_and_then, ◌==◌, count_by, ◌≡◌, ℕ, suc, ◌+◌, ◌-◌, ◌<◌, ◌≤◌, Bool, true, false, ◌&&◌}
+use Rattle.std.proofs.Common.{List, [], ◌∷◌, ◌++◌, length, get_or, refl, sym, ◌∙◌, ap, arith, cond, Some, None, find}
 
 -- ---- a search of a history with one more entry
 
@@ -37,7 +36,7 @@ module _ {h : List Entry} {ids : Ids} (are : AreIdsOf ids h) (t : House) (e : En
     (ok : answer_to t h (call_of e) ≡ Accepted n e.status) where
   -- there is a number for an accepted entry
   pub ids_fewer : count ids < most_entries
-  ids_fewer = omega (arith, count_is ids h are.chained, (allowed t h e n ok).room)
+  ids_fewer = omega (arith, count_is, (allowed t h e n ok).room)
 
   -- its id, added
   pub ids_added : (added : Ids) → AreChainsOf added (h ++ e ∷ []) → AreIdsOf added (h ++ e ∷ [])
@@ -48,8 +47,8 @@ module _ {h : List Entry} {ids : Ids} (are : AreIdsOf ids h) (t : House) (e : En
         chained = is_added;
         numbers = λ c.
             cc (
-              number_push _ h e n a.number (λ same. let p = and_parts _ _ same in let firm : c.firm
-                  ≡ e.firm = sym ((bytes_eq-Decides e.firm c.firm).0 p.0) in let id : c.id
+              number_push _ h e n a.number (λ same. let p = and_parts _ _ same in
+                  let firm = sym ((bytes_eq-Decides e.firm c.firm).0 p.0) in let id : c.id
                   ≡ e.id = sym ((bytes_eq-Decides e.id c.id).0 p.1) in
                   (λ i. find (λ (r : Record). bytes_eq r.firm (firm i) && bytes_eq r.id (id i)) (records h)) ∙ a.id),
               newest_push h e c.firm c.id,
@@ -73,7 +72,7 @@ module _ (h : List Entry) (c : Call) (n : ℕ) (there : number_of h c ≡ Some n
   -- the entry of the number stands in the history
   pub stands_within : n - 1 < length h
   stands_within =
-      let at = found_at n 1 h _ its_entry in omega (arith, at.from, at.within)
+      let at = found_at n 1 h _ its_entry in omega arith
 
   -- and has the id
   pub stands_found : (e : Entry) → e ≡ get_or h (n - 1) e → find (is_same_id c) (records h) ≡ Some (numbered_as n e)
@@ -96,13 +95,15 @@ no_later c m d (e ∷ h) apart firm id =
 ids_once : (c : Call) (m : ℕ) (h : List Entry) → NoIdTwice h → count_by (is_same_id c) (numbered_from m h) ≤ 1
 ids_once c m [] once = omega arith
 ids_once c m (d ∷ h) once =
-    let a = count_cons (is_same_id c) (numbered_as m d) (numbered_from (m + 1) h) in
-    let b = once_at (is_same_id c) (numbered_from (m + 1) h) (is_same_id c (numbered_as m d))
-    (ids_once c (m + 1) h (IsDistinct-tail same_id d h once))
-    (λ test. let p = and_parts (bytes_eq d.firm c.firm) (bytes_eq d.id c.id) test in
-    no_later c (m + 1) d h (IsDistinct-head same_id d h once) ((bytes_eq-Decides d.firm c.firm).0 p.0)
-    ((bytes_eq-Decides d.id c.id).0 p.1)) in
-    omega arith
+    omega (
+      arith,
+      count_cons (is_same_id c) (numbered_as m d) (numbered_from (m + 1) h),
+      once_at (is_same_id c) (numbered_from (m + 1) h) (is_same_id c (numbered_as m d))
+          (ids_once c (m + 1) h (IsDistinct-tail same_id d h once))
+          (λ test. let p = and_parts (bytes_eq d.firm c.firm) (bytes_eq d.id c.id) test in
+          no_later c (m + 1) d h (IsDistinct-head same_id d h once) ((bytes_eq-Decides d.firm c.firm).0 p.0)
+          ((bytes_eq-Decides d.id c.id).0 p.1)),
+    )
 
 -- the answer to a call whose id no entry has
 pub new_answer : (h : List Entry) (c : Call) → number_of h c ≡ None → (other : Answer)
@@ -156,4 +157,4 @@ module _ {h : List Entry} {rs : Reversals} (are : AreReversalsOf rs h) where
 
 -- there is a number for one entry more
 pub ids_few : {h : List Entry} {ids : Ids} → AreIdsOf ids h → length h ≤ most_entries → count ids ≤ most_entries
-ids_few {h} {ids} are few = omega (arith, count_is ids h are.chained)
+ids_few {h} {ids} are few = omega (arith, count_is)

@@ -73,7 +73,7 @@ once_or_later : {X : Type 0} (w : X → ℕ) (p : X → Bool) (y : X) (xs : List
     → cond b (w y) 0 + sum_by (λ x. cond (p x) (w x) 0) xs ≡ w x
 once_or_later w p y xs x later true found once =
     omega (arith, ap w (same_Some y x found), none_sum w p xs (counts_none p xs (omega arith)))
-once_or_later w p y xs x later false found once = omega (arith, later found (omega arith))
+once_or_later w p y xs x later false found once = omega arith
 
 -- where one at most passes, those that pass sum to what the one that is found counts
 pub sum_once : {X : Type 0} (w : X → ℕ) (p : X → Bool) (xs : List X) (x : X) → find p xs ≡ Some x → count_by p xs ≤ 1

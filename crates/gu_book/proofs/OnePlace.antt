@@ -1,18 +1,18 @@
 -- In whatever trees a list of changes has, a node lies at one place.
 use Rattle.gu_base.proofs.NodeNames.{part_parent}
-use Rattle.gu_book.proofs.{FiledChanges.{its_head, from_tree, order}, Vocabulary.{held_at, held_above, Found}}
+use Rattle.gu_book.proofs.{FiledChanges.{its_head, from_tree, order}, Orders.{InOrder, names_there, in_order}}
 use Rattle.gu_book.proofs.Filed.{same_filed, Spot, tree_shown, spot, root_name, parted_by}
-use Rattle.gu_book.proofs.Orders.{InOrder, names_there, in_order}
-use Rattle.gu_book.proofs.Vocabulary.{Rose, Roses, leaf, parted, no_parts, part_then, head_of, split_of_node, node_at}
-use Rattle.gu_book.proofs.Vocabulary.{Grove, tree_of, IsPlace, IsSameGrove, HasTree, IsNodeOf, ArePartsOf, IsTreeOf}
-use Rattle.gu_book.proofs.Vocabulary.{named_node, IsHeadOf, IsGroveOf, IsNext, AreTreesOf, IsFoundAs, IsFoundIn}
+use Rattle.gu_book.proofs.Vocabulary.{held_at, held_above, Found, Rose, Roses, leaf, parted, no_parts, part_then}
+use Rattle.gu_book.proofs.Vocabulary.{head_of, split_of_node, node_at, Grove, tree_of, IsPlace, IsSameGrove, HasTree}
+use Rattle.gu_book.proofs.Vocabulary.{IsNodeOf, ArePartsOf, IsTreeOf, named_node, IsGroveOf, IsNext, AreTreesOf}
+use Rattle.gu_book.proofs.Vocabulary.{IsFoundAs, IsFoundIn}
 use Rattle.gu_book.specs.{Found.{IsNamedIn, LiesThere, IsFoundThere}, declared.found.Named.Named}
-use Rattle.gu_depend.proofs.{Names.{maker, made_by_split}, Finds.{by_test, found_once}, Vocabulary.none_is_some}
-use Rattle.gu_depend.proofs.Settled.{named_once}
-use Rattle.gu_depend.proofs.Vocabulary.{◌≡◌, ℕ, zero, suc, ◌<◌, Option, IsSomeAnd, List, [], ◌∷◌, ◌++◌, refl, sym, ◌∙◌}
-use Rattle.gu_depend.proofs.Vocabulary.{ap, subst, arith, length, same_Some, EntryPart, node_of, nodes_of, same_name}
-use Rattle.gu_depend.proofs.Vocabulary.{deal_in, split_of, parent, House, Command, Trade, Split, Record, Place, Node}
-use Rattle.gu_depend.proofs.Vocabulary.{place_of, Deal, name_is, node_called, cond_both, refusal_parts, no_some}
+use Rattle.gu_depend.proofs.{Vocabulary.{refusal_parts, no_some}, Names.{maker, made_by_split}, Settled.named_once}
+use Rattle.gu_depend.proofs.Finds.{by_test, found_once}
+use Rattle.gu_depend.proofs.Vocabulary.{none_is_some, ◌≡◌, ℕ, zero, suc, ◌<◌, Option, IsSomeAnd, List, [], ◌∷◌, ◌++◌}
+use Rattle.gu_depend.proofs.Vocabulary.{refl, sym, ◌∙◌, ap, subst, arith, length, same_Some, EntryPart, node_of}
+use Rattle.gu_depend.proofs.Vocabulary.{nodes_of, same_name, deal_in, split_of, parent, House, Command, Trade, Split}
+use Rattle.gu_depend.proofs.Vocabulary.{Record, Place, Node, place_of, Deal, name_is, node_called, cond_both}
 use Rattle.gu_tree.proofs.{Parts.{some_and, at_there, node_at_further}, Along.own_head, ToldAt.told_at}
 use Rattle.gu_tree.specs.{Paths.{part_at, LeadsTo}, ShownAll.IsTreeIn}
 use Rattle.std.proofs.Common.{◌==◌, find, option_and_then, Some, None, option_map}
@@ -30,7 +30,7 @@ mutual
   alike l a b x (parted h n ts) (leaf k) is other (i ∷ p) v e =
       let z : Some is.1.0 ≡ None = cc in absurd (cc)
   alike l a b x (parted h n ts) (parted k m us) is other (i ∷ p) v e =
-      let same : is.1.0 ≡ other.1.0 = same_Some is.1.0 other.1.0 (cc) in
+      let same = same_Some is.1.0 other.1.0 (cc) in
       let mine = rw same at is.1.3 in
       parts_alike l (Some h.place) (Some k.place) (nodes_of other.1.0.number other.1.0.firm other.1.0.command) ts us
       mine other.1.3 i p v e
@@ -61,7 +61,7 @@ one_place {l} {g} filed n trade p place h others =
     let its = tree_shown others _ u.0 u.1 in
     let v = some_and _ _ place.there in
     let root : its.root ≡ mine.root = same_Some its.root mine.root (cc) in
-    let shows : IsNodeOf l None mine.root u.0 = rw root at its.tree in
+    let shows = rw root at its.tree in
     record {
       tree = u.0;
       found = u.1;
@@ -72,8 +72,7 @@ one_place {l} {g} filed n trade p place h others =
 pub lies_there : {l : List Record} {g : Grove} → IsGroveOf l g → (n : EntryPart) (m : Named) (trade : ℕ) (p : List ℕ)
     → m.node.name ≡ n → m.found.trade ≡ trade → IsPlace g n trade p → LiesThere l (Some m) p
 lies_there {l} {g} filed n m trade p called same place h others =
-    one_place filed _ _ p
-    (rw called (subst (λ (k : ℕ). IsPlace g n k p) (sym same) place))
+    one_place filed _ _ p (rw called (rw same place))
     h others
 
 -- what a command names was found there, where the changes make it
@@ -115,8 +114,7 @@ part_lies : (l : List Record) (a : Option Place) (n : EntryPart) (xs : List Node
 part_lies l a n [] ts x are h = absurd (cc)
 part_lies l a n (y ∷ ys) no_parts x are h = absurd are
 part_lies l a n (y ∷ ys) (part_then t ts) x are h =
-    cond_both _ _ (find (λ y. same_name y.name n) ys)
-    (λ o. o ≡ Some x → IsPart n (part_then t ts))
+    cond_both _ _ (find (λ y. same_name y.name n) ys) (λ o. o ≡ Some x → IsPart n (part_then t ts))
     (λ is _. (zero, t, refl, (own_head l a y t are.0).name ∙ name_is y.name n is))
     (λ _ later. let q = part_lies l a n ys ts x are.1 later in (suc q.0, q.1, q.2, q.3)) h
 
@@ -151,10 +149,10 @@ module _ {l : List Record} {g : Grove} (are : AreTreesOf l g) where
       let s = spot are.filed order_of q.0 q.1 up q.2 in
       let once = (named_once are.house l are.replayed).splits_once up in
       let split = found_once _ l m.change m.among (made_by_split m.change n up x m.makes_it e) once in
-      let v = parted_by l _ _ m.change s.node s.said.shown (ap (split_of l) (s.said.named ∙ s.called) ∙ split) in
+      let v = parted_by l _ _ m.change s.node s.said.shown (ap (split_of l) (cc) ∙ split) in
       let w = part_lies l _ n _ v.parts x v.are m.makes_it in
       let led = node_at_further q.1 _ s.tree s.node s.at
-      ∙ subst (λ u. node_at (w.0 ∷ []) u ≡ Some w.1) (sym v.is) (ap (option_and_then (node_at [])) w.2) in (
+      ∙ subst (λ u. node_at (w.0 ∷ []) u ≡ Some w.1) (sym v.is) (rw w.2) in (
         q.0,
         q.1 ++ w.0 ∷ [],
         record {
@@ -196,7 +194,7 @@ found_spot {l} {g} are n trade p u f o place at here deep its parts split =
     let s = spot are.filed (order_of are) _ p n place in
     let same : s.node ≡ u = same_Some s.node u (cc (from_tree s (λ t. node_at p t ≡ Some u) at)) in
     let head : head_of s.node ≡ f.head = cc in
-    let is : IsHeadOf l s.said.above s.said.node f.head =
+    let is =
     rw head at (its_head s) in (
       s.said.node,
       cc,

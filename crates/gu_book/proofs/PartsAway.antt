@@ -2,19 +2,19 @@
 -- moved.
 use Rattle.gu_base.proofs.{Passing.{at_node_none, split_passes, part_passes, refusal_parts}, Accepted.first_none}
 use Rattle.gu_base.proofs.Searches.{found_in, find_passes}
-use Rattle.gu_book.proofs.{Vocabulary.{taken_at, HaveMoved, is_trade, is_live_trade, Found, Holding}, Leaves.cond_same}
-use Rattle.gu_book.proofs.{Holdings.counts_or, Filed.live_at}
-use Rattle.gu_book.proofs.Vocabulary.{cons_option, PositionRows, is_key, Key, Grove, IsPlace, IsGroveOf, IsFoundAs}
-use Rattle.gu_book.proofs.Vocabulary.{traded_at, held_at, holding_of, part_holding, holding_away, part_away, counted_at}
+use Rattle.gu_book.proofs.{Holdings.counts_or, Leaves.cond_same, Filed.live_at}
+use Rattle.gu_book.proofs.Vocabulary.{taken_at, HaveMoved, is_trade, is_live_trade, Found, Holding, cons_option}
+use Rattle.gu_book.proofs.Vocabulary.{PositionRows, is_key, Key, Grove, IsPlace, IsGroveOf, IsFoundAs, traded_at}
+use Rattle.gu_book.proofs.Vocabulary.{held_at, holding_of, part_holding, holding_away, part_away, counted_at}
 use Rattle.gu_book.specs.Holdings.{lots_told}
-use Rattle.gu_depend.proofs.{Vocabulary.{Trade, Split, Record, Deal, Node, Place, same_side}, Replay.number_once}
-use Rattle.gu_depend.proofs.{StandsUnder.{any_found, rises_distinct}, Finds.found_once}
-use Rattle.gu_depend.proofs.Vocabulary.{House, knows_account, RisesFrom, EntryPart, deal_in, node_of, first, owns}
-use Rattle.gu_depend.proofs.Vocabulary.{refusal_of, refusal_of_part, split_row, knows_own_account, Part, Side, Command}
-use Rattle.std.proofs.{Common.{option_map, option_and_then, bytes_eq, ◌==◌}, lemmas.Bool.{eqb-true, and_parts}}
+use Rattle.gu_depend.proofs.{StandsUnder.{any_found, rises_distinct}, Replay.number_once, Finds.found_once}
+use Rattle.gu_depend.proofs.Vocabulary.{Trade, Split, Record, Deal, Node, Place, same_side, House, knows_account}
+use Rattle.gu_depend.proofs.Vocabulary.{RisesFrom, EntryPart, deal_in, node_of, first, owns, refusal_of}
+use Rattle.gu_depend.proofs.Vocabulary.{refusal_of_part, split_row, knows_own_account, Part, Side, Command}
+use Rattle.std.proofs.{Common.{map, find, filter_map, sum_by, unwrap_or}, lemmas.Bool.{eqb-true, and_parts}}
 use Rattle.std.proofs.{lemmas.Slice.Eq.bytes_eq-Decides, lemmas.List.Sums.sum_by-cons, lemmas.Option.same_Some}
-use Rattle.std.proofs.Common.{◌≡◌, ℕ, ◌+◌, ◌≤◌, Bool, true, false, not, ◌&&◌, ◌||◌, List, [], ◌∷◌, refl, sym, ◌∙◌, ap}
-use Rattle.std.proofs.Common.{arith, Option, cond, Some, None, IsSome, map, find, filter_map, sum_by, unwrap_or}
+use Rattle.std.proofs.Common.{option_map, option_and_then, bytes_eq, ◌==◌, ◌≡◌, ℕ, ◌+◌, ◌≤◌, Bool, true, false, not}
+use Rattle.std.proofs.Common.{◌&&◌, ◌||◌, List, [], ◌∷◌, refl, sym, ◌∙◌, ap, arith, Option, cond, Some, None, IsSome}
 
 -- ---- sums
 
@@ -59,8 +59,7 @@ moves_told : (t : House) (whole : Holding) (by : List ℕ) (o : Option (List ℕ
     → taken_at at side (holding_told whole by o n b)
     + counted_at at side (at_whole whole (lots_told (elsewhere_told whole by o n b)))
     ≡ taken_at at side (elsewhere_told whole by o n b) + counted_at at side (at_whole whole n)
-moves_told t whole by o n home at side false known =
-    omega (arith, cond_same 0 (is_key whole.key at && same_side whole.side side))
+moves_told t whole by o n home at side false known = omega (arith, cond_same)
 moves_told t whole by None n home at side true known = absurd (cc)
 moves_told t whole by (Some a) n home at side true known = own_moves whole by a n home at side _ refl
 
@@ -187,7 +186,7 @@ held_is (Some p) (Some d) n h is =
     let same = same_Some h
     _
     is in
-    (ap (λ h. h.lots) same, ap (λ h. Some h.key.firm) (sym same))
+    (cc, ap (λ h. Some h.key.firm) (sym same))
 
 -- the whole stands in an account of the firm that splits it, and has the lots of its parts
 pub whole_well : {t : House} {l : List Record} {by : List ℕ} {n : EntryPart} {ps : List Part}

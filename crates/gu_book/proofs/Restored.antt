@@ -3,13 +3,13 @@ use Rattle.gu_base.proofs.LiveLaws.{live_push_change, live_push_reverse, live_pu
 use Rattle.gu_base.proofs.RunLaws.{run_all}
 use Rattle.gu_book.proofs.{Leaves.live_rises, Orders.earlier}
 use Rattle.gu_book.specs.Headline.{IsLawful, Restores, TakesOut, StandsLater}
-use Rattle.gu_depend.proofs.{StandsUnder.{rises_above, rises_distinct}, Vocabulary.{none_refused, replay_front}}
+use Rattle.gu_depend.proofs.{Vocabulary.{is_consenting, legal_from_replay}, StandsUnder.{rises_above, rises_distinct}}
 use Rattle.gu_depend.proofs.{Replay.number_once, StandsLast.gone}
-use Rattle.gu_depend.proofs.Vocabulary.{◌≡◌, ℕ, ◌+◌, ◌<◌, ◌≤◌, true, List, [], ◌∷◌, ◌++◌, length, refl, sym, ◌∙◌, subst}
-use Rattle.gu_depend.proofs.Vocabulary.{arith, cond_both, same_Some, append-nil, append_assoc, map, All, and_parts}
-use Rattle.gu_depend.proofs.Vocabulary.{All-head, All-tail, House, numbered_as, live, RisesFrom, first_refused}
-use Rattle.gu_depend.proofs.Vocabulary.{standing_on, Call, answer_to, after, after_by, is_accepted, after_all, call_of}
-use Rattle.gu_depend.proofs.Vocabulary.{IsRunFrom, Answer, Accepted, Entry, Record, is_consenting, legal_from_replay}
+use Rattle.gu_depend.proofs.Vocabulary.{none_refused, replay_front, ◌≡◌, ℕ, ◌+◌, ◌<◌, ◌≤◌, true, List, [], ◌∷◌, ◌++◌}
+use Rattle.gu_depend.proofs.Vocabulary.{length, refl, sym, ◌∙◌, subst, arith, cond_both, same_Some, append-nil}
+use Rattle.gu_depend.proofs.Vocabulary.{append_assoc, map, All, and_parts, All-head, All-tail, House, numbered_as, live}
+use Rattle.gu_depend.proofs.Vocabulary.{RisesFrom, first_refused, standing_on, Call, answer_to, after, after_by}
+use Rattle.gu_depend.proofs.Vocabulary.{is_accepted, after_all, call_of, IsRunFrom, Answer, Accepted, Entry, Record}
 use Rattle.std.proofs.Common.{Some, None}
 use Rattle.std.specs.List.{list_all}
 
@@ -52,7 +52,7 @@ pub takes_out : (t : House) → TakesOut t
 takes_out t calls reversal k same ok =
     let h = after_all t [] calls in
     let a = added t h _ _ refl ok in
-    cc (after_more t [] calls (reversal ∷ []), live_push_reverse h a.0 k (a.1.command ∙ same))
+    cc (after_more t [] calls (reversal ∷ []), live_push_reverse h a.0 k (cc))
 
 -- Initiates and Declines leave the live changes
 consent_step : (h : List Entry) (c : Call) (a : Answer) → is_consenting c.command ≡ true
@@ -96,7 +96,7 @@ newest_is_free t calls before r same =
     cc (
       without_last r.number before r refl order.2,
       replay_front t [] before (r ∷ [])
-          (subst (λ l. first_refused t [] l ≡ None) same run.replayed),
+          (rw same at run.replayed),
     )
 
 -- ---- what stands on a change is later
@@ -118,8 +118,7 @@ refused_above : (t : House) (k : ℕ) (done l : List Record) (n : ℕ) → All (
     → first_refused t done l ≡ Some n → k ≤ n
 refused_above t k done [] n all h = absurd (cc)
 refused_above t k done (d ∷ l) n all h =
-    cond_both _ _ (first_refused t (done ++ d ∷ []) l)
-    (λ o. o ≡ Some n → k ≤ n)
+    cond_both _ _ (first_refused t (done ++ d ∷ []) l) (λ o. o ≡ Some n → k ≤ n)
     (λ refused e. rw (same_Some d.number n e) at (All-head (λ (d : Record). k ≤ d.number) d l all))
     (λ accepted later. refused_above t k (done ++ d ∷ []) l n (All-tail (λ (d : Record). k ≤ d.number) d l all) later) h
 
@@ -129,7 +128,6 @@ stands_later t calls before after r n same stands =
     let rises = rw same at (live_rises (after_all t [] calls)) in
     let none = rw same at (run_all t calls).replayed in
     let others = gone t before r after (record { once = number_once l (rises_distinct 1 l rises); replayed = none }) in
-    let high = refused_above t _ before after n
-    (rises_above _ after (rises_behind 1 before after r rises))
+    let high = refused_above t _ before after n (rises_above _ after (rises_behind 1 before after r rises))
     (cc (replay_on t [] before after (replay_front t [] before _ none))) in
     omega arith

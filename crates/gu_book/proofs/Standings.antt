@@ -1,14 +1,14 @@
 -- The running rows of positions, with one change more.
 use Rattle.gu_base.proofs.NodeNames.{made}
-use Rattle.gu_book.proofs.{Vocabulary.{IsWithinLimits, AllWithinLimits, Holding}, HoldingRows.{at_most, is_own_key}}
-use Rattle.gu_book.proofs.{Holdings.{IsCounted, balances, key_at}, Orders.{earlier, in_order}, Placed.node_stands}
+use Rattle.gu_book.proofs.{Vocabulary.{ArePositionsOf, PartsWithinLimits}, Holdings.{IsCounted, balances, key_at}}
+use Rattle.gu_book.proofs.{HoldingRows.{at_most, is_own_key}, Orders.{earlier, in_order}, Placed.node_stands}
 use Rattle.gu_book.proofs.{Refused.next_legal, Leaves.parts_lots}
-use Rattle.gu_book.proofs.Vocabulary.{lots_at, names, PositionRows, lots_in, Key, Grove, IsNext, taken_by, added_by}
-use Rattle.gu_book.proofs.Vocabulary.{counted_at, taken_at, HaveMoved, ArePositionsOf, PartsWithinLimits}
-use Rattle.gu_depend.proofs.{LastMoves.{moves_its_own, is_before, position_is}, Vocabulary.{Root, Node, Place}}
+use Rattle.gu_book.proofs.Vocabulary.{IsWithinLimits, AllWithinLimits, Holding, lots_at, names, PositionRows, lots_in}
+use Rattle.gu_book.proofs.Vocabulary.{Key, Grove, IsNext, taken_by, added_by, counted_at, taken_at, HaveMoved}
+use Rattle.gu_depend.proofs.{LastMoves.{moves_its_own, is_before, position_is}, Vocabulary.{Split, Record}}
 use Rattle.gu_depend.proofs.{State.sum_made, Settled.facts, Replay.Legal}
-use Rattle.gu_depend.proofs.Vocabulary.{House, first_refused, nodes, nodes_of, split_of, position_of, replay_front}
-use Rattle.gu_depend.proofs.Vocabulary.{RisesFrom, stands_at, trades_in, Part, Side, Command, Trade, Split, Record}
+use Rattle.gu_depend.proofs.Vocabulary.{Node, Place, House, first_refused, nodes, nodes_of, split_of, position_of}
+use Rattle.gu_depend.proofs.Vocabulary.{replay_front, RisesFrom, stands_at, trades_in, Part, Side, Command, Trade}
 use Rattle.std.proofs.{lemmas.List.Sums.{sum_by-le, sum_by-cons, sum_by-le-sum_by}, lemmas.List.Elements.All-weaker}
 use Rattle.std.proofs.Common.{◌≡◌, ℕ, ◌+◌, ◌*◌, ◌≤◌, ◌<◌, ◌^◌, not, ◌&&◌, List, [], ◌∷◌, ◌++◌, length, refl, ap, arith}
 use Rattle.std.proofs.Common.{Option, cond, Some, None, sum_by, is_none, mul-le-mul_right}
@@ -96,23 +96,13 @@ module _ {t : House} {l : List Record} {r : Record} {ts : Grove} (next : IsNext 
 
 few_lots : (ps : List Part) → PartsWithinLimits ps → sum_by (λ (p : Part). p.lots) ps ≤ 1000000000
 few_lots ps within =
-    let few = within.few in let b : length ps * 10000000 ≤ 100 * 10000000 = mul-le-mul_right 10000000 few in
+    let few = within.few in let b = mul-le-mul_right 10000000 few in
     omega (arith, sum_by-le (λ p. p.lots) 10000000 ps within.small)
 
 made_lots : (k : ℕ) (by : List ℕ) (c : Command) → IsWithinLimits c
     → sum_by (λ (x : Node). x.lots) (nodes_of k by c) ≤ 1000000000
-made_lots k by (Trade firm account instrument side lots) h =
-    omega (
-      arith,
-      sum_by-cons (λ (x : Node). x.lots) (record {
-        name = record { entry = k; part = 0 };
-        lots = lots;
-        kind = Root
-            (record { firm = firm; account = account });
-      })
-          [],
-    )
-made_lots k by (Split m ps) h = omega (arith, parts_lots m k 1 by ps, few_lots ps h)
+made_lots k by (Trade firm account instrument side lots) h = omega (arith, sum_by-cons)
+made_lots k by (Split m ps) h = omega (arith, parts_lots, few_lots)
 made_lots k by _ h = omega arith
 
 all_lots : (l : List Record) → AllWithinLimits l → sum_by (λ (x : Node). x.lots) (nodes l) ≤ length l * 1000000000

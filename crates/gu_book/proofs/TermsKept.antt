@@ -1,10 +1,10 @@
 -- How the terms that a book keeps follow its changes, and what an Agree or a Raise leaves of all else.
-use Rattle.gu_book.proofs.{Vocabulary.{IsOfTerms, AllWithinLimits, is_of_trees}, Dealing.{raised_most, used_most}}
+use Rattle.gu_book.proofs.{Vocabulary.{IsNext, IsFree, ArePositionsOf, counted_at}, Dealing.{raised_most, used_most}}
 use Rattle.gu_book.proofs.{Undoing.{fees_without, positions_without}, FiledChanges.left_alone, Refused.next_legal}
 use Rattle.gu_book.proofs.TradesKept.{IsIdle}
-use Rattle.gu_book.proofs.Vocabulary.{lookup, AreTermsOf, pair_of, PairView, FeeRows, is_pair, TermsView, last_entry}
-use Rattle.gu_book.proofs.Vocabulary.{CanPut, CanPutAt, IsPut, IsTakenOut, PositionRows, Grove, AreFeesOf, CanClaim}
-use Rattle.gu_book.proofs.Vocabulary.{IsClaimed, IsSmallDeed, IsGroveOf, IsNext, IsFree, ArePositionsOf, counted_at}
+use Rattle.gu_book.proofs.Vocabulary.{IsOfTerms, AllWithinLimits, is_of_trees, lookup, AreTermsOf, pair_of, PairView}
+use Rattle.gu_book.proofs.Vocabulary.{FeeRows, is_pair, TermsView, last_entry, CanPut, CanPutAt, IsPut, IsTakenOut}
+use Rattle.gu_book.proofs.Vocabulary.{PositionRows, Grove, AreFeesOf, CanClaim, IsClaimed, IsSmallDeed, IsGroveOf}
 use Rattle.gu_book.specs.{Dealing.{HasRoomForClaim, place_of_kind}, Kinds.is_claim}
 use Rattle.gu_depend.proofs.{TermsFollow.{apart_follows, put_follows, taken_follows, nobody_follows}, Deals.both_same}
 use Rattle.gu_depend.proofs.{Settled.{Settled, SettledAs, facts}, Replay.{NumbersOnce, number_once}}
@@ -15,9 +15,8 @@ use Rattle.gu_depend.proofs.Vocabulary.{Claim, Refuse, Cancel, Agree, Raise, Rec
 use Rattle.gu_depend.specs.Terms.{pair_of_kind}
 use Rattle.gu_fees.specs.{Terms.{row_of, IsReady}, Pairs.HasRoomFor}
 use Rattle.gu_tree.specs.ShownAll.{named_place}
-use Rattle.std.proofs.Common.{◌≡◌, ℕ, ◌≤◌, ◌<◌, true, false, List, [], ◌∷◌, ◌++◌, length, refl, sym, ◌∙◌, ap, arith}
-use Rattle.std.proofs.Common.{Option, IsSomeAnd, append-nil, Some, None, sum_by, option_and_then}
-use Rattle.std.proofs.lemmas.List.Elements.{All-contains}
+use Rattle.std.proofs.{Common.{IsSomeAnd, append-nil, Some, None, sum_by}, lemmas.List.Elements.All-contains}
+use Rattle.std.proofs.Common.{◌≡◌, ℕ, ◌≤◌, ◌<◌, true, false, List, [], ◌∷◌, ◌++◌, length, refl, sym, ap, arith, Option}
 use Rattle.gu_book.proofs.FiledLess as less
 
 -- ---- which changes deal
@@ -100,11 +99,9 @@ module _ {t : House} {l : List Record} {r : Record} {ts : Grove} (next : IsNext 
     claimed_by : (kind : Kind) → x.kind ≡ kind → (v w : TermsView) → AreTermsOf t l v
         → IsClaimed v w r.number x.lots kind → AreTermsOf t (l ++ r ∷ []) w
     claimed_by (Given m g k) is v w are put =
-        dealt_put v w g k _ are
-        (cc (claims, there, both_same g k))
+        dealt_put v w g k _ are (cc (claims, there, both_same g k))
         put
-    claimed_by _ is v w are same =
-        rw same (dealt_apart v are (ap (pair_of l r.firm) claims ∙ (ap (option_and_then _) there ∙ ap pair_of_kind is)))
+    claimed_by _ is v w are same = rw same (dealt_apart v are (cc (claims, there)))
 
     pub claim_dealt : (v w : TermsView) → AreTermsOf t l v → IsClaimed v w r.number x.lots x.kind
         → AreTermsOf t (l ++ r ∷ []) w

@@ -1,20 +1,20 @@
 -- What each kind of change leaves of the fees and the positions: a Claim alone costs something; the lots of a Trade go
 -- into one row, those of a Claim from one into another, and of a Split only what goes to other accounts is moved.
 use Rattle.gu_base.specs.declared.state.State.TheVariants.{Refused, Cancelled}
-use Rattle.gu_book.proofs.{Vocabulary.{ArePositionsOf, AllWithinLimits, Holding}, HoldingRows.{put_there, first_there}}
-use Rattle.gu_book.proofs.{Standings.{row_fits, has_taken, positions_moved}, Refused.accepted_small, Within.node_within}
+use Rattle.gu_book.proofs.{Standings.{row_fits, has_taken, positions_moved}, HoldingRows.{put_there, first_there}}
+use Rattle.gu_book.proofs.{Vocabulary.{counted_at, HaveRoom, HaveMoved}, Refused.accepted_small, PartsAway.split_moved}
 use Rattle.gu_book.proofs.PartsAway.{at_whole, held_is, moved, moved_few, SplitWell, split_well, whole_well}
-use Rattle.gu_book.proofs.PartsAway.{split_moved}
-use Rattle.gu_book.proofs.Vocabulary.{PositionRows, lots_in, Grove, IsNext, IsOfTerms, pair_of, holding_of, taken_by}
-use Rattle.gu_book.proofs.Vocabulary.{holding_away, part_away, added_by, counted_at, HaveRoom, HaveMoved}
+use Rattle.gu_book.proofs.Vocabulary.{ArePositionsOf, AllWithinLimits, Holding, PositionRows, lots_in, Grove, IsNext}
+use Rattle.gu_book.proofs.Vocabulary.{IsOfTerms, pair_of, holding_of, taken_by, holding_away, part_away, added_by}
+use Rattle.gu_book.proofs.Within.{node_within}
 use Rattle.gu_book.specs.Kinds.{is_claim}
 use Rattle.gu_depend.proofs.Vocabulary.{House, charge_of, charge_of_node, is_change, Charge, node_of, Node, Part}
 use Rattle.gu_depend.proofs.Vocabulary.{Command, Trade, Split, Claim, Agree, Raise, Record, EntryPart, State, Refuse}
 use Rattle.gu_depend.proofs.Vocabulary.{Cancel, state_after}
 use Rattle.gu_tree.specs.{Shown.{DecidesNode, GivesBack}, Changes.is_given_back}
-use Rattle.std.proofs.{Common.{arith, Option, Some, None, sum_by, filter_map, option_and_then}, lemmas.Option.same_Some}
-use Rattle.std.proofs.Common.{◌≡◌, ℕ, ◌+◌, ◌<◌, ◌≤◌, ◌^◌, true, false, List, [], ◌∷◌, ◌++◌, length, refl, sym, ◌∙◌, ap}
-use Rattle.std.proofs.lemmas.List.Sums.{sum_by-cons}
+use Rattle.std.proofs.{lemmas.List.Sums.sum_by-cons, lemmas.Option.same_Some}
+use Rattle.std.proofs.Common.{arith, Option, Some, None, sum_by, filter_map, option_and_then, ◌≡◌, ℕ, ◌+◌, ◌<◌, ◌≤◌}
+use Rattle.std.proofs.Common.{◌^◌, true, false, List, [], ◌∷◌, ◌++◌, length, refl, sym, ◌∙◌, ap}
 
 -- a command that costs nothing, takes nothing and adds nothing: one that gives a node back, and one of terms
 pub record IsIdle (t : House) (l : List Record) (by : List ℕ) (c : Command) : Type 0 where
@@ -81,9 +81,7 @@ module _ {t : House} {l : List Record} {r : Record} {ts : Grove} {rows : Positio
 
       -- and has the lots
       pub trade_stands : (new : PositionRows) → HaveMoved rows new None (traded ∷ []) → ArePositionsOf (l ++ r ∷ []) new
-      trade_stands new put =
-          positions_moved may.next _ new may.stands None (sym (cc trades))
-          (rw adds put)
+      trade_stands new put = positions_moved may.next _ new may.stands None (sym (cc trades)) (rw adds put)
 
   -- ---- what moves nothing
 
@@ -127,8 +125,7 @@ module _ {t : House} {l : List Record} {r : Record} {ts : Grove} {rows : Positio
         let d = moved_few whole r.firm ps in
         let e = well.sums in
         let f = ap (λ (x : Node). x.lots) (same_Some x well.node (sym of.there ∙ well.there)) in
-        row_fits of.may.few of.may.within of.may.stands at side _
-        (omega (arith, few_whole))
+        row_fits of.may.few of.may.within of.may.stands at side _ (omega (arith, few_whole))
 
     module _ (mid : PositionRows) (put : HaveMoved rows mid None (filter_map (part_away whole r.firm) ps)) where
       -- so many lots stand where the whole does

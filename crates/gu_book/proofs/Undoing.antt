@@ -1,34 +1,34 @@
 -- A live change on which nothing stands can as well stand last: so the fees and positions without it are those with it,
 -- less what it moved.
+use Rattle.gu_book.proofs.{Vocabulary.{goes_back, comes_from, HasFewLots, AllWithinLimits, Holding}, Restored.replay_on}
 use Rattle.gu_book.proofs.{PartsAway.{moved, moved_few, parts_move, split_well, whole_well}, HoldingRows.is_own_key}
 use Rattle.gu_book.proofs.{Standings.{counts_on, moved_by, taken_part, position_within}, Dealing.uses_charged}
 use Rattle.gu_book.proofs.{Leaves.{rises_without, without_small, without_within}, Charging.is_charged}
 use Rattle.gu_book.proofs.{Holdings.{IsCounted, decision_kept, given_parent}, ByNumber.{its_own, not_yet, change_left}}
-use Rattle.gu_book.proofs.{Restored.replay_on, Within.node_within}
-use Rattle.gu_book.proofs.Vocabulary.{cons_option, change_of, Grove, IsFree, names, FeeRows, PositionRows, lots_in}
-use Rattle.gu_book.proofs.Vocabulary.{is_key, Key, SplitsNode, DecidesNode, IsOnlySplit, IsOnlyDecision, IsSmallCharge}
-use Rattle.gu_book.proofs.Vocabulary.{AreFeesOf, IsCharged, traded_at, held_at, holding_of, taken_before, taken_by}
-use Rattle.gu_book.proofs.Vocabulary.{added_by, counted_at, taken_at, SameLots, HaveMoved, HaveThere, HasRoomBack}
-use Rattle.gu_book.proofs.Vocabulary.{ArePositionsOf, goes_back, comes_from, HasFewLots, AllWithinLimits, Holding}
-use Rattle.gu_depend.proofs.{Vocabulary.{decides_well, filter, All-head, All-cons, cond_both}, Deals.gives_alike}
-use Rattle.gu_depend.proofs.{Replay.{NumbersOnce, number_once, Legal, SameFinds, same_finds}, Names.at_name}
+use Rattle.gu_book.proofs.Vocabulary.{cons_option, Grove, IsFree, names, FeeRows, PositionRows, lots_in, is_key, Key}
+use Rattle.gu_book.proofs.Vocabulary.{SplitsNode, DecidesNode, IsOnlySplit, IsOnlyDecision, IsSmallCharge, AreFeesOf}
+use Rattle.gu_book.proofs.Vocabulary.{IsCharged, traded_at, held_at, holding_of, taken_before, taken_by, added_by}
+use Rattle.gu_book.proofs.Vocabulary.{counted_at, taken_at, SameLots, HaveMoved, HaveThere, HasRoomBack, ArePositionsOf}
+use Rattle.gu_book.proofs.Within.{node_within}
+use Rattle.gu_depend.proofs.{Replay.{NumbersOnce, number_once, Legal, SameFinds, same_finds}, Deals.gives_alike}
+use Rattle.gu_depend.proofs.{Vocabulary.{same_Some, name_same, node_called, splits_well}, Names.at_name}
 use Rattle.gu_depend.proofs.{StandsUnder.{rises_distinct, CanGo, can_go}, Settled.{named_once, accepted_there}}
 use Rattle.gu_depend.proofs.{Finds.{count_permuted, alike_at}, State.{SameDeals, charge_same}}
 use Rattle.gu_depend.proofs.Grown.{NamesThere, Grown, line_of_grown, place_same, above}
 use Rattle.gu_depend.proofs.LastMoves.{IsBefore, is_before, moves_its_own, split_kept, root_found, charge_kept}
-use Rattle.gu_depend.proofs.Vocabulary.{◌≡◌, ℕ, suc, ◌+◌, ◌≤◌, true, ◌&&◌, ◌||◌, List, [], ◌∷◌, ◌++◌, length, refl, sym}
-use Rattle.gu_depend.proofs.Vocabulary.{◌∙◌, ap, arith, Option, All, Contains, cond, false, Bool, map, All-tail}
-use Rattle.gu_depend.proofs.Vocabulary.{All-contains, All-weaker, All-contains_itself, EntryPart, House, most_lots}
-use Rattle.gu_depend.proofs.Vocabulary.{highest_rate, charges, charge_of, deal_in, node_of, split_of, splits, decides}
-use Rattle.gu_depend.proofs.Vocabulary.{decision_of, is_given, parent, position_of, same_side, place_of_kind, place_of}
-use Rattle.gu_depend.proofs.Vocabulary.{root_along, root_of, refusal_of, first, refusal_of_part, without, Command}
-use Rattle.gu_depend.proofs.Vocabulary.{Split, Claim, Part, Side, Record, Charge, Kind, Given, Node, Place, Deal}
-use Rattle.gu_depend.proofs.Vocabulary.{no_some, none_is_some, none_refused, found_in, find_passes, or_parts}
-use Rattle.gu_depend.proofs.Vocabulary.{false_from_ne_true, same_Some, name_same, node_called, splits_well}
+use Rattle.gu_depend.proofs.Vocabulary.{decides_well, filter, All-head, All-cons, cond_both, ◌≡◌, ℕ, suc, ◌+◌, ◌≤◌}
+use Rattle.gu_depend.proofs.Vocabulary.{true, ◌&&◌, ◌||◌, List, [], ◌∷◌, ◌++◌, length, refl, sym, ◌∙◌, ap, arith}
+use Rattle.gu_depend.proofs.Vocabulary.{Option, All, Contains, cond, false, Bool, map, All-tail, All-contains}
+use Rattle.gu_depend.proofs.Vocabulary.{All-weaker, All-contains_itself, EntryPart, House, most_lots, highest_rate}
+use Rattle.gu_depend.proofs.Vocabulary.{charges, charge_of, deal_in, node_of, split_of, splits, decides, decision_of}
+use Rattle.gu_depend.proofs.Vocabulary.{is_given, parent, position_of, same_side, place_of_kind, place_of, root_along}
+use Rattle.gu_depend.proofs.Vocabulary.{root_of, refusal_of, first, refusal_of_part, without, Command, Split, Claim}
+use Rattle.gu_depend.proofs.Vocabulary.{Part, Side, Record, Charge, Kind, Given, Node, Place, Deal, no_some}
+use Rattle.gu_depend.proofs.Vocabulary.{none_is_some, none_refused, found_in, find_passes, or_parts, false_from_ne_true}
 use Rattle.gu_fees.specs.Sums.{AreSumsOf}
 use Rattle.gu_tree.proofs.Shows.{find_kept}
-use Rattle.std.proofs.{Common.mul-le-mul_right, Math.Bool.or-true}
-use Rattle.std.proofs.Common.{◌≢◌, ◌*◌, Some, None, find, filter_map, sum_by, option_and_then, ◌==◌, IfSome}
+use Rattle.std.proofs.{Math.Bool.or-true, Common.IfSome}
+use Rattle.std.proofs.Common.{mul-le-mul_right, ◌≢◌, ◌*◌, Some, None, find, filter_map, sum_by, option_and_then, ◌==◌}
 use Rattle.gu_depend.proofs.LastMoves as before_last
 
 -- ---- small charges
@@ -46,15 +46,13 @@ kept_small h p (d ∷ l) all = at _ refl (kept_small h p l) all
     at None e later all =
         cond_both (p d) (d ∷ filter p l) (filter p l) (λ z. All IsSmallCharge (filter_map h z))
         (λ _.
-        rw e (later all))
-        (λ _. later all)
+        rw e (later all)) (λ _. later all)
     at (Some c) e later all =
         let rest = later (All-tail IsSmallCharge c (filter_map h l) all) in
         cond_both (p d) (d ∷ filter p l) (filter p l) (λ z. All IsSmallCharge (filter_map h z))
         (λ _.
         rw e (All-cons IsSmallCharge c (filter_map h (filter p l)) (All-head IsSmallCharge c (filter_map h l) all)
-        rest))
-        (λ _. rest)
+        rest)) (λ _. rest)
 
 -- ---- the change last
 
@@ -147,19 +145,20 @@ module _ {t : House} {l : List Record} {r : Record} {g : Grove} (u : IsFree t l 
   charges_with fees are =
       rw (← (moves_its_own t others r last_list).charged) (record {
         paid = λ firm. are.sums.paid firm ∙ sym (go.same.paid firm);
-        received = λ firm. are.sums.received firm
-            ∙ sym (go.same.received firm);
-        used = λ giver taker. are.sums.used giver taker
-            ∙ (uses_charged t l u.replayed giver taker ∙ (sym (go.same.used giver taker)
-            ∙ sym (uses_charged t last go.last giver taker)));
+        received = λ firm. cc (are.sums.received firm, go.same.received firm);
+        used = λ giver taker. cc (
+          are.sums.used giver taker,
+          uses_charged t l u.replayed giver taker,
+          go.same.used giver taker,
+          uses_charged t last go.last giver taker,
+        );
       })
 
   -- and its own can be taken out of them
   pub charged_there : (fees : FeeRows) → AreFeesOf t l fees → (o : Option Charge) → o ≡ charge_of t others r.command
       → IfSome o (λ c. c.lots ≤ most_lots) → IfSome o (λ c. c.rate ≤ highest_rate) → IsCharged fees o
   charged_there fees are o is lots rate =
-      is_charged _ (charges t others) o
-      (rw is (charges_with fees are))
+      is_charged _ (charges t others) o (rw is (charges_with fees are))
       lots rate
 
   pub fees_without : (fees new : FeeRows) → AreFeesOf t l fees → (o : Option Charge) → o ≡ charge_of t others r.command
@@ -217,8 +216,7 @@ module _ {t : House} {l : List Record} {r : Record} {g : Grove} (u : IsFree t l 
   taken_as (Split n ps) e =
       let w = splits_well t others r.firm r.command n before.accepted (cc (name_same n)) in
       let same_decision = decision_kept counted _ (cc) ∙ finds.decisions _ in
-      took _ n w.node w.there
-      (sym (place_same l others _ w.node grown (at_name others n w.node w.there) same_decision))
+      took _ n w.node w.there (sym (place_same l others _ w.node grown (at_name others n w.node w.there) same_decision))
   taken_as (Claim n account) e =
       let w = decides_well t others r.firm r.command n before.accepted (cc (name_same n)) in
       let x = w.node in
@@ -290,7 +288,7 @@ module _ {t : House} {l : List Record} {r : Record} {g : Grove} (u : IsFree t l 
   each_number P is =
       All-weaker (Contains l) (λ (d : Record). d.number ≡ r.number → P d)
       (λ d there same.
-      rw (same_Some d r (sym (its_own l d once there) ∙ (ap (change_of l) same ∙ its_own l r once u.among))) is)
+      rw (same_Some d r (cc (its_own l d once there, its_own l r once u.among))) is)
       l (All-contains_itself l)
 
   -- no other Split and no other decision names its node
@@ -380,7 +378,7 @@ module _ {t : House} {l : List Record} {r : Record} {g : Grove} (u : IsFree t l 
   few_as : AllWithinLimits l → (c : Command) → r.command ≡ c → HasFewLots c
   few_as all (Split n ps) e =
       let w = split_well t (others u) r.firm n ps (lawful_as _ e) in
-      let small : w.node.lots ≤ 10000000 = rw w.there at (node_within (others u) n (without_small r.number l all)) in
+      let small = rw w.there at (node_within (others u) n (without_small r.number l all)) in
       omega arith
   few_as all _ e = tt
 

@@ -3,14 +3,14 @@ use Rattle.gu_base.proofs.Accepted.{unless_none}
 use Rattle.gu_depend.proofs.{Finds.{and_then_told, by_test}, Grown.{Grown, ThereFor, Within}}
 use Rattle.gu_depend.proofs.Vocabulary
 use Vocabulary.{Agree, agree_passes, agreement, Agreement, All, All-head, All-tail, All-weaker, AllFit, and_parts}
-use Vocabulary.{append-nil, at_node, bytes_eq, bytes_eq-Decides, bytes_same, Claim, claim_passes, claim_row, Command}
-use Vocabulary.{cond, cons_option, Dealing, dealing_of, dealings, dealings_in, deals_under, Deed, deed_of, EntryPart}
-use Vocabulary.{filter_map, filter_map-append, first_under_deed, first_unfit, fit_without_use, fits, Given, House, inl}
-use Vocabulary.{inr, is_given, Kind, leave_out, limit_by, limit_of, limit_row, List, Makes, may_raise, may_use}
-use Vocabulary.{name_same, no_some, Node, node_of, None, none_or_some, none_unless, Option, option_map, Pair, pair_of}
-use Vocabulary.{Raise, raise_passes, raised_row, Raises, Record, refl, row, same_Some, Some, subst, sym, true}
-use Vocabulary.{unfit_none, unfit_without_raise, unfit_without_terms, use_of_kind, use_of_node, used_by, used_of, Uses}
-use Vocabulary.{without, ℕ, [], ◌&&◌, ◌++◌, ◌+◌, ◌==◌, ◌↔◌, ◌∙◌, ◌∷◌, ◌≡◌}
+use Vocabulary.{append-nil, bytes_eq, bytes_eq-Decides, bytes_same, Claim, claim_passes, Command, cond, cons_option}
+use Vocabulary.{Dealing, dealing_of, dealings, dealings_in, deals_under, Deed, deed_of, EntryPart, filter_map}
+use Vocabulary.{filter_map-append, first_under_deed, first_unfit, fit_without_use, fits, Given, House, inl, inr}
+use Vocabulary.{is_given, Kind, leave_out, limit_by, limit_of, limit_row, List, Makes, may_raise, may_use, name_same}
+use Vocabulary.{no_some, Node, node_of, None, none_or_some, none_unless, Option, option_map, Pair, pair_of, Raise}
+use Vocabulary.{raise_passes, raised_row, Raises, Record, refl, row, same_Some, Some, sym, true, unfit_none}
+use Vocabulary.{unfit_without_raise, unfit_without_terms, use_of_kind, use_of_node, used_by, used_of, Uses, without, ℕ}
+use Vocabulary.{[], ◌&&◌, ◌++◌, ◌+◌, ◌==◌, ◌↔◌, ◌∙◌, ◌∷◌, ◌≡◌}
 use Rattle.std.proofs.lemmas.Option.{cond_some}
 
 -- ---- pairs
@@ -24,7 +24,7 @@ pub given_for : (P : List ℕ → List ℕ → Deed → Type 0) (g k x y : List 
 given_for P g k x y e d h held =
     let c = cond_some _ e d h in
     let p = and_parts _ _ c.0 in
-    rw c.1 at (rw ((bytes_eq-Decides y k).0 p.1) at (subst (λ z. P z y e) ((bytes_eq-Decides x g).0 p.0) held))
+    rw c.1 at (rw ((bytes_eq-Decides y k).0 p.1) at (rw ((bytes_eq-Decides x g).0 p.0) at held))
 
 -- ---- the deed of a change, in lists of which one has some of the changes of the other
 
@@ -105,13 +105,13 @@ pub record IsDeal (l : List Record) (by : List ℕ) (c : Command) (g k : List �
 pub deal : (l : List Record) (by : List ℕ) (c : Command) (g k : List ℕ) (d : Deed) → deed_of l g k by c ≡ Some d
     → IsDeal l by c g k d
 deal l by (Agree x y rate limit) g k d h =
-    given_for (IsDeal l by (Agree x y rate limit)) g k x y (Makes (record { rate = rate; limit = limit })) d h
-    (record { of = refl; under = λ t n. refl; fit = λ t h. (agree_passes t l by x y rate limit h).1 })
+    given_for (IsDeal l by _) g k x y _ d h
+    (record { of = refl; under = λ t n. refl; fit = λ t h. (agree_passes t l by x y rate _ h).1 })
 deal l by (Raise x lots) g k d h =
-    given_for (IsDeal l by (Raise x lots)) g k x by (Raises lots) d h (record {
+    given_for (IsDeal l by (Raise x lots)) g k x by _ d h (record {
       of = refl;
       under = λ t n. refl;
-      fit = λ t h. (raised_may lots (limit_of t l x by)).0 (raise_passes t l by x lots h).1;
+      fit = λ t h. (raised_may lots _).0 (raise_passes t l by x _ h).1;
     })
 deal l by (Claim n account) g k d h =
     let x = and_then_told (use_of_node g k) (node_of l n) d h in of_kind x.0 x.1.0 x.0.kind refl x.1.1
@@ -124,9 +124,8 @@ deal l by (Claim n account) g k d h =
           under = λ t n. refl;
           fit = λ t h.
               let passes =
-              claim_passes t l by account x (subst (λ o. at_node (claim_row t l by account) o ≡ None) there h) in
-              (used_may (used_of l a b + x.lots) (limit_of t l a b)).0
-              (subst (λ z. limit_row (used_by l z + x.lots) (limit_by t l z) ≡ None) is passes.2);
+              claim_passes t l by account x (rw there at h) in
+              (used_may (used_of l a b + x.lots) (limit_of t l a b)).0 (rw is at passes.2);
         })
     of_kind x there _ is h = absurd (cc)
 deal l by _ g k d h = absurd (cc)
@@ -172,7 +171,7 @@ pub unfit_without : (file : Option Agreement) (xs : List Dealing) (k : Dealing) 
     → AllFit file [] (xs ++ k ∷ ys) → leave_out k.number (xs ++ k ∷ ys) ≡ xs ++ ys → (e : Deed) → k.deed ≡ e
     → first_unfit file [] (xs ++ ys) ≡ first_under_deed file (xs ++ k ∷ ys) k.number e
 unfit_without file xs k ys all left (Makes a) is = unfit_without_terms _ xs k ys a is all
-unfit_without file xs k ys all left (Raises lots) is =
+unfit_without file xs k ys all left (Raises _) is =
     unfit_without_raise _ xs k ys _ is all
     ∙ sym (rw left)
 unfit_without file xs k ys all left (Uses _) is = unfit_none _ [] _ (fit_without_use _ xs k ys _ is all)

@@ -72,7 +72,7 @@ decided_more l b z n w same = elim (none_or_some _) [
   | inl none ↦
       no_some _ (λ d h. cc ((sym same ∙ none), (w.decisions n d h)))
       ∙ (cc)
-  | inr d ↦ cc (d.1, find-append (λ r. decides n r.command) b z)
+  | inr d ↦ cc (find-append (λ r. decides n r.command) b z)
 ]
 
 there_more : (b z : List Record) (c : Command) → ThereFor b c → ThereFor (b ++ z) c
@@ -100,7 +100,7 @@ module _ (l b : List Record) (nodes : (n : EntryPart) (x : Node) → node_of b n
     | inl none ↦ cc (none)
     | inr m ↦ (
         let by = maker b n x found in
-        let y = All-contains (NamesThere b) b by.change named by.among m.0
+        let y = All-contains (NamesThere b) b _ named by.among m.0
         (rw (made_by_split by.change n m.0 x by.makes_it m.1)) in
         cc (m.1, y.1, line_led f m.0 y.0 y.1, nodes m.0 y.0 y.1))
   ])
@@ -115,8 +115,8 @@ module _ (b : List Record) (r : Record) (named : All (NamesThere b) b) (ends : L
   old_ends : (f g : ℕ) (n : EntryPart) (x : Node) → node_of b n ≡ Some x → length b ≤ f → length b ≤ g
       → line_within f more (Some x) ≡ line_within g more (Some x)
   old_ends f g n x found far long =
-      let old = λ (f : ℕ). line_led more b (node_more b (r ∷ [])) named f n x found in
-      sym (old f) ∙ (ends f n x found far ∙ (sym (ends g n x found long) ∙ old g))
+      let old = λ (f : ℕ). line_led more b (node_more b _) named f n x found in
+      sym (old f) ∙ (cc (ends f n x found far, ends g n x found long, old g))
 
   -- and from one that the change makes, since above it there are only such
   new_ends : (f g : ℕ) (n : EntryPart) (x : Node) → made_of r n ≡ Some x → length b < f → length b < g
@@ -133,11 +133,11 @@ module _ (b : List Record) (r : Record) (named : All (NamesThere b) b) (ends : L
 pub grown_push : (l b : List Record) (r : Record) → Grown l b → Within l (b ++ r ∷ []) → length (b ++ r ∷ []) ≤ length l
     → Follows l b r.command → Grown l (b ++ r ∷ [])
 grown_push l b r g w short f =
-    let own = follows_more l b (r ∷ []) r.command w f in
+    let own = follows_more l b _ _ w f in
     record {
       within = w;
       named = All-push (NamesThere (b ++ r ∷ [])) b r
-          (All-weaker (NamesThere b) (NamesThere (b ++ r ∷ [])) (λ d. there_more b (r ∷ []) d.command) b g.named)
+          (All-weaker _ (NamesThere (b ++ r ∷ [])) (λ d. there_more b _ _) b g.named)
           own.there;
       decided = All-push (SplitsDecided l (b ++ r ∷ [])) b r
           (All-weaker (SplitsDecided l b) (SplitsDecided l (b ++ r ∷ []))
@@ -193,7 +193,7 @@ place_grown (suc f) l b g n x found claims =
       | inl none ↦ cc (none)
       | inr m ↦ (let y = above l b n m.0 x g found m.1 in
           let same = ap (option_and_then (λ r. claimed_account r.command)) y.decided in
-          cc (m.1, y.there, g.within.nodes m.0 y.node y.there, place_grown f l b g m.0 y.node y.there same))
+          cc (g.within.nodes m.0 y.node y.there, place_grown f l b g m.0 y.node y.there same))
     ] in
     λ i. place_of_kind x.kind (claimed i) (up i)
 

@@ -36,11 +36,11 @@ root_found (suc f) l p m x found h =
     let above = option_and_then (node_of l) (parent x.kind) in
     root_at l x p (at_name l m x found) (line_within f l above) (λ later. elim (none_or_some _) [
       | inl none ↦
-          absurd (none_is_some (root_along (line_within f l above)) p
+          absurd (none_is_some _ p
           (ap (λ o. root_along (line_within f l o)) none ∙ ap root_along (line_none f l)) later)
       | inr y ↦ (
           let up = and_then_told (node_of l) (parent x.kind) y.0 y.1 in
-          root_found f l p up.0 y.0 up.1.1 (sym (ap (λ o. root_along (line_within f l o)) y.1) ∙ later))
+          root_found f l p up.0 y.0 up.1.1 (cc (y.1)))
     ]) h
 
 -- ---- what a claim costs
@@ -88,8 +88,7 @@ module _ {t : House} {l : List Record} {r : Record} (b : IsBefore t l r) where
         alike_at (λ p. find (trade p) (l ++ r ∷ [])) (λ p. find (trade p) l) (root_of l m) (λ p h.
             let y = root_found (length l) l p m x found
             (sym (ap (λ o. root_along (line_within (length l) l o)) found) ∙ h) in
-            find_beside (trade p) l r [] (ap (λ b. b && is_trade_of instrument side r.command) (other_trade p y.0 y.1))
-            ∙ ap (find (trade p)) (append-nil l)),
+            cc (find_beside (trade p) l r [] (rw (other_trade p y.0 y.1)), append-nil l)),
       )
 
   pub split_kept : (m : EntryPart) → splits m r.command ≡ false → split_of (l ++ r ∷ []) m ≡ split_of l m
@@ -100,7 +99,7 @@ module _ {t : House} {l : List Record} {r : Record} (b : IsBefore t l r) where
   terms_kept g k some = elim (none_or_some _) [
     | inl none ↦ absurd (some none)
     | inr a ↦ (
-        let stay = terms_stay (agreement t g k) (dealings l g k) (dealings_in (l ++ r ∷ []) (r ∷ []) g k) a.0 a.1 in
+        let stay = terms_stay _ (dealings l g k) (dealings_in (l ++ r ∷ []) (r ∷ []) g k) a.0 a.1 in
         cc (a.1, dealings_append (l ++ r ∷ []) l (r ∷ []) g k, dealings_grown (l ++ r ∷ []) l g k b.grown, stay))
   ]
 

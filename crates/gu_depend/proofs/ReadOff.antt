@@ -7,18 +7,18 @@ use proofs.{StandsUnder.{least_one, legal_rising, looked_up}, TermsFollow.pair_p
 use Rattle.gu_depend.proofs.Vocabulary
 use Vocabulary.{Agree, ap, AreTermsOf, arith, Bool, Cancel, change_of, Claim, Command, cond, Contains, dealings}
 use Vocabulary.{dealings_in, deals_under, decides, Decides-eqb, decision_of, Deed, entries_dealt, EntryPart, false}
-use Vocabulary.{find, find-append, find_passes, first_refused, flat_map, found_in, House, inl, inr, is_pair, IsLegal}
-use Vocabulary.{IsSomeAnd, IsTreeIn, least, legal_from_replay, length, List, lookup, made_by, Makes, name_same}
-use Vocabulary.{named_place, Node, node_of, nodes_of, None, none_or_some, nothing_here, number_in, numbers_on}
-use Vocabulary.{numbers_on_parts, numbers_under, Option, option_and_then, option_map, or_right, Pair, pair_at, PairView}
-use Vocabulary.{Part, parts_of, place_in, place_of_pair, Raise, Raises, Record, refl, Refuse, replay_from_legal}
-use Vocabulary.{RisesFrom, same_name, same_Some, ShowsAll, slice_get, Some, Split, split_of, splits, standing_on, subst}
-use Vocabulary.{sym, TermsView, Trade, true, unwrap_or, without, ℕ, [], ◌==◌, ◌↔◌, ◌∙◌, ◌∷◌, ◌≡◌, ◌≢◌}
+use Vocabulary.{find, find-append, find_passes, found_in, House, inl, inr, is_pair, IsLegal, IsSomeAnd, least}
+use Vocabulary.{legal_from_replay, length, List, lookup, Makes, name_same, named_place, Node, node_of, None}
+use Vocabulary.{none_or_some, nothing_here, number_in, numbers_on_parts, numbers_under, Option, option_and_then}
+use Vocabulary.{option_map, or_right, Pair, pair_at, PairView, Part, place_in, place_of_pair, Raise, Raises, Record}
+use Vocabulary.{refl, Refuse, replay_from_legal, RisesFrom, same_Some, ShowsAll, slice_get, Some, Split, split_of}
+use Vocabulary.{splits, standing_on, sym, TermsView, Trade, true, unwrap_or, without, ℕ, [], ◌==◌, ◌↔◌, ◌∙◌, ◌∷◌, ◌≡◌}
+use Vocabulary.{◌≢◌}
 use Rattle.gu_depend.specs.Touch.{is_trade_or_decision}
 use Rattle.gu_fees.specs.{Pairs.{deed_at, standing_under}, Terms.{entries_in, row_of, standing_in}}
 use Rattle.gu_tree.proofs.{Parts.{at_fact, some_and}, ShowsLess.no_root_part, ToldAt.{IsToldAt, told_at}}
-use Rattle.gu_tree.specs.{Grove.{Grove, HasTree, IsPlace, place_of, tree_of}, Paths.{LeadsTo, node_at}, Rose.head_of}
-use Rattle.gu_tree.specs.Rose.{Rose, split_of_node}
+use Rattle.gu_tree.specs.{Grove.{Grove, HasTree, IsPlace, place_of, tree_of}, Paths.node_at, Rose.{head_of, Rose}}
+use Rattle.gu_tree.specs.Rose.{split_of_node}
 use Rattle.std.proofs.lemmas.Bool.{ne_eqb, or_from}
 
 -- ---- a trade, a decision, or neither
@@ -58,9 +58,8 @@ module _ (t : House) (l : List Record) (list : Legal t l) (k : ℕ) (r : Record)
   split_no_trade n ps is trade root found same =
       let name : EntryPart = record { entry = trade; part = 0 } in
       let m = maker l _ _ found in
-      let one = only_change _ m.among (cc (made_number m.change name root m.makes_it)) in
-      cc (ap (λ c. find (λ x. same_name x.name name) (nodes_of r.number r.firm c)) is
-      ∙ no_root_part trade r.number 1 n r.firm ps (omega arith))
+      let one = only_change _ m.among (cc (made_number m.change _ _ m.makes_it)) in
+      cc (no_root_part trade r.number 1 n r.firm ps (omega arith))
 
   -- nor a decision
   split_no_decision : (n : EntryPart) (ps : List Part) → r.command ≡ Split n ps → (o : Option Record)
@@ -75,43 +74,35 @@ module _ (t : House) (l : List Record) (list : Legal t l) (k : ℕ) (r : Record)
   module _ (trade : ℕ) (v : Rose) (told : IsToldAt l trade v) where
     split_at : (n : EntryPart) → Some n ≡ Some (head_of v).name
         → option_map (λ s. s.0) (split_of_node v) ≡ least (number_in (split_of l n))
-    split_at n at = cc (same_Some _ _ at, least_in (split_of l n))
+    split_at n at = cc (same_Some _ _ at, least_in _)
 
     at_decision : (n : EntryPart) → decides n r.command ≡ true → Some n ≡ Some (head_of v).name
         → read_at v (is_trade_or_decision k trade (head_of v).decision) ≡ least (number_in (split_of l n))
     at_decision n passes at =
-        let name : n ≡ (head_of v).name = same_Some _ _ at in
+        let name = same_Some _ _ at in
         let found : decision_of l n ≡ Some r =
-        found_once (λ r. decides n r.command) l r among passes ((named_once t l list.replayed).decisions_once n) in
+        found_once _ l r among passes ((named_once t l list.replayed).decisions_once n) in
         -- it is the decision of its node
         let own : (head_of v).decision ≡ Some k = cc (told.decision, name, found, number_is) in
-        ap (read_at v)
-        (ap (is_trade_or_decision k trade) own ∙ or_right (trade == k) (k == k) ((Decides-eqb k k).1 refl))
-        ∙ split_at n at
+        cc (or_right (trade == k) (k == k) ((Decides-eqb k k).1 refl), split_at n at)
 
     -- what is read there is what is looked up for the change
     read_here : (c : Command) → r.command ≡ c → named_place r.number c ≡ Some (head_of v).name
         → read_at v (is_trade_or_decision k trade (head_of v).decision) ≡ least (numbers_under t l r.number r.firm c)
     read_here (Trade _ _ _ _ _) is at =
-        let name : record { entry = r.number; part = 0 } ≡ (head_of v).name = same_Some _ _ at in
-        let root : (head_of v).name.entry ≡ trade = told.rooted (sym (ap (λ (m : EntryPart). m.part) name)) in
-        ap (read_at v)
-        (of_trade k trade (head_of v).decision (sym root ∙ (sym (ap (λ (m : EntryPart). m.entry) name) ∙ number_is)))
-        ∙ split_at (record { entry = r.number; part = 0 }) at
+        let name = same_Some _ _ at in
+        let root = told.rooted (sym (ap (λ m. m.part) name)) in
+        cc (of_trade k trade (head_of v).decision (cc (root, name, number_is)), split_at _ at)
     read_here (Split n ps) is at =
         let found : split_of l n ≡ Some r = found_once (λ r. splits n r.command) l r among
-        (ap (splits n) is ∙ name_same n) ((named_once t l list.replayed).splits_once n) in
+        (rw is (name_same n)) ((named_once t l list.replayed).splits_once n) in
         let undecided = λ (h : (head_of v).decision ≡ Some k). split_no_decision n ps is (decision_of l n) refl
-        (ap (λ m. option_map (λ d. d.number) (decision_of l m)) (same_Some _ _ at) ∙ (sym told.decision ∙ h)) in
-        ap (read_at v)
-        (of_neither k trade (head_of v).decision (split_no_trade n ps is trade told.root told.has_root) undecided)
-        ∙ ap least
-        (told.parts
-        ∙ ap (flat_map (λ x. numbers_on l x.name))
-        (sym (ap (parts_of l) (same_Some _ _ at)) ∙ (ap made_by found ∙ ap (nodes_of r.number r.firm) is)))
-    read_here (Claim n _) is at = at_decision n (ap (decides n) is ∙ name_same n) at
-    read_here (Refuse n) is at = at_decision n (ap (decides n) is ∙ name_same n) at
-    read_here (Cancel n) is at = at_decision n (ap (decides n) is ∙ name_same n) at
+        (cc (same_Some n _ at, told.decision)) in
+        let neither = of_neither k trade _ (split_no_trade n ps is trade told.root told.has_root) undecided in
+        cc (neither, told.parts, same_Some n _ at, found)
+    read_here (Claim n _) is at = at_decision n (rw is (name_same n)) at
+    read_here (Refuse n) is at = at_decision n (rw is (name_same n)) at
+    read_here (Cancel n) is at = at_decision n (rw is (name_same n)) at
     read_here _ is at = absurd (cc)
 
 -- ---- the answers
@@ -124,13 +115,13 @@ module _ (t : House) (l : List Record) (rises : RisesFrom 0 l) (legal : IsLegal 
   nothing_named : (k : ℕ) (o : Option Record) → change_of l k ≡ o
       → option_and_then (λ r. named_place r.number r.command) o ≡ None
       → option_and_then (λ r. first_on_deal t l r) o ≡ standing_on t l k
-  nothing_named k None e none = sym (ap (first_refused t []) (filter_all (λ r. r.number == k) l e) ∙ list.replayed)
+  nothing_named k None e none = sym (cc (filter_all (λ r. r.number == k) l e, list.replayed))
   nothing_named k (Some r) e none = deals_alone _ none ∙ looked_up_here t l list k r e rises
     where
       deals_alone : (c : Command) → named_place r.number c ≡ None
           → deals_under t l r.number r.firm c ≡ least (numbers_under t l r.number r.firm c)
-      deals_alone (Agree giver taker rate limit) h = sym (least_one _)
-      deals_alone (Raise giver lots) h = sym (least_one _)
+      deals_alone (Agree giver _ _ _) h = sym (least_one _)
+      deals_alone (Raise _ _) h = sym (least_one _)
       deals_alone _ h = cc
 
   pub placeless : (k : ℕ) → place_in l k ≡ None
@@ -141,21 +132,20 @@ module _ (g : Grove) (t : House) (l : List Record) (rises : RisesFrom 0 l) (lega
     (shows : ShowsAll l g) where
   pub nothing_placed : (k : ℕ) → place_of g k ≡ None
       → option_and_then (λ r. first_on_deal t l r) (change_of l k) ≡ standing_on t l k
-  nothing_placed k none = placeless t l rises legal k (sym (shows.places k) ∙ none)
+  nothing_placed k none = placeless t l rises legal k (cc (shows.places k))
 
   -- and what is read at the node that lies where the trees place the change
   pub read_as : (k trade : ℕ) (p : List ℕ) (v : Rose) → IsSomeAnd (place_of g k) (λ n. IsPlace g n trade p)
       → HasTree g trade (λ t. node_at p t ≡ Some v) → (b : Bool) → is_trade_or_decision k trade (head_of v).decision ≡ b
       → read_at v b ≡ standing_on t l k
   read_as k trade p v place has b is =
-      let n = some_with (λ n. IsPlace g n trade p) (place_of g k) place in
+      let n = some_with _ (place_of g k) place in
       let tree = some_and (λ t. node_at p t ≡ Some v) (tree_of g trade) has in
-      let leads = subst (λ t. LeadsTo p t n.0) (same_Some n.1.1.tree tree.0 (sym n.1.1.found ∙ tree.1)) n.1.1.there in
+      let leads = rw (same_Some n.1.1.tree tree.0 (sym n.1.1.found ∙ tree.1)) at n.1.1.there in
       let named : (head_of v).name ≡ n.0 = at_fact (λ u. (head_of u).name ≡ n.0) (node_at p tree.0) v tree.2 leads in
-      let placed : place_of g k ≡ Some (head_of v).name = n.1.0 ∙ ap (λ m. Some m) (sym named) in
-      let r = and_then_told (λ r. named_place r.number r.command) (change_of l k) (head_of v).name
-      (sym (shows.places k) ∙ placed) in
-      let told = told_at l trade tree.0 (subst (IsTreeIn l trade) tree.1 (shows.trees trade)) p v tree.2 in
+      let placed : place_of g k ≡ Some (head_of v).name = cc (n.1.0, named) in
+      let r = and_then_told _ (change_of l k) _ (sym (shows.places k) ∙ placed) in
+      let told = told_at l trade tree.0 (rw tree.1 at (shows.trees trade)) p v tree.2 in
       sym (ap (read_at v) is)
       ∙ (read_here t l (list t l rises legal) k r.0 r.1.0 trade v told r.0.command refl r.1.1
       ∙ looked_up_here t l (list t l rises legal) k r.0 r.1.0 rises)
@@ -171,9 +161,9 @@ none_numbered : (l : List Record) (g k : List ℕ) (n : ℕ) (b : List Record) �
     → find (λ d. d.number == n) (dealings_in l b g k) ≡ None
 none_numbered l g k n [] h = refl
 none_numbered l g k n (r ∷ b) h =
-    let q = nothing_here (r.number == n) r (find (λ r. r.number == n) b) h in
+    let q = nothing_here _ r (find (λ r. r.number == n) b) h in
     let rest = none_numbered l g k n b q.1 in
-    elim (none_or_some (deed_in l g k r)) [ inl none ↦ cc (none, rest) | inr d ↦ cc (d.1, q.0, rest) ]
+    elim (none_or_some (deed_in l g k r)) [ inl none ↦ cc (none, rest) | inr d ↦ cc ]
 
 -- ---- read off the terms
 
@@ -192,15 +182,15 @@ module _ (t : House) (l : List Record) (v : TermsView) (are : AreTermsOf t l v) 
       → option_and_then (λ i. standing_in v.pairs i r.number) (pair_place v l r)
       ≡ first_on_deal t l r
   read_deal r among g k d deals =
-      let is_deal = deal l r.firm r.command g k d deals in
-      let q = are.ready r (record { giver = g; taker = k }) among is_deal.of in
+      let is_deal = deal l _ _ g k d deals in
+      let q = are.ready r _ among is_deal.of in
       let row = are.rows g k q.0 q.1 in
       -- its deed is found under its number
       let c = cut_at l r among in
       let same : (r.number == r.number) ≡ true = (Decides-eqb r.number r.number).1 refl in
-      let before = none_numbered l g k r.number c.before
-      (none_before (λ q. q.number == r.number) c.before r c.behind
-      (subst (λ (z : List Record). NumbersOnce z) c.is once r.number) same) in
+      let before = none_numbered l g k _ c.before
+      (none_before _ c.before r c.behind
+      (rw c.is at (once r.number)) same) in
       let cut = ap (λ z. dealings_in l z g k) c.is ∙ dealings_cut l c.before r c.behind g k (Some d) deals in
       let found : deed_at (dealings l g k) r.number ≡ Some d =
       cc (
@@ -260,7 +250,7 @@ module _ (t : House) (l : List Record) (v : TermsView) (are : AreTermsOf t l v) 
   of_pair None there = refl
   of_pair (Some p) there =
       let q = there p refl in
-      cc (counts_through v (place_of_pair v p), (are.rows p.giver p.taker q.0 q.1).1)
+      cc (counts_through v _, (are.rows p.giver p.taker q.0 q.1).1)
 
   pub counted : (n : ℕ) → count_at v (pair_at v n) ≡ entries_dealt l n
   counted n =

@@ -1,23 +1,23 @@
 -- A lawful order of a legal list is legal.
 use Rattle.gu_depend.proofs
-use proofs.Deals.{at_pair, both_same, claim_within, deal, dealings_append, dealings_cut, dealings_grown, dealings_idle}
-use proofs.{Deals.{dealt, deed_grown, deed_in, raised_may}, Finds.{count_cons, count_permuted, find_permuted}}
-use proofs.{Finds.{none_before, none_counts, not_both, some_there, stands_between}, Grown.{AllFollow, Follows, Grown}}
-use proofs.{Grown.{grown_none, grown_push, line_of_grown, place_same, Within}, Names.{at_name, makers_once}}
-use proofs.{Names.node_by_maker, Settled.{decision_row, facts, front_within, IsYours, named_once, NamedOnce, Settled}}
-use proofs.Settled.{SettledAs, SettledAt, split_moved}
+use proofs.Deals.{both_same, claim_within, deal, dealings_append, dealings_cut, dealings_grown, dealings_idle}
+use proofs.{Deals.{deed_grown, deed_in, raised_may}, Finds.{count_cons, count_permuted, find_permuted, none_before}}
+use proofs.{Finds.{none_counts, some_there, stands_between}, Grown.{AllFollow, Follows, Grown, grown_none, grown_push}}
+use proofs.{Grown.{line_of_grown, place_same, Within}, Names.{at_name, makers_once, node_by_maker}}
+use proofs.Settled.{decision_row, facts, front_within, IsYours, named_once, NamedOnce, Settled, SettledAs, SettledAt}
+use proofs.Settled.{split_moved}
 use Rattle.gu_depend.proofs.Vocabulary
 use Vocabulary.{Agree, agree_accepted, agreement, All-contains, All-permutation, AllByRecursion, AllFit, and_parts, ap}
 use Vocabulary.{append-nil, append_assoc, arith, at_node, Bool, Cancel, cases_Bool, Claim, claim_accepted, Command}
-use Vocabulary.{cond, cond_both, Contains, count_by, dealings, dealings_in, decides, Decides-eqb, decision_accepted}
-use Vocabulary.{decision_of, Deed, deed_of, EntryPart, eqb_symm, false, find, first_refused, first_unfit, fit_behind}
-use Vocabulary.{fits, HasDistinctNumbers, House, in_lawful_order, inl, inr, is_none, is_ready, is_some, IsDistinct-head}
+use Vocabulary.{cond, cond_both, count_by, dealings, dealings_in, decides, Decides-eqb, decision_accepted, decision_of}
+use Vocabulary.{Deed, deed_of, EntryPart, eqb_symm, false, find, first_refused, first_unfit, fit_behind, fits}
+use Vocabulary.{HasDistinctNumbers, House, in_lawful_order, inl, inr, is_none, is_ready, is_some, IsDistinct-head}
 use Vocabulary.{IsDistinct-tail, IsLawfulOrder, IsLegal, IsPermutation, Kind, legal_from_replay, length, length-append}
-use Vocabulary.{length_permutation, limit_of, List, Makes, map, name_is, name_same, names, Node, node_called}
-use Vocabulary.{node_of, None, none_at_node, none_is_some, none_or_some, Option, or_false, Raise, raise_accepted}
-use Vocabulary.{Raises, Record, refl, Refusal, refusal_none, refusal_of, refusal_parts, Refuse, replay_from_legal, row}
-use Vocabulary.{same_name, same_Some, Some, Split, split_accepted, split_of, splits, subst, sym, Trade, true}
-use Vocabulary.{unfit_none, ℕ, [], ◌++◌, ◌+◌, ◌==◌, ◌||◌, ◌∙◌, ◌∷◌, ◌≡◌, ◌≤◌, ◌⊎◌}
+use Vocabulary.{length_permutation, limit_of, List, Makes, map, name_is, name_same, names, Node, node_called, node_of}
+use Vocabulary.{None, none_at_node, none_is_some, none_or_some, Option, or_false, Raise, raise_accepted, Raises, Record}
+use Vocabulary.{refl, Refusal, refusal_none, refusal_of, refusal_parts, Refuse, replay_from_legal, row, same_name, Some}
+use Vocabulary.{Split, split_accepted, split_of, splits, subst, sym, Trade, true, unfit_none, ℕ, [], ◌++◌, ◌+◌, ◌==◌}
+use Vocabulary.{◌||◌, ◌∙◌, ◌∷◌, ◌≡◌, ◌≤◌, ◌⊎◌}
 
 -- ---- numbers that stand once
 
@@ -133,7 +133,7 @@ accepts t l b by (Split n ps) s due =
     subst (λ z. decision_of b z ≡ decision_of l z) (sym called) (due.follows.decided n (name_same n)) in
     none_at_node _ _ _ found
     (split_accepted t b by ps _
-    (split_moved t l b by ps _ (rw (place_same l b s.node.name s.node due.grown named same)) same
+    (split_moved t l b by ps _ (rw (place_same l b _ _ due.grown named same)) same
     (rw (line_of_grown l b due.grown s.node.name s.node named)) s.holds)
     (rw called (due.whole n (name_same n))))
 accepts t l b by (Claim n account) s due =
@@ -179,7 +179,7 @@ module _ (t : House) (l o : List Record) (legal : Legal t l) (same : IsPermutati
       → o ≡ b ++ r ∷ rest → p r ≡ true → find p b ≡ None
   none_yet p once b r rest e =
       let a = count_permuted p l o same in
-      none_before p b r rest (subst (λ z. count_by p z ≤ 1) e (omega arith))
+      none_before p b r rest (rw (← e) (omega arith))
 
   grown_one : (b : List Record) (r : Record) (rest : List Record) → o ≡ (b ++ r ∷ []) ++ rest → Grown l b
       → Follows l b r.command → Grown l (b ++ r ∷ [])
@@ -193,8 +193,7 @@ module _ (t : House) (l o : List Record) (legal : Legal t l) (same : IsPermutati
   grown_along b [] tail e follow g = rw (append-nil b) g
   grown_along b (r ∷ rest) tail e follow g =
       let cut : o ≡ (b ++ r ∷ []) ++ (rest ++ tail) = e ∙ sym (append_assoc b _ _) in
-      rw (append_assoc b (r ∷ []) rest) at
-      (grown_along (b ++ r ∷ []) rest tail cut follow.1 (grown_one b r (rest ++ tail) cut g follow.0))
+      rw (append_assoc b _ rest) at (grown_along _ rest _ cut follow.1 (grown_one b r _ cut g follow.0))
 
   -- a change that follows its own, and fits, is accepted
   taken : (b : List Record) (r : Record) (rest : List Record) → o ≡ b ++ r ∷ rest → Grown l b → Follows l b r.command
@@ -203,15 +202,14 @@ module _ (t : House) (l o : List Record) (legal : Legal t l) (same : IsPermutati
       → refusal_of t b r.firm r.command ≡ None
   taken b r rest e g follows fit =
       let all = All-permutation (Settled t l) l o same (facts t l legal.replayed).settled in
-      let s = All-contains (Settled t l) o r all
-      (subst (λ (z : List Record). Contains z r) (sym e) (stands_between b r rest)) in
+      let s = All-contains (Settled t l) o r all (rw e (stands_between b r rest)) in
       refusal_none t b r.firm r.command s.known (accepts t l b r.firm r.command s.stands (record {
         grown = g;
         follows = follows;
-        whole = λ n is. none_yet (λ r. splits n r.command) (sn.splits_once n) b r rest e is;
-        undecided = λ n is. none_yet (λ r. decides n r.command) (sn.decisions_once n) b r rest e is;
+        whole = λ n is. none_yet _ (sn.splits_once n) b r rest e is;
+        undecided = λ n is. none_yet _ (sn.decisions_once n) b r rest e is;
         afforded = λ x y d deals.
-            subst (λ z. fits (agreement t x y) z d ≡ true) (sym (dealings_grown l b x y g)) (fit x y d deals);
+            rw (dealings_grown l b x y g) (fit x y d deals);
       }))
 
   -- so the first that is refused is the first of these two that doesn't fit, where all others do
@@ -227,10 +225,8 @@ module _ (t : House) (l o : List Record) (legal : Legal t l) (same : IsPermutati
         let later = along (b ++ r ∷ []) rest tail cut (grown_one b r (rest ++ tail) cut g follow.0) follow.1
         (λ u v. elim (others u v) [
           | inl all ↦
-              inl (subst (λ z. AllFit (agreement t u v) z (dealings_in l rest u v))
-              (sym (dealings_append l b (r ∷ []) u v))
-              (fit_behind (agreement t u v) (dealings_in l b u v) (dealings_in l (r ∷ []) u v) (dealings_in l rest u v)
-              (subst (AllFit (agreement t u v) (dealings_in l b u v)) (dealings_append l (r ∷ []) rest u v) all)))
+              inl (rw (dealings_append l b (r ∷ []) u v) (fit_behind _ _ (dealings_in l (r ∷ []) u v) _
+              (rw (dealings_append l (r ∷ []) rest u v) at all)))
           | inr here ↦ inr here
         ]) in
         elim (none_or_some (deed_in l x y r)) [
@@ -238,16 +234,13 @@ module _ (t : House) (l o : List Record) (legal : Legal t l) (same : IsPermutati
               ∙ (later ∙ cc (dealings_idle l b r x y none, none))
           | inr d ↦ elim (cases_Bool (fits (agreement t x y) (dealings_in l b x y) d.0)) [
             | inl fit ↦
-                accepted (λ f deals.
-                subst (λ z. fits (agreement t x y) (dealings_in l b x y) z ≡ true) (same_Some d.0 f (sym d.1 ∙ deals))
-                fit)
+                accepted (λ f deals. cc (d.1, fit))
                 ∙ (later ∙ cc (dealings_cut l b r [] x y (Some d.0) d.1, d.1, fit))
             | inr unfits ↦
                 refused_here (refusal_of t b r.firm r.command) r.number (first_refused t (b ++ r ∷ []) rest)
                 (λ took. let there = deed_grown l b x y r.firm r.command g.within follow.0.there ∙ d.1 in
                 let fit = (deal b r.firm r.command x y d.0 there).fit t (refusal_parts t b r.firm r.command took).1 in
-                not_both (fits (agreement t x y) (dealings_in l b x y) d.0)
-                (subst (λ z. fits (agreement t x y) z d.0 ≡ true) (dealings_grown l b x y g) fit) unfits)
+                cc (dealings_grown l b x y g, fit, unfits))
                 ∙ cc (d.1, unfits)
           ]
         ]
@@ -255,15 +248,10 @@ module _ (t : House) (l o : List Record) (legal : Legal t l) (same : IsPermutati
         accepted : ((d : Deed) → deed_in l x y r ≡ Some d → fits (agreement t x y) (dealings_in l b x y) d ≡ true)
             → first_refused t b (r ∷ rest) ≡ first_refused t (b ++ r ∷ []) rest
         accepted fit =
-            ap (λ o. cond (is_some o) (Some r.number) (first_refused t (b ++ r ∷ []) rest))
-            (taken b r (rest ++ tail) e g follow.0 (λ u v d deals. elim (others u v) [
-              | inl all ↦
-                  (subst (λ o. AllFit (agreement t u v) (dealings_in l b u v) (dealt r o (dealings_in l rest u v)))
-                  deals all).0
+            rw (taken b r (rest ++ tail) e g follow.0 (λ u v d deals. elim (others u v) [
+              | inl all ↦ (rw deals at all).0
               | inr here ↦
-                  at_pair (λ u v.
-                  deed_in l u v r ≡ Some d → fits (agreement t u v) (dealings_in l b u v) d ≡ true)
-                  x y u v here (fit d) deals
+                  (rw (here.0, here.1) at (fit d)) deals
             ]))
 
     pub first_along : (front tail : List Record) → o ≡ front ++ tail → AllFollow l [] front → OthersFit t l x y [] front
@@ -281,8 +269,8 @@ module _ (t : House) (l o : List Record) (legal : Legal t l) (same : IsPermutati
   lawful_follow b [] e h = tt
   lawful_follow b (r ∷ rest) e h =
       let p = and_parts _ _ h in (
-        ready_follows l b _ (order_within l o b (r ∷ rest) finds e) p.0,
-        lawful_follow (b ++ r ∷ []) rest (e ∙ sym (append_assoc b (r ∷ []) rest)) p.1,
+        ready_follows l b _ (order_within l o b _ finds e) p.0,
+        lawful_follow _ rest (e ∙ sym (append_assoc b _ rest)) p.1,
       )
 
 pub order_is_legal : (t : House) (l o : List Record) → Legal t l → IsLawfulOrder l o → IsLegal t o

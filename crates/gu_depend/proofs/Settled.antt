@@ -6,12 +6,12 @@ use proofs.{Grown.{Follows, Grown, grown_none, grown_push, line_of_grown, place_
 use proofs.Vocabulary.{Agree, agree_passes, AgreeHolds, agreement, All, All-nil, All-push, AllFit, ap, append-nil}
 use proofs.Vocabulary.{append_assoc, arith, at_node, at_node_none, Bool, Cancel, Claim, claim_passes, ClaimHolds}
 use proofs.Vocabulary.{Command, count_by, dealings_in, decides, decides_well, decision_of, decision_passes, depth_of}
-use proofs.Vocabulary.{EntryPart, find-append, first, first_refused, fit_append, fits, House, inl, inr, is_given}
-use proofs.Vocabulary.{is_giver, is_none, is_offered, is_taker, IsLegal, Kind, knows_firm, legal_from_replay, length}
-use proofs.Vocabulary.{length-append, List, nat_lt, no_some, Node, node_called, node_more, node_of, None, none_or_some}
-use proofs.Vocabulary.{not, NotOffered, NotYours, Option, or_cases, owns, Part, Raise, raise_passes, Record, Refusal}
-use proofs.Vocabulary.{refusal_of, refusal_parts, Refuse, row, Some, Split, split_passes, SplitHolds, splits}
-use proofs.Vocabulary.{splits_well, subst, sym, Trade, trade_row, true, unless, ℕ, [], ◌&&◌, ◌++◌, ◌∙◌, ◌∷◌, ◌≡◌, ◌≤◌}
+use proofs.Vocabulary.{EntryPart, find-append, first, first_refused, fit_append, House, inl, inr, is_given, is_giver}
+use proofs.Vocabulary.{is_offered, is_taker, IsLegal, Kind, knows_firm, legal_from_replay, length, length-append, List}
+use proofs.Vocabulary.{no_some, Node, node_called, node_more, node_of, None, none_or_some, not, NotOffered, NotYours}
+use proofs.Vocabulary.{Option, or_cases, owns, Part, Raise, raise_passes, Record, Refusal, refusal_of, refusal_parts}
+use proofs.Vocabulary.{Refuse, row, Some, Split, split_passes, SplitHolds, splits, splits_well, sym, Trade, trade_row}
+use proofs.Vocabulary.{true, unless, ℕ, [], ◌++◌, ◌∙◌, ◌∷◌, ◌≡◌, ◌≤◌}
 
 -- ---- what a list names, and what it finds
 
@@ -35,21 +35,19 @@ along t l P legal keeps b (r ∷ front) rest e held =
 
 pub named_once : (t : House) (l : List Record) → first_refused t [] l ≡ None → NamedOnce l
 named_once t l none = along t l NamedOnce (legal_from_replay t l none) (λ b r rest e accepted s.
-    let h = (refusal_parts t b r.firm r.command accepted).1 in
+    let h = (refusal_parts t b _ _ accepted).1 in
     record {
       given = λ n d e. elim (which b r n d e) [
-        | before e ↦ (let x = s.given n d e in (x.0, (node_more b (r ∷ []) n x.0 x.1.0, x.1.1)))
-        | here is _ ↦ (let w = decides_well t b r.firm r.command n h is in
-            (w.node, (node_more b (r ∷ []) n w.node w.there, w.given)))
+        | before e ↦ (let x = s.given n d e in (x.0, (node_more b _ n x.0 x.1.0, x.1.1)))
+        | here is _ ↦ (let w = decides_well t b _ _ n h is in
+            (w.node, (node_more b _ n _ w.there, w.given)))
       ];
       splits_once = λ n.
-          once_push (λ r. splits n r.command) b r (s.splits_once n)
-          (λ is. (splits_well t b r.firm r.command n h is).whole);
+          once_push _ b r (s.splits_once n) (λ is. (splits_well t b _ _ n h is).whole);
       decisions_once = λ n.
-          once_push (λ r. decides n r.command) b r (s.decisions_once n)
-          (λ is. (decides_well t b r.firm r.command n h is).undecided);
+          once_push _ b r (s.decisions_once n) (λ is. (decides_well t b _ _ n h is).undecided);
     }) [] l [] (sym (append-nil l))
-    (record { given = λ n r e. absurd (cc); splits_once = λ n. omega arith; decisions_once = λ n. omega arith })
+    (record { given = λ n r e. cc; splits_once = λ n. omega arith; decisions_once = λ n. omega arith })
 
 -- a node of the list, of which this holds
 pub record SettledAt (l : List Record) (n : EntryPart) (P : Node → Type 0) : Type 0 where
@@ -93,9 +91,9 @@ pub split_moved : (t : House) (l b : List Record) (by : List ℕ) (ps : List Par
     → depth_of b x.name ≡ depth_of l x.name → SplitHolds t l by ps x → SplitHolds t b by ps x
 split_moved t l b by ps x owned same deep h = record {
   owned = owned ∙ h.owned;
-  free = ap (λ o. not (is_given x.kind && is_none o)) same ∙ h.free;
+  free = rw same h.free;
   count = h.count;
-  shallow = ap (λ d. nat_lt d 64) deep ∙ h.shallow;
+  shallow = rw deep h.shallow;
   parts = h.parts;
   sums = h.sums;
 }
@@ -117,13 +115,13 @@ decision_settles l b n yours g h =
 
 settles : (t : House) (l b : List Record) (by : List ℕ) (c : Command) → NamedOnce l → Grown l b → row t b by c ≡ None
     → SettledAs t l by c
-settles t l b by (Trade _ account _ _ lots) s g h = h
+settles t l b by (Trade _ _ _ _ _) s g h = h
 settles t l b by (Split n ps) s g h =
     settles_at l b n _ _ g h
     (λ x found passes. let named = at_name b n x found in
     let holds = (split_passes t b by ps x passes).0 in
     let same = free_decided l b _ x s g.within named holds.free in
-    split_moved t b l by ps x (rw (place_same l b x.name x g named same)) (sym same)
+    split_moved t b l by ps x (rw (place_same l b _ x g named same)) (sym same)
     (rw (line_of_grown l b g x.name x named)) holds)
 settles t l b by (Claim n _) s g h = settles_at l b n _ _ g h (λ x found passes. (claim_passes t b by _ x passes).0)
 settles t l b by (Refuse n) s g h = decision_settles l b n _ g h
@@ -154,7 +152,7 @@ pub front_within : (l b rest : List Record) → l ≡ b ++ rest → Within l b
 front_within l b rest e =
     rw e (record {
       nodes = λ n x found. node_more b _ n x found;
-      decisions = λ n r found. cc (find-append (λ d. decides n d.command) b rest);
+      decisions = λ n r found. cc (find-append _ b _);
     })
 
 -- what holds of a legal list as a whole
@@ -168,7 +166,7 @@ pub front_facts : (t : House) (l front rest : List Record) → l ≡ front ++ re
     → Facts t l front
 front_facts t l front rest e none = along t l (Facts t l) (legal_from_replay t l none) (λ b r rest e h f.
     let s = named_once t l none in
-    let p = refusal_parts t b r.firm r.command h in
+    let p = refusal_parts t b _ r.command h in
     record {
       grown = grown_push l b r f.grown (front_within l (b ++ r ∷ []) rest e)
           (omega (arith, length-append (b ++ r ∷ []) rest, ap length e))
@@ -176,13 +174,12 @@ front_facts t l front rest e none = along t l (Facts t l) (legal_from_replay t l
       settled = All-push (Settled t l) b r f.settled
           (record { known = p.0; stands = settles t l b r.firm r.command s f.grown p.1 });
       deals = λ g k. elim (none_or_some (deed_in l g k r)) [
-        | inl none ↦ subst (AllFit (agreement t g k) []) (sym (dealings_idle l b r g k none)) (f.deals g k)
+        | inl none ↦ rw (dealings_idle l b r g k none) (f.deals g k)
         | inr d ↦ (
             let same =
             deed_grown l b g k r.firm r.command f.grown.within (accepted_there t b r.firm r.command p.1) ∙ d.1 in
-            let fit = subst (λ z. fits (agreement t g k) z d.0 ≡ true) (dealings_grown l b g k f.grown)
-            ((deal b r.firm r.command g k d.0 same).fit t p.1) in
-            subst (AllFit (agreement t g k) []) (sym (dealings_cut l b r [] g k (Some d.0) d.1))
+            let fit = rw (dealings_grown l b g k f.grown) at ((deal b r.firm r.command g k d.0 same).fit t p.1) in
+            rw (dealings_cut l b r [] g k _ d.1)
             (fit_append (agreement t g k) [] (dealings_in l b g k) (numbered r d.0 ∷ []) (f.deals g k) (fit, tt)))
       ];
     }) [] front rest e (record { grown = grown_none l; settled = All-nil (Settled t l); deals = λ giver taker. tt })

@@ -2,10 +2,10 @@
 use Rattle.gu_depend.proofs
 use proofs.Deals.{deal, dealings_append, dealings_cut, dealings_grown, deals_some, dealt, deed_in, first_on_deal}
 use proofs.{Deals.{left_out, numbered, pair_told, unfit_without}, Finds.{filter_one, find_beside, found_once}}
-use proofs.{Finds.{moved_to_end, not_both, stands_between}, Grown.{AllFollow, follow_append, Follows, follows_more}}
-use proofs.{Grown.{Grown, grown_none}, Names.{makers_once, node_by_maker}, Replay.{finds, first_along, grown_along}}
-use proofs.{Replay.{Legal, none_along, NumbersOnce, order_within}, Settled.{accepted_follows, facts, front_within}}
-use proofs.{Settled.named_once, State.state_same}
+use proofs.{Finds.{moved_to_end, stands_between}, Grown.{AllFollow, follow_append, Follows, follows_more, Grown}}
+use proofs.{Grown.grown_none, Names.{makers_once, node_by_maker}, Replay.{finds, first_along, grown_along, Legal}}
+use proofs.{Replay.{none_along, NumbersOnce, order_within}, Settled.{accepted_follows, facts, front_within, named_once}}
+use proofs.State.{state_same}
 use Rattle.gu_depend.proofs.Vocabulary
 use Vocabulary.{agreement, Agreement, AllFit, ap, append-nil, append_assoc, Bool, Cancel, cases_Bool, Claim, Command}
 use Vocabulary.{Contains, Dealing, dealings, dealings_in, decides, Decides-eqb, decides_well, Deed, EntryPart, false}
@@ -13,16 +13,16 @@ use Vocabulary.{false_from_ne_true, find, find_passes, first_refused, first_unfi
 use Vocabulary.{is_given, is_some, is_under, IsSameState, leave_out, legal_from_replay, limit_under, List, list_any}
 use Vocabulary.{list_any_at, made_of, name_is, names, no_some, Node, node_of, nodes_of, None, none_or_some}
 use Vocabulary.{none_refused, none_unfit, nothing_here, Option, option_map, or_cases, raised_last, Record, refl}
-use Vocabulary.{refusal_parts, Refuse, row, same_name, Some, Split, splits, stands_under, subst, sym, terms_last}
-use Vocabulary.{terms_under, Trade, true, used_last, used_under, without, ℕ, [], ◌++◌, ◌+◌, ◌∙◌, ◌∷◌, ◌≡◌}
+use Vocabulary.{refusal_parts, Refuse, row, same_name, Some, Split, splits, stands_under, sym, terms_last, terms_under}
+use Vocabulary.{Trade, true, used_last, used_under, without, ℕ, [], ◌++◌, ◌+◌, ◌∙◌, ◌∷◌, ◌≡◌}
 
 -- behind changes of which none is refused, the replay goes on
 pub replay_on : (t : House) (done l m : List Record) → first_refused t done l ≡ None
     → first_refused t done (l ++ m) ≡ first_refused t (done ++ l) m
-replay_on t done [] m h = ap (λ b. first_refused t b m) (sym (append-nil done))
+replay_on t done [] m h = rw (append-nil done)
 replay_on t done (d ∷ l) m h =
     let p = none_refused _ _ (first_refused t (done ++ d ∷ []) l) h in
-    cc (p.0, replay_on t (done ++ d ∷ []) l m p.1, append_assoc done (d ∷ []) l)
+    cc (p.0, replay_on t (done ++ d ∷ []) l m p.1, append_assoc done _ l)
 
 -- ---- a change that another doesn't stand under
 
@@ -37,16 +37,16 @@ under_made : (k : ℕ) (by : List ℕ) (d c : Command) (n : EntryPart) (x : Node
 under_made k by (Trade _ _ _ _ _) c n x found is given =
     let p : EntryPart = record { entry = k; part = 0 } in
     elim (cases_Bool _) [
-      | inl same ↦ elim (or_cases (splits n c) (decides n c) is) [
+      | inl same ↦ elim (or_cases _ (decides n c) is) [
         | inl split ↦ cc (name_is p n same, split)
-        | inr decided ↦ absurd (cc (same, found, given decided))
+        | inr decided ↦ absurd (cc (given decided))
       ]
-      | inr other ↦ absurd (cc (other, found))
+      | inr other ↦ absurd (cc)
     ]
 under_made k by (Split m ps) c n x found is given =
-    let called = name_is x.name n (find_passes (λ x. same_name x.name n) (nodes_of k by (Split m ps)) x found) in
-    any_in (λ x. names x.name c) (nodes_of k by (Split m ps)) x
-    (found_in (λ x. same_name x.name n) (nodes_of k by (Split m ps)) x found) (ap (λ z. names z c) called ∙ is)
+    let nodes = nodes_of k by (Split m ps) in
+    let called = name_is _ n (find_passes _ nodes x found) in
+    any_in _ nodes x (found_in _ nodes x found) (rw called is)
 under_made k by _ c n x found is given = absurd (cc)
 
 -- and under one that splits a node that it decides
@@ -78,7 +78,7 @@ all_follow : (t : House) (l b rest tail : List Record) → Legal t l → l ≡ b
 all_follow t l b [] tail legal e = tt
 all_follow t l b (r ∷ rest) tail legal e = (
   follows_at t l b r _ legal e,
-  all_follow t l _ rest tail legal (e ∙ sym (append_assoc b (r ∷ []) (rest ++ tail))),
+  all_follow t l _ rest _ legal (e ∙ sym (append_assoc b _ _)),
 )
 
 -- ---- what deals, last
@@ -93,9 +93,9 @@ record IsLast (file : Option Agreement) (r : Record) (o : Option Deed) (xs ys : 
 dealt_last : (file : Option Agreement) (r : Record) (o : Option Deed) (xs ys : List Dealing)
     → AllFit file [] (xs ++ dealt r o ys) → AllFit file [] (xs ++ ys) → IsLast file r o xs ys
 dealt_last file r None xs ys all others =
-    let e = append-nil _ in
+    let e = append-nil (xs ++ ys) in
     record {
-      fit = subst (AllFit file []) (sym e) others;
+      fit = rw e others;
       terms = rw e;
       limits = rw e;
       used = rw e;
@@ -125,16 +125,18 @@ module _ (t : House) (p : List Record) (k : Record) (s : List Record) (legal : L
   unnamed z e rest cut un n = (
     λ is.
         no_some _ (λ x found.
-        not_both _
-        (under_made _ _ k.command e.command n x found is
-        (λ decided. let whole_cut = ap (λ z. p ++ k ∷ z) cut ∙ sym (append_assoc p (k ∷ z) (e ∷ rest)) in
-        let d = decides_well t (p ++ k ∷ z) e.firm e.command n (accepted_at t whole (p ++ k ∷ z) e rest legal whole_cut)
-        decided in
-        let there = (front_within whole (p ++ k ∷ z) (e ∷ rest) whole_cut).nodes n d.node d.there in
-        cc (there, node_of_maker whole k n x legal.once (stands_between p k s) found, d.given))) un),
+        cc (
+          (under_made _ _ k.command e.command n x found is
+              (λ decided. let whole_cut = ap (λ z. p ++ k ∷ z) cut ∙ sym (append_assoc p (k ∷ z) (e ∷ rest)) in
+              let d = decides_well t (p ++ k ∷ z) e.firm e.command n
+              (accepted_at t whole (p ++ k ∷ z) e rest legal whole_cut)
+              decided in
+              let there = (front_within whole (p ++ k ∷ z) (e ∷ rest) whole_cut).nodes n d.node d.there in
+              cc (there, node_of_maker whole k n x legal.once (stands_between p k s) found, d.given))),
+          un,
+        )),
     λ split.
-        false_from_ne_true (decides n k.command)
-        (λ is. not_both (stands_under k e) (under_decided k.number k.firm k.command e.command n is split) un),
+        false_from_ne_true _ (λ is. cc ((under_decided k.number k.firm k.command e.command n is split), un)),
   )
 
   -- so without it, such a change follows what it stands on
@@ -151,7 +153,7 @@ module _ (t : House) (p : List Record) (k : Record) (s : List Record) (legal : L
           );
           decided = λ n is. sym (find_beside _ p k z ((away n).1 is)) ∙ f.decided n is;
         },
-        rw (append_assoc p z _) (beside (z ++ r ∷ []) rest (cc (append_assoc z (r ∷ []) rest)) q.1),
+        rw (append_assoc p z _) (beside (z ++ r ∷ []) rest (cc (append_assoc z _ rest)) q.1),
       )
 
   others_follow : find (stands_under k) s ≡ None → AllFollow whole [] (p ++ s)
@@ -194,7 +196,7 @@ module _ (t : House) (p : List Record) (k : Record) (s : List Record) (legal : L
   -- for all others, each fits
   fit_others : (x y : List ℕ) → deed_in whole x y k ≡ None
       → AllFit (agreement t x y) [] (dealings_in whole (p ++ s) x y)
-  fit_others x y e = subst (AllFit (agreement t x y) []) (cc (dealings_append whole p s x y)) (deals_whole x y)
+  fit_others x y e = rw (dealings_append _ p s x y) (rw e at (deals_whole x y))
 
   -- where nothing stands on what it deals, all others fit
   fit_without : first_on_deal t whole k ≡ None → (x y : List ℕ)
@@ -207,17 +209,17 @@ module _ (t : House) (p : List Record) (k : Record) (s : List Record) (legal : L
   -- where nothing stands under it by a node, the first that is refused without it is the first that stands under what
   -- it deals
   pub standing_deals : find (stands_under k) s ≡ None → first_refused t [] (p ++ s) ≡ first_on_deal t whole k
-  standing_deals un = elim (none_or_some (first_on_deal t whole k)) [
+  standing_deals un = elim (none_or_some _) [
     | inl none ↦
-        none_along t whole last legal (moved_to_end p k s) (p ++ s) (k ∷ []) refl (others_follow un) (fit_without none)
+        none_along t _ _ legal (moved_to_end p k s) _ (k ∷ []) refl (others_follow un) (fit_without none)
         ∙ sym none
     | inr m ↦ (
         let (x, y, d, deals) = deals_some t whole k.number k.firm k.command m.0 m.1 in
-        first_along t whole last legal (moved_to_end p k s) x y (p ++ s) (k ∷ []) refl (others_follow un)
-        (λ u v. elim (none_or_some (deed_in whole u v k)) [
+        first_along t _ _ legal (moved_to_end p k s) x y _ (k ∷ []) refl (others_follow un)
+        (λ u v. elim (none_or_some _) [
           | inl none ↦ inl (fit_others u v none)
-          | inr f ↦ inr (pair_told _ _ (sym (deal whole k.firm k.command x y d deals).of
-              ∙ (deal whole k.firm k.command u v f.0 f.1).of))
+          | inr f ↦ inr (pair_told _ _ (cc
+              (sym (deal whole k.firm k.command x y d deals).of, (deal whole k.firm k.command u v f.0 f.1).of)))
         ]) ∙ unfit_here x y d deals)
   ]
 
@@ -237,17 +239,16 @@ module _ (t : House) (p : List Record) (k : Record) (s : List Record) (legal : L
   pub stands_last : find (stands_under k) s ≡ None → first_on_deal t whole k ≡ None
       → (first_refused t [] last ≡ None) × IsSameState t whole last
   stands_last un under =
-      let at = λ (x y : List ℕ).
-      dealt_last (agreement t x y) k (deed_in whole x y k) (dealings_in whole p x y)
-      (dealings_in whole s x y) (deals_whole x y)
-      (subst (AllFit (agreement t x y) []) (dealings_append whole p s x y) (fit_without under x y)) in
-      let grown = grown_along t whole last legal (moved_to_end p k s) [] last [] (sym (append-nil last))
-      (last_follows un) (grown_none whole) in (
-        none_along t whole last legal (moved_to_end p k s) last [] (sym (append-nil last)) (last_follows un)
-            (λ x y. subst (AllFit (agreement t x y) []) (sym (found_last x y)) (at x y).fit),
-        state_same t whole last (moved_to_end p k s) legal.once (named_once t whole legal.replayed) (record {
-          terms = λ x y. same_for grown (Option Agreement) (λ x y. terms_under (agreement t x y)) x y (at x y).terms;
-          limits = λ x y. same_for grown (Option ℕ) (λ x y. limit_under (agreement t x y)) x y (at x y).limits;
-          used = λ x y. same_for grown ℕ (λ x y. used_under) x y (at x y).used;
+      let left = λ (x y : List ℕ).
+      dealt_last (agreement t x y) k (deed_in whole x y k) (dealings_in whole p x y) (dealings_in whole s x y)
+      (deals_whole x y) (rw (dealings_append whole p s x y) at (fit_without under x y)) in
+      let grown = grown_along t _ _ legal (moved_to_end p k s) [] last [] (sym (append-nil last)) (last_follows un)
+      (grown_none _) in (
+        none_along t _ _ legal (moved_to_end p k s) last [] (sym (append-nil last)) (last_follows un)
+            (λ x y. rw (found_last x y) (left x y).fit),
+        state_same t _ _ (moved_to_end p k s) legal.once (named_once t _ legal.replayed) (record {
+          terms = λ x y. same_for grown _ (λ x y. terms_under (agreement t x y)) x y (left x y).terms;
+          limits = λ x y. same_for grown _ (λ x y. limit_under (agreement t x y)) x y (left x y).limits;
+          used = λ x y. same_for grown _ (λ x y. used_under) x y (left x y).used;
         }),
       )

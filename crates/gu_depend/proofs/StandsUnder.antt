@@ -14,10 +14,10 @@ use Vocabulary.{EntryPart, false, false_from_ne_true, find, find-append, find_ha
 use Vocabulary.{first_under, flat_map, found_in, HasDistinctNumbers, House, inl, inr, is_under, IsDistinct-cons}
 use Vocabulary.{IsLeastUnder, IsLegal, IsPermutation, IsPermutation-refl, IsSameState, least, least_with, lesser, List}
 use Vocabulary.{list_any, list_any_none, made_of, map, min, name_same, names, no_some, Node, nodes_of, None}
-use Vocabulary.{none_or_some, not, number_in, numbers_on, numbers_under, Option, option_and_then, option_map, option_or}
+use Vocabulary.{none_or_some, number_in, numbers_on, numbers_under, Option, option_and_then, option_map, option_or}
 use Vocabulary.{or_none, Record, refl, refusal_of, refusal_parts, Refuse, replay_front, RisesFrom, Root, same_name}
-use Vocabulary.{same_Some, Some, Split, split_of, splits, standing_on, stands_under, subst, sym, Trade, true, without}
-use Vocabulary.{zero, ℕ, [], ◌++◌, ◌+◌, ◌<◌, ◌==◌, ◌||◌, ◌∙◌, ◌∷◌, ◌≡◌, ◌≤◌}
+use Vocabulary.{same_Some, Some, Split, split_of, splits, standing_on, stands_under, sym, Trade, true, without, zero, ℕ}
+use Vocabulary.{[], ◌++◌, ◌+◌, ◌<◌, ◌==◌, ◌||◌, ◌∙◌, ◌∷◌, ◌≡◌, ◌≤◌}
 use Rattle.gu_tree.proofs.FirstOn.{least_append}
 use Rattle.std.specs.List.{IsDistinct}
 
@@ -32,7 +32,7 @@ data Under (k : ℕ) (by : List ℕ) (d c : Command) : Type 0 where
 -- one passes where some pass
 pub any_found : {X : Type 0} (p : X → Bool) (xs : List X) → list_any p xs ≡ true → (x : X) × (find p xs ≡ Some x)
 any_found p xs h = elim (none_or_some _) [
-  | inl none ↦ absurd (cc ((list_any_none p xs (none_passes p xs none))))
+  | inl none ↦ cc (list_any_none p xs (none_passes p xs none))
   | inr x ↦ x
 ]
 
@@ -42,10 +42,10 @@ under_is k by (Trade _ _ _ _ lots) c h =
     let root : Node = record { name = p; lots = lots; kind = Root _ } in
     part p root (rw h) (ap (λ b. cond b (Some root) None) (name_same p))
 under_is k by (Split m ps) c h =
-    let x = any_found (λ x. names x.name c) (nodes_of k by (Split m ps)) h in
-    let among = found_in (λ x. names x.name c) (nodes_of k by (Split m ps)) x.0 x.1 in
-    let y = found_some _ (nodes_of k by (Split m ps)) x.0 among (name_same x.0.name) in
-    part x.0.name y.0 (find_passes (λ x. names x.name c) (nodes_of k by (Split m ps)) x.0 x.1) y.1
+    let nodes = nodes_of k by (Split m ps) in
+    let named = any_found (λ x. names x.name c) _ h in
+    let first = found_some _ nodes _ (found_in _ nodes _ named.1) (name_same named.0.name) in
+    part named.0.name first.0 (find_passes _ nodes _ named.1) first.1
 under_is k by (Claim m _) c h = decided m h (name_same m)
 under_is k by (Refuse m) c h = decided m h (name_same m)
 under_is k by (Cancel m) c h = decided m h (name_same m)
@@ -82,7 +82,7 @@ module _ (t : House) (p : List Record) (k : Record) (s : List Record) (legal : L
   not_without y rest same c f h = without (under_is _ _ _ c h)
     where
       absent : (p : Record → Bool) → count_by p l ≤ 1 → p k ≡ true → find p y ≡ None
-      absent p once passes = none_before p y k rest (omega (arith, count_permuted p l _ same, once)) passes
+      absent p once passes = none_before p y k rest (omega (arith, count_permuted p l _ same)) passes
 
       without : Under k.number k.firm k.command c → ⊥
       without (part n x is made) =
@@ -92,12 +92,12 @@ module _ (t : House) (p : List Record) (k : Record) (s : List Record) (legal : L
           cc
       without (decided n split is) =
           let own = found_once _ l k (stands_between p k s) is (sn.decisions_once n) in
-          cc ((absent _ (sn.decisions_once n) is), (f.decided n split ∙ own))
+          cc (absent _ (sn.decisions_once n) is, f.decided n split)
 
   -- so the first that it stands under is behind it
   found_behind : find (stands_under k) l ≡ find (stands_under k) s
   found_behind =
-      let g = (front_facts t l p (k ∷ s) refl legal.replayed).grown in
+      let g = (front_facts t l p _ refl legal.replayed).grown in
       let not_above = λ (c : Command) (f : Follows l p c). not_without p s (IsPermutation-refl l) c f in
       let none = no_some (find (stands_under k) p) (λ e h.
       let among = found_in (stands_under k) p e h in
@@ -121,21 +121,20 @@ standing_by t p k s legal None found = standing_deals t p k s legal found
 standing_by t p k s legal (Some e) found =
     let c = first_cut (stands_under k) s e found in
     let cut : p ++ k ∷ s ≡ (p ++ k ∷ c.before) ++ e ∷ c.behind =
-    ap (λ z. p ++ k ∷ z) c.is ∙ sym (append_assoc p (k ∷ c.before) (e ∷ c.behind)) in
-    let front = legal_front t (p ++ k ∷ c.before) (e ∷ c.behind) (subst (Legal t) cut legal) in
+    cc (c.is, append_assoc p (k ∷ c.before) (e ∷ c.behind)) in
+    let front = legal_front t (p ++ k ∷ c.before) (e ∷ c.behind) (rw cut at legal) in
     let accepted = standing_deals t p k c.before front c.none
     ∙ deals_none t (p ++ k ∷ c.before) k.number k.firm k.command e.command c.passes in
-    ap (first_refused t []) (ap (λ z. p ++ z) c.is ∙ sym (append_assoc p c.before (e ∷ c.behind)))
-    ∙ (replay_on t [] (p ++ c.before) (e ∷ c.behind) accepted
-    ∙ refused_here (refusal_of t (p ++ c.before) e.firm e.command) e.number
-    (first_refused t ((p ++ c.before) ++ e ∷ []) c.behind) (λ took. let l = p ++ k ∷ c.before in
     let y = p ++ c.before in
-    let same = moved_to_end p k c.before in
-    let within = order_within l (y ++ k ∷ []) y (k ∷ []) (finds t l (y ++ k ∷ []) front same) refl in
+    let refused = refused_here (refusal_of t y e.firm e.command) e.number (first_refused t (y ++ e ∷ []) c.behind)
+    (λ took. let same = moved_to_end p k c.before in
+    let within = order_within (p ++ k ∷ c.before) (y ++ k ∷ []) y (k ∷ [])
+    (finds t (p ++ k ∷ c.before) (y ++ k ∷ []) front same) refl in
     not_without t p k c.before front y [] same e.command
-    (accepted_follows t l y e.firm e.command (named_once t l front.replayed) within
+    (accepted_follows t (p ++ k ∷ c.before) y e.firm e.command (named_once t (p ++ k ∷ c.before) front.replayed) within
     (refusal_parts t y e.firm e.command took).1)
-    c.passes))
+    c.passes) in
+    cc (c.is, append_assoc p c.before (e ∷ c.behind), replay_on t [] y (e ∷ c.behind) accepted, refused)
 
 pub standing_is_first : (t : House) (l : List Record) (k : Record) → Legal t l → Contains l k
     → standing_on t l k.number ≡ first_under t l k
@@ -161,13 +160,13 @@ can_go t l k legal among free =
     (λ p s legal free. let first = standing_is_first t (p ++ k ∷ s) k legal (stands_between p k s) in
     let under = free_by (find (stands_under k) (p ++ k ∷ s)) (first_on_deal t (p ++ k ∷ s) k) (sym first ∙ free) in
     let behind = sym (found_behind t p k s legal) ∙ under.0 in
-    let others = sym (gone t p k s legal) in
+    let others = gone t p k s legal in
     let last = stands_last t p k s legal behind under.1 in
     record {
-      permuted = subst (λ (z : List Record). IsPermutation (p ++ k ∷ s) (z ++ k ∷ [])) others (moved_to_end p k s);
-      last = subst (λ (z : List Record). first_refused t [] (z ++ k ∷ []) ≡ None) others last.0;
-      same = subst (λ (z : List Record). IsSameState t (p ++ k ∷ s) (z ++ k ∷ [])) others last.1;
-      grown = subst (Grown (p ++ k ∷ s)) others (grown_without t p k s legal behind);
+      permuted = rw others (moved_to_end p k s);
+      last = rw others last.0;
+      same = rw others last.1;
+      grown = rw others (grown_without t p k s legal behind);
     }) legal free
 
 -- ---- in the order of the numbers
@@ -177,7 +176,7 @@ rises_above n [] rises = All-nil (λ d. n ≤ d.number)
 rises_above n (r ∷ l) rises =
     let here = rises.0 in
     All-cons (λ d. n ≤ d.number) r l here
-    (All-weaker (λ (d : Record). r.number + 1 ≤ d.number) (λ (d : Record). n ≤ d.number) (λ d h. omega (arith, here, h))
+    (All-weaker (λ d. r.number + 1 ≤ d.number) (λ d. n ≤ d.number) (λ d h. omega (arith, here, h))
     l (rises_above (r.number + 1) l rises.1))
 
 rises_behind : (n : ℕ) (xs : List Record) (r : Record) (ys : List Record) → RisesFrom n (xs ++ r ∷ ys)
@@ -190,11 +189,11 @@ first_is_least : (p : Record → Bool) (l : List Record) → RisesFrom 0 l → (
     → Contains l d → p d ≡ true → e.number ≤ d.number
 first_is_least p l rises e h d among passes =
     let c = first_cut p l e h in
-    elim (Contains-append_cases c.before (e ∷ c.behind) d (subst (λ (z : List Record). Contains z d) c.is among)) [
-      | inl above ↦ absurd (none_there p c.before d c.none above passes)
+    elim (Contains-append_cases _ (e ∷ c.behind) d (rw c.is at among)) [
+      | inl above ↦ absurd (none_there p _ d c.none above passes)
       | inr behind ↦
-          All-contains (λ (q : Record). e.number ≤ q.number) (e ∷ c.behind) d
-          (rises_above e.number (e ∷ c.behind) (rises_behind 0 c.before e c.behind (subst (RisesFrom 0) c.is rises)))
+          All-contains (λ q. e.number ≤ q.number) (e ∷ c.behind) d
+          (rises_above _ (e ∷ c.behind) (rises_behind 0 _ e _ (rw c.is at rises)))
           behind
     ]
 
@@ -203,16 +202,15 @@ rises_apart : (k n : ℕ) (l : List Record) → k < n → RisesFrom n l
 rises_apart k n [] less rises = tt
 rises_apart k n (r ∷ l) less rises =
     let here = rises.0 in
-    let apart = false_from_ne_true _
-    (λ h. let e : k ≡ r.number = (Decides-eqb k r.number).0 h in absurd (omega (arith, e, here, less))) in
-    (apart, rises_apart k (r.number + 1) l (omega (arith, here, less)) rises.1)
+    let apart = false_from_ne_true _ (λ h. absurd (omega (arith, (Decides-eqb k r.number).0 h))) in
+    (apart, rises_apart k (r.number + 1) l (omega arith) rises.1)
 
 pub rises_distinct : (n : ℕ) (l : List Record) → RisesFrom n l → HasDistinctNumbers l
 unfolding IsDistinct
 rises_distinct n [] rises = tt
 rises_distinct n (r ∷ l) rises =
     IsDistinct-cons (λ a b. a == b) _ _
-    (rises_apart r.number (r.number + 1) l (omega arith) rises.1) (rises_distinct (r.number + 1) l rises.1)
+    (rises_apart _ _ l (omega arith) rises.1) (rises_distinct (r.number + 1) l rises.1)
 
 pub legal_rising : (t : House) (l : List Record) → RisesFrom 0 l → IsLegal t l → Legal t l
 legal_rising t l rises legal = legal_list t l (rises_distinct 0 l rises) legal
@@ -220,7 +218,7 @@ legal_rising t l rises legal = legal_list t l (rises_distinct 0 l rises) legal
 -- the change that is refused first is one of the list
 refused_in : (t : House) (b rest : List Record) (n : ℕ) → first_refused t b rest ≡ Some n
     → (e : Record) × (Contains rest e × (e.number ≡ n))
-refused_in t b [] n h = absurd (cc)
+refused_in t b [] n h = cc
 refused_in t b (r ∷ rest) n h =
     elim (none_or_some (refusal_of t b r.firm r.command)) [
       | inl none ↦ (let e = refused_in t (b ++ r ∷ []) rest n (cc (none, h)) in
@@ -229,8 +227,7 @@ refused_in t b (r ∷ rest) n h =
     ]
 
 pub in_whole : (l : List Record) (k : ℕ) (e : Record) → Contains (without l k) e → Contains l e
-in_whole l k e among =
-    All-contains (Contains l) _ e (All-filter (λ r. not _) (Contains l) l (All-contains_itself l)) among
+in_whole l k e among = All-contains (Contains l) _ e (All-filter _ (Contains l) l (All-contains_itself l)) among
 
 module _ (t : House) (l : List Record) (k : Record) (rises : RisesFrom 0 l) where
   least_by : (o : Option Record) → find (stands_under k) l ≡ o → (q : Option ℕ) → first_on_deal t l k ≡ q
@@ -238,17 +235,17 @@ module _ (t : House) (l : List Record) (k : Record) (rises : RisesFrom 0 l) wher
       → IsLeastUnder t l k (option_or (option_map (λ e. e.number) o) q)
   least_by None found None e stands = λ c among under. elim under [
     | inl node ↦ none_there _ l c found among node
-    | inr deal ↦ cc (e, deal)
+    | inr deal ↦ cc
   ]
   least_by None found (Some n) e stands =
       let r = refused_in t [] _ n stands in (
         r.0,
         in_whole l _ r.0 r.1.0,
-        inr (e ∙ ap Some (sym r.1.1)),
+        inr (cc),
         r.1.1,
         λ d among under. elim under [
           | inl node ↦ absurd (none_there _ l d found among node)
-          | inr deal ↦ (let one : n ≡ d.number = same_Some n d.number (cc) in omega arith)
+          | inr deal ↦ (let one = same_Some n d.number (cc) in omega arith)
         ],
       )
   least_by (Some e) found q same stands = (
@@ -259,10 +256,7 @@ module _ (t : House) (l : List Record) (k : Record) (rises : RisesFrom 0 l) wher
     λ d among under. elim under [
       | inl node ↦ first_is_least _ l rises e found d among node
       | inr deal ↦
-          absurd (cc (
-            (deals_none t l k.number k.firm k.command e.command (find_passes (stands_under k) l e found)),
-            deal,
-          ))
+          absurd (cc (deals_none t l k.number k.firm k.command e.command (find_passes _ l e found)))
     ],
   )
 
@@ -270,7 +264,7 @@ pub standing_is_least : (t : House) (l : List Record) (k : Record) → RisesFrom
     → IsLeastUnder t l k (standing_on t l k.number)
 standing_is_least t l k rises legal among =
     let first = standing_is_first t l k legal among in
-    rw first (least_by t l k rises (find (stands_under k) l) refl (first_on_deal t l k) refl first)
+    rw first (least_by t l k rises _ refl _ refl first)
 
 -- ---- looked up at the nodes that the other made or decided
 
@@ -283,15 +277,15 @@ none_below : (p : Record → Bool) (n : ℕ) (l : List Record) → RisesFrom (n 
 none_below p n l rises = elim (none_or_some (find p l)) [
   | inl none ↦ cc (none)
   | inr e ↦ (
-      let above : n + 1 ≤ e.0.number =
-      find_has (λ (d : Record). n + 1 ≤ d.number) p l e.0 (rises_above (n + 1) l rises) e.1 in
-      let lower : min n e.0.number ≡ n = omega (arith, above) in
-      cc (e.1, lower))
+      let above =
+      find_has (λ d. n + 1 ≤ d.number) p l e.0 (rises_above _ l rises) e.1 in
+      let lower : min n e.0.number ≡ n = omega arith in
+      cc)
 ]
 
 lesser_one : (o : Option ℕ) (n : ℕ) → lesser o (Some n) ≡ Some (least_with n o)
 lesser_one None n = refl
-lesser_one (Some m) n = let same : min m n ≡ min n m = omega arith in ap Some same
+lesser_one (Some m) n = let same : min m n ≡ min n m = omega arith in rw same
 
 -- the first that passes either of two tests is the lesser of the two firsts
 either_first : (p q : Record → Bool) (n : ℕ) (l : List Record) → RisesFrom n l
@@ -299,7 +293,7 @@ either_first : (p q : Record → Bool) (n : ℕ) (l : List Record) → RisesFrom
 either_first p q n [] rises = refl
 either_first p q n (r ∷ l) rises =
     let same : r.number ≡ min r.number r.number = omega arith in
-    let above = λ (p : Record → Bool). none_below p r.number l rises.1 in
+    let above = λ (p : Record → Bool). none_below p _ l rises.1 in
     by_test (p r) (λ a. by_test (q r) (λ b. cc (a, b, same)) (λ b. cc (a, b, above q)))
     (λ a. by_test (q r) (λ b. cc (a, b, above p, lesser_one (first_number p l) r.number))
     (λ b. cc (a, b, either_first p q (r.number + 1) l rises.1)))
@@ -315,17 +309,17 @@ least_one None = refl
 least_one (Some n) = refl
 
 none_passes_never : (l : List Record) → find (λ (e : Record). false) l ≡ None
-none_passes_never l = no_some (find (λ e. false) l) (λ e h. let never = find_passes (λ e. false) l e h in cc)
+none_passes_never l = no_some _ (λ e h. let never = find_passes (λ e. false) l e h in cc)
 
 -- at the parts of a Split
 at_parts : (l : List Record) → RisesFrom 0 l → (xs : List Node)
     → first_number (λ e. list_any (λ x. names x.name e.command) xs) l ≡ least (flat_map (λ x. numbers_on l x.name) xs)
-at_parts l rises [] = ap (option_map (λ (e : Record). e.number)) (none_passes_never l)
+at_parts l rises [] = cc (none_passes_never l)
 at_parts l rises (x ∷ xs) =
     let own = either_first (λ e. splits x.name e.command) (λ e. decides x.name e.command) 0 l rises in
     let told = least_append (number_in (split_of l x.name)) (number_in (decision_of l x.name)) in
     let here : first_number (λ e. names x.name e.command) l ≡ least (numbers_on l x.name) =
-    cc (own, told, least_in (split_of l x.name), least_in (decision_of l x.name)) in
+    cc (own, told, least_in _, least_in (decision_of l x.name)) in
     let both = either_first (λ e. names x.name e.command) (λ e. list_any (λ x. names x.name e.command) xs) 0 l rises in
     cc (both, here, at_parts l rises xs, least_append (numbers_on l x.name) (flat_map (λ x. numbers_on l x.name) xs))
 
@@ -338,7 +332,7 @@ by_command t l rises k by (Split n ps) = or_none _ ∙ at_parts l rises _
 by_command t l rises k by (Claim n _) = or_none _ ∙ sym (least_in _)
 by_command t l rises k by (Refuse n) = or_none _ ∙ sym (least_in _)
 by_command t l rises k by (Cancel n) = or_none _ ∙ sym (least_in _)
-by_command t l rises k by c = cc (none_passes_never l, least_one (deals_under t l k by c))
+by_command t l rises k by c = cc (none_passes_never l, least_one _)
 
 -- the least of the numbers is the first change that would be refused
 pub looked_up : (t : House) (l : List Record) → RisesFrom 0 l → Legal t l → (k : Record) → Contains l k

@@ -2,14 +2,14 @@
 use Rattle.gu_depend.proofs.{Deals.both_same, Finds.{alike_at, counts_less, find_permuted}, Replay.NumbersOnce}
 use Rattle.gu_depend.proofs.{Replay.{same_finds, SameFinds}, Settled.NamedOnce}
 use Rattle.gu_depend.proofs.Vocabulary
-use Vocabulary.{and_parts, ap, arith, Bool, bytes_eq, Charge, charge_of, charge_of_kind, charges, Claim}
-use Vocabulary.{claimed_account, Command, cond, counted, deed_of, EntryPart, false, filter, filter_map, flat_map, Given}
-use Vocabulary.{House, is_none, is_some, is_trade_of, IsPermutation, IsSameState, Kind, limit_of, line_within, List}
-use Vocabulary.{lots_at, made, made_by, name_same, names, Node, node_of, nodes, None, Option, option_and_then}
-use Vocabulary.{option_map, parent, Place, place_along, place_of, place_of_kind, position_of, Record, refl, root_along}
-use Vocabulary.{row_of, rows_from, rows_within, same_place, Side, Some, split_of, suc, sum_by, sum_by-append}
-use Vocabulary.{sum_by-cons, sum_by-IsPermutation, sum_kept, sum_option, sym, terms_of, trades_in, true, unwrap_or}
-use Vocabulary.{use_of_kind, use_of_node, used_of, Uses, zero, ℕ, [], ◌&&◌, ◌*◌, ◌+◌, ◌==◌, ◌∙◌, ◌∷◌, ◌≡◌}
+use Vocabulary.{and_parts, ap, arith, Bool, Charge, charge_of, charge_of_kind, charges, Claim, claimed_account, Command}
+use Vocabulary.{cond, counted, deed_of, EntryPart, false, filter, filter_map, flat_map, Given, House, is_none, is_some}
+use Vocabulary.{is_trade_of, IsPermutation, IsSameState, Kind, limit_of, line_within, List, lots_at, made, made_by}
+use Vocabulary.{name_same, names, Node, node_of, nodes, None, Option, option_and_then, option_map, parent, Place}
+use Vocabulary.{place_along, place_of, place_of_kind, position_of, Record, refl, root_along, row_of, rows_from}
+use Vocabulary.{rows_within, same_place, Side, Some, split_of, suc, sum_by, sum_by-append, sum_by-cons}
+use Vocabulary.{sum_by-IsPermutation, sum_kept, sum_option, sym, terms_of, trades_in, true, unwrap_or, use_of_kind}
+use Vocabulary.{use_of_node, used_of, Uses, zero, ℕ, [], ◌&&◌, ◌+◌, ◌==◌, ◌∙◌, ◌∷◌, ◌≡◌}
 
 module _ {l o : List Record} (f : SameFinds l o) where
   line_same : (n : ℕ) (x : Option Node) → line_within n o x ≡ line_within n l x
@@ -153,8 +153,8 @@ state_same t l o same once s deals =
     record {
       trees = λ trade i. rows_from_same f (f.nodes (record { entry = trade; part = 0 }) i) i;
       positions = positions_same same once f;
-      paid = λ firm. charges_same t (λ c. bytes_eq c.taker firm) (λ c. c.lots * c.rate) l o same f deals;
-      received = λ firm. charges_same t (λ c. bytes_eq c.giver firm) (λ c. c.lots * c.rate) l o same f deals;
+      paid = λ firm. charges_same t _ _ l o same f deals;
+      received = λ firm. charges_same t _ _ l o same f deals;
       used = deals.used;
       terms = deals.terms;
       limits = deals.limits;

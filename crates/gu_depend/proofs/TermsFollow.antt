@@ -10,8 +10,8 @@ use proofs.Vocabulary.{All-tail, All-weaker, and_parts, ap, append-nil, AreTerms
 use proofs.Vocabulary.{cases_Bool, change_of, Claim, Command, cond, Contains, Contains-push_cases, Dealing, dealings}
 use proofs.Vocabulary.{dealings_in, Decides-eqb, Deed, eqb_symm, false, find-append, found_in, House, inl, inr}
 use proofs.Vocabulary.{IsSomeAnd, List, name_same, None, not, Option, option_and_then, or_none, Pair, pair_at, pair_of}
-use proofs.Vocabulary.{PairView, place_of_pair, Record, refl, Some, standing_on, subst, sym, TermsView, true, without}
-use proofs.Vocabulary.{ℕ, [], ◌&&◌, ◌++◌, ◌==◌, ◌∙◌, ◌∷◌, ◌≡◌}
+use proofs.Vocabulary.{PairView, place_of_pair, Record, refl, Some, standing_on, sym, TermsView, true, without, ℕ, []}
+use proofs.Vocabulary.{◌&&◌, ◌++◌, ◌==◌, ◌∙◌, ◌∷◌, ◌≡◌}
 use Rattle.gu_fees.specs.Terms.{IsPut, IsReadied, IsRowAfter, IsSameRow, IsTakenOut, row_of}
 
 -- ---- pairs
@@ -115,9 +115,9 @@ module _ (t : House) (l : List Record) (r : Record) (before : IsBefore t l r) wh
   placed_more v n = elim (cases_Bool (r.number == n)) [
     | inl is ↦ cc (is, new_number n is, pair_more, find-append _ l (r ∷ []))
     | inr other ↦ (
-        let alike = alike_at (pair_place v more) (pair_place v l) (change_of l n)
+        let alike = alike_at _ _ _
         (λ d e. ap (option_and_then (place_of_pair v)) (pair_old d (found_in (λ d. d.number == n) l d e))) in
-        cc (other, find-append (λ d. d.number == n) l (r ∷ []), or_none (change_of l n), alike))
+        cc (find-append (λ d. d.number == n) l (r ∷ []), or_none (change_of l n)))
   ]
 
   -- what is ready of the changes before it and of its own is ready of all
@@ -128,7 +128,7 @@ module _ (t : House) (l : List Record) (r : Record) (before : IsBefore t l r) wh
       → (q : PairView) × (row_of w p.giver p.taker ≡ Some q)
   ready_more w old own d p among e = elim (Contains-push_cases l r d among) [
     | inl in_l ↦ old d p in_l (sym (pair_old d in_l) ∙ e)
-    | inr last ↦ own p (sym pair_more ∙ subst (λ z. pair_in more z ≡ Some p) (sym last) e)
+    | inr last ↦ own p (cc (pair_more, last, e))
   ]
 
   -- ---- that deals for nobody

@@ -32,14 +32,14 @@ module _ {D : Type 0} (seen : D → List ℕ) (may_leave : D → List ℕ → Ty
     (clean : is_clean (disk_of staged) ≡ is_clean (disk_of old))
     (said : IsTrue (is_clean (disk_of old)) → IsSaid seen may_leave t h old before) where
   was : IsTrue (is_clean (disk_of staged)) → IsSaid seen may_leave t h old before
-  was honest = said (subst (λ (b : Bool). IsTrue b) clean honest)
+  was right = said (subst (λ (b : Bool). IsTrue b) clean right)
 
   -- while the group is staged what a crash leaves is the history from before
   pub keeps_staged : ((t : House) (pin : List ℕ) (h : List Entry) (c : List ℕ)
       → Keeps seen may_leave t pin h old → may_leave (disk_of staged) c → history_of t c ≡ h)
       → IsTrue (is_clean (disk_of staged)) → IsKept may_leave t h (disk_of staged) before
-  keeps_staged crash honest =
-      let w = was honest in
+  keeps_staged crash right =
+      let w = was right in
       record {
         answered = w.answered;
         left = λ c left. record { rest = []; is = crash t w.pin h c w.kept left ∙ sym (append-nil h) };
@@ -51,8 +51,8 @@ module _ {D : Type 0} (seen : D → List ℕ) (may_leave : D → List ℕ → Ty
       → Keeps seen may_leave t pin h old → IsRunFrom t h (h ++ es) → Stages seen may_leave t pin h (h ++ es) staged)
       → IsTrue (is_clean (disk_of opened))
       → Opening seen may_leave t h es staged before
-  staged_then opened still run stages honest =
-      let w = was (subst (λ (b : Bool). IsTrue b) still honest) in
+  staged_then opened still run stages right =
+      let w = was (subst (λ (b : Bool). IsTrue b) still right) in
       record { answered = w.answered; pin = w.pin; group = stages t w.pin h w.kept run }
 
 module _ {D : Type 0} (seen : D → List ℕ) (may_leave : D → List ℕ → Type 0) (t : House)
@@ -94,8 +94,8 @@ pub filed_says : {D : Type 0} (seen : D → List ℕ) (may_leave : D → List �
     (t u : House) (pin : List ℕ) (h : List Entry) (j k : Journal D) → k ≡ j → u ≡ t
     → (IsTrue (is_clean (disk_of j)) → Keeps seen may_leave t pin h j)
     → IsTrue (is_clean (disk_of k)) → (x : List ℕ) × Keeps seen may_leave u x h k
-filed_says {D} seen may_leave is_clean t u pin h j k same copied keeps honest =
-    let at = keeps (subst (λ (x : Journal D). IsTrue (is_clean (disk_of x))) same honest) in
+filed_says {D} seen may_leave is_clean t u pin h j k same copied keeps right =
+    let at = keeps (subst (λ (x : Journal D). IsTrue (is_clean (disk_of x))) same right) in
     let here = subst (λ (x : House). Keeps seen may_leave x pin h j) (sym copied) at in
     (pin, subst (λ (x : Journal D). Keeps seen may_leave u pin h x) (sym same) here)
 
@@ -105,8 +105,8 @@ pub replicated_says : {D : Type 0} (seen : D → List ℕ) (may_leave : D → Li
     → (IsTrue (is_clean (disk_of j)) → (pin : List ℕ) × Keeps seen may_leave t pin h j)
     → ((t : House) (pin : List ℕ) (h : List Entry) → Keeps seen may_leave t pin h k → HasAnswered r (length h))
     → IsTrue (is_clean (disk_of k)) → IsSaid seen may_leave u h k r
-replicated_says {D} seen may_leave is_clean t u h j k r same copied says answered honest =
-    let at = says (subst (λ (x : Journal D). IsTrue (is_clean (disk_of x))) same honest) in
+replicated_says {D} seen may_leave is_clean t u h j k r same copied says answered right =
+    let at = says (subst (λ (x : Journal D). IsTrue (is_clean (disk_of x))) same right) in
     let there = subst (λ (x : House). Keeps seen may_leave x at.0 h j) (sym copied) at.1 in
     let here = subst (λ (x : Journal D). Keeps seen may_leave u at.0 h x) (sym same) there in
     record { answered = answered u at.0 h here; pin = at.0; kept = here }

@@ -19,4 +19,4 @@ logout_of house firm time number text = text_of house firm time (record {
 abbrev pub LogsOut : List ℕ → List ℕ → Connection → Connection → Type 0
 LogsOut house text old new = (new.out.items ≡ old.out.items)
     ⊎ ((firm time : List ℕ) × (old.session.link.firm ≡ Some firm)
-    × (new.out.items ≡ old.out.items ++ logout_of house firm time old.session.link.out text))
+    × (new.out.items ≡ old.out.items ++ logout_of house firm time old.session.link.next text))

@@ -23,15 +23,12 @@ use gu_codec::{Feed, Frame, Header, append_field, tags, write_frame};
 use gu_message::{SendingTime, msg_types};
 use gu_parties::House;
 use gu_session::{Actions, Event, Session};
-use gu_trace::nothing_is_passed_over;
+use gu_trace::{MOST_REPORTS, nothing_is_passed_over};
 use jiff::Timestamp;
 use std::alloc::Global;
 use std::io::Write;
 use std::net::TcpStream;
 use std::time::Clock;
-
-/// How many reports a reading has at most.
-const MOST_REPORTS: usize = 100;
 
 /// The last MsgSeqNum (34) that a message has.
 const LAST_NUMBER: u32 = 999_999_999;

@@ -8,7 +8,7 @@ use Rattle.std.proofs.lemmas.Bool.Decides.{nat_tests}
 use Rattle.std.proofs.lemmas.List.Elements.{All-nil, All-cons, All-append, All-weaker, All-drop, All-filter}
 use Rattle.std.proofs.lemmas.List.Elements.{recursion_from_All, Contains-append_left, Contains-append_right}
 use Rattle.gu_session.specs.Keeping.{Kept}
-use Rattle.gu_session.specs.declared.kept.Told.{Told}
+use Rattle.gu_session.specs.declared.kept.AppType.{AppType}
 use Rattle.gu_session.specs.declared.verdict.Span.{Span}
 use Rattle.gu_session.specs.Going.{Going}
 use Rattle.gu_session.specs.Steps.{resent, filling, gap_fill, with_gaps, within, resends, kept_from, last_kept, new}
@@ -42,7 +42,7 @@ rises_drop (suc n) low high [] h = h
 rises_drop (suc n) low high (m ∷ ms) h =
     rises_drop n low high ms (rises_lower (m.number + 1) low high ms (omega (arith, h.0)) h.1)
 
-rises_fresh : (time : List ℕ) (n : ℕ) (xs : List (Told × List ℕ))
+rises_fresh : (time : List ℕ) (n : ℕ) (xs : List (AppType × List ℕ))
     → RisesTo n (kept_from time n xs) (n + length (kept_from time n xs))
 rises_fresh time n [] = omega arith
 rises_fresh time n (x ∷ xs) =
@@ -50,11 +50,12 @@ rises_fresh time n (x ∷ xs) =
     let e : n + 1 + length (kept_from time (n + 1) xs) ≡ n + suc (length (kept_from time (n + 1) xs)) = omega arith in
     (omega arith, subst (RisesTo (n + 1) (kept_from time (n + 1) xs)) e rest)
 
-pub rises_last : (low out : ℕ) (kept : List Kept) (time : List ℕ) (xs : List (Told × List ℕ)) → RisesTo low kept out
-    → RisesTo low (last_kept (kept ++ kept_from time out xs)) (out + length (kept_from time out xs))
-rises_last low out kept time xs h =
-    rises_drop (length (kept ++ kept_from time out xs) - 256) low _ (kept ++ kept_from time out xs)
-    (rises_append low out _ kept (kept_from time out xs) h (rises_fresh time out xs))
+pub rises_last : (low next : ℕ) (kept : List Kept) (time : List ℕ) (xs : List (AppType × List ℕ))
+    → RisesTo low kept next
+    → RisesTo low (last_kept (kept ++ kept_from time next xs)) (next + length (kept_from time next xs))
+rises_last low next kept time xs h =
+    rises_drop (length (kept ++ kept_from time next xs) - 256) low _ (kept ++ kept_from time next xs)
+    (rises_append low next _ kept (kept_from time next xs) h (rises_fresh time next xs))
 
 -- ---- each number once
 
@@ -124,18 +125,18 @@ sent_more sent more kept h =
 abbrev pub at_time : List ℕ → List Going → List (List ℕ × Going)
 at_time time ms = map (λ m. (time, m)) ms
 
-fresh_sent : (time : List ℕ) (n : ℕ) (xs : List (Told × List ℕ))
+fresh_sent : (time : List ℕ) (n : ℕ) (xs : List (AppType × List ℕ))
     → All (WasSent (at_time time (map new (kept_from time n xs)))) (kept_from time n xs)
 fresh_sent time n [] = All-nil (WasSent [])
 fresh_sent time n (x ∷ xs) =
-    let k : Kept = record { told = x.0; number = n; sent = time; body = x.1 } in
+    let k : Kept = record { kind = x.0; number = n; sent = time; body = x.1 } in
     let rest = kept_from time (n + 1) xs in
     let later = at_time time (map new rest) in
     All-cons (WasSent ((time, new k) ∷ later)) k rest (0, omega arith, refl)
     (All-weaker (WasSent later) (WasSent ((time, new k) ∷ later))
     (λ m c. Contains-append_right ((time, new k) ∷ []) later (m.sent, new m) c) rest (fresh_sent time (n + 1) xs))
 
-pub last_sent : (sent : List (List ℕ × Going)) (kept : List Kept) (time : List ℕ) (n : ℕ) (xs : List (Told × List ℕ))
+pub last_sent : (sent : List (List ℕ × Going)) (kept : List Kept) (time : List ℕ) (n : ℕ) (xs : List (AppType × List ℕ))
     → All (WasSent sent) kept
     → All (WasSent (sent ++ at_time time (map new (kept_from time n xs)))) (last_kept (kept ++ kept_from time n xs))
 last_sent sent kept time n xs h =

@@ -8,13 +8,13 @@ use Rattle.jiff.specs.Types.{Timestamp}
 use Rattle.gu_session.specs.Steps.{Seen, Event, Called, idle, step_of, opening}
 use Rattle.gu_session.specs.Runs.{outcomes, sent_anew, numbers_from, called, Rises, NeverFalls, IsToSomebody, IsOver}
 use Rattle.gu_session.specs.Runs.{EndsOnce, waits_for, unless_closed, awaited_behind, IsAwaited, NewAreNumbered}
-use Rattle.gu_session.specs.Runs.{CallsRise, WantNeverFalls, SpeaksWithinTheSession, CallsAreAwaited}
+use Rattle.gu_session.specs.Runs.{CallsRise, ExpectedNeverFalls, SpeaksWithinTheSession, CallsAreAwaited}
 use Rattle.gu_session.proofs.Lines.{IsEarly}
 use Rattle.gu_session.proofs.Stepping.{moves_step}
 
--- before the Logon the number 1 is wanted, or none has come, and no call waits
+-- before the Logon the number 1 is expected, or none has come, and no call waits
 abbrev pub Early : Seen → Type 0
-Early s = IsEarly s.link.firm s.link.want s.link.waiting
+Early s = IsEarly s.link.firm s.link.expected s.link.waiting
 
 -- ---- new messages
 
@@ -30,17 +30,17 @@ numbers_join n (suc a) b =
 
 -- the new numbers of steps follow one another
 numbered : (s : Seen) (es : List (Timestamp × Event)) → Early s
-    → (k : ℕ) × (sent_anew (outcomes s es) ≡ numbers_from s.link.out k)
+    → (k : ℕ) × (sent_anew (outcomes s es) ≡ numbers_from s.link.next k)
 numbered s [] early = (0, refl)
 numbered s (e ∷ es) early =
     let o = step_of e.0 s e.1 in
     let m = moves_step e.0 s e.1 early in
     let rest = numbered o.after es m.early in
-    let tail : sent_anew (outcomes o.after es) ≡ numbers_from (s.link.out + m.many) rest.0 =
-    rest.1 ∙ ap (λ (n : ℕ). numbers_from n rest.0) m.out in (
+    let tail : sent_anew (outcomes o.after es) ≡ numbers_from (s.link.next + m.many) rest.0 =
+    rest.1 ∙ ap (λ (n : ℕ). numbers_from n rest.0) m.next in (
       m.many + rest.0,
       ap (λ (t : List ℕ). t ++ sent_anew (outcomes o.after es)) m.new
-          ∙ ap (λ (t : List ℕ). numbers_from s.link.out m.many ++ t) tail ∙ numbers_join s.link.out m.many rest.0,
+          ∙ ap (λ (t : List ℕ). numbers_from s.link.next m.many ++ t) tail ∙ numbers_join s.link.next m.many rest.0,
     )
 
 length_numbers : (n k : ℕ) → length (numbers_from n k) ≡ k
@@ -62,29 +62,29 @@ rise_first None rest low mid high h l m f = f low (omega arith)
 rise_first (Some c) rest low mid high h l m f = (omega (arith, h.0), f (c.number + 1) (omega (arith, h.1)))
 
 -- calls rise, and the expected number never falls
-rise : (s : Seen) (es : List (Timestamp × Event)) (low : ℕ) → Early s → low ≤ s.link.want
+rise : (s : Seen) (es : List (Timestamp × Event)) (low : ℕ) → Early s → low ≤ s.link.expected
     → Rises low (called (outcomes s es))
 rise s [] low early le = tt
 rise s (e ∷ es) low early le =
     let o = step_of e.0 s e.1 in
     let m = moves_step e.0 s e.1 early in
-    rise_first o.call (called (outcomes o.after es)) low s.link.want o.after.link.want m.call le m.want
+    rise_first o.call (called (outcomes o.after es)) low s.link.expected o.after.link.expected m.call le m.expected
     (λ k h. rise o.after es k m.early h)
 
 pub calls_rise : CallsRise
 calls_rise t never es = rise (opening t never) es 1 (omega arith, refl) (omega arith)
 
-never_falls : (s : Seen) (es : List (Timestamp × Event)) (low : ℕ) → Early s → low ≤ s.link.want
-    → NeverFalls low (map (λ o. o.after.link.want) (outcomes s es))
+never_falls : (s : Seen) (es : List (Timestamp × Event)) (low : ℕ) → Early s → low ≤ s.link.expected
+    → NeverFalls low (map (λ o. o.after.link.expected) (outcomes s es))
 never_falls s [] low early le = tt
 never_falls s (e ∷ es) low early le =
     let o = step_of e.0 s e.1 in
     let m = moves_step e.0 s e.1 early in
-    let here : low ≤ o.after.link.want = omega (arith, m.want) in
-    (here, never_falls o.after es o.after.link.want m.early (omega arith))
+    let here : low ≤ o.after.link.expected = omega (arith, m.expected) in
+    (here, never_falls o.after es o.after.link.expected m.early (omega arith))
 
-pub want_never_falls : WantNeverFalls
-want_never_falls t never es = never_falls (opening t never) es 1 (omega arith, refl) (omega arith)
+pub expected_never_falls : ExpectedNeverFalls
+expected_never_falls t never es = never_falls (opening t never) es 1 (omega arith, refl) (omega arith)
 
 -- ---- the Logon and the close
 

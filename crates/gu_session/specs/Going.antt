@@ -8,8 +8,8 @@ use Rattle.gu_message.specs.SessionBodies.{resend_request_fields, logout_fields}
 use Rattle.gu_message.specs.SessionReject.{reject_fields}
 use Rattle.gu_session.specs.declared.verdict.Say.{Say}
 use Rattle.gu_session.specs.declared.verdict.Say.TheVariants as say
-use Rattle.gu_session.specs.declared.kept.Told.{Told}
-use Rattle.gu_session.specs.declared.kept.Told.TheVariants as told
+use Rattle.gu_session.specs.declared.kept.AppType.{AppType}
+use Rattle.gu_session.specs.declared.kept.AppType.TheVariants as app
 
 -- a message that goes out: MsgType (35); MsgSeqNum (34); the number behind those that it stands
 -- for, which is the next one but for a gap that is filled; OrigSendingTime (122), where it is sent
@@ -40,10 +40,10 @@ fields_of_say came (say.Reject fault) = option_map_or (λ fs. reject_fields fs f
 fields_of_say came (say.Logout text) = logout_fields text
 
 -- MsgType (35) of an application message
-abbrev pub type_of_told : Told → List ℕ
-type_of_told told.Ack = codes "P"
-type_of_told told.TradeAck = codes "AR"
-type_of_told told.Report = codes "AS"
+abbrev pub type_of_app : AppType → List ℕ
+type_of_app app.Ack = codes "P"
+type_of_app app.TradeAck = codes "AR"
+type_of_app app.Report = codes "AS"
 
 -- what the session says, as a new message with this number
 abbrev pub said : Option Message → ℕ → Say → Going

@@ -40,11 +40,11 @@ CallsRise =
     (t : House) (never : Timestamp) (es : List (Timestamp × Event))
     → Rises 1 (called (outcomes (opening t never) es))
 
--- the wanted number never falls
-abbrev pub WantNeverFalls : Type 0
-WantNeverFalls =
+-- the expected number never falls
+abbrev pub ExpectedNeverFalls : Type 0
+ExpectedNeverFalls =
     (t : House) (never : Timestamp) (es : List (Timestamp × Event))
-    → NeverFalls 1 (map (λ o. o.after.link.want) (outcomes (opening t never) es))
+    → NeverFalls 1 (map (λ o. o.after.link.expected) (outcomes (opening t never) es))
 
 -- ---- new messages
 

@@ -20,16 +20,16 @@ use Rattle.gu_message.specs.AllocationReport.{date_in, report_fields}
 use Rattle.gu_message.specs.SendingTime.{sending_time}
 use Rattle.gu_message.specs.AllocationAck.{ack_fields}
 use Rattle.gu_message.specs.TradeReportAck.{trade_ack_fields}
-use Rattle.gu_session.specs.declared.link.Link.{Link}
+use Rattle.gu_session.specs.declared.link.LinkState.{LinkState}
 use Rattle.gu_session.specs.declared.link.Waiting.{Waiting}
-use Rattle.gu_session.specs.declared.kept.Told.{Told}
-use Rattle.gu_session.specs.declared.kept.Told.TheVariants as told
+use Rattle.gu_session.specs.declared.kept.AppType.{AppType}
+use Rattle.gu_session.specs.declared.kept.AppType.TheVariants as app
 use Rattle.gu_session.specs.Keeping.{Kept}
 use Rattle.gu_session.specs.declared.verdict.Span.{Span}
 use Rattle.gu_session.specs.declared.verdict.Say.{Say}
 use Rattle.gu_session.specs.declared.verdict.Verdict.{Verdict}
 use Rattle.gu_session.specs.Limits.{last_number, past_last, most_kept}
-use Rattle.gu_session.specs.Going.{Going, said, type_of_told}
+use Rattle.gu_session.specs.Going.{Going, said, type_of_app}
 use Rattle.gu_session.specs.Table.{on_message, on_tick, shut}
 
 -- what comes
@@ -42,7 +42,7 @@ pub data Event : Type 0 where
 -- the house table, what the session knows of the connection, and the last application messages sent
 pub record Seen : Type 0 where
   pub house : House
-  pub link : Link
+  pub link : LinkState
   pub kept : List Kept
 
 -- a call for the book, with the number of its message
@@ -70,7 +70,7 @@ time_of now = sending_time (unsigned_abs now.nanosecond)
 -- a kept message, with its own number
 abbrev pub resent : Kept → Going
 resent m = record {
-  kind = type_of_told m.told;
+  kind = type_of_app m.kind;
   number = m.number;
   next = m.number + 1;
   first = Some m.sent;
@@ -115,37 +115,38 @@ sayings came number None = []
 sayings came number (Some s) = said came number s ∷ []
 
 -- the answer to a call: its type and fields
-abbrev pub answer_told : Waiting → Answer → Told × List ℕ
-answer_told w a =
-    if w.trade then (told.TradeAck, fields_text (trade_ack_fields w.id a))
-    else (told.Ack, fields_text (ack_fields w.id a))
+abbrev pub answer_body : Waiting → Answer → AppType × List ℕ
+answer_body w a =
+    if w.trade then (app.TradeAck, fields_text (trade_ack_fields w.id a))
+    else (app.Ack, fields_text (ack_fields w.id a))
 
 -- a report at a time: its type and fields
-abbrev pub report_told : List ℕ → Report → Told × List ℕ
-report_told time r = (told.Report, fields_text (report_fields (date_in time) r))
+abbrev pub report_body : List ℕ → Report → AppType × List ℕ
+report_body time r = (app.Report, fields_text (report_fields (date_in time) r))
 
 -- the answer to the call that waits, if there are both
-abbrev pub answer_of : Option Waiting → Option Answer → List (Told × List ℕ)
-answer_of (Some w) (Some a) = answer_told w a ∷ []
+abbrev pub answer_of : Option Waiting → Option Answer → List (AppType × List ℕ)
+answer_of (Some w) (Some a) = answer_body w a ∷ []
 answer_of _ _ = []
 
 -- the answer, then the reports
-abbrev pub tellings : List ℕ → Option Waiting → Option Answer → List Report → List (Told × List ℕ)
-tellings time w a rs = answer_of w a ++ map (report_told time) rs
+abbrev pub reply_bodies : List ℕ → Option Waiting → Option Answer → List Report
+    → List (AppType × List ℕ)
+reply_bodies time w a rs = answer_of w a ++ map (report_body time) rs
 
 -- one as a message that is kept
-abbrev pub kept_as : List ℕ → ℕ → Told × List ℕ → Kept
-kept_as time number x = record { told = x.0; number = number; sent = time; body = x.1 }
+abbrev pub kept_as : List ℕ → ℕ → AppType × List ℕ → Kept
+kept_as time number x = record { kind = x.0; number = number; sent = time; body = x.1 }
 
 -- each, numbered from this one on
-abbrev pub kept_from : List ℕ → ℕ → List (Told × List ℕ) → List Kept
+abbrev pub kept_from : List ℕ → ℕ → List (AppType × List ℕ) → List Kept
 kept_from time number [] = []
 kept_from time number (x ∷ xs) = kept_as time number x ∷ kept_from time (number + 1) xs
 
 -- a new message
 abbrev pub new : Kept → Going
 new m = record {
-  kind = type_of_told m.told;
+  kind = type_of_app m.kind;
   number = m.number;
   next = m.number + 1;
   first = None;
@@ -163,10 +164,10 @@ went_at now (m ∷ ms) before = now
 
 -- ---- steps
 
--- each number is at most the last one: the next one to be sent may be past that, the wanted one may
--- not
-abbrev pub fits : Link → Bool
-fits l = nat_le l.out past_last && nat_le l.want last_number
+-- each number is at most the last one: the next one to be sent may be past that, the expected one
+-- may not
+abbrev pub fits : LinkState → Bool
+fits l = nat_le l.next past_last && nat_le l.expected last_number
 
 -- the session is closed, and nothing is sent
 abbrev pub shut_down : Timestamp → Seen → Outcome
@@ -200,7 +201,7 @@ acts now s came call v = record {
   after = record s { link = v.link };
   time = time_of now;
   again = v.resend;
-  send = resends (time_of now) s.kept v.resend ++ sayings came s.link.out v.say;
+  send = resends (time_of now) s.kept v.resend ++ sayings came s.link.next v.say;
   call = call;
   close = v.link.closed;
 }
@@ -221,7 +222,7 @@ tells now s fresh = record {
   after = record s {
     link = record s.link {
       waiting = None;
-      out = s.link.out + length fresh;
+      next = s.link.next + length fresh;
       went = went_at now fresh s.link.went;
     };
     kept = last_kept (s.kept ++ fresh);
@@ -238,7 +239,7 @@ abbrev pub replies : Timestamp → Seen → Option (List ℕ) → Option Answer 
 replies now s None answer reports = idle now s
 replies now s (Some firm) answer reports =
     tells now s
-    (kept_from (time_of now) s.link.out (tellings (time_of now) s.link.waiting answer reports))
+    (kept_from (time_of now) s.link.next (reply_bodies (time_of now) s.link.waiting answer reports))
 
 -- what an event does to a session that is open
 abbrev pub on_event : Timestamp → Seen → Event → Outcome
@@ -259,8 +260,8 @@ opening house never = record {
     firm = None;
     closed = false;
     waiting = None;
-    want = 1;
-    out = 1;
+    expected = 1;
+    next = 1;
     asked = None;
     heartbeat = 0;
     came = never;

@@ -11,7 +11,7 @@ use Rattle.gu_message.specs.declared.inbound.Inbound.TheVariants as inbound
 use Rattle.gu_message.specs.declared.session_bodies.LogoutText.{LogoutText}
 use Rattle.gu_message.specs.declared.session_bodies.LogoutText.TheVariants as text
 use Rattle.gu_message.specs.Checks.{bad_value}
-use Rattle.gu_session.specs.declared.link.Link.{Link}
+use Rattle.gu_session.specs.declared.link.LinkState.{LinkState}
 use Rattle.gu_session.specs.declared.line.TableLine.{TableLine}
 use Rattle.gu_session.specs.declared.line.TableLine.TheVariants as line
 use Rattle.gu_session.specs.declared.verdict.Span.{Span}
@@ -22,24 +22,24 @@ use Rattle.gu_session.specs.declared.verdict.Verdict.{Verdict}
 -- ---- what a line may decide
 
 -- nothing is sent
-abbrev pub silent : Link → Verdict
+abbrev pub silent : LinkState → Verdict
 silent l = record { link = l; resend = None; say = None; call = None }
 
 -- one new message
-abbrev pub says : Timestamp → Link → Say → Verdict
+abbrev pub says : Timestamp → LinkState → Say → Verdict
 says now l s = record {
-  link = record l { out = l.out + 1; went = now };
+  link = record l { next = l.next + 1; went = now };
   resend = None;
   say = Some s;
   call = None;
 }
 
 -- a Logout, and the session is closed
-abbrev pub closes : Timestamp → Link → Option LogoutText → Verdict
+abbrev pub closes : Timestamp → LinkState → Option LogoutText → Verdict
 closes now l t = says now (record l { closed = true; waiting = None }) (say.Logout t)
 
 -- the session is closed, and nothing is sent
-abbrev pub shut : Link → Verdict
+abbrev pub shut : LinkState → Verdict
 shut l = silent (record l { closed = true; waiting = None })
 
 -- what is sent again goes out first, where there is anything
@@ -48,7 +48,7 @@ again now None v = v
 again now (Some span) v = record v { link = record v.link { went = now }; resend = Some span }
 
 -- a call is handed out, and waits for its Reply
-abbrev pub hands_out : Link → ℕ → Bool → List ℕ → Verdict
+abbrev pub hands_out : LinkState → ℕ → Bool → List ℕ → Verdict
 hands_out l number trade id = record {
   link = record l { waiting = Some (record { trade = trade; id = id }) };
   resend = None;
@@ -60,33 +60,33 @@ hands_out l number trade id = record {
 
 -- its end: 0 and a number past the last sent mean the last sent
 abbrev pub last_asked : ℕ → ℕ → ℕ
-last_asked out to = if (to == 0) || nat_le out to then out - 1 else to
+last_asked next to = if (to == 0) || nat_le next to then next - 1 else to
 
 -- nothing where its beginning is past that
 abbrev pub span_of : ℕ → ℕ → ℕ → Option Span
-span_of out from to =
-    if nat_le from (last_asked out to)
-    then Some (record { from = from; next = last_asked out to + 1 })
+span_of next from to =
+    if nat_le from (last_asked next to)
+    then Some (record { from = from; next = last_asked next to + 1 })
     else None
 
 -- what a message asks for, if it is a ResendRequest
 abbrev pub resend_of : ℕ → Result Inbound Reject → Option Span
-resend_of out (Ok (inbound.ResendRequest from to)) = span_of out from to
-resend_of out _ = None
+resend_of next (Ok (inbound.ResendRequest from to)) = span_of next from to
+resend_of next _ = None
 
 -- ---- before the Logon
 
 -- a Logon that is understood: from a firm of the house, with the number 1
-abbrev pub first_logon : Timestamp → House → Link → Heading → ℕ → Bool → Verdict
+abbrev pub first_logon : Timestamp → House → LinkState → Heading → ℕ → Bool → Verdict
 first_logon now t l h heartbeat reset =
     if (h.number == 1) && knows_firm t h.firm
-    then says now (record l { firm = Some h.firm; want = 2; heartbeat = heartbeat; came = now })
+    then says now (record l { firm = Some h.firm; expected = 2; heartbeat = heartbeat; came = now })
     (say.Logon heartbeat reset)
     else shut l
 
 -- anything else closes the session
-abbrev pub before_logon : Timestamp → House → Link → Result Heading Reject → Result Inbound Reject
-    → Verdict
+abbrev pub before_logon : Timestamp → House → LinkState → Result Heading Reject
+    → Result Inbound Reject → Verdict
 before_logon now t l (Ok h) (Ok (inbound.Logon heartbeat reset)) =
     first_logon now t l h heartbeat reset
 before_logon now t l heading meaning = shut l
@@ -99,17 +99,17 @@ reset_to (Ok (inbound.SequenceReset false next)) = Some next
 reset_to _ = None
 
 -- lines 2 to 7; line 5 holds of each Logout, understood or not
-abbrev pub line_by_number : Link → Heading → Option ℕ → Bool → TableLine
+abbrev pub line_by_number : LinkState → Heading → Option ℕ → Bool → TableLine
 line_by_number l h (Some next) is_logout = line.Reset next
 line_by_number l h None is_logout =
-    if nat_lt h.number l.want && h.poss_dup then line.Duplicate
-    else (if nat_lt h.number l.want then line.TooLow
-    else (if nat_lt l.want h.number && is_logout then line.LogoutAbove
-    else (if nat_lt l.want h.number then line.Gap h.number
-    else line.Wanted h.number)))
+    if nat_lt h.number l.expected && h.poss_dup then line.Duplicate
+    else (if nat_lt h.number l.expected then line.TooLow
+    else (if nat_lt l.expected h.number && is_logout then line.LogoutAbove
+    else (if nat_lt l.expected h.number then line.Gap h.number
+    else line.Expected h.number)))
 
 -- line 1 is the header's: another firm, another house, or a number that can't be read
-abbrev pub line_of : Link → List ℕ → Result Heading Reject → Result Inbound Reject → Bool
+abbrev pub line_of : LinkState → List ℕ → Result Heading Reject → Result Inbound Reject → Bool
     → TableLine
 line_of l firm (Err fault) meaning is_logout = line.BadHeader
 line_of l firm (Ok h) meaning is_logout =
@@ -117,25 +117,25 @@ line_of l firm (Ok h) meaning is_logout =
 
 -- ---- what the line decides
 
--- the wanted number is set, where it doesn't fall
-abbrev pub resets : Timestamp → Link → ℕ → Verdict
+-- the expected number is set, where it doesn't fall
+abbrev pub resets : Timestamp → LinkState → ℕ → Verdict
 resets now l next =
-    if nat_le l.want next then silent (record l { want = next })
+    if nat_le l.expected next then silent (record l { expected = next })
     else says now l (say.Reject (bad_value 36))
 
--- a gap is asked for once, from the wanted number on
-abbrev pub asks : Timestamp → Link → ℕ → Option ℕ → Verdict
-asks now l number None = says now (record l { asked = Some number }) (say.ResendRequest l.want)
+-- a gap is asked for once, from the expected number on
+abbrev pub asks : Timestamp → LinkState → ℕ → Option ℕ → Verdict
+asks now l number None = says now (record l { asked = Some number }) (say.ResendRequest l.expected)
 asks now l number (Some highest) = silent (record l { asked = Some (max highest number) })
 
 -- numbers that are passed over
-abbrev pub fills : Timestamp → Link → ℕ → ℕ → Verdict
+abbrev pub fills : Timestamp → LinkState → ℕ → ℕ → Verdict
 fills now l number next =
-    if nat_lt number next then silent (record l { want = next })
+    if nat_lt number next then silent (record l { expected = next })
     else says now l (say.Reject (bad_value 36))
 
--- the message with the wanted number, by its type
-abbrev pub by_type : Timestamp → Link → ℕ → Result Inbound Reject → Verdict
+-- the message with the expected number, by its type
+abbrev pub by_type : Timestamp → LinkState → ℕ → Result Inbound Reject → Verdict
 by_type now l number (Err fault) = says now l (say.Reject fault)
 by_type now l number (Ok inbound.Heartbeat) = silent l
 by_type now l number (Ok inbound.Reject) = silent l
@@ -144,46 +144,46 @@ by_type now l number (Ok inbound.Logout) = closes now l None
 by_type now l number (Ok (inbound.Logon heartbeat reset)) = closes now l (Some text.SecondLogon)
 by_type now l number (Ok (inbound.SequenceReset gap_fill next)) = fills now l number next
 by_type now l number (Ok (inbound.ResendRequest from to)) =
-    again now (span_of l.out from to) (silent l)
+    again now (span_of l.next from to) (silent l)
 by_type now l number (Ok (inbound.Call firm trade id command)) = hands_out l number trade id
 
 -- what the first line that holds decides
-abbrev pub on_line : Timestamp → Link → Result Inbound Reject → TableLine → Verdict
+abbrev pub on_line : Timestamp → LinkState → Result Inbound Reject → TableLine → Verdict
 on_line now l meaning line.BadHeader = closes now l (Some text.BadHeader)
 on_line now l meaning (line.Reset next) = resets now l next
 on_line now l meaning line.Duplicate = silent l
-on_line now l meaning line.TooLow = closes now l (Some (text.NumberTooLow l.want))
+on_line now l meaning line.TooLow = closes now l (Some (text.NumberTooLow l.expected))
 on_line now l meaning line.LogoutAbove = closes now l None
 on_line now l meaning (line.Gap number) =
-    again now (resend_of l.out meaning) (asks now l number l.asked)
-on_line now l meaning (line.Wanted number) =
-    by_type now (record l { want = l.want + 1 }) number meaning
+    again now (resend_of l.next meaning) (asks now l number l.asked)
+on_line now l meaning (line.Expected number) =
+    by_type now (record l { expected = l.expected + 1 }) number meaning
 
 -- ---- a message
 
 -- it came
-abbrev pub heard : Timestamp → Link → Link
+abbrev pub heard : Timestamp → LinkState → LinkState
 heard now l = record l { came = now; tested = false }
 
 -- before the Logon, or after it
-abbrev pub by_firm : Timestamp → House → Link → Option (List ℕ) → Result Heading Reject
+abbrev pub by_firm : Timestamp → House → LinkState → Option (List ℕ) → Result Heading Reject
     → Result Inbound Reject → Bool → Verdict
 by_firm now t l None heading meaning is_logout = before_logon now t l heading meaning
 by_firm now t l (Some firm) heading meaning is_logout =
     on_line now (heard now l) meaning (line_of l firm heading meaning is_logout)
 
--- a gap that was asked for is closed as soon as the wanted number is past it
+-- a gap that was asked for is closed as soon as the expected number is past it
 abbrev pub open_gap : ℕ → Option ℕ → Option ℕ
-open_gap want None = None
-open_gap want (Some highest) = if nat_lt highest want then None else Some highest
+open_gap expected None = None
+open_gap expected (Some highest) = if nat_lt highest expected then None else Some highest
 
 -- the same of a verdict
 abbrev pub settled : Verdict → Verdict
-settled v = record v { link = record v.link { asked = open_gap v.link.want v.link.asked } }
+settled v = record v { link = record v.link { asked = open_gap v.link.expected v.link.asked } }
 
 -- what a message decides
-abbrev pub on_message : Timestamp → House → Link → Result Heading Reject → Result Inbound Reject
-    → Bool → Verdict
+abbrev pub on_message : Timestamp → House → LinkState → Result Heading Reject
+    → Result Inbound Reject → Bool → Verdict
 on_message now t l heading meaning is_logout =
     settled (by_firm now t l l.firm heading meaning is_logout)
 
@@ -200,7 +200,7 @@ waited since now = whole (int_div (now.nanosecond -ℤ since.nanosecond) (pos 1_
 
 -- the first line that holds: no heartbeats were agreed; nothing came for three of them; nothing
 -- came for two, and no TestRequest was sent since; nothing was sent for one
-abbrev pub by_silence : Timestamp → Link → Verdict
+abbrev pub by_silence : Timestamp → LinkState → Verdict
 by_silence now l =
     if l.heartbeat == 0 then silent l
     else (if nat_le (3 * l.heartbeat) (waited l.came now) then closes now l (Some text.NoHeartbeat)
@@ -210,6 +210,6 @@ by_silence now l =
     else silent l)))
 
 -- what a Tick decides: nothing before the Logon
-abbrev pub on_tick : Timestamp → Link → Option (List ℕ) → Verdict
+abbrev pub on_tick : Timestamp → LinkState → Option (List ℕ) → Verdict
 on_tick now l None = silent l
 on_tick now l (Some firm) = by_silence now l

@@ -5,7 +5,7 @@ ghost use Rattle.gu_session.specs.Table.{reset_to as reset_to_of};
 ghost use Rattle.gu_session.specs.Table.{line_by_number as line_by_number_of};
 ghost use Rattle.gu_session.specs.Table.{line_of as line_of_table};
 
-use crate::link::Link;
+use crate::link::LinkState;
 use gu_base::FirmId;
 use gu_message::{Heading, Inbound, Reject};
 
@@ -18,16 +18,16 @@ pub enum TableLine {
     BadHeader,
     /// A SequenceReset without GapFillFlag (123) Y, whatever its number.
     Reset { next: u32 },
-    /// The number is below the wanted one, and the message may have come before.
+    /// The number is below the expected one, and the message may have come before.
     Duplicate,
-    /// The number is below the wanted one.
+    /// The number is below the expected one.
     TooLow,
-    /// The number of a Logout is above the wanted one.
+    /// The number of a Logout is above the expected one.
     LogoutAbove,
-    /// The number is above the wanted one.
+    /// The number is above the expected one.
     Gap { number: u32 },
-    /// The number is the wanted one.
-    Wanted { number: u32 },
+    /// The number is the expected one.
+    Expected { number: u32 },
 }
 
 /// NewSeqNo (36) of a SequenceReset without GapFillFlag (123) Y.
@@ -43,23 +43,28 @@ fn reset_to(meaning: &Result<Inbound, Reject>) -> Option<u32>
 }
 
 /// The line of a message whose header is the session's.
-fn line_by_number(link: &Link, heading: Heading, reset: Option<u32>, is_logout: bool) -> TableLine
+fn line_by_number(
+    link: &LinkState,
+    heading: Heading,
+    reset: Option<u32>,
+    is_logout: bool,
+) -> TableLine
     ensures { result ≡ line_by_number_of link.now heading reset is_logout }
 {
     if let Some(next) = reset {
         TableLine::Reset { next }
-    } else if heading.number < link.want && heading.poss_dup {
+    } else if heading.number < link.expected && heading.poss_dup {
         TableLine::Duplicate
-    } else if heading.number < link.want {
+    } else if heading.number < link.expected {
         TableLine::TooLow
-    } else if link.want < heading.number && is_logout {
+    } else if link.expected < heading.number && is_logout {
         TableLine::LogoutAbove
-    } else if link.want < heading.number {
+    } else if link.expected < heading.number {
         TableLine::Gap {
             number: heading.number,
         }
     } else {
-        TableLine::Wanted {
+        TableLine::Expected {
             number: heading.number,
         }
     }
@@ -67,7 +72,7 @@ fn line_by_number(link: &Link, heading: Heading, reset: Option<u32>, is_logout: 
 
 /// The first line that holds of a message after the Logon of this firm.
 pub fn line_of(
-    link: &Link,
+    link: &LinkState,
     firm: FirmId,
     heading: Result<Heading, Reject>,
     meaning: &Result<Inbound, Reject>,

@@ -5,12 +5,12 @@ ghost use Rattle.std.specs.Prelude.{OnOk, IfOk};
 ghost use Rattle.std.specs.List.{All};
 ghost use Rattle.gu_message.specs.AllocationReport.{ShowsFewParts};
 ghost use Rattle.gu_session.specs.Limits.{past_last};
-ghost use Rattle.gu_session.specs.Steps.{kept_from, report_told, answer_of, tellings};
+ghost use Rattle.gu_session.specs.Steps.{kept_from, report_body, answer_of, reply_bodies};
 ghost use Rattle.gu_session.specs.Steps.{new as new_of, time_of};
 ghost use Rattle.gu_session.specs.Text.{wire};
 
 use crate::kept::KeptMessages;
-use crate::link::{Link, Waiting};
+use crate::link::{LinkState, Waiting};
 use crate::writing::{Writer, write_new};
 use gu_base::{Answer, FirmId, Memory, Report};
 use gu_message::SendingTime;
@@ -34,11 +34,11 @@ pub fn answers(waiting: Option<Waiting>, answer: &Option<Answer>) -> usize
 }
 
 /// Whether so many messages can be numbered.
-pub fn has_numbers(out: u32, answers: usize, reports: usize) -> bool
-    requires { out ≤ past_last }
-    ensures { result ≡ nat_le (out + (answers + reports)) past_last }
+pub fn has_numbers(next: u32, answers: usize, reports: usize) -> bool
+    requires { next ≤ past_last }
+    ensures { result ≡ nat_le (next + (answers + reports)) past_last }
 {
-    let room = (LAST_NUMBER + 1 - out) as usize;
+    let room = (LAST_NUMBER + 1 - next) as usize;
     reports <= room && answers <= room - reports
 }
 
@@ -46,18 +46,18 @@ pub fn has_numbers(out: u32, answers: usize, reports: usize) -> bool
 fn tell_reports(
     fresh: &mut KeptMessages,
     reports: &[Report],
-    out: u32,
+    next: u32,
     moment: Timestamp,
     time: SendingTime,
 ) -> Result<(), Memory>
     requires moment { pos 0 ≤ℤ moment.nanosecond }
     requires time { time ≡ time_of moment }
     requires few { All ShowsFewParts reports.now }
-    requires numbers { out + length reports.now ≤ past_last }
+    requires numbers { next + length reports.now ≤ past_last }
     ensures { OnOk result
-        (fresh.new ≡ fresh.old ++ kept_from time out (map (report_told time) reports.now)) }
+        (fresh.new ≡ fresh.old ++ kept_from time next (map (report_body time) reports.now)) }
 {
-    let mut number = out;
+    let mut number = next;
     for report in reports {
         fresh.push_report(report, number, moment, time)?;
         number += 1;
@@ -66,25 +66,25 @@ fn tell_reports(
 }
 
 /// The messages of a Reply, numbered from this one on.
-fn told(
+fn messages(
     alloc: Global,
     waiting: Option<Waiting>,
     answer: &Option<Answer>,
     reports: &[Report],
-    out: u32,
+    next: u32,
     moment: Timestamp,
     time: SendingTime,
 ) -> Result<KeptMessages, Memory>
     requires moment { pos 0 ≤ℤ moment.nanosecond }
     requires time { time ≡ time_of moment }
     requires few { All ShowsFewParts reports.now }
-    requires numbers { out + (length (answer_of waiting answer.now) + length reports.now)
+    requires numbers { next + (length (answer_of waiting answer.now) + length reports.now)
         ≤ past_last }
     ensures { IfOk result
-        (λ fresh. fresh ≡ kept_from time out (tellings time waiting answer.now reports.now)) }
+        (λ fresh. fresh ≡ kept_from time next (reply_bodies time waiting answer.now reports.now)) }
 {
     let mut fresh = KeptMessages::new(alloc);
-    let mut number = out;
+    let mut number = next;
     if let Some(waiting) = waiting {
         if let Some(answer) = answer {
             fresh.push_answer(waiting, answer, number, time)?;
@@ -100,24 +100,32 @@ pub fn replied(
     alloc: Global,
     house: FirmId,
     firm: FirmId,
-    link: &Link,
+    link: &LinkState,
     answer: &Option<Answer>,
     reports: &[Report],
     moment: Timestamp,
 ) -> Result<(KeptMessages, Vec<u8>), Memory>
     requires moment { pos 0 ≤ℤ moment.nanosecond }
     requires few { All ShowsFewParts reports.now }
-    requires numbers { link.now.out
+    requires numbers { link.now.next
         + (length (answer_of link.now.waiting answer.now) + length reports.now)
         ≤ past_last }
     ensures kept { IfOk result (λ r. r.0
-        ≡ kept_from (time_of moment) link.now.out
-        (tellings (time_of moment) link.now.waiting answer.now reports.now)) }
+        ≡ kept_from (time_of moment) link.now.next
+        (reply_bodies (time_of moment) link.now.waiting answer.now reports.now)) }
     ensures send { IfOk result
         (λ r. r.1.items ≡ wire house (Some firm) (time_of moment) (map new_of r.0)) }
 {
     let time = SendingTime::new(moment);
-    let fresh = told(alloc, link.waiting, answer, reports, link.out, moment, time)?;
+    let fresh = messages(
+        alloc,
+        link.waiting,
+        answer,
+        reports,
+        link.next,
+        moment,
+        time,
+    )?;
     let mut send = Vec::new(alloc);
     write_new(&mut send, &Writer { house, firm, time }, &fresh)?;
     Ok((fresh, send))

@@ -18,7 +18,7 @@ ghost use Rattle.gu_session.specs.Text.{ShowFewParts, Steps, Gives, IsEmpty, wir
 
 use crate::event::{Actions, Event};
 use crate::kept::KeptMessages;
-use crate::link::Link;
+use crate::link::LinkState;
 use crate::replying::{LAST_NUMBER, answers, has_numbers, replied};
 use crate::table::{on_message, on_tick, shut};
 use crate::verdict::Verdict;
@@ -40,7 +40,7 @@ use std::marker::Model;
 pub struct Session<'a> {
     alloc: Global,
     house: &'a House,
-    link: Link,
+    link: LinkState,
     kept: KeptMessages,
 }
 
@@ -95,10 +95,10 @@ fn call_of(number: Option<u32>, meaning: Result<Inbound, Reject>) -> Option<(All
 }
 
 /// Whether all numbers are within their range.
-fn fits(link: &Link) -> bool
+fn fits(link: &LinkState) -> bool
     ensures { result ≡ fits_of link.now }
 {
-    link.out <= LAST_NUMBER + 1 && link.want <= LAST_NUMBER
+    link.next <= LAST_NUMBER + 1 && link.expected <= LAST_NUMBER
 }
 
 /// What stands for the meaning of no message: a Heartbeat asks for nothing.
@@ -163,12 +163,12 @@ impl<'a> Session<'a> {
         Session {
             alloc,
             house,
-            link: Link {
+            link: LinkState {
                 firm: None,
                 closed: false,
                 waiting: None,
-                want: 1,
-                out: 1,
+                expected: 1,
+                next: 1,
                 asked: None,
                 heartbeat: 0,
                 came: never,
@@ -228,9 +228,9 @@ impl<'a> Session<'a> {
     /// MsgSeqNum (34) of the next message that goes out, 1 to 1,000,000,000; no message has the
     /// last. Takes no memory.
     pub fn next_number(&self) -> u32
-        ensures { result ≡ self.now.link.out }
+        ensures { result ≡ self.now.link.next }
     {
-        self.link.out
+        self.link.next
     }
 
     /// Takes a message.
@@ -291,7 +291,7 @@ impl<'a> Session<'a> {
             self.house.house(),
             &self.kept,
             came,
-            self.link.out,
+            self.link.next,
             &verdict,
             moment,
         )?;
@@ -342,7 +342,7 @@ impl<'a> Session<'a> {
         ensures err { OnErr result (self.new ≡ self.old) }
     {
         let link = self.link;
-        if !has_numbers(link.out, answers(link.waiting, answer), reports.len()) {
+        if !has_numbers(link.next, answers(link.waiting, answer), reports.len()) {
             return Ok(self.shut_down());
         }
         let house = self.house.house();
@@ -357,14 +357,14 @@ impl<'a> Session<'a> {
 
     /// Keeps the new application messages, which were sent at this moment. The growth comes first.
     fn keep_fresh(&mut self, fresh: &KeptMessages, moment: Timestamp) -> Result<(), Memory>
-        requires { self.old.link.out + length fresh.now ≤ past_last }
+        requires { self.old.link.next + length fresh.now ≤ past_last }
         ensures ok { OnOk result (self.new ≡ (tells moment self.old fresh.now).after) }
         ensures err { OnErr result (self.new ≡ self.old) }
     {
         let count = fresh.len();
         self.kept.keep(fresh)?;
         self.link.waiting = None;
-        self.link.out += count as u32;
+        self.link.next += count as u32;
         if count > 0 {
             self.link.went = moment;
         }

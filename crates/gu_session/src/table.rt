@@ -14,7 +14,7 @@ ghost use Rattle.gu_session.specs.Table.{on_message as on_message_of, waited as 
 ghost use Rattle.gu_session.specs.Table.{by_silence as by_silence_of, on_tick as on_tick_of};
 
 use crate::line::{TableLine, line_of};
-use crate::link::{Link, Waiting};
+use crate::link::{LinkState, Waiting};
 use crate::verdict::{Say, Span, Verdict};
 use gu_base::{AllocId, FirmId};
 use gu_codec::tags;
@@ -23,7 +23,7 @@ use gu_parties::House;
 use jiff::Timestamp;
 
 /// Nothing is sent.
-fn silent(link: Link) -> Verdict
+fn silent(link: LinkState) -> Verdict
     ensures { result ≡ silent_of link }
 {
     Verdict {
@@ -35,13 +35,13 @@ fn silent(link: Link) -> Verdict
 }
 
 /// One new message.
-fn says(moment: Timestamp, link: Link, say: Say) -> Verdict
-    requires { link.out ≤ past_last }
+fn says(moment: Timestamp, link: LinkState, say: Say) -> Verdict
+    requires { link.next ≤ past_last }
     ensures { result ≡ says_of moment link say }
 {
     Verdict {
-        link: Link {
-            out: link.out + 1,
+        link: LinkState {
+            next: link.next + 1,
             went: moment,
             ..link
         },
@@ -52,13 +52,13 @@ fn says(moment: Timestamp, link: Link, say: Say) -> Verdict
 }
 
 /// A Logout, and the session is closed.
-fn closes(moment: Timestamp, link: Link, text: Option<LogoutText>) -> Verdict
-    requires { link.out ≤ past_last }
+fn closes(moment: Timestamp, link: LinkState, text: Option<LogoutText>) -> Verdict
+    requires { link.next ≤ past_last }
     ensures { result ≡ closes_of moment link text }
 {
     says(
         moment,
-        Link {
+        LinkState {
             closed: true,
             waiting: None,
             ..link
@@ -68,10 +68,10 @@ fn closes(moment: Timestamp, link: Link, text: Option<LogoutText>) -> Verdict
 }
 
 /// The session is closed, and nothing is sent.
-pub fn shut(link: Link) -> Verdict
+pub fn shut(link: LinkState) -> Verdict
     ensures { result ≡ shut_of link }
 {
-    silent(Link {
+    silent(LinkState {
         closed: true,
         waiting: None,
         ..link
@@ -79,8 +79,8 @@ pub fn shut(link: Link) -> Verdict
 }
 
 /// A Reject of NewSeqNo (36).
-fn bad_new_number(moment: Timestamp, link: Link) -> Verdict
-    requires { link.out ≤ past_last }
+fn bad_new_number(moment: Timestamp, link: LinkState) -> Verdict
+    requires { link.next ≤ past_last }
     ensures { result ≡ says_of moment link (Say.Reject (record { reason = 5; tag = 36 })) }
 {
     says(
@@ -100,7 +100,7 @@ fn again(moment: Timestamp, span: Option<Span>, verdict: Verdict) -> Verdict
     match span {
         None => verdict,
         Some(span) => Verdict {
-            link: Link {
+            link: LinkState {
                 went: moment,
                 ..verdict.link
             },
@@ -112,23 +112,23 @@ fn again(moment: Timestamp, span: Option<Span>, verdict: Verdict) -> Verdict
 
 /// The last number that a ResendRequest asks for: 0 and a number past the last sent mean the last
 /// sent.
-fn last_asked(out: u32, to: u32) -> u32
-    ensures value { result ≡ last_asked_of out to }
-    ensures small { result ≤ out }
+fn last_asked(next: u32, to: u32) -> u32
+    ensures value { result ≡ last_asked_of next to }
+    ensures small { result ≤ next }
 {
-    if to == 0 || to >= out {
-        out.saturating_sub(1)
+    if to == 0 || to >= next {
+        next.saturating_sub(1)
     } else {
         to
     }
 }
 
 /// What a ResendRequest asks for, of what was sent.
-fn span(out: u32, from: u32, to: u32) -> Option<Span>
-    requires { out ≤ past_last }
-    ensures { result ≡ span_of out from to }
+fn span(next: u32, from: u32, to: u32) -> Option<Span>
+    requires { next ≤ past_last }
+    ensures { result ≡ span_of next from to }
 {
-    let last = last_asked(out, to);
+    let last = last_asked(next, to);
     if from <= last {
         Some(Span {
             from,
@@ -143,20 +143,20 @@ fn span(out: u32, from: u32, to: u32) -> Option<Span>
 fn first_logon(
     moment: Timestamp,
     house: &House,
-    link: Link,
+    link: LinkState,
     heading: Heading,
     heartbeat: u32,
     reset: bool,
 ) -> Verdict
-    requires { link.out ≤ past_last }
+    requires { link.next ≤ past_last }
     ensures { result ≡ first_logon_of moment house.now link heading heartbeat reset }
 {
     if heading.number == 1 && house.firm(&heading.firm) {
         says(
             moment,
-            Link {
+            LinkState {
                 firm: Some(heading.firm),
-                want: 2,
+                expected: 2,
                 heartbeat,
                 came: moment,
                 ..link
@@ -172,11 +172,11 @@ fn first_logon(
 fn before_logon(
     moment: Timestamp,
     house: &House,
-    link: Link,
+    link: LinkState,
     heading: Result<Heading, Reject>,
     meaning: &Result<Inbound, Reject>,
 ) -> Verdict
-    requires { link.out ≤ past_last }
+    requires { link.next ≤ past_last }
     ensures { result ≡ before_logon_of moment house.now link heading meaning.now }
 {
     match heading {
@@ -191,11 +191,11 @@ fn before_logon(
 }
 
 /// A call is handed out, and waits for its Reply.
-fn hands_out(link: Link, number: u32, trade: bool, id: AllocId) -> Verdict
+fn hands_out(link: LinkState, number: u32, trade: bool, id: AllocId) -> Verdict
     ensures { result ≡ hands_out_of link number trade id }
 {
     Verdict {
-        link: Link {
+        link: LinkState {
             waiting: Some(Waiting { trade, id }),
             ..link
         },
@@ -205,33 +205,38 @@ fn hands_out(link: Link, number: u32, trade: bool, id: AllocId) -> Verdict
     }
 }
 
-/// A reset of the wanted number, which may not fall.
-fn resets(moment: Timestamp, link: Link, next: u32) -> Verdict
-    requires { link.out ≤ past_last }
+/// A reset of the expected number, which may not fall.
+fn resets(moment: Timestamp, link: LinkState, next: u32) -> Verdict
+    requires { link.next ≤ past_last }
     ensures { result ≡ resets_of moment link next }
 {
-    if link.want <= next {
-        silent(Link { want: next, ..link })
+    if link.expected <= next {
+        silent(LinkState {
+            expected: next,
+            ..link
+        })
     } else {
         bad_new_number(moment, link)
     }
 }
 
 /// A gap, which is asked for once.
-fn asks(moment: Timestamp, link: Link, number: u32) -> Verdict
-    requires { link.out ≤ past_last }
+fn asks(moment: Timestamp, link: LinkState, number: u32) -> Verdict
+    requires { link.next ≤ past_last }
     ensures { result ≡ asks_of moment link number link.asked }
 {
     match link.asked {
         None => says(
             moment,
-            Link {
+            LinkState {
                 asked: Some(number),
                 ..link
             },
-            Say::ResendRequest { from: link.want },
+            Say::ResendRequest {
+                from: link.expected,
+            },
         ),
-        Some(highest) => silent(Link {
+        Some(highest) => silent(LinkState {
             asked: Some(highest.max(number)),
             ..link
         }),
@@ -239,20 +244,28 @@ fn asks(moment: Timestamp, link: Link, number: u32) -> Verdict
 }
 
 /// Numbers that are passed over, from the message's own on.
-fn fills(moment: Timestamp, link: Link, number: u32, next: u32) -> Verdict
-    requires { link.out ≤ past_last }
+fn fills(moment: Timestamp, link: LinkState, number: u32, next: u32) -> Verdict
+    requires { link.next ≤ past_last }
     ensures { result ≡ fills_of moment link number next }
 {
     if number < next {
-        silent(Link { want: next, ..link })
+        silent(LinkState {
+            expected: next,
+            ..link
+        })
     } else {
         bad_new_number(moment, link)
     }
 }
 
-/// The message with the wanted number, by its type.
-fn by_type(moment: Timestamp, link: Link, number: u32, meaning: &Result<Inbound, Reject>) -> Verdict
-    requires { link.out ≤ past_last }
+/// The message with the expected number, by its type.
+fn by_type(
+    moment: Timestamp,
+    link: LinkState,
+    number: u32,
+    meaning: &Result<Inbound, Reject>,
+) -> Verdict
+    requires { link.next ≤ past_last }
     ensures { result ≡ by_type_of moment link number meaning.now }
 {
     match meaning {
@@ -264,7 +277,7 @@ fn by_type(moment: Timestamp, link: Link, number: u32, meaning: &Result<Inbound,
         Ok(Inbound::Logon { .. }) => closes(moment, link, Some(LogoutText::SecondLogon)),
         Ok(Inbound::SequenceReset { next, .. }) => fills(moment, link, number, *next),
         Ok(Inbound::ResendRequest { from, to }) => {
-            again(moment, span(link.out, *from, *to), silent(link))
+            again(moment, span(link.next, *from, *to), silent(link))
         }
         Ok(Inbound::Call { trade, id, .. }) => hands_out(link, number, *trade, *id),
     }
@@ -273,12 +286,12 @@ fn by_type(moment: Timestamp, link: Link, number: u32, meaning: &Result<Inbound,
 /// What the line of a message decides.
 fn on_line(
     moment: Timestamp,
-    link: Link,
+    link: LinkState,
     meaning: &Result<Inbound, Reject>,
     line: TableLine,
 ) -> Verdict
-    requires out { link.out ≤ past_last }
-    requires want { link.want ≤ last_number }
+    requires next { link.next ≤ past_last }
+    requires expected { link.expected ≤ last_number }
     ensures { result ≡ on_line_of moment link meaning.now line }
 {
     match line {
@@ -289,18 +302,18 @@ fn on_line(
             moment,
             link,
             Some(LogoutText::NumberTooLow {
-                expected: link.want,
+                expected: link.expected,
             }),
         ),
         TableLine::LogoutAbove => closes(moment, link, None),
         TableLine::Gap { number } => {
-            let span = resend(link.out, meaning);
+            let span = resend(link.next, meaning);
             again(moment, span, asks(moment, link, number))
         }
-        TableLine::Wanted { number } => by_type(
+        TableLine::Expected { number } => by_type(
             moment,
-            Link {
-                want: link.want + 1,
+            LinkState {
+                expected: link.expected + 1,
                 ..link
             },
             number,
@@ -310,34 +323,40 @@ fn on_line(
 }
 
 /// The span of a ResendRequest.
-fn resend(out: u32, meaning: &Result<Inbound, Reject>) -> Option<Span>
-    requires { out ≤ past_last }
-    ensures { result ≡ resend_of out meaning.now }
+fn resend(next: u32, meaning: &Result<Inbound, Reject>) -> Option<Span>
+    requires { next ≤ past_last }
+    ensures { result ≡ resend_of next meaning.now }
 {
     match meaning {
-        Ok(Inbound::ResendRequest { from, to }) => span(out, *from, *to),
+        Ok(Inbound::ResendRequest { from, to }) => span(next, *from, *to),
         _ => None,
     }
 }
 
 /// A message came.
-fn heard(moment: Timestamp, link: Link) -> Link
+fn heard(moment: Timestamp, link: LinkState) -> LinkState
     ensures { result ≡ heard_of moment link }
 {
-    Link {
+    LinkState {
         came: moment,
         tested: false,
         ..link
     }
 }
 
-/// A gap that was asked for is closed as soon as the wanted number is past it.
-fn open_gap(want: u32, asked: Option<u32>) -> Option<u32>
-    ensures { result ≡ open_gap_of want asked }
+/// A gap that was asked for is closed as soon as the expected number is past it.
+fn open_gap(expected: u32, asked: Option<u32>) -> Option<u32>
+    ensures { result ≡ open_gap_of expected asked }
 {
     match asked {
         None => None,
-        Some(highest) => { if highest < want { None } else { Some(highest) } }
+        Some(highest) => {
+            if highest < expected {
+                None
+            } else {
+                Some(highest)
+            }
+        }
     }
 }
 
@@ -346,8 +365,8 @@ fn settled(verdict: Verdict) -> Verdict
     ensures { result ≡ settled_of verdict }
 {
     Verdict {
-        link: Link {
-            asked: open_gap(verdict.link.want, verdict.link.asked),
+        link: LinkState {
+            asked: open_gap(verdict.link.expected, verdict.link.asked),
             ..verdict.link
         },
         ..verdict
@@ -358,13 +377,13 @@ fn settled(verdict: Verdict) -> Verdict
 pub fn on_message(
     moment: Timestamp,
     house: &House,
-    link: Link,
+    link: LinkState,
     heading: Result<Heading, Reject>,
     meaning: &Result<Inbound, Reject>,
     is_logout: bool,
 ) -> Verdict
-    requires out { link.out ≤ past_last }
-    requires want { link.want ≤ last_number }
+    requires next { link.next ≤ past_last }
+    requires expected { link.expected ≤ last_number }
     ensures { result ≡ on_message_of moment house.now link heading meaning.now is_logout }
 {
     let verdict = match link.firm {
@@ -386,8 +405,8 @@ fn waited(since: Timestamp, moment: Timestamp) -> u64
 }
 
 /// What the passing of time decides after the Logon.
-fn by_silence(moment: Timestamp, link: Link) -> Verdict
-    requires { link.out ≤ past_last }
+fn by_silence(moment: Timestamp, link: LinkState) -> Verdict
+    requires { link.next ≤ past_last }
     ensures { result ≡ by_silence_of moment link }
 {
     let heartbeat = u64::from(link.heartbeat);
@@ -400,7 +419,7 @@ fn by_silence(moment: Timestamp, link: Link) -> Verdict
     } else if 2 * heartbeat <= came && !link.tested {
         says(
             moment,
-            Link {
+            LinkState {
                 tested: true,
                 ..link
             },
@@ -414,8 +433,8 @@ fn by_silence(moment: Timestamp, link: Link) -> Verdict
 }
 
 /// What the passing of time decides.
-pub fn on_tick(moment: Timestamp, link: Link) -> Verdict
-    requires { link.out ≤ past_last }
+pub fn on_tick(moment: Timestamp, link: LinkState) -> Verdict
+    requires { link.next ≤ past_last }
     ensures { result ≡ on_tick_of moment link link.firm }
 {
     match link.firm {

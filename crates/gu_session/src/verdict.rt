@@ -1,6 +1,6 @@
 //! What an event decides.
 
-use crate::link::Link;
+use crate::link::LinkState;
 use gu_message::{LogoutText, Reject, TestReqId};
 
 /// Numbers to be sent again: from one up to another, which isn't sent.
@@ -26,7 +26,7 @@ pub enum Say {
 /// that, and the number of the message whose call is handed out.
 #[derive(Clone, Copy)]
 pub struct Verdict {
-    pub link: Link,
+    pub link: LinkState,
     pub resend: Option<Span>,
     pub say: Option<Say>,
     pub call: Option<u32>,

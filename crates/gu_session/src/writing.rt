@@ -7,13 +7,13 @@ ghost use Rattle.gu_codec.specs.Limits.{longest_body};
 ghost use Rattle.gu_codec.specs.Writing.{IsText, fields_text};
 ghost use Rattle.gu_codec.specs.Answer.{pairs};
 ghost use Rattle.gu_session.specs.Going.{type_of_say as type_of_say_lem, fields_of_say};
-ghost use Rattle.gu_session.specs.Going.{type_of_told, said};
+ghost use Rattle.gu_session.specs.Going.{type_of_app, said};
 ghost use Rattle.gu_session.specs.Steps.{gap_fill as gap_fill_of, with_gaps, within, resends};
 ghost use Rattle.gu_session.specs.Steps.{sayings, new as new_of};
 ghost use Rattle.gu_session.specs.Text.{text_of, fields_of};
 ghost use Rattle.gu_session.specs.Keeping.{Kept, kept_with, messages, total};
 
-use crate::kept::{Entry, KeptMessages, type_of};
+use crate::kept::{KeptEntry, KeptMessages, type_of};
 use crate::verdict::{Say, Span};
 use gu_base::{FirmId, Memory};
 use gu_codec::{Fields, Header, write_frame};
@@ -131,7 +131,7 @@ fn write_say(
 fn write_kept(
     out: &mut Vec<u8>,
     writer: &Writer,
-    entry: &Entry,
+    entry: &KeptEntry,
     body: &[u8],
     first: Option<SendingTime>,
 ) -> Result<(), Memory>
@@ -139,14 +139,14 @@ fn write_kept(
     ensures { OnOk result
         (out.new.items ≡ out.old.items
         ++ text_of writer.now.house writer.now.firm writer.now.time (record {
-          kind = type_of_told entry.now.told;
+          kind = type_of_app entry.now.kind;
           number = entry.now.number;
           next = entry.now.number + 1;
           first = first;
           body = body.now;
         })) }
 {
-    write(out, writer, type_of(entry.told), entry.number, first, body)
+    write(out, writer, type_of(entry.kind), entry.number, first, body)
 }
 
 /// Appends one SequenceReset for the numbers from one up to another, if there are any.
@@ -183,7 +183,7 @@ fn write_one_again(
     alloc: Global,
     out: &mut Vec<u8>,
     writer: &Writer,
-    entry: &Entry,
+    entry: &KeptEntry,
     body: &[u8],
     span: Span,
     next: u32,
@@ -215,7 +215,7 @@ fn write_again(
     alloc: Global,
     out: &mut Vec<u8>,
     writer: &Writer,
-    entries: &VecDeque<Entry>,
+    entries: &VecDeque<KeptEntry>,
     bodies: &[u8],
     span: Span,
 ) -> Result<(), Memory>
@@ -282,7 +282,7 @@ pub fn write_saying(
 fn write_fresh(
     out: &mut Vec<u8>,
     writer: &Writer,
-    entries: &VecDeque<Entry>,
+    entries: &VecDeque<KeptEntry>,
     bodies: &[u8],
 ) -> Result<(), Memory>
     requires { total entries.now.items ≡ length bodies.now }

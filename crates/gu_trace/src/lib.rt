@@ -31,4 +31,4 @@ pub use gu_base::{Report, ReportPart, ReportParts, Target};
 pub use index::ConcernIndex;
 pub use laws::{an_index_stays, nothing_is_passed_over};
 pub use sums::totals;
-pub use telling::reports;
+pub use telling::{MOST_REPORTS, reports};

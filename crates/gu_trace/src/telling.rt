@@ -24,8 +24,8 @@ use gu_base::{
 use gu_book::Book;
 use std::alloc::Global;
 
-/// The reports of one reading.
-const MOST_REPORTS: usize = 100;
+/// How many reports a reading has at most.
+pub const MOST_REPORTS: usize = 100;
 
 /// What kind of report it is.
 #[derive(Clone, Copy)]

@@ -41,7 +41,7 @@ pub(crate) struct Client<'a, J: Job> {
     /// The firm for whose connection it counts.
     counted: Option<FirmId>,
     /// Whether no firm has logged on.
-    strange: bool,
+    unnamed: bool,
     /// Whether it stands among those that have something to be sent, and among those that have a
     /// turn without being asked.
     sends: bool,
@@ -79,7 +79,7 @@ pub(crate) fn open_client<'a, J: Job, R: Clock, G>(
         heard: second,
         speaks: false,
         counted: None,
-        strange: true,
+        unnamed: true,
         sends: false,
         hurries: false,
         visit,
@@ -121,14 +121,14 @@ impl<'a, J: Job> Client<'a, J> {
     }
 
     /// Whether no firm has logged on.
-    pub(crate) fn is_strange(&self) -> bool {
-        self.strange
+    pub(crate) fn is_unnamed(&self) -> bool {
+        self.unnamed
     }
 
     /// Whether a firm has logged on since this was asked last.
     pub(crate) fn has_logged_on(&mut self) -> bool {
-        let has = self.strange && self.connection.firm().is_some();
-        self.strange = self.strange && !has;
+        let has = self.unnamed && self.connection.firm().is_some();
+        self.unnamed = self.unnamed && !has;
         has
     }
 

@@ -14,7 +14,7 @@ pub(crate) struct Clients<'a, J: Job> {
     free: Vec<usize>,
     open: usize,
     /// The places of those without a Logon, in the order in which they came.
-    strangers: VecDeque<usize>,
+    unnamed: VecDeque<usize>,
     /// The places of those that have something to be sent.
     pub(crate) sending: Vec<usize>,
     /// The places of those that are sent something now.
@@ -30,7 +30,7 @@ impl<'a, J: Job> Clients<'a, J> {
             places: Vec::new(alloc),
             free: Vec::new(alloc),
             open: 0,
-            strangers: VecDeque::new(alloc),
+            unnamed: VecDeque::new(alloc),
             sending: Vec::new(alloc),
             to_send: Vec::new(alloc),
             hurried: Vec::new(alloc),
@@ -57,7 +57,7 @@ impl<'a, J: Job> Clients<'a, J> {
             && self.to_send.reserve(most).is_ok()
             && self.hurried.reserve(most).is_ok()
             && self.free.reserve(most).is_ok()
-            && self.strangers.reserve(most).is_ok()
+            && self.unnamed.reserve(most).is_ok()
     }
 
     /// A place that no connection has.
@@ -90,7 +90,7 @@ impl<'a, J: Job> Clients<'a, J> {
             Ok(at) => {
                 drop(self.put(at, Some(client)));
                 self.open = self.open.saturating_add(1);
-                let _ = self.strangers.push_back(at);
+                let _ = self.unnamed.push_back(at);
                 Ok(at)
             }
             Err(closed) => {
@@ -121,40 +121,40 @@ impl<'a, J: Job> Clients<'a, J> {
     }
 
     /// How many are without a Logon.
-    pub(crate) fn strangers(&self) -> usize {
-        self.strangers.len()
+    pub(crate) fn unnamed(&self) -> usize {
+        self.unnamed.len()
     }
 
     /// The place of the one without a Logon that came first.
-    pub(crate) fn oldest_stranger(&self) -> Option<usize> {
-        self.strangers.front().copied()
+    pub(crate) fn oldest_unnamed(&self) -> Option<usize> {
+        self.unnamed.front().copied()
     }
 
     /// Takes a place out of those without a Logon.
     fn forget(&mut self, at: usize) {
-        if let Some(index) = self.strangers.iter().position(|it| *it == at) {
-            let _ = self.strangers.remove(index);
+        if let Some(index) = self.unnamed.iter().position(|it| *it == at) {
+            let _ = self.unnamed.remove(index);
         }
     }
 
     /// Takes the one at a place out of those without a Logon, if it has logged on.
-    pub(crate) fn greet(&mut self, at: usize) {
-        let greets = match self.places.get_mut(at) {
+    pub(crate) fn note_logon(&mut self, at: usize) {
+        let has_logged_on = match self.places.get_mut(at) {
             Some(Some(client)) => client.has_logged_on(),
             _ => false,
         };
-        if greets {
+        if has_logged_on {
             self.forget(at);
         }
     }
 
     /// Closes the connection at a place: whether there was one.
     pub(crate) fn close(&mut self, at: usize) -> bool {
-        let strange = match self.at(at) {
-            Some(client) => client.is_strange(),
+        let unnamed = match self.at(at) {
+            Some(client) => client.is_unnamed(),
             None => return false,
         };
-        if strange {
+        if unnamed {
             self.forget(at);
         }
         // The system drops the descriptor from the poll when it is closed.

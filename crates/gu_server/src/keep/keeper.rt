@@ -36,7 +36,7 @@ const MOST_TAKEN: usize = 64;
 
 /// How many connections of a worker may be without a Logon. Where there are more, the one that came
 /// first is closed.
-const MOST_STRANGERS: usize = 256;
+const MOST_UNNAMED: usize = 256;
 
 /// A worker, and what it has for its connections.
 #[derive(Drop)]
@@ -144,13 +144,13 @@ impl<'a, K: Record, J: Job, R: Wait + Clock, G: Gate> Keeper<'a, K, J, R, G> {
         if !watched {
             self.close(clients, at, second, Some("not watched"));
         }
-        self.close_strangers(clients, MOST_STRANGERS, second);
+        self.close_unnamed(clients, MOST_UNNAMED, second);
     }
 
     /// Closes those without a Logon that came first, until there are at most so many.
-    fn close_strangers(&self, clients: &mut Clients<'a, J>, most: usize, second: u64) {
-        for _ in most..clients.strangers() {
-            let Some(at) = clients.oldest_stranger() else {
+    fn close_unnamed(&self, clients: &mut Clients<'a, J>, most: usize, second: u64) {
+        for _ in most..clients.unnamed() {
+            let Some(at) = clients.oldest_unnamed() else {
                 return;
             };
             self.close(clients, at, second, Some("too many without a Logon"));
@@ -160,8 +160,8 @@ impl<'a, K: Record, J: Job, R: Wait + Clock, G: Gate> Keeper<'a, K, J, R, G> {
     /// Closes half of those without a Logon, if descriptors lack. The one that came last stays.
     fn make_way(&self, clients: &mut Clients<'a, J>, second: u64) {
         if self.bell.lacks.swap(false, Ordering::SeqCst) {
-            let all = clients.strangers();
-            self.close_strangers(clients, all.saturating_sub(all / 2), second);
+            let all = clients.unnamed();
+            self.close_unnamed(clients, all.saturating_sub(all / 2), second);
         }
     }
 
@@ -258,7 +258,7 @@ impl<'a, K: Record, J: Job, R: Wait + Clock, G: Gate> Keeper<'a, K, J, R, G> {
             self.end_turn(client, before, piece);
             over = client.is_over();
         }
-        clients.greet(at);
+        clients.note_logon(at);
         clients.list(at);
         if over {
             self.close(clients, at, second, ended_by(clients.at(at)));

@@ -1,5 +1,5 @@
 use Rattle.std.proofs.Common.{take}
-use Rattle.gu_batch.proofs.Sofar.{held_right, write_fails}
+use Rattle.gu_batch.proofs.ReadSoFar.{held_right, write_fails}
 use Rattle.gu_batch.proofs.batch.answer_read.Goals as goal
 
 pub returns-in-Ok : goal.returns-in-Ok

@@ -1,7 +1,7 @@
 use Rattle.std.proofs.Common.{arith}
 use Rattle.gu_codec.proofs.Streams.{front_len}
-use Rattle.gu_batch.proofs.Sofar.{memory_first, sofar_fresh, numbered_with, short_with, after_nothing, after_bytes}
-use Rattle.gu_batch.proofs.Sofar.{fault_right, limit_right, end_as, piece_right}
+use Rattle.gu_batch.proofs.ReadSoFar.{memory_first, none_read_yet, numbered_with, short_with, after_nothing}
+use Rattle.gu_batch.proofs.ReadSoFar.{after_bytes, fault_right, limit_right, end_as, piece_right}
 use Rattle.gu_batch.proofs.batch.answer_reads.Goals.{in-Nothing, in-Bytes+in-Ok-answer_read}
 use Rattle.gu_batch.proofs.batch.answer_reads.Goals as goal
 
@@ -10,7 +10,7 @@ returns-in_default g c = memory_first c.args.answering.now.house _
 
 pub reads-init : goal.reads-init
 reads-init g c =
-    sofar_fresh _ c.args.answering.now c.in-Ok.feed c.requires.fresh c.in-Ok.ensures.0 c.in-Ok.ensures.1
+    none_read_yet _ c.args.answering.now c.in-Ok.feed c.requires.fresh c.in-Ok.ensures.0 c.in-Ok.ensures.1
     c.in-Ok.ensures.2
 
 pub fill-requires-clause-room : goal.fill-requires-clause-room

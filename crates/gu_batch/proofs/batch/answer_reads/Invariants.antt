@@ -1,9 +1,9 @@
-use Rattle.gu_batch.proofs.Sofar.{Sofar}
+use Rattle.gu_batch.proofs.ReadSoFar.{ReadSoFar}
 use Rattle.gu_batch.proofs.batch.answer_reads.Given as goal
 
 abbrev pub invariant-reads : goal.invariant-reads
 invariant-reads g l =
-    Sofar l.initial.answering.house
+    ReadSoFar l.initial.answering.house
     (record {
       left = g.R.Source.remaining l.initial.reader;
       made = g.R.Source.made l.initial.reader;

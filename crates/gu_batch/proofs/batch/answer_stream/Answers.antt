@@ -1,4 +1,4 @@
-use Rattle.gu_batch.proofs.Sofar.{memory_first}
+use Rattle.gu_batch.proofs.ReadSoFar.{memory_first}
 use Rattle.gu_batch.proofs.batch.answer_stream.Goals as goal
 
 -- the opening calls found no memory, and nothing was read

@@ -7,9 +7,9 @@ use Rattle.gu_server.proofs.laws.what_was_told_comes_back.Goals as goal
 pub returns-clause-comes_back : goal.returns-clause-comes_back
 returns-clause-comes_back g c =
     let file = g.E.Disk.seen c.args.found.disk in
-    let told = (c.keeps_told.ensures.kept c.requires.honest).left file c.requires.left in
+    let told = (c.keeps_told.ensures.kept c.requires.clean).left file c.requires.left in
     let same = c.requires.house ∙ sym c.keeps_told.ensures.house in
     IfOk-weaker c.recover.result _ _
-    (λ r book honest. comes_back c.args.found.house c.args.recorder.now.journal.house file r.book.history
-    c.args.told.seen same (book honest) told)
+    (λ r book right. comes_back c.args.found.house c.args.recorder.now.journal.house file r.book.history
+    c.args.told.seen same (book right) told)
     c.recover.ensures.book

@@ -12,11 +12,11 @@ returns-clause-ok c =
     let came = fields_of c.args.came in
     let house =
     ap (λ (h : List ℕ).
-    wire h v.link.firm time (resends time c.self.inside.kept v.resend ++ sayings came c.self.inside.link.out v.say))
+    wire h v.link.firm time (resends time c.self.inside.kept v.resend ++ sayings came c.self.inside.link.next v.say))
     c.house.ensures in
     let seen =
     ap
-    (λ (t : Seen). wire t.house.house v.link.firm time (resends time t.kept v.resend ++ sayings came t.link.out v.say))
+    (λ (t : Seen). wire t.house.house v.link.firm time (resends time t.kept v.resend ++ sayings came t.link.next v.say))
     c.self.view_is in
     act_gives c.args.moment c.args.self.now _ came (call_of c.args.meaning v.call) v _ within
     (ap (λ (t : Seen). record t { link = v.link }) c.self.view_is) (c.in_ok-send.ensures ∙ house ∙ seen)

@@ -2,25 +2,25 @@ use Rattle.std.proofs.Common.{◌≡◌, ℕ, ◌+◌, ◌<◌, ◌≤◌, true,
 use Rattle.std.specs.Prelude.{Some, nat_le}
 use Rattle.std.proofs.lemmas.Bool.Decides.{nat_tests}
 use Rattle.gu_session.specs.Keeping.{Kept}
-use Rattle.gu_session.specs.declared.link.Link.{Link}
-use Rattle.gu_session.specs.Steps.{Seen, fits, tells, kept_from, tellings, new, time_of}
+use Rattle.gu_session.specs.declared.link.LinkState.{LinkState}
+use Rattle.gu_session.specs.Steps.{Seen, fits, tells, kept_from, reply_bodies, new, time_of}
 use Rattle.gu_session.specs.Text.{wire}
-use Rattle.gu_session.proofs.Giving.{shut_gives, tells_give, length_tellings, tells_too_many}
+use Rattle.gu_session.proofs.Giving.{shut_gives, tells_give, length_bodies, tells_too_many}
 use Rattle.gu_session.proofs.session.Session.tell.Goals.{After-has_numbers}
 use Rattle.gu_session.proofs.session.Session.tell.Goals as goal
 
 -- the messages that tell the answer and the reports, and whether there are numbers for them
-abbrev told : After-has_numbers → List Kept
-told c =
-    kept_from (time_of c.args.moment) c.args.self.now.link.out
-    (tellings (time_of c.args.moment) c.args.self.now.link.waiting c.args.answer.now c.args.reports.now)
+abbrev fresh : After-has_numbers → List Kept
+fresh c =
+    kept_from (time_of c.args.moment) c.args.self.now.link.next
+    (reply_bodies (time_of c.args.moment) c.args.self.now.link.waiting c.args.answer.now c.args.reports.now)
 
 has_room : (c : After-has_numbers)
-    → c.has_numbers.result ≡ nat_le (c.args.self.now.link.out + length (told c)) 1000000000
+    → c.has_numbers.result ≡ nat_le (c.args.self.now.link.next + length (fresh c)) 1000000000
 has_room c =
     let s = c.args.self.now in
     let link : c.self.inside.link ≡ s.link = ap (λ (t : Seen). t.link) c.self.view_is in
-    let len = length_tellings (time_of c.args.moment) s.link.out s.link.waiting c.args.answer.now c.args.reports.now in
+    let len = length_bodies (time_of c.args.moment) s.link.next s.link.waiting c.args.answer.now c.args.reports.now in
     let answers = rw link at c.answers.ensures in
     let has = rw link at c.has_numbers.ensures in
     grind (arith, nat_tests, len, answers, has)
@@ -28,9 +28,9 @@ has_room c =
 pub returns-then-not-has_numbers-clause-ok : goal.returns-then-not-has_numbers-clause-ok
 returns-then-not-has_numbers-clause-ok c =
     let s = c.args.self.now in
-    let ms = told (goal.at.returns-then-not-has_numbers-clause-ok c).After-has_numbers in
+    let ms = fresh (goal.at.returns-then-not-has_numbers-clause-ok c).After-has_numbers in
     let has = has_room (goal.at.returns-then-not-has_numbers-clause-ok c).After-has_numbers in
-    let many : 1000000000 < s.link.out + length ms = grind (arith, nat_tests, has, c.if-not-has_numbers.true) in
+    let many : 1000000000 < s.link.next + length ms = grind (arith, nat_tests, has, c.if-not-has_numbers.true) in
     shut_gives c.args.moment s (tells c.args.moment s ms) _ _ (tells_too_many c.args.moment s ms many)
     c.shut_down.ensures.session c.shut_down.ensures.actions
 
@@ -46,11 +46,11 @@ returns-clause-ok c =
     let s = c.args.self.now in
     let link : c.self.inside.link ≡ s.link = ap (λ (t : Seen). t.link) c.self.view_is in
     let time : List ℕ = time_of c.args.moment in
-    let ms = told (goal.at.returns-clause-ok c).After-has_numbers in
+    let ms = fresh (goal.at.returns-clause-ok c).After-has_numbers in
     let has = has_room (goal.at.returns-clause-ok c).After-has_numbers in
     let fresh : c.in_ok-fresh.fresh ≡ ms = rw link at c.in_ok-fresh.ensures.kept in
-    let fits_before : fits s.link ≡ true = subst (λ (l : Link). fits l ≡ true) link c.self.invariant in
-    let few : s.link.out + length ms ≤ 1000000000 = grind (arith, nat_tests, has, c.if-not-has_numbers.false) in
+    let fits_before : fits s.link ≡ true = subst (λ (l : LinkState). fits l ≡ true) link c.self.invariant in
+    let few : s.link.next + length ms ≤ 1000000000 = grind (arith, nat_tests, has, c.if-not-has_numbers.false) in
     let house =
     ap (λ (h : List ℕ). wire h (Some c.args.firm) time (map new c.in_ok-fresh.fresh)) c.house-house.ensures in
     let seen =

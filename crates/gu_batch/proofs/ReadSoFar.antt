@@ -21,7 +21,7 @@ use Rattle.gu_batch.proofs.Outputs.{begun, output_so, behind_so, begun_so, prefi
 use Rattle.gu_batch.proofs.Holding.{leads_begun}
 
 -- what was read and written in so many turns, and how whatever comes later completes it
-pub record Sofar (house : House) (old new : Told) (p : Progress) (f : Stream) (total turns : ℕ) : Type 0 where
+pub record ReadSoFar (house : House) (old new : Told) (p : Progress) (f : Stream) (total turns : ℕ) : Type 0 where
   pub bytes : List ℕ
   pub out : List ℕ
   pub consumed : Consumes old.left new.left bytes
@@ -77,9 +77,9 @@ write_fails p q f g out n r old new h k = (
 
 -- ---- the loop
 
-pub sofar_first : (house : House) (old : Told) (f : Stream) → f.held ≡ [] → f.passed ≡ 0 → f.broken ≡ None
-    → Sofar house old old (start house) f 0 0
-sofar_first house old f e z b = record {
+pub none_read : (house : House) (old : Told) (f : Stream) → f.held ≡ [] → f.passed ≡ 0 → f.broken ≡ None
+    → ReadSoFar house old old (start house) f 0 0
+none_read house old f e z b = record {
   bytes = [];
   out = [];
   consumed = Consumes-nil old.left;
@@ -102,7 +102,7 @@ sofar_first house old f e z b = record {
 
 -- what the bytes of a piece are answered by
 carries : (house : House) (old new : Told) (p : Progress) (f : Stream) (total turns : ℕ)
-    (now : Sofar house old new p f total turns) (piece later : List ℕ) (end : Option End) (more : List ℕ)
+    (now : ReadSoFar house old new p f total turns) (piece later : List ℕ) (end : Option End) (more : List ℕ)
     → Answers p f.passed ((f.held ++ piece) ++ later) end more
     → Answers (start house) 0 ((now.bytes ++ piece) ++ later) end (now.out ++ more)
 carries house old new p f total turns now piece later end more h =
@@ -112,7 +112,7 @@ carries house old new p f total turns now piece later end more h =
 
 -- the stream goes no further
 carries_all : (house : House) (old new : Told) (p : Progress) (f : Stream) (total turns : ℕ)
-    (now : Sofar house old new p f total turns) (piece : List ℕ) (end : Option End) (more : List ℕ)
+    (now : ReadSoFar house old new p f total turns) (piece : List ℕ) (end : Option End) (more : List ℕ)
     → ((later : List ℕ) → Answers p f.passed ((f.held ++ piece) ++ later) end more)
     → Answers (start house) 0 (now.bytes ++ piece) end (now.out ++ more)
 carries_all house old new p f total turns now piece end more h =
@@ -121,7 +121,7 @@ carries_all house old new p f total turns now piece end more h =
 
 -- no frame more, and this end
 ends_so : (house : House) (old new : Told) (p : Progress) (f : Stream) (total turns : ℕ)
-    (now : Sofar house old new p f total turns) (end : Option End) → Ends f.passed f.held end
+    (now : ReadSoFar house old new p f total turns) (end : Option End) → Ends f.passed f.held end
     → Answers (start house) 0 now.bytes end now.out
 ends_so house old new p f total turns now end h =
     let all = now.goes [] end [] ([], subst (λ (t : List ℕ). Ends f.passed t end) (sym (append-nil f.held)) h, refl) in
@@ -130,7 +130,7 @@ ends_so house old new p f total turns now end h =
 
 -- what was written is the output of what was read
 written_so : (house : House) (old new : Told) (p : Progress) (f : Stream) (total turns : ℕ)
-    (now : Sofar house old new p f total turns) → now.out ≡ output_of house now.bytes
+    (now : ReadSoFar house old new p f total turns) → now.out ≡ output_of house now.bytes
 written_so house old new p f total turns now = choose f.held refl
   where
     choose : (t : List ℕ) → f.held ≡ t → now.out ≡ output_of house now.bytes
@@ -142,7 +142,7 @@ written_so house old new p f total turns now = choose f.held refl
 
 -- where no byte is held any more, the progress is that behind what was read
 pub behind_all : (house : House) (old new : Told) (p : Progress) (f : Stream) (total turns : ℕ)
-    (now : Sofar house old new p f total turns) → f.held ≡ [] → p ≡ progress_of house now.bytes
+    (now : ReadSoFar house old new p f total turns) → f.held ≡ [] → p ≡ progress_of house now.bytes
 behind_all house old new p f total turns now e =
     let all = now.plays [] (Some Clean) p ([], append-nil f.held ∙ e, refl) in
     behind_so house now.bytes p Clean
@@ -173,9 +173,9 @@ no_more a b c bytes piece p q e =
 
 -- a read that brought nothing
 pub after_nothing : (house : House) (old now : Told) (p : Progress) (f g : Stream) (total turns : ℕ)
-    (left : Option (List ℕ)) (made failed : ℕ) → Sofar house old now p f total turns
+    (left : Option (List ℕ)) (made failed : ℕ) → ReadSoFar house old now p f total turns
     → Fills now.left left now.reads_failed failed f g came.Nothing → CountsOne now.made made
-    → Sofar house old
+    → ReadSoFar house old
     (record {
       left = left;
       made = made;
@@ -208,10 +208,10 @@ after_nothing house old now p f g total turns left made failed k r one =
 -- a piece that was answered
 pub after_bytes : (house : House) (old now : Told) (p q : Progress) (f g h : Stream) (total turns count : ℕ)
     (left contents : Option (List ℕ)) (made failed writes_failed : ℕ) (out : List ℕ)
-    → Sofar house old now p f total turns → Fills now.left left now.reads_failed failed f g (came.Bytes count)
+    → ReadSoFar house old now p f total turns → Fills now.left left now.reads_failed failed f g (came.Bytes count)
     → CountsOne now.made made → LeadsTo p g q h out × IsFront h.held → Appends now.contents contents out
     → now.writes_failed ≤ writes_failed
-    → Sofar house old
+    → ReadSoFar house old
     (record { left = left; made = made; reads_failed = failed; contents = contents; writes_failed = writes_failed }) q h
     (total + count) (turns + 1)
 after_bytes house old now p q f g h total turns count left contents made failed writes_failed out k r one l a w =
@@ -252,7 +252,7 @@ more_fails a b c le k = record {
 
 -- a read that failed
 pub fault_right : (house : House) (old now : Told) (p : Progress) (f g : Stream) (total turns : ℕ)
-    (left : Option (List ℕ)) (made failed : ℕ) → Sofar house old now p f total turns
+    (left : Option (List ℕ)) (made failed : ℕ) → ReadSoFar house old now p f total turns
     → Fills now.left left now.reads_failed failed f g came.Fault
     → RunsTo house old
     (record {
@@ -277,7 +277,7 @@ fault_right house old now p f g total turns left made failed k r = record {
 
 -- too many reads
 pub limit_right : (house : House) (old now : Told) (p : Progress) (f : Stream) (total turns : ℕ)
-    → turns ≡ 16777216 → Sofar house old now p f total turns → RunsTo house old now (Err error.Read)
+    → turns ≡ 16777216 → ReadSoFar house old now p f total turns → RunsTo house old now (Err error.Read)
 limit_right house old now p f total turns e k = record {
   bytes = k.bytes;
   out = k.out;
@@ -292,7 +292,7 @@ limit_right house old now p f total turns e k = record {
 
 -- the end of the stream
 ending : (house : House) (old now : Told) (p : Progress) (f : Stream) (total turns : ℕ) (left : Option (List ℕ))
-    (made failed : ℕ) (k : Sofar house old now p f total turns) (r : Result (Unit {0}) RunError) → IsAtEnd left
+    (made failed : ℕ) (k : ReadSoFar house old now p f total turns) (r : Result (Unit {0}) RunError) → IsAtEnd left
     → EndsAs f r
     → IsRight {A = Unit {0}} house old
     (record {
@@ -323,7 +323,7 @@ ended f g piece r e p h = subst (λ (x : Stream). EndsAs x r) (same_feed f g pie
 
 -- the stream ended well
 pub end_right : (house : House) (old now : Told) (p : Progress) (f g : Stream) (total turns : ℕ)
-    (left : Option (List ℕ)) (made failed : ℕ) (x : Unit {0}) → Sofar house old now p f total turns
+    (left : Option (List ℕ)) (made failed : ℕ) (x : Unit {0}) → ReadSoFar house old now p f total turns
     → Fills now.left left now.reads_failed failed f g came.End → EndsAs {A = Unit {0}} g (Ok x)
     → RunsTo house old
     (record {
@@ -347,7 +347,7 @@ end_right house old now p f g total turns left made failed x k r h =
 
 -- and not so well
 pub end_wrong : (house : House) (old now : Told) (p : Progress) (f g : Stream) (total turns : ℕ)
-    (left : Option (List ℕ)) (made failed : ℕ) (e : RunError) → Sofar house old now p f total turns
+    (left : Option (List ℕ)) (made failed : ℕ) (e : RunError) → ReadSoFar house old now p f total turns
     → Fills now.left left now.reads_failed failed f g came.End → EndsAs {A = Unit {0}} g (Err e)
     → RunsTo house old
     (record {
@@ -370,7 +370,7 @@ end_wrong house old now p f g total turns left made failed e k r h = record {
 
 -- where answering the last piece failed
 failing : (house : House) (old now new : Told) (p : Progress) (f : Stream) (total turns : ℕ)
-    (k : Sofar house old now p f total turns) (piece out : List ℕ) (e : RunError)
+    (k : ReadSoFar house old now p f total turns) (piece out : List ℕ) (e : RunError)
     → PieceFails p (record f { held = f.held ++ piece }) out now.writes_failed new.writes_failed e
     → IsRightFor house old new (k.bytes ++ piece) (k.out ++ out) e
 failing house old now new p f total turns k piece out (error.Broken n) h =
@@ -392,7 +392,7 @@ failing house old now new p f total turns k piece out error.Memory h =
 
 -- however the stream ends
 pub end_as : (house : House) (old now : Told) (p : Progress) (f g : Stream) (total turns : ℕ) (left : Option (List ℕ))
-    (made failed : ℕ) (x : Result (Unit {0}) RunError) → Sofar house old now p f total turns
+    (made failed : ℕ) (x : Result (Unit {0}) RunError) → ReadSoFar house old now p f total turns
     → Fills now.left left now.reads_failed failed f g came.End → EndsAs g x
     → RunsTo house old
     (record {
@@ -409,14 +409,14 @@ end_as house old now p f g total turns left made failed (Err e) k r h =
     end_wrong house old now p f g total turns left made failed e k r h
 
 -- nothing was read: what is to be answered is answered from here on
-pub sofar_fresh : (old : Told) (p : Progress) (f : Stream) → p ≡ start p.house → f.held ≡ [] → f.passed ≡ 0
-    → f.broken ≡ None → Sofar p.house old old p f 0 0
-sofar_fresh old p f fresh e z b =
-    subst (λ (x : Progress). Sofar p.house old old x f 0 0) (sym fresh) (sofar_first p.house old f e z b)
+pub none_read_yet : (old : Told) (p : Progress) (f : Stream) → p ≡ start p.house → f.held ≡ [] → f.passed ≡ 0
+    → f.broken ≡ None → ReadSoFar p.house old old p f 0 0
+none_read_yet old p f fresh e z b =
+    subst (λ (x : Progress). ReadSoFar p.house old old x f 0 0) (sym fresh) (none_read p.house old f e z b)
 
 pub piece_right : (house : House) (old now : Told) (p : Progress) (f g : Stream) (total turns count : ℕ)
     (left contents : Option (List ℕ)) (made failed writes_failed : ℕ) (out : List ℕ) (e : RunError)
-    → Sofar house old now p f total turns → Fills now.left left now.reads_failed failed f g (came.Bytes count)
+    → ReadSoFar house old now p f total turns → Fills now.left left now.reads_failed failed f g (came.Bytes count)
     → PieceFails p g out now.writes_failed writes_failed e → Appends now.contents contents out
     → RunsTo house old
     (record { left = left; made = made; reads_failed = failed; contents = contents; writes_failed = writes_failed })
@@ -435,12 +435,12 @@ piece_right house old now p f g total turns count left contents made failed writ
 
 -- what a piece needs: as many numbers as bytes, and few of them
 pub numbered_with : (house : House) (old now : Told) (p : Progress) (f g : Stream) (total turns : ℕ)
-    (left : Option (List ℕ)) (failed count : ℕ) → Sofar house old now p f total turns
+    (left : Option (List ℕ)) (failed count : ℕ) → ReadSoFar house old now p f total turns
     → Fills now.left left now.reads_failed failed f g (came.Bytes count) → p.written ≤ g.passed
 numbered_with house old now p f g total turns left failed count k r = rw (r.pushed) k.numbered
 
 pub short_with : (house : House) (old now : Told) (p : Progress) (f g : Stream) (total turns : ℕ)
-    (left : Option (List ℕ)) (failed count : ℕ) → Sofar house old now p f total turns
+    (left : Option (List ℕ)) (failed count : ℕ) → ReadSoFar house old now p f total turns
     → Fills now.left left now.reads_failed failed f g (came.Bytes count) → turns ≤ 16777216
     → g.passed + length g.held < 2 ^ 63
 short_with house old now p f g total turns left failed count k r le =
