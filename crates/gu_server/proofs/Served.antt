@@ -5,11 +5,11 @@ use Rattle.gu_base.specs.House.{House}
 use Rattle.gu_batch.specs.Runs.{Told}
 use Rattle.gu_batch.specs.Traces.{Traces}
 use Rattle.gu_batch.specs.declared.batch.RunError.{RunError}
-use Rattle.gu_server.specs.Lines.{command_in, house_in, trade_in, trade_meant}
+use Rattle.gu_command.specs.Lines.{command_in, house_in, trade_in, trade_meant}
 use Rattle.gu_server.specs.Keeping.{Keeps}
 use Rattle.gu_server.specs.Program.{Names, Asks, Serves, HasDone, Does}
-use Rattle.gu_server.specs.declared.fault.Fault.{Fault}
-use Rattle.gu_server.specs.declared.fault.Fault.TheVariants as fault
+use Rattle.gu_command.specs.declared.fault.Fault.{Fault}
+use Rattle.gu_command.specs.declared.fault.Fault.TheVariants as fault
 
 -- the words' house file has a house table, by which a trace was run
 pub traced : {A : Type 0} (words : List Text) (bytes_at : Text → Option (List ℕ)) (path : Text) (trade : Option ℕ)

@@ -5,8 +5,8 @@ use Rattle.std.specs.Io.KnownBytes.{Consumes, IsAtEnd}
 use Rattle.gu_batch.specs.Counts.{Fails}
 use Rattle.gu_batch.specs.declared.batch.RunError.TheVariants.{Memory}
 use Rattle.gu_server.specs.Limits.{most_bytes, longest_read}
-use Rattle.gu_server.specs.declared.fault.Fault.{Fault}
-use Rattle.gu_server.specs.declared.fault.Fault.TheVariants.{HouseFile, Run}
+use Rattle.gu_command.specs.declared.fault.Fault.{Fault}
+use Rattle.gu_command.specs.declared.fault.Fault.TheVariants.{HouseFile, Run}
 
 -- the text of a file is all of its bytes, which are no more than a house file may have
 abbrev pub IsTextOf : Option (List ℕ) → List ℕ → Type 0

@@ -1,17 +1,11 @@
 -- A server whose book is kept in a journal.
-use Rattle.std.specs.Prelude.{◌≡◌, ℕ, Bool, true, false, List, Option, Result, Ok, Err}
+use Rattle.std.specs.Prelude.{◌≡◌, ℕ, List, Option, Result, Ok, Err}
 use Rattle.gu_base.specs.House.{House}
 use Rattle.gu_batch.specs.Traces.{WritesTotals}
 use Rattle.gu_book.specs.Seen.{HouseAndHistory}
-use Rattle.gu_server.specs.Program.{IsServed}
-use Rattle.gu_server.specs.declared.fault.Fault.{Fault}
-use Rattle.gu_server.specs.declared.fault.Fault.TheVariants.{Journal, Keep, Run}
-
--- what can be wrong with a journal, and with a server whose book it keeps
-abbrev pub is_keep_fault : Fault → Bool
-is_keep_fault (Journal text) = true
-is_keep_fault (Keep error) = true
-is_keep_fault _ = false
+use Rattle.gu_connection.specs.Serving.{IsServed}
+use Rattle.gu_command.specs.declared.fault.Fault.{Fault}
+use Rattle.gu_command.specs.declared.fault.Fault.TheVariants.{Journal, Keep, Run}
 
 -- a server ended without a book, and nothing was written, or the totals of its book were
 abbrev pub Keeps : {A : Type 0} → House → Option (List ℕ) → Option (List ℕ) → ℕ → ℕ

@@ -11,11 +11,12 @@ use Rattle.gu_batch.specs.declared.batch.RunError.TheVariants.{Memory}
 use Rattle.gu_book.specs.Seen.{HouseAndHistory}
 use Rattle.gu_parties.specs.Parsing.{Answers}
 use Rattle.gu_parties.specs.declared.fault.HouseError.{HouseError}
+use Rattle.gu_connection.specs.Serving.{IsServed}
 use Rattle.gu_server.specs.HouseText.{IsTextOf, IsTooLong}
-use Rattle.gu_server.specs.Lines.{command_in, house_in, trade_in, trade_meant}
-use Rattle.gu_server.specs.declared.fault.Fault.{Fault}
-use Rattle.gu_server.specs.declared.fault.Fault.TheVariants.{Usage, HouseFile, HouseLine, Service}
-use Rattle.gu_server.specs.declared.fault.Fault.TheVariants.{Journal, Keep, Run}
+use Rattle.gu_command.specs.Lines.{command_in, house_in, trade_in, trade_meant}
+use Rattle.gu_command.specs.declared.fault.Fault.{Fault}
+use Rattle.gu_command.specs.declared.fault.Fault.TheVariants.{Usage, HouseFile, HouseLine, Service}
+use Rattle.gu_command.specs.declared.fault.Fault.TheVariants.{Journal, Keep, Run}
 
 -- the text of the file with these bytes names this house table, or has this fault
 abbrev pub Names : Option (List ℕ) → Result House HouseError → Type 0
@@ -68,10 +69,6 @@ pub record HasTraced {A : Type 0} (words : List Text) (bytes_at : Text → Optio
   pub traces : Traces by.house trade old new result
 
 -- ---- the server
-
--- the book is what calls of the firms made of the opening one
-abbrev pub IsServed : House → HouseAndHistory → Type 0
-IsServed house b = (b.house ≡ house) × IsRunFrom house (opening_history house) b.history
 
 -- a server ended without a book, and nothing was written, or the totals of its book were
 abbrev pub Serves : {A : Type 0} → House → Option (List ℕ) → Option (List ℕ) → ℕ → ℕ

@@ -3,8 +3,8 @@
 ghost use Rattle.std.specs.Prelude.{◌≡◌, ℕ, List, [], Option, None};
 ghost use Rattle.gu_server.specs.HouseText.{Reads, ReadsAll};
 
-use crate::fault::Fault;
 use gu_batch::{Counted, RunError, Source};
+use gu_command::Fault;
 use std::fs::File;
 use std::io::ErrorKind;
 use std::rt::Files;

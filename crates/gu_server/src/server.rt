@@ -6,10 +6,11 @@ ghost use Rattle.gu_desk.specs.Begins.{BeginsWith};
 ghost use Rattle.gu_desk.specs.Runs.{IsRunOf};
 
 use crate::accepting::accept_all;
-use crate::keep::tallies::Tallies;
-use crate::worker::Worker;
 use crossbeam_channel::Receiver;
+use gu_board::Tallies;
 use gu_book::Book;
+use gu_command::ServeError;
+use gu_connection::{LOGON_WAIT, Worker, prepare};
 use gu_desk::{Desk, Gate, Ground, Job, Seat};
 use gu_parties::House;
 use std::alloc::Global;
@@ -19,28 +20,10 @@ use std::sync::Wait;
 use std::thread;
 use std::thread::{JoinHandle, Threads};
 use std::time::Clock;
-use thiserror::Error;
-
-/// Why a server ended before it had served all its connections. The book is gone.
-#[derive(Clone, Copy, Debug, PartialEq, Eq, Error)]
-pub enum ServeError {
-    /// A connection couldn't be accepted.
-    #[error("accept failed")]
-    Accept,
-    /// A worker couldn't be started.
-    #[error("cannot start worker")]
-    NoThread,
-    /// Memory ran out.
-    #[error("out of memory")]
-    Memory,
-}
 
 /// How many accepted connections wait for a worker, beside the one in hand. The others wait in the
 /// system's queue, so that what a server keeps open is bounded by its workers.
 const WAITING: usize = 1;
-
-/// How long a connection may be without an accepted Logon, in seconds.
-pub(crate) const LOGON_WAIT: u64 = 30;
 
 /// How much a server does.
 #[derive(Clone, Copy)]
@@ -162,32 +145,6 @@ fn run_desk<J: Job + Send + Sync, R: Threads + Wait + Clock + Sync, G: Gate + Sy
         Err(left) => {
             drop(left);
             Err(ServeError::NoThread)
-        }
-    }
-}
-
-/// A copy of the house table for all workers, and the ground of their desk.
-pub(crate) fn prepare(
-    alloc: Global,
-    book: Book,
-    workers: u32,
-) -> Result<(House, Ground), ServeError>
-    requires { IsTrue (is_worker_count workers) }
-    ensures opening { IfOk result (λ r. r.1.opening ≡ stored book) }
-{
-    let house = match book.house().copy(alloc) {
-        Ok(house) => house,
-        Err(_) => {
-            drop(book);
-            return Err(ServeError::Memory);
-        }
-    };
-    match Ground::new(alloc, book, workers) {
-        Ok(ground) => Ok((house, ground)),
-        Err((book, _)) => {
-            drop(book);
-            drop(house);
-            Err(ServeError::Memory)
         }
     }
 }

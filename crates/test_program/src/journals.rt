@@ -3,7 +3,7 @@
 ghost use Rattle.std.specs.Prelude.{◌≡◌, IfOk, IsTrue};
 ghost use Rattle.gu_base.specs.Runs.{opening_history};
 ghost use Rattle.gu_book.specs.Seen.{stored};
-ghost use Rattle.gu_server.specs.Keeping.{is_keep_fault};
+ghost use Rattle.gu_command.specs.Faults.{is_keep_fault};
 
 use gu_base::{Entry, Memory};
 use gu_book::{Book, HashKey};

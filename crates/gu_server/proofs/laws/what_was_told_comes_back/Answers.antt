@@ -1,6 +1,6 @@
 use Rattle.std.proofs.Common.{sym, ◌∙◌}
 use Rattle.std.proofs.lemmas.Result.{IfOk-weaker}
-use Rattle.gu_server.proofs.Filed.{comes_back}
+use Rattle.gu_recorder.proofs.OnDisk.{comes_back}
 use Rattle.gu_server.proofs.laws.what_was_told_comes_back.Goals as goal
 
 -- the file says a history that begins with what was told, and the book has that history

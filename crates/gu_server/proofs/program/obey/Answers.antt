@@ -1,6 +1,6 @@
 use Rattle.std.proofs.Common.{rules, subst}
-use Rattle.gu_server.specs.Lines.{IsLine}
-use Rattle.gu_server.specs.declared.line.Line.{Line}
+use Rattle.gu_command.specs.Lines.{IsLine}
+use Rattle.gu_command.specs.declared.line.Line.{Line}
 use Rattle.gu_server.proofs.Served.{served_by, kept_by}
 use Rattle.gu_server.proofs.program.obey.Goals as goal
 

@@ -8,7 +8,7 @@ use Rattle.crossbeam_channel.specs.contracts.channel.Receiver as Receiver
 use Rattle.crossbeam_channel.proofs.channel.Receiver.TheSendSync as receiver
 use Rattle.gu_desk.proofs.Crossing.{desk_sync, seat_send}
 use Rattle.gu_parties.proofs.house.House.TheSendSync as house
-use Rattle.gu_server.proofs.keep.tallies.Tallies.TheSendSync as tallies
+use Rattle.gu_board.proofs.tallies.Tallies.TheSendSync as tallies
 use Rattle.gu_server.proofs.server.fn.run_workers.scope.Lts.{arg-11-1}
 use Rattle.gu_server.proofs.server.fn.run_workers.scope.Goals as goal
 

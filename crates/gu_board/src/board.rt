@@ -1,0 +1,484 @@
+//! What is counted of a server while it runs, for an operator: by whoever does it, read by whoever
+//! asks. It has no lock, so that nobody waits for a reader.
+
+use crate::cell::{Cell, ENDED, Work, add, add_at, load, zeros};
+use crate::log::Log;
+use gu_base::{AllocId, Answer, Entry, FirmId, Memory};
+use gu_book::Book;
+use gu_log::{Event, Field, Key, Value};
+use gu_parties::House;
+use gu_status::{BOUNDS, FirmEntries, Part, Pulses, REASONS, Snapshot, Syncs, mark_passed, stuck};
+use indexmap::IndexMap;
+use std::alloc::{AllocError, Global};
+use std::sync::Wait;
+use std::sync::atomic::{AtomicBool, AtomicU64, Ordering};
+use std::time::Clock;
+
+/// The most workers.
+const MOST_WORKERS: usize = 16;
+
+/// The most entries of a book.
+pub const MOST_ENTRIES: u32 = 1_000_000;
+
+/// For how many seconds a part may stand still before `/health` says so.
+const MOST_STILL: u64 = 5;
+
+/// From how many microseconds on a sync is slow.
+const SLOW_SYNC: u64 = 100_000;
+
+/// What is counted.
+#[derive(Drop)]
+pub struct Board {
+    alloc: Global,
+    log: Log,
+    logs_calls: bool,
+    /// How many entries a firm may make, if that is limited.
+    share: Option<u32>,
+    /// The entries of each firm, in the order of the house file.
+    firms: IndexMap<FirmId, AtomicU64>,
+    cells: Vec<Cell>,
+    /// The second of the watch: it stands while the whole program stands.
+    second: AtomicU64,
+    ready: AtomicBool,
+    acceptor: AtomicU64,
+    /// The second since which the journal's lock is held, and one more; 0 while it isn't. In the
+    /// start it is held by whoever reads the journal, and each piece that was read is a new second.
+    journal: AtomicU64,
+    entries: AtomicU64,
+    open: AtomicU64,
+    taken: AtomicU64,
+    waiting: AtomicU64,
+    accepted: AtomicU64,
+    repeated: AtomicU64,
+    refused: Vec<AtomicU64>,
+    within: Vec<AtomicU64>,
+    syncs: AtomicU64,
+    sync_micros: AtomicU64,
+    synced: AtomicU64,
+}
+
+/// A cell for each worker.
+fn cells_for(alloc: Global, workers: u32) -> Result<Vec<Cell>, Memory> {
+    let mut cells = Vec::new(alloc);
+    for _ in 0..workers {
+        if cells.push(Cell::new(alloc)?).is_err() {
+            return Err(AllocError);
+        }
+    }
+    Ok(cells)
+}
+
+/// A count for each firm of a house.
+fn firms_of(alloc: Global, house: &House) -> Result<IndexMap<FirmId, AtomicU64>, Memory> {
+    let mut firms = IndexMap::new(alloc);
+    for place in 0..house.firm_count() {
+        if let Some(firm) = house.firm_at(place) {
+            if firms.insert(firm, AtomicU64::new(0)).is_err() {
+                return Err(AllocError);
+            }
+        }
+    }
+    Ok(firms)
+}
+
+/// A number that fits.
+fn small(number: u64) -> u32 {
+    number.min(u64::from(u32::MAX)) as u32
+}
+
+/// A field with a number.
+pub fn number(key: Key, number: u64) -> Field<'static> {
+    Field {
+        key,
+        value: Value::Number(number),
+    }
+}
+
+/// A field with a text.
+pub fn text<'a>(key: Key, text: &'a [u8]) -> Field<'a> {
+    Field {
+        key,
+        value: Value::Text(text),
+    }
+}
+
+impl Board {
+    /// A board for a server of this house with so many workers, before it is ready.
+    pub fn new(
+        alloc: Global,
+        log: Log,
+        logs_calls: bool,
+        house: &House,
+        workers: u32,
+        share: Option<u32>,
+    ) -> Result<Board, Memory> {
+        Ok(Board {
+            alloc,
+            log,
+            logs_calls,
+            share,
+            firms: firms_of(alloc, house)?,
+            cells: cells_for(alloc, workers)?,
+            second: AtomicU64::new(0),
+            ready: AtomicBool::new(false),
+            acceptor: AtomicU64::new(ENDED),
+            journal: AtomicU64::new(1),
+            entries: AtomicU64::new(0),
+            open: AtomicU64::new(0),
+            taken: AtomicU64::new(0),
+            waiting: AtomicU64::new(0),
+            accepted: AtomicU64::new(0),
+            repeated: AtomicU64::new(0),
+            refused: zeros(alloc, REASONS)?,
+            within: zeros(alloc, BOUNDS.len())?,
+            syncs: AtomicU64::new(0),
+            sync_micros: AtomicU64::new(0),
+            synced: AtomicU64::new(0),
+        })
+    }
+
+    /// Where its memory comes from.
+    pub fn alloc(&self) -> Global {
+        self.alloc
+    }
+
+    /// The log.
+    pub fn log(&self) -> &Log {
+        &self.log
+    }
+
+    /// Says an event.
+    pub fn say<R: Wait + Clock>(&self, rt: &R, event: Event, fields: &[Field<'_>]) {
+        self.log.say(rt, self.alloc, event, fields);
+    }
+
+    /// Counts the entries of a book that was recovered, all of which are on the disk.
+    pub fn count_book(&self, book: &Book) {
+        let mut count = 0u64;
+        for entry in book.history() {
+            count = count.saturating_add(1);
+            if let Some(entries) = self.firms.get(&entry.firm) {
+                add(entries);
+            }
+        }
+        self.entries.store(count, Ordering::SeqCst);
+    }
+
+    /// How many entries the book has.
+    pub fn entries(&self) -> u64 {
+        load(&self.entries)
+    }
+
+    /// Warns of what is nearly full in a book that was recovered.
+    pub fn warn<R: Wait + Clock>(&self, rt: &R) {
+        self.warn_of_book(rt, 0, self.entries());
+        for (firm, entries) in self.firms.iter() {
+            self.warn_of_share(rt, firm, 0, load(entries));
+        }
+    }
+
+    /// Connections are taken from now on.
+    pub fn set_ready(&self) {
+        let second = load(&self.second);
+        self.acceptor.store(second, Ordering::SeqCst);
+        for cell in self.cells.as_slice() {
+            cell.turned.store(second, Ordering::SeqCst);
+        }
+        self.synced.store(second, Ordering::SeqCst);
+        self.leaves_journal();
+        self.ready.store(true, Ordering::SeqCst);
+    }
+
+    /// Begins a second of the watch.
+    pub fn begin_second(&self) {
+        self.second.fetch_add(1, Ordering::SeqCst);
+    }
+
+    /// A worker has a turn.
+    pub fn turns(&self, worker: u32) {
+        if let Some(cell) = self.cells.get(worker as usize) {
+            cell.turned.store(load(&self.second), Ordering::SeqCst);
+        }
+    }
+
+    /// A worker has ended.
+    pub fn ends(&self, worker: u32) {
+        if let Some(cell) = self.cells.get(worker as usize) {
+            cell.turned.store(ENDED, Ordering::SeqCst);
+        }
+    }
+
+    /// The thread that accepts has a turn.
+    pub fn accepts(&self) {
+        self.acceptor.store(load(&self.second), Ordering::SeqCst);
+    }
+
+    /// It has ended.
+    pub fn accepts_no_more(&self) {
+        self.acceptor.store(ENDED, Ordering::SeqCst);
+    }
+
+    /// The journal's lock is held from now on, or whoever holds it has moved.
+    pub fn takes_journal(&self) {
+        let since = load(&self.second).saturating_add(1);
+        self.journal.store(since, Ordering::SeqCst);
+    }
+
+    /// It is free again.
+    pub fn leaves_journal(&self) {
+        self.journal.store(0, Ordering::SeqCst);
+    }
+
+    /// A group with these entries is on the disk: nobody was told of them yet.
+    pub fn keeps<R: Wait + Clock>(&self, rt: &R, group: &[Entry]) {
+        let count = group.len() as u64;
+        self.accepted.fetch_add(count, Ordering::SeqCst);
+        let before = self.entries.fetch_add(count, Ordering::SeqCst);
+        for entry in group {
+            self.count_entry(rt, &entry.firm);
+        }
+        self.warn_of_book(rt, before, before.saturating_add(count));
+    }
+
+    /// Warns where the book has become nearly full.
+    fn warn_of_book<R: Wait + Clock>(&self, rt: &R, before: u64, after: u64) {
+        if let Some(percent) = mark_passed(small(before), small(after), MOST_ENTRIES) {
+            let fields = [
+                number(Key::Percent, u64::from(percent)),
+                number(Key::Entries, after),
+                number(Key::Most, u64::from(MOST_ENTRIES)),
+            ];
+            self.say(rt, Event::BookFills, &fields);
+        }
+    }
+
+    /// A group of so many entries took so many microseconds.
+    pub fn recorded<R: Wait + Clock>(&self, rt: &R, count: u64, micros: u64) {
+        for i in 0..BOUNDS.len() {
+            if micros <= BOUNDS[i] {
+                if let Some(within) = self.within.get(i) {
+                    add(within);
+                }
+            }
+        }
+        self.syncs.fetch_add(1, Ordering::SeqCst);
+        self.sync_micros.fetch_add(micros, Ordering::SeqCst);
+        self.synced.store(load(&self.second), Ordering::SeqCst);
+        if micros > SLOW_SYNC {
+            let fields = [
+                number(Key::Milliseconds, micros / 1000),
+                number(Key::Entries, count),
+            ];
+            self.say(rt, Event::SlowSync, &fields);
+        }
+    }
+
+    /// A worker has read so many bytes.
+    pub fn reads(&self, worker: u32, bytes: usize) {
+        if let Some(cell) = self.cells.get(worker as usize) {
+            cell.read.fetch_add(bytes as u64, Ordering::SeqCst);
+        }
+    }
+
+    /// The peer of a worker's connection has closed it.
+    pub fn loses(&self, worker: u32) {
+        if let Some(cell) = self.cells.get(worker as usize) {
+            cell.gone.fetch_add(1, Ordering::SeqCst);
+        }
+    }
+
+    /// What a worker has done so far.
+    pub fn work(&self, worker: u32) -> Work {
+        match self.cells.get(worker as usize) {
+            Some(cell) => cell.work(),
+            None => Work::default(),
+        }
+    }
+
+    /// Adds the calls that a worker has refused in this turn to those of its connection, by the
+    /// refusal's number.
+    pub fn hand_over(&self, worker: u32, reasons: &mut [u64; REASONS]) {
+        if let Some(cell) = self.cells.get(worker as usize) {
+            cell.hand_over(reasons);
+        }
+    }
+
+    /// A worker serves the connection of this number from now on.
+    pub fn serves(&self, worker: u32, connection: u64) {
+        if let Some(cell) = self.cells.get(worker as usize) {
+            cell.connection.store(connection, Ordering::SeqCst);
+        }
+    }
+
+    /// Bytes wait for a firm, or don't any more.
+    pub fn waits(&self, before: usize, after: usize) {
+        if after >= before {
+            self.waiting
+                .fetch_add((after - before) as u64, Ordering::SeqCst);
+        } else {
+            self.waiting
+                .fetch_sub((before - after) as u64, Ordering::SeqCst);
+        }
+    }
+
+    /// The number of a connection that is taken.
+    pub fn enters(&self) -> u64 {
+        self.taken.fetch_add(1, Ordering::SeqCst).saturating_add(1)
+    }
+
+    /// A connection is served from now on.
+    pub fn opens(&self) {
+        self.open.fetch_add(1, Ordering::SeqCst);
+    }
+
+    /// A connection has ended.
+    pub fn leaves(&self) {
+        self.open.fetch_sub(1, Ordering::SeqCst);
+    }
+
+    /// Counts an entry of a firm.
+    fn count_entry<R: Wait + Clock>(&self, rt: &R, firm: &FirmId) {
+        let Some(entries) = self.firms.get(firm) else {
+            return;
+        };
+        let before = entries.fetch_add(1, Ordering::SeqCst);
+        self.warn_of_share(rt, firm, before, before.saturating_add(1));
+    }
+
+    /// Warns where a firm has used most of what it may.
+    fn warn_of_share<R: Wait + Clock>(&self, rt: &R, firm: &FirmId, before: u64, after: u64) {
+        let Some(most) = self.share else {
+            return;
+        };
+        if let Some(percent) = mark_passed(small(before), small(after), most) {
+            let fields = [
+                text(Key::Firm, firm.as_bytes()),
+                number(Key::Percent, u64::from(percent)),
+                number(Key::Entries, after),
+                number(Key::Most, u64::from(most)),
+            ];
+            self.say(rt, Event::ShareFills, &fields);
+        }
+    }
+
+    /// A worker has answered a call.
+    pub fn answers<R: Wait + Clock>(
+        &self,
+        rt: &R,
+        worker: u32,
+        firm: &FirmId,
+        id: &AllocId,
+        answer: &Answer,
+    ) {
+        match answer {
+            // It is counted once it is on the disk.
+            Answer::Accepted { .. } => {}
+            Answer::Repeated { .. } => add(&self.repeated),
+            Answer::Refused(refusal) => add_at(self.refused.as_slice(), refusal.number()),
+        }
+        let Some(cell) = self.cells.get(worker as usize) else {
+            return;
+        };
+        cell.count(answer);
+        if self.logs_calls {
+            self.say_call(rt, load(&cell.connection), firm, id, answer);
+        }
+    }
+
+    /// Says which call was answered how: `entry N`, or the refusal's number and text.
+    fn say_call<R: Wait + Clock>(
+        &self,
+        rt: &R,
+        connection: u64,
+        firm: &FirmId,
+        id: &AllocId,
+        answer: &Answer,
+    ) {
+        let said = match answer {
+            Answer::Accepted { number, .. } => { format!(in self.alloc; "entry {}", number.get()) }
+            Answer::Repeated { number, .. } => {
+                format!(in self.alloc; "entry {} as before", number.get())
+            }
+            Answer::Refused(refusal) => { format!(in self.alloc; "{} {refusal}", refusal.number()) }
+        };
+        let Ok(said) = said else {
+            return;
+        };
+        let fields = [
+            number(Key::Connection, connection),
+            text(Key::Firm, firm.as_bytes()),
+            text(Key::Id, id.as_bytes()),
+            text(Key::Answer, said.as_bytes()),
+        ];
+        self.say(rt, Event::Called, &fields);
+    }
+
+    /// The first part that hasn't moved for so many seconds.
+    pub fn stuck(&self, most: u64) -> Option<Part> {
+        let mut turned = [ENDED; MOST_WORKERS];
+        for i in 0..self.cells.len().min(MOST_WORKERS) {
+            if let Some(cell) = self.cells.get(i) {
+                turned[i] = load(&cell.turned);
+            }
+        }
+        let journal = match load(&self.journal) {
+            0 => None,
+            since => Some(since.saturating_sub(1)),
+        };
+        let pulses = Pulses {
+            journal,
+            acceptor: load(&self.acceptor),
+            workers: &turned,
+        };
+        stuck(&pulses, load(&self.second), most)
+    }
+
+    /// How the syncs stand.
+    fn snapshot_syncs(&self) -> Syncs {
+        let mut within = [0u64; 9];
+        for i in 0..within.len() {
+            if let Some(count) = self.within.get(i) {
+                within[i] = load(count);
+            }
+        }
+        let second = load(&self.second);
+        Syncs {
+            within,
+            count: load(&self.syncs),
+            micros: load(&self.sync_micros),
+            idle_seconds: second.saturating_sub(load(&self.synced)),
+        }
+    }
+
+    /// How the server stands.
+    pub fn snapshot(&self) -> Result<Snapshot, Memory> {
+        let mut firms = Vec::with_capacity(self.alloc, self.firms.len())?;
+        for (firm, entries) in self.firms.iter() {
+            let entries = load(entries);
+            firms.push(FirmEntries {
+                firm: *firm,
+                entries,
+            })?;
+        }
+        let mut refused = [0u64; REASONS];
+        for i in 0..REASONS {
+            if let Some(count) = self.refused.get(i) {
+                refused[i] = load(count);
+            }
+        }
+        Ok(Snapshot {
+            is_ready: self.ready.load(Ordering::SeqCst),
+            stuck: self.stuck(MOST_STILL),
+            entries: small(load(&self.entries)),
+            most_entries: MOST_ENTRIES,
+            firms,
+            connections: load(&self.open),
+            accepted: load(&self.accepted),
+            repeated: load(&self.repeated),
+            refused,
+            waiting_bytes: load(&self.waiting),
+            syncs: self.snapshot_syncs(),
+            lines_lost: self.log.lost(),
+        })
+    }
+}

@@ -1,0 +1,23 @@
+//! What an operator is told of a server: what the threads count, and what is said of it on standard
+//! error.
+//!
+//! - The `Board` has a cell of counts for each worker; `gu_status` makes pages of it.
+//! - The `Tallies` count what each firm has, for the limits that an operator sets.
+//! - A line of the log is written without waiting for a reader.
+#![tactic(auto)]
+
+mod board;
+mod cell;
+mod log;
+mod saying;
+mod tallies;
+mod telling;
+mod version;
+
+pub use board::{Board, MOST_ENTRIES, number, text};
+pub use cell::Work;
+pub use log::{Log, Written};
+pub use saying::{say_lack, say_started};
+pub use tallies::Tallies;
+pub use telling::Teller;
+pub use version::{VERSION, commit};

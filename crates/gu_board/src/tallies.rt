@@ -1,0 +1,310 @@
+//! What is counted of the firms, for the limits that an operator sets.
+//!
+//! The counts are exact though several workers count at once: a call counts before it is made, and
+//! is taken back where it made no entry. So no call too many is made; one that another call's count
+//! stands in the way of may be one too few.
+
+use crate::board::Board;
+use crate::saying::say_closed;
+use gu_base::{AllocId, Answer, FirmId, Memory};
+use gu_book::Book;
+use gu_limits::{Ending, Limits, begun, calls_in};
+use indexmap::IndexMap;
+use std::alloc::{AllocError, Global};
+use std::sync::atomic::{AtomicBool, AtomicU64, Ordering};
+use std::sync::{Arc, Wait};
+use std::time::{Clock, Instant};
+
+/// How many connections of a firm were closed and aren't told yet.
+#[derive(Drop)]
+struct Closures {
+    entries: AtomicU64,
+    reserve: AtomicU64,
+    connections: AtomicU64,
+    silence: AtomicU64,
+}
+
+impl Closures {
+    /// None yet.
+    fn new() -> Closures {
+        Closures {
+            entries: AtomicU64::new(0),
+            reserve: AtomicU64::new(0),
+            connections: AtomicU64::new(0),
+            silence: AtomicU64::new(0),
+        }
+    }
+
+    /// The count of those that were closed for this.
+    fn of(&self, ending: Ending) -> &AtomicU64 {
+        match ending {
+            Ending::Entries => &self.entries,
+            Ending::Reserve => &self.reserve,
+            Ending::Connections => &self.connections,
+            Ending::Silence => &self.silence,
+        }
+    }
+}
+
+/// What is counted of a firm.
+#[derive(Drop)]
+struct Tally {
+    /// Its entries, and its calls that aren't answered yet.
+    entries: AtomicU64,
+    /// Its connections that have logged on.
+    open: AtomicU64,
+    /// The last second in which it called, and how many calls it made then.
+    pace: AtomicU64,
+    closures: Closures,
+}
+
+impl Tally {
+    /// Nothing counted yet.
+    fn new() -> Tally {
+        Tally {
+            entries: AtomicU64::new(0),
+            open: AtomicU64::new(0),
+            pace: AtomicU64::new(0),
+            closures: Closures::new(),
+        }
+    }
+
+    /// Counts a call in this second.
+    fn count_call(&self, second: u32) {
+        let pace = self.pace.load(Ordering::SeqCst);
+        if let Some(new) = begun(pace, second) {
+            // Where another worker has begun the second meanwhile, its count stands.
+            let _ = self
+                .pace
+                .compare_exchange(pace, new, Ordering::SeqCst, Ordering::SeqCst);
+        }
+        self.pace.fetch_add(1, Ordering::SeqCst);
+    }
+}
+
+/// What is counted of all firms, and the limits. The house is none of the firms.
+#[derive(Drop)]
+pub struct Tallies {
+    limits: Limits,
+    house: FirmId,
+    firms: IndexMap<FirmId, Tally>,
+    /// The entries of the book, and the calls that aren't answered yet.
+    entries: AtomicU64,
+    /// Whether a connection was closed since that was last told.
+    news: AtomicBool,
+    /// When the server began: seconds are counted from then.
+    start: Option<Instant>,
+    /// What is counted for an operator, in `keep`.
+    board: Option<Arc<Board>>,
+}
+
+/// A tally for each firm of a house.
+fn tallies_of(alloc: Global, book: &Book) -> Result<IndexMap<FirmId, Tally>, Memory> {
+    let house = book.house();
+    let mut firms = IndexMap::new(alloc);
+    for place in 0..house.firm_count() {
+        if let Some(firm) = house.firm_at(place) {
+            if firms.insert(firm, Tally::new()).is_err() {
+                return Err(AllocError);
+            }
+        }
+    }
+    Ok(firms)
+}
+
+impl Tallies {
+    /// Counts nothing: there are no limits.
+    pub fn none(alloc: Global, house: FirmId) -> Tallies {
+        Tallies {
+            limits: Limits::NONE,
+            house,
+            firms: IndexMap::new(alloc),
+            entries: AtomicU64::new(0),
+            news: AtomicBool::new(false),
+            start: None,
+            board: None,
+        }
+    }
+
+    /// The counts of a book, for these limits, of a server that begins now.
+    pub fn new(
+        alloc: Global,
+        book: &Book,
+        limits: Limits,
+        start: Instant,
+        board: Option<Arc<Board>>,
+    ) -> Result<Tallies, Memory> {
+        let tallies = Tallies {
+            limits,
+            house: book.house().house(),
+            firms: tallies_of(alloc, book)?,
+            entries: AtomicU64::new(0),
+            news: AtomicBool::new(false),
+            start: Some(start),
+            board,
+        };
+        if tallies.limits.counts_entries() {
+            for entry in book.history() {
+                tallies.count(&entry.firm);
+            }
+        }
+        Ok(tallies)
+    }
+
+    /// What is counted for an operator.
+    pub fn board(&self) -> Option<&Board> {
+        match &self.board {
+            Some(board) => Some(board),
+            None => None,
+        }
+    }
+
+    /// When the server began.
+    pub fn start(&self) -> Option<Instant> {
+        self.start
+    }
+
+    /// Counts an entry of a firm, and tells how many it had and how many the book had. None of the
+    /// house's are told.
+    fn count(&self, firm: &FirmId) -> (u64, u64) {
+        let all = self.entries.fetch_add(1, Ordering::SeqCst);
+        match self.firms.get(firm) {
+            Some(tally) => (tally.entries.fetch_add(1, Ordering::SeqCst), all),
+            None => (0, all),
+        }
+    }
+
+    /// Takes an entry of a firm back.
+    fn take_back(&self, firm: &FirmId) {
+        self.entries.fetch_sub(1, Ordering::SeqCst);
+        if let Some(tally) = self.firms.get(firm) {
+            tally.entries.fetch_sub(1, Ordering::SeqCst);
+        }
+    }
+
+    /// Notes that a connection of a firm is closed for this, so that it is told.
+    pub fn note(&self, firm: &FirmId, ending: Ending) {
+        if let Some(tally) = self.firms.get(firm) {
+            tally.closures.of(ending).fetch_add(1, Ordering::SeqCst);
+            self.news.store(true, Ordering::SeqCst);
+        }
+    }
+
+    /// The second that it is, from the start on; 0 where the clock can't be read.
+    fn second<R: Clock>(&self, rt: &R) -> u32 {
+        match self.start {
+            Some(start) => match start.elapsed(rt) {
+                Ok(took) => took.as_secs().min(u64::from(u32::MAX)) as u32,
+                Err(_) => 0,
+            },
+            None => 0,
+        }
+    }
+
+    /// Whether a firm has made all the calls that it may make in this second, so that its further
+    /// messages wait. The house never has.
+    pub fn is_late<R: Clock>(&self, rt: &R, firm: &FirmId) -> bool {
+        if self.limits.rate.is_none() {
+            return false;
+        }
+        match self.firms.get(firm) {
+            Some(tally) => {
+                let calls = calls_in(tally.pace.load(Ordering::SeqCst), self.second(rt));
+                self.limits.lets_wait(*firm == self.house, calls)
+            }
+            None => false,
+        }
+    }
+
+    /// Counts a call of a firm that is to be made; or tells why it isn't, and then it doesn't
+    /// count.
+    pub fn begin_call<R: Clock>(&self, rt: &R, firm: &FirmId) -> Result<(), Ending> {
+        if self.limits.counts_entries() {
+            let (mine, all) = self.count(firm);
+            let is_house = *firm == self.house;
+            if let Some(ending) = self.limits.excess_of_call(is_house, mine, all) {
+                self.take_back(firm);
+                self.note(firm, ending);
+                return Err(ending);
+            }
+        }
+        if self.limits.rate.is_some() {
+            if let Some(tally) = self.firms.get(firm) {
+                tally.count_call(self.second(rt));
+            }
+        }
+        Ok(())
+    }
+
+    /// Takes the count of a call back, if it made no entry.
+    pub fn end_call(&self, firm: &FirmId, is_entry: bool) {
+        if !is_entry && self.limits.counts_entries() {
+            self.take_back(firm);
+        }
+    }
+
+    /// Notes how a call was answered, for an operator.
+    pub fn note_answer<R: Wait + Clock>(
+        &self,
+        rt: &R,
+        worker: u32,
+        firm: &FirmId,
+        id: &AllocId,
+        answer: &Answer,
+    ) {
+        if let Some(board) = self.board() {
+            board.answers(rt, worker, firm, id, answer);
+        }
+    }
+
+    /// Notes that a worker has read so many bytes.
+    pub fn note_read(&self, worker: u32, bytes: usize) {
+        if let Some(board) = self.board() {
+            board.reads(worker, bytes);
+        }
+    }
+
+    /// Notes that the peer of a worker's connection has closed it.
+    pub fn note_gone(&self, worker: u32) {
+        if let Some(board) = self.board() {
+            board.loses(worker);
+        }
+    }
+
+    /// Counts a connection of a firm that has logged on: whether the firm may have it. If not, it
+    /// doesn't count.
+    pub fn enter(&self, firm: &FirmId) -> bool {
+        let Some(tally) = self.firms.get(firm) else {
+            return true;
+        };
+        let open = tally.open.fetch_add(1, Ordering::SeqCst);
+        if self.limits.has_room(*firm == self.house, open) {
+            return true;
+        }
+        tally.open.fetch_sub(1, Ordering::SeqCst);
+        false
+    }
+
+    /// A connection that was counted has ended.
+    pub fn leave(&self, firm: &FirmId) {
+        if let Some(tally) = self.firms.get(firm) {
+            tally.open.fetch_sub(1, Ordering::SeqCst);
+        }
+    }
+
+    /// Says of which firms connections were closed since this was said last: a line for a firm and
+    /// a reason.
+    pub fn tell<R: Wait + Clock>(&self, rt: &R) {
+        if !self.news.swap(false, Ordering::SeqCst) {
+            return;
+        }
+        for (firm, tally) in self.firms.iter() {
+            for ending in Ending::ALL {
+                let count = tally.closures.of(ending).swap(0, Ordering::SeqCst);
+                if count > 0 {
+                    say_closed(rt, self.board(), firm, ending, count);
+                }
+            }
+        }
+    }
+}

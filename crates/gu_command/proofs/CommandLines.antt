@@ -1,0 +1,636 @@
+-- What the parser makes of the program's command lines.
+use Rattle.std.proofs.Common.{◌≡◌, ◌==◌, ◌∙◌, ℕ, sym, ap, refl, arith, codes, true, false, subst, drop, map, slice_get}
+use Rattle.std.proofs.Common.{List, [], ◌∷◌, Option, Some, None, slice_index, option_map, option_and_then, is_some}
+use Rattle.std.proofs.Common.{unwrap_or, bytes_eq}
+use Rattle.std.specs.Prelude.{Result, Ok, Err, IfOk, IfErr, MatchResult}
+use Rattle.std.proofs.lemmas.Result.{IfOk-weaker}
+use Rattle.std.proofs.lemmas.Bool.{not-true}
+use Rattle.clap.specs.Lexer.{strip_byte}
+use Rattle.clap.specs.Words.{App, Row, Rule, Text, with_rule, first_of, first_value, is_simple, rows_of}
+use Rattle.clap.specs.Words.{subcommand_name_of, subcommand_of, subcommand_rows_of, takes}
+use Rattle.clap.specs.declared.builder.command.Command.{Command}
+use Rattle.clap.specs.declared.parser.matches.ArgMatches.{ArgMatches}
+use Rattle.clap.specs.declared.parser.matches.Found.{Found}
+use Rattle.gu_message.specs.Values.{entry_of}
+use Rattle.gu_command.specs.Faults.{no_memory}
+use Rattle.gu_command.specs.declared.fault.Fault.{Fault}
+use Rattle.clap.proofs.WalkLemmas.{first_value-rows}
+use Rattle.clap.proofs.OnLiterals.{clap_on_literals}
+use Rattle.gu_command.specs.Lines.{program, Makes, is_plain, command_in, word_for, house_in, trade_in, journal_in}
+use Rattle.gu_command.specs.Lines.{port_in, workers_in, connections_in, trade_meant, port_meant, workers_meant}
+use Rattle.gu_command.specs.Lines.{connections_meant, IsLine, IsLineOf, AsksForBatch, AsksForTrace, AsksToServe}
+use Rattle.gu_command.specs.Lines.{AsksToKeep}
+use Rattle.gu_command.specs.Options.{flag_meant, limit_meant}
+use Rattle.gu_command.specs.Options.{AreLimitsOf, AreOptionsOf, IfMeant, no_options}
+use Rattle.gu_limits.specs.declared.limits.Limits.{Limits}
+use Rattle.gu_command.specs.declared.options.KeepOptions.{KeepOptions}
+use Rattle.gu_command.specs.declared.line.Line.{Line}
+use Rattle.gu_command.specs.declared.line.Line.TheVariants.{Batch, Trace, Serve, Keep}
+
+-- the program is simple, so its lines are computed
+pub program_simple : is_simple program ≡ true
+unfolding clap_on_literals
+program_simple = refl
+
+-- ---- the lines that it takes
+
+-- the line `batch HOUSE`
+abbrev pub batch_line : Text → List Text
+batch_line path = codes "batch" ∷ path ∷ []
+
+-- the line `trace HOUSE`
+abbrev pub totals_line : Text → List Text
+totals_line path = codes "trace" ∷ path ∷ []
+
+-- the line `trace HOUSE --trade N`
+abbrev pub trace_line : Text → Text → List Text
+trace_line path word = codes "trace" ∷ path ∷ codes "--trade" ∷ word ∷ []
+
+-- the line `serve HOUSE --port PORT`
+abbrev pub serve_line : Text → Text → List Text
+serve_line path word = codes "serve" ∷ path ∷ codes "--port" ∷ word ∷ []
+
+-- the line `keep HOUSE JOURNAL --port PORT`
+abbrev pub keep_line : Text → Text → Text → List Text
+keep_line path file word = codes "keep" ∷ path ∷ file ∷ codes "--port" ∷ word ∷ []
+
+-- ---- the commands
+
+-- the rule of an argument, where it is known as another
+pub same_rule : (app : App) (given rule : Rule) (r : Result Command Fault) → given ≡ rule
+    → Makes (with_rule app given) r → Makes (with_rule app rule) r
+same_rule app given rule r same h = subst (λ (x : Rule). Makes (with_rule app x) r) same h
+
+-- ---- what the parser makes of the lines, computed once for each
+
+-- the command that was met, and what is given for each of these arguments
+abbrev Given : Type 0
+Given = Text × List (Option Text)
+
+abbrev given_for : List Text → Option (Text × List Row) → Option Given
+given_for ids met = option_map (λ p. (p.0, map (λ id. first_of id p.1) ids)) met
+
+-- what is given for an argument of the command that was met
+abbrev pub given_in : Text → Option (Text × List Row) → Option Text
+given_in id met = option_and_then (λ p. first_of id p.1) met
+
+-- ---- from what is given to what the line means
+
+command_given : (ids : List Text) (met : Option (Text × List Row)) (command : Text) (words : List (Option Text))
+    → given_for ids met ≡ Some (command, words) → option_map (λ p. p.0) met ≡ Some command
+command_given ids None command words e = absurd cc
+command_given ids (Some p) command words e = ap (option_map (λ (g : Given). g.0)) e
+
+first_given : (id : Text) (ids : List Text) (met : Option (Text × List Row)) (command : Text) (word : Option Text)
+    (words : List (Option Text)) → given_for (id ∷ ids) met ≡ Some (command, word ∷ words) → given_in id met ≡ word
+first_given id ids None command word words e = absurd cc
+first_given id ids (Some p) command word words e =
+    ap (λ (o : Option Given). option_and_then (λ g. unwrap_or (slice_get g.1 0) None) o) e
+
+rest_given : (id : Text) (ids : List Text) (met : Option (Text × List Row)) (command : Text) (word : Option Text)
+    (words : List (Option Text)) → given_for (id ∷ ids) met ≡ Some (command, word ∷ words)
+    → given_for ids met ≡ Some (command, words)
+rest_given id ids None command word words e = absurd cc
+rest_given id ids (Some p) command word words e = ap (option_map (λ (g : Given). (g.0, drop 1 g.1))) e
+
+-- the arguments of each command
+abbrev batch_ids : List Text
+batch_ids = codes "HOUSE" ∷ []
+
+abbrev trace_ids : List Text
+trace_ids = codes "HOUSE" ∷ codes "N" ∷ []
+
+abbrev serve_ids : List Text
+serve_ids = codes "HOUSE" ∷ codes "PORT" ∷ codes "WORKERS" ∷ codes "COUNT" ∷ []
+
+-- ---- how the parser reads a plain word
+
+-- no hyphen is taken off it, and it isn't the two hyphens that end the options
+read_plain : (word : Text) → is_plain word ≡ true
+    → (strip_byte 45 word ≡ None) × (bytes_eq word (codes "--") ≡ false)
+read_plain [] h = (refl, refl)
+read_plain (x ∷ xs) h = let e : (x == 45) ≡ false = not-true (x == 45) h in (rw e refl, rw e refl)
+
+-- ---- batch
+
+batch_given : (path : Text) → is_plain path ≡ true
+    → given_for batch_ids (subcommand_of program (batch_line path)) ≡ Some (codes "batch", Some path ∷ [])
+unfolding clap_on_literals
+batch_given path h =
+    let path_is = read_plain path h in rw (path_is.0, path_is.1, path_is.0) refl
+
+pub batch_met : (path : Text) → is_plain path ≡ true
+    → (command_in (batch_line path) ≡ Some (codes "batch")) × (house_in (batch_line path) ≡ Some path)
+batch_met path h =
+    let e = batch_given path h in
+    (command_given batch_ids _ _ _ e, first_given (codes "HOUSE") [] _ _ _ _ e)
+
+pub batch_taken : (path : Text) → is_plain path ≡ true → takes program (batch_line path) ≡ true
+unfolding clap_on_literals
+batch_taken path h =
+    let path_is = read_plain path h in rw (path_is.0, path_is.1, path_is.0) refl
+
+-- ---- trace, without a trade and with one
+
+totals_given : (path : Text) → is_plain path ≡ true
+    → given_for trace_ids (subcommand_of program (totals_line path)) ≡ Some (codes "trace", Some path ∷ None ∷ [])
+unfolding clap_on_literals
+totals_given path h =
+    let path_is = read_plain path h in rw (path_is.0, path_is.1, path_is.0) refl
+
+pub totals_met : (path : Text) → is_plain path ≡ true
+    → (command_in (totals_line path) ≡ Some (codes "trace")) × (house_in (totals_line path) ≡ Some path)
+    × (trade_in (totals_line path) ≡ None)
+totals_met path h =
+    let e = totals_given path h in
+    let others = codes "N" ∷ [] in (
+      command_given trace_ids _ _ _ e,
+      first_given (codes "HOUSE") others _ _ _ _ e,
+      first_given (codes "N") [] _ _ _ _ (rest_given (codes "HOUSE") others _ _ _ _ e),
+    )
+
+pub totals_taken : (path : Text) → is_plain path ≡ true → takes program (totals_line path) ≡ true
+unfolding clap_on_literals
+totals_taken path h =
+    let path_is = read_plain path h in rw (path_is.0, path_is.1, path_is.0) refl
+
+trace_given : (path word : Text) → is_plain path ≡ true → is_plain word ≡ true
+    → given_for trace_ids (subcommand_of program (trace_line path word))
+    ≡ Some (codes "trace", Some path ∷ Some word ∷ [])
+unfolding clap_on_literals
+trace_given path word h k =
+    let path_is = read_plain path h in let word_is = read_plain word k in
+    rw (path_is.0, path_is.1, path_is.0, word_is.0, word_is.1, word_is.0) refl
+
+pub trace_met : (path word : Text) → is_plain path ≡ true → is_plain word ≡ true
+    → (command_in (trace_line path word) ≡ Some (codes "trace")) × (house_in (trace_line path word) ≡ Some path)
+    × (trade_in (trace_line path word) ≡ Some word)
+trace_met path word h k =
+    let e = trace_given path word h k in
+    let others = codes "N" ∷ [] in (
+      command_given trace_ids _ _ _ e,
+      first_given (codes "HOUSE") others _ _ _ _ e,
+      first_given (codes "N") [] _ _ _ _ (rest_given (codes "HOUSE") others _ _ _ _ e),
+    )
+
+pub trace_taken : (path word : Text) → is_plain path ≡ true → is_plain word ≡ true
+    → takes program (trace_line path word) ≡ true
+unfolding clap_on_literals
+trace_taken path word h k =
+    let path_is = read_plain path h in let word_is = read_plain word k in
+    rw (path_is.0, path_is.1, path_is.0, word_is.0, word_is.1, word_is.0) refl
+
+-- ---- serve
+
+serve_given : (path word : Text) → is_plain path ≡ true → is_plain word ≡ true
+    → given_for serve_ids (subcommand_of program (serve_line path word))
+    ≡ Some (codes "serve", Some path ∷ Some word ∷ None ∷ None ∷ [])
+unfolding clap_on_literals
+serve_given path word h k =
+    let path_is = read_plain path h in let word_is = read_plain word k in
+    rw (path_is.0, path_is.1, path_is.0, word_is.0, word_is.1, word_is.0) refl
+
+pub serve_met : (path word : Text) → is_plain path ≡ true → is_plain word ≡ true
+    → (command_in (serve_line path word) ≡ Some (codes "serve")) × (house_in (serve_line path word) ≡ Some path)
+    × (port_in (serve_line path word) ≡ Some word) × (workers_in (serve_line path word) ≡ None)
+    × (connections_in (serve_line path word) ≡ None)
+serve_met path word h k =
+    let e = serve_given path word h k in
+    let counts = codes "COUNT" ∷ [] in
+    let numbers = codes "WORKERS" ∷ counts in
+    let port = rest_given (codes "HOUSE") (codes "PORT" ∷ numbers) _ _ _ _ e in
+    let workers = rest_given (codes "PORT") numbers _ _ _ _ port in
+    let connections = rest_given (codes "WORKERS") counts _ _ _ _ workers in (
+      command_given serve_ids _ _ _ e,
+      first_given (codes "HOUSE") (codes "PORT" ∷ numbers) _ _ _ _ e,
+      first_given (codes "PORT") numbers _ _ _ _ port,
+      first_given (codes "WORKERS") counts _ _ _ _ workers,
+      first_given (codes "COUNT") [] _ _ _ _ connections,
+    )
+
+pub serve_taken : (path word : Text) → is_plain path ≡ true → is_plain word ≡ true
+    → takes program (serve_line path word) ≡ true
+unfolding clap_on_literals
+serve_taken path word h k =
+    let path_is = read_plain path h in let word_is = read_plain word k in
+    rw (path_is.0, path_is.1, path_is.0, word_is.0, word_is.1, word_is.0) refl
+
+-- ---- keep
+
+abbrev telling_ids : List Text
+telling_ids = codes "STATUS" ∷ codes "LOG_CALLS" ∷ []
+
+abbrev limit_ids : List Text
+limit_ids = codes "ENTRIES" ∷ codes "RESERVED" ∷ codes "CALLS" ∷ codes "CONNECTIONS" ∷ telling_ids
+
+abbrev option_ids : List Text
+option_ids = codes "PATH" ∷ limit_ids
+
+abbrev keep_ids : List Text
+keep_ids = codes "HOUSE" ∷ codes "JOURNAL" ∷ codes "PORT" ∷ codes "WORKERS" ∷ codes "COUNT" ∷ option_ids
+
+-- a flag that isn't given is `false`
+abbrev none_given : List (Option Text)
+none_given = None ∷ None ∷ None ∷ None ∷ None ∷ None ∷ Some (codes "false") ∷ []
+
+keep_given : (path file word : Text) → is_plain path ≡ true → is_plain file ≡ true → is_plain word ≡ true
+    → given_for keep_ids (subcommand_of program (keep_line path file word))
+    ≡ Some (codes "keep", Some path ∷ Some file ∷ Some word ∷ None ∷ None ∷ none_given)
+unfolding clap_on_literals
+keep_given path file word h f k =
+    let path_is = read_plain path h in let file_is = read_plain file f in let word_is = read_plain word k in
+    rw (path_is.0, path_is.1, path_is.0, file_is.0, file_is.1, file_is.0, word_is.0, word_is.1, word_is.0) refl
+
+-- nothing is given for the options
+options_given : (given : Text → Option Text) → given (codes "PATH") ≡ None → given (codes "ENTRIES") ≡ None
+    → given (codes "RESERVED") ≡ None → given (codes "CALLS") ≡ None → given (codes "CONNECTIONS") ≡ None
+    → given (codes "STATUS") ≡ None → given (codes "LOG_CALLS") ≡ Some (codes "false")
+    → AreOptionsOf given no_options
+options_given given path entries reserved calls connections status log_calls = (
+  path,
+  (ap limit_meant entries, ap limit_meant reserved, ap limit_meant calls, ap limit_meant connections),
+  status,
+  ap flag_meant log_calls,
+)
+
+pub keep_met : (path file word : Text) → is_plain path ≡ true → is_plain file ≡ true → is_plain word ≡ true
+    → (command_in (keep_line path file word) ≡ Some (codes "keep")) × (house_in (keep_line path file word) ≡ Some path)
+    × (journal_in (keep_line path file word) ≡ Some file) × (port_in (keep_line path file word) ≡ Some word)
+    × (workers_in (keep_line path file word) ≡ None) × (connections_in (keep_line path file word) ≡ None)
+    × AreOptionsOf (word_for (keep_line path file word)) no_options
+keep_met path file word h f k =
+    let e = keep_given path file word h f k in
+    let flags = codes "LOG_CALLS" ∷ [] in
+    let each = codes "CONNECTIONS" ∷ telling_ids in
+    let calls = codes "CALLS" ∷ each in
+    let reserved = codes "RESERVED" ∷ calls in
+    let counts = codes "COUNT" ∷ option_ids in
+    let numbers = codes "WORKERS" ∷ counts in
+    let ports = codes "PORT" ∷ numbers in
+    let journal = rest_given (codes "HOUSE") (codes "JOURNAL" ∷ ports) _ _ _ _ e in
+    let port = rest_given (codes "JOURNAL") ports _ _ _ _ journal in
+    let workers = rest_given (codes "PORT") numbers _ _ _ _ port in
+    let connections = rest_given (codes "WORKERS") counts _ _ _ _ workers in
+    let replica = rest_given (codes "COUNT") option_ids _ _ _ _ connections in
+    let entries = rest_given (codes "PATH") limit_ids _ _ _ _ replica in
+    let reserve = rest_given (codes "ENTRIES") reserved _ _ _ _ entries in
+    let rate = rest_given (codes "RESERVED") calls _ _ _ _ reserve in
+    let per_firm = rest_given (codes "CALLS") each _ _ _ _ rate in
+    let status = rest_given (codes "CONNECTIONS") telling_ids _ _ _ _ per_firm in
+    let log_calls = rest_given (codes "STATUS") flags _ _ _ _ status in (
+      command_given keep_ids _ _ _ e,
+      first_given (codes "HOUSE") (codes "JOURNAL" ∷ ports) _ _ _ _ e,
+      first_given (codes "JOURNAL") ports _ _ _ _ journal,
+      first_given (codes "PORT") numbers _ _ _ _ port,
+      first_given (codes "WORKERS") counts _ _ _ _ workers,
+      first_given (codes "COUNT") option_ids _ _ _ _ connections,
+      options_given (word_for (keep_line path file word))
+          (first_given (codes "PATH") limit_ids _ _ _ _ replica)
+          (first_given (codes "ENTRIES") reserved _ _ _ _ entries)
+          (first_given (codes "RESERVED") calls _ _ _ _ reserve)
+          (first_given (codes "CALLS") each _ _ _ _ rate)
+          (first_given (codes "CONNECTIONS") telling_ids _ _ _ _ per_firm)
+          (first_given (codes "STATUS") flags _ _ _ _ status)
+          (first_given (codes "LOG_CALLS") [] _ _ _ _ log_calls),
+    )
+
+pub keep_taken : (path file word : Text) → is_plain path ≡ true → is_plain file ≡ true → is_plain word ≡ true
+    → takes program (keep_line path file word) ≡ true
+unfolding clap_on_literals
+keep_taken path file word h f k =
+    let path_is = read_plain path h in let file_is = read_plain file f in let word_is = read_plain word k in
+    rw (path_is.0, path_is.1, path_is.0, file_is.0, file_is.1, file_is.0, word_is.0, word_is.1, word_is.0) refl
+
+-- ---- what is found behind the command
+
+given_among : (id : Text) (met : Option (Text × List Row)) (rows : List Row) → Some rows ≡ option_map (λ p. p.1) met
+    → first_of id rows ≡ given_in id met
+given_among id None rows e = ap (λ (o : Option (List Row)). option_and_then (first_of id) o) e
+given_among id (Some p) rows e = ap (λ (o : Option (List Row)). option_and_then (first_of id) o) e
+
+-- what the parser met, with the rows below it
+met_here : (a : App) (words : List Text) (met : Option (Text × List Row)) → a ≡ program
+    → (is_simple a ≡ true → met ≡ subcommand_of a words) → met ≡ subcommand_of program words
+met_here a words met same met_is = met_is (ap is_simple same ∙ program_simple) ∙ ap (λ x. subcommand_of x words) same
+
+-- and what is given there for an argument
+given_here : (words : List Text) (id : Text) (met : Option (Text × List Row)) (found : Found)
+    → met ≡ subcommand_of program words → Some (rows_of found) ≡ option_map (λ p. p.1) met
+    → first_value found id ≡ given_in id (subcommand_of program words)
+given_here words id met found met_is rows_are =
+    first_value-rows found id ∙ given_among id met (rows_of found) rows_are ∙ ap (given_in id) met_is
+
+mapped_twice : {A B C : Type 0} (f : B → C) (g : A → B) (o : Option A)
+    → option_map f (option_map g o) ≡ option_map (λ x. f (g x)) o
+mapped_twice f g None = refl
+mapped_twice f g (Some x) = refl
+
+-- the command that was met is the one that its name says
+named : (m : ArgMatches) → option_map (λ p. p.0) (subcommand_rows_of m) ≡ subcommand_name_of m
+named m = mapped_twice _ _ _
+
+command_here : (m : ArgMatches) (words : List Text) (name : Text) → subcommand_rows_of m ≡ subcommand_of program words
+    → Some name ≡ subcommand_name_of m → command_in words ≡ Some name
+command_here m words name met_is name_is = ap (option_map (λ p. p.0)) (sym met_is) ∙ named m ∙ sym name_is
+
+-- the command that was met, and what is given there for each argument
+pub found_here : (a : App) (words : List Text) (m : ArgMatches) (name : Text) (found : Found) → a ≡ program
+    → (is_simple a ≡ true → subcommand_rows_of m ≡ subcommand_of a words) → Some name ≡ subcommand_name_of m
+    → Some (rows_of found) ≡ option_map (λ p. p.1) (subcommand_rows_of m)
+    → (command_in words ≡ Some name) × ((id : Text) → first_value found id ≡ word_for words id)
+found_here a words m name found same met_is name_is rows_are =
+    let met = met_here a words _ same met_is in
+    (command_here m words name met name_is, λ id. given_here words id _ found met rows_are)
+
+-- ---- the line that is read
+
+-- what was given for the options means the same where the same is given
+same_meaning : (f g : Text → Option Text) (options : KeepOptions) → ((id : Text) → f id ≡ g id)
+    → AreOptionsOf g options → AreOptionsOf f options
+same_meaning f g options same k = (
+  same (codes "PATH") ∙ k.0,
+  (
+    ap limit_meant (same (codes "ENTRIES")) ∙ k.1.0,
+    ap limit_meant (same (codes "RESERVED")) ∙ k.1.1,
+    ap limit_meant (same (codes "CALLS")) ∙ k.1.2,
+    ap limit_meant (same (codes "CONNECTIONS")) ∙ k.1.3,
+  ),
+  same (codes "STATUS") ∙ k.2,
+  ap flag_meant (same (codes "LOG_CALLS")) ∙ k.3,
+)
+
+-- what holds if the options mean some holds where they do
+meant_so : (given : Text → Option Text) (options : KeepOptions) (P : Type 0) → AreOptionsOf given options
+    → IfMeant given P → P
+meant_so given options P k p =
+    p (ap is_some k.1.0) (ap is_some k.1.1) (ap is_some k.1.2) (ap is_some k.1.3)
+
+-- of which command the line is, and what was given for its arguments
+pub line_found : (words : List Text) (command : Text) (given : Text → Option Text) (l : Line)
+    → command_in words ≡ Some command → ((id : Text) → given id ≡ word_for words id) → IsLineOf command given l
+    → IsLine words l
+line_found words command given (Batch path) c g k = (c ∙ ap Some k.0, sym (g (codes "HOUSE")) ∙ k.1)
+line_found words command given (Trace path number) c g k =
+    (c ∙ ap Some k.0, sym (g (codes "HOUSE")) ∙ k.1, ap trade_meant (sym (g (codes "N"))) ∙ k.2)
+line_found words command given (Serve path port workers connections) c g k = (
+  c ∙ ap Some k.0,
+  sym (g (codes "HOUSE")) ∙ k.1,
+  ap port_meant (sym (g (codes "PORT"))) ∙ k.2,
+  ap workers_meant (sym (g (codes "WORKERS"))) ∙ k.3,
+  ap connections_meant (sym (g (codes "COUNT"))) ∙ k.4,
+)
+line_found words command given (Keep path journal port workers connections options) c g k = (
+  c ∙ ap Some k.0,
+  sym (g (codes "HOUSE")) ∙ k.1,
+  sym (g (codes "JOURNAL")) ∙ k.2,
+  ap port_meant (sym (g (codes "PORT"))) ∙ k.3,
+  ap workers_meant (sym (g (codes "WORKERS"))) ∙ k.4,
+  ap connections_meant (sym (g (codes "COUNT"))) ∙ k.5,
+  same_meaning (word_for words) given options (λ id. sym (g id)) k.6,
+)
+
+-- ---- what a line asks for
+
+pub same_in_some : (a b : Text) → Some a ≡ Some b → a ≡ b
+same_in_some a b e = ap (λ (o : Option Text). unwrap_or o []) e
+
+same_number : (a b : Option ℕ) → Some a ≡ Some b → a ≡ b
+same_number a b e = ap (λ (o : Option (Option ℕ)). unwrap_or o None) e
+
+same_count : (a b : ℕ) → Some a ≡ Some b → a ≡ b
+same_count a b e = ap (λ (o : Option ℕ). unwrap_or o 0) e
+
+-- two commands are told apart by their first letter
+apart : codes "trace" ≡ codes "batch" → ⊥
+apart e = let bad : 116 ≡ 98 = ap (λ (t : Text). slice_index t 0) e in omega (arith, bad)
+
+serve_apart : codes "serve" ≡ codes "batch" → ⊥
+serve_apart e = let bad : 115 ≡ 98 = ap (λ (t : Text). slice_index t 0) e in omega (arith, bad)
+
+keep_apart : (name : Text) (first : ℕ) → slice_index name 0 ≡ first → (first ≡ 107 → ⊥) → codes "keep" ≡ name → ⊥
+keep_apart name first is other e = other (sym is ∙ ap (λ (t : Text). slice_index t 0) (sym e))
+
+keep_no_batch : codes "keep" ≡ codes "batch" → ⊥
+keep_no_batch e = keep_apart (codes "batch") 98 refl (λ (bad : 98 ≡ 107). omega (arith, bad)) e
+
+keep_no_trace : codes "keep" ≡ codes "trace" → ⊥
+keep_no_trace e = keep_apart (codes "trace") 116 refl (λ (bad : 116 ≡ 107). omega (arith, bad)) e
+
+keep_no_serve : codes "keep" ≡ codes "serve" → ⊥
+keep_no_serve e = keep_apart (codes "serve") 115 refl (λ (bad : 115 ≡ 107). omega (arith, bad)) e
+
+serve_no_trace : codes "serve" ≡ codes "trace" → ⊥
+serve_no_trace e = let bad : 115 ≡ 116 = ap (λ (t : Text). slice_index t 0) e in omega (arith, bad)
+
+pub asks_batch : (command path : Text) (given : Text → Option Text) (l : Line) → command ≡ codes "batch"
+    → given (codes "HOUSE") ≡ Some path → IsLineOf command given l → AsksForBatch path l
+asks_batch command path given (Batch file) c h k = same_in_some _ _ (sym k.1 ∙ h)
+asks_batch command path given (Trace file number) c h k = absurd (apart (sym k.0 ∙ c))
+asks_batch command path given (Serve file port workers connections) c h k = absurd (serve_apart (sym k.0 ∙ c))
+asks_batch command path given (Keep file journal port workers connections options) c h k =
+    absurd (keep_no_batch (sym k.0 ∙ c))
+
+pub asks_trace : (command path : Text) (given : Text → Option Text) (trade : Option ℕ) (l : Line)
+    → command ≡ codes "trace" → given (codes "HOUSE") ≡ Some path → trade_meant (given (codes "N")) ≡ Some trade
+    → IsLineOf command given l → AsksForTrace path trade l
+asks_trace command path given trade (Batch file) c h t k = absurd (apart (sym c ∙ k.0))
+asks_trace command path given trade (Trace file number) c h t k =
+    (same_in_some _ _ (sym k.1 ∙ h), same_number _ _ (sym k.2 ∙ t))
+asks_trace command path given trade (Serve file port workers connections) c h t k =
+    absurd (serve_no_trace (sym k.0 ∙ c))
+asks_trace command path given trade (Keep file journal port workers connections options) c h t k =
+    absurd (keep_no_trace (sym k.0 ∙ c))
+
+pub asks_serve : (command path : Text) (given : Text → Option Text) (port : ℕ) (l : Line) → command ≡ codes "serve"
+    → given (codes "HOUSE") ≡ Some path → port_meant (given (codes "PORT")) ≡ Some port → given (codes "WORKERS") ≡ None
+    → given (codes "COUNT") ≡ None → IsLineOf command given l → AsksToServe path port 4 0 l
+asks_serve command path given port (Batch file) c h p w n k = absurd (serve_apart (sym c ∙ k.0))
+asks_serve command path given port (Trace file number) c h p w n k = absurd (serve_no_trace (sym c ∙ k.0))
+asks_serve command path given port (Serve file at workers connections) c h p w n k = (
+  same_in_some _ _ (sym k.1 ∙ h),
+  same_count _ _ (sym k.2 ∙ p),
+  same_count _ _ (sym k.3 ∙ ap workers_meant w),
+  same_count _ _ (sym k.4 ∙ ap connections_meant n),
+)
+asks_serve command path given port (Keep file journal at workers connections options) c h p w n k =
+    absurd (keep_no_serve (sym k.0 ∙ c))
+
+-- no word was given where none is found
+none_found : {A : Type 0} (f : A → Text) (r : Option A) → option_map f r ≡ None → r ≡ None
+none_found f None e = refl
+none_found f (Some s) e = absurd cc
+
+-- limits that mean the same words are the same
+same_limits : (l m : Limits) (given : Text → Option Text) → AreLimitsOf given l → AreLimitsOf given m → l ≡ m
+same_limits l m given k n =
+    let entries = same_number _ _ (sym k.0 ∙ n.0) in
+    let reserve = same_number _ _ (sym k.1 ∙ n.1) in
+    let rate = same_number _ _ (sym k.2 ∙ n.2) in
+    let per_firm = same_number _ _ (sym k.3 ∙ n.3) in
+    ap (λ x. record l { most_entries = x }) entries
+    ∙ ap (λ x. record l { most_entries = m.most_entries; reserve = x }) reserve
+    ∙ ap (λ x. record m { rate = x; per_firm = l.per_firm }) rate
+    ∙ ap (λ x. record m { per_firm = x }) per_firm
+
+-- and so are the options, where none was given
+no_options_given : (options : KeepOptions) (given : Text → Option Text) → AreOptionsOf given options
+    → AreOptionsOf given no_options → options ≡ no_options
+no_options_given options given k n =
+    let replica = none_found _ options.replica (sym k.0 ∙ n.0) in
+    let limits = same_limits options.limits no_options.limits given k.1 n.1 in
+    let status = none_found _ options.status (sym k.2 ∙ n.2) in
+    let log_calls = sym k.3 ∙ n.3 in
+    ap (λ x. record options { replica = x }) replica
+    ∙ ap (λ x. record options { replica = None; limits = x }) limits
+    ∙ ap (λ x. record no_options { status = x; log_calls = options.log_calls }) status
+    ∙ ap (λ x. record no_options { log_calls = x }) log_calls
+
+pub asks_keep : (command path file : Text) (given : Text → Option Text) (port : ℕ) (l : Line) → command ≡ codes "keep"
+    → given (codes "HOUSE") ≡ Some path → given (codes "JOURNAL") ≡ Some file
+    → port_meant (given (codes "PORT")) ≡ Some port → given (codes "WORKERS") ≡ None
+    → given (codes "COUNT") ≡ None → AreOptionsOf given no_options → IsLineOf command given l
+    → AsksToKeep path file port 4 0 l
+asks_keep command path file given port (Batch house) c h j p w n r k = absurd (keep_no_batch (sym c ∙ k.0))
+asks_keep command path file given port (Trace house number) c h j p w n r k = absurd (keep_no_trace (sym c ∙ k.0))
+asks_keep command path file given port (Serve house at workers connections) c h j p w n r k =
+    absurd (keep_no_serve (sym c ∙ k.0))
+asks_keep command path file given port (Keep house journal at workers connections options) c h j p w n r k = (
+  same_in_some _ _ (sym k.1 ∙ h),
+  same_in_some _ _ (sym k.2 ∙ j),
+  same_count _ _ (sym k.3 ∙ p),
+  same_count _ _ (sym k.4 ∙ ap workers_meant w),
+  same_count _ _ (sym k.5 ∙ ap connections_meant n),
+  no_options_given options given k.6 r,
+)
+
+-- ---- what comes of it
+
+abbrev Reading : Type 0
+Reading = Result Line Fault
+
+by_both : (r : Reading) (P : Line → Type 0) (Q : Fault → Type 0) → IfOk r P → IfErr r Q → MatchResult r P Q
+by_both (Ok l) P Q h k = h
+by_both (Err e) P Q h k = k
+
+-- each line is read
+pub batch_read : (r : Reading) (words : List Text) (name path : Text) (given : Text → Option Text)
+    → words ≡ batch_line path → is_plain path ≡ true → command_in words ≡ Some name
+    → ((id : Text) → given id ≡ word_for words id) → IfOk r (IsLineOf name given)
+    → (name ≡ codes "batch" → is_some (given (codes "HOUSE")) ≡ true → IfErr r (λ e. e ≡ no_memory))
+    → MatchResult r (AsksForBatch path) (λ e. e ≡ no_memory)
+batch_read r words name path given e plain named_so given_so read fails =
+    let met = batch_met path plain in
+    let name_is : name ≡ codes "batch" = same_in_some _ _ (sym named_so ∙ ap command_in e ∙ met.0) in
+    let house_is : given (codes "HOUSE") ≡ Some path = given_so (codes "HOUSE") ∙ ap house_in e ∙ met.1 in
+    by_both r _ _ (IfOk-weaker r _ _ (λ l h. asks_batch name path given l name_is house_is h) read)
+    (fails name_is (ap is_some house_is))
+
+pub totals_read : (r : Reading) (words : List Text) (name path : Text) (given : Text → Option Text)
+    → words ≡ totals_line path → is_plain path ≡ true → command_in words ≡ Some name
+    → ((id : Text) → given id ≡ word_for words id) → IfOk r (IsLineOf name given)
+    → (name ≡ codes "trace" → is_some (given (codes "HOUSE")) ≡ true → is_some (trade_meant (given (codes "N"))) ≡ true
+    → IfErr r (λ e. e ≡ no_memory))
+    → MatchResult r (AsksForTrace path None) (λ e. e ≡ no_memory)
+totals_read r words name path given e plain named_so given_so read fails =
+    let met = totals_met path plain in
+    let name_is : name ≡ codes "trace" = same_in_some _ _ (sym named_so ∙ ap command_in e ∙ met.0) in
+    let house_is : given (codes "HOUSE") ≡ Some path = given_so (codes "HOUSE") ∙ ap house_in e ∙ met.1 in
+    let meant : trade_meant (given (codes "N")) ≡ Some None =
+    ap trade_meant (given_so (codes "N") ∙ ap trade_in e ∙ met.2) in
+    by_both r _ _ (IfOk-weaker r _ _ (λ l h. asks_trace name path given None l name_is house_is meant h) read)
+    (fails name_is (ap is_some house_is) (ap is_some meant))
+
+pub trace_read : (r : Reading) (words : List Text) (name path word : Text) (number : ℕ) (given : Text → Option Text)
+    → words ≡ trace_line path word → is_plain path ≡ true → is_plain word ≡ true → entry_of word ≡ Some number
+    → command_in words ≡ Some name → ((id : Text) → given id ≡ word_for words id) → IfOk r (IsLineOf name given)
+    → (name ≡ codes "trace" → is_some (given (codes "HOUSE")) ≡ true → is_some (trade_meant (given (codes "N"))) ≡ true
+    → IfErr r (λ e. e ≡ no_memory))
+    → MatchResult r (AsksForTrace path (Some number)) (λ e. e ≡ no_memory)
+trace_read r words name path word number given e plain plain_word number_is named_so given_so read fails =
+    let met = trace_met path word plain plain_word in
+    let name_is : name ≡ codes "trace" = same_in_some _ _ (sym named_so ∙ ap command_in e ∙ met.0) in
+    let house_is : given (codes "HOUSE") ≡ Some path = given_so (codes "HOUSE") ∙ ap house_in e ∙ met.1 in
+    let meant : trade_meant (given (codes "N")) ≡ Some (Some number) =
+    ap trade_meant (given_so (codes "N") ∙ ap trade_in e ∙ met.2) ∙ ap (option_map Some) number_is in
+    by_both r _ _ (IfOk-weaker r _ _ (λ l h. asks_trace name path given (Some number) l name_is house_is meant h) read)
+    (fails name_is (ap is_some house_is) (ap is_some meant))
+
+pub serve_read : (r : Reading) (words : List Text) (name path word : Text) (port : ℕ) (given : Text → Option Text)
+    → words ≡ serve_line path word → is_plain path ≡ true → is_plain word ≡ true → port_meant (Some word) ≡ Some port
+    → command_in words ≡ Some name → ((id : Text) → given id ≡ word_for words id) → IfOk r (IsLineOf name given)
+    → (name ≡ codes "serve" → is_some (given (codes "HOUSE")) ≡ true
+    → is_some (port_meant (given (codes "PORT"))) ≡ true → is_some (workers_meant (given (codes "WORKERS"))) ≡ true
+    → is_some (connections_meant (given (codes "COUNT"))) ≡ true → IfErr r (λ e. e ≡ no_memory))
+    → MatchResult r (AsksToServe path port 4 0) (λ e. e ≡ no_memory)
+serve_read r words name path word port given e plain plain_word port_is named_so given_so read fails =
+    let met = serve_met path word plain plain_word in
+    let name_is : name ≡ codes "serve" = same_in_some _ _ (sym named_so ∙ ap command_in e ∙ met.0) in
+    let house_is : given (codes "HOUSE") ≡ Some path = given_so (codes "HOUSE") ∙ ap house_in e ∙ met.1 in
+    let meant : port_meant (given (codes "PORT")) ≡ Some port =
+    ap port_meant (given_so (codes "PORT") ∙ ap port_in e ∙ met.2) ∙ port_is in
+    let usual : given (codes "WORKERS") ≡ None = given_so (codes "WORKERS") ∙ ap workers_in e ∙ met.3 in
+    let endless : given (codes "COUNT") ≡ None = given_so (codes "COUNT") ∙ ap connections_in e ∙ met.4 in
+    by_both r _ _
+    (IfOk-weaker r _ _ (λ l h. asks_serve name path given port l name_is house_is meant usual endless h) read)
+    (fails name_is (ap is_some house_is) (ap is_some meant) (ap (λ (o : Option Text). is_some (workers_meant o)) usual)
+    (ap (λ (o : Option Text). is_some (connections_meant o)) endless))
+
+pub keep_read : (r : Reading) (words : List Text) (name path file word : Text) (port : ℕ) (given : Text → Option Text)
+    → words ≡ keep_line path file word → is_plain path ≡ true → is_plain file ≡ true → is_plain word ≡ true
+    → port_meant (Some word) ≡ Some port → command_in words ≡ Some name → ((id : Text) → given id ≡ word_for words id)
+    → IfOk r (IsLineOf name given)
+    → (name ≡ codes "keep" → is_some (given (codes "HOUSE")) ≡ true → is_some (given (codes "JOURNAL")) ≡ true
+    → is_some (port_meant (given (codes "PORT"))) ≡ true → is_some (workers_meant (given (codes "WORKERS"))) ≡ true
+    → is_some (connections_meant (given (codes "COUNT"))) ≡ true → IfMeant given (IfErr r (λ e. e ≡ no_memory)))
+    → MatchResult r (AsksToKeep path file port 4 0) (λ e. e ≡ no_memory)
+keep_read r words name path file word port given e plain plain_file plain_word port_is named_so given_so read fails =
+    let met = keep_met path file word plain plain_file plain_word in
+    let name_is : name ≡ codes "keep" = same_in_some _ _ (sym named_so ∙ ap command_in e ∙ met.0) in
+    let house_is : given (codes "HOUSE") ≡ Some path = given_so (codes "HOUSE") ∙ ap house_in e ∙ met.1 in
+    let journal_is : given (codes "JOURNAL") ≡ Some file = given_so (codes "JOURNAL") ∙ ap journal_in e ∙ met.2 in
+    let meant : port_meant (given (codes "PORT")) ≡ Some port =
+    ap port_meant (given_so (codes "PORT") ∙ ap port_in e ∙ met.3) ∙ port_is in
+    let usual : given (codes "WORKERS") ≡ None = given_so (codes "WORKERS") ∙ ap workers_in e ∙ met.4 in
+    let endless : given (codes "COUNT") ≡ None = given_so (codes "COUNT") ∙ ap connections_in e ∙ met.5 in
+    let none : AreOptionsOf given no_options =
+    same_meaning given (word_for words) no_options given_so
+    (subst (λ (w : List Text). AreOptionsOf (word_for w) no_options) (sym e) met.6) in
+    by_both r _ _
+    (IfOk-weaker r _ _
+    (λ l h. asks_keep name path file given port l name_is house_is journal_is meant usual endless none h) read)
+    (meant_so given no_options _ none
+    (fails name_is (ap is_some house_is) (ap is_some journal_is) (ap is_some meant)
+    (ap (λ (o : Option Text). is_some (workers_meant o)) usual)
+    (ap (λ (o : Option Text). is_some (connections_meant o)) endless)))
+
+-- a line that the parser finds in the words is told, unless memory runs out
+pub line_read : (r : Reading) (words : List Text) (name : Text) (given : Text → Option Text) (l : Line) → IsLine words l
+    → command_in words ≡ Some name → ((id : Text) → given id ≡ word_for words id)
+    → (name ≡ codes "batch" → is_some (given (codes "HOUSE")) ≡ true → IfErr r (λ e. e ≡ no_memory))
+    → (name ≡ codes "trace" → is_some (given (codes "HOUSE")) ≡ true → is_some (trade_meant (given (codes "N"))) ≡ true
+    → IfErr r (λ e. e ≡ no_memory))
+    → (name ≡ codes "serve" → is_some (given (codes "HOUSE")) ≡ true
+    → is_some (port_meant (given (codes "PORT"))) ≡ true → is_some (workers_meant (given (codes "WORKERS"))) ≡ true
+    → is_some (connections_meant (given (codes "COUNT"))) ≡ true → IfErr r (λ e. e ≡ no_memory))
+    → (name ≡ codes "keep" → is_some (given (codes "HOUSE")) ≡ true → is_some (given (codes "JOURNAL")) ≡ true
+    → is_some (port_meant (given (codes "PORT"))) ≡ true → is_some (workers_meant (given (codes "WORKERS"))) ≡ true
+    → is_some (connections_meant (given (codes "COUNT"))) ≡ true → IfMeant given (IfErr r (λ e. e ≡ no_memory)))
+    → IfErr r (λ e. e ≡ no_memory)
+line_read r words name given (Batch path) found named_so given_so batch trace serve keep =
+    batch (same_in_some _ _ (sym named_so ∙ found.0)) (ap is_some (given_so (codes "HOUSE") ∙ found.1))
+line_read r words name given (Trace path number) found named_so given_so batch trace serve keep =
+    trace (same_in_some _ _ (sym named_so ∙ found.0)) (ap is_some (given_so (codes "HOUSE") ∙ found.1))
+    (ap is_some (ap trade_meant (given_so (codes "N")) ∙ found.2))
+line_read r words name given (Serve path port workers connections) found named_so given_so batch trace serve keep =
+    serve (same_in_some _ _ (sym named_so ∙ found.0)) (ap is_some (given_so (codes "HOUSE") ∙ found.1))
+    (ap is_some (ap port_meant (given_so (codes "PORT")) ∙ found.2))
+    (ap is_some (ap workers_meant (given_so (codes "WORKERS")) ∙ found.3))
+    (ap is_some (ap connections_meant (given_so (codes "COUNT")) ∙ found.4))
+line_read r words name given (Keep path journal port workers connections options) found named_so given_so
+    batch trace serve keep =
+    meant_so given options _ (same_meaning given (word_for words) options given_so found.6)
+    (keep (same_in_some _ _ (sym named_so ∙ found.0)) (ap is_some (given_so (codes "HOUSE") ∙ found.1))
+    (ap is_some (given_so (codes "JOURNAL") ∙ found.2))
+    (ap is_some (ap port_meant (given_so (codes "PORT")) ∙ found.3))
+    (ap is_some (ap workers_meant (given_so (codes "WORKERS")) ∙ found.4))
+    (ap is_some (ap connections_meant (given_so (codes "COUNT")) ∙ found.5)))

@@ -1,0 +1,4 @@
+pub mod Limits
+pub mod Faults
+pub mod Options
+pub mod Lines

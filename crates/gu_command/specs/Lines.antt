@@ -1,0 +1,242 @@
+-- What the command lines of the program mean.
+use Rattle.std.specs.Prelude.{◌≡◌, ◌==◌, ℕ, nat_le, Bool, true, false, not, if◌then◌else◌, List, []}
+use Rattle.std.specs.Prelude.{◌∷◌, Option, Some, None, codes, option_map, option_and_then, bytes_eq}
+use Rattle.std.specs.Prelude.{IsTrue, Result, Ok, Err}
+use Rattle.clap.specs.Words.{App, Rule, Text, app_of, first_of, new_app, new_rule, subcommand_of}
+use Rattle.clap.specs.Words.{takes, with_rule, with_subcommand}
+use Rattle.clap.specs.declared.builder.command.Command.{Command}
+use Rattle.clap.specs.declared.builder.command.Command.TheViews.{out-Command as fields_of}
+use Rattle.clap.specs.declared.builder.action.ArgAction.TheVariants.{Set}
+use Rattle.gu_desk.specs.Views.{is_worker_count, most_workers}
+use Rattle.gu_message.specs.Values.{entry_of}
+use Rattle.gu_command.specs.Faults.{no_memory}
+use Rattle.gu_command.specs.Options.{option_rule, optioned, AreOptionsOf, no_options}
+use Rattle.gu_command.specs.Limits.{most_port, usual_workers, most_connections}
+use Rattle.gu_command.specs.declared.fault.Fault.{Fault}
+use Rattle.gu_command.specs.declared.fault.Fault.TheVariants.{Usage, Run}
+use Rattle.gu_batch.specs.declared.batch.RunError.TheVariants.{Memory}
+use Rattle.gu_command.specs.declared.line.Line.{Line}
+use Rattle.gu_command.specs.declared.line.Line.TheVariants.{Batch, Trace, Serve, Keep}
+
+-- the argument HOUSE
+abbrev pub house_rule : Rule
+house_rule = record (new_rule (codes "HOUSE")) { required = true; action = Some Set }
+
+-- the command `batch HOUSE`
+abbrev pub batch : App
+batch = with_rule (new_app (codes "batch")) house_rule
+
+-- the argument `--trade N`
+abbrev pub trade_rule : Rule
+trade_rule = record (new_rule (codes "N")) { long = Some (codes "trade"); action = Some Set }
+
+-- the command `trace HOUSE [--trade N]`
+abbrev pub trace : App
+trace = with_rule (with_rule (new_app (codes "trace")) house_rule) trade_rule
+
+-- the argument `--port PORT`
+abbrev pub port_rule : Rule
+port_rule = record (new_rule (codes "PORT")) {
+  long = Some (codes "port");
+  required = true;
+  action = Some Set;
+}
+
+-- the argument `--workers WORKERS`
+abbrev pub workers_rule : Rule
+workers_rule =
+    record (new_rule (codes "WORKERS")) { long = Some (codes "workers"); action = Some Set }
+
+-- the argument `--connections COUNT`
+abbrev pub connections_rule : Rule
+connections_rule =
+    record (new_rule (codes "COUNT")) { long = Some (codes "connections"); action = Some Set }
+
+-- the command `serve HOUSE --port PORT [--workers WORKERS] [--connections COUNT]`
+abbrev pub serve : App
+serve =
+    with_rule
+    (with_rule (with_rule (with_rule (new_app (codes "serve")) house_rule) port_rule) workers_rule)
+    connections_rule
+
+-- the argument JOURNAL
+abbrev pub journal_rule : Rule
+journal_rule = record (new_rule (codes "JOURNAL")) { required = true; action = Some Set }
+
+-- the command `keep HOUSE JOURNAL --port PORT [--workers WORKERS] [--connections COUNT]` and its
+-- options
+abbrev pub keep : App
+keep = optioned (with_rule (with_rule (with_rule (with_rule (with_rule (new_app (codes "keep"))
+    house_rule) journal_rule) port_rule) workers_rule) connections_rule)
+
+-- the program, as the parser sees it: its words begin with a command, and there is no command for
+-- help
+abbrev pub top : App
+top = record (new_app (codes "allocd")) {
+  top = record (new_app (codes "allocd")).top {
+    no_binary_name = true;
+    subcommand_required = true;
+    disable_help_subcommand = true;
+  };
+}
+
+-- the program with its four commands
+abbrev pub program : App
+program = with_subcommand (with_subcommand (with_subcommand (with_subcommand top batch.top)
+    trace.top) serve.top) keep.top
+
+-- the command was made, or there was no memory for it
+abbrev pub Makes : App → Result Command Fault → Type 0
+Makes app (Ok command) = (app_of command ≡ app) × ((fields_of command).has_globals ≡ false)
+Makes app (Err fault) = fault ≡ no_memory
+
+-- a word that is no option: it doesn't begin with a hyphen
+abbrev pub is_plain : Text → Bool
+is_plain [] = true
+is_plain (x ∷ xs) = not (x == 45)
+
+-- the command that the parser finds in the words
+abbrev pub command_in : List Text → Option Text
+command_in words = option_map (λ p. p.0) (subcommand_of program words)
+
+-- what it finds for an argument of this name
+abbrev pub word_for : List Text → Text → Option Text
+word_for words name = option_and_then (λ p. first_of name p.1) (subcommand_of program words)
+
+-- the house file that it finds
+abbrev pub house_in : List Text → Option Text
+house_in words = word_for words (codes "HOUSE")
+
+-- the journal that it finds
+abbrev pub journal_in : List Text → Option Text
+journal_in words = word_for words (codes "JOURNAL")
+
+-- what it finds behind `--trade`
+abbrev pub trade_in : List Text → Option Text
+trade_in words = word_for words (codes "N")
+
+-- what it finds behind `--port`
+abbrev pub port_in : List Text → Option Text
+port_in words = word_for words (codes "PORT")
+
+-- what it finds behind `--workers`
+abbrev pub workers_in : List Text → Option Text
+workers_in words = word_for words (codes "WORKERS")
+
+-- what it finds behind `--connections`
+abbrev pub connections_in : List Text → Option Text
+connections_in words = word_for words (codes "COUNT")
+
+-- which trade that means: none, or the one of this number, and nothing at all where it is the
+-- number of no entry
+abbrev pub trade_meant : Option Text → Option (Option ℕ)
+trade_meant None = Some None
+trade_meant (Some word) = option_map Some (entry_of word)
+
+-- a number of 1 to so many, without leading zeros
+abbrev pub up_to : ℕ → Text → Option ℕ
+up_to most word = option_and_then (λ n. if nat_le n most then Some n else None) (entry_of word)
+
+-- which port a word means: one of 1 to 65,535
+abbrev pub port_meant : Option Text → Option ℕ
+port_meant word = option_and_then (up_to most_port) word
+
+-- how many workers: 1 to 16, and 4 where there is no word
+abbrev pub workers_meant : Option Text → Option ℕ
+workers_meant None = Some usual_workers
+workers_meant (Some word) = up_to most_workers word
+
+-- how many connections: 0 to 1,000,000, and 0, which is without end, where there is no word
+abbrev pub connections_meant : Option Text → Option ℕ
+connections_meant None = Some 0
+connections_meant (Some word) =
+    if bytes_eq word (codes "0") then Some 0 else up_to most_connections word
+
+-- what can be wrong with a command line: it isn't one of the program's, or memory ran out
+abbrev pub is_line_fault : Fault → Bool
+is_line_fault (Usage text) = true
+is_line_fault (Run Memory) = true
+is_line_fault _ = false
+
+-- what a line asks for is a command and what was given for its arguments
+abbrev pub IsLineOf : Text → (Text → Option Text) → Line → Type 0
+IsLineOf command given (Batch path) =
+    (command ≡ codes "batch") × (given (codes "HOUSE") ≡ Some path.bytes.items)
+IsLineOf command given (Trace path number) =
+    (command ≡ codes "trace") × (given (codes "HOUSE") ≡ Some path.bytes.items)
+    × (trade_meant (given (codes "N")) ≡ Some number)
+IsLineOf command given (Serve path port workers connections) =
+    (command ≡ codes "serve") × (given (codes "HOUSE") ≡ Some path.bytes.items)
+    × (port_meant (given (codes "PORT")) ≡ Some port)
+    × (workers_meant (given (codes "WORKERS")) ≡ Some workers)
+    × (connections_meant (given (codes "COUNT")) ≡ Some connections)
+IsLineOf command given (Keep path journal port workers connections options) =
+    (command ≡ codes "keep") × (given (codes "HOUSE") ≡ Some path.bytes.items)
+    × (given (codes "JOURNAL") ≡ Some journal.bytes.items)
+    × (port_meant (given (codes "PORT")) ≡ Some port)
+    × (workers_meant (given (codes "WORKERS")) ≡ Some workers)
+    × (connections_meant (given (codes "COUNT")) ≡ Some connections) × AreOptionsOf given options
+
+-- it is what the parser finds in the words
+abbrev pub IsLine : List Text → Line → Type 0
+IsLine words (Batch path) =
+    (command_in words ≡ Some (codes "batch")) × (house_in words ≡ Some path.bytes.items)
+IsLine words (Trace path number) =
+    (command_in words ≡ Some (codes "trace")) × (house_in words ≡ Some path.bytes.items)
+    × (trade_meant (trade_in words) ≡ Some number)
+IsLine words (Serve path port workers connections) =
+    (command_in words ≡ Some (codes "serve")) × (house_in words ≡ Some path.bytes.items)
+    × (port_meant (port_in words) ≡ Some port) × (workers_meant (workers_in words) ≡ Some workers)
+    × (connections_meant (connections_in words) ≡ Some connections)
+IsLine words (Keep path journal port workers connections options) =
+    (command_in words ≡ Some (codes "keep"))
+    × (house_in words ≡ Some path.bytes.items) × (journal_in words ≡ Some journal.bytes.items)
+    × (port_meant (port_in words) ≡ Some port) × (workers_meant (workers_in words) ≡ Some workers)
+    × (connections_meant (connections_in words) ≡ Some connections)
+    × AreOptionsOf (word_for words) options
+
+-- the words are one of the program's lines, with any of its options: the parser takes them, and
+-- this is the line that it finds
+pub record IsOneOfItsLines (words : List Text) : Type 0 where
+  pub taken : takes program words ≡ true
+  pub line : Line
+  pub found : IsLine words line
+
+-- the line asks for a batch by the house file at the path
+abbrev pub AsksForBatch : Text → Line → Type 0
+AsksForBatch path (Batch house) = house.bytes.items ≡ path
+AsksForBatch path (Trace house trade) = ⊥
+AsksForBatch path (Serve house port workers connections) = ⊥
+AsksForBatch path (Keep house journal port workers connections options) = ⊥
+
+-- the line asks for the totals by the house file at the path, and for the trace of this trade, if
+-- one is named
+abbrev pub AsksForTrace : Text → Option ℕ → Line → Type 0
+AsksForTrace path asked (Trace house trade) = (house.bytes.items ≡ path) × (trade ≡ asked)
+AsksForTrace path asked (Batch house) = ⊥
+AsksForTrace path asked (Serve house port workers connections) = ⊥
+AsksForTrace path asked (Keep house journal port workers connections options) = ⊥
+
+-- the line asks to serve by the house file at the path: on this port, by so many workers, so many
+-- connections
+abbrev pub AsksToServe : Text → ℕ → ℕ → ℕ → Line → Type 0
+AsksToServe path p w n (Serve house port workers connections) =
+    (house.bytes.items ≡ path) × (port ≡ p) × (workers ≡ w) × (connections ≡ n)
+AsksToServe path p w n (Batch house) = ⊥
+AsksToServe path p w n (Trace house trade) = ⊥
+AsksToServe path p w n (Keep house journal port workers connections options) = ⊥
+
+-- the line asks to keep a book in the journal at a path, with no options, and to serve it
+abbrev pub AsksToKeep : Text → Text → ℕ → ℕ → ℕ → Line → Type 0
+AsksToKeep path file p w n (Keep house journal port workers connections options) =
+    (house.bytes.items ≡ path) × (journal.bytes.items ≡ file) × (port ≡ p) × (workers ≡ w)
+    × (connections ≡ n) × (options ≡ no_options)
+AsksToKeep path file p w n (Batch house) = ⊥
+AsksToKeep path file p w n (Trace house trade) = ⊥
+AsksToKeep path file p w n (Serve house port workers connections) = ⊥
+
+-- a line that asks to serve does so by as many workers as a desk may have
+abbrev pub HasWorkers : Line → Type 0
+HasWorkers (Keep house journal port workers connections options) = IsTrue (is_worker_count workers)
+HasWorkers (Serve house port workers connections) = IsTrue (is_worker_count workers)
+HasWorkers _ = Unit {0}

@@ -1,0 +1,17 @@
+//! The command line of the program, what it asks for, and why a run ended otherwise than well.
+//!
+//! - `command_line` reads the words after the program's name into a `Line`.
+//! - A `Fault` says in one line why the program ended otherwise than well, and with which status.
+#![tactic(auto)]
+
+mod errors;
+mod fault;
+mod line;
+mod options;
+mod order;
+
+pub use errors::{KeepError, RecordError, ServeError, ServiceError};
+pub use fault::{Fault, fault_at};
+pub use line::{Line, command_line, unread_words};
+pub use options::KeepOptions;
+pub use order::Order;

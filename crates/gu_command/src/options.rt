@@ -1,0 +1,254 @@
+//! The options of the command `keep` beside those of `serve`.
+
+ghost use Rattle.std.specs.Prelude.{◌≡◌, false, None, option_map, IsTrue, IfOk, IfErr};
+ghost use Rattle.clap.specs.Words.{App, first_value, found_of, rule_of};
+ghost use Rattle.gu_command.specs.Faults.{no_memory};
+ghost use Rattle.gu_command.specs.Lines.{Makes, is_line_fault};
+ghost use Rattle.gu_command.specs.Options.{replica_rule, most_entries_rule, reserve_rule};
+ghost use Rattle.gu_command.specs.Options.{rate_rule, per_firm_rule, status_rule, log_calls_rule};
+ghost use Rattle.gu_command.specs.Options.{limited, telling, optioned, flag_meant, limit_meant};
+ghost use Rattle.gu_command.specs.Options.{AreLimitsOf, AreOptionsOf, IfMeant};
+
+use crate::fault::Fault;
+use crate::line::{number_fault, option, with_option};
+use clap::{Arg, ArgAction, ArgMatches, Command};
+use gu_base::Number;
+use gu_limits::Limits;
+use gu_message::entry;
+use std::alloc::Global;
+
+/// What a line that keeps a book asks for beside what it has to.
+#[derive(Drop)]
+pub struct KeepOptions {
+    /// `--replicate PATH`: the socket of whoever puts the journal on other machines.
+    pub replica: Option<String>,
+    /// `--most-entries ENTRIES`, `--reserve RESERVED`, `--rate CALLS`, `--per-firm CONNECTIONS`:
+    /// what firms may have.
+    pub limits: Limits,
+    /// `--status PORT|PATH`: where figures, readiness and health are told over HTTP.
+    pub status: Option<String>,
+    /// `--log-calls`: whether each call is told on standard error.
+    pub log_calls: bool,
+}
+
+/// The names by which `ArgMatches` gives the options.
+const REPLICA: &str = "PATH";
+
+const MOST_ENTRIES: &str = "ENTRIES";
+
+const RESERVE: &str = "RESERVED";
+
+const RATE: &str = "CALLS";
+
+const PER_FIRM: &str = "CONNECTIONS";
+
+const STATUS: &str = "STATUS";
+
+const LOG_CALLS: &str = "LOG_CALLS";
+
+/// The option `--replicate`.
+fn replica_option<'a>(alloc: Global) -> Arg<'a>
+    ensures rule { rule_of result ≡ replica_rule }
+    ensures local { result.global ≡ false }
+{
+    option(
+        alloc,
+        REPLICA,
+        "replicate",
+        "The socket of whoever puts the journal on other machines, which have to have it too then",
+        false,
+    )
+}
+
+/// The option `--most-entries`.
+fn most_entries_option<'a>(alloc: Global) -> Arg<'a>
+    ensures rule { rule_of result ≡ most_entries_rule }
+    ensures local { result.global ≡ false }
+{
+    option(
+        alloc,
+        MOST_ENTRIES,
+        "most-entries",
+        "How many entries of a firm the book takes, 1 to 1000000; the house has no limit",
+        false,
+    )
+}
+
+/// The option `--reserve`.
+fn reserve_option<'a>(alloc: Global) -> Arg<'a>
+    ensures rule { rule_of result ≡ reserve_rule }
+    ensures local { result.global ≡ false }
+{
+    option(
+        alloc,
+        RESERVE,
+        "reserve",
+        "How many of the book's 1000000 entries are the house's alone, 1 to 1000000",
+        false,
+    )
+}
+
+/// The option `--rate`.
+fn rate_option<'a>(alloc: Global) -> Arg<'a>
+    ensures rule { rule_of result ≡ rate_rule }
+    ensures local { result.global ≡ false }
+{
+    option(
+        alloc,
+        RATE,
+        "rate",
+        "How many calls of a firm are made in a second, 1 to 1000000; the others wait",
+        false,
+    )
+}
+
+/// The option `--per-firm`.
+fn per_firm_option<'a>(alloc: Global) -> Arg<'a>
+    ensures rule { rule_of result ≡ per_firm_rule }
+    ensures local { result.global ≡ false }
+{
+    option(
+        alloc,
+        PER_FIRM,
+        "per-firm",
+        "How many connections a firm may have, 1 to 1000000; the house has no limit",
+        false,
+    )
+}
+
+/// A command with the options that say what firms may have.
+fn with_limits<'a>(alloc: Global, command: Result<Command<'a>, Fault>) -> Result<Command<'a>, Fault>
+    ensures { (app : App) → Makes app command.entry → Makes (limited app) result }
+{
+    let command = with_option(command, most_entries_option(alloc));
+    let command = with_option(command, reserve_option(alloc));
+    let command = with_option(command, rate_option(alloc));
+    with_option(command, per_firm_option(alloc))
+}
+
+/// The option `--status`.
+fn status_option<'a>(alloc: Global) -> Arg<'a>
+    ensures rule { rule_of result ≡ status_rule }
+    ensures local { result.global ≡ false }
+{
+    option(
+        alloc,
+        STATUS,
+        "status",
+        "Where /metrics, /ready and /health are told: a port of 127.0.0.1, or a socket's path",
+        false,
+    )
+}
+
+/// The option `--log-calls`.
+fn log_calls_option<'a>(alloc: Global) -> Arg<'a>
+    ensures rule { rule_of result ≡ log_calls_rule }
+    ensures local { result.global ≡ false }
+{
+    Arg::new(alloc, LOG_CALLS)
+        .long("log-calls")
+        .help("Tells each call on standard error, and how it was answered")
+        .action(ArgAction::SetTrue)
+}
+
+/// A command with the options that say what an operator is told.
+fn with_telling<'a>(
+    alloc: Global,
+    command: Result<Command<'a>, Fault>,
+) -> Result<Command<'a>, Fault>
+    ensures { (app : App) → Makes app command.entry → Makes (telling app) result }
+{
+    let command = with_option(command, status_option(alloc));
+    with_option(command, log_calls_option(alloc))
+}
+
+/// A command with all of these options.
+pub(crate) fn with_options<'a>(
+    alloc: Global,
+    command: Result<Command<'a>, Fault>,
+) -> Result<Command<'a>, Fault>
+    ensures { (app : App) → Makes app command.entry → Makes (optioned app) result }
+{
+    let command = with_option(command, replica_option(alloc));
+    let command = with_limits(alloc, command);
+    with_telling(alloc, command)
+}
+
+/// The word behind `--replicate` or `--status`, in memory of its own, and none where there is no
+/// such word.
+fn word_of(alloc: Global, word: Option<&str>) -> Result<Option<String>, Fault>
+    ensures ok { IfOk result (λ r.
+        option_map (λ w. w.now) word.entry ≡ option_map (λ s. s.bytes.items) r) }
+    ensures err { IfErr result (λ e. e ≡ no_memory) }
+    ensures fault { IfErr result (λ e. IsTrue (is_line_fault e)) }
+{
+    let Some(word) = word else {
+        return Ok(None);
+    };
+    Ok(Some(String::from_str(alloc, word)?))
+}
+
+/// Whether a flag was given.
+fn is_set(word: Option<&str>) -> bool
+    ensures { result ≡ flag_meant (option_map (λ w. w.now) word.entry) }
+{
+    match word {
+        Some(word) => word == "true",
+        None => false,
+    }
+}
+
+/// What the word behind an option for a limit means: 1 to 1,000,000, and no limit where there is
+/// no such word.
+fn limit_of(alloc: Global, word: Option<&str>, option: &str) -> Result<Option<u32>, Fault>
+    ensures ok { IfOk result (λ t. limit_meant (option_map (λ w. w.now) word.entry) ≡ Some t) }
+    ensures err { IfErr result (λ _. limit_meant (option_map (λ w. w.now) word.entry) ≡ None) }
+    ensures fault { IfErr result (λ e. IsTrue (is_line_fault e)) }
+{
+    let Some(word) = word else {
+        return Ok(None);
+    };
+    match entry(word.as_bytes()) {
+        Some(number) => Ok(Some(number.get())),
+        None => Err(number_fault(alloc, word, option, 1, Number::MAX)),
+    }
+}
+
+/// What the words behind `keep` let firms have.
+fn limits_of(alloc: Global, given: &ArgMatches<'_>) -> Result<Limits, Fault>
+    ensures ok { IfOk result (AreLimitsOf (first_value (found_of given.now))) }
+    ensures meant { IfMeant (first_value (found_of given.now)) (IfErr result (λ e. e ≡ no_memory)) }
+    ensures fault { IfErr result (λ e. IsTrue (is_line_fault e)) }
+{
+    let most_entries = limit_of(
+        alloc,
+        given.get_str(MOST_ENTRIES),
+        "--most-entries <ENTRIES>",
+    )?;
+    let reserve = limit_of(alloc, given.get_str(RESERVE), "--reserve <RESERVED>")?;
+    let rate = limit_of(alloc, given.get_str(RATE), "--rate <CALLS>")?;
+    let per_firm = limit_of(alloc, given.get_str(PER_FIRM), "--per-firm <CONNECTIONS>")?;
+    Ok(Limits {
+        most_entries,
+        reserve,
+        rate,
+        per_firm,
+    })
+}
+
+/// What the words behind `keep` ask for beside what they have to.
+pub(crate) fn options_of(alloc: Global, given: &ArgMatches<'_>) -> Result<KeepOptions, Fault>
+    ensures ok { IfOk result (AreOptionsOf (first_value (found_of given.now))) }
+    ensures meant { IfMeant (first_value (found_of given.now)) (IfErr result (λ e. e ≡ no_memory)) }
+    ensures fault { IfErr result (λ e. IsTrue (is_line_fault e)) }
+{
+    let limits = limits_of(alloc, given)?;
+    let replica = word_of(alloc, given.get_str(REPLICA))?;
+    let status = word_of(alloc, given.get_str(STATUS))?;
+    Ok(KeepOptions {
+        replica,
+        limits,
+        status,
+        log_calls: is_set(given.get_str(LOG_CALLS)),
+    })
+}

@@ -1,0 +1,4 @@
+pub mod Accepting
+pub mod Serving
+pub mod Turns
+pub mod LoggingOut

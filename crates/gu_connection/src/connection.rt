@@ -1,0 +1,386 @@
+//! One connection: its session, the bytes that came of it, and what it is to be sent. Nothing here
+//! asks the book.
+ghost use Rattle.std.specs.Prelude.{◌≡◌, ◌≤◌, ◌≤ℤ◌, pos, ◌+◌, ◌++◌, ℕ, List, [], false, length};
+ghost use Rattle.std.specs.Prelude.{nat_le, None, IfOk, OnOk, OnErr, IsErr};
+ghost use Rattle.std.specs.List.{All};
+ghost use Rattle.gu_base.specs.Limits.{most_parts};
+ghost use Rattle.gu_codec.specs.Limits.{longest_frame};
+ghost use Rattle.gu_session.specs.Steps.{opening};
+ghost use Rattle.gu_session.specs.Text.{ShowFewParts};
+ghost use Rattle.gu_session.specs.declared.event.Event.TheVariants.{Reply};
+ghost use Rattle.gu_base.specs.House.{House as HouseTable};
+ghost use Rattle.gu_base.specs.Runs.{IsRunFrom};
+ghost use Rattle.gu_base.specs.declared.entry.Entry.{Entry};
+ghost use Rattle.gu_trace.specs.Between.{last_told, looked_to, HasLooked};
+ghost use Rattle.gu_trace.specs.Reports.{most_reports, reports_for};
+ghost use Rattle.gu_connection.specs.Turns.{StepsNow, Speaks, Brings};
+ghost use Rattle.gu_connection.specs.LoggingOut.{logout_of, LogsOut};
+ghost use Rattle.gu_limits.specs.Admission.{most_text};
+ghost use Rattle.gu_session.specs.Steps.{time_of};
+
+use gu_base::{Answer, FirmId, Memory, Report};
+use gu_codec::{Feed, Frame, Header, append_field, tags, write_frame};
+use gu_message::{SendingTime, msg_types};
+use gu_parties::House;
+use gu_session::{Actions, Event, Session};
+use gu_trace::{MOST_REPORTS, nothing_is_passed_over};
+use jiff::Timestamp;
+use std::alloc::Global;
+use std::io::Write;
+use std::net::TcpStream;
+use std::time::Clock;
+
+/// The last MsgSeqNum (34) that a message has.
+const LAST_NUMBER: u32 = 999_999_999;
+
+/// The bytes that the body of a Logout with a text of `log_out` has at the most.
+const LOGOUT_ROOM: usize = 256;
+
+/// The connection is to be closed.
+#[derive(Clone, Copy, PartialEq, Eq)]
+pub struct Closed;
+
+/// What the bytes held have brought.
+#[derive(Drop)]
+pub enum Brought {
+    /// They only begin a frame, if there are any.
+    Nothing,
+    /// A garbled frame, which is passed over.
+    Garbled,
+    /// A message, and what its step asks for.
+    Message(Actions),
+}
+
+/// One step of a session, now. A clock that can't be read or stands before 1970 closes the
+/// connection, as want of memory does.
+fn step<R: Clock>(rt: &R, session: &mut Session<'_>, event: Event<'_>) -> Result<Actions, Closed>
+    requires { ShowFewParts event }
+    ensures ok { IfOk result (λ a. StepsNow event.entry session.old session.new a) }
+    ensures err { OnErr result (session.new ≡ session.old) }
+{
+    let Ok(moment) = Timestamp::now(rt) else {
+        return Err(Closed);
+    };
+    match session.step(event, moment) {
+        Ok(actions) => Ok(actions),
+        Err(_) => Err(Closed),
+    }
+}
+
+/// Appends a Logout of the house to a firm, with this number and this text.
+fn write_logout(
+    alloc: Global,
+    out: &mut Vec<u8>,
+    to: (FirmId, FirmId),
+    number: u32,
+    moment: Timestamp,
+    text: &str,
+) -> Result<(), Memory>
+    requires moment { pos 0 ≤ℤ moment.nanosecond }
+    requires text { length text.now ≤ most_text }
+    ensures ok { OnOk result (out.new.items ≡ out.old.items
+        ++ logout_of to.0 to.1 (time_of moment) number text.now) }
+    ensures err { OnErr result (out.new.items ≡ out.old.items) }
+{
+    let mut body = Vec::new(alloc);
+    body.reserve(LOGOUT_ROOM)?;
+    append_field(&mut body, tags::TEXT, text.as_bytes());
+    let time = SendingTime::new(moment);
+    let header = Header {
+        kind: msg_types::LOGOUT,
+        sender: to.0,
+        target: to.1,
+        number: u64::from(number),
+        sent: time.as_bytes(),
+        resent: None,
+    };
+    write_frame(out, &header, body.as_slice())
+}
+
+/// The number of the last of these reports, or the one before where there are none.
+fn last_number(reports: &[Report], before: u32) -> u32
+    ensures { result ≡ last_told before reports.now }
+{
+    match reports.last() {
+        Some(report) => report.number.get(),
+        None => before,
+    }
+}
+
+/// What is kept of a connection between its turns.
+#[derive(Drop)]
+pub struct Connection<'a> {
+    session: Session<'a>,
+    feed: Feed,
+    /// The number of the last report that was sent, 0 at first.
+    told: u32,
+    /// The entry up to which its readings have looked, 0 at first. No entry above the last report
+    /// that was sent, up to it, concerns the firm.
+    looked: u32,
+    /// Whether the last reading had as many reports as one may have, so that more may be there.
+    behind: bool,
+    /// What the turn sends, in one write at its end.
+    out: Vec<u8>,
+}
+
+impl<'a> Connection<'a> {
+    /// A connection before its first turn.
+    pub fn new(alloc: Global, house: &'a House) -> Result<Connection<'a>, Closed>
+        ensures session { IfOk result (λ c. c.session ≡ opening house.now c.session.link.came) }
+        ensures feed { IfOk result
+            (λ c. (c.feed.held ≡ []) × (c.feed.passed ≡ 0) × (c.feed.broken ≡ None)) }
+        ensures told { IfOk result (λ c. c.told ≡ 0) }
+        ensures looked { IfOk result (λ c. c.looked ≡ 0) }
+        ensures behind { IfOk result (λ c. c.behind ≡ false) }
+        ensures out { IfOk result (λ c. c.out.items ≡ []) }
+    {
+        match Feed::new(alloc) {
+            Ok(feed) => Ok(Connection {
+                session: Session::new(alloc, house),
+                feed,
+                told: 0,
+                looked: 0,
+                behind: false,
+                out: Vec::new(alloc),
+            }),
+            Err(_) => Err(Closed),
+        }
+    }
+
+    /// The firm that has logged on.
+    pub fn firm(&self) -> Option<FirmId>
+        ensures { result ≡ self.now.session.link.firm }
+    {
+        self.session.firm()
+    }
+
+    /// The entry up to which its readings have looked, 0 at first.
+    pub fn looked(&self) -> u32
+        ensures { result ≡ self.now.looked }
+    {
+        self.looked
+    }
+
+    /// Whether more reports may be there than the last reading had, so that the firm isn't to wait
+    /// for the next one.
+    pub fn behind(&self) -> bool
+        ensures { result ≡ self.now.behind }
+    {
+        self.behind
+    }
+
+    /// How many bytes the next read may bring.
+    pub fn room(&self) -> usize
+        ensures { result + length self.now.feed.held ≡ longest_frame }
+    {
+        self.feed.room()
+    }
+
+    /// Takes what a read has brought.
+    pub fn push(&mut self, piece: &[u8]) -> Result<(), Closed>
+        ensures ok { OnOk result
+            (self.new.feed ≡ record self.old.feed { held = self.old.feed.held ++ piece.now }) }
+        ensures session { self.new.session ≡ self.old.session }
+        ensures told { self.new.told ≡ self.old.told }
+        ensures looked { self.new.looked ≡ self.old.looked }
+        ensures behind { self.new.behind ≡ self.old.behind }
+        ensures out { self.new.out.items ≡ self.old.out.items }
+    {
+        match self.feed.push(piece) {
+            Ok(()) => Ok(()),
+            Err(_) => Err(Closed),
+        }
+    }
+
+    /// Puts what a step sends behind what the turn sends. An `Err` closes the connection: the step
+    /// asks for it, or memory ran out.
+    pub fn send(&mut self, actions: &Actions) -> Result<(), Closed>
+        ensures out { OnOk result
+            (self.new.out.items ≡ self.old.out.items ++ actions.now.send.items) }
+        ensures open { OnOk result (actions.now.close ≡ false) }
+        ensures session { self.new.session ≡ self.old.session }
+        ensures told { self.new.told ≡ self.old.told }
+        ensures looked { self.new.looked ≡ self.old.looked }
+        ensures behind { self.new.behind ≡ self.old.behind }
+    {
+        if self.out.extend_from_slice(actions.send.as_slice()).is_err() || actions.close {
+            return Err(Closed);
+        }
+        Ok(())
+    }
+
+    /// Takes an event that leads to no call.
+    pub fn quiet<R: Clock>(&mut self, rt: &R, event: Event<'_>) -> Result<(), Closed>
+        requires { ShowFewParts event }
+        ensures ok { OnOk result
+            (Speaks event.entry self.old.session self.new.session self.old.out.items
+            self.new.out.items) }
+        ensures told { self.new.told ≡ self.old.told }
+        ensures looked { self.new.looked ≡ self.old.looked }
+        ensures behind { self.new.behind ≡ self.old.behind }
+    {
+        match step(rt, &mut self.session, event) {
+            Ok(actions) => self.send(&actions),
+            Err(e) => Err(e),
+        }
+    }
+
+    /// Ends the session.
+    pub fn end<R: Clock>(&mut self, rt: &R) -> Result<(), Closed>
+        ensures { IsErr result }
+    {
+        let _ = self.quiet(rt, Event::End);
+        Err(Closed)
+    }
+
+    /// Puts a Logout with this text behind what the turn sends, with the session's next number,
+    /// where a firm has logged on and a number is left. It is no step of the session: nothing may
+    /// be asked of that any more, since the connection is to be closed.
+    pub fn log_out<R: Clock>(&mut self, rt: &R, alloc: Global, house: &House, text: &str) -> Closed
+        requires { length text.now ≤ most_text }
+        ensures session { self.new.session ≡ self.old.session }
+        ensures told { self.new.told ≡ self.old.told }
+        ensures looked { self.new.looked ≡ self.old.looked }
+        ensures behind { self.new.behind ≡ self.old.behind }
+        ensures out { LogsOut house.now.house text.now self.old self.new }
+    {
+        let Some(firm) = self.session.firm() else {
+            return Closed;
+        };
+        let number = self.session.next_number();
+        if number > LAST_NUMBER {
+            return Closed;
+        }
+        let Ok(moment) = Timestamp::now(rt) else {
+            return Closed;
+        };
+        let to = (house.house(), firm);
+        match write_logout(alloc, &mut self.out, to, number, moment, text) {
+            Ok(()) => Closed,
+            Err(_) => Closed,
+        }
+    }
+
+    /// Takes the next frame that has come whole. A broken stream ends the session.
+    pub fn next<R: Clock>(&mut self, rt: &R) -> Result<Brought, Closed>
+        ensures brings { IfOk result
+            (Brings self.old.feed self.old.session self.new.session self.new.feed) }
+        ensures told { self.new.told ≡ self.old.told }
+        ensures looked { self.new.looked ≡ self.old.looked }
+        ensures behind { self.new.behind ≡ self.old.behind }
+        ensures out { self.new.out.items ≡ self.old.out.items }
+    {
+        match self.feed.next() {
+            None => Ok(Brought::Nothing),
+            Some(Frame::Partial) => Ok(Brought::Nothing),
+            Some(Frame::Garbled { .. }) => Ok(Brought::Garbled),
+            Some(Frame::Whole { fields, .. }) => {
+                match step(rt, &mut self.session, Event::Message(fields)) {
+                    Ok(actions) => Ok(Brought::Message(actions)),
+                    Err(e) => Err(e),
+                }
+            }
+            Some(Frame::Broken { .. }) => {
+                let _ = step(rt, &mut self.session, Event::End);
+                Err(Closed)
+            }
+        }
+    }
+
+    /// Sends the answer to the call that waits, if one does, and the reports above the entry up to
+    /// which was looked, which are those above the last that was sent. Notes the last of them,
+    /// whether the firm is behind, and up to which entry was looked: all that there were, or where
+    /// more may be there, the last of them.
+    pub fn send_reply<R: Clock>(
+        &mut self,
+        rt: &R,
+        entries: u32,
+        answer: Option<Answer>,
+        reports: Vec<Report>,
+    ) -> Result<(), Closed>
+        requires { All (λ r. length r.parts ≤ most_parts) reports.items }
+        ensures ok { OnOk result
+            (Speaks (Reply answer reports) self.old.session self.new.session self.old.out.items
+            self.new.out.items) }
+        ensures told { OnOk result (self.new.told ≡ last_told self.old.told reports.items) }
+        ensures looked { OnOk result
+            (self.new.looked ≡ looked_to self.old.looked entries reports.items) }
+        ensures behind { OnOk result
+            (self.new.behind ≡ nat_le most_reports (length reports.items)) }
+        ensures same { (t : HouseTable) (h : List Entry) (f : List ℕ) → IsRunFrom t [] h
+            → length h ≡ entries → HasLooked t.house h f self.old.told self.old.looked
+            → reports.items ≡ reports_for t.house h f self.old.looked
+            → (reports.items ≡ reports_for t.house h f self.old.told)
+            × OnOk result (HasLooked t.house h f self.new.told self.new.looked) }
+    {
+        nothing_is_passed_over();
+        let told = last_number(reports.as_slice(), self.told);
+        let behind = reports.len() >= MOST_REPORTS;
+        let looked = if behind {
+            last_number(reports.as_slice(), self.looked)
+        } else {
+            entries
+        };
+        match self.quiet(rt, Event::Reply(answer, reports)) {
+            Ok(()) => {
+                self.told = told;
+                self.looked = looked;
+                self.behind = behind;
+                Ok(())
+            }
+            Err(e) => Err(e),
+        }
+    }
+
+    /// How many bytes the turn sends so far.
+    pub fn waiting(&self) -> usize
+        ensures { result ≡ length self.now.out.items }
+    {
+        self.out.len()
+    }
+
+    /// What the turn sends so far.
+    pub fn made(&self) -> &[u8]
+        ensures { result.now ≡ self.now.out.items }
+    {
+        self.out.as_slice()
+    }
+
+    /// Puts what the turn sends behind what waits to be sent already.
+    pub fn hand_out(&mut self, to: &mut Vec<u8>) -> Result<(), Closed>
+        ensures ok { OnOk result (to.new.items ≡ to.old.items ++ self.old.out.items) }
+        ensures out { OnOk result (self.new.out.items ≡ []) }
+    {
+        if to.is_empty() {
+            std::mem::swap(&mut self.out, to);
+            return Ok(());
+        }
+        if to.extend_from_slice(self.out.as_slice()).is_err() {
+            return Err(Closed);
+        }
+        self.out.clear();
+        Ok(())
+    }
+
+    /// Writes what the turn sends, in one write. One that is short has waited for the peer as long
+    /// as it may.
+    pub fn write(&mut self, stream: &TcpStream) -> Result<(), Closed>
+        ensures out { self.new.out.items ≡ [] }
+        ensures session { self.new.session ≡ self.old.session }
+        ensures told { self.new.told ≡ self.old.told }
+        ensures looked { self.new.looked ≡ self.old.looked }
+        ensures behind { self.new.behind ≡ self.old.behind }
+    {
+        let whole = self.out.len();
+        if whole == 0 {
+            return Ok(());
+        }
+        let mut to: &TcpStream = stream;
+        let written = to.write(self.out.as_slice());
+        self.out.clear();
+        match written {
+            Ok(count) if count == whole => Ok(()),
+            _ => Err(Closed),
+        }
+    }
+}

@@ -1,0 +1,19 @@
+//! One connection, and the turns that a worker takes with it.
+//!
+//! - A `Connection` is its session, the bytes that came of it, and what it is to be sent.
+//! - A `Worker` reads, takes the messages that have come whole through the session, asks the desk
+//!   for what they call for, and puts what comes of them behind what the connection is to be sent.
+//! - A reading of reports begins at the entry up to which the connection's readings have looked,
+//!   and tells what one above the last report that was sent would tell.
+//! - What `serve` and `keep` begin with is here too, and which faults of accept they outlive.
+#![tactic(auto)]
+
+mod accepting;
+mod connection;
+mod opening;
+mod worker;
+
+pub use accepting::{AfterFault, after_fault};
+pub use connection::{Closed, Connection};
+pub use opening::{LOGON_WAIT, Open, listening, new_key, prepare};
+pub use worker::{Left, WRITE_WAIT, Worker, expire};

@@ -1,0 +1,464 @@
+//! A worker, and the turns of the connection that it serves.
+//!
+//! A turn reads at most as many bytes as its buffer has: 4,096 in `serve`, where it waits one
+//! second for them, or a millisecond where the firm is behind with its reports. It takes the
+//! messages that have come whole through the session, and sends all that comes of them in one
+//! write. Where more than 64 kB wait to be sent it takes no further message: the next turn takes
+//! those before it reads. Only the book is asked under the desk's lock: reading, decoding and
+//! writing are done without it. A connection that has no accepted Logon in time is ended.
+ghost use Rattle.std.specs.Prelude.{◌≡◌, true, is_some, OnOk, OnErr};
+ghost use Rattle.gu_desk.specs.Begins.{BeginsWith};
+ghost use Rattle.gu_desk.specs.Runs.{HasSeen};
+ghost use Rattle.gu_connection.specs.Turns.{Replies};
+
+use crate::connection::{Brought, Closed, Connection};
+use gu_base::{AllocId, Answer, Command, FirmId};
+use gu_board::Tallies;
+use gu_codec::MAX_FRAME_LEN;
+use gu_desk::{Desk, Gate, Job, Seat};
+use gu_parties::House;
+use gu_session::{Actions, Event};
+use std::alloc::Global;
+use std::io;
+use std::io::{ErrorKind, Read};
+use std::net::TcpStream;
+use std::sync::Wait;
+use std::time::{Clock, Duration, Instant};
+
+/// The longest read of a turn of `serve`, in bytes.
+const LONGEST_READ: usize = 4096;
+
+/// How many bytes may wait to be sent for a turn to take a further message.
+const MOST_WAITING: usize = 65_536;
+
+/// How long a read waits, in seconds.
+const READ_WAIT: u64 = 1;
+
+/// How long a read waits where the firm is behind with its reports, in milliseconds.
+const BEHIND_WAIT: u64 = 1;
+
+/// How long a firm may take nothing of what it is sent, in seconds: a write of `serve` waits no
+/// longer, and `keep` closes the connection.
+pub const WRITE_WAIT: u64 = 30;
+
+/// Sets how long a connection waits, and that what is written goes out at once.
+fn set_up(stream: &TcpStream) -> io::Result<()> {
+    stream.set_nodelay(true)?;
+    stream.set_read_timeout(Some(Duration::from_secs(READ_WAIT)))?;
+    stream.set_write_timeout(Some(Duration::from_secs(WRITE_WAIT)))
+}
+
+/// Sets how long the next reads wait, where the last waited otherwise: a firm that is behind has
+/// its next reports at once.
+fn keep_pace(stream: &TcpStream, hurried: &mut bool, behind: bool) -> io::Result<()>
+    ensures { OnOk result (hurried.new ≡ behind) }
+{
+    if *hurried == behind {
+        return Ok(());
+    }
+    *hurried = behind;
+    let wait = if behind {
+        Duration::from_millis(BEHIND_WAIT)
+    } else {
+        Duration::from_secs(READ_WAIT)
+    };
+    stream.set_read_timeout(Some(wait))
+}
+
+/// Ends a connection that was taken then and has waited for its Logon as long as it may, in
+/// seconds.
+pub fn expire<R: Clock>(
+    rt: &R,
+    connection: &mut Connection<'_>,
+    taken: Instant,
+    most: u64,
+) -> Result<(), Closed>
+    ensures ok { OnOk result (connection.new ≡ connection.old) }
+    ensures open { is_some connection.old.session.link.firm ≡ true → OnErr result ⊥ }
+{
+    if connection.firm().is_some() {
+        return Ok(());
+    }
+    match taken.elapsed(rt) {
+        Ok(waited) if waited.as_secs() < most => Ok(()),
+        _ => connection.end(rt),
+    }
+}
+
+/// What a turn leaves.
+#[derive(Clone, Copy, PartialEq, Eq)]
+pub enum Left {
+    /// Nothing that is known of.
+    Nothing,
+    /// Perhaps bytes to be read: the read had as many as it might have, or was interrupted.
+    Unread,
+    /// Perhaps messages that have come whole: too much waits to be sent.
+    Untaken,
+    /// Perhaps messages that have come whole: the firm has made its calls of this second.
+    Late,
+}
+
+/// A worker: what it has for all its connections. Its seat goes from hand to hand.
+#[derive(Drop)]
+pub struct Worker<'a, J: Job, R, G> {
+    pub rt: &'a R,
+    pub alloc: Global,
+    pub desk: &'a Desk<J>,
+    pub house: &'a House,
+    pub gate: &'a G,
+    /// What is counted of firms, for the limits of `keep`.
+    pub tallies: &'a Tallies,
+    /// How long a connection may be without an accepted Logon, in seconds.
+    pub logon_wait: u64,
+    pub number: u32,
+}
+
+impl<'a, J: Job, R, G> Worker<'a, J, R, G> {
+    /// A worker as this one, with a number of its own.
+    pub fn numbered(&self, number: u32) -> Worker<'a, J, R, G> {
+        Worker {
+            rt: self.rt,
+            alloc: self.alloc,
+            desk: self.desk,
+            house: self.house,
+            gate: self.gate,
+            tallies: self.tallies,
+            logon_wait: self.logon_wait,
+            number,
+        }
+    }
+}
+
+impl<'a, J: Job, R: Wait + Clock, G: Gate> Worker<'a, J, R, G> {
+    /// Reads the firm's reports above the entry up to which was looked, and sends the answer, if
+    /// there is one, and them.
+    fn reply(
+        &self,
+        seat: Seat<J>,
+        connection: &mut Connection<'_>,
+        firm: &FirmId,
+        answer: Option<Answer>,
+    ) -> (Seat<J>, Result<(), Closed>)
+        ensures seen { HasSeen J.opening seat.seen result.0.seen }
+        ensures replies { OnOk result.1
+            (Replies J.opening.house result.0.seen firm.now answer connection.old connection.new) }
+    {
+        let (seat, reports) = self
+            .desk
+            .read_reports(self.rt, self.alloc, seat, firm, connection.looked());
+        match reports {
+            Ok(reports) => {
+                let entries = seat.seen();
+                let sent = connection.send_reply(self.rt, entries, answer, reports);
+                (seat, sent)
+            }
+            Err(_) => (seat, Err(Closed)),
+        }
+    }
+
+    /// Counts a call that is to be made. Where the firm has as much as it may have, the call isn't
+    /// made, and a Logout says so.
+    fn admit(&self, connection: &mut Connection<'_>, firm: &FirmId) -> Result<(), Closed>
+        ensures { OnOk result (connection.new ≡ connection.old) }
+    {
+        match self.tallies.begin_call(self.rt, firm) {
+            Ok(()) => Ok(()),
+            Err(ending) => {
+                Err(connection.log_out(self.rt, self.alloc, self.house, ending.text()))
+            }
+        }
+    }
+
+    /// Asks the book for the answer to a call that is counted, and takes the count back where it
+    /// made no entry.
+    #[tactic(auto, using(crate::proofs::Seen::itself, crate::proofs::Seen::still))]
+    fn ask(
+        &self,
+        seat: Seat<J>,
+        firm: &FirmId,
+        id: &AllocId,
+        command: &Command,
+    ) -> (Seat<J>, Result<Answer, Closed>)
+        ensures later { BeginsWith result.0.seen seat.seen }
+    {
+        let (seat, answer) = self.desk.call(self.rt, self.alloc, seat, firm, id, command);
+        match answer {
+            Ok(answer) => {
+                let is_entry = matches!(answer, Answer::Accepted { .. });
+                self.tallies.end_call(firm, is_entry);
+                self.tallies
+                    .note_answer(self.rt, self.number, firm, id, &answer);
+                (seat, Ok(answer))
+            }
+            Err(_) => {
+                self.tallies.end_call(firm, false);
+                (seat, Err(Closed))
+            }
+        }
+    }
+
+    /// Makes the call of a firm that has logged on, if the gate lets it pass and the firm may make
+    /// it, and sends the answer.
+    #[tactic(auto, using(crate::proofs::Seen::itself, crate::proofs::Seen::still))]
+    fn call(
+        &self,
+        seat: Seat<J>,
+        connection: &mut Connection<'_>,
+        id: &AllocId,
+        command: &Command,
+    ) -> (Seat<J>, Result<(), Closed>)
+        ensures later { BeginsWith result.0.seen seat.seen }
+    {
+        let Some(firm) = connection.firm() else {
+            return (seat, Err(Closed));
+        };
+        if !self.gate.before_book(self.number) {
+            return (seat, Err(Closed));
+        }
+        if self.admit(connection, &firm).is_err() {
+            return (seat, Err(Closed));
+        }
+        let (seat, answer) = self.ask(seat, &firm, id, command);
+        match answer {
+            Ok(answer) => self.reply(seat, connection, &firm, Some(answer)),
+            Err(_) => (seat, Err(Closed)),
+        }
+    }
+
+    /// Whether the messages of a connection wait, since its firm has made its calls of this second.
+    fn is_late(&self, connection: &Connection<'_>) -> bool {
+        match connection.firm() {
+            Some(firm) => self.tallies.is_late(self.rt, &firm),
+            None => false,
+        }
+    }
+
+    /// Does what a message's step asks for.
+    #[tactic(auto, using(crate::proofs::Seen::itself, crate::proofs::Seen::still))]
+    fn act(
+        &self,
+        seat: Seat<J>,
+        connection: &mut Connection<'_>,
+        actions: Actions,
+    ) -> (Seat<J>, Result<(), Closed>)
+        ensures later { BeginsWith result.0.seen seat.seen }
+    {
+        if connection.send(&actions).is_err() {
+            return (seat, Err(Closed));
+        }
+        let Actions {
+            send: _,
+            call,
+            close: _,
+        } = actions;
+        match call {
+            Some((id, command)) => self.call(seat, connection, &id, &command),
+            None => (seat, Ok(())),
+        }
+    }
+
+    /// Takes the messages that have come whole, one after the other, and then a Tick; or those
+    /// before too much waits to be sent.
+    #[tactic(auto, using(crate::proofs::Seen::itself, crate::proofs::Seen::still))]
+    fn messages(
+        &self,
+        seat: Seat<J>,
+        connection: &mut Connection<'_>,
+        left: Left,
+    ) -> (Seat<J>, Result<Left, Closed>)
+        ensures later { BeginsWith result.0.seen seat.seen }
+    {
+        let mut seat = seat;
+        // A frame has a byte at least, so no feed holds more of them.
+        for _ in 0..MAX_FRAME_LEN {
+            if connection.waiting() > MOST_WAITING {
+                return (seat, Ok(Left::Untaken));
+            }
+            if self.is_late(connection) {
+                return (seat, Ok(Left::Late));
+            }
+            match connection.next(self.rt) {
+                Ok(Brought::Nothing) => break,
+                Ok(Brought::Garbled) => {}
+                Ok(Brought::Message(actions)) => {
+                    let (back, acted) = self.act(seat, connection, actions);
+                    seat = back;
+                    if acted.is_err() {
+                        return (seat, Err(Closed));
+                    }
+                }
+                Err(e) => return (seat, Err(e)),
+            }
+        }
+        match connection.quiet(self.rt, Event::Tick) {
+            Ok(()) => (seat, Ok(left)),
+            Err(e) => (seat, Err(e)),
+        }
+    }
+
+    /// A turn in which no message is taken: a Tick, and the reports to a firm that has logged on.
+    /// It leaves this.
+    #[tactic(auto, using(crate::proofs::Seen::itself, crate::proofs::Seen::still))]
+    fn idle(
+        &self,
+        seat: Seat<J>,
+        connection: &mut Connection<'_>,
+        left: Left,
+    ) -> (Seat<J>, Result<Left, Closed>)
+        ensures later { BeginsWith result.0.seen seat.seen }
+    {
+        if connection.quiet(self.rt, Event::Tick).is_err() {
+            return (seat, Err(Closed));
+        }
+        let Some(firm) = connection.firm() else {
+            return (seat, Ok(left));
+        };
+        let (seat, told) = self.reply(seat, connection, &firm, None);
+        match told {
+            Ok(()) => (seat, Ok(left)),
+            Err(e) => (seat, Err(e)),
+        }
+    }
+
+    /// A turn behind one in which the firm had made its calls of a second.
+    #[tactic(auto, using(crate::proofs::Seen::itself, crate::proofs::Seen::still))]
+    fn late(
+        &self,
+        seat: Seat<J>,
+        connection: &mut Connection<'_>,
+    ) -> (Seat<J>, Result<Left, Closed>)
+        ensures later { BeginsWith result.0.seen seat.seen }
+    {
+        if self.is_late(connection) {
+            self.idle(seat, connection, Left::Late)
+        } else {
+            self.messages(seat, connection, Left::Unread)
+        }
+    }
+
+    /// Takes what a read has brought.
+    fn take_in(&self, connection: &mut Connection<'_>, piece: &[u8]) -> Result<(), Closed> {
+        self.tallies.note_read(self.number, piece.len());
+        connection.push(piece)
+    }
+
+    /// The last turn: the peer is gone.
+    #[tactic(auto, using(crate::proofs::Seen::itself, crate::proofs::Seen::still))]
+    fn end(&self, seat: Seat<J>, connection: &mut Connection<'_>) -> (Seat<J>, Result<Left, Closed>)
+        ensures later { BeginsWith result.0.seen seat.seen }
+    {
+        let _ = connection.end(self.rt);
+        self.tallies.note_gone(self.number);
+        (seat, Err(Closed))
+    }
+
+    /// One turn, without its write, behind one that left this.
+    #[tactic(auto, using(crate::proofs::Seen::itself, crate::proofs::Seen::still))]
+    pub fn turn(
+        &self,
+        seat: Seat<J>,
+        connection: &mut Connection<'_>,
+        stream: &TcpStream,
+        piece: &mut [u8],
+        left: Left,
+    ) -> (Seat<J>, Result<Left, Closed>)
+        ensures later { BeginsWith result.0.seen seat.seen }
+    {
+        if left == Left::Untaken {
+            return self.messages(seat, connection, Left::Unread);
+        }
+        if left == Left::Late {
+            return self.late(seat, connection);
+        }
+        let most = connection.room().min(piece.len());
+        let mut from: &TcpStream = stream;
+        match from.read(&mut piece[..most]) {
+            Ok(0) => self.end(seat, connection),
+            Ok(n) => match self.take_in(connection, &piece[..n]) {
+                Ok(()) if n == most => self.messages(seat, connection, Left::Unread),
+                Ok(()) => self.messages(seat, connection, Left::Nothing),
+                Err(e) => (seat, Err(e)),
+            },
+            Err(e) => match e.kind() {
+                ErrorKind::WouldBlock | ErrorKind::TimedOut => {
+                    self.idle(seat, connection, Left::Nothing)
+                }
+                ErrorKind::Interrupted => (seat, Ok(Left::Unread)),
+                _ => self.end(seat, connection),
+            },
+        }
+    }
+
+    /// One turn with its write, behind one that left this. `Err` where the connection is to be
+    /// closed.
+    fn round(
+        &self,
+        seat: Seat<J>,
+        connection: &mut Connection<'_>,
+        stream: &TcpStream,
+        piece: &mut [u8],
+        left: Left,
+    ) -> (Seat<J>, Result<Left, Closed>) {
+        let (seat, turned) = self.turn(seat, connection, stream, piece, left);
+        match connection.write(stream) {
+            Ok(()) => (seat, turned),
+            Err(e) => (seat, Err(e)),
+        }
+    }
+
+    /// Serves a connection that was taken then to its end, and gives the seat back.
+    fn converse(
+        &self,
+        seat: Seat<J>,
+        connection: &mut Connection<'_>,
+        stream: &TcpStream,
+        taken: Instant,
+    ) -> Seat<J> {
+        let mut seat = seat;
+        let mut piece = [0; LONGEST_READ];
+        let mut left = Left::Nothing;
+        let mut hurried = false;
+        for _ in self.rt.forever() {
+            let (back, turned) = self.round(seat, connection, stream, &mut piece, left);
+            seat = back;
+            let Ok(rest) = turned else {
+                return seat;
+            };
+            left = rest;
+            if expire(self.rt, connection, taken, self.logon_wait).is_err()
+                || keep_pace(stream, &mut hurried, connection.behind()).is_err()
+            {
+                return seat;
+            }
+        }
+        unreachable!()
+    }
+
+    /// A connection that is set up and taken now.
+    fn opened(&self, stream: &TcpStream) -> Result<(Connection<'a>, Instant), Closed> {
+        if set_up(stream).is_err() {
+            return Err(Closed);
+        }
+        let Ok(taken) = Instant::now(self.rt) else {
+            return Err(Closed);
+        };
+        match Connection::new(self.alloc, self.house) {
+            Ok(connection) => Ok((connection, taken)),
+            Err(e) => Err(e),
+        }
+    }
+
+    /// Serves a connection to its end, and gives the seat back.
+    pub fn attend(&self, seat: Seat<J>, stream: TcpStream) -> Seat<J> {
+        let seat = match self.opened(&stream) {
+            Ok((mut connection, taken)) => {
+                let seat = self.converse(seat, &mut connection, &stream, taken);
+                drop(connection);
+                seat
+            }
+            Err(_) => seat,
+        };
+        drop(stream);
+        seat
+    }
+}

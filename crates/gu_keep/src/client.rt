@@ -1,0 +1,313 @@
+//! A connection that a worker serves beside others.
+
+ghost use Rattle.std.specs.Prelude.{◌≡◌};
+ghost use Rattle.gu_desk.specs.Begins.{BeginsWith};
+
+use crate::visit::Visit;
+use gu_base::FirmId;
+use gu_board::Tallies;
+use gu_connection::{Closed, Connection, Left, WRITE_WAIT, Worker, expire};
+use gu_desk::{Gate, Job, Seat};
+use gu_limits::{Ending, is_silent};
+use gu_recorder::{Outbox, Rest};
+use std::net::TcpStream;
+use std::sync::Wait;
+use std::time::{Clock, Instant};
+
+/// How many bytes may wait for a firm to read them: a connection for which more wait has no turn.
+const MOST_UNREAD: usize = 1 << 20;
+
+/// A connection, what it is to be sent, and how it stands.
+#[derive(Drop)]
+pub(crate) struct Client<'a, J: Job> {
+    pub(crate) stream: TcpStream,
+    connection: Connection<'a>,
+    outbox: Outbox<J>,
+    taken: Instant,
+    left: Left,
+    /// Whether it is closed once all is sent.
+    ended: bool,
+    /// Whether the peer took nothing when it was last written to.
+    full: bool,
+    /// Whether the peer sends no more: what it has sent is read to its end.
+    shut: bool,
+    /// The second in which it last had a turn, and that in which the peer last took something.
+    turned: u64,
+    took: u64,
+    /// The second in which the peer last sent something, and whether it has since.
+    heard: u64,
+    speaks: bool,
+    /// The firm for whose connection it counts.
+    counted: Option<FirmId>,
+    /// Whether no firm has logged on.
+    unnamed: bool,
+    /// Whether it stands among those that have something to be sent, and among those that have a
+    /// turn without being asked.
+    sends: bool,
+    pub(crate) hurries: bool,
+    /// What an operator is told of it.
+    pub(crate) visit: Visit,
+}
+
+/// A connection before its first turn.
+pub(crate) fn open_client<'a, J: Job, R: Clock, G>(
+    worker: &Worker<'a, J, R, G>,
+    seat: &mut Seat<J>,
+    stream: TcpStream,
+    second: u64,
+) -> Result<Client<'a, J>, Closed> {
+    if stream.set_nodelay(true).is_err() || stream.set_nonblocking(true).is_err() {
+        return Err(Closed);
+    }
+    let Ok(taken) = Instant::now(worker.rt) else {
+        return Err(Closed);
+    };
+    let connection = Connection::new(worker.alloc, worker.house)?;
+    let visit = Visit::new(worker.alloc, worker.tallies.board(), &stream, second);
+    Ok(Client {
+        stream,
+        connection,
+        outbox: Outbox::new(worker.alloc, worker.desk, seat),
+        taken,
+        left: Left::Nothing,
+        ended: false,
+        full: false,
+        shut: false,
+        turned: second,
+        took: second,
+        heard: second,
+        speaks: false,
+        counted: None,
+        unnamed: true,
+        sends: false,
+        hurries: false,
+        visit,
+    })
+}
+
+impl<'a, J: Job> Client<'a, J> {
+    /// Notes what the poll says of its stream.
+    pub(crate) fn note(&mut self, readable: bool, shut: bool, writable: bool) {
+        self.speaks = self.speaks || readable;
+        self.shut = self.shut || shut;
+        if (readable || shut) && self.left == Left::Nothing {
+            self.left = Left::Unread;
+        }
+        if writable {
+            self.full = false;
+        }
+    }
+
+    /// The firm that has logged on.
+    pub(crate) fn firm(&self) -> Option<FirmId> {
+        self.connection.firm()
+    }
+
+    /// How many bytes wait to be sent.
+    pub(crate) fn waiting(&self) -> usize {
+        self.outbox.len()
+    }
+
+    /// Whether it may have a turn now.
+    fn may_turn(&self) -> bool {
+        !self.ended && self.outbox.len() <= MOST_UNREAD
+    }
+
+    /// Whether it is to have a turn without being asked.
+    pub(crate) fn is_due(&self) -> bool {
+        let unread = self.left == Left::Unread || self.left == Left::Untaken;
+        self.may_turn() && (unread || self.connection.behind())
+    }
+
+    /// Whether no firm has logged on.
+    pub(crate) fn is_unnamed(&self) -> bool {
+        self.unnamed
+    }
+
+    /// Whether a firm has logged on since this was asked last.
+    pub(crate) fn has_logged_on(&mut self) -> bool {
+        let has = self.unnamed && self.connection.firm().is_some();
+        self.unnamed = self.unnamed && !has;
+        has
+    }
+
+    /// Ends its count as a connection of its firm.
+    pub(crate) fn leave(&mut self, tallies: &Tallies) {
+        if let Some(firm) = self.counted {
+            tallies.leave(&firm);
+            self.counted = None;
+        }
+    }
+
+    /// Whether it is to be listed among those that have something to be sent, and among those that
+    /// have a turn without being asked. Where it is, it notes so.
+    pub(crate) fn lists(&mut self) -> (bool, bool) {
+        let sends = !self.sends && !self.outbox.is_empty();
+        let hurries = !self.hurries && self.is_due();
+        self.sends = self.sends || sends;
+        self.hurries = self.hurries || hurries;
+        (sends, hurries)
+    }
+
+    /// Whether it is to be closed: it has ended and all is sent.
+    pub(crate) fn is_over(&self) -> bool {
+        self.ended && self.outbox.is_empty()
+    }
+
+    /// Puts what the turn has made into the outbox.
+    fn hold<R, G>(&mut self, worker: &Worker<'a, J, R, G>, seat: &mut Seat<J>, second: u64)
+        ensures { seat.new ≡ seat.old }
+    {
+        if self.connection.waiting() == 0 {
+            return;
+        }
+        if self.outbox.is_empty() {
+            self.took = second;
+        }
+        if self
+            .outbox
+            .hold(worker.desk, seat, &mut self.connection)
+            .is_err()
+        {
+            self.ended = true;
+        }
+    }
+
+    /// Notes why it has ended, if it has: what the last message says that the turn sends.
+    fn note_end(&mut self) {
+        if self.ended {
+            self.visit.note_end(self.connection.made());
+        }
+    }
+
+    /// Notes that it has a turn in this second.
+    fn begin_turn(&mut self, second: u64) {
+        self.turned = second;
+        if self.speaks {
+            self.heard = second;
+            self.speaks = false;
+        }
+    }
+
+    /// Counts it as a connection of its firm, once one has logged on: whether the firm may have it.
+    fn enters<R, G>(&mut self, worker: &Worker<'a, J, R, G>, firm: &FirmId) -> bool {
+        if self.counted.is_some() {
+            return true;
+        }
+        if worker.tallies.enter(firm) {
+            self.counted = Some(*firm);
+            return true;
+        }
+        false
+    }
+
+    /// Whether it is to be closed behind a turn: it has no Logon in time, or its firm has too many
+    /// connections or has said nothing for too long, and is told so.
+    fn ends<R: Clock, G>(&mut self, worker: &Worker<'a, J, R, G>, second: u64) -> bool {
+        let late = expire(
+            worker.rt,
+            &mut self.connection,
+            self.taken,
+            worker.logon_wait,
+        );
+        if late.is_err() {
+            return true;
+        }
+        let Some(firm) = self.connection.firm() else {
+            return false;
+        };
+        let ending = if !self.enters(worker, &firm) {
+            Ending::Connections
+        } else if is_silent(self.heard, second) {
+            Ending::Silence
+        } else {
+            return false;
+        };
+        worker.tallies.note(&firm, ending);
+        let _ = self
+            .connection
+            .log_out(worker.rt, worker.alloc, worker.house, ending.text());
+        true
+    }
+
+    /// What a turn leaves that knows of this: where the peer sends no more, also the end of what
+    /// it has sent.
+    fn left_by(&self, left: Left) -> Left {
+        if self.shut && left == Left::Nothing {
+            Left::Unread
+        } else {
+            left
+        }
+    }
+
+    /// A turn, if it may have one.
+    #[tactic(auto, using(gu_connection::proofs::Seen::itself, gu_connection::proofs::Seen::still))]
+    pub(crate) fn turn<R: Wait + Clock, G: Gate>(
+        &mut self,
+        worker: &Worker<'a, J, R, G>,
+        seat: Seat<J>,
+        piece: &mut [u8],
+        second: u64,
+    ) -> Seat<J>
+        ensures later { BeginsWith result.seen seat.seen }
+    {
+        if !self.may_turn() {
+            return seat;
+        }
+        self.begin_turn(second);
+        let (seat, turned) = worker.turn(
+            seat,
+            &mut self.connection,
+            &self.stream,
+            piece,
+            self.left,
+        );
+        match turned {
+            Ok(left) => {
+                self.left = self.left_by(left);
+                self.ended = self.ends(worker, second);
+            }
+            Err(_) => self.ended = true,
+        }
+        self.note_end();
+        let mut seat = seat;
+        self.hold(worker, &mut seat, second);
+        seat
+    }
+
+    /// Sends what may go out. What is left, or `Err` where it is to be closed.
+    pub(crate) fn send<R, G>(
+        &mut self,
+        worker: &Worker<'a, J, R, G>,
+        second: u64,
+    ) -> Result<Rest, Closed> {
+        self.sends = false;
+        if self.full {
+            return Ok(Rest::Untaken);
+        }
+        let before = self.outbox.len();
+        let rest = self.outbox.send(worker.desk, &self.stream)?;
+        if self.outbox.len() < before || rest == Rest::Unkept {
+            self.took = second;
+        }
+        self.full = rest == Rest::Untaken;
+        if self.is_over() {
+            return Err(Closed);
+        }
+        Ok(rest)
+    }
+
+    /// Whether a turn is due because none was for a second.
+    pub(crate) fn is_quiet(&self, second: u64) -> bool {
+        self.turned < second
+    }
+
+    /// Whether the peer has taken nothing for so long that the connection is to be closed.
+    pub(crate) fn is_stalled(&mut self, second: u64) -> bool {
+        if self.outbox.is_empty() {
+            return false;
+        }
+        self.full = false;
+        second.saturating_sub(self.took) > WRITE_WAIT
+    }
+}

@@ -1,0 +1,500 @@
+//! A worker that serves many connections. In each round it waits until some are ready, has a turn
+//! with each of them, records what the desk has answered if nobody else does so now, and sends what
+//! may go out.
+
+use crate::bells::{Bell, Bells};
+use crate::client::{Client, open_client};
+use crate::clients::Clients;
+use crossbeam_channel::{Receiver, TryRecvError};
+use gu_board::Work;
+use gu_command::KeepError;
+use gu_connection::{Closed, Worker};
+use gu_desk::{Gate, Job, Seat, Ticket};
+use gu_recorder::{Record, Recorder};
+use mio::unix::SourceFd;
+use mio::{Events, Interest, Poll, Token};
+use std::net::TcpStream;
+use std::os::fd::AsRawFd;
+use std::sync::atomic::Ordering;
+use std::sync::{Mutex, Wait};
+use std::time::{Clock, Duration, Instant};
+
+/// The token of a worker's waker.
+pub(crate) const WOKEN: usize = 1 << 40;
+
+/// How many events a poll brings.
+const MOST_EVENTS: usize = 256;
+
+/// The longest read of a turn, in bytes.
+const LONGEST_READ: usize = 16_384;
+
+/// How many connections are taken in one round. Each has a turn before as many have come as may be
+/// without a Logon, if its Logon is there.
+const MOST_TAKEN: usize = 64;
+
+/// How many connections of a worker may be without a Logon. Where there are more, the one that came
+/// first is closed.
+const MOST_UNNAMED: usize = 256;
+
+/// A worker, and what it has for its connections.
+#[derive(Drop)]
+pub(crate) struct Keeper<'a, K: Record, J: Job, R, G> {
+    pub(crate) worker: Worker<'a, J, R, G>,
+    pub(crate) recorder: &'a Mutex<Recorder<K, J>>,
+    pub(crate) bells: &'a Bells,
+    pub(crate) bell: &'a Bell,
+    pub(crate) streams: Receiver<TcpStream>,
+}
+
+/// What a round is about.
+#[derive(Drop)]
+struct Round<J: Job> {
+    /// The places of the connections that are ready.
+    ready: Vec<usize>,
+    /// Whether the worker was woken.
+    woken: bool,
+    /// Where reads put their bytes.
+    piece: Vec<u8>,
+    /// How many milliseconds the worker had served when its last poll ended, and in which second
+    /// it last had a tick.
+    millis: u64,
+    second: u64,
+    /// What the newest bytes that were made rest on.
+    newest: Ticket<J>,
+}
+
+/// Notes which connections are ready, and whether the worker was woken.
+fn note<J: Job>(events: &Events, clients: &mut Clients<'_, J>, round: &mut Round<J>) {
+    round.ready.clear();
+    round.woken = false;
+    for event in events.iter() {
+        let at = event.token().0;
+        if at == WOKEN {
+            round.woken = true;
+        } else if let Some(Some(client)) = clients.places.get_mut(at) {
+            let readable = event.is_readable() || event.is_error();
+            let writable = event.is_writable() || event.is_error();
+            client.note(readable, event.is_read_closed(), writable);
+            let _ = round.ready.push(at);
+        }
+    }
+}
+
+/// Puts those that have a turn without being asked beside the ready ones.
+fn hurry<J: Job>(clients: &mut Clients<'_, J>, round: &mut Round<J>) {
+    for _ in 0..clients.hurried.len() {
+        let Some(at) = clients.hurried.pop() else {
+            return;
+        };
+        if let Some(Some(client)) = clients.places.get_mut(at) {
+            client.hurries = false;
+            let _ = round.ready.push(at);
+        }
+    }
+}
+
+/// Why a connection has ended, if it isn't over: what is over knows itself why.
+fn ended_by<J: Job>(client: Option<&Client<'_, J>>) -> Option<&'static str> {
+    match client {
+        Some(client) if client.is_over() || client.visit.is_gone() => None,
+        _ => Some("cannot be written to"),
+    }
+}
+
+impl<'a, K: Record, J: Job, R: Wait + Clock, G: Gate> Keeper<'a, K, J, R, G> {
+    /// Registers a stream with the poll under this place.
+    fn watch(&self, poll: &Poll, stream: &TcpStream, at: usize) -> Result<(), Closed> {
+        let fd = stream.as_raw_fd();
+        match poll.registry().register(
+            &mut SourceFd(&fd),
+            Token(at),
+            Interest::READABLE | Interest::WRITABLE,
+        ) {
+            Ok(()) => Ok(()),
+            Err(_) => Err(Closed),
+        }
+    }
+
+    /// Takes a connection in. One that can't be set up, or for which memory lacks, is dropped.
+    fn take(
+        &self,
+        poll: &Poll,
+        seat: &mut Seat<J>,
+        clients: &mut Clients<'a, J>,
+        stream: TcpStream,
+        second: u64,
+    ) {
+        let added = match open_client(&self.worker, seat, stream, second) {
+            Ok(client) => clients.add(client),
+            Err(closed) => Err(closed),
+        };
+        let Ok(at) = added else {
+            self.bell.open.fetch_sub(1, Ordering::SeqCst);
+            return;
+        };
+        if let Some(board) = self.worker.tallies.board() {
+            board.opens();
+        }
+        let watched = match clients.at(at) {
+            Some(client) => self.watch(poll, &client.stream, at).is_ok(),
+            _ => false,
+        };
+        if !watched {
+            self.close(clients, at, second, Some("not watched"));
+        }
+        self.close_unnamed(clients, MOST_UNNAMED, second);
+    }
+
+    /// Closes those without a Logon that came first, until there are at most so many.
+    fn close_unnamed(&self, clients: &mut Clients<'a, J>, most: usize, second: u64) {
+        for _ in most..clients.unnamed() {
+            let Some(at) = clients.oldest_unnamed() else {
+                return;
+            };
+            self.close(clients, at, second, Some("too many without a Logon"));
+        }
+    }
+
+    /// Closes half of those without a Logon, if descriptors lack. The one that came last stays.
+    fn make_way(&self, clients: &mut Clients<'a, J>, second: u64) {
+        if self.bell.lacks.swap(false, Ordering::SeqCst) {
+            let all = clients.unnamed();
+            self.close_unnamed(clients, all.saturating_sub(all / 2), second);
+        }
+    }
+
+    /// Takes the connections that have come. False where no more will come.
+    fn take_all(
+        &self,
+        poll: &Poll,
+        seat: &mut Seat<J>,
+        clients: &mut Clients<'a, J>,
+        second: u64,
+    ) -> bool {
+        for _ in 0..MOST_TAKEN {
+            match self.streams.try_recv(self.worker.rt) {
+                Ok(stream) => self.take(poll, seat, clients, stream, second),
+                Err(TryRecvError::Empty) => return true,
+                Err(TryRecvError::Disconnected) => return false,
+            }
+        }
+        // More may be there: the next round takes them.
+        let _ = self.bell.waker.wake();
+        true
+    }
+
+    /// Says that a connection ends, and why.
+    fn say_end(&self, client: &Client<'a, J>, second: u64, why: Option<&'static str>) {
+        let Some(board) = self.worker.tallies.board() else {
+            return;
+        };
+        let rt = self.worker.rt;
+        match client.firm() {
+            Some(firm) => client.visit.say_end(rt, board, &firm, second, why),
+            None => client
+                .visit
+                .say_refusal(rt, board, self.worker.house, second),
+        }
+        board.waits(client.waiting(), 0);
+        board.leaves();
+    }
+
+    /// Closes the connection at a place, for this reason, if it doesn't know itself why.
+    fn close(
+        &self,
+        clients: &mut Clients<'a, J>,
+        at: usize,
+        second: u64,
+        why: Option<&'static str>,
+    ) {
+        if let Some(Some(client)) = clients.places.get_mut(at) {
+            client.leave(self.worker.tallies);
+            self.say_end(client, second, why);
+        }
+        if clients.close(at) {
+            self.bell.open.fetch_sub(1, Ordering::SeqCst);
+        }
+    }
+
+    /// What the worker had done before a turn with a connection, and how much waited there.
+    fn begin_turn(&self, client: &Client<'a, J>) -> (Work, usize) {
+        match self.worker.tallies.board() {
+            Some(board) => (
+                client.visit.begin(board, self.worker.number),
+                client.waiting(),
+            ),
+            None => (Work::default(), 0),
+        }
+    }
+
+    /// Counts what a turn has done, and says that a firm has logged on, if it has.
+    fn end_turn(&self, client: &mut Client<'a, J>, before: (Work, usize), piece: &[u8]) {
+        let Some(board) = self.worker.tallies.board() else {
+            return;
+        };
+        client.visit.end(board, self.worker.number, before.0, piece);
+        board.waits(before.1, client.waiting());
+        if let Some(firm) = client.firm() {
+            client.visit.say_logon(self.worker.rt, board, &firm);
+        }
+    }
+
+    /// A turn with the connection at a place.
+    fn turn(
+        &self,
+        seat: Seat<J>,
+        clients: &mut Clients<'a, J>,
+        piece: &mut Vec<u8>,
+        second: u64,
+        at: usize,
+    ) -> Seat<J> {
+        let mut over = false;
+        let mut seat = seat;
+        if let Some(Some(client)) = clients.places.get_mut(at) {
+            let before = self.begin_turn(client);
+            seat = client.turn(&self.worker, seat, piece, second);
+            self.end_turn(client, before, piece);
+            over = client.is_over();
+        }
+        clients.note_logon(at);
+        clients.list(at);
+        if over {
+            self.close(clients, at, second, ended_by(clients.at(at)));
+        }
+        seat
+    }
+
+    /// A turn with each that is ready.
+    fn turns(&self, seat: Seat<J>, clients: &mut Clients<'a, J>, round: &mut Round<J>) -> Seat<J> {
+        let mut seat = seat;
+        let second = round.second;
+        for _ in 0..round.ready.len() {
+            let Some(at) = round.ready.pop() else {
+                break;
+            };
+            seat = self.turn(seat, clients, &mut round.piece, second, at);
+        }
+        seat
+    }
+
+    /// Closes the connection at a place, if its peer takes nothing any more.
+    fn end_stalled(&self, clients: &mut Clients<'a, J>, second: u64, at: usize) {
+        let stalled = match clients.places.get_mut(at) {
+            Some(Some(client)) => client.is_stalled(second),
+            _ => false,
+        };
+        if stalled {
+            self.close(clients, at, second, Some("takes nothing"));
+        }
+    }
+
+    /// Each second: a turn with each connection that had none, the end of those whose peer takes
+    /// nothing, and a word on those that were closed for a limit.
+    fn tick(&self, seat: Seat<J>, clients: &mut Clients<'a, J>, round: &mut Round<J>) -> Seat<J> {
+        self.worker.tallies.tell(self.worker.rt);
+        let mut seat = seat;
+        let second = round.second;
+        for at in 0..clients.places.len() {
+            self.end_stalled(clients, second, at);
+            let quiet = match clients.at(at) {
+                Some(client) => client.is_quiet(second),
+                _ => false,
+            };
+            if quiet {
+                seat = self.turn(seat, clients, &mut round.piece, second, at);
+            }
+        }
+        seat
+    }
+
+    /// Records what the desk has answered, if nobody else does so now: whether it did.
+    fn record(&self) -> Result<bool, KeepError> {
+        let Some(mut guard) = self.recorder.try_lock() else {
+            return Ok(false);
+        };
+        let recorder = &mut *guard;
+        let board = self.worker.tallies.board();
+        if let Some(board) = board {
+            board.takes_journal();
+        }
+        let recorded = recorder.record(self.worker.rt, self.worker.alloc, self.worker.desk, board);
+        if let Some(board) = board {
+            board.leaves_journal();
+        }
+        recorded?;
+        Ok(true)
+    }
+
+    /// Has what the newest bytes rest on recorded: by this worker, where nobody else records now.
+    /// Those that wait meanwhile are woken.
+    fn lead(&self, newest: &mut Ticket<J>) -> Result<(), KeepError> {
+        if newest.settle(self.worker.desk) {
+            self.bell.waits.store(false, Ordering::SeqCst);
+            return Ok(());
+        }
+        // The mark goes up before the lock is tried: whoever has that looks at the marks after its
+        // end.
+        self.bell.waits.store(true, Ordering::SeqCst);
+        if self.record()? {
+            self.bell.waits.store(false, Ordering::SeqCst);
+            self.bells.ring_waiting();
+        }
+        Ok(())
+    }
+
+    /// Counts what was sent of so many bytes that waited.
+    fn count_sent(&self, client: &mut Client<'a, J>, before: usize) {
+        let after = client.waiting();
+        client.visit.sends(before.saturating_sub(after));
+        if let Some(board) = self.worker.tallies.board() {
+            board.waits(before, after);
+        }
+    }
+
+    /// Sends what may go out to the connection at a place.
+    fn send(&self, clients: &mut Clients<'a, J>, second: u64, at: usize) {
+        let mut over = false;
+        if let Some(Some(client)) = clients.places.get_mut(at) {
+            let before = client.waiting();
+            over = client.send(&self.worker, second).is_err();
+            self.count_sent(client, before);
+        }
+        if over {
+            self.close(clients, at, second, ended_by(clients.at(at)));
+        } else {
+            clients.list(at);
+        }
+    }
+
+    /// Sends what may go out.
+    fn send_all(&self, clients: &mut Clients<'a, J>, second: u64) {
+        clients.begin_sending();
+        for _ in 0..clients.to_send.len() {
+            let Some(at) = clients.to_send.pop() else {
+                return;
+            };
+            self.send(clients, second, at);
+        }
+    }
+
+    /// Sends what may go out, once what it rests on is recorded, or another worker records it.
+    fn tell(&self, clients: &mut Clients<'a, J>, round: &mut Round<J>) -> Result<(), KeepError> {
+        if clients.sending.is_empty() {
+            self.bell.waits.store(false, Ordering::SeqCst);
+            return Ok(());
+        }
+        self.lead(&mut round.newest)?;
+        self.send_all(clients, round.second);
+        Ok(())
+    }
+
+    /// Waits until a connection is ready, the worker is woken or a second is over.
+    fn wait(
+        &self,
+        poll: &mut Poll,
+        events: &mut Events,
+        clients: &mut Clients<'a, J>,
+        round: &mut Round<J>,
+        start: Instant,
+    ) -> Result<(), KeepError> {
+        let most = if clients.hurried.is_empty() {
+            1000 - round.millis % 1000
+        } else {
+            0
+        };
+        if poll
+            .poll(events, Some(Duration::from_millis(most)))
+            .is_err()
+        {
+            return Err(KeepError::Poll);
+        }
+        let Ok(now) = start.elapsed(self.worker.rt) else {
+            return Err(KeepError::Clock);
+        };
+        let millis = now.as_secs().saturating_mul(1000);
+        round.millis = millis.saturating_add(u64::from(now.subsec_millis()));
+        note(events, clients, round);
+        hurry(clients, round);
+        Ok(())
+    }
+
+    /// Serves connections until no more come and all have ended, or the server is to end.
+    fn serve(
+        &self,
+        poll: &mut Poll,
+        events: &mut Events,
+        seat: &mut Option<Seat<J>>,
+        clients: &mut Clients<'a, J>,
+        round: &mut Round<J>,
+    ) -> Result<(), KeepError> {
+        let mut coming = true;
+        let Some(start) = self.worker.tallies.start() else {
+            return Err(KeepError::Clock);
+        };
+        for _ in self.worker.rt.forever() {
+            self.wait(poll, events, clients, round, start)?;
+            if self.bells.ends() {
+                return Ok(());
+            }
+            if let Some(board) = self.worker.tallies.board() {
+                board.turns(self.worker.number);
+            }
+            let Some(mut mine) = seat.take() else {
+                return Ok(());
+            };
+            mine = self.turns(mine, clients, round);
+            if round.millis / 1000 != round.second {
+                round.second = round.millis / 1000;
+                mine = self.tick(mine, clients, round);
+            }
+            self.make_way(clients, round.second);
+            if round.woken && coming {
+                coming = self.take_all(poll, &mut mine, clients, round.second);
+            }
+            round.newest = self.worker.desk.ticket(&mut mine);
+            *seat = Some(mine);
+            self.tell(clients, round)?;
+            if !coming && clients.is_empty() {
+                return Ok(());
+            }
+        }
+        unreachable!()
+    }
+
+    /// Serves connections until no more come and all have ended, or the server is to end, and gives
+    /// the seat back.
+    pub(crate) fn keep(
+        self,
+        poll: Poll,
+        seat: Seat<J>,
+    ) -> (Option<Seat<J>>, Result<(), KeepError>) {
+        let alloc = self.worker.alloc;
+        let mut poll = poll;
+        let mut seat = seat;
+        let newest = self.worker.desk.ticket(&mut seat);
+        let Ok(piece) = Vec::from_elem(alloc, 0u8, LONGEST_READ) else {
+            return (Some(seat), Err(KeepError::Memory));
+        };
+        let Ok(mut events) = Events::with_capacity(alloc, MOST_EVENTS) else {
+            return (Some(seat), Err(KeepError::Memory));
+        };
+        let mut round = Round {
+            ready: Vec::new(alloc),
+            woken: false,
+            piece,
+            millis: 0,
+            second: 0,
+            newest,
+        };
+        let mut clients = Clients::new(alloc);
+        let mut seat = Some(seat);
+        let served = self.serve(&mut poll, &mut events, &mut seat, &mut clients, &mut round);
+        if served.is_err() {
+            self.bells.end();
+        }
+        if let Some(board) = self.worker.tallies.board() {
+            board.ends(self.worker.number);
+        }
+        (seat, served)
+    }
+}

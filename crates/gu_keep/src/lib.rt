@@ -1,0 +1,20 @@
+//! `keep`: a server whose book is kept in a journal, with many connections.
+//!
+//! - Each worker polls its own connections and gives each that is ready a turn; whoever finds the
+//!   journal's lock free records what was answered.
+//! - The watch ends a server of which a part stands still.
+#![tactic(auto)]
+
+mod accepting;
+mod bells;
+mod client;
+mod clients;
+mod first_message;
+mod keeper;
+mod pages;
+mod running;
+mod starting;
+mod visit;
+mod watch;
+
+pub use watch::keep_watched;

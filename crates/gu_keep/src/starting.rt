@@ -1,0 +1,327 @@
+//! The start of a server whose book is kept: the journal, the port, the desk.
+
+ghost use Rattle.std.specs.Prelude.{◌≡◌, ◌+◌, IfOk, IfErr, IsTrue};
+ghost use Rattle.gu_base.specs.Runs.{IsRunFrom, opening_history};
+ghost use Rattle.gu_book.specs.Seen.{stored};
+ghost use Rattle.gu_desk.specs.Runs.{IsRunOf};
+ghost use Rattle.gu_desk.specs.Views.{is_worker_count};
+ghost use Rattle.gu_command.specs.Faults.{is_keep_fault};
+ghost use Rattle.gu_connection.specs.Serving.{IsServed};
+
+use crate::running::{Polls, make_polls, run_keepers};
+use gu_board::{Board, Tallies, Teller, number, text};
+use gu_book::Book;
+use gu_command::{Fault, KeepError, Order, fault_at};
+use gu_connection::{LOGON_WAIT, Open, Worker, listening, new_key, prepare};
+use gu_desk::{Ground, Job};
+use gu_limits::Limits;
+use gu_log::{Event, Key};
+use gu_parties::House;
+use gu_recorder::{Checksum, Journals, Record, close_desk, open_desk};
+use mio::net::TcpListener;
+use std::alloc::Global;
+use std::marker::Brand;
+use std::net::{Ipv4Addr, Net, SocketAddr};
+use std::random::RandomSource;
+use std::sync::{Arc, Mutex, Wait};
+use std::thread::Threads;
+use std::time::{Clock, Instant};
+
+/// Where connections come in, of which firms, what is counted of these, and after how many
+/// connections the server ends (0: never).
+#[derive(Clone, Copy)]
+struct Door<'a> {
+    listener: &'a TcpListener,
+    house: &'a House,
+    tallies: &'a Tallies,
+    connections: u32,
+}
+
+/// A desk over this ground, from its opening to its close.
+fn run_kept<K: Record + Drop + Send, J: Job + Send + Sync, R: Threads + Wait + Clock + Sync>(
+    rt: &R,
+    alloc: Global,
+    door: Door<'_>,
+    polls: Polls,
+    ground: Ground,
+    journal: K,
+) -> Result<Book, KeepError>
+    requires name { ground.name ≡ J.name }
+    requires parts { ground.workers + 1 ≡ J.parts }
+    requires table { ground.table ≡ J.table }
+    requires opening { ground.opening ≡ J.opening }
+    requires house { K.house journal ≡ J.opening.house }
+    requires says { K.says journal J.opening.history }
+    requires takes { K.takes journal }
+    ensures { IfOk result (λ b. IsRunOf J.opening (stored b)) }
+{
+    let (desk, seats, recorder) = match open_desk::<K, J>(alloc, ground, journal) {
+        Ok(opened) => opened,
+        Err(error) => return Err(error),
+    };
+    let recorder = Mutex::new(recorder);
+    let first = Worker {
+        rt,
+        alloc,
+        desk: &desk,
+        house: door.house,
+        gate: &Open,
+        tallies: door.tallies,
+        logon_wait: LOGON_WAIT,
+        number: 0,
+    };
+    let served = run_keepers(
+        first,
+        door.listener,
+        polls,
+        &recorder,
+        seats,
+        door.connections,
+    );
+    door.tallies.tell(rt);
+    let seats = match served {
+        Ok(seats) => seats,
+        Err(error) => {
+            drop(desk);
+            return Err(error);
+        }
+    };
+    let board = door.tallies.board();
+    if let Some(board) = board {
+        board.takes_journal();
+    }
+    let book = close_desk(rt, alloc, desk, recorder.into_inner(), seats, board);
+    if let Some(board) = board {
+        board.leaves_journal();
+    }
+    book
+}
+
+/// What is counted of the firms of a book, from now on.
+fn count<R: Clock>(
+    rt: &R,
+    alloc: Global,
+    book: &Book,
+    limits: Limits,
+    board: &Arc<Board>,
+) -> Result<Tallies, KeepError> {
+    let Ok(start) = Instant::now(rt) else {
+        return Err(KeepError::Clock);
+    };
+    let Ok(board) = Arc::try_clone(board) else {
+        return Err(KeepError::Memory);
+    };
+    match Tallies::new(alloc, book, limits, start, Some(board)) {
+        Ok(tallies) => Ok(tallies),
+        Err(_) => Err(KeepError::Memory),
+    }
+}
+
+/// What a line asks for of the server: the port, 1 to 16 workers, after how many connections it
+/// ends (0: never), and what firms may have.
+#[derive(Clone, Copy)]
+struct Request {
+    port: u16,
+    workers: u32,
+    connections: u32,
+    limits: Limits,
+}
+
+/// Where connections come in, and what the server's threads wait by.
+#[derive(Drop)]
+struct Entrance {
+    listener: TcpListener,
+    polls: Polls,
+}
+
+/// Listens on a port of 127.0.0.1, with as long a queue as the system allows.
+fn listen<N: Net>(net: &N, alloc: Global, request: Request) -> Result<Entrance, KeepError> {
+    let address = SocketAddr::from((Ipv4Addr::LOCALHOST, request.port));
+    let bound = TcpListener::bind(net, address);
+    let listener = match listening(bound, KeepError::Memory, KeepError::Listen) {
+        Ok(listener) => listener,
+        Err(error) => return Err(error),
+    };
+    match make_polls(net, alloc, request.workers) {
+        Ok(polls) => Ok(Entrance { listener, polls }),
+        Err(error) => Err(error),
+    }
+}
+
+/// Serves this book, which the journal says, to those who come in.
+fn serve_listener<K: Record + Drop + Send, R: Threads + Wait + Clock + Sync>(
+    rt: &R,
+    alloc: Global,
+    entrance: Entrance,
+    book: Book,
+    journal: K,
+    request: Request,
+    board: &Arc<Board>,
+) -> Result<Book, KeepError>
+    requires workers { IsTrue (is_worker_count request.workers) }
+    requires says { K.says journal book.history }
+    requires takes { K.takes journal }
+    requires house { K.house journal ≡ book.house }
+    ensures { IfOk result (λ b. IsRunOf (stored book) (stored b)) }
+{
+    let Entrance { listener, polls } = entrance;
+    let tallies = match count(rt, alloc, &book, request.limits, board) {
+        Ok(tallies) => tallies,
+        Err(error) => {
+            drop(book);
+            drop(journal);
+            return Err(error);
+        }
+    };
+    let Ok((house, ground)) = prepare(alloc, book, request.workers) else {
+        drop(journal);
+        return Err(KeepError::Memory);
+    };
+    board.set_ready();
+    let fields = [number(Key::Port, u64::from(request.port))];
+    board.say(rt, Event::Listening, &fields);
+    let door = Door {
+        listener: &listener,
+        house: &house,
+        tallies: &tallies,
+        connections: request.connections,
+    };
+    run_kept::<K, Brand, R>(rt, alloc, door, polls, ground, journal)
+}
+
+/// Lets a book and its journal go, since the server can't begin.
+fn let_go<K: Record + Drop>(book: Book, journal: K, error: KeepError) -> KeepError {
+    drop(book);
+    drop(journal);
+    error
+}
+
+/// Serves this book, which the journal says, on a port of 127.0.0.1.
+fn serve_kept<K: Record + Drop + Send, R: Threads + Wait + Clock + Net + Sync>(
+    rt: &R,
+    alloc: Global,
+    book: Book,
+    journal: K,
+    request: Request,
+    board: &Arc<Board>,
+) -> Result<Book, KeepError>
+    requires workers { IsTrue (is_worker_count request.workers) }
+    requires says { K.says journal book.history }
+    requires takes { K.takes journal }
+    requires house { K.house journal ≡ book.house }
+    ensures { IfOk result (λ b. IsRunOf (stored book) (stored b)) }
+{
+    match listen(rt, alloc, request) {
+        Ok(entrance) => serve_listener(rt, alloc, entrance, book, journal, request, board),
+        Err(error) => Err(let_go(book, journal, error)),
+    }
+}
+
+/// The fault of a server whose journal is at this path.
+fn fault_of(alloc: Global, path: &str, error: KeepError) -> Fault
+    ensures { IsTrue (is_keep_fault result) }
+{
+    match error {
+        KeepError::Record(cause) => fault_at(alloc, path, cause),
+        other => Fault::Keep(other),
+    }
+}
+
+/// Notes that a book was recovered, in so many milliseconds, from a file with this checksum.
+fn note_recovered<R: Wait + Clock>(
+    rt: &R,
+    board: &Board,
+    book: &Book,
+    checksum: Option<Checksum>,
+    millis: u64,
+) {
+    board.count_book(book);
+    let entries = number(Key::Entries, board.entries());
+    let took = number(Key::Milliseconds, millis);
+    match checksum {
+        Some(checksum) => {
+            let fields = [
+                entries,
+                number(Key::Bytes, checksum.bytes as u64),
+                text(Key::JournalDigest, &checksum.sha512),
+                took,
+            ];
+            board.say(rt, Event::Recovered, &fields);
+        }
+        None => board.say(rt, Event::Recovered, &[entries, took]),
+    }
+    board.warn(rt);
+}
+
+/// Opens the journal that is asked for. Its book has a key that nobody knows.
+fn open_journal<R: Wait + Clock + RandomSource, K: Journals>(
+    rt: &R,
+    alloc: Global,
+    journals: K,
+    text: &[u8],
+    house: House,
+    order: &Order,
+    board: &Board,
+) -> Result<(Book, K::Journal), Fault>
+    ensures house { IfOk result (λ r. K.Journal.house r.1 ≡ house) }
+    ensures book { IfOk result (λ r. r.0.house ≡ house) }
+    ensures run { IfOk result (λ r. IsRunFrom house (opening_history house) r.0.history) }
+    ensures says { IfOk result (λ r. K.Journal.says r.1 r.0.history) }
+    ensures takes { IfOk result (λ r. K.Journal.takes r.1) }
+    ensures fault { IfErr result (λ e. IsTrue (is_keep_fault e)) }
+{
+    let key = new_key(rt);
+    let mut teller = Teller::new(rt, board);
+    match journals.open(
+        alloc,
+        order.journal.as_str(),
+        order.options.replica.as_deref(),
+        text,
+        house,
+        key,
+        &mut teller,
+    ) {
+        Ok((book, journal)) => {
+            note_recovered(rt, board, &book, journal.checksum(), teller.millis());
+            Ok((book, journal))
+        }
+        Err(fault) => Err(fault),
+    }
+}
+
+/// Opens a journal of this house, whose file has these bytes, and serves its book on a port of
+/// 127.0.0.1. Gives the book when all connections have ended: one that calls made of the opening
+/// one.
+///
+/// # Errors
+///
+/// `Journal`, where the journal can't be opened, isn't one of this house or failed; else `Keep`.
+pub(crate) fn keep_port<R: Threads + Wait + Clock + Net + RandomSource + Sync, K: Journals>(
+    rt: &R,
+    alloc: Global,
+    journals: K,
+    text: &[u8],
+    house: House,
+    order: &Order,
+    board: &Arc<Board>,
+) -> Result<Book, Fault>
+    requires { IsTrue (is_worker_count order.now.workers) }
+    ensures served { IfOk result (λ b. IsServed house (stored b)) }
+    ensures fault { IfErr result (λ e. IsTrue (is_keep_fault e)) }
+{
+    let request = Request {
+        port: order.port,
+        workers: order.workers,
+        connections: order.connections,
+        limits: order.options.limits,
+    };
+    let opened = open_journal(rt, alloc, journals, text, house, order, board);
+    let (book, journal) = match opened {
+        Ok(opened) => opened,
+        Err(fault) => return Err(fault),
+    };
+    match serve_kept::<K::Journal, R>(rt, alloc, book, journal, request, board) {
+        Ok(book) => Ok(book),
+        Err(error) => Err(fault_of(alloc, order.journal.as_str(), error)),
+    }
+}

@@ -1,0 +1,367 @@
+//! A server on a thread of its own, from the first byte of its journal on, and the watch that looks
+//! after it.
+//!
+//! Where a part of the server stands still the watch doesn't wait for it: it gives a fault back,
+//! and whoever called ends the program, which cuts the threads off.
+
+ghost use Rattle.std.specs.Prelude.{IfOk, IfErr, IsTrue};
+ghost use Rattle.gu_book.specs.Seen.{stored};
+ghost use Rattle.gu_desk.specs.Views.{is_worker_count};
+ghost use Rattle.gu_command.specs.Faults.{is_keep_fault};
+ghost use Rattle.gu_connection.specs.Serving.{IsServed};
+
+use crate::pages::listen_at;
+use crate::starting::keep_port;
+use crossbeam_channel::{Receiver, RecvTimeoutError, Sender};
+use gu_board::{Board, Log, Written, number, say_started, text};
+use gu_book::Book;
+use gu_command::{Fault, KeepError, Order};
+use gu_log::{Event, Key};
+use gu_message::entry;
+use gu_parties::House;
+use gu_recorder::Journals;
+use gu_status::Part;
+use std::alloc::Global;
+use std::io::Eprint;
+use std::net::{Net, TcpListener, TcpStream};
+use std::random::RandomSource;
+use std::rt::Files;
+use std::snapshot::Snapshot;
+use std::sync::{Arc, Wait};
+use std::thread;
+use std::thread::{Promise, Threads};
+use std::time::{Clock, Duration};
+
+/// For how many seconds a part may stand still.
+const MOST_STILL: u64 = 30;
+
+/// The greatest port.
+const MOST_PORT: u32 = 65_535;
+
+/// What ties a server's thread to the watch: both ends of a channel that is closed once the thread
+/// has ended, and the board.
+type Tie = (Sender<u8>, Receiver<u8>, Arc<Board>);
+
+/// The port that a word means, if it is the number of one.
+fn port_meant(word: &str) -> Option<u16> {
+    match entry(word.as_bytes()) {
+        Some(number) if number.get() <= MOST_PORT => Some(number.get() as u16),
+        _ => None,
+    }
+}
+
+/// That a server of this house gives a book back that calls made of the opening one, or a fault of
+/// its own.
+#[derive(Drop)]
+struct OfHouse(Snapshot<House>);
+
+impl Promise<Result<Book, Fault>> for OfHouse {
+    ghost use Rattle.std.specs.Prelude.{IfOk, IfErr, IsTrue};
+    ghost use Rattle.gu_book.specs.Seen.{stored};
+    ghost use Rattle.gu_command.specs.Faults.{is_keep_fault};
+    ghost use Rattle.gu_connection.specs.Serving.{IsServed};
+
+    ghost kept_by = { λ p r. IfOk r (λ b. IsServed p.0.value (stored b))
+        × IfErr r (λ e. IsTrue (is_keep_fault e)) };
+}
+
+/// Says which part stands still.
+fn say_stuck<R: Wait + Clock>(rt: &R, alloc: Global, board: &Board, part: Part) {
+    let name = match part {
+        Part::Journal => String::from_str(alloc, "journal"),
+        Part::Acceptor => String::from_str(alloc, "acceptor"),
+        Part::Worker(at) => format!(in alloc; "worker {at}"),
+    };
+    if let Ok(name) = name {
+        let fields = [
+            text(Key::Part, name.as_bytes()),
+            number(Key::Seconds, MOST_STILL),
+        ];
+        board.say(rt, Event::Stuck, &fields);
+    }
+}
+
+/// Waits until a server has ended, or a part of it stands still: which.
+fn watch<R: Wait + Clock>(rt: &R, ended: &Receiver<u8>, board: &Board) -> Option<Part> {
+    for _ in rt.forever() {
+        match ended.recv_timeout(rt, Duration::from_secs(1)) {
+            Err(RecvTimeoutError::Timeout) => {}
+            _ => return None,
+        }
+        board.begin_second();
+        if let Some(part) = board.stuck(MOST_STILL) {
+            return Some(part);
+        }
+    }
+    unreachable!()
+}
+
+/// Opens a journal and serves its book, as `keep_port` does, on a thread of its own, until that has
+/// ended or a part of the server stands still.
+#[tactic(auto, using(crate::proofs::Sent::served_sent))]
+fn keep_beside<
+    R: Threads
+        + Wait
+        + Clock
+        + Net<Stream = TcpStream, Listener = TcpListener>
+        + RandomSource
+        + Copy
+        + Send
+        + Sync
+        + 'static,
+    K: Journals + Drop + Send + 'static,
+>(
+    rt: &R,
+    alloc: Global,
+    journals: K,
+    text: Vec<u8>,
+    house: House,
+    order: Order,
+    board: &Board,
+    tie: Tie,
+) -> Result<Book, Fault>
+    requires workers { IsTrue (is_worker_count order.workers) }
+    ensures served { IfOk result (λ b. IsServed house (stored b)) }
+    ensures fault { IfErr result (λ e. IsTrue (is_keep_fault e)) }
+{
+    let (running, ended, shared) = tie;
+    let promise = OfHouse(Snapshot::of(&house));
+    let there = *rt;
+    let server = move ||
+        requires workers { IsTrue (is_worker_count order.workers) }
+        ensures served { IfOk result (λ b. IsServed house (stored b)) }
+        ensures fault { IfErr result (λ e. IsTrue (is_keep_fault e)) }
+    {
+        let served = keep_port(&there, alloc, journals, &text, house, &order, &shared);
+        drop(running);
+        served
+    };
+    let Ok(child) = thread::spawn_with(rt, promise, server) else {
+        return Err(Fault::Keep(KeepError::NoThread));
+    };
+    match watch(rt, &ended, board) {
+        None => child.join(rt),
+        Some(part) => {
+            say_stuck(rt, alloc, board, part);
+            Err(Fault::Keep(KeepError::Stuck))
+        }
+    }
+}
+
+/// Answers those who ask for pages, on a thread of its own, if that is asked for.
+fn open_pages<
+    R: Threads
+        + Wait
+        + Clock
+        + Net<Stream = TcpStream, Listener = TcpListener>
+        + RandomSource
+        + Files
+        + Copy
+        + Send
+        + Sync
+        + 'static,
+>(rt: &R, alloc: Global, order: &Order, board: &Arc<Board>) -> Result<(), KeepError> {
+    let Some(status) = &order.options.status else {
+        return Ok(());
+    };
+    let Ok(shared) = Arc::try_clone(board) else {
+        return Err(KeepError::Memory);
+    };
+    let Ok(window) = listen_at(rt, port_meant(status.as_str()), status.as_str()) else {
+        return Err(KeepError::Status);
+    };
+    let there = *rt;
+    match thread::spawn(rt, move || window.answer_all(&there, alloc, shared)) {
+        Ok(_) => Ok(()),
+        Err(_) => Err(KeepError::NoThread),
+    }
+}
+
+/// Opens the pages that an order asks for, and makes what ties the server's thread to the watch.
+fn open_told<
+    R: Threads
+        + Wait
+        + Clock
+        + Net<Stream = TcpStream, Listener = TcpListener>
+        + RandomSource
+        + Files
+        + Copy
+        + Send
+        + Sync
+        + 'static,
+>(rt: &R, alloc: Global, order: &Order, board: &Arc<Board>) -> Result<Tie, KeepError> {
+    open_pages(rt, alloc, order, board)?;
+    match (
+        crossbeam_channel::bounded::<u8, Global>(alloc, 1),
+        Arc::try_clone(board),
+    ) {
+        (Ok((running, ended)), Ok(shared)) => Ok((running, ended, shared)),
+        _ => Err(KeepError::Memory),
+    }
+}
+
+/// Says that the program ends, and why.
+fn say_stopped<R: Wait + Clock>(
+    rt: &R,
+    alloc: Global,
+    board: &Board,
+    served: &Result<Book, Fault>,
+) {
+    let entries = number(Key::Entries, board.entries());
+    match served {
+        Ok(_) => board.say(rt, Event::Stopped, &[entries, number(Key::Status, 0)]),
+        Err(fault) => {
+            let why = match format!(in alloc; "{fault}") {
+                Ok(why) => why,
+                Err(_) => String::new(alloc),
+            };
+            let fields = [
+                entries,
+                number(Key::Status, 1),
+                text(Key::Why, why.as_bytes()),
+            ];
+            board.say(rt, Event::Stopped, &fields);
+        }
+    }
+}
+
+/// The board of an order, and the end of its log.
+fn open_board<R: Threads + Wait + Eprint + Copy + Send + Sync + 'static>(
+    rt: &R,
+    alloc: Global,
+    house: &House,
+    order: &Order,
+) -> Result<(Arc<Board>, Written), KeepError> {
+    let Ok((log, written)) = Log::open(rt, alloc) else {
+        return Err(KeepError::Memory);
+    };
+    let board = Board::new(
+        alloc,
+        log,
+        order.options.log_calls,
+        house,
+        order.workers,
+        order.options.limits.most_entries,
+    );
+    let Ok(board) = board else {
+        return Err(KeepError::Memory);
+    };
+    match Arc::new(alloc, board) {
+        Ok(board) => Ok((board, written)),
+        Err(_) => Err(KeepError::Memory),
+    }
+}
+
+/// Opens the pages that an order asks for, and serves, on a thread of its own.
+fn keep_told<
+    R: Threads
+        + Wait
+        + Clock
+        + Net<Stream = TcpStream, Listener = TcpListener>
+        + RandomSource
+        + Files
+        + Copy
+        + Send
+        + Sync
+        + 'static,
+    K: Journals + Drop + Send + 'static,
+>(
+    rt: &R,
+    alloc: Global,
+    journals: K,
+    text: Vec<u8>,
+    house: House,
+    order: Order,
+    board: &Arc<Board>,
+) -> Result<Book, Fault>
+    requires { IsTrue (is_worker_count order.workers) }
+    ensures served { IfOk result (λ b. IsServed house (stored b)) }
+    ensures fault { IfErr result (λ e. IsTrue (is_keep_fault e)) }
+{
+    match open_told(rt, alloc, &order, board) {
+        Ok(tie) => keep_beside(rt, alloc, journals, text, house, order, board, tie),
+        Err(error) => {
+            drop(journals);
+            drop(house);
+            Err(Fault::Keep(error))
+        }
+    }
+}
+
+/// Says what begins, serves, and says what has ended.
+fn keep_said<
+    R: Threads
+        + Wait
+        + Clock
+        + Net<Stream = TcpStream, Listener = TcpListener>
+        + RandomSource
+        + Files
+        + Copy
+        + Send
+        + Sync
+        + 'static,
+    K: Journals + Drop + Send + 'static,
+>(
+    rt: &R,
+    alloc: Global,
+    journals: K,
+    text: Vec<u8>,
+    house: House,
+    order: Order,
+    board: &Arc<Board>,
+    written: &Written,
+) -> Result<Book, Fault>
+    requires { IsTrue (is_worker_count order.workers) }
+    ensures served { IfOk result (λ b. IsServed house (stored b)) }
+    ensures fault { IfErr result (λ e. IsTrue (is_keep_fault e)) }
+{
+    say_started(rt, alloc, board, &order, &text);
+    let served = keep_told(rt, alloc, journals, text, house, order, board);
+    say_stopped(rt, alloc, board, &served);
+    let _ = board.log().end(rt, alloc, written);
+    served
+}
+
+/// Serves as an order asks for, of a book that a journal of this house keeps, whose file has these
+/// bytes. Gives the book when all connections have ended: one that calls made of the opening one.
+/// An operator is told of it, on standard error and where the order says so.
+///
+/// # Errors
+///
+/// `Journal`, where the journal can't be opened, isn't one of this house or failed; else `Keep`.
+pub fn keep_watched<
+    R: Threads
+        + Wait
+        + Clock
+        + Net<Stream = TcpStream, Listener = TcpListener>
+        + RandomSource
+        + Files
+        + Eprint
+        + Copy
+        + Send
+        + Sync
+        + 'static,
+    K: Journals + Drop + Send + 'static,
+>(
+    rt: &R,
+    alloc: Global,
+    journals: K,
+    text: Vec<u8>,
+    house: House,
+    order: Order,
+) -> Result<Book, Fault>
+    requires { IsTrue (is_worker_count order.workers) }
+    ensures served { IfOk result (λ b. IsServed house (stored b)) }
+    ensures fault { IfErr result (λ e. IsTrue (is_keep_fault e)) }
+{
+    match open_board(rt, alloc, &house, &order) {
+        Ok((board, written)) => {
+            keep_said(rt, alloc, journals, text, house, order, &board, &written)
+        }
+        Err(error) => {
+            drop(journals);
+            drop(house);
+            Err(Fault::Keep(error))
+        }
+    }
+}

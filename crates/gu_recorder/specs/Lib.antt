@@ -1,0 +1,4 @@
+pub mod Waiting
+pub mod Recording
+pub mod Replicas
+pub mod Filing

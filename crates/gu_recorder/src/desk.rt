@@ -1,0 +1,82 @@
+//! The desk of a kept book, from its opening to its end.
+
+ghost use Rattle.std.specs.Prelude.{◌≡◌, ◌+◌, IfOk};
+ghost use Rattle.gu_book.specs.Seen.{stored};
+ghost use Rattle.gu_desk.specs.Runs.{IsRunOf};
+
+use crate::journals::Record;
+use crate::recorder::Recorder;
+use gu_board::Board;
+use gu_book::Book;
+use gu_command::KeepError;
+use gu_desk::{Desk, Ground, Job, JournalSeat, Seat};
+use std::alloc::Global;
+use std::sync::Wait;
+use std::time::Clock;
+
+/// The recorder of a journal that says what the desk opened with.
+fn begin<K: Record, J: Job>(desk: &Desk<J>, journal: K, seat: JournalSeat<J>) -> Recorder<K, J>
+    requires house { K.house journal ≡ J.opening.house }
+    requires seen { seat.seen ≡ J.opening.history }
+    requires says { K.says journal J.opening.history }
+    requires takes { K.takes journal }
+{
+    let mut seat = seat;
+    desk.confirm(&mut seat, &journal);
+    Recorder {
+        journal,
+        seat,
+        failed: false,
+    }
+}
+
+/// A desk over this ground, its seats, and the recorder of a journal that says what it opened with.
+pub fn open_desk<K: Record + Drop, J: Job>(
+    alloc: Global,
+    ground: Ground,
+    journal: K,
+) -> Result<(Desk<J>, Vec<Seat<J>>, Recorder<K, J>), KeepError>
+    requires name { ground.name ≡ J.name }
+    requires parts { ground.workers + 1 ≡ J.parts }
+    requires table { ground.table ≡ J.table }
+    requires opening { ground.opening ≡ J.opening }
+    requires house { K.house journal ≡ J.opening.house }
+    requires says { K.says journal J.opening.history }
+    requires takes { K.takes journal }
+{
+    let (desk, seats, seat) = match Desk::<J>::with_journal(alloc, ground) {
+        Ok(opened) => opened,
+        Err((book, _)) => {
+            drop(book);
+            drop(journal);
+            return Err(KeepError::Memory);
+        }
+    };
+    let recorder = begin(&desk, journal, seat);
+    Ok((desk, seats, recorder))
+}
+
+/// Gives the book back, once all of it is recorded, also what was answered to nobody.
+pub fn close_desk<K: Record + Drop, J: Job, R: Wait + Clock>(
+    rt: &R,
+    alloc: Global,
+    desk: Desk<J>,
+    recorder: Recorder<K, J>,
+    seats: Vec<Seat<J>>,
+    board: Option<&Board>,
+) -> Result<Book, KeepError>
+    ensures { IfOk result (λ b. IsRunOf J.opening (stored b)) }
+{
+    let mut recorder = recorder;
+    if let Err(error) = recorder.record(rt, alloc, &desk, board) {
+        drop(desk);
+        return Err(error);
+    }
+    match desk.close(seats) {
+        Ok(book) => Ok(book),
+        Err(left) => {
+            drop(left);
+            Err(KeepError::NoThread)
+        }
+    }
+}

@@ -1,0 +1,198 @@
+//! A journal over a disk, as what a kept book is recorded in.
+
+ghost use Rattle.std.specs.Prelude.{◌≡◌, ℕ, List, length, IsTrue, IfOk, IfSome};
+ghost use Rattle.sqlite_disk.specs.Disk.{Only};
+ghost use Rattle.gu_base.specs.House.{House as HouseTable};
+ghost use Rattle.gu_base.specs.Runs.{IsRunFrom, opening_history};
+ghost use Rattle.gu_base.specs.declared.entry.Entry.{Entry as EntryData};
+ghost use Rattle.gu_book.specs.Seen.{stored};
+ghost use Rattle.gu_journal.specs.Keeping.{disk_of, IsIdle, Keeps};
+ghost use Rattle.gu_journal.specs.Session.{digest_text};
+ghost use Rattle.gu_recorder.specs.Replicas.{HasAnswered};
+
+use crate::journals::{Checksum, Record};
+use crate::replica::{Replica, answered, offered};
+use gu_base::{Entry, Memory};
+use gu_book::{Book, HashKey};
+use gu_command::RecordError;
+use gu_desk::Keeps;
+use gu_journal::{
+    HouseDigest, Journal, JournalError, Progress, RecoverError, Recovered, Unrecovered, recover,
+};
+use gu_parties::House;
+use sqlite_disk::Disk;
+use std::alloc::Global;
+
+/// A journal over a disk, the house table of its house, and the line to other machines, if they are
+/// to have it too.
+#[derive(Drop)]
+pub struct Filed<D: Disk> {
+    pub journal: Journal<D>,
+    pub house: House,
+    pub replica: Option<Replica>,
+}
+
+impl<D: Disk> Keeps for Filed<D> {
+    ghost use Rattle.std.specs.Prelude.{IsTrue};
+    ghost use Rattle.gu_journal.specs.Keeping.{disk_of};
+    ghost use Rattle.gu_recorder.specs.Filing.{IsKept};
+
+    ghost keeps = { λ k h. IsTrue (D.Disk.is_clean (disk_of k.journal))
+        → IsKept D.Disk.may_leave k.house h (disk_of k.journal) k.replica };
+}
+
+/// Why a journal's fault keeps entries from being recorded.
+fn cause(error: JournalError) -> RecordError {
+    match error {
+        JournalError::Memory => RecordError::Memory,
+        JournalError::Full => RecordError::Full,
+        JournalError::Unsayable { .. } | JournalError::Moment => RecordError::Unsaid,
+        JournalError::Disk(error) => RecordError::Disk(error),
+    }
+}
+
+impl<D: Disk> Record for Filed<D> {
+    ghost use Rattle.std.specs.Prelude.{IsTrue};
+    ghost use Rattle.gu_journal.specs.Keeping.{disk_of, IsIdle};
+    ghost use Rattle.gu_recorder.specs.Filing.{IsSaid, said_is_kept, begun_is_kept};
+
+    ghost house = { λ k. k.house };
+
+    ghost takes = { λ k. IsTrue (D.Disk.is_usable (disk_of k.journal)) × IsIdle k.journal };
+
+    ghost says = { λ k h. IsTrue (D.Disk.is_clean (disk_of k.journal))
+        → IsSaid D.Disk.seen D.Disk.may_leave k.house h k.journal k.replica };
+
+    ghost keeps_all = { λ k h said is_clean. said_is_kept
+        D.Disk.seen D.Disk.may_leave k.house h k.journal k.replica (said is_clean) };
+
+    ghost keeps_begun = { λ k h begun longer kept is_clean. begun_is_kept
+        D.Disk.may_leave k.house h begun (disk_of k.journal) k.replica longer (kept is_clean) };
+
+    fn checksum(&self) -> Option<Checksum>
+        ensures { (t : HouseTable) (pin : List ℕ) (h : List EntryData)
+            → (k : Keeps D.Disk.seen D.Disk.may_leave t pin h self.now.journal)
+            → IfSome result (λ sum. sum.sha512 ≡ digest_text k.bytes) }
+    {
+        match self.journal.digest() {
+            Ok(sha512) => Some(Checksum {
+                bytes: self.journal.len(),
+                sha512,
+            }),
+            Err(_) => None,
+        }
+    }
+
+    // Other machines take the group while it is opened here.
+    fn record(&mut self, moment: &[u8], entries: &[Entry]) -> Result<(), RecordError> {
+        match self.journal.stage(moment, entries) {
+            Ok(()) => {}
+            Err(error) => return Err(cause(error)),
+        }
+        let count = self.journal.entries();
+        if !offered(&self.replica, count, self.journal.len()) {
+            return Err(RecordError::Replica);
+        }
+        match self.journal.open() {
+            Ok(()) => {}
+            Err(error) => return Err(cause(error)),
+        }
+        if answered(&mut self.replica, count) {
+            Ok(())
+        } else {
+            Err(RecordError::Replica)
+        }
+    }
+}
+
+impl<D: Disk + Drop> Filed<D> {
+    /// The journal, with a copy of the book's house table, on this machine alone.
+    pub fn new(alloc: Global, book: &Book, journal: Journal<D>) -> Result<Filed<D>, Memory>
+        ensures journal { IfOk result (λ f. f.journal ≡ journal) }
+        ensures house { IfOk result (λ f. f.house ≡ (stored book.now).house) }
+    {
+        match book.house().copy(alloc) {
+            Ok(house) => Ok(Filed {
+                journal,
+                house,
+                replica: None,
+            }),
+            Err(error) => {
+                drop(journal);
+                Err(error)
+            }
+        }
+    }
+
+    /// Recovers the journal of a house from what a crash left on this disk: its book, and what
+    /// takes further entries.
+    pub fn recover<P: Progress>(
+        alloc: Global,
+        disk: D,
+        house: House,
+        key: HashKey,
+        pin: &HouseDigest,
+        moment: &[u8],
+        progress: &mut P,
+    ) -> Result<(Book, Filed<D>), RecoverError>
+        requires durable { Only (D.Disk.seen disk) (D.Disk.may_leave disk) }
+        requires usable { IsTrue (D.Disk.is_usable disk) }
+        ensures house { IfOk result (λ r. r.1.house ≡ house) }
+        ensures book { IfOk result (λ r. r.0.house ≡ house) }
+        ensures run { IfOk result (λ r. IsRunFrom house (opening_history house) r.0.history) }
+        ensures says { IfOk result (λ r. IsTrue (D.Disk.is_clean (disk_of r.1.journal))
+            → (pin : List ℕ)
+            × Keeps D.Disk.seen D.Disk.may_leave r.1.house pin r.0.history r.1.journal) }
+        ensures takes { IfOk result (λ r.
+            IsTrue (D.Disk.is_usable (disk_of r.1.journal)) × IsIdle r.1.journal) }
+    {
+        match recover(alloc, disk, house, key, pin, moment, progress) {
+            Ok(Recovered { book, journal }) => match Filed::new(alloc, &book, journal) {
+                Ok(filed) => Ok((book, filed)),
+                Err(_) => {
+                    drop(book);
+                    Err(RecoverError::Memory)
+                }
+            },
+            Err(Unrecovered { disk, error }) => {
+                drop(disk);
+                Err(error)
+            }
+        }
+    }
+
+    /// The same journal, once other machines have what it says, if they are to have it.
+    pub fn replicated(self, replica: Option<Replica>) -> Option<Filed<D>>
+        ensures journal { IfSome result (λ f. f.journal ≡ self.journal) }
+        ensures house { IfSome result (λ f. f.house ≡ self.house) }
+        ensures answered { IfSome result (λ f. (t : HouseTable) (pin : List ℕ) (h : List EntryData)
+            → Keeps D.Disk.seen D.Disk.may_leave t pin h f.journal
+            → HasAnswered f.replica (length h)) }
+    {
+        let mut filed = self;
+        filed.replica = replica;
+        let count = filed.journal.entries();
+        if offered(&filed.replica, count, filed.journal.len())
+            && answered(&mut filed.replica, count)
+        {
+            Some(filed)
+        } else {
+            drop(filed);
+            None
+        }
+    }
+
+    /// The disk.
+    pub fn into_disk(self) -> D
+        ensures { result ≡ disk_of self.journal }
+    {
+        let Filed {
+            journal,
+            house,
+            replica,
+        } = self;
+        drop(house);
+        drop(replica);
+        journal.into_disk()
+    }
+}

@@ -1,0 +1,101 @@
+//! What a kept book asks of its journal.
+
+use gu_base::Entry;
+use gu_book::{Book, HashKey};
+use gu_command::{Fault, RecordError};
+use gu_desk::Keeps;
+use gu_journal::Progress;
+use gu_parties::House;
+use std::alloc::Global;
+
+/// A checksum of a journal's file: how many bytes it has but for what shuts it, and their SHA-512
+/// in hex digits.
+#[derive(Clone, Copy)]
+pub struct Checksum {
+    pub bytes: usize,
+    pub sha512: [u8; 128],
+}
+
+/// A journal that is open: it says a history of a house, and takes further entries.
+pub trait Record: Keeps {
+    ghost use Rattle.std.specs.Prelude.{◌≡◌, List, ◌++◌, OnOk};
+    ghost use Rattle.gu_base.specs.House.{House as HouseTable};
+    ghost use Rattle.gu_base.specs.Runs.{IsRunFrom};
+    ghost use Rattle.gu_base.specs.declared.entry.Entry.{Entry};
+    ghost use Rattle.gu_desk.specs.Begins.{BeginsWith};
+
+    /// The house whose history it says.
+    ghost house: { Self → HouseTable };
+
+    /// It takes further entries.
+    ghost takes: { Self → Type 0 };
+
+    /// It says this history.
+    ghost says: { Self → List Entry → Type 0 };
+
+    /// Puts entries that the rules accept behind the history, all at this moment. At `Ok` they are
+    /// kept with it. Whatever it answers, the history from before is kept.
+    ///
+    /// # Errors
+    ///
+    /// As `RecordError` says; the journal takes no more then.
+    fn record(&mut self, moment: &[u8], entries: &[Entry]) -> Result<(), RecordError>
+        requires { takes self.old }
+        ensures takes { OnOk result (takes self.new) }
+        ensures same { house self.new ≡ house self.old }
+        ensures says { (h : List Entry) → says self.old h
+            → IsRunFrom (house self.old) h (h ++ entries.now)
+            → OnOk result (says self.new (h ++ entries.now)) }
+        ensures kept { (h : List Entry) → says self.old h
+            → IsRunFrom (house self.old) h (h ++ entries.now)
+            → Self.Keeps.keeps self.new h };
+
+    /// What an operator may compare its file with. None where it has no file, or memory lacks.
+    fn checksum(&self) -> Option<Checksum> {
+        None
+    }
+
+    /// With a history each beginning of it is kept.
+    ghost keeps_begun: { (journal : Self) (h begun : List Entry) → BeginsWith h begun
+        → Self.Keeps.keeps journal h → Self.Keeps.keeps journal begun };
+
+    /// What it says is kept.
+    ghost keeps_all: { (journal : Self) (h : List Entry) → says journal h
+        → Self.Keeps.keeps journal h };
+}
+
+/// Where a journal is opened by its path: one, since opening it uses this up.
+pub trait Journals {
+    ghost use Rattle.std.specs.Prelude.{◌≡◌, IfOk, IfErr, IsTrue};
+    ghost use Rattle.gu_base.specs.Runs.{IsRunFrom, opening_history};
+    ghost use Rattle.gu_command.specs.Faults.{is_keep_fault};
+
+    /// What `open` gives: a journal that keeps entries.
+    type Journal: Record + Drop + Send + 'static;
+
+    /// Opens the journal at a path, which is made where it isn't there, and gives the book of the
+    /// history that it says, which finds ids under this key from its first entry on. It is one of
+    /// this house, whose file has these bytes. Where the path of a socket is given, whoever listens
+    /// there puts on other machines what is kept. How far the journal is read is told meanwhile.
+    ///
+    /// # Errors
+    ///
+    /// `Journal`, whose text says which file and what is wrong with it; or want of memory. Nothing
+    /// was written then.
+    fn open<P: Progress>(
+        self,
+        alloc: Global,
+        path: &str,
+        replica: Option<&str>,
+        text: &[u8],
+        house: House,
+        key: HashKey,
+        progress: &mut P,
+    ) -> Result<(Book, Self::Journal), Fault>
+        ensures house { IfOk result (λ r. Self.Journal.house r.1 ≡ house) }
+        ensures book { IfOk result (λ r. r.0.house ≡ house) }
+        ensures run { IfOk result (λ r. IsRunFrom house (opening_history house) r.0.history) }
+        ensures says { IfOk result (λ r. Self.Journal.says r.1 r.0.history) }
+        ensures takes { IfOk result (λ r. Self.Journal.takes r.1) }
+        ensures fault { IfErr result (λ e. IsTrue (is_keep_fault e)) };
+}

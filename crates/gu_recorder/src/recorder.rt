@@ -1,0 +1,141 @@
+//! The journal and its seat, behind a lock of their own: whoever takes it records what the desk has
+//! answered.
+
+ghost use Rattle.std.specs.Prelude.{◌≡◌, OnOk};
+ghost use Rattle.gu_desk.specs.Begins.{BeginsWith};
+
+use crate::journals::Record;
+use gu_base::Entry;
+use gu_board::Board;
+use gu_command::KeepError;
+use gu_desk::{Desk, Job, JournalSeat, Ticket};
+use gu_message::SendingTime;
+use gu_session::is_moment;
+use jiff::Timestamp;
+use std::alloc::Global;
+use std::marker::Model;
+use std::sync::Wait;
+use std::time::{Clock, Instant};
+
+/// A journal, and its seat at the desk. Once the journal has failed nothing more is recorded.
+///
+/// Contracts see the journal, and what its seat sees. Whenever the lock is free the journal keeps
+/// all that the seat knows to be durable; and it says just that, unless it has failed.
+#[derive(Drop)]
+pub struct Recorder<K: Record, J: Job> {
+    pub(crate) journal: K,
+    pub(crate) seat: JournalSeat<J>,
+    pub(crate) failed: bool,
+}
+
+impl<K: Record, J: Job> Model for Recorder<K, J> {
+    ghost use Rattle.std.specs.Prelude.{◌≡◌, false};
+    ghost use Rattle.gu_desk.specs.Begins.{BeginsWith};
+    ghost use Rattle.gu_recorder.specs.Recording.{Recorded};
+
+    ghost Value = { Recorded K };
+
+    ghost view = { λ r. record {
+      journal = r.journal;
+      seen = r.seat.seen;
+      kept = r.seat.kept;
+    } };
+
+    ghost invariant = { λ r. (K.house r.journal ≡ J.opening.house)
+        × BeginsWith r.seat.kept J.opening.history
+        × K.Keeps.keeps r.journal r.seat.kept
+        × (r.failed ≡ false → K.takes r.journal × K.says r.journal r.seat.kept) };
+}
+
+/// A law: what a ticket rests on whose receipt was met is kept by a journal that keeps what its
+/// seat knows to be durable.
+pub fn told_is_kept<K: Record, J: Job>(
+    desk: &Desk<J>,
+    journal: &K,
+    seat: &mut JournalSeat<J>,
+    ticket: Ticket<J>,
+)
+    requires keeps { K.Keeps.keeps journal.now seat.old.kept }
+    requires receipt { BeginsWith ticket.kept ticket.seen }
+    ensures same { seat.new ≡ seat.old }
+    ensures kept { K.Keeps.keeps journal.now ticket.seen }
+{
+    let _ = journal;
+    ticket.is_confirmed(desk, seat);
+}
+
+/// This moment, from 1970 on.
+fn moment<R: Clock>(rt: &R) -> Result<SendingTime, KeepError> {
+    match Timestamp::now(rt) {
+        Ok(moment) if is_moment(moment) => Ok(SendingTime::new(moment)),
+        _ => Err(KeepError::Clock),
+    }
+}
+
+/// Counts a group that is on the disk, and how long that took.
+fn count_group<R: Wait + Clock>(
+    rt: &R,
+    board: Option<&Board>,
+    start: Option<Instant>,
+    group: &[Entry],
+) {
+    let Some(board) = board else {
+        return;
+    };
+    board.keeps(rt, group);
+    let Some(start) = start else {
+        return;
+    };
+    if let Ok(took) = start.elapsed(rt) {
+        let micros = took.as_micros().min(u128::from(u64::MAX)) as u64;
+        board.recorded(rt, group.len() as u64, micros);
+    }
+}
+
+impl<K: Record, J: Job> Recorder<K, J> {
+    /// A law: what a ticket rests on whose receipt was met is kept by the journal.
+    pub fn keeps_told(&mut self, desk: &Desk<J>, ticket: Ticket<J>)
+        requires { BeginsWith ticket.kept ticket.seen }
+        ensures same { self.new ≡ self.old }
+        ensures house { K.house self.old.journal ≡ J.opening.house }
+        ensures kept { K.Keeps.keeps self.old.journal ticket.seen }
+    {
+        told_is_kept(desk, &self.journal, &mut self.seat, ticket);
+    }
+
+    /// Records what the desk has answered since, counts it for an operator, and tells those that
+    /// wait for it that it is kept.
+    pub fn record<R: Wait + Clock>(
+        &mut self,
+        rt: &R,
+        alloc: Global,
+        desk: &Desk<J>,
+        board: Option<&Board>,
+    ) -> Result<(), KeepError>
+        ensures { OnOk result (self.new.kept ≡ self.new.seen) }
+    {
+        if self.failed {
+            return Err(KeepError::Failed);
+        }
+        let sent = moment(rt)?;
+        let start = Instant::now(rt).ok();
+        let Ok(entries) = desk.copy_above(rt, alloc, &mut self.seat) else {
+            return Err(KeepError::Memory);
+        };
+        let count = entries.len();
+        if count == 0 {
+            return Ok(());
+        }
+        match self.journal.record(sent.as_bytes(), entries.as_slice()) {
+            Ok(()) => {
+                count_group(rt, board, start, entries.as_slice());
+                desk.confirm(&mut self.seat, &self.journal);
+                Ok(())
+            }
+            Err(error) => {
+                self.failed = true;
+                Err(KeepError::Record(error))
+            }
+        }
+    }
+}

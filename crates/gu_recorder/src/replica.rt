@@ -1,0 +1,105 @@
+//! The line to the program that puts the journal's bytes on other machines.
+//!
+//! The server says on it how many entries the journal has, and in how many bytes. The program
+//! answers with the number of entries, once other machines have these bytes. One question is open
+//! at a time.
+
+ghost use Rattle.std.specs.Prelude.{◌≡◌, ℕ, true, false, IfSome};
+ghost use Rattle.std.specs.Io.KnownBytes.{Consumes};
+ghost use Rattle.gu_recorder.specs.Replicas.{answer_of, HasAnswered};
+
+use std::alloc::Global;
+use std::io;
+use std::io::{Read, Write};
+use std::net::Net;
+use std::os::unix::net::UnixStream;
+use std::time::Duration;
+
+/// How long a line may be silent, in seconds.
+const ANSWER_WAIT: u64 = 15;
+
+/// The line, connected, and the last answer that was the one that was asked for: none at first.
+#[derive(Drop)]
+pub struct Replica {
+    line: UnixStream,
+    alloc: Global,
+    pub answer: Vec<u8>,
+}
+
+/// The next bytes of a line, so many; none where they don't come.
+fn taken<L: Read>(alloc: Global, line: &mut L, count: usize) -> Option<Vec<u8>>
+    ensures { IfSome result (λ b. Consumes (L.remaining line.old) (L.remaining line.new) b.items) }
+{
+    let Ok(mut bytes) = vec![in alloc; 0u8; count] else {
+        return None;
+    };
+    match line.read_exact(&mut bytes) {
+        Ok(()) => Some(bytes),
+        Err(_) => None,
+    }
+}
+
+impl Replica {
+    /// Connects to the socket at a path.
+    ///
+    /// # Errors
+    ///
+    /// Nobody listens there, or memory ran out.
+    pub fn connect<N: Net>(net: &N, alloc: Global, path: &str) -> io::Result<Replica> {
+        let line = UnixStream::connect(net, path)?;
+        line.set_read_timeout(Some(Duration::from_secs(ANSWER_WAIT)))?;
+        line.set_write_timeout(Some(Duration::from_secs(ANSWER_WAIT)))?;
+        Ok(Replica {
+            line,
+            alloc,
+            answer: Vec::new(alloc),
+        })
+    }
+
+    /// Says how many entries the journal has, and in how many bytes: whether that could be said.
+    fn offer(&self, entries: u32, bytes: usize) -> bool {
+        let Ok(text) = format!(in self.alloc; "{entries} {bytes}\n") else {
+            return false;
+        };
+        let mut to: &UnixStream = &self.line;
+        to.write_all(text.as_bytes()).is_ok()
+    }
+
+    /// Waits for the answer: whether it is that so many entries are on other machines.
+    fn hear(&mut self, entries: u32) -> bool
+        ensures yes { result ≡ true → self.new.answer.items ≡ answer_of entries }
+        ensures no { result ≡ false → self.new.answer ≡ self.old.answer }
+    {
+        let Ok(expected) = format!(in self.alloc; "{entries}\n") else {
+            return false;
+        };
+        let Some(answer) = taken(self.alloc, &mut self.line, expected.len()) else {
+            return false;
+        };
+        if answer.as_slice() != expected.as_bytes() {
+            return false;
+        }
+        self.answer = answer;
+        true
+    }
+}
+
+/// Says how many entries the journal has, if other machines are to have them: false where that
+/// couldn't be said.
+pub fn offered(replica: &Option<Replica>, entries: u32, bytes: usize) -> bool {
+    match replica {
+        Some(replica) => replica.offer(entries, bytes),
+        None => true,
+    }
+}
+
+/// Whether so many entries are on other machines, if they are to be there.
+pub fn answered(replica: &mut Option<Replica>, entries: u32) -> bool
+    ensures yes { result ≡ true → HasAnswered replica.new entries }
+    ensures no { result ≡ false → (n : ℕ) → HasAnswered replica.old n → HasAnswered replica.new n }
+{
+    match replica {
+        Some(replica) => replica.hear(entries),
+        None => true,
+    }
+}

@@ -1,9 +1,0 @@
-use Rattle.std.proofs.Common.{ℕ, subst}
-use Rattle.gu_server.specs.Replicas.{HasAnswered}
-use Rattle.gu_server.proofs.keep.filed.Filed.replicated.Goals as goal
-
--- the answer is of as many entries as the journal says
-pub returns-then-answered-clause-answered : goal.returns-then-answered-clause-answered
-returns-then-answered-clause-answered g c t pin h kept =
-    subst (λ (n : ℕ). HasAnswered c.answered.new.replica n) (c.entries-count.ensures.kept t pin h kept)
-    (c.answered.ensures.yes c.if-answered.true)

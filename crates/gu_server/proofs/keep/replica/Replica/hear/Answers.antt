@@ -1,6 +1,0 @@
-use Rattle.std.proofs.Common.{rules}
-use Rattle.gu_server.proofs.keep.replica.Replica.hear.Goals as goal
-
--- the answer is the one that was asked for
-pub returns-clause-yes : goal.returns-clause-yes
-returns-clause-yes c = search rules

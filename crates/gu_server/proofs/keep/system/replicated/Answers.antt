@@ -1,9 +1,0 @@
-use Rattle.gu_server.proofs.Filed.{replicated_says}
-use Rattle.gu_server.proofs.keep.system.replicated.Goals as goal
-
--- the journal is the one that was recovered, and the answer was of as many entries
-pub returns-in-Some-clause-says : goal.returns-in-Some-clause-says
-returns-in-Some-clause-says g c =
-    replicated_says g.D.Disk.seen g.D.Disk.may_leave g.D.Disk.is_clean c.args.filed.house c.in-Some.filed.house
-    c.args.book.history c.args.filed.journal c.in-Some.filed.journal c.in-Some.filed.replica
-    c.in-Some.ensures.journal c.in-Some.ensures.house c.requires.says c.in-Some.ensures.answered

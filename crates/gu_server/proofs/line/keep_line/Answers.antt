@@ -1,6 +1,0 @@
-use Rattle.std.proofs.Common.{rules}
-use Rattle.gu_server.proofs.line.keep_line.Goals as goal
-
--- each word is read behind its own name
-pub returns-clause-read : goal.returns-clause-read
-returns-clause-read c = search rules
