@@ -10,7 +10,7 @@ use gu_board::Work;
 use gu_command::KeepError;
 use gu_connection::{Closed, Worker};
 use gu_desk::{Gate, Job, Seat, Ticket};
-use gu_recorder::{Record, Recorder};
+use gu_recorder::{OpenJournal, Recorder};
 use mio::unix::SourceFd;
 use mio::{Events, Interest, Poll, Token};
 use std::net::TcpStream;
@@ -38,7 +38,7 @@ const MOST_UNNAMED: usize = 256;
 
 /// A worker, and what it has for its connections.
 #[derive(Drop)]
-pub(crate) struct Keeper<'a, K: Record, J: Job, R, G> {
+pub(crate) struct Keeper<'a, K: OpenJournal, J: Job, R, G> {
     pub(crate) worker: Worker<'a, J, R, G>,
     pub(crate) recorder: &'a Mutex<Recorder<K, J>>,
     pub(crate) bells: &'a Bells,
@@ -101,7 +101,7 @@ fn ended_by<J: Job>(client: Option<&Client<'_, J>>) -> Option<&'static str> {
     }
 }
 
-impl<'a, K: Record, J: Job, R: Wait + Clock, G: Gate> Keeper<'a, K, J, R, G> {
+impl<'a, K: OpenJournal, J: Job, R: Wait + Clock, G: Gate> Keeper<'a, K, J, R, G> {
     /// Registers a stream with the poll under this place.
     fn watch(&self, poll: &Poll, stream: &TcpStream, at: usize) -> Result<(), Closed> {
         let fd = stream.as_raw_fd();

@@ -7,7 +7,7 @@ use crossbeam_channel::Sender;
 use gu_command::KeepError;
 use gu_connection::Worker;
 use gu_desk::{Gate, Job, Seat};
-use gu_recorder::{Record, Recorder};
+use gu_recorder::{OpenJournal, Recorder};
 use mio::net::TcpListener;
 use mio::unix::SourceFd;
 use mio::{Interest, Poll, Token, Waker};
@@ -98,7 +98,7 @@ fn first_fault(one: Result<(), KeepError>, other: Result<(), KeepError>) -> Resu
 }
 
 /// The next keeper, with a bell and a poll of its own, and where its connections go in.
-fn next_keeper<'a, K: Record, J: Job, R, G>(
+fn next_keeper<'a, K: OpenJournal, J: Job, R, G>(
     worker: Worker<'a, J, R, G>,
     recorder: &'a Mutex<Recorder<K, J>>,
     bells: &'a Bells,
@@ -162,7 +162,7 @@ fn accept_and_join<J: Job, R: Threads + Wait + Clock>(
 /// Starts a worker for each seat, as this one but for its number, accepts the connections, and
 /// joins the workers. Gives the seats back.
 pub(crate) fn run_keepers<
-    K: Record + Send,
+    K: OpenJournal + Send,
     J: Job + Send + Sync,
     R: Threads + Wait + Clock + Sync,
     G: Gate + Sync,

@@ -17,7 +17,7 @@ use gu_desk::{Ground, Job};
 use gu_limits::Limits;
 use gu_log::{Event, Key};
 use gu_parties::House;
-use gu_recorder::{Checksum, Journals, Record, close_desk, open_desk};
+use gu_recorder::{Checksum, Journals, OpenJournal, close_desk, open_desk};
 use mio::net::TcpListener;
 use std::alloc::Global;
 use std::marker::Brand;
@@ -38,7 +38,7 @@ struct Door<'a> {
 }
 
 /// A desk over this ground, from its opening to its close.
-fn run_kept<K: Record + Drop + Send, J: Job + Send + Sync, R: Threads + Wait + Clock + Sync>(
+fn run_kept<K: OpenJournal + Drop + Send, J: Job + Send + Sync, R: Threads + Wait + Clock + Sync>(
     rt: &R,
     alloc: Global,
     door: Door<'_>,
@@ -149,7 +149,7 @@ fn listen<N: Net>(net: &N, alloc: Global, request: Request) -> Result<Entrance, 
 }
 
 /// Serves this book, which the journal says, to those who come in.
-fn serve_listener<K: Record + Drop + Send, R: Threads + Wait + Clock + Sync>(
+fn serve_listener<K: OpenJournal + Drop + Send, R: Threads + Wait + Clock + Sync>(
     rt: &R,
     alloc: Global,
     entrance: Entrance,
@@ -190,14 +190,14 @@ fn serve_listener<K: Record + Drop + Send, R: Threads + Wait + Clock + Sync>(
 }
 
 /// Lets a book and its journal go, since the server can't begin.
-fn let_go<K: Record + Drop>(book: Book, journal: K, error: KeepError) -> KeepError {
+fn let_go<K: OpenJournal + Drop>(book: Book, journal: K, error: KeepError) -> KeepError {
     drop(book);
     drop(journal);
     error
 }
 
 /// Serves this book, which the journal says, on a port of 127.0.0.1.
-fn serve_kept<K: Record + Drop + Send, R: Threads + Wait + Clock + Net + Sync>(
+fn serve_kept<K: OpenJournal + Drop + Send, R: Threads + Wait + Clock + Net + Sync>(
     rt: &R,
     alloc: Global,
     book: Book,

@@ -9,7 +9,7 @@ use Rattle.gu_batch.specs.Output.{history_of}
 use Rattle.gu_desk.specs.Begins.{BeginsWith}
 use Rattle.gu_journal.specs.Keeping.{disk_of, Keeps, Stages}
 use Rattle.gu_journal.specs.declared.journal.Journal.{Journal}
-use Rattle.gu_recorder.specs.Filing.{IsSaid, IsKept}
+use Rattle.gu_recorder.specs.DiskJournals.{IsSaid, IsKept}
 use Rattle.gu_recorder.specs.Replicas.{HasAnswered, has_fewer, begun_count}
 use Rattle.gu_recorder.specs.declared.replica.Replica.{Replica}
 

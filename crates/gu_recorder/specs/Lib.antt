@@ -1,4 +1,4 @@
 pub mod Waiting
 pub mod Recording
 pub mod Replicas
-pub mod Filing
+pub mod DiskJournals

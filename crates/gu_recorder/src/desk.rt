@@ -4,7 +4,7 @@ ghost use Rattle.std.specs.Prelude.{◌≡◌, ◌+◌, IfOk};
 ghost use Rattle.gu_book.specs.Seen.{stored};
 ghost use Rattle.gu_desk.specs.Runs.{IsRunOf};
 
-use crate::journals::Record;
+use crate::journals::OpenJournal;
 use crate::recorder::Recorder;
 use gu_board::Board;
 use gu_book::Book;
@@ -15,7 +15,7 @@ use std::sync::Wait;
 use std::time::Clock;
 
 /// The recorder of a journal that says what the desk opened with.
-fn begin<K: Record, J: Job>(desk: &Desk<J>, journal: K, seat: JournalSeat<J>) -> Recorder<K, J>
+fn begin<K: OpenJournal, J: Job>(desk: &Desk<J>, journal: K, seat: JournalSeat<J>) -> Recorder<K, J>
     requires house { K.house journal ≡ J.opening.house }
     requires seen { seat.seen ≡ J.opening.history }
     requires says { K.says journal J.opening.history }
@@ -31,7 +31,7 @@ fn begin<K: Record, J: Job>(desk: &Desk<J>, journal: K, seat: JournalSeat<J>) ->
 }
 
 /// A desk over this ground, its seats, and the recorder of a journal that says what it opened with.
-pub fn open_desk<K: Record + Drop, J: Job>(
+pub fn open_desk<K: OpenJournal + Drop, J: Job>(
     alloc: Global,
     ground: Ground,
     journal: K,
@@ -57,7 +57,7 @@ pub fn open_desk<K: Record + Drop, J: Job>(
 }
 
 /// Gives the book back, once all of it is recorded, also what was answered to nobody.
-pub fn close_desk<K: Record + Drop, J: Job, R: Wait + Clock>(
+pub fn close_desk<K: OpenJournal + Drop, J: Job, R: Wait + Clock>(
     rt: &R,
     alloc: Global,
     desk: Desk<J>,

@@ -17,7 +17,7 @@ pub struct Checksum {
 }
 
 /// A journal that is open: it says a history of a house, and takes further entries.
-pub trait Record: Keeps {
+pub trait OpenJournal: Keeps {
     ghost use Rattle.std.specs.Prelude.{◌≡◌, List, ◌++◌, OnOk};
     ghost use Rattle.gu_base.specs.House.{House as HouseTable};
     ghost use Rattle.gu_base.specs.Runs.{IsRunFrom};
@@ -71,7 +71,7 @@ pub trait Journals {
     ghost use Rattle.gu_command.specs.Faults.{is_keep_fault};
 
     /// What `open` gives: a journal that keeps entries.
-    type Journal: Record + Drop + Send + 'static;
+    type Journal: OpenJournal + Drop + Send + 'static;
 
     /// Opens the journal at a path, which is made where it isn't there, and gives the book of the
     /// history that it says, which finds ids under this key from its first entry on. It is one of

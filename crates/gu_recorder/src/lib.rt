@@ -1,13 +1,14 @@
 //! What is told is kept: the journal and its seat, and what waits to be sent until it is durable.
 //!
-//! - A `Recorder` records what the desk has answered, in what is a `Record`: a journal over a disk
-//!   (`Filed`), whose entries other machines may have to have too (`Replica`).
+//! - A `Recorder` records what the desk has answered, in an `OpenJournal`: a journal over a disk
+//!   (`DiskJournal`), whose entries other machines may have to have too (`Replica`).
+//! - A desk of a kept book begins and ends with its recorder.
 //! - An `Outbox` sends nothing before the history that it rests on is kept.
 //! - `SystemJournals` opens the journal of a path.
 #![tactic(auto)]
 
 mod desk;
-mod filed;
+mod disk_journal;
 mod journals;
 mod outbox;
 mod recorder;
@@ -15,8 +16,8 @@ mod replica;
 mod system;
 
 pub use desk::{close_desk, open_desk};
-pub use filed::Filed;
-pub use journals::{Checksum, Journals, Record};
+pub use disk_journal::DiskJournal;
+pub use journals::{Checksum, Journals, OpenJournal};
 pub use outbox::{Outbox, Rest};
 pub use recorder::{Recorder, told_is_kept};
 pub use replica::Replica;

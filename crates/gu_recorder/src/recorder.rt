@@ -4,7 +4,7 @@
 ghost use Rattle.std.specs.Prelude.{◌≡◌, OnOk};
 ghost use Rattle.gu_desk.specs.Begins.{BeginsWith};
 
-use crate::journals::Record;
+use crate::journals::OpenJournal;
 use gu_base::Entry;
 use gu_board::Board;
 use gu_command::KeepError;
@@ -22,13 +22,13 @@ use std::time::{Clock, Instant};
 /// Contracts see the journal, and what its seat sees. Whenever the lock is free the journal keeps
 /// all that the seat knows to be durable; and it says just that, unless it has failed.
 #[derive(Drop)]
-pub struct Recorder<K: Record, J: Job> {
+pub struct Recorder<K: OpenJournal, J: Job> {
     pub(crate) journal: K,
     pub(crate) seat: JournalSeat<J>,
     pub(crate) failed: bool,
 }
 
-impl<K: Record, J: Job> Model for Recorder<K, J> {
+impl<K: OpenJournal, J: Job> Model for Recorder<K, J> {
     ghost use Rattle.std.specs.Prelude.{◌≡◌, false};
     ghost use Rattle.gu_desk.specs.Begins.{BeginsWith};
     ghost use Rattle.gu_recorder.specs.Recording.{Recorded};
@@ -49,7 +49,7 @@ impl<K: Record, J: Job> Model for Recorder<K, J> {
 
 /// A law: what a ticket rests on whose receipt was met is kept by a journal that keeps what its
 /// seat knows to be durable.
-pub fn told_is_kept<K: Record, J: Job>(
+pub fn told_is_kept<K: OpenJournal, J: Job>(
     desk: &Desk<J>,
     journal: &K,
     seat: &mut JournalSeat<J>,
@@ -92,7 +92,7 @@ fn count_group<R: Wait + Clock>(
     }
 }
 
-impl<K: Record, J: Job> Recorder<K, J> {
+impl<K: OpenJournal, J: Job> Recorder<K, J> {
     /// A law: what a ticket rests on whose receipt was met is kept by the journal.
     pub fn keeps_told(&mut self, desk: &Desk<J>, ticket: Ticket<J>)
         requires { BeginsWith ticket.kept ticket.seen }

@@ -2,10 +2,10 @@
 
 ghost use Rattle.std.specs.Prelude.{◌≡◌, ℕ, List, IsTrue, IfOk, IfErr};
 ghost use Rattle.gu_journal.specs.Keeping.{disk_of, Keeps};
-ghost use Rattle.gu_recorder.specs.Filing.{IsSaid};
+ghost use Rattle.gu_recorder.specs.DiskJournals.{IsSaid};
 ghost use Rattle.gu_command.specs.Faults.{is_keep_fault};
 
-use crate::filed::Filed;
+use crate::disk_journal::DiskJournal;
 use crate::journals::Journals;
 use crate::replica::Replica;
 use gu_book::{Book, HashKey};
@@ -92,20 +92,20 @@ fn replicated<D: Disk + Drop>(
     alloc: Global,
     path: &str,
     book: Book,
-    filed: Filed<D>,
+    kept: DiskJournal<D>,
     replica: Option<Replica>,
-) -> Result<(Book, Filed<D>), Fault>
-    requires says { IsTrue (D.Disk.is_clean (disk_of filed.journal)) → (pin : List ℕ)
-        × Keeps D.Disk.seen D.Disk.may_leave filed.house pin book.history filed.journal }
+) -> Result<(Book, DiskJournal<D>), Fault>
+    requires says { IsTrue (D.Disk.is_clean (disk_of kept.journal)) → (pin : List ℕ)
+        × Keeps D.Disk.seen D.Disk.may_leave kept.house pin book.history kept.journal }
     ensures book { IfOk result (λ r. r.0 ≡ book) }
-    ensures house { IfOk result (λ r. r.1.house ≡ filed.house) }
-    ensures journal { IfOk result (λ r. r.1.journal ≡ filed.journal) }
+    ensures house { IfOk result (λ r. r.1.house ≡ kept.house) }
+    ensures journal { IfOk result (λ r. r.1.journal ≡ kept.journal) }
     ensures says { IfOk result (λ r. IsTrue (D.Disk.is_clean (disk_of r.1.journal)) → IsSaid
         D.Disk.seen D.Disk.may_leave r.1.house r.0.history r.1.journal r.1.replica) }
     ensures fault { IfErr result (λ e. IsTrue (is_keep_fault e)) }
 {
-    match filed.replicated(replica) {
-        Some(filed) => Ok((book, filed)),
+    match kept.replicated(replica) {
+        Some(kept) => Ok((book, kept)),
         None => {
             drop(book);
             Err(fault_at(alloc, path, RecordError::Replica))
@@ -114,7 +114,7 @@ fn replicated<D: Disk + Drop>(
 }
 
 impl<S: Start + Send + 'static> Journals for SystemJournals<S> {
-    type Journal = Filed<FileFrom<S>>;
+    type Journal = DiskJournal<FileFrom<S>>;
 
     fn open<P: Progress>(
         self,
@@ -125,7 +125,7 @@ impl<S: Start + Send + 'static> Journals for SystemJournals<S> {
         house: House,
         key: HashKey,
         progress: &mut P,
-    ) -> Result<(Book, Filed<FileFrom<S>>), Fault> {
+    ) -> Result<(Book, DiskJournal<FileFrom<S>>), Fault> {
         let SystemJournals { rt, start } = self;
         let Some(sent) = moment(&rt) else {
             drop(house);
@@ -149,8 +149,8 @@ impl<S: Start + Send + 'static> Journals for SystemJournals<S> {
             }
         };
         let pin = HouseDigest::of(text);
-        match Filed::recover(alloc, disk, house, key, &pin, sent.as_bytes(), progress) {
-            Ok((book, filed)) => replicated(alloc, path, book, filed, replica),
+        match DiskJournal::recover(alloc, disk, house, key, &pin, sent.as_bytes(), progress) {
+            Ok((book, kept)) => replicated(alloc, path, book, kept, replica),
             Err(error) => {
                 drop(replica);
                 Err(unrecovered(alloc, path, error))

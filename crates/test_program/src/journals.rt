@@ -9,7 +9,7 @@ use gu_base::{Entry, Memory};
 use gu_book::{Book, HashKey};
 use gu_desk::Keeps;
 use gu_parties::House;
-use gu_server::{Fault, Journals, KeepError, Progress, Record, RecordError};
+use gu_server::{Fault, Journals, KeepError, OpenJournal, Progress, RecordError};
 use std::alloc::Global;
 
 /// A journal in memory, which ends with the run. It takes so many entries beside the opening ones.
@@ -50,7 +50,7 @@ impl Keeps for Noted {
     ghost keeps = { λ k h. BeginsWith k.entries.items h };
 }
 
-impl Record for Noted {
+impl OpenJournal for Noted {
     ghost use Rattle.std.specs.Prelude.{◌≡◌, []};
     ghost use Rattle.std.proofs.Common.{sym, ◌∙◌};
     ghost use Rattle.std.proofs.lemmas.List.{append-nil};

@@ -31,19 +31,20 @@ spawn-requires-send-F g c κs within =
     let part = journal_send (param 1 g.row.J) g.J.Job g.J.Ledger in
     let kept : IsSend (param 0 g.row.K) = param_send 0 g.row.K journal in
     let recorded : IsSend
-    (Recorder.the_row (param 0 g.row.K) (param 1 g.row.J) g.K.Record g.K.Keeps g.J.Job g.J.Ledger) =
+    (Recorder.the_row (param 0 g.row.K) (param 1 g.row.J) g.K.OpenJournal g.K.Keeps g.J.Job g.J.Ledger) =
     record {
       owned = λ d vs t. ((λ vss. (tt, (kept.owned t.0.journal vss.0, (part.owned t.0.seat vss.1.0, (tt, tt))))), tt);
       leaving = λ k t w. tt;
     } in
     let recorder : IsSync
-    (Mutex.the_row (Recorder.the_row (param 0 g.row.K) (param 1 g.row.J) g.K.Record g.K.Keeps g.J.Job g.J.Ledger)) =
+    (Mutex.the_row
+    (Recorder.the_row (param 0 g.row.K) (param 1 g.row.J) g.K.OpenJournal g.K.Keeps g.J.Job g.J.Ledger)) =
     search (recorded, crosses, sendable) depth 12 in
     let end : IsSend (Receiver.the_row Stream.the_row heap.the_row ghosts) =
     search (receiver.the_send, stream.the_send, crosses, sendable) depth 12 in
     param_send 1
-    (arg-14-1 g.row.K g.row.J g.row.R g.row.G g.K.laws g.J.laws g.R.laws g.G.laws g.K.Record g.K.Record-dict g.K.Keeps
-    g.K.Keeps-dict g.J.Job g.J.Job-dict g.J.Ledger g.J.Ledger-dict g.R.Threads g.R.Threads-dict g.R.Wait g.R.Wait-dict
+    (arg-14-1 g.row.K g.row.J g.row.R g.row.G g.K.laws g.J.laws g.R.laws g.G.laws g.K.OpenJournal
+    g.K.OpenJournal-dict g.K.Keeps g.K.Keeps-dict g.J.Job g.J.Job-dict g.J.Ledger g.J.Ledger-dict g.R.Threads g.R.Threads-dict g.R.Wait g.R.Wait-dict
     g.R.Clock g.R.Clock-dict g.G.Gate g.G.Gate-dict κs)
     (record {
       owned = λ d vs vss. (

@@ -10,7 +10,7 @@ ghost use Rattle.gu_journal.specs.Keeping.{disk_of, IsIdle, Keeps};
 ghost use Rattle.gu_journal.specs.Session.{digest_text};
 ghost use Rattle.gu_recorder.specs.Replicas.{HasAnswered};
 
-use crate::journals::{Checksum, Record};
+use crate::journals::{Checksum, OpenJournal};
 use crate::replica::{Replica, answered, offered};
 use gu_base::{Entry, Memory};
 use gu_book::{Book, HashKey};
@@ -26,16 +26,16 @@ use std::alloc::Global;
 /// A journal over a disk, the house table of its house, and the line to other machines, if they are
 /// to have it too.
 #[derive(Drop)]
-pub struct Filed<D: Disk> {
+pub struct DiskJournal<D: Disk> {
     pub journal: Journal<D>,
     pub house: House,
     pub replica: Option<Replica>,
 }
 
-impl<D: Disk> Keeps for Filed<D> {
+impl<D: Disk> Keeps for DiskJournal<D> {
     ghost use Rattle.std.specs.Prelude.{IsTrue};
     ghost use Rattle.gu_journal.specs.Keeping.{disk_of};
-    ghost use Rattle.gu_recorder.specs.Filing.{IsKept};
+    ghost use Rattle.gu_recorder.specs.DiskJournals.{IsKept};
 
     ghost keeps = { λ k h. IsTrue (D.Disk.is_clean (disk_of k.journal))
         → IsKept D.Disk.may_leave k.house h (disk_of k.journal) k.replica };
@@ -51,10 +51,10 @@ fn cause(error: JournalError) -> RecordError {
     }
 }
 
-impl<D: Disk> Record for Filed<D> {
+impl<D: Disk> OpenJournal for DiskJournal<D> {
     ghost use Rattle.std.specs.Prelude.{IsTrue};
     ghost use Rattle.gu_journal.specs.Keeping.{disk_of, IsIdle};
-    ghost use Rattle.gu_recorder.specs.Filing.{IsSaid, said_is_kept, begun_is_kept};
+    ghost use Rattle.gu_recorder.specs.DiskJournals.{IsSaid, said_is_kept, begun_is_kept};
 
     ghost house = { λ k. k.house };
 
@@ -105,14 +105,14 @@ impl<D: Disk> Record for Filed<D> {
     }
 }
 
-impl<D: Disk + Drop> Filed<D> {
+impl<D: Disk + Drop> DiskJournal<D> {
     /// The journal, with a copy of the book's house table, on this machine alone.
-    pub fn new(alloc: Global, book: &Book, journal: Journal<D>) -> Result<Filed<D>, Memory>
+    pub fn new(alloc: Global, book: &Book, journal: Journal<D>) -> Result<DiskJournal<D>, Memory>
         ensures journal { IfOk result (λ f. f.journal ≡ journal) }
         ensures house { IfOk result (λ f. f.house ≡ (stored book.now).house) }
     {
         match book.house().copy(alloc) {
-            Ok(house) => Ok(Filed {
+            Ok(house) => Ok(DiskJournal {
                 journal,
                 house,
                 replica: None,
@@ -134,7 +134,7 @@ impl<D: Disk + Drop> Filed<D> {
         pin: &HouseDigest,
         moment: &[u8],
         progress: &mut P,
-    ) -> Result<(Book, Filed<D>), RecoverError>
+    ) -> Result<(Book, DiskJournal<D>), RecoverError>
         requires durable { Only (D.Disk.seen disk) (D.Disk.may_leave disk) }
         requires usable { IsTrue (D.Disk.is_usable disk) }
         ensures house { IfOk result (λ r. r.1.house ≡ house) }
@@ -147,8 +147,8 @@ impl<D: Disk + Drop> Filed<D> {
             IsTrue (D.Disk.is_usable (disk_of r.1.journal)) × IsIdle r.1.journal) }
     {
         match recover(alloc, disk, house, key, pin, moment, progress) {
-            Ok(Recovered { book, journal }) => match Filed::new(alloc, &book, journal) {
-                Ok(filed) => Ok((book, filed)),
+            Ok(Recovered { book, journal }) => match DiskJournal::new(alloc, &book, journal) {
+                Ok(kept) => Ok((book, kept)),
                 Err(_) => {
                     drop(book);
                     Err(RecoverError::Memory)
@@ -162,22 +162,20 @@ impl<D: Disk + Drop> Filed<D> {
     }
 
     /// The same journal, once other machines have what it says, if they are to have it.
-    pub fn replicated(self, replica: Option<Replica>) -> Option<Filed<D>>
+    pub fn replicated(self, replica: Option<Replica>) -> Option<DiskJournal<D>>
         ensures journal { IfSome result (λ f. f.journal ≡ self.journal) }
         ensures house { IfSome result (λ f. f.house ≡ self.house) }
         ensures answered { IfSome result (λ f. (t : HouseTable) (pin : List ℕ) (h : List EntryData)
             → Keeps D.Disk.seen D.Disk.may_leave t pin h f.journal
             → HasAnswered f.replica (length h)) }
     {
-        let mut filed = self;
-        filed.replica = replica;
-        let count = filed.journal.entries();
-        if offered(&filed.replica, count, filed.journal.len())
-            && answered(&mut filed.replica, count)
-        {
-            Some(filed)
+        let mut kept = self;
+        kept.replica = replica;
+        let count = kept.journal.entries();
+        if offered(&kept.replica, count, kept.journal.len()) && answered(&mut kept.replica, count) {
+            Some(kept)
         } else {
-            drop(filed);
+            drop(kept);
             None
         }
     }
@@ -186,7 +184,7 @@ impl<D: Disk + Drop> Filed<D> {
     pub fn into_disk(self) -> D
         ensures { result ≡ disk_of self.journal }
     {
-        let Filed {
+        let DiskJournal {
             journal,
             house,
             replica,

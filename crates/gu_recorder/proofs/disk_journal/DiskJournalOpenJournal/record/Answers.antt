@@ -1,5 +1,5 @@
 use Rattle.gu_recorder.proofs.OnDisk.{keeps_staged, staged_then, keeps_opened, keeps_answered, says_answered, has_all}
-use Rattle.gu_recorder.proofs.filed.FiledRecord.record.Goals as goal
+use Rattle.gu_recorder.proofs.disk_journal.DiskJournalOpenJournal.record.Goals as goal
 
 -- nothing was staged
 pub returns-in-Err-clause-kept : goal.returns-in-Err-clause-kept

@@ -1,6 +1,6 @@
 use Rattle.std.proofs.Common.{ℕ, subst}
 use Rattle.gu_recorder.specs.Replicas.{HasAnswered}
-use Rattle.gu_recorder.proofs.filed.Filed.replicated.Goals as goal
+use Rattle.gu_recorder.proofs.disk_journal.DiskJournal.replicated.Goals as goal
 
 -- the answer is of as many entries as the journal says
 pub returns-then-answered-clause-answered : goal.returns-then-answered-clause-answered
