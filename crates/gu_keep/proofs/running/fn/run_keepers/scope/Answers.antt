@@ -44,7 +44,8 @@ spawn-requires-send-F g c κs within =
     search (receiver.the_send, stream.the_send, crosses, sendable) depth 12 in
     param_send 1
     (arg-14-1 g.row.K g.row.J g.row.R g.row.G g.K.laws g.J.laws g.R.laws g.G.laws g.K.OpenJournal
-    g.K.OpenJournal-dict g.K.Keeps g.K.Keeps-dict g.J.Job g.J.Job-dict g.J.Ledger g.J.Ledger-dict g.R.Threads g.R.Threads-dict g.R.Wait g.R.Wait-dict
+    g.K.OpenJournal-dict g.K.Keeps g.K.Keeps-dict g.J.Job g.J.Job-dict g.J.Ledger g.J.Ledger-dict
+    g.R.Threads g.R.Threads-dict g.R.Wait g.R.Wait-dict
     g.R.Clock g.R.Clock-dict g.G.Gate g.G.Gate-dict κs)
     (record {
       owned = λ d vs vss. (
