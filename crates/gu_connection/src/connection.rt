@@ -42,7 +42,7 @@ pub struct Closed;
 
 /// What the bytes held have brought.
 #[derive(Drop)]
-pub enum Brought {
+pub(crate) enum Brought {
     /// They only begin a frame, if there are any.
     Nothing,
     /// A garbled frame, which is passed over.
@@ -155,7 +155,7 @@ impl<'a> Connection<'a> {
     }
 
     /// The entry up to which its readings have looked, 0 at first.
-    pub fn looked(&self) -> u32
+    pub(crate) fn looked(&self) -> u32
         ensures { result ≡ self.now.looked }
     {
         self.looked
@@ -170,14 +170,14 @@ impl<'a> Connection<'a> {
     }
 
     /// How many bytes the next read may bring.
-    pub fn room(&self) -> usize
+    pub(crate) fn room(&self) -> usize
         ensures { result + length self.now.feed.held ≡ longest_frame }
     {
         self.feed.room()
     }
 
     /// Takes what a read has brought.
-    pub fn push(&mut self, piece: &[u8]) -> Result<(), Closed>
+    pub(crate) fn push(&mut self, piece: &[u8]) -> Result<(), Closed>
         ensures ok { OnOk result
             (self.new.feed ≡ record self.old.feed { held = self.old.feed.held ++ piece.now }) }
         ensures session { self.new.session ≡ self.old.session }
@@ -194,7 +194,7 @@ impl<'a> Connection<'a> {
 
     /// Puts what a step sends behind what the turn sends. An `Err` closes the connection: the step
     /// asks for it, or memory ran out.
-    pub fn send(&mut self, actions: &Actions) -> Result<(), Closed>
+    pub(crate) fn send(&mut self, actions: &Actions) -> Result<(), Closed>
         ensures out { OnOk result
             (self.new.out.items ≡ self.old.out.items ++ actions.now.send.items) }
         ensures open { OnOk result (actions.now.close ≡ false) }
@@ -210,7 +210,7 @@ impl<'a> Connection<'a> {
     }
 
     /// Takes an event that leads to no call.
-    pub fn quiet<R: Clock>(&mut self, rt: &R, event: Event<'_>) -> Result<(), Closed>
+    pub(crate) fn quiet<R: Clock>(&mut self, rt: &R, event: Event<'_>) -> Result<(), Closed>
         requires { ShowFewParts event }
         ensures ok { OnOk result
             (Speaks event.entry self.old.session self.new.session self.old.out.items
@@ -262,7 +262,7 @@ impl<'a> Connection<'a> {
     }
 
     /// Takes the next frame that has come whole. A broken stream ends the session.
-    pub fn next<R: Clock>(&mut self, rt: &R) -> Result<Brought, Closed>
+    pub(crate) fn next<R: Clock>(&mut self, rt: &R) -> Result<Brought, Closed>
         ensures brings { IfOk result
             (Brings self.old.feed self.old.session self.new.session self.new.feed) }
         ensures told { self.new.told ≡ self.old.told }
@@ -291,7 +291,7 @@ impl<'a> Connection<'a> {
     /// which was looked, which are those above the last that was sent. Notes the last of them,
     /// whether the firm is behind, and up to which entry was looked: all that there were, or where
     /// more may be there, the last of them.
-    pub fn send_reply<R: Clock>(
+    pub(crate) fn send_reply<R: Clock>(
         &mut self,
         rt: &R,
         entries: u32,
@@ -364,7 +364,7 @@ impl<'a> Connection<'a> {
 
     /// Writes what the turn sends, in one write. One that is short has waited for the peer as long
     /// as it may.
-    pub fn write(&mut self, stream: &TcpStream) -> Result<(), Closed>
+    pub(crate) fn write(&mut self, stream: &TcpStream) -> Result<(), Closed>
         ensures out { self.new.out.items ≡ [] }
         ensures session { self.new.session ≡ self.old.session }
         ensures told { self.new.told ≡ self.old.told }

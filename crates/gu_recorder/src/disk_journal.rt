@@ -28,8 +28,8 @@ use std::alloc::Global;
 #[derive(Drop)]
 pub struct DiskJournal<D: Disk> {
     pub journal: Journal<D>,
-    pub house: House,
-    pub replica: Option<Replica>,
+    pub(crate) house: House,
+    pub(crate) replica: Option<Replica>,
 }
 
 impl<D: Disk> Keeps for DiskJournal<D> {
@@ -107,7 +107,11 @@ impl<D: Disk> OpenJournal for DiskJournal<D> {
 
 impl<D: Disk + Drop> DiskJournal<D> {
     /// The journal, with a copy of the book's house table, on this machine alone.
-    pub fn new(alloc: Global, book: &Book, journal: Journal<D>) -> Result<DiskJournal<D>, Memory>
+    pub(crate) fn new(
+        alloc: Global,
+        book: &Book,
+        journal: Journal<D>,
+    ) -> Result<DiskJournal<D>, Memory>
         ensures journal { IfOk result (λ f. f.journal ≡ journal) }
         ensures house { IfOk result (λ f. f.house ≡ (stored book.now).house) }
     {
@@ -126,7 +130,7 @@ impl<D: Disk + Drop> DiskJournal<D> {
 
     /// Recovers the journal of a house from what a crash left on this disk: its book, and what
     /// takes further entries.
-    pub fn recover<P: Progress>(
+    pub(crate) fn recover<P: Progress>(
         alloc: Global,
         disk: D,
         house: House,
@@ -162,7 +166,7 @@ impl<D: Disk + Drop> DiskJournal<D> {
     }
 
     /// The same journal, once other machines have what it says, if they are to have it.
-    pub fn replicated(self, replica: Option<Replica>) -> Option<DiskJournal<D>>
+    pub(crate) fn replicated(self, replica: Option<Replica>) -> Option<DiskJournal<D>>
         ensures journal { IfSome result (λ f. f.journal ≡ self.journal) }
         ensures house { IfSome result (λ f. f.house ≡ self.house) }
         ensures answered { IfSome result (λ f. (t : HouseTable) (pin : List ℕ) (h : List EntryData)
@@ -181,7 +185,7 @@ impl<D: Disk + Drop> DiskJournal<D> {
     }
 
     /// The disk.
-    pub fn into_disk(self) -> D
+    pub(crate) fn into_disk(self) -> D
         ensures { result ≡ disk_of self.journal }
     {
         let DiskJournal {

@@ -16,7 +16,7 @@ use std::net::TcpStream;
 
 /// Bytes to be sent, and a ticket for the history that they were made of.
 #[derive(Drop)]
-pub struct Batch<J: Job> {
+pub(crate) struct Batch<J: Job> {
     bytes: Vec<u8>,
     ticket: Ticket<J>,
 }

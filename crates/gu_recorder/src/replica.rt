@@ -23,7 +23,7 @@ const ANSWER_WAIT: u64 = 15;
 pub struct Replica {
     line: UnixStream,
     alloc: Global,
-    pub answer: Vec<u8>,
+    pub(crate) answer: Vec<u8>,
 }
 
 /// The next bytes of a line, so many; none where they don't come.
@@ -45,7 +45,7 @@ impl Replica {
     /// # Errors
     ///
     /// Nobody listens there, or memory ran out.
-    pub fn connect<N: Net>(net: &N, alloc: Global, path: &str) -> io::Result<Replica> {
+    pub(crate) fn connect<N: Net>(net: &N, alloc: Global, path: &str) -> io::Result<Replica> {
         let line = UnixStream::connect(net, path)?;
         line.set_read_timeout(Some(Duration::from_secs(ANSWER_WAIT)))?;
         line.set_write_timeout(Some(Duration::from_secs(ANSWER_WAIT)))?;
@@ -86,7 +86,7 @@ impl Replica {
 
 /// Says how many entries the journal has, if other machines are to have them: false where that
 /// couldn't be said.
-pub fn offered(replica: &Option<Replica>, entries: u32, bytes: usize) -> bool {
+pub(crate) fn offered(replica: &Option<Replica>, entries: u32, bytes: usize) -> bool {
     match replica {
         Some(replica) => replica.offer(entries, bytes),
         None => true,
@@ -94,7 +94,7 @@ pub fn offered(replica: &Option<Replica>, entries: u32, bytes: usize) -> bool {
 }
 
 /// Whether so many entries are on other machines, if they are to be there.
-pub fn answered(replica: &mut Option<Replica>, entries: u32) -> bool
+pub(crate) fn answered(replica: &mut Option<Replica>, entries: u32) -> bool
     ensures yes { result ≡ true → HasAnswered replica.new entries }
     ensures no { result ≡ false → (n : ℕ) → HasAnswered replica.old n → HasAnswered replica.new n }
 {
