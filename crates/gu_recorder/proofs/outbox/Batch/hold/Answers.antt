@@ -1,5 +1,5 @@
 use Rattle.std.proofs.Common.{rules}
-use Rattle.gu_server.proofs.keep.outbox.Batch.hold.Goals as goal
+use Rattle.gu_recorder.proofs.outbox.Batch.hold.Goals as goal
 
 -- all bytes rest on what the seat has seen
 pub returns-clause-gains : goal.returns-clause-gains

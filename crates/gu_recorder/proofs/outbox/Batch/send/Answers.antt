@@ -1,5 +1,5 @@
 use Rattle.std.proofs.Common.{rules}
-use Rattle.gu_server.proofs.keep.outbox.Batch.send.Goals as goal
+use Rattle.gu_recorder.proofs.outbox.Batch.send.Goals as goal
 
 -- what the bytes rest on is kept, by the receipt
 pub write-requires : goal.write-requires
