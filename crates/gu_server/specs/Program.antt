@@ -3,7 +3,6 @@
 use Rattle.std.specs.Prelude.{◌≡◌, ℕ, ◌⊎◌, codes, List, Option, Some, Result, Ok, Err}
 use Rattle.clap.specs.Words.{Text}
 use Rattle.gu_base.specs.House.{House}
-use Rattle.gu_base.specs.Runs.{IsRunFrom, opening_history}
 use Rattle.gu_batch.specs.Runs.{Told, Runs}
 use Rattle.gu_batch.specs.Traces.{Traces, WritesTotals}
 use Rattle.gu_batch.specs.declared.batch.RunError.{RunError}
