@@ -5,6 +5,7 @@ use crate::cell::{Cell, ENDED, Work, add, add_at, load, zeros};
 use crate::log::Log;
 use gu_base::{AllocId, Answer, Entry, FirmId, Memory};
 use gu_book::Book;
+use gu_command::MOST_WORKERS;
 use gu_log::{Event, Field, Key, Value};
 use gu_parties::House;
 use gu_status::{BOUNDS, FirmEntries, Part, Pulses, REASONS, Snapshot, Syncs, mark_passed, stuck};
@@ -14,11 +15,8 @@ use std::sync::Wait;
 use std::sync::atomic::{AtomicBool, AtomicU64, Ordering};
 use std::time::Clock;
 
-/// The most workers.
-const MOST_WORKERS: usize = 16;
-
 /// The most entries of a book.
-pub const MOST_ENTRIES: u32 = 1_000_000;
+pub(crate) const MOST_ENTRIES: u32 = 1_000_000;
 
 /// For how many seconds a part may stand still before `/health` says so.
 const MOST_STILL: u64 = 5;
@@ -415,8 +413,8 @@ impl Board {
 
     /// The first part that hasn't moved for so many seconds.
     pub fn stuck(&self, most: u64) -> Option<Part> {
-        let mut turned = [ENDED; MOST_WORKERS];
-        for i in 0..self.cells.len().min(MOST_WORKERS) {
+        let mut turned = [ENDED; MOST_WORKERS as usize];
+        for i in 0..self.cells.len().min(MOST_WORKERS as usize) {
             if let Some(cell) = self.cells.get(i) {
                 turned[i] = load(&cell.turned);
             }

@@ -31,10 +31,15 @@ pub struct Cell {
 /// What a worker has read and made so far.
 #[derive(Clone, Copy, Default)]
 pub struct Work {
+    /// The bytes that were read.
     pub read: u64,
+    /// The connections that were lost.
     pub gone: u64,
+    /// The calls that were accepted.
     pub accepted: u64,
+    /// The calls that repeated an accepted one.
     pub repeated: u64,
+    /// The calls that were refused.
     pub refused: u64,
 }
 

@@ -4,6 +4,7 @@
 //! - The `Board` has a cell of counts for each worker; `gu_status` makes pages of it.
 //! - The `Tallies` count what each firm has, for the limits that an operator sets.
 //! - A line of the log is written without waiting for a reader.
+//! - The `Teller` tells how far a recovery is; `VERSION` and `commit` say which program it is.
 #![tactic(auto)]
 
 mod board;
@@ -14,7 +15,7 @@ mod tallies;
 mod telling;
 mod version;
 
-pub use board::{Board, MOST_ENTRIES, number, text};
+pub use board::{Board, number, text};
 pub use cell::Work;
 pub use log::{Log, Written};
 pub use saying::{say_lack, say_started};

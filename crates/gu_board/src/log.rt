@@ -3,8 +3,7 @@
 use crossbeam_channel::{Receiver, Sender};
 use gu_base::Memory;
 use gu_log::{Event, Field, Key, Value, line};
-use gu_message::SendingTime;
-use gu_session::is_moment;
+use gu_message::{SendingTime, is_moment};
 use jiff::Timestamp;
 use std::alloc::Global;
 use std::io::Eprint;

@@ -10,7 +10,7 @@ use Rattle.clap.specs.declared.builder.action.ArgAction.TheVariants.{Set}
 use Rattle.gu_desk.specs.Views.{is_worker_count, most_workers}
 use Rattle.gu_message.specs.Values.{entry_of}
 use Rattle.gu_command.specs.Faults.{no_memory}
-use Rattle.gu_command.specs.Options.{option_rule, optioned, AreOptionsOf, no_options}
+use Rattle.gu_command.specs.Options.{optioned, AreOptionsOf, no_options}
 use Rattle.gu_command.specs.Limits.{most_port, usual_workers, most_connections}
 use Rattle.gu_command.specs.declared.fault.Fault.{Fault}
 use Rattle.gu_command.specs.declared.fault.Fault.TheVariants.{Usage, Run}

@@ -88,10 +88,10 @@ const CONNECTIONS: &str = "COUNT";
 const MOST_CONNECTIONS: u32 = 1_000_000;
 
 /// The greatest port.
-const MOST_PORT: u32 = 65_535;
+pub const MOST_PORT: u32 = 65_535;
 
 /// The most workers.
-const MOST_WORKERS: u32 = 16;
+pub const MOST_WORKERS: u32 = 16;
 
 /// How many workers serve where the command line doesn't say.
 const USUAL_WORKERS: u32 = 4;
@@ -427,7 +427,7 @@ fn trade_of(alloc: Global, word: Option<&str>) -> Result<Option<u32>, Fault>
 }
 
 /// The number of 1 to so many that a word is.
-fn up_to(most: u32, word: &str) -> Option<u32>
+pub fn up_to(most: u32, word: &str) -> Option<u32>
     ensures value { result ≡ number_up_to most word.now }
     ensures range { IfSome result (λ n. (1 ≤ n) × (n ≤ most)) }
 {

@@ -5,6 +5,8 @@
 //!   for what they call for, and puts what comes of them behind what the connection is to be sent.
 //! - A reading of reports begins at the entry up to which the connection's readings have looked,
 //!   and tells what one above the last report that was sent would tell.
+//! - A connection that has no accepted Logon in time is ended, and a firm that is behind has its
+//!   next reports at once.
 //! - What `serve` and `keep` begin with is here too, and which faults of accept they outlive.
 #![tactic(auto)]
 

@@ -1,5 +1,5 @@
-//! What both servers begin with: the table and the ground of their desk, the answer to a bind, and
-//! the gate that is always open.
+//! What both servers begin with: the table and the ground of their desk, a key for the look-ups by
+//! id, the answer to a bind, how long a Logon may take, and the gate that is always open.
 ghost use Rattle.std.specs.Prelude.{◌≡◌, IfOk, IsTrue};
 ghost use Rattle.gu_book.specs.Seen.{stored};
 ghost use Rattle.gu_desk.specs.Views.{is_worker_count};

@@ -101,15 +101,20 @@ pub enum Left {
 /// A worker: what it has for all its connections. Its seat goes from hand to hand.
 #[derive(Drop)]
 pub struct Worker<'a, J: Job, R, G> {
+    /// The runtime: its clock, and by what a thread waits.
     pub rt: &'a R,
     pub alloc: Global,
+    /// The desk that answers.
     pub desk: &'a Desk<J>,
+    /// The table of those who take part.
     pub house: &'a House,
+    /// What each call passes before the book.
     pub gate: &'a G,
     /// What is counted of firms, for the limits of `keep`.
     pub tallies: &'a Tallies,
     /// How long a connection may be without an accepted Logon, in seconds.
     pub logon_wait: u64,
+    /// Which of the server's workers it is, from 0 on.
     pub number: u32,
 }
 

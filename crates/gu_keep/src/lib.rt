@@ -2,7 +2,8 @@
 //!
 //! - Each worker polls its own connections and gives each that is ready a turn; whoever finds the
 //!   journal's lock free records what was answered.
-//! - The watch ends a server of which a part stands still.
+//! - The watch ends a server of which a part stands still, also in its start.
+//! - The pages of `--status` are answered on a thread of their own.
 #![tactic(auto)]
 
 mod accepting;

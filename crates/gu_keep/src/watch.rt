@@ -15,9 +15,8 @@ use crate::starting::keep_port;
 use crossbeam_channel::{Receiver, RecvTimeoutError, Sender};
 use gu_board::{Board, Log, Written, number, say_started, text};
 use gu_book::Book;
-use gu_command::{Fault, KeepError, Order};
+use gu_command::{Fault, KeepError, MOST_PORT, Order, up_to};
 use gu_log::{Event, Key};
-use gu_message::entry;
 use gu_parties::House;
 use gu_recorder::Journals;
 use gu_status::Part;
@@ -35,18 +34,15 @@ use std::time::{Clock, Duration};
 /// For how many seconds a part may stand still.
 const MOST_STILL: u64 = 30;
 
-/// The greatest port.
-const MOST_PORT: u32 = 65_535;
-
 /// What ties a server's thread to the watch: both ends of a channel that is closed once the thread
 /// has ended, and the board.
 type Tie = (Sender<u8>, Receiver<u8>, Arc<Board>);
 
 /// The port that a word means, if it is the number of one.
 fn port_meant(word: &str) -> Option<u16> {
-    match entry(word.as_bytes()) {
-        Some(number) if number.get() <= MOST_PORT => Some(number.get() as u16),
-        _ => None,
+    match up_to(MOST_PORT, word) {
+        Some(port) => Some(port as u16),
+        None => None,
     }
 }
 

@@ -27,6 +27,7 @@ use std::alloc::Global;
 /// to have it too.
 #[derive(Drop)]
 pub struct DiskJournal<D: Disk> {
+    /// The journal, whose clauses say what a crash leaves.
     pub journal: Journal<D>,
     pub(crate) house: House,
     pub(crate) replica: Option<Replica>,

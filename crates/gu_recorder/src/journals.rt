@@ -8,11 +8,12 @@ use gu_journal::Progress;
 use gu_parties::House;
 use std::alloc::Global;
 
-/// A checksum of a journal's file: how many bytes it has but for what shuts it, and their SHA-512
-/// in hex digits.
+/// A checksum of a journal's file.
 #[derive(Clone, Copy)]
 pub struct Checksum {
+    /// How many bytes it has but for what shuts it.
     pub bytes: usize,
+    /// Their SHA-512 in hex digits.
     pub sha512: [u8; 128],
 }
 

@@ -9,8 +9,7 @@ use gu_base::Entry;
 use gu_board::Board;
 use gu_command::KeepError;
 use gu_desk::{Desk, Job, JournalSeat, Ticket};
-use gu_message::SendingTime;
-use gu_session::is_moment;
+use gu_message::{SendingTime, is_moment};
 use jiff::Timestamp;
 use std::alloc::Global;
 use std::marker::Model;
@@ -64,11 +63,11 @@ pub fn told_is_kept<K: OpenJournal, J: Job>(
     ticket.is_confirmed(desk, seat);
 }
 
-/// This moment, from 1970 on.
-fn moment<R: Clock>(rt: &R) -> Result<SendingTime, KeepError> {
+/// This moment, if it is one from 1970 on.
+pub(crate) fn moment<R: Clock>(rt: &R) -> Option<SendingTime> {
     match Timestamp::now(rt) {
-        Ok(moment) if is_moment(moment) => Ok(SendingTime::new(moment)),
-        _ => Err(KeepError::Clock),
+        Ok(moment) if is_moment(moment) => Some(SendingTime::new(moment)),
+        _ => None,
     }
 }
 
@@ -117,7 +116,9 @@ impl<K: OpenJournal, J: Job> Recorder<K, J> {
         if self.failed {
             return Err(KeepError::Failed);
         }
-        let sent = moment(rt)?;
+        let Some(sent) = moment(rt) else {
+            return Err(KeepError::Clock);
+        };
         let start = Instant::now(rt).ok();
         let Ok(entries) = desk.copy_above(rt, alloc, &mut self.seat) else {
             return Err(KeepError::Memory);

@@ -7,14 +7,12 @@ ghost use Rattle.gu_command.specs.Faults.{is_keep_fault};
 
 use crate::disk_journal::DiskJournal;
 use crate::journals::Journals;
+use crate::recorder::moment;
 use crate::replica::Replica;
 use gu_book::{Book, HashKey};
 use gu_command::{Fault, KeepError, RecordError, fault_at};
 use gu_journal::{HouseDigest, OpenError, Progress, RecoverError, open_file};
-use gu_message::SendingTime;
 use gu_parties::House;
-use gu_session::is_moment;
-use jiff::Timestamp;
 use sqlite_disk::Disk;
 use sqlite_std_file::{FileFrom, Start};
 use std::alloc::Global;
@@ -33,14 +31,6 @@ impl<S: Start> SystemJournals<S> {
     /// The journals in files that the runtime opens.
     pub fn new(rt: HostRuntime, start: S) -> SystemJournals<S> {
         SystemJournals { rt, start }
-    }
-}
-
-/// This moment, which a new journal's head has.
-fn moment(rt: &HostRuntime) -> Option<SendingTime> {
-    match Timestamp::now(rt) {
-        Ok(moment) if is_moment(moment) => Some(SendingTime::new(moment)),
-        _ => None,
     }
 }
 
