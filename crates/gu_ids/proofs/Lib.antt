@@ -1,4 +1,4 @@
-pub mod Linked
+pub mod Chained
 pub mod Links
 pub mod Marked
 pub mod NewestLaws

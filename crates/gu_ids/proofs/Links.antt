@@ -7,7 +7,7 @@ use Rattle.std.proofs.Math.Seq.{map-set_same}
 use Rattle.gu_ids.specs.declared.ids.Link.{Link}
 use Rattle.gu_ids.specs.Chains.{hashes_of, befores_of, AreChains}
 use Rattle.gu_ids.specs.Marks.{bucket_of}
-use Rattle.gu_ids.proofs.Linked.{linked_as}
+use Rattle.gu_ids.proofs.Chained.{chained_as}
 
 pub map_push : {X Y : Type 0} (f : X → Y) (xs : List X) (y : X) → map f (xs ++ y ∷ []) ≡ map f xs ++ f y ∷ []
 map_push f [] y = refl
@@ -35,7 +35,7 @@ module _ (links : List Link) (heads : List ℕ) where
       let bs_long : length bs ≡ length links = length_map (λ (l : Link). l.before) links in
       let hs_is : hashes_of (links ++ l ∷ []) ≡ hs ++ l.hash ∷ [] = map_push (λ (l : Link). l.hash) links l in
       let bs_is : befores_of (links ++ l ∷ []) ≡ bs ++ l.before ∷ [] = map_push (λ (l : Link). l.before) links l in
-      linked_as hs (hashes_of (links ++ l ∷ [])) bs (befores_of (links ++ l ∷ [])) heads (length links) l.hash
+      chained_as hs (hashes_of (links ++ l ∷ [])) bs (befores_of (links ++ l ∷ [])) heads (length links) l.hash
       (λ j less.
       ap (λ x. slice_index_or x j 0) hs_is ∙ get_or_append_left hs (l.hash ∷ []) 0 j (omega (arith, hs_long, less)))
       (ap (λ x. slice_index_or x (length links) 0) hs_is ∙ get_or_push hs l.hash 0 (length links) hs_long)
@@ -63,7 +63,7 @@ module _ (links : List Link) (heads : List ℕ) where
       let hs_is : hashes_of (set links place l) ≡ hs = hashes_stay place x l here same in
       let bs_is : befores_of (set links place l) ≡ set bs place l.before =
       map-set (λ (l : Link). l.before) links place l in
-      linked_as hs (hashes_of (set links place l)) bs (befores_of (set links place l)) heads place l.hash
+      chained_as hs (hashes_of (set links place l)) bs (befores_of (set links place l)) heads place l.hash
       (λ j less. ap (λ x. slice_index_or x j 0) hs_is)
       (ap (λ x. slice_index_or x place 0) hs_is
       ∙ (get_or-map (λ (l : Link). l.hash) links place x 0 inside ∙ (ap (λ (l : Link). l.hash) (sym here) ∙ sym same)))

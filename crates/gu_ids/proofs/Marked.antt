@@ -4,33 +4,33 @@ use Rattle.std.proofs.Common.{arith, eqb, ◌≢◌}
 use Rattle.std.specs.Prelude.{slice_index_or}
 use Rattle.std.proofs.lemmas.Bool.Decides.{eqb_tells}
 use Rattle.std.proofs.lemmas.List.{get_or-map, get_or-set_same, get_or-set_other, length-set, map-set}
-use Rattle.gu_ids.specs.declared.ids.Head.{Head}
+use Rattle.gu_ids.specs.declared.ids.Bucket.{Bucket}
 use Rattle.gu_ids.specs.Chains.{newests_of}
 use Rattle.gu_ids.specs.Marks.{bucket_of, bears, marks_of, AreMarked}
 use Rattle.gu_ids.proofs.Links.{length_map}
 
-module _ (heads : List Head) where
+module _ (heads : List Bucket) where
   -- there are as many of each
   pub newests_long : length (newests_of heads) ≡ length heads
-  newests_long = length_map (λ (h : Head). h.newest) heads
+  newests_long = length_map (λ (h : Bucket). h.newest) heads
 
   pub marks_long : length (marks_of heads) ≡ length heads
-  marks_long = length_map (λ (h : Head). h.marks) heads
+  marks_long = length_map (λ (h : Bucket). h.marks) heads
 
-  module _ (b : ℕ) (h : Head) (is : h ≡ slice_index_or heads b h) (within : b < length heads) where
+  module _ (b : ℕ) (h : Bucket) (is : h ≡ slice_index_or heads b h) (within : b < length heads) where
     -- what one head says
     pub newest_read : h.newest ≡ slice_index_or (newests_of heads) b 0
-    newest_read = ap (λ (h : Head). h.newest) is ∙ sym (get_or-map (λ (h : Head). h.newest) heads b h 0 within)
+    newest_read = ap (λ (h : Bucket). h.newest) is ∙ sym (get_or-map (λ (h : Bucket). h.newest) heads b h 0 within)
 
     pub marks_read : h.marks ≡ slice_index_or (marks_of heads) b 0
-    marks_read = ap (λ (h : Head). h.marks) is ∙ sym (get_or-map (λ (h : Head). h.marks) heads b h 0 within)
+    marks_read = ap (λ (h : Bucket). h.marks) is ∙ sym (get_or-map (λ (h : Bucket). h.marks) heads b h 0 within)
 
   -- one head written anew
-  pub newests_set : (b : ℕ) (h : Head) → newests_of (set heads b h) ≡ set (newests_of heads) b h.newest
-  newests_set b h = map-set (λ (h : Head). h.newest) heads b h
+  pub newests_set : (b : ℕ) (h : Bucket) → newests_of (set heads b h) ≡ set (newests_of heads) b h.newest
+  newests_set b h = map-set (λ (h : Bucket). h.newest) heads b h
 
-  pub marks_set : (b : ℕ) (h : Head) → marks_of (set heads b h) ≡ set (marks_of heads) b h.marks
-  marks_set b h = map-set (λ (h : Head). h.marks) heads b h
+  pub marks_set : (b : ℕ) (h : Bucket) → marks_of (set heads b h) ≡ set (marks_of heads) b h.marks
+  marks_set b h = map-set (λ (h : Bucket). h.marks) heads b h
 
 -- the (k + 1)-th entry, of this hash, marked in its bucket; of hashes the first k stay
 module _ (hashes hashes' marks : List ℕ) (k hash new : ℕ)

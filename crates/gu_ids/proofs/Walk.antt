@@ -40,20 +40,20 @@ both_true a b x y = ap (λ c. c && b) x ∙ y
 module _ (ids : Ids) (h : List Entry) (firm id : List ℕ) (are : AreIdsOf ids h) where
   in_chain : (j : ℕ) → is_at h firm id j ≡ true → (chain ids firm id) j ≡ true
   in_chain j e =
-      eq-eqb (bucket_of (slice_index_or (hashes_of ids.links.items) j 0) (length (newests_of ids.heads.items)))
-      (bucket_of (hash_of ids.key firm id) (length (newests_of ids.heads.items)))
-      (ap (λ l. bucket_of (slice_index_or l j 0) (length (newests_of ids.heads.items))) are.hashes
-      ∙ ap (λ x. bucket_of x (length (newests_of ids.heads.items))) (same_hash ids.key firm id h j e))
+      eq-eqb (bucket_of (slice_index_or (hashes_of ids.links.items) j 0) (length (newests_of ids.buckets.items)))
+      (bucket_of (hash_of ids.key firm id) (length (newests_of ids.buckets.items)))
+      (ap (λ l. bucket_of (slice_index_or l j 0) (length (newests_of ids.buckets.items))) are.hashes
+      ∙ ap (λ x. bucket_of x (length (newests_of ids.buckets.items))) (same_hash ids.key firm id h j e))
 
-  pub walk_begins : bucket_of (hash_of ids.key firm id) (length (newests_of ids.heads.items))
-      < length (newests_of ids.heads.items)
+  pub walk_begins : bucket_of (hash_of ids.key firm id) (length (newests_of ids.buckets.items))
+      < length (newests_of ids.buckets.items)
       → (number : ℕ)
-      → number ≡ slice_index_or (newests_of ids.heads.items)
-      (bucket_of (hash_of ids.key firm id) (length (newests_of ids.heads.items))) 0
+      → number ≡ slice_index_or (newests_of ids.buckets.items)
+      (bucket_of (hash_of ids.key firm id) (length (newests_of ids.buckets.items))) 0
       → Stands ids h firm id number
   walk_begins within number is =
       let head : number ≡ newest (chain ids firm id) (length h) = is
-      ∙ (are.chains.head (bucket_of (hash_of ids.key firm id) (length (newests_of ids.heads.items))) within
+      ∙ (are.chains.head (bucket_of (hash_of ids.key firm id) (length (newests_of ids.buckets.items))) within
       ∙ ap (newest (chain ids firm id)) (count_is ids h are)) in
       subst (Stands ids h firm id) (sym head) (record {
         so_far = sym (newest_skips (is_at h firm id) (chain ids firm id) (length h) in_chain);
@@ -67,9 +67,9 @@ module _ (ids : Ids) (h : List Entry) (firm id : List ℕ) (are : AreIdsOf ids h
     before_it =
         let within = at.within in
         are.chains.before k (let many = count_is ids h are in omega (arith, within, many))
-        ∙ ap (λ b. newest (is_in (hashes_of ids.links.items) (length (newests_of ids.heads.items)) b) k)
-        (eqb-true (bucket_of (slice_index_or (hashes_of ids.links.items) k 0) (length (newests_of ids.heads.items)))
-        (bucket_of (hash_of ids.key firm id) (length (newests_of ids.heads.items)))
+        ∙ ap (λ b. newest (is_in (hashes_of ids.links.items) (length (newests_of ids.buckets.items)) b) k)
+        (eqb-true (bucket_of (slice_index_or (hashes_of ids.links.items) k 0) (length (newests_of ids.buckets.items)))
+        (bucket_of (hash_of ids.key firm id) (length (newests_of ids.buckets.items)))
         (newest_there (chain ids firm id) k at.chained))
 
     pub walk_goes_on : (number : ℕ) → number ≡ slice_index_or (befores_of ids.links.items) k 0
@@ -125,13 +125,13 @@ module _ (ids : Ids) (h : List Entry) (firm id : List ℕ) (are : AreIdsOf ids h
 
   -- no entry has an id of whose marks its bucket lacks one
   pub none_marked : bears
-      (slice_index_or (marks_of ids.heads.items)
-      (bucket_of (hash_of ids.key firm id) (length (marks_of ids.heads.items))) 0)
+      (slice_index_or (marks_of ids.buckets.items)
+      (bucket_of (hash_of ids.key firm id) (length (marks_of ids.buckets.items))) 0)
       (hash_of ids.key firm id)
       ≡ false
       → newest_of h firm id ≡ None
   none_marked lacks =
-      let marks = marks_of ids.heads.items in
+      let marks = marks_of ids.buckets.items in
       let hash = hash_of ids.key firm id in
       ap unless_zero
       (newest_none (is_at h firm id) (length h) (λ j less.

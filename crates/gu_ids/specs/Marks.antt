@@ -2,7 +2,7 @@
 use Rattle.std.specs.Prelude.{◌≡◌, ◌<◌, ◌-◌, ◌/◌, ◌%◌, ◌^◌, ◌==◌, ◌&&◌, ℕ, Bool, true, List, length}
 use Rattle.std.specs.Prelude.{map, slice_index_or, bit_and}
 use Rattle.std.specs.Int.{bit_at}
-use Rattle.gu_ids.specs.declared.ids.Head.{Head}
+use Rattle.gu_ids.specs.declared.ids.Bucket.{Bucket}
 
 -- the bucket of a hash among n, a power of two
 unfoldable pub bucket_of : ℕ → ℕ → ℕ
@@ -25,7 +25,7 @@ abbrev pub bears : ℕ → ℕ → Bool
 bears marks hash = is_marked marks (mark_of hash) && is_marked marks (second_mark_of hash)
 
 -- the marks of each bucket
-abbrev pub marks_of : List Head → List ℕ
+abbrev pub marks_of : List Bucket → List ℕ
 marks_of heads = map (λ h. h.marks) heads
 
 -- each of the first k entries has its marks in its bucket

@@ -30,10 +30,10 @@ struct Link {
 ///
 /// With four entries at most eight of the 32 bits are set, so a new id finds both its marks there
 /// by chance in one look-up of sixteen or fewer. One mark for each entry would tell as well where
-/// two entries share a bucket, but then there would be twice as many heads, and fewer of them in
+/// two entries share a bucket, but then there would be twice as many buckets, and fewer of them in
 /// the processor's caches.
 #[derive(Clone, Copy)]
-struct Head {
+struct Bucket {
     /// The number of its newest entry, 0 for none.
     newest: u32,
     /// The marks of its entries, two bits each.
@@ -46,7 +46,7 @@ pub struct Ids {
     /// For each entry of the history.
     links: Vec<Link>,
     /// For each bucket.
-    heads: Vec<Head>,
+    buckets: Vec<Bucket>,
     /// The key that the hashes are under.
     key: HashKey,
 }
@@ -102,9 +102,9 @@ fn marked(marks: u32, bit: u32) -> u32
     marks | 1 << bit
 }
 
-impl Head {
+impl Bucket {
     /// Of a bucket without entries.
-    const NONE: Head = Head {
+    const NONE: Bucket = Bucket {
         newest: 0,
         marks: 0,
     };
@@ -121,12 +121,12 @@ impl Head {
 
     /// With the entry of this number and hash as the newest.
     #[inline(always)]
-    fn with(self, number: u32, hash: u32) -> Head
+    fn with(self, number: u32, hash: u32) -> Bucket
         ensures newest { result.newest ≡ number }
         ensures own { bears result.marks hash ≡ true }
         ensures others { (h : ℕ) → bears self.marks h ≡ true → bears result.marks h ≡ true }
     {
-        Head {
+        Bucket {
             newest: number,
             marks: marked(marked(self.marks, mark_of(hash)), second_mark_of(hash)),
         }
@@ -148,7 +148,7 @@ impl Ids {
     {
         Ids {
             links: Vec::new(alloc),
-            heads: Vec::new(alloc),
+            buckets: Vec::new(alloc),
             key: HashKey::KNOWN,
         }
     }
@@ -167,16 +167,16 @@ impl Ids {
         requires hash { IsHashOf hash firm.now id.now }
         ensures { result ≡ newest_of entries.now firm.now id.now }
     {
-        if self.heads.is_empty() {
+        if self.buckets.is_empty() {
             return None;
         }
         let hash = hash.under(self.key, firm, id);
-        let bucket = bucket_of(hash, self.heads.len());
-        let head = self.heads[bucket];
-        if !head.bears(hash) {
+        let bucket = bucket_of(hash, self.buckets.len());
+        let kept = self.buckets[bucket];
+        if !kept.bears(hash) {
             return None;
         }
-        self.walk(entries, firm, id, hash, head.newest)
+        self.walk(entries, firm, id, hash, kept.newest)
     }
 
     /// The same, by a walk along a chain from the entry of this number on, 0 for none. It stands
@@ -221,7 +221,7 @@ impl Ids {
         ensures ready { OnOk result (IsReady self.new) }
         ensures same { (h : List Entry) → AreIdsOf self.old h → AreIdsOf self.new h }
     {
-        if self.links.len() / 4 >= self.heads.len() {
+        if self.links.len() / 4 >= self.buckets.len() {
             self.grow()?;
         }
         self.links.reserve(1)?;
@@ -234,41 +234,41 @@ impl Ids {
     #[inline(never)]
     fn grow(&mut self) -> Result<(), Memory>
         requires { count self.old ≤ most_entries }
-        ensures buckets { OnOk result (count self.new < 4 * length self.new.heads.items) }
+        ensures buckets { OnOk result (count self.new < 4 * length self.new.buckets.items) }
         ensures same { (h : List Entry) → AreIdsOf self.old h → AreIdsOf self.new h }
     {
         let buckets = (self.links.len() / 2).max(FEWEST_BUCKETS);
-        let alloc = *self.heads.allocator();
-        self.heads = Vec::from_elem(alloc, Head::NONE, buckets)?;
+        let alloc = *self.buckets.allocator();
+        self.buckets = Vec::from_elem(alloc, Bucket::NONE, buckets)?;
         self.link_anew();
         Ok(())
     }
 
     /// Links all entries anew, by their hashes. The buckets are new.
     fn link_anew(&mut self)
-        requires new { self.old.heads.items
-            ≡ replicate (length self.old.heads.items) (record { newest = 0; marks = 0 }) }
-        requires some { 1 ≤ length self.old.heads.items }
+        requires new { self.old.buckets.items
+            ≡ replicate (length self.old.buckets.items) (record { newest = 0; marks = 0 }) }
+        requires some { 1 ≤ length self.old.buckets.items }
         requires numbered { count self.old ≤ most_entries }
         ensures hashes { hashes_of self.new.links.items ≡ hashes_of self.old.links.items }
-        ensures buckets { length self.new.heads.items ≡ length self.old.heads.items }
+        ensures buckets { length self.new.buckets.items ≡ length self.old.buckets.items }
         ensures count { count self.new ≡ count self.old }
         ensures key { self.new.key ≡ self.old.key }
         ensures chains { AreChains (hashes_of self.new.links.items)
-            (befores_of self.new.links.items) (newests_of self.new.heads.items) (count self.new) }
-        ensures marked { AreMarked (hashes_of self.new.links.items) (marks_of self.new.heads.items)
-            (count self.new) }
+            (befores_of self.new.links.items) (newests_of self.new.buckets.items) (count self.new) }
+        ensures marked { AreMarked (hashes_of self.new.links.items)
+            (marks_of self.new.buckets.items) (count self.new) }
     {
-        let buckets = self.heads.len();
+        let buckets = self.buckets.len();
         for place in 0..self.links.len() {
             let hash = self.links[place].hash;
             let bucket = bucket_of(hash, buckets);
-            let head = self.heads[bucket];
+            let kept = self.buckets[bucket];
             self.links[place] = Link {
                 hash,
-                before: head.newest,
+                before: kept.newest,
             };
-            self.heads[bucket] = head.with(place as u32 + 1, hash);
+            self.buckets[bucket] = kept.with(place as u32 + 1, hash);
         }
     }
 
@@ -301,15 +301,15 @@ impl Ids {
             → AreIdsOf self.old h → AreIdsOf self.new (h ++ e ∷ []) }
         ensures key { self.new.key ≡ self.old.key }
         ensures room { vec_capacity self.new.links ≡ vec_capacity self.old.links }
-        ensures buckets { length self.new.heads.items ≡ length self.old.heads.items }
+        ensures buckets { length self.new.buckets.items ≡ length self.old.buckets.items }
     {
-        let bucket = bucket_of(hash, self.heads.len());
-        let head = self.heads[bucket];
+        let bucket = bucket_of(hash, self.buckets.len());
+        let kept = self.buckets[bucket];
         self.links.push_reserved(Link {
             hash,
-            before: head.newest,
+            before: kept.newest,
         });
-        self.heads[bucket] = head.with(self.links.len() as u32, hash);
+        self.buckets[bucket] = kept.with(self.links.len() as u32, hash);
     }
 
     /// Leaves the ids of no history, under this key, and all the room.
@@ -317,11 +317,11 @@ impl Ids {
         ensures none { AreIdsOf self.new [] }
         ensures key { self.new.key ≡ key }
         ensures room { vec_capacity self.new.links ≡ vec_capacity self.old.links }
-        ensures buckets { length self.new.heads.items ≡ length self.old.heads.items }
+        ensures buckets { length self.new.buckets.items ≡ length self.old.buckets.items }
     {
         self.key = key;
         self.links.clear();
-        vacate(&mut self.heads);
+        vacate(&mut self.buckets);
     }
 
     /// Makes the hashes of this history's entries anew, under this key, and links the entries anew.
@@ -341,11 +341,11 @@ impl Ids {
 }
 
 /// Leaves all buckets without entries.
-fn vacate(heads: &mut Vec<Head>)
-    ensures { heads.new.items
-        ≡ replicate (length heads.old.items) (record { newest = 0; marks = 0 }) }
+fn vacate(buckets: &mut Vec<Bucket>)
+    ensures { buckets.new.items
+        ≡ replicate (length buckets.old.items) (record { newest = 0; marks = 0 }) }
 {
-    for bucket in 0..heads.len() {
-        heads[bucket] = Head::NONE;
+    for bucket in 0..buckets.len() {
+        buckets[bucket] = Bucket::NONE;
     }
 }

@@ -4,6 +4,6 @@ use Rattle.gu_ids.proofs.ids.vacate.Given as goal
 -- the buckets so far have no entries
 abbrev pub invariant-loop-bucket : goal.invariant-loop-bucket
 invariant-loop-bucket l = record {
-  long : length l.heads.items ≡ length l.initial.heads.items;
-  none : take l.bucket l.heads.items ≡ replicate l.bucket (record { newest = 0; marks = 0 });
+  long : length l.buckets.items ≡ length l.initial.buckets.items;
+  none : take l.bucket l.buckets.items ≡ replicate l.bucket (record { newest = 0; marks = 0 });
 }

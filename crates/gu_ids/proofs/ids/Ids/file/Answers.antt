@@ -13,10 +13,10 @@ use Rattle.gu_ids.proofs.ids.Ids.file.Goals as goal
 pub returns-clause-filed : goal.returns-clause-filed
 returns-clause-filed c h e hashed are =
     let ids = c.args.self.now in
-    let heads = ids.heads.items in
-    let head = c.index-head.result.now in
+    let heads = ids.buckets.items in
+    let head = c.index-kept.result.now in
     let link : Link = record { hash = c.args.hash; before = head.newest } in
-    let full = ids.heads.ok.0 in
+    let full = ids.buckets.ok.0 in
     let bucket = c.bucket_of-bucket.result in
     let new = c.with.result in
     let len : c.len.result ≡ length heads = omega (arith, c.len.ensures, full) in
@@ -50,7 +50,7 @@ returns-clause-filed c h e hashed are =
           (λ (l : List Link). AreChains (hashes_of l) (befores_of l) (newests_of (set heads bucket new)) (length l))
           (sym c.push_reserved.ensures.items)
           (links_pushed ids.links.items (newests_of heads) link are.chains (omega (arith, is_newest, inside, newests))
-          (newest_read heads bucket head c.index-head.ensures inside
+          (newest_read heads bucket head c.index-kept.ensures inside
           ∙ ap (λ b. slice_index_or (newests_of heads) b 0) is_newest)
           (newests_of (set heads bucket new)) (length (ids.links.items ++ link ∷ []))
           (newests_set heads bucket new
@@ -69,7 +69,7 @@ returns-clause-filed c h e hashed are =
           (λ x had.
           c.with.ensures.others x
           (ap (λ m. bears m x)
-          (marks_read heads bucket head c.index-head.ensures inside
+          (marks_read heads bucket head c.index-kept.ensures inside
           ∙ ap (λ b. slice_index_or (marks_of heads) b 0) is_mark)
           ∙ had))
           are.marked (marks_of (set heads bucket new)) (length (ids.links.items ++ link ∷ []))

@@ -1,7 +1,7 @@
 use Rattle.std.proofs.Common.{◌≡◌, ◌<◌, ◌+◌, suc, length, set, refl, sym, ◌∙◌, ap, arith}
 use Rattle.std.specs.Prelude.{slice_index_or}
 use Rattle.std.proofs.lemmas.List.{length-set, get_or-map, get_or-replicate}
-use Rattle.gu_ids.specs.declared.ids.Head.{Head}
+use Rattle.gu_ids.specs.declared.ids.Bucket.{Bucket}
 use Rattle.gu_ids.specs.declared.ids.Link.{Link}
 use Rattle.gu_ids.specs.Chains.{hashes_of, newests_of}
 use Rattle.gu_ids.specs.Marks.{bucket_of, bears, marks_of}
@@ -13,9 +13,9 @@ pub loop-place-preserved : goal.loop-place-preserved
 loop-place-preserved c =
     let at = c.loop-place.invariant in
     let links = c.loop-place.self.links.items in
-    let heads = c.loop-place.self.heads.items in
+    let heads = c.loop-place.self.buckets.items in
     let place = c.loop-place.place in
-    let head = c.index-head.result.now in
+    let head = c.index-kept.result.now in
     let link : Link = record { hash = c.index.result.now.hash; before = head.newest } in
     let bucket = c.bucket_of-bucket.result in
     let new = c.with.result in
@@ -45,7 +45,7 @@ loop-place-preserved c =
       key = at.key;
       chains = links_set links (newests_of heads) place c.index.result.now link c.index.ensures there refl at.chains
           (omega (arith, is_newest, inside, newests))
-          (newest_read heads bucket head c.index-head.ensures inside
+          (newest_read heads bucket head c.index-kept.ensures inside
           ∙ ap (λ b. slice_index_or (newests_of heads) b 0) is_newest)
           (newests_of (set heads bucket new)) (place + 1)
           (newests_set heads bucket new
@@ -58,7 +58,7 @@ loop-place-preserved c =
           (λ x had.
           c.with.ensures.others x
           (ap (λ m. bears m x)
-          (marks_read heads bucket head c.index-head.ensures inside
+          (marks_read heads bucket head c.index-kept.ensures inside
           ∙ ap (λ b. slice_index_or (marks_of heads) b 0) is_mark)
           ∙ had))
           at.marked (marks_of (set heads bucket new)) (place + 1)
@@ -67,19 +67,19 @@ loop-place-preserved c =
 
 pub loop-place-init : goal.loop-place-init
 loop-place-init c =
-    let none : Head = record { newest = 0; marks = 0 } in
-    let heads = c.args.self.now.heads.items in
+    let none : Bucket = record { newest = 0; marks = 0 } in
+    let heads = c.args.self.now.buckets.items in
     let longer = newests_long heads in
     record {
       hashes = refl;
-      buckets = omega (arith, c.len-buckets.ensures, c.args.self.now.heads.ok.0);
+      buckets = omega (arith, c.len-buckets.ensures, c.args.self.now.buckets.ok.0);
       count = refl;
       key = refl;
       chains = record {
         head = λ b inside.
-            get_or-map (λ (h : Head). h.newest) heads b none 0 (omega (arith, inside, longer))
+            get_or-map (λ (h : Bucket). h.newest) heads b none 0 (omega (arith, inside, longer))
             ∙ (ap (λ l. (slice_index_or l b none).newest) c.requires.new
-            ∙ ap (λ (h : Head). h.newest)
+            ∙ ap (λ (h : Bucket). h.newest)
             (get_or-replicate (length heads) b none none (omega (arith, inside, longer))));
         before = λ j less. absurd (omega (arith, less));
       };

@@ -9,5 +9,5 @@ invariant-loop-place l = record {
   key : l.self.key ≡ l.key;
   ids : AreIdsOf l.self (take l.place l.entries);
   room : vec_capacity l.self.links ≡ vec_capacity l.initial.self.links;
-  buckets : length l.self.heads.items ≡ length l.initial.self.heads.items;
+  buckets : length l.self.buckets.items ≡ length l.initial.self.buckets.items;
 }

@@ -67,8 +67,8 @@ module _ (hashes hashes' befores befores' heads : List ℕ) (k hash : ℕ)
       which_by (inr e) = let apart = e.1 in inl (omega (arith, less, apart))
 
   -- so the chains are those of one entry more
-  pub linked : AreChains hashes' befores' (set heads (bucket_of hash (length heads)) (suc k)) (suc k)
-  linked =
+  pub chained : AreChains hashes' befores' (set heads (bucket_of hash (length heads)) (suc k)) (suc k)
+  chained =
       let new = set heads (bucket_of hash (length heads)) (suc k) in
       let long = length-set heads (bucket_of hash (length heads)) (suc k) in
       record {
@@ -78,8 +78,8 @@ module _ (hashes hashes' befores befores' heads : List ℕ) (k hash : ℕ)
             ∙ ap (λ n. newest (is_in hashes' n (bucket_of (slice_index_or hashes' j 0) n)) j) (sym long);
       }
 
-  pub linked_as : (heads' : List ℕ) (m : ℕ) → heads' ≡ set heads (bucket_of hash (length heads)) (suc k) → m ≡ suc k
+  pub chained_as : (heads' : List ℕ) (m : ℕ) → heads' ≡ set heads (bucket_of hash (length heads)) (suc k) → m ≡ suc k
       → AreChains hashes' befores' heads' m
-  linked_as heads' m is number =
+  chained_as heads' m is number =
       subst (λ l. AreChains hashes' befores' l m) (sym is)
-      (subst (AreChains hashes' befores' (set heads (bucket_of hash (length heads)) (suc k))) (sym number) linked)
+      (subst (AreChains hashes' befores' (set heads (bucket_of hash (length heads)) (suc k))) (sym number) chained)
