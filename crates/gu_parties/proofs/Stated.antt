@@ -23,47 +23,51 @@ with_line t ws = record {
   opening = t.opening;
 }
 
-no_instrument : (w : List ℕ) → bytes_eq w (codes "FIRM") ≡ true → bytes_eq w (codes "INSTRUMENT") ≡ false
-no_instrument w e = let same : w ≡ codes "FIRM" = (bytes_eq-Decides w (codes "FIRM")).0 e in rw same refl
+no_instrument : (kind : List ℕ) → bytes_eq kind (codes "FIRM") ≡ true → bytes_eq kind (codes "INSTRUMENT") ≡ false
+no_instrument kind e = let same : kind ≡ codes "FIRM" = (bytes_eq-Decides kind (codes "FIRM")).0 e in rw same refl
 
-of_two : (t : House) (w x : List ℕ)
-    → add_line t (w ∷ x ∷ []) ≡ unless_caused (cause_of t (w ∷ x ∷ [])) (with_line t (w ∷ x ∷ []))
-of_two t w x = by (bytes_eq w (codes "FIRM")) refl (bytes_eq w (codes "INSTRUMENT")) refl
+of_two : (t : House) (kind name : List ℕ)
+    → add_line t (kind ∷ name ∷ []) ≡ unless_caused (cause_of t (kind ∷ name ∷ [])) (with_line t (kind ∷ name ∷ []))
+of_two t kind name = by (bytes_eq kind (codes "FIRM")) refl (bytes_eq kind (codes "INSTRUMENT")) refl
   where
-    by : (f : Bool) → bytes_eq w (codes "FIRM") ≡ f → (i : Bool) → bytes_eq w (codes "INSTRUMENT") ≡ i
-        → add_line t (w ∷ x ∷ []) ≡ unless_caused (cause_of t (w ∷ x ∷ [])) (with_line t (w ∷ x ∷ []))
-    by true f _ _ = rw (f, no_instrument w f) (simp append-nil)
+    by : (f : Bool) → bytes_eq kind (codes "FIRM") ≡ f → (i : Bool) → bytes_eq kind (codes "INSTRUMENT") ≡ i
+        → add_line t (kind ∷ name ∷ []) ≡ unless_caused (cause_of t (kind ∷ name ∷ [])) (with_line t (kind ∷ name ∷ []))
+    by true f _ _ = rw (f, no_instrument kind f) (simp append-nil)
     by false f true i = rw (f, i) (simp append-nil)
     by false f false i = rw (f, i) refl
 
-of_three : (t : House) (w x y : List ℕ)
-    → add_line t (w ∷ x ∷ y ∷ []) ≡ unless_caused (cause_of t (w ∷ x ∷ y ∷ [])) (with_line t (w ∷ x ∷ y ∷ []))
-of_three t w x y = by (bytes_eq w (codes "ACCOUNT")) refl
+of_three : (t : House) (kind firm account : List ℕ)
+    → add_line t (kind ∷ firm ∷ account ∷ [])
+    ≡ unless_caused (cause_of t (kind ∷ firm ∷ account ∷ [])) (with_line t (kind ∷ firm ∷ account ∷ []))
+of_three t kind firm account = by (bytes_eq kind (codes "ACCOUNT")) refl
   where
-    by : (a : Bool) → bytes_eq w (codes "ACCOUNT") ≡ a
-        → add_line t (w ∷ x ∷ y ∷ []) ≡ unless_caused (cause_of t (w ∷ x ∷ y ∷ [])) (with_line t (w ∷ x ∷ y ∷ []))
+    by : (a : Bool) → bytes_eq kind (codes "ACCOUNT") ≡ a
+        → add_line t (kind ∷ firm ∷ account ∷ [])
+        ≡ unless_caused (cause_of t (kind ∷ firm ∷ account ∷ [])) (with_line t (kind ∷ firm ∷ account ∷ []))
     by true a = rw a (simp append-nil)
     by false a = rw a refl
 
-of_five : (t : House) (w g k r l : List ℕ)
-    → add_line t (w ∷ g ∷ k ∷ r ∷ l ∷ [])
-    ≡ unless_caused (cause_of t (w ∷ g ∷ k ∷ r ∷ l ∷ [])) (with_line t (w ∷ g ∷ k ∷ r ∷ l ∷ []))
-of_five t w g k r l = by (bytes_eq w (codes "AGREEMENT")) refl
+of_five : (t : House) (kind giver taker rate limit : List ℕ)
+    → add_line t (kind ∷ giver ∷ taker ∷ rate ∷ limit ∷ [])
+    ≡ unless_caused (cause_of t (kind ∷ giver ∷ taker ∷ rate ∷ limit ∷ []))
+    (with_line t (kind ∷ giver ∷ taker ∷ rate ∷ limit ∷ []))
+of_five t kind giver taker rate limit = by (bytes_eq kind (codes "AGREEMENT")) refl
   where
-    by : (a : Bool) → bytes_eq w (codes "AGREEMENT") ≡ a
-        → add_line t (w ∷ g ∷ k ∷ r ∷ l ∷ [])
-        ≡ unless_caused (cause_of t (w ∷ g ∷ k ∷ r ∷ l ∷ [])) (with_line t (w ∷ g ∷ k ∷ r ∷ l ∷ []))
+    by : (a : Bool) → bytes_eq kind (codes "AGREEMENT") ≡ a
+        → add_line t (kind ∷ giver ∷ taker ∷ rate ∷ limit ∷ [])
+        ≡ unless_caused (cause_of t (kind ∷ giver ∷ taker ∷ rate ∷ limit ∷ []))
+        (with_line t (kind ∷ giver ∷ taker ∷ rate ∷ limit ∷ []))
     by true a = rw a (simp append-nil)
     by false a = rw a refl
 
 stated : (t : House) (ws : List (List ℕ)) → add_line t ws ≡ unless_caused (cause_of t ws) (with_line t ws)
 stated t [] = refl
-stated t (w ∷ []) = refl
-stated t (w ∷ x ∷ []) = of_two t w x
-stated t (w ∷ x ∷ y ∷ []) = of_three t w x y
-stated t (w ∷ x ∷ y ∷ z ∷ []) = refl
-stated t (w ∷ g ∷ k ∷ r ∷ l ∷ []) = of_five t w g k r l
-stated t (w ∷ g ∷ k ∷ r ∷ l ∷ x ∷ more) = refl
+stated t (kind ∷ []) = refl
+stated t (kind ∷ name ∷ []) = of_two t kind name
+stated t (kind ∷ firm ∷ account ∷ []) = of_three t kind firm account
+stated t (kind ∷ _ ∷ _ ∷ _ ∷ []) = refl
+stated t (kind ∷ giver ∷ taker ∷ rate ∷ limit ∷ []) = of_five t kind giver taker rate limit
+stated t (kind ∷ _ ∷ _ ∷ _ ∷ _ ∷ _ ∷ more) = refl
 
 -- a line that was added has no cause
 pub added : (t u : House) (ws : List (List ℕ)) → add_line t ws ≡ Ok u → (cause_of t ws ≡ None) × (with_line t ws ≡ u)

@@ -59,14 +59,15 @@ agreement_cause t giver taker rate limit = first (
 
 -- of a line behind line 2: its first word and the number of its words say which line it is
 abbrev pub cause_of : House → List (List ℕ) → Option Cause
-cause_of t (w ∷ x ∷ []) =
-    if bytes_eq w (codes "FIRM") then firm_cause t x
-    else if bytes_eq w (codes "INSTRUMENT") then instrument_cause t x
+cause_of t (kind ∷ name ∷ []) =
+    if bytes_eq kind (codes "FIRM") then firm_cause t name
+    else if bytes_eq kind (codes "INSTRUMENT") then instrument_cause t name
     else Some BadLine
-cause_of t (w ∷ f ∷ a ∷ []) =
-    if bytes_eq w (codes "ACCOUNT") then account_cause t f a else Some BadLine
-cause_of t (w ∷ giver ∷ taker ∷ r ∷ l ∷ []) =
-    if bytes_eq w (codes "AGREEMENT") then agreement_cause t giver taker r l else Some BadLine
+cause_of t (kind ∷ firm ∷ account ∷ []) =
+    if bytes_eq kind (codes "ACCOUNT") then account_cause t firm account else Some BadLine
+cause_of t (kind ∷ giver ∷ taker ∷ rate ∷ limit ∷ []) =
+    if bytes_eq kind (codes "AGREEMENT") then agreement_cause t giver taker rate limit
+    else Some BadLine
 cause_of t _ = Some BadLine
 
 -- of the words behind HOUSE: they are the house's name alone

@@ -68,14 +68,15 @@ add_agreement t giver taker rate limit =
 
 -- with what a line of these words adds
 abbrev pub add_line : House → List (List ℕ) → Result House Cause
-add_line t (w ∷ x ∷ []) =
-    if bytes_eq w (codes "FIRM") then add_firm t x
-    else if bytes_eq w (codes "INSTRUMENT") then add_instrument t x
+add_line t (kind ∷ name ∷ []) =
+    if bytes_eq kind (codes "FIRM") then add_firm t name
+    else if bytes_eq kind (codes "INSTRUMENT") then add_instrument t name
     else Err BadLine
-add_line t (w ∷ x ∷ y ∷ []) =
-    if bytes_eq w (codes "ACCOUNT") then add_account t x y else Err BadLine
-add_line t (w ∷ g ∷ k ∷ r ∷ l ∷ []) =
-    if bytes_eq w (codes "AGREEMENT") then add_agreement t g k r l else Err BadLine
+add_line t (kind ∷ firm ∷ account ∷ []) =
+    if bytes_eq kind (codes "ACCOUNT") then add_account t firm account else Err BadLine
+add_line t (kind ∷ giver ∷ taker ∷ rate ∷ limit ∷ []) =
+    if bytes_eq kind (codes "AGREEMENT") then add_agreement t giver taker rate limit
+    else Err BadLine
 add_line t _ = Err BadLine
 
 -- what a step says that met this cause: the definition names it, or finds none where memory was
