@@ -2,6 +2,7 @@ pub mod Worked
 pub mod NameText
 pub mod Basics
 pub mod Copied
+pub mod RefusalWords
 pub mod Words
 pub mod Searches
 pub mod Sums

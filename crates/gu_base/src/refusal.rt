@@ -1,8 +1,8 @@
 //! Why the book refuses a command: the table of refusals, each with its number and its text.
-ghost use Rattle.std.specs.Prelude.{◌≡◌, ◌+◌, ◌≤◌, ◌<◌, ◌++◌, length, decimal};
+ghost use Rattle.std.specs.Prelude.{◌≡◌, ◌+◌, ◌≤◌, ◌++◌, length, decimal};
 ghost use Rattle.arrayvec.specs.ArrayString.{array_string_len};
 ghost use Rattle.gu_base.specs.Limits.{most_entries};
-ghost use Rattle.gu_base.specs.Texts.{number_of, head_of, tail_of, refusal_text};
+ghost use Rattle.gu_base.specs.Texts.{number_of, words_of, tail_of, refusal_text};
 
 use crate::names::FirmId;
 use crate::numbers::Number;
@@ -107,7 +107,6 @@ fn push_number(text: &mut ArrayString<48>, n: u32)
     requires room { array_string_len text.old ≤ 41 }
     ensures bytes { text.new.bytes ≡ text.old.bytes ++ decimal n }
     ensures len { array_string_len text.new ≤ array_string_len text.old + 7 }
-    ensures short { n < 100 → array_string_len text.new ≤ array_string_len text.old + 2 }
 {
     let mut digits = Buffer::new();
     text.push_str(digits.format(n));
@@ -151,40 +150,42 @@ impl Refusal {
         }
     }
 
-    /// The words, up to the number or the firm that it names.
-    fn head(&self) -> &'static str
-        ensures value { result.now ≡ head_of self.now }
-        ensures fits { length result.now ≤ 24 }
+    /// Its number, a space and the words, up to the number or the firm that it names.
+    #[tactic(auto, using(crate::proofs::RefusalWords::words_are))]
+    #[inline]
+    pub fn words(&self) -> &'static str
+        ensures value { result.now ≡ words_of self.now }
+        ensures few { length result.now ≤ 26 }
     {
         match self {
-            Refusal::UnknownFirm => " unknown firm",
-            Refusal::UnknownAccount => " unknown account",
-            Refusal::UnknownInstrument => " unknown instrument",
-            Refusal::UnknownNode => " unknown node",
-            Refusal::NotYours => " not yours",
-            Refusal::AlreadySplit(_) => " already split by ",
-            Refusal::StillOffered => " still offered",
-            Refusal::NotOffered => " not offered",
-            Refusal::BadLots => " lots out of range",
-            Refusal::SumDiffers => " parts do not sum",
-            Refusal::BadPartCount => " part count out of range",
-            Refusal::NoAgreement => " no agreement",
-            Refusal::LimitExceeded => " limit exceeded",
-            Refusal::TooDeep => " too deep",
-            Refusal::UnknownEntry => " unknown entry",
-            Refusal::NotAChange => " not a change",
-            Refusal::AlreadyReversed(_) => " already reversed by ",
-            Refusal::NotAParty => " not a party",
-            Refusal::NeedsConsent(_) => " needs consent of ",
-            Refusal::StandsOn(_) => " entry ",
-            Refusal::DuplicateId(_) => " id used by ",
-            Refusal::BookFull => " book full",
-            Refusal::HouseOnly => " house only",
-            Refusal::AlreadyConsented => " already consented",
-            Refusal::NothingPending => " nothing pending",
-            Refusal::OwnAgreement => " own agreement",
-            Refusal::BadTerms => " terms out of range",
-            Refusal::AgreementExists => " agreement exists",
+            Refusal::UnknownFirm => "1 unknown firm",
+            Refusal::UnknownAccount => "2 unknown account",
+            Refusal::UnknownInstrument => "3 unknown instrument",
+            Refusal::UnknownNode => "4 unknown node",
+            Refusal::NotYours => "5 not yours",
+            Refusal::AlreadySplit(_) => "6 already split by ",
+            Refusal::StillOffered => "7 still offered",
+            Refusal::NotOffered => "8 not offered",
+            Refusal::BadLots => "9 lots out of range",
+            Refusal::SumDiffers => "10 parts do not sum",
+            Refusal::BadPartCount => "11 part count out of range",
+            Refusal::NoAgreement => "12 no agreement",
+            Refusal::LimitExceeded => "13 limit exceeded",
+            Refusal::TooDeep => "14 too deep",
+            Refusal::UnknownEntry => "15 unknown entry",
+            Refusal::NotAChange => "16 not a change",
+            Refusal::AlreadyReversed(_) => "17 already reversed by ",
+            Refusal::NotAParty => "18 not a party",
+            Refusal::NeedsConsent(_) => "19 needs consent of ",
+            Refusal::StandsOn(_) => "20 entry ",
+            Refusal::DuplicateId(_) => "21 id used by ",
+            Refusal::BookFull => "22 book full",
+            Refusal::HouseOnly => "23 house only",
+            Refusal::AlreadyConsented => "24 already consented",
+            Refusal::NothingPending => "25 nothing pending",
+            Refusal::OwnAgreement => "26 own agreement",
+            Refusal::BadTerms => "27 terms out of range",
+            Refusal::AgreementExists => "28 agreement exists",
         }
     }
 
@@ -212,8 +213,7 @@ impl Refusal {
         ensures { result.bytes ≡ refusal_text self.now }
     {
         let mut text = ArrayString::new();
-        push_number(&mut text, u32::from(self.number()));
-        text.push_str(self.head());
+        text.push_str(self.words());
         self.push_tail(&mut text);
         text
     }

@@ -1,18 +1,22 @@
-use Rattle.std.proofs.Common.{◌∙◌, ℕ, List, ◌++◌, length, take, ap, arith, append_assoc}
-use Rattle.gu_base.specs.Texts.{tail_of}
-use Rattle.gu_message.specs.Bodies.{words_of}
-use Rattle.gu_message.proofs.RefusalTexts.{in_parts, text_len}
+use Rattle.std.proofs.Common.{length, take, ap, arith, append_assoc, length-append}
+use Rattle.gu_base.specs.Texts.{words_of, tail_of}
 use Rattle.gu_message.proofs.bodies.put_refusal.Goals as goal
 
 pub put-at-requires : goal.put-at-requires
-put-at-requires c = omega (arith, c.requires, text_len c.args.refusal.now, ap length c.words.ensures.value)
+put-at-requires c =
+    omega (
+      arith,
+      c.requires,
+      length-append (words_of c.args.refusal.now) (tail_of c.args.refusal.now),
+      ap length c.words.ensures.value,
+    )
 
 pub put_named-requires : goal.put_named-requires
 put_named-requires c =
     omega (
       arith,
       c.requires,
-      text_len c.args.refusal.now,
+      length-append (words_of c.args.refusal.now) (tail_of c.args.refusal.now),
       ap length c.words.ensures.value,
       c.put-at.ensures.end,
       c.put-at.ensures.len,
@@ -20,11 +24,15 @@ put_named-requires c =
 
 pub returns-clause-text : goal.returns-clause-text
 returns-clause-text c =
-    rw (c.put_named.ensures.text, c.put-at.ensures.text, c.words.ensures.value)
-    (append_assoc (take c.args.at c.args.bytes.now) (words_of c.args.refusal.now) (tail_of c.args.refusal.now)
-    ∙ ap (λ (t : List ℕ). take c.args.at c.args.bytes.now ++ t) (in_parts c.args.refusal.now))
+    rw (c.put_named.ensures.text, c.put-at.ensures.text, c.as_bytes.ensures.value, c.words.ensures.value)
+    (append_assoc (take c.args.at c.args.bytes.now) (words_of c.args.refusal.now) (tail_of c.args.refusal.now))
 
 pub returns-clause-end : goal.returns-clause-end
 returns-clause-end c =
-    omega
-    (arith, text_len c.args.refusal.now, ap length c.words.ensures.value, c.put-at.ensures.end, c.put_named.ensures.end)
+    omega (
+      arith,
+      length-append (words_of c.args.refusal.now) (tail_of c.args.refusal.now),
+      ap length c.words.ensures.value,
+      c.put-at.ensures.end,
+      c.put_named.ensures.end,
+    )
