@@ -116,15 +116,19 @@ unfit false y e z = absurd cc
 module _ (bytes : List ℕ) (soh digit zero equal : ℕ) where
   -- ---- the words of a window: where fields end and may begin
 
+  -- where a tag ends: an `=`, and behind it a value
   abbrev ends : ℕ
   ends = bit_and equal (bit_not w64 (soh / 2))
 
+  -- there, or a digit before it
   abbrev one_before : ℕ
   one_before = bit_or ends (bit_and digit (ends / 2))
 
+  -- there, or one or two digits before it
   abbrev two_before : ℕ
   two_before = bit_or ends (bit_and digit (one_before / 2))
 
+  -- where a tag of one to three digits begins
   abbrev fronts : ℕ
   fronts = bit_and digit (bit_and (bit_not w64 zero) (two_before / 2))
 
@@ -139,39 +143,41 @@ module _ (bytes : List ℕ) (soh digit zero equal : ℕ) where
       → ShortBehind bytes (length bytes - 5)
   all_begin some few small-s small-d small-z s d z e none k lt is =
       let n = length bytes in
-      let S : ℕ → Bool = λ i. eqb (byte i) 1 in
-      let D : ℕ → Bool = λ i. is_digit (byte i) in
-      let Z : ℕ → Bool = λ i. eqb (byte i) 48 in
-      let E : ℕ → Bool = λ i. eqb (byte i) 61 && not (S (suc i)) in
-      let O : ℕ → Bool = λ i. E i || (D i && E (suc i)) in
-      let T : ℕ → Bool = λ i. E i || (D i && O (suc i)) in
-      let F : ℕ → Bool = λ i. D i && (not (Z i) && T (suc i)) in
-      let digits-to : (m : ℕ) → m ≤ n → Tells m digit D = λ m le. fewer n m digit D le d in
-      let ends-to : (m : ℕ) → m < n → Tells m ends E = λ m le.
-      both m equal (bit_not w64 (soh / 2)) (λ i. eqb (byte i) 61) (λ i. not (S (suc i)))
+      let soh_at : ℕ → Bool = λ i. eqb (byte i) 1 in
+      let digit_at : ℕ → Bool = λ i. is_digit (byte i) in
+      let zero_at : ℕ → Bool = λ i. eqb (byte i) 48 in
+      let end_at : ℕ → Bool = λ i. eqb (byte i) 61 && not (soh_at (suc i)) in
+      let one_at : ℕ → Bool = λ i. end_at i || (digit_at i && end_at (suc i)) in
+      let two_at : ℕ → Bool = λ i. end_at i || (digit_at i && one_at (suc i)) in
+      let front_at : ℕ → Bool = λ i. digit_at i && (not (zero_at i) && two_at (suc i)) in
+      let digits-to : (m : ℕ) → m ≤ n → Tells m digit digit_at = λ m le. fewer n m digit digit_at le d in
+      let ends-to : (m : ℕ) → m < n → Tells m ends end_at = λ m le.
+      both m equal (bit_not w64 (soh / 2)) (λ i. eqb (byte i) 61) (λ i. not (soh_at (suc i)))
       (fewer n m equal (λ i. eqb (byte i) 61) (omega arith) e)
-      (others m (soh / 2) (λ i. S (suc i)) (omega arith) (omega arith) (behind m n soh S le s)) in
-      let one-to : (m : ℕ) → m + 1 < n → Tells m one_before O = λ m le.
-      either m ends (bit_and digit (ends / 2)) E (λ i. D i && E (suc i)) (ends-to m (omega arith))
-      (both m digit (ends / 2) D (λ i. E (suc i)) (digits-to m (omega arith))
-      (behind m (m + 1) ends E (omega arith) (ends-to (m + 1) le))) in
-      let two-to : (m : ℕ) → m + 2 < n → Tells m two_before T = λ m le.
-      either m ends (bit_and digit (one_before / 2)) E (λ i. D i && O (suc i)) (ends-to m (omega arith))
-      (both m digit (one_before / 2) D (λ i. O (suc i)) (digits-to m (omega arith))
-      (behind m (m + 1) one_before O (omega arith) (one-to (m + 1) (omega arith)))) in
-      let fronts-to : (m : ℕ) → m + 3 < n → Tells m fronts F = λ m le.
-      both m digit (bit_and (bit_not w64 zero) (two_before / 2)) D (λ i. not (Z i) && T (suc i))
+      (others m (soh / 2) (λ i. soh_at (suc i)) (omega arith) (omega arith) (behind m n soh soh_at le s)) in
+      let one-to : (m : ℕ) → m + 1 < n → Tells m one_before one_at = λ m le.
+      either m ends (bit_and digit (ends / 2)) end_at (λ i. digit_at i && end_at (suc i)) (ends-to m (omega arith))
+      (both m digit (ends / 2) digit_at (λ i. end_at (suc i)) (digits-to m (omega arith))
+      (behind m (m + 1) ends end_at (omega arith) (ends-to (m + 1) le))) in
+      let two-to : (m : ℕ) → m + 2 < n → Tells m two_before two_at = λ m le.
+      either m ends (bit_and digit (one_before / 2)) end_at (λ i. digit_at i && one_at (suc i))
+      (ends-to m (omega arith))
+      (both m digit (one_before / 2) digit_at (λ i. one_at (suc i)) (digits-to m (omega arith))
+      (behind m (m + 1) one_before one_at (omega arith) (one-to (m + 1) (omega arith)))) in
+      let fronts-to : (m : ℕ) → m + 3 < n → Tells m fronts front_at = λ m le.
+      both m digit (bit_and (bit_not w64 zero) (two_before / 2)) digit_at (λ i. not (zero_at i) && two_at (suc i))
       (digits-to m (omega arith))
-      (both m (bit_not w64 zero) (two_before / 2) (λ i. not (Z i)) (λ i. T (suc i))
-      (others m zero Z (omega arith) small-z (fewer n m zero Z (omega arith) z))
-      (behind m (m + 1) two_before T (omega arith) (two-to (m + 1) (omega arith)))) in
+      (both m (bit_not w64 zero) (two_before / 2) (λ i. not (zero_at i)) (λ i. two_at (suc i))
+      (others m zero zero_at (omega arith) small-z (fewer n m zero zero_at (omega arith) z))
+      (behind m (m + 1) two_before two_at (omega arith) (two-to (m + 1) (omega arith)))) in
       let below : fronts / 2 < 2 ^ 64 =
       omega (arith, small-d, and_le_l digit (bit_and (bit_not w64 zero) (two_before / 2))) in
       let left = bit_and soh (bit_not w64 (fronts / 2)) in
-      let tells : Tells (k + 1) left (λ i. S i && not (F (suc i))) =
-      both (k + 1) soh (bit_not w64 (fronts / 2)) S (λ i. not (F (suc i))) (fewer n (k + 1) soh S (omega arith) s)
-      (others (k + 1) (fronts / 2) (λ i. F (suc i)) (omega arith) below
-      (behind (k + 1) (k + 2) fronts F (omega arith) (fronts-to (k + 2) (omega arith)))) in
+      let tells : Tells (k + 1) left (λ i. soh_at i && not (front_at (suc i))) =
+      both (k + 1) soh (bit_not w64 (fronts / 2)) soh_at (λ i. not (front_at (suc i)))
+      (fewer n (k + 1) soh soh_at (omega arith) s)
+      (others (k + 1) (fronts / 2) (λ i. front_at (suc i)) (omega arith) below
+      (behind (k + 1) (k + 2) fronts front_at (omega arith) (fronts-to (k + 2) (omega arith)))) in
       let up = 69 - n in
       let back : k + up - up ≡ k = omega arith in
       let moved = shifted_high left up (k + up) (omega arith) (omega arith) in
@@ -179,7 +185,7 @@ module _ (bytes : List ℕ) (soh digit zero equal : ℕ) where
       ap (bit_at left) (sym back) ∙ sym moved ∙ ap (λ m. bit_at m (k + up)) none ∙ bit_at-zero (k + up) in
       let next : k + 1 ≡ suc k = omega arith in
       ap (short_front bytes) next ∙ sym (here (suc k))
-      ∙ unfit (S k) (F (suc k)) (eq-eqb (byte k) 1 is) (sym (tells k (omega arith)) ∙ unset)
+      ∙ unfit (soh_at k) (front_at (suc k)) (eq-eqb (byte k) 1 is) (sym (tells k (omega arith)) ∙ unset)
     where
       here : (j : ℕ)
           → is_short_front (byte j) (byte (suc j)) (byte (suc (suc j))) (byte (suc (suc (suc j))))

@@ -5,10 +5,8 @@ ghost use Rattle.gu_base.specs.Names.{is_digit};
 ghost use Rattle.gu_codec.specs.Fields.{ShortBehind};
 ghost use Rattle.gu_codec.specs.MarkBits.{AreBits, IsWindow};
 
+use crate::fields::SOH;
 use std::simd::prelude::*;
-
-/// The byte that ends a field.
-const SOH: u8 = 1;
 
 /// A bit for each of 64 or 32 bytes, from the lowest on, that says whether it is this one.
 #[inline(always)]

@@ -5,12 +5,9 @@ ghost use Rattle.std.specs.List.{position_or_len};
 ghost use Rattle.gu_codec.specs.Fields.{field_at, is_soh};
 ghost use Rattle.gu_codec.specs.MarkBits.{AreMarks, IsMarked};
 
-use crate::fields::{Fields, field_to};
+use crate::fields::{Fields, SOH, field_to};
 use std::marker::Model;
 use std::simd::prelude::*;
-
-/// The byte that ends a field.
-const SOH: u8 = 1;
 
 /// The marks of 64 bytes: a bit for each, from the lowest on, that says whether it is SOH.
 #[inline(always)]
