@@ -29,7 +29,7 @@ fn is_seal(fields: Fields<'_>) -> bool
 {
     let mut slots = [Slot::none(); SLOTS];
     let walked = walk(fields, &mut slots);
-    Index::new(fields, &slots, walked).is_text(tags::MSG_TYPE, msg_types::HEARTBEAT)
+    Index::new(fields, &slots, walked).has_value(tags::MSG_TYPE, msg_types::HEARTBEAT)
 }
 
 /// Whether a message stands behind the first seal of what a shut gate is before.

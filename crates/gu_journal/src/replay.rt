@@ -105,14 +105,14 @@ fn is_numbered(message: &Index<'_, '_>, number: u32) -> bool
     ensures { IsTrue result ↔ IsNumbered number message.now }
 {
     let mut digits = Buffer::new();
-    message.is_text(tags::MSG_SEQ_NUM, digits.format(number).as_bytes())
+    message.has_value(tags::MSG_SEQ_NUM, digits.format(number).as_bytes())
 }
 
 /// Whether a head has this digest of a house file in Text (58).
 fn has_pin(message: &Index<'_, '_>, pin: &HouseDigest) -> bool
     ensures { IsTrue result ↔ (value_of tag.text message.now ≡ Some (encode_lower pin.now.bytes)) }
 {
-    message.is_text(tags::TEXT, &house_digits(&pin.bytes))
+    message.has_value(tags::TEXT, &house_digits(&pin.bytes))
 }
 
 /// Whether a seal has this digest in TestReqID (112).
@@ -120,7 +120,7 @@ fn has_digest(message: &Index<'_, '_>, digest: &[u8; 64]) -> bool
     ensures { IsTrue result
         ↔ (value_of tag.test_req_id message.now ≡ Some (encode_lower digest.now)) }
 {
-    message.is_text(tags::TEST_REQ_ID, &seal_digits(digest))
+    message.has_value(tags::TEST_REQ_ID, &seal_digits(digest))
 }
 
 /// The 32 bytes that hex digits write.
@@ -157,7 +157,7 @@ fn check_head(message: &Index<'_, '_>, pin: &HouseDigest, place: Place) -> Resul
     ensures cause { IfErr result (λ e. IsUnpinned pin.now.bytes message.now e) }
     ensures place { IfErr result (λ e. IsAt place.at place.entry e) }
 {
-    if !message.is_text(DEFAULT_CSTM_APPL_VER_ID, FORM) {
+    if !message.has_value(DEFAULT_CSTM_APPL_VER_ID, FORM) {
         return match message.first(DEFAULT_CSTM_APPL_VER_ID) {
             Some(_) => Err(RecoverError::OtherForm),
             None => Err(place.damaged(Cause::NoHead)),

@@ -103,29 +103,34 @@ two_len : (front id text value : List ℕ)
     → length front + length id + length text + length value + 2
     ≡ length ((((front ++ id) ++ 1 ∷ text) ++ value) ++ 1 ∷ [])
 two_len front id text value =
-    let t1 = front ++ id in
-    let t2 = t1 ++ 1 ∷ text in
-    let t3 = t2 ++ value in
-    omega
-    (arith, length-append front id, length-append t1 (1 ∷ text), length-append t2 value, length-append t3 (1 ∷ []))
+    let to_id = front ++ id in
+    let to_text = to_id ++ 1 ∷ text in
+    let to_value = to_text ++ value in
+    omega (
+      arith,
+      length-append front id,
+      length-append to_id (1 ∷ text),
+      length-append to_text value,
+      length-append to_value (1 ∷ []),
+    )
 
 three_len : (front id text number more status : List ℕ)
     → length front + length id + length text + length number + length more + length status + 3
     ≡ length ((((((front ++ id) ++ 1 ∷ text) ++ number) ++ 1 ∷ more) ++ status) ++ 1 ∷ [])
 three_len front id text number more status =
-    let t1 = front ++ id in
-    let t2 = t1 ++ 1 ∷ text in
-    let t3 = t2 ++ number in
-    let t4 = t3 ++ 1 ∷ more in
-    let t5 = t4 ++ status in
+    let to_id = front ++ id in
+    let to_text = to_id ++ 1 ∷ text in
+    let to_number = to_text ++ number in
+    let to_more = to_number ++ 1 ∷ more in
+    let to_status = to_more ++ status in
     omega (
       arith,
       length-append front id,
-      length-append t1 (1 ∷ text),
-      length-append t2 number,
-      length-append t3 (1 ∷ more),
-      length-append t4 status,
-      length-append t5 (1 ∷ []),
+      length-append to_id (1 ∷ text),
+      length-append to_text number,
+      length-append to_number (1 ∷ more),
+      length-append to_more status,
+      length-append to_status (1 ∷ []),
     )
 
 -- of each body

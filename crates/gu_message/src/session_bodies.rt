@@ -4,13 +4,13 @@ ghost use Rattle.std.specs.Prelude.{◌≡◌, ◌≤◌, ◌++◌, OnOk, OnErr,
 ghost use Rattle.gu_codec.specs.Answer.{pairs};
 ghost use Rattle.gu_codec.specs.Tags as tag;
 ghost use Rattle.gu_codec.specs.Writing.{fields_text};
-ghost use Rattle.gu_message.specs.Finding.{value_of, is_text as is_text_of};
+ghost use Rattle.gu_message.specs.Finding.{value_of, equals_text};
 ghost use Rattle.gu_message.specs.SessionBodies.{reset_fields, logon_fields, heartbeat_fields};
 ghost use Rattle.gu_message.specs.SessionBodies.{test_request_fields, resend_request_fields};
 ghost use Rattle.gu_message.specs.SessionBodies.{sequence_reset_fields, logout_text, logout_fields};
 
 use crate::bodies::{ROOM, append_number_field, append_number_text};
-use crate::finding::is_text;
+use crate::finding::has_value;
 use crate::msg_types;
 use crate::test_req_id::TestReqId;
 use gu_base::Memory;
@@ -148,7 +148,7 @@ pub fn logout(out: &mut Vec<u8>, text: Option<LogoutText>) -> Result<(), Memory>
 
 /// Whether a message is a Logout: its first MsgType (35) is `5`, whatever else is in it.
 pub fn is_logout(fields: Fields<'_>) -> bool
-    ensures { result ≡ is_text_of (codes "5") (value_of tag.msg_type (pairs fields.entry)) }
+    ensures { result ≡ equals_text (codes "5") (value_of tag.msg_type (pairs fields.entry)) }
 {
-    is_text(fields, tags::MSG_TYPE, msg_types::LOGOUT)
+    has_value(fields, tags::MSG_TYPE, msg_types::LOGOUT)
 }

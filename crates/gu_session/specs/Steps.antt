@@ -12,7 +12,7 @@ use Rattle.gu_codec.specs.Writing.{fields_text}
 use Rattle.gu_message.specs.declared.fault.Reject.{Reject}
 use Rattle.gu_message.specs.declared.inbound.Inbound.{Inbound}
 use Rattle.gu_message.specs.declared.inbound.Inbound.TheVariants.{Call}
-use Rattle.gu_message.specs.Finding.{value_of, is_text}
+use Rattle.gu_message.specs.Finding.{value_of, equals_text}
 use Rattle.gu_message.specs.Heading.{heading_of}
 use Rattle.gu_message.specs.Meaning.{meaning_of}
 use Rattle.gu_message.specs.SessionBodies.{sequence_reset_fields}
@@ -210,7 +210,7 @@ acts now s came call v = record {
 abbrev pub message_verdict : Timestamp → Seen → Message → Verdict
 message_verdict now s fs =
     on_message now s.house s.link (heading_of s.house.house fs) (meaning_of s.house.house fs)
-    (is_text (codes "5") (value_of 35 fs))
+    (equals_text (codes "5") (value_of 35 fs))
 
 -- what a verdict on a message does
 abbrev pub takes : Timestamp → Seen → Message → Verdict → Outcome
