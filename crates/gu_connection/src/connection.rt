@@ -22,16 +22,13 @@ use gu_base::{Answer, FirmId, Memory, Report};
 use gu_codec::{Feed, Frame, Header, append_field, tags, write_frame};
 use gu_message::{SendingTime, msg_types};
 use gu_parties::House;
-use gu_session::{Actions, Event, Session};
+use gu_session::{Actions, Event, LAST_NUMBER, Session};
 use gu_trace::{MOST_REPORTS, nothing_is_passed_over};
 use jiff::Timestamp;
 use std::alloc::Global;
 use std::io::Write;
 use std::net::TcpStream;
 use std::time::Clock;
-
-/// The last MsgSeqNum (34) that a message has.
-const LAST_NUMBER: u32 = 999_999_999;
 
 /// The bytes that the body of a Logout with a text of `log_out` has at the most.
 const LOGOUT_ROOM: usize = 256;

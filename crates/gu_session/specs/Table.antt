@@ -119,8 +119,8 @@ line_of l firm (Ok h) meaning is_logout =
 
 -- the expected number is set, where it doesn't fall
 abbrev pub resets : Timestamp → LinkState → ℕ → Verdict
-resets now l next =
-    if nat_le l.expected next then silent (record l { expected = next })
+resets now l new_number =
+    if nat_le l.expected new_number then silent (record l { expected = new_number })
     else says now l (say.Reject (bad_value 36))
 
 -- a gap is asked for once, from the expected number on
@@ -130,8 +130,8 @@ asks now l number (Some highest) = silent (record l { asked = Some (max highest 
 
 -- numbers that are passed over
 abbrev pub fills : Timestamp → LinkState → ℕ → ℕ → Verdict
-fills now l number next =
-    if nat_lt number next then silent (record l { expected = next })
+fills now l number new_number =
+    if nat_lt number new_number then silent (record l { expected = new_number })
     else says now l (say.Reject (bad_value 36))
 
 -- the message with the expected number, by its type

@@ -26,4 +26,5 @@ mod writing;
 
 pub use event::{Actions, Event};
 pub use gu_message::is_moment;
+pub use replying::LAST_NUMBER;
 pub use session::Session;

@@ -17,7 +17,7 @@ use gu_message::SendingTime;
 use jiff::Timestamp;
 use std::alloc::Global;
 
-/// The last number that a message may have.
+/// The last MsgSeqNum (34) that a message may have.
 pub const LAST_NUMBER: u32 = 999_999_999;
 
 /// How many messages answer the call that waits: one or none.

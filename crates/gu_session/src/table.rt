@@ -206,13 +206,13 @@ fn hands_out(link: LinkState, number: u32, trade: bool, id: AllocId) -> Verdict
 }
 
 /// A reset of the expected number, which may not fall.
-fn resets(moment: Timestamp, link: LinkState, next: u32) -> Verdict
+fn resets(moment: Timestamp, link: LinkState, new_number: u32) -> Verdict
     requires { link.next ≤ past_last }
-    ensures { result ≡ resets_of moment link next }
+    ensures { result ≡ resets_of moment link new_number }
 {
-    if link.expected <= next {
+    if link.expected <= new_number {
         silent(LinkState {
-            expected: next,
+            expected: new_number,
             ..link
         })
     } else {
@@ -244,13 +244,13 @@ fn asks(moment: Timestamp, link: LinkState, number: u32) -> Verdict
 }
 
 /// Numbers that are passed over, from the message's own on.
-fn fills(moment: Timestamp, link: LinkState, number: u32, next: u32) -> Verdict
+fn fills(moment: Timestamp, link: LinkState, number: u32, new_number: u32) -> Verdict
     requires { link.next ≤ past_last }
-    ensures { result ≡ fills_of moment link number next }
+    ensures { result ≡ fills_of moment link number new_number }
 {
-    if number < next {
+    if number < new_number {
         silent(LinkState {
-            expected: next,
+            expected: new_number,
             ..link
         })
     } else {

@@ -13,7 +13,7 @@ ghost use Rattle.gu_session.specs.Steps.{sayings, new as new_of};
 ghost use Rattle.gu_session.specs.Text.{text_of, fields_of};
 ghost use Rattle.gu_session.specs.Keeping.{Kept, kept_with, messages, total};
 
-use crate::kept::{KeptEntry, KeptMessages, type_of};
+use crate::kept::{KeptHeader, KeptMessages, type_of};
 use crate::verdict::{Say, Span};
 use gu_base::{FirmId, Memory};
 use gu_codec::{Fields, Header, write_frame};
@@ -128,10 +128,10 @@ fn write_say(
 }
 
 /// Appends an application message.
-fn write_kept(
+fn write_application(
     out: &mut Vec<u8>,
     writer: &Writer,
-    entry: &KeptEntry,
+    header: &KeptHeader,
     body: &[u8],
     first: Option<SendingTime>,
 ) -> Result<(), Memory>
@@ -139,14 +139,21 @@ fn write_kept(
     ensures { OnOk result
         (out.new.items ≡ out.old.items
         ++ text_of writer.now.house writer.now.firm writer.now.time (record {
-          kind = type_of_app entry.now.kind;
-          number = entry.now.number;
-          next = entry.now.number + 1;
+          kind = type_of_app header.now.kind;
+          number = header.now.number;
+          next = header.now.number + 1;
           first = first;
           body = body.now;
         })) }
 {
-    write(out, writer, type_of(entry.kind), entry.number, first, body)
+    write(
+        out,
+        writer,
+        type_of(header.kind),
+        header.number,
+        first,
+        body,
+    )
 }
 
 /// Appends one SequenceReset for the numbers from one up to another, if there are any.
@@ -183,7 +190,7 @@ fn write_one_again(
     alloc: Global,
     out: &mut Vec<u8>,
     writer: &Writer,
-    entry: &KeptEntry,
+    header: &KeptHeader,
     body: &[u8],
     span: Span,
     next: u32,
@@ -196,41 +203,41 @@ fn write_one_again(
         ≡ out.old.items
         ++ flat_map (text_of writer.now.house writer.now.firm writer.now.time)
         (with_gaps writer.now.time next span.next
-        (within span.from span.next (kept_with entry.now body.now ∷ later)))) }
+        (within span.from span.next (kept_with header.now body.now ∷ later)))) }
 {
-    if entry.number < span.from {
+    if header.number < span.from {
         return Ok(next);
     }
-    if span.next <= entry.number {
+    if span.next <= header.number {
         return Ok(next);
     }
-    write_gap(alloc, out, writer, next, entry.number)?;
-    write_kept(out, writer, entry, body, Some(entry.sent))?;
-    Ok(entry.number + 1)
+    write_gap(alloc, out, writer, next, header.number)?;
+    write_application(out, writer, header, body, Some(header.sent))?;
+    Ok(header.number + 1)
 }
 
-/// Appends what is sent again of the messages of these entries, whose bodies stand one behind the
+/// Appends what is sent again of the messages of these headers, whose bodies stand one behind the
 /// other.
 fn write_again(
     alloc: Global,
     out: &mut Vec<u8>,
     writer: &Writer,
-    entries: &VecDeque<KeptEntry>,
+    headers: &VecDeque<KeptHeader>,
     bodies: &[u8],
     span: Span,
 ) -> Result<(), Memory>
-    requires { total entries.now.items ≡ length bodies.now }
+    requires { total headers.now.items ≡ length bodies.now }
     ensures { OnOk result
         (out.new.items ≡ out.old.items
         ++ flat_map (text_of writer.now.house writer.now.firm writer.now.time)
         (with_gaps writer.now.time span.from span.next
-        (within span.from span.next (messages entries.now.items bodies.now)))) }
+        (within span.from span.next (messages headers.now.items bodies.now)))) }
 {
     let mut next = span.from;
     let mut left = bodies;
-    for i in 0..entries.len() {
-        let (body, behind) = left.split_at(entries[i].size.get());
-        next = write_one_again(alloc, out, writer, &entries[i], body, span, next)?;
+    for i in 0..headers.len() {
+        let (body, behind) = left.split_at(headers[i].size.get());
+        next = write_one_again(alloc, out, writer, &headers[i], body, span, next)?;
         left = behind;
     }
     write_gap(alloc, out, writer, next, span.next)
@@ -252,8 +259,8 @@ pub fn write_resend(
     match resend {
         None => Ok(()),
         Some(span) => {
-            let (entries, bodies) = kept.parts();
-            write_again(alloc, out, writer, entries, bodies, span)
+            let (headers, bodies) = kept.parts();
+            write_again(alloc, out, writer, headers, bodies, span)
         }
     }
 }
@@ -278,23 +285,23 @@ pub fn write_saying(
     }
 }
 
-/// Appends the new messages of these entries, whose bodies stand one behind the other.
+/// Appends the new messages of these headers, whose bodies stand one behind the other.
 fn write_fresh(
     out: &mut Vec<u8>,
     writer: &Writer,
-    entries: &VecDeque<KeptEntry>,
+    headers: &VecDeque<KeptHeader>,
     bodies: &[u8],
 ) -> Result<(), Memory>
-    requires { total entries.now.items ≡ length bodies.now }
+    requires { total headers.now.items ≡ length bodies.now }
     ensures { OnOk result
         (out.new.items ≡ out.old.items
         ++ flat_map (text_of writer.now.house writer.now.firm writer.now.time)
-        (map new_of (messages entries.now.items bodies.now))) }
+        (map new_of (messages headers.now.items bodies.now))) }
 {
     let mut left = bodies;
-    for i in 0..entries.len() {
-        let (body, behind) = left.split_at(entries[i].size.get());
-        write_kept(out, writer, &entries[i], body, None)?;
+    for i in 0..headers.len() {
+        let (body, behind) = left.split_at(headers[i].size.get());
+        write_application(out, writer, &headers[i], body, None)?;
         left = behind;
     }
     Ok(())
@@ -307,6 +314,6 @@ pub fn write_new(out: &mut Vec<u8>, writer: &Writer, fresh: &KeptMessages) -> Re
         ++ flat_map (text_of writer.now.house writer.now.firm writer.now.time)
         (map new_of fresh.now)) }
 {
-    let (entries, bodies) = fresh.parts();
-    write_fresh(out, writer, entries, bodies)
+    let (headers, bodies) = fresh.parts();
+    write_fresh(out, writer, headers, bodies)
 }

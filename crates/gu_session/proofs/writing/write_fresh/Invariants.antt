@@ -9,7 +9,7 @@ abbrev pub invariant-loop-i : goal.invariant-loop-i
 invariant-loop-i l =
     let text = text_of l.writer.house l.writer.firm l.writer.time in
     record {
-      sent : l.out.items ++ flat_map text (map new (messages (drop l.i l.entries.items) l.left))
-          ≡ l.initial.out.items ++ flat_map text (map new (messages l.entries.items l.bodies));
-      size : total (drop l.i l.entries.items) ≡ length l.left;
+      sent : l.out.items ++ flat_map text (map new (messages (drop l.i l.headers.items) l.left))
+          ≡ l.initial.out.items ++ flat_map text (map new (messages l.headers.items l.bodies));
+      size : total (drop l.i l.headers.items) ≡ length l.left;
     }

@@ -9,7 +9,7 @@ returns c =
     omega (
       arith,
       c.len.ensures,
-      c.self.inside.entries.ok.0,
-      length_messages c.self.inside.entries.items (drop c.self.inside.gone c.self.inside.bytes.items),
+      c.self.inside.headers.ok.0,
+      length_messages c.self.inside.headers.items (drop c.self.inside.gone c.self.inside.bytes.items),
       same,
     )
