@@ -3,7 +3,7 @@
 
 use crate::cell::{Cell, ENDED, Work, add, add_at, load, zeros};
 use crate::log::Log;
-use gu_base::{AllocId, Answer, Entry, FirmId, Memory};
+use gu_base::{AllocId, Answer, Entry, FirmId, Memory, Number};
 use gu_book::Book;
 use gu_command::MOST_WORKERS;
 use gu_log::{Event, Field, Key, Value};
@@ -14,9 +14,6 @@ use std::alloc::{AllocError, Global};
 use std::sync::Wait;
 use std::sync::atomic::{AtomicBool, AtomicU64, Ordering};
 use std::time::Clock;
-
-/// The most entries of a book.
-pub(crate) const MOST_ENTRIES: u32 = 1_000_000;
 
 /// For how many seconds a part may stand still before `/health` says so.
 const MOST_STILL: u64 = 5;
@@ -240,11 +237,11 @@ impl Board {
 
     /// Warns where the book has become nearly full.
     fn warn_of_book<R: Wait + Clock>(&self, rt: &R, before: u64, after: u64) {
-        if let Some(percent) = mark_passed(small(before), small(after), MOST_ENTRIES) {
+        if let Some(percent) = mark_passed(small(before), small(after), Number::MAX) {
             let fields = [
                 number(Key::Percent, u64::from(percent)),
                 number(Key::Entries, after),
-                number(Key::Most, u64::from(MOST_ENTRIES)),
+                number(Key::Most, u64::from(Number::MAX)),
             ];
             self.say(rt, Event::BookFills, &fields);
         }
@@ -272,14 +269,14 @@ impl Board {
     }
 
     /// A worker has read so many bytes.
-    pub fn reads(&self, worker: u32, bytes: usize) {
+    pub(crate) fn reads(&self, worker: u32, bytes: usize) {
         if let Some(cell) = self.cells.get(worker as usize) {
             cell.read.fetch_add(bytes as u64, Ordering::SeqCst);
         }
     }
 
     /// The peer of a worker's connection has closed it.
-    pub fn loses(&self, worker: u32) {
+    pub(crate) fn loses(&self, worker: u32) {
         if let Some(cell) = self.cells.get(worker as usize) {
             cell.gone.fetch_add(1, Ordering::SeqCst);
         }
@@ -360,7 +357,7 @@ impl Board {
     }
 
     /// A worker has answered a call.
-    pub fn answers<R: Wait + Clock>(
+    pub(crate) fn answers<R: Wait + Clock>(
         &self,
         rt: &R,
         worker: u32,
@@ -468,7 +465,7 @@ impl Board {
             is_ready: self.ready.load(Ordering::SeqCst),
             stuck: self.stuck(MOST_STILL),
             entries: small(load(&self.entries)),
-            most_entries: MOST_ENTRIES,
+            most_entries: Number::MAX,
             firms,
             connections: load(&self.open),
             accepted: load(&self.accepted),

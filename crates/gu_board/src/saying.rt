@@ -1,8 +1,8 @@
 //! What an operator is told of the start, and of limits.
 
-use crate::board::{Board, MOST_ENTRIES, number, text};
+use crate::board::{Board, number, text};
 use crate::version::{VERSION, commit};
-use gu_base::FirmId;
+use gu_base::{FirmId, Number};
 use gu_command::Order;
 use gu_journal::HouseDigest;
 use gu_limits::Ending;
@@ -59,7 +59,7 @@ pub fn say_started<R: Wait + Clock + Files>(
                 Some(order.connections)
             },
         ),
-        number(Key::Most, u64::from(MOST_ENTRIES)),
+        number(Key::Most, u64::from(Number::MAX)),
         limit(Key::MostEntries, limits.most_entries),
         limit(Key::Reserve, limits.reserve),
         limit(Key::Rate, limits.rate),

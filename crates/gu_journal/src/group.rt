@@ -14,12 +14,9 @@ use crate::sayable::is_sayable;
 use crate::session::write_seal;
 use crate::stamp::Stamp;
 use crate::writing::write_entry;
-use gu_base::Entry;
+use gu_base::{Entry, Number};
 use sha2::{Digest, Sha512};
 use std::alloc::Global;
-
-/// The most entries that a history has.
-const MOST_ENTRIES: usize = 1_000_000;
 
 /// The most bytes of a group, and of a file without its last group.
 pub(crate) const MOST_BYTES: usize = 1 << 60;
@@ -53,7 +50,8 @@ fn has_room(first: u32, count: usize) -> bool
     ensures no { result ≡ false → (first ≡ 0) ⊎ (1000001 < first + count) }
 {
     let first = first as usize;
-    0 < first && first <= MOST_ENTRIES + 1 && count <= MOST_ENTRIES + 1 - first
+    let most = Number::MAX as usize;
+    0 < first && first <= most + 1 && count <= most + 1 - first
 }
 
 /// Appends the frames of these entries, of which the first has the number of the stamp.
