@@ -13,6 +13,7 @@
 //!   `position` is a running row of what stands in an account; `paid`, `received` and `used` are
 //!   running sums of what the live claims cost; `terms` are the agreement of two firms, `limit` is
 //!   what it and their Raises allow. All fit.
+//! - `entry_at` is the entry of a number in a history.
 //! - The type keeps that its history is one that calls made of the empty book, that no firm and id
 //!   stand in it twice, that none of its live changes would be refused after those before it, that
 //!   the trees, positions, fees and terms are those of the live changes, and that the consents are
@@ -44,3 +45,4 @@ mod visits;
 pub use book::Book;
 pub use gu_base::{Answer, Entry};
 pub use gu_ids::HashKey;
+pub use live::entry_at;

@@ -21,10 +21,11 @@ pub(crate) struct Change<'a> {
     pub(crate) command: &'a Command,
 }
 
-/// The entry of this number, if the history has so many.
+/// The entry of this number, if the history has so many. The k-th entry has the number k, so
+/// nothing is searched for.
 #[inline(always)]
 #[tactic(auto, using(crate::proofs::Cited::entry_by_number))]
-pub(crate) fn entry_at(entries: &[Entry], number: Number) -> Option<&Entry>
+pub fn entry_at(entries: &[Entry], number: Number) -> Option<&Entry>
     ensures { option_map (λ e. numbered_as number e.now) result ≡ entry_of entries.now number }
 {
     let place = number.get() as usize - 1;

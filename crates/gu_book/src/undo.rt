@@ -1,4 +1,6 @@
-//! The change that a command names: looked up once, and asked once what kind it is.
+//! What a command has to know of the kind of the change that it names: who has to consent, and how
+//! many parts it made. Where a Reverse is kept, its change is read again (`Book::keep_reversal`),
+//! and the node of a Claim is looked up again for what it cost (`claim_charge`).
 ghost use Rattle.std.specs.Prelude.{◌≡◌, ◌≤◌, ◌<◌, ◌^◌, take};
 ghost use Rattle.gu_base.specs.Consents.{giver_alone, of_node, taker_and_giver};
 ghost use Rattle.gu_base.specs.History.{RisesFrom};

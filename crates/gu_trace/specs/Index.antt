@@ -6,11 +6,11 @@ use Rattle.std.specs.Map.{lookup}
 use Rattle.gu_base.specs.History.{records}
 use Rattle.gu_base.specs.declared.entry.Entry.{Entry}
 use Rattle.gu_trace.specs.Concerns.{concerns}
-use Rattle.gu_trace.specs.declared.rows.Rows.{Rows}
+use Rattle.gu_trace.specs.declared.firm_numbers.FirmNumbers.{FirmNumbers}
 use Rattle.gu_trace.specs.declared.index.ConcernIndex.{ConcernIndex}
 
 -- the numbers kept for a firm
-abbrev pub numbers_of : Rows → List ℕ → List ℕ
+abbrev pub numbers_of : FirmNumbers → List ℕ → List ℕ
 numbers_of r f = unwrap_or (option_map (λ v. v.items) (lookup (bytes_eq f) r.firms.entries)) []
 
 -- the numbers of those of the first n entries that concern the firm, in their order
@@ -22,7 +22,7 @@ numbers_for house h n f =
 -- those of them that concern it
 pub record IsIndexOf (house : List ℕ) (h : List Entry) (i : ConcernIndex) : Type 0 where
   pub within : i.filed ≤ length h
-  pub numbers : (f : List ℕ) → numbers_of i.rows f ≡ numbers_for house h i.filed f
+  pub numbers : (f : List ℕ) → numbers_of i.by_firm f ≡ numbers_for house h i.filed f
 
 -- these numbers rise, from above the one and up to the other
 abbrev pub RiseWithin : ℕ → ℕ → List ℕ → Type 0
@@ -44,6 +44,6 @@ abbrev pub filed : ℕ → Bool → List ℕ → List ℕ
 filed n b ms = if b then with_last n ms else ms
 
 -- the firm has a row, and room there for n unless that is the last
-abbrev pub CanPut : Rows → ℕ → List ℕ → Type 0
+abbrev pub CanPut : FirmNumbers → ℕ → List ℕ → Type 0
 CanPut r n f = IsSomeAnd (lookup (bytes_eq f) r.firms.entries)
     (λ v. ends_with n v.items ≡ false → vec_len v < vec_capacity v)

@@ -5,8 +5,9 @@ ghost use Rattle.gu_base.specs.Answers.{entry_of};
 ghost use Rattle.gu_trace.specs.Concerned.{is_among};
 ghost use Rattle.gu_trace.specs.Concerns.{is_between, change_concerns, record_concerns, concerns};
 
-use crate::lookup::{entry_at, node_at};
+use crate::lookup::node_at;
 use gu_base::{Command, Entry, FirmId, Kind, Node, Number, Part};
+use gu_book::entry_at;
 
 /// The firms that an entry concerns, some of them maybe twice.
 #[derive(Clone, Copy)]

@@ -8,7 +8,7 @@ ghost use Rattle.gu_trace.specs.Index.{IsIndexOf, RiseWithin};
 ghost use Rattle.gu_trace.specs.Reports.{most_reports, entries_for, reports_for};
 
 use crate::concern::firms_concerned;
-use crate::rows::Rows;
+use crate::firm_numbers::FirmNumbers;
 use crate::telling::{tell_from, tell_numbers};
 use gu_base::{FirmId, Memory, Number, Report};
 use gu_book::Book;
@@ -20,7 +20,7 @@ use std::alloc::Global;
 /// index goes with its book whatever calls that answers later (`an_index_stays`).
 #[derive(Drop)]
 pub struct ConcernIndex {
-    rows: Rows,
+    by_firm: FirmNumbers,
     /// How many entries are filed.
     filed: u32,
 }
@@ -47,7 +47,7 @@ impl ConcernIndex {
         ensures { (house : List ℕ) (h : List Entry) → IsIndexOf house h result }
     {
         ConcernIndex {
-            rows: Rows::new(alloc),
+            by_firm: FirmNumbers::new(alloc),
             filed: 0,
         }
     }
@@ -70,7 +70,7 @@ impl ConcernIndex {
         for place in self.filed as usize..entries.len() {
             let e = &entries[place];
             let firms = firms_concerned(&house, entries, &e.firm, &e.command);
-            self.rows.file(alloc, Number::at_place(place), &firms)?;
+            self.by_firm.file(alloc, Number::at_place(place), &firms)?;
             self.filed = place as u32 + 1;
         }
         Ok(())
@@ -101,7 +101,7 @@ impl ConcernIndex {
         ensures short { IfOk result (λ v. All (λ r. length r.parts ≤ most_parts) v.items) }
     {
         let mut found = Vec::new(alloc);
-        let numbers = above(self.rows.of(firm), after);
+        let numbers = above(self.by_firm.of(firm), after);
         tell_numbers(alloc, book, firm, numbers, &mut found)?;
         let rest = later(after, self.filed);
         tell_from(alloc, book, firm, rest as usize, &mut found)?;

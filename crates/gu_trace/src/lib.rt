@@ -17,18 +17,18 @@
 //! - Its cases are data of the program `test_book`.
 #![tactic(auto)]
 
-mod chain;
 mod concern;
+mod day_totals;
+mod firm_numbers;
 mod index;
 mod laws;
 mod lookup;
-mod rows;
-mod sums;
 mod telling;
+mod tree_text;
 
-pub use chain::{TraceError, trace};
+pub use day_totals::totals;
 pub use gu_base::{Report, ReportPart, ReportParts, Target};
 pub use index::ConcernIndex;
 pub use laws::{an_index_stays, nothing_is_passed_over};
-pub use sums::totals;
 pub use telling::{MOST_REPORTS, reports};
+pub use tree_text::{TraceError, trace};

@@ -1,25 +1,12 @@
-//! Entries, nodes and trades, looked up by number. The k-th entry of a history has the number k, so
-//! nothing is searched for.
+//! Nodes and what trades trade, looked up by the number of the entry that made them.
 ghost use Rattle.std.specs.Prelude.{◌≡◌, option_map};
-ghost use Rattle.gu_base.specs.History.{numbered_as, records};
+ghost use Rattle.gu_base.specs.History.{records};
 ghost use Rattle.gu_base.specs.Nodes.{node_of};
 ghost use Rattle.gu_base.specs.Places.{line_within, root_along, root_of};
-ghost use Rattle.gu_base.specs.Answers.{entry_of};
 ghost use Rattle.gu_trace.specs.Deals.{deal_of};
 
-use gu_base::{Deal, Entry, Node, NodeName, Number};
-
-/// The entry of this number.
-pub(crate) fn entry_at(entries: &[Entry], number: Number) -> Option<&Entry>
-    ensures { option_map (λ e. numbered_as number e.now) result ≡ entry_of entries.now number }
-{
-    let place = number.get() as usize - 1;
-    if place < entries.len() {
-        Some(&entries[place])
-    } else {
-        None
-    }
-}
+use gu_base::{Deal, Entry, Node, NodeName};
+use gu_book::entry_at;
 
 /// The node of this name.
 pub(crate) fn node_at(entries: &[Entry], name: &NodeName) -> Option<Node>

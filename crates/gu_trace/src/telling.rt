@@ -16,12 +16,12 @@ ghost use Rattle.gu_trace.specs.Reports.{decision_report, change_report, reversa
 ghost use Rattle.gu_trace.specs.Reports.{report_of, told, entries_for, reports_for};
 
 use crate::concern::concerns;
-use crate::lookup::{deal_of, entry_at, lots_at, node_at};
+use crate::lookup::{deal_of, lots_at, node_at};
 use gu_base::{
     AccountId, Command, Deal, Entry, FirmId, Kind, Memory, Node, NodeName, Number, Part, Report,
     ReportPart, ReportParts, Target,
 };
-use gu_book::Book;
+use gu_book::{Book, entry_at};
 use std::alloc::Global;
 
 /// How many reports a reading has at most.

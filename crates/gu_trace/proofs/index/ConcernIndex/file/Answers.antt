@@ -37,8 +37,8 @@ loop-place-preserved c =
         numbers = λ f.
             c.in_ok-file.ensures.filed f
             ∙ (ap (λ n. filed n (is_among f c.firms_concerned-firms.result)
-            (numbers_of c.loop-place.self.rows f)) c.at_place.ensures
-            ∙ (ap (λ b. filed (i + 1) b (numbers_of c.loop-place.self.rows f)) (sym (firms f))
+            (numbers_of c.loop-place.self.by_firm f)) c.at_place.ensures
+            ∙ (ap (λ b. filed (i + 1) b (numbers_of c.loop-place.self.by_firm f)) (sym (firms f))
             ∙ (ap (filed (i + 1) (concerns t.house h f e.firm e.command))
             (was.goes_with.numbers f ∙ ap (λ n. numbers_for t.house h n f) was.here)
             ∙ filed_next t.house h i e f there)));

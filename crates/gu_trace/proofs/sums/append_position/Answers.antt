@@ -1,5 +1,0 @@
-use Rattle.std.proofs.Common.{rules}
-use Rattle.gu_trace.proofs.sums.append_position.Goals as goal
-
-pub returns : goal.returns
-returns c = search rules
