@@ -1,3 +1,2 @@
 mod Looking
 mod Turning
-pub mod Seen

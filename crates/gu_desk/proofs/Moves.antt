@@ -60,7 +60,13 @@ caller_fits : (place journal : ℕ) (h d : List Entry) (at : ℕ) (seen kept : L
     → BeginsWith d kept
     → Fits place journal h d
     at (record { seen = seen; laid_in = []; kept = kept; is_books = false; is_journals = false })
-caller_fits place journal h d at seen kept p q = (no_callers, no_callers, p, begins_empty h, q)
+caller_fits place journal h d at seen kept p q = record {
+  books = no_callers;
+  journals = no_callers;
+  seen = p;
+  laid_in = begins_empty h;
+  kept = q;
+}
 
 -- all passes fit after one has changed
 fits_set : (place journal : ℕ) (h d : List Entry) (views : List PassView) (at : ℕ) (w : PassView)
@@ -88,7 +94,13 @@ begins h few = record {
     one : (at : ℕ) (v : PassView) → get_elem? (of_opening h ∷ []) at ≡ some v → Fits 0 0 h [] at v
     one zero v e =
         subst (Fits 0 0 h [] 0) (some-injective _ _ e)
-        ((λ _. (refl, refl)), (λ _. (refl, refl, begins_empty [])), begins_itself h, begins_empty h, begins_empty [])
+        (record {
+          books = λ _. (refl, refl);
+          journals = λ _. (refl, refl, begins_empty []);
+          seen = begins_itself h;
+          laid_in = begins_empty h;
+          kept = begins_empty [];
+        })
     one (suc at) v e = absurd (some-ne-none v (sym e))
 
 -- split: a caller's pass has seen what the other has, and knows what it knows
@@ -107,7 +119,7 @@ gives id v s k here =
           ⊎_elim (λ was. k.fits j u (subst (λ l. get_elem? l j ≡ some u) (set_again s.views id v here) was))
           (λ (same : beside v ≡ u).
           subst (Fits k.place k.journal k.history k.durable j) same
-          (caller_fits k.place k.journal k.history k.durable j v.seen v.kept mine.2 mine.4))
+          (caller_fits k.place k.journal k.history k.durable j v.seen v.kept mine.seen mine.kept))
           (at_snoc (set s.views id v) (beside v) u j e);
     }
 
@@ -129,8 +141,21 @@ gives_journal id h s k here =
     let was_there : (j : ℕ) (u : PassView) → get_elem? views j ≡ some u → Fits k.place place k.history k.durable j u =
     fits_set k.place place k.history k.durable s.views id (of_book h)
     (λ j u apart e.
-    let y = k.fits j u e in (y.0, (λ c. absurd (apart ((y.1 c).0 ∙ sym (mine.1 refl).0))), y.2, y.3, y.4))
-    (mine.0, no_callers, mine.2, begins_empty k.history, begins_empty k.durable) in
+    let y = k.fits j u e in
+    record {
+      books = y.books;
+      journals = λ c. absurd (apart ((y.journals c).0 ∙ sym (mine.journals refl).0));
+      seen = y.seen;
+      laid_in = y.laid_in;
+      kept = y.kept;
+    })
+    (record {
+      books = mine.books;
+      journals = no_callers;
+      seen = mine.seen;
+      laid_in = begins_empty k.history;
+      kept = begins_empty k.durable;
+    }) in
     record {
       place = k.place;
       journal = place;
@@ -143,7 +168,13 @@ gives_journal id h s k here =
           ⊎_elim (λ was. was_there j u was)
           (λ (new : (j ≡ place) × (of_journal h [] ≡ u)).
           subst (Fits k.place place k.history k.durable j) new.1
-          (no_callers, (λ _. (new.0, (mine.1 refl).1, begins_empty k.durable)), mine.2, begins_empty k.history, mine.4))
+          (record {
+            books = no_callers;
+            journals = λ _. (new.0, (mine.journals refl).1, begins_empty k.durable);
+            seen = mine.seen;
+            laid_in = begins_empty k.history;
+            kept = mine.kept;
+          }))
           (at_end views (of_journal h []) u j e);
     }
 
@@ -184,33 +215,45 @@ pub joins : (id : ℕ) (v : PassView) (other : ℕ) (u : PassView) → v.is_jour
     → Joins IsCounted id v other u (with_laid_in v u) (of_caller [])
 joins id v other u not =
     joined id v other u (with_laid_in v u)
-    (λ place journal h d _ mine theirs. (mine.0, (λ c. no_callers (sym not ∙ c)), mine.2, theirs.2, mine.4))
+    (λ place journal h d _ mine theirs. record {
+      books = mine.books;
+      journals = λ c. no_callers (sym not ∙ c);
+      seen = mine.seen;
+      laid_in = theirs.seen;
+      kept = mine.kept;
+    })
 
 -- join: the journal's pass has then seen what the other had
 pub shows : (id : ℕ) (v : PassView) (other : ℕ) (u : PassView) → v.is_books ≡ false
     → Joins IsCounted id v other u (with_seen_of v u) (of_caller [])
 shows id v other u callers =
     joined id v other u (with_seen_of v u)
-    (λ place journal h d _ mine theirs. ((λ c. no_callers (sym callers ∙ c)), mine.1, theirs.2, mine.3, mine.4))
+    (λ place journal h d _ mine theirs. record {
+      books = λ c. no_callers (sym callers ∙ c);
+      journals = mine.journals;
+      seen = theirs.seen;
+      laid_in = mine.laid_in;
+      kept = mine.kept;
+    })
 
 -- join: what the caller's pass knows to be durable is laid into the journal's
 pub lays_kept : (id : ℕ) (v : PassView) (other : ℕ) (u : PassView)
     → Joins IsCounted id v other u (with_kept_laid_in v u) (of_caller [])
 lays_kept id v other u =
-    joined id v other u (with_kept_laid_in v u) (λ place journal h d begun mine theirs. (
-      mine.0,
-      (λ c. let y = mine.1 c in (y.0, y.1, theirs.4)),
-      mine.2,
-      begins_with_all h d u.kept begun theirs.4,
-      mine.4,
-    ))
+    joined id v other u (with_kept_laid_in v u) (λ place journal h d begun mine theirs. record {
+      books = mine.books;
+      journals = λ c. let y = mine.journals c in (y.0, y.1, theirs.kept);
+      seen = mine.seen;
+      laid_in = begins_with_all h d u.kept begun theirs.kept;
+      kept = mine.kept;
+    })
 
 -- look: the book's pass has seen the history, whose length the word is, and which begins with what was laid into it
 pub looks : (slots id : ℕ) (v : PassView) → v.is_books ≡ true
     → Allows IsCounted slots id (v, []) 0 (λ n. n) (Looks (step slots 0 0 0 none) (v, []))
 looks slots id v is s k _ here _ =
     let mine = k.fits id v here in
-    let all = (mine.0 is).1 in
+    let all = (mine.books is).1 in
     let w = of_kind v v.seen [] v.kept in (
       w,
       keeps,
@@ -223,17 +266,18 @@ looks slots id v is s k _ here _ =
         words = ap (λ ws. slice_set ws 0 (slice_index ws 0)) k.words;
         begins = k.begins;
         few = k.few;
-        fits = fits_set k.place k.journal k.history k.durable s.views id w (λ j u _ e. k.fits j u e) (
-          mine.0,
-          (λ c. let y = mine.1 c in (y.0, y.1, begins_empty k.durable)),
-          mine.2,
-          begins_empty k.history,
-          mine.4,
-        );
+        fits = fits_set k.place k.journal k.history k.durable s.views id w (λ j u _ e. k.fits j u e)
+            (record {
+              books = mine.books;
+              journals = λ c. let y = mine.journals c in (y.0, y.1, begins_empty k.durable);
+              seen = mine.seen;
+              laid_in = begins_empty k.history;
+              kept = mine.kept;
+            });
       },
       (
         ap (λ ws. slice_index ws 0) k.words ∙ ap (λ (l : List Entry). length l) (sym all),
-        subst (λ l. BeginsWith l v.laid_in) (sym all) mine.3,
+        subst (λ l. BeginsWith l v.laid_in) (sym all) mine.laid_in,
         refl,
       ),
     )
@@ -255,7 +299,7 @@ pub publishes : (slots id : ℕ) (h : List Entry) (old : ℕ) (e : Entry) → ol
     (Publishes (step slots 0 old (old + 1) (some e)) (of_book h, []))
 publishes slots id h old e is few s k _ here _ =
     let mine = k.fits id (of_book h) here in
-    let known = mine.0 refl in
+    let known = mine.books refl in
     let w = of_book (h ++ e ∷ []) in
     let longer = k.history ++ e ∷ [] in
     let found : length k.history ≡ old = sym (is ∙ ap (λ (l : List Entry). length l) known.1) in
@@ -275,19 +319,21 @@ publishes slots id h old e is few s k _ here _ =
         few = subst (λ (l : List Entry). length (l ++ e ∷ []) ≤ most_entries) known.1 few;
         fits = fits_set k.place k.journal longer k.durable s.views id w
             (λ j u apart f.
-            let y = k.fits j u f in (
-              (λ c. absurd (apart ((y.0 c).0 ∙ sym known.0))),
-              y.1,
-              begins_longer k.history u.seen (e ∷ []) y.2,
-              begins_longer k.history u.laid_in (e ∷ []) y.3,
-              y.4,
-            )) (
-              (λ _. (known.0, ap (λ l. l ++ e ∷ []) known.1)),
-              no_callers,
-              subst (λ l. BeginsWith longer (l ++ e ∷ [])) (sym known.1) (begins_itself longer),
-              begins_empty longer,
-              begins_empty k.durable,
-            );
+            let y = k.fits j u f in
+            record {
+              books = λ c. absurd (apart ((y.books c).0 ∙ sym known.0));
+              journals = y.journals;
+              seen = begins_longer k.history u.seen (e ∷ []) y.seen;
+              laid_in = begins_longer k.history u.laid_in (e ∷ []) y.laid_in;
+              kept = y.kept;
+            })
+            (record {
+              books = λ _. (known.0, ap (λ l. l ++ e ∷ []) known.1);
+              journals = no_callers;
+              seen = subst (λ l. BeginsWith longer (l ++ e ∷ [])) (sym known.1) (begins_itself longer);
+              laid_in = begins_empty longer;
+              kept = begins_empty k.durable;
+            });
       },
       refl,
     )
@@ -323,13 +369,19 @@ settles slots id me s k _ here _ =
         begins = k.begins;
         few = k.few;
         fits = fits_set k.place k.journal k.history k.durable s.views id w (λ j u _ e. k.fits j u e)
-            (mine.0, (λ is. let y = mine.1 is in (y.0, refl, y.2)), mine.2, mine.3, begins_itself k.durable);
+            (record {
+              books = mine.books;
+              journals = λ is. let y = mine.journals is in (y.0, refl, y.2);
+              seen = mine.seen;
+              laid_in = mine.laid_in;
+              kept = begins_itself k.durable;
+            });
       },
       (
         found,
         omega (arith, found, begins_short k.history k.durable k.begins, k.few),
-        mine.4,
-        (λ n. both_begin k.history v.seen k.durable mine.2 k.begins (omega (arith, n, found))),
+        mine.kept,
+        (λ n. both_begin k.history v.seen k.durable mine.seen k.begins (omega (arith, n, found))),
         refl,
       ),
     )
@@ -340,7 +392,7 @@ pub confirms : (slots id : ℕ) (h d : List Entry) (records : ℕ) → records �
     (λ _. Confirms (step slots 1 records 0 none) (of_journal h d, []) records)
 confirms slots id h d records all grown s k _ here _ =
     let mine = k.fits id (of_journal h d) here in
-    let known = mine.1 refl in
+    let known = mine.journals refl in
     let grown : BeginsWith h k.durable = subst (λ (l : List Entry). BeginsWith h l) known.1 grown in
     let w = of_journal h h in (
       w,
@@ -352,18 +404,25 @@ confirms slots id h d records all grown s k _ here _ =
         history = k.history;
         durable = h;
         words = ap (λ ws. slice_set ws 1 records) k.words ∙ ap (λ (n : ℕ). length k.history ∷ n ∷ []) all;
-        begins = mine.2;
+        begins = mine.seen;
         few = k.few;
         fits = fits_set k.place k.journal k.history h s.views id w
             (λ j u apart e.
-            let y = k.fits j u e in (
-              y.0,
-              (λ c. absurd (apart ((y.1 c).0 ∙ sym known.0))),
-              y.2,
-              y.3,
-              begins_with_all h k.durable u.kept grown y.4,
-            ))
-            (no_callers, (λ _. (known.0, refl, begins_empty h)), mine.2, begins_empty k.history, begins_itself h);
+            let y = k.fits j u e in
+            record {
+              books = y.books;
+              journals = λ c. absurd (apart ((y.journals c).0 ∙ sym known.0));
+              seen = y.seen;
+              laid_in = y.laid_in;
+              kept = begins_with_all h k.durable u.kept grown y.kept;
+            })
+            (record {
+              books = no_callers;
+              journals = λ _. (known.0, refl, begins_empty h);
+              seen = mine.seen;
+              laid_in = begins_empty k.history;
+              kept = begins_itself h;
+            });
       },
       refl,
     )
@@ -382,7 +441,7 @@ pub compares : (slots id : ℕ) (v : PassView) → v.is_journals ≡ true
     → Allows IsCounted slots id (v, []) 1 (λ n. n) (Compares (step slots 1 0 0 none) (v, []))
 compares slots id v is s k _ here _ =
     let mine = k.fits id v here in
-    let known = mine.1 is in
+    let known = mine.journals is in
     let w = of_kind v v.seen [] v.kept in (
       w,
       keeps,
@@ -396,7 +455,13 @@ compares slots id v is s k _ here _ =
         begins = k.begins;
         few = k.few;
         fits = fits_set k.place k.journal k.history k.durable s.views id w (λ j u _ e. k.fits j u e)
-            (mine.0, (λ _. (known.0, known.1, begins_empty k.durable)), mine.2, begins_empty k.history, mine.4);
+            (record {
+              books = mine.books;
+              journals = λ _. (known.0, known.1, begins_empty k.durable);
+              seen = mine.seen;
+              laid_in = begins_empty k.history;
+              kept = mine.kept;
+            });
       },
       (subst (λ (l : List Entry). BeginsWith l v.laid_in) (sym known.1) known.2, refl),
     )
@@ -426,9 +491,15 @@ orders slots id v not s k _ here _ =
         begins = k.begins;
         few = k.few;
         fits = fits_set k.place k.journal k.history k.durable s.views id w (λ j u _ e. k.fits j u e)
-            (mine.0, (λ c. no_callers (sym not ∙ c)), mine.2, begins_empty k.history, mine.4);
+            (record {
+              books = mine.books;
+              journals = λ c. no_callers (sym not ∙ c);
+              seen = mine.seen;
+              laid_in = begins_empty k.history;
+              kept = mine.kept;
+            });
       },
-      ((λ n. both_begin k.history v.laid_in v.seen mine.3 mine.2 n), refl),
+      ((λ n. both_begin k.history v.laid_in v.seen mine.laid_in mine.seen n), refl),
     )
 
 -- the same at a pass that is known by what it was

@@ -76,10 +76,12 @@ with_kept_laid_in v w = of_kind v v.seen w.kept v.kept
 -- has seen all of the history h, the journal's knows of all of d that is durable; each has seen a
 -- beginning of h, and knows of one of d. What was laid into a pass begins h, and d where the pass
 -- is the journal's
-abbrev pub Fits : ℕ → ℕ → List Entry → List Entry → ℕ → PassView → Type 0
-Fits place journal h d at v = (v.is_books ≡ true → (at ≡ place) × (v.seen ≡ h))
-    × (v.is_journals ≡ true → (at ≡ journal) × (v.kept ≡ d) × BeginsWith d v.laid_in)
-    × BeginsWith h v.seen × BeginsWith h v.laid_in × BeginsWith d v.kept
+pub record Fits (place journal : ℕ) (h d : List Entry) (at : ℕ) (v : PassView) : Type 0 where
+  pub books : v.is_books ≡ true → (at ≡ place) × (v.seen ≡ h)
+  pub journals : v.is_journals ≡ true → (at ≡ journal) × (v.kept ≡ d) × BeginsWith d v.laid_in
+  pub seen : BeginsWith h v.seen
+  pub laid_in : BeginsWith h v.laid_in
+  pub kept : BeginsWith d v.kept
 
 -- the rule: there is one history, as long as a history may be, and it begins with what is durable
 -- of it; the words are their lengths, and each pass fits. That one pass is the book's and one the

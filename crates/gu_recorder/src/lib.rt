@@ -1,7 +1,7 @@
 //! What is told is kept: the journal and its seat, and what waits to be sent until it is durable.
 //!
 //! - A `Recorder` records what the desk has answered, in an `OpenJournal`: a journal over a disk
-//!   (`DiskJournal`), whose entries other machines may have to have too (`Replica`).
+//!   (`DiskJournal`), whose entries other machines may have to have too.
 //! - A desk of a kept book begins and ends with its recorder.
 //! - An `Outbox` sends nothing before the history that it rests on is kept.
 //! - `SystemJournals` opens the journal of a path.
@@ -19,6 +19,5 @@ pub use desk::{close_desk, open_desk};
 pub use disk_journal::DiskJournal;
 pub use journals::{Checksum, Journals, OpenJournal};
 pub use outbox::{Outbox, Rest};
-pub use recorder::{Recorder, told_is_kept};
-pub use replica::Replica;
+pub use recorder::Recorder;
 pub use system::SystemJournals;

@@ -48,7 +48,7 @@ impl<K: OpenJournal, J: Job> Model for Recorder<K, J> {
 
 /// A law: what a ticket rests on whose receipt was met is kept by a journal that keeps what its
 /// seat knows to be durable.
-pub fn told_is_kept<K: OpenJournal, J: Job>(
+pub(crate) fn told_is_kept<K: OpenJournal, J: Job>(
     desk: &Desk<J>,
     journal: &K,
     seat: &mut JournalSeat<J>,

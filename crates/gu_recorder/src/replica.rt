@@ -20,7 +20,7 @@ const ANSWER_WAIT: u64 = 15;
 
 /// The line, connected, and the last answer that was the one that was asked for: none at first.
 #[derive(Drop)]
-pub struct Replica {
+pub(crate) struct Replica {
     line: UnixStream,
     alloc: Global,
     pub(crate) answer: Vec<u8>,

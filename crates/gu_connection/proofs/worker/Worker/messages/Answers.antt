@@ -1,7 +1,7 @@
 use Rattle.std.proofs.Common.{sym, subst}
 use Rattle.gu_desk.specs.Begins.{BeginsWith}
 use Rattle.gu_desk.specs.Views.{SeatView}
-use Rattle.gu_connection.proofs.Seen.{still}
+use Rattle.gu_desk.proofs.Moves.{begins_with_all}
 use Rattle.gu_connection.proofs.worker.Worker.messages.Goals.{in-Ok-Garbled, in-Ok-Message+else-is_err}
 use Rattle.gu_connection.proofs.worker.Worker.messages.Goals as goal
 
@@ -13,5 +13,5 @@ loop-preserved g c =
       | in-Ok-Garbled w ↦ subst kept (sym w.seat-is) c.loop.invariant
       | in-Ok-Message+else-is_err w ↦
           subst kept (sym w.seat-is)
-          (still _ c.loop.seat.seen c.args.seat.seen w.act-back.ensures.later c.loop.invariant)
+          (begins_with_all _ c.loop.seat.seen c.args.seat.seen w.act-back.ensures.later c.loop.invariant)
     ]
