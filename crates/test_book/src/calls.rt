@@ -2,16 +2,16 @@
 
 use crate::lines::{Call, show_answer};
 use crate::memory::tell_refused;
-use crate::picture::{Picture, take_picture};
+use crate::snapshot::{BookSnapshot, take_snapshot};
 use gu_book::Book;
 use std::alloc::Global;
 
 /// Whether the book tells this. `None` where no memory is found to look.
-fn tells(rt: &HostRuntime, alloc: Global, book: &Book, before: &Picture) -> Option<bool> {
-    match take_picture(rt, alloc, book) {
-        Some(picture) => {
-            let same = picture == *before;
-            drop(picture);
+fn tells(rt: &HostRuntime, alloc: Global, book: &Book, before: &BookSnapshot) -> Option<bool> {
+    match take_snapshot(rt, alloc, book) {
+        Some(now) => {
+            let same = now == *before;
+            drop(now);
             Some(same)
         }
         None => None,
@@ -34,7 +34,7 @@ fn make_again(
     alloc: Global,
     book: &mut Book,
     call: &Call,
-    before: &Picture,
+    before: &BookSnapshot,
 ) -> bool {
     match tells(rt, alloc, book, before) {
         Some(true) => make_last(rt, alloc, book, call),
@@ -50,7 +50,7 @@ fn make_once(
     alloc: Global,
     book: &mut Book,
     call: &Call,
-    before: &Picture,
+    before: &BookSnapshot,
 ) -> bool {
     match book.apply(alloc, &call.by, &call.id, &call.command) {
         Ok(answer) => show_answer(rt, &answer),
@@ -64,7 +64,7 @@ fn make_once(
 /// Calls, and where no memory is found sees that the book tells what it told before, and calls
 /// again. Whether all could be written.
 pub(crate) fn make(rt: &HostRuntime, alloc: Global, book: &mut Book, call: &Call) -> bool {
-    match take_picture(rt, alloc, book) {
+    match take_snapshot(rt, alloc, book) {
         Some(before) => {
             let made = make_once(rt, alloc, book, call, &before);
             drop(before);

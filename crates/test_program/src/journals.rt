@@ -14,7 +14,7 @@ use std::alloc::Global;
 
 /// A journal in memory, which ends with the run. It takes so many entries beside the opening ones.
 #[derive(Drop)]
-pub(crate) struct Noted {
+pub(crate) struct MemoryJournal {
     alloc: Global,
     house: House,
     entries: Vec<Entry>,
@@ -44,13 +44,13 @@ fn copies(alloc: Global, entries: &[Entry]) -> Result<Vec<Entry>, Memory>
     Ok(copied)
 }
 
-impl Keeps for Noted {
+impl Keeps for MemoryJournal {
     ghost use Rattle.gu_desk.specs.Begins.{BeginsWith};
 
     ghost keeps = { λ k h. BeginsWith k.entries.items h };
 }
 
-impl OpenJournal for Noted {
+impl OpenJournal for MemoryJournal {
     ghost use Rattle.std.specs.Prelude.{◌≡◌, []};
     ghost use Rattle.std.proofs.Common.{sym, ◌∙◌};
     ghost use Rattle.std.proofs.lemmas.List.{append-nil};
@@ -109,7 +109,12 @@ fn refused(alloc: Global, path: &str, cause: &str) -> Fault
 }
 
 /// The opening book of a house under this key, and a journal of it.
-fn opened(alloc: Global, house: House, key: HashKey, room: usize) -> Result<(Book, Noted), Memory>
+fn opened(
+    alloc: Global,
+    house: House,
+    key: HashKey,
+    room: usize,
+) -> Result<(Book, MemoryJournal), Memory>
     ensures opening { IfOk result (λ r.
         stored r.0 ≡ record { house = house; history = opening_history house }) }
     ensures house { IfOk result (λ r. r.1.house ≡ house) }
@@ -134,7 +139,7 @@ fn opened(alloc: Global, house: House, key: HashKey, room: usize) -> Result<(Boo
     match copies(alloc, book.history()) {
         Ok(entries) => Ok((
             book,
-            Noted {
+            MemoryJournal {
                 alloc,
                 house: copied,
                 entries,
@@ -150,7 +155,7 @@ fn opened(alloc: Global, house: House, key: HashKey, room: usize) -> Result<(Boo
 }
 
 impl Journals for Shelf {
-    type Journal = Noted;
+    type Journal = MemoryJournal;
 
     fn open<P: Progress>(
         self,
@@ -161,7 +166,7 @@ impl Journals for Shelf {
         house: House,
         key: HashKey,
         _progress: &mut P,
-    ) -> Result<(Book, Noted), Fault> {
+    ) -> Result<(Book, MemoryJournal), Fault> {
         if let Some(cause) = cause_of(path, replica) {
             drop(house);
             return Err(refused(alloc, path, cause));
