@@ -1,6 +1,6 @@
 //! What an operator is told of a connection.
 
-use crate::first_message::{said_by, said_last, why_refused};
+use crate::said::{said_by, said_last, why_refused};
 use gu_base::FirmId;
 use gu_board::{Board, Work, number, text};
 use gu_log::{Event, Key};

@@ -9,10 +9,12 @@ ghost use Rattle.gu_book.specs.Seen.{stored};
 ghost use Rattle.gu_desk.specs.Views.{is_worker_count};
 ghost use Rattle.gu_command.specs.Faults.{is_keep_fault};
 ghost use Rattle.gu_connection.specs.Serving.{IsServed};
+ghost use Rattle.gu_keep.specs.Keeping.{Keeps};
 
 use crate::pages::listen_at;
 use crate::starting::keep_port;
 use crossbeam_channel::{Receiver, RecvTimeoutError, Sender};
+use gu_batch::{Sink, write_totals};
 use gu_board::{Board, Log, Written, number, say_started, text};
 use gu_book::Book;
 use gu_command::{Fault, KeepError, MOST_PORT, Order, up_to};
@@ -197,15 +199,10 @@ fn open_told<
 }
 
 /// Says that the program ends, and why.
-fn say_stopped<R: Wait + Clock>(
-    rt: &R,
-    alloc: Global,
-    board: &Board,
-    served: &Result<Book, Fault>,
-) {
+fn say_stopped<R: Wait + Clock>(rt: &R, alloc: Global, board: &Board, ended: &Result<(), Fault>) {
     let entries = number(Key::Entries, board.entries());
-    match served {
-        Ok(_) => board.say(rt, Event::Stopped, &[entries, number(Key::Status, 0)]),
+    match ended {
+        Ok(()) => board.say(rt, Event::Stopped, &[entries, number(Key::Status, 0)]),
         Err(fault) => {
             let why = match format!(in alloc; "{fault}") {
                 Ok(why) => why,
@@ -284,7 +281,44 @@ fn keep_told<
     }
 }
 
-/// Says what begins, serves, and says what has ended.
+/// Serves as an order asks for, and then writes the totals of the book.
+fn keep_and_tell<
+    R: Threads
+        + Wait
+        + Clock
+        + Net<Stream = TcpStream, Listener = TcpListener>
+        + RandomSource
+        + Files
+        + Copy
+        + Send
+        + Sync
+        + 'static,
+    K: Journals + Drop + Send + 'static,
+    W: Sink,
+>(
+    rt: &R,
+    alloc: Global,
+    journals: K,
+    writer: &mut W,
+    text: Vec<u8>,
+    house: House,
+    order: Order,
+    board: &Arc<Board>,
+) -> Result<(), Fault>
+    requires { IsTrue (is_worker_count order.workers) }
+    ensures { Keeps house (W.contents writer.old) (W.contents writer.new) (W.failed writer.old)
+        (W.failed writer.new) result }
+{
+    let book = keep_told(rt, alloc, journals, text, house, order, board)?;
+    let told = write_totals(alloc, &book, writer);
+    drop(book);
+    match told {
+        Ok(()) => Ok(()),
+        Err(error) => Err(Fault::Run(error)),
+    }
+}
+
+/// Says what begins, serves, writes the totals, and says what has ended.
 fn keep_said<
     R: Threads
         + Wait
@@ -297,34 +331,38 @@ fn keep_said<
         + Sync
         + 'static,
     K: Journals + Drop + Send + 'static,
+    W: Sink,
 >(
     rt: &R,
     alloc: Global,
     journals: K,
+    writer: &mut W,
     text: Vec<u8>,
     house: House,
     order: Order,
     board: &Arc<Board>,
-    written: &Written,
-) -> Result<Book, Fault>
+    log_end: &Written,
+) -> Result<(), Fault>
     requires { IsTrue (is_worker_count order.workers) }
-    ensures served { IfOk result (λ b. IsServed house (stored b)) }
-    ensures fault { IfErr result (λ e. IsTrue (is_keep_fault e)) }
+    ensures { Keeps house (W.contents writer.old) (W.contents writer.new) (W.failed writer.old)
+        (W.failed writer.new) result }
 {
     say_started(rt, alloc, board, &order, &text);
-    let served = keep_told(rt, alloc, journals, text, house, order, board);
-    say_stopped(rt, alloc, board, &served);
-    let _ = board.log().end(rt, alloc, written);
-    served
+    let ended = keep_and_tell(rt, alloc, journals, writer, text, house, order, board);
+    say_stopped(rt, alloc, board, &ended);
+    let _ = board.log().end(rt, alloc, log_end);
+    ended
 }
 
 /// Serves as an order asks for, of a book that a journal of this house keeps, whose file has these
-/// bytes. Gives the book when all connections have ended: one that calls made of the opening one.
-/// An operator is told of it, on standard error and where the order says so.
+/// bytes. Writes the totals of the book when all connections have ended: of one that calls made of
+/// the opening one. An operator is told of it, on standard error and where the order says so, of
+/// the end behind the totals.
 ///
 /// # Errors
 ///
-/// `Journal`, where the journal can't be opened, isn't one of this house or failed; else `Keep`.
+/// `Journal`, where the journal can't be opened, isn't one of this house or failed; `Run`, where
+/// the totals couldn't be written; else `Keep`.
 pub fn keep_watched<
     R: Threads
         + Wait
@@ -338,21 +376,25 @@ pub fn keep_watched<
         + Sync
         + 'static,
     K: Journals + Drop + Send + 'static,
+    W: Sink,
 >(
     rt: &R,
     alloc: Global,
     journals: K,
+    writer: &mut W,
     text: Vec<u8>,
     house: House,
     order: Order,
-) -> Result<Book, Fault>
+) -> Result<(), Fault>
     requires { IsTrue (is_worker_count order.workers) }
-    ensures served { IfOk result (λ b. IsServed house (stored b)) }
-    ensures fault { IfErr result (λ e. IsTrue (is_keep_fault e)) }
+    ensures { Keeps house (W.contents writer.old) (W.contents writer.new) (W.failed writer.old)
+        (W.failed writer.new) result }
 {
     match open_board(rt, alloc, &house, &order) {
-        Ok((board, written)) => {
-            keep_said(rt, alloc, journals, text, house, order, &board, &written)
+        Ok((board, log_end)) => {
+            keep_said(
+                rt, alloc, journals, writer, text, house, order, &board, &log_end,
+            )
         }
         Err(error) => {
             drop(journals);

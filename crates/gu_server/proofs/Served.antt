@@ -6,7 +6,7 @@ use Rattle.gu_batch.specs.Runs.{Told}
 use Rattle.gu_batch.specs.Traces.{Traces}
 use Rattle.gu_batch.specs.declared.batch.RunError.{RunError}
 use Rattle.gu_command.specs.Lines.{command_in, house_in, trade_in, trade_meant}
-use Rattle.gu_server.specs.Keeping.{Keeps}
+use Rattle.gu_keep.specs.Keeping.{Keeps}
 use Rattle.gu_server.specs.Program.{Names, Asks, Serves, HasDone, Does}
 use Rattle.gu_command.specs.declared.fault.Fault.{Fault}
 use Rattle.gu_command.specs.declared.fault.Fault.TheVariants as fault

@@ -21,14 +21,14 @@ returns-in-Ok-clause-does g c words line =
 pub returns-in-Ok-read_pinned-clause-does : goal.returns-in-Ok-read_pinned-clause-does
 returns-in-Ok-read_pinned-clause-does g c words line =
     let found = subst (λ (l : Line). IsLine words l) c.in-Keep.is line in
-    kept_by words _ _ _ _ _ _ _ _ c.keep_and_tell.result
+    kept_by words _ _ _ _ _ _ _ _ c.keep_watched.result
     (record {
       path = c.as_str-in-Keep.result.now;
       is = found.0;
       asked = search (rules, found.1);
       house = c.in-Ok-read_pinned.table;
       named = c.in-Ok-read_pinned.ensures;
-    }) c.keep_and_tell.ensures
+    }) c.keep_watched.ensures
 
 -- a batch was run
 pub returns-in-Batch-clause-does : goal.returns-in-Batch-clause-does

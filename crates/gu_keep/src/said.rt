@@ -1,4 +1,5 @@
-//! What messages say of why a connection has ended.
+//! What the first message of a connection and the last one to it say: who sends, why no Logon was
+//! accepted, why the session has ended.
 
 use gu_base::FirmId;
 use gu_codec::{Fields, Frame, read_frame, tags};
