@@ -4,6 +4,8 @@
 //!   journal's lock free records what was answered.
 //! - The watch ends a server of which a part stands still, also in its start.
 //! - The pages of `--status` are answered on a thread of their own.
+//! - The totals are written when all connections have ended, and then the log says that the program
+//!   ends.
 #![tactic(auto)]
 
 mod accepting;
