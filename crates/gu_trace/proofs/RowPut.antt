@@ -1,4 +1,4 @@
--- Rows of which that of one firm was put anew.
+-- The numbers of firms, of which those of one were put anew.
 use Rattle.std.proofs.Common.{◌≡◌, ℕ, Bool, true, false, List, [], ◌∷◌, ◌++◌, refl, sym, ◌∙◌, ap, subst, cond, ◌||◌}
 use Rattle.std.proofs.Common.{Option}
 use Rattle.std.specs.Prelude.{Some, option_map, unwrap_or, bytes_eq, IsSomeAnd}

@@ -43,7 +43,7 @@ with_last n ms = if ends_with n ms then ms else ms ++ n ∷ []
 abbrev pub filed : ℕ → Bool → List ℕ → List ℕ
 filed n b ms = if b then with_last n ms else ms
 
--- the firm has a row, and room there for n unless that is the last
+-- numbers are kept for the firm, with room for n unless that is the last
 abbrev pub CanPut : FirmNumbers → ℕ → List ℕ → Type 0
 CanPut r n f = IsSomeAnd (lookup (bytes_eq f) r.firms.entries)
     (λ v. ends_with n v.items ≡ false → vec_len v < vec_capacity v)

@@ -118,7 +118,7 @@ fn opened(
     ensures opening { IfOk result (λ r.
         stored r.0 ≡ record { house = house; history = opening_history house }) }
     ensures house { IfOk result (λ r. r.1.house ≡ house) }
-    ensures noted { IfOk result (λ r. r.1.entries.items ≡ r.0.history) }
+    ensures copied { IfOk result (λ r. r.1.entries.items ≡ r.0.history) }
 {
     let copied = match house.copy(alloc) {
         Ok(copied) => copied,
