@@ -1,10 +1,8 @@
 -- What a charge does to the rows: their sums, and that they stay ready.
 use Rattle.gu_base.specs.declared.{house.Pair.Pair, node.Charge.Charge}
 use Rattle.gu_fees.specs.{Rows.{FeeRows, is_pair, IsReady, paid_in, received_in, used_in}, Sums.{AreSumsOf, cost}}
-use Rattle.gu_sums.proofs.OneMore.{less_sum, more_sum}
-use Rattle.gu_sums.specs.Sums.{has_row}
-use Rattle.std.proofs.Common.{bytes_eq, cond, List, ℕ, ◌&&◌, ◌++◌, ◌+◌, ◌∷◌, ◌≡◌}
-use Rattle.std.specs.Prelude.{IsTrue}
+use Rattle.gu_sums.{proofs.OneMore.{less_sum, more_sum}, specs.Sums.has_row}
+use Rattle.std.{proofs.Common.{bytes_eq, cond, List, ℕ, ◌&&◌, ◌++◌, ◌+◌, ◌∷◌, ◌≡◌}, specs.Prelude.IsTrue}
 
 module _ (old new : FeeRows) where
   -- where each kind of row stays, the rows of a giver and a taker stay ready

@@ -1,17 +1,19 @@
 -- What a pair deals, with one entry more and with one less.
 use Rattle.gu_base.specs
-use specs.{Dealt.{first_under_deed, leave_out}, declared.house.{Agreement.Agreement, Dealing.Dealing, Deed.Deed}}
-use specs.{declared.house.Deed.TheVariants.{Makes, Raises, Uses}, Limits.highest_limit, Terms.{made_by_deed, made_in}}
-use specs.Terms.{raised_by_deed, raised_under, terms_under, used_by_deed, used_under}
-use Rattle.gu_fees.specs.Pairs.{dealings_of, deed_at, HasLowLimit, HasRoomFor, HasRoomOn, IsKept, IsSmall}
-use Rattle.gu_fees.specs.Pairs.{standing_under}
-use Rattle.gu_sums.specs.Filing.{without}
-use Rattle.std.proofs
-use proofs.Common.{ap, arith, Bool, cond, false, inl, inr, List, not, Option, refl, sym, true, ℕ, [], ◌++◌, ◌+◌, ◌-◌}
-use proofs.{Common.{◌<◌, ◌^◌, ◌∙◌, ◌∷◌, ◌≡◌, ◌≤◌}, lemmas.{Bool.cases_Bool, List.{map-append, Elements.All-filter}}}
-use proofs.lemmas.{List.{Elements.{All-head, All-push, All-tail}, Sums.{sum_by-cons, sum_by_push}}, Option.same_Some}
-use Rattle.std.specs.{List.All, Map.{lookup, remove_entry}, Option.option_or, Prelude.{IfSome, IsTrue, None}}
-use Rattle.std.specs.Prelude.{option_and_then, Some, sum_by, ◌==◌, ◌↔◌}
+use Rattle.gu_fees.specs.Pairs
+use Rattle.std
+use Pairs.{dealings_of, deed_at, HasLowLimit, HasRoomFor, HasRoomOn, IsKept, IsSmall, standing_under}
+use Rattle.{gu_base.proofs.Basics.or_none, gu_sums.specs.Filing.without}
+use specs.Dealt.{first_under_deed, leave_out}
+use specs.declared.house.{Agreement.Agreement, Dealing.Dealing, Deed.{Deed, TheVariants.{Makes, Raises, Uses}}}
+use specs.Limits.{highest_limit}
+use specs.Terms.{made_by_deed, made_in, raised_by_deed, raised_under, terms_under, used_by_deed, used_under}
+use std.proofs.Common.{ap, arith, Bool, cond, false, inl}
+use std.proofs.Common.{inr, List, not, Option, refl, sym, true, [], ℕ, ◌++◌, ◌+◌, ◌-◌, ◌<◌, ◌^◌, ◌∙◌, ◌∷◌, ◌≡◌, ◌≤◌}
+use std.proofs.lemmas.{Bool.cases_Bool, List.{Elements.{All-filter, All-head, All-push, All-tail}, map-append}}
+use std.proofs.lemmas.{List.Sums.{sum_by-cons, sum_by_push}, Option.same_Some}
+use std.specs.{List.All, Map.{lookup, remove_entry}, Option.option_or}
+use std.specs.Prelude.{IfSome, IsTrue, None, option_and_then, Some, sum_by, ◌==◌, ◌↔◌}
 
 -- ---- deeds under their numbers
 
@@ -60,7 +62,6 @@ counted count l = sum_by (λ x. count x.deed) (dealings_of l)
 one_more : (count : Deed → ℕ) (k : ℕ × Deed) (l : List (ℕ × Deed)) → counted count (k ∷ l) ≡ count k.1 + counted count l
 one_more count k l = sum_by-cons _ (dealing k.0 k.1) (dealings_of l)
 
--- what is taken out is no longer counted
 pub counted_less : (count : Deed → ℕ) (n : ℕ) (d : Deed) (l : List (ℕ × Deed)) → lookup (is n) l ≡ Some d
     → counted count (remove_entry (is n) l) + count d ≡ counted count l
 counted_less count n d = by_removal (λ l m. counted count m + count d ≡ counted count l) n d
@@ -68,10 +69,6 @@ counted_less count n d = by_removal (λ l m. counted count m + count d ≡ count
     (λ k l m is. omega (arith, is, one_more count k l, one_more count k m))
 
 -- ---- the terms that were made
-
-or_none : (o : Option Agreement) → option_or o None ≡ o
-or_none None = refl
-or_none (Some a) = refl
 
 or_assoc : (o p q : Option Agreement) → option_or o (option_or p q) ≡ option_or (option_or o p) q
 or_assoc None p q = refl
@@ -82,12 +79,6 @@ pub made_with : (ds : List Dealing) (n : ℕ) (d : Deed)
     → made_in (ds ++ dealing n d ∷ []) ≡ option_or (made_in ds) (made_by_deed d)
 made_with [] n d = or_none _
 made_with (x ∷ ds) n d = cc (made_with ds n d, or_assoc _ _ _)
-
--- and without one that made none
-made_less : (n : ℕ) (d : Deed) → made_by_deed d ≡ None → (l : List (ℕ × Deed)) → lookup (is n) l ≡ Some d
-    → made_in (dealings_of l) ≡ made_in (dealings_of (remove_entry (is n) l))
-made_less n d none = by_removal (λ l m. made_in (dealings_of l) ≡ made_in (dealings_of m)) n d
-    (λ k l same. rw (same, none)) (λ k l m is. rw is)
 
 -- ---- limits
 
@@ -109,7 +100,6 @@ low_either : (file made : Option Agreement) (a : Agreement) → IfSome file (λ 
 low_either None made a low later is = later is
 low_either (Some b) made a low later is = rw (← same_Some b a is) low
 
--- terms have a limit that limits may be
 pub low_terms : (file : Option Agreement) (ds : List Dealing) (a : Agreement) → IsSmall file ds
     → terms_under file ds ≡ Some a → a.limit ≤ highest_limit
 low_terms file ds a small is = low_either _ _ a small.file_low (low_made ds a small.made_low) is
@@ -160,7 +150,6 @@ module _ {file made : Option Agreement} (l : List (ℕ × Deed)) {raised used : 
     small = small_with _ _ n d kept.small room;
   }
 
-  -- it counts for no more than the sums
   pub kept_counts : lookup (is n) l ≡ Some d → (raised_by_deed d ≤ raised) × (used_by_deed d ≤ used)
   kept_counts at = (
     omega (arith, kept.raised_is, counted_less raised_by_deed n d l at),
@@ -171,23 +160,28 @@ module _ {file made : Option Agreement} (l : List (ℕ × Deed)) {raised used : 
   pub kept_less : lookup (is n) l ≡ Some d → {m : List (ℕ × Deed)} → m ≡ without n l → m ≡ remove_entry (is n) l
       → {left : Option Agreement} → left ≡ made_in (dealings_of m)
       → IsKept file left (dealings_of m) (raised - raised_by_deed d) (used - used_by_deed d)
-  kept_less at {m} out removed left_is = record {
-    made_is = left_is;
-    raised_is = rw removed (omega (arith, counted_less raised_by_deed n d l at));
-    used_is = rw removed (omega (arith, counted_less used_by_deed n d l at));
-    small = record {
-      file_low = kept.small.file_low;
-      made_low = rw (out, dealings_without l n) (All-filter (λ x. not (x.number == n))
-          (λ x. HasLowLimit x.deed) _ kept.small.made_low);
-      raised = rw removed (omega (arith, counted_less raised_by_deed n d l at));
-      used = rw removed (omega (arith, counted_less used_by_deed n d l at));
-    };
-  }
+  kept_less at {m} out removed left_is =
+      let raised_less = counted_less raised_by_deed n d l at in
+      let used_less = counted_less used_by_deed n d l at in
+      record {
+        made_is = left_is;
+        raised_is = rw removed (omega (arith, raised_less));
+        used_is = rw removed (omega (arith, used_less));
+        small = record {
+          file_low = kept.small.file_low;
+          made_low = rw (out, dealings_without l n) (All-filter (λ x. not (x.number == n))
+              (λ x. HasLowLimit x.deed) _ kept.small.made_low);
+          raised = rw removed (omega (arith, raised_less));
+          used = rw removed (omega (arith, used_less));
+        };
+      }
 
   -- the terms that were made stay where one that made none is taken out
   pub made_stays : lookup (is n) l ≡ Some d → {m : List (ℕ × Deed)} → m ≡ remove_entry (is n) l → made_by_deed d ≡ None
       → made ≡ made_in (dealings_of m)
-  made_stays at removed none = rw removed (cc (made_less n d none l at))
+  made_stays at removed none =
+      let less = by_removal (λ l m. made_in (dealings_of l) ≡ made_in (dealings_of m)) n d
+      (λ k l same. rw (same, none)) (λ k l m is. rw is) l at in rw removed (cc less)
 
 -- whether an entry may be put behind the others
 pub can_by : (room above : Type 0) (b : Bool) (raised used r u : ℕ) (d : Deed) → raised ≡ r → used ≡ u → room → above

@@ -1,11 +1,12 @@
 -- Where pairs stand, with one pair more and with one changed.
-use Rattle.gu_base.specs.{declared.house.{Deed.Deed, Pair.Pair}, SamePartsLaws.bytes_same}
+use Rattle.std.proofs
+use proofs.Common.{arith, Err, false, inl, inr, length, length-append, List, Ok}
+use proofs.Common.{OnErr, Option, refl, Result, suc, sym, true, zero, [], ℕ, ◌&&◌, ◌++◌, ◌+◌, ◌<◌, ◌∙◌, ◌∷◌, ◌≡◌, ◌≤◌}
+use proofs.lemmas.Bool.{and_parts, cases_Bool, cases_eq, Decides.Decides-eqb, false_from_ne_true}
+use proofs.lemmas.{Option.{same_Some, slice_get_cases, slice_get_past, slice_get_within}, Slice.Eq.bytes_eq-Decides}
+use Rattle.gu_base.specs.declared.house.{Deed.Deed, Pair.Pair}
 use Rattle.gu_fees.specs.{Pairs.{HasRoomFor, PairView}, Rows.is_pair, Terms.{AreApart, AreBelow}}
-use Rattle.gu_sums.specs.Filing.{Contents, last_of}
-use Rattle.std.proofs.Common.{arith, Bool, Err, false, inl, inr, length, length-append, List, Ok, OnErr, Option, refl}
-use Rattle.std.proofs.Common.{Result, suc, sym, true, zero, ℕ, [], ◌&&◌, ◌++◌, ◌+◌, ◌<◌, ◌∙◌, ◌∷◌, ◌≡◌, ◌≤◌}
-use Rattle.std.proofs.lemmas.{Bool.{and_parts, cases_Bool, false_from_ne_true, Decides.Decides-eqb}, Option.same_Some}
-use Rattle.std.proofs.lemmas.Slice.Eq.{bytes_eq-Decides}
+use Rattle.gu_sums.specs.Filing.{Contents}
 use Rattle.std.specs.{Map.lookup, Prelude.{bytes_eq, IfSome, IsSomeAnd, None, option_and_then, slice_get, Some, ◌==◌}}
 
 get_last : (ps : List PairView) (row : PairView) → slice_get (ps ++ row ∷ []) (length ps) ≡ Some row
@@ -27,9 +28,6 @@ pub record Adds (old new : List (Pair × ℕ)) (giver taker : List ℕ) (i : ℕ
 same_of : (a b x y : List ℕ) → (bytes_eq a x && bytes_eq b y) ≡ true → (a ≡ x) × (b ≡ y)
 same_of a b x y h = let p = and_parts _ _ h in
     ((bytes_eq-Decides a x).0 p.0, (bytes_eq-Decides b y).0 p.1)
-
-both_same : (g k : List ℕ) → (bytes_eq g g && bytes_eq k k) ≡ true
-both_same g k = cc (bytes_same g, bytes_same k)
 
 module _ {old new : List (Pair × ℕ)} {giver taker : List ℕ} {pairs : List PairView} (row : PairView)
     (adds : Adds old new giver taker (length pairs)) (apart : AreApart old pairs) where
@@ -57,7 +55,7 @@ module _ {old new : List (Pair × ℕ)} {giver taker : List ℕ} {pairs : List P
         | inl too ↦ (
             let first = same_of _ _ g k own in
             let second = same_of _ _ x y too in
-            cc (first.0, first.1, second.0, second.1, both_same g k))
+            cc (first.0, first.1, second.0, second.1))
         | inr other ↦ (
             let last = own_place g k i own at in
             let low = apart.there x y i (old_place x y i other same) in absurd (omega arith))
@@ -84,71 +82,48 @@ module _ {old new : List (Pair × ℕ)} {giver taker : List ℕ} {pairs : List P
       ≡ option_and_then (slice_get pairs) (lookup (is_pair g k) old)
   other_row g k is = cc (adds.others g k is, other_by g k _ refl)
 
--- a new row has no entry
 pub more_below : (pairs : List PairView) (row : PairView) (entries : Contents ℕ) → AreBelow pairs entries → row.last ≡ 0
     → AreBelow (pairs ++ row ∷ []) entries
-more_below pairs row entries below none = λ i r e. below_by _ i r below e
-  where
-    below_by : (pairs : List PairView) (i : ℕ) (r : PairView)
-        → ((j : ℕ) (q : PairView) → slice_get pairs j ≡ Some q → q.last ≤ last_of entries)
-        → slice_get (pairs ++ row ∷ []) i ≡ Some r → r.last ≤ last_of entries
-    below_by [] zero r below e = rw (← same_Some row r e) (omega arith)
-    below_by [] (suc i) r below e = cc
-    below_by (p ∷ pairs) zero r below e = below 0 r e
-    below_by (p ∷ pairs) (suc i) r below e = below_by pairs i r (λ j q at. below (suc j) q at) e
+more_below pairs row entries below none = λ i r e. elim (cases_eq i (length pairs)) [
+  | inl last ↦ (let same : row ≡ r = same_Some row r (cc (get_last pairs row)) in rw (← same) (omega arith))
+  | inr other ↦ below i r (cc (get_before pairs row i (omega (
+    arith,
+    slice_get_within (pairs ++ row ∷ []) i r e,
+    length-append pairs (row ∷ []),
+  ))))
+]
 
--- a pair that had a place keeps it
 pub place_stays : {old new : List (Pair × ℕ)} {giver taker : List ℕ} {n : ℕ} → Adds old new giver taker n
     → lookup (is_pair giver taker) old ≡ None
     → (g k : List ℕ) (i : ℕ) → lookup (is_pair g k) old ≡ Some i → lookup (is_pair g k) new ≡ Some i
-place_stays {old} {new} {giver} {taker} adds none g k i at = stays_by _ refl
-  where
-    stays_by : (b : Bool) → (bytes_eq giver g && bytes_eq taker k) ≡ b → lookup (is_pair g k) new ≡ Some i
-    stays_by true is =
-        let same = same_of _ _ g k is in
-        let gone = rw (same.0, same.1) at none in cc
-    stays_by false is = adds.others g k is ∙ at
+place_stays {old} {new} {giver} {taker} adds none g k i at = elim (cases_Bool (bytes_eq giver g && bytes_eq taker k)) [
+  | inl is ↦ (let same = same_of _ _ g k is in let gone = rw (same.0, same.1) at none in cc)
+  | inr is ↦ adds.others g k is ∙ at
+]
 
 -- ---- one pair changed
 
--- what is there, as a value
-pub some_with : {X : Type 0} (P : X → Type 0) (o : Option X) → IsSomeAnd o P → (x : X) × ((o ≡ Some x) × P x)
-some_with P None h = absurd h
-some_with P (Some x) h = (x, (refl, h))
-
--- a row that leads to another place stays
 pub other_place : (old new : List PairView) (o : Option ℕ) (i : ℕ)
     → ((j : ℕ) → (j == i) ≡ false → slice_get new j ≡ slice_get old j) → (o ≡ Some i → ⊥)
     → option_and_then (slice_get new) o ≡ option_and_then (slice_get old) o
 other_place old new None i others away = refl
 other_place old new (Some j) i others away = others j (false_from_ne_true _ (λ h. away (rw ((Decides-eqb j i).0 h))))
 
--- and one that leads there is the new one
-pub own_place_row : (old new : List PairView) (o : Option ℕ) (i : ℕ) (P : PairView → PairView → Type 0) → o ≡ Some i
-    → IsSomeAnd (slice_get old i) (λ r. IsSomeAnd (slice_get new i) (P r))
-    → IsSomeAnd (option_and_then (slice_get old) o) (λ r. IsSomeAnd (option_and_then (slice_get new) o) (P r))
-own_place_row old new o i P leads h = rw leads h
-
-module _ (old new : List PairView) (i : ℕ) (others : (j : ℕ) → (j == i) ≡ false
-    → slice_get new j ≡ slice_get old j) where
-  below_by : (m n : ℕ) → m ≤ n → ((j : ℕ) (r : PairView) → slice_get old j ≡ Some r → r.last ≤ m)
-      → IfSome (slice_get new i) (λ q. q.last ≤ n)
-      → (j : ℕ) (r : PairView) → slice_get new j ≡ Some r → (b : Bool) → (j == i) ≡ b → r.last ≤ n
-  below_by m n less below own j r e true is = rw (← (Decides-eqb j i).0 is, e) at own
-  below_by m n less below own j r e false is = let low = below j r (sym (others j is) ∙ e) in omega arith
-
-  -- no row has an entry above the last, where the changed one has none
-  pub below_changed : (m n : ℕ) → m ≤ n → ((j : ℕ) (r : PairView) → slice_get old j ≡ Some r → r.last ≤ m)
-      → IfSome (slice_get new i) (λ q. q.last ≤ n)
-      → (j : ℕ) (r : PairView) → slice_get new j ≡ Some r → r.last ≤ n
-  below_changed m n less below own j r e = below_by m n less below own j r e _ refl
+-- no row has an entry above the last, where the changed one has none
+pub below_changed : (old new : List PairView) (i : ℕ)
+    → ((j : ℕ) → (j == i) ≡ false → slice_get new j ≡ slice_get old j) → (m n : ℕ) → m ≤ n
+    → ((j : ℕ) (r : PairView) → slice_get old j ≡ Some r → r.last ≤ m) → IfSome (slice_get new i) (λ q. q.last ≤ n)
+    → (j : ℕ) (r : PairView) → slice_get new j ≡ Some r → r.last ≤ n
+below_changed old new i others m n less below own j r e = elim (cases_Bool (j == i)) [
+  | inl is ↦ rw (← (Decides-eqb j i).0 is, e) at own
+  | inr away ↦ (let low = below j r (sym (others j away) ∙ e) in omega arith)
+]
 
 pub apart_changed : {places : List (Pair × ℕ)} {old new : List PairView} → length new ≡ length old
     → AreApart places old → AreApart places new
 apart_changed same apart =
     record { there = λ g k j at. let low = apart.there g k j at in omega arith; apart = apart.apart }
 
--- a row that is there, whatever is asked of it
 pub some_there : (pairs : List PairView) (i : ℕ) (P : PairView → Type 0) → i < length pairs
     → IfSome (slice_get pairs i) P → IsSomeAnd (slice_get pairs i) P
 some_there [] i P low h = absurd (omega arith)
@@ -156,17 +131,11 @@ some_there (p ∷ pairs) zero P low h = h
 some_there (p ∷ pairs) (suc i) P low h = some_there pairs i P (omega arith) h
 
 -- the row of a pair that is ready has its numbers below a new one
-can_by_row : (o : Option PairView) (n : ℕ) (d : Deed) → ((r : PairView) → o ≡ Some r → r.last < n)
+pub can_by_row : (o : Option PairView) (n : ℕ) (d : Deed) → ((r : PairView) → o ≡ Some r → r.last < n)
     → IsSomeAnd o (λ r. (1 ≤ r.room) × HasRoomFor r.dealings d)
     → IsSomeAnd o (λ r. (1 ≤ r.room) × (r.last < n) × HasRoomFor r.dealings d)
 can_by_row None n d below can = absurd can
 can_by_row (Some r) n d below can = (can.0, below r refl, can.1)
-
-pub can_put_at : (pairs : List PairView) (entries : Contents ℕ) (i n : ℕ) (d : Deed) → AreBelow pairs entries
-    → last_of entries < n
-    → IsSomeAnd (slice_get pairs i) (λ r. (1 ≤ r.room) × HasRoomFor r.dealings d)
-    → IsSomeAnd (slice_get pairs i) (λ r. (1 ≤ r.room) × (r.last < n) × HasRoomFor r.dealings d)
-can_put_at pairs entries i n d below above can = can_by_row _ n d (λ r e. let low = below i r e in omega arith) can
 
 -- the last number of a changed row, where it was one below
 pub last_lower : (o n : Option PairView) (m : ℕ) → ((r : PairView) → o ≡ Some r → r.last ≤ m) → (o ≡ None → n ≡ None)
@@ -180,14 +149,12 @@ pub last_same : (n : Option PairView) (m : ℕ) → IfSome n (λ q. q.last ≡ m
 last_same None m h = tt
 last_same (Some q) m h = omega arith
 
--- there is no more in a list of the same length
 pub none_there : (old new : List PairView) (i : ℕ) → length new ≡ length old → slice_get old i ≡ None
     → slice_get new i ≡ None
-none_there [] [] i same none = none
-none_there [] (q ∷ new) i same none = absurd (omega arith)
-none_there (p ∷ old) [] i same none = absurd (omega arith)
-none_there (p ∷ old) (q ∷ new) zero same none = cc
-none_there (p ∷ old) (q ∷ new) (suc i) same none = none_there old new i (omega arith) none
+none_there old new i same none = elim (slice_get_cases old i).1 [
+  | inl there ↦ absurd (cc there.2)
+  | inr past ↦ slice_get_past new i (omega (arith, past.0))
+]
 
 pub on_err : {A E : Type 0} {P : Type 0} (r : Result A E) → P → OnErr r P
 on_err (Ok a) p = tt

@@ -1,26 +1,18 @@
 -- Things filed under rising numbers, and what is found among them.
-use Rattle.std.proofs.{
-  Common.{◌≡◌, ℕ, zero, suc, ◌+◌, ◌-◌, ◌<◌, ◌≤◌, false, List, [], ◌∷◌, ◌++◌, length, get_or, set, Option, Some, None},
-  Common.{Result, Ok, Err, OnErr, IfOk, refl, ap, sym, ◌∙◌, arith, inl, inr},
-  lemmas.Cmp.ranked,
-  lemmas.Bool.{cases_Bool, eq-eqb, ne_eqb, eqb-true, eqb-false, Decides.nat_tests},
-  lemmas.List.{length-append, length-set, nil_from_length},
-  lemmas.List.Elements.filter_map-append,
-  lemmas.List.Sorted.IsNonDecreasingBy-from_default,
-  lemmas.Map.Entries.lookup-filter-keys,
-}
-use Rattle.std.specs.{
-  Prelude.{filter, slice_get, is_some, not, ◌==◌, if◌then◌else◌, option_map},
-  List.{cons_option, Sorted.{IsSearchInRange, IsBinarySearchResult, IsNonDecreasingBy}},
-  Map.{lookup, remove_entry},
-  Ordering.{nat_cmp, ordering_index},
-}
+use Rattle.gu_sums.specs
+use Rattle.std
 use Rattle.gu_base.proofs.Basics.{none_or_some}
-use Rattle.gu_sums.specs.{
-  Filing.{Contents, kept_at, without, IsFiled, IsTakenOut},
-  Filed.{contents, kept_in, last_from, RisesAbove, IsRising, IsFiling, no_thing, IsFiledAt, IsNotFiled},
-  declared.filing.Filed.Filed,
-}
+use specs.declared.filing.Filed.{Filed}
+use specs.Filed.{contents, IsFiledAt, IsFiling, IsNotFiled, IsRising, kept_in, last_from, no_thing, RisesAbove}
+use specs.Filing.{Contents, IsFiled, IsTakenOut, kept_at, without}
+use std.proofs.Common.{ap, arith, Err, false, get_or, IfOk, inl, inr, length, List, None, Ok, OnErr}
+use std.proofs.Common.{Option, refl, Result, set, Some, suc, sym, zero, [], ℕ, ◌++◌, ◌+◌, ◌-◌, ◌<◌, ◌∙◌, ◌∷◌, ◌≡◌, ◌≤◌}
+use std.proofs.lemmas.Bool.{cases_Bool, Decides.nat_tests, eq-eqb, eqb-false, eqb-true, ne_eqb}
+use std.proofs.lemmas.{Cmp.ranked, List.{Elements.filter_map-append, length-append, length-set, nil_from_length}}
+use std.proofs.lemmas.{List.Sorted.IsNonDecreasingBy-from_default, Map.Entries.lookup-filter-keys}
+use std.specs.List.{cons_option, Sorted.{IsBinarySearchResult, IsNonDecreasingBy, IsSearchInRange}}
+use std.specs.{Map.{lookup, remove_entry}, Ordering.{nat_cmp, ordering_index}}
+use std.specs.Prelude.{filter, if◌then◌else◌, is_some, not, option_map, slice_get, ◌==◌}
 
 module _ {T : Type 0} where
   abbrev at : ℕ → List (ℕ × T) → Option T

@@ -1,6 +1,6 @@
 -- The sum over the elements that pass a test, of a list with one element more.
-use Rattle.std.{proofs.Common.{◌≡◌, ℕ, ◌+◌, Bool, List, [], ◌∷◌, ◌++◌, arith, cond}, specs.Prelude.{filter, sum_by}}
 use Rattle.gu_base.proofs.Sums.{sum_kept}
+use Rattle.std.{proofs.Common.{arith, Bool, cond, List, [], ℕ, ◌++◌, ◌+◌, ◌∷◌, ◌≡◌}, specs.Prelude.{filter, sum_by}}
 
 -- wherever it stands, it adds what it counts, if it passes
 pub sum_one_more : {X : Type 0} (w : X → ℕ) (takes : X → Bool) (before : List X) (x : X) (after : List X)

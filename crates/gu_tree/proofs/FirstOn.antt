@@ -1,17 +1,16 @@
 -- The least number that stands on the parts of a node, and which it is in a list that the tree shows.
-use Rattle.gu_tree.proofs.{
-  Vocabulary.{min, ◌≡◌, true, ℕ, ◌+◌, ◌<◌, ◌≤◌, Option, Some, None, List, [], ◌∷◌, ◌++◌, length, get_or, take, refl},
-  Vocabulary.{ap, sym, ◌∙◌, arith, append_assoc, append-nil, flat_map, option_map, and_parts, nodes_of, decision_of},
-  Vocabulary.{parts_of, Record, Place, Rose, Roses, leaf, parted, no_parts, part_then, from_list},
-  Vocabulary.{is_undecided_leaf, are_undecided_leaves, node_at, Head, IsNodeOf, ArePartsOf, numbers_on, least},
-  Vocabulary.{numbers_at_each, numbers_on_parts, EntryPart, nodes_of_parts, splits, Part, Command, Split, height_of},
-  Vocabulary.{none_told, AllByRecursion, Node},
-  Parts.over_more,
-  Along.{IsReached, reach},
-}
-use Rattle.gu_tree.specs.NumbersOn.{number_in, lesser, numbers_at}
-use Rattle.std.specs.Option.{option_to_list}
-use Rattle.gu_base.proofs.Searches.{find_passes}
+use Rattle.gu_tree.proofs.Vocabulary
+use Rattle.gu_tree.specs
+use Rattle.gu_tree.proofs.{Alike.root_name, Along.{IsReached, reach}, Parts.over_more}
+use Rattle.std.specs.{List.AllByRecursion, Option.option_to_list}
+use specs.Changes.{are_undecided_leaves, is_undecided_leaf}
+use specs.NumbersOn.{least, lesser, number_in, numbers_at, numbers_at_each, numbers_on, numbers_on_parts}
+use specs.Shown.{ArePartsOf, IsNodeOf, IsTreeOf}
+use Vocabulary.{and_parts}
+use Vocabulary.{ap, append-nil, append_assoc, arith, Command, decision_of, EntryPart, find_passes, flat_map, from_list}
+use Vocabulary.{get_or, Head, height_of, leaf, length, List, min, no_parts, Node, node_at, node_called, nodes_of}
+use Vocabulary.{nodes_of_parts, None, none_told, Option, option_map, Part, part_then, parted, parts_of, Place, Record}
+use Vocabulary.{refl, Rose, Roses, Some, Split, splits, sym, take, true, [], ℕ, ◌++◌, ◌+◌, ◌<◌, ◌∙◌, ◌∷◌, ◌≡◌, ◌≤◌}
 
 -- ---- the least of two lists of numbers
 
@@ -32,7 +31,7 @@ pub least_more : (xs : List Rose) (i : ℕ) (u : Rose) → i < length xs → u �
     ≡ lesser (least (numbers_at_each (from_list (take i xs)))) (least (numbers_at u))
 least_more xs i u within is =
     ap least (over_more [] (λ a b. a ++ b) (λ _. refl) append-nil append_assoc numbers_at
-    (λ xs. numbers_at_each (from_list xs)) refl (λ x xs. refl) xs i u within is)
+    numbers_at_each refl (λ t ts. refl) xs i u within is)
     ∙ least_append (numbers_at_each (from_list (take i xs))) (numbers_at u)
 
 -- ---- where nothing stands on the parts
@@ -55,19 +54,20 @@ pub ruleset first_steps = (first_of_none, least_more)
 
 -- ---- parts are counted from 1
 
--- below the root no node is of part 0
-abbrev pub IsCounted : ℕ → Option Place → Node → Type 0
-IsCounted d above x = 1 ≤ d → 1 ≤ x.name.part
+-- a node of part 0 is the root of this trade
+abbrev pub IsCounted : ℕ → ℕ → Option Place → Node → Type 0
+IsCounted trade d above x = x.name.part ≡ 0 → x.name.entry ≡ trade
 
-parts_counted : (d : ℕ) (above : Option Place) (k i : ℕ) (up : EntryPart) (by : List ℕ) (ps : List Part) → 1 ≤ i
-    → AllByRecursion (IsCounted d above) (nodes_of_parts k i up by ps)
-parts_counted d above k i up by [] low = tt
-parts_counted d above k i up by (p ∷ ps) low = (λ _. low, parts_counted d above k (i + 1) up by ps (omega arith))
+parts_counted : (trade d : ℕ) (above : Option Place) (k i : ℕ) (up : EntryPart) (by : List ℕ) (ps : List Part) → 1 ≤ i
+    → AllByRecursion (IsCounted trade d above) (nodes_of_parts k i up by ps)
+parts_counted trade d above k i up by [] low = tt
+parts_counted trade d above k i up by (p ∷ ps) low =
+    (λ none. absurd (omega arith), parts_counted trade d above k (i + 1) up by ps (omega arith))
 
-split_counted : (d : ℕ) (above : Option Place) (n : EntryPart) (k : ℕ) (by : List ℕ) (c : Command) → splits n c ≡ true
-    → AllByRecursion (IsCounted d above) (nodes_of k by c)
-split_counted d above n k by (Split up ps) names = parts_counted d above k 1 up by ps (omega arith)
-split_counted d above n k by _ names = absurd (cc)
+split_counted : (trade d : ℕ) (above : Option Place) (n : EntryPart) (k : ℕ) (by : List ℕ) (c : Command)
+    → splits n c ≡ true → AllByRecursion (IsCounted trade d above) (nodes_of k by c)
+split_counted trade d above n k by (Split up ps) names = parts_counted trade d above k 1 up by ps (omega arith)
+split_counted trade d above n k by _ names = absurd (cc)
 
 -- ---- in a list that the tree shows
 
@@ -96,11 +96,12 @@ module _ (l : List Record) where
   parts_numbers above x (parted h n ts) is =
       rw is.1.1 (each_numbers (Some h.place) (nodes_of is.1.0.number is.1.0.firm is.1.0.command) ts is.1.3)
 
-  -- what the tree shows at the end of a path
-  pub shown_at : (p : List ℕ) (v : Rose) (root : Node) (t : Rose) → IsNodeOf l None root t → node_at p t ≡ Some v
-      → IsReached l IsCounted (length p) v
-  shown_at p v root t is led =
-      reach l (1 + height_of t) IsCounted
-      (λ d above x h r within here its split. split_counted (d + 1) (Some h.place) x.name r.number r.firm r.command
+  pub shown_at : (trade : ℕ) (t : Rose) → IsTreeOf l trade t → (p : List ℕ) (v : Rose) → node_at p t ≡ Some v
+      → IsReached l (IsCounted trade) (length p) v
+  shown_at trade t is p v led =
+      let name = node_called l (root_name trade) is.root is.found in
+      reach l (1 + height_of t) (IsCounted trade)
+      (λ d above x here h r within its split.
+      split_counted trade (d + 1) (Some h.place) x.name r.number r.firm r.command
       (find_passes (λ r. splits x.name r.command) l r split))
-      0 p v (length p) (omega arith) None root t (omega arith) (λ below. absurd (omega arith)) is led
+      0 p v (length p) (omega arith) None is.root t (omega arith) (λ none. cc name) is.tree led

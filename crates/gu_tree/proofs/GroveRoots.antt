@@ -1,26 +1,71 @@
--- What a new tree, and one that is taken away, do to the trees, and that a number above all slots has made no node.
-use Rattle.gu_tree.proofs.{
-  Vocabulary.{Option, IsSomeAnd, ◌≡◌, ◌≢◌, ℕ, ◌+◌, ◌<◌, ◌⊎◌, inl, inr, Some, None, [], ◌∷◌, ◌++◌, length},
-  Vocabulary.{refl, ap, sym, ◌∙◌, subst, arith, length-append, is_none, EntryPart, Rose, leaf, parted, head_of},
-  Vocabulary.{node_at, slot_of, last_of, IsFiled, IsTakenOut, name_in, Leads, turned, Grove, tree_of, tree_in, IsLed},
-  Vocabulary.{IsGrove, ChangesTree, Places, cases_eq, is_open, IsHeld, Head, Slot, Empty, set, length-set},
-  Vocabulary.{same_Some, HasTree, Takes, place_of},
-  Names.IsNewTo,
-  Groves.{FilesAlike, leads_kept, led_kept},
-  GroveEdits.low_entry,
-  Parts.some_and,
-  GroveSwaps.{leaf_only, AreNoted, bare_noted, noted_kept, changed_at, IsOneOff, filing, slots_alike, newest_free},
-  GroveSwaps.{low_new, one_place, IsNamed, bare_on, clearing, tree_same},
-}
-use Rattle.gu_tree.specs.{Grove.{IsSapling, TakesTree}, declared.slot.Slot.TheVariants.{Root, Node}}
-use Rattle.std.proofs.Math.{ListN.get_or-append, Seq.get_or-append_seam}
+-- What a new tree, and one that is taken away, do to the trees.
+use Rattle.gu_tree.proofs
+use Rattle.gu_tree.specs
+use proofs.Groves.{FilesAlike, leads_kept, led_kept}
+use proofs.GroveSwaps.{AreNoted, bare_noted, bare_on, changed_at, clearing, filing, IsNamed, IsOneOff, leaf_only}
+use proofs.{GroveSwaps.{low_new, newest_free, noted_kept, one_place, slots_alike, tree_kept, tree_same}, Parts.some_and}
+use proofs.Vocabulary.{ap, arith, cases_eq, EntryPart, Head, head_of, inl, inr, is_none, is_open, IsFiled, IsHeld}
+use proofs.Vocabulary.{IsSomeAnd, IsTakenOut, last_of, leaf, length, length-append, length-set, node_at, None, Option}
+use proofs.Vocabulary.{parted, refl, Rose, set, Slot, Some, subst, sym, [], ℕ, ◌++◌, ◌+◌, ◌<◌, ◌∙◌, ◌∷◌, ◌≡◌, ◌≢◌, ◌≤◌}
+use Rattle.std.proofs.{lemmas.Option.same_Some, Math.{ListN.get_or-append, Seq.get_or-append_seam}}
+use specs.declared.slot.Slot.TheVariants.{Empty, Node, Root}
+use specs.{Filing.{Leads, name_in, slot_of, turned}, Grove.ChangesTree}
+use specs.Grove.{Grove, HasTree, IsGrove, IsLed, IsSapling, place_of, Places, Takes, TakesTree, tree_in, tree_of}
 
--- ---- a number that made no node
+-- ---- a tree comes or goes with the slot of its trade
 
-pub fresh_entry : (g : Grove) (trade i e : ℕ) (t : Rose) → IsGrove g → slot_of g.slots trade ≡ Root i
-    → tree_of g trade ≡ Some t → last_of g.slots < e → IsNewTo e t
-fresh_entry g trade i e t is slot found above = λ q u at same.
-    absurd (omega (arith, low_entry {trade = trade} is (record { slot = slot; tree = found; led = at })))
+module _ {g new : Grove} {trade : ℕ} {x y : Slot} (is : IsGrove g) (one : IsOneOff g new trade x y)
+    (was : (n : EntryPart) → x ≢ Node n) (now : (n : EntryPart) → y ≢ Node n)
+    (stays : (u : ℕ) → u ≢ trade → tree_of new u ≡ tree_of g u) where
+  alike : (m : EntryPart) → FilesAlike g.slots new.slots m
+  alike m = slots_alike one (Node m) (was m) (now m)
+
+  old_root : (u j : ℕ) → u ≢ trade → slot_of new.slots u ≡ Root j → slot_of g.slots u ≡ Root j
+  old_root u j other at = sym (one.same u other) ∙ at
+
+  -- the slot leads to no other's tree, no other place was in the tree that goes, and the one that comes is sound
+  regrown : length g.trees ≤ length new.trees → length new.trees ≤ last_of new.slots
+      → ((j : ℕ) → y ≡ Root j → (j < length new.trees) × ((u : ℕ) → slot_of g.slots u ≢ Root j))
+      → ((n : EntryPart) → place_of new trade ≡ Some n → IsLed new n)
+      → ((k : ℕ) (n : EntryPart) → k ≢ trade → place_of g k ≡ Some n → (l : IsLed g n) → l.trade ≢ trade)
+      → ((tree : Rose) → tree_of new trade ≡ Some tree → AreNoted new.slots trade tree) → IsGrove new
+  regrown longer few own led_here led_there noted_here = record {
+    low = low_new one is;
+    few = few;
+    rooted = λ u j e. elim (cases_eq u trade) [
+      | inl here ↦ (own j (cc one.after)).0
+      | inr other ↦ omega (arith, is.rooted u j (old_root u j other e), longer)
+    ];
+    apart = λ u w j a b. elim (cases_eq u trade) [
+      | inl p ↦ elim (cases_eq w trade) [
+        | inl q ↦ cc
+        | inr q ↦ absurd ((own j (cc one.after)).1 w (old_root w j q b))
+      ]
+      | inr p ↦ elim (cases_eq w trade) [
+        | inl q ↦ absurd ((own j (cc one.after)).1 u (old_root u j p a))
+        | inr q ↦ is.apart u w j (old_root u j p a) (old_root w j q b)
+      ]
+    ];
+    falls = λ k n e. is.falls k n ((alike n k).0 e);
+    led = λ k n placed. elim (cases_eq k trade) [
+      | inl here ↦ led_here n (rw here at placed)
+      | inr other ↦ (let at : place_of g k ≡ Some n = cc (one.same k other) in
+          let l = is.led k n at in
+          led_kept n l (leads_kept g.slots new.slots alike n l.trade l.up l.leads)
+          (stays l.trade (led_there k n other at l)))
+    ];
+    made = λ u tree q w has at. (noted_new u tree has q w at).0;
+    noted = λ u tree q w has at. (noted_new u tree has q w at).1;
+  }
+    where
+      noted_new : (u : ℕ) (tree : Rose) → tree_of new u ≡ Some tree → AreNoted new.slots u tree
+      noted_new u tree has q w at = elim (cases_eq u trade) [
+        | inl here ↦ rw here (noted_here tree (rw here at has) q w at)
+        | inr other ↦ (let found : tree_of g u ≡ Some tree = cc (stays u other) in (
+          leads_kept g.slots new.slots alike (head_of w).name u (turned q) (is.made u tree q w found at),
+          noted_kept g.slots new.slots w (alike (head_of w).name) (is.noted u tree q w found at),
+        ))
+      ]
 
 -- ---- a new tree
 
@@ -42,91 +87,53 @@ module _ {g : Grove} (new : Grove) (h : Head) (is : IsGrove g) (part : h.name.pa
   one : IsOneOff g new entry Empty (Root (length g.trees))
   one = filing above slots
 
-  alike : (m : EntryPart) → FilesAlike g.slots new.slots m
-  alike m = slots_alike one (Node m) (λ e. cc) (λ e. cc)
-
   tree_here : tree_of new entry ≡ Some (leaf h)
   tree_here = rw (one.after, trees) (get_or-append_seam g.trees (Some (leaf h)) [] None)
 
-  tree_stays : (u : ℕ) (x : Slot) → slot_of g.slots u ≡ x → tree_in new.trees x ≡ tree_in g.trees x
-  tree_stays u Empty at = refl
-  tree_stays u (Node n) at = refl
-  tree_stays u (Root j) at = rw trees (get_or-append g.trees (Some (leaf h) ∷ []) None j (is.rooted u j at))
-
   tree_there : (u : ℕ) → u ≢ entry → tree_of new u ≡ tree_of g u
-  tree_there u other = cc (one.same u other, tree_stays u (slot_of g.slots u) refl)
-
-  led_new : (k : ℕ) (n : EntryPart) → place_of new k ≡ Some n → IsLed new n
-  led_new k n placed = elim (cases_eq k entry) [
-    | inl here ↦ (let same : h.name ≡ n = root ∙ cc one.after in subst (IsLed new) same (record {
-      trade = entry;
-      up = [];
-      tree = leaf h;
-      leads = (part, refl);
-      short = omega arith;
-      found = tree_here;
-      there = refl;
-    }))
-    | inr other ↦ (let l = is.led k n (cc (one.same k other)) in
-        led_kept n l (leads_kept g.slots new.slots alike n l.trade l.up l.leads)
-        (tree_there l.trade (λ here. let none : None ≡ Some l.tree = cc one.before in cc)))
-  ]
-
-  longer : length new.trees ≡ length g.trees + 1
-  longer = omega (arith, ap length trees, length-append g.trees (Some (leaf h) ∷ []))
-
-  -- the new root is the last, or the root was there
-  root_case : (u j : ℕ) → slot_of new.slots u ≡ Root j → ((u ≡ entry) × (j ≡ length g.trees))
-      ⊎ ((slot_of g.slots u ≡ Root j) × (j < length g.trees))
-  root_case u j at = elim (cases_eq u entry) [
-    | inl here ↦ inl (here, cc one.after)
-    | inr other ↦ (let was = sym (one.same u other) ∙ at in inr (was, is.rooted u j was))
-  ]
-
-  apart_new : (u w j : ℕ) → slot_of new.slots u ≡ Root j → slot_of new.slots w ≡ Root j → u ≡ w
-  apart_new u w j a b = elim (root_case u j a) [
-    | inl p ↦ elim (root_case w j b) [ inl q ↦ cc | inr q ↦ omega arith ]
-    | inr p ↦ elim (root_case w j b) [ inl q ↦ omega arith | inr q ↦ is.apart u w j p.0 q.0 ]
-  ]
-
-  noted_new : (u : ℕ) (tree : Rose) → tree_of new u ≡ Some tree → AreNoted new.slots u tree
-  noted_new u tree has q w at = elim (cases_eq u entry) [
-    | inl here ↦ (let same : tree ≡ leaf h = cc tree_here in
-        let only = leaf_only (leaf h) w q tt (rw same at at) in
-        rw (here, only.0, ← only.1) (
-          (part, refl),
-          bare_noted new.slots (leaf h) (ap is_none held.1) (ap is_open held.0)
-              (newest_free is above one h.name refl (λ has. cc)) (λ z. held.0),
-        ))
-    | inr other ↦ (let found : tree_of g u ≡ Some tree = cc (tree_there u other) in (
-      leads_kept g.slots new.slots alike (head_of w).name u (turned q) (is.made u tree q w found at),
-      noted_kept g.slots new.slots w (alike (head_of w).name) (is.noted u tree q w found at),
-    ))
-  ]
+  tree_there u other = cc (
+    one.same u other,
+    tree_kept new.trees g.trees (slot_of g.slots u) (λ j at.
+        rw trees (get_or-append g.trees (Some (leaf h) ∷ []) None j (is.rooted u j at))),
+  )
 
   planted : Plants g new (leaf h)
-  planted = record {
-    grove = record {
-      low = low_new one is;
-      few = omega (arith, longer, is.few, slots.last, above);
-      rooted = λ u j e. elim (root_case u j e) [ inl p ↦ omega (arith, longer) | inr p ↦ omega (arith, longer) ];
-      apart = apart_new;
-      falls = λ k n e. is.falls k n ((alike n k).0 e);
-      led = led_new;
-      made = λ u tree q w e at. (noted_new u tree e q w at).0;
-      noted = λ u tree q w e at. (noted_new u tree e q w at).1;
-    };
-    changed = changed_at entry (Some (leaf h)) (tree_of g) (tree_of new) tree_here tree_there;
-    place = subst (Places g new entry) (sym root) (one_place one);
-  }
+  planted =
+      let longer : length new.trees ≡ length g.trees + 1 =
+      omega (arith, ap length trees, length-append g.trees (Some (leaf h) ∷ [])) in
+      record {
+        grove = regrown is one (λ n e. cc) (λ n e. cc) tree_there (omega arith)
+            (omega (arith, is.few, slots.last, above))
+            (λ j e. let last : length g.trees ≡ j = cc in
+            (omega arith, λ u at. absurd (omega (arith, is.rooted u j at))))
+            (λ n placed. let same : h.name ≡ n = root ∙ cc one.after in subst (IsLed new) same (record {
+              trade = entry;
+              up = [];
+              tree = leaf h;
+              leads = (part, refl);
+              short = omega arith;
+              found = tree_here;
+              there = refl;
+            }))
+            (λ k n other at l here. let none : None ≡ Some l.tree = cc one.before in cc)
+            (λ tree has q w at.
+            let same : tree ≡ leaf h = cc tree_here in
+            let only = leaf_only (leaf h) w q tt (rw same at at) in
+            rw (only.0, ← only.1) (
+              (part, refl),
+              bare_noted new.slots (leaf h) (ap is_none held.1) (ap is_open held.0)
+                  (newest_free is above one h.name refl (λ has. cc)) (λ z. held.0),
+            ));
+        changed = changed_at entry (Some (leaf h)) (tree_of g) (tree_of new) tree_here tree_there;
+        place = subst (Places g new entry) (sym root) (one_place one);
+      }
 
 -- a tree that is planted, as the code does it
-pub planting : {g new : Grove} {e i : ℕ} (tree : Rose) → IsGrove g → IsSapling tree → IsHeld (head_of tree)
-    → last_of g.slots < (head_of tree).name.entry → e ≡ (head_of tree).name.entry → i ≡ length g.trees
-    → new.trees ≡ g.trees ++ Some tree ∷ [] → IsFiled g.slots new.slots e (Root i) → Plants g new tree
-planting {new = new} (leaf h) is sapling held above entry last trees slots =
-    planted new h is sapling held above trees (rw (← entry, ← last) slots)
-planting (parted h n ts) is sapling held above entry last trees slots = absurd sapling
+pub planting : {g new : Grove} (tree : Rose) → IsGrove g → IsSapling tree → IsHeld (head_of tree)
+    → last_of g.slots < (head_of tree).name.entry → new.trees ≡ g.trees ++ Some tree ∷ []
+    → IsFiled g.slots new.slots (head_of tree).name.entry (Root (length g.trees)) → Plants g new tree
+planting {new = new} (leaf h) is sapling held above trees slots = planted new h is sapling held above trees slots
+planting (parted h n ts) is sapling held above trees slots = absurd sapling
 
 -- ---- a tree is taken away
 
@@ -143,15 +150,12 @@ module _ {g : Grove} (new : Grove) (trade : ℕ) {i : ℕ} {h : Head} (is : IsGr
   emptied : IsOneOff g new trade (Root i) Empty
   emptied = clearing slot slots
 
-  felled_alike : (m : EntryPart) → FilesAlike g.slots new.slots m
-  felled_alike m = slots_alike emptied (Node m) (λ e. cc) (λ e. cc)
-
   tree_gone : tree_of new trade ≡ None
   tree_gone = ap (tree_in new.trees) emptied.after
 
   tree_stands : (u : ℕ) → u ≢ trade → tree_of new u ≡ tree_of g u
   tree_stands u other =
-      cc (emptied.same u other, tree_same is new None slot trees u other (slot_of g.slots u) refl)
+      cc (emptied.same u other, tree_same is new None slot trees u other)
 
   abbrev root_name : EntryPart
   root_name = record { entry = trade; part = 0 }
@@ -178,46 +182,17 @@ module _ {g : Grove} (new : Grove) (trade : ℕ) {i : ℕ} {h : Head} (is : IsGr
       let name : n ≡ root_name = cc root_named in
       other (alone k (slot_of g.slots k) refl (cc))
 
-  felled_led : (k : ℕ) (n : EntryPart) → place_of new k ≡ Some n → IsLed new n
-  felled_led k n placed = elim (cases_eq k trade) [
-    | inl here ↦ absurd (cc emptied.after)
-    | inr other ↦ (let at : place_of g k ≡ Some n = cc (emptied.same k other) in
-        let l = is.led k n at in
-        led_kept n l (leads_kept g.slots new.slots felled_alike n l.trade l.up l.leads)
-        (tree_stands l.trade (led_other k n other at l)))
-  ]
-
-  felled_noted : (u : ℕ) (tree : Rose) → tree_of new u ≡ Some tree → AreNoted new.slots u tree
-  felled_noted u tree has q w at = elim (cases_eq u trade) [
-    | inl here ↦ absurd (cc tree_gone)
-    | inr other ↦ (let found : tree_of g u ≡ Some tree = cc (tree_stands u other) in (
-      leads_kept g.slots new.slots felled_alike (head_of w).name u (turned q) (is.made u tree q w found at),
-      noted_kept g.slots new.slots w (felled_alike (head_of w).name) (is.noted u tree q w found at),
-    ))
-  ]
-
-  old_root : (u j : ℕ) → slot_of new.slots u ≡ Root j → slot_of g.slots u ≡ Root j
-  old_root u j at = sym (emptied.same u (λ here. cc emptied.after)) ∙ at
-
   felled : Fells g new trade
   felled =
       let long : length new.trees ≡ length g.trees = ap length trees ∙ length-set g.trees i None in
       record {
-        grove = record {
-          low = low_new emptied is;
-          few = omega (arith, is.few, long, slots.last);
-          rooted = λ u j e. omega (arith, is.rooted u j (old_root u j e), long);
-          apart = λ u w j a b. is.apart u w j (old_root u j a) (old_root w j b);
-          falls = λ k n e. is.falls k n ((felled_alike n k).0 e);
-          led = felled_led;
-          made = λ u tree q w e at. (felled_noted u tree e q w at).0;
-          noted = λ u tree q w e at. (felled_noted u tree e q w at).1;
-        };
+        grove = regrown is emptied (λ n e. cc) (λ n e. cc) tree_stands (omega arith)
+            (omega (arith, is.few, slots.last)) (λ j e. absurd (cc)) (λ n placed. absurd (cc emptied.after))
+            led_other (λ tree has. absurd (cc tree_gone));
         tree = changed_at trade None (tree_of g) (tree_of new) tree_gone tree_stands;
         place = one_place emptied;
       }
 
--- a root without a Split is a leaf
 sapling_leaf : (o : Option Rose) → IsSomeAnd o IsSapling → (h : Head) × (o ≡ Some (leaf h))
 sapling_leaf (Some (leaf h)) is = (h, refl)
 sapling_leaf _ is = absurd is

@@ -1,115 +1,37 @@
 -- What it does to the trees to put another node of its name in the place of one.
-use Rattle.gu_tree.proofs.{
-  Vocabulary.{◌≡◌, ◌≢◌, ℕ, zero, suc, ◌<◌, ◌≤◌, ◌⊎◌, inl, inr, Option, Some, None, List, [], ◌∷◌, ◌++◌, length},
-  Vocabulary.{refl, ap, sym, ◌∙◌, subst, arith, length-append, append_assoc, true, option_and_then, option_map, ◌↔◌},
-  Vocabulary.{◌==◌, if◌then◌else◌, set, length-set, cases_eq, cond_both, eqb-true, eqb-false},
-  Vocabulary.{option_and_then_some, EntryPart, Held, Rose, Roses, leaf, parted, no_parts, part_then, head_of, part_at},
-  Vocabulary.{edit_part, node_at, edit_at, HasAt, LeadsTo, IsLeaf, is_open, is_undecided_leaf, Head, Contents, IsFiled},
-  Vocabulary.{IsTakenOut, slot_of, last_of, name_in, Leads, turned, Grove, tree_of, tree_in, IsLed, IsGrove, IsOn},
-  Vocabulary.{IsSettled, IsNoted, ChangesTree, Slot, Empty, none_told, place_of},
-  Parts.{some_and, at_there, node_at_further, on_path},
-  Groves.{FilesAlike, led_kept, leads_one, length_turned, turned_turned},
-}
-use Rattle.gu_tree.specs.{Grove.IsFiledWith, declared.slot.Slot.TheVariants.{Root, Node}}
-use Rattle.gu_sums.specs.Filing.{kept_at}
-use Rattle.std.proofs.lemmas.{List.{get_or-set_same, get_or-set_other}, Bool.{eq-eqb, ne_eqb}}
-use Rattle.std.specs.Prelude.{unwrap_or}
+use Rattle.gu_tree.proofs.Vocabulary
+use Rattle.gu_tree.specs
+use Rattle.std
+use Rattle.gu_tree.proofs.{Groves.{FilesAlike, leads_one, led_kept, length_turned, turned_turned}, Parts.at_there}
+use Rattle.gu_tree.proofs.Parts.{edited_there, like_there, meets, node_at_further, Outside, shown_of, some_and}
+use specs.{Changes.is_undecided_leaf, declared.slot.Slot.TheVariants.{Empty, Node, Root}}
+use specs.Filing.{Leads, name_in, slot_of, turned}
+use specs.Grove.{ChangesTree, Grove, IsFiledWith, IsGrove, IsLed, IsNoted, IsOn, IsSettled, place_of, tree_in, tree_of}
+use std.proofs.lemmas.{Bool.{cond_both, eq-eqb, eqb-false, eqb-true, ne_eqb}, List.{get_or-set_other, get_or-set_same}}
+use std.specs.Prelude.{slice_index_or}
+use Vocabulary.{ap, append_assoc, arith, cases_eq, Contents, edit_at, EntryPart, Head, head_of, Held}
+use Vocabulary.{if◌then◌else◌, inl, inr, is_open, IsFiled, IsLeaf, IsTakenOut, kept_at, last_of, LeadsTo, leaf, length}
+use Vocabulary.{length-append, length-set, List, node_at, None, none_told, Option, option_map, parted, refl, Rose}
+use Vocabulary.{set, Slot, Some, subst, sym, true, unwrap_or, [], ℕ, ◌++◌, ◌<◌, ◌==◌, ◌↔◌, ◌∙◌, ◌∷◌, ◌≡◌, ◌≢◌, ◌≤◌, ◌⊎◌}
 
 -- ---- where paths lead in the edited tree
 
 abbrev pub IsNamed : EntryPart → Rose → Type 0
 IsNamed n u = (head_of u).name ≡ n
 
--- a leaf has no node but itself
 pub leaf_only : (v w : Rose) (r : List ℕ) → IsLeaf v → node_at r v ≡ Some w → (r ≡ []) × (v ≡ w)
 leaf_only (leaf h) w [] ends led = (refl, cc)
 leaf_only (leaf h) w (i ∷ r) ends led = absurd (cc)
 leaf_only (parted h n ts) w r ends led = absurd ends
-
--- q doesn't go on below p
-abbrev pub Outside : List ℕ → List ℕ → Type 0
-Outside p q = (k : ℕ) (r : List ℕ) → q ≡ p ++ k ∷ r → ⊥
 
 -- no entry has a node below p as its place
 abbrev pub IsFree : Grove → List ℕ → Rose → Type 0
 IsFree g p t = (e : ℕ) (m : EntryPart) (q : List ℕ) (w : Rose) → place_of g e ≡ Some m → node_at q t ≡ Some w
     → IsNamed m w → Outside p q
 
--- each node of a tree lies outside of what is below a leaf
 pub leaf_outside : (p q : List ℕ) (t v w : Rose) → IsLeaf v → node_at p t ≡ Some v → node_at q t ≡ Some w → Outside p q
 leaf_outside p q t v w ends led there = λ k r below.
     cc (leaf_only v w (k ∷ r) ends (cc (node_at_further p (k ∷ r) t v led))).0
-
-part_edited : (g : Rose → Rose) (i : ℕ) (ts : Roses) → part_at i (edit_part g i ts) ≡ option_map g (part_at i ts)
-part_edited g i no_parts = refl
-part_edited g zero (part_then t ts) = refl
-part_edited g (suc i) (part_then t ts) = part_edited g i ts
-
-part_other : (g : Rose → Rose) (i j : ℕ) (ts : Roses) → j ≢ i → part_at j (edit_part g i ts) ≡ part_at j ts
-part_other g i j no_parts other = refl
-part_other g zero zero (part_then t ts) other = absurd (other refl)
-part_other g zero (suc j) (part_then t ts) other = refl
-part_other g (suc i) zero (part_then t ts) other = refl
-part_other g (suc i) (suc j) (part_then t ts) other = part_other g i j ts (λ same. other (ap suc same))
-
--- what was put stands at the path
-pub edited_there : (f : Rose → Rose) (p : List ℕ) (t v : Rose) → node_at p t ≡ Some v
-    → node_at p (edit_at f p t) ≡ Some (f v)
-edited_there f p t v =
-    on_path v (λ p t. node_at p (edit_at f p t) ≡ Some (f v))
-    (λ i p ts. option_and_then (node_at p) (part_at i (edit_part (edit_at f p) i ts)) ≡ Some (f v))
-    refl (λ i p h n ts is. is) (λ p t ts is. is) (λ i p t ts is. is) p t
-
-abbrev split_number : Rose → Option ℕ
-split_number (leaf h) = None
-split_number (parted h n ts) = Some n
-
--- what a node shows but for its parts
-abbrev shown_of : Rose → Head × Option ℕ
-shown_of u = (head_of u, split_number u)
-
--- q leads to the node at p, or below it, or to one that shows what it showed
-abbrev Meets : (Rose → Rose) → List ℕ → List ℕ → Rose → Type 0
-Meets f p q t = (q ≡ p) ⊎ (((k : ℕ) × (r : List ℕ) × (q ≡ p ++ k ∷ r))
-    ⊎ ((q ≢ p) × Outside p q × (option_map shown_of (node_at q (edit_at f p t)) ≡ option_map shown_of (node_at q t))))
-
-meets : (f : Rose → Rose) (p q : List ℕ) (t v : Rose) → node_at p t ≡ Some v → Meets f p q t
-meets f [] [] t v led = inl refl
-meets f [] (j ∷ q) t v led = inr (inl (j, q, refl))
-meets f (i ∷ p) q (leaf h) v led = absurd (cc)
-meets f (i ∷ p) [] (parted h n ts) v led = inr (inr ((λ z. cc), (λ k r z. cc), refl))
-meets f (i ∷ p) (j ∷ q) (parted h n ts) v led = elim (cases_eq j i) [
-  | inr other ↦ inr (inr (
-    (λ z. other (cc)),
-    (λ k r z. other (cc)),
-    ap (λ o. option_map shown_of (option_and_then (node_at q) o)) (part_other (edit_at f p) i j ts other),
-  ))
-  | inl same ↦ option_and_then_some (node_at p) (part_at i ts) v led (λ u at further. elim (meets f p q u v further) [
-    | inl here ↦ inl (cc)
-    | inr (inl below) ↦ inr (inl (below.0, below.1, cc))
-    | inr (inr kept) ↦ inr (inr (
-      (λ z. kept.0 (cc)),
-      (λ k r z. kept.1 k r (cc)),
-      rw (same, part_edited (edit_at f p) i ts, at) kept.2,
-    ))
-  ])
-]
-
--- where a node shows the same there is one
-like_there : (o : Option Rose) (u : Rose) → option_map shown_of o ≡ Some (shown_of u)
-    → (w : Rose) × (o ≡ Some w) × (shown_of w ≡ shown_of u)
-like_there None u shown = absurd (cc)
-like_there (Some w) u shown = (w, refl, cc)
-
--- a name that doesn't lie below the node stands where it stood, where the node gives way to one of its name
-still_outside : (n : EntryPart) (f : Rose → Rose) (p q : List ℕ) (t v w : Rose) → Outside p q → node_at p t ≡ Some v
-    → (head_of (f v)).name ≡ (head_of v).name → IsNamed n w → node_at q t ≡ Some w → HasAt q (IsNamed n) (edit_at f p t)
-still_outside n f p q t v w out led name named there = elim (meets f p q t v led) [
-  | inl here ↦ at_there (IsNamed n) _ (f v) (rw here (edited_there f p t v led)) (let same : v ≡ w = cc in cc)
-  | inr (inl below) ↦ absurd (out below.0 below.1 below.2)
-  | inr (inr kept) ↦ (let u = like_there _ w (kept.2 ∙ ap (option_map shown_of) there) in
-      at_there (IsNamed n) _ u.0 u.1 (ap (λ (z : Head × Option ℕ). z.0.name) u.2 ∙ named))
-]
 
 -- ---- what is filed with a node
 
@@ -212,13 +134,16 @@ newest_free {g} is above one m made other e at =
 
 -- ---- another tree, or none, stands in the place of one
 
+pub tree_kept : (new old : List (Option Rose)) (x : Slot) → ((j : ℕ) → x ≡ Root j
+    → slice_index_or new j None ≡ slice_index_or old j None) → tree_in new x ≡ tree_in old x
+tree_kept new old (Root j) same = same j refl
+tree_kept new old _ same = refl
+
 module _ {g : Grove} {trade i : ℕ} (is : IsGrove g) (new : Grove) (o : Option Rose)
     (slot : slot_of g.slots trade ≡ Root i) (puts : new.trees ≡ set g.trees i o) where
-  pub tree_same : (u : ℕ) → u ≢ trade → (x : Slot) → slot_of g.slots u ≡ x → tree_in new.trees x ≡ tree_in g.trees x
-  tree_same u other Empty at = refl
-  tree_same u other (Node n) at = refl
-  tree_same u other (Root j) at =
-      rw puts (get_or-set_other g.trees i j o None (λ same. other (is.apart u trade i (cc) slot)))
+  pub tree_same : (u : ℕ) → u ≢ trade → tree_in new.trees (slot_of g.slots u) ≡ tree_of g u
+  tree_same u other = tree_kept new.trees g.trees (slot_of g.slots u) (λ j at.
+      rw puts (get_or-set_other g.trees i j o None (λ same. other (is.apart u trade i (cc) slot))))
 
 -- ---- a node gives way to a node of its name, with or without the entry on it
 
@@ -237,7 +162,6 @@ no_tree : (n : EntryPart) (ts : List (Option Rose)) (x : Slot) → IsFor n x →
 no_tree n ts x (inl none) = ap (tree_in ts) none
 no_tree n ts x (inr node) = ap (tree_in ts) node
 
--- the slot and the tree of the trade, and the node at the path
 pub record IsFound (g : Grove) (trade i : ℕ) (t : Rose) (p : List ℕ) (v : Rose) : Type 0 where
   pub slot : slot_of g.slots trade ≡ Root i
   pub tree : tree_of g trade ≡ Some t
@@ -286,7 +210,7 @@ module _ {g new : Grove} {trade i : ℕ} {t v : Rose} {f : Rose → Rose} {p : L
   tree_there : (u : ℕ) → u ≢ trade → tree_of new u ≡ tree_of g u
   tree_there u other = elim (cases_eq u entry) [
     | inl here ↦ cc (no_tree n new.trees y sw.now, no_tree n g.trees x sw.was)
-    | inr apart ↦ cc (sw.one.same u apart, tree_same is new _ sw.seen.slot sw.trees u other (slot_of g.slots u) refl)
+    | inr apart ↦ cc (sw.one.same u apart, tree_same is new _ sw.seen.slot sw.trees u other)
   ]
 
   pub swapped_tree : ChangesTree g new trade (edit_at f p t)
@@ -347,22 +271,13 @@ module _ {g new : Grove} {trade i : ℕ} {t v : Rose} {f : Rose → Rose} {p : L
         let at : node_at (turned l.up) t ≡ Some w.0 = cc w.1 in
         let out = sw.free k m (turned l.up) w.0 placed at w.2 in
         led_here m l.up (leads_past m trade l.up (rw here at l.leads) (λ _. out)) l.short
-        (still_outside m f p (turned l.up) t v w.0 out sw.seen.led sw.name w.2 at))
-  ]
-
-  led_new : (k : ℕ) (m : EntryPart) → place_of new k ≡ Some m → IsLed new m
-  led_new k m placed = elim (cases_eq k entry) [
-    | inl here ↦ elim sw.now [
-      | inl none ↦ absurd (cc)
-      | inr node ↦ (let same : n ≡ m = cc in subst (IsLed new) same (node_led (sw.low node).1))
-    ]
-    | inr other ↦ (let was : place_of g k ≡ Some m = cc (sw.one.same k other) in led_same k m was (is.led k m was))
-  ]
-
-  falls_new : (k : ℕ) (m : EntryPart) → slot_of new.slots k ≡ Node m → m.entry < k
-  falls_new k m at = elim (cases_eq k entry) [
-    | inl here ↦ (let same = for_node n y sw.now m (cc) in rw (same, here) (sw.low (cc)).0)
-    | inr other ↦ is.falls k m (cc (sw.one.same k other))
+        (elim (meets f p (turned l.up) t v sw.seen.led) [
+          | inl it ↦ at_there (IsNamed m) _ (f v) (rw it (edited_there f p t v sw.seen.led)) (let same : v ≡ w.0 = cc in
+              cc sw.name)
+          | inr (inl below) ↦ absurd (out below.0 below.1 below.2)
+          | inr (inr kept) ↦ (let u = like_there _ w.0 (kept.2 ∙ ap (option_map shown_of) at) in
+              at_there (IsNamed m) _ u.0 u.1 (ap (λ (z : Head × Option ℕ). z.0.name) u.2 ∙ w.2))
+        ]))
   ]
 
   -- on the node is what was, but for the entry
@@ -415,8 +330,18 @@ module _ {g new : Grove} {trade i : ℕ} {t v : Rose} {f : Rose → Rose} {p : L
         few = omega (arith, is.few, long, sw.one.last);
         rooted = λ u j e. omega (arith, is.rooted u j ((root_stay u j).0 e), long);
         apart = λ u w j a b. is.apart u w j ((root_stay u j).0 a) ((root_stay w j).0 b);
-        falls = falls_new;
-        led = led_new;
+        falls = λ k m at. elim (cases_eq k entry) [
+          | inl here ↦ (let same = for_node n y sw.now m (cc) in rw (same, here) (sw.low (cc)).0)
+          | inr other ↦ is.falls k m (cc (sw.one.same k other))
+        ];
+        led = λ k m placed. elim (cases_eq k entry) [
+          | inl here ↦ elim sw.now [
+            | inl none ↦ absurd (cc)
+            | inr node ↦ (let same : n ≡ m = cc in subst (IsLed new) same (node_led (sw.low node).1))
+          ]
+          | inr other ↦ (let was : place_of g k ≡ Some m = cc (sw.one.same k other) in
+              led_same k m was (is.led k m was))
+        ];
         made = λ u tree q w e at. (noted_new u tree e q w at).0;
         noted = λ u tree q w e at. (noted_new u tree e q w at).1;
       }

@@ -1,8 +1,6 @@
 use Rattle.gu_fees.proofs.pair.first_over.Given as goal
 use Rattle.gu_base.specs.{Dealt.{first_over, leave_out}, Terms.{raised_under, used_under}}
-use Rattle.gu_fees.specs.Pairs.{dealings_of}
-use Rattle.gu_sums.specs.Filed.{kept_in}
-use Rattle.std.proofs.Common.{drop, ◌+◌, ◌<◌, ◌^◌, ◌≡◌}
+use Rattle.{gu_fees.specs.Pairs.dealings_of, gu_sums.specs.Filed.kept_in, std.proofs.Common.{drop, ◌+◌, ◌<◌, ◌^◌, ◌≡◌}}
 
 abbrev pub invariant-loop-filed : goal.invariant-loop-filed
 invariant-loop-filed l = record {

@@ -1,6 +1,5 @@
-use Rattle.std.proofs.Common.{sym, ◌∙◌}
-use Rattle.gu_sums.proofs.Filings.{last_is}
 use Rattle.gu_sums.proofs.filing.last_in.Goals as goal
+use Rattle.{gu_sums.proofs.Filings.last_is, std.proofs.Common.{sym, ◌∙◌}}
 
 pub returns-in-Some : goal.returns-in-Some
 returns-in-Some g c =

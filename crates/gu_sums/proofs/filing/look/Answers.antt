@@ -1,6 +1,6 @@
-use Rattle.std.proofs.Common.{sym, ◌∙◌, ap}
-use Rattle.gu_sums.{specs.declared.filing.Filed.Filed, proofs.Filings.{at_found, at_nowhere}}
 use Rattle.gu_sums.proofs.filing.look.Goals as goal
+use Rattle.gu_sums.{proofs.Filings.{at_found, at_nowhere}, specs.declared.filing.Filed.Filed}
+use Rattle.std.proofs.Common.{ap, sym, ◌∙◌}
 
 pub returns-in-Some : goal.returns-in-Some
 returns-in-Some g c =

@@ -1,6 +1,6 @@
-use Rattle.std.proofs.{Common.rules, lemmas.List.Sorted.answers_always}
-use Rattle.gu_sums.{specs.declared.filing.Filed.Filed, proofs.Filings.searched}
 use Rattle.gu_sums.proofs.filing.search.Goals as goal
+use Rattle.gu_sums.{proofs.Filings.searched, specs.declared.filing.Filed.Filed}
+use Rattle.std.proofs.{Common.rules, lemmas.List.Sorted.answers_always}
 
 -- the closure gives the number of an entry
 pub returns : goal.returns

@@ -1,8 +1,7 @@
-use Rattle.gu_tree.proofs.{
-  Vocabulary.{rules, ◌≡◌, ◌≢◌, ◌∙◌, ◌+◌, ◌-◌, arith, sym, length-set},
-  Groves.{step_up, way_cell, way_further, way_ends, written_before, read_out},
-}
 use Rattle.gu_tree.proofs.slot.climb.Goals as goal
+use Rattle.gu_tree.proofs
+use proofs.Groves.{read_out, step_up, way_cell, way_ends, way_further, written_before}
+use proofs.Vocabulary.{arith, length-set, rules, sym, ◌+◌, ◌-◌, ◌∙◌, ◌≡◌, ◌≢◌}
 
 pub overflow_sub-first : goal.overflow_sub-first
 overflow_sub-first g c =

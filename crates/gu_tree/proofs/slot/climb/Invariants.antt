@@ -1,6 +1,5 @@
-use Rattle.std.proofs.Common.{◌≡◌, ◌≤◌, drop, length}
-use Rattle.gu_tree.{specs.Filing.turned, proofs.Groves.IsOnWay}
 use Rattle.gu_tree.proofs.slot.climb.Given as goal
+use Rattle.gu_tree.{proofs.{Groves.IsOnWay, Vocabulary.{drop, length, ◌≡◌, ◌≤◌}}, specs.Filing.turned}
 
 abbrev pub invariant-loop-first : goal.invariant-loop-first
 invariant-loop-first g l =

@@ -1,7 +1,5 @@
 use Rattle.gu_fees.proofs.fees.Fees.charge.Goals as goal
-use Rattle.gu_base.proofs.Basics.{still_true}
-use Rattle.gu_fees.proofs.Charges.{stay_ready, sums_more}
-use Rattle.std.proofs.Common.{rules}
+use Rattle.{gu_base.proofs.Basics.still_true, gu_fees.proofs.Charges.{stay_ready, sums_more}}
 
 pub returns-clause-paid : goal.returns-clause-paid
 returns-clause-paid c = λ firm. rw (← c.self.view_is) (c.add.ensures.added firm)
@@ -20,6 +18,3 @@ returns-clause-stays_ready c = rw (← c.self.view_is) (stay_ready _ _
 pub returns-clause-sums : goal.returns-clause-sums
 returns-clause-sums c = λ before after.
     rw (← c.self.view_is) (sums_more _ _ _ _ after c.add.ensures.added c.add-2.ensures.added c.add-3.ensures.added)
-
-pub add-requires : goal.add-requires
-add-requires c = search rules

@@ -1,7 +1,6 @@
 use Rattle.gu_fees.proofs.fees.Fees.put.Goals as goal
-use Rattle.gu_base.proofs.Basics.{still_true}
-use Rattle.gu_fees.proofs.{Charges.{stay_ready, sums_more}, Places.on_err}
-use Rattle.std.proofs.Common.{arith, rules, ℕ, ◌+◌, ◌≡◌}
+use Rattle.{gu_base.proofs.Basics.still_true, gu_fees.proofs.{Charges.{stay_ready, sums_more}, Places.on_err}}
+use Rattle.std.proofs.Common.{arith, ℕ, ◌+◌, ◌≡◌}
 
 -- what was added and taken out again changes nothing
 back : (old mid new by : ℕ) → mid ≡ old + by → new + by ≡ mid → new ≡ old
@@ -51,6 +50,3 @@ returns-in-Err-put-clause-stays_ready c = rw (← c.self.view_is) (stay_ready _ 
 pub returns-clause-stays_ready : goal.returns-clause-stays_ready
 returns-clause-stays_ready c = rw (← c.self.view_is) (stay_ready _ _ c.put.ensures.stays_ready
     c.put-2.ensures.stays_ready c.put-3.ensures.stays_ready)
-
-pub take-requires-in-Err-put : goal.take-requires-in-Err-put
-take-requires-in-Err-put c = search rules

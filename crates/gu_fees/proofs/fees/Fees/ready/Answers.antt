@@ -1,6 +1,5 @@
 use Rattle.gu_fees.proofs.fees.Fees.ready.Goals as goal
 use Rattle.gu_fees.proofs.Charges.{stay_ready}
-use Rattle.std.proofs.Common.{rules}
 
 pub returns-in_err-ready-clause-paid : goal.returns-in_err-ready-clause-paid
 returns-in_err-ready-clause-paid c = λ firm. rw (← c.self.view_is) (c.ready.ensures.same firm)
@@ -31,6 +30,3 @@ returns-clause-used c = λ g t. rw (← c.self.view_is) (c.ready-3.ensures.same 
 pub returns-clause-stays_ready : goal.returns-clause-stays_ready
 returns-clause-stays_ready c = rw (← c.self.view_is) (stay_ready _ _ c.ready.ensures.stays_ready
     c.ready-2.ensures.stays_ready c.ready-3.ensures.stays_ready)
-
-pub returns-clause-ready : goal.returns-clause-ready
-returns-clause-ready c = search rules

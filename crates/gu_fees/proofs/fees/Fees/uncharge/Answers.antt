@@ -1,6 +1,5 @@
 use Rattle.gu_fees.proofs.fees.Fees.uncharge.Goals as goal
-use Rattle.gu_base.proofs.Basics.{still_true}
-use Rattle.gu_fees.proofs.Charges.{stay_ready, sums_less}
+use Rattle.{gu_base.proofs.Basics.still_true, gu_fees.proofs.Charges.{stay_ready, sums_less}}
 
 pub returns-clause-paid : goal.returns-clause-paid
 returns-clause-paid c = λ firm. rw (← c.self.view_is) (c.take.ensures.taken firm)

@@ -1,6 +1,5 @@
 use Rattle.gu_fees.proofs.pair.PairTerms.can_put.Goals as goal
-use Rattle.gu_fees.proofs.Dealings.{can_by}
-use Rattle.gu_sums.specs.Filing.{last_of}
+use Rattle.{gu_fees.proofs.Dealings.can_by, gu_sums.specs.Filing.last_of}
 use Rattle.std.proofs.{Common.{arith, rules, ◌<◌, ◌≤◌}, lemmas.Grind.common_steps}
 
 pub returns-then-above : goal.returns-then-above

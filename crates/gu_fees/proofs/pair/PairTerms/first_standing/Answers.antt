@@ -1,10 +1,8 @@
 use Rattle.gu_fees.proofs.pair.PairTerms.first_standing.Goals as goal
-use Rattle.gu_base.specs.{Dealt.{first_over, leave_out}, declared.house.{Agreement.Agreement, Dealing.Dealing}}
-use Rattle.gu_base.specs.Terms.{terms_under}
-use Rattle.gu_fees.proofs.Dealings.{low_terms, standing_is}
-use Rattle.gu_fees.specs.Pairs.{dealings_of}
-use Rattle.std.proofs.Common.{ap, arith, List, Option, sym, ℕ, ◌∙◌, ◌≡◌}
-use Rattle.std.specs.Prelude.{option_and_then, Some}
+use Rattle.gu_base.specs
+use Rattle.gu_fees.{proofs.Dealings.{low_terms, standing_is}, specs.Pairs.dealings_of}
+use Rattle.std.{proofs.Common.{ap, arith, List, Option, sym, ℕ, ◌∙◌, ◌≡◌}, specs.Prelude.{option_and_then, Some}}
+use specs.{Dealt.{first_over, leave_out}, declared.house.{Agreement.Agreement, Dealing.Dealing}, Terms.terms_under}
 
 pub first_over-requires-clause-limit : goal.first_over-requires-clause-limit
 first_over-requires-clause-limit c =

@@ -1,6 +1,5 @@
 use Rattle.gu_fees.proofs.pair.PairTerms.limit.Goals as goal
-use Rattle.gu_fees.proofs.Dealings.{low_terms}
-use Rattle.std.proofs.Common.{arith, rules, sym}
+use Rattle.{gu_fees.proofs.Dealings.low_terms, std.proofs.Common.{arith, rules, sym}}
 
 pub overflow_add-result : goal.overflow_add-result
 overflow_add-result c =

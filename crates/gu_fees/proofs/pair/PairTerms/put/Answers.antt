@@ -1,6 +1,5 @@
 use Rattle.gu_fees.proofs.pair.PairTerms.put.Goals as goal
-use Rattle.gu_fees.proofs.Dealings.{dealings_with, kept_more, room_used}
-use Rattle.gu_fees.specs.Pairs.{dealings_of}
+use Rattle.gu_fees.{proofs.Dealings.{dealings_with, kept_more, room_used}, specs.Pairs.dealings_of}
 use Rattle.std.proofs.Common.{arith}
 
 pub overflow_add-self-2 : goal.overflow_add-self-2

@@ -1,6 +1,5 @@
 use Rattle.gu_fees.proofs.terms.Terms.place.Goals as goal
-use Rattle.gu_base.specs.declared.house.Pair.{Pair}
-use Rattle.gu_fees.specs.{Pairs.PairView, Rows.is_pair, Terms.AreApart}
+use Rattle.{gu_base.specs.declared.house.Pair.Pair, gu_fees.specs.{Pairs.PairView, Rows.is_pair, Terms.AreApart}}
 use Rattle.std.proofs.Common.{length, List, Option, rules, sym, ℕ, ◌<◌, ◌≡◌}
 use Rattle.std.specs.{Map.lookup, Prelude.{IfSome, None, Some}}
 

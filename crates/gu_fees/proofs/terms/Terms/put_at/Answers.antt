@@ -1,14 +1,12 @@
 use Rattle.gu_fees.proofs.terms.Terms.put_at.Goals as goal
-use Rattle.gu_fees.proofs.Places.{apart_changed, below_changed, can_put_at, last_same, other_place, own_place_row}
-use Rattle.gu_sums.specs.Filing.{last_of}
-use Rattle.std.proofs.Common.{arith, refl, sym, ◌∙◌}
+use Rattle.gu_fees.proofs.Places.{apart_changed, below_changed, can_by_row, last_same, other_place}
+use Rattle.{gu_sums.specs.Filing.last_of, std.proofs.Common.{arith, refl, sym, ◌∙◌}}
 
 pub put_into-requires : goal.put_into-requires
 put_into-requires c =
     let above = rw (← c.self.view_is) at c.requires.above in
     let pair = rw (← c.self.view_is) at c.requires.pair in
-    can_put_at _ c.self.inside.entries.filed _ _ _
-    c.self.invariant.below above pair
+    can_by_row _ _ _ (λ r e. let low = c.self.invariant.below c.args.place r e in omega arith) pair
 
 pub invariant_of-self : goal.invariant_of-self
 invariant_of-self c =
@@ -28,9 +26,7 @@ returns c = λ giver taker is.
     rw (← c.self.view_is) at is in
     rw (← c.self.view_is)
     (record {
-      own = own_place_row _ _
-          _ _
-          _ at c.put_into.ensures.own;
+      own = rw at c.put_into.ensures.own;
       others = λ g k differ. other_place _ _
           _ _ c.put_into.ensures.others
           (λ same. let is = c.self.invariant.apart.apart giver taker g k c.args.place at same in cc);

@@ -1,9 +1,7 @@
 use Rattle.gu_fees.proofs.terms.Terms.ready.Goals as goal
 use Rattle.gu_base.specs.declared.house.Agreement.{Agreement}
-use Rattle.gu_fees.proofs.Places.{on_err, some_there}
-use Rattle.gu_fees.specs.{Pairs.PairView, Terms.{IsRowAfter, IsSameRow}}
-use Rattle.std.proofs.Common.{Option, rules, sym, ◌∙◌}
-use Rattle.std.specs.Prelude.{IfSome, IsSomeAnd, None, Some}
+use Rattle.gu_fees.{proofs.Places.{on_err, some_there}, specs.{Pairs.PairView, Terms.{IsRowAfter, IsSameRow}}}
+use Rattle.std.{proofs.Common.{Option, sym, ◌∙◌}, specs.Prelude.{IfSome, IsSomeAnd, None, Some}}
 
 -- a row that was there has the terms and the dealings that it had
 same_after : (file : Option Agreement) (o n : Option PairView) → IsSomeAnd o (λ r. Unit {0}) → IsRowAfter o file n
@@ -28,6 +26,3 @@ returns-in-Some-clause-err c =
     on_err _
     (same_after _ _ _ (rw found there)
     (c.ready_at.ensures.readied c.args.giver.now c.args.taker.now c.args.file found).own)
-
-pub add_pair-requires-clause-new : goal.add_pair-requires-clause-new
-add_pair-requires-clause-new c = search rules

@@ -1,11 +1,8 @@
 use Rattle.gu_fees.proofs.terms.Terms.take_out.Goals as goal
-use Rattle.gu_base.specs.Dealt.{leave_out}
-use Rattle.gu_fees.proofs.Places.{apart_changed, below_changed, last_lower, none_there, other_place, own_place_row}
-use Rattle.gu_fees.proofs.Places.{some_there}
-use Rattle.gu_fees.specs.Rows.{is_pair}
-use Rattle.gu_sums.specs.Filing.{kept_at, last_of}
-use Rattle.std.proofs.Common.{arith, refl, sym, ◌∙◌, ◌≡◌}
-use Rattle.std.specs.{Map.lookup, Prelude.{IsSomeAnd, slice_get, Some}}
+use Rattle.gu_fees.proofs
+use proofs.Places.{apart_changed, below_changed, last_lower, none_there, other_place, some_there}
+use Rattle.{gu_base.specs.Dealt.leave_out, gu_fees.specs.Rows.is_pair, gu_sums.specs.Filing.{kept_at, last_of}}
+use Rattle.std.{proofs.Common.{arith, refl, sym, ◌∙◌, ◌≡◌}, specs.{Map.lookup, Prelude.{IsSomeAnd, slice_get, Some}}}
 
 pub invariant_of-self : goal.invariant_of-self
 invariant_of-self c =
@@ -37,10 +34,7 @@ returns-in-Some c =
     (record {
       own = λ g k j at place.
           let here : lookup (is_pair g k) c.self.inside.places.entries ≡ Some c.in-Some.i = cc (at, found, place) in
-          own_place_row c.self.inside.pairs.items c.take_from.new.pairs.items
-          (lookup (is_pair g k) c.self.inside.places.entries) c.in-Some.i
-          (λ r q. (q.file ≡ r.file) × (q.dealings ≡ leave_out c.args.entry r.dealings)) here
-          (some_there c.self.inside.pairs.items c.in-Some.i
+          rw here (some_there c.self.inside.pairs.items c.in-Some.i
           (λ r. IsSomeAnd (slice_get c.take_from.new.pairs.items c.in-Some.i) (λ q. (q.file ≡ r.file)
           × (q.dealings ≡ leave_out c.args.entry r.dealings)))
           (c.self.invariant.apart.there g k c.in-Some.i here) c.take_from.ensures.own);

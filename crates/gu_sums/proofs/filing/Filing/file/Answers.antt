@@ -1,5 +1,5 @@
-use Rattle.gu_sums.proofs.Filings.{file_leaves}
 use Rattle.gu_sums.proofs.filing.Filing.file.Goals as goal
+use Rattle.gu_sums.proofs.Filings.{file_leaves}
 
 pub invariant_of-self : goal.invariant_of-self
 invariant_of-self g c = rw c.push_reserved.ensures.items

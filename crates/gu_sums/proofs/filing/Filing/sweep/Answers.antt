@@ -1,6 +1,5 @@
-use Rattle.std.proofs.Common.{arith}
-use Rattle.gu_sums.proofs.Filings.{swept}
 use Rattle.gu_sums.proofs.filing.Filing.sweep.Goals as goal
+use Rattle.{gu_sums.proofs.Filings.swept, std.proofs.Common.arith}
 
 pub invariant_of-self : goal.invariant_of-self
 invariant_of-self g c = let s = swept 0 _ c.self.invariant.rising in

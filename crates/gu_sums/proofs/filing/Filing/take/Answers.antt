@@ -1,6 +1,5 @@
-use Rattle.std.proofs.Common.{sym, ◌∙◌}
-use Rattle.gu_sums.proofs.Filings.{at_found, at_nowhere, take_leaves, none_leaves}
 use Rattle.gu_sums.proofs.filing.Filing.take.Goals as goal
+use Rattle.{gu_sums.proofs.Filings.{at_found, at_nowhere, none_leaves, take_leaves}, std.proofs.Common.{sym, ◌∙◌}}
 
 pub returns-in_default-clause-value : goal.returns-in_default-clause-value
 returns-in_default-clause-value g c =

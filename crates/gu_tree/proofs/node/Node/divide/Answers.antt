@@ -1,6 +1,5 @@
-use Rattle.std.proofs.Common.{◌∙◌}
-use Rattle.gu_tree.proofs.Splits.{divided_parts}
 use Rattle.gu_tree.proofs.node.Node.divide.Goals as goal
+use Rattle.gu_tree.proofs.{Splits.divided_parts, Vocabulary.◌∙◌}
 
 pub invariant_of-self : goal.invariant_of-self
 invariant_of-self g c =

@@ -1,6 +1,7 @@
-use Rattle.std.proofs.{Common.{ap, is_some, sym, ◌∙◌, arith, add-one}, Math.Seq.drop-cons}
-use Rattle.gu_tree.proofs.{Parts.{goes_below, at_leaf, at_beyond}, Splits.not_parted}
 use Rattle.gu_tree.proofs.node.Node.has_path.Goals as goal
+use Rattle.gu_tree.proofs
+use proofs.Parts.{at_beyond, at_leaf, goes_below}
+use proofs.{Splits.not_parted, Vocabulary.{add-one, ap, arith, drop-cons, is_some, sym, ◌∙◌}}
 
 pub returns-in_default : goal.returns-in_default
 returns-in_default g c =

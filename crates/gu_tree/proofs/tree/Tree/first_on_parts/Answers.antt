@@ -1,7 +1,7 @@
-use Rattle.gu_tree.proofs.ToldAt.{first_shown}
 use Rattle.gu_tree.proofs.tree.Tree.first_on_parts.Goals as goal
+use Rattle.gu_tree.{proofs.{Parts.at_there, ToldAt.told_at, Vocabulary.{ap, ◌∙◌}}, specs.NumbersOn.least}
 
 pub returns-clause-shows : goal.returns-clause-shows
-returns-clause-shows g c =
-    first_shown c.first_on_parts.result _ _ c.at.result.now
-    (rw (c.as_slice.ensures.value, c.self.view_is) at c.at.ensures) c.first_on_parts.ensures
+returns-clause-shows g c = λ l trade is.
+    let led = rw (c.as_slice.ensures.value, c.self.view_is) at c.at.ensures in
+    at_there _ _ c.at.result.now led (c.first_on_parts.ensures ∙ ap least (told_at l trade _ is _ _ led).parts)

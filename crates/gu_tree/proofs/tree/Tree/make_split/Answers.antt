@@ -1,5 +1,5 @@
-use Rattle.gu_tree.proofs.{Parts.{at_fact, some_and}, ShowsChanges.split_shows, Splits.split_tree}
 use Rattle.gu_tree.proofs.tree.Tree.make_split.Goals as goal
+use Rattle.gu_tree.proofs.{Parts.{at_fact, some_and}, ShowsChanges.split_shows, Splits.split_tree}
 
 pub returns-clause-node : goal.returns-clause-node
 returns-clause-node g c = rw (c.as_slice.ensures.value, c.self.view_is) at c.in_ok-split_at.ensures.node

@@ -1,9 +1,9 @@
-use Rattle.gu_tree.proofs.{
-  Vocabulary.{arith, refl, head_of, offer_node, offered_head, IsLeaf},
-  Edits.{lesser_tree, named_cut, some_and, at_there},
-  ShowsLess.{stand_there, has_stand, decided_leaf, decided_moves, taken_shows},
-}
 use Rattle.gu_tree.proofs.tree.Tree.take_decision.Goals as goal
+use Rattle.gu_tree.proofs
+use proofs.Edits.{at_there, lesser_tree, named_cut, some_and}
+use proofs.ShowsLess.{decided_leaf, decided_moves, has_stand, stand_there, taken_shows}
+use proofs.Vocabulary.{arith, head_of, IsLeaf, offer_node, refl}
+use Rattle.gu_tree.specs.Changes.{offered_head}
 
 pub path-requires : goal.path-requires
 path-requires g c =

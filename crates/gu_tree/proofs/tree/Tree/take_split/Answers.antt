@@ -1,9 +1,7 @@
-use Rattle.gu_tree.proofs.{
-  Vocabulary.{arith, refl, head_of, unsplit_node},
-  Edits.{lesser_tree, named_cut, some_and},
-  ShowsLess.unsplit_shows,
-}
 use Rattle.gu_tree.proofs.tree.Tree.take_split.Goals as goal
+use Rattle.gu_tree.proofs
+use proofs.Edits.{lesser_tree, named_cut, some_and}
+use proofs.{ShowsLess.unsplit_shows, Vocabulary.{arith, head_of, refl, unsplit_node}}
 
 pub returns-clause-node : goal.returns-clause-node
 returns-clause-node g c = rw (c.as_slice.ensures.value, c.self.view_is) at c.unsplit_at.ensures.node

@@ -1,9 +1,7 @@
-use Rattle.gu_tree.proofs.{
-  Vocabulary.{Some, set, decide_node},
-  GroveEdits.{grove_of, found, Edits, decided, at_there, roomier, IsNamed},
-  trees.Trees.decide.{Given.Over, Goals.After-file},
-}
 use Rattle.gu_tree.proofs.trees.Trees.decide.Goals as goal
+use Rattle.gu_tree.proofs.GroveEdits.{at_fact, at_path, at_there, decision_keeps, editing, Edits, found}
+use Rattle.gu_tree.proofs.{GroveEdits.{grove_of, IsNamed, roomier}, trees.Trees.decide.{Given.Over, Goals.After-file}}
+use Rattle.gu_tree.{proofs.Vocabulary.{decide_node, IsLeaf, set, Some}, specs.Changes.IsOffered}
 
 -- what the call does to the trees
 edited : (g : Over) (c : After-file g) → Edits (grove_of c.self.inside.trees.items c.self.inside.slots.filed)
@@ -11,9 +9,12 @@ edited : (g : Over) (c : After-file g) → Edits (grove_of c.self.inside.trees.i
     c.args.trade c.in-Some.tree c.args.path.now.items (decide_node c.args.number c.args.decision.now) c.args.number
 edited g c =
     let is = roomier _ 0 0 c.self.invariant in
-    decided is c.args.decision.now (found (IsNamed c.decide-node.result) is c.root_of-i.ensures
-    c.index_mut.ensures.value c.in-Some.is c.decide-node.ensures.name) c.decide-node.ensures.short
-    c.decide-node.ensures.leaf (rw (← c.self.view_is) at c.requires.offered) c.requires.settles
+    let (v, seen, called) = found (IsNamed c.decide-node.result) is c.root_of-i.ensures c.index_mut.ensures.value
+    c.in-Some.is c.decide-node.ensures.name in
+    let leafy = at_fact IsLeaf _ _ seen.led c.decide-node.ensures.leaf in
+    editing is seen called c.decide-node.ensures.short leafy
+    (λ was fresh. decision_keeps _ c.args.decision.now v c.requires.settles
+    (at_path IsOffered seen (rw (← c.self.view_is) at c.requires.offered)) leafy was)
     (rw (← c.self.view_is) at c.requires.above) (rw c.decide-node.ensures.node) (rw c.node.ensures at c.file.ensures)
 
 pub invariant_of-self : goal.invariant_of-self

@@ -1,6 +1,7 @@
-use Rattle.std.proofs.Common.{[], ◌∷◌, ◌-◌, ◌∙◌, ap, arith, sym, option_copied}
-use Rattle.gu_tree.proofs.{Groves.{root_place, no_root, no_above, next_there, next_absent}, Parts.height_of_at}
 use Rattle.gu_tree.proofs.trees.Trees.find.Goals as goal
+use Rattle.gu_tree.proofs
+use proofs.Groves.{next_absent, next_there, no_above, no_root, root_place}
+use proofs.{Parts.height_of_at, Vocabulary.{ap, arith, option_copied, sym, [], ◌-◌, ◌∙◌, ◌∷◌}}
 
 pub returns-then-part-eq0-clause-found : goal.returns-then-part-eq0-clause-found
 returns-then-part-eq0-clause-found g c =
@@ -43,4 +44,4 @@ returns g c =
     c.in-Some-named.above.node.now (rw c.in-Some-named.is at c.named.ensures.node)
     c.in-Some-part.node.now (rw c.in-Some-part.is at c.part-2.ensures.found)
     (rw c.in-Some-part.is at c.part-2.ensures.name) in
-    rw (c.push.ensures.items, c.part-3.ensures.value) (record { found = next.place; node = next.node; absent = tt })
+    rw (c.push.ensures.items, c.part-3.ensures.value) (record { found = next.0; node = next.1; absent = tt })

@@ -1,9 +1,7 @@
-use Rattle.gu_tree.proofs.{
-  Vocabulary.{◌≡◌, Some, set, Rose, head_of, node_at, edit_at, offer_node, stand_path},
-  GroveEdits.{grove_of, found, TakesDecision, taking_back, taken_some, some_and, at_there, roomier},
-  trees.Trees.take_decision.{Given.Over, Goals.After-take},
-}
 use Rattle.gu_tree.proofs.trees.Trees.take_decision.Goals as goal
+use Rattle.gu_tree.proofs.GroveEdits.{at_there, found, grove_of, roomier, some_and, taken_some, TakesDecision}
+use Rattle.gu_tree.proofs.{GroveEdits.taking_back, trees.Trees.take_decision.{Given.Over, Goals.After-take}}
+use Rattle.gu_tree.proofs.Vocabulary.{edit_at, head_of, node_at, offer_node, Rose, set, Some, stand_path, ◌≡◌}
 
 pub unreachable-requires-in_default-decision : goal.unreachable-requires-in_default-decision
 unreachable-requires-in_default-decision g c =

@@ -1,9 +1,6 @@
-use Rattle.gu_tree.proofs.{
-  Vocabulary.{Some, set},
-  GroveEdits.{grove_of, found, TakesSplit, taking_split, at_there, roomier},
-  trees.Trees.unsplit.{Given.Over, Goals.After-take},
-}
 use Rattle.gu_tree.proofs.trees.Trees.unsplit.Goals as goal
+use Rattle.gu_tree.proofs.GroveEdits.{at_there, found, grove_of, roomier, TakesSplit, taking_split}
+use Rattle.gu_tree.proofs.{trees.Trees.unsplit.{Given.Over, Goals.After-take}, Vocabulary.{set, Some}}
 
 -- what the call does to the trees
 taken : (g : Over) (c : After-take g) → TakesSplit (grove_of c.self.inside.trees.items c.self.inside.slots.filed)
