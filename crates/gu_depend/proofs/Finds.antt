@@ -1,14 +1,15 @@
 -- What is found in a list where at most one element passes, in whatever order the list stands; lists cut at an element,
 -- and without those that pass.
 use Rattle.gu_depend.proofs.Vocabulary
-use Vocabulary.{All, All-cons, All-nil, ap, arith, Bool, cases_Bool, cond, cond_both, Contains, Contains-append_right}
-use Vocabulary.{Contains-permutation, count_by, drop, false, filter, filter-append, find, find-append, find_passes}
-use Vocabulary.{found_in, get_or, get_or-le-sum_by, inl, inr, is_some, IsPermutation, IsPermutation-middle}
-use Vocabulary.{IsPermutation-sym, IsPermutation-to_front, IsPermutation-trans, IsSomeAnd, List, no_some, None}
-use Vocabulary.{none_or_some, not, nothing_here, Option, option_and_then, refl, Some, suc, sum_by-append, sum_by-cons}
-use Vocabulary.{sum_by-IsPermutation, sum_by-le-sum_by, sum_by_push, sym, take, true, zero, ℕ, [], ◌++◌, ◌+◌, ◌∙◌, ◌∷◌}
-use Vocabulary.{◌≡◌, ◌≤◌}
-use Rattle.std.proofs.Math.Seq.{split_at}
+use Rattle.std.proofs.lemmas.List
+use List.{Elements.filter-append, Sorted.{Contains-permutation, IsPermutation-middle}}
+use List.{Sorted.{IsPermutation-sym, IsPermutation-to_front, IsPermutation-trans}, Sums.sum_by-le-sum_by}
+use Rattle.std.proofs.{Common.{drop, take}, Math.Seq.split_at}
+use Vocabulary.{All, All-cons, All-contains_itself, All-nil}
+use Vocabulary.{All-weaker, ap, arith, Bool, cases_Bool, cond, cond_both, Contains, Contains-append_right, count_by}
+use Vocabulary.{false, filter, find, find-append, find_passes, found_in, inl, inr, is_some, IsPermutation, IsSomeAnd}
+use Vocabulary.{List, no_some, None, none_or_some, not, nothing_here, Option, option_and_then, refl, Some, suc}
+use Vocabulary.{sum_by-append, sum_by-cons, sum_by-IsPermutation, sym, true, zero, [], ◌++◌, ◌+◌, ◌∙◌, ◌∷◌, ◌≡◌, ◌≤◌}
 
 pub not_both : (b : Bool) → b ≡ true → b ≡ false → ⊥
 not_both b h e = cc
@@ -42,8 +43,11 @@ pub counts_less : {X : Type 0} (p q : X → Bool) (xs : List X) → ((x : X) →
     → count_by p xs ≤ count_by q xs
 counts_less p q xs more =
     sum_by-le-sum_by _ _ xs (λ x.
-    cond_both _ 1 0 (λ n. n ≤ cond (q x) 1 0) (λ is. let e = ap (λ b. cond {A = ℕ} b 1 0) (more x is) in omega arith)
-    (λ _. omega arith))
+    cond_both _ 1 0 (λ n. n ≤ cond (q x) 1 0) (λ is. rw (more x is) (omega arith)) (λ _. omega arith))
+
+-- what each element has, all have
+pub all_in : {X : Type 0} (P : X → Type 0) (xs : List X) → ((x : X) → Contains xs x → P x) → All P xs
+all_in P xs each = All-weaker (Contains xs) P each xs (All-contains_itself xs)
 
 -- an element, with what stands before and behind it
 pub record Cut {X : Type 0} (xs : List X) (x : X) : Type 0 where
@@ -78,8 +82,8 @@ find_filter p q true [] each = refl
 find_filter p q false [] each = refl
 find_filter p q b (x ∷ xs) each =
     let later = find_filter p q b xs each in
-    by_test (p x) (λ is. by_test b (λ kept. cc (is, kept, each x is)) (λ left. cc (is, left, each x is, later)))
-    (λ out. by_test (q x) (λ kept. cc (out, kept, later)) (λ left. cc (out, left, later)))
+    by_test (p x) (λ is. by_test b (λ kept. cc (each x is)) (λ left. cc (each x is)))
+    (λ out. by_test (q x) (λ kept. cc) (λ left. cc))
 
 -- the element moved to the end
 pub moved_to_end : {X : Type 0} (xs : List X) (x : X) (ys : List X)
@@ -93,6 +97,9 @@ module _ {X : Type 0} (p : X → Bool) where
   pub count_cons : (x : X) (xs : List X) → count_by p (x ∷ xs) ≡ cond (p x) 1 0 + count_by p xs
   count_cons x xs = sum_by-cons _ x xs
 
+  count_passing : (x : X) (xs : List X) → p x ≡ true → count_by p (x ∷ xs) ≡ 1 + count_by p xs
+  count_passing x xs passes = cc (count_cons x xs)
+
   pub count_append : (xs ys : List X) → count_by p (xs ++ ys) ≡ count_by p xs + count_by p ys
   count_append xs ys = sum_by-append _ xs ys
 
@@ -103,31 +110,27 @@ module _ {X : Type 0} (p : X → Bool) where
   pub none_counts : (xs : List X) → find p xs ≡ None → count_by p xs ≡ 0
   none_counts [] h = refl
   none_counts (x ∷ xs) h =
-      let q = nothing_here _ x _ h in
-      let b : cond {A = ℕ} (p x) 1 0 ≡ 0 = ap (λ b. cond {A = ℕ} b 1 0) q.0 in
-      omega (arith, b, count_cons x xs, none_counts xs q.1)
+      let q = nothing_here (p x) x (find p xs) h in cc (count_cons x xs, none_counts xs q.1)
 
   -- an element that stands in the list and passes counts
   pub counts_in : (xs : List X) (x : X) → Contains xs x → p x ≡ true → 1 ≤ count_by p xs
   counts_in xs x among passes =
-      let b : cond (p (get_or xs among.0 x)) 1 0 ≡ 1 =
-      ap (λ y. cond {A = ℕ} (p y) 1 0) among.2 ∙ ap (λ b. cond {A = ℕ} b 1 0) passes in
-      omega (arith, b, get_or-le-sum_by (λ y. cond (p y) 1 0) xs _ x among.1)
+      by_cut (λ xs. 1 ≤ count_by p xs) xs x among
+      (λ ys zs. omega (arith, count_append ys (x ∷ zs), count_passing x zs passes))
 
   -- and where none counts, none is found
   pub counts_none : (xs : List X) → count_by p xs ≡ 0 → find p xs ≡ None
-  counts_none xs h = no_some _ (λ x e. let a = counts_in xs x (found_in p xs x e) (find_passes p xs x e) in omega arith)
+  counts_none xs h = no_some _ (λ x e. omega (arith, counts_in xs x (found_in p xs x e) (find_passes p xs x e)))
 
   -- where at most one passes, and one does that stands behind, none passes before it
   pub none_before : (xs : List X) (y : X) (ys : List X) → count_by p (xs ++ y ∷ ys) ≤ 1 → p y ≡ true → find p xs ≡ None
   none_before xs y ys once passes =
-      let c = ap (λ b. cond {A = ℕ} b 1 0) passes in
-      counts_none xs (omega (arith, count_append xs (y ∷ ys), count_cons y ys))
+      counts_none xs (omega (arith, count_append xs (y ∷ ys), count_passing y ys passes))
 
   -- one that passes is found
   pub found_some : (xs : List X) (x : X) → Contains xs x → p x ≡ true → (y : X) × (find p xs ≡ Some y)
   found_some xs x among passes = elim (none_or_some _) [
-    | inl none ↦ (let a = none_counts xs none in let b = counts_in xs x among passes in absurd (omega arith))
+    | inl none ↦ absurd (omega (arith, none_counts xs none, counts_in xs x among passes))
     | inr some ↦ some
   ]
 
@@ -140,12 +143,12 @@ module _ {X : Type 0} (p : X → Bool) where
   pub found_once : (xs : List X) (x : X) → Contains xs x → p x ≡ true → count_by p xs ≤ 1 → find p xs ≡ Some x
   found_once xs x among passes once =
       by_cut (λ xs. count_by p xs ≤ 1 → find p xs ≡ Some x) xs x among
-      (λ ys zs once. cc (find-append p ys _, none_before ys x zs once passes, passes)) once
+      (λ ys zs once. cc (find-append p ys _, none_before ys x zs once passes)) once
 
   -- and it is found in whatever order the list stands
   pub find_permuted : (xs ys : List X) → IsPermutation xs ys → count_by p xs ≤ 1 → find p ys ≡ find p xs
   find_permuted xs ys same once = let b = count_permuted xs ys same in elim (none_or_some _) [
-    | inl none ↦ (let a = none_counts xs none in cc (counts_none ys (omega arith)))
+    | inl none ↦ cc (counts_none ys (omega (arith, none_counts xs none)))
     | inr x ↦
         found_once ys x.0 (Contains-permutation xs ys x.0 same (found_in p xs x.0 x.1)) (find_passes p xs x.0 x.1)
         (omega arith)
@@ -160,8 +163,9 @@ module _ {X : Type 0} (p : X → Bool) where
   pub once_push : (xs : List X) (y : X) → count_by p xs ≤ 1 → (p y ≡ true → find p xs ≡ None)
       → count_by p (xs ++ y ∷ []) ≤ 1
   once_push xs y once new =
-      cond_both _ 1 0 (λ n. count_by p (xs ++ y ∷ []) ≡ count_by p xs + n → count_by p (xs ++ y ∷ []) ≤ 1)
-      (λ is e. let none = none_counts xs (new is) in omega arith) (λ _ e. omega (arith, once, e)) (sum_by_push _ xs y)
+      let more = count_append xs (y ∷ []) in
+      by_test (p y) (λ is. omega (arith, none_counts xs (new is), count_passing y [] is))
+      (λ is. let none : count_by p (y ∷ []) ≡ 0 = cc in omega arith)
 
   -- the first element that passes, before which none does
   pub record FirstCut (xs : List X) (x : X) : Type 0 where
@@ -169,15 +173,14 @@ module _ {X : Type 0} (p : X → Bool) where
     pub behind : List X
     pub is : xs ≡ before ++ x ∷ behind
     pub none : find p before ≡ None
-    pub passes : p x ≡ true
 
   pub first_cut : (xs : List X) (x : X) → find p xs ≡ Some x → FirstCut xs x
   first_cut [] x h = cc
   first_cut (y ∷ ys) x h = elim (cases_Bool (p y)) [
-    | inl is ↦ record { before = []; behind = ys; is = cc (is, h); none = refl; passes = cc (is, h) }
+    | inl is ↦ record { before = []; behind = ys; is = cc; none = refl }
     | inr is ↦ (
-        let c = first_cut ys x (cc (is, h)) in
-        record { before = y ∷ c.before; behind = c.behind; is = cc; none = cc; passes = c.passes })
+        let c = first_cut ys x (cc) in
+        record { before = y ∷ c.before; behind = c.behind; is = cc; none = cc })
   ]
 
   -- where none is found, none passes
@@ -188,16 +191,16 @@ module _ {X : Type 0} (p : X → Bool) where
 
   pub filter_all : (xs : List X) → find p xs ≡ None → filter (λ x. not (p x)) xs ≡ xs
   filter_all [] h = refl
-  filter_all (y ∷ ys) h = let q = nothing_here _ y (find p ys) h in cc (q.0, filter_all ys q.1)
+  filter_all (y ∷ ys) h = let q = nothing_here _ y (find p ys) h in cc (filter_all ys q.1)
 
   -- the one that passes is left out
   pub filter_one : (xs : List X) (x : X) (ys : List X) → p x ≡ true
       → count_by p (xs ++ x ∷ ys) ≤ 1 → filter (λ x. not (p x)) (xs ++ x ∷ ys) ≡ xs ++ ys
   filter_one xs x ys passes once =
       let a = count_append xs (x ∷ ys) in
-      let b = count_cons x ys in
-      let c = ap (λ b. cond {A = ℕ} b 1 0) passes in
-      let before = filter_all xs (counts_none xs (omega (arith, a, b, c, once))) in
-      let behind = filter_all ys (counts_none ys (omega (arith, a, b, c, once))) in
-      filter-append _ xs (x ∷ ys)
-      ∙ (λ i. before i ++ cond (not (passes i)) (x ∷ filter (λ x. not (p x)) ys) (behind i))
+      let b = count_passing x ys passes in
+      cc (
+        filter-append (λ x. not (p x)) xs (x ∷ ys),
+        filter_all xs (counts_none xs (omega arith)),
+        filter_all ys (counts_none ys (omega arith)),
+      )

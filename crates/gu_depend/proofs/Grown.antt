@@ -1,13 +1,69 @@
--- A list of changes that has some of the changes of another, each behind what it stands on: what it says of a node is
--- what the other says.
-use Rattle.gu_depend.proofs.Names.{made_by_split, maker}
+-- Names of nodes, and a list of changes that has some of the changes of another, each behind what it stands on.
 use Rattle.gu_depend.proofs.Vocabulary
-use Vocabulary.{All, All-contains, All-nil, All-push, All-weaker, ap, append-nil, append_assoc, arith, claim_of}
-use Vocabulary.{claimed_account, Command, decides, decision_of, EntryPart, find-append, inl, inr, length, length-append}
-use Vocabulary.{line_of, line_within, List, made, made_of, names, no_some, Node, node_called, node_cut, node_more}
-use Vocabulary.{node_of, None, none_or_some, option_and_then, or_none, parent, place_along, place_of, place_of_kind}
-use Vocabulary.{Record, refl, same_name, Some, splits, subst, suc, sym, true, zero, ℕ, [], ◌++◌, ◌+◌, ◌<◌, ◌∙◌, ◌∷◌}
-use Vocabulary.{◌≡◌, ◌≤◌}
+use Rattle.gu_base.proofs.NodeNames.{made_entry, part_parent}
+use Rattle.gu_depend.proofs.Finds.{and_then_told, by_test, counts_less, some_there}
+use Vocabulary.{All, All-contains, All-nil, All-push, All-weaker, ap, append-nil, append_assoc}
+use Vocabulary.{arith, Bool, claim_of, claimed_account, Command, Contains, count_by, decides, Decides-eqb, decision_of}
+use Vocabulary.{EntryPart, find, find-append, found_in, inl, inr, is_some, length, length-append, line_of, line_within}
+use Vocabulary.{List, made, made_of, name_same, names, no_some, Node, node_called, node_more, node_of, nodes_of, None}
+use Vocabulary.{none_or_some, option_and_then, parent, place_along, place_of, Record, refl, same_name, same_Some, Some}
+use Vocabulary.{Split, splits, subst, suc, sym, Trade, true, zero, [], ℕ, ◌++◌, ◌+◌, ◌<◌, ◌==◌, ◌∙◌, ◌∷◌, ◌≡◌, ◌≤◌}
+
+pub at_name : (l : List Record) (n : EntryPart) (x : Node) → node_of l n ≡ Some x → node_of l x.name ≡ Some x
+at_name l n x h = subst (λ z. node_of l z ≡ Some x) (sym (node_called l n x h)) h
+
+-- ---- the change that makes a node
+
+abbrev pub makes : EntryPart → Record → Bool
+makes n r = is_some (made_of r n)
+
+-- a node is that of the first change that makes one of its name
+pub node_by_maker : (l : List Record) (n : EntryPart)
+    → node_of l n ≡ option_and_then (λ r. made_of r n) (find (makes n) l)
+node_by_maker [] n = refl
+node_by_maker (r ∷ l) n = find-append _ (made r) _ ∙ elim (none_or_some (made_of r n)) [
+  | inl none ↦ cc (node_by_maker l n)
+  | inr x ↦ cc
+]
+
+-- the change that makes a node that is found
+pub record Maker (l : List Record) (n : EntryPart) (x : Node) : Type 0 where
+  pub change : Record
+  pub among : Contains l change
+  pub makes_it : made_of change n ≡ Some x
+
+pub maker : (l : List Record) (n : EntryPart) (x : Node) → node_of l n ≡ Some x → Maker l n x
+maker l n x h =
+    let m = and_then_told _ _ x (sym (node_by_maker l n) ∙ h) in
+    record { change = m.0; among = found_in _ l m.0 m.1.0; makes_it = m.1.1 }
+
+-- it has the number of the change that makes it
+pub made_number : (r : Record) (n : EntryPart) (x : Node) → made_of r n ≡ Some x → n.entry ≡ r.number
+made_number r n x h = made_entry n _ _ _ x h
+
+parent_made : (n m : EntryPart) (k : ℕ) (by : List ℕ) (c : Command) (x : Node)
+    → find (λ x. same_name x.name n) (nodes_of k by c) ≡ Some x → parent x.kind ≡ Some m → splits m c ≡ true
+parent_made n m k by (Trade _ _ _ _ _) x h up =
+    by_test (same_name (record { entry = k; part = 0 }) n) (λ is. cc) (λ other. cc)
+parent_made n m k by (Split o ps) x h up =
+    subst (λ z. same_name o z ≡ true) (same_Some o m (cc (part_parent n o k 1 by ps x h))) (name_same o)
+parent_made n m k by _ x h up = cc
+
+-- a node that has a parent is made by a Split of it
+pub made_by_split : (r : Record) (n m : EntryPart) (x : Node) → made_of r n ≡ Some x → parent x.kind ≡ Some m
+    → splits m r.command ≡ true
+made_by_split r n m x h up = parent_made n m _ _ _ x h up
+
+-- where a number stands once, its nodes are made once
+pub makers_once : (l : List Record) (n : EntryPart) → count_by (λ r. r.number == n.entry) l ≤ 1
+    → count_by (makes n) l ≤ 1
+makers_once l n once =
+    let a = counts_less _ _ l
+    (λ r h. let x = some_there _ h in (Decides-eqb r.number n.entry).1 (sym (made_number r n x.0 x.1))) in
+    omega arith
+
+-- ---- a list of changes that has some of the changes of another, each behind what it stands on: what it says of a
+-- node is what the other says
 
 -- what is found in the second list is found in the first
 pub record Within (l b : List Record) : Type 0 where
@@ -68,9 +124,9 @@ grown_none l = record {
 -- a decision that both lists have, or neither, stays so
 pub decided_more : (l b z : List Record) (n : EntryPart) → Within l (b ++ z) → decision_of b n ≡ decision_of l n
     → decision_of (b ++ z) n ≡ decision_of l n
-decided_more l b z n w same = elim (none_or_some _) [
+decided_more l b z n w same = elim (none_or_some (decision_of b n)) [
   | inl none ↦
-      no_some _ (λ d h. cc ((sym same ∙ none), (w.decisions n d h)))
+      no_some _ (λ d h. cc (w.decisions n d h))
       ∙ (cc)
   | inr d ↦ cc (find-append (λ r. decides n r.command) b z)
 ]
@@ -86,8 +142,7 @@ follows_more l b z c w f =
 -- ---- lines
 
 pub line_none : (f : ℕ) (l : List Record) → line_within f l None ≡ []
-line_none zero l = refl
-line_none (suc f) l = refl
+line_none f l = refl
 
 -- where the nodes of the one list are those of the other, and what it names is there
 module _ (l b : List Record) (nodes : (n : EntryPart) (x : Node) → node_of b n ≡ Some x → node_of l n ≡ Some x)
@@ -97,12 +152,12 @@ module _ (l b : List Record) (nodes : (n : EntryPart) (x : Node) → node_of b n
       → line_within f b (Some x) ≡ line_within f l (Some x)
   line_led zero n x found = refl
   line_led (suc f) n x found = ap (λ xs. x ∷ xs) (elim (none_or_some (parent x.kind)) [
-    | inl none ↦ cc (none)
+    | inl none ↦ cc
     | inr m ↦ (
         let by = maker b n x found in
         let y = All-contains (NamesThere b) b _ named by.among m.0
         (rw (made_by_split by.change n m.0 x by.makes_it m.1)) in
-        cc (m.1, y.1, line_led f m.0 y.0 y.1, nodes m.0 y.0 y.1))
+        cc (line_led f m.0 y.0 y.1, nodes m.0 y.0 y.1))
   ])
 
 -- one change more
@@ -111,51 +166,41 @@ module _ (b : List Record) (r : Record) (named : All (NamesThere b) b) (ends : L
   abbrev more : List Record
   more = b ++ r ∷ []
 
-  -- so many steps, or more, lead to the same line from a node that was there before
-  old_ends : (f g : ℕ) (n : EntryPart) (x : Node) → node_of b n ≡ Some x → length b ≤ f → length b ≤ g
+  -- so many steps, or more, lead to the same line, since above each node there are only such as were there before
+  same_ends : (f g : ℕ) (n : EntryPart) (x : Node) → node_of more n ≡ Some x → length b < f → length b < g
       → line_within f more (Some x) ≡ line_within g more (Some x)
-  old_ends f g n x found far long =
-      let old = λ (f : ℕ). line_led more b (node_more b _) named f n x found in
-      sym (old f) ∙ (cc (ends f n x found far, ends g n x found long, old g))
-
-  -- and from one that the change makes, since above it there are only such
-  new_ends : (f g : ℕ) (n : EntryPart) (x : Node) → made_of r n ≡ Some x → length b < f → length b < g
-      → line_within f more (Some x) ≡ line_within g more (Some x)
-  new_ends zero g n x makes far long = absurd (omega arith)
-  new_ends (suc f) zero n x makes far long = absurd (omega arith)
-  new_ends (suc f) (suc g) n x makes far long = ap (λ xs. x ∷ xs) (elim (none_or_some (parent x.kind)) [
-    | inl none ↦ cc (none)
+  same_ends zero g n x found far long = absurd (omega arith)
+  same_ends (suc f) zero n x found far long = absurd (omega arith)
+  same_ends (suc f) (suc g) n x found far long = ap (λ xs. x ∷ xs) (elim (none_or_some (parent x.kind)) [
+    | inl none ↦ cc
     | inr m ↦ (
-        let y = there m.0 (rw (made_by_split r n m.0 x makes m.1)) in
-        cc (m.1, node_more b (r ∷ []) m.0 y.0 y.1, old_ends f g m.0 y.0 y.1 (omega arith) (omega arith)))
+        let by = maker more n x found in
+        let y = All-contains (NamesThere b) more _ (All-push (NamesThere b) b r named there) by.among m.0
+        (rw (made_by_split by.change n m.0 x by.makes_it m.1)) in
+        let old = λ (f : ℕ). line_led more b (node_more b _) named f m.0 y.0 y.1 in
+        cc (
+          node_more b (r ∷ []) m.0 y.0 y.1,
+          old f,
+          old g,
+          ends f m.0 y.0 y.1 (omega arith),
+          ends g m.0 y.0 y.1 (omega arith),
+        ))
   ])
 
 pub grown_push : (l b : List Record) (r : Record) → Grown l b → Within l (b ++ r ∷ []) → length (b ++ r ∷ []) ≤ length l
     → Follows l b r.command → Grown l (b ++ r ∷ [])
 grown_push l b r g w short f =
-    let own = follows_more l b _ _ w f in
+    let more = b ++ r ∷ [] in
     record {
       within = w;
-      named = All-push (NamesThere (b ++ r ∷ [])) b r
-          (All-weaker _ (NamesThere (b ++ r ∷ [])) (λ d. there_more b _ _) b g.named)
-          own.there;
-      decided = All-push (SplitsDecided l (b ++ r ∷ [])) b r
-          (All-weaker (SplitsDecided l b) (SplitsDecided l (b ++ r ∷ []))
-          (λ d h n is. decided_more l b (r ∷ []) n w (h n is)) b g.decided)
-          own.decided;
+      named = All-weaker (NamesThere b) (NamesThere more) (λ d. there_more b _ _) more
+          (All-push (NamesThere b) b r g.named f.there);
+      decided = All-weaker (SplitsDecided l b) (SplitsDecided l more) (λ d h n is. decided_more l b _ n w (h n is)) more
+          (All-push (SplitsDecided l b) b r g.decided f.decided);
       short = short;
       ends = λ s n x found far.
-          let long : length (b ++ r ∷ []) ≡ length b + 1 = length-append b (r ∷ []) in
-          let either = sym (node_cut b (r ∷ []) n) ∙ found in
-          elim (none_or_some (node_of b n)) [
-            | inl none ↦
-                new_ends b r g.named g.ends f.there s (length (b ++ r ∷ [])) n x
-                (cc (find-append (λ x. same_name x.name n) (made r) [], or_none (made_of r n), none, either))
-                (omega (arith, long)) (omega (arith, long))
-            | inr y ↦
-                old_ends b r g.named g.ends f.there s (length (b ++ r ∷ [])) n x (cc (y.1, either))
-                (omega (arith, long)) (omega (arith, long))
-          ];
+          let long : length more ≡ length b + 1 = length-append b (r ∷ []) in
+          same_ends b r g.named g.ends f.there s _ n x found (omega arith) (omega arith);
     }
 
 -- what is above a node: its parent, and the decision of the parent
@@ -187,15 +232,13 @@ place_grown : (f : ℕ) (l b : List Record) → Grown l b → (n : EntryPart) (x
 place_grown zero l b g n x found claims = refl
 place_grown (suc f) l b g n x found claims =
     let claimed = subst (λ z. claim_of b z ≡ claim_of l z) (sym (node_called b n x found)) claims in
-    let up : place_along b (line_within f b (option_and_then (node_of b) (parent x.kind)))
-    ≡ place_along l (line_within f l (option_and_then (node_of l) (parent x.kind))) =
     elim (none_or_some (parent x.kind)) [
-      | inl none ↦ cc (none)
-      | inr m ↦ (let y = above l b n m.0 x g found m.1 in
+      | inl none ↦ cc
+      | inr m ↦ (
+          let y = above l b n m.0 x g found m.1 in
           let same = ap (option_and_then (λ r. claimed_account r.command)) y.decided in
           cc (g.within.nodes m.0 y.node y.there, place_grown f l b g m.0 y.node y.there same))
-    ] in
-    λ i. place_of_kind x.kind (claimed i) (up i)
+    ]
 
 pub place_claimed : (l b : List Record) (n : EntryPart) (x : Node) → Grown l b → node_of b n ≡ Some x
     → claim_of b n ≡ claim_of l n → place_of b n ≡ place_of l n

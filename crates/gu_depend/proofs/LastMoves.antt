@@ -1,19 +1,20 @@
 -- What a change that stands behind others moves.
 use Rattle.gu_depend.proofs
-use proofs.Deals.{deal, dealings_append, dealings_cut, dealings_grown, deed_in, gives_alike, not_empty}
-use proofs.{Finds.{alike_at, and_then_told, cut_at, find_beside, found_some, none_before, none_there}, Grown.Grown}
-use proofs.{Grown.{line_none, line_of_grown, NamesThere, place_same, ThereFor, Within}, Names.{at_name, made_number}}
-use proofs.{Names.maker, Replay.{Legal, NumbersOnce}, Settled.{accepted_there, facts, front_facts}}
-use proofs.{StandsLast.accepted_at, State.{charge_alike, SameTermsFor}}
-use Rattle.gu_depend.proofs.Vocabulary
-use Vocabulary.{agreement, All-contains, All-contains_itself, All-weaker, all_sound, AllFit, ap, append-nil, arith}
-use Vocabulary.{Bool, Charge, charge_of, Command, cond, cons_option, Contains, dealings, dealings_in, decides}
-use Vocabulary.{Decides-eqb, decision_of, Deed, EntryPart, false, false_from_ne_true, filter_map-append, find, House}
-use Vocabulary.{inl, inr, is_none, is_trade_of, length, line_within, List, lots_at, made, MovesItsOwn, name_same, names}
-use Vocabulary.{Node, node_of, nodes, nodes_push, None, none_is_some, none_or_some, Option, option_and_then, option_map}
-use Vocabulary.{or_parts, parent, Record, refl, replay_front, root_along, root_of, row, same_name, same_place}
-use Vocabulary.{same_Some, Side, Some, split_of, splits, subst, suc, sum_agree_on, sum_by, sum_by-append, sum_plus, sym}
-use Vocabulary.{terms_of, terms_stay, trades_in, true, unwrap_or, zero, ℕ, [], ◌&&◌, ◌++◌, ◌+◌, ◌==◌, ◌∙◌, ◌∷◌, ◌≡◌}
+use proofs.Deals.{accepted_there, deal}
+use proofs.Deals.{dealings_append, dealings_cut, dealings_grown, deed_in, facts, front_facts, gives_alike, not_empty}
+use proofs.Finds.{alike_at, all_in, and_then_told, cut_at, find_beside, found_some, none_before, none_there}
+use proofs.Grown.{at_name, Grown, line_of_grown, made_number, maker, NamesThere, place_same, ThereFor, Within}
+use proofs.{Replay.{Legal, NumbersOnce}, StandsLast.accepted_at, State.{charge_alike, SameTermsFor}}
+use proofs.Vocabulary.{agreement, All-contains, AllFit, ap, append-nil}
+use proofs.Vocabulary.{arith, Bool, Charge, charge_of, Command, cond, cons_option, Contains, dealings, dealings_in}
+use proofs.Vocabulary.{decides, Decides-eqb, decision_of, Deed, EntryPart, false, false_from_ne_true, filter_map-append}
+use proofs.Vocabulary.{find, House, inl, inr, is_none, is_trade_of, length, line_within, List, lots_at}
+use proofs.Vocabulary.{made, name_same, names, Node, node_of, nodes, None, none_or_some, Option, option_and_then}
+use proofs.Vocabulary.{option_map, or_parts, parent, Record, refl, replay_front, root_along, root_of, row, same_name}
+use proofs.Vocabulary.{same_place, same_Some, Side, Some, split_of, splits, subst, suc, sum_by, sum_by-append}
+use proofs.Vocabulary.{sym, terms_of, trades_in, true, unwrap_or, zero, [], ℕ, ◌&&◌, ◌++◌, ◌+◌, ◌==◌, ◌∙◌, ◌∷◌, ◌≡◌}
+use Rattle.gu_base.proofs.{Dealt.{all_sound, terms_stay}, NodeNames.nodes_push, Sums.{sum_agree_on, sum_plus}}
+use Rattle.gu_depend.specs.Moves.{MovesItsOwn}
 pub use Rattle.gu_depend.proofs.State.{position_is, sum_filter}
 
 swapped : (old new : ℕ) (b : Bool) → (b ≡ false → new ≡ old) → new + cond b old 0 ≡ old + cond b new 0
@@ -34,13 +35,11 @@ pub root_found : (f : ℕ) (l : List Record) (p m : EntryPart) (x : Node) → no
 root_found zero l p m x found h = cc
 root_found (suc f) l p m x found h =
     let above = option_and_then (node_of l) (parent x.kind) in
-    root_at l x p (at_name l m x found) (line_within f l above) (λ later. elim (none_or_some _) [
-      | inl none ↦
-          absurd (none_is_some _ p
-          (ap (λ o. root_along (line_within f l o)) none ∙ ap root_along (line_none f l)) later)
+    root_at l x p (at_name l m x found) (line_within f l above) (λ later. elim (none_or_some above) [
+      | inl none ↦ cc
       | inr y ↦ (
           let up = and_then_told (node_of l) (parent x.kind) y.0 y.1 in
-          root_found f l p up.0 y.0 up.1.1 (cc (y.1)))
+          root_found f l p up.0 y.0 up.1.1 (cc))
     ]) h
 
 -- ---- what a claim costs
@@ -86,8 +85,7 @@ module _ {t : House} {l : List Record} {r : Record} (b : IsBefore t l r) where
       cc (
         line_of_grown (l ++ r ∷ []) l b.grown m x found,
         alike_at (λ p. find (trade p) (l ++ r ∷ [])) (λ p. find (trade p) l) (root_of l m) (λ p h.
-            let y = root_found (length l) l p m x found
-            (sym (ap (λ o. root_along (line_within (length l) l o)) found) ∙ h) in
+            let y = root_found (length l) l p m x found (cc) in
             cc (find_beside (trade p) l r [] (rw (other_trade p y.0 y.1)), append-nil l)),
       )
 
@@ -100,7 +98,7 @@ module _ {t : House} {l : List Record} {r : Record} (b : IsBefore t l r) where
     | inl none ↦ absurd (some none)
     | inr a ↦ (
         let stay = terms_stay _ (dealings l g k) (dealings_in (l ++ r ∷ []) (r ∷ []) g k) a.0 a.1 in
-        cc (a.1, dealings_append (l ++ r ∷ []) l (r ∷ []) g k, dealings_grown (l ++ r ∷ []) l g k b.grown, stay))
+        cc (dealings_append (l ++ r ∷ []) l (r ∷ []) g k, dealings_grown (l ++ r ∷ []) l g k b.grown))
   ]
 
   -- a change before it costs what it cost, since whoever deals has terms
@@ -136,8 +134,9 @@ moves_its_own t l r legal = let b = is_before t l r legal in record {
       let new = lots_at (l ++ r ∷ []) at instrument side in
       let p : Node → Bool = λ x. names x.name r.command in
       let cut = ap (sum_by new) (nodes_push l r) ∙ sum_by-append new (nodes l) (made r) in
-      let each = sum_agree_on (λ x. new x + cond (p x) (old x) 0) (λ x. old x + cond (p x) (new x) 0) (nodes l)
-      (All-weaker (Contains (nodes l)) (λ (x : Node). new x + cond (p x) (old x) 0 ≡ old x + cond (p x) (new x) 0)
+      let lost = λ (x : Node). new x + cond (p x) (old x) 0 in
+      let gained = λ (x : Node). old x + cond (p x) (new x) 0 in
+      let each = sum_agree_on lost gained (nodes l) (all_in (λ x. lost x ≡ gained x) (nodes l)
       (λ x among.
       let y = found_some (λ z. same_name z.name x.name) (nodes l) x among (name_same x.name) in
       -- one that the change doesn't name adds what it added
@@ -150,15 +149,11 @@ moves_its_own t l r legal = let b = is_before t l r legal in record {
       (sym (place_same (l ++ r ∷ []) l x.name y.0 b.grown y.1 (sym decision))) in
       let trades = trades_kept b instrument side x.name y.0 y.1 in
       λ i.
-      cond (is_none (split i)) (cond (stands i && trades i) x.lots 0) 0)) (nodes l) (All-contains_itself (nodes l))) in
+      cond (is_none (split i)) (cond (stands i && trades i) x.lots 0) 0))) in
       let left = sum_plus new (λ x. cond (p x) (old x) 0) (nodes l) in
       let right = sum_plus old (λ x. cond (p x) (new x) 0) (nodes l) in
       omega (
         arith,
-        each,
-        cut,
-        left,
-        right,
         position_is (l ++ r ∷ []) at instrument side,
         position_is l at instrument side,
         sum_filter old p (nodes l),
@@ -166,9 +161,8 @@ moves_its_own t l r legal = let b = is_before t l r legal in record {
       );
   charged =
       let h : Record → Option Charge = λ d. charge_of t (l ++ r ∷ []) d.command in
-      let own : h r ≡ charge_of t l r.command = sym (own_charge b) in
-      let kept = All-weaker (Contains l) (λ (d : Record). charge_of t l d.command ≡ h d) (charge_kept b) l
-      (All-contains_itself l) in
+      let own = sym (own_charge b) in
+      let kept = all_in (λ (d : Record). charge_of t l d.command ≡ h d) l (charge_kept b) in
       let old = sym (gives_alike (λ d. charge_of t l d.command) h l kept) in
       filter_map-append h l (r ∷ []) ∙ (λ i. old i ++ cons_option (own i) []);
 }

@@ -1,25 +1,23 @@
 -- What stands on a change, read off trees and terms that show the list, and how many entries stand beside it.
 use Rattle.gu_depend.proofs
-use proofs.{Deals.{both_same, deal, dealings_cut, deed_in, first_on_deal, numbered, pair_in}, Finds.alike_at}
-use proofs.Finds.{and_then_steps, and_then_told, cut_at, filter_all, found_once, none_before, some_with}
-use proofs.{Names.{made_number, maker}, Replay.{Legal, NumbersOnce}, Settled.named_once, StandsUnder.least_in}
-use proofs.{StandsUnder.{least_one, legal_rising, looked_up}, TermsFollow.pair_place}
-use Rattle.gu_depend.proofs.Vocabulary
-use Vocabulary.{Agree, ap, AreTermsOf, arith, Bool, Cancel, change_of, Claim, Command, cond, Contains, dealings}
-use Vocabulary.{dealings_in, deals_under, decides, Decides-eqb, decision_of, Deed, entries_dealt, EntryPart, false}
-use Vocabulary.{find, find-append, find_passes, found_in, House, inl, inr, is_pair, IsLegal, IsSomeAnd, least}
-use Vocabulary.{legal_from_replay, length, List, lookup, Makes, name_same, named_place, Node, node_of, None}
-use Vocabulary.{none_or_some, nothing_here, number_in, numbers_on_parts, numbers_under, Option, option_and_then}
-use Vocabulary.{option_map, or_right, Pair, pair_at, PairView, Part, place_in, place_of_pair, Raise, Raises, Record}
-use Vocabulary.{refl, Refuse, replay_from_legal, RisesFrom, same_Some, ShowsAll, slice_get, Some, Split, split_of}
-use Vocabulary.{splits, standing_on, sym, TermsView, Trade, true, unwrap_or, without, ℕ, [], ◌==◌, ◌↔◌, ◌∙◌, ◌∷◌, ◌≡◌}
-use Vocabulary.{◌≢◌}
-use Rattle.gu_depend.specs.Touch.{is_trade_or_decision}
-use Rattle.gu_fees.specs.{Pairs.{deed_at, standing_under}, Terms.{entries_in, row_of, standing_in}}
+use Rattle.gu_tree.specs
+use proofs.Deals.{both_same, deal, deed_in, first_on_deal, named_once, pair_in}
+use proofs.Finds.{alike_at, and_then_steps, and_then_told, by_test, filter_all, found_once, some_with}
+use proofs.Grown.{made_number, maker}
+use proofs.{Replay.Legal, StandsUnder.{least_in, least_one, legal_rising, looked_up}, TermsFollow.pair_place}
+use proofs.Vocabulary.{Agree, ap, AreTermsOf, arith, Bool, Cancel, change_of, Claim, Command, cond}
+use proofs.Vocabulary.{Contains, dealings, dealings_in, deals_under, decides, Decides-eqb, decision_of, Deed, EntryPart}
+use proofs.Vocabulary.{false, find_passes, found_in, House, inl, inr, IsLegal, IsSomeAnd, least, legal_from_replay}
+use proofs.Vocabulary.{length, List, Makes, name_same, Node, node_of, None, none_or_some, number_in, numbers_under}
+use proofs.Vocabulary.{Option, option_and_then, option_map, Pair, pair_at, PairView, Part, place_of_pair, Raise, Raises}
+use proofs.Vocabulary.{Record, refl, Refuse, replay_from_legal, RisesFrom, same_Some, Some, Split, split_of, splits}
+use proofs.Vocabulary.{standing_on, sym, TermsView, Trade, true, unwrap_or, without, [], ℕ, ◌==◌, ◌↔◌, ◌∙◌, ◌∷◌, ◌≡◌}
+use Rattle.gu_depend.specs.{Terms.entries_dealt, Touch.is_trade_or_decision}
+use Rattle.gu_fees.specs.{Pairs.{deed_at, standing_under}, Rows.is_pair, Terms.{entries_in, row_of, standing_in}}
 use Rattle.gu_tree.proofs.{Parts.{at_fact, some_and}, ShowsLess.no_root_part, ToldAt.{IsToldAt, told_at}}
-use Rattle.gu_tree.specs.{Grove.{Grove, HasTree, IsPlace, place_of, tree_of}, Paths.node_at, Rose.{head_of, Rose}}
-use Rattle.gu_tree.specs.Rose.{split_of_node}
-use Rattle.std.proofs.lemmas.Bool.{ne_eqb, or_from}
+use Rattle.std.{proofs.{Common.◌≢◌, lemmas.Bool.{ne_eqb, or_from, or_right}}, specs.{Map.lookup, Prelude.slice_get}}
+use specs.{Grove.{Grove, HasTree, IsPlace, place_of, tree_of}, NumbersOn.numbers_on_parts}
+use specs.{Paths.node_at, Rose.{head_of, Rose, split_of_node}, ShownAll.{named_place, place_in, ShowsAll}}
 
 -- ---- a trade, a decision, or neither
 
@@ -83,7 +81,7 @@ module _ (t : House) (l : List Record) (list : Legal t l) (k : ℕ) (r : Record)
         let found : decision_of l n ≡ Some r =
         found_once _ l r among passes ((named_once t l list.replayed).decisions_once n) in
         -- it is the decision of its node
-        let own : (head_of v).decision ≡ Some k = cc (told.decision, name, found, number_is) in
+        let own : (head_of v).decision ≡ Some k = cc number_is in
         cc (or_right (trade == k) (k == k) ((Decides-eqb k k).1 refl), split_at n at)
 
     -- what is read there is what is looked up for the change
@@ -92,18 +90,18 @@ module _ (t : House) (l : List Record) (list : Legal t l) (k : ℕ) (r : Record)
     read_here (Trade _ _ _ _ _) is at =
         let name = same_Some _ _ at in
         let root = told.rooted (sym (ap (λ m. m.part) name)) in
-        cc (of_trade k trade (head_of v).decision (cc (root, name, number_is)), split_at _ at)
+        cc (of_trade k trade (head_of v).decision (cc number_is), split_at _ at)
     read_here (Split n ps) is at =
         let found : split_of l n ≡ Some r = found_once (λ r. splits n r.command) l r among
         (rw is (name_same n)) ((named_once t l list.replayed).splits_once n) in
         let undecided = λ (h : (head_of v).decision ≡ Some k). split_no_decision n ps is (decision_of l n) refl
-        (cc (same_Some n _ at, told.decision)) in
+        (cc (same_Some n _ at)) in
         let neither = of_neither k trade _ (split_no_trade n ps is trade told.root told.has_root) undecided in
-        cc (neither, told.parts, same_Some n _ at, found)
+        cc (same_Some n _ at)
     read_here (Claim n _) is at = at_decision n (rw is (name_same n)) at
     read_here (Refuse n) is at = at_decision n (rw is (name_same n)) at
     read_here (Cancel n) is at = at_decision n (rw is (name_same n)) at
-    read_here _ is at = absurd (cc)
+    read_here _ is at = cc
 
 -- ---- the answers
 
@@ -111,22 +109,21 @@ module _ (t : House) (l : List Record) (rises : RisesFrom 0 l) (legal : IsLegal 
   abbrev list : Legal t l
   list = legal_rising t l rises legal
 
-  -- what stands on a change without a place, of those whose giver and taker it deals for
-  nothing_named : (k : ℕ) (o : Option Record) → change_of l k ≡ o
-      → option_and_then (λ r. named_place r.number r.command) o ≡ None
-      → option_and_then (λ r. first_on_deal t l r) o ≡ standing_on t l k
-  nothing_named k None e none = sym (cc (filter_all (λ r. r.number == k) l e, list.replayed))
-  nothing_named k (Some r) e none = deals_alone _ none ∙ looked_up_here t l list k r e rises
-    where
-      deals_alone : (c : Command) → named_place r.number c ≡ None
-          → deals_under t l r.number r.firm c ≡ least (numbers_under t l r.number r.firm c)
-      deals_alone (Agree giver _ _ _) h = sym (least_one _)
-      deals_alone (Raise _ _) h = sym (least_one _)
-      deals_alone _ h = cc
+  deals_alone : (k : ℕ) (by : List ℕ) (c : Command) → named_place k c ≡ None
+      → deals_under t l k by c ≡ least (numbers_under t l k by c)
+  deals_alone k by (Agree _ _ _ _) h = sym (least_one _)
+  deals_alone k by (Raise _ _) h = sym (least_one _)
+  deals_alone k by _ h = cc
 
+  -- what stands on a change without a place, of those whose giver and taker it deals for
   pub placeless : (k : ℕ) → place_in l k ≡ None
       → option_and_then (λ r. first_on_deal t l r) (change_of l k) ≡ standing_on t l k
-  placeless k none = nothing_named k _ refl none
+  placeless k none = elim (none_or_some (change_of l k)) [
+    | inl absent ↦ cc (filter_all (λ r. r.number == k) l absent, list.replayed)
+    | inr r ↦ (
+        let alone = deals_alone r.0.number r.0.firm r.0.command (cc) in
+        cc (looked_up_here t l list k r.0 r.1 rises))
+  ]
 
 module _ (g : Grove) (t : House) (l : List Record) (rises : RisesFrom 0 l) (legal : IsLegal t l)
     (shows : ShowsAll l g) where
@@ -142,8 +139,8 @@ module _ (g : Grove) (t : House) (l : List Record) (rises : RisesFrom 0 l) (lega
       let n = some_with _ (place_of g k) place in
       let tree = some_and (λ t. node_at p t ≡ Some v) (tree_of g trade) has in
       let leads = rw (same_Some n.1.1.tree tree.0 (sym n.1.1.found ∙ tree.1)) at n.1.1.there in
-      let named : (head_of v).name ≡ n.0 = at_fact (λ u. (head_of u).name ≡ n.0) (node_at p tree.0) v tree.2 leads in
-      let placed : place_of g k ≡ Some (head_of v).name = cc (n.1.0, named) in
+      let named = at_fact (λ u. (head_of u).name ≡ n.0) (node_at p tree.0) v tree.2 leads in
+      let placed : place_of g k ≡ Some (head_of v).name = cc in
       let r = and_then_told _ (change_of l k) _ (sym (shows.places k) ∙ placed) in
       let told = told_at l trade tree.0 (rw tree.1 at (shows.trees trade)) p v tree.2 in
       sym (ap (read_at v) is)
@@ -157,72 +154,56 @@ none_where_legal t l k o is = (λ none. legal_from_replay t _ (cc), λ others. i
 
 -- ---- the deed of a number
 
-none_numbered : (l : List Record) (g k : List ℕ) (n : ℕ) (b : List Record) → find (λ r. r.number == n) b ≡ None
-    → find (λ d. d.number == n) (dealings_in l b g k) ≡ None
-none_numbered l g k n [] h = refl
-none_numbered l g k n (r ∷ b) h =
-    let q = nothing_here _ r (find (λ r. r.number == n) b) h in
-    let rest = none_numbered l g k n b q.1 in
-    elim (none_or_some (deed_in l g k r)) [ inl none ↦ cc (none, rest) | inr d ↦ cc ]
+-- where the first change of the number deals, its deed is found
+deed_found : (l : List Record) (g k : List ℕ) (n : ℕ) (r : Record) (d : Deed) (b : List Record) → change_of b n ≡ Some r
+    → deed_in l g k r ≡ Some d → deed_at (dealings_in l b g k) n ≡ Some d
+deed_found l g k n r d [] found deals = cc
+deed_found l g k n r d (s ∷ b) found deals =
+    by_test (s.number == n) (λ is. let same = same_Some s r (cc) in cc) (λ other.
+    let rest = deed_found l g k n r d b (cc) deals in
+    elim (none_or_some (deed_in l g k s)) [ inl none ↦ cc | inr e ↦ cc ])
 
 -- ---- read off the terms
 
 abbrev standing_of : ℕ → PairView → Option ℕ
 standing_of n r = standing_under r.file r.dealings n
 
--- what stands in the row of a place, where there is one
-pub stands_in : (v : TermsView) (n : ℕ) (i : Option ℕ) (o : Option PairView) → o ≡ option_and_then (slice_get v.pairs) i
-    → option_and_then (λ (r : PairView). standing_under r.file r.dealings n) o
-    ≡ option_and_then (λ i. standing_in v.pairs i n) i
-stands_in v n i o is = cc (and_then_steps (slice_get v.pairs) (standing_of n) i)
-
-module _ (t : House) (l : List Record) (v : TermsView) (are : AreTermsOf t l v) (once : NumbersOnce l) where
+module _ (t : House) (l : List Record) (v : TermsView) (are : AreTermsOf t l v) where
   -- of a change that deals for these two
-  read_deal : (r : Record) → Contains l r → (g k : List ℕ) (d : Deed) → deed_in l g k r ≡ Some d
+  read_deal : (r : Record) → change_of l r.number ≡ Some r → (g k : List ℕ) (d : Deed) → deed_in l g k r ≡ Some d
       → option_and_then (λ i. standing_in v.pairs i r.number) (pair_place v l r)
       ≡ first_on_deal t l r
-  read_deal r among g k d deals =
+  read_deal r found g k d deals =
       let is_deal = deal l _ _ g k d deals in
-      let q = are.ready r _ among is_deal.of in
+      let q = are.ready r _ (found_in _ l r found) is_deal.of in
       let row = are.rows g k q.0 q.1 in
-      -- its deed is found under its number
-      let c = cut_at l r among in
-      let same : (r.number == r.number) ≡ true = (Decides-eqb r.number r.number).1 refl in
-      let before = none_numbered l g k _ c.before
-      (none_before _ c.before r c.behind
-      (rw c.is at (once r.number)) same) in
-      let cut = ap (λ z. dealings_in l z g k) c.is ∙ dealings_cut l c.before r c.behind g k (Some d) deals in
-      let found : deed_at (dealings l g k) r.number ≡ Some d =
-      cc (
-        cut,
-        find-append (λ e. e.number == r.number) (dealings_in l c.before g k)
-            (numbered r d ∷ dealings_in l c.behind g k),
-        before,
-        same,
-      ) in
       let steps = and_then_steps (slice_get v.pairs) (standing_of r.number) (lookup (is_pair g k) v.places) in
-      cc (is_deal.of, steps, q.1, row.0, row.1, found, is_deal.under t r.number)
+      cc (deed_found l g k _ r d l found deals, is_deal.under t r.number)
 
-  read_by : (r : Record) → Contains l r → (c : Command) → r.command ≡ c → named_place r.number c ≡ None
+  read_by : (r : Record) → change_of l r.number ≡ Some r → (c : Command) → r.command ≡ c → named_place r.number c ≡ None
       → option_and_then (λ i. standing_in v.pairs i r.number) (pair_place v l r) ≡ deals_under t l r.number r.firm c
-  read_by r among (Agree g k rate limit) is none =
-      cc (read_deal r among g k (Makes (record { rate = rate; limit = limit })) (cc (is, both_same g k)))
-  read_by r among (Raise g lots) is none = cc (read_deal r among g r.firm (Raises lots) (cc (is, both_same g r.firm)))
-  read_by r among (Claim m _) is none = cc
-  read_by r among _ is none = cc
+  read_by r found (Agree g k rate limit) is none =
+      cc (read_deal r found g k (Makes (record { rate = rate; limit = limit })) (cc (both_same g k)))
+  read_by r found (Raise g lots) is none = cc (read_deal r found g r.firm (Raises lots) (cc (both_same g r.firm)))
+  read_by r found (Claim m _) is none = cc
+  read_by r found _ is none = cc
 
   -- what the terms say stands on a number without a place in the trees is what the list says
-  pub read_off : (n : ℕ) → option_and_then (λ r. named_place r.number r.command) (change_of l n) ≡ None
-      → option_and_then (λ i. standing_in v.pairs i n) (pair_at v n)
+  pub read_off : (n : ℕ) → place_in l n ≡ None → option_and_then (λ i. standing_in v.pairs i n) (pair_at v n)
       ≡ option_and_then (λ r. first_on_deal t l r) (change_of l n)
   read_off n none =
       ap (option_and_then (λ i. standing_in v.pairs i n)) (are.placed n)
       ∙ (and_then_steps (pair_place v l) _ (change_of l n)
       ∙ alike_at _ (first_on_deal t l) _
       (λ r found. let number = (Decides-eqb r.number n).0 (find_passes _ l r found) in
-      ap (λ m. option_and_then (λ i. standing_in v.pairs i m) (pair_place v l r)) (sym number)
-      ∙ read_by r (found_in (λ r. r.number == n) l r found) r.command refl
-      (sym (ap (option_and_then (λ (r : Record). named_place r.number r.command)) found) ∙ none)))
+      rw (← number) (read_by r (rw (← number) at found) r.command refl (cc))))
+
+  -- and so does the row of its place, where there is one
+  pub read_beside : RisesFrom 0 l → IsLegal t l → (n : ℕ) → place_in l n ≡ None → (o : Option PairView)
+      → o ≡ option_and_then (slice_get v.pairs) (pair_at v n) → option_and_then (standing_of n) o ≡ standing_on t l n
+  read_beside rises legal n none o is =
+      cc (and_then_steps (slice_get v.pairs) (standing_of n) (pair_at v n), read_off n none)
+      ∙ placeless t l rises legal n none
 
 -- ---- how many entries stand beside a change
 
@@ -237,12 +218,6 @@ counts_through : (v : TermsView) (o : Option ℕ) → count_at v o ≡ unwrap_or
     (option_map (λ (r : PairView). length r.dealings) (option_and_then (slice_get v.pairs) o)) 0
 counts_through v None = refl
 counts_through v (Some i) = refl
-
--- and how much
-pub counts_in : (v : TermsView) (i : Option ℕ) (o : Option PairView) → o ≡ option_and_then (slice_get v.pairs) i
-    → unwrap_or (option_map (λ (r : PairView). length r.dealings) o) 0
-    ≡ unwrap_or (option_map (λ i. entries_in v.pairs i) i) 0
-counts_in v i o is = cc (counts_through v i)
 
 module _ (t : House) (l : List Record) (v : TermsView) (are : AreTermsOf t l v) where
   of_pair : (o : Option Pair) → ((p : Pair) → o ≡ Some p → (q : PairView) × (row_of v p.giver p.taker ≡ Some q))
@@ -261,3 +236,8 @@ module _ (t : House) (l : List Record) (v : TermsView) (are : AreTermsOf t l v) 
         of_pair (option_and_then pairs (change_of l n)) (λ p e. let r = and_then_told pairs (change_of l n) p e in
             are.ready r.0 p (found_in (λ r. r.number == n) l r.0 r.1.0) r.1.1),
       )
+
+  -- and so does the row of its place
+  pub count_beside : (n : ℕ) (o : Option PairView) → o ≡ option_and_then (slice_get v.pairs) (pair_at v n)
+      → unwrap_or (option_map (λ (r : PairView). length r.dealings) o) 0 ≡ entries_dealt l n
+  count_beside n o is = cc (counts_through v (pair_at v n), counted n)

@@ -1,20 +1,20 @@
 -- A change that stands under none of those behind it can stand behind them all.
 use Rattle.gu_depend.proofs
-use proofs.Deals.{deal, dealings_append, dealings_cut, dealings_grown, deals_some, dealt, deed_in, first_on_deal}
-use proofs.{Deals.{left_out, numbered, pair_told, unfit_without}, Finds.{filter_one, find_beside, found_once}}
-use proofs.{Finds.{moved_to_end, stands_between}, Grown.{AllFollow, follow_append, Follows, follows_more, Grown}}
-use proofs.{Grown.grown_none, Names.{makers_once, node_by_maker}, Replay.{finds, first_along, grown_along, Legal}}
-use proofs.{Replay.{none_along, NumbersOnce, order_within}, Settled.{accepted_follows, facts, front_within, named_once}}
-use proofs.State.{state_same}
-use Rattle.gu_depend.proofs.Vocabulary
-use Vocabulary.{agreement, Agreement, AllFit, ap, append-nil, append_assoc, Bool, Cancel, cases_Bool, Claim, Command}
-use Vocabulary.{Contains, Dealing, dealings, dealings_in, decides, Decides-eqb, decides_well, Deed, EntryPart, false}
-use Vocabulary.{false_from_ne_true, find, find_passes, first_refused, first_unfit, fit_last, found_in, House, inl, inr}
-use Vocabulary.{is_given, is_some, is_under, IsSameState, leave_out, legal_from_replay, limit_under, List, list_any}
-use Vocabulary.{list_any_at, made_of, name_is, names, no_some, Node, node_of, nodes_of, None, none_or_some}
-use Vocabulary.{none_refused, none_unfit, nothing_here, Option, option_map, or_cases, raised_last, Record, refl}
-use Vocabulary.{refusal_parts, Refuse, row, same_name, Some, Split, splits, stands_under, sym, terms_last, terms_under}
-use Vocabulary.{Trade, true, used_last, used_under, without, ℕ, [], ◌++◌, ◌+◌, ◌∙◌, ◌∷◌, ◌≡◌}
+use proofs.Deals.{accepted_follows, deal, dealings_append, dealings_cut, dealings_grown, deals_some, dealt}
+use proofs.Deals.{deed_in, facts, first_on_deal, front_within, left_out, named_once, numbered, pair_told, unfit_without}
+use proofs.Finds.{filter_one, find_beside, found_once, moved_to_end, stands_between}
+use proofs.Grown.{AllFollow, follow_append, Follows, follows_more, Grown, grown_none, makers_once, node_by_maker}
+use proofs.{Grown.Within, Replay.{finds, first_along, grown_along, Legal, none_along, NumbersOnce, order_within}}
+use proofs.{State.state_same, Vocabulary.{Agreement, agreement}}
+use proofs.Vocabulary.{AllFit, ap, append-nil, append_assoc, Bool, Cancel, cases_Bool, Claim, Command, Contains}
+use proofs.Vocabulary.{Dealing, dealings_in, decides, Decides-eqb, Deed, EntryPart, false, false_from_ne_true, find}
+use proofs.Vocabulary.{find_passes, first_refused, first_unfit, found_in, House, inl, inr, is_given, is_some, is_under}
+use proofs.Vocabulary.{IsSameState, legal_from_replay, limit_under, List, list_any, made_of, name_is, names, no_some}
+use proofs.Vocabulary.{Node, node_of, nodes_of, None, none_or_some, none_refused, nothing_here, Option, option_map}
+use proofs.Vocabulary.{or_cases, Record, refl, refusal_parts, Refuse, row, same_name, Some, Split, splits, stands_under}
+use proofs.Vocabulary.{sym, terms_under, Trade, true, used_under, without, [], ℕ, ◌++◌, ◌+◌, ◌∙◌, ◌∷◌, ◌≡◌}
+use Rattle.gu_base.proofs.Dealt.{fit_last, none_unfit, raised_last, terms_last, used_last}
+use Rattle.std.proofs.lemmas.List.Folds.{list_any_at}
 
 -- behind changes of which none is refused, the replay goes on
 pub replay_on : (t : House) (done l m : List Record) → first_refused t done l ≡ None
@@ -22,7 +22,7 @@ pub replay_on : (t : House) (done l m : List Record) → first_refused t done l 
 replay_on t done [] m h = rw (append-nil done)
 replay_on t done (d ∷ l) m h =
     let p = none_refused _ _ (first_refused t (done ++ d ∷ []) l) h in
-    cc (p.0, replay_on t (done ++ d ∷ []) l m p.1, append_assoc done _ l)
+    cc (replay_on t (done ++ d ∷ []) l m p.1, append_assoc done _ l)
 
 -- ---- a change that another doesn't stand under
 
@@ -30,32 +30,31 @@ replay_on t done (d ∷ l) m h =
 pub any_in : {X : Type 0} (p : X → Bool) (xs : List X) (x : X) → Contains xs x → p x ≡ true → list_any p xs ≡ true
 any_in p xs x among passes = list_any_at p xs _ x among.1 (cc)
 
--- a change stands under one that names a node that it makes
-under_made : (k : ℕ) (by : List ℕ) (d c : Command) (n : EntryPart) (x : Node)
-    → find (λ x. same_name x.name n) (nodes_of k by d) ≡ Some x → names n c ≡ true
-    → (decides n c ≡ true → is_given x.kind ≡ true) → is_under k by d c ≡ true
-under_made k by (Trade _ _ _ _ _) c n x found is given =
-    let p : EntryPart = record { entry = k; part = 0 } in
-    elim (cases_Bool _) [
-      | inl same ↦ elim (or_cases _ (decides n c) is) [
-        | inl split ↦ cc (name_is p n same, split)
-        | inr decided ↦ absurd (cc (given decided))
+module _ (k : ℕ) (by : List ℕ) (c : Command) (n : EntryPart) where
+  -- a change stands under one that names a node that it makes
+  under_made : (d : Command) (x : Node) → find (λ x. same_name x.name n) (nodes_of k by d) ≡ Some x → names n c ≡ true
+      → (decides n c ≡ true → is_given x.kind ≡ true) → is_under k by d c ≡ true
+  under_made (Trade _ _ _ _ _) x found is given =
+      let p : EntryPart = record { entry = k; part = 0 } in
+      elim (cases_Bool _) [
+        | inl same ↦ elim (or_cases _ (decides n c) is) [
+          | inl split ↦ cc (name_is p n same)
+          | inr decided ↦ cc (given decided)
+        ]
+        | inr other ↦ cc
       ]
-      | inr other ↦ absurd (cc)
-    ]
-under_made k by (Split m ps) c n x found is given =
-    let nodes = nodes_of k by (Split m ps) in
-    let called = name_is _ n (find_passes _ nodes x found) in
-    any_in _ nodes x (found_in _ nodes x found) (rw called is)
-under_made k by _ c n x found is given = absurd (cc)
+  under_made (Split m ps) x found is given =
+      let nodes = nodes_of k by (Split m ps) in
+      let called = name_is _ n (find_passes _ nodes x found) in
+      any_in _ nodes x (found_in _ nodes x found) (rw called is)
+  under_made _ x found is given = cc
 
--- and under one that splits a node that it decides
-under_decided : (k : ℕ) (by : List ℕ) (d c : Command) (n : EntryPart) → decides n d ≡ true → splits n c ≡ true
-    → is_under k by d c ≡ true
-under_decided k by (Claim m _) c n is split = rw (name_is m n is) split
-under_decided k by (Refuse m) c n is split = rw (name_is m n is) split
-under_decided k by (Cancel m) c n is split = rw (name_is m n is) split
-under_decided k by _ c n is split = cc
+  -- and under one that splits a node that it decides
+  under_decided : (d : Command) → decides n d ≡ true → splits n c ≡ true → is_under k by d c ≡ true
+  under_decided (Claim m _) is split = rw (name_is m n is) split
+  under_decided (Refuse m) is split = rw (name_is m n is) split
+  under_decided (Cancel m) is split = rw (name_is m n is) split
+  under_decided _ is split = cc
 
 -- the node that a change makes is that of its name
 pub node_of_maker : (l : List Record) (k : Record) (n : EntryPart) (x : Node) → NumbersOnce l → Contains l k
@@ -119,37 +118,34 @@ module _ (t : House) (p : List Record) (k : Record) (s : List Record) (legal : L
   last = (p ++ s) ++ k ∷ []
 
   -- a change that doesn't stand under the one names none of its nodes, and splits none that it decides
-  unnamed : (z : List Record) (e : Record) (rest : List Record) → s ≡ z ++ e ∷ rest → stands_under k e ≡ false
-      → (n : EntryPart)
+  unnamed : (e : Record) → Contains whole e → stands_under k e ≡ false → (n : EntryPart)
       → (names n e.command ≡ true → made_of k n ≡ None) × (splits n e.command ≡ true → decides n k.command ≡ false)
-  unnamed z e rest cut un n = (
+  unnamed e among un n = (
     λ is.
         no_some _ (λ x found.
         cc (
-          (under_made _ _ k.command e.command n x found is
-              (λ decided. let whole_cut = ap (λ z. p ++ k ∷ z) cut ∙ sym (append_assoc p (k ∷ z) (e ∷ rest)) in
-              let d = decides_well t (p ++ k ∷ z) e.firm e.command n
-              (accepted_at t whole (p ++ k ∷ z) e rest legal whole_cut)
-              decided in
-              let there = (front_within whole (p ++ k ∷ z) (e ∷ rest) whole_cut).nodes n d.node d.there in
-              cc (there, node_of_maker whole k n x legal.once (stands_between p k s) found, d.given))),
+          (under_made _ _ e.command n k.command x found is
+              (λ decided. let once = named_once t whole legal.replayed in
+              let y = once.given n e (found_once _ whole e among decided (once.decisions_once n)) in
+              cc (node_of_maker whole k n x legal.once (stands_between p k s) found))),
           un,
         )),
     λ split.
-        false_from_ne_true _ (λ is. cc ((under_decided k.number k.firm k.command e.command n is split), un)),
+        false_from_ne_true _ (λ is. cc (under_decided k.number k.firm e.command n k.command is split)),
   )
 
   -- so without it, such a change follows what it stands on
   beside : (z rest : List Record) → s ≡ z ++ rest → find (stands_under k) rest ≡ None → AllFollow whole (p ++ z) rest
   beside z [] cut un = tt
   beside z (r ∷ rest) cut un =
-      let f = follows_at t _ _ r _ legal (ap (λ z. p ++ k ∷ z) cut ∙ sym (append_assoc p _ _)) in
+      let there = ap (λ z. p ++ k ∷ z) cut ∙ sym (append_assoc p _ _) in
+      let f = follows_at t _ _ r _ legal there in
       let q = nothing_here _ r _ un in
-      let away = unnamed z r _ cut q.0 in (
+      let away = unnamed r (rw there (stands_between _ r rest)) q.0 in (
         record {
           there = λ n is. let y = f.there n is in (
             y.0,
-            cc (node_by_maker _ n, find_beside _ p k z (ap is_some ((away n).0 is)), node_by_maker _ n),
+            cc (node_by_maker _ n, find_beside _ p k z (ap is_some ((away n).0 is)), node_by_maker (p ++ z) n),
           );
           decided = λ n is. sym (find_beside _ p k z ((away n).1 is)) ∙ f.decided n is;
         },
@@ -160,12 +156,15 @@ module _ (t : House) (p : List Record) (k : Record) (s : List Record) (legal : L
   others_follow un =
       follow_append _ [] p s (all_follow t _ [] p _ legal refl) (rw (append-nil p) at (beside [] s refl un))
 
+  -- what is found without it is found in the whole
+  pub within_whole : Within whole (p ++ s)
+  within_whole = order_within _ _ _ (k ∷ []) (finds t _ _ legal (moved_to_end p k s)) refl
+
   -- and it follows what it stands on behind them all
   last_follows : find (stands_under k) s ≡ None → AllFollow whole [] last
   last_follows un =
-      let within = order_within _ _ _ (k ∷ []) (finds t _ _ legal (moved_to_end p k s)) refl in
       follow_append _ [] _ (k ∷ []) (others_follow un)
-      (follows_more _ p s _ within (follows_at t _ p k s legal refl), tt)
+      (follows_more _ p s _ within_whole (follows_at t _ p k s legal refl), tt)
 
   pub grown_without : find (stands_under k) s ≡ None → Grown whole (p ++ s)
   grown_without un = grown_along t _ _ legal (moved_to_end p k s) [] _ (k ∷ []) refl (others_follow un) (grown_none _)
@@ -186,12 +185,10 @@ module _ (t : House) (p : List Record) (k : Record) (s : List Record) (legal : L
   unfit_here x y d e =
       let all =
       rw e at (deals_whole x y) in
-      let left = ap (leave_out k.number) (sym (dealings_cut whole p k s x y _ e))
-      ∙ (left_out whole x y _ whole
-      ∙ (ap (λ z. dealings_in whole z x y) gone ∙ dealings_append whole p s x y)) in
-      let first = unfit_without _ _ _ _ all
-      left d refl in
-      cc (dealings_append whole p s x y, dealings_cut whole p k s x y _ e, (deal whole _ _ x y d e).under t k.number)
+      let cut = dealings_cut whole p k s x y _ e in
+      let others = dealings_append whole p s x y in
+      let first = unfit_without _ _ _ _ all (cc (left_out whole x y k.number whole, gone)) d refl in
+      cc ((deal whole _ _ x y d e).under t k.number)
 
   -- for all others, each fits
   fit_others : (x y : List ℕ) → deed_in whole x y k ≡ None
@@ -215,7 +212,7 @@ module _ (t : House) (p : List Record) (k : Record) (s : List Record) (legal : L
         ∙ sym none
     | inr m ↦ (
         let (x, y, d, deals) = deals_some t whole k.number k.firm k.command m.0 m.1 in
-        first_along t _ _ legal (moved_to_end p k s) x y _ (k ∷ []) refl (others_follow un)
+        first_along t _ _ legal (moved_to_end p k s) x y [] _ (k ∷ []) refl (grown_none _) (others_follow un)
         (λ u v. elim (none_or_some _) [
           | inl none ↦ inl (fit_others u v none)
           | inr f ↦ inr (pair_told _ _ (cc
@@ -229,13 +226,6 @@ module _ (t : House) (p : List Record) (k : Record) (s : List Record) (legal : L
       ≡ (dealings_in whole p x y ++ dealings_in whole s x y) ++ dealt k (deed_in whole x y k) []
   found_last x y = cc (dealings_append _ _ _ x y, dealings_append _ p s x y)
 
-  -- what it leaves for two is what the whole leaves
-  same_for : Grown whole last → (A : Type 0) (f : List ℕ → List ℕ → List Dealing → A) (x y : List ℕ)
-      → f x y ((dealings_in whole p x y ++ dealings_in whole s x y) ++ dealt k (deed_in whole x y k) [])
-      ≡ f x y (dealings_in whole p x y ++ dealt k (deed_in whole x y k) (dealings_in whole s x y))
-      → f x y (dealings last x y) ≡ f x y (dealings whole x y)
-  same_for grown A f x y same = cc (dealings_grown _ _ x y grown, found_last x y, dealings_append _ p _ x y)
-
   pub stands_last : find (stands_under k) s ≡ None → first_on_deal t whole k ≡ None
       → (first_refused t [] last ≡ None) × IsSameState t whole last
   stands_last un under =
@@ -243,12 +233,13 @@ module _ (t : House) (p : List Record) (k : Record) (s : List Record) (legal : L
       dealt_last (agreement t x y) k (deed_in whole x y k) (dealings_in whole p x y) (dealings_in whole s x y)
       (deals_whole x y) (rw (dealings_append whole p s x y) at (fit_without under x y)) in
       let grown = grown_along t _ _ legal (moved_to_end p k s) [] last [] (sym (append-nil last)) (last_follows un)
-      (grown_none _) in (
+      (grown_none _) in
+      let found = λ (x y : List ℕ). dealings_grown whole last x y grown ∙ found_last x y in (
         none_along t _ _ legal (moved_to_end p k s) last [] (sym (append-nil last)) (last_follows un)
             (λ x y. rw (found_last x y) (left x y).fit),
         state_same t _ _ (moved_to_end p k s) legal.once (named_once t _ legal.replayed) (record {
-          terms = λ x y. same_for grown _ (λ x y. terms_under (agreement t x y)) x y (left x y).terms;
-          limits = λ x y. same_for grown _ (λ x y. limit_under (agreement t x y)) x y (left x y).limits;
-          used = λ x y. same_for grown _ (λ x y. used_under) x y (left x y).used;
+          terms = λ x y. cc (found x y, dealings_append whole p _ x y, (left x y).terms);
+          limits = λ x y. cc (found x y, dealings_append whole p _ x y, (left x y).limits);
+          used = λ x y. cc (found x y, dealings_append whole p _ x y, (left x y).used);
         }),
       )

@@ -1,25 +1,26 @@
 -- The first change that would be refused without another is the first that the other stands under; where the numbers
 -- rise, the least that is looked up.
 use Rattle.gu_depend.proofs
-use proofs.{Deals.first_on_deal, Finds.{by_cut, by_test, count_append, count_permuted, first_cut, found_once}}
-use proofs.{Finds.{found_some, moved_to_end, none_before, none_passes, none_there, stands_between}, Grown.Follows}
-use proofs.{Grown.{Grown, NamesThere, SplitsDecided}, Names.{makers_once, node_by_maker}, Replay.{finds, Legal}}
-use proofs.{Replay.{legal_list, order_within, refused_here}, Settled.{accepted_follows, front_facts, named_once}}
-use proofs.{Settled.NamedOnce, StandsLast.{follows_at, gone, grown_without, replay_on, standing_deals, stands_last}}
-use Rattle.gu_depend.proofs.Vocabulary
-use Vocabulary.{Agree, All, All-cons, All-contains, All-contains_itself, All-filter, All-nil, All-weaker}
-use Vocabulary.{AllByRecursion, ap, append_assoc, arith, Bool, Cancel, Claim, Command, cond, cons_option, Contains}
-use Vocabulary.{Contains-append_cases, Contains-append_right, count_by, deals_under, decides, Decides-eqb, decision_of}
-use Vocabulary.{EntryPart, false, false_from_ne_true, find, find-append, find_has, find_passes, first_refused}
-use Vocabulary.{first_under, flat_map, found_in, HasDistinctNumbers, House, inl, inr, is_under, IsDistinct-cons}
-use Vocabulary.{IsLeastUnder, IsLegal, IsPermutation, IsPermutation-refl, IsSameState, least, least_with, lesser, List}
-use Vocabulary.{list_any, list_any_none, made_of, map, min, name_same, names, no_some, Node, nodes_of, None}
-use Vocabulary.{none_or_some, number_in, numbers_on, numbers_under, Option, option_and_then, option_map, option_or}
-use Vocabulary.{or_none, Record, refl, refusal_of, refusal_parts, Refuse, replay_front, RisesFrom, Root, same_name}
-use Vocabulary.{same_Some, Some, Split, split_of, splits, standing_on, stands_under, sym, Trade, true, without, zero, ℕ}
-use Vocabulary.{[], ◌++◌, ◌+◌, ◌<◌, ◌==◌, ◌||◌, ◌∙◌, ◌∷◌, ◌≡◌, ◌≤◌}
-use Rattle.gu_tree.proofs.FirstOn.{least_append}
-use Rattle.std.specs.List.{IsDistinct}
+use proofs.Deals.{accepted_follows, first_on_deal, front_facts, named_once, NamedOnce}
+use proofs.Finds.{by_cut, by_test, count_append, count_permuted}
+use proofs.Finds.{first_cut, found_once, found_some, moved_to_end, none_before, none_passes, none_there, stands_between}
+use proofs.Grown.{Follows, Grown, makers_once, NamesThere, node_by_maker, SplitsDecided}
+use proofs.Replay.{Legal, legal_list, refused_here}
+use proofs.StandsLast.{follows_at, gone, grown_without, replay_on, standing_deals, stands_last, within_whole}
+use proofs.Vocabulary.{Agree, All, All-cons, All-contains, All-contains_itself}
+use proofs.Vocabulary.{All-nil, All-weaker, AllByRecursion, ap, append_assoc, arith, Bool, Cancel, Claim}
+use proofs.Vocabulary.{Command, cond, cons_option, Contains, Contains-append_right, count_by, deals_under, decides}
+use proofs.Vocabulary.{Decides-eqb, decision_of, EntryPart, false, false_from_ne_true, find, find-append, find_passes}
+use proofs.Vocabulary.{first_refused, first_under, flat_map, found_in, HasDistinctNumbers, House, inl, inr, is_under}
+use proofs.Vocabulary.{IsLegal, IsPermutation, IsSameState, least, List, list_any, made_of, map, name_same, names}
+use proofs.Vocabulary.{no_some, Node, nodes_of, None, none_or_some, number_in, numbers_under, Option, option_and_then}
+use proofs.Vocabulary.{option_map, or_none, Record, refl, refusal_of, refusal_parts, Refuse, replay_front}
+use proofs.Vocabulary.{RisesFrom, Root, same_name, same_Some, Some, Split, split_of, splits, standing_on, stands_under}
+use proofs.Vocabulary.{sym, Trade, true, without, zero, [], ℕ, ◌++◌, ◌+◌, ◌<◌, ◌==◌, ◌||◌, ◌∙◌, ◌∷◌, ◌≡◌, ◌≤◌}
+use Rattle.{gu_base.proofs.Searches.find_has, gu_depend.specs.Under.IsLeastUnder}
+use Rattle.gu_tree.{proofs.FirstOn.least_append, specs.NumbersOn.{least_with, lesser, numbers_on}}
+use Rattle.std.proofs.{Common.min, lemmas.List.{Elements.All-filter, Folds.list_any_none, Sorted.IsPermutation-refl}}
+use Rattle.std.{proofs.lemmas.Map.Keys.IsDistinct-cons, specs.{List.IsDistinct, Option.option_or}}
 
 -- ---- what a change stands under
 
@@ -100,16 +101,14 @@ module _ (t : House) (p : List Record) (k : Record) (s : List Record) (legal : L
       let g = (front_facts t l p _ refl legal.replayed).grown in
       let not_above = λ (c : Command) (f : Follows l p c). not_without p s (IsPermutation-refl l) c f in
       let none = no_some (find (stands_under k) p) (λ e h.
-      let among = found_in (stands_under k) p e h in
       not_above e.command
       (record {
-        there = All-contains (NamesThere p) p e g.named among;
-        decided = All-contains (SplitsDecided l p) p e g.decided among;
+        there = find_has (NamesThere p) _ p e g.named h;
+        decided = find_has (SplitsDecided l p) _ p e g.decided h;
       })
       (find_passes (stands_under k) p e h)) in
       let itself = false_from_ne_true (stands_under k k) (not_above k.command (follows_at t l p k s legal refl)) in
-      find-append (stands_under k) p (k ∷ s)
-      ∙ (λ i. option_or (none i) (cond (itself i) (Some k) (find (stands_under k) s)))
+      cc (find-append (stands_under k) p (k ∷ s))
 
 -- ---- the law
 
@@ -120,21 +119,19 @@ standing_by : (t : House) (p : List Record) (k : Record) (s : List Record) → L
 standing_by t p k s legal None found = standing_deals t p k s legal found
 standing_by t p k s legal (Some e) found =
     let c = first_cut (stands_under k) s e found in
-    let cut : p ++ k ∷ s ≡ (p ++ k ∷ c.before) ++ e ∷ c.behind =
-    cc (c.is, append_assoc p (k ∷ c.before) (e ∷ c.behind)) in
-    let front = legal_front t (p ++ k ∷ c.before) (e ∷ c.behind) (rw cut at legal) in
-    let accepted = standing_deals t p k c.before front c.none
-    ∙ deals_none t (p ++ k ∷ c.before) k.number k.firm k.command e.command c.passes in
+    let passes = find_passes (stands_under k) s e found in
+    let front = p ++ k ∷ c.before in
+    let cut : p ++ k ∷ s ≡ front ++ e ∷ c.behind = cc (append_assoc p (k ∷ c.before) (e ∷ c.behind)) in
+    let own = legal_front t front (e ∷ c.behind) (rw cut at legal) in
+    let accepted = standing_deals t p k c.before own c.none
+    ∙ deals_none t front k.number k.firm k.command e.command passes in
     let y = p ++ c.before in
     let refused = refused_here (refusal_of t y e.firm e.command) e.number (first_refused t (y ++ e ∷ []) c.behind)
-    (λ took. let same = moved_to_end p k c.before in
-    let within = order_within (p ++ k ∷ c.before) (y ++ k ∷ []) y (k ∷ [])
-    (finds t (p ++ k ∷ c.before) (y ++ k ∷ []) front same) refl in
-    not_without t p k c.before front y [] same e.command
-    (accepted_follows t (p ++ k ∷ c.before) y e.firm e.command (named_once t (p ++ k ∷ c.before) front.replayed) within
+    (λ took. not_without t p k c.before own y [] (moved_to_end p k c.before) e.command
+    (accepted_follows t front y e.firm e.command (named_once t front own.replayed) (within_whole t p k c.before own)
     (refusal_parts t y e.firm e.command took).1)
-    c.passes) in
-    cc (c.is, append_assoc p c.before (e ∷ c.behind), replay_on t [] y (e ∷ c.behind) accepted, refused)
+    passes) in
+    cc (append_assoc p c.before (e ∷ c.behind), replay_on t [] y (e ∷ c.behind) accepted)
 
 pub standing_is_first : (t : House) (l : List Record) (k : Record) → Legal t l → Contains l k
     → standing_on t l k.number ≡ first_under t l k
@@ -158,7 +155,7 @@ pub can_go : (t : House) (l : List Record) (k : Record) → Legal t l → Contai
 can_go t l k legal among free =
     by_cut (λ l. Legal t l → standing_on t l k.number ≡ None → CanGo t l k) l k among
     (λ p s legal free. let first = standing_is_first t (p ++ k ∷ s) k legal (stands_between p k s) in
-    let under = free_by (find (stands_under k) (p ++ k ∷ s)) (first_on_deal t (p ++ k ∷ s) k) (sym first ∙ free) in
+    let under = free_by (find (stands_under k) _) (first_on_deal t (p ++ k ∷ s) k) (sym first ∙ free) in
     let behind = sym (found_behind t p k s legal) ∙ under.0 in
     let others = gone t p k s legal in
     let last = stands_last t p k s legal behind under.1 in
@@ -174,35 +171,28 @@ can_go t l k legal among free =
 pub rises_above : (n : ℕ) (l : List Record) → RisesFrom n l → All (λ d. n ≤ d.number) l
 rises_above n [] rises = All-nil (λ d. n ≤ d.number)
 rises_above n (r ∷ l) rises =
-    let here = rises.0 in
-    All-cons (λ d. n ≤ d.number) r l here
-    (All-weaker (λ d. r.number + 1 ≤ d.number) (λ d. n ≤ d.number) (λ d h. omega (arith, here, h))
+    All-cons (λ d. n ≤ d.number) r l rises.0
+    (All-weaker (λ d. r.number + 1 ≤ d.number) (λ d. n ≤ d.number) (λ d h. omega arith)
     l (rises_above (r.number + 1) l rises.1))
 
-rises_behind : (n : ℕ) (xs : List Record) (r : Record) (ys : List Record) → RisesFrom n (xs ++ r ∷ ys)
-    → RisesFrom r.number (r ∷ ys)
-rises_behind n [] r ys rises = (omega arith, rises.1)
-rises_behind n (x ∷ xs) r ys rises = rises_behind (x.number + 1) xs r ys rises.1
-
 -- the first that passes has the least number
-first_is_least : (p : Record → Bool) (l : List Record) → RisesFrom 0 l → (e : Record) → find p l ≡ Some e → (d : Record)
-    → Contains l d → p d ≡ true → e.number ≤ d.number
-first_is_least p l rises e h d among passes =
-    let c = first_cut p l e h in
-    elim (Contains-append_cases _ (e ∷ c.behind) d (rw c.is at among)) [
-      | inl above ↦ absurd (none_there p _ d c.none above passes)
-      | inr behind ↦
-          All-contains (λ q. e.number ≤ q.number) (e ∷ c.behind) d
-          (rises_above _ (e ∷ c.behind) (rises_behind 0 _ e _ (rw c.is at rises)))
-          behind
-    ]
+first_is_least : (p : Record → Bool) (n : ℕ) (l : List Record) → RisesFrom n l → (e : Record) → find p l ≡ Some e
+    → All (λ d. p d ≡ true → e.number ≤ d.number) l
+first_is_least p n [] rises e h = cc
+first_is_least p n (x ∷ l) rises e h =
+    All-cons (λ d. p d ≡ true → e.number ≤ d.number) x l
+    (λ is. let first = same_Some x e (cc) in rw first (omega arith))
+    (by_test (p x)
+    (λ is. let first = same_Some x e (cc) in
+    All-weaker (λ d. x.number + 1 ≤ d.number) (λ d. p d ≡ true → e.number ≤ d.number)
+    (λ d above _. rw (← first) (omega arith)) l (rises_above (x.number + 1) l rises.1))
+    (λ out. first_is_least p (x.number + 1) l rises.1 e (cc)))
 
 rises_apart : (k n : ℕ) (l : List Record) → k < n → RisesFrom n l
     → AllByRecursion (λ y. (k == y) ≡ false) (map (λ r. r.number) l)
 rises_apart k n [] less rises = tt
 rises_apart k n (r ∷ l) less rises =
-    let here = rises.0 in
-    let apart = false_from_ne_true _ (λ h. absurd (omega (arith, (Decides-eqb k r.number).0 h))) in
+    let apart = false_from_ne_true _ (λ h. omega (arith, (Decides-eqb k r.number).0 h)) in
     (apart, rises_apart k (r.number + 1) l (omega arith) rises.1)
 
 pub rises_distinct : (n : ℕ) (l : List Record) → RisesFrom n l → HasDistinctNumbers l
@@ -221,9 +211,9 @@ refused_in : (t : House) (b rest : List Record) (n : ℕ) → first_refused t b 
 refused_in t b [] n h = cc
 refused_in t b (r ∷ rest) n h =
     elim (none_or_some (refusal_of t b r.firm r.command)) [
-      | inl none ↦ (let e = refused_in t (b ++ r ∷ []) rest n (cc (none, h)) in
+      | inl none ↦ (let e = refused_in t (b ++ r ∷ []) rest n (cc) in
           (e.0, (Contains-append_right (r ∷ []) rest e.0 e.1.0, e.1.1)))
-      | inr f ↦ (r, ((zero, omega arith, refl), cc (f.1, h)))
+      | inr f ↦ (r, ((zero, omega arith, refl), cc))
     ]
 
 pub in_whole : (l : List Record) (k : ℕ) (e : Record) → Contains (without l k) e → Contains l e
@@ -254,9 +244,10 @@ module _ (t : House) (l : List Record) (k : Record) (rises : RisesFrom 0 l) wher
     inl (find_passes _ l e found),
     refl,
     λ d among under. elim under [
-      | inl node ↦ first_is_least _ l rises e found d among node
-      | inr deal ↦
-          absurd (cc (deals_none t l k.number k.firm k.command e.command (find_passes _ l e found)))
+      | inl node ↦
+          All-contains (λ d. stands_under k d ≡ true → e.number ≤ d.number) l d
+          (first_is_least _ 0 l rises e found) among node
+      | inr deal ↦ cc (deals_none t l k.number k.firm k.command e.command (find_passes _ l e found))
     ],
   )
 
@@ -275,7 +266,7 @@ first_number p l = option_map (λ e. e.number) (find p l)
 
 none_below : (p : Record → Bool) (n : ℕ) (l : List Record) → RisesFrom (n + 1) l → least_with n (first_number p l) ≡ n
 none_below p n l rises = elim (none_or_some (find p l)) [
-  | inl none ↦ cc (none)
+  | inl none ↦ cc
   | inr e ↦ (
       let above =
       find_has (λ d. n + 1 ≤ d.number) p l e.0 (rises_above _ l rises) e.1 in
@@ -294,9 +285,9 @@ either_first p q n [] rises = refl
 either_first p q n (r ∷ l) rises =
     let same : r.number ≡ min r.number r.number = omega arith in
     let above = λ (p : Record → Bool). none_below p _ l rises.1 in
-    by_test (p r) (λ a. by_test (q r) (λ b. cc (a, b, same)) (λ b. cc (a, b, above q)))
-    (λ a. by_test (q r) (λ b. cc (a, b, above p, lesser_one (first_number p l) r.number))
-    (λ b. cc (a, b, either_first p q (r.number + 1) l rises.1)))
+    by_test (p r) (λ a. by_test (q r) (λ b. cc) (λ b. cc (above q)))
+    (λ a. by_test (q r) (λ b. cc (above p, lesser_one (first_number p l) r.number))
+    (λ b. cc (either_first p q (r.number + 1) l rises.1)))
 
 -- so it is looked up node by node
 
@@ -309,32 +300,35 @@ least_one None = refl
 least_one (Some n) = refl
 
 none_passes_never : (l : List Record) → find (λ (e : Record). false) l ≡ None
-none_passes_never l = no_some _ (λ e h. let never = find_passes (λ e. false) l e h in cc)
+none_passes_never [] = refl
+none_passes_never (_ ∷ l) = none_passes_never l
 
--- at the parts of a Split
-at_parts : (l : List Record) → RisesFrom 0 l → (xs : List Node)
-    → first_number (λ e. list_any (λ x. names x.name e.command) xs) l ≡ least (flat_map (λ x. numbers_on l x.name) xs)
-at_parts l rises [] = cc (none_passes_never l)
-at_parts l rises (x ∷ xs) =
-    let own = either_first (λ e. splits x.name e.command) (λ e. decides x.name e.command) 0 l rises in
-    let told = least_append (number_in (split_of l x.name)) (number_in (decision_of l x.name)) in
-    let here : first_number (λ e. names x.name e.command) l ≡ least (numbers_on l x.name) =
-    cc (own, told, least_in _, least_in (decision_of l x.name)) in
-    let both = either_first (λ e. names x.name e.command) (λ e. list_any (λ x. names x.name e.command) xs) 0 l rises in
-    cc (both, here, at_parts l rises xs, least_append (numbers_on l x.name) (flat_map (λ x. numbers_on l x.name) xs))
+module _ (t : House) (l : List Record) (rises : RisesFrom 0 l) where
+  -- at the parts of a Split
+  at_parts : (xs : List Node) → first_number (λ e. list_any (λ x. names x.name e.command) xs) l
+      ≡ least (flat_map (λ x. numbers_on l x.name) xs)
+  at_parts [] = cc (none_passes_never l)
+  at_parts (x ∷ xs) =
+      let own = either_first (λ e. splits x.name e.command) (λ e. decides x.name e.command) 0 l rises in
+      let told = least_append (number_in (split_of l x.name)) (number_in (decision_of l x.name)) in
+      let here : first_number (λ e. names x.name e.command) l ≡ least (numbers_on l x.name) =
+      cc (least_in _, least_in (decision_of l x.name)) in
+      let both =
+      either_first (λ e. names x.name e.command) (λ e. list_any (λ x. names x.name e.command) xs) 0 l rises in
+      cc (at_parts xs, least_append (numbers_on l x.name) (flat_map (λ x. numbers_on l x.name) xs))
 
--- by the command
-by_command : (t : House) (l : List Record) → RisesFrom 0 l → (k : ℕ) (by : List ℕ) (c : Command)
-    → option_or (first_number (λ e. is_under k by c e.command) l) (deals_under t l k by c)
-    ≡ least (numbers_under t l k by c)
-by_command t l rises k by (Trade _ _ _ _ _) = or_none _ ∙ sym (least_in _)
-by_command t l rises k by (Split n ps) = or_none _ ∙ at_parts l rises _
-by_command t l rises k by (Claim n _) = or_none _ ∙ sym (least_in _)
-by_command t l rises k by (Refuse n) = or_none _ ∙ sym (least_in _)
-by_command t l rises k by (Cancel n) = or_none _ ∙ sym (least_in _)
-by_command t l rises k by c = cc (none_passes_never l, least_one _)
+  -- by the command
+  by_command : (k : ℕ) (by : List ℕ) (c : Command)
+      → option_or (first_number (λ e. is_under k by c e.command) l) (deals_under t l k by c)
+      ≡ least (numbers_under t l k by c)
+  by_command k by (Trade _ _ _ _ _) = or_none _ ∙ sym (least_in _)
+  by_command k by (Split _ _) = or_none _ ∙ at_parts _
+  by_command k by (Claim _ _) = or_none _ ∙ sym (least_in _)
+  by_command k by (Refuse _) = or_none _ ∙ sym (least_in _)
+  by_command k by (Cancel _) = or_none _ ∙ sym (least_in _)
+  by_command k by c = cc (none_passes_never l, least_one _)
 
--- the least of the numbers is the first change that would be refused
-pub looked_up : (t : House) (l : List Record) → RisesFrom 0 l → Legal t l → (k : Record) → Contains l k
-    → standing_on t l k.number ≡ least (numbers_under t l k.number k.firm k.command)
-looked_up t l rises legal k among = standing_is_first t l k legal among ∙ by_command t l rises _ _ _
+  -- the least of the numbers is the first change that would be refused
+  pub looked_up : Legal t l → (k : Record) → Contains l k
+      → standing_on t l k.number ≡ least (numbers_under t l k.number k.firm k.command)
+  looked_up legal k among = standing_is_first t l k legal among ∙ by_command _ _ _

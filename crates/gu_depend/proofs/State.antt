@@ -1,15 +1,15 @@
 -- Lists that find the same, and have the same changes, leave the same trees, positions and fees.
-use Rattle.gu_depend.proofs.{Deals.both_same, Finds.{alike_at, counts_less, find_permuted}, Replay.NumbersOnce}
-use Rattle.gu_depend.proofs.{Replay.{same_finds, SameFinds}, Settled.NamedOnce}
 use Rattle.gu_depend.proofs.Vocabulary
-use Vocabulary.{and_parts, ap, arith, Bool, Charge, charge_of, charge_of_kind, charges, Claim, claimed_account, Command}
-use Vocabulary.{cond, counted, deed_of, EntryPart, false, filter, filter_map, flat_map, Given, House, is_none, is_some}
-use Vocabulary.{is_trade_of, IsPermutation, IsSameState, Kind, limit_of, line_within, List, lots_at, made, made_by}
-use Vocabulary.{name_same, names, Node, node_of, nodes, None, Option, option_and_then, option_map, parent, Place}
-use Vocabulary.{place_along, place_of, place_of_kind, position_of, Record, refl, root_along, row_of, rows_from}
-use Vocabulary.{rows_within, same_place, Side, Some, split_of, suc, sum_by, sum_by-append, sum_by-cons}
-use Vocabulary.{sum_by-IsPermutation, sum_kept, sum_option, sym, terms_of, trades_in, true, unwrap_or, use_of_kind}
-use Vocabulary.{use_of_node, used_of, Uses, zero, ℕ, [], ◌&&◌, ◌+◌, ◌==◌, ◌∙◌, ◌∷◌, ◌≡◌}
+use Rattle.gu_base.{proofs.Sums.{sum_kept, sum_option}, specs.Rows.{made_by, row_of, rows_from, rows_within}}
+use Rattle.gu_depend.proofs.Deals.{both_same, NamedOnce}
+use Rattle.gu_depend.proofs.{Finds.{alike_at, counts_less, find_permuted}, Replay.{NumbersOnce, same_finds, SameFinds}}
+use Vocabulary.{and_parts, ap, arith, Bool, Charge, charge_of, charge_of_kind, charges, Claim, claimed_account}
+use Vocabulary.{Command, cond, counted, deed_of, EntryPart, false, filter, filter_map, flat_map, Given, House}
+use Vocabulary.{is_none, is_some, is_trade_of, IsPermutation, IsSameState, Kind, limit_of, line_within, List, lots_at}
+use Vocabulary.{made, name_same, names, Node, node_of, nodes, None, Option, option_and_then, option_map, parent}
+use Vocabulary.{Place, place_along, place_of, place_of_kind, position_of, Record, refl, root_along, same_place, Side}
+use Vocabulary.{Some, split_of, suc, sum_by, sum_by-append, sum_by-cons, sum_by-IsPermutation, sym, terms_of, trades_in}
+use Vocabulary.{true, unwrap_or, use_of_kind, use_of_node, used_of, Uses, zero, [], ℕ, ◌&&◌, ◌+◌, ◌==◌, ◌∙◌, ◌∷◌, ◌≡◌}
 
 module _ {l o : List Record} (f : SameFinds l o) where
   line_same : (n : ℕ) (x : Option Node) → line_within n o x ≡ line_within n l x
@@ -30,7 +30,7 @@ module _ {l o : List Record} (f : SameFinds l o) where
   row_same depth x = cc (place_same _, f.decisions x.name)
 
   rows_same : (levels depth : ℕ) (x : Node) → rows_within levels o depth x ≡ rows_within levels l depth x
-  rows_same zero depth x = λ i. row_same depth x i ∷ []
+  rows_same zero depth x = cc (row_same depth x)
   rows_same (suc levels) depth x =
       λ i. row_same depth x i ∷ flat_map (λ y. rows_same levels (depth + 1) y i) (made_by (f.splits_same x.name i))
 
@@ -65,7 +65,7 @@ module _ {l o : List Record} (same : IsPermutation l o) (once : NumbersOnce l) (
       let own : Record → Bool = λ r. r.number == t.entry in
       let trades : Record → Bool = λ r. own r && is_trade_of instrument side r.command in
       let few = counts_less _ own l (λ r h. (and_parts _ (is_trade_of instrument side r.command) h).0) in
-      find_permuted trades l o same (omega (arith, few, once t.entry)) i)
+      find_permuted trades l o same (omega (arith, once t.entry)) i)
       (root_along (line_same f (f.long i) (f.nodes n i) i)))
 
   positions_same : (firm account instrument : List ℕ) (side : Side)
@@ -139,8 +139,7 @@ charges_same : (t : House) (takes : Charge → Bool) (counts : Charge → ℕ) (
     → sum_by counts (filter takes (charges t o)) ≡ sum_by counts (filter takes (charges t l))
 charges_same t takes counts l o same f deals =
     sum_charged _ _ _ o
-    ∙ (ap (λ (g : Record → Option Charge). sum_by (λ r. counted takes counts (g r)) o)
-    (λ i r. charge_same t l o f deals r.command i)
+    ∙ ((λ i. sum_by (λ r. counted takes counts (charge_same t l o f deals r.command i)) o)
     ∙ (sum_by-IsPermutation (λ r. counted takes counts (charge_of t l r.command)) l o same
     ∙ sym (sum_charged takes counts (λ r. charge_of t l r.command) l)))
 

@@ -1,7 +1,7 @@
 use Rattle.gu_depend.proofs.laws.terms_follow.Goals as goal
-use Rattle.gu_depend.proofs.{LastMoves.is_before, Replay.legal_list, TermsFollow.{apart_follows, nobody_follows}}
-use Rattle.gu_depend.proofs.TermsFollow.{none_follow, put_follows, readied_follows, taken_follows, without_row}
-use Rattle.std.specs.Prelude.{[], ◌++◌, ◌∷◌}
+use Rattle.gu_depend.proofs
+use proofs.{LastMoves.is_before, Replay.legal_list, TermsFollow.{apart_follows, nobody_follows, none_follow}}
+use proofs.{TermsFollow.{put_follows, readied_follows, taken_follows, without_row}, Vocabulary.{[], ◌++◌, ◌∷◌}}
 
 pub returns : goal.returns
 returns c = record {

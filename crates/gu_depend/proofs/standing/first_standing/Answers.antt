@@ -1,12 +1,11 @@
-use Rattle.std.proofs.Common.{sym, ◌∙◌}
-use Rattle.gu_depend.proofs.{ReadOff.{nothing_placed, none_where_legal, read_off}, StandsUnder.legal_rising}
 use Rattle.gu_depend.proofs.standing.first_standing.Goals as goal
+use Rattle.gu_depend.proofs.{ReadOff.{none_where_legal, nothing_placed, read_off}, Vocabulary.{sym, ◌∙◌}}
 
 pub returns-in-None-clause-first : goal.returns-in-None-clause-first
 returns-in-None-clause-first g c = λ t l rises legal shows are.
     let absent = rw c.in-None.is at c.named.ensures.absent in
     c.first_standing.ensures
-    ∙ (read_off t l c.args.terms.now are (legal_rising t l rises legal).once c.args.k
+    ∙ (read_off t l c.args.terms.now are c.args.k
     (sym (shows.places c.args.k) ∙ absent)
     ∙ nothing_placed c.args.trees.now t l rises legal shows c.args.k absent)
 
