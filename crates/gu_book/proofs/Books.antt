@@ -1,15 +1,16 @@
 -- What a book keeps stays true behind a growth, and with one accepted entry more.
-use Rattle.gu_base.proofs.LiveLaws.{change_is_no_reverse, consent_is_no_reverse}
-use Rattle.gu_book.proofs.{AllShown.{undone, undone_entry, undone_goes}, LookedUp.{reversals_same, reversals_put}}
-use Rattle.gu_book.proofs.{Keeps.{live_more, live_same}, Leaves.live_rises}
-use Rattle.gu_book.proofs.Keeps.{live_less, next_number, kept_change, kept_consents, kept_reverse, lawful, live_few}
-use Rattle.gu_book.proofs.Vocabulary.{given, Consents, Ids, reversal_in, Reversals, IsKept, AreTreesOf}
-use Rattle.gu_book.specs.{LiveState.{Becomes, CanFollow, CanGo, IsLiveList, IsStateOf}, Kept.IsBook}
-use Rattle.gu_book.specs.{declared.live_state.LiveState.LiveState, Lookups.{AreIdsOf, AreReversalsOf}}
-use Rattle.gu_book.specs.declared.lookups.Lookups.{Lookups}
-use Rattle.gu_depend.proofs.Vocabulary.{House, Initiate, Decline, Reverse, Entry, Record, Accepted, answer_to, call_of}
-use Rattle.gu_depend.proofs.Vocabulary.{live, numbered_as, is_change, is_consenting, without}
-use Rattle.std.proofs.Common.{◌≡◌, ℕ, ◌+◌, ◌-◌, true, ◌∙◌, List, [], ◌∷◌, ◌++◌, length, arith, cond, Some, ◌==◌, get_or}
+use Rattle.gu_book.proofs
+use Rattle.gu_book.specs
+use proofs.{AllShown.undone, Keeps.{kept_change, kept_consents, kept_reverse, lawful, live_few, live_more, next_number}}
+use proofs.{Leaves.live_rises, LookedUp.{reversals_put, reversals_same}}
+use proofs.Vocabulary.{arith, cond, Consents, Entry, found_in, get_or, given, House}
+use proofs.Vocabulary.{Ids, is_change, known_entry, length, List, live, LiveState, numbered_as, Record, Reversals}
+use proofs.Vocabulary.{Reverse, same_Some, Some, sym, true, without, [], ℕ, ◌++◌, ◌+◌, ◌-◌, ◌==◌, ◌∙◌, ◌∷◌, ◌≡◌}
+use Rattle.gu_base.proofs.LiveLaws.{change_is_no_reverse, consent_is_no_reverse, live_push_consent, live_push_reverse}
+use Rattle.gu_depend.proofs.Vocabulary.{Accepted, answer_to, call_of, Decline, Initiate, is_consenting}
+use specs.{declared.lookups.Lookups.Lookups, Found.AreTreesOf, Kept.{IsBook, IsKept}}
+use specs.LiveState.{Becomes, CanFollow, CanGo, IsLiveList, IsStateOf}
+use specs.Lookups.{AreIdsOf, AreReversalsOf, reversal_in}
 
 module _ {t : House} {h : List Entry} {cs : Consents} {lookups : Lookups} {s : LiveState}
     (book : IsBook t h cs lookups s) where
@@ -56,12 +57,19 @@ module _ {t : House} {h : List Entry} {cs : Consents} {lookups : Lookups} {s : L
         → CanGo t (live h) (numbered_as k d) s
     can_go k reverse d here =
         let u = undone t h e n k ok reverse in
-        let is = rw (undone_entry u.1 d here) at u.1 in
+        let there = known_entry h k d u.1.from (omega (arith, u.1.from, u.1.within)) here in
+        let is = rw (same_Some u.0 (numbered_as k d) (sym u.1.entry ∙ there)) at u.1 in
         record {
           list = list_live;
           next = length h + 1;
           state = book.state;
-          free = undone_goes book.kept.replayed book.state.filed is;
+          free = record {
+            filed = book.state.filed;
+            replayed = book.kept.replayed;
+            rises = live_rises h;
+            among = found_in _ (live h) _ is.found;
+            free = is.free;
+          };
           change = is.change;
         }
 
@@ -100,7 +108,7 @@ module _ {t : House} {h : List Entry} {cs : Consents} {lookups : Lookups} {s : L
           → ((k m : ℕ) → e.command ≡ Decline k → given ds m ≡ cond (m == k) [] (given cs m))
           → IsBook t (h ++ e ∷ []) ds (record { ids = ids; reversals = lookups.reversals }) s
       book_consenting consents ds gives clears =
-          book_next _ (live_same book.kept n e ok consents) (kept_consents book.kept n e ok consents ds gives clears)
+          book_next _ (sym (live_push_consent h e consents)) (kept_consents book.kept n e ok consents ds gives clears)
           (reversals_same book.looked_up.reversals e (λ m. consent_is_no_reverse m _ consents)) (later _ s book.state)
 
       -- a Reverse
@@ -111,6 +119,6 @@ module _ {t : House} {h : List Entry} {cs : Consents} {lookups : Lookups} {s : L
           → ((m : ℕ) → reversal_in rs m ≡ cond (k == m) (Some n) (reversal_in mid m))
           → IsBook t (h ++ e ∷ []) ds (record { ids = ids; reversals = rs }) now
       book_less k reverse now gone ds cleared mid rs same put =
-          book_next _ (live_less book.kept n e ok k reverse) (kept_reverse book.kept n e ok k reverse ds cleared)
+          book_next _ (sym (live_push_reverse h e k reverse)) (kept_reverse book.kept n e ok k reverse ds cleared)
           (reversals_put book.looked_up.reversals t e n k ok reverse rs
           (λ m. cc (put m, same m))) (later (without (live h) k) now (gone (length h + 1) book.state))

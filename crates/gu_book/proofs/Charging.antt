@@ -1,16 +1,15 @@
 -- The running sums of what the live claims cost, with one change more.
+use Rattle.gu_book.proofs.Vocabulary
+use Rattle.std.proofs.lemmas.List
+use List.{Elements.filter-append, Sums.{count_by-le-length, length-filter, sum_by-append, sum_by-le}}
 use Rattle.gu_base.specs.Fees.{paid_by, received_by}
-use Rattle.gu_book.proofs.Refused.{next_legal}
-use Rattle.gu_book.proofs.Vocabulary.{cons_option, FeeRows, Grove, IsNext, IsSmallCharge, AreFeesOf, IsCharged}
-use Rattle.gu_book.specs.Charging.{HasRoomFor}
-use Rattle.gu_depend.proofs.LastMoves.{moves_its_own}
-use Rattle.gu_depend.proofs.Vocabulary.{House, most_lots, highest_rate, charges, charge_of, Record, Charge}
-use Rattle.gu_fees.specs.{Rows.{paid_in, received_in}, Sums.{AreSumsOf, cost}}
-use Rattle.std.proofs.{Common.{sum_by, bytes_eq, ◌&&◌, IfSome}, lemmas.Slice.Eq.bytes_eq-Decides}
-use Rattle.std.proofs.Common.{All, mul-le-mul, mul-le-mul_right, ◌≡◌, ℕ, ◌+◌, ◌*◌, ◌≤◌, Bool, true, cond, refl, List}
-use Rattle.std.proofs.Common.{[], ◌∷◌, ◌++◌, length, ap, arith, Option, append-nil, Some, None, filter, filter_map}
-use Rattle.std.proofs.lemmas.List.Elements.{All-nil, All-cons, All-append, All-filter, All-weaker, filter-append}
-use Rattle.std.proofs.lemmas.List.Sums.{sum_by-le, sum_by-append, sum_by-cons, length-filter, count_by-le-length}
+use Rattle.gu_book.{proofs.Refused.next_legal, specs.Charging.{HasRoomFor, IsCharged, IsSmallCharge}}
+use Rattle.gu_depend.proofs.{LastMoves.moves_its_own, Vocabulary.{Charge, charges, highest_rate, most_lots}}
+use Rattle.{gu_fees.specs.{Rows.{FeeRows, paid_in, received_in}, Sums.{AreSumsOf, cost}}, std.proofs.Common.mul-le-mul}
+use Vocabulary.{All, All-append, All-cons, All-filter}
+use Vocabulary.{All-nil, All-weaker, ap, append-nil, AreFeesOf, arith, Bool, bytes_eq, bytes_same, charge_of}
+use Vocabulary.{cond, cons_option, filter, filter_map, Grove, House, IfSome, IsNext, length, List, mul-le-mul_right}
+use Vocabulary.{None, Option, Record, Some, sum_by, sum_by-cons, true, [], ℕ, ◌&&◌, ◌*◌, ◌++◌, ◌+◌, ◌∷◌, ◌≡◌, ◌≤◌}
 
 -- ---- one change more
 
@@ -41,19 +40,10 @@ fees_stay next fees are free = fees_push next _ _ are _ free tt tt (λ cs sums. 
 pub no_fees : (t : House) (fees : FeeRows) → AreSumsOf fees [] → AreFeesOf t [] fees
 no_fees t fees are = record { sums = are; small = All-nil IsSmallCharge }
 
--- what each firm pays and receives
-pub paid_told : {t : House} {l : List Record} {fees : FeeRows} → AreFeesOf t l fees
-    → (firm : List ℕ) → paid_in fees firm ≡ paid_by t l firm
-paid_told are firm = are.sums.paid firm
-
-pub received_told : {t : House} {l : List Record} {fees : FeeRows} → AreFeesOf t l fees
-    → (firm : List ℕ) → received_in fees firm ≡ received_by t l firm
-received_told are firm = are.sums.received firm
-
 -- ---- room
 
-small_cost : (c : Charge) → c.lots ≤ most_lots → c.rate ≤ highest_rate → cost c ≤ 1000000000000
-small_cost c lots rate = mul-le-mul lots rate
+small_cost : (c : Charge) → IsSmallCharge c → cost c ≤ 1000000000000
+small_cost c small = mul-le-mul small.lots small.rate
 
 fewer_by : {Y : Type 0} (o : Option Y) (ys : List Y) (n : ℕ) → length ys ≤ n → length (cons_option o ys) ≤ n + 1
 fewer_by None ys n few = omega arith
@@ -70,14 +60,21 @@ pub sum_most : {X : Type 0} (w : X → ℕ) (most : ℕ) (xs : List X) → All (
 sum_most w most xs all few =
     let b = mul-le-mul_right most few in omega (arith, sum_by-le w _ xs all)
 
--- and over some of the charges of a list
-bounded : (t : House) (l : List Record) (w : Charge → ℕ) (takes : Charge → Bool) (most : ℕ) → length l ≤ 1000000
-    → All (λ c. w c ≤ most) (charges t l) → sum_by w (filter takes (charges t l)) ≤ 1000000 * most
-bounded t l w takes most few all =
-    let a = length-filter takes (charges t l) in
-    let b = count_by-le-length takes (charges t l) in
-    let c = fewer_given (λ (r : Record). charge_of t l r.command) l in
-    sum_most w most _ (All-filter takes (λ (c : Charge). w c ≤ most) (charges t l) all) (omega arith)
+module _ {t : House} {l : List Record} {fees : FeeRows} (are : AreFeesOf t l fees) where
+  -- and over some of the charges of a list
+  bounded : length l ≤ 1000000 → (w : Charge → ℕ) (most : ℕ) → ((c : Charge) → IsSmallCharge c → w c ≤ most)
+      → (takes : Charge → Bool) → sum_by w (filter takes (charges t l)) ≤ 1000000 * most
+  bounded few w most small takes =
+      let each = All-weaker IsSmallCharge (λ (c : Charge). w c ≤ most) small (charges t l) are.small in
+      sum_most w most _ (All-filter takes (λ (c : Charge). w c ≤ most) (charges t l) each)
+      (omega (arith, length-filter, count_by-le-length, fewer_given))
+
+  -- what each firm pays and receives
+  pub paid_told : (firm : List ℕ) → paid_in fees firm ≡ paid_by t l firm
+  paid_told = are.sums.paid
+
+  pub received_told : (firm : List ℕ) → received_in fees firm ≡ received_by t l firm
+  received_told = are.sums.received
 
 pub has_room : (t : House) (l : List Record) (fees : FeeRows) → AreFeesOf t l fees → length l ≤ 1000000
     → (o : Option Charge) → IfSome o (λ c. c.lots ≤ most_lots) → IfSome o (λ c. c.rate ≤ highest_rate)
@@ -85,21 +82,17 @@ pub has_room : (t : House) (l : List Record) (fees : FeeRows) → AreFeesOf t l 
 has_room t l fees are few None lots rate = tt
 has_room t l fees are few (Some c) lots rate =
     let sums = are.sums in
-    let costs = All-weaker IsSmallCharge (λ (c : Charge). cost c ≤ 1000000000000) (λ c s. small_cost c s.lots s.rate)
-    (charges t l) are.small in
-    let each = All-weaker IsSmallCharge (λ (c : Charge). c.lots ≤ 10000000) (λ c s. s.lots) (charges t l) are.small in
-    let own = small_cost c lots rate in
-    let paid = sums.paid c.taker in
-    let paid_most = bounded t l cost (λ d. bytes_eq d.taker c.taker) _ few costs in
-    let received = sums.received c.giver in
-    let received_most = bounded t l cost (λ d. bytes_eq d.giver c.giver) _ few costs in
-    let used = sums.used c.giver c.taker in
-    let used_most =
-    bounded t l (λ d. d.lots) (λ d. bytes_eq d.giver c.giver && bytes_eq d.taker c.taker) 10000000 few each in
+    let own = small_cost c (record { lots = lots; rate = rate }) in
+    let cost_most = bounded are few cost _ small_cost in
+    let lots_most = bounded are few (λ d. d.lots) 10000000 (λ d small. small.lots) in
     record {
-      paid = omega arith;
-      received = omega arith;
-      used = omega arith;
+      paid = omega (arith, sums.paid c.taker, cost_most (λ d. bytes_eq d.taker c.taker));
+      received = omega (arith, sums.received c.giver, cost_most (λ d. bytes_eq d.giver c.giver));
+      used = omega (
+        arith,
+        sums.used c.giver c.taker,
+        lots_most (λ d. bytes_eq d.giver c.giver && bytes_eq d.taker c.taker),
+      );
     }
 
 -- ---- what is there
@@ -120,12 +113,10 @@ pub is_charged : (fees : FeeRows) (cs : List Charge) (o : Option Charge) → Are
     → IfSome o (λ c. c.lots ≤ most_lots) → IfSome o (λ c. c.rate ≤ highest_rate) → IsCharged fees o
 is_charged fees cs None sums lots rate = tt
 is_charged fees cs (Some c) sums lots rate =
-    let small = small_cost c lots rate in
-    let giver : bytes_eq c.giver c.giver ≡ true = (bytes_eq-Decides c.giver c.giver).1 refl in
-    let taker : bytes_eq c.taker c.taker ≡ true = (bytes_eq-Decides c.taker c.taker).1 refl in
+    let small = small_cost c (record { lots = lots; rate = rate }) in
     record {
       fits = omega arith;
-      paid = rw (sums.paid c.taker) (own_part cost _ cs c taker);
-      received = rw (sums.received c.giver) (own_part cost _ cs c giver);
-      used = rw (sums.used c.giver c.taker) (own_part _ _ cs c (cc));
+      paid = rw (sums.paid c.taker) (own_part cost _ cs c (bytes_same c.taker));
+      received = rw (sums.received c.giver) (own_part cost _ cs c (bytes_same c.giver));
+      used = rw (sums.used c.giver c.taker) (own_part _ _ cs c (cc (bytes_same c.giver, bytes_same c.taker)));
     }

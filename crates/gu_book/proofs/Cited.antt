@@ -1,10 +1,10 @@
 -- Lemmas that the check of one function takes together.
-use Rattle.gu_base.proofs.{LegalLaws.{legal_from_replay, replay_from_legal}, Numbered.{known_entry, positive}}
-use Rattle.gu_base.proofs.Numbered.{unknown_entry}
-use Rattle.gu_book.proofs.{Keeps.run_from_accepted, LastRefusal.{decline_row, initiate_row, reverse_row}}
-use Rattle.gu_book.proofs.{LookedUp.{known_answer, new_answer, stands_found}, Positions.fees_balance}
-use Rattle.gu_book.proofs.Ready.{accepted_where_ready, consent_accepted, newest_undone}
-use Rattle.gu_book.proofs.TermsKept.{can_at, claimed_at, claimed_nowhere}
+use Rattle.gu_base
+use Rattle.gu_book.proofs
+use gu_base.proofs.{LegalLaws.{legal_from_replay, replay_from_legal}, Numbered.{known_entry, positive, unknown_entry}}
+use proofs.{ChangesKept.{can_at, claimed_at, claimed_nowhere}, Keeps.run_from_accepted}
+use proofs.{LastRefusal.{decline_row, initiate_row, reverse_row}, LookedUp.{known_answer, new_answer, stands_found}}
+use proofs.{Positions.fees_balance, Ready.{accepted_where_ready, consent_accepted, newest_undone}}
 
 -- what is found under a number
 pub ruleset entry_by_number = (positive, unknown_entry, known_entry)

@@ -1,29 +1,24 @@
 -- The terms that a book keeps: what they say of a giver and a taker, and how they follow the changes.
+use Rattle.gu_book.proofs.Vocabulary
+use Rattle.gu_depend.proofs
+use proofs.{Deals.{both_same, dealt, numbered}, LastMoves.deals_there, TermsFollow.without_row}
+use proofs.Vocabulary.{Agree, Agreement, Charge, charge_of_kind, charges, Claim, counted, Dealing, dealings}
+use proofs.Vocabulary.{dealings_in, Deed, deed_of, Given, highest_rate, Kind, limit_of, Makes, most_lots, or_none}
+use proofs.Vocabulary.{Raise, raised_under, Raises, terms_of, use_of_kind, use_of_node, used_of, used_under, Uses}
 use Rattle.gu_base.proofs.{Dealt.all_sound, Sums.sum_option}
-use Rattle.gu_base.specs.{Terms.{made_by_deed, made_in, raised_by_deed, used_by_deed}, Limits.highest_limit}
-use Rattle.gu_book.proofs.{Vocabulary.{IsSmallDeed, IsWithinLimits}, Charging.{fewer_given, sum_most}, Leaves.cond_same}
-use Rattle.gu_book.proofs.Vocabulary.{AllWithinLimits, option_or, AreTermsOf, FeeRows, TermsView, AreFeesOf}
-use Rattle.gu_book.proofs.Within.{node_within}
-use Rattle.gu_book.specs.Charging.{AreUsesOf}
-use Rattle.gu_depend.proofs.{Vocabulary.{Claim, Agree, Raise, Record}, Deals.{both_same, dealt, numbered}}
-use Rattle.gu_depend.proofs.{TermsFollow.without_row, LastMoves.deals_there, Settled.facts}
-use Rattle.gu_depend.proofs.Vocabulary.{Charge, Kind, Root, Own, Given, Node, most_lots, highest_rate, House, agreement}
-use Rattle.gu_depend.proofs.Vocabulary.{charge_of, charge_of_kind, charges, counted, first_refused, use_of_kind}
-use Rattle.gu_depend.proofs.Vocabulary.{use_of_node, deed_of, dealings_in, dealings, raised_under, used_under, terms_of}
-use Rattle.gu_depend.proofs.Vocabulary.{limit_of, used_of, Agreement, Dealing, Deed, Makes, Raises, Uses, Command}
-use Rattle.gu_fees.specs.Terms.{row_of}
-use Rattle.std.proofs.{Common.{IfSome, filter, filter_map, sum_by}, lemmas.List.Sums.sum_by-cons}
-use Rattle.std.proofs.Common.{option_map, option_and_then, bytes_eq, ◌≡◌, ℕ, ◌+◌, ◌*◌, ◌≤◌, Bool, true, false, ◌&&◌}
-use Rattle.std.proofs.Common.{List, [], ◌∷◌, length, refl, ◌∙◌, ap, arith, cond, Option, All, Contains, Some, None}
-use Rattle.std.proofs.lemmas.List.Elements.{All-nil, All-cons, All-head, All-tail, All-contains_itself, All-weaker}
+use Rattle.gu_base.specs.{Limits.highest_limit, Terms.{made_by_deed, made_in, raised_by_deed, used_by_deed}}
+use Rattle.gu_book.proofs.{Charging.{fewer_given, sum_most}, Leaves.cond_same, Within.node_within}
+use Rattle.gu_book.specs.{Charging.AreUsesOf, Dealing.IsSmallDeed}
+use Rattle.gu_fees.specs.{Rows.FeeRows, Terms.{row_of, TermsView}}
+use Vocabulary.{agreement, All, All-cons, All-contains_itself}
+use Vocabulary.{All-head, All-nil, All-tail, All-weaker, AllWithinLimits, ap, AreFeesOf, AreTermsOf, arith}
+use Vocabulary.{Bool, bytes_eq, charge_of, Command, cond, Contains, facts, false, filter, filter_map, first_refused}
+use Vocabulary.{House, IfSome, IsWithinLimits, length, List, Node, None, Option, option_and_then, option_map}
+use Vocabulary.{option_or, Record, refl, Some, sum_by, sum_by-cons, true, [], ℕ, ◌&&◌, ◌*◌, ◌+◌, ◌∙◌, ◌∷◌, ◌≡◌, ◌≤◌}
 
 -- ---- what is kept of a giver and a taker
 
 module _ {t : House} {l : List Record} {v : TermsView} (are : AreTermsOf t l v) (g k : List ℕ) where
-  only_file : (o : Option Agreement) → o ≡ option_or o None
-  only_file None = refl
-  only_file (Some a) = refl
-
   file_limit : (o : Option Agreement)
       → option_map (λ (a : Agreement). a.limit) o ≡ option_map (λ (a : Agreement). a.limit + 0) (option_or o None)
   file_limit None = refl
@@ -31,7 +26,7 @@ module _ {t : House} {l : List Record} {v : TermsView} (are : AreTermsOf t l v) 
 
   -- and where there is none, the house table does
   pub filed_terms : row_of v g k ≡ None → agreement t g k ≡ terms_of t l g k
-  filed_terms none = cc (only_file _, without_row t l v are g k none)
+  filed_terms none = cc (or_none _, without_row t l v are g k none)
 
   pub filed_limit : row_of v g k ≡ None → option_map (λ (a : Agreement). a.limit) (agreement t g k) ≡ limit_of t l g k
   filed_limit none = cc (file_limit _, without_row t l v are g k none)
@@ -93,9 +88,8 @@ module _ (t : House) (l : List Record) (none : first_refused t [] l ≡ None) wh
   kind_charged : (g k : List ℕ) (lots : ℕ) (kind : Kind)
       → ((x y : List ℕ) (d : Deed) → use_of_kind x y lots kind ≡ Some d → terms_of t l x y ≡ None → ⊥)
       → counted (of_pair g k) (λ c. c.lots) (charge_of_kind t l lots kind) ≡ used_told (use_of_kind g k lots kind)
-  kind_charged g k lots (Root _) some = refl
-  kind_charged g k lots (Own _ _ _) some = refl
   kind_charged g k lots (Given m x y) some = given_charged g k x y lots _ (some x y (Uses lots) (cc (both_same x y)))
+  kind_charged g k lots _ some = refl
 
   claim_charged : (g k : List ℕ) (o : Option Node)
       → ((x y : List ℕ) (d : Deed) → option_and_then (use_of_node x y) o ≡ Some d → terms_of t l x y ≡ None → ⊥)
@@ -116,7 +110,7 @@ module _ (t : House) (l : List Record) (none : first_refused t [] l ≡ None) wh
 
   -- the lots that are charged under an agreement are those that are used of it
   pub uses_charged : (g k : List ℕ)
-      → sum_by (λ c. c.lots) (filter (λ c. bytes_eq c.giver g && bytes_eq c.taker k) (charges t l)) ≡ used_of l g k
+      → sum_by (λ c. c.lots) (filter (of_pair g k) (charges t l)) ≡ used_of l g k
   uses_charged g k =
       uses_in t l g k l
       (All-weaker (Contains l) (UsesCharged t l g k)
@@ -133,9 +127,8 @@ small_if true d small = small
 small_if false d small = tt
 
 small_kind : (g k : List ℕ) (lots : ℕ) (kind : Kind) → lots ≤ most_lots → IfSome (use_of_kind g k lots kind) IsSmallDeed
-small_kind g k lots (Root _) small = tt
-small_kind g k lots (Own _ _ _) small = tt
 small_kind g k lots (Given m x y) small = small_if _ _ small
+small_kind g k lots _ small = tt
 
 small_node : (g k : List ℕ) (o : Option Node) → IfSome o (λ x. x.lots ≤ 10000000)
     → IfSome (option_and_then (use_of_node g k) o) IsSmallDeed
@@ -164,15 +157,10 @@ small_in l g k all (r ∷ among) within =
     small_cons r _ _ (deed_small l g k _ _ all (All-head (λ (r : Record). IsWithinLimits r.command) r among within))
     (small_in l g k all among (All-tail (λ (r : Record). IsWithinLimits r.command) r among within))
 
-raised_small : (d : Deed) → IsSmallDeed d → raised_by_deed d ≤ 10000000000000
-raised_small (Makes a) small = omega arith
-raised_small (Raises lots) small = small
-raised_small (Uses lots) small = omega arith
-
-used_small : (d : Deed) → IsSmallDeed d → used_by_deed d ≤ 10000000
-used_small (Makes a) small = omega arith
-used_small (Raises lots) small = omega arith
-used_small (Uses lots) small = small
+small_counts : (d : Deed) → IsSmallDeed d → (raised_by_deed d ≤ 10000000000000) × (used_by_deed d ≤ 10000000)
+small_counts (Makes a) small = (omega arith, omega arith)
+small_counts (Raises lots) small = (small, omega arith)
+small_counts (Uses lots) small = (omega arith, small)
 
 -- what the dealings of a list of a million changes at most count, where each counts no more than this
 dealt_most : (l : List Record) (g k : List ℕ) → AllWithinLimits l → length l ≤ 1000000 → (counts : Deed → ℕ) (most : ℕ)
@@ -186,11 +174,13 @@ dealt_most l g k all few counts most each =
 -- what is raised and what is used in such a list
 pub raised_most : (l : List Record) (g k : List ℕ) → AllWithinLimits l → length l ≤ 1000000
     → raised_under (dealings l g k) ≤ 10000000000000000000
-raised_most l g k all few = omega (arith, dealt_most l g k all few raised_by_deed 10000000000000 raised_small)
+raised_most l g k all few =
+    omega (arith, dealt_most l g k all few raised_by_deed 10000000000000 (λ d small. (small_counts d small).0))
 
 pub used_most : (l : List Record) (g k : List ℕ) → AllWithinLimits l → length l ≤ 1000000
     → used_under (dealings l g k) ≤ 10000000000000
-used_most l g k all few = omega (arith, dealt_most l g k all few used_by_deed 10000000 used_small)
+used_most l g k all few =
+    omega (arith, dealt_most l g k all few used_by_deed 10000000 (λ d small. (small_counts d small).1))
 
 abbrev HasRate : Agreement → Type 0
 HasRate a = a.rate ≤ highest_rate
@@ -198,8 +188,7 @@ HasRate a = a.rate ≤ highest_rate
 made_first : (d : Deed) (rest : Option Agreement) → IsSmallDeed d → IfSome rest HasRate
     → IfSome (option_or (made_by_deed d) rest) HasRate
 made_first (Makes a) rest small later = small.rate_fits
-made_first (Raises lots) rest small later = later
-made_first (Uses lots) rest small later = later
+made_first _ rest small later = later
 
 made_small : (ds : List Dealing) → All HasSmallDeed ds → IfSome (made_in ds) HasRate
 made_small [] all = tt

@@ -1,22 +1,21 @@
 -- What trees that show a list of changes say of its nodes, and what of them stays where the list has one change more,
 -- or one less.
-use Rattle.gu_book.proofs.{Vocabulary.{IsGroveOf, IsNext}, ByNumber.{other_made, its_own}, Orders.{InOrder, names_node}}
-use Rattle.gu_book.proofs.Sound.{node_push}
-use Rattle.gu_book.proofs.Vocabulary.{is_trade, is_live_trade, names, Rose, Roses, leaf, parted, head_of, named}
-use Rattle.gu_book.proofs.Vocabulary.{node_at, Grove, tree_of, tree_in, last_place, IsPlace, IsSameGrove, ChangesTree}
-use Rattle.gu_book.proofs.Vocabulary.{slot_of, IsTreeOf, IsNodeOf, ArePartsOf, named_node, named_place, place_in, Head}
-use Rattle.gu_book.specs.Filed.{IsDue, Follows}
-use Rattle.gu_depend.proofs.{Names.{maker, made_number}, Replay.NumbersOnce, StandsLast.any_in}
-use Rattle.gu_depend.proofs.Vocabulary.{◌≡◌, ℕ, ◌≤◌, true, false, ◌&&◌, List, [], ◌∷◌, ◌++◌, refl, sym, ◌∙◌, ap, subst}
-use Rattle.gu_depend.proofs.Vocabulary.{arith, cond, Option, Some, None, find, ◌==◌, option_and_then}
-use Rattle.gu_depend.proofs.Vocabulary.{false_from_ne_true, or_parts, Decides-eqb, same_Some, EntryPart, House, node_of}
-use Rattle.gu_depend.proofs.Vocabulary.{nodes_of, same_name, split_of, Command, Trade, Split, Record, Node, Root, Place}
-use Rattle.gu_depend.proofs.Vocabulary.{none_is_some, or_none, made_of, name_is, name_same, splits, decides}
-use Rattle.gu_tree.proofs.{Along.{IsAlong, along, path_of}, Alike.{IsAlike, node_alike}, ShowsLess.no_root_part}
-use Rattle.gu_tree.proofs.{Shows.find_kept, Parts.some_and}
-use Rattle.gu_tree.specs.{ShownAll.IsTreeIn, Grove.place_of}
-use Rattle.std.proofs.Common.{◌≢◌, unwrap_or, option_map, Contains}
-use Rattle.std.proofs.lemmas.Bool.{true_from_ne_false, cond_both, eqb-true, eqb-false, ne_eqb}
+use Rattle.gu_book.proofs.Vocabulary
+use Rattle.gu_depend.proofs
+use Rattle.gu_tree.specs
+use proofs.Finds.{by_test}
+use proofs.Vocabulary.{false_from_ne_true, made_of, name_is, none_or_some, or_none, or_parts, Place, split_of, splits}
+use Rattle.gu_book.proofs.{ByNumber.{its_maker, its_own, other_made}, Orders.{InOrder, names_node}, Sound.node_push}
+use Rattle.{gu_book.specs.Filed.{Follows, IsDue}, gu_tree.proofs.Alike.{IsAlike, node_alike}}
+use Rattle.gu_tree.proofs.{Along.{along, IsAlong, path_of}, Parts.some_and, Shows.find_kept, ShowsLess.no_root_part}
+use Rattle.std.proofs.lemmas.Bool.{cond_both, eqb-false, ne_eqb, true_from_ne_false}
+use specs.{Filing.slot_of, Grove.{ChangesTree, IsSameGrove, place_of, tree_in, tree_of}}
+use specs.{Paths.node_at, Rose.{leaf, named, parted, Roses}, Shown.{ArePartsOf, IsNodeOf, IsTreeOf}}
+use Vocabulary.{any_in, ap, arith, Command, cond, Contains, decides, EntryPart, eqb-true}
+use Vocabulary.{false, find, Grove, Head, head_of, House, inl, inr, is_live_trade, is_trade, IsGroveOf, IsNext, IsPlace}
+use Vocabulary.{IsTreeIn, List, maker, name_same, named_node, named_place, names, Node, node_of, nodes_of, None}
+use Vocabulary.{none_is_some, NumbersOnce, Option, option_map, place_in, Record, refl, Root, Rose, same_name, same_Some}
+use Vocabulary.{Some, Split, subst, sym, Trade, true, unwrap_or, [], ℕ, ◌&&◌, ◌++◌, ◌==◌, ◌∙◌, ◌∷◌, ◌≡◌, ◌≢◌, ◌≤◌}
 
 -- ---- of two groves
 
@@ -31,10 +30,7 @@ pub same_next : (t : House) (l : List Record) (r : Record) (old new : Grove) →
     → IsNext t l r new
 same_next t l r old new same next = record {
   filed = same_filed l old new same next.filed;
-  later =
-      let a : last_place new ≡ last_place old = rw same.slots refl in
-      let b = next.later in
-      omega arith;
+  later = rw same.slots next.later;
   replayed = next.replayed;
   lawful = next.lawful;
   rises = next.rises;
@@ -138,7 +134,7 @@ pub live_at : {l : List Record} {g : Grove} → IsGroveOf l g → (k : ℕ) (tre
 live_at {l} filed k tree e =
     let is = tree_shown filed k _ e in
     let m = maker l _ _ is.found in
-    let same = (Decides-eqb m.change.number k).1 (sym (made_number m.change _ _ m.makes_it)) in
+    let same = its_maker l _ _ m in
     let trades = true_from_ne_false _ (λ plain.
     none_is_some (made_of m.change (root_name k)) is.root
     (rootless k m.change.number m.change.firm m.change.command plain) m.makes_it) in
@@ -147,13 +143,10 @@ live_at {l} filed k tree e =
 -- ---- what a command names
 
 -- what names a node is no Trade, and has the node as its place
-not_trade : (c : Command) (n : EntryPart) → named_node c ≡ Some n → is_trade c ≡ false
-not_trade (Trade _ _ _ _ _) n e = absurd (cc)
-not_trade _ n e = refl
-
-pub place_named : (k : ℕ) (c : Command) (n : EntryPart) → named_node c ≡ Some n → named_place k c ≡ Some n
-place_named k (Trade _ _ _ _ _) n e = absurd (cc)
-place_named k _ n e = e
+pub names_apart : (k : ℕ) (c : Command) (n : EntryPart) → named_node c ≡ Some n
+    → (is_trade c ≡ false) × (named_place k c ≡ Some n)
+names_apart k (Trade _ _ _ _ _) n e = absurd (cc)
+names_apart k _ n e = (refl, e)
 
 told : (m : EntryPart) (o : Option EntryPart) → unwrap_or (option_map (λ n. same_name n m) o) false ≡ true → o ≡ Some m
 told m None is = absurd (cc)
@@ -168,9 +161,6 @@ placeless_is k (Trade _ _ _ _ _) e = absurd (cc)
 placeless_is k _ e = (refl, e)
 
 -- ---- one change more
-
-abbrev pub place_of_change : Option Record → Option EntryPart
-place_of_change o = option_and_then (λ (d : Record). named_place d.number d.command) o
 
 -- a change has its own place
 pub place_of_own : (l : List Record) (r : Record) → NumbersOnce l → Contains l r
@@ -199,71 +189,67 @@ more_beside l r = record {
       cc (find_kept (λ (d : Record). d.number == k) l r (ne_eqb r.number k (λ e. other (sym e))));
 }
 
--- what is as it was everywhere is so here
-as_before : {A : Type 0} (f : ℕ → A) (k e : ℕ) → f k ≡ cond (k == e) (f e) (f k)
-as_before f k e = cond_both _ (f e) (f k) (λ z. f k ≡ z) (λ same. cc (eqb-true k e same)) (λ other. refl)
-
 -- the key has this value now, and each other key the one that it had
 abbrev pub Alters : {A : Type 0} → (ℕ → A) → (ℕ → A) → ℕ → A → Type 0
 Alters old new e x = (k : ℕ) → new k ≡ cond (k == e) x (old k)
 
 module _ {r : Record} {x y : List Record} (b : IsBeside r x y) {g : Grove} (filed : IsGroveOf x g) where
-  -- where one tree and the place of the change have become what the other list says, and the other trees show it too
-  moved : {h : Grove} (trade : ℕ) (tree : Option Rose) (place : Option EntryPart)
-      → Alters (tree_of g) (tree_of h) trade tree → Alters (place_of g) (place_of h) r.number place
-      → IsTreeIn y trade tree → ((k : ℕ) → k ≢ trade → IsTreeIn y k (tree_of g k)) → place_in y r.number ≡ place
-      → IsGroveOf y h
-  moved trade tree place trees places shown others own = record {
-    trees = λ k.
-        rw (trees k) (cond_both _ tree _ (IsTreeIn y k) (λ same. rw (eqb-true k trade same) shown)
-        (λ other. others k (eqb-false k trade other)));
-    places = λ k. places k ∙ cond_both _ place _ (λ o. o ≡ place_in y k)
-        (λ same. cc (eqb-true k r.number same)) (λ other. cc (filed.places k, b.places k (eqb-false k r.number other)));
-  }
-
   -- a tree of whose nodes the change names none, and whose root it doesn't make, shows the one as it shows the other
   stays : (k : ℕ) → made_of r (root_name k) ≡ None
       → ((t : Rose) → tree_of g k ≡ Some t → (n : EntryPart) → 1 ≤ named n t → names n r.command ≡ false)
       → IsTreeIn y k (tree_of g k)
-  stays k none unnamed = alike _ unnamed (filed.trees k)
-    where
-      alike : (o : Option Rose)
-          → ((t : Rose) → o ≡ Some t → (n : EntryPart) → 1 ≤ named n t → names n r.command ≡ false) → IsTreeIn x k o
-          → IsTreeIn y k o
-      alike None un is = b.nodes (root_name k) none ∙ is
-      alike (Some t) un is =
-          let tree = node_alike x y _ _ t (λ n one. b.alike n (un t refl n one)) is.tree in
-          record { root = is.root; found = cc (b.nodes (root_name k) none); top = is.top; tree = tree }
+  stays k none unnamed = elim (none_or_some (tree_of g k)) [
+    | inl absent ↦ rw absent (b.nodes (root_name k) none ∙ rw absent at (filed.trees k))
+    | inr t ↦ (
+        let is = tree_shown filed k t.0 t.1 in
+        let found = b.nodes (root_name k) none ∙ is.found in
+        let tree = node_alike x y _ _ t.0 (λ n one. b.alike n (unnamed t.0 t.1 n one)) is.tree in
+        rw t.1 (record { root = is.root; found = found; top = is.top; tree = tree }))
+  ]
 
-  -- the tree of the node that it names gives way to another
-  pub changed : {h : Grove} {trade : ℕ} {p : List ℕ} {n : EntryPart} → InOrder x → Spot x g trade p n
-      → named_node r.command ≡ Some n → (new : Rose) (place : Option EntryPart) → ChangesTree g h trade new
-      → Alters (place_of g) (place_of h) r.number place → IsTreeOf y trade new → place_in y r.number ≡ place
-      → IsGroveOf y h
-  changed {trade = trade} {p = p} {n = n} order s is new place trees places shown own =
-      moved _ _ _ trees places shown
-      (λ k other. stays k (rootless k _ _ _ (not_trade _ n is))
-      -- since a node lies in the tree of one trade alone
-      (λ t e m one. unnamed_by m _ (λ it.
-      let q = path_of m t one in
-      let a = along x order.distinct k t (tree_shown filed k t e) q.0 q.1 q.2 in
-      let roots = sym a.rooted ∙ (cc (same_Some m n (sym it ∙ is), s.called, s.said.rooted)) in
-      other (ap (λ (m : EntryPart). m.entry) (same_Some (root_name k) (root_name trade) roots))))) own
-
-  -- the tree of its own number does
-  pub rooted : {h : Grove} → ((n : EntryPart) → names n r.command ≡ false) → (tree : Option Rose)
-      (place : Option EntryPart) → Alters (tree_of g) (tree_of h) r.number tree
-      → Alters (place_of g) (place_of h) r.number place → IsTreeIn y r.number tree → place_in y r.number ≡ place
-      → IsGroveOf y h
-  rooted unnamed tree place trees places shown own =
-      moved _ _ _ trees places shown
-      (λ k other. stays k (other_made r _ (λ e. other (sym e))) (λ t e n one. unnamed n)) own
-
-  -- none does, of an Agree or a Raise
+  -- so does each tree, of an Agree or a Raise
   pub apart : named_place r.number r.command ≡ None → place_in y r.number ≡ place_of g r.number → IsGroveOf y g
   apart placeless own =
       let is = placeless_is r.number r.command placeless in
-      let each : (k : ℕ) → IsTreeIn y k (tree_of g k) = λ k. stays k (rootless k r.number r.firm r.command is.0)
-      (λ t e n one. unnamed_by n r.command (none_is_some (named_node r.command) n is.1)) in
-      moved r.number _ _ (λ k. as_before (tree_of g) k r.number)
-      (λ k. as_before (place_of g) k r.number) (each r.number) (λ k other. each k) own
+      record {
+        trees = λ k. stays k (rootless k r.number r.firm r.command is.0)
+            (λ t e n one. unnamed_by n r.command (none_is_some (named_node r.command) n is.1));
+        places = λ k. by_test (k == r.number) (λ same. rw (eqb-true k r.number same) (sym own))
+            (λ other. cc (filed.places k, b.places k (eqb-false k r.number other)));
+      }
+
+  -- the place of the change has become what the other list says
+  module _ {h : Grove} {place : Option EntryPart} (places : Alters (place_of g) (place_of h) r.number place)
+      (own : place_in y r.number ≡ place) where
+    -- so has one tree, and the others show it too
+    moved : (trade : ℕ) (tree : Option Rose) → Alters (tree_of g) (tree_of h) trade tree → IsTreeIn y trade tree
+        → ((k : ℕ) → k ≢ trade → IsTreeIn y k (tree_of g k)) → IsGroveOf y h
+    moved trade tree trees shown others = record {
+      trees = λ k.
+          rw (trees k) (cond_both _ tree _ (IsTreeIn y k) (λ same. rw (eqb-true k trade same) shown)
+          (λ other. others k (eqb-false k trade other)));
+      places = λ k. places k ∙ cond_both _ place _ (λ o. o ≡ place_in y k)
+          (λ same. cc (eqb-true k r.number same))
+          (λ other. cc (filed.places k, b.places k (eqb-false k r.number other)));
+    }
+
+    -- the tree of the node that it names gives way to another
+    pub changed : {trade : ℕ} {p : List ℕ} {n : EntryPart} → InOrder x → Spot x g trade p n
+        → named_node r.command ≡ Some n → (new : Rose) → ChangesTree g h trade new → IsTreeOf y trade new
+        → IsGroveOf y h
+    changed {trade = trade} {n = n} order s is new trees shown =
+        moved _ _ trees shown
+        (λ k other. stays k (rootless k _ _ _ (names_apart r.number _ n is).0)
+        -- since a node lies in the tree of one trade alone
+        (λ t e m one. unnamed_by m _ (λ it.
+        let q = path_of m t one in
+        let a = along x order.distinct k t (tree_shown filed k t e) q.0 q.1 q.2 in
+        let roots = sym a.rooted ∙ (cc (same_Some m n (sym it ∙ is), s.called, s.said.rooted)) in
+        other (ap (λ (m : EntryPart). m.entry) (same_Some (root_name k) (root_name trade) roots)))))
+
+    -- the tree of its own number does
+    pub rooted : ((n : EntryPart) → names n r.command ≡ false) → (tree : Option Rose)
+        → Alters (tree_of g) (tree_of h) r.number tree → IsTreeIn y r.number tree → IsGroveOf y h
+    rooted unnamed tree trees shown =
+        moved _ _ trees shown
+        (λ k other. stays k (other_made r _ (λ e. other (sym e))) (λ t e n one. unnamed n))

@@ -1,11 +1,10 @@
 -- What the changes other than one on which nothing stands say, and the trees that show them.
-use Rattle.gu_book.proofs.{Vocabulary.{named_place, place_in, IsGroveOf, IsFree}, Undoing.{others, once, finds, unmade}}
-use Rattle.gu_book.proofs.{Orders.{InOrder, in_order}, ByNumber.change_left}
-use Rattle.gu_book.proofs.Filed.{Spot, IsBeside, more_beside, changed, rooted, apart, place_of_own}
-use Rattle.gu_book.proofs.Vocabulary.{names, Rose, Grove, ChangesTree, Takes, TakesTree, IsTreeOf, named_node}
-use Rattle.gu_depend.proofs.{Vocabulary.{without, Record}, Finds.find_filter}
-use Rattle.gu_depend.proofs.Vocabulary.{not, ◌≡◌, ℕ, false, List, refl, sym, ◌∙◌, ap, Some, None, EntryPart, House}
-use Rattle.gu_tree.specs.Grove.{place_of}
+use Rattle.gu_book.proofs
+use proofs.{ByNumber.change_left, Filed.{apart, changed, IsBeside, more_beside, place_of_own, rooted, Spot}}
+use proofs.{Orders.{in_order, InOrder}, Undoing.{finds, once, others, unmade}}
+use proofs.Vocabulary.{ap, EntryPart, false, find_filter, Grove, House, IsFree, IsGroveOf, List, named_node}
+use proofs.Vocabulary.{named_place, names, None, not, place_in, Record, refl, Rose, Some, sym, without, ℕ, ◌∙◌, ◌≡◌}
+use Rattle.gu_tree.specs.{Grove.{ChangesTree, place_of, Takes, TakesTree}, Shown.IsTreeOf}
 
 module _ {t : House} {l : List Record} {r : Record} {g : Grove} (u : IsFree t l r g) where
   pub order : InOrder l
@@ -38,11 +37,10 @@ module _ {t : House} {l : List Record} {r : Record} {g : Grove} (u : IsFree t l 
   pub taken_back : {trade : ℕ} {p : List ℕ} {n : EntryPart} → Spot l g trade p n → named_node r.command ≡ Some n
       → (h : Grove) (new : Rose) → ChangesTree g h trade new → Takes g h r.number
       → IsTreeOf (without l r.number) trade new → IsGroveOf (without l r.number) h
-  taken_back s is h new tree place shows = changed less_beside u.filed order s is new None tree place shows place_gone
+  taken_back s is h new tree place shows = changed less_beside u.filed place place_gone order s is new tree shows
 
   -- a Trade, whose tree goes
   pub uprooted : ((n : EntryPart) → names n r.command ≡ false) → (h : Grove) → TakesTree g h r.number
       → Takes g h r.number → IsGroveOf (without l r.number) h
   uprooted unnamed h tree place =
-      rooted less_beside u.filed unnamed _ _ tree place (unmade u _ refl)
-      place_gone
+      rooted less_beside u.filed place place_gone unnamed _ tree (unmade u _ refl)

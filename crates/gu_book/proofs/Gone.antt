@@ -1,25 +1,22 @@
 -- What the trees say of a change on which nothing stands, and what is left when it is taken back at its node.
-use Rattle.gu_book.proofs.{FiledChanges.{its_head, its_node, from_tree, has_at, is_at, said_at}, Vocabulary.IsFree}
-use Rattle.gu_book.proofs.{FiledLess.{order, own_place, taken_back, uprooted}, Sound.made_found}
-use Rattle.gu_book.proofs.Filed.{Spot, spot, IsParted, parted_by, IsWhole, whole_by, root_name, makes_root, place_named}
-use Rattle.gu_book.proofs.Undoing.{others, once, finds, before, grown, bare, only_split, only_decision}
-use Rattle.gu_book.proofs.Vocabulary.{is_trade, names, Rose, Roses, leaf, parted, no_parts, part_then, head_of}
-use Rattle.gu_book.proofs.Vocabulary.{split_of_node, node_at, edit_at, HasAt, can_unsplit, unsplit_node, is_given_back}
-use Rattle.gu_book.proofs.Vocabulary.{Grove, IsPlace, HasTree, ChangesTree, Takes, TakesTree, IsNodeOf, ArePartsOf}
-use Rattle.gu_book.proofs.Vocabulary.{SplitsNode, DecidesNode, named_node, IsOnlySplit, IsOnlyDecision, Head, IsGroveOf}
-use Rattle.gu_depend.proofs.{StandsLast.node_of_maker, LastMoves.split_kept, Grown.SplitsDecided, Settled.named_once}
-use Rattle.gu_depend.proofs.{Names.made_number, Finds.found_once}
-use Rattle.gu_depend.proofs.Vocabulary.{name_same, node_called, decides_well, found_in, find_passes, ◌≡◌, ℕ, true}
-use Rattle.gu_depend.proofs.Vocabulary.{false, List, [], ◌∷◌, refl, ◌∙◌, ap, Option, All, inl, inr, Some, None}
-use Rattle.gu_depend.proofs.Vocabulary.{option_map, All-head, All-tail, All-weaker, All-contains, EntryPart, House}
-use Rattle.gu_depend.proofs.Vocabulary.{node_of, split_of, decision_of, splits, decides, is_given, state_of}
-use Rattle.gu_depend.proofs.Vocabulary.{state_after, without, Command, Trade, Split, Claim, Refuse, Cancel, Record}
-use Rattle.gu_depend.proofs.Vocabulary.{Kind, Given, Node, Place, no_some, none_is_some, made, made_of}
-use Rattle.gu_tree.proofs.Parts.{some_and, at_fact}
-use Rattle.gu_tree.specs.{Changes.{are_undecided_leaves, is_undecided_leaf, offer_node, offer_again_node}, Paths.above}
-use Rattle.gu_tree.specs.{Grove.{place_of, IsSapling}, ShownAll.IsTreeIn, Shown.ShowsLess}
-use Rattle.std.proofs.Common.{IsTrue, ◌⊎◌}
-use Rattle.std.specs.Prelude.{IsSomeAnd}
+use Rattle.gu_book.proofs
+use Rattle.gu_tree.specs
+use proofs.Filed.{IsParted, IsWhole, makes_root, names_apart, parted_by, root_name, Spot, spot, whole_by}
+use proofs.FiledChanges.{from_tree, given_state, has_at, is_at, its_head, its_node, said_at}
+use proofs.{FiledLess.{order, own_place, taken_back, uprooted}, Holdings.unsplit, Sound.made_found}
+use proofs.Undoing.{bare, before, counted, finds, grown, once, only_decision, only_split, others}
+use proofs.Vocabulary.{All, All-head, All-tail, All-weaker, ap, Command, decides}
+use proofs.Vocabulary.{DecidesNode, EntryPart, false, found_once, Grove, Head, head_of, House, inl, inr, is_trade}
+use proofs.Vocabulary.{IsFree, IsGroveOf, IsPlace, IsSomeAnd, IsTreeIn, IsTrue, List, made, made_number, name_same}
+use proofs.Vocabulary.{named_node, named_once, names, Node, node_of, node_of_maker, None, none_is_some, Option}
+use proofs.Vocabulary.{option_map, Record, refl, Rose, Some, Split, Trade, true, without, [], ℕ, ◌∙◌, ◌∷◌, ◌≡◌, ◌⊎◌}
+use Rattle.gu_depend.proofs.{LastMoves.split_kept, Vocabulary.{Cancel, Claim, decides_well}}
+use Rattle.gu_depend.proofs.Vocabulary.{decision_of, made_of, node_called, Place, Refuse, split_of, splits, state_after}
+use Rattle.gu_tree.proofs.Parts.{at_fact, some_and}
+use specs.Changes.{are_undecided_leaves, can_unsplit, is_given_back, is_undecided_leaf, offer_again_node, offer_node}
+use specs.{Changes.unsplit_node, Grove.{ChangesTree, HasTree, IsSapling, place_of, Takes, TakesTree}}
+use specs.{Paths.{above, edit_at, HasAt, node_at}, Rose.{leaf, no_parts, part_then, parted, Roses, split_of_node}}
+use specs.Shown.{ArePartsOf, IsNodeOf, IsOnlyDecision, IsOnlySplit, ShowsLess, SplitsNode}
 
 -- ---- what a command names
 
@@ -54,23 +51,18 @@ bare_part l above x (parted h n ts) is bare = absurd (none_is_some _ _ bare.0 is
 bare_parts : (l : List Record) (above : Option Place) (xs : List Node) (ts : Roses) → ArePartsOf l above xs ts
     → All (IsBare l) xs → are_undecided_leaves ts ≡ true
 bare_parts l above [] no_parts is bare = refl
-bare_parts l above [] (part_then v ts) is bare = absurd is
-bare_parts l above (x ∷ xs) no_parts is bare = absurd is
 bare_parts l above (x ∷ xs) (part_then v ts) is bare =
     cc (
       bare_part l above x v is.0 (All-head (IsBare l) x xs bare),
       bare_parts l above xs ts is.1 (All-tail (IsBare l) x xs bare),
     )
-
-given_state : (k : Kind) (r : Record) → is_given k ≡ true → state_of k (Some r) ≡ state_after r.command
-given_state (Given _ _ _) r h = refl
-given_state _ r h = absurd (cc)
+bare_parts l above _ _ is bare = absurd is
 
 module _ {t : House} {l : List Record} {r : Record} {g : Grove} (u : IsFree t l r g) where
   pub its_spot : (trade : ℕ) (p : List ℕ) (n : EntryPart) → named_node r.command ≡ Some n
       → IsSomeAnd (place_of g r.number) (λ m. IsPlace g m trade p) → Spot l g trade p n
   its_spot trade p n is at =
-      spot u.filed (order u) trade p n (rw (own_place u ∙ place_named r.number r.command n is) at at)
+      spot u.filed (order u) trade p n (rw (own_place u ∙ (names_apart r.number r.command n is).1) at at)
 
   -- ---- a Trade
 
@@ -145,7 +137,6 @@ module _ {t : House} {l : List Record} {r : Record} {g : Grove} (u : IsFree t l 
     its_decision : decision_of l n ≡ Some r
     its_decision = found_once _ l r u.among its_names.1 ((named_once t l u.replayed).decisions_once n)
 
-    -- a Split of the part would stand behind the decision
     whole : IsWhole s.node
     whole =
         whole_by l _ _ _ s.said.shown
@@ -153,12 +144,8 @@ module _ {t : House} {l : List Record} {r : Record} {g : Grove} (u : IsFree t l 
           called,
           (finds u).splits_same n,
           split_kept (before u) n its_names.2,
-          no_some (split_of (others u) n) (λ d e. none_is_some (decision_of (others u) n) r
-              (decides_well t (others u) r.firm r.command n (before u).accepted its_names.1).undecided
-              (All-contains (SplitsDecided l (others u)) (others u) d (grown u).decided
-              (found_in (λ q. splits n q.command) (others u) d e) n
-              (find_passes (λ q. splits n q.command) (others u) d e)
-              ∙ its_decision)),
+          unsplit (counted u) n its_names.1
+              (decides_well t (others u) r.firm r.command n (before u).accepted its_names.1).undecided,
         ))
 
     -- the state in which it left the part
@@ -169,7 +156,7 @@ module _ {t : House} {l : List Record} {r : Record} {g : Grove} (u : IsFree t l 
           (its_head s).state,
           called,
           its_decision,
-          given_state _ r
+          given_state _ (Some r)
               (rw (its_node s w.node ((grown u).within.nodes n w.node w.there)) at w.given),
         )
 
@@ -177,11 +164,16 @@ module _ {t : House} {l : List Record} {r : Record} {g : Grove} (u : IsFree t l 
         → HasTree g trade (HasAt p P)
     leaf_there P has = is_at s P (rw whole.is (has whole.head (cc (whole.is, decided_state))))
 
-    -- the part is offered again
-    offered_gone : (h : Grove) (f : Rose → Rose) → ChangesTree g h trade (edit_at f p s.tree)
-        → HasTree g trade (HasAt p (λ w. IsSomeAnd (head_of w).decision (Takes g h)))
-        → ShowsLess (λ l k. HasAt p (λ w. IsOnlyDecision l k (head_of w).name) s.tree) s.tree (edit_at f p s.tree)
-        → IsGroveOf (without l r.number) h
+    -- the place of the decision goes, and the edited tree shows the others of each list in which no other decides it
+    abbrev TakesDecision : Grove → Type 0
+    TakesDecision h = HasTree g trade (HasAt p (λ w. IsSomeAnd (head_of w).decision (Takes g h)))
+
+    abbrev ShowsUndecided : (Rose → Rose) → Rose → Type 0
+    ShowsUndecided f v = ShowsLess (λ l k. HasAt p (λ w. IsOnlyDecision l k (head_of w).name) v) v (edit_at f p v)
+
+    -- so the part is offered again
+    offered_gone : (h : Grove) (f : Rose → Rose) → ChangesTree g h trade (edit_at f p s.tree) → TakesDecision h
+        → ShowsUndecided f s.tree → IsGroveOf (without l r.number) h
     offered_gone h f tree place shows =
         taken_back u s its_names.0 h _ tree
         (rw ((its_head s).decision ∙ ap (option_map (λ (d : Record). d.number))
@@ -196,37 +188,17 @@ module _ {t : House} {l : List Record} {r : Record} {g : Grove} (u : IsFree t l 
     pub claim_gone : (h : Grove)
         → HasTree g trade
         (λ v. HasAt (above p) (λ w. ChangesTree g h trade (edit_at (offer_node (head_of w).place) p v)) v)
-        → HasTree g trade (HasAt p (λ w. IsSomeAnd (head_of w).decision (Takes g h)))
-        → HasTree g trade (λ v.
-        HasAt (above p)
-        (λ w.
-        ShowsLess (λ l k. HasAt p (λ x. IsOnlyDecision l k (head_of x).name) v) v
-        (edit_at (offer_node (head_of w).place) p v))
-        v)
+        → TakesDecision h
+        → HasTree g trade (λ v. HasAt (above p) (λ w. ShowsUndecided (offer_node (head_of w).place) v) v)
         → IsGroveOf (without l r.number) h
     claim_gone h tree place shows =
-        let w = some_and _
-        _
-        (from_tree s _
-        tree) in
+        let w = some_and _ _ (from_tree s _ tree) in
         offered_gone h _ w.2 place
-        (at_fact (λ w.
-        ShowsLess (λ l k. HasAt p (λ x. IsOnlyDecision l k (head_of x).name) s.tree) s.tree
-        (edit_at (offer_node (head_of w).place) p s.tree)) (node_at (above p) s.tree) w.0 w.1
-        (from_tree s
-        _
-        shows))
+        (at_fact (λ w. ShowsUndecided (offer_node (head_of w).place) s.tree) (node_at (above p) s.tree) w.0 w.1
+        (from_tree s _ shows))
 
     -- ---- a Refuse or a Cancel
 
     pub turned_gone : (h : Grove) → HasTree g trade (λ v. ChangesTree g h trade (edit_at offer_again_node p v))
-        → HasTree g trade (HasAt p (λ w. IsSomeAnd (head_of w).decision (Takes g h)))
-        → HasTree g trade
-        (λ v. ShowsLess (λ l k. HasAt p (λ w. IsOnlyDecision l k (head_of w).name) v) v (edit_at offer_again_node p v))
-        → IsGroveOf (without l r.number) h
-    turned_gone h tree place shows =
-        offered_gone h _ (from_tree s _ tree)
-        place
-        (from_tree s
-        _
-        shows)
+        → TakesDecision h → HasTree g trade (ShowsUndecided offer_again_node) → IsGroveOf (without l r.number) h
+    turned_gone h tree place shows = offered_gone h _ (from_tree s _ tree) place (from_tree s _ shows)

@@ -1,12 +1,10 @@
 -- Running rows of positions, into and out of which holdings go one by one.
-use Rattle.gu_base.specs.SameLaws.{same_side-Decides}
-use Rattle.gu_book.proofs.Vocabulary.{cons_option, PositionRows, lots_in, is_key, Key, counted_at, HaveMoved, HaveThere}
-use Rattle.gu_book.proofs.Vocabulary.{Holding}
-use Rattle.gu_depend.proofs.Vocabulary.{bytes_same, same_side, Side}
-use Rattle.std.proofs.{lemmas.List.Sums.{sum_by-cons, sum_by-append}, lemmas.List.Elements.filter_map-append}
-use Rattle.std.proofs.{lemmas.List.take-append-drop, Common.{Err, is_err, OnErr}}
-use Rattle.std.proofs.Common.{refl, ◌≡◌, ℕ, ◌+◌, ◌<◌, ◌≤◌, Bool, true, false, ◌&&◌, List, ◌∷◌, length, take, drop}
-use Rattle.std.proofs.Common.{get_or, ap, arith, Option, cond, drop-cons, add-one, None, filter_map, sum_by, Result, Ok}
+use Rattle.gu_book.proofs.Vocabulary
+use Rattle.{gu_base.specs.SameLaws.same_side-Decides, std.proofs.Common.{add-one, drop-cons, Err, is_err, Ok, OnErr}}
+use Rattle.std.proofs.{Common.Result, lemmas.List.{Elements.filter_map-append, Sums.sum_by-append, take-append-drop}}
+use Vocabulary.{ap, arith, Bool, bytes_same, cond, cons_option, counted_at, drop, false}
+use Vocabulary.{filter_map, get_or, HaveMoved, HaveThere, Holding, is_key, Key, length, List, lots_in, None, Option}
+use Vocabulary.{PositionRows, refl, same_side, Side, sum_by, sum_by-cons, take, true, ℕ, ◌&&◌, ◌+◌, ◌<◌, ◌∷◌, ◌≡◌, ◌≤◌}
 
 -- ---- what a search or a sum over the records does at one record
 

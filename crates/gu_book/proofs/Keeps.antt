@@ -1,20 +1,21 @@
 -- One more accepted change leaves true what a book keeps.
-use Rattle.gu_base.proofs.{LiveLaws.{live_push_change, live_push_reverse, live_push_consent}, RunLaws.{IsRun, run_push}}
-use Rattle.gu_base.proofs.{Numbered.{found_at, length_numbered}, Basics.{bytes_symm, nothing_here}}
-use Rattle.gu_base.proofs.Accepted.{first_none, change_refused, IsAllowed, allowed, open_from_none}
-use Rattle.gu_base.proofs.Consenting.{left_change, left_initiate, left_decline, left_reverse, not_reversed}
-use Rattle.gu_book.proofs.{Refused.accepted_small, Leaves.without_small, Vocabulary.given}
-use Rattle.gu_book.proofs.Vocabulary.{Consents, list_any, same_id, NoIdTwice, IsKept, IsWithinLimits, AllWithinLimits}
-use Rattle.gu_book.specs.Kept.{AcceptedFrom, IsAccepted}
-use Rattle.gu_depend.proofs.Vocabulary.{House, knows_firm, numbered_as, numbered_from, is_change, is_reversed, live}
-use Rattle.gu_depend.proofs.Vocabulary.{refusal_of, unless, without, answer_to, entry_of, on_change, initiate_rest}
-use Rattle.gu_depend.proofs.Vocabulary.{is_same_id, call_of, IsRunFrom, Command, Initiate, Decline, Reverse, Accepted}
-use Rattle.gu_depend.proofs.Vocabulary.{Entry, UnknownFirm, bytes_same, consents_left, is_consenting}
-use Rattle.std.proofs.{Common.{List, [], ◌∷◌, ◌++◌, length, refl, sym, ◌∙◌, arith, cond}, lemmas.Bool.and_parts}
-use Rattle.std.proofs.{lemmas.List.Sums.{length-filter, count_by-le-length}, lemmas.List.Elements.{All-nil, All-push}}
-use Rattle.std.proofs.{lemmas.Slice.Eq.bytes_eq-Decides, lemmas.Map.Keys.IsDistinct-push}
-use Rattle.std.proofs.Common.{append-nil, append_assoc, length-append, None, find, ◌==◌, ◌≡◌, ℕ, ◌+◌, ◌≤◌, true, false}
-use Rattle.std.specs.{Cmp.IsEquivalence, List.IsDistinct}
+use Rattle.gu_base.proofs
+use Rattle.gu_book.proofs.Vocabulary
+use Rattle.std
+use proofs.{Accepted.IsAllowed, Basics.{bytes_symm, nothing_here}}
+use proofs.Consenting.{left_change, left_decline, left_initiate, left_reverse}
+use proofs.LiveLaws.{live_push_change, live_push_consent, live_push_reverse}
+use proofs.{Numbered.length_numbered, RunLaws.{IsRun, run_push}}
+use Rattle.gu_book.proofs.{ByNumber.named_live, Leaves.without_small, Refused.accepted_small}
+use Rattle.gu_book.specs.{Ids.{NoIdTwice, same_id}, Kept.{AcceptedFrom, IsAccepted, IsKept}}
+use Rattle.gu_depend.proofs.Vocabulary.{Accepted, answer_to, call_of, consents_left, Decline}
+use Rattle.gu_depend.proofs.Vocabulary.{Initiate, initiate_rest, is_consenting, is_same_id, IsRunFrom, refusal_of}
+use std.proofs.{Common.length-append, lemmas.{List.Sums.{count_by-le-length, length-filter}, Map.Keys.IsDistinct-push}}
+use std.specs.{Cmp.IsEquivalence, List.{IsDistinct, list_any}}
+use Vocabulary.{All-nil, All-push, allowed, AllWithinLimits, and_parts}
+use Vocabulary.{append-nil, append_assoc, arith, bytes_eq-Decides, bytes_same, change_refused, Command, cond, Consents}
+use Vocabulary.{Entry, false, find, given, House, is_change, IsWithinLimits, length, List, live, None, not_reversed}
+use Vocabulary.{numbered_as, numbered_from, refl, Reverse, true, [], ℕ, ◌++◌, ◌+◌, ◌==◌, ◌∙◌, ◌∷◌, ◌≡◌, ◌≤◌}
 
 ids_congr : (x y z : Entry) → same_id x y ≡ true → same_id x z ≡ same_id y z
 ids_congr x y z h =
@@ -80,15 +81,14 @@ module _ {t : House} {h : List Entry} {cs : Consents} (kept : IsKept t h cs) (n 
 
   -- its number is the next, and that of the last entry then
   pub next_number : (n ≡ length h + 1) × (length (h ++ e ∷ []) ≡ n)
-  next_number = let number = shown.number in (omega arith, omega (arith, length-append h (e ∷ [])))
+  next_number = (omega (arith, shown.number), omega (arith, shown.number, length-append h (e ∷ [])))
 
   -- ---- a change
 
   module _ (change : is_change e.command ≡ true) where
     pub live_more : live h ++ numbered_as n e ∷ [] ≡ live (h ++ e ∷ [])
     live_more =
-        let number = shown.number in
-        let numbered : n ≡ 1 + length h = omega arith in
+        let numbered : n ≡ 1 + length h = omega (arith, shown.number) in
         cc (live_push_change h e change (kept.behind (1 + length h) (omega arith)))
 
     pub lawful : refusal_of t (live h) e.firm e.command ≡ None
@@ -103,51 +103,27 @@ module _ {t : House} {h : List Entry} {cs : Consents} (kept : IsKept t h cs) (n 
 
   -- ---- an Initiate or a Decline
 
-  pub live_same : is_consenting e.command ≡ true → live h ≡ live (h ++ e ∷ [])
-  live_same consent = sym (live_push_consent h e consent)
-
-  kept_consenting : is_consenting e.command ≡ true → (ds : Consents)
-      → ((m : ℕ) → given ds m ≡ consents_left (h ++ e ∷ []) m) → IsKept t (h ++ e ∷ []) ds
-  kept_consenting consent ds consented = kept_next ds (rw (live_same consent) at kept.within) consented
-
-  open_entry : (k : ℕ) → e.command ≡ Initiate k → is_reversed h k ≡ false
-  open_entry k same =
-      let lawful = rw same at shown.lawful in
-      let a = first_none (unless (knows_firm t e.firm) UnknownFirm)
-      (on_change t h e.firm (initiate_rest h e.firm) (entry_of h k) ∷ []) lawful in
-      let b = first_none (on_change t h e.firm (initiate_rest h e.firm) (entry_of h k)) [] a.1 in
-      let o = open_from_none t h e.firm (initiate_rest h e.firm) (entry_of h k) b.0 in
-      let number = (found_at k 1 h o.0 o.1.found).number in
-      not_reversed k 1 h (rw number at o.1.unreversed)
-
-  told_by : (c : Command) → e.command ≡ c → is_consenting c ≡ true → (ds : Consents)
-      → ((k m : ℕ) → e.command ≡ Initiate k → given ds m ≡ cond (m == k) (given cs m ++ e.firm ∷ []) (given cs m))
-      → ((k m : ℕ) → e.command ≡ Decline k → given ds m ≡ cond (m == k) [] (given cs m)) → IsKept t (h ++ e ∷ []) ds
-  told_by (Initiate k) same is ds more less =
-      kept_consenting (cc) ds (λ m. cc (
-        more k m same,
-        kept.consented m,
-        left_initiate h e k m same (open_entry k same),
-      ))
-  told_by (Decline k) same is ds more less =
-      kept_consenting (cc) ds (λ m. cc (less k m same, kept.consented m, left_decline h e k m same))
-  told_by _ same is ds more less = absurd (cc)
-
   -- a consent is given, or the consents to one reversal are taken back
   pub kept_consents : is_consenting e.command ≡ true → (ds : Consents)
       → ((k m : ℕ) → e.command ≡ Initiate k → given ds m ≡ cond (m == k) (given cs m ++ e.firm ∷ []) (given cs m))
       → ((k m : ℕ) → e.command ≡ Decline k → given ds m ≡ cond (m == k) [] (given cs m)) → IsKept t (h ++ e ∷ []) ds
-  kept_consents is = told_by e.command refl is
+  kept_consents is ds more less = kept_next ds (rw (← live_push_consent h e is) at kept.within) (told e.command refl is)
+    where
+      told : (c : Command) → e.command ≡ c → is_consenting c ≡ true → (m : ℕ)
+          → given ds m ≡ consents_left (h ++ e ∷ []) m
+      told (Initiate k) same is m =
+          let named = named_live t h e.firm (initiate_rest h e.firm) k (rw same at shown.lawful) in
+          let unreversed = not_reversed k 1 h named.1.unreversed in
+          cc (more k m same, kept.consented m, left_initiate h e k m same unreversed)
+      told (Decline k) same is m = cc (less k m same, kept.consented m, left_decline h e k m same)
+      told _ same is m = absurd (cc)
 
   -- ---- a Reverse
-
-  pub live_less : (k : ℕ) → e.command ≡ Reverse k → without (live h) k ≡ live (h ++ e ∷ [])
-  live_less k same = sym (live_push_reverse h e k same)
 
   pub kept_reverse : (k : ℕ) → e.command ≡ Reverse k → (ds : Consents)
       → ((m : ℕ) → given ds m ≡ cond (m == k) [] (given cs m)) → IsKept t (h ++ e ∷ []) ds
   kept_reverse k same ds less =
-      kept_next ds (rw (live_less k same) at (without_small k (live h) kept.within))
+      kept_next ds (rw (← live_push_reverse h e k same) at (without_small k (live h) kept.within))
       (λ m. cc (less m, kept.consented m, left_reverse h e k m same))
 
 nothing_twice : NoIdTwice []

@@ -5,7 +5,7 @@ pub mod Refused
 pub mod Keeps
 pub mod Charging
 mod Dealing
-mod TermsKept
+pub mod ChangesKept
 mod Opening
 pub mod HoldingRows
 pub mod Holdings
@@ -35,4 +35,3 @@ mod PartsAway
 mod Cited
 mod LiveStates
 mod Books
-mod TradesKept

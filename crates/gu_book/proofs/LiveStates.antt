@@ -1,36 +1,23 @@
 -- What is kept of the live changes follows them: behind a growth, with one change more, and with one less.
-use Rattle.gu_book.proofs.{TradesKept.{MayFollow, idle_stands, idle_terms, TakesWhole}, AllShown.undone_of_terms}
-use Rattle.gu_book.proofs.{Vocabulary.{PositionRows, SameLots, added_by, comes_from}, HoldingRows.first_there}
-use Rattle.gu_book.proofs.{TermsKept.{terms_filed, apart_undealt, fees_left}, Refused.accepted_small, Orders.earlier}
-use Rattle.gu_book.proofs.{PartsAway.holds_some, Charging.fees_stay, Dealing.deed_small}
-use Rattle.gu_book.proofs.TermsKept.{positions_left, terms_undealt, undealt_filed, can_put, dealt_apart, dealt_put}
-use Rattle.gu_book.proofs.Undoing.{GoesBack, added_there, moves_back, positions_without, room_back, taken_same}
-use Rattle.gu_book.proofs.Vocabulary.{goes_back, held_above, lots_in, taken_before, taken_by, AreFeesOf, ArePositionsOf}
-use Rattle.gu_book.proofs.Vocabulary.{AreTermsOf, CanPut, IsGroveOf, IsNext, IsOfTerms, IsPut, AreTreesOf, Holding}
-use Rattle.gu_book.proofs.Vocabulary.{IsNamedBy, IsTakenOut, TermsView, holding_of, is_of_trees, last_entry, last_place}
-use Rattle.gu_book.proofs.Vocabulary.{named_node, pair_of, place_in, record_of, HasRoomBack, HaveMoved, HaveThere}
-use Rattle.gu_book.specs.{LiveState.{Becomes, CanAdd, CanFollow, CanGo, IsStateOf}, declared.found.Named.Named}
-use Rattle.gu_book.specs.{declared.live_state.LiveState.LiveState, declared.live_state.Addition.Addition}
-use Rattle.gu_book.specs.{Found.LiesThere, Kinds.is_claim}
-use Rattle.gu_depend.proofs.Vocabulary.{House, Record, Command, Trade, Claim, Deed, EntryPart, charge_of, deed_of}
-use Rattle.gu_depend.proofs.Vocabulary.{node_of, without}
-use Rattle.gu_fees.specs.Terms.{IsReady}
-use Rattle.std.proofs.Common.{◌≡◌, ℕ, ◌+◌, ◌<◌, ◌≤◌, true, false, List, [], ◌∷◌, ◌++◌, sym, refl, arith, Option, None}
-use Rattle.std.proofs.Common.{Some, IsSome, option_and_then}
+use Rattle.gu_book.proofs
+use Rattle.gu_book.specs
+use proofs.AllShown.{undone_of_terms}
+use proofs.ChangesKept.{apart_undealt, can_put, dealt_apart, dealt_put, fees_left, idle_stands, idle_terms, next_of}
+use proofs.{ChangesKept.{positions_left, TakesWhole, terms_filed, terms_undealt, undealt_filed}, Charging.fees_stay}
+use proofs.{Dealing.deed_small, HoldingRows.first_there, PartsAway.holds_some, Refused.accepted_small, Sound.rises_at}
+use proofs.Undoing.{added_there, GoesBack, moves_back, positions_without, room_back, taken_same}
+use proofs.Vocabulary.{added_by, Addition, AreFeesOf, ArePositionsOf, AreTermsOf, arith, charge_of}
+use proofs.Vocabulary.{Command, EntryPart, false, HaveMoved, HaveThere, held_above, Holding, holding_of, House}
+use proofs.Vocabulary.{is_claim, is_of_trees, IsGroveOf, IsOfTerms, IsSome, last_place, List, LiveState, lots_in, Named}
+use proofs.Vocabulary.{named_node, node_of, None, Option, option_and_then, pair_of, place_in, PositionRows, Record}
+use proofs.Vocabulary.{record_of, refl, Some, sym, taken_by, Trade, true, without, [], ℕ, ◌++◌, ◌+◌, ◌<◌, ◌∷◌, ◌≡◌, ◌≤◌}
+use Rattle.gu_depend.proofs.Vocabulary.{Claim, Deed, deed_of}
+use Rattle.gu_fees.specs.Terms.{CanPut, IsPut, IsReady, IsTakenOut, last_entry, TermsView}
+use specs.Found.{AreTreesOf, IsNamedBy, LiesThere}
+use specs.Holdings.{comes_from, goes_back, HasRoomBack, SameLots, taken_before}
+use specs.LiveState.{Becomes, CanAdd, CanFollow, CanGo, IsStateOf}
 
 module _ {t : House} {l : List Record} {r : Record} {s : LiveState} (can : CanFollow t l r s) where
-  pub next_of : IsNext t l r s.trees
-  next_of = record {
-    filed = can.state.filed;
-    later = can.state.placed;
-    replayed = can.list.replayed;
-    lawful = can.lawful;
-    rises = can.rises;
-  }
-
-  pub may_of : MayFollow t l r s.trees s.positions
-  may_of = record { next = next_of; few = can.list.few; within = can.list.within; stands = can.state.stands }
-
   -- no entry of a giver and a taker has so high a number
   pub above : (dealt : TermsView) → last_entry dealt ≡ last_entry s.terms → last_entry dealt < r.number
   above dealt last = omega (arith, can.state.dealt_before)
@@ -54,8 +41,8 @@ module _ {t : House} {l : List Record} {r : Record} {s : LiveState} (can : CanFo
       → last_place new.trees ≤ r.number → None ≡ charge_of t l r.command → ArePositionsOf (l ++ r ∷ []) new.positions
       → pair_of l r.firm r.command ≡ None → IsStateOf t (l ++ r ∷ []) (r.number + 1) new
   state_apart new paid deals filed placed costs stands none =
-      state_more new filed placed (rw paid (fees_stay next_of s.fees can.state.charged costs)) stands
-      (rw deals (dealt_apart next_of s.terms can.state.dealt none))
+      state_more new filed placed (rw paid (fees_stay (next_of can) s.fees can.state.charged costs)) stands
+      (rw deals (dealt_apart (next_of can) s.terms can.state.dealt none))
       (let before = can.state.dealt_before in rw deals (omega arith))
 
   -- an Agree or a Raise, by what it does to the terms of its giver and taker
@@ -73,9 +60,9 @@ module _ {t : House} {l : List Record} {r : Record} {s : LiveState} (can : CanFo
     state_dealt dealt put =
         let idle = idle_terms t l _ _ of in
         let placed = can.state.placed in
-        state_more _ (terms_filed next_of of) (omega arith)
-        (fees_stay next_of _ can.state.charged idle.costs) (idle_stands may_of idle)
-        (dealt_put next_of _ _ _ _ d are deals put) (omega (arith, put.last))
+        state_more _ (terms_filed (next_of can) of) (omega arith)
+        (fees_stay (next_of can) _ can.state.charged idle.costs) (idle_stands can idle)
+        (dealt_put (next_of can) _ _ _ _ d are deals put) (omega (arith, put.last))
 
 -- ---- the node of a change that is to be added
 
@@ -90,11 +77,12 @@ module _ {add : Addition} {s : LiveState} (can : CanAdd add s) (m : Named) (is :
   -- lots stand there
   pub whole_there : IsSome (holding_of add.changes m.node)
   whole_there =
-      holds_some can.follows.state.filed (earlier 1 _ _ can.follows.rises).0 named_by.2 (lies _ can.follows.state.filed)
+      let follows = can.follows in
+      holds_some follows.state.filed (rises_at 1 _ _ [] follows.rises).rises named_by.2 (lies _ follows.state.filed)
 
   pub takes_whole : (whole : Holding) → Some whole ≡ holding_of add.changes m.node
-      → TakesWhole add.house.now add.changes (record_of add.made.now) s.trees s.positions n m.node whole
-  takes_whole whole holds = record { may = may_of can.follows; there = named_by.0; holds = holds }
+      → TakesWhole add.house.now add.changes (record_of add.made.now) s n m.node whole
+  takes_whole whole holds = record { can = can.follows; there = named_by.0; holds = holds }
 
 -- ---- one change less
 

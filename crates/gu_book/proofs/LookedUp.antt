@@ -1,21 +1,19 @@
 -- What is found of a history without going over it is what a search of it finds, also with one more entry.
-use Rattle.gu_base.proofs.{Basics.{bytes_symm, mapped_none, or_none}, Numbered.{found_at, known_entry}}
-use Rattle.gu_base.proofs.{LiveLaws.numbered_push, Searches.found_in, Accepted.allowed}
+use Rattle.gu_book.proofs
+use Rattle.gu_depend.proofs.Vocabulary
+use proofs.{AllShown.undone, ByNumber.{its_own, numbered_some, records_once}, Once.{both_found, none_of_both, once_at}}
+use proofs.Vocabulary.{AllByRecursion, allowed, and_parts, ap, arith, Bool, bytes_eq, bytes_eq-Decides}
+use proofs.Vocabulary.{Call, cond, count_by, Entry, entry_of, eqb-true, false, find, find-append, found_at}
+use proofs.Vocabulary.{found_in, get_or, House, Ids, IsDistinct-head, IsDistinct-tail, known_entry, length, List}
+use proofs.Vocabulary.{None, numbered_as, numbered_from, option_and_then, option_map, Record, records, refl, Reversals}
+use proofs.Vocabulary.{Reverse, Some, suc, sym, true, [], ℕ, ◌&&◌, ◌++◌, ◌+◌, ◌-◌, ◌<◌, ◌==◌, ◌∙◌, ◌∷◌, ◌≡◌, ◌≤◌}
+use Rattle.gu_base.proofs.{Basics.{bytes_symm, mapped_none, or_none}, LiveLaws.numbered_push}
 use Rattle.gu_base.specs.declared.entry.Answer.TheVariants.{Refused}
-use Rattle.gu_book.proofs.{ByNumber.{its_own, records_once, numbered_some}, Once.{both_found, none_of_both, once_at}}
-use Rattle.gu_book.proofs.AllShown.{undone}
-use Rattle.gu_book.proofs.Vocabulary.{AllByRecursion, same_id, NoIdTwice, Ids, reversal_in, Reversals}
-use Rattle.gu_book.specs.Lookups.{number_of, AreIdsOf, AreReversalsOf}
+use Rattle.gu_book.specs.{Ids.{NoIdTwice, same_id}, Lookups.{AreIdsOf, AreReversalsOf, number_of, reversal_in}}
 use Rattle.gu_depend.proofs.Finds.{by_test, count_cons}
-use Rattle.gu_depend.proofs.Vocabulary.{House, same_command, numbered_as, numbered_from, records, is_reverse_of, Call}
-use Rattle.gu_depend.proofs.Vocabulary.{answer_to, answer_by, is_same_id, is_same_call, entry_of, call_of, Reverse}
-use Rattle.gu_depend.proofs.Vocabulary.{Answer, Accepted, Repeated, Entry, Record, DuplicateId, most_entries}
-use Rattle.gu_ids.proofs.{NewestLaws.newest_push, Walk.count_is}
-use Rattle.gu_ids.specs.Chains.{count, AreIdsOf as AreChainsOf}
-use Rattle.std.proofs.{lemmas.Map.Keys.{IsDistinct-head, IsDistinct-tail}, lemmas.Bool.{and_parts, eqb-true}}
-use Rattle.std.proofs.{lemmas.Slice.Eq.bytes_eq-Decides, Common.{bytes_eq, option_map}, lemmas.List.Folds.find-append}
-use Rattle.std.proofs.Common.{option_and_then, ◌==◌, count_by, ◌≡◌, ℕ, suc, ◌+◌, ◌-◌, ◌<◌, ◌≤◌, Bool, true, false, ◌&&◌}
-use Rattle.std.proofs.Common.{List, [], ◌∷◌, ◌++◌, length, get_or, refl, sym, ◌∙◌, ap, arith, cond, Some, None, find}
+use Rattle.gu_ids.{proofs.{NewestLaws.newest_push, Walk.count_is}, specs.Chains.{AreIdsOf as AreChainsOf, count}}
+use Vocabulary.{Accepted, Answer, answer_by, answer_to}
+use Vocabulary.{call_of, DuplicateId, is_reverse_of, is_same_call, is_same_id, most_entries, Repeated, same_command}
 
 -- ---- a search of a history with one more entry
 

@@ -1,12 +1,10 @@
 -- What holds of a list in which at most one element passes a test.
-use Rattle.gu_base.proofs.Basics.{nothing_here, none_or_some}
-use Rattle.gu_book.proofs.Vocabulary.{AllByRecursion, IsDistinct, list_any}
-use Rattle.gu_depend.proofs.{Finds.{count_cons, counts_none, none_counts}, StandsUnder.any_found}
-use Rattle.std.proofs.{lemmas.Map.Keys.{IsDistinct-head, IsDistinct-tail}, lemmas.List.Sums.sum_by-cons}
-use Rattle.std.proofs.Common.{◌≡◌, ℕ, ◌+◌, ◌≤◌, Bool, true, false, ◌&&◌, List, [], ◌∷◌, sym, ◌∙◌, ap, arith, refl}
-use Rattle.std.proofs.Common.{Option, cond, Some, None, inl, inr, find, sum_by, count_by, is_some, option_and_then}
-use Rattle.std.proofs.lemmas.Option.{same_Some}
-use Rattle.std.specs.Bool.{Decides}
+use Rattle.gu_book.proofs.Vocabulary
+use Rattle.gu_base.proofs.Basics.{none_or_some, nothing_here}
+use Rattle.{gu_depend.proofs.Finds.{count_cons, counts_none, none_counts}, std.specs.List.{IsDistinct, list_any}}
+use Vocabulary.{AllByRecursion, any_found, ap, arith, Bool, cond, count_by, Decides}
+use Vocabulary.{false, find, inl, inr, is_some, IsDistinct-head, IsDistinct-tail, List, None, Option, option_and_then}
+use Vocabulary.{refl, same_Some, Some, sum_by, sum_by-cons, sym, true, [], ℕ, ◌&&◌, ◌+◌, ◌∙◌, ◌∷◌, ◌≡◌, ◌≤◌}
 
 -- one element more in front, that passes only where none behind it does
 pub once_at : {X : Type 0} (p : X → Bool) (xs : List X) (b : Bool) → count_by p xs ≤ 1 → (b ≡ true → find p xs ≡ None)

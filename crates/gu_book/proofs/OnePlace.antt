@@ -1,21 +1,18 @@
 -- In whatever trees a list of changes has, a node lies at one place.
-use Rattle.gu_base.proofs.NodeNames.{part_parent}
-use Rattle.gu_book.proofs.{FiledChanges.{its_head, from_tree, order}, Orders.{InOrder, names_there, in_order}}
-use Rattle.gu_book.proofs.Filed.{same_filed, Spot, tree_shown, spot, root_name, parted_by}
-use Rattle.gu_book.proofs.Vocabulary.{held_at, held_above, Found, Rose, Roses, leaf, parted, no_parts, part_then}
-use Rattle.gu_book.proofs.Vocabulary.{head_of, split_of_node, node_at, Grove, tree_of, IsPlace, IsSameGrove, HasTree}
-use Rattle.gu_book.proofs.Vocabulary.{IsNodeOf, ArePartsOf, IsTreeOf, named_node, IsGroveOf, IsNext, AreTreesOf}
-use Rattle.gu_book.proofs.Vocabulary.{IsFoundAs, IsFoundIn}
-use Rattle.gu_book.specs.{Found.{IsNamedIn, LiesThere, IsFoundThere}, declared.found.Named.Named}
-use Rattle.gu_depend.proofs.{Vocabulary.{refusal_parts, no_some}, Names.{maker, made_by_split}, Settled.named_once}
-use Rattle.gu_depend.proofs.Finds.{by_test, found_once}
-use Rattle.gu_depend.proofs.Vocabulary.{none_is_some, ◌≡◌, ℕ, zero, suc, ◌<◌, Option, IsSomeAnd, List, [], ◌∷◌, ◌++◌}
-use Rattle.gu_depend.proofs.Vocabulary.{refl, sym, ◌∙◌, ap, subst, arith, length, same_Some, EntryPart, node_of}
-use Rattle.gu_depend.proofs.Vocabulary.{nodes_of, same_name, deal_in, split_of, parent, House, Command, Trade, Split}
-use Rattle.gu_depend.proofs.Vocabulary.{Record, Place, Node, place_of, Deal, name_is, node_called, cond_both}
-use Rattle.gu_tree.proofs.{Parts.{some_and, at_there, node_at_further}, Along.own_head, ToldAt.told_at}
-use Rattle.gu_tree.specs.{Paths.{part_at, LeadsTo}, ShownAll.IsTreeIn}
-use Rattle.std.proofs.Common.{◌==◌, find, option_and_then, Some, None, option_map}
+use Rattle.gu_book.proofs
+use Rattle.gu_tree.specs
+use proofs.{Filed.{parted_by, root_name, same_filed, Spot, spot, tree_shown}, FiledChanges.{from_tree, its_head, order}}
+use proofs.{Orders.{in_order, InOrder, names_there}, Vocabulary.{ap, arith, Command, EntryPart}}
+use proofs.Vocabulary.{find, Found, found_once, Grove, head_of, held_above, held_at, House, IsGroveOf, IsNext, IsPlace}
+use proofs.Vocabulary.{IsSomeAnd, IsTreeIn, length, List, maker, Named, named_node, named_once, Node, node_of, nodes_of}
+use proofs.Vocabulary.{None, none_is_some, Option, option_and_then, option_map, parent, part_parent, Record, refl, Rose}
+use proofs.Vocabulary.{same_name, same_Some, Some, Split, subst, suc, sym, Trade, [], ℕ, ◌++◌, ◌<◌, ◌==◌, ◌∙◌, ◌∷◌, ◌≡◌}
+use Rattle.gu_book.specs.Found.{AreTreesOf, IsFoundAs, IsFoundIn, IsFoundThere, IsNamedIn, LiesThere}
+use Rattle.gu_depend.proofs.{Finds.by_test, Grown.made_by_split, Vocabulary.{cond_both, Deal, deal_in}}
+use Rattle.gu_depend.proofs.Vocabulary.{name_is, no_some, node_called, Place, place_of, refusal_parts, split_of, zero}
+use Rattle.gu_tree.proofs.{Along.own_head, Parts.{at_there, node_at_further, some_and}, ToldAt.told_at}
+use specs.{Grove.{HasTree, IsSameGrove, tree_of}, Paths.{LeadsTo, node_at, part_at}}
+use specs.{Rose.{leaf, no_parts, part_then, parted, Roses, split_of_node}, Shown.{ArePartsOf, IsNodeOf, IsTreeOf}}
 
 -- the path leads to a node of this name
 abbrev Leads : List ℕ → EntryPart → Option Rose → Type 0
@@ -71,9 +68,7 @@ one_place {l} {g} filed n trade p place h others =
 -- what was found at a place lies there
 pub lies_there : {l : List Record} {g : Grove} → IsGroveOf l g → (n : EntryPart) (m : Named) (trade : ℕ) (p : List ℕ)
     → m.node.name ≡ n → m.found.trade ≡ trade → IsPlace g n trade p → LiesThere l (Some m) p
-lies_there {l} {g} filed n m trade p called same place h others =
-    one_place filed _ _ p (rw called (rw same place))
-    h others
+lies_there filed n m trade p called same place = one_place filed _ _ p (rw (called, same) place)
 
 -- what a command names was found there, where the changes make it
 pub found_there : (l : List Record) (g : Grove) (k : Option EntryPart) (o : Option Named) (p : List ℕ) → IsGroveOf l g
@@ -89,11 +84,6 @@ pub named_spot : {t : House} {l : List Record} {r : Record} {g : Grove} → IsNe
     (p : List ℕ) → IsFoundThere g (named_node r.command) o p → (n : EntryPart) → named_node r.command ≡ Some n
     → (m : Named) → o ≡ Some m → Spot l g m.found.trade p n
 named_spot {r = r} next o p there n named m e = spot next.filed (order next) _ p n (rw (named, e) at there)
-
--- and there is one
-pub never_none : (g : Grove) (k : Option EntryPart) (o : Option Named) (p : List ℕ) → IsFoundThere g k o p
-    → (n : EntryPart) → k ≡ Some n → o ≡ None → ⊥
-never_none g k o p is n named e = rw (named, e) at is
 
 -- what the next change names was found there, in trees that look alike too
 pub next_there : {t : House} {l : List Record} {r : Record} {g : Grove} → IsNext t l r g → (new : Grove)

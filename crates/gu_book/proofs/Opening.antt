@@ -1,10 +1,11 @@
 -- The calls of an opening, made one after the other.
-use Rattle.gu_book.specs.Seen.{HouseAndHistory}
-use Rattle.gu_depend.proofs.Vocabulary.{House, Call, after, after_all, opening_from, opening_calls, opening_history}
-use Rattle.gu_depend.proofs.Vocabulary.{Reverse, Entry, Agreement, Pair, none_is_some}
-use Rattle.std.proofs.{lemmas.Option.{slice_get_within, slice_get-get_or, get_or_from_slice_get}, lemmas.List.drop_all}
-use Rattle.std.proofs.{Common.{Option, Some, None, slice_get, IsSomeAnd}, Math.Seq.drop-cons}
-use Rattle.std.proofs.Common.{◌≡◌, ℕ, suc, ◌+◌, ◌≤◌, ◌<◌, List, [], ◌∷◌, length, drop, refl, sym, ◌∙◌, ap, arith}
+use Rattle.gu_book.proofs.Vocabulary
+use Rattle.gu_depend.proofs
+use proofs.Vocabulary.{after, after_all, Agreement, opening_calls, opening_from, opening_history, Pair}
+use Rattle.{gu_book.specs.Seen.HouseAndHistory, std.proofs.Common.slice_get}
+use Rattle.std.proofs.{lemmas.Option.{get_or_from_slice_get, slice_get-get_or, slice_get_within}, Math.Seq.drop-cons}
+use Vocabulary.{ap, arith, Call, drop, drop_all, Entry, House, IsSomeAnd, length}
+use Vocabulary.{List, None, none_is_some, Option, refl, Reverse, Some, suc, sym, [], ℕ, ◌+◌, ◌<◌, ◌∙◌, ◌∷◌, ◌≡◌, ◌≤◌}
 
 -- with one of the calls made, those behind it are left
 call_made : (t : House) (h : List Entry) (cs : List Call) (i : ℕ) (c : Call) → slice_get cs i ≡ Some c

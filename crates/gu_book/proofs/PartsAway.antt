@@ -1,24 +1,22 @@
 -- Of what a split moves, the lots of the parts that stay where the whole stood cancel: the others alone have to be
 -- moved.
-use Rattle.gu_base.proofs.{Passing.{at_node_none, split_passes, part_passes, refusal_parts}, Accepted.first_none}
-use Rattle.gu_base.proofs.Searches.{found_in, find_passes}
-use Rattle.gu_book.proofs.{Holdings.counts_or, Leaves.cond_same, Filed.live_at}
-use Rattle.gu_book.proofs.Vocabulary.{taken_at, HaveMoved, is_trade, is_live_trade, Found, Holding, cons_option}
-use Rattle.gu_book.proofs.Vocabulary.{PositionRows, is_key, Key, Grove, IsPlace, IsGroveOf, IsFoundAs, traded_at}
-use Rattle.gu_book.proofs.Vocabulary.{held_at, holding_of, part_holding, holding_away, part_away, counted_at}
-use Rattle.gu_book.specs.Holdings.{lots_told}
-use Rattle.gu_depend.proofs.{StandsUnder.{any_found, rises_distinct}, Replay.number_once, Finds.found_once}
-use Rattle.gu_depend.proofs.Vocabulary.{Trade, Split, Record, Deal, Node, Place, same_side, House, knows_account}
-use Rattle.gu_depend.proofs.Vocabulary.{RisesFrom, EntryPart, deal_in, node_of, first, owns, refusal_of}
-use Rattle.gu_depend.proofs.Vocabulary.{refusal_of_part, split_row, knows_own_account, Part, Side, Command}
-use Rattle.std.proofs.{Common.{map, find, filter_map, sum_by, unwrap_or}, lemmas.Bool.{eqb-true, and_parts}}
-use Rattle.std.proofs.{lemmas.Slice.Eq.bytes_eq-Decides, lemmas.List.Sums.sum_by-cons, lemmas.Option.same_Some}
-use Rattle.std.proofs.Common.{option_map, option_and_then, bytes_eq, ◌==◌, ◌≡◌, ℕ, ◌+◌, ◌≤◌, Bool, true, false, not}
-use Rattle.std.proofs.Common.{◌&&◌, ◌||◌, List, [], ◌∷◌, refl, sym, ◌∙◌, ap, arith, Option, cond, Some, None, IsSome}
+use Rattle.gu_book.proofs.Vocabulary
+use Rattle.gu_base.proofs.Passing.{at_node_none, part_passes, refusal_parts, split_passes}
+use Rattle.gu_book.proofs.{Filed.live_at, Holdings.counts_or, Leaves.cond_same}
+use Rattle.gu_book.specs.{Found.IsFoundAs, Holdings.lots_told}
+use Rattle.gu_depend.proofs.{Deals.SettledAt, Vocabulary.{Deal, deal_in, Place, refusal_of, RisesFrom, SplitHolds}}
+use Vocabulary.{and_parts, any_found}
+use Vocabulary.{ap, arith, Bool, bytes_eq, bytes_eq-Decides, Command, cond, cons_option, counted_at, EntryPart}
+use Vocabulary.{eqb-true, false, filter_map, find, find_passes, first, first_none, Found, found_in, found_once}
+use Vocabulary.{Grove, HaveMoved, held_at, Holding, holding_away, holding_of, House, is_key, is_live_trade, is_trade}
+use Vocabulary.{IsGroveOf, IsPlace, IsSome, Key, knows_account, List, map, Node, None, not, number_once, Option}
+use Vocabulary.{option_and_then, option_map, Part, part_away, part_holding, PositionRows, Record, refl, refusal_of_part}
+use Vocabulary.{rises_distinct, same_side, same_Some, Side, Some, Split, split_row, sum_by, sum_by-cons}
+use Vocabulary.{sym, taken_at, Trade, traded_at, true, unwrap_or, [], ℕ, ◌&&◌, ◌+◌, ◌==◌, ◌||◌, ◌∷◌, ◌≡◌, ◌≤◌}
 
 -- ---- sums
 
-pub lots_or : (o : Option Holding) (hs : List Holding)
+lots_or : (o : Option Holding) (hs : List Holding)
     → sum_by (λ (h : Holding). h.lots) (cons_option o hs) ≡ lots_told o + sum_by (λ (h : Holding). h.lots) hs
 lots_or None hs = omega arith
 lots_or (Some h) hs = sum_by-cons (λ h. h.lots) h hs
@@ -27,101 +25,88 @@ both_counted : (w : Bool) (a b : ℕ) → cond w (a + b) 0 ≡ cond w a 0 + cond
 both_counted true a b = refl
 both_counted false a b = refl
 
--- ---- one part
+-- ---- the parts
 
 -- so many lots where the whole stood
 abbrev pub at_whole : Holding → ℕ → Holding
 at_whole whole n = record { key = whole.key; side = whole.side; lots = n }
 
-abbrev away_told : (whole : Holding) (by a : List ℕ) (n : ℕ) → Bool → Option Holding
-away_told whole by a n b = cond b None (Some (holding_away whole by a n))
+module _ (whole : Holding) (by : List ℕ) where
+  -- what a part holds, in all and elsewhere, by whether it is in the whole's account, and whether it is an own part
+  abbrev away_told : List ℕ → ℕ → Bool → Option Holding
+  away_told a n here = cond here None (Some (holding_away whole by a n))
 
-own_moves : (whole : Holding) (by a : List ℕ) (n : ℕ) → whole.key.firm ≡ by → (at : Key) (side : Side) (b : Bool)
-    → bytes_eq a whole.key.account ≡ b
-    → counted_at at side (holding_away whole by a n)
-    + counted_at at side (at_whole whole (lots_told (away_told whole by a n b)))
-    ≡ taken_at at side (away_told whole by a n b) + counted_at at side (at_whole whole n)
-own_moves whole by a n home at side false e = refl
-own_moves whole by a n home at side true e =
-    let here = (bytes_eq-Decides a _).0 e in let key =
-    ap (λ f. holding_away whole f a n) (sym home) ∙ ap (λ x. holding_away whole whole.key.firm x n) here in
-    omega (arith, ap (counted_at at side) key, cond_same 0 (is_key whole.key at && same_side whole.side side))
+  abbrev holding_told : Option (List ℕ) → ℕ → Bool → Option Holding
+  holding_told o n own = cond own (option_map (λ a. holding_away whole by a n) o) (Some (at_whole whole n))
 
-abbrev holding_told : (whole : Holding) (by : List ℕ) (o : Option (List ℕ)) (n : ℕ) → Bool → Option Holding
-holding_told whole by o n b = cond b (option_map (λ a. holding_away whole by a n) o) (Some (at_whole whole n))
+  abbrev elsewhere_told : Option (List ℕ) → ℕ → Bool → Option Holding
+  elsewhere_told o n own = cond own (option_and_then (λ a. away_told a n (bytes_eq a whole.key.account)) o) None
 
-abbrev elsewhere_told : (whole : Holding) (by : List ℕ) (o : Option (List ℕ)) (n : ℕ) → Bool → Option Holding
-elsewhere_told whole by o n b =
-    cond b (option_and_then (λ a. cond (bytes_eq a whole.key.account) None (Some (holding_away whole by a n))) o) None
+  few_away : (a : List ℕ) (n : ℕ) (here : Bool) → lots_told (away_told a n here) ≤ n
+  few_away a n true = omega arith
+  few_away a n false = omega arith
 
-moves_told : (t : House) (whole : Holding) (by : List ℕ) (o : Option (List ℕ)) (n : ℕ) → whole.key.firm ≡ by
-    → (at : Key) (side : Side) (b : Bool) → (not b || unwrap_or (option_map (knows_account t by) o) false) ≡ true
-    → taken_at at side (holding_told whole by o n b)
-    + counted_at at side (at_whole whole (lots_told (elsewhere_told whole by o n b)))
-    ≡ taken_at at side (elsewhere_told whole by o n b) + counted_at at side (at_whole whole n)
-moves_told t whole by o n home at side false known = omega (arith, cond_same)
-moves_told t whole by None n home at side true known = absurd (cc)
-moves_told t whole by (Some a) n home at side true known = own_moves whole by a n home at side _ refl
+  few_told : (o : Option (List ℕ)) (n : ℕ) (own : Bool) → lots_told (elsewhere_told o n own) ≤ n
+  few_told o n false = omega arith
+  few_told None n true = omega arith
+  few_told (Some a) n true = few_away a n _
 
-part_moves : (t : House) (whole : Holding) (by : List ℕ) (p : Part) → whole.key.firm ≡ by
-    → knows_own_account t by p ≡ true → (at : Key) (side : Side)
-    → taken_at at side (part_holding whole by p)
-    + counted_at at side (at_whole whole (lots_told (part_away whole by p)))
-    ≡ taken_at at side (part_away whole by p) + counted_at at side (at_whole whole p.lots)
-part_moves t whole by p home known at side = moves_told t whole by _ _ home at _ _ known
+  -- the lots of all parts that go elsewhere
+  abbrev pub moved : List Part → ℕ
+  moved ps = sum_by (λ (h : Holding). h.lots) (filter_map (part_away whole by) ps)
 
-few_away : (whole : Holding) (by a : List ℕ) (n : ℕ) (b : Bool) → lots_told (away_told whole by a n b) ≤ n
-few_away whole by a n true = omega arith
-few_away whole by a n false = omega arith
+  -- are no more than those of all parts
+  pub moved_few : (ps : List Part) → moved ps ≤ sum_by (λ (p : Part). p.lots) ps
+  moved_few [] = omega arith
+  moved_few (p ∷ ps) =
+      omega (
+        arith,
+        lots_or (part_away whole by p) (filter_map (part_away whole by) ps),
+        few_told p.account p.lots (bytes_eq p.firm by),
+        moved_few ps,
+        sum_by-cons (λ (p : Part). p.lots) p ps,
+      )
 
-few_told : (whole : Holding) (by : List ℕ) (o : Option (List ℕ)) (n : ℕ) (b : Bool)
-    → lots_told (elsewhere_told whole by o n b) ≤ n
-few_told whole by o n false = omega arith
-few_told whole by None n true = omega arith
-few_told whole by (Some a) n true = few_away whole by a n _
+  module _ (home : whole.key.firm ≡ by) (at : Key) (side : Side) where
+    own_moves : (a : List ℕ) (n : ℕ) (here : Bool) → bytes_eq a whole.key.account ≡ here
+        → counted_at at side (holding_away whole by a n)
+        + counted_at at side (at_whole whole (lots_told (away_told a n here)))
+        ≡ taken_at at side (away_told a n here) + counted_at at side (at_whole whole n)
+    own_moves a n false e = refl
+    own_moves a n true e =
+        let same : holding_away whole by a n ≡ at_whole whole n = rw (← home, (bytes_eq-Decides a _).0 e) refl in
+        omega (arith, ap (counted_at at side) same, cond_same 0 (is_key whole.key at && same_side whole.side side))
 
--- ---- all parts
+    moves_told : (t : House) (o : Option (List ℕ)) (n : ℕ) (own : Bool)
+        → (not own || unwrap_or (option_map (knows_account t by) o) false) ≡ true
+        → taken_at at side (holding_told o n own)
+        + counted_at at side (at_whole whole (lots_told (elsewhere_told o n own)))
+        ≡ taken_at at side (elsewhere_told o n own) + counted_at at side (at_whole whole n)
+    moves_told t o n false known = omega (arith, cond_same)
+    moves_told t None n true known = absurd (cc)
+    moves_told t (Some a) n true known = own_moves a n _ refl
 
--- the lots that go elsewhere
-abbrev pub moved : Holding → List ℕ → List Part → ℕ
-moved whole by ps = sum_by (λ (h : Holding). h.lots) (filter_map (part_away whole by) ps)
-
--- are no more than those of all parts
-pub moved_few : (whole : Holding) (by : List ℕ) (ps : List Part) → moved whole by ps ≤ sum_by (λ (p : Part). p.lots) ps
-moved_few whole by [] = omega arith
-moved_few whole by (p ∷ ps) =
-    omega (
-      arith,
-      lots_or (part_away whole by p) (filter_map (part_away whole by) ps),
-      few_told whole by p.account p.lots (bytes_eq p.firm by),
-      moved_few whole by ps,
-      sum_by-cons (λ (p : Part). p.lots) p ps,
-    )
-
--- what all parts hold, less the lots of the whole, is what goes elsewhere, less so many lots where the whole stood
-pub parts_move : (t : House) (whole : Holding) (by : List ℕ) (ps : List Part) → whole.key.firm ≡ by
-    → first (map (refusal_of_part t by) ps) ≡ None → (at : Key) (side : Side)
-    → sum_by (counted_at at side) (filter_map (part_holding whole by) ps)
-    + counted_at at side (at_whole whole (moved whole by ps))
-    ≡ sum_by (counted_at at side) (filter_map (part_away whole by) ps)
-    + counted_at at side (at_whole whole (sum_by (λ (p : Part). p.lots) ps))
-parts_move t whole by [] home fine at side = refl
-parts_move t whole by (p ∷ ps) home fine at side =
-    let f = first_none _ _ fine in let w = is_key whole.key at && same_side whole.side side in
-    omega (
-      arith,
-      part_moves t whole by p home (part_passes t by p f.0).1 at side,
-      parts_move t whole by ps home f.1 at side,
-      counts_or at side (part_holding whole by p)
-          (filter_map (part_holding whole by) ps),
-      counts_or at side (part_away whole by p)
-          (filter_map (part_away whole by) ps),
-      ap (λ n. cond w n 0)
-          (lots_or (part_away whole by p) (filter_map (part_away whole by) ps)),
-      both_counted w (lots_told (part_away whole by p)) (moved whole by ps),
-      ap (λ n. cond w n 0) (sum_by-cons (λ (p : Part). p.lots) p ps),
-      both_counted w p.lots (sum_by (λ (p : Part). p.lots) ps),
-    )
+    -- what all parts hold, less the lots of the whole, is what goes elsewhere, less so many lots where the whole stood
+    pub parts_move : (t : House) (ps : List Part) → first (map (refusal_of_part t by) ps) ≡ None
+        → sum_by (counted_at at side) (filter_map (part_holding whole by) ps)
+        + counted_at at side (at_whole whole (moved ps))
+        ≡ sum_by (counted_at at side) (filter_map (part_away whole by) ps)
+        + counted_at at side (at_whole whole (sum_by (λ (p : Part). p.lots) ps))
+    parts_move t [] fine = refl
+    parts_move t (p ∷ ps) fine =
+        let f = first_none _ _ fine in
+        let w = is_key whole.key at && same_side whole.side side in
+        omega (
+          arith,
+          moves_told t p.account p.lots (bytes_eq p.firm by) (part_passes t by p f.0).1,
+          parts_move t ps f.1,
+          counts_or at side (part_holding whole by p) (filter_map (part_holding whole by) ps),
+          counts_or at side (part_away whole by p) (filter_map (part_away whole by) ps),
+          ap (λ n. cond w n 0) (lots_or (part_away whole by p) (filter_map (part_away whole by) ps)),
+          both_counted w (lots_told (part_away whole by p)) (moved ps),
+          ap (λ n. cond w n 0) (sum_by-cons (λ (p : Part). p.lots) p ps),
+          both_counted w p.lots (sum_by (λ (p : Part). p.lots) ps),
+        )
 
 -- ---- what a node that is named holds
 
@@ -151,31 +136,16 @@ holds_some {l} {g} filed rises {x} {f} is place =
     let of_root : EntryPart → Option Deal =
     λ root. option_and_then (λ (r : Record). deal_in r.command) (find (λ (r : Record). r.number == root.entry) l) in
     let traded : traded_at l x.name ≡ Some d.0 = cc in
-    rw (← sym (ap (λ o. held_at o (traded_at l x.name) x.lots) is.place ∙ ap (λ w. held_at (Some f.head.place) w x.lots)
-    traded)) refl
+    rw (is.place, traded) refl
 
 -- ---- a Split that may follow
 
--- what is known of its node, and of the lots that stand there
-pub record SplitWell (t : House) (l : List Record) (by : List ℕ) (n : EntryPart) (ps : List Part) : Type 0 where
-  pub node : Node
-  pub there : node_of l n ≡ Some node
-  pub owned : owns l by node.name ≡ true
-  pub parts : first (map (refusal_of_part t by) ps) ≡ None
-  pub sums : sum_by (λ (p : Part). p.lots) ps ≡ node.lots
-
+-- what is known of its node
 pub split_well : (t : House) (l : List Record) (by : List ℕ) (n : EntryPart) (ps : List Part)
-    → refusal_of t l by (Split n ps) ≡ None → SplitWell t l by n ps
+    → refusal_of t l by (Split n ps) ≡ None → SettledAt l n (SplitHolds t l by ps)
 split_well t l by n ps lawful =
     let there = at_node_none (split_row t l by ps) _ (refusal_parts t l by (Split n ps) lawful).1 in
-    let holds = (split_passes t l by ps there.0 there.1.1).0 in
-    record {
-      node = there.0;
-      there = there.1.0;
-      owned = holds.owned;
-      parts = holds.parts;
-      sums = eqb-true _ _ holds.sums;
-    }
+    record { node = there.0; there = there.1.0; holds = (split_passes t l by ps there.0 there.1.1).0 }
 
 -- what is held somewhere has the lots that it is said to have, and is held by the firm that stands there
 pub held_is : (o : Option Place) (w : Option Deal) (n : ℕ) (h : Holding) → Some h ≡ held_at o w n
@@ -183,19 +153,17 @@ pub held_is : (o : Option Place) (w : Option Deal) (n : ℕ) (h : Holding) → S
 held_is None w n h is = absurd (cc)
 held_is (Some p) None n h is = absurd (cc)
 held_is (Some p) (Some d) n h is =
-    let same = same_Some h
-    _
-    is in
+    let same = same_Some h _ is in
     (cc, ap (λ h. Some h.key.firm) (sym same))
 
 -- the whole stands in an account of the firm that splits it, and has the lots of its parts
 pub whole_well : {t : House} {l : List Record} {by : List ℕ} {n : EntryPart} {ps : List Part}
-    → (w : SplitWell t l by n ps) → (h : Holding) → Some h ≡ holding_of l w.node
+    → (w : SettledAt l n (SplitHolds t l by ps)) → (h : Holding) → Some h ≡ holding_of l w.node
     → (h.key.firm ≡ by) × (h.lots ≡ sum_by (λ (p : Part). p.lots) ps)
 whole_well {t} {l} {by} w h is =
     let held = held_is _ _ _ h is in
-    let owner : bytes_eq h.key.firm by ≡ true = cc in
-    ((bytes_eq-Decides h.key.firm by).0 owner, cc)
+    let owner : bytes_eq h.key.firm by ≡ true = cc w.holds.owned in
+    ((bytes_eq-Decides h.key.firm by).0 owner, cc (eqb-true _ w.node.lots w.holds.sums))
 
 -- what goes elsewhere was put there, and so many lots were taken from where the whole stands: then the rows have moved
 -- as the split says
@@ -209,6 +177,6 @@ split_moved t whole by ps home lots fine rows mid new put taken at side =
       arith,
       put at side,
       taken at side,
-      parts_move t whole by ps home fine at side,
+      parts_move whole by home at side t ps fine,
       ap (λ n. cond (is_key whole.key at && same_side whole.side side) n 0) lots,
     )

@@ -1,17 +1,14 @@
 -- What a reversal does over any list of calls.
-use Rattle.gu_base.proofs.LiveLaws.{live_push_change, live_push_reverse, live_push_consent, live_below, without_last}
-use Rattle.gu_base.proofs.RunLaws.{run_all}
-use Rattle.gu_book.proofs.{Leaves.live_rises, Orders.earlier}
-use Rattle.gu_book.specs.Headline.{IsLawful, Restores, TakesOut, StandsLater}
-use Rattle.gu_depend.proofs.{Vocabulary.{is_consenting, legal_from_replay}, StandsUnder.{rises_above, rises_distinct}}
-use Rattle.gu_depend.proofs.{Replay.number_once, StandsLast.gone}
-use Rattle.gu_depend.proofs.Vocabulary.{none_refused, replay_front, ◌≡◌, ℕ, ◌+◌, ◌<◌, ◌≤◌, true, List, [], ◌∷◌, ◌++◌}
-use Rattle.gu_depend.proofs.Vocabulary.{length, refl, sym, ◌∙◌, subst, arith, cond_both, same_Some, append-nil}
-use Rattle.gu_depend.proofs.Vocabulary.{append_assoc, map, All, and_parts, All-head, All-tail, House, numbered_as, live}
-use Rattle.gu_depend.proofs.Vocabulary.{RisesFrom, first_refused, standing_on, Call, answer_to, after, after_by}
-use Rattle.gu_depend.proofs.Vocabulary.{is_accepted, after_all, call_of, IsRunFrom, Answer, Accepted, Entry, Record}
-use Rattle.std.proofs.Common.{Some, None}
-use Rattle.std.specs.List.{list_all}
+use Rattle.gu_book.proofs
+use Rattle.gu_depend
+use gu_depend.proofs.{StandsLast.replay_on, Vocabulary.{Accepted, after, after_all, after_by, Answer, answer_to}}
+use gu_depend.proofs.Vocabulary.{call_of, cond_both, is_accepted, is_consenting, IsRunFrom, replay_front, standing_on}
+use proofs.{Leaves.live_rises, Sound.rises_at, Vocabulary.{All, All-head, All-tail, and_parts, append-nil}}
+use proofs.Vocabulary.{append_assoc, arith, Call, Entry, first_refused, gone, House, legal_from_replay, length}
+use proofs.Vocabulary.{List, live, map, None, number_once, numbered_as, Record, refl, rises_above, rises_distinct}
+use proofs.Vocabulary.{run_all, same_Some, Some, subst, sym, true, [], ℕ, ◌++◌, ◌+◌, ◌<◌, ◌∙◌, ◌∷◌, ◌≡◌, ◌≤◌}
+use Rattle.gu_base.proofs.LiveLaws.{live_below, live_push_change, live_push_consent, live_push_reverse, without_last}
+use Rattle.{gu_book.specs.Headline.{IsLawful, Restores, StandsLater, TakesOut}, std.specs.List.list_all}
 
 pub lawful : (t : House) → IsLawful t
 lawful t calls = legal_from_replay t _ ((run_all t calls).replayed)
@@ -92,27 +89,14 @@ pub newest_is_free : (t : House) → NewestIsFree t
 newest_is_free t calls before r same =
     let h = after_all t [] calls in
     let run = run_all t calls in
-    let order = earlier 1 before r (rw same at (live_rises h)) in
+    let order = rises_at 1 before r [] (rw same at (live_rises h)) in
     cc (
-      without_last r.number before r refl order.2,
+      without_last r.number before r refl order.lower,
       replay_front t [] before (r ∷ [])
           (rw same at run.replayed),
     )
 
 -- ---- what stands on a change is later
-
--- the numbers behind a record are higher
-rises_behind : (n : ℕ) (before after : List Record) (r : Record) → RisesFrom n (before ++ r ∷ after)
-    → RisesFrom (r.number + 1) after
-rises_behind n [] after r rises = rises.1
-rises_behind n (b ∷ before) after r rises = rises_behind (b.number + 1) before after r rises.1
-
-pub replay_on : (t : House) (done l m : List Record) → first_refused t done l ≡ None
-    → first_refused t done (l ++ m) ≡ first_refused t (done ++ l) m
-replay_on t done [] m h = cc (append-nil done)
-replay_on t done (d ∷ l) m h =
-    let p = none_refused _ d.number (first_refused t (done ++ d ∷ []) l) h in
-    cc (replay_on t (done ++ d ∷ []) l m p.1, append_assoc done (d ∷ []) l)
 
 refused_above : (t : House) (k : ℕ) (done l : List Record) (n : ℕ) → All (λ d. k ≤ d.number) l
     → first_refused t done l ≡ Some n → k ≤ n
@@ -128,6 +112,6 @@ stands_later t calls before after r n same stands =
     let rises = rw same at (live_rises (after_all t [] calls)) in
     let none = rw same at (run_all t calls).replayed in
     let others = gone t before r after (record { once = number_once l (rises_distinct 1 l rises); replayed = none }) in
-    let high = refused_above t _ before after n (rises_above _ after (rises_behind 1 before after r rises))
+    let high = refused_above t _ before after n (rises_above _ after (rises_at 1 before r after rises).higher)
     (cc (replay_on t [] before after (replay_front t [] before _ none))) in
     omega arith

@@ -1,18 +1,16 @@
 -- The running rows of positions, with one change more.
-use Rattle.gu_base.proofs.NodeNames.{made}
-use Rattle.gu_book.proofs.{Vocabulary.{ArePositionsOf, PartsWithinLimits}, Holdings.{IsCounted, balances, key_at}}
-use Rattle.gu_book.proofs.{HoldingRows.{at_most, is_own_key}, Orders.{earlier, in_order}, Placed.node_stands}
-use Rattle.gu_book.proofs.{Refused.next_legal, Leaves.parts_lots}
-use Rattle.gu_book.proofs.Vocabulary.{IsWithinLimits, AllWithinLimits, Holding, lots_at, names, PositionRows, lots_in}
-use Rattle.gu_book.proofs.Vocabulary.{Key, Grove, IsNext, taken_by, added_by, counted_at, taken_at, HaveMoved}
-use Rattle.gu_depend.proofs.{LastMoves.{moves_its_own, is_before, position_is}, Vocabulary.{Split, Record}}
-use Rattle.gu_depend.proofs.{State.sum_made, Settled.facts, Replay.Legal}
-use Rattle.gu_depend.proofs.Vocabulary.{Node, Place, House, first_refused, nodes, nodes_of, split_of, position_of}
-use Rattle.gu_depend.proofs.Vocabulary.{replay_front, RisesFrom, stands_at, trades_in, Part, Side, Command, Trade}
-use Rattle.std.proofs.{lemmas.List.Sums.{sum_by-le, sum_by-cons, sum_by-le-sum_by}, lemmas.List.Elements.All-weaker}
-use Rattle.std.proofs.Common.{◌≡◌, ℕ, ◌+◌, ◌*◌, ◌≤◌, ◌<◌, ◌^◌, not, ◌&&◌, List, [], ◌∷◌, ◌++◌, length, refl, ap, arith}
-use Rattle.std.proofs.Common.{Option, cond, Some, None, sum_by, is_none, mul-le-mul_right}
-use Rattle.std.proofs.lemmas.List.Filters.{sum_by-filter_both}
+use Rattle.gu_book.proofs
+use proofs.{HoldingRows.{at_most, is_own_key}, Holdings.{balances, IsCounted, key_at}}
+use proofs.{Leaves.parts_lots, Orders.in_order, Placed.node_stands, Refused.next_legal, Sound.rises_at}
+use proofs.Vocabulary.{added_by, All-weaker, AllWithinLimits, ap, ArePositionsOf, arith}
+use proofs.Vocabulary.{Command, cond, counted_at, first_refused, Grove, HaveMoved, Holding, House, is_none, IsNext}
+use proofs.Vocabulary.{IsWithinLimits, Key, Legal, length, List, lots_at, lots_in, made, mul-le-mul_right, names, Node}
+use proofs.Vocabulary.{nodes, nodes_of, None, not, Option, Part, PositionRows, Record, refl, Side, Some, Split, sum_by}
+use proofs.Vocabulary.{sum_by-cons, taken_at, taken_by, Trade, [], ℕ, ◌&&◌, ◌*◌, ◌++◌, ◌+◌, ◌<◌, ◌^◌, ◌∷◌, ◌≡◌, ◌≤◌}
+use Rattle.gu_book.specs.Limits.{PartsWithinLimits}
+use Rattle.gu_depend.proofs.{LastMoves.{is_before, moves_its_own, position_is}, State.sum_made}
+use Rattle.gu_depend.proofs.Vocabulary.{Place, position_of, replay_front, RisesFrom, split_of, stands_at, trades_in}
+use Rattle.std.proofs.lemmas.List.{Filters.sum_by-filter_both, Sums.{sum_by-le, sum_by-le-sum_by}}
 
 -- ---- a change behind others
 
@@ -24,7 +22,6 @@ counts_on {t} {l} {r} legal rises =
       last = is_before t l r legal;
       bound = o.bound;
       sound = o.sound;
-      settled = (facts t l none).settled;
       stand = λ x e. let p = node_stands t l _ o.sound none x e in (p.place, p.is);
     }
 
@@ -60,7 +57,7 @@ module _ {t : House} {l : List Record} {r : Record} (c : IsCounted t l r)
 
 module _ {t : House} {l : List Record} {r : Record} {ts : Grove} (next : IsNext t l r ts) where
   counted : IsCounted t l r
-  counted = counts_on (next_legal next) (earlier 1 l r next.rises).0
+  counted = counts_on (next_legal next) (rises_at 1 l r [] next.rises).rises
 
   -- rows that have moved as the change says
   pub positions_moved : (rows new : PositionRows) → ArePositionsOf l rows → (o : Option Holding)

@@ -1,35 +1,34 @@
 -- A live change on which nothing stands can as well stand last: so the fees and positions without it are those with it,
 -- less what it moved.
-use Rattle.gu_book.proofs.{Vocabulary.{goes_back, comes_from, HasFewLots, AllWithinLimits, Holding}, Restored.replay_on}
-use Rattle.gu_book.proofs.{PartsAway.{moved, moved_few, parts_move, split_well, whole_well}, HoldingRows.is_own_key}
-use Rattle.gu_book.proofs.{Standings.{counts_on, moved_by, taken_part, position_within}, Dealing.uses_charged}
-use Rattle.gu_book.proofs.{Leaves.{rises_without, without_small, without_within}, Charging.is_charged}
-use Rattle.gu_book.proofs.{Holdings.{IsCounted, decision_kept, given_parent}, ByNumber.{its_own, not_yet, change_left}}
-use Rattle.gu_book.proofs.Vocabulary.{cons_option, Grove, IsFree, names, FeeRows, PositionRows, lots_in, is_key, Key}
-use Rattle.gu_book.proofs.Vocabulary.{SplitsNode, DecidesNode, IsOnlySplit, IsOnlyDecision, IsSmallCharge, AreFeesOf}
-use Rattle.gu_book.proofs.Vocabulary.{IsCharged, traded_at, held_at, holding_of, taken_before, taken_by, added_by}
-use Rattle.gu_book.proofs.Vocabulary.{counted_at, taken_at, SameLots, HaveMoved, HaveThere, HasRoomBack, ArePositionsOf}
-use Rattle.gu_book.proofs.Within.{node_within}
-use Rattle.gu_depend.proofs.{Replay.{NumbersOnce, number_once, Legal, SameFinds, same_finds}, Deals.gives_alike}
-use Rattle.gu_depend.proofs.{Vocabulary.{same_Some, name_same, node_called, splits_well}, Names.at_name}
-use Rattle.gu_depend.proofs.{StandsUnder.{rises_distinct, CanGo, can_go}, Settled.{named_once, accepted_there}}
-use Rattle.gu_depend.proofs.{Finds.{count_permuted, alike_at}, State.{SameDeals, charge_same}}
-use Rattle.gu_depend.proofs.Grown.{NamesThere, Grown, line_of_grown, place_same, above}
-use Rattle.gu_depend.proofs.LastMoves.{IsBefore, is_before, moves_its_own, split_kept, root_found, charge_kept}
-use Rattle.gu_depend.proofs.Vocabulary.{decides_well, filter, All-head, All-cons, cond_both, ◌≡◌, ℕ, suc, ◌+◌, ◌≤◌}
-use Rattle.gu_depend.proofs.Vocabulary.{true, ◌&&◌, ◌||◌, List, [], ◌∷◌, ◌++◌, length, refl, sym, ◌∙◌, ap, arith}
-use Rattle.gu_depend.proofs.Vocabulary.{Option, All, Contains, cond, false, Bool, map, All-tail, All-contains}
-use Rattle.gu_depend.proofs.Vocabulary.{All-weaker, All-contains_itself, EntryPart, House, most_lots, highest_rate}
-use Rattle.gu_depend.proofs.Vocabulary.{charges, charge_of, deal_in, node_of, split_of, splits, decides, decision_of}
-use Rattle.gu_depend.proofs.Vocabulary.{is_given, parent, position_of, same_side, place_of_kind, place_of, root_along}
-use Rattle.gu_depend.proofs.Vocabulary.{root_of, refusal_of, first, refusal_of_part, without, Command, Split, Claim}
-use Rattle.gu_depend.proofs.Vocabulary.{Part, Side, Record, Charge, Kind, Given, Node, Place, Deal, no_some}
-use Rattle.gu_depend.proofs.Vocabulary.{none_is_some, none_refused, found_in, find_passes, or_parts, false_from_ne_true}
-use Rattle.gu_fees.specs.Sums.{AreSumsOf}
-use Rattle.gu_tree.proofs.Shows.{find_kept}
-use Rattle.std.proofs.{Math.Bool.or-true, Common.IfSome}
-use Rattle.std.proofs.Common.{mul-le-mul_right, ◌≢◌, ◌*◌, Some, None, find, filter_map, sum_by, option_and_then, ◌==◌}
 use Rattle.gu_depend.proofs.LastMoves as before_last
+use Rattle.gu_book.proofs
+use Rattle.gu_book.specs
+use Rattle.gu_depend.proofs.Vocabulary
+use proofs.{ByNumber.{change_left, its_own, not_yet}, Charging.is_charged, Dealing.uses_charged, HoldingRows.is_own_key}
+use proofs.Holdings.{decision_kept, given_parent, IsCounted, unnamed_yet}
+use proofs.Leaves.{rises_without, without_small, without_within}
+use proofs.PartsAway.{moved, moved_few, parts_move, split_well, whole_well}
+use proofs.Standings.{counts_on, moved_by, position_within, taken_part}
+use proofs.Vocabulary.{accepted_there, added_by, All, All-cons}
+use proofs.Vocabulary.{All-head, All-tail, AllWithinLimits, ap, AreFeesOf, ArePositionsOf, arith, Bool, charge_of}
+use proofs.Vocabulary.{Command, cond, cons_option, counted_at, decides, DecidesNode, EntryPart, eqb-true, false, filter}
+use proofs.Vocabulary.{filter_map, find, first, Grove, HaveMoved, HaveThere, held_at, Holding, holding_of, House}
+use proofs.Vocabulary.{IfSome, is_key, IsFree, Key, Legal, length, List, lots_in, map, mul-le-mul_right, name_same}
+use proofs.Vocabulary.{named_once, Node, node_of, None, none_is_some, number_once, NumbersOnce, Option, option_and_then}
+use proofs.Vocabulary.{or-true, parent, Part, PositionRows, Record, refl, refusal_of_part, rises_distinct, same_side}
+use proofs.Vocabulary.{same_Some, Side, Some, Split, suc, sum_by, sym, taken_at, taken_by, traded_at, true, without, []}
+use proofs.{Vocabulary.{ℕ, ◌&&◌, ◌*◌, ◌++◌, ◌+◌, ◌==◌, ◌||◌, ◌∙◌, ◌∷◌, ◌≡◌, ◌≢◌, ◌≤◌}, Within.{All-each, node_within}}
+use Rattle.gu_depend.proofs.{Deals.gives_alike, Finds.{alike_at, count_permuted}}
+use Rattle.gu_depend.proofs.Grown.{above, at_name, Grown, line_of_grown, place_same}
+use Rattle.gu_depend.proofs.LastMoves.{charge_kept, is_before, IsBefore, moves_its_own, root_found, split_kept}
+use Rattle.gu_depend.proofs.{Replay.{same_finds, SameFinds}, StandsLast.replay_on, StandsUnder.{can_go, CanGo}}
+use Rattle.{gu_depend.proofs.State.{charge_same, SameDeals}, gu_fees.specs.{Rows.FeeRows, Sums.AreSumsOf}}
+use Rattle.gu_tree.{proofs.Shows.find_kept, specs.Shown.{IsOnlyDecision, IsOnlySplit, SplitsNode}}
+use specs.Charging.{IsCharged, IsSmallCharge}
+use specs.Holdings.{comes_from, goes_back, HasFewLots, HasRoomBack, SameLots, taken_before}
+use Vocabulary.{Charge, charges, Claim, Deal, deal_in, decides_well, decision_of, false_from_ne_true}
+use Vocabulary.{Given, highest_rate, is_given, Kind, most_lots, node_called, none_refused, or_parts, Place}
+use Vocabulary.{place_of, place_of_kind, position_of, refusal_of, root_along, root_of, split_of, splits, splits_well}
 
 -- ---- small charges
 
@@ -37,22 +36,17 @@ use Rattle.gu_depend.proofs.LastMoves as before_last
 kept_small : (h : Record → Option Charge) (p : Record → Bool) (l : List Record) → All IsSmallCharge (filter_map h l)
     → All IsSmallCharge (filter_map h (filter p l))
 kept_small h p [] all = all
-kept_small h p (d ∷ l) all = at _ refl (kept_small h p l) all
+kept_small h p (d ∷ l) all = at _ (p d) refl (kept_small h p l) all
   where
-    at : (o : Option Charge) → h d ≡ o
+    at : (o : Option Charge) (b : Bool) → h d ≡ o
         → (All IsSmallCharge (filter_map h l) → All IsSmallCharge (filter_map h (filter p l)))
         → All IsSmallCharge (cons_option o (filter_map h l))
-        → All IsSmallCharge (filter_map h (cond (p d) (d ∷ filter p l) (filter p l)))
-    at None e later all =
-        cond_both (p d) (d ∷ filter p l) (filter p l) (λ z. All IsSmallCharge (filter_map h z))
-        (λ _.
-        rw e (later all)) (λ _. later all)
-    at (Some c) e later all =
-        let rest = later (All-tail IsSmallCharge c (filter_map h l) all) in
-        cond_both (p d) (d ∷ filter p l) (filter p l) (λ z. All IsSmallCharge (filter_map h z))
-        (λ _.
-        rw e (All-cons IsSmallCharge c (filter_map h (filter p l)) (All-head IsSmallCharge c (filter_map h l) all)
-        rest)) (λ _. rest)
+        → All IsSmallCharge (filter_map h (cond b (d ∷ filter p l) (filter p l)))
+    at None false e later all = later all
+    at None true e later all = rw e (later all)
+    at (Some c) false e later all = later (All-tail IsSmallCharge c _ all)
+    at (Some c) true e later all =
+        rw e (All-cons IsSmallCharge c _ (All-head IsSmallCharge c _ all) (later (All-tail IsSmallCharge c _ all)))
 
 -- ---- the change last
 
@@ -66,7 +60,7 @@ module _ {t : House} {l : List Record} {r : Record} {g : Grove} (u : IsFree t l 
   pub once : NumbersOnce l
   once = number_once l (rises_distinct 1 l u.rises)
 
-  list : Legal t l
+  pub list : Legal t l
   list = record { once = once; replayed = u.replayed }
 
   go : CanGo t l r
@@ -94,15 +88,6 @@ module _ {t : House} {l : List Record} {r : Record} {g : Grove} (u : IsFree t l 
   pub unmade : (n : EntryPart) → n.entry ≡ r.number → node_of others n ≡ None
   unmade = not_yet others r last_list.once
 
-  -- and none names a node that it makes
-  none_among : (n : EntryPart) → n.entry ≡ r.number → (p : Record → Bool)
-      → ((d : Record) → p d ≡ true → names n d.command ≡ true) → find p others ≡ None
-  none_among n own p named =
-      no_some _ (λ d e.
-      let y = All-contains (NamesThere others) others d grown.named (found_in p others d e) n
-      (named d (find_passes p others d e)) in
-      none_is_some _ y.0 (unmade n own) y.1)
-
   -- so nothing stands on such a node
   pub bare : (n : EntryPart) → n.entry ≡ r.number → (split_of l n ≡ None) × (decision_of l n ≡ None)
   bare n own =
@@ -113,14 +98,13 @@ module _ {t : House} {l : List Record} {r : Record} {g : Grove} (u : IsFree t l 
         cc (
           finds.splits_same n,
           split_kept before n p.0,
-          none_among n own _
-              (λ d is. ap (λ b. b || decides n d.command) is),
+          unnamed_yet others n _ (λ d is. ap (λ b. b || decides n d.command) is) grown.named (unmade n own),
         ),
         cc (
           finds.decisions n,
           find_kept _ others r p.1,
-          none_among n own _
-              (λ d is. ap (λ b. splits n d.command || b) is ∙ or-true (splits n d.command)),
+          unnamed_yet others n _ (λ d is. ap (λ b. splits n d.command || b) is ∙ or-true (splits n d.command))
+              grown.named (unmade n own),
         ),
       )
 
@@ -169,9 +153,8 @@ module _ {t : House} {l : List Record} {r : Record} {g : Grove} (u : IsFree t l 
     small =
         let h : Record → Option Charge = λ d. charge_of t l d.command in
         -- and what another change costs
-        let each = All-weaker (Contains others) (λ (d : Record). charge_of t others d.command ≡ h d)
-        (λ d there. charge_kept before d there ∙ charge_same t l last finds deals d.command) others
-        (All-contains_itself others) in
+        let each = All-each (λ (d : Record). charge_of t others d.command ≡ h d) others
+        (λ d there. charge_kept before d there ∙ charge_same t l last finds deals d.command) in
         rw (gives_alike _ h others each) (kept_small h _ l are.small);
   }
 
@@ -286,10 +269,8 @@ module _ {t : House} {l : List Record} {r : Record} {g : Grove} (u : IsFree t l 
   -- what has its number is the change itself
   each_number : (P : Record → Type 0) → P r → All (λ d. d.number ≡ r.number → P d) l
   each_number P is =
-      All-weaker (Contains l) (λ (d : Record). d.number ≡ r.number → P d)
-      (λ d there same.
-      rw (same_Some d r (cc (its_own l d once there, its_own l r once u.among))) is)
-      l (All-contains_itself l)
+      All-each (λ (d : Record). d.number ≡ r.number → P d) l
+      (λ d there same. rw (same_Some d r (cc (its_own l d once there, its_own l r once u.among))) is)
 
   -- no other Split and no other decision names its node
   pub only_split : (n : EntryPart) → SplitsNode n r.command → splits n r.command ≡ true → IsOnlySplit l r.number n
@@ -339,7 +320,7 @@ module _ (t : House) (whole : Holding) (by : List ℕ) (n : EntryPart) (ps : Lis
           arith,
           counted_less (is_key whole.key at && same_side whole.side side) _ _ (moved_few whole by ps),
           there at side,
-          parts_move t whole by ps home fine at side,
+          parts_move whole by home at side t ps fine,
         );
     room = λ rows room.
         omega (
@@ -347,14 +328,14 @@ module _ (t : House) (whole : Holding) (by : List ℕ) (n : EntryPart) (ps : Lis
           ap (λ w. cond w (moved whole by ps) 0) (is_own_key whole.key whole.side),
           ap (λ w. cond w (sum_by (λ (p : Part). p.lots) ps) 0) (is_own_key whole.key whole.side),
           lots,
-          parts_move t whole by ps home fine whole.key whole.side,
+          parts_move whole by home whole.key whole.side t ps fine,
         );
     moved = λ old new back at side.
         omega (
           arith,
           ap (λ n. cond (is_key whole.key at && same_side whole.side side) n 0) lots,
           back at side,
-          parts_move t whole by ps home fine at side,
+          parts_move whole by home at side t ps fine,
         );
   }
 
@@ -369,7 +350,7 @@ module _ {t : House} {l : List Record} {r : Record} {g : Grove} (u : IsFree t l 
   back_as (Split n ps) e (Some whole) is =
       let w = split_well t (others u) r.firm n ps (lawful_as (Split n ps) e) in
       let well = whole_well w whole (cc) in
-      split_back t whole r.firm n ps well.0 well.1 w.parts
+      split_back t whole r.firm n ps well.0 well.1 w.holds.parts
   back_as c e o is = all_back o (added_by r.firm c o)
 
   pub moves_back : (o : Option Holding) → o ≡ taken_by (others u) r.command → GoesBack r.firm r.command o
@@ -379,7 +360,7 @@ module _ {t : House} {l : List Record} {r : Record} {g : Grove} (u : IsFree t l 
   few_as all (Split n ps) e =
       let w = split_well t (others u) r.firm n ps (lawful_as _ e) in
       let small = rw w.there at (node_within (others u) n (without_small r.number l all)) in
-      omega arith
+      omega (arith, eqb-true _ w.node.lots w.holds.sums)
   few_as all _ e = tt
 
   -- the lots of its parts can be counted

@@ -1,16 +1,14 @@
 -- How many nodes a call visits, from what was seen before it was kept and what it made.
-use Rattle.gu_depend.proofs.Vocabulary.{◌≡◌, ℕ, ◌+◌, ◌≤◌, true, false, List, length, refl, sym, ◌∙◌, ap, subst, arith}
-use Rattle.gu_depend.proofs.Vocabulary.{Option, IsSomeAnd, EntryPart, House, live, is_change, node_of, depth_of}
-use Rattle.gu_depend.proofs.Vocabulary.{refusal_of, answer_to, call_of, Command, Trade, Split, Claim, Refuse, Cancel}
-use Rattle.gu_depend.proofs.Vocabulary.{Reverse, Accepted, Entry, Record, refusal_parts}
-use Rattle.std.proofs.Common.{Some, None, is_some, IsSome, option_and_then, option_map, unwrap_or}
-use Rattle.gu_base.proofs.Accepted.{allowed, change_refused}
-use Rattle.gu_book.proofs.Vocabulary.{Grove, IsPlace, named_node, named_place, change_of, AreTreesOf, is_trade}
-use Rattle.gu_book.proofs.Vocabulary.{AreVisits, is_of_trees}
-use Rattle.gu_book.proofs.{AllShown.{has_place, undone}, Filed.{spot}, Orders.{names_there, in_order}}
+use Rattle.gu_book.proofs.Vocabulary
+use Rattle.gu_book.specs
+use Rattle.gu_book.proofs.{AllShown.{has_place, undone}, Filed.spot, Orders.{in_order, names_there}}
+use Rattle.gu_depend.proofs.Vocabulary.{Accepted, answer_to, call_of, Cancel, Claim, refusal_of, refusal_parts, Refuse}
 use Rattle.gu_tree.specs.Grove.{place_of}
-use Rattle.gu_book.specs.Visits.{IsMet, depth_meant, parts_in, parts_named, entries_met, changes_trees, nodes_made}
-use Rattle.gu_depend.proofs.Finds.{some_with}
+use specs.Found.{AreTreesOf}
+use specs.Visits.{AreVisits, changes_trees, depth_meant, entries_met, IsMet, nodes_made, parts_in, parts_named}
+use Vocabulary.{allowed, ap, arith, change_of, change_refused, Command, Entry, EntryPart, false}
+use Vocabulary.{Grove, House, is_change, is_some, is_trade, IsPlace, IsSome, IsSomeAnd, length, List, live, named_node}
+use Vocabulary.{node_of, None, Record, refl, Reverse, Some, some_with, Split, sym, Trade, true, ℕ, ◌+◌, ◌∙◌, ◌≡◌, ◌≤◌}
 
 -- ---- an accepted call meets what it names
 
@@ -30,11 +28,7 @@ met t h e n ok (Refuse m) same changes other = change_met t h e n ok (ap is_chan
 met t h e n ok (Cancel m) same changes other = change_met t h e n ok (ap is_change same) m (ap named_node same)
 met t h e n ok (Reverse k) same changes other =
     let u = undone t h e n k ok same in
-    let is : is_of_trees u.0.command ≡ true =
-    sym (ap (λ (o : Option Record). unwrap_or (option_map (λ (r : Record). is_of_trees r.command) o) false) u.1.found)
-    ∙ changes in
-    subst IsSome (sym (ap (option_and_then (λ (r : Record). named_place r.number r.command)) u.1.found))
-    (has_place u.0.number u.0.command ∙ is)
+    rw u.1.found (has_place u.0.number u.0.command ∙ (rw u.1.found at changes))
 met t h e n ok _ same changes other = absurd (cc)
 
 -- ---- what is counted
@@ -45,14 +39,12 @@ pub way_to : {l : List Record} {g : Grove} → AreTreesOf l g → (k trade : ℕ
 way_to {l} {g} are k trade p at =
     let m = some_with (λ n. IsPlace g n trade p) (place_of g k) at in
     let s = spot are.filed (in_order are.house l are.replayed are.rises) trade p m.0 m.1.1 in
-    ap (λ o. unwrap_or (option_map (depth_of l) o) 0) (sym (are.filed.places k) ∙ m.1.0)
-    ∙ (ap (depth_of l) (sym s.called) ∙ s.said.deep)
+    cc (are.filed.places k, m.1.0, s.called, s.said.deep)
 
 -- the parts of the Split that a Reverse names
 pub parts_of_named : (l : List Record) (k : ℕ) (r : Record) → change_of l k ≡ Some r
     → parts_named l (Reverse k) ≡ parts_in r.command
-parts_of_named l k r found =
-    ap (λ (o : Option Record). unwrap_or (option_map (λ (r : Record). parts_in r.command) o) 0) found
+parts_of_named l k r found = rw found refl
 
 -- ---- the visits of a call
 

@@ -1,6 +1,5 @@
-use Rattle.std.proofs.Common.{refl}
-use Rattle.gu_book.proofs.{Vocabulary.{entry_of_change}, LookedUp.{ids_added, ids_fewer}}
 use Rattle.gu_book.proofs.book.push_change.Goals as goal
+use Rattle.gu_book.proofs.{LookedUp.{ids_added, ids_fewer}, Vocabulary.{entry_of_change, refl}}
 
 pub add-requires-clause-few : goal.add-requires-clause-few
 add-requires-clause-few c =

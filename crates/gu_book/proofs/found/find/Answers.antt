@@ -1,5 +1,5 @@
-use Rattle.gu_book.proofs.OnePlace.{found_none}
 use Rattle.gu_book.proofs.found.find.Goals as goal
+use Rattle.gu_book.proofs.OnePlace.{found_none}
 
 pub returns-in_default : goal.returns-in_default
 returns-in_default c = λ l are. found_none are c.args.name (rw c.in_default.is at c.find.ensures.absent)

@@ -1,6 +1,6 @@
-use Rattle.std.proofs.Common.{◌∙◌, ℕ, ap, refl, sym, option_map}
-use Rattle.gu_book.proofs.{OnePlace.found_spot, found.found_at.Goals.{in-Some, in-None}}
 use Rattle.gu_book.proofs.found.found_at.Goals as goal
+use Rattle.gu_book.proofs.found.found_at.Goals.{in-None, in-Some}
+use Rattle.gu_book.proofs.{OnePlace.found_spot, Vocabulary.{ap, option_map, refl, sym, ℕ, ◌∙◌}}
 
 pub returns-clause-found : goal.returns-clause-found
 returns-clause-found c = λ l n g are place at.

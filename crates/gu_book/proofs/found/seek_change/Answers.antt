@@ -1,11 +1,7 @@
-use Rattle.std.proofs.Common.{◌∙◌, ℕ, sym, ap, subst, arith}
-use Rattle.gu_depend.proofs.Finds.{some_with}
-use Rattle.gu_base.proofs.Numbered.{rises_later}
-use Rattle.gu_book.proofs.Vocabulary.{IsPlace, record_of}
-use Rattle.gu_tree.specs.Grove.{place_of}
-use Rattle.gu_book.specs.Holdings.{deal_of}
-use Rattle.gu_book.proofs.{OnePlace.one_place, Visited.{way_to, parts_of_named}}
 use Rattle.gu_book.proofs.found.seek_change.Goals as goal
+use Rattle.gu_book.proofs
+use proofs.{OnePlace.one_place, Visited.way_to, Vocabulary.{arith, IsPlace, rises_later, some_with, sym, ◌∙◌}}
+use Rattle.gu_tree.specs.Grove.{place_of}
 
 pub returns-clause-undone : goal.returns-clause-undone
 returns-clause-undone c =
@@ -19,9 +15,8 @@ returns-clause-undone c =
       name = m.0;
       place = sym (are.filed.places c.args.number) ∙ m.1.0;
       found = c.found_at-found.ensures.found l m.0 trees are m.1.1 (rw c.in-Some.is at c.named.ensures.node);
-      there = λ h filed. subst (λ (k : ℕ). IsPlace h m.0 k path) (sym c.found_at-found.ensures.trade)
-          (one_place are.filed m.0 c.in-Some.spot.trade path m.1.1 h filed);
-      deal = c.traded_under.ensures ∙ ap (deal_of l) (sym c.found_at-found.ensures.trade);
+      there = λ h filed. rw c.found_at-found.ensures.trade (one_place are.filed m.0 _ path m.1.1 h filed);
+      deal = rw c.found_at-found.ensures.trade c.traded_under.ensures;
     }
 
 -- what stands there
@@ -40,11 +35,6 @@ returns-in_default-clause-standing c = λ t legal dealt.
     let are = c.requires.trees in
     c.standing_beside-count.ensures.first t l (rises_later 0 1 l (omega arith) are.rises) legal dealt
     (sym (are.filed.places c.args.number) ∙ (rw c.in_default.is at c.named.ensures.absent))
-
-pub returns-in_default-clause-undone : goal.returns-in_default-clause-undone
-returns-in_default-clause-undone c =
-    rw c.requires.nothing
-    (sym (c.requires.trees.filed.places c.args.number) ∙ (rw c.in_default.is at c.named.ensures.absent))
 
 pub returns-clause-most : goal.returns-clause-most
 returns-clause-most c = λ t dealt.

@@ -1,21 +1,13 @@
-use Rattle.std.proofs.{Common.{◌≡◌, ◌∙◌, sym, ap, subst, arith, Some}, lemmas.Option.same_Some}
-use Rattle.gu_depend.proofs.Vocabulary.{depth_of, node_of, Node}
-use Rattle.gu_base.proofs.Basics.{none_is_some}
-use Rattle.gu_book.proofs.{Vocabulary.{IsFoundAs, IsNamedBy}, OnePlace.{found_none, found_node, lies_there}}
-use Rattle.gu_book.proofs.found.seek_node.Goals.{After-found_at-found}
 use Rattle.gu_book.proofs.found.seek_node.Goals as goal
+use Rattle.gu_book.proofs.{found.seek_node.Goals.After-found_at-found, OnePlace.{found_node, found_none, lies_there}}
+use Rattle.gu_book.proofs.Vocabulary.{ap, arith, depth_of, node_of, none_is_some, same_Some, Some, sym, ◌∙◌, ◌≡◌}
+use Rattle.gu_book.specs.Found.{IsNamedBy}
 
 pub unreachable-requires : goal.unreachable-requires
 unreachable-requires c =
     none_is_some (node_of c.args.changes.now c.args.name) c.in-Some.node
     (found_none c.requires.trees c.args.name (rw c.in_default-find.is at c.find.ensures.absent))
     (sym c.node_of.ensures ∙ c.in-Some.is)
-
-pub returns-in_default-clause-named : goal.returns-in_default-clause-named
-returns-in_default-clause-named c = rw c.requires.nothing.named (sym c.node_of.ensures ∙ c.in_default.is)
-
-pub returns-in_default-clause-there : goal.returns-in_default-clause-there
-returns-in_default-clause-there c = rw c.requires.nothing.named tt
 
 -- the node that stands there is the one that the list has under the name
 its_node : (c : After-found_at-found)
@@ -28,8 +20,8 @@ its_node c =
     let there : node_of l c.args.name ≡ Some c.in-Some.node = sym c.node_of.ensures ∙ c.in-Some.is in
     let one : q.0 ≡ c.in-Some.node = same_Some q.0 c.in-Some.node (sym (found_node q) ∙ there) in (
       there,
-      subst (λ (x : Node). x.name ≡ c.args.name) one q.1,
-      subst (λ (x : Node). IsFoundAs l x c.found_at-found.result) one q.2,
+      rw one at q.1,
+      rw one at q.2,
     )
 
 pub returns-clause-named : goal.returns-clause-named

@@ -1,11 +1,9 @@
-use Rattle.std.proofs.Common.{◌≡◌, ◌∙◌, ℕ, List, Some, sym, ap, arith, option_and_then}
-use Rattle.gu_depend.proofs.Vocabulary.{live, Record, Entry, Reverse, House}
-use Rattle.gu_depend.proofs.{ReadOff.nothing_placed}
-use Rattle.gu_depend.specs.Under.{deals_under}
-use Rattle.gu_base.proofs.Numbered.{rises_later}
-use Rattle.gu_book.proofs.{Vocabulary.{named_place, record_of}, ByNumber.live_found, Visited.parts_of_named}
-use Rattle.gu_book.specs.{Live.{IsLiveAt}, Undo.{IsOfKind}, Visits.{parts_named}, declared.undo.Undo.{Undo}}
 use Rattle.gu_book.proofs.found.seek_reversed.Goals as goal
+use Rattle.gu_book.proofs
+use proofs.{ByNumber.live_found, Visited.parts_of_named, Vocabulary.{ap, arith, Entry, House, IsLiveAt}}
+use proofs.Vocabulary.{List, live, named_place, option_and_then, Record, Reverse, rises_later, sym, Undo, ℕ, ◌∙◌, ◌≡◌}
+use Rattle.gu_book.specs.{Undo.IsOfKind, Visits.parts_named}
+use Rattle.gu_depend.{proofs.ReadOff.nothing_placed, specs.Under.deals_under}
 
 -- the parts that it makes are those of the change that a Reverse names
 its_parts : {t : House} {h : List Entry} {n : ℕ} {r : Record} {u : Undo} → IsLiveAt h n r
@@ -15,18 +13,8 @@ its_parts {h = h} {n = n} {r = r} is kind =
 
 pub seek_change-requires-clause-parts : goal.seek_change-requires-clause-parts
 seek_change-requires-clause-parts c =
-    let is : IsLiveAt c.args.entries.now c.args.number (record_of c.in-Ok.made) =
-    rw c.in-Ok.is at c.look_up.ensures in
-    rw c.of-changes.ensures (its_parts is (rw c.of-changes.ensures at c.of-undo.ensures.kind))
-
-pub returns-in-Ok-clause-undo : goal.returns-in-Ok-clause-undo
-returns-in-Ok-clause-undo c =
-    rw c.seek_change.ensures.undo
-    (record {
-      change = record_of c.in-Ok.made;
-      at = rw c.in-Ok.is at c.look_up.ensures;
-      kind = rw c.of-changes.ensures at c.of-undo.ensures.kind;
-    })
+    rw c.of-changes.ensures
+    (its_parts (rw c.in-Ok.is at c.look_up.ensures) (rw c.of-changes.ensures at c.of-undo.ensures.kind))
 
 pub returns-in-Ok-clause-standing : goal.returns-in-Ok-clause-standing
 returns-in-Ok-clause-standing c =
@@ -35,24 +23,17 @@ returns-in-Ok-clause-standing c =
 
 pub returns-in-Ok-clause-most : goal.returns-in-Ok-clause-most
 returns-in-Ok-clause-most c =
-    let is : IsLiveAt c.args.entries.now c.args.number (record_of c.in-Ok.made) =
-    rw c.in-Ok.is at c.look_up.ensures in
-    let parts = its_parts is (rw c.of-changes.ensures at c.of-undo.ensures.kind) in
+    let parts = its_parts (rw c.in-Ok.is at c.look_up.ensures) (rw c.of-changes.ensures at c.of-undo.ensures.kind) in
     let every = rw c.of-changes.ensures at c.seek_change.ensures.most in
     let most = every c.args.house.now c.requires.dealt in
     omega (arith, parts, most)
 
 pub returns-in-Ok-clause-least : goal.returns-in-Ok-clause-least
 returns-in-Ok-clause-least c = λ placed.
-    let is : IsLiveAt c.args.entries.now c.args.number (record_of c.in-Ok.made) =
-    rw c.in-Ok.is at c.look_up.ensures in
-    let parts = its_parts is (rw c.of-changes.ensures at c.of-undo.ensures.kind) in
+    let parts = its_parts (rw c.in-Ok.is at c.look_up.ensures) (rw c.of-changes.ensures at c.of-undo.ensures.kind) in
     let every = rw c.of-changes.ensures at c.seek_change.ensures.least in
     let least = every placed in
     omega (arith, parts, least)
-
-pub returns-in-Err-clause-undo : goal.returns-in-Err-clause-undo
-returns-in-Err-clause-undo c = rw c.in-Err.is at c.look_up.ensures
 
 pub returns-in-Err-clause-undone : goal.returns-in-Err-clause-undone
 returns-in-Err-clause-undone c =

@@ -1,13 +1,11 @@
-use Rattle.gu_book.proofs.{FiledChanges.{may_decide, claimed}, OnePlace.{named_spot, never_none}}
-use Rattle.gu_depend.proofs.Vocabulary.{decides, name_same}
-use Rattle.gu_tree.specs.Shown.{named_node}
-use Rattle.std.proofs.Common.{◌∙◌, ap}
 use Rattle.gu_book.proofs.grove.claim.Goals as goal
+use Rattle.gu_book.proofs
+use proofs.FiledChanges.{claimed, may_decide}
+use proofs.{OnePlace.named_spot, Vocabulary.{ap, decides, name_same, named_node, ◌∙◌}}
 
 pub unreachable-requires : goal.unreachable-requires
 unreachable-requires c =
-    never_none c.args.trees.now (named_node c.args.made.now.command.now) c.args.sought.now.named
-    c.args.sought.now.path.items c.requires.there c.requires.claim.0 (ap named_node c.requires.claim.1) c.in_default.is
+    rw (ap named_node c.requires.claim.1, c.in_default.is) at c.requires.there
 
 pub claim-requires : goal.claim-requires
 claim-requires c =

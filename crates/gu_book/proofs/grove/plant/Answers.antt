@@ -1,10 +1,5 @@
-use Rattle.gu_book.proofs.FiledChanges.{trade_filed}
-use Rattle.gu_tree.specs.{Rose.{Rose, head_of}, Grove.last_place}
-use Rattle.std.proofs.Common.{◌<◌, refl, ap, arith}
 use Rattle.gu_book.proofs.grove.plant.Goals as goal
-
-pub plant-requires-clause-sapling : goal.plant-requires-clause-sapling
-plant-requires-clause-sapling c = rw c.new.ensures.root refl
+use Rattle.gu_book.proofs.{FiledChanges.trade_filed, Vocabulary.{ap, arith, head_of, last_place, Rose, ◌<◌}}
 
 pub plant-requires-clause-above : goal.plant-requires-clause-above
 plant-requires-clause-above c =

@@ -1,7 +1,5 @@
-use Rattle.gu_book.proofs.Gone.{claim_gone, its_spot, leaf_there}
-use Rattle.gu_tree.specs.Shown.{DecidesNode}
-use Rattle.std.proofs.Common.{refl, sym, subst}
 use Rattle.gu_book.proofs.grove.unclaim.Goals as goal
+use Rattle.gu_book.proofs.{Gone.{claim_gone, its_spot, leaf_there}, Vocabulary.{DecidesNode, refl, subst, sym}}
 
 pub unclaim-requires : goal.unclaim-requires
 unclaim-requires c =

@@ -1,5 +1,5 @@
-use Rattle.gu_book.proofs.Gone.{root_gone, sapling_there}
 use Rattle.gu_book.proofs.grove.uproot.Goals as goal
+use Rattle.gu_book.proofs.Gone.{root_gone, sapling_there}
 
 pub uproot-requires : goal.uproot-requires
 uproot-requires c = record { sapling = sapling_there c.requires.may_go.2 c.requires.trade }

@@ -1,7 +1,7 @@
-use Rattle.gu_base.proofs.LegalLaws.{replay_from_legal}
-use Rattle.gu_book.proofs.Positions as balance
 use Rattle.gu_book.proofs.Leaves as sums
+use Rattle.gu_book.proofs.Positions as balance
 use Rattle.gu_book.proofs.laws.lots_and_fees_are_conserved.Goals as goal
+use Rattle.gu_base.proofs.LegalLaws.{replay_from_legal}
 
 pub returns-clause-leaves : goal.returns-clause-leaves
 returns-clause-leaves c =

@@ -1,5 +1,5 @@
-use Rattle.gu_book.proofs.{Vocabulary.{entry_of_change}, Books.{book_more, can_follow}}
 use Rattle.gu_book.proofs.book.Book.keep_change.Goals as goal
+use Rattle.gu_book.{proofs.Books.{book_more, can_follow}, specs.Live.entry_of_change}
 
 pub add-requires-clause-can : goal.add-requires-clause-can
 add-requires-clause-can c =

@@ -1,6 +1,5 @@
-use Rattle.std.proofs.Common.{◌∙◌, ap, arith}
-use Rattle.gu_book.proofs.{Vocabulary.{BookView, stored}, Opening.{opened_all, opened_next}}
 use Rattle.gu_book.proofs.book.Book.open.Goals as goal
+use Rattle.gu_book.proofs.{Opening.{opened_all, opened_next}, Vocabulary.{ap, arith, BookView, stored, ◌∙◌}}
 
 pub loop-place-preserved : goal.loop-place-preserved
 loop-place-preserved c =

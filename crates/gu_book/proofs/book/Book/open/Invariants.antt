@@ -1,6 +1,5 @@
-use Rattle.std.proofs.Common.{◌≡◌}
-use Rattle.gu_book.proofs.{Vocabulary.{stored}, Opening.{IsOpenedTo}}
 use Rattle.gu_book.proofs.book.Book.open.Given as goal
+use Rattle.gu_book.proofs.{Opening.IsOpenedTo, Vocabulary.{stored, ◌≡◌}}
 
 -- the calls that are left make the opening history of what there is
 abbrev pub invariant-loop-place : goal.invariant-loop-place

@@ -1,5 +1,5 @@
-use Rattle.gu_book.proofs.Books.{trees_kept}
 use Rattle.gu_book.proofs.book.Book.seek.Goals as goal
+use Rattle.gu_book.proofs.Books.{trees_kept}
 
 pub seek-requires-clause-trees : goal.seek-requires-clause-trees
 seek-requires-clause-trees c = rw c.deref.ensures.value (trees_kept c.self.invariant)

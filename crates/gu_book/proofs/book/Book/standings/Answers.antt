@@ -1,8 +1,5 @@
-use Rattle.std.proofs.Common.{arith}
-use Rattle.gu_depend.proofs.Vocabulary.{live}
-use Rattle.gu_base.proofs.{LegalLaws.legal_from_replay, Numbered.rises_later}
-use Rattle.gu_book.proofs.Leaves.{live_rises}
 use Rattle.gu_book.proofs.book.Book.standings.Goals as goal
+use Rattle.gu_book.proofs.{Leaves.live_rises, Vocabulary.{arith, legal_from_replay, live, rises_later}}
 
 pub returns-clause-read : goal.returns-clause-read
 returns-clause-read c =

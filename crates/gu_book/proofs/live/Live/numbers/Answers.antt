@@ -1,9 +1,8 @@
-use Rattle.std.proofs.Common.{◌≡◌, ℕ, ◌+◌, List, [], ◌∷◌, ◌++◌, map, sym, ◌∙◌, ap, append_assoc, Option, Some, None}
-use Rattle.std.proofs.Common.{find, option_map, ◌==◌}
-use Rattle.gu_depend.proofs.Vocabulary.{Entry, Record, live, cons_option}
-use Rattle.gu_book.proofs.{Vocabulary.{record_of}, ByNumber.{left, left_more}}
 use Rattle.gu_book.proofs.live.Live.numbers.Goals as goal
-use Rattle.gu_book.proofs.live.Live.numbers.Goals.{in-Some+in_ok-push, in_default}
+use Rattle.gu_book.proofs.Vocabulary
+use Rattle.gu_book.proofs.{ByNumber.{left, left_more}, live.Live.numbers.Goals.{in-Some+in_ok-push, in_default}}
+use Vocabulary.{ap, append_assoc, cons_option, Entry, find}
+use Vocabulary.{List, live, map, None, Option, option_map, Record, record_of, Some, sym, ℕ, ◌++◌, ◌+◌, ◌==◌, ◌∙◌, ◌≡◌}
 
 -- with the change of the next number, if there is one, fewer are left
 next : (h : List Entry) (i : ℕ) (o : Option Record) (ns all : List ℕ)
@@ -21,14 +20,10 @@ loop-place-preserved c = λ h is.
     let all = map (λ (r : Record). r.number) c.args.self.now in
     let found = ap (find (λ (d : Record). d.number == i + 1)) is ∙ sym (rw c.at_place.ensures at c.change.ensures) in
     elim c.match-change.branch [
-      | in-Some+in_ok-push w ↦ (
-          let made = record_of w.in-Some.made in
-          rw w.numbers-is
-          (ap (λ ns. ns ++ map (λ (r : Record). r.number) (left h (i + 1))) w.in_ok-push.ensures.items
-          ∙ (append_assoc numbers (made.number ∷ []) (map (λ (r : Record). r.number) (left h (i + 1)))
-          ∙ next h i (Some made) numbers all (found ∙ ap (option_map record_of) w.in-Some.is)
-          (c.loop-place.invariant h is)))
-          )
+      | in-Some+in_ok-push w ↦
+          rw (w.numbers-is, w.in_ok-push.ensures.items, append_assoc)
+          (next h i (Some (record_of w.in-Some.made)) numbers all (found ∙ ap (option_map record_of) w.in-Some.is)
+          (c.loop-place.invariant h is))
       | in_default w ↦
           rw w.numbers-is
           (next h i None numbers all (found ∙ ap (option_map record_of) w.in_default.is) (c.loop-place.invariant h is))

@@ -1,7 +1,5 @@
-use Rattle.std.proofs.Common.{◌≡◌, List, ◌++◌, map}
-use Rattle.gu_depend.proofs.Vocabulary.{Entry, live}
-use Rattle.gu_book.proofs.ByNumber.{left}
 use Rattle.gu_book.proofs.live.Live.numbers.Given as goal
+use Rattle.gu_book.proofs.{ByNumber.left, Vocabulary.{Entry, List, live, map, ◌++◌, ◌≡◌}}
 
 abbrev pub invariant-loop-place : goal.invariant-loop-place
 invariant-loop-place l =

@@ -1,6 +1,5 @@
-use Rattle.gu_book.proofs.{LiveStates.{may_deal, state_dealt}, TermsKept.can_put_at}
-use Rattle.std.proofs.Common.{sym}
 use Rattle.gu_book.proofs.live_state.LiveState.add_deed.Goals as goal
+use Rattle.gu_book.proofs.{ChangesKept.can_put_at, LiveStates.{may_deal, state_dealt}, Vocabulary.sym}
 
 pub put_at-requires : goal.put_at-requires
 put_at-requires c =

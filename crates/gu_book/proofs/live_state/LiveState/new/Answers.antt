@@ -1,7 +1,6 @@
-use Rattle.gu_book.proofs.{Charging.no_fees, Filed.filed_none}
-use Rattle.gu_depend.proofs.TermsFollow.{none_follow}
-use Rattle.std.proofs.Common.{arith}
 use Rattle.gu_book.proofs.live_state.LiveState.new.Goals as goal
+use Rattle.gu_book.proofs.{Charging.no_fees, Filed.filed_none, Vocabulary.arith}
+use Rattle.gu_depend.proofs.TermsFollow.{none_follow}
 
 pub returns : goal.returns
 returns c = λ t. record {

@@ -1,5 +1,5 @@
-use Rattle.gu_book.proofs.{AllShown.{of_trees_is, undone_of_trees}, Gone.{turned_down}, LiveStates.{terms_gone}}
 use Rattle.gu_book.proofs.live_state.LiveState.remove.Goals as goal
+use Rattle.gu_book.proofs.{AllShown.{of_trees_is, undone_of_trees}, Gone.turned_down, LiveStates.terms_gone}
 
 pub returns-in_default-clause-removed : goal.returns-in_default-clause-removed
 returns-in_default-clause-removed c =

@@ -1,43 +1,42 @@
-use Rattle.gu_book.proofs.{LiveStates.{apart_gone, back_room, back_stands, back_there}, Undoing.few_lots}
-use Rattle.gu_book.proofs.AllShown.{found_named, undone_there}
-use Rattle.std.proofs.Common.{refl}
 use Rattle.gu_book.proofs.live_state.LiveState.remove_split.Goals as goal
+use Rattle.gu_book.proofs
+use proofs.AllShown.{found_named, undone_there}
+use proofs.{LiveStates.{apart_gone, back_room, back_stands, back_there}, Undoing.few_lots, Vocabulary.refl}
 
-pub parts_back-back-requires-clause-found : goal.parts_back-back-requires-clause-found
-parts_back-back-requires-clause-found c = λ n named. found_named c.requires.can.goes.free c.requires.found n named
+pub parts_back-back-requires : goal.parts_back-back-requires
+parts_back-back-requires c =
+    let goes = c.requires.can.goes in
+    record {
+      split = c.requires.split;
+      found = found_named goes.free c.requires.found;
+      deal = c.requires.found.deal;
+      few = few_lots goes.free goes.list.within;
+    }
 
-pub parts_back-back-requires-clause-deal : goal.parts_back-back-requires-clause-deal
-parts_back-back-requires-clause-deal c = c.requires.found.deal
-
-pub parts_back-back-requires-clause-few : goal.parts_back-back-requires-clause-few
-parts_back-back-requires-clause-few c = few_lots c.requires.can.goes.free c.requires.can.goes.list.within
-
-pub unsplit-requires-clause-may_go : goal.unsplit-requires-clause-may_go
-unsplit-requires-clause-may_go c = (c.args.removal.now.house.now, c.args.removal.now.changes, c.requires.can.goes.free)
-
-pub unsplit-requires-clause-split : goal.unsplit-requires-clause-split
-unsplit-requires-clause-split c =
+pub unsplit-requires : goal.unsplit-requires
+unsplit-requires c =
     let split = c.requires.split in
-    (split.0, rw split.1 refl)
+    let free = c.requires.can.goes.free in
+    record {
+      may_go = (_, _, free);
+      split = (split.0, rw split.1 refl);
+      there = undone_there free.filed c.requires.found;
+    }
 
-pub unsplit-requires-clause-there : goal.unsplit-requires-clause-there
-unsplit-requires-clause-there c = undone_there c.requires.can.goes.free.filed c.requires.found
-
-pub move_parts_back-requires-clause-there : goal.move_parts_back-requires-clause-there
-move_parts_back-requires-clause-there c =
-    back_there c.requires.can.goes _ c.parts_back-back.ensures _
-    c.in_ok-ready_back.ensures.same
-
-pub move_parts_back-requires-clause-room : goal.move_parts_back-requires-clause-room
-move_parts_back-requires-clause-room c =
-    back_room c.requires.can.goes _ c.parts_back-back.ensures _
-    c.in_ok-ready_back.ensures.same
+pub move_parts_back-requires : goal.move_parts_back-requires
+move_parts_back-requires c =
+    let goes = c.requires.can.goes in
+    let same = c.in_ok-ready_back.ensures.same in
+    record {
+      split = c.requires.split;
+      there = back_there goes _ c.parts_back-back.ensures _ same;
+      ready = c.in_ok-ready_back.ensures.ready;
+      room = back_room goes _ c.parts_back-back.ensures _ same;
+    }
 
 pub returns-clause-removed : goal.returns-clause-removed
 returns-clause-removed c =
-    let of = c.args.removal.now in
     let split = c.requires.split.1 in
-    apart_gone c.requires.can.goes _ refl refl (cc) (cc)
-    (c.unsplit.ensures.gone _ _ c.requires.can.goes.free) c.unsplit.ensures.last
-    (back_stands c.requires.can.goes _ c.parts_back-back.ensures _
-    c.in_ok-ready_back.ensures.same _ c.move_parts_back.ensures)
+    let goes = c.requires.can.goes in
+    apart_gone goes _ refl refl (cc) (cc) (c.unsplit.ensures.gone _ _ goes.free) c.unsplit.ensures.last
+    (back_stands goes _ c.parts_back-back.ensures _ c.in_ok-ready_back.ensures.same _ c.move_parts_back.ensures)

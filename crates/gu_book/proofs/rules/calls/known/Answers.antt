@@ -1,7 +1,5 @@
-use Rattle.std.proofs.Common.{◌-◌, ◌<◌, length, sym, ◌∙◌}
-use Rattle.gu_depend.proofs.Vocabulary.{Call}
-use Rattle.gu_book.proofs.LookedUp.{stands_within}
 use Rattle.gu_book.proofs.rules.calls.known.Goals as goal
+use Rattle.gu_book.proofs.{LookedUp.stands_within, Vocabulary.{Call, length, sym, ◌-◌, ◌<◌, ◌∙◌}}
 
 pub bounds-entries-place : goal.bounds-entries-place
 bounds-entries-place c =

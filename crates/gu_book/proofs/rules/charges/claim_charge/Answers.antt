@@ -1,5 +1,5 @@
-use Rattle.gu_book.proofs.Within.{node_within}
 use Rattle.gu_book.proofs.rules.charges.claim_charge.Goals as goal
+use Rattle.gu_book.proofs.Within.{node_within}
 
 pub node_charge-requires-clause-few : goal.node_charge-requires-clause-few
 node_charge-requires-clause-few c =

@@ -1,6 +1,5 @@
-use Rattle.std.proofs.Common.{◌≡◌, ◌+◌, drop, filter_map, sum_by}
-use Rattle.gu_book.proofs.Vocabulary.{part_away, Holding}
 use Rattle.gu_book.proofs.rules.holdings.lots_away.Given as goal
+use Rattle.gu_book.proofs.Vocabulary.{drop, filter_map, Holding, part_away, sum_by, ◌+◌, ◌≡◌}
 
 abbrev pub invariant-loop-part : goal.invariant-loop-part
 invariant-loop-part l =

@@ -1,7 +1,5 @@
-use Rattle.gu_book.proofs.PartsAway.{moved_few}
-use Rattle.gu_depend.proofs.Vocabulary.{Part}
-use Rattle.std.proofs.Common.{◌<◌, ◌^◌, arith, sum_by}
 use Rattle.gu_book.proofs.rules.holdings.parts_back.Goals as goal
+use Rattle.gu_book.proofs.{PartsAway.moved_few, Vocabulary.{arith, Part, sum_by, ◌<◌, ◌^◌}}
 
 pub lots_away-requires : goal.lots_away-requires
 lots_away-requires c =

@@ -1,6 +1,7 @@
-use Rattle.gu_book.proofs.{Vocabulary.{part_away, counted_at, Holding}, HoldingRows.{given_cut, put_err}}
-use Rattle.std.proofs.Common.{ℕ, drop, refl, sym, ap, arith, filter_map, sum_by}
 use Rattle.gu_book.proofs.rules.holdings.put_away.Goals as goal
+use Rattle.gu_book.proofs
+use proofs.HoldingRows.{given_cut, put_err}
+use proofs.Vocabulary.{ap, arith, counted_at, drop, filter_map, Holding, part_away, refl, sum_by, sym, ℕ}
 
 pub loop-part-init : goal.loop-part-init
 loop-part-init c = record {

@@ -1,7 +1,7 @@
-use Rattle.std.proofs.Common.{◌≡◌, ◌+◌, ◌<◌, ◌^◌, drop, filter_map, sum_by}
-use Rattle.gu_depend.proofs.Vocabulary.{Side}
-use Rattle.gu_book.proofs.Vocabulary.{Key, lots_in, part_away, counted_at, HaveRoom, Holding}
 use Rattle.gu_book.proofs.rules.holdings.put_away.Given as goal
+use Rattle.gu_book.proofs.Vocabulary
+use Vocabulary.{counted_at}
+use Vocabulary.{drop, filter_map, HaveRoom, Holding, Key, lots_in, part_away, Side, sum_by, ◌+◌, ◌<◌, ◌^◌, ◌≡◌}
 
 abbrev pub invariant-loop-part : goal.invariant-loop-part
 invariant-loop-part l = record {

@@ -1,7 +1,7 @@
-use Rattle.gu_book.proofs.HoldingRows.{given_here, first_there}
-use Rattle.gu_book.proofs.Vocabulary.{holding_away, part_away, HaveThere, Holding}
-use Rattle.std.proofs.Common.{◌+◌, drop, arith, filter_map}
 use Rattle.gu_book.proofs.rules.holdings.take_away.Goals as goal
+use Rattle.gu_book.proofs
+use proofs.HoldingRows.{first_there, given_here}
+use proofs.Vocabulary.{arith, drop, filter_map, HaveThere, Holding, holding_away, part_away, ◌+◌}
 
 pub take-requires : goal.take-requires
 take-requires c =

@@ -1,8 +1,6 @@
-use Rattle.std.proofs.Common.{◌≡◌, ◌+◌, drop, filter_map, sum_by}
-use Rattle.gu_depend.proofs.Vocabulary.{Side}
-use Rattle.gu_positions.specs.Rows.{IsReady}
-use Rattle.gu_book.proofs.Vocabulary.{Key, lots_in, part_away, counted_at}
 use Rattle.gu_book.proofs.rules.holdings.take_away.Given as goal
+use Rattle.gu_book.proofs.Vocabulary.{counted_at, drop, filter_map, Key, lots_in, part_away, Side, sum_by, ◌+◌, ◌≡◌}
+use Rattle.gu_positions.specs.Rows.{IsReady}
 
 -- what is taken still is there
 abbrev pub invariant-loop-part : goal.invariant-loop-part

@@ -1,6 +1,5 @@
-use Rattle.std.proofs.Common.{◌≡◌, true, drop, map, IfSome}
-use Rattle.gu_depend.proofs.Vocabulary.{knows_account, first, refusal_of_part}
 use Rattle.gu_book.proofs.rules.refusals.parts_refusal.Given as goal
+use Rattle.gu_book.proofs.Vocabulary.{drop, first, IfSome, knows_account, map, refusal_of_part, true, ◌≡◌}
 
 -- the parts that are left are refused as all are, and the known account is one of the firm's
 abbrev pub invariant-loop-part : goal.invariant-loop-part

@@ -1,7 +1,5 @@
-use Rattle.gu_base.specs.Refusals.{at_node}
-use Rattle.gu_depend.proofs.Vocabulary.{split_row, live}
-use Rattle.std.proofs.Common.{◌∙◌, ap, sym}
 use Rattle.gu_book.proofs.rules.refusals.row_refusal.Goals as goal
+use Rattle.{gu_base.specs.Refusals.at_node, gu_book.proofs.Vocabulary.{ap, live, split_row, sym, ◌∙◌}}
 
 pub returns-in-Some : goal.returns-in-Some
 returns-in-Some c =

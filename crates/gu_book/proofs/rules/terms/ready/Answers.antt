@@ -1,7 +1,6 @@
-use Rattle.gu_book.proofs.{Vocabulary.{lookup, is_pair, IsReadied}, rules.terms.ready.Goals.After-ready_at}
-use Rattle.gu_depend.proofs.{TermsFollow.readied_follows, Vocabulary.agreement}
-use Rattle.std.proofs.Common.{◌≡◌, sym, Some, refl}
 use Rattle.gu_book.proofs.rules.terms.ready.Goals as goal
+use Rattle.gu_book.proofs.{rules.terms.ready.Goals.After-ready_at, Vocabulary.{agreement, lookup, refl, Some, sym, ◌≡◌}}
+use Rattle.{gu_depend.proofs.TermsFollow.readied_follows, gu_fees.specs.{Rows.is_pair, Terms.IsReadied}}
 
 -- where the two stand
 at : (c : After-ready_at)
