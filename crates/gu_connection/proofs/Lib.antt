@@ -1,2 +1,3 @@
 mod Looking
 mod Turning
+pub mod Seen
