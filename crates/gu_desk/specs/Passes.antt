@@ -78,7 +78,8 @@ with_kept_laid_in v w = of_kind v v.seen w.kept v.kept
 -- is the journal's
 pub record Fits (place journal : ℕ) (h d : List Entry) (at : ℕ) (v : PassView) : Type 0 where
   pub books : v.is_books ≡ true → (at ≡ place) × (v.seen ≡ h)
-  pub journals : v.is_journals ≡ true → (at ≡ journal) × (v.kept ≡ d) × BeginsWith d v.laid_in
+  pub journals : v.is_journals ≡ true
+      → (at ≡ journal) × (v.kept ≡ d) × BeginsWith d v.laid_in
   pub seen : BeginsWith h v.seen
   pub laid_in : BeginsWith h v.laid_in
   pub kept : BeginsWith d v.kept
