@@ -1,5 +1,5 @@
 -- What staging and opening a group make of a journal.
-use Rattle.std.proofs.Common.{◌≡◌, ℕ, ◌+◌, List, [], ◌++◌, length, drop, sym, ◌∙◌, ap, subst, arith}
+use Rattle.std.proofs.Common.{◌≡◌, ℕ, ◌+◌, List, [], ◌++◌, length, sym, ◌∙◌, ap, subst, arith}
 use Rattle.std.proofs.Common.{length-append, IsTrue}
 use Rattle.gu_base.specs.House.{House}
 use Rattle.gu_base.specs.Names.{is_firm_text}
@@ -23,7 +23,7 @@ module _ {D : Type 0} (seen : D → List ℕ) (may_leave : D → List ℕ → Ty
 
   pub staged_shut : (t : House) (pin : List ℕ) (h new : List Entry) (j : Journal D)
       (s : Stages seen may_leave t pin h new j) (c : List ℕ) → may_leave (disk_of j) c → IsShutBehind s.bytes c
-  staged_shut t pin h new j s c left = (drop 1 s.group, s.file.durable c left ∙ s.file.file)
+  staged_shut t pin h new j s c left = (_, s.file.durable c left ∙ s.file.file)
 
   -- ---- while nothing but the room has changed
 
