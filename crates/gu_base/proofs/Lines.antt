@@ -24,23 +24,6 @@ node_more l k n x found =
     ∙ (find-append (λ x. same_name x.name n) (nodes l) (nodes k)
     ∙ ap (λ o. option_or o (node_of k n)) found)
 
--- the line above a node, where lines from each node stay
-above_more : (f : ℕ) (l k : List Record) (h : HasParents l)
-    → ((m : EntryPart) (y : Node) → node_of l m ≡ Some y → line_within f (l ++ k) (Some y) ≡ line_within f l (Some y))
-    → (n : EntryPart) (x : Node) → node_of l n ≡ Some x → (o : Option EntryPart) → parent x.kind ≡ o
-    → line_within f (l ++ k) (option_and_then (node_of (l ++ k)) o) ≡ line_within f l (option_and_then (node_of l) o)
-above_more f l k h stays n x found None e = refl
-above_more f l k h stays n x found (Some m) e =
-    let y = h.there n m x found e in
-    ap (line_within f (l ++ k)) (node_more l k m y.0 y.1) ∙ (stays m y.0 y.1 ∙ sym (ap (line_within f l) y.1))
-
--- a line stays as it is when changes are added
-pub line_more : (f : ℕ) (l k : List Record) (h : HasParents l) (n : EntryPart) (x : Node) → node_of l n ≡ Some x
-    → line_within f (l ++ k) (Some x) ≡ line_within f l (Some x)
-line_more zero l k h n x found = refl
-line_more (suc f) l k h n x found =
-    ap (λ xs. x ∷ xs) (above_more f l k h (line_more f l k h) n x found (parent x.kind) refl)
-
 -- the node above a node has a lower number
 pub record Falls (l : List Record) : Type 0 where
   pub lower : (n m : EntryPart) (x y : Node) → node_of l n ≡ Some x → parent x.kind ≡ Some m → node_of l m ≡ Some y

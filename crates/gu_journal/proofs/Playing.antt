@@ -23,22 +23,22 @@ use Rattle.gu_journal.specs.Journal.{IsJournal, head_alone, group_more}
 use Rattle.gu_journal.proofs.Frames.{splits_push, splits_then, messages_push}
 
 -- a batch that has this house, this history, and has written that each of its entries is accepted
-record Is (t : House) (h : List Entry) (ms : List Message) (p : Progress) : Type 0 where
+record HasAccepted (t : House) (h : List Entry) (ms : List Message) (p : Progress) : Type 0 where
   house : p.house ≡ t
   history : p.history ≡ h
   written : p.written ≡ length ms
   accepts : AcceptsEach t h ms
 
 -- the message leads from one history to another
-abbrev Leads : House → List Entry → Message → List Entry → Type 0
-Leads t h m new = (p : Progress) (ms : List Message) → Is t h ms p
-    → Is t new (ms ++ answers_to p m) (progress_after p m)
+abbrev Continues : House → List Entry → Message → List Entry → Type 0
+Continues t h m new = (p : Progress) (ms : List Message) → HasAccepted t h ms p
+    → HasAccepted t new (ms ++ answers_to p m) (progress_after p m)
 
 -- the bytes are frames, and a batch that reads them has this history
 record Plays (t : House) (bytes : List ℕ) (h : List Entry) : Type 0 where
   frames : List Seen
   split : Splits 0 bytes frames (Some Clean)
-  is : Is t h (answers_along (start t) (messages_in frames)) (progress_along (start t) (messages_in frames))
+  is : HasAccepted t h (answers_along (start t) (messages_in frames)) (progress_along (start t) (messages_in frames))
 
 along_push : (p : Progress) (ms : List Message) (m : Message)
     → progress_along p (ms ++ m ∷ []) ≡ progress_after (progress_along p ms) m
@@ -55,7 +55,7 @@ answers_push p (n ∷ ms) m =
 
 -- one frame more
 push : (t : House) (bytes frame : List ℕ) (h new : List Entry) (m : Message) → Plays t bytes h → IsOneFrame frame m
-    → Leads t h m new → Plays t (bytes ++ frame) new
+    → Continues t h m new → Plays t (bytes ++ frame) new
 push t bytes frame h new m plays one leads =
     let f : Seen = record { fields = Some m; len = length frame } in
     let was = messages_in plays.frames in
@@ -65,9 +65,9 @@ push t bytes frame h new m plays one leads =
     record {
       frames = plays.frames ++ f ∷ [];
       split = splits_push plays.frames 0 bytes frame f plays.split one refl;
-      is = subst (λ (p : Progress). Is t new (answers_along (start t) (messages_in (plays.frames ++ f ∷ []))) p)
+      is = subst (λ (p : Progress). HasAccepted t new (answers_along (start t) (messages_in (plays.frames ++ f ∷ []))) p)
           (sym along)
-          (subst (λ (ms : List Message). Is t new ms (progress_after (progress_along (start t) was) m)) (sym told)
+          (subst (λ (ms : List Message). HasAccepted t new ms (progress_after (progress_along (start t) was) m)) (sym told)
           (leads (progress_along (start t) was) (answers_along (start t) was) plays.is));
     }
 
@@ -93,7 +93,7 @@ leads_by : (t : House) (h new : List Entry) (m : Message) (r : Result Inbound Re
     → ((w : ℕ) → history_by (at t h w) r ≡ new)
     → ((ms : List Message) → AcceptsEach t h ms
     → AcceptsEach t new (ms ++ sent t.house (length ms) (replies_by (at t h (length ms)) m r)))
-    → Leads t h m new
+    → Continues t h m new
 unfolding progress_after answers_to
 leads_by t h new m r means goes told p ms is =
     let here : p ≡ at t h (length ms) = λ i. record {
@@ -117,13 +117,13 @@ leads_by t h new m r means goes told p ms is =
 silent : (t : House) (h : List Entry) (ms : List Message) → AcceptsEach t h ms → AcceptsEach t h (ms ++ [])
 silent t h ms is = subst (AcceptsEach t h) (sym (append-nil ms)) is
 
-head_leads : (t : House) (pin : List ℕ) (h : List Entry) (m : Message) → IsHead t pin m → Leads t h m h
+head_leads : (t : House) (pin : List ℕ) (h : List Entry) (m : Message) → IsHead t pin m → Continues t h m h
 head_leads t pin h m is = leads_by t h h m _ is.meaning (λ w. refl) (silent t h)
 
-seal_leads : (t : House) (bytes : List ℕ) (h : List Entry) (m : Message) → IsSeal t bytes h m → Leads t h m h
+seal_leads : (t : House) (bytes : List ℕ) (h : List Entry) (m : Message) → IsSeal t bytes h m → Continues t h m h
 seal_leads t bytes h m is = leads_by t h h m _ is.meaning (λ w. refl) (silent t h)
 
-next_leads : (t : House) (h : List Entry) (e : Entry) (m : Message) → IsNext t h e m → Leads t h m (h ++ e ∷ [])
+next_leads : (t : House) (h : List Entry) (e : Entry) (m : Message) → IsNext t h e m → Continues t h m (h ++ e ∷ [])
 next_leads t h e m is =
     leads_by t h (h ++ e ∷ []) m _ is.meaning (λ w. ap (after_by h (call_of e)) is.accepted) (λ ms accepts.
     let answer : Answer → Message = λ a. message_of (stamp t.house (length ms + 1))

@@ -13,7 +13,7 @@ ghost use Rattle.gu_journal.specs.Taking.{IsTold};
 ghost use Rattle.gu_journal.specs.declared.replay.Stand.TheVariants.{Unsealed};
 
 use crate::damage::{Cause, RecoverError};
-use crate::replay::{Place, Stand};
+use crate::replay::{FramePlace, Stand};
 use crate::session::LONGEST_HEAD;
 use crate::window::Window;
 use gu_codec::{Fields, Frame, tags};
@@ -78,7 +78,7 @@ pub(crate) fn check_rest<D: Disk>(
     size: usize,
     window: &mut Window,
     stand: Stand,
-    place: Place,
+    place: FramePlace,
 ) -> Result<(), RecoverError>
     requires usable { IsTrue (D.Disk.is_usable disk.old) }
     requires short { size ≤ 2 ^ 60 }

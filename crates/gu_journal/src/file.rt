@@ -15,7 +15,7 @@ use crate::behind::check_rest;
 use crate::damage::{Cause, HouseDigest, RecoverError};
 use crate::group::{MOST_BYTES, SHUT};
 use crate::progress::Progress;
-use crate::replay::{Place, Replay, Stand, next_number};
+use crate::replay::{FramePlace, Replay, Stand, next_number};
 use crate::window::Window;
 use gu_book::Book;
 use gu_codec::Frame;
@@ -42,7 +42,7 @@ fn take_front(
     replay: &mut Replay,
     book: &mut Book,
     pin: &HouseDigest,
-    place: Place,
+    place: FramePlace,
 ) -> Result<Met, RecoverError>
     requires entry { place.entry ≡ length book.old.history + 1 }
     ensures meets { IfOk result (Meets pin.now.bytes window.now.bytes replay.old book.old
@@ -97,7 +97,7 @@ fn take_frames<D: Disk, P: Progress>(
         → IsHeld (D.Disk.seen disk.old) window.new) }
 {
     'frames: loop {
-        let place = Place {
+        let place = FramePlace {
             at: window.at(),
             entry: next_number(book),
         };
@@ -145,7 +145,7 @@ fn take_file<D: Disk, P: Progress>(
     let mut window = Window::new(alloc)?;
     take_frames(alloc, disk, size, &mut window, replay, book, pin, progress)?;
     let end = window.at();
-    let place = Place {
+    let place = FramePlace {
         at: end,
         entry: next_number(book),
     };

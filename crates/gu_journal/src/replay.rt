@@ -72,12 +72,12 @@ pub(crate) struct Replay {
 
 /// Where a frame stands, and the number that its entry would have.
 #[derive(Clone, Copy)]
-pub(crate) struct Place {
+pub(crate) struct FramePlace {
     pub(crate) at: usize,
     pub(crate) entry: u32,
 }
 
-impl Place {
+impl FramePlace {
     /// The damage that is found there.
     #[cold]
     pub(crate) fn damaged(self, cause: Cause) -> RecoverError
@@ -152,7 +152,11 @@ fn other_digest(message: &Index<'_, '_>) -> Option<HouseDigest>
 
 /// Whether a message begins a journal of this form and of this house file, as far as its fields
 /// tell.
-fn check_head(message: &Index<'_, '_>, pin: &HouseDigest, place: Place) -> Result<(), RecoverError>
+fn check_head(
+    message: &Index<'_, '_>,
+    pin: &HouseDigest,
+    place: FramePlace,
+) -> Result<(), RecoverError>
     ensures ok { OnOk result (IsPinned pin.now.bytes message.now) }
     ensures cause { IfErr result (λ e. IsUnpinned pin.now.bytes message.now e) }
     ensures place { IfErr result (λ e. IsAt place.at place.entry e) }
@@ -236,7 +240,7 @@ impl Replay {
         alloc: Global,
         house: &FirmId,
         message: &Index<'_, '_>,
-        place: Place,
+        place: FramePlace,
     ) -> Result<(), RecoverError>
         ensures means { OnOk result (meaning_of house.now message.now ≡ Ok self.new.meaning) }
         ensures cause { IfErr result (λ e. Blames (lack_of self.old.stand) ((m : Means)
@@ -257,7 +261,7 @@ impl Replay {
         &mut self,
         alloc: Global,
         book: &mut Book,
-        place: Place,
+        place: FramePlace,
     ) -> Result<(), RecoverError>
         ensures house { OnOk result (book.new.house ≡ book.old.house) }
         ensures adds { OnOk result (AddsNext book.old.house book.old.history book.new.history
@@ -292,7 +296,7 @@ impl Replay {
         alloc: Global,
         book: &mut Book,
         message: &Index<'_, '_>,
-        place: Place,
+        place: FramePlace,
     ) -> Result<(), RecoverError>
         requires means { meaning_of book.old.house.house message.now ≡ Ok self.old.meaning }
         requires numbered { IsNumbered (length book.old.history + 1) message.now }
@@ -352,7 +356,7 @@ impl Replay {
         let walked = walk(fields, &mut slots);
         let message = Index::new(fields, &slots, walked);
         let entry = next_number(book);
-        let place = Place { at, entry };
+        let place = FramePlace { at, entry };
         if self.stand == Stand::Fresh {
             check_head(&message, pin, place)?;
         }

@@ -18,7 +18,7 @@ pub traced : {A : Type 0} (words : List Text) (bytes_at : Text → Option (List 
     → Traces house trade old new r → HasDone words bytes_at old new r
 traced words bytes_at path trade house old new r is asked meant named traces =
     inr (inl (record {
-      by = record { path = path; is = is; asked = asked; house = house; named = named };
+      asks = record { path = path; is = is; asked = asked; house = house; named = named };
       trade = trade;
       meant = meant;
       traces = traces;
@@ -34,14 +34,14 @@ pub served_by : (words : List Text) (bytes_at : Text → Option (List ℕ)) (l :
     (b c : Option (List ℕ)) (v w : ℕ) (r : Result (Unit {0}) Fault) → (by : Asks (codes "serve") words bytes_at)
     → Serves by.house b c v w r → Does words bytes_at (tells l x f b v) (tells l x f c w) r
 served_by words bytes_at l x f b c v w (Ok done) by (book, served, totals) =
-    inr (inr (inl (record { by = by; book = book; served = served; unread = (refl, refl, refl); totals = totals })))
+    inr (inr (inl (record { asks = by; book = book; served = served; unread = (refl, refl, refl); totals = totals })))
 served_by words bytes_at l x f b c v w (Err (fault.Service e)) by (same, never) =
     inl (by, ap (λ y. tells l x f y w) same ∙ ap (λ y. tells l x f b y) never)
 served_by words bytes_at l x f b c v w (Err (fault.Run e)) by (book, served, totals) =
     inr (
       e,
       refl,
-      inr (inr (inl (record { by = by; book = book; served = served; unread = (refl, refl, refl); totals = totals }))),
+      inr (inr (inl (record { asks = by; book = book; served = served; unread = (refl, refl, refl); totals = totals }))),
     )
 served_by words bytes_at l x f b c v w (Err (fault.Journal t)) by h = absurd h
 served_by words bytes_at l x f b c v w (Err (fault.Keep e)) by h = absurd h
@@ -54,7 +54,7 @@ pub kept_by : (words : List Text) (bytes_at : Text → Option (List ℕ)) (l : O
     (b c : Option (List ℕ)) (v w : ℕ) (r : Result (Unit {0}) Fault) → (by : Asks (codes "keep") words bytes_at)
     → Keeps by.house b c v w r → Does words bytes_at (tells l x f b v) (tells l x f c w) r
 kept_by words bytes_at l x f b c v w (Ok done) by (book, served, totals) =
-    inr (inr (inr (record { by = by; book = book; served = served; unread = (refl, refl, refl); totals = totals })))
+    inr (inr (inr (record { asks = by; book = book; served = served; unread = (refl, refl, refl); totals = totals })))
 kept_by words bytes_at l x f b c v w (Err (fault.Journal t)) by (same, never) =
     inl (by, ap (λ y. tells l x f y w) same ∙ ap (λ y. tells l x f b y) never)
 kept_by words bytes_at l x f b c v w (Err (fault.Keep e)) by (same, never) =
@@ -64,7 +64,7 @@ kept_by words bytes_at l x f b c v w (Err (fault.Run e)) by (book, served, total
       e,
       refl,
       inr (inr (inr (record {
-        by = by;
+        asks = by;
         book = book;
         served = served;
         unread = (refl, refl, refl);

@@ -55,17 +55,17 @@ Stops words bytes_at e =
 -- a batch was run, by the house table that the house file of the words names
 pub record HasRun {A : Type 0} (words : List Text) (bytes_at : Text → Option (List ℕ))
     (old new : Told) (result : Result A RunError) : Type 0 where
-  pub by : Asks (codes "batch") words bytes_at
-  pub runs : Runs by.house old new result
+  pub asks : Asks (codes "batch") words bytes_at
+  pub runs : Runs asks.house old new result
 
 -- a trace was run, by the house table that the house file of the words names, for the trade that
 -- they name
 pub record HasTraced {A : Type 0} (words : List Text) (bytes_at : Text → Option (List ℕ))
     (old new : Told) (result : Result A RunError) : Type 0 where
-  pub by : Asks (codes "trace") words bytes_at
+  pub asks : Asks (codes "trace") words bytes_at
   pub trade : Option ℕ
   pub meant : trade_meant (trade_in words) ≡ Some trade
-  pub traces : Traces by.house trade old new result
+  pub traces : Traces asks.house trade old new result
 
 -- ---- the server
 
@@ -86,9 +86,9 @@ Serves {A} house old new failed_before failed (Err _) = ⊥
 -- totals of the book behind them were written
 pub record HasServed {A : Type 0} (words : List Text) (bytes_at : Text → Option (List ℕ))
     (old new : Told) (result : Result A RunError) : Type 0 where
-  pub by : Asks (codes "serve") words bytes_at
+  pub asks : Asks (codes "serve") words bytes_at
   pub book : HouseAndHistory
-  pub served : IsServed by.house book
+  pub served : IsServed asks.house book
   pub unread : (new.left ≡ old.left) × (new.made ≡ old.made) × (new.reads_failed ≡ old.reads_failed)
   pub totals : WritesTotals book.house book.history old.contents new.contents old.writes_failed
       new.writes_failed result
@@ -96,9 +96,9 @@ pub record HasServed {A : Type 0} (words : List Text) (bytes_at : Text → Optio
 -- the same of a book that the journal of the words keeps
 pub record HasKept {A : Type 0} (words : List Text) (bytes_at : Text → Option (List ℕ))
     (old new : Told) (result : Result A RunError) : Type 0 where
-  pub by : Asks (codes "keep") words bytes_at
+  pub asks : Asks (codes "keep") words bytes_at
   pub book : HouseAndHistory
-  pub served : IsServed by.house book
+  pub served : IsServed asks.house book
   pub unread : (new.left ≡ old.left) × (new.made ≡ old.made) × (new.reads_failed ≡ old.reads_failed)
   pub totals : WritesTotals book.house book.history old.contents new.contents old.writes_failed
       new.writes_failed result

@@ -51,8 +51,8 @@ abbrev pub firms_text : List FirmEntries → Text
 firms_text fs = flat_map firm_text fs
 
 -- how many entries each firm has
-unfoldable pub shares_text : Snapshot → Text
-shares_text s =
+unfoldable pub firm_entries_text : Snapshot → Text
+firm_entries_text s =
     family (codes "allocd_firm_entries") (codes "gauge")
     (codes "Entries of the book that a firm has made.")
     ++ firms_text s.firms.items
@@ -123,5 +123,5 @@ rest_text s =
 
 -- all figures
 unfoldable pub metrics_text : Snapshot → Text
-metrics_text s = state_text s ++ book_text s ++ shares_text s ++ calls_text s ++ times_text s.syncs
+metrics_text s = state_text s ++ book_text s ++ firm_entries_text s ++ calls_text s ++ times_text s.syncs
     ++ rest_text s

@@ -5,7 +5,7 @@ ghost use Rattle.gu_status.specs.Samples.{single};
 ghost use Rattle.gu_status.specs.Metrics.{book_text, bucket, calls_text, firm_text, firms_text};
 ghost use Rattle.gu_status.specs.Metrics.{fullness, fullness_text, long_buckets};
 ghost use Rattle.gu_status.specs.Metrics.{metrics_text, one_if, refusal_text, refusals_text};
-ghost use Rattle.gu_status.specs.Metrics.{rest_text, shares_text};
+ghost use Rattle.gu_status.specs.Metrics.{rest_text, firm_entries_text};
 ghost use Rattle.gu_status.specs.Metrics.{short_buckets, state_text, times_text, totals_text};
 
 use crate::samples::{push, push_family, push_labelled, push_millionths, push_number, push_single};
@@ -140,9 +140,9 @@ fn push_book(text: &mut Vec<u8>, snapshot: &Snapshot) -> Result<(), Memory>
 }
 
 /// Appends the entries of firms.
-#[tactic(auto, unfolding(crate::specs::Metrics::shares_text))]
-fn push_shares(text: &mut Vec<u8>, snapshot: &Snapshot) -> Result<(), Memory>
-    ensures { OnOk result (text.new.items ≡ text.old.items ++ shares_text snapshot.now) }
+#[tactic(auto, unfolding(crate::specs::Metrics::firm_entries_text))]
+fn push_firm_entries(text: &mut Vec<u8>, snapshot: &Snapshot) -> Result<(), Memory>
+    ensures { OnOk result (text.new.items ≡ text.old.items ++ firm_entries_text snapshot.now) }
 {
     push_family(
         text,
@@ -310,7 +310,7 @@ pub fn metrics(alloc: Global, snapshot: &Snapshot) -> Result<Vec<u8>, Memory>
     let mut text = Vec::new(alloc);
     push_state(&mut text, snapshot)?;
     push_book(&mut text, snapshot)?;
-    push_shares(&mut text, snapshot)?;
+    push_firm_entries(&mut text, snapshot)?;
     push_calls(&mut text, snapshot)?;
     push_times(&mut text, &snapshot.syncs)?;
     push_rest(&mut text, snapshot)?;

@@ -16,7 +16,7 @@ mod table;
 
 use long::tell_long;
 use reading::{Wanted, tell};
-use small::{OPENING, TEXT};
+use small::{FIRST_VERSION, SECOND_VERSION};
 use std::alloc::Global;
 use std::io;
 use std::io::{ErrorKind, Read};
@@ -50,8 +50,8 @@ fn tell_files(rt: &impl Print, alloc: Global, input: &[u8]) -> bool {
 /// Writes all that is told. Whether all went well.
 fn tell_all(rt: &impl Print, alloc: Global, input: &[u8]) -> bool {
     tell_files(rt, alloc, input)
-        && tell(rt, alloc, TEXT, Wanted::Names)
-        && tell(rt, alloc, OPENING, Wanted::Names)
+        && tell(rt, alloc, FIRST_VERSION, Wanted::Names)
+        && tell(rt, alloc, SECOND_VERSION, Wanted::Names)
         && tell_long(rt, alloc)
 }
 

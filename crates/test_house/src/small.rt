@@ -4,11 +4,11 @@ use gu_base::{AccountId, FirmId, InstrumentId};
 use gu_parties::House;
 
 /// One entry of each kind.
-pub(crate) const TEXT: &[u8] =
+pub(crate) const FIRST_VERSION: &[u8] =
     b"GIVEUP 1\nHOUSE H\nFIRM A\nACCOUNT A X\nINSTRUMENT I\nAGREEMENT A H 1 2\n";
 
 /// The same of version 2.
-pub(crate) const OPENING: &[u8] =
+pub(crate) const SECOND_VERSION: &[u8] =
     b"GIVEUP 2\nHOUSE H\nFIRM A\nACCOUNT A X\nINSTRUMENT I\nAGREEMENT A H 1 2\n";
 
 /// Writes whether a firm is known, and its account X.

@@ -64,7 +64,7 @@ struct Count {
 }
 
 /// How many calls a disk has before it is recovered: its bytes are written and synced.
-const PUT: u64 = 2;
+const CALLS_BEFORE: u64 = 2;
 
 /// Writes these bytes to a disk, and recovers it.
 fn recovery_of<D: Disk + Drop>(
@@ -144,7 +144,7 @@ fn run_day(alloc: Global, day: Day<'_>, calls: u64) -> Result<Broken, Fault>
         acknowledged: day.opening,
         tried: day.opening,
     };
-    let empty = Fuse::new(Memory::new(alloc), calls.saturating_add(PUT));
+    let empty = Fuse::new(Memory::new(alloc), calls.saturating_add(CALLS_BEFORE));
     let (disk, ended) = match recovery_of(alloc, day, empty, b"")? {
         Ok(kept) => keep_rest(kept.journal, day, day.opening, &mut far),
         Err(Unrecovered { disk, .. }) => (disk, false),
@@ -228,7 +228,7 @@ fn crash_recovery(
     count: &mut Count,
 ) -> Result<(), Fault> {
     for calls in 0..1000u64 {
-        let breaking = Fuse::new(Memory::new(alloc), calls.saturating_add(PUT));
+        let breaking = Fuse::new(Memory::new(alloc), calls.saturating_add(CALLS_BEFORE));
         match recovery_of(alloc, day, breaking, bytes)? {
             Ok(_) => return Ok(()),
             Err(Unrecovered { disk, .. }) => {

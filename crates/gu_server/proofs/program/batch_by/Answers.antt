@@ -5,7 +5,7 @@ use Rattle.gu_server.proofs.program.batch_by.Goals as goal
 pub returns-in-Ok-run_batch-clause-does : goal.returns-in-Ok-run_batch-clause-does
 returns-in-Ok-run_batch-clause-does g c words is asked =
     inl (record {
-      by = record { path = c.args.path.now; is = is; asked = asked; house = c.in-Ok.house; named = c.in-Ok.ensures };
+      asks = record { path = c.args.path.now; is = is; asked = asked; house = c.in-Ok.house; named = c.in-Ok.ensures };
       runs = c.in-Ok-run_batch.ensures;
     })
 
@@ -16,7 +16,7 @@ returns-in-Err-run_batch-clause-does g c words is asked =
       c.in-Err-run_batch.error,
       refl,
       inl (record {
-        by = record { path = c.args.path.now; is = is; asked = asked; house = c.in-Ok.house; named = c.in-Ok.ensures };
+        asks = record { path = c.args.path.now; is = is; asked = asked; house = c.in-Ok.house; named = c.in-Ok.ensures };
         runs = c.in-Err-run_batch.ensures;
       }),
     )
