@@ -38,7 +38,7 @@ accepted_trade_len id a n (inr e) =
     trade_len id (decimal n) ∙ ap (λ (b : Answer). length (fields_text (trade_ack_fields id b))) (sym e.1)
 
 -- of one that is refused
-pub refused_trade_len : (id : List ℕ) (a : Answer) (r : Refusal) → a ≡ Refused r
+pub refused_report_len : (id : List ℕ) (a : Answer) (r : Refusal) → a ≡ Refused r
     → length id + length (refusal_text r) + 15 ≡ length (fields_text (trade_ack_fields id a))
-refused_trade_len id a r e =
+refused_report_len id a r e =
     refused_trade_len id (refusal_text r) ∙ ap (λ (b : Answer). length (fields_text (trade_ack_fields id b))) (sym e)
