@@ -67,8 +67,8 @@ push t bytes frame h new m plays one leads =
       split = splits_push plays.frames 0 bytes frame f plays.split one refl;
       is = subst (λ (p : Progress). HasAccepted t new (answers_along (start t) (messages_in (plays.frames ++ f ∷ []))) p)
           (sym along)
-          (subst (λ (ms : List Message). HasAccepted t new ms (progress_after (progress_along (start t) was) m)) (sym told)
-          (leads (progress_along (start t) was) (answers_along (start t) was) plays.is));
+          (subst (λ (ms : List Message). HasAccepted t new ms (progress_after (progress_along (start t) was) m))
+          (sym told) (leads (progress_along (start t) was) (answers_along (start t) was) plays.is));
     }
 
 -- ---- where a message leads

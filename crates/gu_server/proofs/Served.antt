@@ -41,7 +41,13 @@ served_by words bytes_at l x f b c v w (Err (fault.Run e)) by (book, served, tot
     inr (
       e,
       refl,
-      inr (inr (inl (record { asks = by; book = book; served = served; unread = (refl, refl, refl); totals = totals }))),
+      inr (inr (inl (record {
+        asks = by;
+        book = book;
+        served = served;
+        unread = (refl, refl, refl);
+        totals = totals;
+      }))),
     )
 served_by words bytes_at l x f b c v w (Err (fault.Journal t)) by h = absurd h
 served_by words bytes_at l x f b c v w (Err (fault.Keep e)) by h = absurd h

@@ -123,5 +123,6 @@ rest_text s =
 
 -- all figures
 unfoldable pub metrics_text : Snapshot → Text
-metrics_text s = state_text s ++ book_text s ++ firm_entries_text s ++ calls_text s ++ times_text s.syncs
+metrics_text s = state_text s ++ book_text s ++ firm_entries_text s ++ calls_text s
+    ++ times_text s.syncs
     ++ rest_text s

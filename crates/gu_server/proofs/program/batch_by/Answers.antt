@@ -16,7 +16,13 @@ returns-in-Err-run_batch-clause-does g c words is asked =
       c.in-Err-run_batch.error,
       refl,
       inl (record {
-        asks = record { path = c.args.path.now; is = is; asked = asked; house = c.in-Ok.house; named = c.in-Ok.ensures };
+        asks = record {
+          path = c.args.path.now;
+          is = is;
+          asked = asked;
+          house = c.in-Ok.house;
+          named = c.in-Ok.ensures;
+        };
         runs = c.in-Err-run_batch.ensures;
       }),
     )
