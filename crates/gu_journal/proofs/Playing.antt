@@ -23,7 +23,7 @@ use Rattle.gu_journal.specs.Journal.{IsJournal, head_alone, group_more}
 use Rattle.gu_journal.proofs.Frames.{splits_push, splits_then, messages_push}
 
 -- a batch that has this house, this history, and has written that each of its entries is accepted
-record HasAccepted (t : House) (h : List Entry) (ms : List Message) (p : Progress) : Type 0 where
+record HasRead (t : House) (h : List Entry) (ms : List Message) (p : Progress) : Type 0 where
   house : p.house ≡ t
   history : p.history ≡ h
   written : p.written ≡ length ms
@@ -31,14 +31,14 @@ record HasAccepted (t : House) (h : List Entry) (ms : List Message) (p : Progres
 
 -- the message leads from one history to another
 abbrev Continues : House → List Entry → Message → List Entry → Type 0
-Continues t h m new = (p : Progress) (ms : List Message) → HasAccepted t h ms p
-    → HasAccepted t new (ms ++ answers_to p m) (progress_after p m)
+Continues t h m new = (p : Progress) (ms : List Message) → HasRead t h ms p
+    → HasRead t new (ms ++ answers_to p m) (progress_after p m)
 
 -- the bytes are frames, and a batch that reads them has this history
 record Plays (t : House) (bytes : List ℕ) (h : List Entry) : Type 0 where
   frames : List Seen
   split : Splits 0 bytes frames (Some Clean)
-  is : HasAccepted t h (answers_along (start t) (messages_in frames)) (progress_along (start t) (messages_in frames))
+  is : HasRead t h (answers_along (start t) (messages_in frames)) (progress_along (start t) (messages_in frames))
 
 along_push : (p : Progress) (ms : List Message) (m : Message)
     → progress_along p (ms ++ m ∷ []) ≡ progress_after (progress_along p ms) m
@@ -65,9 +65,9 @@ push t bytes frame h new m plays one leads =
     record {
       frames = plays.frames ++ f ∷ [];
       split = splits_push plays.frames 0 bytes frame f plays.split one refl;
-      is = subst (λ (p : Progress). HasAccepted t new (answers_along (start t) (messages_in (plays.frames ++ f ∷ []))) p)
+      is = subst (λ (p : Progress). HasRead t new (answers_along (start t) (messages_in (plays.frames ++ f ∷ []))) p)
           (sym along)
-          (subst (λ (ms : List Message). HasAccepted t new ms (progress_after (progress_along (start t) was) m))
+          (subst (λ (ms : List Message). HasRead t new ms (progress_after (progress_along (start t) was) m))
           (sym told) (leads (progress_along (start t) was) (answers_along (start t) was) plays.is));
     }
 
