@@ -236,7 +236,7 @@ fn workers_option<'a>(alloc: Global) -> Arg<'a>
         alloc,
         WORKERS,
         "workers",
-        "How many connections are served at once, 1 to 16; 4 if not given",
+        "How many threads serve connections, 1 to 16; 4 if not given",
         false,
     )
 }

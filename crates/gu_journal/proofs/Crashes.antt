@@ -38,16 +38,16 @@ module _ (t : House) (pin bytes group : List ℕ) (h new : List Entry) (g : IsGr
         inr (shut_says t pin (bytes ++ frames_in group) new longer c (more, whole ∙ counts_behind group g bytes more))
   ]
 
-  pub opening : (c : List ℕ) → IsLeftOpening bytes group c → (history_of t c ≡ h) ⊎ (history_of t c ≡ new)
-  opening c left = turning_says left.0 [] c (left.1 ∙ ap (λ (l : List ℕ). bytes ++ left.0 ∷ l)
-      (sym (append-nil (drop 1 group))))
+  pub opening : (slack : ℕ) (c : List ℕ) → IsLeftOpening bytes group slack c → (history_of t c ≡ h)
+      ⊎ (history_of t c ≡ new)
+  opening slack c left = turning_says left.0 left.1 c left.3
 
   pub turning : (c : List ℕ) → IsLeftTurning bytes group c → (history_of t c ≡ h) ⊎ (history_of t c ≡ new)
   turning c left = turning_says left.0 left.1 c left.2
 
   pub committing : (c : List ℕ) → IsLeft bytes group c → (history_of t c ≡ h) ⊎ (history_of t c ≡ new)
   committing c (inl shut) = inl (shut_says t pin bytes h journal c shut)
-  committing c (inr left) = opening c left
+  committing c (inr left) = opening 0 c left
 
   pub mixing : (c : List ℕ) → IsLeftMixing bytes group c → IsLeftShut t pin h new c
   mixing c (inl shut) = (bytes, shut, inl journal)

@@ -29,7 +29,7 @@ record HasRead (t : House) (h : List Entry) (ms : List Message) (p : Progress) :
   written : p.written ≡ length ms
   accepts : AcceptsEach t h ms
 
--- the message leads from one history to another
+-- the message continues one history to another
 abbrev Continues : House → List Entry → Message → List Entry → Type 0
 Continues t h m new = (p : Progress) (ms : List Message) → HasRead t h ms p
     → HasRead t new (ms ++ answers_to p m) (progress_after p m)
@@ -56,7 +56,7 @@ answers_push p (n ∷ ms) m =
 -- one frame more
 push : (t : House) (bytes frame : List ℕ) (h new : List Entry) (m : Message) → Plays t bytes h → IsOneFrame frame m
     → Continues t h m new → Plays t (bytes ++ frame) new
-push t bytes frame h new m plays one leads =
+push t bytes frame h new m plays one continues =
     let f : Seen = record { fields = Some m; len = length frame } in
     let was = messages_in plays.frames in
     let more : messages_in (plays.frames ++ f ∷ []) ≡ was ++ m ∷ [] = messages_push plays.frames f m refl in
@@ -68,10 +68,10 @@ push t bytes frame h new m plays one leads =
       is = subst (λ (p : Progress). HasRead t new (answers_along (start t) (messages_in (plays.frames ++ f ∷ []))) p)
           (sym along)
           (subst (λ (ms : List Message). HasRead t new ms (progress_after (progress_along (start t) was) m))
-          (sym told) (leads (progress_along (start t) was) (answers_along (start t) was) plays.is));
+          (sym told) (continues (progress_along (start t) was) (answers_along (start t) was) plays.is));
     }
 
--- ---- where a message leads
+-- ---- how a message continues a history
 
 sent_len : (house : List ℕ) (w : ℕ) (rs : List Reply) → length (sent house w rs) ≡ length rs
 sent_len house w [] = refl
@@ -89,13 +89,13 @@ written_on p ms m is =
 abbrev at : House → List Entry → ℕ → Progress
 at t h w = record { house = t; history = h; written = w }
 
-leads_by : (t : House) (h new : List Entry) (m : Message) (r : Result Inbound Reject) → meaning_of t.house m ≡ r
+continues_by : (t : House) (h new : List Entry) (m : Message) (r : Result Inbound Reject) → meaning_of t.house m ≡ r
     → ((w : ℕ) → history_by (at t h w) r ≡ new)
     → ((ms : List Message) → AcceptsEach t h ms
     → AcceptsEach t new (ms ++ sent t.house (length ms) (replies_by (at t h (length ms)) m r)))
     → Continues t h m new
 unfolding progress_after answers_to
-leads_by t h new m r means goes told p ms is =
+continues_by t h new m r means goes told p ms is =
     let here : p ≡ at t h (length ms) = λ i. record {
       house = is.house i;
       history = is.history i;
@@ -117,15 +117,15 @@ leads_by t h new m r means goes told p ms is =
 silent : (t : House) (h : List Entry) (ms : List Message) → AcceptsEach t h ms → AcceptsEach t h (ms ++ [])
 silent t h ms is = subst (AcceptsEach t h) (sym (append-nil ms)) is
 
-head_leads : (t : House) (pin : List ℕ) (h : List Entry) (m : Message) → IsHead t pin m → Continues t h m h
-head_leads t pin h m is = leads_by t h h m _ is.meaning (λ w. refl) (silent t h)
+head_continues : (t : House) (pin : List ℕ) (h : List Entry) (m : Message) → IsHead t pin m → Continues t h m h
+head_continues t pin h m is = continues_by t h h m _ is.meaning (λ w. refl) (silent t h)
 
-seal_leads : (t : House) (bytes : List ℕ) (h : List Entry) (m : Message) → IsSeal t bytes h m → Continues t h m h
-seal_leads t bytes h m is = leads_by t h h m _ is.meaning (λ w. refl) (silent t h)
+seal_continues : (t : House) (bytes : List ℕ) (h : List Entry) (m : Message) → IsSeal t bytes h m → Continues t h m h
+seal_continues t bytes h m is = continues_by t h h m _ is.meaning (λ w. refl) (silent t h)
 
-next_leads : (t : House) (h : List Entry) (e : Entry) (m : Message) → IsNext t h e m → Continues t h m (h ++ e ∷ [])
-next_leads t h e m is =
-    leads_by t h (h ++ e ∷ []) m _ is.meaning (λ w. ap (after_by h (call_of e)) is.accepted) (λ ms accepts.
+next_continues : (t : House) (h : List Entry) (e : Entry) (m : Message) → IsNext t h e m → Continues t h m (h ++ e ∷ [])
+next_continues t h e m is =
+    continues_by t h (h ++ e ∷ []) m _ is.meaning (λ w. ap (after_by h (call_of e)) is.accepted) (λ ms accepts.
     let answer : Answer → Message = λ a. message_of (stamp t.house (length ms + 1))
     (answer_reply e.firm is.trade e.id a) in
     accepts_next h ms e (answer (answer_to t h (call_of e))) accepts (is.trade, ap answer is.accepted))
@@ -138,7 +138,7 @@ says_plays t h before _ _ plays says_none = subst (λ (b : List ℕ). Plays t b 
 says_plays t h before _ _ plays (says_next bytes frame new e m says one next) =
     subst (λ (b : List ℕ). Plays t b (new ++ e ∷ [])) (append_assoc before bytes frame)
     (push t (before ++ bytes) frame new (new ++ e ∷ []) m (says_plays t h before bytes new plays says) one
-    (next_leads t new e m next))
+    (next_continues t new e m next))
 
 nothing_plays : (t : House) → Plays t [] (opening_history t)
 nothing_plays t = record {
@@ -156,10 +156,10 @@ nothing_plays t = record {
 journal_plays : (t : House) (pin bytes : List ℕ) (h : List Entry) → IsJournal t pin bytes h → Plays t bytes h
 journal_plays t pin _ _ (head_alone frame m one head) =
     push t [] frame (opening_history t) (opening_history t) m (nothing_plays t) one
-    (head_leads t pin (opening_history t) m head)
+    (head_continues t pin (opening_history t) m head)
 journal_plays t pin _ _ (group_more bytes entries frame h new m journal says one seal) =
     push t (bytes ++ entries) frame new new m (says_plays t h bytes entries new
-    (journal_plays t pin bytes h journal) says) one (seal_leads t (bytes ++ entries) new m seal)
+    (journal_plays t pin bytes h journal) says) one (seal_continues t (bytes ++ entries) new m seal)
 
 module _ (t : House) (pin bytes rest : List ℕ) (h : List Entry) (end : End) (journal : IsJournal t pin bytes h)
     (ends : Ends (length bytes) rest (Some end)) where

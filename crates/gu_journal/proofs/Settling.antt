@@ -1,6 +1,6 @@
 -- A file is put at rest: what it says, and what a crash leaves of it.
 use Rattle.std.proofs.Common.{◌≡◌, ◌≢◌, inl, inr, ℕ, ◌≤◌, Bool, true, false, List, [], ◌∷◌, ◌++◌, length}
-use Rattle.std.proofs.Common.{drop, Some, refl, sym, ◌∙◌, ap, arith, IsTrue}
+use Rattle.std.proofs.Common.{append_assoc, drop, Some, refl, sym, ◌∙◌, ap, arith, IsTrue}
 use Rattle.std.proofs.lemmas.Bool.{cases_eq}
 use Rattle.sqlite_disk.specs.Disk.{Only}
 use Rattle.gu_base.specs.House.{House}
@@ -75,11 +75,12 @@ pub begun_says : (t : House) (pin frame : List ℕ) (c : List ℕ) → IsGroup (
     → IsLeft [] (group_of frame) c → history_of t c ≡ opening_history t
 begun_says t pin frame c g journal (inl shut) = ap (history_of t) shut.1 ∙ gate_none t 10 shut.0 ten
 begun_says t pin frame c g journal (inr left) = elim (cases_eq left.0 56) [
-  | inr shut ↦ ap (history_of t) left.1 ∙ gate_none t left.0 (drop 1 (group_of frame)) shut
+  | inr shut ↦ ap (history_of t) left.3 ∙ gate_none t left.0 (drop 1 (group_of frame) ++ left.1) shut
   | inl is_open ↦
-      let whole : c ≡ group_of frame = left.1 ∙ ap (λ (b : ℕ). b ∷ drop 1 (group_of frame)) is_open
-      ∙ open_is (group_of frame) g in
-      shut_says t pin frame (opening_history t) journal c ([], whole)
+      let whole : c ≡ group_of frame ++ left.1 =
+      left.3 ∙ ap (λ (b : ℕ). b ∷ (drop 1 (group_of frame) ++ left.1)) is_open
+      ∙ ap (λ (l : List ℕ). l ++ left.1) (open_is (group_of frame) g) in
+      shut_says t pin frame (opening_history t) journal c (left.1, whole ∙ append_assoc frame (10 ∷ []) left.1)
 ]
 
 -- ---- what a crash leaves

@@ -18,7 +18,7 @@ use gu_base::{Entry, Number};
 use sha2::{Digest, Sha512};
 use std::alloc::Global;
 
-/// The most bytes of a group, and of a file without its last group.
+/// The most bytes of a group, and of a file without its last group and its slack.
 pub(crate) const MOST_BYTES: usize = 1 << 60;
 
 /// What stands in a gate that is shut.

@@ -6,11 +6,11 @@ use Rattle.sqlite_disk.specs.Disk.{Torn, Cut}
 abbrev pub zeros : ℕ → List ℕ
 zeros n = replicate n 0
 
--- bytes were written from this place on
+-- no byte before this place changed, and the file is no shorter; from there on it may be anything
 abbrev pub IsWrittenFrom : ℕ → List ℕ → List ℕ → Type 0
 IsWrittenFrom at old new = (n : ℕ) × Torn at n old new
 
--- nothing changed, or the file was cut at this place, if it had slack of so many bytes
+-- nothing changed; or, where there was slack of so many bytes, a cut at this place was begun
 abbrev pub IsCutFrom : ℕ → ℕ → List ℕ → List ℕ → Type 0
 IsCutFrom at slack old new = (new ≡ old) ⊎ ((0 < slack) × Cut at old new)
 
@@ -18,7 +18,7 @@ IsCutFrom at slack old new = (new ≡ old) ⊎ ((0 < slack) × Cut at old new)
 abbrev pub laid_slack : ℕ → ℕ
 laid_slack end = min end 65536
 
--- how much slack stands behind so many bytes, up to this end, that are written over so much: what
--- they leave of it, or as much as is laid
+-- So many bytes, which end here, are written over so much slack: how much stands behind them then.
+-- It is what they leave of it, or where they leave none, as much as is laid.
 abbrev pub slack_behind : ℕ → ℕ → ℕ → ℕ
 slack_behind written slack end = if nat_lt written slack then slack - written else laid_slack end

@@ -1,7 +1,8 @@
 //! Slack behind a group, over which later ones are written.
 //!
-//! Where a file grows, a sync keeps its length too, which takes a file system as long as the bytes
-//! do. So while group follows group, the file grows for many of them at once.
+//! Where a file has grown, a sync writes its new length too, which takes a file system as long as
+//! the bytes do. So where group follows group, the file grows for many of them at once. That pays in
+//! long runs of groups far below 64 kB.
 
 ghost use Rattle.std.specs.Prelude.{◌≡◌, ◌≤◌, ◌<◌, ◌+◌, ◌^◌, ◌++◌, List, ℕ, length, IsTrue};
 ghost use Rattle.std.specs.Prelude.{IfOk, OnOk};
@@ -48,8 +49,8 @@ fn lay_slack<D: Disk>(disk: &mut D, end: usize) -> io::Result<usize>
     Ok(slack)
 }
 
-/// Writes bytes at a place behind which the file has so much slack, over that, and lays slack
-/// behind them where they leave none. Gives how much then stands behind them.
+/// Writes bytes over slack: so much of it stands from this place to the end of the file. Where they
+/// leave none, it lays more behind them. Gives how much then stands there.
 ///
 /// # Errors
 ///

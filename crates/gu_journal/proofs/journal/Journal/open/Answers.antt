@@ -1,14 +1,14 @@
-use Rattle.gu_journal.proofs.Crashes.{turning, mixing}
+use Rattle.gu_journal.proofs.Crashes.{opening, mixing}
 use Rattle.gu_journal.proofs.journal.Journal.open.Goals as goal
 
 pub returns-in_err-open-clause-crash : goal.returns-in_err-open-clause-crash
 returns-in_err-open-clause-crash g c t pin h new c' s left =
-    turning t pin s.bytes s.group h new s.file.is_group s.is_journal s.with_group c'
+    opening t pin s.bytes s.group h new s.file.is_group s.is_journal s.with_group _ c'
     (c.open.ensures.crash s.bytes s.group c' s.file left)
 
 pub returns-clause-crash : goal.returns-clause-crash
 returns-clause-crash g c t pin h new c' s left =
-    turning t pin s.bytes s.group h new s.file.is_group s.is_journal s.with_group c'
+    opening t pin s.bytes s.group h new s.file.is_group s.is_journal s.with_group _ c'
     (c.open.ensures.crash s.bytes s.group c' s.file left)
 
 pub returns-in_err-open-clause-mixed : goal.returns-in_err-open-clause-mixed

@@ -1,68 +1,36 @@
-use Rattle.std.proofs.Common.{◌≡◌, ◌<◌, ◌+◌, ◌^◌, ◌++◌, length, subst, ◌∙◌, sym, arith, length-append}
-use Rattle.gu_store.specs.Store.{IsLeftOpening}
+use Rattle.std.proofs.Common.{◌≡◌, ◌<◌, ◌+◌, ◌^◌, ◌++◌, length, ◌∙◌, sym, arith, length-append}
 use Rattle.gu_store.proofs.Bytes.{cut_leaves}
 use Rattle.gu_store.proofs.Groups.{group_len, counts, counts_len}
-use Rattle.gu_store.proofs.Steps.{from_one, turning, opened, opening_bare, cut_bare, mixing, turning_on, mixing_on}
+use Rattle.gu_store.proofs.Steps.{from_one, opened, opening_slack, opening_cut, mixing, mixing_on}
 use Rattle.gu_store.proofs.store.Store.open.Goals as goal
 
 pub returns-in_err-write_at-clause-crash : goal.returns-in_err-write_at-clause-crash
 returns-in_err-write_at-clause-crash g c before group c' s left =
-    turning before group _ _ c.args.self.now.end s.end s.file c'
+    opening_slack before group _ c.args.self.now.end _ s.end s.file c'
     (from_one _ _ _ _ s.durable c.write_at.ensures.crash c' left)
 
 pub returns-in_err-cut_slack-clause-crash : goal.returns-in_err-cut_slack-clause-crash
 returns-in_err-cut_slack-clause-crash g c before group c' s left =
     let two = c.cut_slack.ensures.crash c' left in
-    turning_on before group two.0 c' _ s.is_group
-    (omega (arith, c.saturating_add-end.ensures, s.small, s.staged_end)) (cut_leaves _ _ _ _ two.2)
-    (turning before group _ _ c.args.self.now.end s.end s.file two.0
+    opening_cut before group two.0 c' _ _ s.is_group
+    (omega (arith, c.saturating_add-length.ensures, s.small, s.staged_end)) two.2
+    (opening_slack before group _ c.args.self.now.end _ s.end s.file two.0
     (from_one _ _ _ _ s.durable c.write_at.ensures.crash two.0 two.1))
 
 pub returns-in_err-sync-clause-crash : goal.returns-in_err-sync-clause-crash
 returns-in_err-sync-clause-crash g c before group c' s left =
     let two = c.cut_slack.ensures.crash c' (c.sync.ensures.crash c' left) in
-    turning_on before group two.0 c' _ s.is_group
-    (omega (arith, c.saturating_add-end.ensures, s.small, s.staged_end)) (cut_leaves _ _ _ _ two.2)
-    (turning before group _ _ c.args.self.now.end s.end s.file two.0
+    opening_cut before group two.0 c' _ _ s.is_group
+    (omega (arith, c.saturating_add-length.ensures, s.small, s.staged_end)) two.2
+    (opening_slack before group _ c.args.self.now.end _ s.end s.file two.0
     (from_one _ _ _ _ s.durable c.write_at.ensures.crash two.0 two.1))
 
 pub returns-clause-crash : goal.returns-clause-crash
 returns-clause-crash g c before group c' s left =
     let two = c.cut_slack.ensures.crash c' (c.sync.ensures.crash c' left) in
-    turning_on before group two.0 c' _ s.is_group
-    (omega (arith, c.saturating_add-end.ensures, s.small, s.staged_end)) (cut_leaves _ _ _ _ two.2)
-    (turning before group _ _ c.args.self.now.end s.end s.file two.0
-    (from_one _ _ _ _ s.durable c.write_at.ensures.crash two.0 two.1))
-
--- ---- with no slack behind it
-
-pub returns-in_err-write_at-clause-bare : goal.returns-in_err-write_at-clause-bare
-returns-in_err-write_at-clause-bare g c bare before group c' s left =
-    opening_bare before group _ c.args.self.now.end _ s.end s.file bare c'
-    (from_one _ _ _ _ s.durable c.write_at.ensures.crash c' left)
-
-pub returns-in_err-cut_slack-clause-bare : goal.returns-in_err-cut_slack-clause-bare
-returns-in_err-cut_slack-clause-bare g c bare before group c' s left =
-    let two = c.cut_slack.ensures.crash c' left in
-    subst (IsLeftOpening before group)
-    (sym (cut_bare before group _ c.args.self.now.end _ s.end s.file bare _ two.0 c' two.2))
-    (opening_bare before group _ c.args.self.now.end _ s.end s.file bare two.0
-    (from_one _ _ _ _ s.durable c.write_at.ensures.crash two.0 two.1))
-
-pub returns-in_err-sync-clause-bare : goal.returns-in_err-sync-clause-bare
-returns-in_err-sync-clause-bare g c bare before group c' s left =
-    let two = c.cut_slack.ensures.crash c' (c.sync.ensures.crash c' left) in
-    subst (IsLeftOpening before group)
-    (sym (cut_bare before group _ c.args.self.now.end _ s.end s.file bare _ two.0 c' two.2))
-    (opening_bare before group _ c.args.self.now.end _ s.end s.file bare two.0
-    (from_one _ _ _ _ s.durable c.write_at.ensures.crash two.0 two.1))
-
-pub returns-clause-bare : goal.returns-clause-bare
-returns-clause-bare g c bare before group c' s left =
-    let two = c.cut_slack.ensures.crash c' (c.sync.ensures.crash c' left) in
-    subst (IsLeftOpening before group)
-    (sym (cut_bare before group _ c.args.self.now.end _ s.end s.file bare _ two.0 c' two.2))
-    (opening_bare before group _ c.args.self.now.end _ s.end s.file bare two.0
+    opening_cut before group two.0 c' _ _ s.is_group
+    (omega (arith, c.saturating_add-length.ensures, s.small, s.staged_end)) two.2
+    (opening_slack before group _ c.args.self.now.end _ s.end s.file two.0
     (from_one _ _ _ _ s.durable c.write_at.ensures.crash two.0 two.1))
 
 -- ---- where the device finishes each byte
@@ -90,7 +58,7 @@ returns-in_err-cut_slack-clause-mixed g c all before group c' s left =
     ) in
     let two = c.cut_slack.ensures.crash c' left in
     mixing_on before group two.0 c' _ s.is_group
-    (omega (arith, c.saturating_add-end.ensures, s.small, s.staged_end)) (cut_leaves _ _ _ _ two.2)
+    (omega (arith, c.saturating_add-length.ensures, s.small, s.staged_end)) (cut_leaves _ _ _ _ two.2)
     (mixing before group _ _ c.args.self.now.end s.end s.file s.is_group two.0
     (from_one _ _ _ _ s.durable (c.write_at.ensures.mixed (all _) small) two.0 two.1))
 
@@ -105,7 +73,7 @@ returns-in_err-sync-clause-mixed g c all before group c' s left =
     ) in
     let two = c.cut_slack.ensures.crash c' (c.sync.ensures.crash c' left) in
     mixing_on before group two.0 c' _ s.is_group
-    (omega (arith, c.saturating_add-end.ensures, s.small, s.staged_end)) (cut_leaves _ _ _ _ two.2)
+    (omega (arith, c.saturating_add-length.ensures, s.small, s.staged_end)) (cut_leaves _ _ _ _ two.2)
     (mixing before group _ _ c.args.self.now.end s.end s.file s.is_group two.0
     (from_one _ _ _ _ s.durable (c.write_at.ensures.mixed (all _) small) two.0 two.1))
 
@@ -120,15 +88,15 @@ returns-clause-mixed g c all before group c' s left =
     ) in
     let two = c.cut_slack.ensures.crash c' (c.sync.ensures.crash c' left) in
     mixing_on before group two.0 c' _ s.is_group
-    (omega (arith, c.saturating_add-end.ensures, s.small, s.staged_end)) (cut_leaves _ _ _ _ two.2)
+    (omega (arith, c.saturating_add-length.ensures, s.small, s.staged_end)) (cut_leaves _ _ _ _ two.2)
     (mixing before group _ _ c.args.self.now.end s.end s.file s.is_group two.0
     (from_one _ _ _ _ s.durable (c.write_at.ensures.mixed (all _) small) two.0 two.1))
 
 pub returns-clause-rest : goal.returns-clause-rest
 returns-clause-rest g c before group s =
     let front = before ++ group in
-    let place : c.saturating_add-end.result ≡ length front =
-    omega (arith, c.saturating_add-end.ensures, s.small, s.staged_end, length-append before group) in
+    let place : c.saturating_add-length.result ≡ length front =
+    omega (arith, c.saturating_add-length.ensures, s.small, s.staged_end, length-append before group) in
     let is_open = opened before group _ _ c.args.self.now.end s.end s.file s.is_group
     (g.D.Disk.seen c.write_at.new.self) c.write_at.ensures.others (c.in_ok-write_at.ensures.written (omega arith)) in
     let is = c.in_ok-cut_slack.ensures.file front place is_open in
