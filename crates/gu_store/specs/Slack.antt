@@ -1,5 +1,6 @@
 -- Slack behind a group, over which later ones are written.
-use Rattle.std.specs.Prelude.{◌≡◌, ◌⊎◌, ◌-◌, ◌<◌, ℕ, nat_lt, if◌then◌else◌, min, List, replicate}
+use Rattle.std.specs.Prelude.{◌≡◌, ◌⊎◌, ◌-◌, ◌<◌, ℕ, nat_lt, if◌then◌else◌, min}
+use Rattle.std.specs.Prelude.{List, replicate}
 use Rattle.sqlite_disk.specs.Disk.{Torn, Cut}
 
 -- so many zeros, with which no frame begins

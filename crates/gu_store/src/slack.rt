@@ -1,11 +1,11 @@
 //! Slack behind a group, over which later ones are written.
 //!
-//! Where a file has grown, a sync writes its new length too, which takes a file system as long as
-//! the bytes do. So where group follows group, the file grows for many of them at once. That pays
-//! in long runs of groups far below 64 kB.
+//! Where a file has grown, a sync writes its new length too, and takes longer. So where group
+//! follows group, the file grows for many of them at once. That pays in long runs of groups far
+//! below 64 kB.
 
-ghost use Rattle.std.specs.Prelude.{◌≡◌, ◌≤◌, ◌<◌, ◌+◌, ◌^◌, ◌++◌, List, ℕ, length, IsTrue};
-ghost use Rattle.std.specs.Prelude.{IfOk, OnOk};
+ghost use Rattle.std.specs.Prelude.{◌≡◌, ◌≤◌, ◌<◌, ◌+◌, ◌^◌, ◌++◌, List, ℕ, length};
+ghost use Rattle.std.specs.Prelude.{IsTrue, IfOk, OnOk};
 ghost use Rattle.sqlite_disk.specs.Disk.{CountsFault, Follows};
 ghost use Rattle.gu_store.specs.Slack.{zeros, laid_slack, slack_behind, IsWrittenFrom, IsCutFrom};
 
