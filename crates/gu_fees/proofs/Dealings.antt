@@ -33,7 +33,7 @@ dealings_without (k ∷ l) n =
     elim (cases_Bool (k.0 == n)) [ inl is ↦ cc (dealings_without l n) | inr other ↦ cc (dealings_without l n) ]
 
 -- the deed of a number is what is filed under it
-deed_kept : (l : List (ℕ × Deed)) (n : ℕ) → deed_at (dealings_of l) n ≡ lookup (is n) l
+pub deed_kept : (l : List (ℕ × Deed)) (n : ℕ) → deed_at (dealings_of l) n ≡ lookup (is n) l
 deed_kept [] n = refl
 deed_kept (k ∷ l) n = elim (cases_Bool (k.0 == n)) [ inl is ↦ cc | inr other ↦ cc (deed_kept l n) ]
 
@@ -123,6 +123,12 @@ small_with file ds n d small room =
     fits_by (Makes a) room = (omega (arith, small.raised), omega (arith, small.used), room)
     fits_by (Raises lots) room = (room, omega (arith, small.used), tt)
     fits_by (Uses lots) room = (omega (arith, small.raised), room, tt)
+
+pub room_raised : (raised used : ℕ) (d : Deed) → highest_limit + raised < 2 ^ 64 → HasRoomOn raised used d
+    → raised + raised_by_deed d < 2 ^ 64
+room_raised raised used (Makes a) small room = omega arith
+room_raised raised used (Raises _) small room = omega arith
+room_raised raised used (Uses _) small room = omega arith
 
 pub room_used : (raised used : ℕ) (d : Deed) → used < 2 ^ 64 → HasRoomOn raised used d → used + used_by_deed d < 2 ^ 64
 room_used raised used (Makes a) small room = omega arith

@@ -1,3 +1,4 @@
 pub mod Charges
 pub mod Dealings
 pub mod Places
+pub mod Walks

@@ -2,3 +2,4 @@ pub mod Rows
 pub mod Sums
 pub mod Pairs
 pub mod Terms
+pub mod Blocks

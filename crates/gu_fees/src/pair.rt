@@ -5,10 +5,11 @@ ghost use Rattle.std.specs.Option.{option_or};
 ghost use Rattle.gu_base.specs.Limits.{highest_limit};
 ghost use Rattle.gu_base.specs.Terms.{made_by_deed, made_in, terms_under, raised_by_deed};
 ghost use Rattle.gu_base.specs.Terms.{raised_under, limit_under, used_by_deed, used_under};
-ghost use Rattle.gu_base.specs.Dealt.{leave_out, first_over, first_under_terms};
+ghost use Rattle.gu_base.specs.Dealt.{leave_out, first_over};
 ghost use Rattle.gu_sums.specs.Filed.{kept_in};
-ghost use Rattle.gu_fees.specs.Pairs.{HasRoomOn, HasRoomFor, dealings_of, standing_under};
+ghost use Rattle.gu_fees.specs.Pairs.{HasRoomOn, HasRoomFor, dealings_of, standing_under, deed_at};
 
+use crate::blocks::{self, Block, raised_by, used_by, walk_without};
 use gu_base::{Agreement, Deed, Memory, Number};
 use gu_sums::{Filed, Filing};
 use std::alloc::Global;
@@ -22,6 +23,8 @@ pub struct PairTerms {
     /// The terms that the first Agree made, so that nobody walks to it.
     made: Option<Agreement>,
     deeds: Filing<Deed, Global>,
+    /// What the deeds come to, block by block.
+    blocks: Vec<Block, Global>,
     /// The lots of the Raises.
     raised: u64,
     /// The lots of the Claims.
@@ -29,20 +32,24 @@ pub struct PairTerms {
 }
 
 impl Model for PairTerms {
+    ghost use Rattle.std.specs.Prelude.{◌-◌, min, vec_len, vec_capacity};
     ghost use Rattle.gu_sums.specs.Filing.{last_of};
     ghost use Rattle.gu_fees.specs.Pairs.{PairView, IsKept, dealings_of};
+    ghost use Rattle.gu_fees.specs.Blocks.{AreBlocks};
 
     ghost Value = { PairView };
 
     ghost view = { λ p. record {
       file = p.file;
       dealings = dealings_of p.deeds.filed.kept;
-      room = p.deeds.room;
+      room = min p.deeds.room (vec_capacity p.blocks - vec_len p.blocks);
       last = last_of p.deeds.filed;
     } };
 
-    ghost invariant = { λ p.
-        IsKept p.file p.made (dealings_of p.deeds.filed.kept) p.raised p.used };
+    ghost invariant = { λ p. record {
+      kept : IsKept p.file p.made (dealings_of p.deeds.filed.kept) p.raised p.used;
+      blocks : AreBlocks p.blocks.items p.deeds.all;
+    } };
 }
 
 impl PairTerms {
@@ -57,6 +64,7 @@ impl PairTerms {
             file,
             made: None,
             deeds: Filing::new(alloc),
+            blocks: Vec::new(alloc),
             raised: 0,
             used: 0,
         }
@@ -73,7 +81,9 @@ impl PairTerms {
         ensures last { self.new.last ≡ self.old.last }
         ensures room { OnOk result (1 ≤ self.new.room) }
     {
-        self.deeds.ready()
+        self.deeds.ready()?;
+        self.blocks.reserve(1)?;
+        Ok(())
     }
 
     /// Whether `put` may be called.
@@ -81,7 +91,7 @@ impl PairTerms {
         ensures { IsTrue result ↔ ((1 ≤ self.now.room) × (self.now.last < entry)
             × HasRoomFor self.now.dealings deed) }
     {
-        let room = self.deeds.has_room();
+        let room = blocks::has_room(&self.deeds, &self.blocks);
         let above = self.deeds.last() < entry.get();
         room && above && has_room(self.raised, self.used, deed)
     }
@@ -103,6 +113,7 @@ impl PairTerms {
         self.made = made_with(self.made, deed);
         self.raised += raised_by(deed);
         self.used += used_by(deed);
+        blocks::put(&mut self.blocks, self.deeds.all(), deed);
         self.deeds.file(entry, deed);
     }
 
@@ -112,13 +123,13 @@ impl PairTerms {
         ensures dealings { self.new.dealings ≡ leave_out entry self.old.dealings }
         ensures last { self.new.last ≤ self.old.last }
     {
-        let Some(deed) = self.deeds.take(entry) else {
+        let Some(deed) = blocks::take(&mut self.deeds, &mut self.blocks, entry) else {
             return;
         };
         self.made = made_without(self.made, deed, self.deeds.all());
         self.raised -= raised_by(deed);
         self.used -= used_by(deed);
-        self.deeds.sweep();
+        blocks::sweep(&mut self.deeds, &mut self.blocks);
     }
 
     /// The terms: those of the house table, or else those of the Agree.
@@ -162,14 +173,27 @@ impl PairTerms {
         ensures { result ≡ standing_under self.now.file self.now.dealings entry }
     {
         match self.deeds.get(entry) {
-            Some(Deed::Makes(_)) => first_under_terms(self.deeds.all()),
+            Some(Deed::Makes(_)) => {
+                blocks::first_under_terms(self.blocks.as_slice(), self.deeds.all())
+            }
             Some(Deed::Raises(_)) => match self.terms() {
-                Some(terms) => first_over(terms.limit, self.deeds.all(), entry),
+                Some(terms) => self.first_over(terms.limit, entry),
                 None => None,
             },
             Some(Deed::Uses(_)) => None,
             None => None,
         }
+    }
+
+    /// The first Claim that passes the limit without the entry of this number, which is filed;
+    /// `limit` is that of the terms alone.
+    fn first_over(&self, limit: u64, entry: Number) -> Option<Number>
+        requires { limit ≤ highest_limit }
+        ensures { IfSome (deed_at self.now.dealings entry) (λ d.
+            result ≡ first_over limit 0 (leave_out entry self.now.dealings)) }
+    {
+        let place = self.deeds.place(entry)?;
+        walk_without(limit, self.blocks.as_slice(), self.deeds.all(), place).err()
     }
 }
 
@@ -193,26 +217,6 @@ fn has_room(raised: u64, used: u64, deed: Deed) -> bool
         Deed::Makes(terms) => terms.limit <= Agreement::MAX_LIMIT,
         Deed::Raises(lots) => (Agreement::MAX_LIMIT + raised).checked_add(lots).is_some(),
         Deed::Uses(lots) => used.checked_add(lots).is_some(),
-    }
-}
-
-/// The lots by which a limit is raised.
-fn raised_by(deed: Deed) -> u64
-    ensures { result ≡ raised_by_deed deed }
-{
-    match deed {
-        Deed::Raises(lots) => lots,
-        _ => 0,
-    }
-}
-
-/// The lots that are claimed.
-fn used_by(deed: Deed) -> u64
-    ensures { result ≡ used_by_deed deed }
-{
-    match deed {
-        Deed::Uses(lots) => lots,
-        _ => 0,
     }
 }
 
@@ -245,42 +249,6 @@ fn made(deeds: &[Filed<Deed>]) -> Option<Agreement>
     for filed in deeds {
         if let Some(Deed::Makes(terms)) = &filed.kept {
             return Some(*terms);
-        }
-    }
-    None
-}
-
-/// The first Raise or Claim.
-fn first_under_terms(deeds: &[Filed<Deed>]) -> Option<Number>
-    ensures { result ≡ first_under_terms (dealings_of (kept_in deeds.now)) }
-{
-    for filed in deeds {
-        match &filed.kept {
-            None | Some(Deed::Makes(_)) => {}
-            _ => return Some(filed.number),
-        }
-    }
-    None
-}
-
-/// The first Claim that passes the limit without the entry of this number; `limit` is that of the
-/// terms alone.
-fn first_over(limit: u64, deeds: &[Filed<Deed>], entry: Number) -> Option<Number>
-    requires limit { limit + raised_under (dealings_of (kept_in deeds.now)) < 2 ^ 64 }
-    requires used { used_under (dealings_of (kept_in deeds.now)) < 2 ^ 64 }
-    ensures { result ≡ first_over limit 0 (leave_out entry (dealings_of (kept_in deeds.now))) }
-{
-    let mut limit = limit;
-    let mut used: u64 = 0;
-    for filed in deeds {
-        if let Some(deed) = filed.kept
-            && filed.number != entry
-        {
-            limit += raised_by(deed);
-            used += used_by(deed);
-            if limit < used {
-                return Some(filed.number);
-            }
         }
     }
     None

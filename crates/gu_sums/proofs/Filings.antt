@@ -3,10 +3,12 @@ use Rattle.gu_sums.specs
 use Rattle.std
 use Rattle.gu_base.proofs.Basics.{none_or_some}
 use specs.declared.filing.Filed.{Filed}
-use specs.Filed.{contents, IsFiledAt, IsFiling, IsNotFiled, IsRising, kept_in, last_from, no_thing, RisesAbove}
+use specs.Filed.{contents, IsFiledAt, IsFiling, IsNotFiled, IsPlaceOf, IsRising, kept_in, last_from, no_thing}
+use specs.Filed.{RisesAbove}
 use specs.Filing.{Contents, IsFiled, IsTakenOut, kept_at, without}
-use std.proofs.Common.{ap, arith, Err, false, get_or, IfOk, inl, inr, length, List, None, Ok, OnErr}
-use std.proofs.Common.{Option, refl, Result, set, Some, suc, sym, zero, [], ℕ, ◌++◌, ◌+◌, ◌-◌, ◌<◌, ◌∙◌, ◌∷◌, ◌≡◌, ◌≤◌}
+use std.proofs.Common.{add-one, ap, arith, drop, Err, false, get_or, IfOk, inl, inr, length, List, None, Ok, OnErr}
+use std.proofs.Common.{Option, refl, Result, set, Some, suc, sym, take, zero, [], ℕ, ◌++◌, ◌+◌, ◌-◌, ◌<◌}
+use std.proofs.Common.{◌∙◌, ◌∷◌, ◌≡◌, ◌≤◌}
 use std.proofs.lemmas.Bool.{cases_Bool, Decides.nat_tests, eq-eqb, eqb-false, eqb-true, ne_eqb}
 use std.proofs.lemmas.{Cmp.ranked, List.{Elements.filter_map-append, length-append, length-set, nil_from_length}}
 use std.proofs.lemmas.{List.Sorted.IsNonDecreasingBy-from_default, Map.Entries.lookup-filter-keys}
@@ -160,9 +162,10 @@ module _ {T : Type 0} where
     pub last : last_from n gs ≤ last_from n fs
     pub kept : kept_in gs ≡ kept_in fs
     pub full : length (kept_in gs) ≡ length gs
+    pub fewer : length gs ≤ length fs
 
   pub swept : (n : ℕ) (fs : List (Filed T)) → RisesAbove n fs → IsSwept n fs (filter (λ f. is_some f.kept) fs)
-  swept n [] rises = record { rises = tt; last = omega arith; kept = refl; full = refl }
+  swept n [] rises = record { rises = tt; last = omega arith; kept = refl; full = refl; fewer = omega arith }
   swept n (f ∷ fs) rises =
       let s = swept f.number fs rises.1 in
       let left = filter (λ f. is_some f.kept) fs in
@@ -172,12 +175,14 @@ module _ {T : Type 0} where
           last = omega (arith, s.last, last_lower n f.number left (omega arith));
           kept = s.kept;
           full = s.full;
+          fewer = omega (arith, s.fewer);
         })
         | inr (x, some) ↦ rw some (record {
           rises = (rises.0, s.rises);
           last = s.last;
           kept = ap (λ l. (f.number, x) ∷ l) s.kept;
           full = ap suc s.full;
+          fewer = omega (arith, s.fewer);
         })
       ]
 
@@ -292,3 +297,58 @@ module _ {T : Type 0} where
     removed = rw none tt;
     none = rw none refl;
   }
+
+  -- ---- where a number stands
+
+  -- a number stands at one place
+  pub one_place : (fs : List (Filed T)) (e i j : ℕ) → IsRising fs → IsFiledAt fs e i → IsFiledAt fs e j → i ≡ j
+  one_place fs e i j rising at_i at_j =
+      let up = rises_between 0 fs i j rising in
+      let down = rises_between 0 fs j i rising in
+      grind (arith, up, down, at_i.is, at_j.is, at_i.in_range, at_j.in_range)
+
+  without_other : (m e : ℕ) (o : Option T) (l : List (ℕ × T)) → (m == e) ≡ false
+      → without e (before m o l) ≡ before m o (without e l)
+  without_other m e None l other = refl
+  without_other m e (Some x) l other = rw other refl
+
+  without_own : (m e : ℕ) (o : Option T) (l : List (ℕ × T)) → m ≡ e → without e (before m o l) ≡ without e l
+  without_own m e None l same = refl
+  without_own m e (Some x) l same = rw (eq-eqb m e same) refl
+
+  left_by : (n : ℕ) (fs : List (Filed T)) (e i : ℕ) → RisesAbove n fs → IsFiledAt fs e i
+      → without e (kept_in fs) ≡ kept_in (take i fs ++ drop (suc i) fs)
+  left_by n [] e i rises there = absurd (omega (arith, there.in_range))
+  left_by n (f ∷ fs) e zero rises there =
+      without_own f.number e f.kept (kept_in fs) there.is
+      ∙ none_taken (kept_in fs) e (none_below f.number fs e rises.1 (omega (arith, there.is)))
+  left_by n (f ∷ fs) e (suc i) rises there =
+      let low : i < length fs = omega (arith, there.in_range) in
+      let below : IsFiledAt fs e i = record { in_range = low; is = there.is } in
+      without_other f.number e f.kept (kept_in fs) (ne_eqb f.number e
+      (λ same. omega (arith, there.is, rises_at f.number fs i rises.1 low)))
+      ∙ ap (before f.number f.kept) (left_by f.number fs e i rises.1 below)
+
+  pub place_of : (fs : List (Filed T)) (e i : ℕ) → IsRising fs → IsFiledAt fs e i → IsPlaceOf fs e i
+  place_of fs e i rising there = record { there = there; left = rw add-one (left_by 0 fs e i rising there) }
+
+  -- a mark stays what it is
+  marked_same : (fs : List (Filed T)) (e i : ℕ) (u : Filed T) → IsFiledAt fs e i → u ≡ get_or fs i u → u.kept ≡ None
+      → fs ≡ set fs i (record { number = e; kept = None })
+  marked_same [] e i u there here is = absurd (omega (arith, there.in_range))
+  marked_same (f ∷ fs) e zero u there here is =
+      let mark : f.kept ≡ None = cc in
+      rw (← there.is, ← mark) refl
+  marked_same (f ∷ fs) e (suc i) u there here is =
+      let below : IsFiledAt fs e i = record { in_range = omega (arith, there.in_range); is = there.is } in
+      ap (λ l. f ∷ l) (marked_same fs e i u below here is)
+
+  -- what was a mark already is the same at each place of the number
+  pub marked_before : (fs : List (Filed T)) (e i : ℕ) (u : Filed T) → IsRising fs → IsFiledAt fs e i → u ≡ get_or fs i u
+      → u.kept ≡ None → (j : ℕ) → IsFiledAt fs e j → fs ≡ set fs j (record { number = e; kept = None })
+  marked_before fs e i u rising there here is j other =
+      rw (one_place fs e j i rising other there) (marked_same fs e i u there here is)
+
+  pub marked_there : (fs : List (Filed T)) (e i : ℕ) → IsRising fs → IsFiledAt fs e i → (j : ℕ) → IsFiledAt fs e j
+      → set fs i (record { number = e; kept = None }) ≡ set fs j (record { number = e; kept = None })
+  marked_there fs e i rising there j other = rw (one_place fs e j i rising other there) refl

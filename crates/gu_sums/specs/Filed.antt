@@ -1,7 +1,7 @@
 -- The list in which things are filed, with the marks of those that were taken out.
 use Rattle.std.specs.Prelude.{◌≡◌, ◌≢◌, ℕ, ◌+◌, ◌<◌, None, option_map, List, [], ◌∷◌, length}
-use Rattle.std.specs.Prelude.{filter_map, slice_index_or}
-use Rattle.gu_sums.specs.Filing.{Contents}
+use Rattle.std.specs.Prelude.{filter_map, slice_index_or, take, drop, ◌++◌}
+use Rattle.gu_sums.specs.Filing.{Contents, without}
 use Rattle.gu_sums.specs.declared.filing.Filed.{Filed}
 
 -- each thing with its number, without the marks
@@ -41,3 +41,8 @@ pub record IsFiledAt {T : Type 0} (fs : List (Filed T)) (number i : ℕ) : Type 
 -- the number stands nowhere
 abbrev pub IsNotFiled : {T : Type 0} → List (Filed T) → ℕ → Type 0
 IsNotFiled fs number = (i : ℕ) → i < length fs → (slice_index_or fs i no_thing).number ≢ number
+
+-- the number stands at the place i alone: what is left without it is what stands before and behind
+pub record IsPlaceOf {T : Type 0} (fs : List (Filed T)) (number i : ℕ) : Type 0 where
+  pub there : IsFiledAt fs number i
+  pub left : without number (kept_in fs) ≡ kept_in (take i fs ++ drop (i + 1) fs)

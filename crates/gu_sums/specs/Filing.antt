@@ -2,7 +2,8 @@
 use Rattle.std.specs.Prelude.{◌≡◌, ℕ, ◌==◌, not, refl, if◌then◌else◌, Option, Some, None, IfSome}
 use Rattle.std.specs.Prelude.{IfNone, List, [], ◌∷◌, ◌++◌, filter}
 use Rattle.std.specs.Map.{lookup, remove_entry}
-use Rattle.std.specs.Coded.{Coded, code_by, coded×, coded_ℕ, coded_list}
+use Rattle.std.specs.Coded.{Coded, code_by, coded×, coded_ℕ, coded_list, coded_option}
+use Rattle.gu_sums.specs.declared.filing.Filed.{Filed}
 
 -- each thing with its number, in their order, and the last number that was filed, 0 where there is
 -- none
@@ -10,8 +11,9 @@ pub record Contents (T : Type 0) : Type 0 where
   pub kept : List (ℕ × T)
   pub last : ℕ
 
--- what is filed, and how many more take no memory
+-- each number with its thing or its mark, what is filed, and how many more take no memory
 pub record FilingView (T : Type 0) : Type 0 where
+  pub all : List (Filed T)
   pub filed : Contents T
   pub room : ℕ
 
@@ -20,10 +22,17 @@ contents_code {T} c =
     code_by (List (ℕ × T) × ℕ) (coded× (coded_list (coded× coded_ℕ c)) coded_ℕ)
     (λ v. (v.kept, v.last)) (λ p. record { kept = p.0; last = p.1 }) (λ _. refl)
 
+abbrev pub filed_code : {T : Type 0} → Coded T → Coded (Filed T)
+filed_code {T} c =
+    code_by (ℕ × Option T) (coded× coded_ℕ (coded_option c))
+    (λ v. (v.number, v.kept)) (λ p. record { number = p.0; kept = p.1 }) (λ _. refl)
+
 abbrev pub filing_code : {T : Type 0} → Coded T → Coded (FilingView T)
 filing_code {T} c =
-    code_by (Contents T × ℕ) (coded× (contents_code c) coded_ℕ)
-    (λ v. (v.filed, v.room)) (λ p. record { filed = p.0; room = p.1 }) (λ _. refl)
+    code_by (List (Filed T) × (Contents T × ℕ))
+    (coded× (coded_list (filed_code c)) (coded× (contents_code c) coded_ℕ))
+    (λ v. (v.all, (v.filed, v.room)))
+    (λ p. record { all = p.0; filed = p.1.0; room = p.1.1 }) (λ _. refl)
 
 -- what is filed under a number
 abbrev pub kept_at : {T : Type 0} → Contents T → ℕ → Option T

@@ -1,9 +1,10 @@
 //! What is filed by the numbers of entries.
 ghost use Rattle.std.specs.Prelude.{◌≡◌, ◌≤◌, ◌<◌, ◌^◌, [], length, OnOk, OnErr, IfOk, IfSome};
-ghost use Rattle.std.specs.Prelude.{IfNone, IsTrue, ◌↔◌, is_some, filter};
+ghost use Rattle.std.specs.Prelude.{IfNone, IsTrue, ◌↔◌, is_some, filter, ◌++◌, ◌∷◌, Some, None, ℕ};
+ghost use Rattle.std.specs.Prelude.{set, false};
 ghost use Rattle.gu_sums.specs.Filing.{kept_at, last_of, IsFiled, IsTakenOut};
 ghost use Rattle.gu_sums.specs.Filed.{contents, kept_in, last_from, IsRising, IsFiledAt};
-ghost use Rattle.gu_sums.specs.Filed.{IsNotFiled};
+ghost use Rattle.gu_sums.specs.Filed.{IsNotFiled, IsPlaceOf};
 
 use gu_base::{Memory, Number};
 use std::alloc::Allocator;
@@ -37,6 +38,7 @@ impl<T: Copy, A: Allocator> Model for Filing<T, A> {
     ghost use Rattle.gu_sums.specs.Filed.{contents, IsFiling};
 
     ghost view = { λ f. record {
+      all = f.filed.items;
       filed = contents f.filed.items;
       room = vec_capacity f.filed - vec_len f.filed;
     } };
@@ -47,7 +49,8 @@ impl<T: Copy, A: Allocator> Model for Filing<T, A> {
 impl<T: Copy, A: Allocator> Filing<T, A> {
     /// Nothing filed. It grows by this allocator.
     pub fn new(alloc: A) -> Filing<T, A>
-        ensures { result.filed ≡ record { kept = []; last = 0 } }
+        ensures filed { result.filed ≡ record { kept = []; last = 0 } }
+        ensures all { result.all ≡ [] }
     {
         Filing {
             filed: Vec::new(alloc),
@@ -62,6 +65,7 @@ impl<T: Copy, A: Allocator> Filing<T, A> {
     /// `Memory` where a growth was refused.
     pub fn ready(&mut self) -> Result<(), Memory>
         ensures same { self.new.filed ≡ self.old.filed }
+        ensures all { self.new.all ≡ self.old.all }
         ensures room { OnOk result (1 ≤ self.new.room) }
     {
         self.filed.reserve(1)?;
@@ -92,7 +96,8 @@ impl<T: Copy, A: Allocator> Filing<T, A> {
 
     /// Each number with its thing or its mark, in their order.
     pub fn all(&self) -> &[Filed<T>]
-        ensures { kept_in result.now ≡ self.now.filed.kept }
+        ensures kept { kept_in result.now ≡ self.now.filed.kept }
+        ensures all { result.now ≡ self.now.all }
     {
         self.filed.as_slice()
     }
@@ -102,6 +107,17 @@ impl<T: Copy, A: Allocator> Filing<T, A> {
         ensures { result ≡ kept_at self.now.filed number }
     {
         self.look(self.shift(), number).1
+    }
+
+    /// Where the thing or the mark of the number stands among all.
+    pub fn place(&self, number: Number) -> Option<usize>
+        ensures found { IfSome result (λ i. IsPlaceOf self.now.all number i) }
+        ensures absent { IfNone result (kept_at self.now.filed number ≡ None) }
+    {
+        match find(self.filed.as_slice(), self.shift(), number) {
+            Some((i, _)) => Some(i),
+            None => None,
+        }
     }
 
     /// How far above its number a thing lies if each number from it on was filed: where `look` may
@@ -123,7 +139,12 @@ impl<T: Copy, A: Allocator> Filing<T, A> {
     pub fn file(&mut self, number: Number, thing: T)
         requires room { 1 ≤ self.old.room }
         requires above { last_of self.old.filed < number }
-        ensures { IsFiled self.old.filed self.new.filed number thing }
+        ensures filed { IsFiled self.old.filed self.new.filed number thing }
+        ensures all { self.new.all ≡ self.old.all ++ record {
+          number =
+              number;
+          kept = Some thing;
+        } ∷ [] }
     {
         self.filed.push_reserved(Filed {
             number,
@@ -136,6 +157,9 @@ impl<T: Copy, A: Allocator> Filing<T, A> {
     pub fn take(&mut self, number: Number) -> Option<T>
         ensures value { result ≡ kept_at self.old.filed number }
         ensures taken { IsTakenOut self.old.filed self.new.filed number }
+        ensures marked { (i : ℕ) → IsFiledAt self.old.all number i
+            → self.new.all ≡ set self.old.all i (record { number = number; kept = None }) }
+        ensures same { IfNone result (self.new.all ≡ self.old.all) }
     {
         let shift = shift_of(self.filed.as_slice());
         let Some((i, _)) = find(self.filed.as_slice(), shift, number) else {
@@ -150,15 +174,19 @@ impl<T: Copy, A: Allocator> Filing<T, A> {
     }
 
     /// Leaves out the marks where they outnumber the things, so that a walk over all is no longer
-    /// than twice these.
-    pub fn sweep(&mut self)
+    /// than twice these. Says whether it did.
+    pub fn sweep(&mut self) -> bool
         ensures kept { self.new.filed.kept ≡ self.old.filed.kept }
         ensures last { last_of self.new.filed ≤ last_of self.old.filed }
+        ensures same { result ≡ false → self.new.all ≡ self.old.all }
+        ensures fewer { length self.new.all ≤ length self.old.all }
     {
-        if self.marks > self.filed.len() / 2 {
+        let sparse = self.marks > self.filed.len() / 2;
+        if sparse {
             sweep(&mut self.filed);
             self.marks = 0;
         }
+        sparse
     }
 }
 

@@ -7,5 +7,5 @@ returns-then-above c =
     let room : 1 ≤ c.args.self.now.room = first_of (search rules, grind (arith, common_steps)) in
     let above : last_of c.self.inside.deeds.filed < c.args.entry =
     omega arith in
-    rw (← c.self.view_is) (can_by _ _ _ _ _ _ _ _ c.self.invariant.raised_is c.self.invariant.used_is
+    rw (← c.self.view_is) (can_by _ _ _ _ _ _ _ _ c.self.invariant.kept.raised_is c.self.invariant.kept.used_is
     (rw (← c.self.view_is) at room) above c.has_room.ensures)

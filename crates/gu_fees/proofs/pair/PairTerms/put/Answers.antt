@@ -1,18 +1,38 @@
 use Rattle.gu_fees.proofs.pair.PairTerms.put.Goals as goal
-use Rattle.gu_fees.{proofs.Dealings.{dealings_with, kept_more, room_used}, specs.Pairs.dealings_of}
+use Rattle.gu_fees.{proofs.Dealings.{dealings_with, kept_more, room_raised, room_used}, specs.Pairs.dealings_of}
 use Rattle.std.proofs.Common.{arith}
 
 pub overflow_add-self-2 : goal.overflow_add-self-2
 overflow_add-self-2 c =
     let ds = dealings_of c.self.inside.deeds.filed.kept in
     let room = rw (← c.self.view_is) at c.requires.fits in
-    omega (arith, room_used _ _ _ c.self.invariant.small.used room)
+    omega (arith, room_used _ _ _ c.self.invariant.kept.small.used room)
+
+pub put-requires-clause-room : goal.put-requires-clause-room
+put-requires-clause-room c =
+    let room = rw (← c.self.view_is) at c.requires.room in
+    omega (arith, room)
+
+pub put-requires-clause-blocks : goal.put-requires-clause-blocks
+put-requires-clause-blocks c = rw c.all.ensures.all c.self.invariant.blocks
+
+pub put-requires-clause-raised : goal.put-requires-clause-raised
+put-requires-clause-raised c =
+    let room = rw (← c.self.view_is) at c.requires.fits in
+    rw c.all.ensures.kept (room_raised _ _ c.args.deed c.self.invariant.kept.small.raised room)
+
+pub put-requires-clause-used : goal.put-requires-clause-used
+put-requires-clause-used c =
+    let room = rw (← c.self.view_is) at c.requires.fits in
+    rw c.all.ensures.kept (room_used _ _ c.args.deed c.self.invariant.kept.small.used room)
 
 pub invariant_of-self : goal.invariant_of-self
-invariant_of-self c =
-    rw (c.file.ensures.kept, dealings_with, c.made_with-self-inside.ensures, c.raised_by.ensures, c.used_by.ensures)
-    (kept_more _ c.self.invariant _ _
-    (rw (← c.self.view_is) at c.requires.fits))
+invariant_of-self c = record {
+  kept = rw (c.file.ensures.filed.kept, dealings_with, c.made_with-self-inside.ensures)
+      (rw (c.raised_by.ensures, c.used_by.ensures)
+      (kept_more _ c.self.invariant.kept _ _ (rw (← c.self.view_is) at c.requires.fits)));
+  blocks = rw (c.file.ensures.all, ← c.all.ensures.all) (c.put.ensures c.args.entry);
+}
 
 pub returns-clause-dealings : goal.returns-clause-dealings
 returns-clause-dealings c =

@@ -11,7 +11,7 @@ put_into-requires c =
 pub invariant_of-self : goal.invariant_of-self
 invariant_of-self c =
     let above = rw (← c.self.view_is) at c.requires.above in
-    let last = c.file.ensures.last in
+    let last = c.file.ensures.filed.last in
     record {
       apart = apart_changed c.put_into.ensures.len c.self.invariant.apart;
       below = below_changed _ _ _ c.put_into.ensures.others
@@ -30,7 +30,7 @@ returns c = λ giver taker is.
       others = λ g k differ. other_place _ _
           _ _ c.put_into.ensures.others
           (λ same. let is = c.self.invariant.apart.apart giver taker g k c.args.place at same in cc);
-      placed = λ n. c.file.ensures.at n ∙ rw (sym at);
+      placed = λ n. c.file.ensures.filed.at n ∙ rw (sym at);
       places = refl;
-      last = c.file.ensures.last;
+      last = c.file.ensures.filed.last;
     })

@@ -5,7 +5,7 @@ pub invariant_of-self : goal.invariant_of-self
 invariant_of-self g c = rw c.push_reserved.ensures.items
     (file_leaves _ _ _ c.args.thing c.self.invariant (rw (← c.self.view_is) at c.requires.above)).0
 
-pub returns : goal.returns
-returns g c =
+pub returns-clause-filed : goal.returns-clause-filed
+returns-clause-filed g c =
     rw (← c.self.view_is, c.push_reserved.ensures.items)
     (file_leaves _ _ _ c.args.thing c.self.invariant (rw (← c.self.view_is) at c.requires.above)).1

@@ -5,8 +5,12 @@ pub invariant_of-self : goal.invariant_of-self
 invariant_of-self g c = let s = swept 0 _ c.self.invariant.rising in
     rw c.sweep.ensures (record { rising = s.rises; marked = omega (arith, s.full) })
 
-pub returns-then-self-len-clause-kept : goal.returns-then-self-len-clause-kept
-returns-then-self-len-clause-kept g c = rw (← c.self.view_is, c.sweep.ensures) (swept 0 _ c.self.invariant.rising).kept
+pub returns-then-sparse-clause-kept : goal.returns-then-sparse-clause-kept
+returns-then-sparse-clause-kept g c = rw (← c.self.view_is, c.sweep.ensures) (swept 0 _ c.self.invariant.rising).kept
 
-pub returns-then-self-len-clause-last : goal.returns-then-self-len-clause-last
-returns-then-self-len-clause-last g c = rw (← c.self.view_is, c.sweep.ensures) (swept 0 _ c.self.invariant.rising).last
+pub returns-then-sparse-clause-last : goal.returns-then-sparse-clause-last
+returns-then-sparse-clause-last g c = rw (← c.self.view_is, c.sweep.ensures) (swept 0 _ c.self.invariant.rising).last
+
+pub returns-then-sparse-clause-fewer : goal.returns-then-sparse-clause-fewer
+returns-then-sparse-clause-fewer g c =
+    rw (← c.self.view_is, c.sweep.ensures) (swept 0 _ c.self.invariant.rising).fewer

@@ -1,5 +1,6 @@
 use Rattle.gu_sums.proofs.filing.Filing.take.Goals as goal
-use Rattle.{gu_sums.proofs.Filings.{at_found, at_nowhere, none_leaves, take_leaves}, std.proofs.Common.{sym, ◌∙◌}}
+use Rattle.gu_sums.proofs.Filings.{at_found, at_nowhere, marked_before, marked_there, none_leaves, take_leaves}
+use Rattle.std.proofs.Common.{sym, ◌∙◌}
 
 pub returns-in_default-clause-value : goal.returns-in_default-clause-value
 returns-in_default-clause-value g c =
@@ -35,3 +36,14 @@ returns-clause-taken g c =
     rw (← c.self.view_is)
     (take_leaves _ _ _ _ _ _ c.self.invariant
     (rw c.as_slice-2.ensures.value at c.in-Some.ensures.found) c.index.ensures c.in-Some-kept.is).1
+
+pub returns-in_default-kept-clause-marked : goal.returns-in_default-kept-clause-marked
+returns-in_default-kept-clause-marked g c =
+    rw (← c.self.view_is)
+    (marked_before _ _ _ _ c.self.invariant.rising
+    (rw c.as_slice-2.ensures.value at c.in-Some.ensures.found) c.index.ensures c.in_default-kept.is)
+
+pub returns-clause-marked : goal.returns-clause-marked
+returns-clause-marked g c =
+    rw (← c.self.view_is)
+    (marked_there _ _ _ c.self.invariant.rising (rw c.as_slice-2.ensures.value at c.in-Some.ensures.found))

@@ -15,7 +15,8 @@ edited g c =
     editing is seen called c.decide-node.ensures.short leafy
     (λ was fresh. decision_keeps _ c.args.decision.now v c.requires.settles
     (at_path IsOffered seen (rw (← c.self.view_is) at c.requires.offered)) leafy was)
-    (rw (← c.self.view_is) at c.requires.above) (rw c.decide-node.ensures.node) (rw c.node.ensures at c.file.ensures)
+    (rw (← c.self.view_is) at c.requires.above) (rw c.decide-node.ensures.node)
+    (rw c.node.ensures at c.file.ensures.filed)
 
 pub invariant_of-self : goal.invariant_of-self
 invariant_of-self g c = roomier _ _ _ (edited g (goal.at.invariant_of-self g c).After-file).grove
@@ -26,6 +27,6 @@ returns g c =
     rw (← c.self.view_is) (record {
       tree = at_there _ _ _ e.found e.changed;
       place = e.place;
-      last = c.file.ensures.last;
+      last = c.file.ensures.filed.last;
       shows = at_there _ _ _ e.found (rw c.decide-node.ensures.node at c.decide-node.ensures.shows);
     })
