@@ -1,0 +1,16 @@
+pub mod Known
+pub mod Larger
+pub mod Mapped
+pub mod MappedRefusals
+pub mod Rolled
+pub mod KeptLegal
+pub mod WholeLive
+pub mod Rolling
+pub mod WholeTrades
+pub mod Worked
+pub mod Tested
+pub mod KeptTrees
+pub mod KeptTerms
+pub mod TwoParts
+pub mod Replayed
+pub mod Ids

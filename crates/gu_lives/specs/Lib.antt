@@ -1,0 +1,5 @@
+pub mod Extends
+pub mod Renumbered
+pub mod Kept
+pub mod Trades
+pub mod Roll
