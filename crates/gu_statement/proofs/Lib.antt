@@ -1,0 +1,3 @@
+pub mod Told
+pub mod Worked
+pub mod Together
