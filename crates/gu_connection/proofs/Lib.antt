@@ -1,3 +1,7 @@
 mod Looking
 mod Turning
+mod Standing
+mod Talking
+mod Closing
+mod Conversing
 pub mod Seen

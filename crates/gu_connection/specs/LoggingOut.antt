@@ -2,8 +2,8 @@
 use Rattle.std.specs.Prelude.{◌≡◌, ◌⊎◌, ℕ, ◌+◌, List, [], ◌∷◌, ◌++◌, codes, Some, None}
 use Rattle.gu_codec.specs.Tags as tag
 use Rattle.gu_codec.specs.Writing.{fields_text}
+use Rattle.gu_session.specs.Steps.{Seen}
 use Rattle.gu_session.specs.Text.{text_of}
-use Rattle.gu_connection.specs.declared.connection.Connection.{Connection}
 
 -- a Logout of the house to a firm, at this time, with this number and text
 abbrev pub logout_of : List ℕ → List ℕ → List ℕ → ℕ → List ℕ → List ℕ
@@ -16,7 +16,7 @@ logout_of house firm time number text = text_of house firm time (record {
 })
 
 -- a Logout with the session's next number stands behind what is sent, or nothing was done
-abbrev pub LogsOut : List ℕ → List ℕ → Connection → Connection → Type 0
-LogsOut house text old new = (new.out.items ≡ old.out.items)
-    ⊎ ((firm time : List ℕ) × (old.session.link.firm ≡ Some firm)
-    × (new.out.items ≡ old.out.items ++ logout_of house firm time old.session.link.next text))
+abbrev pub LogsOut : List ℕ → List ℕ → Seen → List ℕ → List ℕ → Type 0
+LogsOut house text session out out_after = (out_after ≡ out)
+    ⊎ ((firm time : List ℕ) × (session.link.firm ≡ Some firm)
+    × (out_after ≡ out ++ logout_of house firm time session.link.next text))

@@ -1,6 +1,8 @@
 //! One connection: its session, the bytes that came of it, and what it is to be sent. Nothing here
 //! asks the book.
-ghost use Rattle.std.specs.Prelude.{◌≡◌, ◌≤◌, ◌≤ℤ◌, pos, ◌+◌, ◌++◌, ℕ, List, [], false, length};
+ghost use Rattle.std.specs.Prelude.{◌≡◌, ◌⊎◌, ◌≤◌, ◌≤ℤ◌, pos, ◌+◌, ◌++◌, ℕ, List, [], length};
+ghost use Rattle.std.specs.Prelude.{true, false, take};
+ghost use Rattle.std.specs.Io.KnownBytes.{Appends};
 ghost use Rattle.std.specs.Prelude.{nat_le, None, IfOk, OnOk, OnErr, IsErr};
 ghost use Rattle.std.specs.List.{All};
 ghost use Rattle.gu_base.specs.Limits.{most_parts};
@@ -13,7 +15,7 @@ ghost use Rattle.gu_base.specs.Runs.{IsRunFrom};
 ghost use Rattle.gu_base.specs.declared.entry.Entry.{Entry};
 ghost use Rattle.gu_trace.specs.Between.{last_told, looked_to, HasLooked};
 ghost use Rattle.gu_trace.specs.Reports.{most_reports, reports_for};
-ghost use Rattle.gu_connection.specs.Turns.{StepsNow, Speaks, Brings};
+ghost use Rattle.gu_connection.specs.Turns.{StepsNow, Speaks, Shuts, Brings};
 ghost use Rattle.gu_connection.specs.LoggingOut.{logout_of, LogsOut};
 ghost use Rattle.gu_limits.specs.Admission.{most_text};
 ghost use Rattle.gu_session.specs.Steps.{time_of};
@@ -27,7 +29,6 @@ use gu_trace::{MOST_REPORTS, nothing_is_passed_over};
 use jiff::Timestamp;
 use std::alloc::Global;
 use std::io::Write;
-use std::net::TcpStream;
 use std::time::Clock;
 
 /// The bytes that the body of a Logout with a text of `log_out` has at the most.
@@ -195,7 +196,11 @@ impl<'a> Connection<'a> {
         ensures out { OnOk result
             (self.new.out.items ≡ self.old.out.items ++ actions.now.send.items) }
         ensures open { OnOk result (actions.now.close ≡ false) }
+        ensures err { OnErr result ((self.new.out.items ≡ self.old.out.items)
+            ⊎ ((self.new.out.items ≡ self.old.out.items ++ actions.now.send.items)
+            × (actions.now.close ≡ true))) }
         ensures session { self.new.session ≡ self.old.session }
+        ensures feed { self.new.feed ≡ self.old.feed }
         ensures told { self.new.told ≡ self.old.told }
         ensures looked { self.new.looked ≡ self.old.looked }
         ensures behind { self.new.behind ≡ self.old.behind }
@@ -212,6 +217,9 @@ impl<'a> Connection<'a> {
         ensures ok { OnOk result
             (Speaks event.entry self.old.session self.new.session self.old.out.items
             self.new.out.items) }
+        ensures err { OnErr result
+            (Shuts event.entry self.old.session self.old.out.items self.new.out.items) }
+        ensures feed { self.new.feed ≡ self.old.feed }
         ensures told { self.new.told ≡ self.old.told }
         ensures looked { self.new.looked ≡ self.old.looked }
         ensures behind { self.new.behind ≡ self.old.behind }
@@ -224,7 +232,8 @@ impl<'a> Connection<'a> {
 
     /// Ends the session.
     pub fn end<R: Clock>(&mut self, rt: &R) -> Result<(), Closed>
-        ensures { IsErr result }
+        ensures err { IsErr result }
+        ensures out { self.new.out.items ≡ self.old.out.items }
     {
         let _ = self.quiet(rt, Event::End);
         Err(Closed)
@@ -239,7 +248,8 @@ impl<'a> Connection<'a> {
         ensures told { self.new.told ≡ self.old.told }
         ensures looked { self.new.looked ≡ self.old.looked }
         ensures behind { self.new.behind ≡ self.old.behind }
-        ensures out { LogsOut house.now.house text.now self.old self.new }
+        ensures out { LogsOut house.now.house text.now self.old.session self.old.out.items
+            self.new.out.items }
     {
         let Some(firm) = self.session.firm() else {
             return Closed;
@@ -299,6 +309,8 @@ impl<'a> Connection<'a> {
         ensures ok { OnOk result
             (Speaks (Reply answer reports) self.old.session self.new.session self.old.out.items
             self.new.out.items) }
+        ensures err { OnErr result (self.new.out.items ≡ self.old.out.items) }
+        ensures feed { self.new.feed ≡ self.old.feed }
         ensures told { OnOk result (self.new.told ≡ last_told self.old.told reports.items) }
         ensures looked { OnOk result
             (self.new.looked ≡ looked_to self.old.looked entries reports.items) }
@@ -346,6 +358,7 @@ impl<'a> Connection<'a> {
     /// Puts what the turn sends behind what waits to be sent already.
     pub fn hand_out(&mut self, to: &mut Vec<u8>) -> Result<(), Closed>
         ensures ok { OnOk result (to.new.items ≡ to.old.items ++ self.old.out.items) }
+        ensures err { OnErr result (to.new.items ≡ to.old.items) }
         ensures out { OnOk result (self.new.out.items ≡ []) }
     {
         if to.is_empty() {
@@ -361,9 +374,14 @@ impl<'a> Connection<'a> {
 
     /// Writes what the turn sends, in one write. One that is short has waited for the peer as long
     /// as it may.
-    pub(crate) fn write(&mut self, stream: &TcpStream) -> Result<(), Closed>
+    pub(crate) fn write<W: Write>(&mut self, to: &mut W) -> Result<(), Closed>
+        ensures ok { OnOk result
+            (Appends (W.contents to.old) (W.contents to.new) self.old.out.items) }
+        ensures err { OnErr result ((n : ℕ)
+            × Appends (W.contents to.old) (W.contents to.new) (take n self.old.out.items)) }
         ensures out { self.new.out.items ≡ [] }
         ensures session { self.new.session ≡ self.old.session }
+        ensures feed { self.new.feed ≡ self.old.feed }
         ensures told { self.new.told ≡ self.old.told }
         ensures looked { self.new.looked ≡ self.old.looked }
         ensures behind { self.new.behind ≡ self.old.behind }
@@ -372,12 +390,11 @@ impl<'a> Connection<'a> {
         if whole == 0 {
             return Ok(());
         }
-        let mut to: &TcpStream = stream;
         let written = to.write(self.out.as_slice());
         self.out.clear();
         match written {
-            Ok(count) if count == whole => Ok(()),
-            _ => Err(Closed),
+            Ok(count) => { if count == whole { Ok(()) } else { Err(Closed) } }
+            Err(_) => Err(Closed),
         }
     }
 }

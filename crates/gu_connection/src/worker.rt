@@ -6,10 +6,17 @@
 //! write. Where more than 64 kB wait to be sent it takes no further message: the next turn takes
 //! those before it reads. Only the book is asked under the desk's lock: reading, decoding and
 //! writing are done without it. A connection that has no accepted Logon in time is ended.
-ghost use Rattle.std.specs.Prelude.{◌≡◌, true, is_some, OnOk, OnErr};
+ghost use Rattle.std.specs.Prelude.{◌≡◌, ◌⊎◌, true, Some, is_some, IfOk, OnOk, OnErr};
 ghost use Rattle.gu_desk.specs.Begins.{BeginsWith};
-ghost use Rattle.gu_desk.specs.Runs.{HasSeen};
+ghost use Rattle.gu_connection.specs.Asking.{Asks, Looks, AsksAtMost};
+ghost use Rattle.gu_connection.specs.Standing.{stands, comes};
 ghost use Rattle.gu_connection.specs.Turns.{Replies};
+ghost use Rattle.gu_connection.specs.Talks.{Calls, Acts, TakesNext, IsOfRead, Ticks};
+ghost use Rattle.gu_connection.specs.Talks.{TakesAll, Idles, TakesOrIdles, Waits, TurnsRead, Turns};
+ghost use Rattle.gu_connection.specs.Talks.{IsLoggedOut, ActsInPart, DoesNothing};
+ghost use Rattle.gu_connection.specs.Talks.{Breaks, Closes, TurnsAndCloses};
+ghost use Rattle.gu_connection.specs.Conversing.{talk_of, Rounds, RoundsAndCloses, Conversed};
+ghost use Rattle.gu_connection.specs.declared.worker.Left.TheVariants.{Nothing};
 
 use crate::connection::{Brought, Closed, Connection};
 use gu_base::{AllocId, Answer, Command, FirmId};
@@ -20,7 +27,7 @@ use gu_parties::House;
 use gu_session::{Actions, Event};
 use std::alloc::Global;
 use std::io;
-use std::io::{ErrorKind, Read};
+use std::io::{ErrorKind, Read, Write};
 use std::net::TcpStream;
 use std::sync::Wait;
 use std::time::{Clock, Duration, Instant};
@@ -98,6 +105,17 @@ pub enum Left {
     Late,
 }
 
+/// What a read of so many bytes leaves, where it might have had that many.
+fn left_by(n: usize, most: usize) -> Left
+    ensures { IsOfRead result }
+{
+    if n == most {
+        Left::Unread
+    } else {
+        Left::Nothing
+    }
+}
+
 /// A worker: what it has for all its connections. Its seat goes from hand to hand.
 #[derive(Drop)]
 pub struct Worker<'a, J: Job, R, G> {
@@ -144,9 +162,11 @@ impl<'a, J: Job, R: Wait + Clock, G: Gate> Worker<'a, J, R, G> {
         firm: &FirmId,
         answer: Option<Answer>,
     ) -> (Seat<J>, Result<(), Closed>)
-        ensures seen { HasSeen J.opening seat.seen result.0.seen }
-        ensures replies { OnOk result.1
-            (Replies J.opening.house result.0.seen firm.now answer connection.old connection.new) }
+        ensures looks { Looks J.opening seat result.0 }
+        ensures feed { connection.new.feed ≡ connection.old.feed }
+        ensures err { OnErr result.1 (connection.new.out.items ≡ connection.old.out.items) }
+        ensures replies { OnOk result.1 (Replies J.opening.house firm.now answer
+            (stands seat connection.old) (stands result.0 connection.new)) }
     {
         let (seat, reports) = self
             .desk
@@ -164,7 +184,9 @@ impl<'a, J: Job, R: Wait + Clock, G: Gate> Worker<'a, J, R, G> {
     /// Counts a call that is to be made. Where the firm has as much as it may have, the call isn't
     /// made, and a Logout says so.
     fn admit(&self, connection: &mut Connection<'_>, firm: &FirmId) -> Result<(), Closed>
-        ensures { OnOk result (connection.new ≡ connection.old) }
+        ensures ok { OnOk result (connection.new ≡ connection.old) }
+        ensures err { OnErr result (IsLoggedOut self.now.house.now.house connection.old.session
+            connection.old.out.items connection.new.out.items) }
     {
         match self.tallies.begin_call(self.rt, firm) {
             Ok(()) => Ok(()),
@@ -184,6 +206,9 @@ impl<'a, J: Job, R: Wait + Clock, G: Gate> Worker<'a, J, R, G> {
         id: &AllocId,
         command: &Command,
     ) -> (Seat<J>, Result<Answer, Closed>)
+        ensures asks { IfOk result.1 (λ a. Asks J.opening
+            (record { firm = firm.now; id = id.now; command = command.now }) a seat result.0) }
+        ensures looks { OnErr result.1 (Looks J.opening seat result.0) }
         ensures later { BeginsWith result.0.seen seat.seen }
     {
         let (seat, answer) = self.desk.call(self.rt, self.alloc, seat, firm, id, command);
@@ -212,6 +237,12 @@ impl<'a, J: Job, R: Wait + Clock, G: Gate> Worker<'a, J, R, G> {
         id: &AllocId,
         command: &Command,
     ) -> (Seat<J>, Result<(), Closed>)
+        ensures calls { OnOk result.1 (Calls J.opening id.now command.now
+            (stands seat connection.old) (stands result.0 connection.new)) }
+        ensures err { OnErr result.1 (IsLoggedOut self.now.house.now.house connection.old.session
+            connection.old.out.items connection.new.out.items) }
+        ensures asks { OnErr result.1 (AsksAtMost J.opening connection.old.session.link.firm
+            (Some (id.now, command.now)) seat result.0) }
         ensures later { BeginsWith result.0.seen seat.seen }
     {
         let Some(firm) = connection.firm() else {
@@ -220,9 +251,9 @@ impl<'a, J: Job, R: Wait + Clock, G: Gate> Worker<'a, J, R, G> {
         if !self.gate.before_book(self.number) {
             return (seat, Err(Closed));
         }
-        if self.admit(connection, &firm).is_err() {
+        let Ok(()) = self.admit(connection, &firm) else {
             return (seat, Err(Closed));
-        }
+        };
         let (seat, answer) = self.ask(seat, &firm, id, command);
         match answer {
             Ok(answer) => self.reply(seat, connection, &firm, Some(answer)),
@@ -246,11 +277,17 @@ impl<'a, J: Job, R: Wait + Clock, G: Gate> Worker<'a, J, R, G> {
         connection: &mut Connection<'_>,
         actions: Actions,
     ) -> (Seat<J>, Result<(), Closed>)
+        ensures acts { OnOk result.1 (Acts J.opening actions (stands seat connection.old)
+            (stands result.0 connection.new)) }
+        ensures err { OnErr result.1
+            (DoesNothing (stands seat connection.old) (stands result.0 connection.new)
+            ⊎ ActsInPart self.now.house.now.house J.opening actions (stands seat connection.old)
+            (stands result.0 connection.new)) }
         ensures later { BeginsWith result.0.seen seat.seen }
     {
-        if connection.send(&actions).is_err() {
+        let Ok(()) = connection.send(&actions) else {
             return (seat, Err(Closed));
-        }
+        };
         let Actions {
             send: _,
             call,
@@ -259,6 +296,53 @@ impl<'a, J: Job, R: Wait + Clock, G: Gate> Worker<'a, J, R, G> {
         match call {
             Some((id, command)) => self.call(seat, connection, &id, &command),
             None => (seat, Ok(())),
+        }
+    }
+
+    /// Takes the next frame of the bytes held, if one has come whole: whether there was one.
+    #[tactic(auto, using(crate::proofs::Seen::itself, crate::proofs::Seen::still))]
+    fn take(
+        &self,
+        seat: Seat<J>,
+        connection: &mut Connection<'_>,
+    ) -> (Seat<J>, Result<bool, Closed>)
+        ensures takes { IfOk result.1 (λ some. TakesNext J.opening some
+            (stands seat connection.old) (stands result.0 connection.new)) }
+        ensures breaks { OnErr result.1 (Breaks self.now.house.now.house J.opening
+            (stands seat connection.old) (stands result.0 connection.new)) }
+        ensures later { BeginsWith result.0.seen seat.seen }
+    {
+        match connection.next(self.rt) {
+            Ok(Brought::Nothing) => (seat, Ok(false)),
+            Ok(Brought::Garbled) => (seat, Ok(true)),
+            Ok(Brought::Message(actions)) => {
+                let (seat, acted) = self.act(seat, connection, actions);
+                match acted {
+                    Ok(()) => (seat, Ok(true)),
+                    Err(e) => (seat, Err(e)),
+                }
+            }
+            Err(e) => (seat, Err(e)),
+        }
+    }
+
+    /// The end of a turn that has taken all messages: a Tick. It leaves this.
+    #[tactic(auto, using(crate::proofs::Seen::itself, crate::proofs::Seen::still))]
+    fn tick(
+        &self,
+        seat: Seat<J>,
+        connection: &mut Connection<'_>,
+        left: Left,
+    ) -> (Seat<J>, Result<Left, Closed>)
+        ensures ticks { IfOk result.1 (λ l. (l ≡ left)
+            × Ticks (stands seat connection.old) (stands result.0 connection.new)) }
+        ensures breaks { OnErr result.1 (Breaks self.now.house.now.house J.opening
+            (stands seat connection.old) (stands result.0 connection.new)) }
+        ensures same { result.0 ≡ seat }
+    {
+        match connection.quiet(self.rt, Event::Tick) {
+            Ok(()) => (seat, Ok(left)),
+            Err(e) => (seat, Err(e)),
         }
     }
 
@@ -271,6 +355,11 @@ impl<'a, J: Job, R: Wait + Clock, G: Gate> Worker<'a, J, R, G> {
         connection: &mut Connection<'_>,
         left: Left,
     ) -> (Seat<J>, Result<Left, Closed>)
+        requires { IsOfRead left }
+        ensures takes { IfOk result.1 (λ l. TakesAll J.opening (stands seat connection.old)
+            (stands result.0 connection.new) l) }
+        ensures closes { OnErr result.1 (Closes self.now.house.now.house J.opening
+            (stands seat connection.old) (stands result.0 connection.new)) }
         ensures later { BeginsWith result.0.seen seat.seen }
     {
         let mut seat = seat;
@@ -282,23 +371,16 @@ impl<'a, J: Job, R: Wait + Clock, G: Gate> Worker<'a, J, R, G> {
             if self.is_late(connection) {
                 return (seat, Ok(Left::Late));
             }
-            match connection.next(self.rt) {
-                Ok(Brought::Nothing) => break,
-                Ok(Brought::Garbled) => {}
-                Ok(Brought::Message(actions)) => {
-                    let (back, acted) = self.act(seat, connection, actions);
-                    seat = back;
-                    if acted.is_err() {
-                        return (seat, Err(Closed));
-                    }
-                }
-                Err(e) => return (seat, Err(e)),
+            let (back, taken) = self.take(seat, connection);
+            seat = back;
+            let Ok(some) = taken else {
+                return (seat, Err(Closed));
+            };
+            if !some {
+                return self.tick(seat, connection, left);
             }
         }
-        match connection.quiet(self.rt, Event::Tick) {
-            Ok(()) => (seat, Ok(left)),
-            Err(e) => (seat, Err(e)),
-        }
+        (seat, Ok(Left::Late))
     }
 
     /// A turn in which no message is taken: a Tick, and the reports to a firm that has logged on.
@@ -310,11 +392,16 @@ impl<'a, J: Job, R: Wait + Clock, G: Gate> Worker<'a, J, R, G> {
         connection: &mut Connection<'_>,
         left: Left,
     ) -> (Seat<J>, Result<Left, Closed>)
+        ensures idles { IfOk result.1 (λ l. (l ≡ left)
+            × Idles J.opening (stands seat connection.old) (stands result.0 connection.new)) }
+        ensures breaks { OnErr result.1 (Breaks self.now.house.now.house J.opening
+            (stands seat connection.old) (stands result.0 connection.new)) }
         ensures later { BeginsWith result.0.seen seat.seen }
     {
-        if connection.quiet(self.rt, Event::Tick).is_err() {
+        let (seat, ticked) = self.tick(seat, connection, left);
+        let Ok(left) = ticked else {
             return (seat, Err(Closed));
-        }
+        };
         let Some(firm) = connection.firm() else {
             return (seat, Ok(left));
         };
@@ -332,6 +419,10 @@ impl<'a, J: Job, R: Wait + Clock, G: Gate> Worker<'a, J, R, G> {
         seat: Seat<J>,
         connection: &mut Connection<'_>,
     ) -> (Seat<J>, Result<Left, Closed>)
+        ensures does { IfOk result.1 (λ l. TakesOrIdles J.opening (stands seat connection.old)
+            (stands result.0 connection.new) l) }
+        ensures closes { OnErr result.1 (Closes self.now.house.now.house J.opening
+            (stands seat connection.old) (stands result.0 connection.new)) }
         ensures later { BeginsWith result.0.seen seat.seen }
     {
         if self.is_late(connection) {
@@ -341,15 +432,12 @@ impl<'a, J: Job, R: Wait + Clock, G: Gate> Worker<'a, J, R, G> {
         }
     }
 
-    /// Takes what a read has brought.
-    fn take_in(&self, connection: &mut Connection<'_>, piece: &[u8]) -> Result<(), Closed> {
-        self.tallies.note_read(self.number, piece.len());
-        connection.push(piece)
-    }
-
     /// The last turn: the peer is gone.
     #[tactic(auto, using(crate::proofs::Seen::itself, crate::proofs::Seen::still))]
     fn end(&self, seat: Seat<J>, connection: &mut Connection<'_>) -> (Seat<J>, Result<Left, Closed>)
+        ensures err { OnOk result.1 ⊥ }
+        ensures nothing { DoesNothing (stands seat connection.old)
+            (stands result.0 connection.new) }
         ensures later { BeginsWith result.0.seen seat.seen }
     {
         let _ = connection.end(self.rt);
@@ -357,16 +445,94 @@ impl<'a, J: Job, R: Wait + Clock, G: Gate> Worker<'a, J, R, G> {
         (seat, Err(Closed))
     }
 
-    /// One turn, without its write, behind one that left this.
+    /// A turn whose read has brought this: the messages that have come whole with it.
     #[tactic(auto, using(crate::proofs::Seen::itself, crate::proofs::Seen::still))]
-    pub fn turn(
+    fn given(
         &self,
         seat: Seat<J>,
         connection: &mut Connection<'_>,
-        stream: &TcpStream,
+        piece: &[u8],
+        left: Left,
+    ) -> (Seat<J>, Result<Left, Closed>)
+        requires { IsOfRead left }
+        ensures takes { IfOk result.1 (λ l. TakesAll J.opening
+            (comes piece.now (stands seat connection.old)) (stands result.0 connection.new) l) }
+        ensures closes { OnErr result.1 (Closes self.now.house.now.house J.opening
+            (comes piece.now (stands seat connection.old)) (stands result.0 connection.new)) }
+        ensures later { BeginsWith result.0.seen seat.seen }
+    {
+        self.tallies.note_read(self.number, piece.len());
+        match connection.push(piece) {
+            Ok(()) => self.messages(seat, connection, left),
+            Err(e) => (seat, Err(e)),
+        }
+    }
+
+    /// A turn whose read has brought nothing, for this.
+    #[tactic(auto, using(crate::proofs::Seen::itself, crate::proofs::Seen::still))]
+    fn unread(
+        &self,
+        seat: Seat<J>,
+        connection: &mut Connection<'_>,
+        kind: ErrorKind,
+    ) -> (Seat<J>, Result<Left, Closed>)
+        ensures waits { IfOk result.1 (λ l. Waits J.opening (stands seat connection.old)
+            (stands result.0 connection.new) l) }
+        ensures breaks { OnErr result.1 (Breaks self.now.house.now.house J.opening
+            (stands seat connection.old) (stands result.0 connection.new)) }
+        ensures later { BeginsWith result.0.seen seat.seen }
+    {
+        match kind {
+            ErrorKind::WouldBlock | ErrorKind::TimedOut => {
+                self.idle(seat, connection, Left::Nothing)
+            }
+            ErrorKind::Interrupted => (seat, Ok(Left::Unread)),
+            _ => self.end(seat, connection),
+        }
+    }
+
+    /// A turn that reads.
+    #[tactic(auto, using(crate::proofs::Seen::itself, crate::proofs::Seen::still))]
+    fn read_on<S: Read>(
+        &self,
+        seat: Seat<J>,
+        connection: &mut Connection<'_>,
+        stream: &mut S,
+        piece: &mut [u8],
+    ) -> (Seat<J>, Result<Left, Closed>)
+        ensures turns { IfOk result.1 (λ l. TurnsRead J.opening (S.remaining stream.old)
+            (S.remaining stream.new) (stands seat connection.old)
+            (stands result.0 connection.new) l) }
+        ensures closes { OnErr result.1 (TurnsAndCloses self.now.house.now.house J.opening
+            (S.remaining stream.old) (S.remaining stream.new) (stands seat connection.old)
+            (stands result.0 connection.new)) }
+        ensures later { BeginsWith result.0.seen seat.seen }
+    {
+        let most = connection.room().min(piece.len());
+        let room = &mut piece[..most];
+        match stream.read(room) {
+            Ok(0) => self.end(seat, connection),
+            Ok(n) => self.given(seat, connection, &room[..n], left_by(n, most)),
+            Err(e) => self.unread(seat, connection, e.kind()),
+        }
+    }
+
+    /// One turn, without its write, behind one that left this.
+    #[tactic(auto, using(crate::proofs::Seen::itself, crate::proofs::Seen::still))]
+    pub fn turn<S: Read>(
+        &self,
+        seat: Seat<J>,
+        connection: &mut Connection<'_>,
+        stream: &mut S,
         piece: &mut [u8],
         left: Left,
     ) -> (Seat<J>, Result<Left, Closed>)
+        ensures turns { IfOk result.1 (λ l. Turns J.opening left (S.remaining stream.old)
+            (S.remaining stream.new) (stands seat connection.old)
+            (stands result.0 connection.new) l) }
+        ensures closes { OnErr result.1 (TurnsAndCloses self.now.house.now.house J.opening
+            (S.remaining stream.old) (S.remaining stream.new) (stands seat connection.old)
+            (stands result.0 connection.new)) }
         ensures later { BeginsWith result.0.seen seat.seen }
     {
         if left == Left::Untaken {
@@ -375,66 +541,74 @@ impl<'a, J: Job, R: Wait + Clock, G: Gate> Worker<'a, J, R, G> {
         if left == Left::Late {
             return self.late(seat, connection);
         }
-        let most = connection.room().min(piece.len());
-        let mut from: &TcpStream = stream;
-        match from.read(&mut piece[..most]) {
-            Ok(0) => self.end(seat, connection),
-            Ok(n) => match self.take_in(connection, &piece[..n]) {
-                Ok(()) if n == most => self.messages(seat, connection, Left::Unread),
-                Ok(()) => self.messages(seat, connection, Left::Nothing),
-                Err(e) => (seat, Err(e)),
-            },
-            Err(e) => match e.kind() {
-                ErrorKind::WouldBlock | ErrorKind::TimedOut => {
-                    self.idle(seat, connection, Left::Nothing)
-                }
-                ErrorKind::Interrupted => (seat, Ok(Left::Unread)),
-                _ => self.end(seat, connection),
-            },
-        }
+        self.read_on(seat, connection, stream, piece)
     }
 
     /// One turn with its write, behind one that left this. `Err` where the connection is to be
     /// closed.
-    fn round(
+    fn round<S: Read, W: Write>(
         &self,
         seat: Seat<J>,
         connection: &mut Connection<'_>,
-        stream: &TcpStream,
+        reader: &mut S,
+        writer: &mut W,
         piece: &mut [u8],
         left: Left,
-    ) -> (Seat<J>, Result<Left, Closed>) {
-        let (seat, turned) = self.turn(seat, connection, stream, piece, left);
-        match connection.write(stream) {
+    ) -> (Seat<J>, Result<Left, Closed>)
+        ensures rounds { IfOk result.1 (λ l. Rounds J.opening
+            (talk_of seat connection.old (S.remaining reader.old) (W.contents writer.old) left)
+            (talk_of result.0 connection.new (S.remaining reader.new) (W.contents writer.new) l)) }
+        ensures closes { OnErr result.1 (RoundsAndCloses self.now.house.now.house J.opening
+            (talk_of seat connection.old (S.remaining reader.old) (W.contents writer.old) left)
+            (record {
+              seat = result.0;
+              unread = S.remaining reader.new;
+              written = W.contents writer.new;
+            })) }
+        ensures later { BeginsWith result.0.seen seat.seen }
+    {
+        let (seat, turned) = self.turn(seat, connection, reader, piece, left);
+        match connection.write(writer) {
             Ok(()) => (seat, turned),
             Err(e) => (seat, Err(e)),
         }
     }
 
     /// Serves a connection that was taken then to its end, and gives the seat back.
-    fn converse(
+    fn converse<S: Read, W: Write>(
         &self,
         seat: Seat<J>,
         connection: &mut Connection<'_>,
+        reader: &mut S,
+        writer: &mut W,
         stream: &TcpStream,
         taken: Instant,
-    ) -> Seat<J> {
+    ) -> Seat<J>
+        ensures { Conversed self.now.house.now.house J.opening
+            (talk_of seat connection.old (S.remaining reader.old) (W.contents writer.old) Nothing)
+            (record {
+              seat = result;
+              unread = S.remaining reader.new;
+              written = W.contents writer.new;
+            }) }
+    {
         let mut seat = seat;
         let mut piece = [0; LONGEST_READ];
         let mut left = Left::Nothing;
         let mut hurried = false;
         for _ in self.rt.forever() {
-            let (back, turned) = self.round(seat, connection, stream, &mut piece, left);
+            let (back, turned) = self.round(seat, connection, reader, writer, &mut piece, left);
             seat = back;
             let Ok(rest) = turned else {
                 return seat;
             };
             left = rest;
-            if expire(self.rt, connection, taken, self.logon_wait).is_err()
-                || keep_pace(stream, &mut hurried, connection.behind()).is_err()
-            {
+            let Ok(()) = expire(self.rt, connection, taken, self.logon_wait) else {
                 return seat;
-            }
+            };
+            let Ok(()) = keep_pace(stream, &mut hurried, connection.behind()) else {
+                return seat;
+            };
         }
         unreachable!()
     }
@@ -457,7 +631,9 @@ impl<'a, J: Job, R: Wait + Clock, G: Gate> Worker<'a, J, R, G> {
     pub fn attend(&self, seat: Seat<J>, stream: TcpStream) -> Seat<J> {
         let seat = match self.opened(&stream) {
             Ok((mut connection, taken)) => {
-                let seat = self.converse(seat, &mut connection, &stream, taken);
+                let mut from: &TcpStream = &stream;
+                let mut to: &TcpStream = &stream;
+                let seat = self.converse(seat, &mut connection, &mut from, &mut to, &stream, taken);
                 drop(connection);
                 seat
             }

@@ -1,7 +1,9 @@
 //! A connection that a worker serves beside others.
 
-ghost use Rattle.std.specs.Prelude.{◌≡◌};
+ghost use Rattle.std.specs.Prelude.{◌≡◌, ◌⊎◌, [], IfOk, IsTrue};
 ghost use Rattle.gu_desk.specs.Begins.{BeginsWith};
+ghost use Rattle.gu_keep.specs.Sending.{Turns};
+ghost use Rattle.gu_recorder.specs.Waiting.{Holds, Sends};
 
 use crate::visit::Visit;
 use gu_base::FirmId;
@@ -55,7 +57,9 @@ pub(crate) fn open_client<'a, J: Job, R: Clock, G>(
     seat: &mut Seat<J>,
     stream: TcpStream,
     second: u64,
-) -> Result<Client<'a, J>, Closed> {
+) -> Result<Client<'a, J>, Closed>
+    ensures { IfOk result (λ c. c.outbox ≡ record { sent = []; waits = [] }) }
+{
     if stream.set_nodelay(true).is_err() || stream.set_nonblocking(true).is_err() {
         return Err(Closed);
     }
@@ -87,7 +91,9 @@ pub(crate) fn open_client<'a, J: Job, R: Clock, G>(
 
 impl<'a, J: Job> Client<'a, J> {
     /// Notes what the poll says of its stream.
-    pub(crate) fn note(&mut self, readable: bool, shut: bool, writable: bool) {
+    pub(crate) fn note(&mut self, readable: bool, shut: bool, writable: bool)
+        ensures { self.new.outbox ≡ self.old.outbox }
+    {
         self.speaks = self.speaks || readable;
         self.shut = self.shut || shut;
         if (readable || shut) && self.left == Left::Nothing {
@@ -125,14 +131,18 @@ impl<'a, J: Job> Client<'a, J> {
     }
 
     /// Whether a firm has logged on since this was asked last.
-    pub(crate) fn has_logged_on(&mut self) -> bool {
+    pub(crate) fn has_logged_on(&mut self) -> bool
+        ensures { self.new.outbox ≡ self.old.outbox }
+    {
         let has = self.unnamed && self.connection.firm().is_some();
         self.unnamed = self.unnamed && !has;
         has
     }
 
     /// Ends its count as a connection of its firm.
-    pub(crate) fn leave(&mut self, tallies: &Tallies) {
+    pub(crate) fn leave(&mut self, tallies: &Tallies)
+        ensures { self.new.outbox ≡ self.old.outbox }
+    {
         if let Some(firm) = self.counted {
             tallies.leave(&firm);
             self.counted = None;
@@ -141,7 +151,9 @@ impl<'a, J: Job> Client<'a, J> {
 
     /// Whether it is to be listed among those that have something to be sent, and among those that
     /// have a turn without being asked. Where it is, it notes so.
-    pub(crate) fn lists(&mut self) -> (bool, bool) {
+    pub(crate) fn lists(&mut self) -> (bool, bool)
+        ensures { self.new.outbox ≡ self.old.outbox }
+    {
         let sends = !self.sends && !self.outbox.is_empty();
         let hurries = !self.hurries && self.is_due();
         self.sends = self.sends || sends;
@@ -154,9 +166,13 @@ impl<'a, J: Job> Client<'a, J> {
         self.ended && self.outbox.is_empty()
     }
 
-    /// Puts what the turn has made into the outbox.
+    /// Puts what the turn has made into the outbox, made of what the seat has seen. Where memory
+    /// runs out for it, the connection has ended.
     fn hold<R, G>(&mut self, worker: &Worker<'a, J, R, G>, seat: &mut Seat<J>, second: u64)
-        ensures { seat.new ≡ seat.old }
+        ensures same { seat.new ≡ seat.old }
+        ensures holds { Holds self.old.outbox self.new.outbox self.old.connection.out.items
+            seat.old.seen
+            ⊎ ((self.new.outbox ≡ self.old.outbox) × IsTrue self.new.ended) }
     {
         if self.connection.waiting() == 0 {
             return;
@@ -174,14 +190,18 @@ impl<'a, J: Job> Client<'a, J> {
     }
 
     /// Notes why it has ended, if it has: what the last message says that the turn sends.
-    fn note_end(&mut self) {
+    fn note_end(&mut self)
+        ensures { self.new.outbox ≡ self.old.outbox }
+    {
         if self.ended {
             self.visit.note_end(self.connection.made());
         }
     }
 
     /// Notes that it has a turn in this second.
-    fn begin_turn(&mut self, second: u64) {
+    fn begin_turn(&mut self, second: u64)
+        ensures { self.new.outbox ≡ self.old.outbox }
+    {
         self.turned = second;
         if self.speaks {
             self.heard = second;
@@ -190,7 +210,9 @@ impl<'a, J: Job> Client<'a, J> {
     }
 
     /// Counts it as a connection of its firm, once one has logged on: whether the firm may have it.
-    fn enters<R, G>(&mut self, worker: &Worker<'a, J, R, G>, firm: &FirmId) -> bool {
+    fn enters<R, G>(&mut self, worker: &Worker<'a, J, R, G>, firm: &FirmId) -> bool
+        ensures { self.new.outbox ≡ self.old.outbox }
+    {
         if self.counted.is_some() {
             return true;
         }
@@ -203,7 +225,9 @@ impl<'a, J: Job> Client<'a, J> {
 
     /// Whether it is to be closed behind a turn: it has no Logon in time, or its firm has too many
     /// connections or has said nothing for too long, and is told so.
-    fn ends<R: Clock, G>(&mut self, worker: &Worker<'a, J, R, G>, second: u64) -> bool {
+    fn ends<R: Clock, G>(&mut self, worker: &Worker<'a, J, R, G>, second: u64) -> bool
+        ensures { self.new.outbox ≡ self.old.outbox }
+    {
         let late = expire(
             worker.rt,
             &mut self.connection,
@@ -250,18 +274,14 @@ impl<'a, J: Job> Client<'a, J> {
         second: u64,
     ) -> Seat<J>
         ensures later { BeginsWith result.seen seat.seen }
+        ensures turns { Turns self.old.outbox self.new.outbox result.seen }
     {
         if !self.may_turn() {
             return seat;
         }
         self.begin_turn(second);
-        let (seat, turned) = worker.turn(
-            seat,
-            &mut self.connection,
-            &self.stream,
-            piece,
-            self.left,
-        );
+        let mut stream: &TcpStream = &self.stream;
+        let (seat, turned) = worker.turn(seat, &mut self.connection, &mut stream, piece, self.left);
         match turned {
             Ok(left) => {
                 self.left = self.left_by(left);
@@ -280,7 +300,9 @@ impl<'a, J: Job> Client<'a, J> {
         &mut self,
         worker: &Worker<'a, J, R, G>,
         second: u64,
-    ) -> Result<Rest, Closed> {
+    ) -> Result<Rest, Closed>
+        ensures { Sends self.old.outbox self.new.outbox }
+    {
         self.sends = false;
         if self.full {
             return Ok(Rest::Untaken);
@@ -303,7 +325,9 @@ impl<'a, J: Job> Client<'a, J> {
     }
 
     /// Whether the peer has taken nothing for so long that the connection is to be closed.
-    pub(crate) fn is_stalled(&mut self, second: u64) -> bool {
+    pub(crate) fn is_stalled(&mut self, second: u64) -> bool
+        ensures { self.new.outbox ≡ self.old.outbox }
+    {
         if self.outbox.is_empty() {
             return false;
         }

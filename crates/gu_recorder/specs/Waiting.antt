@@ -1,24 +1,35 @@
--- What waits to be sent, and what it rests on.
-use Rattle.std.specs.Prelude.{◌≡◌, ℕ, List, ◌++◌, ◌⊎◌, drop}
+-- What waits to be sent, and what it was made of.
+use Rattle.std.specs.Prelude.{◌≡◌, ◌≤◌, ℕ, List, ◌++◌, map, take, drop, length}
+use Rattle.std.specs.List.{All}
 use Rattle.gu_base.specs.declared.entry.Entry.{Entry}
 use Rattle.gu_desk.specs.Begins.{BeginsWith}
-use Rattle.gu_recorder.specs.declared.outbox.Batch.{Batch}
-use Rattle.gu_recorder.specs.declared.outbox.Outbox.{Outbox}
+use Rattle.gu_recorder.specs.declared.made.MadeByte.{MadeByte}
 
--- the bytes were put behind those of a batch, which now rests on this history: it begins with all
--- that the batch rested on
-abbrev pub Gains : {J : Type 0} → Batch J → Batch J → List ℕ → List Entry → Type 0
-Gains before after bytes seen =
-    (after.bytes.items ≡ before.bytes.items ++ bytes) × (after.ticket.seen ≡ seen)
-    × BeginsWith seen before.ticket.seen
+-- the bytes alone
+abbrev pub bytes_of : List MadeByte → List ℕ
+bytes_of made = map (λ (m : MadeByte). m.byte) made
 
--- the first of its bytes were sent, and it rests on what it rested on
-abbrev pub Sends : {J : Type 0} → Batch J → Batch J → Type 0
-Sends before after =
-    (n : ℕ) × (after.bytes.items ≡ drop n before.bytes.items)
-    × (after.ticket.seen ≡ before.ticket.seen)
+-- these bytes, each made of this history
+abbrev pub made_of : List ℕ → List Entry → List MadeByte
+made_of bytes h = map (λ (b : ℕ). record { byte = b; history = h }) bytes
 
--- they were put into one of the two batches of an outbox
-abbrev pub Holds : {J : Type 0} → Outbox J → Outbox J → List ℕ → List Entry → Type 0
-Holds before after bytes seen =
-    Gains before.front after.front bytes seen ⊎ Gains before.back after.back bytes seen
+-- a history begins with each that these bytes were made of
+abbrev pub RestOn : List MadeByte → List Entry → Type 0
+RestOn made h = All (λ (m : MadeByte). BeginsWith h m.history) made
+
+-- what was sent, and what waits to be
+pub record Outgoing : Type 0 where
+  pub sent : List MadeByte
+  pub waits : List MadeByte
+
+-- bytes that were made of this history wait behind the others
+abbrev pub Holds : Outgoing → Outgoing → List ℕ → List Entry → Type 0
+Holds before after bytes h =
+    (after.sent ≡ before.sent) × (after.waits ≡ before.waits ++ made_of bytes h)
+
+-- a front of what waited was sent, each byte once
+pub record Sends (before after : Outgoing) : Type 0 where
+  pub count : ℕ
+  pub within : count ≤ length before.waits
+  pub sent : after.sent ≡ before.sent ++ take count before.waits
+  pub left : after.waits ≡ drop count before.waits

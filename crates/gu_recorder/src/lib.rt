@@ -10,6 +10,7 @@
 mod desk;
 mod disk_journal;
 mod journals;
+mod made;
 mod outbox;
 mod recorder;
 mod replica;
@@ -18,6 +19,7 @@ mod system;
 pub use desk::{close_desk, open_desk};
 pub use disk_journal::DiskJournal;
 pub use journals::{Checksum, Journals, OpenJournal};
+pub use made::MadeByte;
 pub use outbox::{Outbox, Rest};
 pub use recorder::Recorder;
 pub use system::SystemJournals;

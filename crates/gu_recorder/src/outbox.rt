@@ -3,22 +3,40 @@
 //! What was made of a history waits until that history is kept. `write` alone writes to a socket,
 //! and asks for the receipt.
 
-ghost use Rattle.std.specs.Prelude.{◌≡◌, ◌≤◌, ◌++◌, ◌⊎◌, [], length, drop, IfOk, OnOk};
-ghost use Rattle.gu_desk.specs.Begins.{BeginsWith};
-ghost use Rattle.gu_recorder.specs.Waiting.{Gains, Holds, Sends};
+ghost use Rattle.std.specs.Prelude.{◌≡◌, ◌≤◌, ◌++◌, ◌↔◌, [], length, take, drop};
+ghost use Rattle.std.specs.Prelude.{IfOk, MatchResult, OnOk, OnErr, IsTrue};
+ghost use Rattle.gu_recorder.specs.Waiting.{bytes_of, made_of, RestOn, Holds, Sends};
+ghost use Rattle.gu_recorder.specs.declared.outbox.Rest.TheVariants.{Nothing};
 
+use crate::made::{Made, made_after, made_behind, nothing_made, sent_behind};
 use gu_connection::{Closed, Connection};
 use gu_desk::{Desk, Job, Seat, Ticket};
 use std::alloc::Global;
 use std::io::{ErrorKind, Write};
+use std::marker::Model;
 use std::mem::{replace, swap};
 use std::net::TcpStream;
 
-/// Bytes to be sent, and a ticket for the history that they were made of.
+/// Bytes to be sent, and a ticket for a history that begins with each that they were made of.
+/// Contracts see the bytes, each with its history.
 #[derive(Drop)]
 pub(crate) struct Batch<J: Job> {
     bytes: Vec<u8>,
     ticket: Ticket<J>,
+    made: Made,
+}
+
+impl<J: Job> Model for Batch<J> {
+    ghost use Rattle.std.specs.Prelude.{◌≡◌, List};
+    ghost use Rattle.gu_recorder.specs.Waiting.{bytes_of, RestOn};
+    ghost use Rattle.gu_recorder.specs.declared.made.MadeByte.{MadeByte};
+
+    ghost Value = { List MadeByte };
+
+    ghost view = { λ b. b.made.bytes };
+
+    ghost invariant = { λ b. (b.bytes.items ≡ bytes_of b.made.bytes)
+        × RestOn b.made.bytes b.ticket.seen };
 }
 
 /// What is left to be sent.
@@ -32,24 +50,48 @@ pub enum Rest {
     Untaken,
 }
 
-/// What is to be sent: a batch that is being sent, and one that was made since.
+/// What is to be sent: a batch that is being sent, and one that was made since. Contracts see the
+/// bytes in order, each with the history that it was made of, and those that were sent.
 #[derive(Drop)]
 pub struct Outbox<J: Job> {
     front: Batch<J>,
     back: Batch<J>,
+    sent: Made,
 }
 
-/// Writes what the peer takes of these bytes, and tells how many. All that they rest on, which the
-/// ticket has seen, is kept.
-fn write<J: Job>(ticket: &Ticket<J>, stream: &TcpStream, bytes: &[u8]) -> Result<usize, Closed>
-    requires kept { BeginsWith ticket.now.kept ticket.now.seen }
+impl<J: Job> Model for Outbox<J> {
+    ghost use Rattle.std.specs.Prelude.{◌++◌};
+    ghost use Rattle.gu_recorder.specs.Waiting.{Outgoing};
+
+    ghost Value = { Outgoing };
+
+    ghost view = { λ o. record { sent = o.sent.bytes; waits = o.front ++ o.back } };
+}
+
+/// Writes what the peer takes of these bytes, and tells how many. Each history that they were made
+/// of is kept, as the ticket knows.
+fn write<J: Job>(
+    ticket: &Ticket<J>,
+    made: &Made,
+    sent: &mut Made,
+    stream: &TcpStream,
+    bytes: &[u8],
+) -> Result<usize, Closed>
+    requires bytes { bytes.now ≡ bytes_of made.now.bytes }
+    requires kept { RestOn made.now.bytes ticket.now.kept }
     ensures count { IfOk result (λ n. n ≤ length bytes.now) }
+    ensures sent { MatchResult result
+        (λ n. sent.new.bytes ≡ sent.old.bytes ++ take n made.now.bytes)
+        (λ _. sent.new.bytes ≡ sent.old.bytes) }
 {
     let _ = ticket;
     let mut to: &TcpStream = stream;
     match to.write(bytes) {
         Ok(0) => Err(Closed),
-        Ok(count) => Ok(count),
+        Ok(count) => {
+            *sent = sent_behind(sent, made, count);
+            Ok(count)
+        }
         Err(error) => match error.kind() {
             ErrorKind::WouldBlock | ErrorKind::Interrupted => Ok(0),
             _ => Err(Closed),
@@ -70,17 +112,32 @@ fn pass(bytes: &mut Vec<u8>, count: usize)
 impl<J: Job> Batch<J> {
     /// A batch with nothing in it.
     fn new(alloc: Global, desk: &Desk<J>, seat: &mut Seat<J>) -> Batch<J>
-        ensures bytes { result.bytes.items ≡ [] }
+        ensures nothing { result ≡ [] }
         ensures same { seat.new ≡ seat.old }
     {
         Batch {
             bytes: Vec::new(alloc),
             ticket: desk.ticket(seat),
+            made: nothing_made(),
         }
     }
 
-    /// Puts what a turn with this seat has made behind the bytes. They all rest then on what the
-    /// seat has seen, which begins with all that they rested on.
+    /// How many bytes it has.
+    fn len(&self) -> usize
+        ensures { result ≡ length self.now }
+    {
+        self.bytes.len()
+    }
+
+    /// Whether it has none.
+    fn is_empty(&self) -> bool
+        ensures { IsTrue result ↔ (self.now ≡ []) }
+    {
+        self.bytes.is_empty()
+    }
+
+    /// Puts what a turn with this seat has made behind the bytes: it was made of what the seat has
+    /// seen, which begins with all that they rested on.
     fn hold(
         &mut self,
         desk: &Desk<J>,
@@ -88,20 +145,33 @@ impl<J: Job> Batch<J> {
         connection: &mut Connection<'_>,
     ) -> Result<(), Closed>
         ensures same { seat.new ≡ seat.old }
-        ensures gains { OnOk result
-            (Gains self.old self.new connection.old.out.items seat.old.seen) }
+        ensures held { OnOk result
+            (self.new ≡ self.old ++ made_of connection.old.out.items seat.old.seen) }
+        ensures err { OnErr result (self.new ≡ self.old) }
         ensures out { OnOk result (connection.new.out.items ≡ []) }
     {
-        let older = replace(&mut self.ticket, desk.ticket(seat));
-        if !self.ticket.covers(desk, older) {
+        let newer = desk.ticket(seat);
+        if newer.seen() < self.ticket.seen() {
             return Err(Closed);
         }
-        connection.hand_out(&mut self.bytes)
+        let older = replace(&mut self.ticket, newer);
+        let _ = self.ticket.covers(desk, older);
+        let made = made_behind(&self.made, connection.made(), &self.ticket);
+        match connection.hand_out(&mut self.bytes) {
+            Ok(()) => {
+                self.made = made;
+                Ok(())
+            }
+            Err(e) => Err(e),
+        }
     }
 
     /// Writes what the peer takes now of the bytes, if what they rest on is kept.
-    fn send(&mut self, desk: &Desk<J>, stream: &TcpStream) -> Result<Rest, Closed>
-        ensures { Sends self.old self.new }
+    #[tactic(auto, using(crate::proofs::Waiting::left_bytes, crate::proofs::Waiting::left_rests))]
+    fn send(&mut self, sent: &mut Made, desk: &Desk<J>, stream: &TcpStream) -> Result<Rest, Closed>
+        ensures sends { Sends (record { sent = sent.old.bytes; waits = self.old })
+            (record { sent = sent.new.bytes; waits = self.new }) }
+        ensures nothing { IfOk result (λ r. r ≡ Nothing → self.new ≡ []) }
     {
         if self.bytes.is_empty() {
             return Ok(Rest::Nothing);
@@ -109,9 +179,10 @@ impl<J: Job> Batch<J> {
         if !self.ticket.settle(desk) {
             return Ok(Rest::Unkept);
         }
-        match write(&self.ticket, stream, &self.bytes) {
+        match write(&self.ticket, &self.made, sent, stream, &self.bytes) {
             Ok(count) => {
                 pass(&mut self.bytes, count);
+                self.made = made_after(&self.made, count);
                 if self.bytes.is_empty() {
                     Ok(Rest::Nothing)
                 } else {
@@ -126,25 +197,30 @@ impl<J: Job> Batch<J> {
 impl<J: Job> Outbox<J> {
     /// An outbox with nothing to be sent.
     pub fn new(alloc: Global, desk: &Desk<J>, seat: &mut Seat<J>) -> Outbox<J>
-        ensures { seat.new ≡ seat.old }
+        ensures nothing { result ≡ record { sent = []; waits = [] } }
+        ensures same { seat.new ≡ seat.old }
     {
         Outbox {
             front: Batch::new(alloc, desk, seat),
             back: Batch::new(alloc, desk, seat),
+            sent: nothing_made(),
         }
     }
 
     /// How many bytes are to be sent.
     pub fn len(&self) -> usize {
-        self.front.bytes.len().saturating_add(self.back.bytes.len())
+        self.front.len().saturating_add(self.back.len())
     }
 
     /// Whether nothing is to be sent.
-    pub fn is_empty(&self) -> bool {
-        self.front.bytes.is_empty() && self.back.bytes.is_empty()
+    pub fn is_empty(&self) -> bool
+        ensures { IsTrue result ↔ (self.now.waits ≡ []) }
+    {
+        self.front.is_empty() && self.back.is_empty()
     }
 
-    /// Puts what a turn with this seat has made behind what is to be sent.
+    /// Puts what a turn with this seat has made behind what is to be sent: it was made of what the
+    /// seat has seen.
     pub fn hold(
         &mut self,
         desk: &Desk<J>,
@@ -154,6 +230,8 @@ impl<J: Job> Outbox<J> {
         ensures same { seat.new ≡ seat.old }
         ensures holds { OnOk result
             (Holds self.old self.new connection.old.out.items seat.old.seen) }
+        ensures err { OnErr result (self.new ≡ self.old) }
+        ensures out { OnOk result (connection.new.out.items ≡ []) }
     {
         if self.is_empty() {
             self.front.hold(desk, seat, connection)
@@ -162,12 +240,15 @@ impl<J: Job> Outbox<J> {
         }
     }
 
-    /// Sends what may go out, as far as the peer takes it.
-    pub fn send(&mut self, desk: &Desk<J>, stream: &TcpStream) -> Result<Rest, Closed> {
-        match self.front.send(desk, stream) {
+    /// Sends what may go out, as far as the peer takes it: a front of what waits.
+    #[tactic(auto, using(crate::proofs::Waiting::sends_front, crate::proofs::Waiting::sends_on))]
+    pub fn send(&mut self, desk: &Desk<J>, stream: &TcpStream) -> Result<Rest, Closed>
+        ensures { Sends self.old self.new }
+    {
+        match self.front.send(&mut self.sent, desk, stream) {
             Ok(Rest::Nothing) => {
                 swap(&mut self.front, &mut self.back);
-                self.front.send(desk, stream)
+                self.front.send(&mut self.sent, desk, stream)
             }
             other => other,
         }

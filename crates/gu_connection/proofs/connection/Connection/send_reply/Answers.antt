@@ -1,3 +1,4 @@
+use Rattle.gu_connection.proofs.Closing.{reply_shuts}
 use Rattle.std.proofs.Common.{rules, ◌≡◌, ◌∙◌}
 use Rattle.gu_trace.specs.Between.{last_told, looked_to}
 use Rattle.gu_trace.specs.Reports.{reports_for}
@@ -30,3 +31,8 @@ returns-in-Ok-clause-behind g c = search rules
 
 pub returns-in-Ok-clause-told : goal.returns-in-Ok-clause-told
 returns-in-Ok-clause-told g c = search rules
+
+pub returns-in-Err-clause-err : goal.returns-in-Err-clause-err
+returns-in-Err-clause-err g c =
+    reply_shuts c.args.answer c.args.reports c.args.self.now.session c.args.self.now.out.items
+    c.quiet.new.self.out.items c.in-Err.ensures.err
