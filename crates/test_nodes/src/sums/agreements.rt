@@ -176,12 +176,94 @@ fn tell_dealt(rt: &impl Print, terms: &mut Terms, giver: &FirmId, taker: &FirmId
         && tell_pair(rt, terms, "the other way round", taker, giver)
 }
 
+/// The deed of an entry of a long list: from the fourth on they raise and use two lots in turn.
+fn long_deed(entry: u32) -> Deed {
+    match entry {
+        1 => Deed::Makes(Agreement {
+            rate: 125,
+            limit: 100,
+        }),
+        2 => Deed::Raises(50),
+        3 => Deed::Uses(120),
+        599 => Deed::Raises(40),
+        600 => Deed::Uses(71),
+        _ => {
+            if entry % 2 == 0 {
+                Deed::Raises(2)
+            } else {
+                Deed::Uses(2)
+            }
+        }
+    }
+}
+
+/// Puts the 600 entries of a long list in.
+fn put_long(terms: &mut Terms, giver: &FirmId, taker: &FirmId) -> bool {
+    for entry in 1..=600 {
+        if !put_entry(terms, giver, taker, entry, long_deed(entry)) {
+            return false;
+        }
+    }
+    true
+}
+
+/// What is taken out of a long list, one span after the other, and how it is called then.
+const SPANS: &[(&str, u32, u32)] = &[
+    ("without 600", 600, 600),
+    ("without 256 and 257", 256, 257),
+    ("without 2 to 290", 2, 290),
+    ("without 291 to 520", 291, 520),
+    ("without 521 to 598", 521, 598),
+    ("without 599", 599, 599),
+];
+
+/// Entries of a long list on which others stand: the Agree, a Raise that the third needs, a Claim,
+/// and Raises of the first 256 entries, of the next and of the last.
+const ASKED: &[u32] = &[1, 2, 3, 4, 256, 258, 400, 522, 599];
+
+/// Writes what stands on some entries of a long list.
+fn tell_standing(rt: &impl Print, terms: &Terms, when: &str) -> bool {
+    if rt.print(when).is_err() {
+        return false;
+    }
+    for entry in ASKED {
+        let first = standing(terms, *entry);
+        if print!(rt; "; on {entry} stands {first}").is_err() {
+            return false;
+        }
+    }
+    rt.println("").is_ok()
+}
+
+/// Takes a span of entries out.
+fn take_span(terms: &mut Terms, from: u32, to: u32) {
+    for entry in from..=to {
+        take_out(terms, &[entry]);
+    }
+}
+
+/// Writes what stands on entries of a list of 600, and what of it then, where some are taken out.
+fn tell_long(rt: &impl Print, alloc: Global, giver: &FirmId, taker: &FirmId) -> bool {
+    let mut terms = Terms::new(alloc);
+    if !put_long(&mut terms, giver, taker) || !tell_standing(rt, &terms, "of 600 entries") {
+        return false;
+    }
+    for (when, from, to) in SPANS {
+        take_span(&mut terms, *from, *to);
+        if !tell_standing(rt, &terms, when) {
+            return false;
+        }
+    }
+    true
+}
+
 /// Writes what becomes of terms that are made by 1, used by 3 and raised by 4, so that 5 and 6 can
-/// use more, and of which 5, 6 and 4 are taken out.
+/// use more, and of which 5, 6 and 4 are taken out; and of a long list.
 /// Whether all went well.
 pub fn tell_terms(rt: &impl Print, alloc: Global, giver: &FirmId, taker: &FirmId) -> bool {
     let mut terms = Terms::new(alloc);
     tell_pair(rt, &terms, "never made ready", giver, taker)
         && tell_dealt(rt, &mut terms, giver, taker)
         && tell_taken(rt, &mut terms, giver, taker)
+        && tell_long(rt, alloc, giver, taker)
 }
