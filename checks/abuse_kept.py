@@ -10,13 +10,15 @@ import time
 
 sys.dont_write_bytecode = True
 from harness import PATIENCE, TOP, built, compiled
-from fix import free_port, message
+from fix import frames_of, free_port, message
 
-ALLOCD = os.environ.get("ALLOCD") or built("allocd")
+ALLOCD = built("allocd")
 SILENT, DESCRIPTORS = 2_000, 300
 MOST_LOGON, MOST_MEMORY, LEAST_SHARE = 1, 2_048, 0.5
 DEAF = 20
 ROUNDS = 15
+UNNAMED_WAIT = 20  # the seconds that a server has to close what it is to close
+MOST_BEHIND = 8
 TRIES = 5  # of what has to be quick: on a busy machine one of them is
 HOUSE = f"{TOP}/examples/rows.house"
 
@@ -70,6 +72,10 @@ class Peer:
     def accepted(self):
         return self.got.count(b"\x0187=0\x0110=") + self.got.count(b"\x01939=0\x01")
 
+    def made(self):
+        """How many of its calls with an id of its own are accepted, where it gets reports of others' too."""
+        return sum(b"\x0135=P\x01" in it and b"\x0187=0\x01" in it for it in frames_of(self.got))
+
     def text(self):
         """58 of its Logout."""
         logout = self.got.rfind(b"\x0135=5\x01")
@@ -81,12 +87,13 @@ class Peer:
 
 
 class Server:
-    """A server that keeps its book in the journal of a room, with these words more."""
+    """A server that keeps its book in the journal of a room, or serves one, with these words more."""
 
-    def __init__(self, room, name, *words, workers=2, shell=(), env=()):
+    def __init__(self, room, name, *words, kind="keep", workers=2, shell=(), env=()):
         self.port, self.journal = free_port(), f"{room}/{name}"
         self.told = open(f"{room}/{name}.told", "w+b")
-        given = [ALLOCD, "keep", HOUSE, self.journal, "--port", str(self.port), "--workers", str(workers), *words]
+        book = [HOUSE, self.journal] if kind == "keep" else [HOUSE]
+        given = [ALLOCD, kind, *book, "--port", str(self.port), "--workers", str(workers), *words]
         env = dict(os.environ, **dict(env))
         self.process = subprocess.Popen([*shell, *given], stdout=subprocess.DEVNULL, stderr=self.told, env=env)
         while self.process.poll() is None:
@@ -135,17 +142,30 @@ def called(server, firm, name, count):
     return peer.close().accepted(), peer.text()
 
 
+def made_before(server):
+    """How many calls of a firm are accepted of one, which is made again, and of 60 that are refused: none of these is an entry."""
+    peer = server.peer("BBB")
+    for giver, id in [("AAA", "S1")] * 2 + [("BBB", f"X{n}") for n in range(60)]:
+        peer.send("J", f"70={id}|71=0|626=91|5001={giver}|5004=1|")
+    peer.send("5")
+    peer.read()
+    answers = peer.close().got.count(b"\x0135=P\x01")
+    return peer.accepted(), answers
+
+
 def entries(room):
     """The limits on entries: of a firm, by many connections at once, and after a start anew; and the house's reserve."""
     with Server(room, "entries", "--most-entries", "50", "--reserve", "999930", workers=4) as server:
+        before = made_before(server)
+        yield before == (2, 62), f"of 62 calls {before[1]} are answered, one as it was before, and 60 refused"
         took = []
         threads = [threading.Thread(target=lambda n=n: took.append(called(server, "BBB", f"B{n}x", 100))) for n in range(8)]
         for it in threads:
             it.start()
         for it in threads:
             it.join()
-        well = sum(count for count, _ in took) == 50 and {text for _, text in took} == {"too many entries"}
-        yield well, f"of 800 calls of a firm on 8 connections {sum(count for count, _ in took)} are made"
+        well = sum(count for count, _ in took) == 49 and {text for _, text in took} == {"too many entries"}
+        yield well, f"of 800 further calls of a firm on 8 connections {sum(count for count, _ in took)} are made, and 49 may be"
         count, text = called(server, "CCC", "C", 40)
         yield (count, text) == (20, "entries left are the house's"), f"another firm makes {count} calls, up to the reserve"
         said = (f'event=at_limit firm={why}' for why in ('BBB why="too many entries"', 'CCC why="entries left'))
@@ -166,6 +186,8 @@ def logged_on(server, firm, name):
     until = time.monotonic() + PATIENCE
     while time.monotonic() < until:
         peer = server.peer(firm, name)
+        # (where there are too many, the Logon is answered, and the Logout follows at once)
+        peer.read(b"\x0135=A\x01")
         peer.send("1", "112=HERE|")
         if peer.read(b"\x01112=HERE\x01"):
             return peer
@@ -178,7 +200,18 @@ def at_a_rate(peer, count):
     peer.raises(count)
     peer.send("5")
     peer.read()
-    return time.monotonic() - begun if peer.accepted() == count else None
+    return time.monotonic() - begun if peer.made() == count else None
+
+
+def at_a_rate_together(peers, count):
+    """The seconds that so many calls of each of these take, which are made at once, if all are accepted."""
+    took, begun = [], time.monotonic()
+    threads = [threading.Thread(target=lambda it=it: took.append(at_a_rate(it, count))) for it in peers]
+    for it in threads:
+        it.start()
+    for it in threads:
+        it.join()
+    return None if None in took else time.monotonic() - begun
 
 
 def a_call(peer):
@@ -206,6 +239,10 @@ def connections(room):
         while None not in took and min(took) > 6 and len(took) < TRIES:
             took.append(at_a_rate(logged_on(server, "BBB", f"again{len(took)}"), 200))
         yield None not in took and 2.5 <= min(took) <= 6, f"200 calls at 50 a second take {took} s"
+        first[1].close()
+        both = [logged_on(server, "BBB", f"both{n}") for n in range(2)]
+        seconds = at_a_rate_together(both, 150)
+        yield seconds is not None and seconds >= 4.5, f"300 calls at 50 a second on two connections take {seconds} s"
         yield min(a_call(houses[0]) for _ in range(TRIES)) < 1, "the house's call waits for none"
 
 
@@ -217,6 +254,77 @@ def a_logon(server, firm):
     took = time.monotonic() - begun
     peer.close()
     return took if well else float("inf")
+
+
+RACING = 16
+
+
+def race(room):
+    """The count of a firm's entries, by many connections on as many workers at once."""
+    with Server(room, "race", "--most-entries", "8000", workers=RACING) as server:
+        took = []
+        threads = [threading.Thread(target=lambda n=n: took.append(called(server, "BBB", f"B{n}x", 1000))) for n in range(RACING)]
+        for it in threads:
+            it.start()
+        for it in threads:
+            it.join()
+        made = sum(count for count, _ in took)
+        yield made == 8000, f"of {RACING * 1000} calls of a firm on {RACING} connections {made} are made, and 8000 may be"
+
+
+def is_open(connection):
+    """Whether the server still has a connection on which it has nothing to say."""
+    connection.settimeout(0.01)
+    try:
+        return connection.recv(1) != b""
+    except TimeoutError:
+        return True
+    except OSError:
+        return False
+
+
+def unnamed(room):
+    """Of 300 connections without a Logon that one worker has those that came last stay, 256 of them."""
+    with Server(room, "unnamed", workers=1) as server:
+        held = []
+        for _ in range(300):
+            held.append(socket.create_connection(("127.0.0.1", server.port), timeout=PATIENCE))
+        until = time.monotonic() + UNNAMED_WAIT
+        while sum(map(is_open, held[:44])) and time.monotonic() < until:
+            time.sleep(0.1)
+        stay = [at for at, it in enumerate(held) if is_open(it)]
+        yield stay == list(range(44, 300)), f"of 300 silent connections {len(stay)} stay, from the {stay[0] + 1 if stay else 0}. on, and 256 may, from the 45. on"
+
+
+def behind(room):
+    """A firm that is behind has its next reports at once, and not in the next second."""
+    with Server(room, "behind") as server:
+        house = server.peer("HSE")
+        for _ in range(2_000):
+            house.trade()
+        house.read(b"58=entry 2000\x01")
+        begun = time.monotonic()
+        peer = server.peer("AAA")
+        peer.read(b"\x01755=2000\x01", 30)
+        took = time.monotonic() - begun
+        reports = peer.got.count(b"\x0135=AS\x01")
+        yield reports == 2_000 and took <= MOST_BEHIND, f"{reports} of 2,000 reports in {took:.1f} s, and they may take {MOST_BEHIND}"
+
+
+def logons(room):
+    """A connection without a Logon is closed after half a minute, by a clock that jumps, and not before; at both servers."""
+    compiled(f"{TOP}/checks/jumping.c", f"{room}/jumping.so")
+    for kind in ("keep", "serve"):
+        env = {"LD_PRELOAD": f"{room}/jumping.so", "JUMP": f"{room}/jump-{kind}", "JUMP_BY": "35"}
+        with Server(room, f"logons-{kind}", kind=kind, env=env) as server:
+            connection = socket.create_connection(("127.0.0.1", server.port), timeout=PATIENCE)
+            time.sleep(4)
+            before = is_open(connection)
+            open(env["JUMP"], "w").close()
+            until = time.monotonic() + UNNAMED_WAIT
+            while (after := is_open(connection)) and time.monotonic() < until:
+                time.sleep(0.1)
+            yield before and not after, f"{kind}, one without a Logon: open before 30 s {before}, and after them {after}"
 
 
 def silent(room):
@@ -237,7 +345,7 @@ def silent(room):
 def patience(room):
     """A firm that says nothing for three hours, by a clock that jumps, and the house beside it."""
     compiled(f"{TOP}/checks/jumping.c", f"{room}/jumping.so")
-    env = {"LD_PRELOAD": f"{room}/jumping.so", "JUMP": f"{room}/jump"}
+    env = {"LD_PRELOAD": f"{room}/jumping.so", "JUMP": f"{room}/jump", "JUMP_BY": str(3 * 3600 + 60)}
     with Server(room, "patience", env=env) as server:
         peers = [server.peer("BBB"), server.peer("HSE")]
         well = all(it.read(b"\x0135=A\x01") for it in peers)
@@ -347,11 +455,13 @@ def reconnecting(room):
         yield well, f"beside a firm that connects anew for each call the house has {max(shares):.2f} of its calls a second"
 
 
-def cases(room):
+PARTS = {it.__name__: it for it in (entries, race, connections, unnamed, behind, silent, logons, patience, deaf, reconnecting)}
+
+
+def allow_descriptors():
+    """Has the harness hold as many connections as it may."""
     _, hard = resource.getrlimit(resource.RLIMIT_NOFILE)
     resource.setrlimit(resource.RLIMIT_NOFILE, (min(hard, 8192), hard))
-    for part in (entries, connections, silent, patience, deaf, reconnecting):
-        yield from part(room)
 
 
 if __name__ == "__main__":

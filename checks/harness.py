@@ -23,11 +23,11 @@ TOLD = re.compile(rb"growths: (\d+), largest (\d+) bytes, refused (\d+)\n\Z")
 
 
 def built(name):
-    """The program of a crate, as `rt ci` or `rt run` left it."""
-    program = f"{TOP}/crates/{name}/out/{name}"
+    """The program of a crate, as `rt ci` or `rt run` left it; or the one that the environment names (`ALLOCD`, `TEST_BOOK`, ..)."""
+    program = os.environ.get(name.upper()) or f"{TOP}/crates/{name}/out/{name}"
     if not os.access(program, os.X_OK):
         sys.exit(f"{name} isn't built: rt ci proves and builds it (or rt run in crates/{name})")
-    return program
+    return os.path.abspath(program)
 
 
 def text(path):
@@ -65,7 +65,8 @@ def unlogged(err):
 
 
 def end(passed, failed):
-    """The last line of a harness, and its status."""
+    """The last line of a harness, and its status: one that has looked at nothing has failed."""
+    failed += not (passed or failed)
     print(f"{passed} passed, {failed} failed")
     sys.exit(1 if failed else 0)
 
@@ -106,7 +107,10 @@ class Growths:
 
     def run(self, words, given, nth=0):
         """The run with the N-th growth refused, or with none."""
-        return Run(subprocess.run(words, input=given, capture_output=True, cwd=TOP, env=self.env(nth), timeout=PATIENCE))
+        run = Run(subprocess.run(words, input=given, capture_output=True, cwd=TOP, env=self.env(nth), timeout=PATIENCE))
+        if not run.growths:
+            sys.exit(f"{words}: its growths aren't counted: {run.err[-400:]}")
+        return run
 
     def each(self, words, given, first=1):
         """The run with none refused, and then those with one refused, for each growth from the `first` on until a run meets none."""

@@ -1,16 +1,19 @@
 /* Makes the syncs of a file slow, where the environment has SLOW_SYNC=MS, or has the N-th and all later ones never end,
-   where it has HUNG_SYNC=N; and so its reads, by SLOW_READ and HUNG_READ. Preloaded, it stands before the C library's
-   `fdatasync` and `pread`. It needs no header, so that the kit's own clang will do. */
+   where it has HUNG_SYNC=N; and so its reads, by SLOW_READ and HUNG_READ, and the syncs of a start (`fsync`), by SLOW_FSYNC and
+   HUNG_FSYNC. Once the file that HUNG_RECV or HUNG_ACCEPT names is there, a read of a peer, or the next accept, never ends: of a
+   socket that doesn't wait, as those of the workers and of the thread that accepts, and not those of the pages. Preloaded, it
+   stands before the C library's functions. It needs no header, so that the kit's own clang will do. */
 extern char *getenv(const char *);
 extern long atol(const char *);
 extern long syscall(long, ...);
 extern int usleep(unsigned);
 extern int pause(void);
-enum { PREAD = 17, FDATASYNC = 75 };
+extern int access(const char *, int);
+enum { PREAD = 17, RECVFROM = 45, FCNTL = 72, FSYNC = 74, FDATASYNC = 75, ACCEPT4 = 288, GET_FLAGS = 3, NONBLOCK = 04000 };
 struct calls {
     long slow, hung, count;
 };
-static struct calls syncs, reads;
+static struct calls syncs, reads, fsyncs;
 static long number(const char *name) {
     const char *is = getenv(name);
     return is ? atol(is) : 0;
@@ -18,17 +21,35 @@ static long number(const char *name) {
 __attribute__((constructor)) static void begin(void) {
     syncs = (struct calls){number("SLOW_SYNC"), number("HUNG_SYNC"), 0};
     reads = (struct calls){number("SLOW_READ"), number("HUNG_READ"), 0};
+    fsyncs = (struct calls){number("SLOW_FSYNC"), number("HUNG_FSYNC"), 0};
 }
 static void wait_in(struct calls *it) {
     it->count++;
     while (it->hung && it->count >= it->hung) pause();
     if (it->slow) usleep(it->slow * 1000);
 }
+static void hang_at(const char *name, int socket) {
+    const char *file = getenv(name);
+    if (!file || !(syscall(FCNTL, socket, GET_FLAGS) & NONBLOCK)) return;
+    while (access(file, 0) == 0) pause();
+}
 int fdatasync(int file) {
     wait_in(&syncs);
     return syscall(FDATASYNC, file);
 }
+int fsync(int file) {
+    wait_in(&fsyncs);
+    return syscall(FSYNC, file);
+}
 long pread(int file, void *to, unsigned long bytes, long at) {
     wait_in(&reads);
     return syscall(PREAD, file, to, bytes, at);
+}
+long recv(int socket, void *to, unsigned long bytes, int flags) {
+    hang_at("HUNG_RECV", socket);
+    return syscall(RECVFROM, socket, to, bytes, flags, 0, 0);
+}
+int accept4(int socket, void *address, void *length, int flags) {
+    hang_at("HUNG_ACCEPT", socket);
+    return syscall(ACCEPT4, socket, address, length, flags);
 }
