@@ -1,9 +1,10 @@
 //! A load for `allocd serve`: connections of the house, each of which enters trades for the firm AAA and checks every answer.
 //!
-//! load PORT calls CONNECTIONS CALLS WINDOW: each connection makes CALLS calls, with at most WINDOW of them unanswered (1: one at a time). Of ten calls
+//! load PORT calls CONNECTIONS CALLS WINDOW [NAME]: each connection makes CALLS calls, with at most WINDOW of them unanswered (1: one at a time). Of ten calls
 //! seven are new trades, two are repeats of the newest trade of the connection, and one is a trade for an account that AAA hasn't. So each
 //! answer is known but for the numbers of the entries, which have to rise along a connection, and to be 1, 2, 3, .. over all of them, each
-//! once. It prints the round trips a second and their percentiles, and the accepted calls.
+//! once. It prints the round trips a second and their percentiles, and the accepted calls. With a NAME the connections are those of NAME0, NAME1,
+//! and so on, for a server that has one connection for a name.
 //!
 //! A connection that fails, or hears nothing for a minute, ends all with status 1.
 //!
@@ -37,8 +38,8 @@ fn frame(body: &str, out: &mut Vec<u8>) {
     out.extend_from_slice(format!("10={sum:03}\x01").as_bytes());
 }
 
-fn header(kind: &str, number: usize) -> String {
-    format!("35={kind}|49=HSE|56=HSE|34={number}|52=20260302-09:00:00|")
+fn header(firm: &str, kind: &str, number: usize) -> String {
+    format!("35={kind}|49={firm}|56=HSE|34={number}|52=20260302-09:00:00|")
 }
 
 /// Bytes that came, cut into frames.
@@ -130,16 +131,17 @@ fn call_at(connection: usize, i: usize) -> (Kind, String) {
     (kind, format!("{connection}-{named}"))
 }
 
-fn body_of(kind: Kind, id: &str, number: usize) -> String {
+fn body_of(firm: &str, kind: Kind, id: &str, number: usize) -> String {
     let account = if kind == Kind::Refused { "NONE" } else { "A1" };
     let lots = 10 * 10;
-    header("AE", number)
+    header(firm, "AE", number)
         + &format!("571={id}|55=ESZ6|32={lots}|552=1|54=1|453=1|448=AAA|447=D|452=4|1={account}|")
 }
 
 /// Sends all calls, at most so many unanswered.
 fn send_all(
     mut to: TcpStream,
+    firm: &str,
     connection: usize,
     calls: usize,
     window: usize,
@@ -156,7 +158,7 @@ fn send_all(
         // as many as the window has room for, but no more than 64 in a write
         while i < calls && waiting.len() < window && out.len() < 64 * 150 {
             let (kind, id) = call_at(connection, i);
-            frame(&body_of(kind, &id, i + 2), &mut out);
+            frame(&body_of(firm, kind, &id, i + 2), &mut out);
             waiting.push_back(Call {
                 kind,
                 id,
@@ -171,9 +173,10 @@ fn send_all(
     }
 }
 
-/// What a connection has to tell: the numbers of its entries, the time of each round trip, and how many reports came.
+/// What a connection has to tell: when it began, the numbers of its entries, the time of each round trip, and how many reports came.
 #[derive(Default)]
 struct Told {
+    began: Option<Instant>,
     entries: Vec<u32>,
     trips: Vec<Duration>,
     reports: usize,
@@ -254,9 +257,10 @@ fn failed(why: &str) -> ! {
     process::exit(1)
 }
 
-/// One connection, from its Logon to its Logout.
+/// One connection of a firm, from its Logon to its Logout.
 fn connection(
     port: u16,
+    firm: String,
     connection: usize,
     calls: usize,
     window: usize,
@@ -264,7 +268,7 @@ fn connection(
 ) -> Result<Told, String> {
     let mut stream = connected(port)?;
     let mut out = Vec::new();
-    frame(&(header("A", 1) + "98=0|108=60|1137=9|"), &mut out);
+    frame(&(header(&firm, "A", 1) + "98=0|108=60|1137=9|"), &mut out);
     stream.write_all(&out).map_err(|e| e.to_string())?;
     let mut frames = Frames {
         stream: stream.try_clone().map_err(|e| e.to_string())?,
@@ -275,16 +279,18 @@ fn connection(
         return Err("no Logon came back".to_owned());
     }
     start.wait();
+    let began = Some(Instant::now());
     let unanswered = Arc::new(Unanswered::default());
     let (to, shared) = (
         stream.try_clone().map_err(|e| e.to_string())?,
         unanswered.clone(),
     );
-    let sender = thread::spawn(move || send_all(to, connection, calls, window, &shared));
-    let told = read_all(&mut frames, calls, &unanswered)?;
+    let logout = header(&firm, "5", calls + 2);
+    let sender = thread::spawn(move || send_all(to, &firm, connection, calls, window, &shared));
+    let told = Told { began, ..read_all(&mut frames, calls, &unanswered)? };
     sender.join().map_err(|_| "the sender failed")?;
     out.clear();
-    frame(&header("5", calls + 2), &mut out);
+    frame(&logout, &mut out);
     stream.write_all(&out).map_err(|e| e.to_string())?;
     while let Ok(message) = frames.next() {
         if value(&message, 35) == "5" {
@@ -327,26 +333,28 @@ fn tell_all(told: Vec<Told>, took: Duration) -> Result<(), String> {
     Ok(())
 }
 
-/// Connections that all begin at once.
-fn calls(port: u16, connections: usize, calls: usize, window: usize) -> Result<(), String> {
+/// Connections that all begin at once, of the house, or each of a firm of its own.
+fn calls(port: u16, connections: usize, calls: usize, window: usize, name: Option<&String>) -> Result<(), String> {
     let start = Arc::new(Barrier::new(connections + 1));
     let running: Vec<_> = (0..connections)
         .map(|c| {
             let start = start.clone();
+            let firm = name.map_or("HSE".to_owned(), |name| format!("{name}{c}"));
             // one that fails before all are logged on would leave the others waiting
-            thread::spawn(move || match connection(port, c, calls, window, &start) {
+            thread::spawn(move || match connection(port, firm, c, calls, window, &start) {
                 Ok(told) => told,
                 Err(why) => failed(&why),
             })
         })
         .collect();
     start.wait();
-    let began = Instant::now();
     let mut told = Vec::new();
     for one in running {
         told.push(one.join().map_err(|_| "panicked")?);
     }
-    tell_all(told, began.elapsed())
+    // this thread may wake long after they have begun
+    let began = told.iter().filter_map(|it| it.began).min();
+    tell_all(told, began.map_or(Duration::ZERO, |it| it.elapsed()))
 }
 
 /// Connections in turn, so many at once.
@@ -363,7 +371,7 @@ fn turns(port: u16, at_once: usize, connections: usize, calls: usize) -> Result<
                     if c >= connections {
                         return Ok::<_, String>(told);
                     }
-                    told.push(connection(port, c, calls, 1, &Barrier::new(1))?);
+                    told.push(connection(port, "HSE".to_owned(), c, calls, 1, &Barrier::new(1))?);
                 }
             })
         })
@@ -544,7 +552,7 @@ fn main() {
     let number = |i: usize| words.get(i).and_then(|w| w.parse::<usize>().ok()).unwrap_or(0);
     let port = number(0) as u16;
     let done = match (words.get(1).map(String::as_str), words.len()) {
-        (Some("calls"), 5) => calls(port, number(2), number(3), number(4)),
+        (Some("calls"), 5 | 6) => calls(port, number(2), number(3), number(4), words.get(5)),
         (Some("turns"), 5) => turns(port, number(2), number(3), number(4)),
         (Some("behind"), 3) => behind(port, number(2)),
         (Some("beside"), 3) => beside(port, number(2)),

@@ -4,6 +4,7 @@
   inputs.py KIND N [--seed S] > FILE        the house: bench.house
 
 KIND      what one of the N is                                       messages, entries
+trade     a trade of 100                                             1, 1
 split     a trade of 100 and its split into two own parts            2, 2
 giveup    trade, split with a given part, claim, a split of that     5, 5
           with a given part, claim
@@ -88,6 +89,11 @@ def main():
     globals()["make_" + a.kind](o, a.n, random.Random(a.seed))
     o.close()
     print(f"{a.kind} {a.n}: {o.frames} frames", file=sys.stderr)
+
+
+def make_trade(o, n, r):
+    for i in range(n):
+        trade(o, f"T{i}", 100)
 
 
 def make_split(o, n, r):
