@@ -12,6 +12,10 @@ OPENING = re.compile(rb"8=FIXT\.1\.1\x019=(\d{1,6})\x01")
 BODY = re.compile(rb"35=[^\x01]+\x01(?:[1-9]\d{0,8}=[^\x01]+\x01)*")
 # A frame that the service wrote, with its body; its length and its checksum are looked at by `framed`.
 FRAME = re.compile(rb"8=FIXT\.1\.1\x019=\d+\x01(.*?\x01)10=\d{3}\x01", re.DOTALL)
+# A byte that a line of a frame writes as its two digits: any control byte but the one that ends a field, '|', which stands
+# for that one, and a backslash. And such digits.
+HIDDEN = re.compile(rb"[\x00\x02-\x1f|\\\x7f]")
+DIGITS = re.compile(rb"\\x([0-9a-fA-F]{2})")
 # A Logon's own fields, and those of the trade of the examples: AAA buys 100 lots for A1.
 LOGON = "98=0|108=30|1137=9|"
 TRADE = "571=T1|55=ESZ6|32=100|552=1|54=1|453=1|448=AAA|447=D|452=4|1=A1|"
@@ -27,6 +31,16 @@ def framed(body, off=0):
         body = body.encode("latin-1").replace(b"|", b"\x01")
     front = b"8=FIXT.1.1\x019=%d\x01%b" % (len(body), body)
     return b"%b10=%03d\x01" % (front, (checksum(front) + off) % 256)
+
+
+def shown(data):
+    r"""Bytes of a frame as a line: '|' for the byte 0x01, and digits as in \x1b for other control bytes, '|' and a backslash."""
+    return HIDDEN.sub(lambda byte: b"\\x%02x" % byte[0][0], data).replace(b"\x01", b"|")
+
+
+def meant(line):
+    """The bytes that `shown` shows as this line."""
+    return DIGITS.sub(lambda digits: bytes.fromhex(digits[1].decode()), line.replace(b"|", b"\x01"))
 
 
 def message(kind, firm, number, rest="", house="HSE"):

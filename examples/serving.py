@@ -2,7 +2,9 @@
 import gc
 import hashlib
 import os
+import signal
 import socketserver
+import sys
 import threading
 import time
 from http.server import BaseHTTPRequestHandler
@@ -54,7 +56,17 @@ class Page:
 
 
 class Server(socketserver.ThreadingTCPServer):
+    """A browser that breaks off ends its own request, and not the server."""
+
     allow_reuse_address = daemon_threads = True
+
+    def __init__(self, *given):
+        signal.signal(signal.SIGPIPE, signal.SIG_IGN)
+        super().__init__(*given)
+
+    def handle_error(self, request, client_address):
+        if not isinstance(sys.exc_info()[1], OSError):
+            super().handle_error(request, client_address)
 
 
 class Handler(BaseHTTPRequestHandler):

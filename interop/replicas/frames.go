@@ -4,8 +4,6 @@ import (
 	"bytes"
 	"fmt"
 	"strconv"
-
-	"go.etcd.io/etcd/clientv3"
 )
 
 var opening = []byte("8=FIXT.1.1\x019=")
@@ -60,4 +58,12 @@ func min(a, b int) int {
 	return b
 }
 
-func opPut(key, value string) []clientv3.Op { return []clientv3.Op{clientv3.OpPut(key, value)} }
+func clamp(n, least, most int64) int64 {
+	if n < least {
+		return least
+	}
+	if n > most {
+		return most
+	}
+	return n
+}

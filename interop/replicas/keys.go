@@ -1,10 +1,10 @@
 package main
 
 import (
+	"bufio"
 	"context"
 	"crypto/tls"
 	"crypto/x509"
-	"errors"
 	"fmt"
 	"os"
 	"strconv"
@@ -13,17 +13,10 @@ import (
 	"time"
 
 	"go.etcd.io/etcd/clientv3"
-	"go.etcd.io/etcd/etcdserver/api/v3rpc/rpctypes"
 	"go.uber.org/zap"
 )
 
-const (
-	nodeWait  = 2 * time.Second        // for a node's answer
-	lookWait  = time.Second            // for a node to say whether it leads
-	otherWait = 300 * time.Millisecond // for that, once another one has said that it doesn't
-	patience  = 10 * time.Second       // for any node's answer; the server waits 15 s
-	pause     = 50 * time.Millisecond  // before the nodes are asked again
-)
+const confFile = "/etc/allocd/etcd.conf"
 
 // keys are a book's keys on the nodes of etcd: all that begin with root.
 type keys struct {
@@ -52,11 +45,29 @@ func quota() int64 {
 	return 2 << 30
 }
 
+// configured has what the environment lacks be as the units have it.
+func configured(book string) {
+	file, err := os.Open(confFile)
+	if os.Getenv("ETCD") != "" || err != nil {
+		return
+	}
+	defer file.Close()
+	for lines := bufio.NewScanner(file); lines.Scan(); {
+		if name, value, found := strings.Cut(lines.Text(), "="); found && (name == "ETCD" || name == "QUOTA") {
+			os.Setenv(name, strings.Trim(value, `"'`))
+		}
+	}
+	if own := "/etc/allocd/etcd/" + book; os.Getenv("TLS") == "" {
+		os.Setenv("TLS", "/etc/allocd/etcd/ca.pem,"+own+".pem,"+own+".key")
+	}
+}
+
 // newKeys reads the environment.
 func newKeys(book string) *keys {
 	if book == "" || strings.ContainsAny(book, "/ \n") {
 		lost("%q can't be a book's name", book)
 	}
+	configured(book)
 	nodes := os.Getenv("ETCD")
 	if nodes == "" {
 		nodes = "127.0.0.1:2379"
@@ -71,6 +82,9 @@ func newKeys(book string) *keys {
 	return k
 }
 
+// another has a line of its own, so that nothing waits for what is asked on the first one.
+func (k *keys) another() *keys { return &keys{root: k.root, nodes: k.nodes, tls: k.tls} }
+
 func secured(files []string) *tls.Config {
 	if len(files) != 3 {
 		lost("TLS isn't CA,CERTIFICATE,KEY")
@@ -83,117 +97,23 @@ func secured(files []string) *tls.Config {
 	}
 	own, err := tls.LoadX509KeyPair(files[1], files[2])
 	check(err)
+	expires(text, own.Certificate[0])
 	return &tls.Config{RootCAs: authority, Certificates: []tls.Certificate{own}, MinVersion: tls.VersionTLS12}
 }
 
 func (k *keys) config(nodes ...string) clientv3.Config {
 	quiet := zap.NewProductionConfig() // what fails is said once, in this program's words
 	quiet.Level = zap.NewAtomicLevelAt(zap.FatalLevel)
-	return clientv3.Config{Endpoints: nodes, DialTimeout: nodeWait, TLS: k.tls, LogConfig: &quiet}
-}
-
-// dial finds the node that leads, and has a connection to it alone: what is put at another one goes through the leader anyway. All are asked at
-// once. Where one has answered that it doesn't lead, the others have little time left: one that is gone answers only when the time is over.
-func (k *keys) dial() (*clientv3.Client, error) {
-	type found struct {
-		line *clientv3.Client
-		err  error
-	}
-	answers := make(chan found, len(k.nodes))
-	for _, node := range k.nodes {
-		go func(node string) {
-			line, err := k.leading(node)
-			answers <- found{line, err}
-		}(node)
-	}
-	last, left := errors.New("no node"), len(k.nodes)
-	for over := time.After(lookWait); left > 0; {
-		select {
-		case it := <-answers:
-			left--
-			if it.err == nil {
-				go closeAll(left, func() *clientv3.Client { return (<-answers).line })
-				return it.line, nil
-			}
-			if last = it.err; it.err == errFollows {
-				over = time.After(otherWait)
-			}
-		case <-over:
-			go closeAll(left, func() *clientv3.Client { return (<-answers).line })
-			return nil, last
-		}
-	}
-	return nil, last
-}
-
-// closeAll closes the connections that come too late.
-func closeAll(left int, next func() *clientv3.Client) {
-	for ; left > 0; left-- {
-		if line := next(); line != nil {
-			line.Close()
-		}
-	}
-}
-
-var errFollows = errors.New("no node leads")
-
-func (k *keys) leading(node string) (*clientv3.Client, error) {
-	line, err := clientv3.New(k.config(node))
-	if err != nil {
-		return nil, err
-	}
-	within, end := context.WithTimeout(context.Background(), lookWait)
-	defer end()
-	status, err := line.Status(within, node)
-	if err == nil && status.Leader != status.Header.MemberId {
-		err = errFollows
-	}
-	if err != nil {
-		line.Close()
-		return nil, err
-	}
-	return line, nil
-}
-
-// final are the answers that no other node would give otherwise.
-func final(err error) bool {
-	for _, it := range []error{rpctypes.ErrNoSpace, rpctypes.ErrPermissionDenied, rpctypes.ErrRequestTooLarge, rpctypes.ErrDuplicateKey, rpctypes.ErrTooManyOps,
-		rpctypes.ErrCompacted, rpctypes.ErrLeaseNotFound, rpctypes.ErrUserEmpty} {
-		if rpctypes.Error(err) == it {
-			return true
-		}
-	}
-	return false
-}
-
-// try asks until a node answers, and no longer than that: so what is asked may be done twice.
-func (k *keys) try(long time.Duration, ask func(context.Context, *clientv3.Client) error) error {
-	k.lock.Lock()
-	defer k.lock.Unlock()
-	for began := time.Now(); ; time.Sleep(pause) {
-		var err error
-		if k.line == nil {
-			k.line, err = k.dial()
-		}
-		if k.line != nil {
-			within, end := context.WithTimeout(context.Background(), nodeWait)
-			err = ask(within, k.line)
-			end()
-			if err == nil || final(err) {
-				return err
-			}
-			k.line.Close()
-			k.line = nil
-		}
-		if time.Since(began) > long {
-			return fmt.Errorf("no node of etcd takes it: %v", err)
-		}
-	}
+	return clientv3.Config{Endpoints: nodes, DialTimeout: askWait, TLS: k.tls, LogConfig: &quiet, DialKeepAliveTime: 6 * time.Second, DialKeepAliveTimeout: 2 * time.Second}
 }
 
 // swap does what is asked where all tests hold, and reads what is asked else.
-func (k *keys) swap(tests []clientv3.Cmp, then []clientv3.Op, other ...clientv3.Op) (said *clientv3.TxnResponse, err error) {
-	err = k.try(patience, func(within context.Context, line *clientv3.Client) error {
+func (k *keys) swap(tests []clientv3.Cmp, then []clientv3.Op, other ...clientv3.Op) (*clientv3.TxnResponse, error) {
+	return k.swapWithin(putPatience, tests, then, other...)
+}
+
+func (k *keys) swapWithin(p waits, tests []clientv3.Cmp, then []clientv3.Op, other ...clientv3.Op) (said *clientv3.TxnResponse, err error) {
+	err = k.try(p, func(within context.Context, line *clientv3.Client) error {
 		said, err = line.Txn(within).If(tests...).Then(then...).Else(other...).Commit()
 		return err
 	})
@@ -202,7 +122,11 @@ func (k *keys) swap(tests []clientv3.Cmp, then []clientv3.Op, other ...clientv3.
 
 // read reads in one revision.
 func (k *keys) read(ops ...clientv3.Op) []*clientv3.GetResponse {
-	said, err := k.swap(nil, ops)
+	return k.readWithin(putPatience, ops...)
+}
+
+func (k *keys) readWithin(p waits, ops ...clientv3.Op) []*clientv3.GetResponse {
+	said, err := k.swapWithin(p, nil, ops)
 	check(err)
 	rows := make([]*clientv3.GetResponse, len(ops))
 	for i, it := range said.Responses {
@@ -213,32 +137,58 @@ func (k *keys) read(ops ...clientv3.Op) []*clientv3.GetResponse {
 
 // get gives a key's value and the revision in which it was put; 0 where it isn't there.
 func (k *keys) get(key string) ([]byte, int64) {
-	for _, kv := range k.read(clientv3.OpGet(k.root + key))[0].Kvs {
+	return first(k.read(clientv3.OpGet(k.root + key))[0])
+}
+
+func first(rows *clientv3.GetResponse) ([]byte, int64) {
+	for _, kv := range rows.Kvs {
 		return kv.Value, kv.ModRevision
 	}
 	return nil, 0
 }
 
+// parsed is the header that a value of `head` says.
+func parsed(value []byte) (header, bool) {
+	h := header{known: true}
+	n, _ := fmt.Sscanf(string(value), "%d %d %s %s", &h.entries, &h.length, &h.run, &h.digest)
+	return h, n == 4 && h.entries >= 0 && h.length > 0 && len(h.digest) == 64
+}
+
 func headerOf(rows *clientv3.GetResponse) (header, int64) {
-	h := header{entries: -1, digest: emptyDigest}
-	for _, kv := range rows.Kvs {
-		if n, _ := fmt.Sscanf(string(kv.Value), "%d %d %s %s", &h.entries, &h.length, &h.run, &h.digest); n != 4 {
-			lost("head is %q", kv.Value)
-		}
-		h.known = true
-		return h, kv.ModRevision
+	value, revision := first(rows)
+	if revision == 0 {
+		return header{entries: -1, digest: emptyDigest}, 0
 	}
-	return h, 0
+	h, well := parsed(value)
+	if !well {
+		lost("head is %q", value)
+	}
+	return h, revision
 }
 
 func (k *keys) head() (header, int64) { return headerOf(k.read(clientv3.OpGet(k.root + "head"))[0]) }
 
+// adopted is the run that adopted the book last.
+func (k *keys) adopted() string {
+	if run, _ := k.get("adopted"); run != nil {
+		return string(run)
+	}
+	return notAdopted
+}
+
+// since holds where a key was last put in that revision; 0 stands for one that isn't there.
 func (k *keys) since(key string, revision int64) clientv3.Cmp {
 	return clientv3.Compare(clientv3.ModRevision(k.root+key), "=", revision)
 }
 
+func (k *keys) is(key, value string) clientv3.Cmp {
+	return clientv3.Compare(clientv3.Value(k.root+key), "=", value)
+}
+
+func (k *keys) opPut(key, value string) clientv3.Op { return clientv3.OpPut(k.root+key, value) }
+
 func (k *keys) put(key, value string) {
-	_, err := k.swap(nil, []clientv3.Op{clientv3.OpPut(k.root+key, value)})
+	_, err := k.swap(nil, []clientv3.Op{k.opPut(key, value)})
 	check(err)
 }
 
@@ -256,45 +206,4 @@ func (k *keys) size(node string, long time.Duration) (int64, []string, error) {
 		return 0, nil, err
 	}
 	return status.DbSize, status.Errors, nil
-}
-
-// wakes sends a word whenever a key that begins so is put or deleted, and each second: a node that is gone tells nothing.
-func (k *keys) wakes(prefix string) <-chan struct{} {
-	woken := make(chan struct{}, 1)
-	wake := func() {
-		select {
-		case woken <- struct{}{}:
-		default:
-		}
-	}
-	go func() {
-		for ; ; time.Sleep(time.Second) {
-			wake()
-		}
-	}()
-	go func() {
-		for ; ; time.Sleep(pause) {
-			k.heed(prefix, wake)
-		}
-	}()
-	return woken
-}
-
-// heed calls `wake` for each event, until the watch ends.
-func (k *keys) heed(prefix string, wake func()) {
-	config := k.config(k.nodes...)
-	config.DialKeepAliveTime, config.DialKeepAliveTimeout = 6*time.Second, 2*time.Second
-	line, err := clientv3.New(config)
-	if err != nil {
-		return
-	}
-	defer line.Close()
-	within, end := context.WithCancel(context.Background())
-	defer end()
-	for it := range line.Watch(clientv3.WithRequireLeader(within), k.root+prefix, clientv3.WithPrefix()) {
-		if it.Err() != nil {
-			return
-		}
-		wake()
-	}
 }

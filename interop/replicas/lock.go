@@ -3,6 +3,7 @@ package main
 import (
 	"context"
 	"sync"
+	"sync/atomic"
 	"time"
 
 	"go.etcd.io/etcd/clientv3"
@@ -16,7 +17,7 @@ type hold struct {
 	name  string
 	ttl   int64
 	guard sync.Mutex
-	lease clientv3.LeaseID
+	lease int64 // of one at a time, which has `guard`
 }
 
 func newHold(book, name string, ttl int64) *hold {
@@ -25,30 +26,42 @@ func newHold(book, name string, ttl int64) *hold {
 	return l
 }
 
+// leased makes a lease, where there is none.
+func (l *hold) leased() {
+	if atomic.LoadInt64(&l.lease) != 0 {
+		return
+	}
+	check(l.k.try(putPatience, func(within context.Context, line *clientv3.Client) error {
+		said, err := line.Grant(within, l.ttl)
+		if err == nil {
+			atomic.StoreInt64(&l.lease, int64(said.ID))
+		}
+		return err
+	}))
+}
+
+// opPut puts the lock by its lease.
+func (l *hold) opPut() clientv3.Op {
+	return clientv3.OpPut(l.k.root+"lock", l.name, clientv3.WithLease(clientv3.LeaseID(atomic.LoadInt64(&l.lease))))
+}
+
 // take tries to have the lock; else it says who has it.
 func (l *hold) take() (bool, string) {
 	l.guard.Lock()
 	defer l.guard.Unlock()
-	if l.lease == 0 {
-		check(l.k.try(patience, func(within context.Context, line *clientv3.Client) error {
-			said, err := line.Grant(within, l.ttl)
-			if err == nil {
-				l.lease = said.ID
-			}
-			return err
-		}))
-	}
-	put, get := clientv3.OpPut(l.k.root+"lock", l.name, clientv3.WithLease(l.lease)), clientv3.OpGet(l.k.root+"lock")
-	said, err := l.k.swap([]clientv3.Cmp{clientv3.Compare(clientv3.Value(l.k.root+"lock"), "=", l.name)}, []clientv3.Op{put}, get)
+	l.leased()
+	said, err := l.k.swap([]clientv3.Cmp{l.k.is("lock", l.name)}, []clientv3.Op{l.opPut()}, clientv3.OpGet(l.k.root+"lock"))
 	if err == nil && !said.Succeeded && said.Responses[0].GetResponseRange().Count == 0 {
-		said, err = l.k.swap([]clientv3.Cmp{l.k.since("lock", 0)}, []clientv3.Op{put}, get)
+		said, err = l.k.swap([]clientv3.Cmp{l.k.since("lock", 0)}, []clientv3.Op{l.opPut()}, clientv3.OpGet(l.k.root+"lock"))
 	}
 	if rpctypes.Error(err) == rpctypes.ErrLeaseNotFound {
-		l.lease = 0
+		atomic.StoreInt64(&l.lease, 0)
 		return false, "nobody yet"
 	}
 	check(err)
-	if said.Succeeded {
+	had := said.Succeeded
+	shown.setLock(had)
+	if had {
 		return true, l.name
 	}
 	for _, kv := range said.Responses[0].GetResponseRange().Kvs {
@@ -59,18 +72,18 @@ func (l *hold) take() (bool, string) {
 
 // keep has the lease live on, also that of one who waits. A lease that is over is made anew: until somebody else has put `writer` nothing is lost.
 func (l *hold) keep() {
+	wait := waits{time.Second, time.Duration(l.ttl) * time.Second}
 	for range time.Tick(time.Duration(l.ttl) * time.Second / 4) {
 		l.guard.Lock()
 		over := false
-		if l.lease != 0 {
-			err := l.k.try(time.Duration(l.ttl)*time.Second, func(within context.Context, line *clientv3.Client) error {
-				_, err := line.KeepAliveOnce(within, l.lease)
+		if lease := atomic.LoadInt64(&l.lease); lease != 0 {
+			err := l.k.try(wait, func(within context.Context, line *clientv3.Client) error {
+				_, err := line.KeepAliveOnce(within, clientv3.LeaseID(lease))
 				return err
 			})
-			over = rpctypes.Error(err) == rpctypes.ErrLeaseNotFound
-		}
-		if over {
-			l.lease = 0
+			if over = rpctypes.Error(err) == rpctypes.ErrLeaseNotFound; over {
+				atomic.StoreInt64(&l.lease, 0)
+			}
 		}
 		l.guard.Unlock()
 		if over {
@@ -82,11 +95,27 @@ func (l *hold) keep() {
 
 // leave gives the lock up, where etcd answers at once.
 func (l *hold) leave() {
-	line, err := l.k.dial()
-	if err != nil || l.lease == 0 {
+	lease := atomic.LoadInt64(&l.lease)
+	line, err := l.k.dial(true)
+	if err != nil || lease == 0 {
 		return
 	}
-	within, end := context.WithTimeout(context.Background(), lookWait)
+	within, end := context.WithTimeout(context.Background(), askWait)
 	defer end()
-	line.Revoke(within, l.lease)
+	line.Revoke(within, clientv3.LeaseID(lease))
+}
+
+// takeover has the machine's own `run` on a file have the lock, whoever has it: it puts the book's `writer` next. Nobody else's word does that
+// again, so two machines that are told this serve once each, one after the other.
+func takeover(w wishes) {
+	k, name := newKeys(w.book), place(w.file)
+	if h, _ := k.head(); !h.known {
+		lost("etcd has no book %s", w.book)
+	}
+	l := &hold{k: k, name: name, ttl: 15}
+	l.leased()
+	had, _ := k.get("lock")
+	_, err := k.swap(nil, []clientv3.Op{l.opPut()})
+	check(err)
+	say("the lock, which %q had, is given to %q: its sidecar has 15 s", had, name)
 }

@@ -4,24 +4,30 @@ package main
 import (
 	"fmt"
 	"os"
-	"time"
 
 	"go.etcd.io/etcd/etcdserver/api/v3rpc/rpctypes"
 )
 
-const usage = `sidecar run HOUSE FILE BOOK --port PORT [--workers N] [--ttl SECONDS] [--now] [--adopt]
+const usage = `sidecar run HOUSE FILE BOOK --port PORT [--workers N] [--ttl SECONDS] [--hang SECONDS] [--metrics PORT|PATH] [-- WORD..]
+sidecar adopt HOUSE FILE BOOK, or adopt BOOK
+sidecar takeover FILE BOOK, or takeover BOOK
+sidecar watch BOOK NAME [--memory FILE] [--metrics PORT|PATH]
 sidecar show BOOK
-sidecar watch BOOK NAME
 sidecar state BOOK
 sidecar version
 
-run waits for the book's lock, and follows the book into FILE meanwhile; then it takes the book over and runs 'allocd keep' on it.
-With --now it doesn't wait: the one that serves is ended. With --adopt a FILE that etcd doesn't know is what the book begins with.
+run waits for the book's lock, and follows the book into FILE meanwhile; then it takes the book over and runs 'allocd keep' on it, with
+the words after --. Where that stands still for --hang seconds (10) it ends it, and gives the lock up.
+adopt puts a FILE of which etcd has less, or nothing, and ends. takeover has the machine's own 'run' on FILE take the book over at once.
+With BOOK alone HOUSE is /etc/allocd/BOOK.house, and FILE /var/lib/allocd/BOOK.
+watch compares all digests and runs 'allocd batch' as the book grows. Where something isn't as it must be, or isn't what it agreed to
+before (--memory), it ends with status 3; status 1 is a trouble of its own. --metrics answers Prometheus, on 127.0.0.1 or a socket.
 show writes the journal, as a file has it, on standard output; state says how far it is.
-watch compares all digests and runs 'allocd batch' as the book grows; it ends with status 3 where something isn't as it must be.
 
 ETCD in the environment names the nodes (HOST:PORT,..), TLS the files CA,CERTIFICATE,KEY; ALLOCD is the program.
-QUOTA is the nodes' --quota-backend-bytes, for the alarm (2147483648, as etcd's own, if not given).`
+QUOTA is the nodes' --quota-backend-bytes, for the alarm (2147483648, as etcd's own, if not given).
+Without ETCD /etc/allocd/etcd.conf says ETCD and QUOTA, and TLS is of /etc/allocd/etcd: ca.pem, BOOK.pem, BOOK.key.
+TRACE names a file to which a line is added for each thing that this program has etcd do, and that it answers.`
 
 var version = "unknown"
 
@@ -55,20 +61,25 @@ func misused() {
 }
 
 func main() {
-	words := os.Args[1:]
-	switch {
-	case len(words) >= 6 && words[0] == "run":
-		run(request(words[1:]))
-	case len(words) == 2 && words[0] == "show":
-		show(words[1])
-	case len(words) == 2 && words[0] == "state":
-		state(words[1])
-	case len(words) == 3 && words[0] == "watch":
-		watch(words[1], words[2])
-	case len(words) == 1 && words[0] == "version":
-		fmt.Println(version)
-	default:
+	a, ok := asked(os.Args[1:])
+	if !ok {
 		misused()
+	}
+	switch a.word {
+	case "run":
+		run(a.wishes)
+	case "adopt":
+		adopt(a.wishes)
+	case "takeover":
+		takeover(a.wishes)
+	case "watch":
+		watch(a)
+	case "show":
+		show(a.book)
+	case "state":
+		state(a.book)
+	case "version":
+		fmt.Println(version)
 	}
 }
 
@@ -82,8 +93,11 @@ func state(book string) {
 	writer, _ := k.get("writer")
 	lock, _ := k.get("lock")
 	fmt.Printf("%d entries, %d bytes, %s; written by %s; the lock has %q\n", h.entries, h.length, h.digest, writer, lock)
+	if run, _ := k.get("adopting"); run != nil {
+		fmt.Printf("an adoption isn't over: %s\n", run)
+	}
 	for _, node := range k.nodes {
-		used, errors, err := k.size(node, 2*time.Second)
+		used, errors, err := k.size(node, askWait)
 		if err != nil {
 			fmt.Printf("%s: %v\n", node, err)
 			continue

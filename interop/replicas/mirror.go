@@ -13,9 +13,6 @@ import (
 	"time"
 )
 
-// gate is the line feed at the end of a journal's file. The next group takes its place, beginning with an 8.
-const gate = '\n'
-
 // mirror is a journal's file that has a book's beginning: `at` bytes and the gate, or nothing.
 type mirror struct {
 	path, run string
@@ -26,8 +23,13 @@ type mirror struct {
 
 // held takes the lock beside a journal's file. Whoever inherits the descriptor has it too.
 func held(path string) *os.File {
+	_, err := os.Stat(path + ".lock")
+	made := os.IsNotExist(err)
 	lock, err := os.OpenFile(path+".lock", os.O_RDWR|os.O_CREATE, 0o600)
 	check(err)
+	if made {
+		ownedAs(path+".lock", filepath.Dir(path))
+	}
 	for i := 0; ; i++ {
 		err = syscall.Flock(int(lock.Fd()), syscall.LOCK_EX|syscall.LOCK_NB)
 		if err == nil {
@@ -40,30 +42,61 @@ func held(path string) *os.File {
 	}
 }
 
+// ownedAs gives a file that root made to whom another one belongs.
+func ownedAs(path, like string) {
+	it, err := os.Stat(like)
+	check(err)
+	if owner := it.Sys().(*syscall.Stat_t); os.Getuid() == 0 && owner.Uid != 0 {
+		check(os.Chown(path, int(owner.Uid), int(owner.Gid)))
+	}
+}
+
 // settle has the file be what etcd has: it keeps what is the same, and fetches the rest. What it replaces is laid aside. Says where the bytes came from.
-func settle(k *keys, h header, path, run string) (*mirror, string) {
-	unlost(h, path)
+func settle(k *keys, n *note, h header, revision int64, path, run string) (*mirror, string) {
+	stands := standingOf(path, h.length)
+	permitted(k, n, h, revision, stands, run)
 	file, err := os.OpenFile(path, os.O_RDWR|os.O_CREATE, 0o600)
 	check(err)
 	m := &mirror{path: path, run: run, file: file}
-	size, err := file.Seek(0, io.SeekEnd)
-	check(err)
+	source := m.becomes(k, h, stands.size)
+	n.agrees(m.file, h)
+	if h.known {
+		n.see(h, revision)
+	}
+	return m, source
+}
+
+// permitted ends this program where it can't go on with what etcd has, and has the refusal stand in etcd for the others to read.
+func permitted(k *keys, n *note, h header, revision int64, s standing, run string) {
+	adopted := k.adopted()
+	why := n.refusal(h, revision, adopted, s)
+	if why == nil {
+		n.adopted = adopted
+		return
+	}
+	traced("refused", run, n.head.length, h.length, int64(s.behind), int64(one(n.older(revision, adopted))))
+	name, _ := os.Hostname()
+	k.swap(nil, []clientOp{k.opPut("alarm/"+name, why.Error())}) // where it can't be put, the line says it
+	lost("%v", why)
+}
+
+func (m *mirror) becomes(k *keys, h header, size int64) string {
 	if m.has(h, size) {
 		m.mend(m.at, nil, size)
-		return m, "all of it from the file"
+		return "all of it from the file"
 	}
 	for _, r := range m.marks(k, h, size) {
 		from := r.at
-		tail, _, err := r.rest()
+		tail, err := r.rest()
 		if err != nil {
 			continue
 		}
 		m.at, m.sha = r.at, r.sha
 		m.mend(from, tail, size)
-		return m, fmt.Sprintf("the last %d bytes from etcd", len(tail))
+		return fmt.Sprintf("the last %d bytes from etcd", len(tail))
 	}
 	m.fetch(k, size)
-	return m, "all of it from etcd"
+	return "all of it from etcd"
 }
 
 // has tells whether the file begins with all of the book; nobody has to be asked for that.
@@ -93,7 +126,7 @@ func (m *mirror) marks(k *keys, h header, size int64) []*reader {
 		check(err)
 		at = place
 		r := k.reader()
-		r.at, r.sha = at, cloned(sha)
+		r.at, r.sha = at, cloned(sha, sha256.New())
 		marks = append([]*reader{r}, marks...)
 	}
 	return marks
@@ -102,11 +135,7 @@ func (m *mirror) marks(k *keys, h header, size int64) []*reader {
 // mend writes what lacks from there on, and cuts off what is behind it.
 func (m *mirror) mend(from int64, tail []byte, size int64) {
 	wanted := m.end(tail)
-	cut := make([]byte, size-from)
-	if len(cut) > 0 {
-		_, err := m.file.ReadAt(cut, from)
-		check(err)
-	}
+	cut := rest(m.file, from, size)
 	if bytes.Equal(cut, wanted) {
 		return
 	}
@@ -149,7 +178,7 @@ func (m *mirror) fetch(k *keys, size int64) {
 			check(err)
 			m.sync()
 			check(os.Rename(m.path+".new", m.path))
-			m.syncFolder()
+			syncFolder(m.path)
 			return
 		}
 	}
@@ -169,8 +198,9 @@ func (m *mirror) add(data []byte) {
 
 func (m *mirror) sync() { check(m.file.Sync()) }
 
-func (m *mirror) syncFolder() {
-	folder, err := os.Open(filepath.Dir(m.path))
+// syncFolder has a file's name on the disk.
+func syncFolder(path string) {
+	folder, err := os.Open(filepath.Dir(path))
 	check(err)
 	check(folder.Sync())
 	folder.Close()

@@ -14,45 +14,48 @@ import (
 )
 
 const (
-	pageBytes = 32 << 20 // that are read at once, or so
+	pageBytes = 8 << 20 // that are read at once, or so
 	mostRows  = 2000
-	fewRows   = 20
+	fewRows   = 10 // of 700,000 bytes
 )
 
 var emptyDigest = hex.EncodeToString(sha256.New().Sum(nil))
 
 func pieceKey(offset int64) string { return fmt.Sprintf("piece/%012d", offset) }
 
-func cloned(sha hash.Hash) hash.Hash {
-	state, err := sha.(encoding.BinaryMarshaler).MarshalBinary()
+// cloned has `copy` be what `sum` is.
+func cloned(sum, copy hash.Hash) hash.Hash {
+	state, err := sum.(encoding.BinaryMarshaler).MarshalBinary()
 	check(err)
-	copy := sha256.New()
 	check(copy.(encoding.BinaryUnmarshaler).UnmarshalBinary(state))
 	return copy
 }
 
-func digest(sha hash.Hash) string { return hex.EncodeToString(sha.Sum(nil)) }
+func digest(sum hash.Hash) string { return hex.EncodeToString(sum.Sum(nil)) }
 
 // reader reads a book from some byte on. sha has taken in what comes before it.
 type reader struct {
-	k    *keys
-	at   int64
-	sha  hash.Hash
-	rows int64
+	k      *keys
+	at     int64
+	sha    hash.Hash
+	rows   int64
+	placed int64 // the revision of the last head that was read
 }
 
-func (k *keys) reader() *reader { return &reader{k: k, sha: sha256.New(), rows: 200} }
+func (k *keys) reader() *reader { return &reader{k: k, sha: sha256.New(), rows: fewRows} }
 
 // next gives the next bytes of the book, none where it has no more, and its head at that moment. What isn't a book is an error: a piece that
 // lacks, bytes that aren't those that the head says.
 func (r *reader) next() ([]byte, header, error) {
-	rows := r.k.read(clientv3.OpGet(r.k.root+"head"), clientv3.OpGet(r.k.root+pieceKey(r.at), clientv3.WithRange(r.k.root+"piece0"), clientv3.WithLimit(r.rows)))
-	h, _ := headerOf(rows[0])
+	rows := r.k.readWithin(pagePatience, clientv3.OpGet(r.k.root+"head"),
+		clientv3.OpGet(r.k.root+pieceKey(r.at), clientv3.WithRange(r.k.root+"piece0"), clientv3.WithLimit(r.rows)))
+	h, placed := headerOf(rows[0])
 	if r.at < h.length && (len(rows[1].Kvs) == 0 || r.offset(rows[1].Kvs[0]) != r.at) {
-		rows = r.k.read(clientv3.OpGet(r.k.root+"head"), clientv3.OpGet(r.k.root+"piece/", clientv3.WithRange(r.k.root+pieceKey(r.at)),
+		rows = r.k.readWithin(pagePatience, clientv3.OpGet(r.k.root+"head"), clientv3.OpGet(r.k.root+"piece/", clientv3.WithRange(r.k.root+pieceKey(r.at)),
 			clientv3.WithSort(clientv3.SortByKey, clientv3.SortDescend), clientv3.WithLimit(1)))
-		h, _ = headerOf(rows[0])
+		h, placed = headerOf(rows[0])
 	}
+	r.placed = placed
 	data, size := []byte{}, int64(len(rows[1].Kvs)+1)
 	for _, kv := range rows[1].Kvs {
 		offset := r.offset(kv)
@@ -90,16 +93,16 @@ func (r *reader) took(data []byte, h header) error {
 }
 
 // rest gives all that the book has from there on.
-func (r *reader) rest() ([]byte, header, error) {
+func (r *reader) rest() ([]byte, error) {
 	var all []byte
 	for {
 		data, h, err := r.next()
 		if err != nil {
-			return nil, h, err
+			return nil, err
 		}
 		all = append(all, data...)
 		if r.at == h.length {
-			return all, h, nil
+			return all, nil
 		}
 	}
 }
@@ -117,14 +120,4 @@ func (k *keys) beginnings(before int64) []int64 {
 		}
 	}
 	return offsets
-}
-
-func clamp(n, least, most int64) int64 {
-	if n < least {
-		return least
-	}
-	if n > most {
-		return most
-	}
-	return n
 }

@@ -1,19 +1,15 @@
 package main
 
 import (
-	"bytes"
 	"crypto/sha256"
-	"crypto/sha512"
+	"errors"
 	"fmt"
 	"hash"
 	"io"
 	"os"
-	"os/exec"
 	"strconv"
 	"time"
 )
-
-const batchWait = 20 * time.Second // for an answer of `allocd batch`
 
 // show writes the journal as a file has it.
 func show(book string) {
@@ -30,9 +26,7 @@ func show(book string) {
 			lost("%v", err)
 		}
 		if r.at == h.length {
-			if h.length > 0 {
-				os.Stdout.Write([]byte{gate})
-			}
+			os.Stdout.Write([]byte{gate})
 			return
 		}
 	}
@@ -40,49 +34,68 @@ func show(book string) {
 
 // witness looks at a book as it grows.
 type witness struct {
-	k       *keys
-	name    string
-	house   string // the SHA-256 of its file
-	batch   io.Writer
-	answers chan []byte
-	entries int64 // that the batch has answered
-	asked   int64
-	held    []byte
-	at      int64 // of the whole frames, which `sealed` has taken in
-	sealed  hash.Hash
+	k      *keys
+	name   string
+	chain  *chain
+	batch  *batch
+	agreed memory
 }
 
-// form is that of a journal whose seals are SHA-512.
-const form = "allocd-journal-2"
-
-// watch compares a book with what it says of itself and with what the rules give, and goes on as it grows.
-func watch(book, name string) {
-	w := &witness{k: newKeys(book), name: name, entries: -1, asked: -1, sealed: sha512.New(), answers: make(chan []byte, 1<<16)}
-	house, _ := w.k.get("house")
-	if house == nil {
-		lost("etcd has no book %s", book)
+// watch compares a book with what it says of itself, with what the rules give, and with what it was, and goes on as it grows.
+func watch(a order) {
+	w := &witness{k: newKeys(a.book), name: a.name, chain: newChain(), agreed: remembered(a.memory)}
+	shown.answer(a.metrics, "watches")
+	go w.k.another().watchNodes()
+	house, err := w.k.house()
+	if err != nil && w.agreed.length > 0 {
+		w.alarm("%v, and %d entries were agreed to", err, w.agreed.entries)
 	}
-	w.house = fmt.Sprintf("%x", sha256.Sum256(house))
-	w.start(house)
+	check(err)
+	w.batch = startBatch(w, house)
+	w.chain.heed = w.batch.ask
 	r := w.k.reader()
-	done := int64(-2)
 	for range w.k.wakes("head") {
 		for more := true; more; {
 			data, h, err := r.next()
 			if err != nil {
 				w.alarm("%v", err)
 			}
-			w.look(data)
-			if more = r.at < h.length; more {
-				continue
-			}
-			w.heard(h)
-			if h.known && h.entries != done {
-				done = h.entries
-				w.k.put("done/"+name, strconv.FormatInt(done, 10))
+			w.look(data, sha256Of(house))
+			shown.follows(r.at, h)
+			if more = r.at < h.length; !more && h.known {
+				w.reached(h)
 			}
 		}
 		time.Sleep(20 * time.Millisecond)
+	}
+}
+
+// look takes the next bytes of the book.
+func (w *witness) look(data []byte, house string) {
+	if err := w.agreed.take(data); err != nil {
+		w.alarm("%v", err)
+	}
+	if err := w.chain.take(data); err != nil {
+		w.alarm("%v", err)
+	}
+	if w.chain.at > 0 && w.chain.house != house {
+		w.alarm("the journal is of a house file with SHA-256 %s, and the book's has %s", w.chain.house, house)
+	}
+}
+
+// reached agrees with all that the book has, once the batch has answered it.
+func (w *witness) reached(h header) {
+	w.batch.hearAll(w.chain)
+	switch {
+	case len(w.chain.held) > 0:
+		w.alarm("the book ends inside a frame, at byte %d", w.chain.at)
+	case w.chain.entries != -1 && w.chain.entries != h.entries:
+		w.alarm("the book has %d entries, and head says %d", w.chain.entries, h.entries)
+	case h.length < w.agreed.length:
+		w.alarm("etcd has less than was told: %d entries in %d bytes, and %d in %d were agreed to", h.entries, h.length, w.agreed.entries, w.agreed.length)
+	case h.length > w.agreed.length || !w.agreed.said:
+		w.agreed.keep(h)
+		w.k.put("done/"+w.name, strconv.FormatInt(h.entries, 10))
 	}
 }
 
@@ -90,137 +103,69 @@ func watch(book, name string) {
 func (w *witness) alarm(words string, more ...interface{}) {
 	text := fmt.Sprintf(words, more...)
 	say("ALARM: %s", text)
-	w.k.swap(nil, opPut(w.k.root+"alarm/"+w.name, text))
+	w.k.swap(nil, []clientOp{w.k.opPut("alarm/"+w.name, text)})
 	os.Exit(3)
 }
 
-// start starts `allocd batch` on the book's house file.
-func (w *witness) start(house []byte) {
-	file, err := os.CreateTemp("", "allocd-house-")
-	check(err)
-	_, err = file.Write(house)
-	check(err)
-	process := exec.Command(program(), "batch", file.Name())
-	process.Stderr = os.Stderr
-	in, err := process.StdinPipe()
-	check(err)
-	out, err := process.StdoutPipe()
-	check(err)
-	check(process.Start())
-	w.batch = in
-	go func() {
-		w.read(out)
-		w.alarm("allocd batch ended: %v", process.Wait())
-	}()
-	go func() {
-		time.Sleep(batchWait) // it has read its file long before
-		os.Remove(file.Name())
-	}()
-}
-
-// read takes the batch's answers.
-func (w *witness) read(out io.Reader) {
-	held, piece := []byte{}, make([]byte, 1<<16)
-	for {
-		n, err := out.Read(piece)
-		held = append(held, piece[:n]...)
-		for {
-			one, err := cut(held)
-			if err != nil {
-				w.alarm("allocd batch: %v", err)
+// watchNodes has the figures know how many nodes answer.
+func (k *keys) watchNodes() {
+	for ; ; time.Sleep(sizeEach) {
+		answering := 0
+		for _, node := range k.nodes {
+			if _, _, err := k.size(node, askWait); err == nil {
+				answering++
 			}
-			if one == nil {
-				break
-			}
-			held = held[len(one):]
-			w.answers <- append([]byte{}, one...)
 		}
-		if err != nil {
-			return
-		}
+		shown.setNodes(answering, len(k.nodes))
 	}
 }
 
-// look takes whole frames: seals are compared with what comes before them, and entries are given to the batch.
-func (w *witness) look(data []byte) {
-	w.held = append(w.held, data...)
-	from := 0
-	for {
-		one, err := cut(w.held[from:])
-		if err != nil {
-			w.alarm("at byte %d: %v", w.at, err)
-		}
-		if one == nil {
-			break
-		}
-		switch kind := field(one, "35"); {
-		case w.at == 0:
-			if kind != "A" || field(one, "1408") != form {
-				w.alarm("it doesn't begin with the head of a journal of the form %s: %q", form, one)
-			}
-			if field(one, "58") != w.house {
-				w.alarm("the journal is of a house file with SHA-256 %s, and the book's has %s", field(one, "58"), w.house)
-			}
-		case kind == "A":
-			w.alarm("a head stands at byte %d", w.at)
-		case kind == "0":
-			if seal := digest(w.sealed); field(one, "112") != seal {
-				w.alarm("the seal at byte %d says %s, and the bytes before it have %s", w.at, field(one, "112"), seal)
-			}
-		default:
-			w.ask(one)
-		}
-		w.sealed.Write(one)
-		w.at += int64(len(one))
-		from += len(one)
-	}
-	w.held = append([]byte{}, w.held[from:]...)
+// memory is how far a watch agreed, in a file: the book has to go on from there.
+type memory struct {
+	path            string
+	entries, length int64
+	digest          string
+	at              int64
+	sum             hash.Hash
+	said            bool // in this run
 }
 
-// ask gives an entry to the batch, and takes the answers that are there.
-func (w *witness) ask(one []byte) {
-	number, err := strconv.ParseInt(field(one, "34"), 10, 64)
-	if err != nil {
-		w.alarm("a frame at byte %d has no number", w.at)
+func remembered(path string) memory {
+	m := memory{path: path, sum: sha256.New()}
+	text, err := os.ReadFile(path)
+	if path == "" || errors.Is(err, os.ErrNotExist) {
+		return m
 	}
-	if w.entries == -1 {
-		w.entries, w.asked = number-1, number-1
-	}
-	if w.asked++; number != w.asked {
-		w.alarm("the entry at byte %d is %d, and should be %d", w.at, number, w.asked)
-	}
-	_, err = w.batch.Write(one)
 	check(err)
-	for len(w.answers) > 0 {
-		w.hear(<-w.answers)
+	if n, _ := fmt.Sscanf(string(text), "%d %d %s", &m.entries, &m.length, &m.digest); n != 3 {
+		lost("%s isn't what a watch remembers: %q", path, text)
 	}
+	return m
 }
 
-// heard waits until the batch has answered all entries, which are as many as the head says.
-func (w *witness) heard(h header) {
-	for w.entries < w.asked {
-		select {
-		case one := <-w.answers:
-			w.hear(one)
-		case <-time.After(batchWait):
-			w.alarm("allocd batch doesn't answer entry %d", w.entries+1)
-		}
+// take takes the book's next bytes: the first ones have to be those that were agreed to.
+func (m *memory) take(data []byte) error {
+	if m.said || m.at >= m.length {
+		return nil
 	}
-	if len(w.held) > 0 {
-		w.alarm("the book ends inside a frame, at byte %d", w.at)
+	n := clamp(int64(len(data)), 0, m.length-m.at)
+	m.sum.Write(data[:n])
+	if m.at += n; m.at == m.length && digest(m.sum) != m.digest {
+		return fmt.Errorf("the first %d bytes aren't those that were agreed to: they have %s, and had %s", m.length, digest(m.sum), m.digest)
 	}
-	if w.entries != -1 && w.entries != h.entries {
-		w.alarm("the book has %d entries, and head says %d", w.entries, h.entries)
-	}
+	return nil
 }
 
-// hear takes an answer of the batch: the entry has to be accepted, with its number.
-func (w *witness) hear(one []byte) {
-	number := field(one, "793")
-	if field(one, "35") == "AR" {
-		number = string(bytes.TrimPrefix([]byte(field(one, "58")), []byte("entry ")))
+func (m *memory) keep(h header) {
+	m.entries, m.length, m.digest, m.said = h.entries, h.length, h.digest, true
+	if m.path == "" {
+		return
 	}
-	if w.entries++; number != strconv.FormatInt(w.entries, 10) {
-		w.alarm("entry %d isn't what the rules give: %s", w.entries, bytes.ReplaceAll(one, []byte{1}, []byte{'|'}))
-	}
+	file, err := os.OpenFile(m.path+".new", os.O_WRONLY|os.O_CREATE|os.O_TRUNC, 0o600)
+	check(err)
+	_, err = io.WriteString(file, fmt.Sprintf("%d %d %s\n", h.entries, h.length, h.digest))
+	check(err)
+	check(file.Sync())
+	check(file.Close())
+	check(os.Rename(m.path+".new", m.path))
 }

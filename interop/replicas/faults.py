@@ -1,0 +1,375 @@
+"""Cases of the faults that lose or that hang: an etcd that went back, an adoption that is broken off, one bad disk, what stands still, a person's word, a
+node that doesn't answer, slow lines, a watch's own trouble, and long house files."""
+import hashlib
+import os
+import re
+import signal
+import socket
+import subprocess
+import time
+
+from harness import Cluster, Trial, case, children, contents, frame, free_port, made_house, room_for, serving, until
+
+HUNG = 15  # seconds, after which another machine answers
+
+
+def pair(trial, book, *words, **more):
+    """Two machines, of which the first one serves, and the second one follows."""
+    a, b = trial.machine("A", book, *words, **more).start(), trial.machine("B", book, *words, **more)
+    until(a.serves)
+    b.start()
+    b.follows()
+    return a, b
+
+
+def back(trial):
+    """An etcd that is put back to a snapshot, under two machines that know more, firms that were told more, and a watch that agreed to more."""
+    own = Trial(f"{trial.room}/back", trial.house, Cluster(f"{trial.room}/back/etcd"))
+    try:
+        a, b = pair(own, "back")
+        load, memory = own.load("back", [a, b], PAUSE="0.05"), f"{own.room}/memory"
+        watch = own.watch("back", "c", "--memory", memory)
+        snapshot, before = f"{own.room}/snapshot", own.state("back")[0]
+        one = dict(own.cluster.env, ETCDCTL_ENDPOINTS=own.cluster.nodes["a"])
+        subprocess.run(["etcdctl", "snapshot", "save", snapshot], env=one, stdout=subprocess.DEVNULL, stderr=subprocess.DEVNULL, check=True)
+        until(lambda: own.state("back")[0] > before + 100)
+        until(lambda: os.path.exists(memory) and int(contents(memory).split()[0]) > before + 50)
+        went_back(own, a, b, watch, snapshot, load)
+    finally:
+        own.stop()
+
+
+def went_back(own, a, b, watch, snapshot, load):
+    own.cluster.stop()
+    watch.kill()
+    until(lambda: not a.server() and not b.server())
+    kept = [it.kept() for it in (a, b)]
+    own.cluster.do("restore", snapshot, own.cluster.folder)
+    own.cluster.do("start", own.cluster.folder)
+    own.tells("back", "restored", own.cluster.get("/allocd/back/writer"), *own.state("back"))
+    both = until(lambda: all("less than was told" in it.said() for it in (a, b)))
+    case(both, f"an etcd that went back is refused: {a.last()[:150]}")
+    if not both:
+        return
+    starts, began = a.said().count("less than was told"), time.time()
+    more = until(lambda: a.said().count("less than was told") >= starts + 6)
+    case(more and time.time() - began > 5, f"again and again, but slower: six starts in {time.time() - began:.1f} s")
+    case(not a.serves() and not b.serves(), "and nobody serves")
+    later = [it.kept() for it in (a, b)]
+    case(all(new == old for new, old in zip(later, kept)), "no byte of the journals is cut")
+    again = own.watch("back", "c", "--memory", f"{own.room}/memory")
+    case(until(lambda: again.poll() == 3) and "agreed to" in contents(again.log).decode(), f"the watch rings: {contents(again.log).decode().strip()[-120:]}")
+    a.stop(), b.stop()
+    longest = max((a, b), key=lambda it: len(it.kept()))
+    status, said = own.word("adopt", own.house, longest.journal, "back", env=longest.env)
+    case(status == 0, f"adopt, where the whole journal is: {said.strip()}")
+    a.start(), b.start()
+    case(load.goes_on(), "and firms are answered again")
+    load.end()
+    own.replayed("back")
+
+
+def adoption(trial, journal):
+    """An adoption over a slow line, which is killed; the other machine has another, full journal, and one has none."""
+    a, b = trial.machine("A", "adopted"), trial.machine("B", "adopted")
+    for it in (a, b):
+        with open(it.journal, "wb") as file:
+            file.write(journal)
+    slow = dict(trial.line(1, 200), TRACE=a.env["TRACE"])
+    process = subprocess.Popen([trial.sidecar, "adopt", trial.house, a.journal, "adopted"], env=slow, stderr=subprocess.DEVNULL)
+    until(lambda: os.path.exists(a.env["TRACE"]) and b"marked" in contents(a.env["TRACE"]))
+    trial.started.append(process)
+    process.kill()
+    process.wait()
+    until(lambda: not trial.cluster.get("/allocd/adopted/lock"))
+    case(not trial.cluster.get("/allocd/adopted/head"), "an adoption that was killed has left no head")
+    c = trial.machine("C", "adopted").start(again=False)
+    case(c.ends() and "an adoption isn't over" in c.said(), f"an empty machine doesn't serve: {c.last()[:90]}")
+    b.start(again=False)
+    case(b.ends() and b.kept() == journal, f"nor does another one cut its journal: {b.last()[:90]}")
+    status, said = trial.word("adopt", trial.house, b.journal, "adopted", env=b.env)
+    case(status == 0 and trial.show("adopted") == journal, f"begun anew it is whole: {said.strip().splitlines()[-1]}")
+    c.start()
+    case(until(c.serves) and c.kept() == journal, "and the empty machine serves all of it")
+    other = f"{trial.room}/other-journal"
+    with open(other, "wb") as file:
+        file.write(journal[:300] + b"\n")
+    c.stop(signal.SIGTERM)
+    status, said = trial.word("adopt", trial.house, other, "adopted")
+    case(status == 1, f"what isn't a whole journal is refused: {said.strip()[:100]}")
+    trial.replayed("adopted")
+
+
+def joining(trial):
+    """A byte changes on the disk of the machine that serves, before its pieces are joined. Gives the journal."""
+    a, b = trial.machine("A", "joined").start(), trial.machine("B", "joined")
+    until(a.serves)
+    load = trial.load("joined", [a, b], PAUSE="0.0003")
+    until(lambda: trial.state("joined")[1] > 200_000)
+    was = flipped(a.journal, 100_000)
+    a.says("isn't what etcd has, between")
+    line = next((it for it in a.said().splitlines() if "isn't what etcd has, between" in it), None)
+    case(line, f"a file that isn't what is joined ends its machine: {line and line[-90:]}")
+    case(load.goes_on() and a.laid_aside(), "which goes on with what etcd has, and has laid the file aside")
+    until(lambda: trial.state("joined")[1] > 750_000)
+    load.end()
+    entries, length = trial.state("joined")
+    large = lambda: sum(y - x > 250_000 for x, y in zip(*(lambda it: (it, it[1:] + [length]))(offsets(trial))))
+    case(until(lambda: large() >= 1), f"{length} bytes are {len(offsets(trial))} pieces, of which {large()} were joined")
+    journal = trial.show("joined")
+    case(journal == a.kept() and journal[100_000] == was, "the book of joined pieces is the journal, without the changed byte")
+    watch = trial.watch("joined", "w")
+    case(trial.agreed("joined", "w", entries), "a watch that begins late agrees with it")
+    watch.kill()
+    a.stop(signal.SIGTERM)
+    b.start()
+    case(until(b.serves) and b.kept() == journal, "and an empty machine takes it over")
+    b.stop(signal.SIGTERM)
+    trial.replayed("joined")
+    return journal
+
+
+def flipped(path, at):
+    """Changes a bit, and gives the byte as it was."""
+    with open(path, "r+b") as it:
+        it.seek(at)
+        was = it.read(1)
+        it.seek(at)
+        it.write(bytes([was[0] ^ 1]))
+    return was[0]
+
+
+def offsets(trial):
+    return sorted(int(it.rsplit("/", 1)[1]) for it in trial.cluster.keys("/allocd/joined/piece/"))
+
+
+def hangs(trial, shim):
+    """What stands still under load, of two machines: the server, the sidecar, both; and a sync that never returns."""
+    a, b = pair(trial, "hangs")
+    load = trial.load("hangs", [a, b], PAUSE="0.01")
+    for what, pids in (("server", lambda it: [it.server()]), ("sidecar", lambda it: [it.process.pid]), ("server and sidecar", lambda it: [it.server(), it.process.pid])):
+        one = serving([a, b])
+        other = b if one is a else a
+        until(lambda: other.follows(other.said().count("connections are taken") or 1))
+        stopped = [it for it in pids(one) if it]
+        hung(load, f"the {what} of {one.name} stands still", lambda: one.kill(*stopped, how=signal.SIGSTOP))
+        case(until(other.serves), f"{other.name} serves")
+        one.kill(*stopped, how=signal.SIGKILL if what == "server" else signal.SIGCONT)
+        waits = one.said().count("waits for")
+        one.follows(waits + 1)
+    load.end()
+    a.stop(signal.SIGTERM), b.stop(signal.SIGTERM)
+    trial.replayed("hangs")
+    if shim:
+        hung_sync(trial, shim)
+
+
+def hung_sync(trial, shim):
+    a = trial.machine("A", "sync", env=dict(trial.cluster.env, LD_PRELOAD=shim, HUNG_SYNC="3000")).start()
+    b = trial.machine("B", "sync")
+    until(a.serves)
+    b.start()
+    b.follows()
+    load = trial.load("sync", [a, b], PAUSE="0.002")
+    case(a.says("stands still"), f"a sync that never returns: {a.last()[:100]}")
+    case(until(b.serves) and load.goes_on(), "and the other machine serves")
+    gap = load.longest(load.moments()[0])
+    case(gap <= room_for(HUNG), f"{gap:.1f} s without an answer, of {room_for(HUNG):.0f}")
+    load.end()
+    trial.replayed("sync")
+
+
+def hung(load, name, do):
+    """Does something, and looks after how many seconds firms are answered again."""
+    began = time.time()
+    do()
+    until(lambda: load.answers(began + 1) > 10 and time.time() - began > 2)
+    gap = load.longest(began) or 999
+    case(2 < gap <= room_for(HUNG), f"{name}: {gap:.1f} s without an answer, of {room_for(HUNG):.0f}")
+
+
+def takeovers(trial):
+    """A person's word has a machine take the book over while another serves: once for each word, also where two are told it at once."""
+    a, b = pair(trial, "word")
+    load = trial.load("word", [a, b])
+    taken = lambda it: it.said().count("connections are taken")
+    status, said = trial.word("takeover", b.journal, "word", env=b.env)
+    case(status == 0 and until(b.serves) and until(lambda: "another run" in a.said()), f"B takes over while A serves: {said.strip()[:100]}")
+    a.follows()
+    case(load.goes_on(), "firms are answered by B")
+    was = taken(a) + taken(b)
+    words = [subprocess.Popen([trial.sidecar, "takeover", it.journal, "word"], env=it.env, stderr=subprocess.DEVNULL) for it in (a, b, a, b)]
+    case(all(it.wait() == 0 for it in words), "two words for each at once")
+    quiet = time.time()
+    until(lambda: load.goes_on() and load.answers(quiet) > 300)
+    now = taken(a) + taken(b)
+    until(lambda: load.goes_on() and load.answers(quiet) > 600)
+    case(now - was <= 4 and taken(a) + taken(b) == now, f"the book was taken over {now - was} times, and no more")
+    load.end()
+    a.stop(signal.SIGTERM), b.stop(signal.SIGTERM)
+    trial.replayed("word")
+
+
+def followers(trial):
+    """A leader whose client port answers nothing, and followers 50 ms away."""
+    cluster = trial.cluster
+    deaf, leader = socket.create_server(("127.0.0.1", 0)), cluster.leader()
+    port = deaf.getsockname()[1]
+    env = dict(cluster.env, ETCD=",".join(f"127.0.0.1:{port}" if name == leader else it for name, it in cluster.nodes.items()))
+    a = trial.machine("A", "deaf", env=env).start(again=False)
+    case(until(a.serves), f"the leader {leader} answers no client: {a.last()}")
+    load = trial.load("deaf", [a])
+    case(load.goes_on(), "and firms are answered, by way of a node that follows")
+    load.end()
+    a.stop(signal.SIGTERM)
+    far = trial.machine("A", "far", env=trial.line(50)).start(again=False)
+    case(until(far.serves), f"nodes that are 50 ms away: {far.last()}")
+    far.stop(signal.SIGTERM)
+    trial.replayed("deaf")
+    deaf.close()
+
+
+def slow_lines(trial, journal):
+    """A book is shown, watched, and taken over on an empty disk, over lines on which one reading takes more than two seconds."""
+    slow = trial.line(1, 200)
+    began = time.time()
+    case(trial.show("joined", slow) == journal, f"{len(journal)} bytes are shown over a slow line, in {time.time() - began:.1f} s")
+    a = trial.machine("S", "joined", env=slow).start()
+    case(until(a.serves) and a.kept() == journal, f"and taken over: {a.last()}")
+    watch = trial.watch("joined", "slow", env=slow)
+    case(trial.agreed("joined", "slow", trial.state("joined")[0]), "and watched")
+    watch.kill()
+    a.stop(signal.SIGTERM)
+
+
+def watching(trial):
+    """A watch whose batch is killed: its own trouble, status 1; and what it shows."""
+    book, port = "joined", free_port()
+    watch = trial.watch(book, "mine", "--metrics", str(port))
+    entries = trial.state(book)[0]
+    case(trial.agreed(book, "mine", entries), "a watch agrees")
+    case(until(lambda: f"allocd_sidecar_entries {entries}\n" in page(port)) and 'role{role="watches"} 1' in page(port), "and shows how far it is")
+    os.kill(children(watch.pid)[0], signal.SIGKILL)
+    case(until(lambda: watch.poll() is not None) and watch.returncode == 1, f"its batch is killed: status {watch.returncode}")
+    case(not trial.cluster.get(f"/allocd/{book}/alarm/mine") and "ALARM" not in contents(watch.log).decode(), "which is no alarm")
+
+
+def page(port):
+    done = subprocess.run(["curl", "-s", f"http://127.0.0.1:{port}/metrics"], stdout=subprocess.PIPE, text=True)
+    return done.stdout
+
+
+def options(trial):
+    """A house file of two megabytes, and options that are handed on."""
+    house, port = f"{trial.room}/long.house", free_port()
+    made_house(house, "".join(f"ACCOUNT AAA {'X' * 11}{i}\n" for i in range(80_000)))
+    status = f"{trial.room}/status"
+    words = ["--metrics", str(port), "--", "--log-calls", "--status", status, "--per-firm", "3"]
+    a = trial.machine("A", "long", *words, house=house).start(again=False)
+    case(until(a.serves), f"a house file of {os.path.getsize(house)} bytes: {a.last()[-100:]}")
+    own = Trial(trial.room, house, trial.cluster)
+    own.started = trial.started
+    load = own.load("long", [a])
+    case("log_calls=on" in a.said() and "per_firm=3" in a.said() and "event=called" in a.said(), "the server has the options behind --")
+    said = subprocess.run(["curl", "-s", "--unix-socket", status, "http://allocd/ready"], stdout=subprocess.PIPE, text=True).stdout
+    case(said == "ready\n", "and its status answers at the socket that was asked for")
+    for line in ('role{role="serves"} 1', "lock 1", "nodes_answering 3", "entries_behind 0"):
+        case(until(lambda: f"allocd_sidecar_{line}\n" in page(port)), f"the sidecar shows: {line}")
+    puts = re.search(r"put_seconds_count (\d+)", page(port))
+    case(puts and int(puts[1]) > 0, f"and {puts[1] if puts else 'no'} puts")
+    load.end()
+    entries = trial.state("long")[0]
+    watch = trial.watch("long", "w")
+    case(trial.agreed("long", "w", entries), "a watch has the house file from its pieces")
+    watch.kill()
+    a.stop(signal.SIGTERM)
+    trial.replayed("long")
+
+
+ASKS = r"""#!/usr/bin/env python3
+import os, socket, sys, time
+path = sys.argv[sys.argv.index("--replicate") + 1]
+open(sys.argv[3], "wb").write(b"8=A|\n")
+line = socket.socket(socket.AF_UNIX)
+line.connect(path)
+answers = open(sys.argv[3] + ".answers", "a", buffering=1)
+for words in ("0 4\n", "?\n", "?\n"):
+    line.sendall(words.encode())
+    answers.write(repr(line.recv(100)) + "\n")
+while not os.path.exists(sys.argv[3] + ".go"):
+    time.sleep(0.05)
+line.sendall(b"?\n")
+answers.write(repr(line.recv(100)) + "\n")
+"""
+
+
+def asked(trial):
+    """A server that asks whether it may go on: it may while its sidecar is the writer, and as soon as another is, nobody says so."""
+    program = f"{trial.room}/asks"
+    with open(program, "w") as it:
+        it.write(ASKS)
+    os.chmod(program, 0o755)
+    a = trial.machine("A", "asked", env=dict(trial.cluster.env, ALLOCD=program)).start(again=False)
+    answers = lambda: contents(f"{a.journal}.answers").decode().split() if os.path.exists(f"{a.journal}.answers") else []
+    case(until(lambda: len(answers()) == 3) and answers() == [r"b'0\n'", r"b'yes\n'", r"b'yes\n'"], f"a server that asks is answered: {answers()}")
+    trial.cluster.put("/allocd/asked/writer", "another")
+    open(f"{a.journal}.go", "w").close()
+    case(a.ends() and "another run has taken the book over" in a.said() and answers()[3:] != [r"b'yes\n'"], f"and not once another is the writer: {a.last()[:80]}")
+
+
+def frozen(trial):
+    """A file system that is frozen, below the journal of the machine that serves: it wants a loop device, and root."""
+    image, folder = f"{trial.room}/disk", f"{trial.room}/frozen-A"
+    os.makedirs(folder)
+    subprocess.run(["truncate", "-s", "64M", image], check=True)
+    subprocess.run(["mkfs.ext4", "-q", image], check=True)
+    if subprocess.run(["mount", "-o", "loop", image, folder]).returncode:
+        return print("no loop device here: a frozen file system isn't tried")
+    try:
+        a, b = pair(trial, "frozen")
+        load = trial.load("frozen", [a, b], PAUSE="0.01")
+        hung(load, "the file system of A is frozen", lambda: subprocess.run(["fsfreeze", "-f", folder], check=True))
+        case(until(b.serves), "B serves")
+        subprocess.run(["fsfreeze", "-u", folder], check=True)
+        a.follows()
+        load.end()
+        a.stop(), b.stop()
+        trial.replayed("frozen")
+    finally:
+        subprocess.run(["fsfreeze", "-u", folder], stderr=subprocess.DEVNULL)
+        until(lambda: subprocess.run(["umount", folder], stderr=subprocess.DEVNULL).returncode == 0, 30)
+
+
+def full_journal(journal, entries):
+    """A journal of so many trades, as `keep` writes them, of one that begins with a trade."""
+    frames = re.findall(rb"8=FIXT\.1\.1\x019=\d+\x01(.*?\x01)10=\d{3}\x01", journal[:100_000], re.S)
+    head = journal[: journal.index(b"8=FIXT", 1)]
+    trade, seal = (next(it for it in frames if it.startswith(b"35=" + kind)) for kind in (b"AE\x01", b"0\x01"))
+    first, last = re.split(rb"\x0134=\d+\x01", trade, 1)[0], re.split(rb"\x01571=[^\x01]*\x01", trade, 1)[1]
+    middle = re.search(rb"\x0134=\d+(\x01.*?)\x01571=", trade)[1]
+    sum_of, out = hashlib.sha512(head), [head]
+    for group in range(1, entries + 1, 500):
+        numbers = range(group, min(group + 500, entries + 1))
+        data = b"".join(frame(b"%b\x0134=%d%b\x01571=F%d\x01%b" % (first, n, middle, n, last)) for n in numbers)
+        sum_of.update(data)
+        ends = frame(re.sub(rb"\x01112=[0-9a-f]{128}", b"\x01112=" + sum_of.hexdigest().encode(), seal))
+        sum_of.update(ends)
+        out += [data, ends]
+    return b"".join(out) + b"\n"
+
+
+def full(trial, journal):
+    """A full journal is adopted over a line of 10 Mbit/s, shown over one of 100, and taken over on an empty disk over that."""
+    a, b = trial.machine("A", "full"), trial.machine("B", "full", env=trial.line(1, 12_500))
+    whole = full_journal(journal, 1_000_000)
+    with open(a.journal, "wb") as it:
+        it.write(whole)
+    began = time.time()
+    status, said = trial.word("adopt", trial.house, a.journal, "full", env=dict(trial.line(1, 1_250), TRACE=a.env["TRACE"]))
+    case(status == 0, f"{len(whole)} bytes are adopted over 10 Mbit/s, in {time.time() - began:.0f} s: {said.strip().splitlines()[-1]}")
+    began = time.time()
+    case(trial.show("full", b.env) == whole, f"they are shown over 100 Mbit/s, in {time.time() - began:.0f} s")
+    b.start(again=False)
+    case(until(b.serves, 300) and b.kept() == whole, f"and taken over: {b.last()}")
+    b.stop(signal.SIGTERM)
+    trial.replayed("full")
