@@ -110,7 +110,7 @@ def joining(trial):
     a.says("isn't what etcd has, between")
     line = next((it for it in a.said().splitlines() if "isn't what etcd has, between" in it), None)
     case(line, f"a file that isn't what is joined ends its machine: {line and line[-90:]}")
-    case(load.goes_on() and a.laid_aside(), "which goes on with what etcd has, and has laid the file aside")
+    case(until(a.laid_aside) and load.goes_on(), "which goes on with what etcd has, and has laid the file aside")
     until(lambda: trial.state("joined")[1] > 750_000)
     load.end()
     entries, length = trial.state("joined")
