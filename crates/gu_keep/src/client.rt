@@ -5,6 +5,7 @@ ghost use Rattle.gu_desk.specs.Begins.{BeginsWith};
 ghost use Rattle.gu_keep.specs.Sending.{Turns};
 ghost use Rattle.gu_recorder.specs.Waiting.{Holds, Sends};
 
+use crate::lingering::read_away;
 use crate::visit::Visit;
 use gu_base::FirmId;
 use gu_board::Tallies;
@@ -166,6 +167,17 @@ impl<'a, J: Job> Client<'a, J> {
         self.ended && self.outbox.is_empty()
     }
 
+    /// Whether its stream is to linger once it is closed: all is sent to a firm that had logged on.
+    pub(crate) fn lingers(&self) -> bool {
+        self.is_over() && self.connection.firm().is_some()
+    }
+
+    /// Its stream alone.
+    pub(crate) fn into_stream(self) -> TcpStream {
+        let Client { stream, .. } = self;
+        stream
+    }
+
     /// Puts what the turn has made into the outbox, made of what the seat has seen. Where memory
     /// runs out for it, the connection has ended.
     fn hold<R, G>(&mut self, worker: &Worker<'a, J, R, G>, seat: &mut Seat<J>, second: u64)
@@ -264,7 +276,7 @@ impl<'a, J: Job> Client<'a, J> {
         }
     }
 
-    /// A turn, if it may have one.
+    /// A turn, if it may have one. Where it has ended, what has come is thrown away.
     #[tactic(auto, using(gu_connection::proofs::Seen::itself, gu_connection::proofs::Seen::still))]
     pub(crate) fn turn<R: Wait + Clock, G: Gate>(
         &mut self,
@@ -277,6 +289,9 @@ impl<'a, J: Job> Client<'a, J> {
         ensures turns { Turns self.old.outbox self.new.outbox result.seen }
     {
         if !self.may_turn() {
+            if self.ended {
+                let _ = read_away(&self.stream);
+            }
             return seat;
         }
         self.begin_turn(second);

@@ -1,11 +1,13 @@
 //! The connections of a worker, in places that the poll names.
 
 use crate::client::Client;
+use crate::lingering::{Lingering, MOST_LINGERING};
 use gu_connection::Closed;
 use gu_desk::Job;
 use std::alloc::Global;
 use std::collections::VecDeque;
 use std::mem::{replace, swap};
+use std::net::TcpStream;
 
 /// The connections of a worker.
 #[derive(Drop)]
@@ -21,6 +23,8 @@ pub(crate) struct Clients<'a, J: Job> {
     pub(crate) to_send: Vec<usize>,
     /// The places of those that have a turn without being asked.
     pub(crate) hurried: Vec<usize>,
+    /// The streams of those that have ended, in the order in which they did.
+    lingering: VecDeque<Lingering>,
 }
 
 impl<'a, J: Job> Clients<'a, J> {
@@ -34,12 +38,13 @@ impl<'a, J: Job> Clients<'a, J> {
             sending: Vec::new(alloc),
             to_send: Vec::new(alloc),
             hurried: Vec::new(alloc),
+            lingering: VecDeque::new(alloc),
         }
     }
 
-    /// Whether there are none.
+    /// Whether there are none, and none lingers.
     pub(crate) fn is_empty(&self) -> bool {
-        self.open == 0
+        self.open == 0 && self.lingering.is_empty()
     }
 
     /// The connection at a place.
@@ -148,19 +153,68 @@ impl<'a, J: Job> Clients<'a, J> {
         }
     }
 
-    /// Closes the connection at a place: whether there was one.
-    pub(crate) fn close(&mut self, at: usize) -> bool {
-        let unnamed = match self.at(at) {
-            Some(client) => client.is_unnamed(),
-            None => return false,
+    /// Closes the lingering stream that ended first.
+    fn close_oldest(&mut self) {
+        if let Some(oldest) = self.lingering.pop_front() {
+            let _ = self.free.push(oldest.at);
+        }
+    }
+
+    /// Closes half of the lingering streams, those that ended first.
+    pub(crate) fn close_half_of_lingering(&mut self) {
+        for _ in 0..self.lingering.len().div_ceil(2) {
+            self.close_oldest();
+        }
+    }
+
+    /// Has the stream of a connection that was at this place linger, unless its peer has ended.
+    fn linger(&mut self, at: usize, stream: TcpStream, second: u64) {
+        if self.lingering.len() >= MOST_LINGERING {
+            self.close_oldest();
+        }
+        let Some(lingering) = Lingering::new(at, stream, second) else {
+            let _ = self.free.push(at);
+            return;
         };
-        if unnamed {
+        if self.lingering.push_back(lingering).is_err() {
+            let _ = self.free.push(at);
+        }
+    }
+
+    /// Closes the lingering streams that don't stay open: of this place, or where none is named of
+    /// each.
+    pub(crate) fn note_lingering(&mut self, place: Option<usize>, second: u64) {
+        for _ in 0..self.lingering.len() {
+            let Some(it) = self.lingering.pop_front() else {
+                return;
+            };
+            let at = it.at;
+            let is_meant = place.is_none() || place == Some(at);
+            if is_meant && !it.stays(second) {
+                let _ = self.free.push(at);
+            } else if self.lingering.push_back(it).is_err() {
+                let _ = self.free.push(at);
+            }
+        }
+    }
+
+    /// Closes the connection at a place in this second: whether there was one. Its stream lingers,
+    /// if all is sent to a firm that had logged on.
+    pub(crate) fn close(&mut self, at: usize, second: u64) -> bool {
+        let Some(client) = self.put(at, None) else {
+            return false;
+        };
+        if client.is_unnamed() {
             self.forget(at);
         }
-        // The system drops the descriptor from the poll when it is closed.
-        drop(self.put(at, None));
         self.open = self.open.saturating_sub(1);
-        let _ = self.free.push(at);
+        // The system drops the descriptor from the poll when it is closed.
+        if client.lingers() {
+            self.linger(at, client.into_stream(), second);
+        } else {
+            drop(client);
+            let _ = self.free.push(at);
+        }
         true
     }
 }

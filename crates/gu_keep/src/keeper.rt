@@ -71,6 +71,8 @@ fn note<J: Job>(events: &Events, clients: &mut Clients<'_, J>, round: &mut Round
         let at = event.token().0;
         if at == WOKEN {
             round.woken = true;
+        } else if clients.at(at).is_none() {
+            clients.note_lingering(Some(at), round.second);
         } else if let Some(Some(client)) = clients.places.get_mut(at) {
             let readable = event.is_readable() || event.is_error();
             let writable = event.is_writable() || event.is_error();
@@ -155,9 +157,11 @@ impl<'a, K: OpenJournal, J: Job, R: Wait + Clock, G: Gate> Keeper<'a, K, J, R, G
         }
     }
 
-    /// Closes half of those without a Logon, if descriptors lack. The one that came last stays.
+    /// Closes half of those without a Logon, and of those that linger, if descriptors lack. The one
+    /// that came last stays.
     fn make_way(&self, clients: &mut Clients<'a, J>, second: u64) {
         if self.bell.lacks.swap(false, Ordering::SeqCst) {
+            clients.close_half_of_lingering();
             let all = clients.unnamed();
             self.close_unnamed(clients, all.saturating_sub(all / 2), second);
         }
@@ -211,7 +215,7 @@ impl<'a, K: OpenJournal, J: Job, R: Wait + Clock, G: Gate> Keeper<'a, K, J, R, G
             client.leave(self.worker.tallies);
             self.say_end(client, second, why);
         }
-        if clients.close(at) {
+        if clients.close(at, second) {
             self.bell.open.fetch_sub(1, Ordering::SeqCst);
         }
     }
@@ -294,6 +298,7 @@ impl<'a, K: OpenJournal, J: Job, R: Wait + Clock, G: Gate> Keeper<'a, K, J, R, G
         self.worker.tallies.tell(self.worker.rt);
         let mut seat = seat;
         let second = round.second;
+        clients.note_lingering(None, second);
         for at in 0..clients.places.len() {
             self.end_stalled(clients, second, at);
             let quiet = match clients.at(at) {

@@ -13,6 +13,7 @@ mod bells;
 mod client;
 mod clients;
 mod keeper;
+mod lingering;
 mod pages;
 mod running;
 mod said;
