@@ -37,6 +37,8 @@ pub(crate) struct Client<'a, J: Job> {
     /// The second in which it last had a turn, and that in which the peer last took something.
     turned: u64,
     took: u64,
+    /// Whether a write was tried since the worker last paused.
+    tried: bool,
     /// The second in which the peer last sent something, and whether it has since.
     heard: u64,
     speaks: bool,
@@ -80,6 +82,7 @@ pub(crate) fn open_client<'a, J: Job, R: Clock, G>(
         shut: false,
         turned: second,
         took: second,
+        tried: false,
         heard: second,
         speaks: false,
         counted: None,
@@ -322,6 +325,7 @@ impl<'a, J: Job> Client<'a, J> {
         if self.full {
             return Ok(Rest::Untaken);
         }
+        self.tried = true;
         let before = self.outbox.len();
         let rest = self.outbox.send(worker.desk, &self.stream)?;
         if self.outbox.len() < before || rest == Rest::Unkept {
@@ -339,6 +343,14 @@ impl<'a, J: Job> Client<'a, J> {
         self.turned < second
     }
 
+    /// Notes that the worker has paused: what the peer took meanwhile isn't known until a write was
+    /// tried.
+    pub(crate) fn note_pause(&mut self)
+        ensures { self.new.outbox ≡ self.old.outbox }
+    {
+        self.tried = false;
+    }
+
     /// Whether the peer has taken nothing for so long that the connection is to be closed.
     pub(crate) fn is_stalled(&mut self, second: u64) -> bool
         ensures { self.new.outbox ≡ self.old.outbox }
@@ -347,6 +359,6 @@ impl<'a, J: Job> Client<'a, J> {
             return false;
         }
         self.full = false;
-        second.saturating_sub(self.took) > WRITE_WAIT
+        self.tried && second.saturating_sub(self.took) > WRITE_WAIT
     }
 }

@@ -9,6 +9,9 @@ use std::collections::VecDeque;
 use std::mem::{replace, swap};
 use std::net::TcpStream;
 
+/// For how many seconds no second begins at the most, unless the worker has paused.
+const MOST_ROUND: u64 = 2;
+
 /// The connections of a worker.
 #[derive(Drop)]
 pub(crate) struct Clients<'a, J: Job> {
@@ -25,6 +28,8 @@ pub(crate) struct Clients<'a, J: Job> {
     pub(crate) hurried: Vec<usize>,
     /// The streams of those that have ended, in the order in which they did.
     lingering: VecDeque<Lingering>,
+    /// The second that began last.
+    second: u64,
 }
 
 impl<'a, J: Job> Clients<'a, J> {
@@ -39,6 +44,7 @@ impl<'a, J: Job> Clients<'a, J> {
             to_send: Vec::new(alloc),
             hurried: Vec::new(alloc),
             lingering: VecDeque::new(alloc),
+            second: 0,
         }
     }
 
@@ -181,8 +187,7 @@ impl<'a, J: Job> Clients<'a, J> {
         }
     }
 
-    /// Closes the lingering streams that don't stay open: of this place, or where none is named of
-    /// each.
+    /// Closes the lingering streams that don't stay open: of this place, or of each if none is named.
     pub(crate) fn note_lingering(&mut self, place: Option<usize>, second: u64) {
         for _ in 0..self.lingering.len() {
             let Some(it) = self.lingering.pop_front() else {
@@ -196,6 +201,20 @@ impl<'a, J: Job> Clients<'a, J> {
                 let _ = self.free.push(at);
             }
         }
+    }
+
+    /// Begins a second: the lingering streams that don't stay open are closed. If the last one began
+    /// long before, the worker has paused.
+    pub(crate) fn begin_second(&mut self, second: u64) {
+        if second > self.second.saturating_add(MOST_ROUND) {
+            for at in 0..self.places.len() {
+                if let Some(Some(client)) = self.places.get_mut(at) {
+                    client.note_pause();
+                }
+            }
+        }
+        self.second = second;
+        self.note_lingering(None, second);
     }
 
     /// Closes the connection at a place in this second: whether there was one. Its stream lingers,

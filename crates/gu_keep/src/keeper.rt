@@ -298,7 +298,7 @@ impl<'a, K: OpenJournal, J: Job, R: Wait + Clock, G: Gate> Keeper<'a, K, J, R, G
         self.worker.tallies.tell(self.worker.rt);
         let mut seat = seat;
         let second = round.second;
-        clients.note_lingering(None, second);
+        clients.begin_second(second);
         for at in 0..clients.places.len() {
             self.end_stalled(clients, second, at);
             let quiet = match clients.at(at) {
