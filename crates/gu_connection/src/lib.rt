@@ -15,7 +15,7 @@ mod connection;
 mod opening;
 mod worker;
 
-pub use accepting::{AfterFault, after_fault};
+pub use accepting::{AfterFault, Faults, after_fault};
 pub use connection::{Closed, Connection};
 pub use opening::{LOGON_WAIT, Open, listening, new_key, prepare};
 pub use worker::{Left, WRITE_WAIT, Worker, expire};

@@ -4,7 +4,7 @@ use crate::bells::Bells;
 use crossbeam_channel::Sender;
 use gu_board::{Board, say_lack};
 use gu_command::KeepError;
-use gu_connection::{AfterFault, after_fault};
+use gu_connection::{AfterFault, Faults, after_fault};
 use mio::net::TcpListener;
 use mio::unix::SourceFd;
 use mio::{Events, Interest, Poll, Token};
@@ -25,13 +25,14 @@ const LACK_WAIT: u64 = 20;
 /// How often it says at the most that they lack, in seconds.
 const SAY_WAIT: u64 = 10;
 
-/// When it was last said that descriptors or buffers lack.
+/// When it was last said that descriptors or buffers lack, and the faults of accept.
 #[derive(Drop)]
-struct Lack {
+struct Trouble {
     said: Option<Instant>,
+    faults: Faults,
 }
 
-impl Lack {
+impl Trouble {
     /// Whether it is to be said again.
     fn is_due<R: Clock>(&self, rt: &R) -> bool {
         match self.said {
@@ -83,8 +84,8 @@ impl Inlets<'_> {
 
     /// Waits where descriptors or buffers lack, and has the workers close connections without a
     /// Logon.
-    fn wait<R: Wait + Clock>(&self, rt: &R, lack: &mut Lack) {
-        lack.say(rt, self.board);
+    fn wait<R: Wait + Clock>(&self, rt: &R, trouble: &mut Trouble) {
+        trouble.say(rt, self.board);
         self.bells.tell_lack();
         thread::sleep(rt, Duration::from_millis(LACK_WAIT));
     }
@@ -94,7 +95,7 @@ impl Inlets<'_> {
         &self,
         rt: &R,
         listener: &TcpListener,
-        lack: &mut Lack,
+        trouble: &mut Trouble,
         most: u32,
     ) -> Result<u32, KeepError> {
         let mut taken = 0u32;
@@ -104,14 +105,22 @@ impl Inlets<'_> {
             }
             match listener.accept() {
                 Ok((stream, _peer)) => {
+                    trouble.faults.end();
                     self.hand(rt, stream.into())?;
                     taken = taken.saturating_add(1);
                 }
-                Err(error) if error.kind() == ErrorKind::WouldBlock => return Ok(taken),
+                Err(error) if error.kind() == ErrorKind::WouldBlock => {
+                    trouble.faults.end();
+                    return Ok(taken);
+                }
                 Err(error) => match after_fault(error.raw_os_error()) {
-                    AfterFault::AsksAgain => {}
+                    AfterFault::AsksAgain => {
+                        if !trouble.faults.pass(rt) {
+                            return Err(KeepError::Accept);
+                        }
+                    }
                     AfterFault::Waits => {
-                        self.wait(rt, lack);
+                        self.wait(rt, trouble);
                         return Ok(taken);
                     }
                     AfterFault::Ends => return Err(KeepError::Accept),
@@ -135,7 +144,10 @@ impl Inlets<'_> {
             return Err(KeepError::Memory);
         };
         let mut left = connections;
-        let mut lack = Lack { said: None };
+        let mut trouble = Trouble {
+            said: None,
+            faults: Faults::none(),
+        };
         let fd = listener.as_raw_fd();
         for _ in rt.forever() {
             if poll
@@ -151,7 +163,7 @@ impl Inlets<'_> {
                 board.accepts();
             }
             let most = if connections == 0 { u32::MAX } else { left };
-            left = left.saturating_sub(self.accept_some(rt, listener, &mut lack, most)?);
+            left = left.saturating_sub(self.accept_some(rt, listener, &mut trouble, most)?);
             if connections != 0 && left == 0 {
                 return Ok(());
             }

@@ -2,7 +2,7 @@
 
 use crossbeam_channel::Sender;
 use gu_command::ServeError;
-use gu_connection::{AfterFault, after_fault};
+use gu_connection::{AfterFault, Faults, after_fault};
 use std::net::{TcpListener, TcpStream};
 use std::sync::Wait;
 use std::thread;
@@ -22,6 +22,7 @@ fn accept<R: Wait + Clock>(
     to: &Sender<TcpStream>,
 ) -> Result<(), ServeError> {
     let mut lacks = 0u32;
+    let mut faults = Faults::none();
     for _ in rt.forever() {
         match listener.accept() {
             Ok((stream, _peer)) => {
@@ -31,7 +32,11 @@ fn accept<R: Wait + Clock>(
                 };
             }
             Err(error) => match after_fault(error.raw_os_error()) {
-                AfterFault::AsksAgain => {}
+                AfterFault::AsksAgain => {
+                    if !faults.pass(rt) {
+                        return Err(ServeError::Accept);
+                    }
+                }
                 AfterFault::Waits if lacks < MOST_LACKS => {
                     lacks += 1;
                     thread::sleep(rt, Duration::from_millis(LACK_WAIT));
