@@ -133,18 +133,19 @@ fn watch(poll: &Poll, listener: &TcpListener) -> Result<(), KeepError> {
 }
 
 /// Accepts the connections, and ends the workers with the last of them, or by a fault. Gives the
-/// seats back.
+/// seats back. Nobody listens any more once the last connection is accepted.
 fn accept_and_join<J: Job, R: Threads + Wait + Clock>(
     rt: &R,
     alloc: Global,
     poll: Poll,
-    listener: &TcpListener,
+    listener: TcpListener,
     inlets: Inlets<'_>,
     handles: Vec<JoinHandle<Done<J>>>,
     connections: u32,
 ) -> Result<Vec<Seat<J>>, KeepError> {
     let bells = inlets.bells;
-    let accepted = inlets.accept_all(rt, alloc, poll, listener, connections);
+    let accepted = inlets.accept_all(rt, alloc, poll, &listener, connections);
+    drop(listener);
     if let Some(board) = inlets.board {
         board.accepts_no_more();
     }
@@ -168,14 +169,14 @@ pub(crate) fn run_keepers<
     G: Gate + Sync,
 >(
     first: Worker<'_, J, R, G>,
-    listener: &TcpListener,
+    listener: TcpListener,
     waits: Polls,
     recorder: &Mutex<Recorder<K, J>>,
     seats: Vec<Seat<J>>,
     connections: u32,
 ) -> Result<Vec<Seat<J>>, KeepError> {
     let (bells, polls, poll) = waits;
-    watch(&poll, listener)?;
+    watch(&poll, &listener)?;
     let bells = &bells;
     thread::scope(thread::scope_env(), first.rt, move |scope| {
         let mut handles: Vec<JoinHandle<Done<J>>> = Vec::new(first.alloc);

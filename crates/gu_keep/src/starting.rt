@@ -29,9 +29,9 @@ use std::time::{Clock, Instant};
 
 /// Where connections come in, of which firms, what is counted of these, and after how many
 /// connections the server ends (0: never).
-#[derive(Clone, Copy)]
+#[derive(Drop)]
 struct Door<'a> {
-    listener: &'a TcpListener,
+    listener: TcpListener,
     house: &'a House,
     tallies: &'a Tallies,
     connections: u32,
@@ -60,25 +60,24 @@ fn run_kept<K: OpenJournal + Drop + Send, J: Job + Send + Sync, R: Threads + Wai
         Err(error) => return Err(error),
     };
     let recorder = Mutex::new(recorder);
+    let Door {
+        listener,
+        house,
+        tallies,
+        connections,
+    } = door;
     let first = Worker {
         rt,
         alloc,
         desk: &desk,
-        house: door.house,
+        house,
         gate: &Open,
-        tallies: door.tallies,
+        tallies,
         logon_wait: LOGON_WAIT,
         number: 0,
     };
-    let served = run_keepers(
-        first,
-        door.listener,
-        polls,
-        &recorder,
-        seats,
-        door.connections,
-    );
-    door.tallies.tell(rt);
+    let served = run_keepers(first, listener, polls, &recorder, seats, connections);
+    tallies.tell(rt);
     let seats = match served {
         Ok(seats) => seats,
         Err(error) => {
@@ -86,7 +85,7 @@ fn run_kept<K: OpenJournal + Drop + Send, J: Job + Send + Sync, R: Threads + Wai
             return Err(error);
         }
     };
-    let board = door.tallies.board();
+    let board = tallies.board();
     if let Some(board) = board {
         board.takes_journal();
     }
@@ -181,7 +180,7 @@ fn serve_listener<K: OpenJournal + Drop + Send, R: Threads + Wait + Clock + Sync
     let fields = [number(Key::Port, u64::from(request.port))];
     board.say(rt, Event::Listening, &fields);
     let door = Door {
-        listener: &listener,
+        listener,
         house: &house,
         tallies: &tallies,
         connections: request.connections,
