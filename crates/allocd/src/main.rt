@@ -10,12 +10,36 @@ use gu_server::{
     Counted, Fault, RunError, SystemFiles, SystemJournals, VERSION, Wary, commit, run, unread_words,
 };
 use std::alloc::Global;
+use std::fs::{File, OpenOptions};
 use std::io::Eprint;
+use std::os::fd::AsRawFd;
 use std::process::ExitCode;
 use std::sync::Wait;
 use std::thread::Threads;
 use std::time::{Clock, Duration};
 use std::{env, io, thread};
+
+/// What stands for the standard streams that were closed, so that no file and no socket gets their
+/// numbers. As from a closed one nothing is read from it, and nothing is written to it.
+type Standard = (Option<File>, Option<File>, Option<File>);
+
+/// Opens /dev/null, if it gets one of these numbers.
+fn stand_in(rt: &HostRuntime, how: &OpenOptions, last: i32) -> Option<File> {
+    match how.open(rt, "/dev/null") {
+        Ok(file) if file.as_raw_fd() <= last => Some(file),
+        _ => None,
+    }
+}
+
+/// Opens what stands for the standard streams that are closed.
+fn stand_ins(rt: &HostRuntime) -> Standard {
+    let mut writes = OpenOptions::new();
+    writes.write(true);
+    let input = stand_in(rt, &writes, 0);
+    let mut reads = OpenOptions::new();
+    reads.read(true);
+    (input, stand_in(rt, &reads, 2), stand_in(rt, &reads, 2))
+}
 
 /// The words after the program's name.
 fn words(rt: &HostRuntime) -> Result<Vec<String>, Fault> {
@@ -89,6 +113,7 @@ fn tell<R: Threads + Wait + Clock + Eprint + Copy + Send + 'static>(
 }
 
 fn main(rt: HostRuntime) -> ExitCode {
+    let _standard = stand_ins(&rt);
     let files = SystemFiles::new(&rt);
     let mut reader = Counted::new(rt.reader());
     let mut writer = Counted::new(io::writer(&rt));
