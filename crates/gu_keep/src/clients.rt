@@ -187,7 +187,8 @@ impl<'a, J: Job> Clients<'a, J> {
         }
     }
 
-    /// Closes the lingering streams that don't stay open: of this place, or of each if none is named.
+    /// Closes the lingering streams that don't stay open: of this place, or of each where none is
+    /// named.
     pub(crate) fn note_lingering(&mut self, place: Option<usize>, second: u64) {
         for _ in 0..self.lingering.len() {
             let Some(it) = self.lingering.pop_front() else {
@@ -203,7 +204,7 @@ impl<'a, J: Job> Clients<'a, J> {
         }
     }
 
-    /// Begins a second: the lingering streams that don't stay open are closed. If the last one began
+    /// Begins a second: lingering streams that don't stay open are closed. If the last one began
     /// long before, the worker has paused.
     pub(crate) fn begin_second(&mut self, second: u64) {
         if second > self.second.saturating_add(MOST_ROUND) {
