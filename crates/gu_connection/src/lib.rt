@@ -12,10 +12,12 @@
 
 mod accepting;
 mod connection;
+mod lingering;
 mod opening;
 mod worker;
 
 pub use accepting::{AfterFault, Faults, after_fault};
 pub use connection::{Closed, Connection};
+pub use lingering::LINGER_WAIT;
 pub use opening::{LOGON_WAIT, Open, listening, new_key, prepare};
 pub use worker::{Left, WRITE_WAIT, Worker, expire};

@@ -19,6 +19,7 @@ ghost use Rattle.gu_connection.specs.Conversing.{talk_of, Rounds, RoundsAndClose
 ghost use Rattle.gu_connection.specs.declared.worker.Left.TheVariants.{Nothing};
 
 use crate::connection::{Brought, Closed, Connection};
+use crate::lingering::linger;
 use gu_base::{AllocId, Answer, Command, FirmId};
 use gu_board::Tallies;
 use gu_codec::MAX_FRAME_LEN;
@@ -634,6 +635,9 @@ impl<'a, J: Job, R: Wait + Clock, G: Gate> Worker<'a, J, R, G> {
                 let mut from: &TcpStream = &stream;
                 let mut to: &TcpStream = &stream;
                 let seat = self.converse(seat, &mut connection, &mut from, &mut to, &stream, taken);
+                if connection.firm().is_some() {
+                    linger(self.rt, &stream);
+                }
                 drop(connection);
                 seat
             }

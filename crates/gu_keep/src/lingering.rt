@@ -2,14 +2,12 @@
 //! the peer ends too. A close with bytes unread would make the system send a reset, which destroys
 //! what the peer hasn't read.
 
+use gu_connection::LINGER_WAIT;
 use std::io::{ErrorKind, Read};
 use std::net::{Shutdown, TcpStream};
 
 /// How many of them a worker has at the most. Where there are more, the oldest is closed.
 pub(crate) const MOST_LINGERING: usize = 512;
-
-/// For how many seconds a peer may go on.
-const LINGER_WAIT: u64 = 10;
 
 /// How many bytes a read brings, and how many reads are made at once.
 const PIECE: usize = 4096;
