@@ -2,7 +2,8 @@
 //! reader and a writer in memory; and behind them servers and their clients. Input and output are
 //! data: the files `stdin` and `stdout` beside `src/`; `data/` has the house files and streams.
 //!
-//! A line of standard input that begins with `row ` is a worked row (`rows.rt`). Any other is
+//! A line of standard input that begins with `row ` is a worked row (`rows.rt`). Of one that begins
+//! with `line;` it writes what `command_line` takes the words behind that for. Any other is
 //! `STREAM;HOW;WORDS`: a file of `data/`, how it is read and written, and the words of the command
 //! line. HOW is `plain`, `failing reader` (it fails behind the stream's last byte) or `full writer`
 //! (it takes no byte). Of each line the program writes how the run ended, with its status and the
@@ -13,12 +14,14 @@
 //! last line's run.
 #![tactic(auto)]
 
+mod asking;
 mod journals;
 mod lines;
 mod rows;
 mod servers;
 mod streams;
 
+use asking::tell_asked;
 use gu_server::{Fault, KeepError, RecordError, RunError, ServeError, ServiceError};
 use lines::{read_line, tell, tell_fault};
 use servers::{play_all, play_kept};
@@ -102,6 +105,8 @@ fn run_lines<
         let line = line?;
         if let Some(row) = line.as_str().strip_prefix("row ") {
             rows::run_line(rt, alloc, row);
+        } else if let Some(words) = line.as_str().strip_prefix("line;") {
+            tell_asked(rt, alloc, words, port);
         } else if let Some(run) = read_line(line.as_str()) {
             status = tell(rt, handle, alloc, &run, port).unwrap_or(100);
         }

@@ -13,6 +13,8 @@
 //!   and is told its entry.
 //! - Two workers, two connections, a second to log on in, and that book. While a session of CCC
 //!   goes on, a peer that says nothing is ended, and sent nothing.
+//! - One worker, two connections, and a book with the trade for AAA alone. The gate doesn't let a
+//!   split of AAA pass: it isn't made, and the connection is closed. Another one is accepted.
 //! - One worker, one connection, and a book with a thousand trades for AAA. AAA logs on and says
 //!   nothing more, and has its reports within eight seconds. A server that waits a second for each
 //!   hundred takes ten.
@@ -48,7 +50,7 @@ pub(crate) fn play_all<R: Threads + Wait + Clock + Sync>(
     handle: &R,
     alloc: Global,
 ) -> io::Result<()> {
-    let house = fs::read(rt, "servers.house")?;
+    let house = fs::read(rt, "rows.house")?;
     let listener = TcpListener::bind(rt, "127.0.0.1:0")?;
     let ground = Ground {
         rt,

@@ -68,11 +68,11 @@ const CLIENTS: &[Client<'static>] = &[
 /// A journal that keeps what is told, and one that is full.
 const RUNS: &[Run<'static>] = &[
     Run {
-        words: "keep servers.house kept --port PORT --workers 2 --connections 2",
+        words: "keep rows.house kept --port PORT --workers 2 --connections 2",
         clients: CLIENTS,
     },
     Run {
-        words: "keep servers.house full --port PORT --connections 2",
+        words: "keep rows.house full --port PORT --connections 2",
         clients: CLIENTS,
     },
 ];

@@ -20,6 +20,8 @@ pub(crate) enum Deed<'a> {
     IsHeld,
     /// The gate lets the held call pass.
     IsFreed,
+    /// The gate doesn't let it pass.
+    IsRefused,
     /// What came up to an acknowledgement, or until the connection was closed, is written under
     /// this name.
     Hears(&'a [u8]),
@@ -53,6 +55,7 @@ fn act(holds: &Holds<'_>, peer: &TcpStream, deed: Deed<'_>) {
         Deed::Leaves => {}
         Deed::IsHeld => wait(holds),
         Deed::IsFreed => holds.release(),
+        Deed::IsRefused => holds.refuse(),
         Deed::Hears(who) => tell(holds.rt, holds.alloc, who, peer, b"35=P"),
         Deed::IsClosed(who) => tell_stranger(holds.rt, who, peer),
         Deed::CatchesUp(who) => tell_reports(holds.rt, holds.alloc, who, peer),

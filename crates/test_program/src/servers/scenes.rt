@@ -36,6 +36,10 @@ pub(crate) const PLAYS: &[Play<'static>] = &[
         scenes: &[RETRY, SILENT],
     },
     Play {
+        trades: &[AAA_TRADE],
+        scenes: &[REFUSED],
+    },
+    Play {
         trades: &[THOUSAND_TRADES],
         scenes: &[BEHIND],
     },
@@ -119,6 +123,14 @@ const AAA_SPLIT_IN_TWO: Message<'static> = Message {
     body: b"70=S1\x0171=0\x01626=23\x0172=1.0\x0178=2\x0179=A1\x0180=60\x0179=A2\x0180=40\x01",
 };
 
+/// The same, by another id.
+const AAA_SECOND: Message<'static> = Message {
+    firm: b"AAA",
+    kind: b"J",
+    number: 2,
+    body: b"70=S2\x0171=0\x01626=23\x0172=1.0\x0178=2\x0179=A1\x0180=60\x0179=A2\x0180=40\x01",
+};
+
 /// CCC's trade stays in its account.
 const CCC_SPLIT: Message<'static> = Message {
     firm: b"CCC",
@@ -194,6 +206,23 @@ const RETRY: Scene<'static> = Scene {
         (0, Deed::IsFreed),
         (0, Deed::Asks(&[AAA_LOGON, AAA_SPLIT_IN_TWO])),
         (0, Deed::Hears(b"AAA, again")),
+    ],
+};
+
+/// AAA's split isn't let pass: it isn't made, and its connection is closed. AAA logs on again, and
+/// its trade can still be split.
+const REFUSED: Scene<'static> = Scene {
+    connections: 2,
+    has_two_workers: false,
+    logon_wait: None,
+    before: &[],
+    steps: &[
+        (0, Deed::Asks(&[AAA_LOGON, AAA_SPLIT])),
+        (0, Deed::IsHeld),
+        (0, Deed::IsRefused),
+        (0, Deed::Hears(b"AAA, not let pass")),
+        (1, Deed::Asks(&[AAA_LOGON, AAA_SECOND])),
+        (1, Deed::Hears(b"AAA, once more")),
     ],
 };
 

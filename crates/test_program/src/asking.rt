@@ -1,0 +1,97 @@
+//! What `command_line` takes the words of a line for.
+
+use crate::lines::{say, tell_fault, words_of};
+use gu_server::{KeepOptions, Line, command_line};
+use std::alloc::Global;
+
+/// Writes a limit, if there is one.
+fn tell_limit(rt: &HostRuntime, alloc: Global, name: &str, limit: Option<u32>) {
+    let Some(most) = limit else {
+        return;
+    };
+    if let Ok(text) = format!(in alloc; ", {name} {most}") {
+        say(rt, text.as_bytes());
+    }
+}
+
+/// Writes a path, if there is one.
+fn tell_path(rt: &HostRuntime, name: &[u8], path: &Option<String>) {
+    if let Some(path) = path {
+        say(rt, name);
+        say(rt, path.as_bytes());
+    }
+}
+
+/// Writes what else is asked for where a book is kept.
+fn tell_options(rt: &HostRuntime, alloc: Global, options: &KeepOptions) {
+    let limits = &options.limits;
+    tell_limit(rt, alloc, "most entries", limits.most_entries);
+    tell_limit(rt, alloc, "reserve", limits.reserve);
+    tell_limit(rt, alloc, "rate", limits.rate);
+    tell_limit(rt, alloc, "per firm", limits.per_firm);
+    tell_path(rt, b", replicate ", &options.replica);
+    tell_path(rt, b", status ", &options.status);
+    if options.log_calls {
+        say(rt, b", log calls");
+    }
+}
+
+/// Writes how a server serves.
+fn tell_serving(rt: &HostRuntime, alloc: Global, port: u16, workers: u32, connections: u32) {
+    if let Ok(text) = format!(in alloc;
+        ", port {port}, workers {workers}, connections {connections}"
+    ) {
+        say(rt, text.as_bytes());
+    }
+}
+
+/// Writes words, with a space before each.
+fn tell_words(rt: &HostRuntime, command: &[u8], words: &[&str]) {
+    say(rt, command);
+    for word in words {
+        say(rt, b" ");
+        say(rt, word.as_bytes());
+    }
+}
+
+/// Writes what a line asks for.
+fn tell_line(rt: &HostRuntime, alloc: Global, line: &Line) {
+    match line {
+        Line::Batch { house } => tell_words(rt, b"batch", &[house.as_str()]),
+        Line::Trace { house, trade } => {
+            tell_words(rt, b"trace", &[house.as_str()]);
+            tell_limit(rt, alloc, "trade", *trade);
+        }
+        Line::Serve {
+            house,
+            port,
+            workers,
+            connections,
+        } => {
+            tell_words(rt, b"serve", &[house.as_str()]);
+            tell_serving(rt, alloc, *port, *workers, *connections);
+        }
+        Line::Keep {
+            house,
+            journal,
+            port,
+            workers,
+            connections,
+            options,
+        } => {
+            tell_words(rt, b"keep", &[house.as_str(), journal.as_str()]);
+            tell_serving(rt, alloc, *port, *workers, *connections);
+            tell_options(rt, alloc, options);
+        }
+    }
+    say(rt, b"\n");
+}
+
+/// Writes what these words ask for, or the fault that they have.
+pub(crate) fn tell_asked(rt: &HostRuntime, alloc: Global, words: &str, port: u16) {
+    let words = words_of(alloc, words, port);
+    match command_line(alloc, words.as_slice()) {
+        Ok(line) => tell_line(rt, alloc, &line),
+        Err(fault) => tell_fault(rt, alloc, &fault),
+    }
+}
