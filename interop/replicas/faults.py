@@ -81,12 +81,14 @@ def adoption(trial, journal):
     trial.started.append(process)
     process.kill()
     process.wait()
-    until(lambda: not trial.cluster.get("/allocd/adopted/lock"))
+    free = lambda: until(lambda: not trial.cluster.get("/allocd/adopted/lock"))
+    free()
     case(not trial.cluster.get("/allocd/adopted/head"), "an adoption that was killed has left no head")
     c = trial.machine("C", "adopted").start(again=False)
     case(c.ends() and "an adoption isn't over" in c.said(), f"an empty machine doesn't serve: {c.last()[:90]}")
     b.start(again=False)
     case(b.ends() and b.kept() == journal, f"nor does another one cut its journal: {b.last()[:90]}")
+    free()
     status, said = trial.word("adopt", trial.house, b.journal, "adopted", env=b.env)
     case(status == 0 and trial.show("adopted") == journal, f"begun anew it is whole: {said.strip().splitlines()[-1]}")
     c.start()
@@ -95,8 +97,9 @@ def adoption(trial, journal):
     with open(other, "wb") as file:
         file.write(journal[:300] + b"\n")
     c.stop(signal.SIGTERM)
+    free()
     status, said = trial.word("adopt", trial.house, other, "adopted")
-    case(status == 1, f"what isn't a whole journal is refused: {said.strip()[:100]}")
+    case(status == 1 and "is no whole journal" in said, f"what isn't a whole journal is refused: {said.strip()[:100]}")
     trial.replayed("adopted")
 
 
@@ -104,13 +107,15 @@ def joining(trial):
     """A byte changes on the disk of the machine that serves, before its pieces are joined. Gives the journal."""
     a, b = trial.machine("A", "joined").start(), trial.machine("B", "joined")
     until(a.serves)
-    load = trial.load("joined", [a, b], PAUSE="0.0003")
-    until(lambda: trial.state("joined")[1] > 200_000)
+    load = trial.load("joined", [a, b], PAUSE="0.01")  # pieces are joined from half a megabyte on: seconds after the change
+    until(lambda: os.path.getsize(a.journal) > 150_000)
     was = flipped(a.journal, 100_000)
+    wrong = contents(a.journal)[99_900:100_100]
     a.says("isn't what etcd has, between")
     line = next((it for it in a.said().splitlines() if "isn't what etcd has, between" in it), None)
     case(line, f"a file that isn't what is joined ends its machine: {line and line[-90:]}")
-    case(until(a.laid_aside) and load.goes_on(), "which goes on with what etcd has, and has laid the file aside")
+    aside = until(lambda: a.laid_aside(wrong))
+    case(aside and load.goes_on(), "which goes on with what etcd has, and has laid aside what it had")
     until(lambda: trial.state("joined")[1] > 750_000)
     load.end()
     entries, length = trial.state("joined")
@@ -150,13 +155,12 @@ def hangs(trial, shim):
     for what, pids in (("server", lambda it: [it.server()]), ("sidecar", lambda it: [it.process.pid]), ("server and sidecar", lambda it: [it.server(), it.process.pid])):
         one = serving([a, b])
         other = b if one is a else a
-        until(lambda: other.follows(other.said().count("connections are taken") or 1))
+        other.follows_now()
         stopped = [it for it in pids(one) if it]
         hung(load, f"the {what} of {one.name} stands still", lambda: one.kill(*stopped, how=signal.SIGSTOP))
         case(until(other.serves), f"{other.name} serves")
         one.kill(*stopped, how=signal.SIGKILL if what == "server" else signal.SIGCONT)
-        waits = one.said().count("waits for")
-        one.follows(waits + 1)
+        one.follows_now()
     load.end()
     a.stop(signal.SIGTERM), b.stop(signal.SIGTERM)
     trial.replayed("hangs")
@@ -165,7 +169,7 @@ def hangs(trial, shim):
 
 
 def hung_sync(trial, shim):
-    a = trial.machine("A", "sync", env=dict(trial.cluster.env, LD_PRELOAD=shim, HUNG_SYNC="3000")).start()
+    a = trial.machine("A", "sync", env=dict(trial.cluster.env, LD_PRELOAD=shim, HUNG_SYNC="1000")).start()
     b = trial.machine("B", "sync")
     until(a.serves)
     b.start()
@@ -183,7 +187,7 @@ def hung(load, name, do):
     """Does something, and looks after how many seconds firms are answered again."""
     began = time.time()
     do()
-    until(lambda: load.answers(began + 1) > 10 and time.time() - began > 2)
+    until(lambda: (load.longest(began) or 0) > 2 and load.answers(time.time() - 1) > 10)
     gap = load.longest(began) or 999
     case(2 < gap <= room_for(HUNG), f"{name}: {gap:.1f} s without an answer, of {room_for(HUNG):.0f}")
 
@@ -200,14 +204,18 @@ def takeovers(trial):
     was = taken(a) + taken(b)
     words = [subprocess.Popen([trial.sidecar, "takeover", it.journal, "word"], env=it.env, stderr=subprocess.DEVNULL) for it in (a, b, a, b)]
     case(all(it.wait() == 0 for it in words), "two words for each at once")
-    quiet = time.time()
-    until(lambda: load.goes_on() and load.answers(quiet) > 300)
-    now = taken(a) + taken(b)
-    until(lambda: load.goes_on() and load.answers(quiet) > 600)
-    case(now - was <= 4 and taken(a) + taken(b) == now, f"the book was taken over {now - was} times, and no more")
+    calm = until(lambda: stays(lambda: taken(a) + taken(b), 6) and load.goes_on())
+    more = taken(a) + taken(b) - was
+    case(calm and more <= 4, f"the book was taken over {more} times, and then no more")
     load.end()
     a.stop(signal.SIGTERM), b.stop(signal.SIGTERM)
     trial.replayed("word")
+
+
+def stays(what, seconds):
+    """Whether something is the same so many seconds later, and was so meanwhile."""
+    was = what()
+    return not until(lambda: what() != was, seconds)
 
 
 def followers(trial):
@@ -270,9 +278,9 @@ def options(trial):
     own = Trial(trial.room, house, trial.cluster)
     own.started = trial.started
     load = own.load("long", [a])
-    case("log_calls=on" in a.said() and "per_firm=3" in a.said() and "event=called" in a.said(), "the server has the options behind --")
-    said = subprocess.run(["curl", "-s", "--unix-socket", status, "http://allocd/ready"], stdout=subprocess.PIPE, text=True).stdout
-    case(said == "ready\n", "and its status answers at the socket that was asked for")
+    case(until(lambda: all(it in a.said() for it in ("log_calls=on", "per_firm=3", "event=called"))), "the server has the options behind --")
+    ready = lambda: subprocess.run(["curl", "-s", "--unix-socket", status, "http://allocd/ready"], stdout=subprocess.PIPE, text=True).stdout
+    case(until(lambda: ready() == "ready\n"), "and its status answers at the socket that was asked for")
     for line in ('role{role="serves"} 1', "lock 1", "nodes_answering 3", "entries_behind 0"):
         case(until(lambda: f"allocd_sidecar_{line}\n" in page(port)), f"the sidecar shows: {line}")
     puts = re.search(r"put_seconds_count (\d+)", page(port))
@@ -309,7 +317,7 @@ def asked(trial):
     with open(program, "w") as it:
         it.write(ASKS)
     os.chmod(program, 0o755)
-    a = trial.machine("A", "asked", env=dict(trial.cluster.env, ALLOCD=program)).start(again=False)
+    a = trial.machine("A", "asked", "--hang", "90", env=dict(trial.cluster.env, ALLOCD=program)).start(again=False)
     answers = lambda: contents(f"{a.journal}.answers").decode().split() if os.path.exists(f"{a.journal}.answers") else []
     case(until(lambda: len(answers()) == 3) and answers() == [r"b'0\n'", r"b'yes\n'", r"b'yes\n'"], f"a server that asks is answered: {answers()}")
     trial.cluster.put("/allocd/asked/writer", "another")

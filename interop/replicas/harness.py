@@ -18,25 +18,34 @@ HERE = os.path.dirname(os.path.abspath(__file__))
 TOP = os.path.dirname(os.path.dirname(HERE))
 ALLOCD = os.environ.setdefault("ALLOCD", f"{TOP}/crates/allocd/out/allocd")
 PATIENCE = 90  # seconds for what takes some on a quiet machine
+GIVEN = set()  # ports, and digits of ports
 
 
 def free_base():
     """Three digits of ports of which none is taken."""
     while True:
         base = random.randrange(200, 320)
+        if base in GIVEN:
+            continue
         try:
             for i in (1, 2, 3):
                 for j in (0, 1):
                     socket.create_server(("127.0.0.1", base * 100 + i * 10 + j)).close()
+            GIVEN.add(base)
             return str(base)
         except OSError:
             pass
 
 
 def free_port():
-    with socket.socket() as probe:
-        probe.bind(("127.0.0.1", 0))
-        return probe.getsockname()[1]
+    """A port that nobody has, and that was given to nobody here."""
+    while True:
+        with socket.socket() as probe:
+            probe.bind(("127.0.0.1", 0))
+            port = probe.getsockname()[1]
+        if port not in GIVEN:
+            GIVEN.add(port)
+            return port
 
 
 def until(what, seconds=PATIENCE):
@@ -87,11 +96,13 @@ class Count:
     """The cases, and how many passed."""
 
     passed = failed = 0
+    guard = threading.Lock()
 
     @classmethod
     def case(cls, well, text):
-        cls.passed, cls.failed = cls.passed + bool(well), cls.failed + (not well)
-        print(f"{'well' if well else 'FAILED'}: {text}", flush=True)
+        with cls.guard:
+            cls.passed, cls.failed = cls.passed + bool(well), cls.failed + (not well)
+            print(f"{'well' if well else 'FAILED'}: {text}", flush=True)
         return well
 
 
@@ -107,7 +118,7 @@ class Cluster:
         all_of_them = ",".join(self.nodes.values())
         self.env = dict(os.environ, BASE=self.base, ETCD=all_of_them, ETCDCTL_ENDPOINTS=all_of_them, ETCDCTL_API="3", **more)
         said = self.do("start", folder)
-        if not until(self.leader, 60):
+        if not self.leader():
             sys.exit(f"the nodes of etcd don't start: {said}")
 
     def output(self, *words, **more):
@@ -131,7 +142,10 @@ class Cluster:
         return subprocess.run(["etcdctl", "endpoint", "health"], env=self.env, stdout=subprocess.DEVNULL, stderr=subprocess.DEVNULL).returncode == 0
 
     def leader(self):
-        return self.do("leader", self.folder).strip()
+        """The node that leads, once one does."""
+        said = []
+        until(lambda: said.append(self.do("leader", self.folder).strip()) or said[-1])
+        return said[-1]
 
     def stop(self):
         self.do("stop", self.folder)
@@ -232,7 +246,7 @@ class Machine:
         os.makedirs(self.folder, exist_ok=True)
         self.journal, self.log = f"{self.folder}/{book}", open(f"{self.folder}/log", "a+")
         self.words = [trial.sidecar, "run", house or trial.house, self.journal, book, "--port", str(self.port), *words]
-        self.process, self.stopped, self.starts = None, False, 0
+        self.process, self.stopped, self.starts, self.guard = None, False, 0, threading.Lock()
 
     def begin(self):
         self.process = subprocess.Popen(self.words, env=self.env, stdout=subprocess.DEVNULL, stderr=self.log)
@@ -249,8 +263,9 @@ class Machine:
         while not self.stopped and self.starts == number:
             self.process.wait()
             time.sleep(0.2)
-            if not self.stopped and self.starts == number:
-                self.begin()
+            with self.guard:
+                if not self.stopped and self.starts == number:
+                    self.begin()
 
     def server(self):
         return next(iter(children(self.process.pid)), None)
@@ -264,7 +279,8 @@ class Machine:
                 pass
 
     def stop(self, how=signal.SIGKILL):
-        self.stopped = True
+        with self.guard:
+            self.stopped = True
         if not self.process:
             return
         server = self.server()
@@ -295,11 +311,17 @@ class Machine:
     def follows(self, times=1):
         return self.says("waits for", times)
 
+    def follows_now(self):
+        """Whether it comes to follow, and hasn't served since."""
+        return until(lambda: self.said().rfind("waits for") > self.said().rfind("connections are taken"))
+
     def kept(self):
         return contents(self.journal)
 
-    def laid_aside(self):
-        return [it for it in os.listdir(self.folder) if it.endswith(".old")]
+    def laid_aside(self, wrong=b""):
+        """The files that it has laid aside; where it is asked for bytes, also as an end that was cut off, those that have these."""
+        kinds = (".old", ".cut") if wrong else (".old",)
+        return [it for it in os.listdir(self.folder) if it.endswith(kinds) and wrong in contents(f"{self.folder}/{it}")]
 
 
 class Load:
