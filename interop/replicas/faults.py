@@ -207,9 +207,20 @@ def takeovers(trial):
     calm = until(lambda: stays(lambda: taken(a) + taken(b), 6) and load.goes_on())
     more = taken(a) + taken(b) - was
     case(calm and more <= 4, f"the book was taken over {more} times, and then no more")
+    one, was = serving([a, b]), taken(a) + taken(b)
+    trial.word("takeover", one.journal, "word", env=one.env)
+    kept = until(lambda: lease_of(trial, "/allocd/word/lock") == "5s")
+    case(kept and one.serves() and taken(a) + taken(b) == was, "a word for the machine that serves changes nothing: its lock is its own again")
     load.end()
     a.stop(signal.SIGTERM), b.stop(signal.SIGTERM)
     trial.replayed("word")
+
+
+def lease_of(trial, key):
+    """How long the lease of a key lives that nobody keeps."""
+    found = re.search(r'"lease":(\d+)', trial.cluster.output("etcdctl", "get", key, "--write-out=json"))
+    told = found and re.search(r"granted with TTL\((\w+)\)", trial.cluster.output("etcdctl", "lease", "timetolive", f"{int(found[1]):x}"))
+    return told and told[1]
 
 
 def stays(what, seconds):

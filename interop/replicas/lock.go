@@ -83,12 +83,28 @@ func (l *hold) keep() {
 			})
 			if over = rpctypes.Error(err) == rpctypes.ErrLeaseNotFound; over {
 				atomic.StoreInt64(&l.lease, 0)
+			} else if err == nil {
+				l.own(wait, lease)
 			}
 		}
 		l.guard.Unlock()
 		if over {
 			had, who := l.take()
 			say("the lock's lease was over; now %s has it (%v)", who, had)
+		}
+	}
+}
+
+// own has the lock be there by this machine's lease, where a person's word for this machine has put it by one that nobody keeps.
+func (l *hold) own(wait waits, lease int64) {
+	mine := []clientv3.Cmp{l.k.is("lock", l.name)}
+	said, err := l.k.swapWithin(wait, mine, []clientv3.Op{clientv3.OpGet(l.k.root + "lock")})
+	if err != nil || !said.Succeeded {
+		return
+	}
+	for _, kv := range said.Responses[0].GetResponseRange().Kvs {
+		if kv.Lease != lease {
+			l.k.swapWithin(wait, mine, []clientv3.Op{l.opPut()}) // where it can't be put it is tried again
 		}
 	}
 }
