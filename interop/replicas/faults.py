@@ -148,6 +148,16 @@ def offsets(trial):
     return sorted(int(it.rsplit("/", 1)[1]) for it in trial.cluster.keys("/allocd/joined/piece/"))
 
 
+def silent(one):
+    """A machine whose sidecar stands still while no call comes: nobody tells its server that it may go on, so that it ends by itself."""
+    began, line = time.monotonic(), "no word came from the other machines"
+    before = one.said().count(line)
+    one.kill(one.process.pid, how=signal.SIGSTOP)
+    ends = until(lambda: one.said().count(line) > before, room_for(12))
+    case(ends, f"the server of {one.name}, whose sidecar stands still, ends after {time.monotonic() - began:.1f} s")
+    one.kill(one.process.pid, how=signal.SIGCONT)
+
+
 def hangs(trial, shim):
     """What stands still under load, of two machines: the server, the sidecar, both; and a sync that never returns."""
     a, b = pair(trial, "hangs")
@@ -162,6 +172,7 @@ def hangs(trial, shim):
         one.kill(*stopped, how=signal.SIGKILL if what == "server" else signal.SIGCONT)
         one.follows_now()
     load.end()
+    silent(serving([a, b]))
     a.stop(signal.SIGTERM), b.stop(signal.SIGTERM)
     trial.replayed("hangs")
     if shim:

@@ -43,6 +43,9 @@ pub enum RecordError {
     /// The program that puts the journal on other machines didn't answer that they have it.
     #[error("the other machines don't have it")]
     Replica,
+    /// That program gave no word, in time, that the server may go on.
+    #[error("no word came from the other machines")]
+    Silent,
     /// The file can't be written or synced.
     #[error("cannot write: {0}")]
     Disk(io::Error),

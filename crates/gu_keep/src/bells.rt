@@ -1,5 +1,6 @@
 //! How the threads of a server wake each other.
 
+use crate::words::Words;
 use mio::Waker;
 use std::sync::atomic::{AtomicBool, AtomicU64, Ordering};
 
@@ -22,6 +23,7 @@ pub(crate) struct Bells {
     pub(crate) acceptor: Waker,
     /// Whether the server is to end at once.
     pub(crate) stop: AtomicBool,
+    pub(crate) words: Words,
 }
 
 impl Bell {

@@ -312,6 +312,16 @@ impl<'a, K: OpenJournal, J: Job, R: Wait + Clock, G: Gate> Keeper<'a, K, J, R, G
         seat
     }
 
+    /// Records what the desk has answered. Before, and after a group that took long, a further word
+    /// is asked for, if that is due.
+    fn record_by(&self, recorder: &mut Recorder<K, J>) -> Result<(), KeepError> {
+        let worker = &self.worker;
+        let words = &self.bells.words;
+        words.renew(worker.rt, recorder)?;
+        recorder.record(worker.rt, worker.alloc, worker.desk, worker.tallies.board())?;
+        words.renew(worker.rt, recorder)
+    }
+
     /// Records what the desk has answered, if nobody else does so now: whether it did.
     fn record(&self) -> Result<bool, KeepError> {
         let Some(mut guard) = self.recorder.try_lock() else {
@@ -322,7 +332,7 @@ impl<'a, K: OpenJournal, J: Job, R: Wait + Clock, G: Gate> Keeper<'a, K, J, R, G
         if let Some(board) = board {
             board.takes_journal();
         }
-        let recorded = recorder.record(self.worker.rt, self.worker.alloc, self.worker.desk, board);
+        let recorded = self.record_by(recorder);
         if let Some(board) = board {
             board.leaves_journal();
         }
@@ -330,10 +340,10 @@ impl<'a, K: OpenJournal, J: Job, R: Wait + Clock, G: Gate> Keeper<'a, K, J, R, G
         Ok(true)
     }
 
-    /// Has what the newest bytes rest on recorded: by this worker, where nobody else records now.
-    /// Those that wait meanwhile are woken.
+    /// Has what the newest bytes rest on recorded, and a further word asked for, if that is due: by
+    /// this worker, where nobody else records now. Those that wait meanwhile are woken.
     fn lead(&self, newest: &mut Ticket<J>) -> Result<(), KeepError> {
-        if newest.settle(self.worker.desk) {
+        if newest.settle(self.worker.desk) && !self.bells.words.are_due(self.worker.rt)? {
             self.bell.waits.store(false, Ordering::SeqCst);
             return Ok(());
         }
@@ -382,14 +392,18 @@ impl<'a, K: OpenJournal, J: Job, R: Wait + Clock, G: Gate> Keeper<'a, K, J, R, G
         }
     }
 
-    /// Sends what may go out, once what it rests on is recorded, or another worker records it.
+    /// Sends what may go out, once what it rests on is recorded, or another worker records it, and
+    /// while the other machines' word counts.
     fn tell(&self, clients: &mut Clients<'a, J>, round: &mut Round<J>) -> Result<(), KeepError> {
-        if clients.sending.is_empty() {
+        let words = &self.bells.words;
+        if clients.sending.is_empty() && !words.are_due(self.worker.rt)? {
             self.bell.waits.store(false, Ordering::SeqCst);
             return Ok(());
         }
         self.lead(&mut round.newest)?;
-        self.send_all(clients, round.second);
+        if words.count(self.worker.rt)? {
+            self.send_all(clients, round.second);
+        }
         Ok(())
     }
 

@@ -1,7 +1,7 @@
 //! `keep`: a server whose book is kept in a journal, with many connections.
 //!
 //! - Each worker polls its own connections and gives each that is ready a turn; whoever finds the
-//!   journal's lock free records what was answered.
+//!   journal's lock free records what was answered, and asks for the other machines' word.
 //! - The watch ends a server of which a part stands still, also in its start.
 //! - The pages of `--status` are answered on a thread of their own.
 //! - The totals are written when all connections have ended, and then the log says that the program
@@ -20,5 +20,6 @@ mod said;
 mod starting;
 mod visit;
 mod watch;
+mod words;
 
 pub use watch::keep_watched;

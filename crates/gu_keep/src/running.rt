@@ -3,6 +3,7 @@
 use crate::accepting::Inlets;
 use crate::bells::{Bell, Bells};
 use crate::keeper::{Keeper, WOKEN};
+use crate::words::Words;
 use crossbeam_channel::Sender;
 use gu_command::KeepError;
 use gu_connection::Worker;
@@ -26,25 +27,32 @@ type Done<J> = (Option<Seat<J>>, Result<(), KeepError>);
 /// accepts.
 pub(crate) type Polls = (Bells, Vec<Poll>, Poll);
 
-/// The polls of so many workers.
-pub(crate) fn make_polls<N: Net>(net: &N, alloc: Global, workers: u32) -> Result<Polls, KeepError> {
+/// The polls of so many workers, who need the words of other machines or don't.
+pub(crate) fn make_polls<R: Net + Clock>(
+    rt: &R,
+    alloc: Global,
+    workers: u32,
+    need_words: bool,
+) -> Result<Polls, KeepError> {
+    let words = Words::new(rt, need_words)?;
     let mut bells: Vec<Bell> = Vec::new(alloc);
     let mut polls: Vec<Poll> = Vec::new(alloc);
     for _ in 0..workers {
-        let Ok((poll, waker)) = make_poll(net) else {
+        let Ok((poll, waker)) = make_poll(rt) else {
             return Err(KeepError::Poll);
         };
         if bells.push(Bell::new(waker)).is_err() || polls.push(poll).is_err() {
             return Err(KeepError::Memory);
         }
     }
-    let Ok((poll, acceptor)) = make_poll(net) else {
+    let Ok((poll, acceptor)) = make_poll(rt) else {
         return Err(KeepError::Poll);
     };
     let bells = Bells {
         workers: bells,
         acceptor,
         stop: std::sync::atomic::AtomicBool::new(false),
+        words,
     };
     Ok((bells, polls, poll))
 }

@@ -117,12 +117,13 @@ fn count<R: Clock>(
 }
 
 /// What a line asks for of the server: the port, 1 to 16 workers, after how many connections it
-/// ends (0: never), and what firms may have.
+/// ends (0: never), whether other machines have a say in it, and what firms may have.
 #[derive(Clone, Copy)]
 struct Request {
     port: u16,
     workers: u32,
     connections: u32,
+    is_replicated: bool,
     limits: Limits,
 }
 
@@ -134,14 +135,14 @@ struct Entrance {
 }
 
 /// Listens on a port of 127.0.0.1, with as long a queue as the system allows.
-fn listen<N: Net>(net: &N, alloc: Global, request: Request) -> Result<Entrance, KeepError> {
+fn listen<R: Net + Clock>(rt: &R, alloc: Global, request: Request) -> Result<Entrance, KeepError> {
     let address = SocketAddr::from((Ipv4Addr::LOCALHOST, request.port));
-    let bound = TcpListener::bind(net, address);
+    let bound = TcpListener::bind(rt, address);
     let listener = match listening(bound, KeepError::Memory, KeepError::Listen) {
         Ok(listener) => listener,
         Err(error) => return Err(error),
     };
-    match make_polls(net, alloc, request.workers) {
+    match make_polls(rt, alloc, request.workers, request.is_replicated) {
         Ok(polls) => Ok(Entrance { listener, polls }),
         Err(error) => Err(error),
     }
@@ -312,6 +313,7 @@ pub(crate) fn keep_port<R: Threads + Wait + Clock + Net + RandomSource + Sync, K
         port: order.port,
         workers: order.workers,
         connections: order.connections,
+        is_replicated: order.options.replica.is_some(),
         limits: order.options.limits,
     };
     let opened = open_journal(rt, alloc, journals, text, house, order, board);

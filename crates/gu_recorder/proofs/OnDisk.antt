@@ -89,6 +89,19 @@ module _ {D : Type 0} (seen : D → List ℕ) (may_leave : D → List ℕ → Ty
       → HasAnswered after (length (h ++ es)) → IsSaid seen may_leave t (h ++ es) opened after
   says_answered kept all = record { answered = all; pin = known.pin; kept = kept t known.pin h (h ++ es) known.group }
 
+module _ {D : Type 0} (may_leave : D → List ℕ → Type 0) (t : House) (h : List Entry) (journal : Journal D)
+    (before after : Option Replica) (still : (n : ℕ) → HasAnswered before n → HasAnswered after n) where
+  -- what is kept is kept still, where what was answered is answered still
+  pub keeps_still : IsKept may_leave t h (disk_of journal) before → IsKept may_leave t h (disk_of journal) after
+  keeps_still kept = record { answered = still (length h) kept.answered; left = kept.left }
+
+-- and what is said
+pub says_still : {D : Type 0} (seen : D → List ℕ) (may_leave : D → List ℕ → Type 0) (t : House) (h : List Entry)
+    (journal : Journal D) (before after : Option Replica) → ((n : ℕ) → HasAnswered before n → HasAnswered after n)
+    → IsSaid seen may_leave t h journal before → IsSaid seen may_leave t h journal after
+says_still seen may_leave t h journal before after still said =
+    record { answered = still (length h) said.answered; pin = said.pin; kept = said.kept }
+
 -- a journal that was recovered, beside a copy of its house
 pub filed_says : {D : Type 0} (seen : D → List ℕ) (may_leave : D → List ℕ → Type 0) (is_clean : D → Bool)
     (t u : House) (pin : List ℕ) (h : List Entry) (j k : Journal D) → k ≡ j → u ≡ t

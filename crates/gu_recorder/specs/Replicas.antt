@@ -1,5 +1,5 @@
 -- What was answered by the program that puts a journal on other machines.
-use Rattle.std.specs.Prelude.{◌≡◌, ◌≤◌, ℕ, List, [], ◌∷◌, ◌++◌, Option, Some, None, decimal, length}
+use Rattle.std.specs.Prelude.{◌≡◌, ◌≤◌, ℕ, List, [], ◌∷◌, ◌++◌, Option, Some, None, codes, decimal, length}
 use Rattle.std.proofs.Common.{◌∙◌, ap, sym, subst}
 use Rattle.std.proofs.lemmas.List.{length-append}
 use Rattle.std.proofs.Math.Nat.{le_trans, le-add_right}
@@ -21,6 +21,15 @@ pub record IsCovered (n : ℕ) (replica : Replica) : Type 0 where
 abbrev pub HasAnswered : Option Replica → ℕ → Type 0
 HasAnswered None n = Unit {0}
 HasAnswered (Some replica) n = IsCovered n replica
+
+-- the word that the server may go on
+abbrev pub may_go : List ℕ
+may_go = codes "yes\n"
+
+-- the last word is that the server may go on, if other machines have a say in that
+abbrev pub HasWord : Option Replica → Type 0
+HasWord None = Unit {0}
+HasWord (Some replica) = replica.word.items ≡ may_go
 
 -- and then fewer too
 pub has_fewer : (replica : Option Replica) (m n : ℕ) → m ≤ n → HasAnswered replica n

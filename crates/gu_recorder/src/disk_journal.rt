@@ -8,10 +8,10 @@ ghost use Rattle.gu_base.specs.declared.entry.Entry.{Entry as EntryData};
 ghost use Rattle.gu_book.specs.Seen.{stored};
 ghost use Rattle.gu_journal.specs.Keeping.{disk_of, IsIdle, Keeps};
 ghost use Rattle.gu_journal.specs.Session.{digest_text};
-ghost use Rattle.gu_recorder.specs.Replicas.{HasAnswered};
+ghost use Rattle.gu_recorder.specs.Replicas.{HasAnswered, HasWord};
 
 use crate::journals::{Checksum, OpenJournal};
-use crate::replica::{Replica, answered, offered};
+use crate::replica::{Replica, allowed, answered, offered};
 use gu_base::{Entry, Memory};
 use gu_book::{Book, HashKey};
 use gu_command::RecordError;
@@ -56,6 +56,7 @@ impl<D: Disk> OpenJournal for DiskJournal<D> {
     ghost use Rattle.std.specs.Prelude.{IsTrue};
     ghost use Rattle.gu_journal.specs.Keeping.{disk_of, IsIdle};
     ghost use Rattle.gu_recorder.specs.DiskJournals.{IsSaid, said_is_kept, begun_is_kept};
+    ghost use Rattle.gu_recorder.specs.Replicas.{HasWord};
 
     ghost house = { λ k. k.house };
 
@@ -63,6 +64,8 @@ impl<D: Disk> OpenJournal for DiskJournal<D> {
 
     ghost says = { λ k h. IsTrue (D.Disk.is_clean (disk_of k.journal))
         → IsSaid D.Disk.seen D.Disk.may_leave k.house h k.journal k.replica };
+
+    ghost has_word = { λ k. HasWord k.replica };
 
     ghost keeps_all = { λ k h said is_clean. said_is_kept
         D.Disk.seen D.Disk.may_leave k.house h k.journal k.replica (said is_clean) };
@@ -103,6 +106,10 @@ impl<D: Disk> OpenJournal for DiskJournal<D> {
         } else {
             Err(RecordError::Replica)
         }
+    }
+
+    fn ask(&mut self) -> bool {
+        allowed(&mut self.replica)
     }
 }
 

@@ -19,7 +19,7 @@ pub struct Checksum {
 
 /// A journal that is open: it says a history of a house, and takes further entries.
 pub trait OpenJournal: Keeps {
-    ghost use Rattle.std.specs.Prelude.{◌≡◌, List, ◌++◌, OnOk};
+    ghost use Rattle.std.specs.Prelude.{◌≡◌, List, ◌++◌, true, OnOk};
     ghost use Rattle.gu_base.specs.House.{House as HouseTable};
     ghost use Rattle.gu_base.specs.Runs.{IsRunFrom};
     ghost use Rattle.gu_base.specs.declared.entry.Entry.{Entry};
@@ -49,6 +49,18 @@ pub trait OpenJournal: Keeps {
             → OnOk result (says self.new (h ++ entries.now)) }
         ensures kept { (h : List Entry) → says self.old h
             → IsRunFrom (house self.old) h (h ++ entries.now)
+            → Self.Keeps.keeps self.new h };
+
+    /// The last word of the other machines is that the server may go on, if they have a say in it.
+    ghost has_word: { Self → Type 0 };
+
+    /// Asks whether the server may go on: whether it may. The journal stays as it is.
+    fn ask(&mut self) -> bool
+        ensures word { result ≡ true → has_word self.new }
+        ensures house { house self.new ≡ house self.old }
+        ensures takes { takes self.old → takes self.new }
+        ensures says { (h : List Entry) → says self.old h → says self.new h }
+        ensures kept { (h : List Entry) → Self.Keeps.keeps self.old h
             → Self.Keeps.keeps self.new h };
 
     /// What an operator may compare its file with. None where it has no file, or memory lacks.

@@ -7,7 +7,7 @@ ghost use Rattle.gu_desk.specs.Begins.{BeginsWith};
 use crate::journals::OpenJournal;
 use gu_base::Entry;
 use gu_board::Board;
-use gu_command::KeepError;
+use gu_command::{KeepError, RecordError};
 use gu_desk::{Desk, Job, JournalSeat, Ticket};
 use gu_message::{SendingTime, is_moment};
 use jiff::Timestamp;
@@ -100,6 +100,22 @@ impl<K: OpenJournal, J: Job> Recorder<K, J> {
         ensures kept { K.Keeps.keeps self.old.journal ticket.seen }
     {
         told_is_kept(desk, &self.journal, &mut self.seat, ticket);
+    }
+
+    /// Asks whether the server may go on. Where it may not nothing more is recorded.
+    pub fn ask(&mut self) -> Result<(), KeepError>
+        ensures seen { self.new.seen ≡ self.old.seen }
+        ensures kept { self.new.kept ≡ self.old.kept }
+        ensures word { OnOk result (K.has_word self.new.journal) }
+    {
+        if self.failed {
+            return Err(KeepError::Failed);
+        }
+        if !self.journal.ask() {
+            self.failed = true;
+            return Err(KeepError::Record(RecordError::Silent));
+        }
+        Ok(())
     }
 
     /// Records what the desk has answered since, counts it for an operator, and tells those that

@@ -1,12 +1,13 @@
 //! The line to the program that puts the journal's bytes on other machines.
 //!
 //! The server says on it how many entries the journal has, and in how many bytes. The program
-//! answers with the number of entries, once other machines have these bytes. One question is open
-//! at a time.
+//! answers with the number of entries, once other machines have these bytes. The server also asks
+//! whether it may go on, which is so as long as no other machine serves the book. One question is
+//! open at a time.
 
 ghost use Rattle.std.specs.Prelude.{◌≡◌, ℕ, true, false, IfSome};
 ghost use Rattle.std.specs.Io.KnownBytes.{Consumes};
-ghost use Rattle.gu_recorder.specs.Replicas.{answer_of, HasAnswered};
+ghost use Rattle.gu_recorder.specs.Replicas.{answer_of, may_go, HasAnswered, HasWord};
 
 use std::alloc::Global;
 use std::io;
@@ -18,12 +19,23 @@ use std::time::Duration;
 /// How long a line may be silent, in seconds.
 const ANSWER_WAIT: u64 = 15;
 
-/// The line, connected, and the last answer that was the one that was asked for: none at first.
+/// How long it may be silent where the server asks whether it may go on, in seconds.
+const WORD_WAIT: u64 = 5;
+
+/// What asks for the word that the server may go on.
+const ASKS: &[u8] = b"?\n";
+
+/// That word.
+const MAY_GO: &[u8] = b"yes\n";
+
+/// The line, connected, the last answer that was the one that was asked for, and the last word that
+/// the server may go on: none at first.
 #[derive(Drop)]
 pub(crate) struct Replica {
     line: UnixStream,
     alloc: Global,
     pub(crate) answer: Vec<u8>,
+    pub(crate) word: Vec<u8>,
 }
 
 /// The next bytes of a line, so many; none where they don't come.
@@ -53,6 +65,7 @@ impl Replica {
             line,
             alloc,
             answer: Vec::new(alloc),
+            word: Vec::new(alloc),
         })
     }
 
@@ -82,6 +95,32 @@ impl Replica {
         self.answer = answer;
         true
     }
+
+    /// Has the line wait so many seconds for the next bytes: whether it does.
+    fn wait(&self, seconds: u64) -> bool {
+        self.line
+            .set_read_timeout(Some(Duration::from_secs(seconds)))
+            .is_ok()
+    }
+
+    /// Asks whether the server may go on, and waits for the word: whether it is that it may.
+    fn ask(&mut self) -> bool
+        ensures word { result ≡ true → self.new.word.items ≡ may_go }
+        ensures same { self.new.answer ≡ self.old.answer }
+    {
+        let mut to: &UnixStream = &self.line;
+        if !self.wait(WORD_WAIT) || to.write_all(ASKS).is_err() {
+            return false;
+        }
+        let Some(word) = taken(self.alloc, &mut self.line, MAY_GO.len()) else {
+            return false;
+        };
+        if word.as_slice() != MAY_GO {
+            return false;
+        }
+        self.word = word;
+        self.wait(ANSWER_WAIT)
+    }
 }
 
 /// Says how many entries the journal has, if other machines are to have them: false where that
@@ -100,6 +139,17 @@ pub(crate) fn answered(replica: &mut Option<Replica>, entries: u32) -> bool
 {
     match replica {
         Some(replica) => replica.hear(entries),
+        None => true,
+    }
+}
+
+/// Asks whether the server may go on, if other machines have a say in that: whether it may.
+pub(crate) fn allowed(replica: &mut Option<Replica>) -> bool
+    ensures word { result ≡ true → HasWord replica.new }
+    ensures still { (n : ℕ) → HasAnswered replica.old n → HasAnswered replica.new n }
+{
+    match replica {
+        Some(replica) => replica.ask(),
         None => true,
     }
 }

@@ -62,6 +62,8 @@ impl OpenJournal for MemoryJournal {
 
     ghost says = { λ k h. k.entries.items ≡ h };
 
+    ghost has_word = { λ k. Unit {0} };
+
     ghost keeps_all = { λ k h said. record { rest = []; is = said ∙ sym (append-nil h) } };
 
     ghost keeps_begun = { λ k h begun longer kept.
@@ -79,6 +81,10 @@ impl OpenJournal for MemoryJournal {
         }
         self.room -= entries.len();
         Ok(())
+    }
+
+    fn ask(&mut self) -> bool {
+        true
     }
 }
 

@@ -66,6 +66,7 @@ const KEEP_ERRORS: &[KeepError] = &[
     KeepError::Record(RecordError::Full),
     KeepError::Record(RecordError::Unsaid),
     KeepError::Record(RecordError::Replica),
+    KeepError::Record(RecordError::Silent),
     KeepError::Status,
     KeepError::Stuck,
     KeepError::Failed,
