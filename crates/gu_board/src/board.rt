@@ -8,8 +8,12 @@ use gu_book::Book;
 use gu_command::MOST_WORKERS;
 use gu_log::{Event, Field, Key, Value};
 use gu_parties::House;
-use gu_status::{BOUNDS, FirmEntries, Part, Pulses, REASONS, Snapshot, Syncs, mark_passed, stuck};
+use gu_status::{
+    BOUNDS, BUCKETS, FirmEntries, Part, Process, Pulses, REASONS, Snapshot, Syncs, mark_passed,
+    stuck,
+};
 use indexmap::IndexMap;
+use jiff::Timestamp;
 use std::alloc::{AllocError, Global};
 use std::sync::Wait;
 use std::sync::atomic::{AtomicBool, AtomicU64, Ordering};
@@ -50,6 +54,10 @@ pub struct Board {
     syncs: AtomicU64,
     sync_micros: AtomicU64,
     synced: AtomicU64,
+    slow: AtomicU64,
+    logons_refused: AtomicU64,
+    /// When the server began, in seconds from 1970 on.
+    began: AtomicU64,
 }
 
 /// A cell for each worker.
@@ -129,6 +137,9 @@ impl Board {
             syncs: AtomicU64::new(0),
             sync_micros: AtomicU64::new(0),
             synced: AtomicU64::new(0),
+            slow: AtomicU64::new(0),
+            logons_refused: AtomicU64::new(0),
+            began: AtomicU64::new(0),
         })
     }
 
@@ -142,8 +153,19 @@ impl Board {
         &self.log
     }
 
+    /// The server begins now.
+    pub(crate) fn begins<R: Clock>(&self, rt: &R) {
+        if let Ok(moment) = Timestamp::now(rt) {
+            let second = moment.as_second().max(0) as u64;
+            self.began.store(second, Ordering::SeqCst);
+        }
+    }
+
     /// Says an event.
     pub fn say<R: Wait + Clock>(&self, rt: &R, event: Event, fields: &[Field<'_>]) {
+        if event == Event::LogonRefused {
+            add(&self.logons_refused);
+        }
         self.log.say(rt, self.alloc, event, fields);
     }
 
@@ -184,9 +206,10 @@ impl Board {
         self.ready.store(true, Ordering::SeqCst);
     }
 
-    /// Begins a second of the watch.
-    pub fn begin_second(&self) {
+    /// Begins a second of the watch, and of the log.
+    pub fn begin_second<R: Wait + Clock>(&self, rt: &R) {
         self.second.fetch_add(1, Ordering::SeqCst);
+        self.log.begin_second(rt, self.alloc);
     }
 
     /// A worker has a turn.
@@ -260,6 +283,7 @@ impl Board {
         self.sync_micros.fetch_add(micros, Ordering::SeqCst);
         self.synced.store(load(&self.second), Ordering::SeqCst);
         if micros > SLOW_SYNC {
+            add(&self.slow);
             let fields = [
                 number(Key::Milliseconds, micros / 1000),
                 number(Key::Entries, count),
@@ -430,23 +454,29 @@ impl Board {
 
     /// How the syncs stand.
     fn snapshot_syncs(&self) -> Syncs {
-        let mut within = [0u64; 9];
+        let mut within = [0u64; BUCKETS];
         for i in 0..within.len() {
             if let Some(count) = self.within.get(i) {
                 within[i] = load(count);
             }
         }
         let second = load(&self.second);
+        let oldest_seconds = match load(&self.journal) {
+            0 => 0,
+            since => second.saturating_sub(since.saturating_sub(1)),
+        };
         Syncs {
             within,
             count: load(&self.syncs),
             micros: load(&self.sync_micros),
+            slow: load(&self.slow),
+            oldest_seconds,
             idle_seconds: second.saturating_sub(load(&self.synced)),
         }
     }
 
-    /// How the server stands.
-    pub fn snapshot(&self) -> Result<Snapshot, Memory> {
+    /// How the server stands, whose process has so much memory and so many descriptors.
+    pub fn snapshot(&self, memory: u64, descriptors: u64) -> Result<Snapshot, Memory> {
         let mut firms = Vec::with_capacity(self.alloc, self.firms.len())?;
         for (firm, entries) in self.firms.iter() {
             let entries = load(entries);
@@ -462,6 +492,11 @@ impl Board {
             }
         }
         Ok(Snapshot {
+            process: Process {
+                began: load(&self.began),
+                memory,
+                descriptors,
+            },
             is_ready: self.ready.load(Ordering::SeqCst),
             stuck: self.stuck(MOST_STILL),
             entries: small(load(&self.entries)),
@@ -471,6 +506,7 @@ impl Board {
             accepted: load(&self.accepted),
             repeated: load(&self.repeated),
             refused,
+            logons_refused: load(&self.logons_refused),
             waiting_bytes: load(&self.waiting),
             syncs: self.snapshot_syncs(),
             lines_lost: self.log.lost(),

@@ -3,7 +3,7 @@
 use crate::board::{Board, number, text};
 use crate::version::{VERSION, commit};
 use gu_base::{FirmId, Number};
-use gu_command::Order;
+use gu_command::{Order, StatusAt};
 use gu_journal::HouseDigest;
 use gu_limits::Ending;
 use gu_log::{Event, Field, Key};
@@ -28,6 +28,15 @@ fn word<'a>(key: Key, word: &'a Option<String>) -> Field<'a> {
     }
 }
 
+/// A field with a place where figures are told, or that there is none.
+fn place(key: Key, at: &Option<StatusAt>) -> Field<'_> {
+    match at {
+        Some(StatusAt::Port(port)) => number(key, u64::from(*port)),
+        Some(StatusAt::Socket(path)) => text(key, path.as_bytes()),
+        None => text(key, b"none"),
+    }
+}
+
 /// Says that the program has begun: what it is, by a house file with these bytes, and all that its
 /// line asks for.
 pub fn say_started<R: Wait + Clock + Files>(
@@ -37,6 +46,7 @@ pub fn say_started<R: Wait + Clock + Files>(
     order: &Order,
     file: &[u8],
 ) {
+    board.begins(rt);
     let pin = HouseDigest::of(file);
     let digest = format!(in alloc; "{pin}").ok();
     let commit = commit(rt, alloc);
@@ -65,7 +75,8 @@ pub fn say_started<R: Wait + Clock + Files>(
         limit(Key::Rate, limits.rate),
         limit(Key::PerFirm, limits.per_firm),
         word(Key::Replicate, &options.replica),
-        word(Key::StatusAt, &options.status),
+        place(Key::StatusAt, &options.status),
+        place(Key::MoreStatusAt, &options.more_status),
         text(Key::LogCalls, if options.log_calls { b"on" } else { b"no" }),
     ];
     board.say(rt, Event::Started, &fields);

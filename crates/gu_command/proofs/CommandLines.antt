@@ -1,12 +1,12 @@
 -- What the parser makes of the program's command lines.
 use Rattle.std.proofs.Common.{◌≡◌, ◌==◌, ◌∙◌, ℕ, sym, ap, refl, arith, codes, true, false, subst, drop, map, slice_get}
 use Rattle.std.proofs.Common.{List, [], ◌∷◌, Option, Some, None, slice_index, option_map, option_and_then, is_some}
-use Rattle.std.proofs.Common.{unwrap_or, bytes_eq}
-use Rattle.std.specs.Prelude.{Result, Ok, Err, IfOk, IfErr, MatchResult}
+use Rattle.std.proofs.Common.{unwrap_or, bytes_eq, ap₂}
+use Rattle.std.specs.Prelude.{Result, Ok, Err, IfOk, IfErr, MatchResult, Bool, ◌&&◌, ◌||◌}
 use Rattle.std.proofs.lemmas.Result.{IfOk-weaker}
 use Rattle.std.proofs.lemmas.Bool.{not-true}
 use Rattle.clap.specs.Lexer.{strip_byte}
-use Rattle.clap.specs.Words.{App, Row, Rule, Text, with_rule, first_of, first_value, is_simple, rows_of}
+use Rattle.clap.specs.Words.{App, Row, Rule, Text, with_rule, all_of, first_of, first_value, is_simple, rows_of}
 use Rattle.clap.specs.Words.{subcommand_name_of, subcommand_of, subcommand_rows_of, takes}
 use Rattle.clap.specs.declared.builder.command.Command.{Command}
 use Rattle.clap.specs.declared.parser.matches.ArgMatches.{ArgMatches}
@@ -14,14 +14,19 @@ use Rattle.clap.specs.declared.parser.matches.Found.{Found}
 use Rattle.gu_message.specs.Values.{entry_of}
 use Rattle.gu_command.specs.Faults.{no_memory}
 use Rattle.gu_command.specs.declared.fault.Fault.{Fault}
-use Rattle.clap.proofs.WalkLemmas.{first_value-rows}
+use Rattle.clap.proofs.WalkLemmas.{first_value-rows, raw_values-rows}
 use Rattle.clap.proofs.OnLiterals.{clap_on_literals}
 use Rattle.gu_command.specs.Lines.{program, Makes, is_plain, command_in, word_for, house_in, trade_in, journal_in}
-use Rattle.gu_command.specs.Lines.{port_in, workers_in, connections_in, trade_meant, port_meant, workers_meant}
+use Rattle.gu_command.specs.Lines.{port_in, workers_in, connections_in, told_in, trade_meant, port_meant}
+use Rattle.gu_command.specs.Lines.{workers_meant}
 use Rattle.gu_command.specs.Lines.{connections_meant, IsLine, IsLineOf, AsksForBatch, AsksForTrace, AsksToServe}
 use Rattle.gu_command.specs.Lines.{AsksToKeep}
 use Rattle.gu_command.specs.Options.{flag_meant, limit_meant}
-use Rattle.gu_command.specs.Options.{AreLimitsOf, AreOptionsOf, IfMeant, no_options}
+use Rattle.gu_command.specs.Options.{AreLimitsOf, AreOptionsOf, AreMeant, IfMeant, no_options}
+use Rattle.gu_command.specs.Limits.{most_port, up_to}
+use Rattle.gu_command.specs.Places.{are_places, is_place, told_among, ArePlaces, IsPlaceIf}
+use Rattle.gu_command.specs.declared.options.StatusAt.{StatusAt}
+use Rattle.gu_command.specs.declared.options.StatusAt.TheVariants.{Port, Socket}
 use Rattle.gu_limits.specs.declared.limits.Limits.{Limits}
 use Rattle.gu_command.specs.declared.options.KeepOptions.{KeepOptions}
 use Rattle.gu_command.specs.declared.line.Line.{Line}
@@ -218,7 +223,7 @@ serve_taken path word h k =
 -- ---- keep
 
 abbrev telling_ids : List Text
-telling_ids = codes "STATUS" ∷ codes "LOG_CALLS" ∷ []
+telling_ids = codes "LOG_CALLS" ∷ []
 
 abbrev limit_ids : List Text
 limit_ids = codes "ENTRIES" ∷ codes "RESERVED" ∷ codes "CALLS" ∷ codes "CONNECTIONS" ∷ telling_ids
@@ -231,7 +236,7 @@ keep_ids = codes "HOUSE" ∷ codes "JOURNAL" ∷ codes "PORT" ∷ codes "WORKERS
 
 -- a flag that isn't given is `false`
 abbrev none_given : List (Option Text)
-none_given = None ∷ None ∷ None ∷ None ∷ None ∷ None ∷ Some (codes "false") ∷ []
+none_given = None ∷ None ∷ None ∷ None ∷ None ∷ Some (codes "false") ∷ []
 
 keep_given : (path file word : Text) → is_plain path ≡ true → is_plain file ≡ true → is_plain word ≡ true
     → given_for keep_ids (subcommand_of program (keep_line path file word))
@@ -244,23 +249,29 @@ keep_given path file word h f k =
 -- nothing is given for the options
 options_given : (given : Text → Option Text) → given (codes "PATH") ≡ None → given (codes "ENTRIES") ≡ None
     → given (codes "RESERVED") ≡ None → given (codes "CALLS") ≡ None → given (codes "CONNECTIONS") ≡ None
-    → given (codes "STATUS") ≡ None → given (codes "LOG_CALLS") ≡ Some (codes "false")
-    → AreOptionsOf given no_options
-options_given given path entries reserved calls connections status log_calls = (
+    → given (codes "LOG_CALLS") ≡ Some (codes "false") → AreOptionsOf given [] no_options
+options_given given path entries reserved calls connections log_calls = (
   path,
   (ap limit_meant entries, ap limit_meant reserved, ap limit_meant calls, ap limit_meant connections),
-  status,
+  (refl, refl),
   ap flag_meant log_calls,
 )
+
+-- nor behind `--status`
+none_told : (path file word : Text) → is_plain path ≡ true → is_plain file ≡ true → is_plain word ≡ true
+    → told_in (keep_line path file word) ≡ []
+unfolding clap_on_literals
+none_told path file word h f k =
+    let path_is = read_plain path h in let file_is = read_plain file f in let word_is = read_plain word k in
+    rw (path_is.0, path_is.1, path_is.0, file_is.0, file_is.1, file_is.0, word_is.0, word_is.1, word_is.0) refl
 
 pub keep_met : (path file word : Text) → is_plain path ≡ true → is_plain file ≡ true → is_plain word ≡ true
     → (command_in (keep_line path file word) ≡ Some (codes "keep")) × (house_in (keep_line path file word) ≡ Some path)
     × (journal_in (keep_line path file word) ≡ Some file) × (port_in (keep_line path file word) ≡ Some word)
     × (workers_in (keep_line path file word) ≡ None) × (connections_in (keep_line path file word) ≡ None)
-    × AreOptionsOf (word_for (keep_line path file word)) no_options
+    × AreOptionsOf (word_for (keep_line path file word)) (told_in (keep_line path file word)) no_options
 keep_met path file word h f k =
     let e = keep_given path file word h f k in
-    let flags = codes "LOG_CALLS" ∷ [] in
     let each = codes "CONNECTIONS" ∷ telling_ids in
     let calls = codes "CALLS" ∷ each in
     let reserved = codes "RESERVED" ∷ calls in
@@ -276,22 +287,22 @@ keep_met path file word h f k =
     let reserve = rest_given (codes "ENTRIES") reserved _ _ _ _ entries in
     let rate = rest_given (codes "RESERVED") calls _ _ _ _ reserve in
     let per_firm = rest_given (codes "CALLS") each _ _ _ _ rate in
-    let status = rest_given (codes "CONNECTIONS") telling_ids _ _ _ _ per_firm in
-    let log_calls = rest_given (codes "STATUS") flags _ _ _ _ status in (
+    let log_calls = rest_given (codes "CONNECTIONS") telling_ids _ _ _ _ per_firm in (
       command_given keep_ids _ _ _ e,
       first_given (codes "HOUSE") (codes "JOURNAL" ∷ ports) _ _ _ _ e,
       first_given (codes "JOURNAL") ports _ _ _ _ journal,
       first_given (codes "PORT") numbers _ _ _ _ port,
       first_given (codes "WORKERS") counts _ _ _ _ workers,
       first_given (codes "COUNT") option_ids _ _ _ _ connections,
-      options_given (word_for (keep_line path file word))
+      subst (λ (t : List Text). AreOptionsOf (word_for (keep_line path file word)) t no_options)
+          (sym (none_told path file word h f k))
+          (options_given (word_for (keep_line path file word))
           (first_given (codes "PATH") limit_ids _ _ _ _ replica)
           (first_given (codes "ENTRIES") reserved _ _ _ _ entries)
           (first_given (codes "RESERVED") calls _ _ _ _ reserve)
           (first_given (codes "CALLS") each _ _ _ _ rate)
           (first_given (codes "CONNECTIONS") telling_ids _ _ _ _ per_firm)
-          (first_given (codes "STATUS") flags _ _ _ _ status)
-          (first_given (codes "LOG_CALLS") [] _ _ _ _ log_calls),
+          (first_given (codes "LOG_CALLS") [] _ _ _ _ log_calls)),
     )
 
 pub keep_taken : (path file word : Text) → is_plain path ≡ true → is_plain file ≡ true → is_plain word ≡ true
@@ -320,6 +331,22 @@ given_here : (words : List Text) (id : Text) (met : Option (Text × List Row)) (
 given_here words id met found met_is rows_are =
     first_value-rows found id ∙ given_among id met (rows_of found) rows_are ∙ ap (given_in id) met_is
 
+-- and all that is given there behind `--status`
+abbrev told_at : Option (Text × List Row) → Option (List Text)
+told_at met = option_and_then (λ p. all_of (codes "STATUS") p.1) met
+
+told_among_rows : (met : Option (Text × List Row)) (rows : List Row) → Some rows ≡ option_map (λ p. p.1) met
+    → all_of (codes "STATUS") rows ≡ told_at met
+told_among_rows None rows e = ap (λ (o : Option (List Row)). option_and_then (all_of (codes "STATUS")) o) e
+told_among_rows (Some p) rows e = ap (λ (o : Option (List Row)). option_and_then (all_of (codes "STATUS")) o) e
+
+told_here : (words : List Text) (met : Option (Text × List Row)) (found : Found)
+    → met ≡ subcommand_of program words → Some (rows_of found) ≡ option_map (λ p. p.1) met
+    → told_among found ≡ told_in words
+told_here words met found met_is rows_are =
+    ap (λ (o : Option (List Text)). unwrap_or o [])
+    (raw_values-rows found (codes "STATUS") ∙ told_among_rows met (rows_of found) rows_are ∙ ap told_at met_is)
+
 mapped_twice : {A B C : Type 0} (f : B → C) (g : A → B) (o : Option A)
     → option_map f (option_map g o) ≡ option_map (λ x. f (g x)) o
 mapped_twice f g None = refl
@@ -338,16 +365,20 @@ pub found_here : (a : App) (words : List Text) (m : ArgMatches) (name : Text) (f
     → (is_simple a ≡ true → subcommand_rows_of m ≡ subcommand_of a words) → Some name ≡ subcommand_name_of m
     → Some (rows_of found) ≡ option_map (λ p. p.1) (subcommand_rows_of m)
     → (command_in words ≡ Some name) × ((id : Text) → first_value found id ≡ word_for words id)
+    × (told_among found ≡ told_in words)
 found_here a words m name found same met_is name_is rows_are =
-    let met = met_here a words _ same met_is in
-    (command_here m words name met name_is, λ id. given_here words id _ found met rows_are)
+    let met = met_here a words _ same met_is in (
+      command_here m words name met name_is,
+      λ id. given_here words id _ found met rows_are,
+      told_here words _ found met rows_are,
+    )
 
 -- ---- the line that is read
 
 -- what was given for the options means the same where the same is given
-same_meaning : (f g : Text → Option Text) (options : KeepOptions) → ((id : Text) → f id ≡ g id)
-    → AreOptionsOf g options → AreOptionsOf f options
-same_meaning f g options same k = (
+same_meaning : (f g : Text → Option Text) (s t : List Text) (options : KeepOptions) → ((id : Text) → f id ≡ g id)
+    → s ≡ t → AreOptionsOf g t options → AreOptionsOf f s options
+same_meaning f g s t options same told k = (
   same (codes "PATH") ∙ k.0,
   (
     ap limit_meant (same (codes "ENTRIES")) ∙ k.1.0,
@@ -355,38 +386,52 @@ same_meaning f g options same k = (
     ap limit_meant (same (codes "CALLS")) ∙ k.1.2,
     ap limit_meant (same (codes "CONNECTIONS")) ∙ k.1.3,
   ),
-  same (codes "STATUS") ∙ k.2,
+  subst (λ (x : List Text). ArePlaces x options.status options.more_status) (sym told) k.2,
   ap flag_meant (same (codes "LOG_CALLS")) ∙ k.3,
 )
 
+-- a word that means a place is one
+place_so : (word : Text) (place : Option StatusAt) → IsPlaceIf (Some word) place → is_place word ≡ true
+place_so word None k = absurd k
+place_so word (Some (Port number)) k = ap₂ (λ (a b : Bool). a || b) k.0 (ap is_some k.1)
+place_so word (Some (Socket path)) k = ap (λ (a : Bool). a || is_some (up_to most_port word)) k.0
+
+places_so : (told : List Text) (first second : Option StatusAt) → ArePlaces told first second → are_places told ≡ true
+places_so [] first second k = refl
+places_so (v ∷ []) first second k = place_so v first k.0
+places_so (v ∷ w ∷ []) first second k =
+    ap₂ (λ (a b : Bool). a && b) (place_so v first k.0) (place_so w second k.1)
+places_so (v ∷ w ∷ x ∷ ws) first second k = absurd k
+
 -- what holds if the options mean some holds where they do
-meant_so : (given : Text → Option Text) (options : KeepOptions) (P : Type 0) → AreOptionsOf given options
-    → IfMeant given P → P
-meant_so given options P k p =
-    p (ap is_some k.1.0) (ap is_some k.1.1) (ap is_some k.1.2) (ap is_some k.1.3)
+meant_so : (given : Text → Option Text) (told : List Text) (options : KeepOptions) (P : Type 0)
+    → AreOptionsOf given told options → AreMeant given told P → P
+meant_so given told options P k p =
+    p (places_so told options.status options.more_status k.2) (ap is_some k.1.0) (ap is_some k.1.1) (ap is_some k.1.2)
+    (ap is_some k.1.3)
 
 -- of which command the line is, and what was given for its arguments
-pub line_found : (words : List Text) (command : Text) (given : Text → Option Text) (l : Line)
-    → command_in words ≡ Some command → ((id : Text) → given id ≡ word_for words id) → IsLineOf command given l
-    → IsLine words l
-line_found words command given (Batch path) c g k = (c ∙ ap Some k.0, sym (g (codes "HOUSE")) ∙ k.1)
-line_found words command given (Trace path number) c g k =
+pub line_found : (words : List Text) (command : Text) (given : Text → Option Text) (told : List Text) (l : Line)
+    → command_in words ≡ Some command → ((id : Text) → given id ≡ word_for words id) → told ≡ told_in words
+    → IsLineOf command given told l → IsLine words l
+line_found words command given told (Batch path) c g t k = (c ∙ ap Some k.0, sym (g (codes "HOUSE")) ∙ k.1)
+line_found words command given told (Trace path number) c g t k =
     (c ∙ ap Some k.0, sym (g (codes "HOUSE")) ∙ k.1, ap trade_meant (sym (g (codes "N"))) ∙ k.2)
-line_found words command given (Serve path port workers connections) c g k = (
+line_found words command given told (Serve path port workers connections) c g t k = (
   c ∙ ap Some k.0,
   sym (g (codes "HOUSE")) ∙ k.1,
   ap port_meant (sym (g (codes "PORT"))) ∙ k.2,
   ap workers_meant (sym (g (codes "WORKERS"))) ∙ k.3,
   ap connections_meant (sym (g (codes "COUNT"))) ∙ k.4,
 )
-line_found words command given (Keep path journal port workers connections options) c g k = (
+line_found words command given told (Keep path journal port workers connections options) c g t k = (
   c ∙ ap Some k.0,
   sym (g (codes "HOUSE")) ∙ k.1,
   sym (g (codes "JOURNAL")) ∙ k.2,
   ap port_meant (sym (g (codes "PORT"))) ∙ k.3,
   ap workers_meant (sym (g (codes "WORKERS"))) ∙ k.4,
   ap connections_meant (sym (g (codes "COUNT"))) ∙ k.5,
-  same_meaning (word_for words) given options (λ id. sym (g id)) k.6,
+  same_meaning (word_for words) given (told_in words) told options (λ id. sym (g id)) (sym t) k.6,
 )
 
 -- ---- what a line asks for
@@ -422,37 +467,39 @@ keep_no_serve e = keep_apart (codes "serve") 115 refl (λ (bad : 115 ≡ 107). o
 serve_no_trace : codes "serve" ≡ codes "trace" → ⊥
 serve_no_trace e = let bad : 115 ≡ 116 = ap (λ (t : Text). slice_index t 0) e in omega (arith, bad)
 
-pub asks_batch : (command path : Text) (given : Text → Option Text) (l : Line) → command ≡ codes "batch"
-    → given (codes "HOUSE") ≡ Some path → IsLineOf command given l → AsksForBatch path l
-asks_batch command path given (Batch file) c h k = same_in_some _ _ (sym k.1 ∙ h)
-asks_batch command path given (Trace file number) c h k = absurd (apart (sym k.0 ∙ c))
-asks_batch command path given (Serve file port workers connections) c h k = absurd (serve_apart (sym k.0 ∙ c))
-asks_batch command path given (Keep file journal port workers connections options) c h k =
+pub asks_batch : (command path : Text) (given : Text → Option Text) (told : List Text) (l : Line)
+    → command ≡ codes "batch"
+    → given (codes "HOUSE") ≡ Some path → IsLineOf command given told l → AsksForBatch path l
+asks_batch command path given told (Batch file) c h k = same_in_some _ _ (sym k.1 ∙ h)
+asks_batch command path given told (Trace file number) c h k = absurd (apart (sym k.0 ∙ c))
+asks_batch command path given told (Serve file port workers connections) c h k = absurd (serve_apart (sym k.0 ∙ c))
+asks_batch command path given told (Keep file journal port workers connections options) c h k =
     absurd (keep_no_batch (sym k.0 ∙ c))
 
-pub asks_trace : (command path : Text) (given : Text → Option Text) (trade : Option ℕ) (l : Line)
+pub asks_trace : (command path : Text) (given : Text → Option Text) (told : List Text) (trade : Option ℕ) (l : Line)
     → command ≡ codes "trace" → given (codes "HOUSE") ≡ Some path → trade_meant (given (codes "N")) ≡ Some trade
-    → IsLineOf command given l → AsksForTrace path trade l
-asks_trace command path given trade (Batch file) c h t k = absurd (apart (sym c ∙ k.0))
-asks_trace command path given trade (Trace file number) c h t k =
+    → IsLineOf command given told l → AsksForTrace path trade l
+asks_trace command path given told trade (Batch file) c h t k = absurd (apart (sym c ∙ k.0))
+asks_trace command path given told trade (Trace file number) c h t k =
     (same_in_some _ _ (sym k.1 ∙ h), same_number _ _ (sym k.2 ∙ t))
-asks_trace command path given trade (Serve file port workers connections) c h t k =
+asks_trace command path given told trade (Serve file port workers connections) c h t k =
     absurd (serve_no_trace (sym k.0 ∙ c))
-asks_trace command path given trade (Keep file journal port workers connections options) c h t k =
+asks_trace command path given told trade (Keep file journal port workers connections options) c h t k =
     absurd (keep_no_trace (sym k.0 ∙ c))
 
-pub asks_serve : (command path : Text) (given : Text → Option Text) (port : ℕ) (l : Line) → command ≡ codes "serve"
+pub asks_serve : (command path : Text) (given : Text → Option Text) (told : List Text) (port : ℕ) (l : Line)
+    → command ≡ codes "serve"
     → given (codes "HOUSE") ≡ Some path → port_meant (given (codes "PORT")) ≡ Some port → given (codes "WORKERS") ≡ None
-    → given (codes "COUNT") ≡ None → IsLineOf command given l → AsksToServe path port 4 0 l
-asks_serve command path given port (Batch file) c h p w n k = absurd (serve_apart (sym c ∙ k.0))
-asks_serve command path given port (Trace file number) c h p w n k = absurd (serve_no_trace (sym c ∙ k.0))
-asks_serve command path given port (Serve file at workers connections) c h p w n k = (
+    → given (codes "COUNT") ≡ None → IsLineOf command given told l → AsksToServe path port 4 0 l
+asks_serve command path given told port (Batch file) c h p w n k = absurd (serve_apart (sym c ∙ k.0))
+asks_serve command path given told port (Trace file number) c h p w n k = absurd (serve_no_trace (sym c ∙ k.0))
+asks_serve command path given told port (Serve file at workers connections) c h p w n k = (
   same_in_some _ _ (sym k.1 ∙ h),
   same_count _ _ (sym k.2 ∙ p),
   same_count _ _ (sym k.3 ∙ ap workers_meant w),
   same_count _ _ (sym k.4 ∙ ap connections_meant n),
 )
-asks_serve command path given port (Keep file journal at workers connections options) c h p w n k =
+asks_serve command path given told port (Keep file journal at workers connections options) c h p w n k =
     absurd (keep_no_serve (sym k.0 ∙ c))
 
 -- no word was given where none is found
@@ -473,34 +520,39 @@ same_limits l m given k n =
     ∙ ap (λ x. record m { per_firm = x }) per_firm
 
 -- and so are the options, where none was given
-no_options_given : (options : KeepOptions) (given : Text → Option Text) → AreOptionsOf given options
-    → AreOptionsOf given no_options → options ≡ no_options
-no_options_given options given k n =
+no_options_given : (options : KeepOptions) (given : Text → Option Text) (told : List Text) → told ≡ []
+    → AreOptionsOf given told options → AreOptionsOf given told no_options → options ≡ no_options
+no_options_given options given told t k n =
     let replica = none_found _ options.replica (sym k.0 ∙ n.0) in
     let limits = same_limits options.limits no_options.limits given k.1 n.1 in
-    let status = none_found _ options.status (sym k.2 ∙ n.2) in
+    let places : ArePlaces [] options.status options.more_status =
+    subst (λ (x : List Text). ArePlaces x options.status options.more_status) t k.2 in
     let log_calls = sym k.3 ∙ n.3 in
     ap (λ x. record options { replica = x }) replica
     ∙ ap (λ x. record options { replica = None; limits = x }) limits
-    ∙ ap (λ x. record no_options { status = x; log_calls = options.log_calls }) status
+    ∙ ap (λ x. record no_options { status = x; more_status = options.more_status; log_calls = options.log_calls })
+    places.0
+    ∙ ap (λ x. record no_options { more_status = x; log_calls = options.log_calls }) places.1
     ∙ ap (λ x. record no_options { log_calls = x }) log_calls
 
-pub asks_keep : (command path file : Text) (given : Text → Option Text) (port : ℕ) (l : Line) → command ≡ codes "keep"
+pub asks_keep : (command path file : Text) (given : Text → Option Text) (told : List Text) (port : ℕ) (l : Line)
+    → command ≡ codes "keep"
     → given (codes "HOUSE") ≡ Some path → given (codes "JOURNAL") ≡ Some file
     → port_meant (given (codes "PORT")) ≡ Some port → given (codes "WORKERS") ≡ None
-    → given (codes "COUNT") ≡ None → AreOptionsOf given no_options → IsLineOf command given l
+    → given (codes "COUNT") ≡ None → told ≡ [] → AreOptionsOf given told no_options → IsLineOf command given told l
     → AsksToKeep path file port 4 0 l
-asks_keep command path file given port (Batch house) c h j p w n r k = absurd (keep_no_batch (sym c ∙ k.0))
-asks_keep command path file given port (Trace house number) c h j p w n r k = absurd (keep_no_trace (sym c ∙ k.0))
-asks_keep command path file given port (Serve house at workers connections) c h j p w n r k =
+asks_keep command path file given told port (Batch house) c h j p w n t r k = absurd (keep_no_batch (sym c ∙ k.0))
+asks_keep command path file given told port (Trace house number) c h j p w n t r k =
+    absurd (keep_no_trace (sym c ∙ k.0))
+asks_keep command path file given told port (Serve house at workers connections) c h j p w n t r k =
     absurd (keep_no_serve (sym c ∙ k.0))
-asks_keep command path file given port (Keep house journal at workers connections options) c h j p w n r k = (
+asks_keep command path file given told port (Keep house journal at workers connections options) c h j p w n t r k = (
   same_in_some _ _ (sym k.1 ∙ h),
   same_in_some _ _ (sym k.2 ∙ j),
   same_count _ _ (sym k.3 ∙ p),
   same_count _ _ (sym k.4 ∙ ap workers_meant w),
   same_count _ _ (sym k.5 ∙ ap connections_meant n),
-  no_options_given options given k.6 r,
+  no_options_given options given told t k.6 r,
 )
 
 -- ---- what comes of it
@@ -513,56 +565,59 @@ by_both (Ok l) P Q h k = h
 by_both (Err e) P Q h k = k
 
 -- each line is read
-pub batch_read : (r : Reading) (words : List Text) (name path : Text) (given : Text → Option Text)
+pub batch_read : (r : Reading) (words : List Text) (name path : Text) (given : Text → Option Text) (told : List Text)
     → words ≡ batch_line path → is_plain path ≡ true → command_in words ≡ Some name
-    → ((id : Text) → given id ≡ word_for words id) → IfOk r (IsLineOf name given)
+    → ((id : Text) → given id ≡ word_for words id) → IfOk r (IsLineOf name given told)
     → (name ≡ codes "batch" → is_some (given (codes "HOUSE")) ≡ true → IfErr r (λ e. e ≡ no_memory))
     → MatchResult r (AsksForBatch path) (λ e. e ≡ no_memory)
-batch_read r words name path given e plain named_so given_so read fails =
+batch_read r words name path given told e plain named_so given_so read fails =
     let met = batch_met path plain in
     let name_is : name ≡ codes "batch" = same_in_some _ _ (sym named_so ∙ ap command_in e ∙ met.0) in
     let house_is : given (codes "HOUSE") ≡ Some path = given_so (codes "HOUSE") ∙ ap house_in e ∙ met.1 in
-    by_both r _ _ (IfOk-weaker r _ _ (λ l h. asks_batch name path given l name_is house_is h) read)
+    by_both r _ _ (IfOk-weaker r _ _ (λ l h. asks_batch name path given told l name_is house_is h) read)
     (fails name_is (ap is_some house_is))
 
-pub totals_read : (r : Reading) (words : List Text) (name path : Text) (given : Text → Option Text)
+pub totals_read : (r : Reading) (words : List Text) (name path : Text) (given : Text → Option Text) (told : List Text)
     → words ≡ totals_line path → is_plain path ≡ true → command_in words ≡ Some name
-    → ((id : Text) → given id ≡ word_for words id) → IfOk r (IsLineOf name given)
+    → ((id : Text) → given id ≡ word_for words id) → IfOk r (IsLineOf name given told)
     → (name ≡ codes "trace" → is_some (given (codes "HOUSE")) ≡ true → is_some (trade_meant (given (codes "N"))) ≡ true
     → IfErr r (λ e. e ≡ no_memory))
     → MatchResult r (AsksForTrace path None) (λ e. e ≡ no_memory)
-totals_read r words name path given e plain named_so given_so read fails =
+totals_read r words name path given told e plain named_so given_so read fails =
     let met = totals_met path plain in
     let name_is : name ≡ codes "trace" = same_in_some _ _ (sym named_so ∙ ap command_in e ∙ met.0) in
     let house_is : given (codes "HOUSE") ≡ Some path = given_so (codes "HOUSE") ∙ ap house_in e ∙ met.1 in
     let meant : trade_meant (given (codes "N")) ≡ Some None =
     ap trade_meant (given_so (codes "N") ∙ ap trade_in e ∙ met.2) in
-    by_both r _ _ (IfOk-weaker r _ _ (λ l h. asks_trace name path given None l name_is house_is meant h) read)
+    by_both r _ _ (IfOk-weaker r _ _ (λ l h. asks_trace name path given told None l name_is house_is meant h) read)
     (fails name_is (ap is_some house_is) (ap is_some meant))
 
 pub trace_read : (r : Reading) (words : List Text) (name path word : Text) (number : ℕ) (given : Text → Option Text)
+    (told : List Text)
     → words ≡ trace_line path word → is_plain path ≡ true → is_plain word ≡ true → entry_of word ≡ Some number
-    → command_in words ≡ Some name → ((id : Text) → given id ≡ word_for words id) → IfOk r (IsLineOf name given)
+    → command_in words ≡ Some name → ((id : Text) → given id ≡ word_for words id) → IfOk r (IsLineOf name given told)
     → (name ≡ codes "trace" → is_some (given (codes "HOUSE")) ≡ true → is_some (trade_meant (given (codes "N"))) ≡ true
     → IfErr r (λ e. e ≡ no_memory))
     → MatchResult r (AsksForTrace path (Some number)) (λ e. e ≡ no_memory)
-trace_read r words name path word number given e plain plain_word number_is named_so given_so read fails =
+trace_read r words name path word number given told e plain plain_word number_is named_so given_so read fails =
     let met = trace_met path word plain plain_word in
     let name_is : name ≡ codes "trace" = same_in_some _ _ (sym named_so ∙ ap command_in e ∙ met.0) in
     let house_is : given (codes "HOUSE") ≡ Some path = given_so (codes "HOUSE") ∙ ap house_in e ∙ met.1 in
     let meant : trade_meant (given (codes "N")) ≡ Some (Some number) =
     ap trade_meant (given_so (codes "N") ∙ ap trade_in e ∙ met.2) ∙ ap (option_map Some) number_is in
-    by_both r _ _ (IfOk-weaker r _ _ (λ l h. asks_trace name path given (Some number) l name_is house_is meant h) read)
+    by_both r _ _
+    (IfOk-weaker r _ _ (λ l h. asks_trace name path given told (Some number) l name_is house_is meant h) read)
     (fails name_is (ap is_some house_is) (ap is_some meant))
 
 pub serve_read : (r : Reading) (words : List Text) (name path word : Text) (port : ℕ) (given : Text → Option Text)
+    (told : List Text)
     → words ≡ serve_line path word → is_plain path ≡ true → is_plain word ≡ true → port_meant (Some word) ≡ Some port
-    → command_in words ≡ Some name → ((id : Text) → given id ≡ word_for words id) → IfOk r (IsLineOf name given)
+    → command_in words ≡ Some name → ((id : Text) → given id ≡ word_for words id) → IfOk r (IsLineOf name given told)
     → (name ≡ codes "serve" → is_some (given (codes "HOUSE")) ≡ true
     → is_some (port_meant (given (codes "PORT"))) ≡ true → is_some (workers_meant (given (codes "WORKERS"))) ≡ true
     → is_some (connections_meant (given (codes "COUNT"))) ≡ true → IfErr r (λ e. e ≡ no_memory))
     → MatchResult r (AsksToServe path port 4 0) (λ e. e ≡ no_memory)
-serve_read r words name path word port given e plain plain_word port_is named_so given_so read fails =
+serve_read r words name path word port given told e plain plain_word port_is named_so given_so read fails =
     let met = serve_met path word plain plain_word in
     let name_is : name ≡ codes "serve" = same_in_some _ _ (sym named_so ∙ ap command_in e ∙ met.0) in
     let house_is : given (codes "HOUSE") ≡ Some path = given_so (codes "HOUSE") ∙ ap house_in e ∙ met.1 in
@@ -571,19 +626,21 @@ serve_read r words name path word port given e plain plain_word port_is named_so
     let usual : given (codes "WORKERS") ≡ None = given_so (codes "WORKERS") ∙ ap workers_in e ∙ met.3 in
     let endless : given (codes "COUNT") ≡ None = given_so (codes "COUNT") ∙ ap connections_in e ∙ met.4 in
     by_both r _ _
-    (IfOk-weaker r _ _ (λ l h. asks_serve name path given port l name_is house_is meant usual endless h) read)
+    (IfOk-weaker r _ _ (λ l h. asks_serve name path given told port l name_is house_is meant usual endless h) read)
     (fails name_is (ap is_some house_is) (ap is_some meant) (ap (λ (o : Option Text). is_some (workers_meant o)) usual)
     (ap (λ (o : Option Text). is_some (connections_meant o)) endless))
 
 pub keep_read : (r : Reading) (words : List Text) (name path file word : Text) (port : ℕ) (given : Text → Option Text)
+    (told : List Text)
     → words ≡ keep_line path file word → is_plain path ≡ true → is_plain file ≡ true → is_plain word ≡ true
     → port_meant (Some word) ≡ Some port → command_in words ≡ Some name → ((id : Text) → given id ≡ word_for words id)
-    → IfOk r (IsLineOf name given)
+    → told ≡ told_in words → IfOk r (IsLineOf name given told)
     → (name ≡ codes "keep" → is_some (given (codes "HOUSE")) ≡ true → is_some (given (codes "JOURNAL")) ≡ true
     → is_some (port_meant (given (codes "PORT"))) ≡ true → is_some (workers_meant (given (codes "WORKERS"))) ≡ true
-    → is_some (connections_meant (given (codes "COUNT"))) ≡ true → IfMeant given (IfErr r (λ e. e ≡ no_memory)))
+    → is_some (connections_meant (given (codes "COUNT"))) ≡ true → AreMeant given told (IfErr r (λ e. e ≡ no_memory)))
     → MatchResult r (AsksToKeep path file port 4 0) (λ e. e ≡ no_memory)
-keep_read r words name path file word port given e plain plain_file plain_word port_is named_so given_so read fails =
+keep_read r words name path file word port given told e plain plain_file plain_word port_is named_so given_so told_so
+    read fails =
     let met = keep_met path file word plain plain_file plain_word in
     let name_is : name ≡ codes "keep" = same_in_some _ _ (sym named_so ∙ ap command_in e ∙ met.0) in
     let house_is : given (codes "HOUSE") ≡ Some path = given_so (codes "HOUSE") ∙ ap house_in e ∙ met.1 in
@@ -592,20 +649,23 @@ keep_read r words name path file word port given e plain plain_file plain_word p
     ap port_meant (given_so (codes "PORT") ∙ ap port_in e ∙ met.3) ∙ port_is in
     let usual : given (codes "WORKERS") ≡ None = given_so (codes "WORKERS") ∙ ap workers_in e ∙ met.4 in
     let endless : given (codes "COUNT") ≡ None = given_so (codes "COUNT") ∙ ap connections_in e ∙ met.5 in
-    let none : AreOptionsOf given no_options =
-    same_meaning given (word_for words) no_options given_so
-    (subst (λ (w : List Text). AreOptionsOf (word_for w) no_options) (sym e) met.6) in
+    let none : AreOptionsOf given told no_options =
+    same_meaning given (word_for words) told (told_in words) no_options given_so told_so
+    (subst (λ (w : List Text). AreOptionsOf (word_for w) (told_in w) no_options) (sym e) met.6) in
+    let untold : told ≡ [] = told_so ∙ ap told_in e ∙ none_told path file word plain plain_file plain_word in
     by_both r _ _
     (IfOk-weaker r _ _
-    (λ l h. asks_keep name path file given port l name_is house_is journal_is meant usual endless none h) read)
-    (meant_so given no_options _ none
+    (λ l h. asks_keep name path file given told port l name_is house_is journal_is meant usual endless untold none h)
+    read)
+    (meant_so given told no_options _ none
     (fails name_is (ap is_some house_is) (ap is_some journal_is) (ap is_some meant)
     (ap (λ (o : Option Text). is_some (workers_meant o)) usual)
     (ap (λ (o : Option Text). is_some (connections_meant o)) endless)))
 
 -- a line that the parser finds in the words is told, unless memory runs out
-pub line_read : (r : Reading) (words : List Text) (name : Text) (given : Text → Option Text) (l : Line) → IsLine words l
-    → command_in words ≡ Some name → ((id : Text) → given id ≡ word_for words id)
+pub line_read : (r : Reading) (words : List Text) (name : Text) (given : Text → Option Text) (told : List Text)
+    (l : Line) → IsLine words l → command_in words ≡ Some name → ((id : Text) → given id ≡ word_for words id)
+    → told ≡ told_in words
     → (name ≡ codes "batch" → is_some (given (codes "HOUSE")) ≡ true → IfErr r (λ e. e ≡ no_memory))
     → (name ≡ codes "trace" → is_some (given (codes "HOUSE")) ≡ true → is_some (trade_meant (given (codes "N"))) ≡ true
     → IfErr r (λ e. e ≡ no_memory))
@@ -614,21 +674,23 @@ pub line_read : (r : Reading) (words : List Text) (name : Text) (given : Text �
     → is_some (connections_meant (given (codes "COUNT"))) ≡ true → IfErr r (λ e. e ≡ no_memory))
     → (name ≡ codes "keep" → is_some (given (codes "HOUSE")) ≡ true → is_some (given (codes "JOURNAL")) ≡ true
     → is_some (port_meant (given (codes "PORT"))) ≡ true → is_some (workers_meant (given (codes "WORKERS"))) ≡ true
-    → is_some (connections_meant (given (codes "COUNT"))) ≡ true → IfMeant given (IfErr r (λ e. e ≡ no_memory)))
+    → is_some (connections_meant (given (codes "COUNT"))) ≡ true → AreMeant given told (IfErr r (λ e. e ≡ no_memory)))
     → IfErr r (λ e. e ≡ no_memory)
-line_read r words name given (Batch path) found named_so given_so batch trace serve keep =
+line_read r words name given told (Batch path) found named_so given_so told_so batch trace serve keep =
     batch (same_in_some _ _ (sym named_so ∙ found.0)) (ap is_some (given_so (codes "HOUSE") ∙ found.1))
-line_read r words name given (Trace path number) found named_so given_so batch trace serve keep =
+line_read r words name given told (Trace path number) found named_so given_so told_so batch trace serve keep =
     trace (same_in_some _ _ (sym named_so ∙ found.0)) (ap is_some (given_so (codes "HOUSE") ∙ found.1))
     (ap is_some (ap trade_meant (given_so (codes "N")) ∙ found.2))
-line_read r words name given (Serve path port workers connections) found named_so given_so batch trace serve keep =
+line_read r words name given told (Serve path port workers connections) found named_so given_so told_so
+    batch trace serve keep =
     serve (same_in_some _ _ (sym named_so ∙ found.0)) (ap is_some (given_so (codes "HOUSE") ∙ found.1))
     (ap is_some (ap port_meant (given_so (codes "PORT")) ∙ found.2))
     (ap is_some (ap workers_meant (given_so (codes "WORKERS")) ∙ found.3))
     (ap is_some (ap connections_meant (given_so (codes "COUNT")) ∙ found.4))
-line_read r words name given (Keep path journal port workers connections options) found named_so given_so
+line_read r words name given told (Keep path journal port workers connections options) found named_so given_so
     batch trace serve keep =
-    meant_so given options _ (same_meaning given (word_for words) options given_so found.6)
+    meant_so given told options _
+    (same_meaning given (word_for words) told (told_in words) options given_so told_so found.6)
     (keep (same_in_some _ _ (sym named_so ∙ found.0)) (ap is_some (given_so (codes "HOUSE") ∙ found.1))
     (ap is_some (given_so (codes "JOURNAL") ∙ found.2))
     (ap is_some (ap port_meant (given_so (codes "PORT")) ∙ found.3))

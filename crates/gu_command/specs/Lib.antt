@@ -1,4 +1,5 @@
 pub mod Limits
 pub mod Faults
+pub mod Places
 pub mod Options
 pub mod Lines

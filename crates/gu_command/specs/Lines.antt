@@ -1,8 +1,9 @@
 -- What the command lines of the program mean.
-use Rattle.std.specs.Prelude.{◌≡◌, ◌==◌, ℕ, nat_le, Bool, true, false, not, if◌then◌else◌, List, []}
-use Rattle.std.specs.Prelude.{◌∷◌, Option, Some, None, codes, option_map, option_and_then, bytes_eq}
-use Rattle.std.specs.Prelude.{IsTrue, Result, Ok, Err}
-use Rattle.clap.specs.Words.{App, Rule, Text, app_of, first_of, new_app, new_rule, subcommand_of}
+use Rattle.std.specs.Prelude.{◌≡◌, ◌==◌, ℕ, Bool, true, false, not, if◌then◌else◌, List, [], ◌∷◌}
+use Rattle.std.specs.Prelude.{Option, Some, None, codes, option_map, option_and_then, unwrap_or}
+use Rattle.std.specs.Prelude.{bytes_eq, IsTrue, Result, Ok, Err}
+use Rattle.clap.specs.Words.{App, Rule, Text, all_of, app_of, first_of, new_app, new_rule}
+use Rattle.clap.specs.Words.{subcommand_of}
 use Rattle.clap.specs.Words.{takes, with_rule, with_subcommand}
 use Rattle.clap.specs.declared.builder.command.Command.{Command}
 use Rattle.clap.specs.declared.builder.command.Command.TheViews.{out-Command as fields_of}
@@ -11,6 +12,7 @@ use Rattle.gu_desk.specs.Views.{is_worker_count, most_workers}
 use Rattle.gu_message.specs.Values.{entry_of}
 use Rattle.gu_command.specs.Faults.{no_memory}
 use Rattle.gu_command.specs.Options.{optioned, AreOptionsOf, no_options}
+pub use Rattle.gu_command.specs.Limits.{up_to}
 use Rattle.gu_command.specs.Limits.{most_port, usual_workers, most_connections}
 use Rattle.gu_command.specs.declared.fault.Fault.{Fault}
 use Rattle.gu_command.specs.declared.fault.Fault.TheVariants.{Usage, Run}
@@ -127,15 +129,16 @@ workers_in words = word_for words (codes "WORKERS")
 abbrev pub connections_in : List Text → Option Text
 connections_in words = word_for words (codes "COUNT")
 
+-- all that it finds behind `--status`
+abbrev pub told_in : List Text → List Text
+told_in words =
+    unwrap_or (option_and_then (λ p. all_of (codes "STATUS") p.1) (subcommand_of program words)) []
+
 -- which trade that means: none, or the one of this number, and nothing at all where it is the
 -- number of no entry
 abbrev pub trade_meant : Option Text → Option (Option ℕ)
 trade_meant None = Some None
 trade_meant (Some word) = option_map Some (entry_of word)
-
--- a number of 1 to so many, without leading zeros
-abbrev pub up_to : ℕ → Text → Option ℕ
-up_to most word = option_and_then (λ n. if nat_le n most then Some n else None) (entry_of word)
 
 -- which port a word means: one of 1 to 65,535
 abbrev pub port_meant : Option Text → Option ℕ
@@ -158,24 +161,26 @@ is_line_fault (Usage text) = true
 is_line_fault (Run Memory) = true
 is_line_fault _ = false
 
--- what a line asks for is a command and what was given for its arguments
-abbrev pub IsLineOf : Text → (Text → Option Text) → Line → Type 0
-IsLineOf command given (Batch path) =
+-- what a line asks for is a command, what was given for its arguments, and all that was given
+-- behind `--status`
+abbrev pub IsLineOf : Text → (Text → Option Text) → List Text → Line → Type 0
+IsLineOf command given told (Batch path) =
     (command ≡ codes "batch") × (given (codes "HOUSE") ≡ Some path.bytes.items)
-IsLineOf command given (Trace path number) =
+IsLineOf command given told (Trace path number) =
     (command ≡ codes "trace") × (given (codes "HOUSE") ≡ Some path.bytes.items)
     × (trade_meant (given (codes "N")) ≡ Some number)
-IsLineOf command given (Serve path port workers connections) =
+IsLineOf command given told (Serve path port workers connections) =
     (command ≡ codes "serve") × (given (codes "HOUSE") ≡ Some path.bytes.items)
     × (port_meant (given (codes "PORT")) ≡ Some port)
     × (workers_meant (given (codes "WORKERS")) ≡ Some workers)
     × (connections_meant (given (codes "COUNT")) ≡ Some connections)
-IsLineOf command given (Keep path journal port workers connections options) =
+IsLineOf command given told (Keep path journal port workers connections options) =
     (command ≡ codes "keep") × (given (codes "HOUSE") ≡ Some path.bytes.items)
     × (given (codes "JOURNAL") ≡ Some journal.bytes.items)
     × (port_meant (given (codes "PORT")) ≡ Some port)
     × (workers_meant (given (codes "WORKERS")) ≡ Some workers)
-    × (connections_meant (given (codes "COUNT")) ≡ Some connections) × AreOptionsOf given options
+    × (connections_meant (given (codes "COUNT")) ≡ Some connections)
+    × AreOptionsOf given told options
 
 -- it is what the parser finds in the words
 abbrev pub IsLine : List Text → Line → Type 0
@@ -193,7 +198,7 @@ IsLine words (Keep path journal port workers connections options) =
     × (house_in words ≡ Some path.bytes.items) × (journal_in words ≡ Some journal.bytes.items)
     × (port_meant (port_in words) ≡ Some port) × (workers_meant (workers_in words) ≡ Some workers)
     × (connections_meant (connections_in words) ≡ Some connections)
-    × AreOptionsOf (word_for words) options
+    × AreOptionsOf (word_for words) (told_in words) options
 
 -- the words are one of the program's lines, with any of its options: the parser takes them, and
 -- this is the line that it finds

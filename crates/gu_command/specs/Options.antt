@@ -1,10 +1,11 @@
 -- The options of the command `keep` beside those of `serve`.
-use Rattle.std.specs.Prelude.{◌≡◌, ℕ, Bool, true, false, bytes_eq, Option, Some, None, codes}
+use Rattle.std.specs.Prelude.{◌≡◌, ℕ, Bool, true, false, bytes_eq, List, Option, Some, None, codes}
 use Rattle.std.specs.Prelude.{option_map, is_some}
 use Rattle.clap.specs.Words.{App, Rule, Text, new_rule, with_rule}
-use Rattle.clap.specs.declared.builder.action.ArgAction.TheVariants.{Set, SetTrue}
+use Rattle.clap.specs.declared.builder.action.ArgAction.TheVariants.{Set, SetTrue, Append}
 use Rattle.gu_limits.specs.declared.limits.Limits.{Limits}
 use Rattle.gu_message.specs.Values.{entry_of}
+use Rattle.gu_command.specs.Places.{are_places, ArePlaces}
 use Rattle.gu_command.specs.declared.options.KeepOptions.{KeepOptions}
 
 -- an option with a value: its name, and the word behind its two hyphens
@@ -31,9 +32,10 @@ rate_rule = option_rule (codes "CALLS") (codes "rate")
 abbrev pub per_firm_rule : Rule
 per_firm_rule = option_rule (codes "CONNECTIONS") (codes "per-firm")
 
--- the argument `--status PORT|PATH`
+-- the argument `--status PORT|PATH`, which may stand several times
 abbrev pub status_rule : Rule
-status_rule = option_rule (codes "STATUS") (codes "status")
+status_rule =
+    record (new_rule (codes "STATUS")) { long = Some (codes "status"); action = Some Append }
 
 -- the argument `--log-calls`
 abbrev pub log_calls_rule : Rule
@@ -70,20 +72,24 @@ AreLimitsOf given limits = (limit_meant (given (codes "ENTRIES")) ≡ Some limit
     × (limit_meant (given (codes "CALLS")) ≡ Some limits.rate)
     × (limit_meant (given (codes "CONNECTIONS")) ≡ Some limits.per_firm)
 
--- what was given for the options means these
-abbrev pub AreOptionsOf : (Text → Option Text) → KeepOptions → Type 0
-AreOptionsOf given options =
+-- what was given for the options, and behind `--status`, means these
+abbrev pub AreOptionsOf : (Text → Option Text) → List Text → KeepOptions → Type 0
+AreOptionsOf given told options =
     (given (codes "PATH") ≡ option_map (λ r. r.bytes.items) options.replica)
     × AreLimitsOf given options.limits
-    × (given (codes "STATUS") ≡ option_map (λ s. s.bytes.items) options.status)
+    × ArePlaces told options.status options.more_status
     × (flag_meant (given (codes "LOG_CALLS")) ≡ options.log_calls)
 
--- this holds if what was given for the options means some
+-- this holds if what was given for the limits means some
 abbrev pub IfMeant : (Text → Option Text) → Type 0 → Type 0
 IfMeant given P = is_some (limit_meant (given (codes "ENTRIES"))) ≡ true
     → is_some (limit_meant (given (codes "RESERVED"))) ≡ true
     → is_some (limit_meant (given (codes "CALLS"))) ≡ true
     → is_some (limit_meant (given (codes "CONNECTIONS"))) ≡ true → P
+
+-- this holds if what was given for the options, and behind `--status`, means some
+abbrev pub AreMeant : (Text → Option Text) → List Text → Type 0 → Type 0
+AreMeant given told P = are_places told ≡ true → IfMeant given P
 
 -- none of them
 abbrev pub no_options : KeepOptions
@@ -91,5 +97,6 @@ no_options = record {
   replica = None;
   limits = record { most_entries = None; reserve = None; rate = None; per_firm = None };
   status = None;
+  more_status = None;
   log_calls = false;
 }

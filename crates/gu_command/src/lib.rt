@@ -12,6 +12,6 @@ mod order;
 
 pub use errors::{KeepError, RecordError, ServeError, ServiceError};
 pub use fault::{Fault, fault_at};
-pub use line::{Line, MOST_PORT, MOST_WORKERS, command_line, unread_words, up_to};
-pub use options::KeepOptions;
+pub use line::{Line, MOST_WORKERS, command_line, unread_words};
+pub use options::{KeepOptions, StatusAt};
 pub use order::Order;

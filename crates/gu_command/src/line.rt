@@ -13,7 +13,8 @@ ghost use Rattle.gu_command.specs.Lines.{port_meant, workers_meant, connections_
 ghost use Rattle.gu_command.specs.Lines.{is_line_fault, IsLine, IsOneOfItsLines, IsLineOf};
 ghost use Rattle.gu_command.specs.Lines.{AsksForBatch, AsksForTrace, AsksToServe, AsksToKeep};
 ghost use Rattle.gu_command.specs.Lines.{HasWorkers};
-ghost use Rattle.gu_command.specs.Options.{option_rule, IfMeant};
+ghost use Rattle.gu_command.specs.Options.{option_rule, AreMeant};
+ghost use Rattle.gu_command.specs.Places.{told_among};
 ghost use Rattle.gu_desk.specs.Views.{is_worker_count};
 ghost use Rattle.gu_command.specs.Faults.{no_memory};
 ghost use Rattle.std.specs.IoError.{error_kind};
@@ -88,7 +89,7 @@ const CONNECTIONS: &str = "COUNT";
 const MOST_CONNECTIONS: u32 = 1_000_000;
 
 /// The greatest port.
-pub const MOST_PORT: u32 = 65_535;
+pub(crate) const MOST_PORT: u32 = 65_535;
 
 /// The most workers.
 pub const MOST_WORKERS: u32 = 16;
@@ -427,7 +428,7 @@ fn trade_of(alloc: Global, word: Option<&str>) -> Result<Option<u32>, Fault>
 }
 
 /// The number of 1 to so many that a word is.
-pub fn up_to(most: u32, word: &str) -> Option<u32>
+pub(crate) fn up_to(most: u32, word: &str) -> Option<u32>
     ensures value { result ≡ number_up_to most word.now }
     ensures range { IfSome result (λ n. (1 ≤ n) × (n ≤ most)) }
 {
@@ -492,7 +493,8 @@ fn connections_of(alloc: Global, word: Option<&str>) -> Result<u32, Fault>
 /// What the words behind `serve` ask for.
 fn serve_line(alloc: Global, house: String, given: &ArgMatches<'_>) -> Result<Line, Fault>
     requires { first_value (found_of given.now) (codes "HOUSE") ≡ Some house.bytes.items }
-    ensures read { IfOk result (IsLineOf (codes "serve") (first_value (found_of given.now))) }
+    ensures read { IfOk result (IsLineOf (codes "serve") (first_value (found_of given.now))
+        (told_among (found_of given.now))) }
     ensures workers { IfOk result HasWorkers }
     ensures serve { is_some (port_meant (first_value (found_of given.now) (codes "PORT"))) ≡ true
         → is_some (workers_meant (first_value (found_of given.now) (codes "WORKERS"))) ≡ true
@@ -514,13 +516,15 @@ fn serve_line(alloc: Global, house: String, given: &ArgMatches<'_>) -> Result<Li
 /// What the words behind `keep` ask for.
 fn keep_line(alloc: Global, house: String, given: &ArgMatches<'_>) -> Result<Line, Fault>
     requires { first_value (found_of given.now) (codes "HOUSE") ≡ Some house.bytes.items }
-    ensures read { IfOk result (IsLineOf (codes "keep") (first_value (found_of given.now))) }
+    ensures read { IfOk result (IsLineOf (codes "keep") (first_value (found_of given.now))
+        (told_among (found_of given.now))) }
     ensures workers { IfOk result HasWorkers }
     ensures keep { is_some (first_value (found_of given.now) (codes "JOURNAL")) ≡ true
         → is_some (port_meant (first_value (found_of given.now) (codes "PORT"))) ≡ true
         → is_some (workers_meant (first_value (found_of given.now) (codes "WORKERS"))) ≡ true
         → is_some (connections_meant (first_value (found_of given.now) (codes "COUNT"))) ≡ true
-        → IfMeant (first_value (found_of given.now)) (IfErr result (λ e. e ≡ no_memory)) }
+        → AreMeant (first_value (found_of given.now)) (told_among (found_of given.now))
+        (IfErr result (λ e. e ≡ no_memory)) }
     ensures fault { IfErr result (λ e. IsTrue (is_line_fault e)) }
 {
     let journal = copied(alloc, given.get_str(JOURNAL))?;
@@ -540,7 +544,8 @@ fn keep_line(alloc: Global, house: String, given: &ArgMatches<'_>) -> Result<Lin
 
 /// What a command and the words behind it ask for.
 fn line_of(alloc: Global, name: &str, given: &ArgMatches<'_>) -> Result<Line, Fault>
-    ensures read { IfOk result (IsLineOf name.now (first_value (found_of given.now))) }
+    ensures read { IfOk result (IsLineOf name.now (first_value (found_of given.now))
+        (told_among (found_of given.now))) }
     ensures workers { IfOk result HasWorkers }
     ensures batch { name.now ≡ codes "batch"
         → is_some (first_value (found_of given.now) (codes "HOUSE")) ≡ true
@@ -561,7 +566,8 @@ fn line_of(alloc: Global, name: &str, given: &ArgMatches<'_>) -> Result<Line, Fa
         → is_some (port_meant (first_value (found_of given.now) (codes "PORT"))) ≡ true
         → is_some (workers_meant (first_value (found_of given.now) (codes "WORKERS"))) ≡ true
         → is_some (connections_meant (first_value (found_of given.now) (codes "COUNT"))) ≡ true
-        → IfMeant (first_value (found_of given.now)) (IfErr result (λ e. e ≡ no_memory)) }
+        → AreMeant (first_value (found_of given.now)) (told_among (found_of given.now))
+        (IfErr result (λ e. e ≡ no_memory)) }
     ensures fault { IfErr result (λ e. IsTrue (is_line_fault e)) }
 {
     let house = copied(alloc, given.get_str(HOUSE))?;

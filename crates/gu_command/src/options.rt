@@ -1,21 +1,33 @@
 //! The options of the command `keep` beside those of `serve`.
 
-ghost use Rattle.std.specs.Prelude.{◌≡◌, false, None, option_map, IsTrue, IfOk, IfErr};
+ghost use Rattle.std.specs.Prelude.{◌≡◌, true, false, None, map, option_map, IsTrue, IfOk, IfErr};
 ghost use Rattle.clap.specs.Words.{App, first_value, found_of, rule_of};
 ghost use Rattle.gu_command.specs.Faults.{no_memory};
 ghost use Rattle.gu_command.specs.Lines.{Makes, is_line_fault};
 ghost use Rattle.gu_command.specs.Options.{replica_rule, most_entries_rule, reserve_rule};
 ghost use Rattle.gu_command.specs.Options.{rate_rule, per_firm_rule, status_rule, log_calls_rule};
 ghost use Rattle.gu_command.specs.Options.{limited, telling, optioned, flag_meant, limit_meant};
-ghost use Rattle.gu_command.specs.Options.{AreLimitsOf, AreOptionsOf, IfMeant};
+ghost use Rattle.gu_command.specs.Options.{AreLimitsOf, AreOptionsOf, AreMeant, IfMeant};
+ghost use Rattle.gu_command.specs.Places.{has_slash, is_place, are_places, told_among};
+ghost use Rattle.gu_command.specs.Places.{IsPlace, ArePlaces};
 
 use crate::fault::Fault;
-use crate::line::{number_fault, option, with_option};
+use crate::line::{MOST_PORT, number_fault, option, up_to, with_option};
 use clap::{Arg, ArgAction, ArgMatches, Command};
 use gu_base::Number;
+use gu_batch::RunError;
 use gu_limits::Limits;
 use gu_message::entry;
 use std::alloc::Global;
+
+/// A place where figures, readiness and health are told over HTTP.
+#[derive(Drop)]
+pub enum StatusAt {
+    /// A port of 127.0.0.1.
+    Port(u16),
+    /// A socket of the file system, at this path.
+    Socket(String),
+}
 
 /// What a line that keeps a book asks for beside what it has to.
 #[derive(Drop)]
@@ -25,8 +37,9 @@ pub struct KeepOptions {
     /// `--most-entries ENTRIES`, `--reserve RESERVED`, `--rate CALLS`, `--per-firm CONNECTIONS`:
     /// what firms may have.
     pub limits: Limits,
-    /// `--status PORT|PATH`: where figures, readiness and health are told over HTTP.
-    pub status: Option<String>,
+    /// `--status PORT|PATH`, which may stand twice.
+    pub status: Option<StatusAt>,
+    pub more_status: Option<StatusAt>,
     /// `--log-calls`: whether each call is told on standard error.
     pub log_calls: bool,
 }
@@ -131,13 +144,13 @@ fn status_option<'a>(alloc: Global) -> Arg<'a>
     ensures rule { rule_of result ≡ status_rule }
     ensures local { result.global ≡ false }
 {
-    option(
-        alloc,
-        STATUS,
-        "status",
-        "Where /metrics, /ready and /health are told: a port of 127.0.0.1, or a socket's path",
-        false,
-    )
+    Arg::new(alloc, STATUS)
+        .long("status")
+        .help(
+            "Where /metrics, /ready and /health are told: a port of 127.0.0.1, or a socket's path \
+             with a slash; it may stand twice",
+        )
+        .action(ArgAction::Append)
 }
 
 /// The option `--log-calls`.
@@ -174,8 +187,7 @@ pub(crate) fn with_options<'a>(
     with_telling(alloc, command)
 }
 
-/// The word behind `--replicate` or `--status`, in memory of its own, and none where there is no
-/// such word.
+/// The word behind `--replicate`, in memory of its own, and none where there is no such word.
 fn word_of(alloc: Global, word: Option<&str>) -> Result<Option<String>, Fault>
     ensures ok { IfOk result (λ r.
         option_map (λ w. w.now) word.entry ≡ option_map (λ s. s.bytes.items) r) }
@@ -186,6 +198,60 @@ fn word_of(alloc: Global, word: Option<&str>) -> Result<Option<String>, Fault>
         return Ok(None);
     };
     Ok(Some(String::from_str(alloc, word)?))
+}
+
+/// Whether a word is a path: it has a slash.
+fn has_slash(word: &str) -> bool
+    ensures { result ≡ has_slash word.now }
+{
+    word.as_bytes().iter().any(|byte| *byte == b'/')
+}
+
+/// What is said to a word behind `--status` that is no place.
+fn place_fault(alloc: Global, word: &str) -> Fault
+    ensures { IsTrue (is_line_fault result) }
+{
+    match format!(in alloc;
+        "error: invalid value '{word}' for '--status <STATUS>': it is no port of 1 to {MOST_PORT}, \
+         and no socket's path, which has a slash"
+    ) {
+        Ok(text) => Fault::Usage(text),
+        Err(_) => Fault::Run(RunError::Memory),
+    }
+}
+
+/// Which place a word behind `--status` means: a path has a slash, and a port is a number.
+fn place_of(alloc: Global, word: &str) -> Result<StatusAt, Fault>
+    ensures ok { IfOk result (IsPlace word.now) }
+    ensures err { IfErr result (λ e. is_place word.now ≡ true → e ≡ no_memory) }
+    ensures fault { IfErr result (λ e. IsTrue (is_line_fault e)) }
+{
+    if has_slash(word) {
+        return Ok(StatusAt::Socket(String::from_str(alloc, word)?));
+    }
+    match up_to(MOST_PORT, word) {
+        Some(port) => Ok(StatusAt::Port(port as u16)),
+        None => Err(place_fault(alloc, word)),
+    }
+}
+
+/// Which places the words behind `--status` mean, at most two.
+fn places_of(alloc: Global, words: &[&str]) -> Result<(Option<StatusAt>, Option<StatusAt>), Fault>
+    ensures ok { IfOk result (λ p. ArePlaces (map (λ w. w.now) words.now) p.0 p.1) }
+    ensures err { IfErr result (λ e. are_places (map (λ w. w.now) words.now) ≡ true
+        → e ≡ no_memory) }
+    ensures fault { IfErr result (λ e. IsTrue (is_line_fault e)) }
+{
+    match words {
+        [] => Ok((None, None)),
+        [only] => Ok((Some(place_of(alloc, only)?), None)),
+        [first, second] => {
+            let first = place_of(alloc, first)?;
+            let second = place_of(alloc, second)?;
+            Ok((Some(first), Some(second)))
+        }
+        [_, _, third, ..] => Err(place_fault(alloc, third)),
+    }
 }
 
 /// Whether a flag was given.
@@ -238,17 +304,20 @@ fn limits_of(alloc: Global, given: &ArgMatches<'_>) -> Result<Limits, Fault>
 
 /// What the words behind `keep` ask for beside what they have to.
 pub(crate) fn options_of(alloc: Global, given: &ArgMatches<'_>) -> Result<KeepOptions, Fault>
-    ensures ok { IfOk result (AreOptionsOf (first_value (found_of given.now))) }
-    ensures meant { IfMeant (first_value (found_of given.now)) (IfErr result (λ e. e ≡ no_memory)) }
+    ensures ok { IfOk result
+        (AreOptionsOf (first_value (found_of given.now)) (told_among (found_of given.now))) }
+    ensures meant { AreMeant (first_value (found_of given.now)) (told_among (found_of given.now))
+        (IfErr result (λ e. e ≡ no_memory)) }
     ensures fault { IfErr result (λ e. IsTrue (is_line_fault e)) }
 {
     let limits = limits_of(alloc, given)?;
     let replica = word_of(alloc, given.get_str(REPLICA))?;
-    let status = word_of(alloc, given.get_str(STATUS))?;
+    let (status, more_status) = places_of(alloc, given.get_strs(STATUS).unwrap_or(&[]))?;
     Ok(KeepOptions {
         replica,
         limits,
         status,
+        more_status,
         log_calls: is_set(given.get_str(LOG_CALLS)),
     })
 }

@@ -3,7 +3,7 @@
 //! - Each worker polls its own connections and gives each that is ready a turn; whoever finds the
 //!   journal's lock free records what was answered, and asks for the other machines' word.
 //! - The watch ends a server of which a part stands still, also in its start.
-//! - The pages of `--status` are answered on a thread of their own.
+//! - The pages of `--status` are answered on threads of their own, many at a time.
 //! - The totals are written when all connections have ended, and then the log says that the program
 //!   ends.
 #![tactic(auto)]
@@ -15,6 +15,7 @@ mod clients;
 mod keeper;
 mod lingering;
 mod pages;
+mod process;
 mod running;
 mod said;
 mod starting;

@@ -1,6 +1,9 @@
-//! The pages of a server: figures, readiness and health over HTTP, on a thread of its own.
+//! The pages of a server: figures, readiness and health over HTTP. A window where they are asked
+//! for has a thread of its own, and each of its conversations has one.
 
+use crate::process::{descriptors, memory};
 use gu_board::Board;
+use gu_command::StatusAt;
 use gu_status::Pages;
 use http_server::{Config, Connection};
 use std::alloc::Global;
@@ -11,18 +14,23 @@ use std::os::unix::fs::FileTypeExt;
 use std::os::unix::net::{UnixListener, UnixStream};
 use std::random::RandomSource;
 use std::rt::Files;
+use std::sync::atomic::{AtomicU64, Ordering};
 use std::sync::{Arc, Wait};
+use std::thread::Threads;
 use std::time::{Clock, Duration, Instant};
 use std::{fs, io, thread};
 
-/// How long whoever asks may take, in seconds.
-const MOST_TIME: u64 = 5;
+/// How long a conversation may take, in milliseconds.
+const MOST_TIME: u64 = 2000;
 
-/// How many reads and writes an answer may take.
+/// How many reads and writes it may take.
 const MOST_STEPS: usize = 4096;
 
-/// How long it waits after a fault of accept, in milliseconds.
-const FAULT_WAIT: u64 = 100;
+/// How many conversations a window has at a time. Others wait.
+const MOST_AT_ONCE: u64 = 64;
+
+/// How long others wait, and the window after a fault of accept, in milliseconds.
+const SHORT_WAIT: u64 = 20;
 
 /// Where pages are asked for.
 #[derive(Drop)]
@@ -45,20 +53,19 @@ fn make_way<R: Net + Files>(rt: &R, path: &str) -> io::Result<()> {
     Ok(())
 }
 
-/// Listens where a word says: on a port of 127.0.0.1 if it is a number, else on a socket.
+/// Listens at a place: on a port of 127.0.0.1, or on a socket.
 pub(crate) fn listen_at<R: Net<Stream = TcpStream, Listener = TcpListener> + Files>(
     rt: &R,
-    port: Option<u16>,
-    path: &str,
+    place: &StatusAt,
 ) -> io::Result<Window> {
-    match port {
-        Some(port) => {
-            let at = SocketAddr::from((Ipv4Addr::LOCALHOST, port));
+    match place {
+        StatusAt::Port(port) => {
+            let at = SocketAddr::from((Ipv4Addr::LOCALHOST, *port));
             Ok(Window::Port(TcpListener::bind(rt, at)?))
         }
-        None => {
-            make_way(rt, path)?;
-            Ok(Window::Socket(UnixListener::bind(rt, path)?))
+        StatusAt::Socket(path) => {
+            make_way(rt, path.as_str())?;
+            Ok(Window::Socket(UnixListener::bind(rt, path.as_str())?))
         }
     }
 }
@@ -73,74 +80,157 @@ fn step<S: Read + Write>(connection: &mut Connection, stream: &mut S) -> io::Res
     Ok(())
 }
 
+/// Whoever asks for pages.
+#[derive(Drop)]
+enum Visitor {
+    Port(TcpStream),
+    Socket(UnixStream),
+}
+
+impl Visitor {
+    /// Moves a connection on, for no longer than this.
+    fn step(&mut self, connection: &mut Connection, wait: Duration) -> io::Result<()> {
+        match self {
+            Visitor::Port(stream) => {
+                stream.set_read_timeout(Some(wait))?;
+                stream.set_write_timeout(Some(wait))?;
+                step(connection, stream)
+            }
+            Visitor::Socket(stream) => {
+                stream.set_read_timeout(Some(wait))?;
+                stream.set_write_timeout(Some(wait))?;
+                step(connection, stream)
+            }
+        }
+    }
+}
+
 /// Moves a connection on until it is answered, or has had the time that it may take.
-fn converse<R: Clock, S: Read + Write>(
+fn converse<R: Clock>(
     rt: &R,
     connection: &mut Connection,
     pages: &mut Pages<'_>,
-    stream: &mut S,
+    visitor: &mut Visitor,
 ) -> io::Result<()> {
+    let most = Duration::from_millis(MOST_TIME);
     let start = Instant::now(rt)?;
     for _ in 0..MOST_STEPS {
         connection.advance(pages);
-        if connection.is_done() || start.elapsed(rt)?.as_secs() >= MOST_TIME {
+        let left = most.saturating_sub(start.elapsed(rt)?);
+        if connection.is_done() || left.as_millis() == 0 {
             return Ok(());
         }
-        step(connection, stream)?;
+        visitor.step(connection, left)?;
     }
     Ok(())
 }
 
-/// Answers what one connection asks for, as the server stands now.
-fn answer<R: Clock + RandomSource, S: Read + Write>(
+/// Answers what a visitor asks for, as the server stands now.
+fn answer<R: Clock + RandomSource + Files + Copy>(
     rt: &R,
     alloc: Global,
     board: &Board,
-    stream: &mut S,
+    visitor: &mut Visitor,
 ) -> io::Result<()> {
     let keys = RandomState::new(rt)?;
-    let snapshot = board.snapshot()?;
+    let snapshot = board.snapshot(memory(rt), descriptors(rt, alloc))?;
     let mut pages = Pages::new(alloc, &snapshot);
     let mut connection = Connection::new(alloc, keys, Config::default());
-    converse(rt, &mut connection, &mut pages, stream)
+    converse(rt, &mut connection, &mut pages, visitor)
 }
 
-impl Window {
-    /// Takes a connection, and answers it.
-    fn answer_one<R: Clock + RandomSource>(
-        &self,
-        rt: &R,
-        alloc: Global,
-        board: &Board,
-    ) -> io::Result<()> {
-        let wait = Some(Duration::from_secs(1));
-        match self {
-            Window::Port(listener) => {
-                let (mut stream, _) = listener.accept()?;
-                stream.set_read_timeout(wait)?;
-                stream.set_write_timeout(wait)?;
-                let _ = answer(rt, alloc, board, &mut stream);
-            }
-            Window::Socket(listener) => {
-                let (mut stream, _) = listener.accept()?;
-                stream.set_read_timeout(wait)?;
-                stream.set_write_timeout(wait)?;
-                let _ = answer(rt, alloc, board, &mut stream);
-            }
-        }
-        Ok(())
-    }
-
-    /// Answers whoever asks, one after the other, until the program ends.
-    pub(crate) fn answer_all<R: Wait + Clock + RandomSource>(
+impl Visitor {
+    /// Answers, and is no longer counted among those that are answered.
+    fn answer_last<R: Clock + RandomSource + Files + Copy>(
         self,
         rt: &R,
         alloc: Global,
         board: Arc<Board>,
+        open: Arc<AtomicU64>,
     ) {
+        let mut visitor = self;
+        let _ = answer(rt, alloc, &board, &mut visitor);
+        open.fetch_sub(1, Ordering::SeqCst);
+    }
+}
+
+/// Answers a visitor on a thread of its own: whether there is one.
+fn answer_beside<
+    R: Threads
+        + Wait
+        + Clock
+        + Net<Stream = TcpStream, Listener = TcpListener>
+        + RandomSource
+        + Files
+        + Copy
+        + Send
+        + Sync
+        + 'static,
+>(rt: &R, alloc: Global, visitor: Visitor, board: Arc<Board>, open: Arc<AtomicU64>) -> bool {
+    let there = *rt;
+    match thread::spawn(rt, move || visitor.answer_last(&there, alloc, board, open)) {
+        Ok(_) => true,
+        Err(_) => false,
+    }
+}
+
+impl Window {
+    /// Takes a visitor.
+    fn accept(&self) -> io::Result<Visitor> {
+        match self {
+            Window::Port(listener) => Ok(Visitor::Port(listener.accept()?.0)),
+            Window::Socket(listener) => Ok(Visitor::Socket(listener.accept()?.0)),
+        }
+    }
+
+    /// Takes a visitor, and has it answered; counts those that are answered now.
+    fn answer_one<
+        R: Threads
+            + Wait
+            + Clock
+            + Net<Stream = TcpStream, Listener = TcpListener>
+            + RandomSource
+            + Files
+            + Copy
+            + Send
+            + Sync
+            + 'static,
+    >(&self, rt: &R, alloc: Global, board: &Arc<Board>, open: &Arc<AtomicU64>) -> io::Result<()> {
+        let visitor = self.accept()?;
+        let Ok(board) = Arc::try_clone(board) else {
+            return Ok(());
+        };
+        let Ok(mine) = Arc::try_clone(open) else {
+            return Ok(());
+        };
+        open.fetch_add(1, Ordering::SeqCst);
+        if !answer_beside(rt, alloc, visitor, board, mine) {
+            open.fetch_sub(1, Ordering::SeqCst);
+        }
+        Ok(())
+    }
+
+    /// Answers whoever asks, so many at a time, until the program ends.
+    pub(crate) fn answer_all<
+        R: Threads
+            + Wait
+            + Clock
+            + Net<Stream = TcpStream, Listener = TcpListener>
+            + RandomSource
+            + Files
+            + Copy
+            + Send
+            + Sync
+            + 'static,
+    >(self, rt: &R, alloc: Global, board: Arc<Board>) {
+        let Ok(open) = Arc::new(alloc, AtomicU64::new(0)) else {
+            return;
+        };
+        let short = Duration::from_millis(SHORT_WAIT);
         for _ in rt.forever() {
-            if self.answer_one(rt, alloc, &board).is_err() {
-                thread::sleep(rt, Duration::from_millis(FAULT_WAIT));
+            let is_full = open.load(Ordering::SeqCst) >= MOST_AT_ONCE;
+            if is_full || self.answer_one(rt, alloc, &board, &open).is_err() {
+                thread::sleep(rt, short);
             }
         }
     }

@@ -17,7 +17,7 @@ use crossbeam_channel::{Receiver, RecvTimeoutError, Sender};
 use gu_batch::{Sink, write_totals};
 use gu_board::{Board, Log, Written, number, say_started, text};
 use gu_book::Book;
-use gu_command::{Fault, KeepError, MOST_PORT, Order, up_to};
+use gu_command::{Fault, KeepError, Order, StatusAt};
 use gu_log::{Event, Key};
 use gu_parties::House;
 use gu_recorder::Journals;
@@ -39,14 +39,6 @@ const MOST_STILL: u64 = 30;
 /// What ties a server's thread to the watch: both ends of a channel that is closed once the thread
 /// has ended, and the board.
 type Tie = (Sender<u8>, Receiver<u8>, Arc<Board>);
-
-/// The port that a word means, if it is the number of one.
-fn port_meant(word: &str) -> Option<u16> {
-    match up_to(MOST_PORT, word) {
-        Some(port) => Some(port as u16),
-        None => None,
-    }
-}
 
 /// That a server of this house gives a book back that calls made of the opening one, or a fault of
 /// its own.
@@ -86,7 +78,7 @@ fn watch<R: Wait + Clock>(rt: &R, ended: &Receiver<u8>, board: &Board) -> Option
             Err(RecvTimeoutError::Timeout) => {}
             _ => return None,
         }
-        board.begin_second();
+        board.begin_second(rt);
         if let Some(part) = board.stuck(MOST_STILL) {
             return Some(part);
         }
@@ -146,7 +138,33 @@ fn keep_beside<
     }
 }
 
-/// Answers those who ask for pages, on a thread of its own, if that is asked for.
+/// Answers those who ask for pages at a place, on a thread of its own.
+fn open_window<
+    R: Threads
+        + Wait
+        + Clock
+        + Net<Stream = TcpStream, Listener = TcpListener>
+        + RandomSource
+        + Files
+        + Copy
+        + Send
+        + Sync
+        + 'static,
+>(rt: &R, alloc: Global, place: &StatusAt, board: &Arc<Board>) -> Result<(), KeepError> {
+    let Ok(shared) = Arc::try_clone(board) else {
+        return Err(KeepError::Memory);
+    };
+    let Ok(window) = listen_at(rt, place) else {
+        return Err(KeepError::Status);
+    };
+    let there = *rt;
+    match thread::spawn(rt, move || window.answer_all(&there, alloc, shared)) {
+        Ok(_) => Ok(()),
+        Err(_) => Err(KeepError::NoThread),
+    }
+}
+
+/// Answers those who ask for pages, where that is asked for.
 fn open_pages<
     R: Threads
         + Wait
@@ -159,20 +177,13 @@ fn open_pages<
         + Sync
         + 'static,
 >(rt: &R, alloc: Global, order: &Order, board: &Arc<Board>) -> Result<(), KeepError> {
-    let Some(status) = &order.options.status else {
-        return Ok(());
-    };
-    let Ok(shared) = Arc::try_clone(board) else {
-        return Err(KeepError::Memory);
-    };
-    let Ok(window) = listen_at(rt, port_meant(status.as_str()), status.as_str()) else {
-        return Err(KeepError::Status);
-    };
-    let there = *rt;
-    match thread::spawn(rt, move || window.answer_all(&there, alloc, shared)) {
-        Ok(_) => Ok(()),
-        Err(_) => Err(KeepError::NoThread),
+    if let Some(place) = &order.options.status {
+        open_window(rt, alloc, place, board)?;
     }
+    if let Some(place) = &order.options.more_status {
+        open_window(rt, alloc, place, board)?;
+    }
+    Ok(())
 }
 
 /// Opens the pages that an order asks for, and makes what ties the server's thread to the watch.

@@ -30,8 +30,10 @@ pub enum Event {
     ShareFills,
     /// A limit turned something away.
     AtLimit,
-    /// Lines of this log were lost, since nobody read them in time.
+    /// Lines of this log were lost: nobody read them in time, or they couldn't be written.
     LinesLost,
+    /// More events of a kind came in a second than have lines.
+    Suppressed,
     /// A part of the server stands still.
     Stuck,
     /// The server ends.
@@ -39,6 +41,26 @@ pub enum Event {
 }
 
 impl Event {
+    /// All of them.
+    pub const ALL: [Event; 16] = [
+        Event::Started,
+        Event::Recovering,
+        Event::Recovered,
+        Event::Listening,
+        Event::LoggedOn,
+        Event::LogonRefused,
+        Event::Ended,
+        Event::Called,
+        Event::SlowSync,
+        Event::BookFills,
+        Event::ShareFills,
+        Event::AtLimit,
+        Event::LinesLost,
+        Event::Suppressed,
+        Event::Stuck,
+        Event::Stopped,
+    ];
+
     /// The word that stands for it.
     pub fn word(self) -> &'static str
         ensures { result.now ≡ event_word self }
@@ -57,6 +79,7 @@ impl Event {
             Event::ShareFills => "share_fills",
             Event::AtLimit => "at_limit",
             Event::LinesLost => "lines_lost",
+            Event::Suppressed => "suppressed",
             Event::Stuck => "stuck",
             Event::Stopped => "stopped",
         }
@@ -92,8 +115,9 @@ pub enum Key {
     PerFirm,
     Replicate,
     LogCalls,
-    /// Where figures and pages are told: a port, or a socket.
+    /// Where figures and pages are told: a port, or a socket; and where else.
     StatusAt,
+    MoreStatusAt,
     /// How many bytes were read, and were sent.
     Bytes,
     BytesIn,
@@ -126,7 +150,8 @@ pub enum Key {
     Why,
     /// Which part of the server.
     Part,
-    /// How many lines.
+    /// Of which events, and how many lines.
+    Of,
     Lines,
     /// The status that the program ends with.
     Status,
@@ -156,6 +181,7 @@ impl Key {
             Key::Replicate => "replicate",
             Key::LogCalls => "log_calls",
             Key::StatusAt => "status_at",
+            Key::MoreStatusAt => "more_status_at",
             Key::Bytes => "bytes",
             Key::BytesIn => "bytes_in",
             Key::BytesOut => "bytes_out",
@@ -175,6 +201,7 @@ impl Key {
             Key::RefusedBy => "refused_by",
             Key::Why => "why",
             Key::Part => "part",
+            Key::Of => "of",
             Key::Lines => "lines",
             Key::Status => "status",
         }

@@ -4,6 +4,7 @@ use Rattle.std.specs.Prelude.{◌∷◌, ◌++◌, codes, decimal, flat_map, is_
 use Rattle.gu_status.specs.Samples.{Text, family, decimal_line, millionths, sample, labelled}
 use Rattle.gu_status.specs.Samples.{single}
 use Rattle.gu_status.specs.declared.snapshot.FirmEntries.{FirmEntries}
+use Rattle.gu_status.specs.declared.snapshot.Process.{Process}
 use Rattle.gu_status.specs.declared.snapshot.Snapshot.{Snapshot}
 use Rattle.gu_status.specs.declared.snapshot.Syncs.{Syncs}
 
@@ -82,20 +83,22 @@ calls_text s =
 abbrev pub bucket : Text → ℕ → Text
 bucket bound n = labelled (codes "allocd_sync_seconds_bucket{le=\"") bound n
 
--- the bounds up to 20 ms
+-- the bounds up to 50 ms
 unfoldable pub short_buckets : Syncs → Text
 short_buckets s = bucket (codes "0.001") (slice_index s.within 0)
     ++ bucket (codes "0.002") (slice_index s.within 1)
     ++ bucket (codes "0.005") (slice_index s.within 2)
     ++ bucket (codes "0.01") (slice_index s.within 3)
     ++ bucket (codes "0.02") (slice_index s.within 4)
+    ++ bucket (codes "0.05") (slice_index s.within 5)
 
--- the bounds from 50 ms on
+-- the bounds from 100 ms on
 unfoldable pub long_buckets : Syncs → Text
-long_buckets s = bucket (codes "0.05") (slice_index s.within 5)
-    ++ bucket (codes "0.1") (slice_index s.within 6)
-    ++ bucket (codes "1") (slice_index s.within 7)
-    ++ bucket (codes "10") (slice_index s.within 8)
+long_buckets s = bucket (codes "0.1") (slice_index s.within 6)
+    ++ bucket (codes "0.2") (slice_index s.within 7)
+    ++ bucket (codes "0.5") (slice_index s.within 8)
+    ++ bucket (codes "1") (slice_index s.within 9)
+    ++ bucket (codes "10") (slice_index s.within 10)
     ++ bucket (codes "+Inf") s.count
 
 -- how long they took together, and how many they were
@@ -119,10 +122,41 @@ rest_text s =
     ++ single (codes "allocd_waiting_bytes") (codes "gauge")
     (codes "Bytes that wait for firms to take them.") s.waiting_bytes
     ++ single (codes "allocd_log_lines_lost_total") (codes "counter")
-    (codes "Lines of the log that nobody read in time.") s.lines_lost
+    (codes "Lines of the log that nobody read in time, or that could not be written.") s.lines_lost
+
+-- which program it is
+unfoldable pub build_text : Text
+build_text =
+    family (codes "allocd_build_info") (codes "gauge") (codes "1, with the version of the program.")
+    ++ labelled (codes "allocd_build_info{version=\"") (codes "1.0.0") 1
+
+-- what the system says of the process
+unfoldable pub process_text : Process → Text
+process_text p =
+    single (codes "process_start_time_seconds") (codes "gauge")
+    (codes "When the server began, in seconds from 1970 on.") p.began
+    ++ single (codes "process_resident_memory_bytes") (codes "gauge")
+    (codes "Memory of the process.") p.memory
+    ++ single (codes "process_open_fds") (codes "gauge") (codes "Descriptors that are open.")
+    p.descriptors
+
+-- what was slow, and what was refused
+unfoldable pub delays_text : Snapshot → Text
+delays_text s =
+    single (codes "allocd_slow_syncs_total") (codes "counter")
+    (codes "Groups that were longer than 100 ms on their way to the disk.") s.syncs.slow
+    ++ single (codes "allocd_oldest_group_seconds") (codes "gauge")
+    (codes "Seconds for which a group is on its way to the disk; 0 where none is.")
+    s.syncs.oldest_seconds
+    ++ single (codes "allocd_logons_refused_total") (codes "counter")
+    (codes "Connections that ended before a Logon was accepted.") s.logons_refused
+
+-- what the program, its process and its delays are
+unfoldable pub server_text : Snapshot → Text
+server_text s = build_text ++ process_text s.process ++ delays_text s
 
 -- all figures
 unfoldable pub metrics_text : Snapshot → Text
 metrics_text s = state_text s ++ book_text s ++ firm_entries_text s ++ calls_text s
     ++ times_text s.syncs
-    ++ rest_text s
+    ++ rest_text s ++ server_text s

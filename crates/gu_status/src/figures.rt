@@ -2,17 +2,21 @@
 
 ghost use Rattle.std.specs.Prelude.{◌≡◌, ◌++◌, codes, is_none, OnOk, IfOk};
 ghost use Rattle.gu_status.specs.Samples.{single};
-ghost use Rattle.gu_status.specs.Metrics.{book_text, bucket, calls_text, firm_text, firms_text};
+ghost use Rattle.gu_status.specs.Metrics.{book_text, bucket, build_text, calls_text, firm_text};
+ghost use Rattle.gu_status.specs.Metrics.{delays_text, firms_text, process_text, server_text};
 ghost use Rattle.gu_status.specs.Metrics.{fullness, fullness_text, long_buckets};
 ghost use Rattle.gu_status.specs.Metrics.{metrics_text, one_if, refusal_text, refusals_text};
 ghost use Rattle.gu_status.specs.Metrics.{rest_text, firm_entries_text};
 ghost use Rattle.gu_status.specs.Metrics.{short_buckets, state_text, times_text, totals_text};
 
 use crate::samples::{push, push_family, push_labelled, push_millionths, push_number, push_single};
-use crate::snapshot::{FirmEntries, REASONS, Snapshot, Syncs};
+use crate::snapshot::{FirmEntries, Process, REASONS, Snapshot, Syncs};
 use gu_base::Memory;
 use itoa::Buffer;
 use std::alloc::Global;
+
+/// The version of the program.
+pub const RELEASE: &str = "1.0.0";
 
 /// 1 where something is so, else 0.
 fn one_if(is_so: bool) -> u64
@@ -68,6 +72,86 @@ fn push_state(text: &mut Vec<u8>, snapshot: &Snapshot) -> Result<(), Memory>
         "Connections that are open.",
         snapshot.connections,
     )
+}
+
+/// Appends which program it is.
+#[tactic(auto, unfolding(crate::specs::Metrics::build_text))]
+fn push_build(text: &mut Vec<u8>) -> Result<(), Memory>
+    ensures { OnOk result (text.new.items ≡ text.old.items ++ build_text) }
+{
+    push_family(
+        text,
+        "allocd_build_info",
+        "gauge",
+        "1, with the version of the program.",
+    )?;
+    push_labelled(text, "allocd_build_info{version=\"", RELEASE.as_bytes(), 1)
+}
+
+/// Appends what the system says of the process.
+#[tactic(auto, unfolding(crate::specs::Metrics::process_text))]
+fn push_process(text: &mut Vec<u8>, process: &Process) -> Result<(), Memory>
+    ensures { OnOk result (text.new.items ≡ text.old.items ++ process_text process.now) }
+{
+    push_single(
+        text,
+        "process_start_time_seconds",
+        "gauge",
+        "When the server began, in seconds from 1970 on.",
+        process.began,
+    )?;
+    push_single(
+        text,
+        "process_resident_memory_bytes",
+        "gauge",
+        "Memory of the process.",
+        process.memory,
+    )?;
+    push_single(
+        text,
+        "process_open_fds",
+        "gauge",
+        "Descriptors that are open.",
+        process.descriptors,
+    )
+}
+
+/// Appends what was slow, and what was refused.
+#[tactic(auto, unfolding(crate::specs::Metrics::delays_text))]
+fn push_delays(text: &mut Vec<u8>, snapshot: &Snapshot) -> Result<(), Memory>
+    ensures { OnOk result (text.new.items ≡ text.old.items ++ delays_text snapshot.now) }
+{
+    push_single(
+        text,
+        "allocd_slow_syncs_total",
+        "counter",
+        "Groups that were longer than 100 ms on their way to the disk.",
+        snapshot.syncs.slow,
+    )?;
+    push_single(
+        text,
+        "allocd_oldest_group_seconds",
+        "gauge",
+        "Seconds for which a group is on its way to the disk; 0 where none is.",
+        snapshot.syncs.oldest_seconds,
+    )?;
+    push_single(
+        text,
+        "allocd_logons_refused_total",
+        "counter",
+        "Connections that ended before a Logon was accepted.",
+        snapshot.logons_refused,
+    )
+}
+
+/// Appends what the program, its process and its delays are.
+#[tactic(auto, unfolding(crate::specs::Metrics::server_text))]
+fn push_server(text: &mut Vec<u8>, snapshot: &Snapshot) -> Result<(), Memory>
+    ensures { OnOk result (text.new.items ≡ text.old.items ++ server_text snapshot.now) }
+{
+    push_build(text)?;
+    push_process(text, &snapshot.process)?;
+    push_delays(text, snapshot)
 }
 
 /// How much of the book is used, in millionths.
@@ -228,7 +312,8 @@ fn push_short(text: &mut Vec<u8>, syncs: &Syncs) -> Result<(), Memory>
     push_bucket(text, "0.002", syncs.within[1])?;
     push_bucket(text, "0.005", syncs.within[2])?;
     push_bucket(text, "0.01", syncs.within[3])?;
-    push_bucket(text, "0.02", syncs.within[4])
+    push_bucket(text, "0.02", syncs.within[4])?;
+    push_bucket(text, "0.05", syncs.within[5])
 }
 
 /// Appends how many were longer.
@@ -236,10 +321,11 @@ fn push_short(text: &mut Vec<u8>, syncs: &Syncs) -> Result<(), Memory>
 fn push_long(text: &mut Vec<u8>, syncs: &Syncs) -> Result<(), Memory>
     ensures { OnOk result (text.new.items ≡ text.old.items ++ long_buckets syncs.now) }
 {
-    push_bucket(text, "0.05", syncs.within[5])?;
     push_bucket(text, "0.1", syncs.within[6])?;
-    push_bucket(text, "1", syncs.within[7])?;
-    push_bucket(text, "10", syncs.within[8])?;
+    push_bucket(text, "0.2", syncs.within[7])?;
+    push_bucket(text, "0.5", syncs.within[8])?;
+    push_bucket(text, "1", syncs.within[9])?;
+    push_bucket(text, "10", syncs.within[10])?;
     push_bucket(text, "+Inf", syncs.count)
 }
 
@@ -293,7 +379,7 @@ fn push_rest(text: &mut Vec<u8>, snapshot: &Snapshot) -> Result<(), Memory>
         text,
         "allocd_log_lines_lost_total",
         "counter",
-        "Lines of the log that nobody read in time.",
+        "Lines of the log that nobody read in time, or that could not be written.",
         snapshot.lines_lost,
     )
 }
@@ -314,5 +400,6 @@ pub fn metrics(alloc: Global, snapshot: &Snapshot) -> Result<Vec<u8>, Memory>
     push_calls(&mut text, snapshot)?;
     push_times(&mut text, &snapshot.syncs)?;
     push_rest(&mut text, snapshot)?;
+    push_server(&mut text, snapshot)?;
     Ok(text)
 }

@@ -16,8 +16,8 @@ mod samples;
 mod snapshot;
 mod warning;
 
-pub use figures::metrics;
+pub use figures::{RELEASE, metrics};
 pub use pages::Pages;
 pub use parts::{Part, Pulses, stuck};
-pub use snapshot::{BOUNDS, FirmEntries, REASONS, Snapshot, Syncs};
+pub use snapshot::{BOUNDS, BUCKETS, FirmEntries, Process, REASONS, Snapshot, Syncs};
 pub use warning::mark_passed;

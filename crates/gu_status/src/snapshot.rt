@@ -7,11 +7,11 @@ use gu_base::FirmId;
 pub const REASONS: usize = 28;
 
 /// How many bounds the times of syncs are sorted by.
-const BUCKETS: usize = 9;
+pub const BUCKETS: usize = 11;
 
-/// These bounds, in microseconds: 1, 2, 5, 10, 20, 50 and 100 ms, 1 s and 10 s.
+/// These bounds, in microseconds: 1, 2, 5, 10, 20, 50, 100, 200 and 500 ms, 1 s and 10 s.
 pub const BOUNDS: [u64; BUCKETS] = [
-    1_000, 2_000, 5_000, 10_000, 20_000, 50_000, 100_000, 1_000_000, 10_000_000,
+    1_000, 2_000, 5_000, 10_000, 20_000, 50_000, 100_000, 200_000, 500_000, 1_000_000, 10_000_000,
 ];
 
 /// How many entries of the book are a firm's.
@@ -30,13 +30,29 @@ pub struct Syncs {
     pub count: u64,
     /// How long they took together, in microseconds.
     pub micros: u64,
+    /// How many were slow.
+    pub slow: u64,
+    /// For how many seconds the one that is on its way now is; 0 where none is.
+    pub oldest_seconds: u64,
     /// How many seconds ago the last one was, or the start.
     pub idle_seconds: u64,
+}
+
+/// What the system says of the process; 0 where it says nothing.
+#[derive(Clone, Copy, Debug, Default)]
+pub struct Process {
+    /// When the server began, in seconds from 1970 on.
+    pub began: u64,
+    /// Its memory, in bytes.
+    pub memory: u64,
+    /// Its descriptors that are open.
+    pub descriptors: u64,
 }
 
 /// How a server stands.
 #[derive(Debug, Drop)]
 pub struct Snapshot {
+    pub process: Process,
     /// Whether the book was recovered, and connections are taken.
     pub is_ready: bool,
     /// The part that hasn't moved for long, if there is one.
@@ -53,6 +69,8 @@ pub struct Snapshot {
     pub accepted: u64,
     pub repeated: u64,
     pub refused: [u64; REASONS],
+    /// Connections that ended before a Logon was accepted.
+    pub logons_refused: u64,
     /// Bytes that wait for firms to take them.
     pub waiting_bytes: u64,
     pub syncs: Syncs,

@@ -6,7 +6,8 @@
 use gu_base::{FirmId, Memory};
 use gu_log::{Event, Field, Key, Value, line};
 use gu_status::{
-    FirmEntries, Pages, Part, Pulses, REASONS, Snapshot, Syncs, mark_passed, metrics, stuck,
+    FirmEntries, Pages, Part, Process, Pulses, REASONS, Snapshot, Syncs, mark_passed, metrics,
+    stuck,
 };
 use http_server::{Config, Connection, serve};
 use std::alloc::Global;
@@ -52,6 +53,11 @@ fn snapshot(alloc: Global, stuck: Option<Part>) -> Result<Snapshot, Memory> {
     let mut refused = [0; REASONS];
     refused[2] = 5;
     Ok(Snapshot {
+        process: Process {
+            began: 1_772_442_000,
+            memory: 5_005_312,
+            descriptors: 17,
+        },
         is_ready: stuck.is_none(),
         stuck,
         entries: 250_000,
@@ -61,11 +67,14 @@ fn snapshot(alloc: Global, stuck: Option<Part>) -> Result<Snapshot, Memory> {
         accepted: 4,
         repeated: 1,
         refused,
+        logons_refused: 9,
         waiting_bytes: 77,
         syncs: Syncs {
-            within: [1, 2, 3, 4, 5, 6, 7, 8, 9],
-            count: 10,
+            within: [1, 2, 3, 4, 5, 6, 7, 8, 9, 10, 11],
+            count: 12,
             micros: 12_034_056,
+            slow: 5,
+            oldest_seconds: 4,
             idle_seconds: 6,
         },
         lines_lost: 8,

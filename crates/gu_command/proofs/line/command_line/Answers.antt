@@ -45,7 +45,7 @@ returns-clause-read c =
     let found = found_here _ words c.in-Ok.matches c.in-Some.name.now (found_of c.in-Some.given.now)
     c.in_ok-program_command.ensures.0 (λ h. (c.in-Ok.ensures.matches h).1) c.in-Some.ensures.name
     c.in-Some.ensures.rows in
-    IfOk-weaker c.line_of.result _ _ (λ l h. line_found words c.in-Some.name.now _ l found.0 found.1 h)
+    IfOk-weaker c.line_of.result _ _ (λ l h. line_found words c.in-Some.name.now _ _ l found.0 found.1 found.2 h)
     c.line_of.ensures.read
 
 pub returns-clause-batch : goal.returns-clause-batch
@@ -54,7 +54,7 @@ returns-clause-batch c path words_are plain =
     let found = found_here _ words c.in-Ok.matches c.in-Some.name.now (found_of c.in-Some.given.now)
     c.in_ok-program_command.ensures.0 (λ h. (c.in-Ok.ensures.matches h).1) c.in-Some.ensures.name
     c.in-Some.ensures.rows in
-    batch_read c.line_of.result words c.in-Some.name.now path _ words_are plain found.0 found.1 c.line_of.ensures.read
+    batch_read c.line_of.result words c.in-Some.name.now path _ _ words_are plain found.0 found.1 c.line_of.ensures.read
     c.line_of.ensures.batch
 
 pub returns-clause-totals : goal.returns-clause-totals
@@ -63,8 +63,8 @@ returns-clause-totals c path words_are plain =
     let found = found_here _ words c.in-Ok.matches c.in-Some.name.now (found_of c.in-Some.given.now)
     c.in_ok-program_command.ensures.0 (λ h. (c.in-Ok.ensures.matches h).1) c.in-Some.ensures.name
     c.in-Some.ensures.rows in
-    totals_read c.line_of.result words c.in-Some.name.now path _ words_are plain found.0 found.1 c.line_of.ensures.read
-    c.line_of.ensures.trace
+    totals_read c.line_of.result words c.in-Some.name.now path _ _ words_are plain found.0 found.1
+    c.line_of.ensures.read c.line_of.ensures.trace
 
 pub returns-clause-trace : goal.returns-clause-trace
 returns-clause-trace c path word number words_are plain plain_word number_is =
@@ -72,8 +72,8 @@ returns-clause-trace c path word number words_are plain plain_word number_is =
     let found = found_here _ words c.in-Ok.matches c.in-Some.name.now (found_of c.in-Some.given.now)
     c.in_ok-program_command.ensures.0 (λ h. (c.in-Ok.ensures.matches h).1) c.in-Some.ensures.name
     c.in-Some.ensures.rows in
-    trace_read c.line_of.result words c.in-Some.name.now path word number _ words_are plain plain_word number_is found.0
-    found.1 c.line_of.ensures.read c.line_of.ensures.trace
+    trace_read c.line_of.result words c.in-Some.name.now path word number _ _ words_are plain plain_word number_is
+    found.0 found.1 c.line_of.ensures.read c.line_of.ensures.trace
 
 pub returns-clause-serve : goal.returns-clause-serve
 returns-clause-serve c path word port words_are plain plain_word port_is =
@@ -81,7 +81,7 @@ returns-clause-serve c path word port words_are plain plain_word port_is =
     let found = found_here _ words c.in-Ok.matches c.in-Some.name.now (found_of c.in-Some.given.now)
     c.in_ok-program_command.ensures.0 (λ h. (c.in-Ok.ensures.matches h).1) c.in-Some.ensures.name
     c.in-Some.ensures.rows in
-    serve_read c.line_of.result words c.in-Some.name.now path word port _ words_are plain plain_word port_is found.0
+    serve_read c.line_of.result words c.in-Some.name.now path word port _ _ words_are plain plain_word port_is found.0
     found.1 c.line_of.ensures.read c.line_of.ensures.serve
 
 pub returns-clause-keep : goal.returns-clause-keep
@@ -90,8 +90,8 @@ returns-clause-keep c path file word port words_are plain plain_file plain_word 
     let found = found_here _ words c.in-Ok.matches c.in-Some.name.now (found_of c.in-Some.given.now)
     c.in_ok-program_command.ensures.0 (λ h. (c.in-Ok.ensures.matches h).1) c.in-Some.ensures.name
     c.in-Some.ensures.rows in
-    keep_read c.line_of.result words c.in-Some.name.now path file word port _ words_are plain plain_file plain_word
-    port_is found.0 found.1 c.line_of.ensures.read c.line_of.ensures.keep
+    keep_read c.line_of.result words c.in-Some.name.now path file word port _ _ words_are plain plain_file plain_word
+    port_is found.0 found.1 found.2 c.line_of.ensures.read c.line_of.ensures.keep
 
 pub returns-clause-taken : goal.returns-clause-taken
 returns-clause-taken c is =
@@ -99,5 +99,5 @@ returns-clause-taken c is =
     let found = found_here _ words c.in-Ok.matches c.in-Some.name.now (found_of c.in-Some.given.now)
     c.in_ok-program_command.ensures.0 (λ h. (c.in-Ok.ensures.matches h).1) c.in-Some.ensures.name
     c.in-Some.ensures.rows in
-    line_read c.line_of.result words c.in-Some.name.now _ is.line is.found found.0 found.1
+    line_read c.line_of.result words c.in-Some.name.now _ _ is.line is.found found.0 found.1 found.2
     c.line_of.ensures.batch c.line_of.ensures.trace c.line_of.ensures.serve c.line_of.ensures.keep
