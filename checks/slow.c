@@ -1,8 +1,8 @@
 /* Makes the syncs of a file slow, where the environment has SLOW_SYNC=MS, or has the N-th and all later ones never end,
    where it has HUNG_SYNC=N; and so its reads, by SLOW_READ and HUNG_READ, and the syncs of a start (`fsync`), by SLOW_FSYNC and
    HUNG_FSYNC. Once the file that HUNG_RECV or HUNG_ACCEPT names is there, a read of a peer, or the next accept, never ends: of a
-   socket that doesn't wait, as those of the workers and of the thread that accepts, and not those of the pages. Preloaded, it
-   stands before the C library's functions. It needs no header, so that the kit's own clang will do. */
+   socket that doesn't wait, as those of the workers and of the thread that accepts, and not those of the pages. Where it has
+   HUNG_EXIT, the program never ends. Preloaded, it stands before the C library's functions. It needs no header, so that the kit's own clang will do. */
 extern char *getenv(const char *);
 extern long atol(const char *);
 extern long syscall(long, ...);
@@ -22,6 +22,9 @@ __attribute__((constructor)) static void begin(void) {
     syncs = (struct calls){number("SLOW_SYNC"), number("HUNG_SYNC"), 0};
     reads = (struct calls){number("SLOW_READ"), number("HUNG_READ"), 0};
     fsyncs = (struct calls){number("SLOW_FSYNC"), number("HUNG_FSYNC"), 0};
+}
+__attribute__((destructor)) static void finish(void) {
+    while (getenv("HUNG_EXIT")) pause();
 }
 static void wait_in(struct calls *it) {
     it->count++;

@@ -2,7 +2,8 @@
 //!
 //! - Each worker polls its own connections and gives each that is ready a turn; whoever finds the
 //!   journal's lock free records what was answered, and asks for the other machines' word.
-//! - The watch ends a server of which a part stands still, also in its start.
+//! - The watch ends a server of which a part stands still, also in its start. It shuts the listener
+//!   first, so that a process that can't end holds no port.
 //! - The pages of `--status` are answered on threads of their own, many at a time.
 //! - The totals are written when all connections have ended, and then the log says that the program
 //!   ends.
@@ -18,6 +19,7 @@ mod pages;
 mod process;
 mod running;
 mod said;
+mod shutter;
 mod starting;
 mod visit;
 mod watch;

@@ -3,6 +3,7 @@
 use crate::accepting::Inlets;
 use crate::bells::{Bell, Bells};
 use crate::keeper::{Keeper, WOKEN};
+use crate::shutter::Shutter;
 use crate::words::Words;
 use crossbeam_channel::Sender;
 use gu_command::KeepError;
@@ -153,6 +154,10 @@ fn accept_and_join<J: Job, R: Threads + Wait + Clock>(
 ) -> Result<Vec<Seat<J>>, KeepError> {
     let bells = inlets.bells;
     let accepted = inlets.accept_all(rt, alloc, poll, &listener, connections);
+    // The watch has the socket too, so to close it isn't enough.
+    if let Ok(shutter) = Shutter::of(&listener) {
+        shutter.shut();
+    }
     drop(listener);
     if let Some(board) = inlets.board {
         board.accepts_no_more();

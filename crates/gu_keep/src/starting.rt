@@ -9,6 +9,7 @@ ghost use Rattle.gu_command.specs.Faults.{is_keep_fault};
 ghost use Rattle.gu_connection.specs.Serving.{IsServed};
 
 use crate::running::{Polls, make_polls, run_keepers};
+use crate::shutter::{Shutter, Watched};
 use gu_board::{Board, Tallies, Teller, number, text};
 use gu_book::Book;
 use gu_command::{Fault, KeepError, Order, fault_at};
@@ -134,14 +135,31 @@ struct Entrance {
     polls: Polls,
 }
 
+/// Hands the watch what it can shut of a listener.
+fn hand_over<R: Wait>(rt: &R, listener: &TcpListener, watched: &Watched) -> Result<(), KeepError> {
+    let Ok(shutter) = Shutter::of(listener) else {
+        return Err(KeepError::Listen);
+    };
+    match watched.to.try_send(rt, shutter) {
+        Ok(()) => Ok(()),
+        Err(_) => Err(KeepError::Listen),
+    }
+}
+
 /// Listens on a port of 127.0.0.1, with as long a queue as the system allows.
-fn listen<R: Net + Clock>(rt: &R, alloc: Global, request: Request) -> Result<Entrance, KeepError> {
+fn listen<R: Net + Wait + Clock>(
+    rt: &R,
+    alloc: Global,
+    request: Request,
+    watched: &Watched,
+) -> Result<Entrance, KeepError> {
     let address = SocketAddr::from((Ipv4Addr::LOCALHOST, request.port));
     let bound = TcpListener::bind(rt, address);
     let listener = match listening(bound, KeepError::Memory, KeepError::Listen) {
         Ok(listener) => listener,
         Err(error) => return Err(error),
     };
+    hand_over(rt, &listener, watched)?;
     match make_polls(rt, alloc, request.workers, request.is_replicated) {
         Ok(polls) => Ok(Entrance { listener, polls }),
         Err(error) => Err(error),
@@ -203,7 +221,7 @@ fn serve_kept<K: OpenJournal + Drop + Send, R: Threads + Wait + Clock + Net + Sy
     book: Book,
     journal: K,
     request: Request,
-    board: &Arc<Board>,
+    watched: &Watched,
 ) -> Result<Book, KeepError>
     requires workers { IsTrue (is_worker_count request.workers) }
     requires says { K.says journal book.history }
@@ -211,8 +229,10 @@ fn serve_kept<K: OpenJournal + Drop + Send, R: Threads + Wait + Clock + Net + Sy
     requires house { K.house journal ≡ book.house }
     ensures { IfOk result (λ b. IsRunOf (stored book) (stored b)) }
 {
-    match listen(rt, alloc, request) {
-        Ok(entrance) => serve_listener(rt, alloc, entrance, book, journal, request, board),
+    match listen(rt, alloc, request, watched) {
+        Ok(entrance) => {
+            serve_listener(rt, alloc, entrance, book, journal, request, &watched.board)
+        }
         Err(error) => Err(let_go(book, journal, error)),
     }
 }
@@ -303,7 +323,7 @@ pub(crate) fn keep_port<R: Threads + Wait + Clock + Net + RandomSource + Sync, K
     text: &[u8],
     house: House,
     order: &Order,
-    board: &Arc<Board>,
+    watched: &Watched,
 ) -> Result<Book, Fault>
     requires { IsTrue (is_worker_count order.now.workers) }
     ensures served { IfOk result (λ b. IsServed house (stored b)) }
@@ -316,12 +336,12 @@ pub(crate) fn keep_port<R: Threads + Wait + Clock + Net + RandomSource + Sync, K
         is_replicated: order.options.replica.is_some(),
         limits: order.options.limits,
     };
-    let opened = open_journal(rt, alloc, journals, text, house, order, board);
+    let opened = open_journal(rt, alloc, journals, text, house, order, &watched.board);
     let (book, journal) = match opened {
         Ok(opened) => opened,
         Err(fault) => return Err(fault),
     };
-    match serve_kept::<K::Journal, R>(rt, alloc, book, journal, request, board) {
+    match serve_kept::<K::Journal, R>(rt, alloc, book, journal, request, watched) {
         Ok(book) => Ok(book),
         Err(error) => Err(fault_of(alloc, order.journal.as_str(), error)),
     }

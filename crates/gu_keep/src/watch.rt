@@ -12,6 +12,7 @@ ghost use Rattle.gu_connection.specs.Serving.{IsServed};
 ghost use Rattle.gu_keep.specs.Keeping.{Keeps};
 
 use crate::pages::listen_at;
+use crate::shutter::{Shutter, Watched};
 use crate::starting::keep_port;
 use crossbeam_channel::{Receiver, RecvTimeoutError, Sender};
 use gu_batch::{Sink, write_totals};
@@ -36,9 +37,15 @@ use std::time::{Clock, Duration};
 /// For how many seconds a part may stand still.
 const MOST_STILL: u64 = 30;
 
-/// What ties a server's thread to the watch: both ends of a channel that is closed once the thread
-/// has ended, and the board.
-type Tie = (Sender<u8>, Receiver<u8>, Arc<Board>);
+/// What ties a server's thread to the watch: what the server has, and what the watch has.
+type Tie = (Tied, Watching);
+
+/// What the server has: an end of a channel that is closed once its thread has ended, the board,
+/// and where it hands over what the watch can shut.
+type Tied = (Sender<u8>, Watched);
+
+/// What the watch has: the other ends.
+type Watching = (Receiver<u8>, Receiver<Shutter>);
 
 /// That a server of this house gives a book back that calls made of the opening one, or a fault of
 /// its own.
@@ -114,7 +121,7 @@ fn keep_beside<
     ensures served { IfOk result (λ b. IsServed house (stored b)) }
     ensures fault { IfErr result (λ e. IsTrue (is_keep_fault e)) }
 {
-    let (running, ended, shared) = tie;
+    let ((running, watched), (ended, shutters)) = tie;
     let promise = OfHouse(Snapshot::of(&house));
     let there = *rt;
     let server = move ||
@@ -122,7 +129,7 @@ fn keep_beside<
         ensures served { IfOk result (λ b. IsServed house (stored b)) }
         ensures fault { IfErr result (λ e. IsTrue (is_keep_fault e)) }
     {
-        let served = keep_port(&there, alloc, journals, &text, house, &order, &shared);
+        let served = keep_port(&there, alloc, journals, &text, house, &order, &watched);
         drop(running);
         served
     };
@@ -133,6 +140,9 @@ fn keep_beside<
         None => child.join(rt),
         Some(part) => {
             say_stuck(rt, alloc, board, part);
+            if let Ok(shutter) = shutters.try_recv(rt) {
+                shutter.shut();
+            }
             Err(Fault::Keep(KeepError::Stuck))
         }
     }
@@ -202,9 +212,12 @@ fn open_told<
     open_pages(rt, alloc, order, board)?;
     match (
         crossbeam_channel::bounded::<u8, Global>(alloc, 1),
+        crossbeam_channel::bounded::<Shutter, Global>(alloc, 1),
         Arc::try_clone(board),
     ) {
-        (Ok((running, ended)), Ok(shared)) => Ok((running, ended, shared)),
+        (Ok((running, ended)), Ok((to, shutters)), Ok(board)) => {
+            Ok(((running, Watched { board, to }), (ended, shutters)))
+        }
         _ => Err(KeepError::Memory),
     }
 }
