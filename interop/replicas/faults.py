@@ -339,7 +339,7 @@ def asked(trial):
     with open(program, "w") as it:
         it.write(ASKS)
     os.chmod(program, 0o755)
-    a = trial.machine("A", "asked", "--hang", "90", env=dict(trial.cluster.env, ALLOCD=program)).start(again=False)
+    a = trial.machine("A", "asked", "--hang", "60", env=dict(trial.cluster.env, ALLOCD=program)).start(again=False)
     answers = lambda: contents(f"{a.journal}.answers").decode().split() if os.path.exists(f"{a.journal}.answers") else []
     case(until(lambda: len(answers()) == 3) and answers() == [r"b'0\n'", r"b'yes\n'", r"b'yes\n'"], f"a server that asks is answered: {answers()}")
     trial.cluster.put("/allocd/asked/writer", "another")
