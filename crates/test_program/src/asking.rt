@@ -1,6 +1,7 @@
 //! What `command_line` takes the words of a line for.
 
 use crate::lines::{say, tell_fault, words_of};
+use gu_command::StatusAt;
 use gu_server::{KeepOptions, Line, command_line};
 use std::alloc::Global;
 
@@ -22,6 +23,22 @@ fn tell_path(rt: &HostRuntime, name: &[u8], path: &Option<String>) {
     }
 }
 
+/// Writes a place of the pages, if there is one.
+fn tell_place(rt: &HostRuntime, alloc: Global, place: &Option<StatusAt>) {
+    match place {
+        Some(StatusAt::Port(port)) => {
+            if let Ok(text) = format!(in alloc; ", status {port}") {
+                say(rt, text.as_bytes());
+            }
+        }
+        Some(StatusAt::Socket(path)) => {
+            say(rt, b", status ");
+            say(rt, path.as_bytes());
+        }
+        None => {}
+    }
+}
+
 /// Writes what else is asked for where a book is kept.
 fn tell_options(rt: &HostRuntime, alloc: Global, options: &KeepOptions) {
     let limits = &options.limits;
@@ -30,7 +47,8 @@ fn tell_options(rt: &HostRuntime, alloc: Global, options: &KeepOptions) {
     tell_limit(rt, alloc, "rate", limits.rate);
     tell_limit(rt, alloc, "per firm", limits.per_firm);
     tell_path(rt, b", replicate ", &options.replica);
-    tell_path(rt, b", status ", &options.status);
+    tell_place(rt, alloc, &options.status);
+    tell_place(rt, alloc, &options.more_status);
     if options.log_calls {
         say(rt, b", log calls");
     }
