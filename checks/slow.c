@@ -2,14 +2,14 @@
    where it has HUNG_SYNC=N; and so its reads, by SLOW_READ and HUNG_READ, and the syncs of a start (`fsync`), by SLOW_FSYNC and
    HUNG_FSYNC. Once the file that HUNG_RECV or HUNG_ACCEPT names is there, a read of a peer, or the next accept, never ends: of a
    socket that doesn't wait, as those of the workers and of the thread that accepts, and not those of the pages. Where it has
-   HUNG_EXIT, the program never ends. Preloaded, it stands before the C library's functions. It needs no header, so that the kit's own clang will do. */
+   HUNG_EXIT, the program never ends by itself. Preloaded, it stands before the C library's functions. It needs no header, so that the kit's own clang will do. */
 extern char *getenv(const char *);
 extern long atol(const char *);
 extern long syscall(long, ...);
 extern int usleep(unsigned);
 extern int pause(void);
 extern int access(const char *, int);
-enum { PREAD = 17, RECVFROM = 45, FCNTL = 72, FSYNC = 74, FDATASYNC = 75, ACCEPT4 = 288, GET_FLAGS = 3, NONBLOCK = 04000 };
+enum { PREAD = 17, RECVFROM = 45, FCNTL = 72, FSYNC = 74, FDATASYNC = 75, ACCEPT4 = 288, EXIT_GROUP = 231, GET_FLAGS = 3, NONBLOCK = 04000 };
 struct calls {
     long slow, hung, count;
 };
@@ -23,8 +23,10 @@ __attribute__((constructor)) static void begin(void) {
     reads = (struct calls){number("SLOW_READ"), number("HUNG_READ"), 0};
     fsyncs = (struct calls){number("SLOW_FSYNC"), number("HUNG_FSYNC"), 0};
 }
-__attribute__((destructor)) static void finish(void) {
+void _exit(int status) {
     while (getenv("HUNG_EXIT")) pause();
+    syscall(EXIT_GROUP, status);
+    __builtin_unreachable();
 }
 static void wait_in(struct calls *it) {
     it->count++;

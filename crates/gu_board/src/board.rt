@@ -9,8 +9,7 @@ use gu_command::MOST_WORKERS;
 use gu_log::{Event, Field, Key, Value};
 use gu_parties::House;
 use gu_status::{
-    BOUNDS, BUCKETS, FirmEntries, Part, Process, Pulses, REASONS, Snapshot, Syncs, mark_passed,
-    stuck,
+    BOUNDS, BUCKETS, FirmEntries, Part, Pulses, REASONS, Snapshot, Syncs, mark_passed, stuck,
 };
 use indexmap::IndexMap;
 use jiff::Timestamp;
@@ -475,8 +474,8 @@ impl Board {
         }
     }
 
-    /// How the server stands, whose process has so much memory and so many descriptors.
-    pub fn snapshot(&self, memory: u64, descriptors: u64) -> Result<Snapshot, Memory> {
+    /// How the server stands.
+    pub fn snapshot(&self) -> Result<Snapshot, Memory> {
         let mut firms = Vec::with_capacity(self.alloc, self.firms.len())?;
         for (firm, entries) in self.firms.iter() {
             let entries = load(entries);
@@ -492,11 +491,7 @@ impl Board {
             }
         }
         Ok(Snapshot {
-            process: Process {
-                began: load(&self.began),
-                memory,
-                descriptors,
-            },
+            began: load(&self.began),
             is_ready: self.ready.load(Ordering::SeqCst),
             stuck: self.stuck(MOST_STILL),
             entries: small(load(&self.entries)),

@@ -687,7 +687,7 @@ line_read r words name given told (Serve path port workers connections) found na
     (ap is_some (ap port_meant (given_so (codes "PORT")) ∙ found.2))
     (ap is_some (ap workers_meant (given_so (codes "WORKERS")) ∙ found.3))
     (ap is_some (ap connections_meant (given_so (codes "COUNT")) ∙ found.4))
-line_read r words name given told (Keep path journal port workers connections options) found named_so given_so
+line_read r words name given told (Keep path journal port workers connections options) found named_so given_so told_so
     batch trace serve keep =
     meant_so given told options _
     (same_meaning given (word_for words) told (told_in words) options given_so told_so found.6)

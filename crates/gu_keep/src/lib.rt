@@ -16,7 +16,6 @@ mod clients;
 mod keeper;
 mod lingering;
 mod pages;
-mod process;
 mod running;
 mod said;
 mod shutter;

@@ -1,10 +1,9 @@
 //! The pages of a server: figures, readiness and health over HTTP. A window where they are asked
 //! for has a thread of its own, and each of its conversations has one.
 
-use crate::process::{descriptors, memory};
 use gu_board::Board;
 use gu_command::StatusAt;
-use gu_status::Pages;
+use gu_status::{Pages, Snapshot};
 use http_server::{Config, Connection};
 use std::alloc::Global;
 use std::hash::RandomState;
@@ -125,50 +124,47 @@ fn converse<R: Clock>(
     Ok(())
 }
 
-/// Answers what a visitor asks for, as the server stands now.
-fn answer<R: Clock + RandomSource + Files + Copy>(
+/// Answers what a visitor asks for, as the server stood when it came.
+fn answer<R: Clock + RandomSource>(
     rt: &R,
     alloc: Global,
-    board: &Board,
+    snapshot: &Snapshot,
     visitor: &mut Visitor,
 ) -> io::Result<()> {
     let keys = RandomState::new(rt)?;
-    let snapshot = board.snapshot(memory(rt), descriptors(rt, alloc))?;
-    let mut pages = Pages::new(alloc, &snapshot);
+    let mut pages = Pages::new(alloc, snapshot);
     let mut connection = Connection::new(alloc, keys, Config::default());
     converse(rt, &mut connection, &mut pages, visitor)
 }
 
 impl Visitor {
     /// Answers, and is no longer counted among those that are answered.
-    fn answer_last<R: Clock + RandomSource + Files + Copy>(
+    fn answer_last<R: Clock + RandomSource>(
         self,
         rt: &R,
         alloc: Global,
-        board: Arc<Board>,
+        snapshot: Snapshot,
         open: Arc<AtomicU64>,
     ) {
         let mut visitor = self;
-        let _ = answer(rt, alloc, &board, &mut visitor);
+        let _ = answer(rt, alloc, &snapshot, &mut visitor);
         open.fetch_sub(1, Ordering::SeqCst);
     }
 }
 
 /// Answers a visitor on a thread of its own: whether there is one.
-fn answer_beside<
-    R: Threads
-        + Wait
-        + Clock
-        + Net<Stream = TcpStream, Listener = TcpListener>
-        + RandomSource
-        + Files
-        + Copy
-        + Send
-        + Sync
-        + 'static,
->(rt: &R, alloc: Global, visitor: Visitor, board: Arc<Board>, open: Arc<AtomicU64>) -> bool {
+fn answer_beside<R: Threads + Wait + Clock + RandomSource + Copy + Send + Sync + 'static>(
+    rt: &R,
+    alloc: Global,
+    visitor: Visitor,
+    snapshot: Snapshot,
+    open: Arc<AtomicU64>,
+) -> bool {
     let there = *rt;
-    match thread::spawn(rt, move || visitor.answer_last(&there, alloc, board, open)) {
+    match thread::spawn(
+        rt,
+        move || visitor.answer_last(&there, alloc, snapshot, open),
+    ) {
         Ok(_) => true,
         Err(_) => false,
     }
@@ -183,28 +179,22 @@ impl Window {
         }
     }
 
-    /// Takes a visitor, and has it answered; counts those that are answered now.
-    fn answer_one<
-        R: Threads
-            + Wait
-            + Clock
-            + Net<Stream = TcpStream, Listener = TcpListener>
-            + RandomSource
-            + Files
-            + Copy
-            + Send
-            + Sync
-            + 'static,
-    >(&self, rt: &R, alloc: Global, board: &Arc<Board>, open: &Arc<AtomicU64>) -> io::Result<()> {
+    /// Takes a visitor, and has it answered by how the server stands now; counts those that are
+    /// answered.
+    fn answer_one<R: Threads + Wait + Clock + RandomSource + Copy + Send + Sync + 'static>(
+        &self,
+        rt: &R,
+        alloc: Global,
+        board: &Board,
+        open: &Arc<AtomicU64>,
+    ) -> io::Result<()> {
         let visitor = self.accept()?;
-        let Ok(board) = Arc::try_clone(board) else {
-            return Ok(());
-        };
+        let snapshot = board.snapshot()?;
         let Ok(mine) = Arc::try_clone(open) else {
             return Ok(());
         };
         open.fetch_add(1, Ordering::SeqCst);
-        if !answer_beside(rt, alloc, visitor, board, mine) {
+        if !answer_beside(rt, alloc, visitor, snapshot, mine) {
             open.fetch_sub(1, Ordering::SeqCst);
         }
         Ok(())
@@ -212,16 +202,7 @@ impl Window {
 
     /// Answers whoever asks, so many at a time, until the program ends.
     pub(crate) fn answer_all<
-        R: Threads
-            + Wait
-            + Clock
-            + Net<Stream = TcpStream, Listener = TcpListener>
-            + RandomSource
-            + Files
-            + Copy
-            + Send
-            + Sync
-            + 'static,
+        R: Threads + Wait + Clock + RandomSource + Copy + Send + Sync + 'static,
     >(self, rt: &R, alloc: Global, board: Arc<Board>) {
         let Ok(open) = Arc::new(alloc, AtomicU64::new(0)) else {
             return;

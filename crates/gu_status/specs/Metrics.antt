@@ -4,7 +4,6 @@ use Rattle.std.specs.Prelude.{◌∷◌, ◌++◌, codes, decimal, flat_map, is_
 use Rattle.gu_status.specs.Samples.{Text, family, decimal_line, millionths, sample, labelled}
 use Rattle.gu_status.specs.Samples.{single}
 use Rattle.gu_status.specs.declared.snapshot.FirmEntries.{FirmEntries}
-use Rattle.gu_status.specs.declared.snapshot.Process.{Process}
 use Rattle.gu_status.specs.declared.snapshot.Snapshot.{Snapshot}
 use Rattle.gu_status.specs.declared.snapshot.Syncs.{Syncs}
 
@@ -130,15 +129,10 @@ build_text =
     family (codes "allocd_build_info") (codes "gauge") (codes "1, with the version of the program.")
     ++ labelled (codes "allocd_build_info{version=\"") (codes "1.0.0") 1
 
--- what the system says of the process
-unfoldable pub process_text : Process → Text
-process_text p =
-    single (codes "process_start_time_seconds") (codes "gauge")
-    (codes "When the server began, in seconds from 1970 on.") p.began
-    ++ single (codes "process_resident_memory_bytes") (codes "gauge")
-    (codes "Memory of the process.") p.memory
-    ++ single (codes "process_open_fds") (codes "gauge") (codes "Descriptors that are open.")
-    p.descriptors
+-- when the server began
+abbrev pub start_text : ℕ → Text
+start_text began = single (codes "process_start_time_seconds") (codes "gauge")
+    (codes "When the server began, in seconds from 1970 on.") began
 
 -- what was slow, and what was refused
 unfoldable pub delays_text : Snapshot → Text
@@ -151,9 +145,9 @@ delays_text s =
     ++ single (codes "allocd_logons_refused_total") (codes "counter")
     (codes "Connections that ended before a Logon was accepted.") s.logons_refused
 
--- what the program, its process and its delays are
+-- what the program, its start and its delays are
 unfoldable pub server_text : Snapshot → Text
-server_text s = build_text ++ process_text s.process ++ delays_text s
+server_text s = build_text ++ start_text s.began ++ delays_text s
 
 -- all figures
 unfoldable pub metrics_text : Snapshot → Text

@@ -3,14 +3,14 @@
 ghost use Rattle.std.specs.Prelude.{◌≡◌, ◌++◌, codes, is_none, OnOk, IfOk};
 ghost use Rattle.gu_status.specs.Samples.{single};
 ghost use Rattle.gu_status.specs.Metrics.{book_text, bucket, build_text, calls_text, firm_text};
-ghost use Rattle.gu_status.specs.Metrics.{delays_text, firms_text, process_text, server_text};
+ghost use Rattle.gu_status.specs.Metrics.{delays_text, firms_text, server_text, start_text};
 ghost use Rattle.gu_status.specs.Metrics.{fullness, fullness_text, long_buckets};
 ghost use Rattle.gu_status.specs.Metrics.{metrics_text, one_if, refusal_text, refusals_text};
 ghost use Rattle.gu_status.specs.Metrics.{rest_text, firm_entries_text};
 ghost use Rattle.gu_status.specs.Metrics.{short_buckets, state_text, times_text, totals_text};
 
 use crate::samples::{push, push_family, push_labelled, push_millionths, push_number, push_single};
-use crate::snapshot::{FirmEntries, Process, REASONS, Snapshot, Syncs};
+use crate::snapshot::{FirmEntries, REASONS, Snapshot, Syncs};
 use gu_base::Memory;
 use itoa::Buffer;
 use std::alloc::Global;
@@ -88,31 +88,16 @@ fn push_build(text: &mut Vec<u8>) -> Result<(), Memory>
     push_labelled(text, "allocd_build_info{version=\"", RELEASE.as_bytes(), 1)
 }
 
-/// Appends what the system says of the process.
-#[tactic(auto, unfolding(crate::specs::Metrics::process_text))]
-fn push_process(text: &mut Vec<u8>, process: &Process) -> Result<(), Memory>
-    ensures { OnOk result (text.new.items ≡ text.old.items ++ process_text process.now) }
+/// Appends when the server began.
+fn push_start(text: &mut Vec<u8>, began: u64) -> Result<(), Memory>
+    ensures { OnOk result (text.new.items ≡ text.old.items ++ start_text began) }
 {
     push_single(
         text,
         "process_start_time_seconds",
         "gauge",
         "When the server began, in seconds from 1970 on.",
-        process.began,
-    )?;
-    push_single(
-        text,
-        "process_resident_memory_bytes",
-        "gauge",
-        "Memory of the process.",
-        process.memory,
-    )?;
-    push_single(
-        text,
-        "process_open_fds",
-        "gauge",
-        "Descriptors that are open.",
-        process.descriptors,
+        began,
     )
 }
 
@@ -144,13 +129,13 @@ fn push_delays(text: &mut Vec<u8>, snapshot: &Snapshot) -> Result<(), Memory>
     )
 }
 
-/// Appends what the program, its process and its delays are.
+/// Appends what the program, its start and its delays are.
 #[tactic(auto, unfolding(crate::specs::Metrics::server_text))]
 fn push_server(text: &mut Vec<u8>, snapshot: &Snapshot) -> Result<(), Memory>
     ensures { OnOk result (text.new.items ≡ text.old.items ++ server_text snapshot.now) }
 {
     push_build(text)?;
-    push_process(text, &snapshot.process)?;
+    push_start(text, snapshot.began)?;
     push_delays(text, snapshot)
 }
 

@@ -38,21 +38,11 @@ pub struct Syncs {
     pub idle_seconds: u64,
 }
 
-/// What the system says of the process; 0 where it says nothing.
-#[derive(Clone, Copy, Debug, Default)]
-pub struct Process {
-    /// When the server began, in seconds from 1970 on.
-    pub began: u64,
-    /// Its memory, in bytes.
-    pub memory: u64,
-    /// Its descriptors that are open.
-    pub descriptors: u64,
-}
-
 /// How a server stands.
 #[derive(Debug, Drop)]
 pub struct Snapshot {
-    pub process: Process,
+    /// When the server began, in seconds from 1970 on.
+    pub began: u64,
     /// Whether the book was recovered, and connections are taken.
     pub is_ready: bool,
     /// The part that hasn't moved for long, if there is one.
