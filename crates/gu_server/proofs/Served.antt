@@ -1,13 +1,14 @@
--- What was done where a trace was run, and where firms were served.
+-- What was done where a trace was run, where firms were served, and where the house file is at fault.
 use Rattle.std.proofs.Common.{◌≡◌, ℕ, inl, inr, List, Option, Some, Result, Ok, Err, codes, refl, ap, ◌∙◌}
 use Rattle.clap.specs.Words.{Text}
 use Rattle.gu_base.specs.House.{House}
 use Rattle.gu_batch.specs.Runs.{Told}
 use Rattle.gu_batch.specs.Traces.{Traces}
 use Rattle.gu_batch.specs.declared.batch.RunError.{RunError}
+use Rattle.gu_batch.specs.declared.batch.RunError.TheVariants as run
 use Rattle.gu_command.specs.Lines.{command_in, house_in, trade_in, trade_meant}
 use Rattle.gu_keep.specs.Keeping.{Keeps}
-use Rattle.gu_server.specs.Program.{Names, Asks, Serves, HasDone, Does}
+use Rattle.gu_server.specs.Program.{Names, Asks, Serves, HasDone, Does, IsHouseFault}
 use Rattle.gu_command.specs.declared.fault.Fault.{Fault}
 use Rattle.gu_command.specs.declared.fault.Fault.TheVariants as fault
 
@@ -81,3 +82,20 @@ kept_by words bytes_at l x f b c v w (Err (fault.Usage t)) by h = absurd h
 kept_by words bytes_at l x f b c v w (Err fault.HouseFile) by h = absurd h
 kept_by words bytes_at l x f b c v w (Err (fault.HouseLine e)) by h = absurd h
 kept_by words bytes_at l x f b c v w (Err (fault.Service e)) by h = absurd h
+
+-- the house file of the words is at fault, and nothing was read or written
+pub stopped : (words : List Text) (bytes_at : Text → Option (List ℕ)) (path : Text) (told : Told) (e : Fault)
+    → house_in words ≡ Some path → IsHouseFault (bytes_at path) e
+    → Does {A = Unit {0}} words bytes_at told told (Err e)
+stopped words bytes_at path told fault.HouseFile asked is = inl ((path, asked, is), refl)
+stopped words bytes_at path told (fault.HouseLine e) asked is = inl ((path, asked, is), refl)
+stopped words bytes_at path told (fault.Run run.Memory) asked is = inl (is, refl)
+stopped words bytes_at path told (fault.Run (run.Broken at)) asked is = absurd is
+stopped words bytes_at path told (fault.Run (run.Truncated at)) asked is = absurd is
+stopped words bytes_at path told (fault.Run run.Read) asked is = absurd is
+stopped words bytes_at path told (fault.Run run.Write) asked is = absurd is
+stopped words bytes_at path told (fault.Run (run.NoLiveTrade trade)) asked is = absurd is
+stopped words bytes_at path told (fault.Usage t) asked is = absurd is
+stopped words bytes_at path told (fault.Service e) asked is = absurd is
+stopped words bytes_at path told (fault.Journal t) asked is = absurd is
+stopped words bytes_at path told (fault.Keep e) asked is = absurd is

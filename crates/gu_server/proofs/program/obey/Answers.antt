@@ -1,7 +1,7 @@
 use Rattle.std.proofs.Common.{rules, subst}
 use Rattle.gu_command.specs.Lines.{IsLine}
 use Rattle.gu_command.specs.declared.line.Line.{Line}
-use Rattle.gu_server.proofs.Served.{served_by, kept_by}
+use Rattle.gu_server.proofs.Served.{served_by, kept_by, stopped}
 use Rattle.gu_server.proofs.program.obey.Goals as goal
 
 -- firms were served
@@ -33,3 +33,10 @@ returns-in-Ok-read_pinned-clause-does g c words line =
 -- a batch was run
 pub returns-in-Batch-clause-does : goal.returns-in-Batch-clause-does
 returns-in-Batch-clause-does g c = search rules
+
+-- the house file is at fault
+pub returns-clause-does : goal.returns-clause-does
+returns-clause-does g c words line =
+    let found = subst (λ (l : Line). IsLine words l) c.in-Keep.is line in
+    stopped words _ c.as_str-in-Keep.result.now _ c.in-Err-read_pinned.fault (search (rules, found.1))
+    c.in-Err-read_pinned.ensures
