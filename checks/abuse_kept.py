@@ -102,6 +102,8 @@ class Server:
                 return
             except ConnectionRefusedError:
                 time.sleep(0.02)
+            except ConnectionResetError:
+                return  # it has listened, and ends
         sys.exit(self.says())
 
     def peer(self, firm, name=""):
