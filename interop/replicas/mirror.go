@@ -141,12 +141,20 @@ func (m *mirror) mend(from int64, tail []byte, size int64) {
 	}
 	if known := bytes.TrimRight(cut, "\n"); len(known) > 1 && (len(wanted) < 1 || !bytes.HasPrefix(wanted[1:], known[1:])) { // its gate may be shut
 		check(os.WriteFile(m.path+"."+m.run+".cut", cut, 0o600))
-		say("%d bytes behind byte %d, which nobody was told of, are laid aside in %s.%s.cut", len(cut), from, m.path, m.run)
+		say("%d bytes behind byte %d, %s, are laid aside in %s.%s.cut", len(cut), from, m.unlike(from), m.path, m.run)
 	}
 	_, err := m.file.WriteAt(wanted, from)
 	check(err)
 	check(m.file.Truncate(from + int64(len(wanted))))
 	check(m.file.Sync())
+}
+
+// unlike says what the bytes from there on are that go: a group of which nobody was told, or ones that etcd has otherwise.
+func (m *mirror) unlike(from int64) string {
+	if from < m.at {
+		return "which aren't what etcd has"
+	}
+	return "which nobody was told of"
 }
 
 // end are these bytes as they stand at the file's end.
