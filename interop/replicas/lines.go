@@ -112,11 +112,12 @@ func final(err error) bool {
 	return false
 }
 
-// try asks until a node answers, and no longer than that: so what is asked may be done twice.
+// try asks until a node answers, so what is asked may be done twice; and no longer than that, nor than 10 s where no node answers anything.
 func (k *keys) try(p waits, ask func(context.Context, *clientv3.Client) error) error {
 	k.lock.Lock()
 	defer k.lock.Unlock()
-	for began := time.Now(); ; time.Sleep(pause) {
+	began := time.Now()
+	for heard := began; ; time.Sleep(pause) {
 		var err error
 		if k.line == nil {
 			k.line, err = k.dial(time.Since(began) > newLeader)
@@ -129,10 +130,10 @@ func (k *keys) try(p waits, ask func(context.Context, *clientv3.Client) error) e
 				return err
 			}
 			k.line.Close()
-			k.line = nil
+			k.line, heard = nil, time.Now()
 		}
-		if time.Since(began) > p.all {
-			return fmt.Errorf("no node of etcd takes it: %v%s", err, expiry())
+		if time.Since(began) > p.all || time.Since(heard) > putPatience.all {
+			return fmt.Errorf("no node of etcd takes it: %v%s", err, k.trouble(k.nodes...))
 		}
 	}
 }

@@ -30,7 +30,7 @@ func (k *keys) lookAtRoom(said map[string]string) {
 		}
 		switch {
 		case err != nil:
-			words = "doesn't answer: " + err.Error() + expiry()
+			words = "doesn't answer: " + err.Error() + k.trouble(node)
 		case len(errors) > 0:
 			words = "has an alarm: " + errors[0]
 			near = node + " " + words
