@@ -17,7 +17,7 @@ const batchWait = time.Minute // for an answer of `allocd batch`
 type batch struct {
 	w       *witness
 	process *exec.Cmd
-	in      io.Writer
+	in      *os.File
 	said    bytes.Buffer // on standard error
 	answers chan []byte
 	heard   int64 // the number of the last entry that was answered; -1 before the first
@@ -31,11 +31,13 @@ func startBatch(w *witness, house []byte) *batch {
 	b := &batch{w: w, heard: -1, answers: make(chan []byte, 1<<16)}
 	b.process = exec.Command(program(), "batch", file.Name())
 	b.process.Stderr = &b.said
-	b.in, err = b.process.StdinPipe()
+	from, in, err := os.Pipe()
 	check(err)
+	b.process.Stdin, b.in = from, in
 	out, err := b.process.StdoutPipe()
 	check(err)
 	check(b.process.Start())
+	from.Close()
 	go func() {
 		b.read(out)
 		b.ends(b.process.Wait())
@@ -85,7 +87,10 @@ func (b *batch) ask(one []byte, _ int64) error {
 		number, _ := strconv.ParseInt(field(one, "34"), 10, 64)
 		b.heard = number - 1
 	}
-	if _, err := b.in.Write(one); err != nil {
+	b.in.SetWriteDeadline(time.Now().Add(batchWait))
+	if _, err := b.in.Write(one); os.IsTimeout(err) {
+		lost("allocd batch takes nothing any more, behind entry %d", b.heard)
+	} else if err != nil {
 		select {} // it has ended: `ends` says why
 	}
 	for len(b.answers) > 0 {
