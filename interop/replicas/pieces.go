@@ -79,9 +79,12 @@ func (r *reader) offset(kv *mvccpb.KeyValue) int64 {
 }
 
 func (r *reader) took(data []byte, h header) error {
+	before := r.at
 	r.at += int64(len(data))
 	r.sha.Write(data)
 	switch {
+	case before > h.length:
+		return fmt.Errorf("etcd has less than was told: its book has %d bytes, and it was read to %d", h.length, before)
 	case r.at > h.length:
 		return fmt.Errorf("the pieces have more than the %d bytes that head says", h.length)
 	case r.at < h.length && len(data) == 0:

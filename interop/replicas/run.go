@@ -92,11 +92,7 @@ func follow(k *keys, l *hold, n *note, path, run string, again *starts) {
 
 // goesOn gives the next bytes, the head, and the revision of that; what isn't as it must be ends this program, which looks at it anew.
 func (r *reader) goesOn() ([]byte, header, int64) {
-	before := r.at
 	data, h, err := r.next()
-	if h.length < before {
-		lost("etcd has less than was told: its book has %d bytes, and this machine followed it to %d", h.length, before)
-	}
 	if err != nil {
 		lost("the book isn't as it must be: %v", err)
 	}
