@@ -8,7 +8,8 @@ import socket
 import subprocess
 import time
 
-from harness import Cluster, Trial, case, children, contents, frame, free_port, made_house, room_for, serving, until
+from harness import Cluster, Trial, alive, case, children, contents, frame, free_port, made_house, page, room_for, serving, until
+from kills import put_book
 
 HUNG = 15  # seconds, after which another machine answers
 
@@ -175,8 +176,27 @@ def hangs(trial, shim):
     silent(serving([a, b]))
     a.stop(signal.SIGTERM), b.stop(signal.SIGTERM)
     trial.replayed("hangs")
+    cut_off(trial)
     if shim:
         hung_sync(trial, shim)
+
+
+def cut_off(trial):
+    """The line between the machine that serves and the nodes is cut, and mended."""
+    env, line = trial.cable(0)
+    a, b = trial.machine("A", "cut", env=env).start(), trial.machine("B", "cut")
+    until(a.serves)
+    b.start()
+    b.follows()
+    load, server, began = trial.load("cut", [a, b], PAUSE="0.01"), a.server(), time.monotonic()
+    hung(load, "the line of A is cut", lambda: line.send_signal(signal.SIGSTOP))
+    ends = until(lambda: not alive(server), room_for(12))
+    case(ends, f"the server of A ends by itself, {time.monotonic() - began:.1f} s after that: {a.last()[:100]}")
+    line.send_signal(signal.SIGCONT)
+    case(a.follows_now() and b.serves(), "the line is there again: A follows")
+    load.end()
+    a.stop(signal.SIGTERM), b.stop(signal.SIGTERM)
+    trial.replayed("cut")
 
 
 def hung_sync(trial, shim):
@@ -255,7 +275,7 @@ def followers(trial):
     far = trial.machine("A", "far", env=trial.line(50)).start(again=False)
     case(until(far.serves), f"nodes that are 50 ms away: {far.last()}")
     far.stop(signal.SIGTERM)
-    trial.replayed("deaf")
+    trial.replayed("deaf"), trial.replayed("far")
     deaf.close()
 
 
@@ -270,10 +290,12 @@ def slow_lines(trial, journal):
     case(trial.agreed("joined", "slow", trial.state("joined")[0]), "and watched")
     watch.kill()
     a.stop(signal.SIGTERM)
+    trial.replayed("joined")
 
 
-def watching(trial):
-    """A watch whose batch is killed: its own trouble, status 1; and what it shows."""
+def watching(trial, journal):
+    """A watch: that a piece comes to it once, what it shows, and its own trouble, which is no alarm: its batch is killed."""
+    crosses_once(trial, journal)
     book, port = "joined", free_port()
     watch = trial.watch(book, "mine", "--metrics", str(port))
     entries = trial.state(book)[0]
@@ -284,9 +306,47 @@ def watching(trial):
     case(not trial.cluster.get(f"/allocd/{book}/alarm/mine") and "ALARM" not in contents(watch.log).decode(), "which is no alarm")
 
 
-def page(port):
-    done = subprocess.run(["curl", "-s", f"http://127.0.0.1:{port}/metrics"], stdout=subprocess.PIPE, text=True)
-    return done.stdout
+def crosses_once(trial, journal):
+    """How many bytes come to a watch of a book to which a large piece is put."""
+    frames, count = re.findall(rb"8=FIXT\.1\.1\x019=\d+\x01.*?\x0110=\d{3}\x01", journal[:700_000], re.S), f"{trial.room}/crossed"
+    seals = [i for i, it in enumerate(frames) if b"\x0135=0\x01" in it]
+    env, line = trial.cable(0, count=count)
+
+    def put(last, at=0):
+        """Has the book be these frames, of which so many bytes are there: bytes and entries."""
+        data, entries = b"".join(frames[: last + 1]), sum(b"\x0135=0\x01" not in it and b"\x0135=A\x01" not in it for it in frames[: last + 1])
+        put_book(trial.cluster, "once", data + b"\n", entries, trial.house, at)
+        return len(data), entries
+
+    def came(entries):
+        """How many bytes came until the watch agrees."""
+        trial.agreed("once", "w", entries)
+        until(lambda: stays(lambda: contents(count), 0.5))
+        return int(contents(count).split()[1])
+
+    size, entries = put(seals[1])
+    watch = trial.watch("once", "w", env=env)
+    before = came(entries)
+    whole, entries = put(seals[-1], size)
+    more, size = came(entries) - before, whole - size
+    case(size <= more < 1.5 * size, f"a piece of {size} bytes comes to a watch in {more} bytes")
+    watch.kill(), line.kill()
+
+
+def stalled(trial):
+    """A watch whose batch stands still from the start: its own trouble too, after a minute."""
+    program = f"{trial.room}/still"
+    with open(program, "w") as it:
+        it.write("#!/bin/sh\nkill -STOP $$\n")
+    os.chmod(program, 0o755)
+    watch = trial.watch("joined", "still", env=dict(trial.cluster.env, ALLOCD=program))
+    until(lambda: children(watch.pid))
+    batch = children(watch.pid)
+    ended = until(lambda: watch.poll() is not None, 150)
+    said = contents(watch.log).decode().strip()
+    case(ended and watch.returncode == 1 and "allocd batch" in said and "ALARM" not in said, f"its batch stands still: status {watch.returncode}, {said[-100:]}")
+    for it in batch:
+        os.kill(it, signal.SIGKILL)
 
 
 def options(trial):
@@ -345,6 +405,7 @@ def asked(trial):
     trial.cluster.put("/allocd/asked/writer", "another")
     open(f"{a.journal}.go", "w").close()
     case(a.ends() and "another run has taken the book over" in a.said() and answers()[3:] != [r"b'yes\n'"], f"and not once another is the writer: {a.last()[:80]}")
+    trial.replayed("asked")
 
 
 def frozen(trial):
@@ -389,17 +450,25 @@ def full_journal(journal, entries):
 
 
 def full(trial, journal):
-    """A full journal is adopted over a line of 10 Mbit/s, shown over one of 100, and taken over on an empty disk over that."""
-    a, b = trial.machine("A", "full"), trial.machine("B", "full", env=trial.line(1, 12_500))
+    """A full journal is adopted over a line of 10 Mbit/s; shown, watched, and taken over on an empty disk over one of 100."""
+    env, line = trial.cable(1, 12_500)
+    a, b = trial.machine("A", "full"), trial.machine("B", "full", env=env)
     whole = full_journal(journal, 1_000_000)
     with open(a.journal, "wb") as it:
         it.write(whole)
     began = time.time()
     status, said = trial.word("adopt", trial.house, a.journal, "full", env=dict(trial.line(1, 1_250), TRACE=a.env["TRACE"]))
     case(status == 0, f"{len(whole)} bytes are adopted over 10 Mbit/s, in {time.time() - began:.0f} s: {said.strip().splitlines()[-1]}")
+    least, began = len(whole) / 12_500_000, time.time()
+    shown = trial.show("full", env)
+    case(shown == whole and time.time() - began > least, f"they are shown over 100 Mbit/s, in {time.time() - began:.0f} s")
     began = time.time()
-    case(trial.show("full", b.env) == whole, f"they are shown over 100 Mbit/s, in {time.time() - began:.0f} s")
     b.start(again=False)
-    case(until(b.serves, 300) and b.kept() == whole, f"and taken over: {b.last()}")
+    case(until(b.serves, 300) and b.kept() == whole and time.time() - began > least, f"and taken over on an empty disk: {b.last()}")
+    began = time.time()
+    watch = trial.watch("full", "w", env=env)
+    case(until(lambda: trial.cluster.get("/allocd/full/done/w") == "1000000", 300), f"and watched, in {time.time() - began:.0f} s")
+    watch.kill()
     b.stop(signal.SIGTERM)
+    line.kill()
     trial.replayed("full")

@@ -188,14 +188,20 @@ class Trial:
         self.started.append(made)
         return made
 
-    def line(self, milliseconds, kilobytes=0):
-        """The environment of one who asks the nodes over slow lines: what comes is passed on later, and so many kilobytes a second."""
-        ports = {name: free_port() for name in self.cluster.nodes}
-        pairs = [f"127.0.0.1:{ports[name]}={it}" for name, it in self.cluster.nodes.items()]
+    def cable(self, milliseconds, kilobytes=0, nodes=None, env=None, count=""):
+        """A line to the nodes: what passes it comes later, so many kilobytes a second in all. The environment of one who asks over it, and the process."""
+        nodes = nodes or self.cluster.nodes
+        ports = {name: free_port() for name in nodes}
+        pairs = [f"127.0.0.1:{ports[name]}={it}" for name, it in nodes.items()]
         words = [f"{HERE}/delayed", str(milliseconds), *pairs]
-        self.started.append(subprocess.Popen(words, env=dict(os.environ, RATE=str(kilobytes * 1000))))
+        process = subprocess.Popen(words, env=dict(os.environ, RATE=str(kilobytes * 1000), COUNT=count))
+        self.started.append(process)
         until(lambda: all(listens(it) for it in ports.values()))
-        return dict(self.cluster.env, ETCD=",".join(f"127.0.0.1:{it}" for it in ports.values()))
+        return dict(env or self.cluster.env, ETCD=",".join(f"127.0.0.1:{it}" for it in ports.values())), process
+
+    def line(self, milliseconds, kilobytes=0, **more):
+        """The environment of one who asks over such a line."""
+        return self.cable(milliseconds, kilobytes, **more)[0]
 
     def state(self, book):
         """Entries and bytes of a book."""
@@ -235,6 +241,12 @@ def listens(port):
         return True
     except OSError:
         return False
+
+
+def page(port):
+    """What is shown at a port."""
+    done = subprocess.run(["curl", "-s", f"http://127.0.0.1:{port}/metrics"], stdout=subprocess.PIPE, text=True)
+    return done.stdout
 
 
 class Machine:

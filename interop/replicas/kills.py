@@ -8,7 +8,7 @@ import signal
 import subprocess
 import time
 
-from harness import HERE, Cluster, Machine, Trial, alive, case, contents, frame, free_port, room_for, serving, until
+from harness import HERE, Cluster, Machine, Trial, alive, case, contents, frame, free_port, page, room_for, serving, until
 
 GAPS = {"server": 10, "sidecar": 10, "leader": 10, "machine": 20, "other": 10, "order": 12}  # seconds, three times what a quiet machine takes
 
@@ -126,6 +126,8 @@ def lost_files(trial, a):
     wrong = contents(a.journal)[3_900:4_100]
     a.start(again=False)
     case(until(a.serves) and a.kept() == trial.show("outages") and a.laid_aside(wrong), "what a journal with a byte changed has is laid aside, and etcd's comes")
+    line = next((it for it in reversed(a.said().splitlines()) if "laid aside" in it), "")
+    case("what etcd has" in line and "nobody" not in line, f"and it is told as what it is: {line[9:60]}")
     a.stop(signal.SIGTERM)
     before = a.kept()
     trial.cluster.output("etcdctl", "del", "--prefix", "/allocd/outages/")
@@ -140,10 +142,10 @@ def lost_files(trial, a):
     a.stop(signal.SIGTERM)
 
 
-def put_book(cluster, book, journal, entries, house):
-    """A book of these bytes, as somebody might put it who has a key to etcd."""
+def put_book(cluster, book, journal, entries, house, at=0):
+    """A book of these bytes, of which so many are there, as somebody might put it who has a key to etcd."""
     data = journal[:-1]
-    for key, value in [("house", contents(house)), ("piece/%012d" % 0, data), ("writer", b"forger"),
+    for key, value in [("house", contents(house)), ("piece/%012d" % at, data[at:]), ("writer", b"forger"),
                        ("head", b"%d %d forger %s" % (entries, len(data), hashlib.sha256(data).hexdigest().encode()))]:
         subprocess.run(["etcdctl", "put", f"/allocd/{book}/{key}"], env=cluster.env, input=value, stdout=subprocess.DEVNULL, check=True)
 
@@ -214,6 +216,7 @@ def no_room(trial):
         case(load.goes_on(), "compacted, defragmented, disarmed: a start goes on")
         load.end()
         a.stop(signal.SIGTERM)
+        small.replayed("room")
     finally:
         small.stop()
 
@@ -223,7 +226,7 @@ class Secured:
 
     def __init__(self, trial):
         self.keys, self.port, self.peer = f"{trial.room}/keys", free_port(), free_port()
-        subprocess.run([f"{HERE}/keys", self.keys, "node=127.0.0.1", "root", "es", "es-watch", "other"], check=True)
+        self.makes("node=127.0.0.1", "root", "es", "es-watch", "other")
         url, own = f"https://127.0.0.1:{self.port}", lambda name: f"{self.keys}/{name}"
         words = ["etcd", "--name", "t", "--data-dir", f"{trial.room}/tls", "--listen-client-urls", url, "--advertise-client-urls", url, "--logger", "zap",
                  "--cert-file", own("node.pem"), "--key-file", own("node.key"), "--trusted-ca-file", own("ca.pem"), "--client-cert-auth",
@@ -232,6 +235,10 @@ class Secured:
                  "--peer-trusted-ca-file", own("peer-ca.pem"), "--peer-client-cert-auth"]
         self.node = subprocess.Popen(words, stdout=subprocess.DEVNULL, stderr=subprocess.DEVNULL)
         self.env, self.url = trial.cluster.env, url
+
+    def makes(self, *names, days=400):
+        """Makes certificates, good for so many days."""
+        subprocess.run([f"{HERE}/keys", self.keys, *names], env=dict(os.environ, DAYS=str(days)), check=True)
 
     def of(self, who):
         """The environment of a user."""
@@ -249,6 +256,19 @@ class Secured:
         return subprocess.run(words, stdout=subprocess.PIPE, text=True).stdout == "200"
 
 
+def expired(trial, node):
+    """A certificate that is over, the user's or the node's: it is told, and with a new one all goes on."""
+    for who, name in (("user", "es"), ("node", "node=127.0.0.1")):
+        node.makes(name, days=0)
+        until(lambda: subprocess.run(["openssl", "x509", "-in", f"{node.keys}/{name.split('=')[0]}.pem", "-noout", "-checkend", "0"], stdout=subprocess.DEVNULL).returncode)
+        a = trial.machine(f"X-{who}", "es", env=node.of("es")).start(again=False)
+        case(a.ends() and "certificate" in a.last() and "expired" in a.last(), f"a {who}'s certificate is over: {a.last()[-110:]}")
+        node.makes(name)
+        a.start(again=False)
+        case(until(a.serves), f"and with a new one it goes on: {a.last()[:60]}")
+        a.stop(signal.SIGTERM)
+
+
 def secured(trial):
     """Certificates, with a role for each book and for its watch."""
     node = Secured(trial)
@@ -258,8 +278,10 @@ def secured(trial):
         case(all(it.returncode == 0 for it in made), f"roles of two books: {made[-1].stdout.splitlines()[-1:]}")
         takes = [node.peer_takes(it) for it in ("node.peer", "es", "root")]
         case(takes == [True, False, False], "the port of peers takes a node's certificate, and no user's")
-        a = trial.machine("T", "es", env=node.of("es")).start(again=False)
+        port = free_port()
+        a = trial.machine("T", "es", "--metrics", str(port), env=node.of("es")).start(again=False)
         case(until(a.serves), f"TLS and a role: {a.last()}")
+        case(until(lambda: "allocd_sidecar_certificate_days 399\n" in page(port)), "which is shown to be good for 399 days")
         b = trial.machine("U", "es", env=node.of("other")).start(again=False)
         case(b.ends() and "permission denied" in b.said(), "another book's user has no part in the book")
         c = trial.machine("V", "nq", env=node.of("es")).start(again=False)
@@ -273,6 +295,11 @@ def secured(trial):
         case(all(denied), "and can put neither head nor writer, lock or piece")
         watch.kill()
         a.stop(signal.SIGTERM)
+        far = trial.machine("F", "es", env=trial.line(50, nodes={"t": f"127.0.0.1:{node.port}"}, env=node.of("es"))).start(again=False)
+        case(until(far.serves), f"TLS to a node that is 50 ms away: {far.last()}")
+        far.stop(signal.SIGTERM)
+        expired(trial, node)
+        trial.replayed("es")
     finally:
         node.node.kill()
         shutil.rmtree(f"{trial.room}/tls", ignore_errors=True)
