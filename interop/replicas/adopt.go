@@ -11,7 +11,10 @@ import (
 	"go.etcd.io/etcd/clientv3"
 )
 
-const adoptedPiece = 512 << 10
+const (
+	adoptedPiece = 512 << 10
+	lockWait     = 20 * time.Second // longer than the lease lives of a `run` that is gone, or of a word to take over
+)
 
 var adoptPatience = waits{30 * time.Second, 5 * time.Minute} // for a piece, over a slow line
 
@@ -26,9 +29,7 @@ func adopt(w wishes) {
 	leave = l.leave
 	endsAtOnce()
 	h, placed := pin(k, w.house)
-	if had, who := l.take(); !had {
-		lost("%s has the lock: stop its sidecar first", who)
-	}
+	l.awaited()
 	file, err := os.Open(w.file)
 	check(err)
 	c := whole(file, w.house)
@@ -44,6 +45,22 @@ func adopt(w wishes) {
 	ownedAs(n.path, w.file)
 	l.leave()
 	say("etcd has the book: %d entries in %d bytes", c.entries, c.sealed)
+}
+
+// awaited has the lock be this machine's, if need be once the lease of one who is gone is over.
+func (l *hold) awaited() {
+	for began, told := time.Now(), false; ; time.Sleep(200 * time.Millisecond) {
+		had, who := l.take()
+		switch {
+		case had:
+			return
+		case time.Since(began) > lockWait:
+			lost("%s has the lock: stop its sidecar first", who)
+		case !told:
+			say("%s has the lock: up to %.0f s are waited for it", who, lockWait.Seconds())
+			told = true
+		}
+	}
 }
 
 // whole reads a journal to its last shut gate.

@@ -89,8 +89,9 @@ def adoption(trial, journal):
     case(c.ends() and "an adoption isn't over" in c.said(), f"an empty machine doesn't serve: {c.last()[:90]}")
     b.start(again=False)
     case(b.ends() and b.kept() == journal, f"nor does another one cut its journal: {b.last()[:90]}")
-    free()
+    leased(trial, "/allocd/adopted/lock", "one who is gone", 8)
     status, said = trial.word("adopt", trial.house, b.journal, "adopted", env=b.env)
+    case("has the lock: up to" in said, "an adoption waits for the lock of one who is gone")
     case(status == 0 and trial.show("adopted") == journal, f"begun anew it is whole: {said.strip().splitlines()[-1]}")
     c.start()
     case(until(c.serves) and c.kept() == journal, "and the empty machine serves all of it")
@@ -102,6 +103,12 @@ def adoption(trial, journal):
     status, said = trial.word("adopt", trial.house, other, "adopted")
     case(status == 1 and "is no whole journal" in said, f"what isn't a whole journal is refused: {said.strip()[:100]}")
     trial.replayed("adopted")
+
+
+def leased(trial, key, value, seconds):
+    """Puts a key by a lease that nobody keeps."""
+    lease = trial.cluster.output("etcdctl", "lease", "grant", str(seconds)).split()[1]
+    trial.cluster.output("etcdctl", "put", f"--lease={lease}", key, value)
 
 
 def joining(trial):
