@@ -286,8 +286,9 @@ def secured(trial):
         case(b.ends() and "permission denied" in b.said(), "another book's user has no part in the book")
         c = trial.machine("V", "nq", env=node.of("es")).start(again=False)
         case(c.ends() and "permission denied" in c.said(), "the book's user has no part in another book")
-        nobody = dict(trial.cluster.env, ETCD=f"127.0.0.1:{node.port}")
-        case(trial.word("show", "es", env=nobody)[0] == 1, "nobody reads it without a certificate")
+        nobody, began = dict(trial.cluster.env, ETCD=f"127.0.0.1:{node.port}"), time.monotonic()
+        took = trial.word("show", "es", env=nobody)[0] == 1 and time.monotonic() - began
+        case(took and took < 60, f"nobody reads it without a certificate, and who tries is told after {took:.0f} s")
         watch = trial.watch("es", "w", env=node.of("es-watch"))
         done = lambda: node.ctl("root", "etcdctl", "get", "--print-value-only", "/allocd/es/done/w").stdout.strip()
         case(until(lambda: done() == "0"), "the watch's user watches it")
