@@ -39,10 +39,11 @@ func say(words string, more ...interface{}) {
 // leave gives the lock up, once there is one.
 var leave = func() {}
 
-// lost says why nothing can be gone on with, and ends with status 1. A server that was started ends with this program.
+// lost says why nothing can be gone on with, and ends with status 1. A server that was started ends with this program. The lock is given up before
+// that: a disk that stands still may have the log too.
 func lost(words string, more ...interface{}) {
-	say(words, more...)
 	leave()
+	say(words, more...)
 	os.Exit(1)
 }
 
