@@ -70,12 +70,13 @@ func settle(k *keys, n *note, h header, revision int64, path, run string) (*mirr
 func permitted(k *keys, n *note, h header, revision int64, s standing, run string) {
 	adopted := k.adopted()
 	why := n.refusal(h, revision, adopted, s)
+	name, _ := os.Hostname()
 	if why == nil {
-		n.adopted = adopted
+		n.accepts(adopted)
+		k.over(name)
 		return
 	}
 	traced("refused", run, n.head.length, h.length, int64(s.behind), int64(one(n.older(revision, adopted))))
-	name, _ := os.Hostname()
 	k.swap(nil, []clientOp{k.opPut("alarm/"+name, why.Error())}) // where it can't be put, the line says it
 	lost("%v", why)
 }

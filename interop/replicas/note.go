@@ -129,6 +129,13 @@ func rest(file *os.File, from, size int64) []byte {
 	return data
 }
 
+// accepts takes in that the machine goes on with what etcd has: where the book was adopted since, revisions are those of another etcd.
+func (n *note) accepts(adopted string) {
+	if n.adopted != adopted {
+		n.adopted, n.revision = adopted, 0
+	}
+}
+
 // older is whether the head was put before what was seen, in the same etcd.
 func (n *note) older(revision int64, adopted string) bool {
 	return n.head.known && n.head.length > 0 && n.revision > revision && n.adopted == adopted

@@ -57,6 +57,15 @@ func TestAnAdoptionIsAnotherEtcd(t *testing.T) {
 	if err := n.refusal(headAt(4, 400, d2), 12, "run", standing{size: 501}); err == nil {
 		t.Error("an adoption of less passes")
 	}
+	n.accepts("run") // as it begins; what was seen before that is still of the other etcd as it goes on
+	if err := n.refusal(headAt(6, 600, d2), 12, "run", standing{size: 501}); err != nil {
+		t.Error(err)
+	}
+	n.accepts("run")
+	n.revision = 14
+	if err := n.refusal(headAt(6, 600, d2), 12, "run", standing{size: 501}); err == nil {
+		t.Error("an etcd that went back after the adoption passes")
+	}
 }
 
 func TestNoteComesBack(t *testing.T) {
