@@ -15,7 +15,7 @@ const (
 
 // watchRoom tells which nodes don't answer, and which have little room left; once, and when it is over.
 func (k *keys) watchRoom() {
-	for said := map[string]string{}; ; time.Sleep(sizeEach) {
+	for said := map[string]string{quotaAlarm: "as a run before this one left it"}; ; time.Sleep(sizeEach) {
 		k.lookAtRoom(said)
 	}
 }
@@ -55,5 +55,12 @@ func (k *keys) lookAtRoom(said map[string]string) {
 			op = clientv3.OpDelete(k.root + quotaAlarm)
 		}
 		k.swap(nil, []clientOp{op}) // where there is no room at all this fails, and the line above is the alarm
+	}
+}
+
+// over has nobody be told any more what this machine, or this watch, had against the book: it goes on with it.
+func (k *keys) over(name string) {
+	if words, _ := k.get("alarm/" + name); words != nil {
+		k.swap(nil, []clientOp{clientv3.OpDelete(k.root + "alarm/" + name)})
 	}
 }

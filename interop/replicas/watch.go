@@ -94,6 +94,9 @@ func (w *witness) reached(h header) {
 	case h.length < w.agreed.length:
 		w.alarm("etcd has less than was told: %d entries in %d bytes, and %d in %d were agreed to", h.entries, h.length, w.agreed.entries, w.agreed.length)
 	case h.length > w.agreed.length || !w.agreed.said:
+		if !w.agreed.said {
+			w.k.over(w.name)
+		}
 		w.agreed.keep(h)
 		w.k.put("done/"+w.name, strconv.FormatInt(h.entries, 10))
 	}
