@@ -1,6 +1,9 @@
 """Cases of the faults that lose or that hang: an etcd that went back, an adoption that is broken off, one bad disk, what stands still, a person's word, a
 node that doesn't answer, slow lines, a watch's own trouble, and long house files."""
+import base64
 import hashlib
+import http.client
+import json
 import os
 import re
 import signal
@@ -8,7 +11,7 @@ import socket
 import subprocess
 import time
 
-from harness import Cluster, Trial, alive, case, children, contents, frame, free_port, made_house, page, room_for, serving, until
+from harness import PATIENCE, Cluster, Trial, alive, case, children, contents, frame, free_port, made_house, page, room_for, serving, until
 from kills import put_book
 
 HUNG = 15  # seconds, after which another machine answers
@@ -33,11 +36,22 @@ def back(trial):
         snapshot, before = f"{own.room}/snapshot", own.state("back")[0]
         one = dict(own.cluster.env, ETCDCTL_ENDPOINTS=own.cluster.nodes["a"])
         subprocess.run(["etcdctl", "snapshot", "save", snapshot], env=one, stdout=subprocess.DEVNULL, stderr=subprocess.DEVNULL, check=True)
+        raised(own.cluster, 500)  # so that what is seen from now on is later than all that comes soon after the snapshot is back
         until(lambda: own.state("back")[0] > before + 100)
         until(lambda: os.path.exists(memory) and int(contents(memory).split()[0]) > before + 50)
         went_back(own, a, b, watch, snapshot, load)
     finally:
         own.stop()
+
+
+def raised(cluster, count):
+    """Has etcd's revision rise by so many, by a key of somebody else."""
+    put = json.dumps({"key": base64.b64encode(b"/other").decode(), "value": base64.b64encode(b"x").decode()})
+    host, port = cluster.nodes[cluster.leader()].split(":")
+    node = http.client.HTTPConnection(host, int(port), timeout=PATIENCE)
+    for _ in range(count):
+        node.request("POST", "/v3/kv/put", put)
+        node.getresponse().read()
 
 
 def went_back(own, a, b, watch, snapshot, load):
@@ -64,9 +78,17 @@ def went_back(own, a, b, watch, snapshot, load):
     longest = max((a, b), key=lambda it: len(it.kept()))
     status, said = own.word("adopt", own.house, longest.journal, "back", env=longest.env)
     case(status == 0, f"adopt, where the whole journal is: {said.strip()}")
+    followed = {it.name: it.said().count("waits for") for it in (a, b)}
     a.start(), b.start()
+    one = serving([a, b])
+    other = b if one is a else a
+    case(other.follows(followed[other.name] + 1), f"{one.name} serves, and {other.name} follows: {other.last()[:110]}")
     case(load.goes_on(), "and firms are answered again")
     load.end()
+    again = own.watch("back", "c", "--memory", f"{own.room}/memory")
+    agreed = own.agreed("back", "c", own.state("back")[0])
+    case(agreed and until(lambda: not own.cluster.keys("/allocd/back/alarm/")), "and the watch agrees: no alarm is left")
+    again.kill()
     own.replayed("back")
 
 
@@ -435,7 +457,7 @@ def frozen(trial):
         trial.replayed("frozen")
     finally:
         subprocess.run(["fsfreeze", "-u", folder], stderr=subprocess.DEVNULL)
-        until(lambda: subprocess.run(["umount", folder], stderr=subprocess.DEVNULL).returncode == 0, 30)
+        subprocess.run(["umount", "--lazy", folder])  # this program has the log there open
 
 
 def full_journal(journal, entries):
@@ -450,7 +472,8 @@ def full_journal(journal, entries):
         numbers = range(group, min(group + 500, entries + 1))
         data = b"".join(frame(b"%b\x0134=%d%b\x01571=F%d\x01%b" % (first, n, middle, n, last)) for n in numbers)
         sum_of.update(data)
-        ends = frame(re.sub(rb"\x01112=[0-9a-f]{128}", b"\x01112=" + sum_of.hexdigest().encode(), seal))
+        own = re.sub(rb"\x0134=\d+", b"\x0134=%d" % (numbers[-1] + 1), seal)
+        ends = frame(re.sub(rb"\x01112=[0-9a-f]{128}", b"\x01112=" + sum_of.hexdigest().encode(), own))
         sum_of.update(ends)
         out += [data, ends]
     return b"".join(out) + b"\n"

@@ -215,6 +215,7 @@ def no_room(trial):
         a.start()
         case(load.goes_on(), "compacted, defragmented, disarmed: a start goes on")
         load.end()
+        case(until(lambda: not small.cluster.keys("/allocd/room/alarm/")), "and the alarm is over")
         a.stop(signal.SIGTERM)
         small.replayed("room")
     finally:
