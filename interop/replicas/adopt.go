@@ -102,7 +102,7 @@ func begins(file *os.File, c *chain, h header) {
 		check(err)
 	}
 	if h.length > c.sealed || digest(sum) != h.digest {
-		lost("etcd has a book of %d entries in %d bytes with which %s doesn't begin: keep both, and see \"An etcd that went back\"", h.entries, h.length, file.Name())
+		lost("etcd has a book of %d entries in %d bytes with which %s doesn't begin: keep both, and see \"An etcd that went back\" in replicas.md", h.entries, h.length, file.Name())
 	}
 }
 

@@ -148,7 +148,7 @@ func (n *note) refusal(h header, revision int64, adopted string, s standing) err
 		return fmt.Errorf("%s has %d bytes, and etcd has no such book: has etcd lost it? `adopt` begins the book with this file", s.path, s.size)
 	}
 	had := fmt.Sprintf("etcd has less than was told: its book has %d entries in %d bytes", h.entries, h.length)
-	what := fmt.Sprintf("see \"An etcd that went back\"; `adopt` puts what %s has", s.path)
+	what := fmt.Sprintf("see \"An etcd that went back\" in replicas.md; `adopt` puts what %s has", s.path)
 	switch {
 	case n.head.known && n.head.length > h.length:
 		return fmt.Errorf("%s, and this machine saw %d in %d; %s", had, n.head.entries, n.head.length, what)
@@ -171,7 +171,7 @@ func (n *note) agrees(file *os.File, h header) {
 	_, err := io.Copy(sum, io.NewSectionReader(file, 0, n.head.length))
 	check(err)
 	if digest(sum) != n.head.digest {
-		lost("etcd has another book than was told: its first %d bytes have %s, and this machine saw %s; see \"An etcd that went back\"",
+		lost("etcd has another book than was told: its first %d bytes have %s, and this machine saw %s; see \"An etcd that went back\" in replicas.md",
 			n.head.length, digest(sum), n.head.digest)
 	}
 }
