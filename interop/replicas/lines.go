@@ -17,12 +17,12 @@ const (
 	pause      = 50 * time.Millisecond  // before the nodes are asked again
 )
 
-// waits are how long one node may take, and how long it is tried.
-type waits struct{ each, all time.Duration }
+// waits are how long one node may take, how long it is tried, and how long where no node answers anything.
+type waits struct{ each, all, silent time.Duration }
 
 var (
-	putPatience  = waits{2 * time.Second, 10 * time.Second} // the server waits 15 s
-	pagePatience = waits{30 * time.Second, 90 * time.Second}
+	putPatience  = waits{2 * time.Second, 10 * time.Second, 10 * time.Second} // the server waits 15 s
+	pagePatience = waits{30 * time.Second, 90 * time.Second, 10 * time.Second}
 )
 
 // found is what a node answered: a line to it, and whether it leads.
@@ -112,7 +112,7 @@ func final(err error) bool {
 	return false
 }
 
-// try asks until a node answers, so what is asked may be done twice; and no longer than that, nor than 10 s where no node answers anything.
+// try asks until a node answers, and no longer than it may: so what is asked may be done twice.
 func (k *keys) try(p waits, ask func(context.Context, *clientv3.Client) error) error {
 	k.lock.Lock()
 	defer k.lock.Unlock()
@@ -132,7 +132,7 @@ func (k *keys) try(p waits, ask func(context.Context, *clientv3.Client) error) e
 			k.line.Close()
 			k.line, heard = nil, time.Now()
 		}
-		if time.Since(began) > p.all || time.Since(heard) > putPatience.all {
+		if time.Since(began) > p.all || time.Since(heard) > p.silent {
 			return fmt.Errorf("no node of etcd takes it: %v%s", err, k.trouble(k.nodes...))
 		}
 	}

@@ -72,8 +72,9 @@ func (l *hold) take() (bool, string) {
 
 // keep has the lease live on, also that of one who waits. A lease that is over is made anew: until somebody else has put `writer` nothing is lost.
 func (l *hold) keep() {
-	wait := waits{time.Second, time.Duration(l.ttl) * time.Second}
-	for range time.Tick(time.Duration(l.ttl) * time.Second / 4) {
+	ttl := time.Duration(l.ttl) * time.Second
+	wait := waits{time.Second, ttl, ttl}
+	for range time.Tick(ttl / 4) {
 		l.guard.Lock()
 		over := false
 		if lease := atomic.LoadInt64(&l.lease); lease != 0 {
