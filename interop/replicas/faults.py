@@ -10,6 +10,7 @@ import signal
 import socket
 import subprocess
 import time
+from concurrent.futures import ThreadPoolExecutor
 
 from harness import PATIENCE, Cluster, Trial, alive, case, children, contents, frame, free_port, made_house, page, room_for, serving, until
 from kills import put_book
@@ -36,7 +37,7 @@ def back(trial):
         snapshot, before = f"{own.room}/snapshot", own.state("back")[0]
         one = dict(own.cluster.env, ETCDCTL_ENDPOINTS=own.cluster.nodes["a"])
         subprocess.run(["etcdctl", "snapshot", "save", snapshot], env=one, stdout=subprocess.DEVNULL, stderr=subprocess.DEVNULL, check=True)
-        raised(own.cluster, 500)  # so that what is seen from now on is later than all that comes soon after the snapshot is back
+        raised(own.cluster, 4_000)  # so that what is seen from now on is later than all that comes soon after the snapshot is back
         until(lambda: own.state("back")[0] > before + 100)
         until(lambda: os.path.exists(memory) and int(contents(memory).split()[0]) > before + 50)
         went_back(own, a, b, watch, snapshot, load)
@@ -48,10 +49,15 @@ def raised(cluster, count):
     """Has etcd's revision rise by so many, by a key of somebody else."""
     put = json.dumps({"key": base64.b64encode(b"/other").decode(), "value": base64.b64encode(b"x").decode()})
     host, port = cluster.nodes[cluster.leader()].split(":")
-    node = http.client.HTTPConnection(host, int(port), timeout=PATIENCE)
-    for _ in range(count):
-        node.request("POST", "/v3/kv/put", put)
-        node.getresponse().read()
+
+    def some(_):
+        node = http.client.HTTPConnection(host, int(port), timeout=PATIENCE)
+        for _ in range(count // 32):
+            node.request("POST", "/v3/kv/put", put)
+            node.getresponse().read()
+
+    with ThreadPoolExecutor(32) as pool:
+        list(pool.map(some, range(32)))
 
 
 def went_back(own, a, b, watch, snapshot, load):
@@ -78,11 +84,13 @@ def went_back(own, a, b, watch, snapshot, load):
     longest = max((a, b), key=lambda it: len(it.kept()))
     status, said = own.word("adopt", own.house, longest.journal, "back", env=longest.env)
     case(status == 0, f"adopt, where the whole journal is: {said.strip()}")
-    followed = {it.name: it.said().count("waits for") for it in (a, b)}
+    said = {it.name: (it.said().count("waits for"), it.said().count("less than was told")) for it in (a, b)}
     a.start(), b.start()
     one = serving([a, b])
     other = b if one is a else a
-    case(other.follows(followed[other.name] + 1), f"{one.name} serves, and {other.name} follows: {other.last()[:110]}")
+    followed, refused = said[other.name]
+    follows = other.follows(followed + 1) and other.said().count("less than was told") == refused
+    case(follows, f"{one.name} serves, and {other.name} follows: {other.last()[:110]}")
     case(load.goes_on(), "and firms are answered again")
     load.end()
     again = own.watch("back", "c", "--memory", f"{own.room}/memory")
