@@ -283,6 +283,9 @@ def secured(trial):
         a = trial.machine("T", "es", "--metrics", str(port), env=node.of("es")).start(again=False)
         case(until(a.serves), f"TLS and a role: {a.last()}")
         case(until(lambda: "allocd_sidecar_certificate_days 399\n" in page(port)), "which is shown to be good for 399 days")
+        load = trial.load("es", [a], **{it: node.of("es")[it] for it in ("ETCD", "TLS")})
+        case(load.goes_on(), "firms are answered")
+        load.end()
         b = trial.machine("U", "es", env=node.of("other")).start(again=False)
         case(b.ends() and "permission denied" in b.said(), "another book's user has no part in the book")
         c = trial.machine("V", "nq", env=node.of("es")).start(again=False)
@@ -292,7 +295,8 @@ def secured(trial):
         case(took and took < 60, f"nobody reads it without a certificate, and who tries is told after {took:.0f} s")
         watch = trial.watch("es", "w", env=node.of("es-watch"))
         done = lambda: node.ctl("root", "etcdctl", "get", "--print-value-only", "/allocd/es/done/w").stdout.strip()
-        case(until(lambda: done() == "0"), "the watch's user watches it")
+        entries = trial.word("state", "es", env=node.of("es"))[1].split()[0]
+        case(until(lambda: done() == entries), f"the watch's user watches it: {entries} entries")
         denied = [node.ctl("es-watch", "etcdctl", "put", f"/allocd/es/{it}", "x").returncode for it in ("head", "writer", "lock", "piece/000000000000")]
         case(all(denied), "and can put neither head nor writer, lock or piece")
         watch.kill()
