@@ -264,6 +264,8 @@ def takeovers(trial):
     """A person's word has a machine take the book over while another serves: once for each word, also where two are told it at once."""
     a, b = pair(trial, "word")
     load = trial.load("word", [a, b])
+    status, said = trial.word("takeover", f"{trial.room}/nowhere", "word")
+    case(status == 1 and "no sidecar runs on" in said, f"a word where no sidecar runs is refused: {said.strip()[-60:]}")
     taken = lambda it: it.said().count("connections are taken")
     status, said = trial.word("takeover", b.journal, "word", env=b.env)
     case(status == 0 and until(b.serves) and until(lambda: "another run" in a.said()), f"B takes over while A serves: {said.strip()[:100]}")

@@ -2,8 +2,10 @@ package main
 
 import (
 	"context"
+	"os"
 	"sync"
 	"sync/atomic"
+	"syscall"
 	"time"
 
 	"go.etcd.io/etcd/clientv3"
@@ -125,6 +127,10 @@ func (l *hold) leave() {
 // takeover has the machine's own `run` on a file have the lock, whoever has it: it puts the book's `writer` next. Nobody else's word does that
 // again, so two machines that are told this serve once each, one after the other.
 func takeover(w wishes) {
+	lock, err := os.Open(w.file + ".lock")
+	if err != nil || syscall.Flock(int(lock.Fd()), syscall.LOCK_EX|syscall.LOCK_NB) == nil {
+		lost("no sidecar runs on %s here, which could take the book over: start it", w.file)
+	}
 	k, name := newKeys(w.book), place(w.file)
 	if h, _ := k.head(); !h.known {
 		lost("etcd has no book %s", w.book)
@@ -132,7 +138,7 @@ func takeover(w wishes) {
 	l := &hold{k: k, name: name, ttl: 15}
 	l.leased()
 	had, _ := k.get("lock")
-	_, err := k.swap(nil, []clientv3.Op{l.opPut()})
+	_, err = k.swap(nil, []clientv3.Op{l.opPut()})
 	check(err)
 	say("the lock, which %q had, is given to %q: its sidecar has 15 s", had, name)
 }
