@@ -22,7 +22,7 @@ type waits struct{ each, all, silent time.Duration }
 
 var (
 	putPatience  = waits{2 * time.Second, 10 * time.Second, 10 * time.Second} // the server waits 15 s
-	pagePatience = waits{30 * time.Second, 90 * time.Second, 10 * time.Second}
+	pagePatience = waits{30 * time.Second, 90 * time.Second, 30 * time.Second}
 )
 
 // found is what a node answered: a line to it, and whether it leads.
