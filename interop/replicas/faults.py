@@ -149,12 +149,13 @@ def joining(trial):
     until(lambda: os.path.getsize(a.journal) > 150_000)
     was = flipped(a.journal, 100_000)
     wrong = contents(a.journal)[99_900:100_100]
-    a.says("isn't what etcd has, between")
+    found = lambda: "isn't what etcd has, between" in a.said()
+    until(lambda: found() or trial.state("joined")[1] > 1_000_000, 10 * PATIENCE)  # on a slow disk it takes minutes to write so much
     line = next((it for it in a.said().splitlines() if "isn't what etcd has, between" in it), None)
     case(line, f"a file that isn't what is joined ends its machine: {line and line[-90:]}")
     aside = until(lambda: a.laid_aside(wrong))
     case(aside and load.goes_on(), "which goes on with what etcd has, and has laid aside what it had")
-    until(lambda: trial.state("joined")[1] > 750_000)
+    until(lambda: trial.state("joined")[1] > 750_000, 10 * PATIENCE)
     load.end()
     entries, length = trial.state("joined")
     large = lambda: sum(y - x > 250_000 for x, y in zip(*(lambda it: (it, it[1:] + [length]))(offsets(trial))))
