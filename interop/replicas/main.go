@@ -4,6 +4,7 @@ package main
 import (
 	"fmt"
 	"os"
+	"sync"
 
 	"go.etcd.io/etcd/etcdserver/api/v3rpc/rpctypes"
 )
@@ -39,9 +40,13 @@ func say(words string, more ...interface{}) {
 // leave gives the lock up, once there is one.
 var leave = func() {}
 
+// losing is taken by the first one who finds that nothing can be gone on with: what others find then comes of that.
+var losing sync.Mutex
+
 // lost says why nothing can be gone on with, and ends with status 1. A server that was started ends with this program. The lock is given up before
 // that: a disk that stands still may have the log too.
 func lost(words string, more ...interface{}) {
+	losing.Lock()
 	leave()
 	say(words, more...)
 	os.Exit(1)
