@@ -3,6 +3,9 @@
 Nothing here waits for a time alone: each wait is for something to become so, with a bound of three times what a quiet machine takes and more. Where
 a bound itself is judged, as of a takeover, `room_for` gives it room where the machine is busy.
 """
+import base64
+import http.client
+import json
 import os
 import random
 import re
@@ -155,6 +158,16 @@ class Cluster:
 
     def put(self, key, value):
         subprocess.run(["etcdctl", "put", key], env=self.env, input=value.encode(), stdout=subprocess.DEVNULL, check=True)
+
+    def put_at_once(self, pairs):
+        """Puts keys and their values in one transaction."""
+        text = lambda it: base64.b64encode(it).decode()
+        puts = [{"requestPut": {"key": text(key.encode()), "value": text(value)}} for key, value in pairs]
+        node = http.client.HTTPConnection(self.nodes[self.leader()], timeout=PATIENCE)
+        node.request("POST", "/v3/kv/txn", json.dumps({"success": puts}))
+        answer = node.getresponse()
+        if answer.status != 200:
+            sys.exit(f"etcd doesn't take a transaction: {answer.read()}")
 
     def keys(self, prefix):
         return self.output("etcdctl", "get", "--prefix", "--keys-only", prefix).split()

@@ -145,9 +145,9 @@ def lost_files(trial, a):
 def put_book(cluster, book, journal, entries, house, at=0):
     """A book of these bytes, of which so many are there, as somebody might put it who has a key to etcd."""
     data = journal[:-1]
-    for key, value in [("house", contents(house)), ("piece/%012d" % at, data[at:]), ("writer", b"forger"),
-                       ("head", b"%d %d forger %s" % (entries, len(data), hashlib.sha256(data).hexdigest().encode()))]:
-        subprocess.run(["etcdctl", "put", f"/allocd/{book}/{key}"], env=cluster.env, input=value, stdout=subprocess.DEVNULL, check=True)
+    head = b"%d %d forger %s" % (entries, len(data), hashlib.sha256(data).hexdigest().encode())
+    pairs = [("house", contents(house)), ("piece/%012d" % at, data[at:]), ("writer", b"forger"), ("head", head)]
+    cluster.put_at_once([(f"/allocd/{book}/{key}", value) for key, value in pairs])
 
 
 def sealed(frames):
