@@ -16,7 +16,7 @@ const (
 	lockWait     = 20 * time.Second // longer than the lease lives of a `run` that is gone, or of a word to take over
 )
 
-var adoptPatience = waits{30 * time.Second, 5 * time.Minute, 5 * time.Minute} // for a piece, over a slow line
+var adoptPatience = waits{each: 30 * time.Second, all: 5 * time.Minute, silent: 5 * time.Minute} // for a piece, over a slow line
 
 // adopt puts a journal of which etcd has less, or nothing. The marker `adopting` comes first, with `writer`: while it stands nobody takes the book
 // over. Then come the pieces, and at last, in one transaction, the head and the end of the marker. What was broken off is begun anew.

@@ -59,7 +59,7 @@ func (s *server) watchHealth(hang int64) {
 		p.saw(now, status, text)
 		if p.stands(now, time.Duration(hang)*time.Second) {
 			traced("hangs", "server")
-			lost("the server stands still: %s; the lock is given up", p.says)
+			lost("the server stands still: %s; %s; the lock is given up", p.says, shown.answers())
 		}
 	}
 }

@@ -23,8 +23,9 @@ type keys struct {
 	root  string
 	nodes []string
 	tls   *tls.Config
-	lock  sync.Mutex // of line
+	lock  sync.Mutex // of line and slow
 	line  *clientv3.Client
+	slow  bool // the last page that was read took long
 }
 
 // header is what the key `head` says: ENTRIES LENGTH RUN DIGEST. The digest is the SHA-256 of the book's first LENGTH bytes.

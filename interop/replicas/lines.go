@@ -17,12 +17,13 @@ const (
 	pause      = 50 * time.Millisecond  // before the nodes are asked again
 )
 
-// waits are how long one node may take, how long it is tried, and how long where no node answers anything.
-type waits struct{ each, all, silent time.Duration }
+// waits are how long one node may take, how long it is tried, and how long where no node answers anything; and, if it isn't 0, how long the first node
+// may take: what is gone answers nothing, and only where answers are slow one has to be waited for.
+type waits struct{ each, all, silent, first time.Duration }
 
 var (
-	putPatience  = waits{2 * time.Second, 10 * time.Second, 10 * time.Second} // the server waits 15 s
-	pagePatience = waits{30 * time.Second, 90 * time.Second, 30 * time.Second}
+	putPatience  = waits{each: 2 * time.Second, all: 10 * time.Second, silent: 10 * time.Second} // the server waits 15 s
+	pagePatience = waits{each: 30 * time.Second, all: 90 * time.Second, silent: 30 * time.Second, first: 2 * time.Second}
 )
 
 // found is what a node answered: a line to it, and whether it leads.
@@ -117,20 +118,26 @@ func (k *keys) try(p waits, ask func(context.Context, *clientv3.Client) error) e
 	k.lock.Lock()
 	defer k.lock.Unlock()
 	began := time.Now()
+	each := p.each
+	if p.first > 0 && !k.slow {
+		each = p.first
+	}
 	for heard := began; ; time.Sleep(pause) {
 		var err error
 		if k.line == nil {
 			k.line, err = k.dial(time.Since(began) > newLeader)
 		}
 		if k.line != nil {
-			within, end := context.WithTimeout(context.Background(), p.each)
+			asked := time.Now()
+			within, end := context.WithTimeout(context.Background(), each)
 			err = ask(within, k.line)
 			end()
 			if err == nil || final(err) {
+				k.slow = p.first > 0 && time.Since(asked) > p.first
 				return err
 			}
 			k.line.Close()
-			k.line, heard = nil, time.Now()
+			k.line, heard, each = nil, time.Now(), p.each
 		}
 		if time.Since(began) > p.all || time.Since(heard) > p.silent {
 			return fmt.Errorf("no node of etcd takes it: %v%s", err, k.trouble(k.nodes...))

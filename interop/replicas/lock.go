@@ -75,7 +75,7 @@ func (l *hold) take() (bool, string) {
 // keep has the lease live on, also that of one who waits. A lease that is over is made anew: until somebody else has put `writer` nothing is lost.
 func (l *hold) keep() {
 	ttl := time.Duration(l.ttl) * time.Second
-	wait := waits{time.Second, ttl, ttl}
+	wait := waits{each: time.Second, all: ttl, silent: ttl}
 	for range time.Tick(ttl / 4) {
 		l.guard.Lock()
 		over := false

@@ -47,6 +47,13 @@ func (f *figures) setNodes(answering, nodes int) {
 	f.do(func() { f.answering, f.nodes = answering, nodes })
 }
 
+// answers says how many nodes answer.
+func (f *figures) answers() string {
+	f.guard.Lock()
+	defer f.guard.Unlock()
+	return fmt.Sprintf("%d of %d nodes of etcd answer", f.answering, f.nodes)
+}
+
 // follows takes in how far a reader is, and what the head says.
 func (f *figures) follows(at int64, h header) {
 	f.do(func() {
