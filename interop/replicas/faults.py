@@ -254,9 +254,9 @@ def silent_node(trial):
     began, server = time.time(), a.server()
     a.stopped = True
     a.kill(server, a.process.pid)
-    until(lambda: load.answers(began) > 0 and load.answers(time.time() - 0.5) > 10)
+    until(lambda: (load.longest(began) or 0) > 2 and load.answers(time.time() - 1) > 10)
     gap, most = load.longest(began) or 999, min(20, room_for(10))
-    case(gap <= most, f"B's node is silent, and A gone: {gap:.1f} s without an answer, of {most:.0f}")
+    case(2 < gap <= most, f"B's node is silent, and A gone: {gap:.1f} s without an answer, of {most:.0f}")
     line.send_signal(signal.SIGCONT)
     load.end()
     b.stop(signal.SIGTERM)
