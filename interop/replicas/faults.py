@@ -215,7 +215,6 @@ def hangs(trial, shim):
     a.stop(signal.SIGTERM), b.stop(signal.SIGTERM)
     trial.replayed("hangs")
     cut_off(trial)
-    silent_node(trial)
     if shim:
         hung_sync(trial, shim)
 
@@ -236,31 +235,6 @@ def cut_off(trial):
     load.end()
     a.stop(signal.SIGTERM), b.stop(signal.SIGTERM)
     trial.replayed("cut")
-
-
-def silent_node(trial):
-    """A node that answers the machine that follows nothing any more, from one moment to the next; and then the other machine is gone."""
-    cluster = trial.cluster
-    leader = cluster.leader()
-    env, line = trial.cable(0, nodes={leader: cluster.nodes[leader]})
-    env = dict(env, ETCD=",".join([env["ETCD"], *(it for name, it in cluster.nodes.items() if name != leader)]))
-    a, b = trial.machine("A", "silent").start(), trial.machine("B", "silent", env=env)
-    until(a.serves)
-    b.start()
-    b.follows()
-    load = trial.load("silent", [a, b], PAUSE="0.01")
-    line.send_signal(signal.SIGSTOP)
-    until(lambda: f"etcd's node {env['ETCD'].split(',')[0]} doesn't answer" in b.said())
-    began, server = time.time(), a.server()
-    a.stopped = True
-    a.kill(server, a.process.pid)
-    until(lambda: (load.longest(began) or 0) > 2 and load.answers(time.time() - 1) > 10)
-    gap, most = load.longest(began) or 999, min(20, room_for(10))
-    case(2 < gap <= most, f"B's node is silent, and A gone: {gap:.1f} s without an answer, of {most:.0f}")
-    line.send_signal(signal.SIGCONT)
-    load.end()
-    b.stop(signal.SIGTERM)
-    trial.replayed("silent")
 
 
 def hung_sync(trial, shim):
